@@ -1,0 +1,12 @@
+pub mod Defaults
+pub mod Flags
+pub mod Faults
+pub mod Lists
+pub mod Lookups
+pub mod Needs
+pub mod Places
+pub mod Contents
+pub mod Misplaced
+pub mod Astray
+pub mod WellFormed
+pub mod Tests
