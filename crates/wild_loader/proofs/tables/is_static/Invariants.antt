@@ -1,0 +1,6 @@
+use Rattle.std.proofs.Common.{◌≡◌, ◌+◌, ◌-◌, ◌*◌}
+use Rattle.wild_loader.specs.Load.{has_no_dynamic}
+use Rattle.wild_loader.proofs.tables.is_static.Given as goal
+
+abbrev pub invariant-loop-i : goal.invariant-loop-i
+invariant-loop-i l = has_no_dynamic l.image (l.count - l.i) (l.start + 56 * l.i) ≡ has_no_dynamic l.image l.count l.start
