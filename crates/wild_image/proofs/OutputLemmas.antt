@@ -1,0 +1,99 @@
+-- Laws of the whole image, and of all faults.
+use Rattle.std.proofs.Common.{suc, if◌then◌else◌, ◌≡◌, ℕ, ◌^◌, ◌<◌, ◌≤◌, ◌-◌, nat_le, List, [], ◌∷◌, ◌++◌, length, Bool, true, false, Result, Ok, Err, refl, sym, ap, ◌∙◌, arith, nat_lt}
+use Rattle.std.specs.Prelude.{All, OnOk}
+use Rattle.std.specs.List.{flat_map}
+use Rattle.std.proofs.lemmas.Bool.{and_parts, ltb-true}
+use Rattle.wild_words.specs.Overlay.{overlay}
+use Rattle.wild_plan.specs.declared.fault.Clause.{Clause}
+use Rattle.wild_plan.specs.declared.fault.Error.{Error}
+use Rattle.wild_plan.specs.declared.part.Part.{Part}
+use Rattle.wild_plan.specs.declared.layout.Layout.{Layout}
+use Rattle.wild_plan.specs.Lists.{unless}
+use Rattle.wild_plan.specs.Places.{has_role, relocation_count, counts_fit}
+use Rattle.wild_plan.specs.WellFormed.{fails, first_error, first_clause, check_sizes, check_counts}
+use Rattle.wild_layout.specs.Headers.{section_of_role}
+use Rattle.wild_layout.specs.Image.{own_piece, group_pieces, pieces, padding, bytes}
+use Rattle.wild_layout.specs.Faults.{clause_errors, flat_map_from, part_errors, group_errors, errors}
+use Rattle.wild_layout.specs.Geometry.{IsLaidOut}
+use Rattle.wild_image.specs.Steps.{FieldsFit}
+use Rattle.wild_plan.specs.Needs.{name_bytes}
+use Rattle.wild_plan.specs.Faults.{Refuses}
+use Rattle.wild_image.proofs.PieceLemmas.{overlay-append}
+use Rattle.wild_image.proofs.FaultLemmas.{Refuses-front, Refuses-behind}
+
+section_below : (r n : ℕ) (ps : List Part) → 1 ≤ n → All (λ (p : Part). p.section < n) ps → section_of_role r ps < n
+section_below r n [] h all = omega arith
+section_below r n (p ∷ ps) h all = by (has_role r p) (all 0 p (omega arith)) (section_below r n ps h (λ k d l. all (suc k) d (omega arith)))
+  where
+    by : (b : Bool) {m k : ℕ} → m < n → k < n → (if b then m else k) < n
+    by true x y = x
+    by false x y = y
+
+-- the numbers of a layout that is laid out have their fields
+pub FieldsFit-IsLaidOut : (l : Layout) → IsLaidOut l → FieldsFit l
+FieldsFit-IsLaidOut l h = record {
+  segments = let e = h.segments in omega arith;
+  names = h.names;
+  name_table = let e = section_below 4 (length l.sections) l.parts h.some_section h.named in let f = h.sections in omega (arith, e, f);
+}
+
+-- the padding, the parts and the groups make the image
+pub image_is : (result : Result (Unit {0}) Error) (l : Layout) (one two three : List ℕ) → one ≡ padding l → two ≡ overlay (flat_map (own_piece l) l.parts) one
+    → OnOk result (three ≡ overlay (flat_map (group_pieces l) l.groups) two) → OnOk result (three ≡ bytes l)
+unfolding bytes pieces
+image_is (Ok x) l one two three a b c =
+    c ∙ ap (overlay (flat_map (group_pieces l) l.groups)) (b ∙ ap (overlay (flat_map (own_piece l) l.parts)) a)
+    ∙ sym (overlay-append (flat_map (own_piece l) l.parts) (flat_map (group_pieces l) l.groups) (padding l))
+image_is (Err x) l one two three a b c = c
+
+-- without faults of clauses and shares, those of the groups are all
+pub errors_behind : (l : Layout) → clause_errors (first_clause l) ≡ [] → flat_map_from (part_errors l) 0 l.parts ≡ [] → flat_map_from (group_errors l) 0 l.groups ≡ errors l
+unfolding errors
+errors_behind l a b = rw (a, b) refl
+
+clause_holds : (r : Result (Unit {0}) Clause) → clause_errors r ≡ [] → r ≡ Ok tt
+clause_holds (Ok x) h = refl
+clause_holds (Err c) h = cc
+
+first_holds : (r s : Result (Unit {0}) Clause) → first_error r s ≡ Ok tt → r ≡ Ok tt
+first_holds (Ok x) s h = refl
+first_holds (Err c) s h = cc
+
+rest_holds : (r s : Result (Unit {0}) Clause) → first_error r s ≡ Ok tt → s ≡ Ok tt
+rest_holds (Ok x) s h = h
+rest_holds (Err c) s h = cc
+
+test_holds : (b : Bool) → fails 2 (unless b) ≡ Ok tt → b ≡ true
+test_holds true h = refl
+test_holds false h = cc
+
+few : (l : Layout) → check_counts l ≡ Ok tt → relocation_count l < 2 ^ 32
+unfolding check_counts
+few l h =
+    let a = test_holds (counts_fit l) h in
+    let b = and_parts _ (nat_lt (name_bytes l) (2 ^ 32)) a in
+    let c = and_parts _ (nat_lt (length l.groups) (2 ^ 32 - 1)) b.0 in
+    let d = and_parts _ (nat_le 1 (length l.groups)) c.0 in
+    let e = and_parts _ (nat_lt (relocation_count l) (2 ^ 32 - 1)) d.0 in
+    let f = ltb-true _ _ e.1 in
+    omega (arith, f)
+
+-- a layout whose clauses hold has few relocations
+pub few_relocations : (l : Layout) → clause_errors (first_clause l) ≡ [] → relocation_count l < 2 ^ 64
+unfolding first_clause
+few_relocations l h = let e = few l (first_holds (check_counts l) _ (rest_holds (check_sizes l) _ (clause_holds (first_clause l) h))) in omega (arith, e)
+
+-- a fault of the clauses, or of the shares where the clauses hold, is the first
+pub clause_refused : (l : Layout) (e : Error) → Refuses e (clause_errors (first_clause l)) → Refuses e (errors l)
+unfolding errors
+clause_refused l e h =
+    let clauses = clause_errors (first_clause l) in
+    let shares = flat_map_from (part_errors l) 0 l.parts in
+    Refuses-front e (clauses ++ shares) (flat_map_from (group_errors l) 0 l.groups) (Refuses-front e clauses shares h)
+
+pub share_refused : (l : Layout) (e : Error) → clause_errors (first_clause l) ≡ [] → Refuses e (flat_map_from (part_errors l) 0 l.parts) → Refuses e (errors l)
+unfolding errors
+share_refused l e none h =
+    let clauses = clause_errors (first_clause l) in
+    let shares = flat_map_from (part_errors l) 0 l.parts in
+    Refuses-front e (clauses ++ shares) (flat_map_from (group_errors l) 0 l.groups) (Refuses-behind e clauses shares none h)

@@ -1,0 +1,286 @@
+//! The smallest fixed executable: a call and two returns.
+ghost use Rattle.std.specs.Prelude.{◌≡◌, IfOk};
+ghost use Rattle.wild_plan.specs.declared.kind.Machine.TheVariants as machine;
+
+use super::*;
+use std::alloc::{AllocError, Global};
+use std::test::Fail;
+use std::thread::Threads;
+use wild_plan::*;
+use wild_words::{Bytes, Items};
+
+/// The bytes that the layout asks for, by hand from the gABI and the psABI.
+#[rattlefmt::skip]
+const IMAGE: [u8; 344] = [
+    0x7f, 0x45, 0x4c, 0x46, 0x02, 0x01, 0x01, 0x00, 0x00, 0x00, 0x00, 0x00, 0x00, 0x00, 0x00, 0x00,
+    0x02, 0x00, 0x3e, 0x00, 0x01, 0x00, 0x00, 0x00, 0x80, 0x00, 0x40, 0x00, 0x00, 0x00, 0x00, 0x00,
+    0x40, 0x00, 0x00, 0x00, 0x00, 0x00, 0x00, 0x00, 0x98, 0x00, 0x00, 0x00, 0x00, 0x00, 0x00, 0x00,
+    0x00, 0x00, 0x00, 0x00, 0x40, 0x00, 0x38, 0x00, 0x01, 0x00, 0x40, 0x00, 0x03, 0x00, 0x02, 0x00,
+    0x01, 0x00, 0x00, 0x00, 0x05, 0x00, 0x00, 0x00, 0x00, 0x00, 0x00, 0x00, 0x00, 0x00, 0x00, 0x00,
+    0x00, 0x00, 0x40, 0x00, 0x00, 0x00, 0x00, 0x00, 0x00, 0x00, 0x40, 0x00, 0x00, 0x00, 0x00, 0x00,
+    0x87, 0x00, 0x00, 0x00, 0x00, 0x00, 0x00, 0x00, 0x87, 0x00, 0x00, 0x00, 0x00, 0x00, 0x00, 0x00,
+    0x00, 0x10, 0x00, 0x00, 0x00, 0x00, 0x00, 0x00, 0x00, 0x00, 0x00, 0x00, 0x00, 0x00, 0x00, 0x00,
+    0xe8, 0x01, 0x00, 0x00, 0x00, 0xc3, 0xc3, 0x00, 0x2e, 0x74, 0x65, 0x78, 0x74, 0x00, 0x2e, 0x73,
+    0x68, 0x73, 0x74, 0x72, 0x74, 0x61, 0x62, 0x00, 0x00, 0x00, 0x00, 0x00, 0x00, 0x00, 0x00, 0x00,
+    0x00, 0x00, 0x00, 0x00, 0x00, 0x00, 0x00, 0x00, 0x00, 0x00, 0x00, 0x00, 0x00, 0x00, 0x00, 0x00,
+    0x00, 0x00, 0x00, 0x00, 0x00, 0x00, 0x00, 0x00, 0x00, 0x00, 0x00, 0x00, 0x00, 0x00, 0x00, 0x00,
+    0x00, 0x00, 0x00, 0x00, 0x00, 0x00, 0x00, 0x00, 0x00, 0x00, 0x00, 0x00, 0x00, 0x00, 0x00, 0x00,
+    0x00, 0x00, 0x00, 0x00, 0x00, 0x00, 0x00, 0x00, 0x01, 0x00, 0x00, 0x00, 0x01, 0x00, 0x00, 0x00,
+    0x06, 0x00, 0x00, 0x00, 0x00, 0x00, 0x00, 0x00, 0x80, 0x00, 0x40, 0x00, 0x00, 0x00, 0x00, 0x00,
+    0x80, 0x00, 0x00, 0x00, 0x00, 0x00, 0x00, 0x00, 0x07, 0x00, 0x00, 0x00, 0x00, 0x00, 0x00, 0x00,
+    0x00, 0x00, 0x00, 0x00, 0x00, 0x00, 0x00, 0x00, 0x10, 0x00, 0x00, 0x00, 0x00, 0x00, 0x00, 0x00,
+    0x00, 0x00, 0x00, 0x00, 0x00, 0x00, 0x00, 0x00, 0x07, 0x00, 0x00, 0x00, 0x03, 0x00, 0x00, 0x00,
+    0x00, 0x00, 0x00, 0x00, 0x00, 0x00, 0x00, 0x00, 0x00, 0x00, 0x00, 0x00, 0x00, 0x00, 0x00, 0x00,
+    0x87, 0x00, 0x00, 0x00, 0x00, 0x00, 0x00, 0x00, 0x11, 0x00, 0x00, 0x00, 0x00, 0x00, 0x00, 0x00,
+    0x00, 0x00, 0x00, 0x00, 0x00, 0x00, 0x00, 0x00, 0x01, 0x00, 0x00, 0x00, 0x00, 0x00, 0x00, 0x00,
+    0x00, 0x00, 0x00, 0x00, 0x00, 0x00, 0x00, 0x00,
+];
+
+fn bytes(alloc: Global, entries: &[u8]) -> Result<Bytes, AllocError> {
+    Ok(Bytes::from_vec(Vec::from_slice(alloc, entries)?))
+}
+
+fn part(role: Role, section: usize, offset: u64, size: u64, align: u64) -> Part {
+    Part {
+        role,
+        section,
+        offset,
+        address: if offset < 135 { 0x40_0000 + offset } else { 0 },
+        size,
+        align,
+    }
+}
+
+fn parts(alloc: Global) -> Result<Items<Part>, AllocError> {
+    let all = vec![in alloc;
+        part(Role::FileHeader, 0, 0, 64, 8),
+        part(Role::ProgramHeaders, 0, 64, 56, 8),
+        part(Role::Raw, 1, 128, 7, 16),
+        part(Role::Shstrtab, 2, 135, 17, 1),
+        part(Role::SectionHeaders, 0, 152, 192, 8),
+    ]?;
+    Ok(Items::from_vec(all))
+}
+
+fn section(alloc: Global, name: &[u8], kind: u32, flags: u64) -> Result<Section, AllocError> {
+    Ok(Section {
+        name: bytes(alloc, name)?,
+        kind,
+        flags,
+        address: 0,
+        offset: 0,
+        size: 0,
+        link: 0,
+        info: 0,
+        align: 1,
+        entsize: 0,
+        fill: None,
+        section_symbol: false,
+    })
+}
+
+fn sections(alloc: Global) -> Result<Items<Section>, AllocError> {
+    let mut text = section(alloc, b".text", 1, 6)?;
+    text.address = 0x40_0080;
+    text.offset = 128;
+    text.size = 7;
+    text.align = 16;
+    let mut names = section(alloc, b".shstrtab", 3, 0)?;
+    names.offset = 135;
+    names.size = 17;
+    let mut all = Items::new(alloc);
+    all.push(section(alloc, b"", 0, 0)?)?;
+    all.push(text)?;
+    all.push(names)?;
+    Ok(all)
+}
+
+fn segments(alloc: Global) -> Result<Items<Segment>, AllocError> {
+    let all = vec![in alloc;
+        Segment {
+            kind: 1,
+            flags: 5,
+            offset: 0,
+            address: 0x40_0000,
+            physical: 0x40_0000,
+            file_size: 135,
+            mem_size: 135,
+            align: 4096,
+        },
+    ]?;
+    Ok(Items::from_vec(all))
+}
+
+fn symbols(alloc: Global) -> Result<Items<Symbol>, AllocError> {
+    let mut all = Items::new(alloc);
+    all.push(Symbol {
+        name: bytes(alloc, b"f")?,
+        definition: None,
+        info: 2,
+        other: 0,
+        size: 0,
+        value: 6,
+        place: Place::Section(0),
+        flags: ValueFlags::NON_INTERPOSABLE,
+        version: 0,
+        emit: false,
+        resolution: Some(Resolution {
+            raw_value: 0x40_0086,
+            dynsym: None,
+            got: None,
+            plt: None,
+        }),
+    })?;
+    Ok(all)
+}
+
+fn file(alloc: Global, role: FileRole) -> File {
+    File {
+        role,
+        first_symbol: 0,
+        symbol_count: 0,
+        sections: Items::new(alloc),
+        thunk_block: 0,
+        owns_thunk_block: false,
+        lib_name: Bytes::new(alloc),
+        copies: Items::new(alloc),
+        verneed: None,
+    }
+}
+
+fn text(alloc: Global, relocations: &[InputRelocation]) -> Result<InputSection, AllocError> {
+    Ok(InputSection {
+        slot: Slot::Loaded,
+        name: Bytes::new(alloc),
+        part: 2,
+        address: 0x40_0080,
+        size: 7,
+        flags: 6,
+        nobits: false,
+        reversed: false,
+        singleton: None,
+        target: 0,
+        members: Items::new(alloc),
+        bytes: bytes(alloc, &[0xe8, 0, 0, 0, 0, 0xc3, 0xc3])?,
+        strings: Items::new(alloc),
+        relocations: Items::from_vec(Vec::from_slice(alloc, relocations)?),
+    })
+}
+
+fn groups(alloc: Global, relocations: &[InputRelocation]) -> Result<Items<Group>, AllocError> {
+    let mut object = file(alloc, FileRole::Object);
+    object.symbol_count = 1;
+    object.sections.push(text(alloc, relocations)?)?;
+    let mut files = Items::new(alloc);
+    files.push(file(alloc, FileRole::Prelude))?;
+    files.push(object)?;
+    files.push(file(alloc, FileRole::Epilogue))?;
+    let mut all = Items::new(alloc);
+    all.push(Group {
+        files,
+        part_sizes: Items::from_vec(vec![in alloc; 64, 56, 7, 17, 192]?),
+        dynstr_start: 0,
+        strtab_start: 0,
+        eh_frame_start: 0,
+        symtab_local_start: 0,
+        symtab_global_start: 0,
+    })?;
+    Ok(all)
+}
+
+fn layout(alloc: Global, relocations: &[InputRelocation]) -> Result<Layout, AllocError>
+    ensures { IfOk result (λ l. l.machine ≡ machine.X86_64) }
+{
+    Ok(Layout {
+        machine: Machine::X86_64,
+        kind: OutputKind::StaticExecutable(RelocationModel::NonRelocatable),
+        options: Options::none(alloc),
+        page_size: 4096,
+        parts: parts(alloc)?,
+        sections: sections(alloc)?,
+        segments: segments(alloc)?,
+        tls: Tls {
+            start: 0,
+            end: 0,
+            align: 1,
+        },
+        got_base: 0,
+        got_header: 0,
+        tlsld: None,
+        primary_part: 0,
+        symbols: symbols(alloc)?,
+        groups: groups(alloc, relocations)?,
+        dynsyms: Items::new(alloc),
+        sysv_hash: None,
+        gnu_hash: None,
+        verdefs: Items::new(alloc),
+        thunk_blocks: Items::new(alloc),
+        sorted: Items::new(alloc),
+        merged: Items::new(alloc),
+        identity: Identity {
+            part: 0,
+            bytes: Bytes::new(alloc),
+        },
+        interp: Bytes::new(alloc),
+        properties: Items::new(alloc),
+        entry: Some(Entry::Address(0x40_0080)),
+        build_id: None,
+    })
+}
+
+fn relocation(offset: u64, number: u32) -> InputRelocation {
+    InputRelocation {
+        offset,
+        number,
+        symbol: Some(0),
+        addend: -4,
+        malformed: false,
+    }
+}
+
+/// Why a layout with these relocations has no image; none where it has one.
+fn refused(
+    rt: &impl Threads,
+    alloc: Global,
+    relocations: &[InputRelocation],
+) -> Result<Option<Error>, AllocError> {
+    let layout = layout(alloc, relocations)?;
+    match write::<ElfX86_64>(rt, alloc, &layout, 1) {
+        Ok(_) => Ok(None),
+        Err(error) => Ok(Some(error)),
+    }
+}
+
+#[test]
+fn writes_the_smallest_executable(rt: HostRuntime) -> Result<(), Fail> {
+    let layout = layout(rt.alloc(), &[relocation(1, 2)])?;
+    let image = write::<ElfX86_64>(&rt, rt.alloc(), &layout, 1)?;
+    assert_eq!(rt; image.out.as_slice(), IMAGE.as_slice());
+    assert_eq!(rt; image.counts.as_slice(), [0, 1, 0].as_slice());
+    Ok(())
+}
+
+#[test]
+fn tells_the_place_of_an_unknown_relocation(rt: HostRuntime) -> Result<(), Fail> {
+    let error = refused(&rt, rt.alloc(), &[relocation(1, 2), relocation(4, 99)])?.ok_or(
+        "no fault",
+    )?;
+    assert_eq!(rt; error.fault, Fault::UnsupportedRelocation { number: 99 });
+    assert_eq!(rt;
+        error.at,
+        At {
+            group: Some(0),
+            file: Some(1),
+            section: Some(0),
+            offset: Some(4),
+        }
+    );
+    Ok(())
+}
+
+#[test]
+fn tells_the_least_byte_of_two_fields(rt: HostRuntime) -> Result<(), Fail> {
+    let error = refused(&rt, rt.alloc(), &[relocation(0, 2), relocation(3, 2)])?.ok_or("no fault")?;
+    assert_eq!(rt; error.fault, Fault::OverlappingSites { byte: 3 });
+    Ok(())
+}
