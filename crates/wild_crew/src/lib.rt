@@ -1,0 +1,21 @@
+//! Workers claim groups of work on a shared word, count relocations on others, and their pieces are gathered in
+//! group order.
+#![tactic(auto)]
+
+mod crew;
+mod gathering;
+mod hand;
+mod job;
+mod log;
+mod per_worker;
+mod place;
+mod rule;
+mod steps;
+#[cfg(test)]
+mod tests;
+mod work;
+
+pub use gathering::{Gathered, gather};
+pub use job::{Counted, Gate, Job, OpenGate};
+pub use per_worker::PerWorker;
+pub use steps::{Core, Step, every_run_is_kept};

@@ -1,0 +1,159 @@
+use crate::gathering::gather;
+use crate::job::{Counted, Gate, Job, OpenGate};
+use crate::steps::{Core, Step};
+use std::alloc::AllocError;
+use std::sync::atomic::{AtomicU64, Ordering};
+use std::test::Fail;
+
+// A group's number, with the relocations of section 1 that it read.
+#[derive(Drop)]
+struct Reads {
+    group: u32,
+    counts: [(u32, u64); 1],
+}
+
+impl Counted for Reads {
+    ghost use Rattle.std.specs.Prelude.{[], ◌∷◌};
+
+    ghost listed = { λ r. r.counts };
+
+    fn counts(&self) -> &[(u32, u64)] {
+        &self.counts
+    }
+}
+
+struct Three;
+
+impl Job<Reads> for Three {
+    ghost use Rattle.std.specs.Prelude.{◌≡◌, [], ◌∷◌};
+    ghost use Rattle.wild_crew.specs.Worked.{read_by};
+
+    ghost number = { λ _. 3 };
+
+    ghost gives = { λ _ g p. p.group ≡ g };
+
+    ghost counts_of = { λ _ g. (1, read_by g) ∷ [] };
+
+    fn groups(&self) -> u32 {
+        3
+    }
+
+    fn run(&self, group: u32) -> Result<Reads, AllocError> {
+        let n = if group == 0 {
+            2
+        } else if group == 1 {
+            0
+        } else {
+            5
+        };
+        Ok(Reads {
+            group,
+            counts: [(1, n)],
+        })
+    }
+}
+
+// Counts who enters; the first waits for a second.
+#[derive(Drop)]
+struct Meeting {
+    entered: AtomicU64,
+    met: AtomicU64,
+}
+
+impl Gate for Meeting {
+    fn enter(&self, _group: u32) {
+        if self.entered.fetch_add(1, Ordering::SeqCst) > 0 {
+            return;
+        }
+        for _ in 0..268435456u64 {
+            if self.entered.load(Ordering::SeqCst) > 1 {
+                self.met.store(1, Ordering::SeqCst);
+                return;
+            }
+        }
+    }
+}
+
+// A job whose second group finds no memory.
+struct Failing;
+
+impl Job<Reads> for Failing {
+    ghost use Rattle.std.specs.Prelude.{◌≡◌, [], ◌∷◌};
+    ghost use Rattle.wild_crew.specs.Worked.{read_by};
+
+    ghost number = { λ _. 3 };
+
+    ghost gives = { λ _ g p. p.group ≡ g };
+
+    ghost counts_of = { λ _ g. (1, read_by g) ∷ [] };
+
+    fn groups(&self) -> u32 {
+        3
+    }
+
+    fn run(&self, group: u32) -> Result<Reads, AllocError> {
+        if group == 1 {
+            return Err(AllocError);
+        }
+        Three.run(group)
+    }
+}
+
+#[test]
+fn gathers_the_same_for_each_number_of_workers(rt: HostRuntime) -> Result<(), Fail> {
+    for workers in [1, 2, 64] {
+        let got = gather(&rt, rt.alloc(), &Three, 2, workers, &OpenGate)?;
+        let pieces = got.pieces.as_slice();
+        assert!(rt;
+            pieces.len() == 3
+                && pieces[0].group == 0
+                && pieces[1].group == 1
+                && pieces[2].group == 2
+        );
+        assert_eq!(rt; got.totals.as_slice(), [0, 7].as_slice());
+        assert_eq!(rt; got.core.next, 3 + u64::from(workers));
+        assert_eq!(rt; got.core.claims.len(), workers as usize);
+    }
+    Ok(())
+}
+
+#[test]
+fn steps_of_two_workers(rt: HostRuntime) -> Result<(), Fail> {
+    let mut core = Core::new(rt.alloc(), 2, 1)?;
+    core.step(Step::Claim(1))?;
+    core.step(Step::Claim(0))?;
+    core.step(Step::Count(1, 0, 5))?;
+    let claims = core.claims.as_slice();
+    let counts = core.counts.as_slice();
+    assert!(rt; claims.len() == 2 && counts.len() == 2);
+    assert_eq!(rt; core.next, 2);
+    assert_eq!(rt; claims[0].as_slice(), [1].as_slice());
+    assert_eq!(rt; claims[1].as_slice(), [0].as_slice());
+    assert_eq!(rt; counts[0].len(), 0);
+    assert_eq!(rt; counts[1].as_slice(), [(0, 5)].as_slice());
+    Ok(())
+}
+
+#[test]
+fn a_worker_without_memory_is_joined(rt: HostRuntime) {
+    for workers in [1, 2, 64] {
+        let got = gather(&rt, rt.alloc(), &Failing, 2, workers, &OpenGate);
+        assert!(rt; got.is_err());
+    }
+}
+
+#[test]
+fn two_workers_meet(rt: HostRuntime) -> Result<(), Fail> {
+    let gate = Meeting {
+        entered: AtomicU64::new(0),
+        met: AtomicU64::new(0),
+    };
+    let got = gather(&rt, rt.alloc(), &Three, 2, 2, &gate)?;
+    assert_eq!(rt; got.pieces.len(), 3);
+    assert_eq!(rt;
+        gate.met.load(Ordering::SeqCst),
+        1,
+        "the second worker entered no group"
+    );
+    Ok(())
+}
