@@ -1,0 +1,65 @@
+//! The text for an image, and for what is no plan.
+ghost use Rattle.std.specs.Prelude.{◌≡◌, ◌++◌, ◌*◌, IfOk, OnOk, string_bytes, length};
+ghost use Rattle.hex.specs.Hex.{encode_lower};
+ghost use Rattle.wild_text.specs.Answer.{image_text, count_lines, hex_text, no_plan_text};
+
+use std::alloc::{AllocError, Global};
+use std::fmt::Write;
+
+/// How many bytes of an image a line shows.
+const LINE: usize = 32;
+
+fn push_counts(out: &mut String, counts: &[u64]) -> Result<(), AllocError>
+    ensures { OnOk result (string_bytes out.new ≡ string_bytes out.old ++ count_lines 0 counts.now) }
+{
+    for (section, count) in counts.iter().enumerate() {
+        if *count > 0 {
+            writeln!(out, "count {section} {count}")?;
+        }
+    }
+    Ok(())
+}
+
+fn put_digits(bytes: &[u8], digits: &mut [u8])
+    requires { length digits.old ≡ 2 * length bytes.now }
+    ensures { digits.new ≡ encode_lower bytes.now }
+{
+    hex::encode_to_slice(bytes, digits).unwrap()
+}
+
+fn push_hex(out: &mut Vec<u8>, bytes: &[u8]) -> Result<(), AllocError>
+    ensures { OnOk result (out.new.items ≡ out.old.items ++ hex_text bytes.now) }
+{
+    let mut line = [0u8; 2 * LINE];
+    let mut rest = bytes;
+    while !rest.is_empty() {
+        let (front, after) = rest.split_at(rest.len().min(LINE));
+        let digits = &mut line[..2 * front.len()];
+        put_digits(front, digits);
+        out.extend_from_slice(digits)?;
+        out.push(b'\n')?;
+        rest = after;
+    }
+    Ok(())
+}
+
+/// The text for an image, with the number of relocations of each section.
+pub fn image_answer(alloc: Global, image: &[u8], counts: &[u64]) -> Result<Vec<u8>, AllocError>
+    ensures { IfOk result (λ v. v.items ≡ image_text image.now counts.now) }
+{
+    let size = image.len();
+    let mut head = format!(in alloc; "image {size}\n")?;
+    push_counts(&mut head, counts)?;
+    let mut out = head.into_bytes();
+    out.reserve(size.saturating_mul(2).saturating_add(size.div_ceil(LINE)))?;
+    push_hex(&mut out, image)?;
+    Ok(out)
+}
+
+/// The text for a value whose first wrong member has that path.
+pub fn no_plan_answer(alloc: Global, path: &str) -> Result<String, AllocError>
+    ensures { IfOk result (λ s. string_bytes s ≡ no_plan_text path.now) }
+{
+    let text = format!(in alloc; "not a plan: {path}\n")?;
+    Ok(text)
+}

@@ -1,0 +1,23 @@
+//! The texts of the program: which JSON value stands for which layout, and what is answered.
+#![tactic(auto)]
+
+mod answer;
+mod fault;
+mod input;
+mod laws;
+mod lists;
+mod members;
+mod output;
+mod plan;
+mod refusal;
+mod symbol;
+mod values;
+
+pub use answer::{image_answer, no_plan_answer};
+pub use fault::PlanFault;
+pub use laws::{parts_are_read_again, plans_are_fixed};
+pub use plan::read_plan;
+pub use refusal::refusal_answer;
+
+#[cfg(test)]
+mod tests;

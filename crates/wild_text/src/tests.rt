@@ -1,0 +1,268 @@
+//! Values and their first wrong members; texts.
+use super::*;
+use serde_json::Value;
+use std::test::*;
+use wild_plan::{At, Error, Fault, Machine, Missing, Role};
+
+/// The text that is answered for a plan that is refused, empty for one that is read.
+fn refused(rt: &HostRuntime, plan: &str) -> Result<String, Fail> {
+    let alloc = rt.alloc();
+    let value = Value::from_str(alloc, plan).ok().ok_or("json")?;
+    match read_plan(alloc, &value) {
+        Ok(_) => Ok(String::new(alloc)),
+        Err(PlanFault::At(path)) => Ok(no_plan_answer(alloc, path.as_str())?),
+        Err(PlanFault::OutOfMemory) => Err("memory")?,
+    }
+}
+
+const REFUSED: [(&str, &str); 34] = [
+    ("[]", "not a plan: \n"),
+    ("{}", "not a plan: /options/strip_all\n"),
+    (r#"{"options":7}"#, "not a plan: /options\n"),
+    (
+        r#"{"options":{"strip_all":false}}"#,
+        "not a plan: /options/strip_all\n",
+    ),
+    (r#"{"options":{"relax":1}}"#, "not a plan: /options/relax\n"),
+    (
+        r#"{"options":{"execstack":1}}"#,
+        "not a plan: /options/strip_all\n",
+    ),
+    (
+        r#"{"options":{"strip_all":true,"bti":true}}"#,
+        "not a plan: /options/bti\n",
+    ),
+    (r#"{"machine":"aarch64"}"#, "not a plan: /machine\n"),
+    (
+        r#"{"kind":"shared","machine":"x86_64"}"#,
+        "not a plan: /kind\n",
+    ),
+    (
+        r#"{"options":{"strip_all":true},"page_size":-1}"#,
+        "not a plan: /page_size\n",
+    ),
+    (
+        r#"{"options":{"strip_all":true},"page_size":-0}"#,
+        "not a plan: /page_size\n",
+    ),
+    (
+        r#"{"options":{"strip_all":true},"page_size":1e3}"#,
+        "not a plan: /page_size\n",
+    ),
+    (
+        r#"{"options":{"strip_all":true},"page_size":18446744073709551616}"#,
+        "not a plan: /page_size\n",
+    ),
+    (
+        r#"{"options":{"strip_all":true},"tls":{},"parts":[{},{},{"size":"1"}]}"#,
+        "not a plan: /parts/2/size\n",
+    ),
+    (
+        r#"{"options":{"strip_all":true},"parts":[{"role":"got"}]}"#,
+        "not a plan: /parts/0/role\n",
+    ),
+    (
+        r#"{"options":{"strip_all":true},"tls":{},"\u0061bc":0}"#,
+        "not a plan: /abc\n",
+    ),
+    (
+        r#"{"options":{"strip_all":true},"sections":[{"name":"0"}]}"#,
+        "not a plan: /sections/0/name\n",
+    ),
+    (
+        r#"{"options":{"strip_all":true},"sections":[{"kind":4294967296}]}"#,
+        "not a plan: /sections/0/kind\n",
+    ),
+    (
+        r#"{"options":{"strip_all":true},"sections":[{"fill":null}]}"#,
+        "not a plan: /sections/0/fill\n",
+    ),
+    (
+        r#"{"options":{"strip_all":true},"segments":[{"flags":null}]}"#,
+        "not a plan: /segments/0/flags\n",
+    ),
+    (
+        r#"{"options":{"strip_all":true},"symbols":[{"info":256}]}"#,
+        "not a plan: /symbols/0/info\n",
+    ),
+    (
+        r#"{"options":{"strip_all":true},"symbols":[{"place":{}}]}"#,
+        "not a plan: /symbols/0/place\n",
+    ),
+    (
+        r#"{"options":{"strip_all":true},"symbols":[{"place":"here"}]}"#,
+        "not a plan: /symbols/0/place\n",
+    ),
+    (
+        r#"{"options":{"strip_all":true},"symbols":[{"place":{"section":0,"output":1}}]}"#,
+        "not a plan: /symbols/0/place/output\n",
+    ),
+    (
+        r#"{"options":{"strip_all":true},"symbols":[{"place":{"output":""}}]}"#,
+        "not a plan: /symbols/0/place/output\n",
+    ),
+    (
+        r#"{"options":{"strip_all":true},"symbols":[{"flags":["ABSOLUTE","GOT"]}]}"#,
+        "not a plan: /symbols/0/flags/1\n",
+    ),
+    (
+        r#"{"options":{"strip_all":true},"symbols":[{"resolution":{"got":0}}]}"#,
+        "not a plan: /symbols/0/resolution/got\n",
+    ),
+    (
+        r#"{"options":{"strip_all":true},"groups":[{"files":[{"role":"script"}]}]}"#,
+        "not a plan: /groups/0/files/0/role\n",
+    ),
+    (
+        r#"{"options":{"strip_all":true},"groups":[{"files":[{"sections":[{"slot":"frame"}]}]}]}"#,
+        "not a plan: /groups/0/files/0/sections/0/slot\n",
+    ),
+    (
+        r#"{"options":{"strip_all":true},"groups":[{"files":[{"sections":[{"bytes":"0g"}]}]}]}"#,
+        "not a plan: /groups/0/files/0/sections/0/bytes\n",
+    ),
+    (
+        r#"{"options":{"strip_all":true},"groups":[{"files":[{"sections":[{"relocations":[{"addend":9223372036854775808}]}]}]}]}"#,
+        "not a plan: /groups/0/files/0/sections/0/relocations/0/addend\n",
+    ),
+    (
+        r#"{"options":{"strip_all":true},"groups":[{"part_sizes":[0,0.5]}]}"#,
+        "not a plan: /groups/0/part_sizes/1\n",
+    ),
+    (
+        r#"{"options":{"strip_all":true},"entry":{}}"#,
+        "not a plan: /entry\n",
+    ),
+    (
+        r#"{"options":{"strip_all":true},"entry":{"address":1,"symbol":0}}"#,
+        "not a plan: /entry/symbol\n",
+    ),
+];
+
+#[test]
+fn first_wrong_members(rt: HostRuntime) -> Result<(), Fail> {
+    for (plan, text) in &REFUSED {
+        let answer = refused(&rt, *plan)?;
+        assert_eq!(rt; answer.as_str(), *text);
+    }
+    Ok(())
+}
+
+const PLAN: &str =
+    r#"{"machine":"x86_64","kind":"static","options":{"relax":true,"strip_all":true},"page_size":4096,"parts":[{"role":"file_header","size":64,"address":4194304,"align":8},{}],"sections":[{},{"name":"2e74657874","kind":1,"flags":6}],"segments":[{"kind":1,"flags":5}],"symbols":[{"name":"6F","info":2,"place":{"section":0},"flags":["NON_INTERPOSABLE","ABSOLUTE"],"resolution":{"raw_value":4194438}}],"groups":[{"files":[{"role":"prelude"},{"role":"object","sections":[{"slot":"loaded","part":1,"bytes":"e800000000","relocations":[{"offset":1,"number":2,"symbol":0,"addend":-4}]}]},{"role":"epilogue"}],"part_sizes":[64,0]}],"entry":{"address":4194432}}"#;
+
+#[test]
+fn a_plan(rt: HostRuntime) -> Result<(), Fail> {
+    let alloc = rt.alloc();
+    let value = Value::from_str(alloc, PLAN).ok().ok_or("json")?;
+    let layout = read_plan(alloc, &value).ok().ok_or("plan")?;
+    assert!(rt; layout.machine == Machine::X86_64);
+    let parts = layout.parts.as_slice();
+    assert!(rt;
+        matches!(parts, [a, b] if a.role == Role::FileHeader && a.size == 64 && b.align == 1)
+    );
+    assert!(rt;
+        matches!(layout.symbols.as_slice(), [s] if s.flags.0 == 9 && s.name.as_slice() == b"o".as_slice())
+    );
+    Ok(())
+}
+
+#[test]
+fn an_image(rt: HostRuntime) -> Result<(), Fail> {
+    let alloc = rt.alloc();
+    let text = image_answer(alloc, &[0xa5; 33], &[0, 3, 0, 1])?;
+    let lines =
+        "image 33\ncount 1 3\ncount 3 1\na5a5a5a5a5a5a5a5a5a5a5a5a5a5a5a5a5a5a5a5a5a5a5a5a5a5a5a5a5a5a5a5\na5\n";
+    assert_eq!(rt; text.as_slice(), lines.as_bytes());
+    Ok(())
+}
+
+fn at(file: Option<usize>, offset: Option<u64>) -> At {
+    At {
+        group: Some(0),
+        file,
+        section: file,
+        offset,
+    }
+}
+
+#[test]
+fn refusals(rt: HostRuntime) -> Result<(), Fail> {
+    let alloc = rt.alloc();
+    let given = 8;
+    let needed = 16;
+    let lines = [
+        (
+            Fault::MalformedLayout {
+                clause: 2,
+                index: 0,
+            },
+            At::NOWHERE,
+            "refused MalformedLayout clause=2 index=0\n",
+        ),
+        (
+            Fault::InsufficientAllocation {
+                part: 3,
+                group: 0,
+                given,
+                needed,
+            },
+            At::NOWHERE,
+            "refused InsufficientAllocation part=3 group=0 given=8 needed=16\n",
+        ),
+        (
+            Fault::ExcessiveAllocation {
+                part: 3,
+                group: 1,
+                given: needed,
+                needed: given,
+            },
+            At::NOWHERE,
+            "refused ExcessiveAllocation part=3 group=1 given=16 needed=8\n",
+        ),
+        (
+            Fault::UnsupportedRelocation { number: 99 },
+            at(Some(1), Some(4)),
+            "refused UnsupportedRelocation number=99 at group=0 file=1 section=1 offset=4\n",
+        ),
+        (
+            Fault::MissingResolution {
+                what: Missing::Address,
+                symbol: 7,
+            },
+            at(None, None),
+            "refused MissingResolution what=address symbol=7 at group=0\n",
+        ),
+        (
+            Fault::MissingResolution {
+                what: Missing::DynamicSymbol,
+                symbol: 7,
+            },
+            At::NOWHERE,
+            "refused MissingResolution what=dynsym symbol=7\n",
+        ),
+        (
+            Fault::OutOfRange {
+                value: u64::MAX - 4,
+            },
+            at(None, Some(9)),
+            "refused OutOfRange value=-5 at group=0 offset=9\n",
+        ),
+        (
+            Fault::OverlappingSites { byte: 4 },
+            at(Some(2), None),
+            "refused OverlappingSites byte=4 at group=0 file=2 section=2\n",
+        ),
+    ];
+    for (fault, at, line) in &lines {
+        let text = refusal_answer(
+            alloc,
+            Error {
+                fault: *fault,
+                at: *at,
+            },
+        )?;
+        assert_eq!(rt; text.as_str(), *line);
+    }
+    Ok(())
+}
