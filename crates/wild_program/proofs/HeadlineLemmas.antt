@@ -1,0 +1,66 @@
+-- The text of status 0 is that of a sound image.
+use Rattle.std.proofs.Common.{◌≡◌, ℕ, List, [], ◌∷◌, ◌++◌, Option, Some, None, refl, sym, ap, ◌∙◌, subst, inl, inr, String, Global}
+use Rattle.std.proofs.lemmas.List.{append_cancel_left}
+use Rattle.std.specs.Io.KnownBytes.{Appends}
+use Rattle.wild_plan.specs.declared.fault.Error.{Error}
+use Rattle.wild_plan.specs.declared.layout.Layout.{Layout}
+use Rattle.wild_layout.specs.Image.{bytes, counts}
+use Rattle.wild_layout.specs.Faults.{errors}
+use Rattle.wild_laws.specs.Laws.{ImagesAreSound}
+use Rattle.wild_text.specs.Means.{Meaning, no_json, no_plan, plan, Means}
+use Rattle.wild_text.specs.Answer.{image_text}
+use Rattle.wild_text.specs.Laws.{PlansAreFixed}
+use Rattle.wild_text.specs.Plan.{fixed as fixed_output}
+use Rattle.wild_plan.specs.declared.kind.OutputKind.{OutputKind}
+use Rattle.wild_layout.specs.Numbers.{NumbersFit}
+use Rattle.wild_meaning.specs.World.{IsFixed}
+use Rattle.wild_program.specs.Program.{Answer, usage, read_fault, too_long, of_plan, status, text as text_of, errors_status, errors_text, layout_text, Turn, Told, IsDue, IsSaid, IsMeant, IsLinkedText}
+use Rattle.wild_program.specs.Clauses.{IsHeadline}
+use Rattle.wild_program.proofs.Statuses.{clash}
+use Rattle.wild_program.specs.Steps.{IsAnsweredBy, AnswerFits}
+use Rattle.wild_program.proofs.SourceLemmas.{all_read}
+
+-- text that was appended is the text that came behind
+appended : (before after : Option (List ℕ)) (xs added text : List ℕ) → before ≡ Some xs → after ≡ Some (xs ++ text) → Appends before after added → text ≡ added
+appended None after xs added text b a h = absurd cc
+appended (Some ys) None xs added text b a h = absurd cc
+appended (Some ys) (Some zs) xs added text b a h =
+    let before : ys ≡ xs = cc in
+    let after : zs ≡ xs ++ text = cc in
+    append_cancel_left xs text added (sym after ∙ h ∙ ap (λ (ws : List ℕ). ws ++ added) before)
+
+no_errors : (es : List Error) (said : ℕ) → said ≡ 0 → said ≡ errors_status es → es ≡ []
+no_errors [] said zero h = refl
+no_errors (e ∷ es) said zero h = clash 0 1 said refl zero h
+
+fixed_kind : (l : Layout) → l.kind ≡ fixed_output → IsFixed l.kind
+fixed_kind l e = subst (λ (k : OutputKind). IsFixed k) (sym e) tt
+
+-- the text of a layout without faults
+image_of : (t : Turn) (l : Layout) (plan_bytes text : List ℕ) → ImagesAreSound → PlansAreFixed → NumbersFit l → t.left_before ≡ Some plan_bytes → IsMeant t (plan l)
+    → errors l ≡ [] → text ≡ layout_text l → IsLinkedText plan_bytes text
+image_of t l plan_bytes text sound fixed fits left meant none is =
+    let same = all_read t plan_bytes meant.0 left meant.1 in
+    let means = subst (λ (b : List ℕ). Means b (plan l)) (sym same) meant.2 in
+    let target = fixed means.0 l means.2 in
+    let shown : text ≡ image_text (bytes l) (counts l) = is ∙ ap (errors_text l) none in
+    (l, means, bytes l, counts l, shown, sound l target.machine (fixed_kind l target.kind) fits none)
+
+said_image : (t : Turn) (u : Told) (said : ℕ) (a : Answer) (words : List (String Global)) → ImagesAreSound → PlansAreFixed → AnswerFits a → IsDue words t a
+    → said ≡ status a → Appends u.taken_before u.taken_after (text_of a) → IsHeadline t u said
+said_image t u said usage words sound fixed fits due h took plan_bytes before text zero left b a = clash 0 2 said refl zero h
+said_image t u said read_fault words sound fixed fits due h took plan_bytes before text zero left b a = clash 0 4 said refl zero h
+said_image t u said too_long words sound fixed fits due h took plan_bytes before text zero left b a = clash 0 7 said refl zero h
+said_image t u said (of_plan no_json) words sound fixed fits due h took plan_bytes before text zero left b a = clash 0 3 said refl zero h
+said_image t u said (of_plan (no_plan path)) words sound fixed fits due h took plan_bytes before text zero left b a = clash 0 3 said refl zero h
+said_image t u said (of_plan (plan l)) words sound fixed fits due h took plan_bytes before text zero left b a =
+    image_of t l plan_bytes text sound fixed fits left due.1 (no_errors (errors l) said zero h)
+    (appended u.taken_before u.taken_after before (layout_text l) text b a took)
+
+told_image : (t : Turn) (u : Told) (said : ℕ) (a : Answer) (words : List (String Global)) → ImagesAreSound → PlansAreFixed → AnswerFits a → IsDue words t a
+    → IsSaid u (status a) (text_of a) said → IsHeadline t u said
+told_image t u said a words sound fixed fits due (inl h) = said_image t u said a words sound fixed fits due h.0 h.1
+told_image t u said a words sound fixed fits due (inr h) = λ plan_bytes before text zero left b c. clash 0 5 said refl zero h.0
+
+pub headline : (words : List (String Global)) (t : Turn) (u : Told) (said : ℕ) → ImagesAreSound → PlansAreFixed → IsAnsweredBy words t u said → IsHeadline t u said
+headline words t u said sound fixed h = told_image t u said h.answer words sound fixed h.fits h.due h.told_as

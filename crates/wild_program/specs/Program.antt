@@ -1,0 +1,132 @@
+-- What the program answers.
+--   IsLink words n            the words are `link` and the number n of workers
+--   IsDue words turn answer   when each answer is due
+--   IsSaid told status text said   how an answer was said: the whole text was taken, or a write failed
+--   IsLinkedText plan text    the text is that of an image that is what it owes the plan's layout
+use Rattle.std.specs.Prelude.{◌≡◌, ℕ, ◌+◌, ◌^◌, ◌≤◌, List, [], ◌∷◌, length, map, codes, decimal, string_bytes, String, Option, ◌⊎◌}
+use Rattle.std.specs.declared.alloc.Global.{Global}
+use Rattle.std.specs.Io.KnownBytes.{Consumes, Appends, IsAtEnd}
+use Rattle.wild_outside.specs.Causes.{Rose, AppendsFront}
+use Rattle.wild_plan.specs.declared.fault.Error.{Error}
+use Rattle.wild_plan.specs.declared.layout.Layout.{Layout}
+use Rattle.wild_layout.specs.Image.{bytes, counts}
+use Rattle.wild_layout.specs.Faults.{errors}
+use Rattle.wild_meaning.specs.Linked.{IsSound}
+use Rattle.wild_text.specs.Means.{Meaning, no_json, no_plan, plan, Means}
+use Rattle.wild_text.specs.Answer.{image_text, refusal_text, no_plan_text}
+
+-- the words are `link` and a number of workers from 1 to 64, in decimal
+abbrev pub IsLink : List (String Global) → ℕ → Type 0
+IsLink words n = (map string_bytes words ≡ codes "link" ∷ decimal n ∷ []) × (1 ≤ n) × (n ≤ 64)
+
+-- the words are a command
+abbrev pub IsCommand : List (String Global) → Type 0
+IsCommand words = (n : ℕ) × IsLink words n
+
+-- what may be answered
+pub data Answer : Type 0 where
+  usage : Answer
+  read_fault : Answer
+  too_long : Answer
+  of_plan : Meaning → Answer
+
+-- of a layout with these faults
+abbrev pub errors_status : List Error → ℕ
+errors_status [] = 0
+errors_status (e ∷ es) = 1
+
+abbrev pub errors_text : Layout → List Error → List ℕ
+errors_text l [] = image_text (bytes l) (counts l)
+errors_text l (e ∷ es) = refusal_text e
+
+-- 0 where the layout has no faults
+abbrev pub layout_status : Layout → ℕ
+layout_status l = errors_status (errors l)
+
+-- the image, or the first fault
+abbrev pub layout_text : Layout → List ℕ
+layout_text l = errors_text l (errors l)
+
+abbrev pub status : Answer → ℕ
+status usage = 2
+status read_fault = 4
+status too_long = 7
+status (of_plan no_json) = 3
+status (of_plan (no_plan path)) = 3
+status (of_plan (plan layout)) = layout_status layout
+
+abbrev pub text : Answer → List ℕ
+text usage = codes "usage: link W\n"
+text read_fault = codes "read fault\n"
+text too_long = codes "plan too long\n"
+text (of_plan no_json) = codes "not a plan: json\n"
+text (of_plan (no_plan path)) = no_plan_text path
+text (of_plan (plan layout)) = layout_text layout
+
+-- how many bytes a plan may have
+abbrev pub limit : ℕ
+limit = 2 ^ 31
+
+-- how the source stood before and after
+pub record Turn : Type 0 where
+  pub left_before : Option (List ℕ)
+  pub left_after : Option (List ℕ)
+  pub faults_before : ℕ
+  pub faults_after : ℕ
+
+abbrev pub turn : Option (List ℕ) → Option (List ℕ) → ℕ → ℕ → Turn
+turn left_before left_after faults_before faults_after = record { left_before = left_before; left_after = left_after; faults_before = faults_before; faults_after = faults_after }
+
+-- the bytes were read to the end, and are not too many
+pub record IsRead (t : Turn) (whole : List ℕ) : Type 0 where
+  pub taken : Consumes t.left_before t.left_after whole
+  pub ended : IsAtEnd t.left_after
+  pub short : length whole ≤ limit
+
+-- nothing was read
+pub record IsUntouched (t : Turn) : Type 0 where
+  pub left : t.left_after ≡ t.left_before
+  pub faults : t.faults_after ≡ t.faults_before
+
+-- more bytes came than a plan may have
+abbrev pub IsTooLong : Turn → Type 0
+IsTooLong t = (taken : List ℕ) × Consumes t.left_before t.left_after taken × (length taken ≡ limit + 1)
+
+-- bytes that were read to the end stand for that
+abbrev pub IsMeant : Turn → Meaning → Type 0
+IsMeant t meaning = (whole : List ℕ) × IsRead t whole × Means whole meaning
+
+-- when each answer is due
+abbrev pub IsDue : List (String Global) → Turn → Answer → Type 0
+IsDue words t usage = (IsCommand words → ⊥) × IsUntouched t
+IsDue words t read_fault = IsCommand words × Rose t.faults_before t.faults_after
+IsDue words t too_long = IsCommand words × IsTooLong t
+IsDue words t (of_plan meaning) = IsCommand words × IsMeant t meaning
+
+-- how the sink stood before and after
+pub record Told : Type 0 where
+  pub taken_before : Option (List ℕ)
+  pub taken_after : Option (List ℕ)
+  pub faults_before : ℕ
+  pub faults_after : ℕ
+
+abbrev pub told : Option (List ℕ) → Option (List ℕ) → ℕ → ℕ → Told
+told taken_before taken_after faults_before faults_after = record { taken_before = taken_before; taken_after = taken_after; faults_before = faults_before; faults_after = faults_after }
+
+-- a write failed, and some first bytes of the text were taken
+pub record IsCutShort (t : Told) (text : List ℕ) : Type 0 where
+  pub cause : Rose t.faults_before t.faults_after
+  pub front : AppendsFront t.taken_before t.taken_after text
+
+-- the whole text was taken and the status is the answer's; or the status is 5 and the text was cut short
+abbrev pub IsSaid : Told → ℕ → List ℕ → ℕ → Type 0
+IsSaid t status text said = ((said ≡ status) × Appends t.taken_before t.taken_after text) ⊎ ((said ≡ 5) × IsCutShort t text)
+
+-- the status that was answered, with its cause and its text
+abbrev pub IsAnswered : List (String Global) → Turn → Told → ℕ → Type 0
+IsAnswered words t u said = (a : Answer) × IsDue words t a × IsSaid u (status a) (text a) said
+
+-- the text is that of an image for the plan's layout that the loader accepts in every legal world, with each
+-- kept reference as it has to be
+abbrev pub IsLinkedText : List ℕ → List ℕ → Type 0
+IsLinkedText plan_bytes text = (layout : Layout) × Means plan_bytes (plan layout) × (image : List ℕ) × (counts : List ℕ) × (text ≡ image_text image counts) × IsSound layout image

@@ -1,0 +1,199 @@
+//! All that the program does, over any source and sink.
+ghost use Rattle.std.specs.Prelude.{◌≡◌, ◌≢◌, ℕ, IfOk, OnErr, MatchOption};
+ghost use Rattle.wild_plan.specs.declared.kind.Machine.TheVariants.{X86_64};
+ghost use Rattle.wild_program.specs.Program.{IsLink, layout_status, layout_text, turn, told, IsSaid, IsAnswered};
+ghost use Rattle.wild_program.specs.Clauses.{HasItsCause, IsCalm, IsDetermined, IsComplete, IsHeadline};
+ghost use Rattle.wild_program.specs.Steps.{IsRefusal, IsAnswerOf, IsAnsweredBy};
+
+use serde_json::Value;
+use std::alloc::{AllocError, Global};
+use std::thread::Threads;
+use wild_image::{ElfX86_64, write};
+use wild_laws::images_are_sound;
+use wild_layout::numbers_fit;
+use wild_outside::{ReadFault, Sink, Source, SureSink, SureSource, read_whole, write_whole};
+use wild_plan::{Error, Fault, Layout};
+use wild_text::{
+    PlanFault, image_answer, no_plan_answer, plans_are_fixed, read_plan, refusal_answer,
+};
+
+/// How many bytes a plan may have.
+const LIMIT: usize = 1 << 31;
+
+/// The number of workers, where the words are a command.
+fn workers_of(alloc: Global, words: &[String]) -> Result<Option<u8>, AllocError>
+    ensures { IfOk result (λ o. MatchOption o ((n : ℕ) → IsLink words.now n → ⊥) (λ n. IsLink words.now n)) }
+{
+    let [command, number] = words else {
+        return Ok(None);
+    };
+    if command.as_str() != "link" {
+        return Ok(None);
+    }
+    for n in 1..65u8 {
+        let digits = n.to_string(alloc)?;
+        if digits.as_str() == number.as_str() {
+            return Ok(Some(n));
+        }
+    }
+    Ok(None)
+}
+
+/// Writes the text, and answers the status, or 5.
+fn say<K: Sink>(sink: &mut K, answer: &[u8], code: u8) -> u8
+    ensures { IsSaid (told (K.taken sink.old) (K.taken sink.new) (K.faults sink.old) (K.faults sink.new))
+        code answer.now result }
+{
+    match write_whole(sink, answer) {
+        Ok(()) => code,
+        Err(_) => 5,
+    }
+}
+
+/// The status and the text for a layout.
+fn layout_answer(
+    rt: &impl Threads,
+    alloc: Global,
+    layout: &Layout,
+    workers: u8,
+) -> Result<(u8, Vec<u8>), AllocError>
+    requires { layout.now.machine ≡ X86_64 }
+    ensures { IfOk result (λ a. (a.0 ≡ layout_status layout.now) × (a.1.items ≡ layout_text layout.now)) }
+{
+    match write::<ElfX86_64>(rt, alloc, layout, workers) {
+        Ok(made) => {
+            let text = image_answer(alloc, made.out.as_slice(), made.counts.as_slice())?;
+            Ok((0, text))
+        }
+        Err(error) => refusal_of(alloc, error),
+    }
+}
+
+/// The status and the text for a fault; for want of memory there is none.
+fn refusal_of(alloc: Global, error: Error) -> Result<(u8, Vec<u8>), AllocError>
+    ensures { IfOk result (λ a. IsRefusal error a.0 a.1.items) }
+{
+    match error.fault {
+        Fault::OutOfMemory => Err(AllocError),
+        _ => {
+            let text = refusal_answer(alloc, error)?;
+            Ok((1, text.into_bytes()))
+        }
+    }
+}
+
+/// The status and the text for the bytes of a plan.
+fn plan_answer(
+    rt: &impl Threads,
+    alloc: Global,
+    bytes: &[u8],
+    workers: u8,
+) -> Result<(u8, Vec<u8>), AllocError>
+    ensures { IfOk result (λ a. IsAnswerOf bytes.now a.0 a.1.items) }
+{
+    let value = match Value::from_slice(alloc, bytes) {
+        Ok(value) => value,
+        Err(e) => {
+            if e.is_memory() {
+                return Err(AllocError);
+            }
+            return Ok((3, b"not a plan: json\n".to_vec(alloc)?));
+        }
+    };
+    let layout = match read_plan(alloc, &value) {
+        Ok(layout) => layout,
+        Err(PlanFault::OutOfMemory) => return Err(AllocError),
+        Err(PlanFault::At(path)) => {
+            let text = no_plan_answer(alloc, path.as_str())?;
+            return Ok((3, text.into_bytes()));
+        }
+    };
+    plans_are_fixed();
+    numbers_fit(&layout);
+    let answer = layout_answer(rt, alloc, &layout, workers)?;
+    Ok(answer)
+}
+
+/// Reads, decides and says.
+fn answered<S: Source, K: Sink>(
+    rt: &impl Threads,
+    alloc: Global,
+    words: &[String],
+    source: &mut S,
+    sink: &mut K,
+) -> Result<u8, AllocError>
+    ensures ok { IfOk result (λ said. IsAnsweredBy words.now
+        (turn (S.left source.old) (S.left source.new) (S.faults source.old) (S.faults source.new))
+        (told (K.taken sink.old) (K.taken sink.new) (K.faults sink.old) (K.faults sink.new)) said) }
+    ensures memory { OnErr result (K.taken sink.new ≡ K.taken sink.old) }
+{
+    let Some(workers) = workers_of(alloc, words)? else {
+        return Ok(say(sink, b"usage: link W\n", 2));
+    };
+    let bytes = match read_whole(alloc, source, LIMIT) {
+        Ok(bytes) => bytes,
+        Err(ReadFault::Memory) => return Err(AllocError),
+        Err(ReadFault::Failed) => return Ok(say(sink, b"read fault\n", 4)),
+        Err(ReadFault::TooLong) => return Ok(say(sink, b"plan too long\n", 7)),
+    };
+    let (code, answer) = plan_answer(rt, alloc, &bytes, workers)?;
+    Ok(say(sink, &answer, code))
+}
+
+/// All that the program does: reads the plan that the words ask for, and writes the answer's text. The status is
+/// 0 for an image, 1 for a layout with a fault, 2 for words that are no command, 3 for bytes that are no plan, 4
+/// for a read that failed, 5 for a write that failed, 7 for a plan that is too long.
+pub fn run<S: Source, K: Sink>(
+    rt: &impl Threads,
+    alloc: Global,
+    words: &[String],
+    source: &mut S,
+    sink: &mut K,
+) -> Result<u8, AllocError>
+    // The status and the text are those of an answer that is due.
+    ensures answer { IfOk result (λ said. IsAnswered words.now
+        (turn (S.left source.old) (S.left source.new) (S.faults source.old) (S.faults source.new))
+        (told (K.taken sink.old) (K.taken sink.new) (K.faults sink.old) (K.faults sink.new)) said) }
+    // Where status 0 is answered, the text is that of an image that the loader accepts in every legal world, with
+    // each kept reference as its relocation demands.
+    ensures headline { IfOk result (λ said. IsHeadline
+        (turn (S.left source.old) (S.left source.new) (S.faults source.old) (S.faults source.new))
+        (told (K.taken sink.old) (K.taken sink.new) (K.faults sink.old) (K.faults sink.new)) said) }
+    // Each status comes only with its cause.
+    ensures causes { IfOk result (λ said. HasItsCause words.now
+        (turn (S.left source.old) (S.left source.new) (S.faults source.old) (S.faults source.new))
+        (told (K.taken sink.old) (K.taken sink.new) (K.faults sink.old) (K.faults sink.new)) said) }
+    // Where nothing fails, the words and the plan determine the status and the text.
+    ensures determined { IfOk result (λ said. IsCalm
+        (turn (S.left source.old) (S.left source.new) (S.faults source.old) (S.faults source.new))
+        (told (K.taken sink.old) (K.taken sink.new) (K.faults sink.old) (K.faults sink.new))
+        → IsDetermined words.now
+        (turn (S.left source.old) (S.left source.new) (S.faults source.old) (S.faults source.new))
+        (told (K.taken sink.old) (K.taken sink.new) (K.faults sink.old) (K.faults sink.new)) said) }
+    // Where nothing fails, a plan without faults gives its image.
+    ensures complete { IfOk result (λ said. IsCalm
+        (turn (S.left source.old) (S.left source.new) (S.faults source.old) (S.faults source.new))
+        (told (K.taken sink.old) (K.taken sink.new) (K.faults sink.old) (K.faults sink.new))
+        → IsComplete words.now
+        (turn (S.left source.old) (S.left source.new) (S.faults source.old) (S.faults source.new)) said) }
+    // Where memory is refused, nothing has been written.
+    ensures memory { OnErr result (K.taken sink.new ≡ K.taken sink.old) }
+{
+    plans_are_fixed();
+    images_are_sound();
+    answered(rt, alloc, words, source, sink)
+}
+
+/// The program over a source and a sink that never fail: no status says that a read or a write did.
+pub fn run_surely(
+    rt: &impl Threads,
+    alloc: Global,
+    words: &[String],
+    source: &mut SureSource,
+    sink: &mut SureSink,
+) -> Result<u8, AllocError>
+    ensures read { IfOk result (λ said. said ≢ 4) }
+    ensures written { IfOk result (λ said. said ≢ 5) }
+{
+    run(rt, alloc, words, source, sink)
+}
