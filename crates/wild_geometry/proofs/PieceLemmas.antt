@@ -3,6 +3,8 @@ use Rattle.std.proofs.Common.{◌≡◌, ℕ, ◌+◌, ◌-◌, ◌<◌, ◌≤�
 use Rattle.std.proofs.lemmas.Bool.{cases_order, cases_lt, or_cases, and_from, eqb-true, eq-eqb}
 use Rattle.std.proofs.lemmas.Option.{slice_get-get_or, get_or_from_slice_get, slice_get_within, same_Some}
 use Rattle.std.proofs.lemmas.List.Elements.{All-append, All-contains}
+use Rattle.wild_records.specs.FileHeader.{file_header_size}
+use Rattle.wild_plan.specs.declared.part.Role.TheVariants as role
 use Rattle.wild_words.specs.Overlay.{Piece, Apart, AreApart}
 use Rattle.wild_plan.specs.declared.part.Part.{Part}
 use Rattle.wild_plan.specs.declared.part.Role.{Role}
@@ -12,7 +14,7 @@ use Rattle.wild_plan.specs.declared.layout.Layout.{Layout}
 use Rattle.wild_plan.specs.Lists.{total}
 use Rattle.wild_plan.specs.Lookups.{is_filled, takes_file_bytes, image_size}
 use Rattle.wild_plan.specs.Needs.{name_bytes, whole_of}
-use Rattle.wild_plan.specs.Places.{role_place, takes_room}
+use Rattle.wild_plan.specs.Places.{role_place, has_role, takes_room}
 use Rattle.wild_layout.specs.Image.{part_bytes, own_bytes, part_piece, own_piece, offset_in, section_piece, group_pieces, pieces}
 use Rattle.wild_layout.specs.Sites.{section_bytes}
 use Rattle.wild_layout.specs.Geometry.{PartLies}
@@ -36,8 +38,8 @@ own_takes : (l : Layout) (p : Part) → takes_room l p ≡ true → own_bytes p 
 own_takes l p h o =
     let own = HasOwn-from_own_bytes p o in
     let place = own_place own.own in
-    elim (or_cases (role_place p.role == 0) (takes_file_bytes l p.section) h) [
-      | inl e ↦ absurd (let z = eqb-true _ _ e in let same = ap role_place own.is in omega arith)
+    elim (or_cases (has_role role.Raw p) (takes_file_bytes l p.section) h) [
+      | inl e ↦ absurd (let z : role_place p.role ≡ 0 = eqb-true _ _ e in let same = ap role_place own.is in omega arith)
       | inr t ↦ t
     ]
 
@@ -52,7 +54,7 @@ own_length l h i p m b =
 -- the file header is in the image
 header_in_image : (l : Layout) → Laid l → 64 ≤ image_size l
 header_in_image l h =
-    let f = StandsAt-from_test 1 0 0 l.parts h.roles.file_header in
+    let f = StandsAt-from_test role.FileHeader 0 0 l.parts h.roles.file_header in
     let r = role_place-1 f.item.role f.has in
     let own = own_bytes-from_role f.item own_header r in
     let takes = own_takes l f.item (All-contains (λ p. takes_room l p ≡ true) l.parts f.item h.parts.room f.listed) own in
@@ -86,7 +88,7 @@ own_ends l h i p m b =
       | inr none ↦
           (let z : whole_of l (role_of o.own) ≡ 0 = omega arith in
           let r : role_place (get_or l.parts i p).role ≡ 2 = ap role_place (o.is ∙ ap role_of (empty_own l h o.own z)) in
-          let at = offset_of_only 2 64 l.parts (omega arith) (Differs-from_again l.parts h.roles.again) (StandsAt-from_test 2 64 0 l.parts h.roles.program_headers) i p m r in
+          let at = offset_of_only role.ProgramHeaders file_header_size l.parts (omega arith) (Differs-from_again l.parts h.roles.again) (StandsAt-from_test role.ProgramHeaders file_header_size 0 l.parts h.roles.program_headers) i p m r in
           let header = header_in_image l h in
           omega arith)
     ]

@@ -8,7 +8,7 @@ use Rattle.wild_words.specs.Record.{spell}
 use Rattle.wild_words.proofs.RecordLemmas.{length-spell}
 use Rattle.wild_records.specs.FileHeader.{file_header_fields}
 use Rattle.wild_records.specs.ProgramHeader.{program_header_fields}
-use Rattle.wild_records.specs.SectionHeader.{section_header_fields}
+use Rattle.wild_records.specs.SectionHeader.{section_header_size, section_header_fields}
 use Rattle.wild_records.specs.declared.section_header.SectionHeader.{SectionHeader}
 use Rattle.wild_plan.specs.declared.part.Part.{Part}
 use Rattle.wild_plan.specs.declared.part.Role.{Role}
@@ -195,5 +195,5 @@ length-part_bytes l own_header = length-spell (file_header_fields (file_header l
 length-part_bytes l own_segments = length_of_equal (λ (g : Segment). spell (program_header_fields (program_header l g))) 56 l.segments (λ g. length-spell (program_header_fields (program_header l g)))
 length-part_bytes l own_sections =
     length_of_equal (λ (h : SectionHeader). spell (section_header_fields h)) 64 (section_headers_of l l.sections) (λ h. length-spell (section_header_fields h))
-    ∙ ap (λ (n : ℕ). 64 * n) (length-section_headers l l.sections)
+    ∙ ap (λ (n : ℕ). section_header_size * n) (length-section_headers l l.sections)
 length-part_bytes l own_names = length-names l.sections

@@ -11,7 +11,7 @@ use Rattle.wild_words.proofs.WordLemmas.{front-place, word_1}
 use Rattle.wild_words.proofs.RecordLemmas.{length-spell}
 use Rattle.wild_records.specs.FileHeader.{file_header_fields}
 use Rattle.wild_records.specs.ProgramHeader.{program_header_fields}
-use Rattle.wild_records.specs.SectionHeader.{section_header_fields}
+use Rattle.wild_records.specs.SectionHeader.{section_header_size, section_header_fields}
 use Rattle.wild_records.specs.declared.file_header.FileHeader.{FileHeader}
 use Rattle.wild_records.specs.declared.program_header.ProgramHeader.{ProgramHeader}
 use Rattle.wild_records.specs.declared.section_header.SectionHeader.{SectionHeader}
@@ -87,27 +87,27 @@ section_headers_of-push l i (t ∷ ss) s e =
     rw z (ap (λ (r : List SectionHeader). null_header l ∷ r) (headers_from-push (length t.name + 1) ss s))
 
 -- one more section header
-pub section_table-more : (l : Layout) (i : ℕ) (ss : List Section) (d : Section) (out : List ℕ) → i < length ss → 64 * length ss ≡ length out
-    → take (64 * i) out ≡ flat_map (λ h. spell (section_header_fields h)) (section_headers_of l (take i ss))
-    → take (64 * (i + 1)) (place (64 * i) (spell (section_header_fields (header_at l i (total named (take i ss)) (get_or ss i d)))) out) ≡ flat_map (λ h. spell (section_header_fields h)) (section_headers_of l (take (i + 1) ss))
+pub section_table-more : (l : Layout) (i : ℕ) (ss : List Section) (d : Section) (out : List ℕ) → i < length ss → section_header_size * length ss ≡ length out
+    → take (section_header_size * i) out ≡ flat_map (λ h. spell (section_header_fields h)) (section_headers_of l (take i ss))
+    → take (section_header_size * (i + 1)) (place (section_header_size * i) (spell (section_header_fields (header_at l i (total named (take i ss)) (get_or ss i d)))) out) ≡ flat_map (λ h. spell (section_header_fields h)) (section_headers_of l (take (i + 1) ss))
 section_table-more l i ss d out h room e =
     let f : SectionHeader → List ℕ = λ h. spell (section_header_fields h) in
     let header = header_at l i (total named (take i ss)) (get_or ss i d) in
     let w = length-section_header header in
     let here : section_headers_of l (take (i + 1) ss) ≡ section_headers_of l (take i ss) ++ header ∷ [] =
     ap (section_headers_of l) (take_more ss i d h) ∙ section_headers_of-push l i (take i ss) (get_or ss i d) (length-take-le i ss (omega arith)) in
-    front-place (64 * i) (64 * (i + 1)) out (f header) (omega arith) (omega arith)
+    front-place (section_header_size * i) (section_header_size * (i + 1)) out (f header) (omega arith) (omega arith)
     ∙ ap (λ (r : List ℕ). r ++ f header) e
     ∙ ap (λ (r : List ℕ). flat_map f (section_headers_of l (take i ss)) ++ r) (sym (append-nil (f header)))
     ∙ sym (flat_map-append f (section_headers_of l (take i ss)) (header ∷ []))
     ∙ ap (flat_map f) (sym here)
 
 -- the same, for a section that a loop read
-pub section_table_read : (l : Layout) (i name : ℕ) (ss : List Section) (s : Section) (out : List ℕ) → i < length ss → s ≡ get_or ss i s → name ≡ total named (take i ss) → length out ≡ 64 * length ss
-    → take (64 * i) out ≡ flat_map (λ h. spell (section_header_fields h)) (section_headers_of l (take i ss))
-    → take (64 * (i + 1)) (place (64 * i) (spell (section_header_fields (header_at l i name s))) out) ≡ flat_map (λ h. spell (section_header_fields h)) (section_headers_of l (take (i + 1) ss))
+pub section_table_read : (l : Layout) (i name : ℕ) (ss : List Section) (s : Section) (out : List ℕ) → i < length ss → s ≡ get_or ss i s → name ≡ total named (take i ss) → length out ≡ section_header_size * length ss
+    → take (section_header_size * i) out ≡ flat_map (λ h. spell (section_header_fields h)) (section_headers_of l (take i ss))
+    → take (section_header_size * (i + 1)) (place (section_header_size * i) (spell (section_header_fields (header_at l i name s))) out) ≡ flat_map (λ h. spell (section_header_fields h)) (section_headers_of l (take (i + 1) ss))
 section_table_read l i name ss s out h read e room before =
-    let P : Section → Type 0 = λ t. take (64 * (i + 1)) (place (64 * i) (spell (section_header_fields (header_at l i (total named (take i ss)) t))) out) ≡ flat_map (λ g. spell (section_header_fields g)) (section_headers_of l (take (i + 1) ss)) in
+    let P : Section → Type 0 = λ t. take (section_header_size * (i + 1)) (place (section_header_size * i) (spell (section_header_fields (header_at l i (total named (take i ss)) t))) out) ≡ flat_map (λ g. spell (section_header_fields g)) (section_headers_of l (take (i + 1) ss)) in
     rw e (subst P (sym read) (section_table-more l i ss s out h (sym room) before))
 
 -- a name and those before it have their room

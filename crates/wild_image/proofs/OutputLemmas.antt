@@ -16,12 +16,14 @@ use Rattle.wild_layout.specs.Image.{own_piece, group_pieces, pieces, padding, by
 use Rattle.wild_layout.specs.Faults.{clause_errors, flat_map_from, part_errors, group_errors, errors}
 use Rattle.wild_layout.specs.Geometry.{IsLaidOut}
 use Rattle.wild_image.specs.Steps.{FieldsFit}
+use Rattle.wild_plan.specs.declared.part.Role.{Role}
+use Rattle.wild_plan.specs.declared.part.Role.TheVariants as role
 use Rattle.wild_plan.specs.Needs.{name_bytes}
 use Rattle.wild_plan.specs.Faults.{Refuses}
 use Rattle.wild_image.proofs.PieceLemmas.{overlay-append}
 use Rattle.wild_image.proofs.FaultLemmas.{Refuses-front, Refuses-behind}
 
-section_below : (r n : ℕ) (ps : List Part) → 1 ≤ n → All (λ (p : Part). p.section < n) ps → section_of_role r ps < n
+section_below : (r : Role) (n : ℕ) (ps : List Part) → 1 ≤ n → All (λ (p : Part). p.section < n) ps → section_of_role r ps < n
 section_below r n [] h all = omega arith
 section_below r n (p ∷ ps) h all = by (has_role r p) (all 0 p (omega arith)) (section_below r n ps h (λ k d l. all (suc k) d (omega arith)))
   where
@@ -34,7 +36,7 @@ pub FieldsFit-IsLaidOut : (l : Layout) → IsLaidOut l → FieldsFit l
 FieldsFit-IsLaidOut l h = record {
   segments = let e = h.segments in omega arith;
   names = h.names;
-  name_table = let e = section_below 4 (length l.sections) l.parts h.some_section h.named in let f = h.sections in omega (arith, e, f);
+  name_table = let e = section_below role.Shstrtab (length l.sections) l.parts h.some_section h.named in let f = h.sections in omega (arith, e, f);
 }
 
 -- the padding, the parts and the groups make the image

@@ -1,5 +1,5 @@
 -- Laws of the counts of fields over the bytes of a section.
-use Rattle.std.proofs.Common.{◌≡◌, ◌≢◌, ℕ, suc, ◌+◌, ◌-◌, ◌<◌, ◌≤◌, inl, inr, Bool, true, false, ◌&&◌, List, [], ◌∷◌, length, take, drop, get_or, Option, Some, None, refl, sym, ap, ◌∙◌, arith, if◌then◌else◌, nat_lt, nat_le, nat_eq, add-zero, slice_range}
+use Rattle.std.proofs.Common.{◌≡◌, ◌≢◌, ℕ, suc, ◌+◌, ◌-◌, ◌<◌, ◌≤◌, inl, inr, Bool, true, false, ◌&&◌, List, [], ◌∷◌, length, take, drop, get_or, Option, Some, None, refl, sym, ap, ◌∙◌, subst, arith, if◌then◌else◌, nat_lt, nat_le, nat_eq, add-zero, slice_range}
 use Rattle.std.specs.Prelude.{min}
 use Rattle.std.specs.List.{flat_map, position_from}
 use Rattle.std.proofs.lemmas.Bool.{cases_lt, le-leb, lt-leb, lt-ltb, le-ltb, eq-eqb, ne_eqb}
@@ -15,13 +15,12 @@ use Rattle.wild_plan.specs.declared.input.InputSection.{InputSection}
 use Rattle.wild_plan.specs.declared.layout.Layout.{Layout}
 use Rattle.wild_reloc.specs.Field.{field_width}
 use Rattle.wild_reloc.specs.declared.info.RelocationKindInfo.{RelocationKindInfo}
-use Rattle.wild_layout.specs.Rows.{row_of}
+use Rattle.wild_plan.specs.Rows.{row_of, row_width}
 use Rattle.wild_layout.specs.Values.{value_of}
 use Rattle.wild_layout.specs.Sites.{site, site_by, coverage, has_byte, first_shared}
 use Rattle.wild_layout.specs.Geometry.{FieldLies}
-use Rattle.wild_image.specs.Steps.{row_width}
 use Rattle.wild_image.proofs.ListLemmas.{flat_map-more, total-append}
-use Rattle.wild_image.proofs.RowLemmas.{KnownRow-row_of, length_size_written}
+use Rattle.wild_image.proofs.RowLemmas.{length_size_written}
 
 abbrev pub more : Bool → ℕ → ℕ
 more b old = if b then min 2 (old + 1) else old
@@ -50,14 +49,10 @@ between_byte start e k counts room order fits len grown =
           ]
     ]
 
-room_by : (m : Machine) (r : InputRelocation) (o : Option RelocationKindInfo) (n : ℕ) → row_of m r.number ≡ o → row_width o ≢ 0 → FieldLies n r → r.offset + row_width o ≤ n
-room_by m r None n is some h = absurd (some refl)
-room_by m r (Some row) n is some (inl e) = let k = KnownRow-row_of m r.number row is in absurd (some (k.width ∙ e))
-room_by m r (Some row) n is some (inr h) = let k = KnownRow-row_of m r.number row is in omega (arith, k.width)
-
 -- a field with some bytes lies where the clauses say
-pub field_ends : (m : Machine) (r : InputRelocation) (n w : ℕ) → w ≡ row_width (row_of m r.number) → w ≢ 0 → FieldLies n r → r.offset + w ≤ n
-field_ends m r n w is some h = rw is (room_by m r (row_of m r.number) n refl (rw is at some) h)
+pub field_ends : (l m : Machine) (r : InputRelocation) (n w : ℕ) → l ≡ m → w ≡ row_width (row_of m r.number) → w ≢ 0 → FieldLies l n r → r.offset + w ≤ n
+field_ends l m r n w same is some (inl none) = absurd (some (is ∙ ap (λ (x : Machine). row_width (row_of x r.number)) (sym same) ∙ none))
+field_ends l m r n w same is some (inr lies) = subst (λ (k : ℕ). r.offset + k ≤ n) (sym (is ∙ ap (λ (x : Machine). row_width (row_of x r.number)) (sym same))) lies
 
 coverage_by : (l : Layout) (s : InputSection) (r : InputRelocation) (o : Option RelocationKindInfo) (k : ℕ) → row_width o ≢ 0 → coverage k (site_by l s r o) ≡ (if nat_le r.offset k && nat_lt k (r.offset + row_width o) then 1 else 0)
 coverage_by l s r None k some = absurd (some refl)

@@ -8,7 +8,6 @@ use Rattle.wild_plan.specs.declared.kind.Machine.TheVariants as machine
 use Rattle.wild_plan.specs.declared.input.InputRelocation.{InputRelocation}
 use Rattle.wild_plan.specs.declared.input.InputSection.{InputSection}
 use Rattle.wild_plan.specs.declared.layout.Layout.{Layout}
-use Rattle.wild_plan.specs.Contents.{field_bytes}
 use Rattle.wild_reloc.specs.TableX86_64.{x86_64_row}
 use Rattle.wild_reloc.specs.Table.{plain}
 use Rattle.wild_reloc.specs.declared.range.Sign.TheVariants.{Unsigned, Signed}
@@ -27,14 +26,12 @@ use Rattle.wild_words.proofs.WordLemmas.{length-word, place_put_mid}
 use Rattle.wild_reloc.specs.Field.{field_width, written, size_written, size_width, byte_count}
 use Rattle.wild_reloc.specs.declared.info.RelocationKind.TheVariants as kinds
 use Rattle.wild_reloc.specs.declared.info.RelocationKindInfo.{RelocationKindInfo}
-use Rattle.wild_layout.specs.Rows.{row_of, is_known}
+use Rattle.wild_plan.specs.Rows.{row_of, is_known, row_width}
 use Rattle.wild_layout.specs.Values.{value_of}
 use Rattle.wild_layout.specs.Sites.{site}
 
--- a row of a known type: its field has the bytes that the clauses ask for, what is written does not hang on what
--- was there, and a row without a value has no field
+-- a row of a known type: what is written does not hang on what was there, and a row without a value has no field
 pub record KnownRow (n : ℕ) (row : RelocationKindInfo) : Type 0 where
-  pub width : field_width row ≡ field_bytes n
   pub plain : (v : ℕ) (old : List ℕ) → written row v old ≡ word (field_width row) v
   pub none : row.kind ≡ kinds.None → field_width row ≡ 0
   pub some : row.kind ≢ kinds.None → field_width row ≢ 0
@@ -47,23 +44,23 @@ at_row n r row k e = let same : r ≡ row = cc in subst (KnownRow n) same k
 
 row_0 : (row : RelocationKindInfo) → x86_64_row 0 ≡ Some row → KnownRow 0 row
 unfolding x86_64_row
-row_0 row e = at_row 0 (plain kinds.None Zero Signed) row (record { width = refl; plain = λ v old. refl; none = λ k. refl; some = λ k. absurd (k refl) }) e
+row_0 row e = at_row 0 (plain kinds.None Zero Signed) row (record { plain = λ v old. refl; none = λ k. refl; some = λ k. absurd (k refl) }) e
 
 row_1 : (row : RelocationKindInfo) → x86_64_row 1 ≡ Some row → KnownRow 1 row
 unfolding x86_64_row
-row_1 row e = at_row 1 (plain kinds.Absolute Eight Signed) row (record { width = refl; plain = λ v old. refl; none = λ k. cc; some = λ k w. absurd (omega arith) }) e
+row_1 row e = at_row 1 (plain kinds.Absolute Eight Signed) row (record { plain = λ v old. refl; none = λ k. cc; some = λ k w. absurd (omega arith) }) e
 
 row_2 : (row : RelocationKindInfo) → x86_64_row 2 ≡ Some row → KnownRow 2 row
 unfolding x86_64_row
-row_2 row e = at_row 2 (plain kinds.Relative Four Signed) row (record { width = refl; plain = λ v old. refl; none = λ k. cc; some = λ k w. absurd (omega arith) }) e
+row_2 row e = at_row 2 (plain kinds.Relative Four Signed) row (record { plain = λ v old. refl; none = λ k. cc; some = λ k w. absurd (omega arith) }) e
 
 row_10 : (row : RelocationKindInfo) → x86_64_row 10 ≡ Some row → KnownRow 10 row
 unfolding x86_64_row
-row_10 row e = at_row 10 (plain kinds.Absolute Four Unsigned) row (record { width = refl; plain = λ v old. refl; none = λ k. cc; some = λ k w. absurd (omega arith) }) e
+row_10 row e = at_row 10 (plain kinds.Absolute Four Unsigned) row (record { plain = λ v old. refl; none = λ k. cc; some = λ k w. absurd (omega arith) }) e
 
 row_11 : (row : RelocationKindInfo) → x86_64_row 11 ≡ Some row → KnownRow 11 row
 unfolding x86_64_row
-row_11 row e = at_row 11 (plain kinds.Absolute Four Signed) row (record { width = refl; plain = λ v old. refl; none = λ k. cc; some = λ k w. absurd (omega arith) }) e
+row_11 row e = at_row 11 (plain kinds.Absolute Four Signed) row (record { plain = λ v old. refl; none = λ k. cc; some = λ k w. absurd (omega arith) }) e
 
 known_row : (n : ℕ) (row : RelocationKindInfo) → (n ≡ 0) ⊎ ((n ≡ 1) ⊎ ((n ≡ 2) ⊎ ((n ≡ 10) ⊎ (n ≡ 11)))) → x86_64_row n ≡ Some row → KnownRow n row
 known_row n row (inl h) e = rw h (row_0 row (rw h at e))
@@ -125,9 +122,9 @@ no_site l s r row is none =
     rw is (rw w refl)
 
 -- the field of a row lies where the clauses say
-pub field_room : (m : Machine) (r : InputRelocation) (row : RelocationKindInfo) (n : ℕ) → row_of m r.number ≡ Some row → row.kind ≢ kinds.None → FieldLies n r → r.offset + field_width row ≤ n
-field_room m r row n is some (inl e) = let k = KnownRow-row_of m r.number row is in absurd (k.some some (k.width ∙ e))
-field_room m r row n is some (inr h) = let k = KnownRow-row_of m r.number row is in omega (arith, k.width)
+pub field_room : (m : Machine) (r : InputRelocation) (row : RelocationKindInfo) (n : ℕ) → row_of m r.number ≡ Some row → row.kind ≢ kinds.None → FieldLies m n r → r.offset + field_width row ≤ n
+field_room m r row n is some (inl none) = let k = KnownRow-row_of m r.number row is in absurd (k.some some (sym (ap row_width is) ∙ none))
+field_room m r row n is some (inr lies) = subst (λ (k : ℕ). r.offset + k ≤ n) (ap row_width is) lies
 
 -- the faults of a relocation whose row is known
 pub faults_of_row : (l : Layout) (s : InputSection) (r : InputRelocation) (row : RelocationKindInfo) → row_of l.machine r.number ≡ Some row → relocation_faults l s r ≡ kind_faults l s r row row.kind

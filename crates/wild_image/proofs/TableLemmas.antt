@@ -7,8 +7,8 @@ use Rattle.wild_words.specs.Words.{place}
 use Rattle.wild_words.specs.Record.{spell}
 use Rattle.wild_words.specs.Overlay.{overlay}
 use Rattle.wild_words.proofs.WordLemmas.{place_put_mid}
-use Rattle.wild_records.specs.ProgramHeader.{program_header_fields}
-use Rattle.wild_records.specs.SectionHeader.{section_header_fields}
+use Rattle.wild_records.specs.ProgramHeader.{program_header_size, program_header_fields}
+use Rattle.wild_records.specs.SectionHeader.{section_header_size, section_header_fields}
 use Rattle.wild_plan.specs.declared.part.Part.{Part}
 use Rattle.wild_plan.specs.declared.part.Role.{Role}
 use Rattle.wild_plan.specs.declared.part.Role.TheVariants as role
@@ -48,14 +48,14 @@ length-names (s ∷ ss) =
 pub file_header_room : (l : Layout) (r : Role) (n : ℕ) → r ≡ role.FileHeader → n ≡ length (part_bytes l r) → n ≡ 64
 file_header_room l r n is e = e ∙ ap (λ (q : Role). length (part_bytes l q)) is ∙ length-file_header (file_header l)
 
-pub program_headers_room : (l : Layout) (r : Role) (n : ℕ) → r ≡ role.ProgramHeaders → n ≡ length (part_bytes l r) → n ≡ 56 * length l.segments
+pub program_headers_room : (l : Layout) (r : Role) (n : ℕ) → r ≡ role.ProgramHeaders → n ≡ length (part_bytes l r) → n ≡ program_header_size * length l.segments
 program_headers_room l r n is e =
     e ∙ ap (λ (q : Role). length (part_bytes l q)) is ∙ length-table (λ g. spell (program_header_fields (program_header l g))) 56 (λ g. length-program_header (program_header l g)) l.segments
 
-pub section_headers_room : (l : Layout) (r : Role) (n : ℕ) → r ≡ role.SectionHeaders → n ≡ length (part_bytes l r) → n ≡ 64 * length l.sections
+pub section_headers_room : (l : Layout) (r : Role) (n : ℕ) → r ≡ role.SectionHeaders → n ≡ length (part_bytes l r) → n ≡ section_header_size * length l.sections
 section_headers_room l r n is e =
     e ∙ ap (λ (q : Role). length (part_bytes l q)) is ∙ length-table (λ h. spell (section_header_fields h)) 64 length-section_header (section_headers_of l l.sections)
-    ∙ ap (λ (k : ℕ). 64 * k) (length-section_headers_of l l.sections)
+    ∙ ap (λ (k : ℕ). section_header_size * k) (length-section_headers_of l l.sections)
 
 pub names_room : (l : Layout) (r : Role) (n : ℕ) → r ≡ role.Shstrtab → n ≡ length (part_bytes l r) → n ≡ name_bytes l
 names_room l r n is e = e ∙ ap (λ (q : Role). length (part_bytes l q)) is ∙ length-names l.sections

@@ -2,40 +2,36 @@
 ghost use Rattle.std.specs.Prelude.{◌≡◌, ◌+◌, ◌*◌, ◌^◌, ◌<◌, ◌≤◌, ◌==◌, if◌then◌else◌, [], ◌∷◌, ◌++◌, length};
 ghost use Rattle.wild_words.specs.Words.{place};
 ghost use Rattle.wild_words.specs.Record.{spell};
-ghost use Rattle.wild_records.specs.FileHeader.{file_header_fields};
-ghost use Rattle.wild_records.specs.ProgramHeader.{program_header_fields};
-ghost use Rattle.wild_records.specs.SectionHeader.{section_header_fields};
+ghost use Rattle.wild_records.specs.FileHeader.{file_header_size, file_header_fields};
+ghost use Rattle.wild_records.specs.ProgramHeader.{program_header_size, program_header_fields};
+ghost use Rattle.wild_records.specs.SectionHeader.{section_header_size, section_header_fields};
 ghost use Rattle.wild_plan.specs.Needs.{name_bytes};
 ghost use Rattle.wild_layout.specs.Headers.{file_type, machine_number, entry_address, offset_of_role, section_of_role, name_table, or_escape, or_none, file_header, with_execute, program_header, null_header, uncompressed, section_header, program_header_bytes, section_header_bytes, names_of};
 ghost use Rattle.wild_plan.specs.Places.{has_role};
+ghost use Rattle.wild_plan.specs.declared.part.Role.TheVariants.{SectionHeaders, Shstrtab};
 
 use wild_plan::{
     Entry, Layout, Machine, OutputKind, Part, RelocationModel, Role, Section, Segment,
 };
+use wild_records::abi::header::{
+    ELFCLASS64, ELFDATA2LSB, ELFMAG, ELFOSABI_NONE, EM_AARCH64, EM_X86_64, ET_DYN, ET_EXEC, ET_REL,
+    EV_CURRENT,
+};
+use wild_records::abi::section::{SHF_COMPRESSED, SHN_LORESERVE, SHN_UNDEF, SHN_XINDEX, SHT_NULL};
+use wild_records::abi::segment::{PF_X, PT_GNU_STACK, PT_LOAD};
 use wild_records::{FileHeader, ProgramHeader, SectionHeader};
 use wild_words::{put, put_u8};
-
-/// `SHN_LORESERVE` (gABI, "Special Section Indexes"): indexes from here on have no field of 16 bits.
-const FIRST_RESERVED: usize = 0xff00;
-/// `SHN_XINDEX`: the index is told elsewhere.
-const ESCAPE: u16 = 0xffff;
-/// `SHF_COMPRESSED` (gABI, "Section Attribute Flags").
-const SHF_COMPRESSED: u64 = 0x800;
-/// `PT_LOAD` (gABI, "Program Header").
-const PT_LOAD: u32 = 1;
-/// `PT_GNU_STACK`.
-const PT_GNU_STACK: u32 = 0x6474_e551;
 
 /// `e_type`.
 fn file_type(kind: OutputKind) -> u16
     ensures { result ≡ file_type kind }
 {
     match kind {
-        OutputKind::PartialObject => 1,
+        OutputKind::PartialObject => ET_REL,
         OutputKind::SharedObject
         | OutputKind::StaticExecutable(RelocationModel::Relocatable)
-        | OutputKind::DynamicExecutable(RelocationModel::Relocatable) => 3,
-        _ => 2,
+        | OutputKind::DynamicExecutable(RelocationModel::Relocatable) => ET_DYN,
+        _ => ET_EXEC,
     }
 }
 
@@ -44,8 +40,8 @@ fn machine_number(machine: Machine) -> u16
     ensures { result ≡ machine_number machine }
 {
     match machine {
-        Machine::X86_64 => 62,
-        Machine::AArch64 => 183,
+        Machine::X86_64 => EM_X86_64,
+        Machine::AArch64 => EM_AARCH64,
     }
 }
 
@@ -63,31 +59,35 @@ fn entry_address(entry: Option<Entry>) -> u64
 fn or_escape(n: usize, escape: u16) -> u16
     ensures { result ≡ or_escape n escape }
 {
-    if n < FIRST_RESERVED { n as u16 } else { escape }
+    if n < SHN_LORESERVE as usize {
+        n as u16
+    } else {
+        escape
+    }
 }
 
 /// What section header 0 tells of it.
 fn or_none(n: usize) -> usize
     ensures { result ≡ or_none n }
 {
-    if n < FIRST_RESERVED { 0 } else { n }
+    if n < SHN_LORESERVE as usize { 0 } else { n }
 }
 
 fn has_section_headers(part: &Part) -> bool
-    ensures { result ≡ has_role 3 part.now }
+    ensures { result ≡ has_role SectionHeaders part.now }
 {
     matches!(part.role, Role::SectionHeaders)
 }
 
 fn has_section_names(part: &Part) -> bool
-    ensures { result ≡ has_role 4 part.now }
+    ensures { result ≡ has_role Shstrtab part.now }
 {
     matches!(part.role, Role::Shstrtab)
 }
 
 /// The offset of the section headers.
 fn section_headers_offset(parts: &[Part]) -> u64
-    ensures { result ≡ offset_of_role 3 parts.now }
+    ensures { result ≡ offset_of_role SectionHeaders parts.now }
 {
     for part in parts {
         if has_section_headers(part) {
@@ -99,14 +99,14 @@ fn section_headers_offset(parts: &[Part]) -> u64
 
 /// The header index of the section of the names.
 fn name_table(parts: &[Part]) -> usize
-    ensures { result ≡ section_of_role 4 parts.now }
+    ensures { result ≡ section_of_role Shstrtab parts.now }
 {
     for part in parts {
         if has_section_names(part) {
             return part.section;
         }
     }
-    0
+    SHN_UNDEF as usize
 }
 
 #[tactic(auto, unfolding(wild_layout::specs::Headers::file_header))]
@@ -115,31 +115,31 @@ fn file_header(layout: &Layout) -> FileHeader
     ensures { result ≡ file_header layout.now }
 {
     FileHeader {
-        magic: 0x464c_457f,
-        class: 2,
-        encoding: 1,
-        ident_version: 1,
-        os_abi: 0,
+        magic: ELFMAG,
+        class: ELFCLASS64,
+        encoding: ELFDATA2LSB,
+        ident_version: EV_CURRENT,
+        os_abi: ELFOSABI_NONE,
         abi_version: 0,
         file_type: file_type(layout.kind),
         machine: machine_number(layout.machine),
-        version: 1,
+        version: EV_CURRENT as u32,
         entry: entry_address(layout.entry),
-        program_offset: 64,
+        program_offset: FileHeader::SIZE as u64,
         section_offset: section_headers_offset(layout.parts.as_slice()),
         flags: 0,
-        header_size: 64,
-        program_entry_size: 56,
+        header_size: FileHeader::SIZE as u16,
+        program_entry_size: ProgramHeader::SIZE as u16,
         program_count: layout.segments.len() as u16,
-        section_entry_size: 64,
-        section_count: or_escape(layout.sections.len(), 0),
-        name_table: or_escape(name_table(layout.parts.as_slice()), ESCAPE),
+        section_entry_size: SectionHeader::SIZE as u16,
+        section_count: or_escape(layout.sections.len(), SHN_UNDEF),
+        name_table: or_escape(name_table(layout.parts.as_slice()), SHN_XINDEX),
     }
 }
 
 /// Writes the file header into its 64 bytes.
 pub fn populate_file_header(layout: &Layout, out: &mut [u8])
-    requires room { length out.old ≡ 64 }
+    requires room { length out.old ≡ file_header_size }
     requires segments { length layout.now.segments < 2 ^ 16 }
     ensures { out.new ≡ spell (file_header_fields (file_header layout.now)) }
 {
@@ -150,7 +150,11 @@ pub fn populate_file_header(layout: &Layout, out: &mut [u8])
 fn with_execute(flags: u32) -> u32
     ensures { result ≡ with_execute flags }
 {
-    if flags % 2 == 0 { flags + 1 } else { flags }
+    if flags / PF_X % 2 == 0 {
+        flags + PF_X
+    } else {
+        flags
+    }
 }
 
 #[tactic(auto, unfolding(wild_layout::specs::Headers::program_header))]
@@ -180,8 +184,8 @@ fn program_header(layout: &Layout, segment: &Segment) -> ProgramHeader
 }
 
 fn put_program_header(layout: &Layout, segment: &Segment, i: usize, out: &mut [u8])
-    requires { 56 * i + 56 ≤ length out.old }
-    ensures { out.new ≡ place (56 * i) (spell (program_header_fields (program_header layout.now segment.now))) out.old }
+    requires { program_header_size * i + program_header_size ≤ length out.old }
+    ensures { out.new ≡ place (program_header_size * i) (spell (program_header_fields (program_header layout.now segment.now))) out.old }
 {
     let mut header = [0; ProgramHeader::SIZE];
     program_header(layout, segment).put(&mut header);
@@ -190,7 +194,7 @@ fn put_program_header(layout: &Layout, segment: &Segment, i: usize, out: &mut [u
 
 /// Writes the program headers into their room.
 pub fn write_program_headers(layout: &Layout, out: &mut [u8])
-    requires room { length out.old ≡ 56 * length layout.now.segments }
+    requires room { length out.old ≡ program_header_size * length layout.now.segments }
     ensures { out.new ≡ program_header_bytes layout.now }
 {
     for (i, segment) in layout.segments.as_slice().iter().enumerate() {
@@ -205,7 +209,7 @@ fn null_header(layout: &Layout) -> SectionHeader
 {
     SectionHeader {
         name: 0,
-        kind: 0,
+        kind: SHT_NULL,
         flags: 0,
         address: 0,
         offset: 0,
@@ -261,10 +265,10 @@ fn header_of(layout: &Layout, i: usize, name: u64, section: &Section) -> Section
 }
 
 fn put_section_header(layout: &Layout, section: &Section, i: usize, name: u64, out: &mut [u8])
-    requires room { 64 * i + 64 ≤ length out.old }
+    requires room { section_header_size * i + section_header_size ≤ length out.old }
     requires name { name < 2 ^ 32 }
     requires name_table { name_table layout.now < 2 ^ 32 }
-    ensures { out.new ≡ place (64 * i) (spell (section_header_fields (if i == 0 then null_header layout.now else section_header name section.now))) out.old }
+    ensures { out.new ≡ place (section_header_size * i) (spell (section_header_fields (if i == 0 then null_header layout.now else section_header name section.now))) out.old }
 {
     let mut header = [0; SectionHeader::SIZE];
     header_of(layout, i, name, section).put(&mut header);
@@ -273,7 +277,7 @@ fn put_section_header(layout: &Layout, section: &Section, i: usize, name: u64, o
 
 /// Writes the section headers into their room.
 pub fn write_section_headers(layout: &Layout, out: &mut [u8])
-    requires room { length out.old ≡ 64 * length layout.now.sections }
+    requires room { length out.old ≡ section_header_size * length layout.now.sections }
     requires names { name_bytes layout.now < 2 ^ 32 }
     requires name_table { name_table layout.now < 2 ^ 32 }
     ensures { out.new ≡ section_header_bytes layout.now }

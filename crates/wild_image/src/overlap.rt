@@ -3,8 +3,7 @@ ghost use Rattle.std.specs.Prelude.{◌≡◌, ℕ, ◌+◌, ◌<◌, ◌≤◌,
 ghost use Rattle.std.specs.List.{position_from};
 ghost use Rattle.wild_layout.specs.Sites.{site, sites, coverage, first_shared};
 ghost use Rattle.wild_layout.specs.Geometry.{FieldLies};
-ghost use Rattle.wild_layout.specs.Rows.{row_of};
-ghost use Rattle.wild_image.specs.Steps.{row_width};
+ghost use Rattle.wild_plan.specs.Rows.{row_of, row_width};
 
 use crate::arch::Arch;
 use std::alloc::{AllocError, Global};
@@ -47,7 +46,7 @@ fn count_site<A: Arch>(
     counts: &mut [u8],
 )
     requires machine { layout.now.machine ≡ A.machine }
-    requires lies { FieldLies (length counts.old) relocation.now }
+    requires lies { FieldLies layout.now.machine (length counts.old) relocation.now }
     ensures { (k n : ℕ) → k < length counts.old → slice_index counts.old k ≡ min 2 n
         → slice_index counts.new k ≡ min 2 (n + coverage k (site layout.now section.now relocation.now)) }
 {
@@ -62,7 +61,7 @@ fn count_site<A: Arch>(
 /// Counts the fields of a section over its bytes.
 fn count_sites<A: Arch>(layout: &Layout, section: &InputSection, counts: &mut [u8])
     requires machine { layout.now.machine ≡ A.machine }
-    requires lies { All (FieldLies (length counts.old)) section.now.relocations }
+    requires lies { All (FieldLies layout.now.machine (length counts.old)) section.now.relocations }
     ensures { (k : ℕ) → k < length counts.old → slice_index counts.old k ≡ 0
         → slice_index counts.new k ≡ min 2 (coverage k (sites layout.now section.now)) }
 {
@@ -81,7 +80,7 @@ fn first_twice(counts: &[u8]) -> Option<usize>
 /// The least byte of the section that two relocations write, by counts that are 0.
 fn shared_by<A: Arch>(layout: &Layout, section: &InputSection, counts: &mut [u8]) -> Option<usize>
     requires machine { layout.now.machine ≡ A.machine }
-    requires lies { All (FieldLies (length section.now.bytes)) section.now.relocations }
+    requires lies { All (FieldLies layout.now.machine (length section.now.bytes)) section.now.relocations }
     requires none { counts.old ≡ replicate (length section.now.bytes) 0 }
     ensures { result ≡ first_shared (sites layout.now section.now) 0 (length section.now.bytes) }
 {
@@ -96,7 +95,7 @@ pub(crate) fn shared_byte<A: Arch>(
     section: &InputSection,
 ) -> Result<Option<usize>, AllocError>
     requires machine { layout.now.machine ≡ A.machine }
-    requires lies { All (FieldLies (length section.now.bytes)) section.now.relocations }
+    requires lies { All (FieldLies layout.now.machine (length section.now.bytes)) section.now.relocations }
     ensures { IfOk result (λ o. o ≡ first_shared (sites layout.now section.now) 0 (length section.now.bytes)) }
 {
     let mut counts = vec![in alloc; 0u8; section.bytes.len()]?;

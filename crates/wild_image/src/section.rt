@@ -29,7 +29,7 @@ fn write_at<A: Arch>(
 ) -> Result<(), Error>
     requires machine { layout.now.machine ≡ A.machine }
     requires values { HasValues layout.now values.now }
-    requires lies { FieldLies (length room.old) relocation.now }
+    requires lies { FieldLies layout.now.machine (length room.old) relocation.now }
     ensures faults { Answers result (relocation_errors layout.now place.group place.file place.section section.now relocation.now) }
     ensures site { OnOk result (room.new ≡ overlay (site layout.now section.now relocation.now) room.old) }
 {
@@ -53,7 +53,7 @@ fn write_relocations<A: Arch>(
 ) -> Result<(), Error>
     requires machine { layout.now.machine ≡ A.machine }
     requires values { HasValues layout.now values.now }
-    requires lies { All (FieldLies (length room.old)) section.now.relocations }
+    requires lies { All (FieldLies layout.now.machine (length room.old)) section.now.relocations }
     ensures faults { Answers result (flat_map (relocation_errors layout.now place.group place.file place.section section.now) section.now.relocations) }
     ensures sites { OnOk result (room.new ≡ overlay (sites layout.now section.now) room.old) }
 {
@@ -71,7 +71,7 @@ fn check_overlap<A: Arch>(
     section: &InputSection,
 ) -> Result<(), Error>
     requires machine { layout.now.machine ≡ A.machine }
-    requires lies { All (FieldLies (length section.now.bytes)) section.now.relocations }
+    requires lies { All (FieldLies layout.now.machine (length section.now.bytes)) section.now.relocations }
     ensures { Answers result (overlap_errors (at_section place.group place.file place.section) (first_shared (sites layout.now section.now) 0 (length section.now.bytes))) }
 {
     match shared_byte::<A>(alloc, layout, section)? {
@@ -96,7 +96,7 @@ fn write_data<A: Arch>(
     requires machine { layout.now.machine ≡ A.machine }
     requires values { HasValues layout.now values.now }
     requires read { is_read section.now ≡ true }
-    requires lies { All (FieldLies (length room.old)) section.now.relocations }
+    requires lies { All (FieldLies layout.now.machine (length room.old)) section.now.relocations }
     requires room { length room.old ≡ length section.now.bytes }
     ensures faults { Answers result (section_errors layout.now place.group place.file place.section section.now) }
     ensures bytes { OnOk result (room.new ≡ section_bytes layout.now section.now) }

@@ -1,30 +1,26 @@
 -- What a layout without faults has none of.
-use Rattle.std.proofs.Common.{◌≡◌, ℕ, zero, suc, ◌+◌, ◌<◌, ◌≤◌, ◌⊎◌, inl, inr, Bool, true, false, List, [], ◌∷◌, ◌++◌, length, get_or, refl, sym, ap, ◌∙◌, arith, subst}
-use Rattle.std.specs.Prelude.{Option, Some, None, Contains, All, not, ◌&&◌, ◌==◌, if◌then◌else◌}
+use Rattle.std.proofs.Common.{◌≡◌, ℕ, zero, suc, ◌+◌, ◌<◌, inl, inr, Bool, true, false, List, [], ◌∷◌, ◌++◌, length, get_or, refl, sym, arith, subst}
+use Rattle.std.specs.Prelude.{Option, Some, None, Contains, if◌then◌else◌}
 use Rattle.std.specs.List.{flat_map}
 use Rattle.std.proofs.lemmas.Bool.{cases_Bool}
 use Rattle.wild_plan.specs.declared.kind.Machine.{Machine}
 use Rattle.wild_plan.specs.declared.kind.Machine.TheVariants as machine
 use Rattle.wild_plan.specs.declared.fault.At.{At}
-use Rattle.wild_plan.specs.declared.fault.Error.{Error}
 use Rattle.wild_plan.specs.declared.fault.Fault.{Fault}
 use Rattle.wild_plan.specs.declared.fault.Fault.TheVariants as faults
 use Rattle.wild_plan.specs.declared.input.InputRelocation.{InputRelocation}
 use Rattle.wild_plan.specs.declared.input.InputSection.{InputSection}
 use Rattle.wild_plan.specs.declared.input.Slot.{Slot}
-use Rattle.wild_plan.specs.declared.file.File.{File}
-use Rattle.wild_plan.specs.declared.file.Group.{Group}
 use Rattle.wild_plan.specs.declared.layout.Layout.{Layout}
 use Rattle.wild_plan.specs.Lookups.{is_read, is_loaded}
 use Rattle.wild_reloc.specs.Field.{allows}
 use Rattle.wild_reloc.specs.Agreement.{X86_64Agrees}
 use Rattle.wild_reloc.specs.declared.info.RelocationKind.{RelocationKind}
-use Rattle.wild_reloc.specs.declared.info.RelocationKind.TheVariants as kinds
 use Rattle.wild_reloc.specs.declared.info.RelocationKindInfo.{RelocationKindInfo}
-use Rattle.wild_layout.specs.Rows.{is_known, row_of}
+use Rattle.wild_plan.specs.Rows.{is_known, row_of}
 use Rattle.wild_layout.specs.Values.{raw_value, value_of}
 use Rattle.wild_layout.specs.Sites.{sites, first_shared}
-use Rattle.wild_layout.specs.Faults.{flat_map_from, group_errors, file_errors, section_errors, relocation_errors, relocation_faults, row_faults, kind_faults, absolute_faults, relative_faults, address_faults, range_faults, is_dynamic, at_each, at_offset, at_section, overlap_errors}
+use Rattle.wild_layout.specs.Faults.{flat_map_from, group_errors, file_errors, section_errors, relocation_errors, relocation_faults, row_faults, kind_faults, absolute_faults, relative_faults, address_faults, range_faults, is_dynamic, at_each, overlap_errors}
 use Rattle.wild_meaning.specs.Reference.{IsKeptSection}
 use Rattle.wild_laws.proofs.KnownRows.{RowFits, row_fits, row_of-known}
 

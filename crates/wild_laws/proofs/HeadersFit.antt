@@ -1,26 +1,27 @@
 -- The headers of an image have their fields' ranges, and the loader takes them.
-use Rattle.std.proofs.Common.{◌≡◌, ℕ, zero, suc, ◌+◌, ◌-◌, ◌*◌, ◌/◌, ◌%◌, ◌^◌, ◌<◌, ◌≤◌, ◌⊎◌, inl, inr, Bool, true, false, List, [], ◌∷◌, ◌++◌, length, get_or, max, map, refl, sym, ap, ◌∙◌, arith, subst}
-use Rattle.std.specs.Prelude.{Option, Some, None, All, AllPairs, Contains, drop, if◌then◌else◌, ◌==◌, nat_lt, ⊤, eqb}
-use Rattle.std.specs.Int.{bit_at}
+use Rattle.std.proofs.Common.{◌≡◌, ℕ, zero, suc, ◌+◌, ◌-◌, ◌*◌, ◌/◌, ◌%◌, ◌^◌, ◌<◌, ◌≤◌, inl, inr, Bool, true, false, List, [], ◌∷◌, length, get_or, max, refl, sym, ap, ◌∙◌, arith}
+use Rattle.std.specs.Prelude.{All, drop, if◌then◌else◌, ◌==◌, nat_lt}
 use Rattle.std.specs.Int.RustNames.{bit_and}
-use Rattle.std.proofs.lemmas.Bool.{cases_Bool, eqb-true, le-ltb, lt-ltb, ltb-true, ltb-false}
+use Rattle.std.proofs.lemmas.Bool.{cases_Bool, eqb-true, ltb-true}
 use Rattle.std.proofs.lemmas.Nat.Bits.{and_pow}
+use Rattle.wild_records.specs.Abi.Section.{shf_compressed, shn_loreserve}
+use Rattle.wild_records.specs.Abi.Segment.{pt_load, pt_gnu_stack, pf_x}
 use Rattle.wild_records.specs.FileHeader.{FileHeaderFits}
 use Rattle.wild_records.specs.ProgramHeader.{ProgramHeaderFits}
 use Rattle.wild_records.specs.SectionHeader.{SectionHeaderFits}
-use Rattle.wild_records.specs.declared.section_header.SectionHeader.{SectionHeader}
 use Rattle.wild_plan.specs.declared.kind.Machine.{Machine}
 use Rattle.wild_plan.specs.declared.kind.Machine.TheVariants as machine
 use Rattle.wild_plan.specs.declared.kind.RelocationModel.TheVariants as model
 use Rattle.wild_plan.specs.declared.kind.OutputKind.{OutputKind}
 use Rattle.wild_plan.specs.declared.kind.OutputKind.TheVariants as output
 use Rattle.wild_plan.specs.declared.part.Part.{Part}
+use Rattle.wild_plan.specs.declared.part.Role.{Role}
+use Rattle.wild_plan.specs.declared.part.Role.TheVariants as role
 use Rattle.wild_plan.specs.declared.section.Section.{Section}
 use Rattle.wild_plan.specs.declared.section.Segment.{Segment}
 use Rattle.wild_plan.specs.declared.layout.Layout.{Layout}
 use Rattle.wild_plan.specs.Lists.{total}
 use Rattle.wild_plan.specs.Lookups.{bit, allocated}
-use Rattle.wild_plan.specs.Needs.{name_bytes}
 use Rattle.wild_plan.specs.Places.{has_role}
 use Rattle.wild_layout.specs.Headers.{file_type, machine_number, or_escape, or_none, name_table, section_of_role, file_header, with_execute, program_header, null_header, uncompressed, section_header, headers_from, section_headers_of}
 use Rattle.wild_layout.specs.Numbers.{NumbersFit, SegmentNumbers, SectionNumbers}
@@ -38,7 +39,7 @@ bit_two f h =
     let e : bit_and f 2 ≡ 2 = omega (arith, a, h) in
     rw e refl
 
-bit_eleven : (f : ℕ) → bit f 0x800 ≡ true → f / 2048 % 2 ≡ 1
+bit_eleven : (f : ℕ) → bit f shf_compressed ≡ true → f / 2048 % 2 ≡ 1
 unfolding bit
 bit_eleven f h =
     let a : bit_and f 2048 ≡ f / 2048 % 2 * 2048 = and_pow f 11 in
@@ -48,14 +49,14 @@ bit_eleven f h =
 -- clearing SHF_COMPRESSED leaves SHF_ALLOC
 uncompressed-alloc : (f : ℕ) → uncompressed f / 2 % 2 ≡ f / 2 % 2
 uncompressed-alloc f =
-    elim (cases_Bool (bit f 0x800)) [
+    elim (cases_Bool (bit f shf_compressed)) [
       | inl t ↦ (let b = bit_eleven f t in let e : (f - 2048) / 2 % 2 ≡ f / 2 % 2 = omega (arith, b) in rw t e)
       | inr n ↦ rw n refl
     ]
 
 uncompressed-le : (f : ℕ) → uncompressed f ≤ f
 uncompressed-le f =
-    elim (cases_Bool (bit f 0x800)) [
+    elim (cases_Bool (bit f shf_compressed)) [
       | inl t ↦ rw t (omega arith)
       | inr n ↦ rw n (omega arith)
     ]
@@ -64,23 +65,23 @@ uncompressed-le f =
 
 escape_fits : (n e : ℕ) → e < 2 ^ 16 → or_escape n e < 2 ^ 16
 escape_fits n e h =
-    elim (cases_Bool (nat_lt n 0xff00)) [
+    elim (cases_Bool (nat_lt n shn_loreserve)) [
       | inl t ↦ (let l = ltb-true _ _ t in rw t (omega (arith, l)))
       | inr f ↦ rw f h
     ]
 
 none_fits : (n m : ℕ) → n < m → or_none n < m
 none_fits n m h =
-    elim (cases_Bool (nat_lt n 0xff00)) [
+    elim (cases_Bool (nat_lt n shn_loreserve)) [
       | inl t ↦ rw t (omega (arith, h))
       | inr f ↦ rw f h
     ]
 
 -- the section of the names is one of n
 pub name_table_below : (l : Layout) (n : ℕ) → 1 ≤ n → All (λ (p : Part). p.section < n) l.parts → name_table l < n
-name_table_below l n some h = role_below 4 l.parts n some h
+name_table_below l n some h = role_below role.Shstrtab l.parts n some h
   where
-    role_below : (r : ℕ) (ps : List Part) (n : ℕ) → 1 ≤ n → All (λ (p : Part). p.section < n) ps → section_of_role r ps < n
+    role_below : (r : Role) (ps : List Part) (n : ℕ) → 1 ≤ n → All (λ (p : Part). p.section < n) ps → section_of_role r ps < n
     role_below r [] n some h = some
     role_below r (p ∷ ps) n some h =
         elim (cases_Bool (has_role r p)) [
@@ -91,7 +92,7 @@ name_table_below l n some h = role_below 4 l.parts n some h
 -- the number of sections is told
 pub sections_told : (n : ℕ) → 1 ≤ n → (if or_escape n 0 == 0 then or_none n else or_escape n 0) ≡ n
 sections_told n h =
-    elim (cases_Bool (nat_lt n 0xff00)) [
+    elim (cases_Bool (nat_lt n shn_loreserve)) [
       | inl t ↦ (let f : (n == 0) ≡ false = not_zero n h in rw (t, f) refl)
       | inr f ↦ rw f refl
     ]
@@ -135,8 +136,8 @@ file_header_loads l m k = rw (kind_fits l.kind k, number_is l.machine m) refl
 
 execute_fits : (f : ℕ) → f < 2 ^ 32 → with_execute f < 2 ^ 32
 execute_fits f h =
-    elim (cases_Bool (f % 2 == 0)) [
-      | inl t ↦ (let e = eqb-true _ _ t in rw t (omega (arith, h, e)))
+    elim (cases_Bool (f / pf_x % 2 == 0)) [
+      | inl t ↦ (let e : f / 1 % 2 ≡ 0 = eqb-true _ _ t in rw t (omega (arith, h, e)))
       | inr n ↦ rw n h
     ]
 
@@ -155,14 +156,14 @@ unfolding program_header
 program_header_fits l g page n = record {
   front = record {
     kind = n.kind;
-    flags = flags_fit (g.kind == 0x6474e551) l.options.execstack g.flags n.flags;
+    flags = flags_fit (g.kind == pt_gnu_stack) l.options.execstack g.flags n.flags;
     offset = n.offset;
     address = n.address;
     physical = n.physical;
     file_size = n.file_size;
     mem_size = n.mem_size;
   };
-  back = record { align = align_fits (g.kind == 1) (g.kind == 0x6474e551) l.page_size g.align page n.align };
+  back = record { align = align_fits (g.kind == pt_load) (g.kind == pt_gnu_stack) l.page_size g.align page n.align };
 }
 
 -- ---- section headers

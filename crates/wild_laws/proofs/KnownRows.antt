@@ -1,9 +1,8 @@
 -- The rows that the writer knows, beside the formulas that the reader knows.
-use Rattle.std.proofs.Common.{◌≡◌, ℕ, ◌+◌, ◌-◌, ◌^◌, ◌<◌, ◌≤◌, ◌⊎◌, inl, inr, Bool, true, false, List, length, refl, sym, ap, ◌∙◌, arith, subst}
-use Rattle.std.specs.Prelude.{◌||◌, ◌==◌, Option, Some, None, if◌then◌else◌}
+use Rattle.std.proofs.Common.{◌≡◌, ℕ, ◌^◌, ◌<◌, ◌⊎◌, inl, inr, true, List, length, refl, sym, arith, subst}
+use Rattle.std.specs.Prelude.{◌==◌, Some}
 use Rattle.std.proofs.lemmas.Bool.{cases_Bool, eqb-true}
 use Rattle.wild_plan.specs.declared.kind.Machine.TheVariants as machine
-use Rattle.wild_plan.specs.Contents.{field_bytes}
 use Rattle.wild_reloc.specs.Table.{plain}
 use Rattle.wild_reloc.specs.TableX86_64.{x86_64_row}
 use Rattle.wild_reloc.specs.Field.{field_width, allows, written}
@@ -14,7 +13,7 @@ use Rattle.wild_reloc.specs.declared.info.RelocationKind.TheVariants as kinds
 use Rattle.wild_reloc.specs.declared.info.RelocationKindInfo.{RelocationKindInfo}
 use Rattle.wild_reloc.specs.declared.info.Width.TheVariants as widths
 use Rattle.wild_reloc.specs.declared.range.Sign.TheVariants as signs
-use Rattle.wild_layout.specs.Rows.{is_known, row_of}
+use Rattle.wild_plan.specs.Rows.{is_known, row_of}
 use Rattle.wild_meaning.specs.Reference.{field_width as form_width}
 use Rattle.wild_laws.proofs.Tests.{either_of}
 
@@ -26,7 +25,6 @@ pub record RowFits (n : ℕ) : Type 0 where
   pub known : x86_64_formula n ≡ Some formula
   pub width : field_width row ≡ form_width formula.form
   pub some : 0 < field_width row
-  pub bytes : field_width row ≡ field_bytes n
   pub kind : ((row.kind ≡ kinds.Absolute) × (formula.value ≡ SymbolAddress)) ⊎ ((row.kind ≡ kinds.Relative) × (formula.value ≡ Distance))
   pub reads : (v : ℕ) (old : List ℕ) → v < 2 ^ 64 → length old ≡ field_width row → allows row v ≡ true → Reads formula.form (written row v old) v
 
@@ -39,7 +37,6 @@ fits_1 agrees = record {
   known = refl;
   width = refl;
   some = omega arith;
-  bytes = refl;
   kind = inl (refl, refl);
   reads = (agrees 1 (plain kinds.Absolute widths.Eight signs.Signed) refl).reads;
 }
@@ -53,7 +50,6 @@ fits_2 agrees = record {
   known = refl;
   width = refl;
   some = omega arith;
-  bytes = refl;
   kind = inr (refl, refl);
   reads = (agrees 2 (plain kinds.Relative widths.Four signs.Signed) refl).reads;
 }
@@ -67,7 +63,6 @@ fits_10 agrees = record {
   known = refl;
   width = refl;
   some = omega arith;
-  bytes = refl;
   kind = inl (refl, refl);
   reads = (agrees 10 (plain kinds.Absolute widths.Four signs.Unsigned) refl).reads;
 }
@@ -81,7 +76,6 @@ fits_11 agrees = record {
   known = refl;
   width = refl;
   some = omega arith;
-  bytes = refl;
   kind = inl (refl, refl);
   reads = (agrees 11 (plain kinds.Absolute widths.Four signs.Signed) refl).reads;
 }

@@ -1,6 +1,6 @@
 -- The references of a kept section hold in memory.
-use Rattle.std.proofs.Common.{◌≡◌, ℕ, ℤ, zero, suc, ◌+◌, ◌-◌, ◌*◌, ◌%◌, ◌^◌, ◌<◌, ◌≤◌, ◌⊎◌, inl, inr, Bool, true, false, List, [], ◌∷◌, ◌++◌, length, get_or, take, drop, slice_range, refl, sym, ap, ◌∙◌, arith, subst}
-use Rattle.std.specs.Prelude.{Option, Some, None, All, Contains, slice_index, slice_get, if◌then◌else◌, unwrap_or}
+use Rattle.std.proofs.Common.{◌≡◌, ℕ, ℤ, zero, suc, ◌+◌, ◌-◌, ◌%◌, ◌^◌, ◌<◌, ◌≤◌, ◌⊎◌, inl, inr, Bool, true, false, List, ◌∷◌, length, get_or, slice_range, refl, sym, ap, ◌∙◌, arith, subst}
+use Rattle.std.specs.Prelude.{Option, Some, None, All, Contains, slice_index, unwrap_or}
 use Rattle.std.specs.Int.{w64, cast_unsigned}
 use Rattle.std.proofs.lemmas.List.{length-take, length-drop}
 use Rattle.std.proofs.lemmas.List.Elements.{All-contains}
@@ -14,28 +14,26 @@ use Rattle.wild_plan.specs.declared.input.InputRelocation.{InputRelocation}
 use Rattle.wild_plan.specs.declared.input.InputSection.{InputSection}
 use Rattle.wild_plan.specs.declared.layout.Layout.{Layout}
 use Rattle.wild_plan.specs.Flags.{has_flag}
-use Rattle.wild_reloc.specs.Field.{field_width, allows, written}
-use Rattle.wild_reloc.specs.Formula.{Formula, formula, Value, SymbolAddress, Distance, Form, Plain, Signed, Reads, sign_extended}
+use Rattle.wild_reloc.specs.Field.{field_width, written}
+use Rattle.wild_reloc.specs.Formula.{Formula, formula, Value, SymbolAddress, Distance, Plain, Signed, Reads, sign_extended}
 use Rattle.wild_reloc.specs.FormulaX86_64.{x86_64_formula}
 use Rattle.wild_reloc.specs.declared.info.RelocationKind.{RelocationKind}
 use Rattle.wild_reloc.specs.declared.info.RelocationKind.TheVariants as kinds
-use Rattle.wild_reloc.specs.declared.info.RelocationKindInfo.{RelocationKindInfo}
-use Rattle.wild_layout.specs.Values.{raw_value, sum, displacement, place_of, symbol_address, value_by, value_of}
+use Rattle.wild_layout.specs.Values.{sum, displacement, place_of, symbol_address, value_by, value_of}
 use Rattle.wild_layout.specs.Sites.{sites}
-use Rattle.wild_layout.specs.Faults.{relocation_faults}
-use Rattle.wild_layout.specs.Geometry.{FieldLies, SectionLies, DefinitionNames}
-use Rattle.wild_meaning.specs.Value.{IsSymbol, IsDefinedBy, HasRaw, Denotes, moved}
-use Rattle.wild_meaning.specs.Reference.{IsKeptSection, IsReference, place_at, IsTarget, Demands, field_width as form_width, FieldReads, ReferenceHolds, IsCall, Calls, CallReaches, InNoField, SectionHolds}
+use Rattle.wild_layout.specs.Geometry.{FieldLies, DefinitionNames}
+use Rattle.wild_meaning.specs.Value.{IsSymbol, IsDefinedBy, moved}
+use Rattle.wild_meaning.specs.Reference.{IsReference, place_at, IsTarget, Demands, field_width as form_width, FieldReads, ReferenceHolds, IsCall, Calls, CallReaches, InNoField, SectionHolds}
 use Rattle.wild_loader.specs.declared.world.World.{World}
 use Rattle.wild_loader.specs.declared.memory.Run.{Run}
 use Rattle.wild_loader.specs.declared.effect.EffectKind.TheVariants as effects
 use Rattle.wild_loader.specs.Memory.{Holds, byte_in}
-use Rattle.wild_loader.specs.Effect.{step, sign_extended_32}
+use Rattle.wild_loader.specs.Effect.{sign_extended_32}
 use Rattle.wild_loader.specs.Laws.{CallsAreRead}
 use Rattle.wild_laws.proofs.KnownRows.{RowFits}
 use Rattle.wild_laws.proofs.Values.{has_raw}
 use Rattle.wild_laws.proofs.Clean.{IsClean, IsWritten, HasAddress, relocation_written}
-use Rattle.wild_laws.proofs.Sections.{Tables, field_of, sites_apart, byte_outside, field_lies, field_stands, Holds-inner}
+use Rattle.wild_laws.proofs.Sections.{Tables, sites_apart, byte_outside, field_lies, field_stands, Holds-inner}
 
 -- ---- symbols
 
@@ -120,7 +118,7 @@ pub record IsSectionLoaded (l : Layout) (w : World) (runs : List Run) (s : Input
   pub clean : IsClean l s
   pub full : length s.bytes ≡ s.size
   pub low : s.address + s.size ≤ 2 ^ 62
-  pub lies : All (FieldLies s.size) s.relocations
+  pub lies : All (FieldLies l.machine s.size) s.relocations
   pub held : Holds runs s.address (overlay (sites l s) s.bytes)
 
 apart_of : (l : Layout) (w : World) (runs : List Run) (s : InputSection) → IsSectionLoaded l w runs s → AreApart (length s.bytes) (sites l s)
@@ -143,7 +141,7 @@ written_of l w runs s r h ref = relocation_written l s r h.tables.agree h.x86 (h
 
 -- the field lies in the section
 field_ends : (l : Layout) (w : World) (runs : List Run) (s : InputSection) (r : InputRelocation) (fits : RowFits r.number) → IsSectionLoaded l w runs s → Contains s.relocations r → r.offset + field_width fits.row ≤ length s.bytes
-field_ends l w runs s r fits h c = field_lies l s r fits h.tables h.full (All-contains (FieldLies s.size) s.relocations r h.lies c)
+field_ends l w runs s r fits h c = field_lies l s r fits h.x86 h.full (All-contains (FieldLies l.machine s.size) s.relocations r h.lies c)
 
 -- the place of a field in the section, below 2^64
 place_low : (l : Layout) (w : World) (runs : List Run) (s : InputSection) (r : InputRelocation) (fits : RowFits r.number) → IsSectionLoaded l w runs s → Contains s.relocations r → place_of s r ≡ place_at w s r.offset

@@ -1,34 +1,32 @@
 -- What memory has of a kept section whose bytes are loaded.
-use Rattle.std.proofs.Common.{◌≡◌, ℕ, ℤ, zero, suc, ◌+◌, ◌-◌, ◌%◌, ◌^◌, ◌<◌, ◌≤◌, ◌⊎◌, inl, inr, Bool, true, false, List, [], ◌∷◌, ◌++◌, length, get_or, take, drop, slice_range, refl, sym, ap, ◌∙◌, arith, subst}
-use Rattle.std.specs.Prelude.{Option, Some, None, All, AllPairs, Contains, slice_index, slice_get, if◌then◌else◌, ◌==◌, unwrap_or}
+use Rattle.std.proofs.Common.{◌≡◌, ℕ, zero, suc, ◌+◌, ◌<◌, ◌≤◌, ◌⊎◌, inl, inr, Bool, true, false, List, [], ◌∷◌, ◌++◌, length, get_or, slice_range, refl, sym, ap, ◌∙◌, arith, subst}
+use Rattle.std.specs.Prelude.{Option, Some, None, All, Contains, slice_index, if◌then◌else◌, ◌==◌}
 use Rattle.std.specs.List.{flat_map}
-use Rattle.std.specs.Int.{w64, cast_unsigned}
 use Rattle.std.proofs.lemmas.Bool.{cases_Bool, eqb-true}
-use Rattle.std.proofs.lemmas.List.{length-take, length-drop}
 use Rattle.std.proofs.lemmas.List.Elements.{All-append, All-contains, Contains-append_left, Contains-append_right}
 use Rattle.wild_words.specs.Words.{Stands}
 use Rattle.wild_words.specs.Overlay.{Piece, overlay, AreApart}
-use Rattle.wild_words.proofs.OverlayLemmas.{Stands-overlay, overlay-outside, length-overlay}
+use Rattle.wild_words.proofs.OverlayLemmas.{Stands-overlay, overlay-outside}
 use Rattle.wild_plan.specs.declared.kind.Machine.{Machine}
 use Rattle.wild_plan.specs.declared.kind.Machine.TheVariants as machine
 use Rattle.wild_plan.specs.declared.input.InputRelocation.{InputRelocation}
 use Rattle.wild_plan.specs.declared.input.InputSection.{InputSection}
 use Rattle.wild_plan.specs.declared.layout.Layout.{Layout}
 use Rattle.wild_plan.specs.Contents.{field_bytes}
-use Rattle.wild_reloc.specs.Field.{field_width, allows, written}
+use Rattle.wild_reloc.specs.Field.{field_width, written}
 use Rattle.wild_reloc.specs.Formula.{Formula}
 use Rattle.wild_reloc.specs.FormulaX86_64.{x86_64_formula}
 use Rattle.wild_reloc.specs.Agreement.{X86_64Agrees, WidthsHold}
 use Rattle.wild_reloc.specs.TableX86_64.{x86_64_row}
 use Rattle.wild_reloc.specs.declared.info.RelocationKindInfo.{RelocationKindInfo}
-use Rattle.wild_layout.specs.Rows.{is_known, row_of}
+use Rattle.wild_plan.specs.Rows.{is_known, row_of, row_width}
 use Rattle.wild_layout.specs.Values.{value_of}
-use Rattle.wild_layout.specs.Sites.{site, site_by, sites, section_bytes, first_shared}
-use Rattle.wild_layout.specs.Geometry.{FieldLies, SectionLies}
+use Rattle.wild_layout.specs.Sites.{site, site_by, sites, first_shared}
+use Rattle.wild_layout.specs.Geometry.{FieldLies}
 use Rattle.wild_meaning.specs.Reference.{field_width as form_width, InNoField}
 use Rattle.wild_loader.specs.declared.memory.Run.{Run}
-use Rattle.wild_loader.specs.Memory.{Holds, byte_in}
-use Rattle.wild_laws.proofs.KnownRows.{RowFits, row_fits, row_of-known}
+use Rattle.wild_loader.specs.Memory.{Holds}
+use Rattle.wild_laws.proofs.KnownRows.{RowFits, row_fits}
 use Rattle.wild_laws.proofs.SitesApart.{IsFieldIn, fields_apart}
 
 -- what the tables owe
@@ -108,28 +106,31 @@ site_cases l s r agrees m =
 All-of : (P : Piece → Type 0) (ps qs : List Piece) → ps ≡ qs → All P qs → All P ps
 All-of P ps qs e h = subst (λ (xs : List Piece). All P xs) (sym e) h
 
-pub field_lies : (l : Layout) (s : InputSection) (r : InputRelocation) (fits : RowFits r.number) → Tables → length s.bytes ≡ s.size → FieldLies s.size r → r.offset + field_width fits.row ≤ length s.bytes
-field_lies l s r fits tables full (inl none) = absurd (let b = fits.bytes in let some = fits.some in omega (arith, b, some, none))
-field_lies l s r fits tables full (inr lies) = let b = fits.bytes in omega (arith, b, lies, full)
+pub bytes_of : (l : Layout) (r : InputRelocation) (fits : RowFits r.number) → l.machine ≡ machine.X86_64 → field_bytes l.machine r.number ≡ field_width fits.row
+bytes_of l r fits m = ap (λ (x : Machine). row_width (row_of x r.number)) m ∙ ap row_width fits.is
 
-site_is_field : (l : Layout) (s : InputSection) (r : InputRelocation) → Tables → l.machine ≡ machine.X86_64 → length s.bytes ≡ s.size → FieldLies s.size r → All (IsFieldIn (length s.bytes)) (site l s r)
+pub field_lies : (l : Layout) (s : InputSection) (r : InputRelocation) (fits : RowFits r.number) → l.machine ≡ machine.X86_64 → length s.bytes ≡ s.size → FieldLies l.machine s.size r → r.offset + field_width fits.row ≤ length s.bytes
+field_lies l s r fits m full (inl none) = absurd (let b = bytes_of l r fits m in let some = fits.some in omega (arith, b, some, none))
+field_lies l s r fits m full (inr lies) = let b = bytes_of l r fits m in omega (arith, b, lies, full)
+
+site_is_field : (l : Layout) (s : InputSection) (r : InputRelocation) → Tables → l.machine ≡ machine.X86_64 → length s.bytes ≡ s.size → FieldLies l.machine s.size r → All (IsFieldIn (length s.bytes)) (site l s r)
 site_is_field l s r tables m full lies =
     elim (site_cases l s r tables.agree m) [
       | inl none ↦ All-of (IsFieldIn (length s.bytes)) _ [] none (All-none (IsFieldIn (length s.bytes)))
-      | inr some ↦ All-of (IsFieldIn (length s.bytes)) _ _ some.1 (All-one (IsFieldIn (length s.bytes)) (field_of l s r some.0.row) (is_field l s r some.0 tables full lies))
+      | inr some ↦ All-of (IsFieldIn (length s.bytes)) _ _ some.1 (All-one (IsFieldIn (length s.bytes)) (field_of l s r some.0.row) (is_field l s r some.0 tables m full lies))
     ]
   where
-    is_field : (l : Layout) (s : InputSection) (r : InputRelocation) (fits : RowFits r.number) → Tables → length s.bytes ≡ s.size → FieldLies s.size r → IsFieldIn (length s.bytes) (field_of l s r fits.row)
-    is_field l s r fits tables full lies =
+    is_field : (l : Layout) (s : InputSection) (r : InputRelocation) (fits : RowFits r.number) → Tables → l.machine ≡ machine.X86_64 → length s.bytes ≡ s.size → FieldLies l.machine s.size r → IsFieldIn (length s.bytes) (field_of l s r fits.row)
+    is_field l s r fits tables m full lies =
         let w = tables.widths fits.row (value_of l s r fits.row.kind) (slice_range s.bytes r.offset (r.offset + field_width fits.row)) in
-        let lie = field_lies l s r fits tables full lies in
+        let lie = field_lies l s r fits m full lies in
         let some = fits.some in
         record { ends = omega (arith, w, lie); some = omega (arith, w, some) }
 
 -- the fields of a section lie in it, each apart from the others
-pub sites_apart : (l : Layout) (s : InputSection) → Tables → l.machine ≡ machine.X86_64 → length s.bytes ≡ s.size → All (FieldLies s.size) s.relocations → first_shared (sites l s) 0 (length s.bytes) ≡ None → AreApart (length s.bytes) (sites l s)
+pub sites_apart : (l : Layout) (s : InputSection) → Tables → l.machine ≡ machine.X86_64 → length s.bytes ≡ s.size → All (FieldLies l.machine s.size) s.relocations → first_shared (sites l s) 0 (length s.bytes) ≡ None → AreApart (length s.bytes) (sites l s)
 sites_apart l s tables m full lies none =
-    fields_apart (sites l s) (length s.bytes) (All-flat_map (IsFieldIn (length s.bytes)) (site l s) s.relocations (λ r c. site_is_field l s r tables m full (All-contains (FieldLies s.size) s.relocations r lies c))) none
+    fields_apart (sites l s) (length s.bytes) (All-flat_map (IsFieldIn (length s.bytes)) (site l s) s.relocations (λ r c. site_is_field l s r tables m full (All-contains (FieldLies l.machine s.size) s.relocations r lies c))) none
 
 -- ---- memory
 

@@ -1,19 +1,18 @@
 -- The image of a laid out layout is sound.
-use Rattle.std.proofs.Common.{◌≡◌, ℕ, zero, suc, ◌+◌, ◌-◌, ◌*◌, ◌/◌, ◌%◌, ◌^◌, ◌<◌, ◌≤◌, ◌⊎◌, inl, inr, Bool, true, false, List, [], ◌∷◌, ◌++◌, length, get_or, map, replicate, refl, sym, ap, ◌∙◌, arith, subst, add-zero}
-use Rattle.std.specs.Prelude.{Option, Some, None, All, AllPairs, Contains, slice_get, slice_index, drop, Ok, if◌then◌else◌, ◌==◌, ◌&&◌, not}
-use Rattle.std.specs.List.{flat_map, range_with_len}
-use Rattle.std.proofs.lemmas.Bool.{cases_Bool, eqb-true, eq-eqb}
-use Rattle.std.proofs.lemmas.List.{length-map, get_or-map}
+use Rattle.std.proofs.Common.{◌≡◌, ℕ, zero, suc, ◌+◌, ◌-◌, ◌^◌, ◌<◌, ◌≤◌, inl, inr, Bool, true, false, List, [], ◌∷◌, length, get_or, map, replicate, refl, sym, ap, ◌∙◌, arith, subst}
+use Rattle.std.specs.Prelude.{All, AllPairs, Contains, slice_get, drop, Ok, if◌then◌else◌, ◌==◌, not}
+use Rattle.std.specs.List.{flat_map}
+use Rattle.std.proofs.lemmas.Bool.{cases_Bool, eqb-true}
+use Rattle.std.proofs.lemmas.List.{length-map}
 use Rattle.std.proofs.lemmas.List.FromFn.{length-map-range_with_len}
 use Rattle.std.proofs.lemmas.List.Folds.{flat_map-map}
 use Rattle.std.proofs.lemmas.List.Elements.{All-map, All-contains, Contains-append_left, Contains-append_right}
+use Rattle.wild_records.specs.Abi.Segment.{pt_load}
 use Rattle.wild_words.specs.Words.{Stands}
 use Rattle.wild_words.specs.Record.{spell}
 use Rattle.wild_words.specs.Overlay.{Piece, overlay, AreApart}
 use Rattle.wild_words.proofs.OverlayLemmas.{Stands-overlay, overlay-outside, length-overlay}
 use Rattle.wild_records.specs.ProgramHeader.{ProgramHeaderFits, program_header_fields}
-use Rattle.wild_records.specs.SectionHeader.{section_header_fields}
-use Rattle.wild_records.specs.FileHeader.{file_header_fields}
 use Rattle.wild_records.specs.declared.program_header.ProgramHeader.{ProgramHeader}
 use Rattle.wild_plan.specs.declared.kind.Machine.TheVariants as machine
 use Rattle.wild_plan.specs.declared.part.Part.{Part}
@@ -23,16 +22,15 @@ use Rattle.wild_plan.specs.declared.input.InputSection.{InputSection}
 use Rattle.wild_plan.specs.declared.file.File.{File}
 use Rattle.wild_plan.specs.declared.file.Group.{Group}
 use Rattle.wild_plan.specs.declared.layout.Layout.{Layout}
-use Rattle.wild_plan.specs.Lookups.{is_filled, is_loaded, is_read, image_size, allocated}
+use Rattle.wild_plan.specs.Lookups.{is_filled, is_loaded, is_read, image_size}
 use Rattle.wild_layout.specs.Sites.{sites, section_bytes}
-use Rattle.wild_layout.specs.Headers.{file_header, program_header, program_header_bytes, section_headers_of, section_header_bytes, name_table, offset_of_role}
+use Rattle.wild_layout.specs.Headers.{file_header, program_header, section_headers_of, name_table, offset_of_role}
 use Rattle.wild_layout.specs.Image.{bytes, pieces, padding, padding_byte, own_piece, own_bytes, part_piece, part_bytes, section_piece, file_pieces, group_pieces, offset_in}
-use Rattle.wild_layout.specs.Numbers.{NumbersFit, SegmentNumbers}
+use Rattle.wild_layout.specs.Numbers.{NumbersFit}
 use Rattle.wild_layout.specs.Geometry.{IsLaidOut, SectionLies, IsMapped, IsCarried, PartLies, SegmentLoads, Ascends}
 use Rattle.wild_layout.specs.Faults.{flat_map_from, group_errors}
-use Rattle.wild_meaning.specs.World.{IsFixed, IsLegal}
-use Rattle.wild_meaning.specs.Reference.{IsKeptSection, SectionHolds}
-use Rattle.wild_meaning.specs.Linked.{IsLinked, IsSound}
+use Rattle.wild_meaning.specs.World.{IsFixed}
+use Rattle.wild_meaning.specs.Reference.{IsKeptSection}
 use Rattle.wild_loader.specs.declared.world.World.{World}
 use Rattle.wild_loader.specs.declared.memory.Run.{Run}
 use Rattle.wild_loader.specs.Load.{load}
@@ -102,7 +100,7 @@ programs_stand l laid =
     let st = table_stands l t.0 64 (part_bytes l role.ProgramHeaders) laid t.1 t.2 t.3 t.4 in
     subst (λ (xs : List ℕ). Stands (bytes l) 64 xs) (sym (flat_map-map (λ (h : ProgramHeader). spell (program_header_fields h)) (program_header l) l.segments)) st
 
-headers_offset : (l : Layout) → IsLaidOut l → offset_of_role 3 l.parts < 2 ^ 64
+headers_offset : (l : Layout) → IsLaidOut l → offset_of_role role.SectionHeaders l.parts < 2 ^ 64
 headers_offset l laid =
     let t = laid.tables.section_headers in
     let lies = All-contains (λ (p : Part). own_bytes p ≡ true → PartLies l p) l.parts t.0 laid.parts t.1 t.3 in
@@ -129,14 +127,14 @@ has_headers l m k numbers laid =
       programs = programs_stand l laid;
       program_count = sym (length-map l.segments (program_header l));
       sections_fit = section_headers_fit l l.sections laid.sections (names_low l laid) laid.names numbers.sections;
-      sections = table_stands l s.0 (offset_of_role 3 l.parts) (part_bytes l role.SectionHeaders) laid s.1 s.2 s.3 s.4;
+      sections = table_stands l s.0 (offset_of_role role.SectionHeaders l.parts) (part_bytes l role.SectionHeaders) laid s.1 s.2 s.3 s.4;
       section_count = headers_told l laid.some_section;
       some_section = let n = length-section_headers l l.sections in let some = laid.some_section in omega (arith, n, some);
     }
 
 -- ---- segments
 
-segment_loadable : (l : Layout) (w : World) (g : Segment) → w.base ≡ 0 → SegmentLoads (image_size l) g → IsLaidOut l → (program_header l g).kind ≡ 1 → IsLoadable w.base (length (bytes l)) (program_header l g)
+segment_loadable : (l : Layout) (w : World) (g : Segment) → w.base ≡ 0 → SegmentLoads (image_size l) g → IsLaidOut l → (program_header l g).kind ≡ pt_load → IsLoadable w.base (length (bytes l)) (program_header l g)
 unfolding program_header
 segment_loadable l w g z h laid k =
     let n = length-bytes l laid in
@@ -163,7 +161,7 @@ AllPairs-map {X} R f (x ∷ xs) h = λ i j d l m. at R f x xs h (AllPairs-map R 
 
 are_loadable : (l : Layout) (w : World) → w.base ≡ 0 → IsLaidOut l → AreLoadable w.base (bytes l) (map (program_header l) l.segments)
 are_loadable l w z laid = record {
-  each = All-map (λ (h : ProgramHeader). h.kind ≡ 1 → IsLoadable w.base (length (bytes l)) h) (program_header l) l.segments (λ i d lt. segment_loadable l w (get_or l.segments i d) z (laid.loadable.each i d lt) laid);
+  each = All-map (λ (h : ProgramHeader). h.kind ≡ pt_load → IsLoadable w.base (length (bytes l)) h) (program_header l) l.segments (λ i d lt. segment_loadable l w (get_or l.segments i d) z (laid.loadable.each i d lt) laid);
   ascend = AllPairs-map HeadersAscend (program_header l) l.segments (λ i j d lt m. headers_ascend l (get_or l.segments i d) (get_or l.segments j d) (laid.loadable.ascend i j d lt m));
 }
 

@@ -8,8 +8,8 @@ use Rattle.wild_words.specs.Words.{Stands}
 use Rattle.wild_words.specs.Record.{spell}
 use Rattle.wild_words.proofs.OverlayLemmas.{Stands-inner}
 use Rattle.wild_words.proofs.RecordLemmas.{Stands-left, Stands-right, length-spell}
-use Rattle.wild_records.specs.ProgramHeader.{program_header_fields, program_header_at, ProgramHeaderFits, ProgramHeaderIsRead}
-use Rattle.wild_records.specs.SectionHeader.{section_header_fields, section_header_at, SectionHeaderFits, SectionHeaderIsRead}
+use Rattle.wild_records.specs.ProgramHeader.{program_header_size, program_header_fields, program_header_at, ProgramHeaderFits, ProgramHeaderIsRead}
+use Rattle.wild_records.specs.SectionHeader.{section_header_size, section_header_fields, section_header_at, SectionHeaderFits, SectionHeaderIsRead}
 use Rattle.wild_records.specs.declared.program_header.ProgramHeader.{ProgramHeader}
 use Rattle.wild_records.specs.declared.section_header.SectionHeader.{SectionHeader}
 
@@ -48,7 +48,7 @@ pub length-section : (s : SectionHeader) → length (section_bytes s) ≡ 64
 unfolding section_header_fields
 length-section s = length-spell (section_header_fields s)
 
-pub length-programs : (hs : List ProgramHeader) → length (flat_map program_bytes hs) ≡ 56 * length hs
+pub length-programs : (hs : List ProgramHeader) → length (flat_map program_bytes hs) ≡ program_header_size * length hs
 length-programs [] = refl
 length-programs (h ∷ hs) =
     let a = length-append (program_bytes h) (flat_map program_bytes hs) in
@@ -56,7 +56,7 @@ length-programs (h ∷ hs) =
     let c = length-programs hs in
     omega (arith, a, b, c)
 
-pub length-sections : (ss : List SectionHeader) → length (flat_map section_bytes ss) ≡ 64 * length ss
+pub length-sections : (ss : List SectionHeader) → length (flat_map section_bytes ss) ≡ section_header_size * length ss
 length-sections [] = refl
 length-sections (s ∷ ss) =
     let a = length-append (section_bytes s) (flat_map section_bytes ss) in
@@ -68,11 +68,11 @@ length-sections (s ∷ ss) =
 pub program-first : ProgramHeaderIsRead → (image : List ℕ) (at : ℕ) (h : ProgramHeader) (hs : List ProgramHeader) → All ProgramHeaderFits (h ∷ hs) → Stands image at (flat_map program_bytes (h ∷ hs)) → program_header_at image at ≡ h
 program-first read image at h hs fits st = read image at h (All-head ProgramHeaderFits h hs fits) (Stands-front image (program_bytes h) (flat_map program_bytes hs) at st)
 
-pub programs-behind : (image : List ℕ) (at : ℕ) (h : ProgramHeader) (hs : List ProgramHeader) → Stands image at (flat_map program_bytes (h ∷ hs)) → Stands image (at + 56) (flat_map program_bytes hs)
+pub programs-behind : (image : List ℕ) (at : ℕ) (h : ProgramHeader) (hs : List ProgramHeader) → Stands image at (flat_map program_bytes (h ∷ hs)) → Stands image (at + program_header_size) (flat_map program_bytes hs)
 programs-behind image at h hs st = Stands-behind image (program_bytes h) (flat_map program_bytes hs) at 56 (length-program h) st
 
 pub section-first : SectionHeaderIsRead → (image : List ℕ) (at : ℕ) (s : SectionHeader) (ss : List SectionHeader) → All SectionHeaderFits (s ∷ ss) → Stands image at (flat_map section_bytes (s ∷ ss)) → section_header_at image at ≡ s
 section-first read image at s ss fits st = read image at s (All-head SectionHeaderFits s ss fits) (Stands-front image (section_bytes s) (flat_map section_bytes ss) at st)
 
-pub sections-behind : (image : List ℕ) (at : ℕ) (s : SectionHeader) (ss : List SectionHeader) → Stands image at (flat_map section_bytes (s ∷ ss)) → Stands image (at + 64) (flat_map section_bytes ss)
+pub sections-behind : (image : List ℕ) (at : ℕ) (s : SectionHeader) (ss : List SectionHeader) → Stands image at (flat_map section_bytes (s ∷ ss)) → Stands image (at + section_header_size) (flat_map section_bytes ss)
 sections-behind image at s ss st = Stands-behind image (section_bytes s) (flat_map section_bytes ss) at 64 (length-section s) st

@@ -4,12 +4,14 @@ use Rattle.std.specs.Prelude.{All, ◌&&◌, ◌==◌, not, nat_le, Ok}
 use Rattle.std.specs.List.{flat_map}
 use Rattle.std.proofs.lemmas.List.Elements.{All-head, All-tail, All-nil}
 use Rattle.std.proofs.lemmas.Bool.{cases_Bool, eqb-true, le-leb}
+use Rattle.wild_records.specs.Abi.Section.{sht_rela, shf_alloc}
+use Rattle.wild_records.specs.Abi.Segment.{pt_dynamic}
 use Rattle.wild_words.specs.Words.{Stands}
 use Rattle.wild_words.specs.Record.{spell}
 use Rattle.wild_words.proofs.RecordLemmas.{length-spell}
 use Rattle.wild_records.specs.FileHeader.{file_header_fields, file_header_at, FileHeaderIsRead}
-use Rattle.wild_records.specs.ProgramHeader.{ProgramHeaderFits, ProgramHeaderIsRead}
-use Rattle.wild_records.specs.SectionHeader.{section_header_at, SectionHeaderFits, SectionHeaderIsRead}
+use Rattle.wild_records.specs.ProgramHeader.{program_header_size, ProgramHeaderFits, ProgramHeaderIsRead}
+use Rattle.wild_records.specs.SectionHeader.{section_header_size, section_header_at, SectionHeaderFits, SectionHeaderIsRead}
 use Rattle.wild_records.specs.declared.file_header.FileHeader.{FileHeader}
 use Rattle.wild_records.specs.declared.program_header.ProgramHeader.{ProgramHeader}
 use Rattle.wild_records.specs.declared.section_header.SectionHeader.{SectionHeader}
@@ -34,20 +36,20 @@ unfolding has_no_dynamic
 statics read image [] at fits st static = refl
 statics read image (h ∷ hs) at fits st static =
     let head = program-first read image at h hs fits st in
-    let here : (h.kind == 2) ≡ false = no h.kind 2 (All-head IsStatic h hs static) in
-    let rest = statics read image hs (at + 56) (All-tail ProgramHeaderFits h hs fits) (programs-behind image at h hs st) (All-tail IsStatic h hs static) in
+    let here : (h.kind == pt_dynamic) ≡ false = no h.kind pt_dynamic (All-head IsStatic h hs static) in
+    let rest = statics read image hs (at + program_header_size) (All-tail ProgramHeaderFits h hs fits) (programs-behind image at h hs st) (All-tail IsStatic h hs static) in
     rw (head, here, rest) refl
 
 entries-none : (s : SectionHeader) → HasNoEntries s → has_entries s ≡ false
 entries-none s none =
-    elim (cases_Bool (s.kind == 4)) [
+    elim (cases_Bool (s.kind == sht_rela)) [
       | inl k ↦ rw k (allocated s (none (eqb-true _ _ k)))
       | inr f ↦ rw f refl
     ]
   where
-    allocated : (s : SectionHeader) → (s.flags / 2 % 2 ≡ 1 → s.size ≡ 0) → (s.flags / 2 % 2 == 1 && not (s.size == 0)) ≡ false
+    allocated : (s : SectionHeader) → (s.flags / shf_alloc % 2 ≡ 1 → s.size ≡ 0) → (s.flags / shf_alloc % 2 == 1 && not (s.size == 0)) ≡ false
     allocated s none =
-        elim (cases_Bool (s.flags / 2 % 2 == 1)) [
+        elim (cases_Bool (s.flags / shf_alloc % 2 == 1)) [
           | inl f ↦ (let z : (s.size == 0) ≡ true = eq-eqb s.size 0 (none (eqb-true _ _ f)) in rw (f, z) refl)
           | inr f ↦ rw f refl
         ]
@@ -58,7 +60,7 @@ no_entries read image [] at fits st none = refl
 no_entries read image (s ∷ ss) at fits st none =
     let head = section-first read image at s ss fits st in
     let here = entries-none s (All-head HasNoEntries s ss none) in
-    let rest = no_entries read image ss (at + 64) (All-tail SectionHeaderFits s ss fits) (sections-behind image at s ss st) (All-tail HasNoEntries s ss none) in
+    let rest = no_entries read image ss (at + section_header_size) (All-tail SectionHeaderFits s ss fits) (sections-behind image at s ss st) (All-tail HasNoEntries s ss none) in
     rw (head, here, rest) refl
 
 -- section header 0 tells how many there are

@@ -11,6 +11,7 @@ mod layout;
 mod lookups;
 mod options;
 mod part;
+mod rows;
 mod section;
 mod share;
 mod symbol;
@@ -24,12 +25,10 @@ pub use layout::{
     DynamicSymbol, Entry, GnuHash, Identity, Layout, Merged, Property, PropertyValue,
     SortedSection, SysvHash, Thunk, Tls, VersionDefinition,
 };
-pub use lookups::{
-    SHF_ALLOC, SHF_EXECINSTR, SHF_TLS, SHF_WRITE, SHT_NOBITS, is_allocated, is_executable,
-    is_thread_local, is_writable,
-};
+pub use lookups::{is_allocated, is_executable, is_thread_local, is_writable};
 pub use options::Options;
 pub use part::{Part, Role};
+pub use rows::row_of;
 pub use section::{Section, Segment};
 pub use share::needs;
 pub use symbol::{Place, Resolution, Symbol, ValueFlags};

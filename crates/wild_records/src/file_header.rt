@@ -1,7 +1,7 @@
 //! The file header (gABI, "ELF Header"), 64 bytes.
 ghost use Rattle.std.specs.Prelude.{◌≡◌, ◌≤◌, ◌+◌, take, length, Some, None, nat_le, if◌then◌else◌};
 ghost use Rattle.wild_words.specs.Record.{spell, spell_onto};
-ghost use Rattle.wild_records.specs.FileHeader.{file_header_fields, ident_fields, place_fields, count_fields, file_header_at, FileHeaderFits, FileHeaderFrontFits, FileHeaderMiddleFits, FileHeaderBackFits, FileHeaderIsRead};
+ghost use Rattle.wild_records.specs.FileHeader.{file_header_size, file_header_fields, ident_fields, place_fields, count_fields, file_header_at, FileHeaderFits, FileHeaderFrontFits, FileHeaderMiddleFits, FileHeaderBackFits, FileHeaderIsRead};
 
 use wild_words::{
     fields_of_records, put_u8, put_u16, put_u32, put_u64, put_zeros_7, read_u8, read_u16, read_u32,
@@ -58,7 +58,7 @@ impl FileHeader {
     /// Writes it.
     #[tactic(auto, unfolding(crate::specs::FileHeader::file_header_fields))]
     pub fn put(&self, out: &mut [u8])
-        requires { length out.old ≡ 64 }
+        requires { length out.old ≡ file_header_size }
         ensures { out.new ≡ spell (file_header_fields self.now) }
     {
         self.put_ident(out);
@@ -67,7 +67,7 @@ impl FileHeader {
     }
 
     fn put_ident(&self, out: &mut [u8])
-        requires { length out.old ≡ 64 }
+        requires { length out.old ≡ file_header_size }
         ensures front { take 16 out.new ≡ spell (ident_fields self.now) }
         ensures room { length out.new ≡ 64 }
     {
@@ -81,7 +81,7 @@ impl FileHeader {
     }
 
     fn put_places(&self, out: &mut [u8])
-        requires { length out.old ≡ 64 }
+        requires { length out.old ≡ file_header_size }
         ensures front { take 52 out.new ≡ spell_onto (take 16 out.old) (place_fields self.now) }
         ensures room { length out.new ≡ 64 }
     {
@@ -95,7 +95,7 @@ impl FileHeader {
     }
 
     fn put_counts(&self, out: &mut [u8])
-        requires { length out.old ≡ 64 }
+        requires { length out.old ≡ file_header_size }
         ensures { out.new ≡ spell_onto (take 52 out.old) (count_fields self.now) }
     {
         put_u16(out, 52, self.header_size);
@@ -108,7 +108,7 @@ impl FileHeader {
 
     /// The one at the front of the bytes; none where these are too few.
     pub fn get(bytes: &[u8]) -> Option<FileHeader>
-        ensures { result ≡ (if nat_le 64 (length bytes.now) then Some (file_header_at bytes.now 0) else None) }
+        ensures { result ≡ (if nat_le file_header_size (length bytes.now) then Some (file_header_at bytes.now 0) else None) }
     {
         if bytes.len() < FileHeader::SIZE {
             return None;
@@ -119,7 +119,7 @@ impl FileHeader {
     /// The one that stands at an offset.
     #[tactic(auto, unfolding(crate::specs::FileHeader::file_header_at))]
     pub fn read(bytes: &[u8], at: usize) -> FileHeader
-        requires { at + 64 ≤ length bytes.now }
+        requires { at + file_header_size ≤ length bytes.now }
         ensures { result ≡ file_header_at bytes.now at }
     {
         FileHeader {

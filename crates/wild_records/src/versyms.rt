@@ -1,7 +1,7 @@
 //! Versions of the dynamic symbols (LSB, "Symbol Version Table").
 ghost use Rattle.std.specs.Prelude.{◌≡◌, ◌≤◌, ◌+◌, length, Some, None, nat_le, if◌then◌else◌};
 ghost use Rattle.wild_words.specs.Record.{spell};
-ghost use Rattle.wild_records.specs.Versyms.{versym_fields, versym_at, VersymFits, VersymIsRead};
+ghost use Rattle.wild_records.specs.Versyms.{versym_size, versym_fields, versym_at, VersymFits, VersymIsRead};
 
 use wild_words::{fields_of_records, put_u16, read_u16};
 
@@ -19,7 +19,7 @@ impl Versym {
     /// Writes it.
     #[tactic(auto, using(crate::proofs::FieldLemmas::take_whole), unfolding(crate::specs::Versyms::versym_fields))]
     pub fn put(&self, out: &mut [u8])
-        requires { length out.old ≡ 2 }
+        requires { length out.old ≡ versym_size }
         ensures { out.new ≡ spell (versym_fields self.now) }
     {
         put_u16(out, 0, self.version);
@@ -27,7 +27,7 @@ impl Versym {
 
     /// The one at the front of the bytes; none where these are too few.
     pub fn get(bytes: &[u8]) -> Option<Versym>
-        ensures { result ≡ (if nat_le 2 (length bytes.now) then Some (versym_at bytes.now 0) else None) }
+        ensures { result ≡ (if nat_le versym_size (length bytes.now) then Some (versym_at bytes.now 0) else None) }
     {
         if bytes.len() < Versym::SIZE {
             return None;
@@ -38,7 +38,7 @@ impl Versym {
     /// The one that stands at an offset.
     #[tactic(auto, unfolding(crate::specs::Versyms::versym_at))]
     pub fn read(bytes: &[u8], at: usize) -> Versym
-        requires { at + 2 ≤ length bytes.now }
+        requires { at + versym_size ≤ length bytes.now }
         ensures { result ≡ versym_at bytes.now at }
     {
         Versym {

@@ -10,45 +10,46 @@ use crate::extent::wide_sum;
 use crate::fault::Clause;
 use crate::file::Group;
 use crate::input::{InputRelocation, InputSection};
+use crate::kind::Machine;
 use crate::layout::Layout;
+use crate::rows::row_of;
 
-/// The bytes of the field that a relocation type writes, where it has a row; 0 where it writes none.
-fn field_bytes(number: u32) -> u64
-    ensures { result ≡ field_bytes number }
+/// The bytes of the field that a relocation of that type writes; 0 where it writes none, or has no row.
+fn field_bytes(machine: Machine, number: u32) -> u64
+    ensures { result ≡ field_bytes machine number }
 {
-    match number {
-        1 => 8,
-        2 | 10 | 11 => 4,
-        _ => 0,
+    match row_of(machine, number) {
+        Some(row) => row.width() as u64,
+        None => 0,
     }
 }
 
-fn field_lies(section: &InputSection, relocation: &InputRelocation) -> bool
-    ensures { result ≡ field_lies section.now relocation.now }
+fn field_lies(machine: Machine, section: &InputSection, relocation: &InputRelocation) -> bool
+    ensures { result ≡ field_lies machine section.now relocation.now }
 {
-    let bytes = field_bytes(relocation.number);
+    let bytes = field_bytes(machine, relocation.number);
     bytes == 0 || wide_sum(relocation.offset, bytes) <= u128::from(section.size)
 }
 
-fn fields_lie(section: &InputSection) -> bool
-    ensures { result ≡ fields_lie section.now }
+fn fields_lie(machine: Machine, section: &InputSection) -> bool
+    ensures { result ≡ fields_lie machine section.now }
 {
     section
         .relocations
         .as_slice()
         .iter()
-        .all(|relocation| field_lies(section, relocation))
+        .all(|relocation| field_lies(machine, section, relocation))
 }
 
-fn field_outside(groups: &[Group]) -> Option<usize>
-    ensures { result ≡ first_failing (each_section fields_lie) 0 groups.now }
+fn field_outside(machine: Machine, groups: &[Group]) -> Option<usize>
+    ensures { result ≡ first_failing (each_section (fields_lie machine)) 0 groups.now }
 {
-    first_group(groups, &|section| fields_lie(section))
+    first_group(groups, &|section| fields_lie(machine, section))
 }
 
 #[tactic(auto, unfolding(crate::specs::WellFormed::check_fields))]
 pub(crate) fn check_fields(layout: &Layout) -> Result<(), Clause>
     ensures { result ≡ check_fields layout.now }
 {
-    fails(10, field_outside(layout.groups.as_slice()))
+    fails(10, field_outside(layout.machine, layout.groups.as_slice()))
 }

@@ -4,11 +4,11 @@ use Rattle.wild_image.proofs.overlap.count_site.Goals as goal
 
 pub overflow_add-start : goal.overflow_add-start
 overflow_add-start g c =
-    let room = field_ends _ c.args.relocation.now _ c.width_of-width.result c.width_of-width.ensures c.if-width-eq0.false c.requires.lies in
+    let room = field_ends _ _ c.args.relocation.now _ c.width_of-width.result c.requires.machine c.width_of-width.ensures c.if-width-eq0.false c.requires.lies in
     omega (arith, room)
 
 pub count_between-requires-clause-room : goal.count_between-requires-clause-room
-count_between-requires-clause-room g c = field_ends _ c.args.relocation.now _ c.width_of-width.result c.width_of-width.ensures c.if-width-eq0.false c.requires.lies
+count_between-requires-clause-room g c = field_ends _ _ c.args.relocation.now _ c.width_of-width.result c.requires.machine c.width_of-width.ensures c.if-width-eq0.false c.requires.lies
 
 pub returns-then-width-eq0 : goal.returns-then-width-eq0
 returns-then-width-eq0 g c = λ k n h e.
