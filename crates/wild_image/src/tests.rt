@@ -7,6 +7,10 @@ use std::alloc::{AllocError, Global};
 use std::test::Fail;
 use std::thread::Threads;
 use wild_plan::*;
+use wild_records::abi::relocation::R_X86_64_PC32;
+use wild_records::abi::section::{SHF_ALLOC, SHF_EXECINSTR, SHT_NULL, SHT_PROGBITS, SHT_STRTAB};
+use wild_records::abi::segment::{PF_R, PF_X, PT_LOAD};
+use wild_records::abi::symbol::STT_FUNC;
 use wild_words::{Bytes, Items};
 
 /// The bytes that the layout asks for, by hand from the gABI and the psABI.
@@ -80,16 +84,16 @@ fn section(alloc: Global, name: &[u8], kind: u32, flags: u64) -> Result<Section,
 }
 
 fn sections(alloc: Global) -> Result<Items<Section>, AllocError> {
-    let mut text = section(alloc, b".text", 1, 6)?;
+    let mut text = section(alloc, b".text", SHT_PROGBITS, SHF_ALLOC | SHF_EXECINSTR)?;
     text.address = 0x40_0080;
     text.offset = 128;
     text.size = 7;
     text.align = 16;
-    let mut names = section(alloc, b".shstrtab", 3, 0)?;
+    let mut names = section(alloc, b".shstrtab", SHT_STRTAB, 0)?;
     names.offset = 135;
     names.size = 17;
     let mut all = Items::new(alloc);
-    all.push(section(alloc, b"", 0, 0)?)?;
+    all.push(section(alloc, b"", SHT_NULL, 0)?)?;
     all.push(text)?;
     all.push(names)?;
     Ok(all)
@@ -98,8 +102,8 @@ fn sections(alloc: Global) -> Result<Items<Section>, AllocError> {
 fn segments(alloc: Global) -> Result<Items<Segment>, AllocError> {
     let all = vec![in alloc;
         Segment {
-            kind: 1,
-            flags: 5,
+            kind: PT_LOAD,
+            flags: PF_R | PF_X,
             offset: 0,
             address: 0x40_0000,
             physical: 0x40_0000,
@@ -116,7 +120,7 @@ fn symbols(alloc: Global) -> Result<Items<Symbol>, AllocError> {
     all.push(Symbol {
         name: bytes(alloc, b"f")?,
         definition: None,
-        info: 2,
+        info: STT_FUNC,
         other: 0,
         size: 0,
         value: 6,
@@ -155,7 +159,7 @@ fn text(alloc: Global, relocations: &[InputRelocation]) -> Result<InputSection, 
         part: 2,
         address: 0x40_0080,
         size: 7,
-        flags: 6,
+        flags: SHF_ALLOC | SHF_EXECINSTR,
         nobits: false,
         reversed: false,
         singleton: None,
@@ -253,7 +257,7 @@ fn refused(
 
 #[test]
 fn writes_the_smallest_executable(rt: HostRuntime) -> Result<(), Fail> {
-    let layout = layout(rt.alloc(), &[relocation(1, 2)])?;
+    let layout = layout(rt.alloc(), &[relocation(1, R_X86_64_PC32)])?;
     let image = write::<ElfX86_64>(&rt, rt.alloc(), &layout, 1)?;
     assert_eq!(rt; image.out.as_slice(), IMAGE.as_slice());
     assert_eq!(rt; image.counts.as_slice(), [0, 1, 0].as_slice());
@@ -262,9 +266,12 @@ fn writes_the_smallest_executable(rt: HostRuntime) -> Result<(), Fail> {
 
 #[test]
 fn tells_the_place_of_an_unknown_relocation(rt: HostRuntime) -> Result<(), Fail> {
-    let error = refused(&rt, rt.alloc(), &[relocation(1, 2), relocation(4, 99)])?.ok_or(
-        "no fault",
-    )?;
+    let error = refused(
+        &rt,
+        rt.alloc(),
+        &[relocation(1, R_X86_64_PC32), relocation(4, 99)],
+    )?
+    .ok_or("no fault")?;
     assert_eq!(rt; error.fault, Fault::UnsupportedRelocation { number: 99 });
     assert_eq!(rt;
         error.at,
@@ -280,7 +287,12 @@ fn tells_the_place_of_an_unknown_relocation(rt: HostRuntime) -> Result<(), Fail>
 
 #[test]
 fn tells_the_least_byte_of_two_fields(rt: HostRuntime) -> Result<(), Fail> {
-    let error = refused(&rt, rt.alloc(), &[relocation(0, 2), relocation(3, 2)])?.ok_or("no fault")?;
+    let error = refused(
+        &rt,
+        rt.alloc(),
+        &[relocation(0, R_X86_64_PC32), relocation(3, R_X86_64_PC32)],
+    )?
+    .ok_or("no fault")?;
     assert_eq!(rt; error.fault, Fault::OverlappingSites { byte: 3 });
     Ok(())
 }

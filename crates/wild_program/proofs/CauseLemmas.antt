@@ -1,9 +1,9 @@
 -- Each status has its cause.
-use Rattle.std.proofs.Common.{◌≡◌, ℕ, List, [], ◌∷◌, refl, sym, ap, ◌∙◌, inl, inr, String, Global}
+use Rattle.std.proofs.Common.{◌≡◌, ℕ, List, [], ◌∷◌, refl, inl, inr, String, Global}
 use Rattle.wild_plan.specs.declared.fault.Error.{Error}
 use Rattle.wild_plan.specs.declared.layout.Layout.{Layout}
 use Rattle.wild_layout.specs.Faults.{errors}
-use Rattle.wild_text.specs.Means.{Meaning, no_json, no_plan, plan}
+use Rattle.wild_text.specs.Means.{no_json, no_plan, plan}
 use Rattle.wild_program.specs.Program.{Answer, usage, read_fault, too_long, of_plan, status, text, errors_status, Turn, Told, IsDue, IsMeant, IsSaid, IsCutShort}
 use Rattle.wild_program.specs.Clauses.{HasItsCause}
 use Rattle.wild_program.proofs.Statuses.{clash}

@@ -1,8 +1,6 @@
 -- Where nothing fails, the words and the plan determine the answer.
-use Rattle.std.proofs.Common.{◌≡◌, ℕ, ◌<◌, ◌≤◌, List, [], length, Option, Some, sym, ap, ◌∙◌, subst, inl, inr, String, Global}
-use Rattle.wild_plan.specs.declared.layout.Layout.{Layout}
-use Rattle.wild_layout.specs.Faults.{errors}
-use Rattle.wild_text.specs.Means.{Meaning, no_json, no_plan, plan, Means}
+use Rattle.std.proofs.Common.{◌≡◌, ℕ, ◌<◌, ◌≤◌, List, length, Some, ap, ◌∙◌, subst, inl, inr, String, Global}
+use Rattle.wild_text.specs.Means.{Meaning, plan, Means}
 use Rattle.wild_program.specs.Program.{IsCommand, limit, Answer, usage, read_fault, too_long, of_plan, status, text, errors_status, Turn, Told, IsDue, IsSaid}
 use Rattle.wild_program.specs.Clauses.{IsCalm, IsWhole, IsDetermined, IsComplete}
 use Rattle.wild_program.specs.Steps.{IsAnsweredBy}

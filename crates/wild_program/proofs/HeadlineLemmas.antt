@@ -7,7 +7,7 @@ use Rattle.wild_plan.specs.declared.layout.Layout.{Layout}
 use Rattle.wild_layout.specs.Image.{bytes, counts}
 use Rattle.wild_layout.specs.Faults.{errors}
 use Rattle.wild_laws.specs.Laws.{ImagesAreSound}
-use Rattle.wild_text.specs.Means.{Meaning, no_json, no_plan, plan, Means}
+use Rattle.wild_text.specs.Means.{no_json, no_plan, plan, Means}
 use Rattle.wild_text.specs.Answer.{image_text}
 use Rattle.wild_text.specs.Laws.{PlansAreFixed}
 use Rattle.wild_text.specs.Plan.{fixed as fixed_output}

@@ -1,5 +1,5 @@
 -- The first fault is what is refused with.
-use Rattle.std.proofs.Common.{◌≡◌, ℕ, List, [], ◌∷◌, refl, sym, ap, ◌∙◌}
+use Rattle.std.proofs.Common.{◌≡◌, ℕ, List, [], ◌∷◌, refl, ap, ◌∙◌}
 use Rattle.wild_plan.specs.declared.fault.Error.{Error}
 use Rattle.wild_plan.specs.declared.fault.Fault.{Fault}
 use Rattle.wild_plan.specs.declared.fault.Fault.TheVariants as faults

@@ -5,12 +5,12 @@
 use Rattle.std.specs.Prelude.{◌≡◌, ℕ, ◌<◌, ◌≤◌, List, [], ◌∷◌, length, String, Some, ◌⊎◌, ◌++◌}
 use Rattle.std.specs.declared.alloc.Global.{Global}
 use Rattle.std.specs.Io.KnownBytes.{Appends}
-use Rattle.wild_outside.specs.Causes.{Rose, AppendsFront}
+use Rattle.wild_outside.specs.Causes.{Rose}
 use Rattle.wild_plan.specs.declared.fault.Error.{Error}
 use Rattle.wild_plan.specs.declared.layout.Layout.{Layout}
 use Rattle.wild_layout.specs.Faults.{errors}
 use Rattle.wild_text.specs.Means.{Meaning, no_json, no_plan, plan, Means}
-use Rattle.wild_program.specs.Program.{IsLink, IsCommand, limit, Turn, IsTooLong, IsMeant, IsUntouched, Told, IsCutShort, Answer, usage, too_long, of_plan, status, text, IsLinkedText}
+use Rattle.wild_program.specs.Program.{IsCommand, limit, Turn, IsTooLong, IsMeant, IsUntouched, Told, IsCutShort, Answer, usage, too_long, of_plan, status, text, IsLinkedText}
 
 -- no JSON, or the value stands for no layout
 abbrev pub IsNoPlan : Turn → Type 0

@@ -4,16 +4,15 @@
 #[cfg(test)]
 mod broken;
 mod program;
+mod status;
 #[cfg(test)]
 mod tests;
 
+use crate::status::NO_MEMORY;
 use std::alloc::{AllocError, Global};
 use std::process::ExitCode;
 use std::{env, io};
 use wild_outside::{Reading, Writing};
-
-/// The status where memory was refused; nothing is written then.
-const NO_MEMORY: u8 = 6;
 
 /// The words of the command line without the program's name; words that are no text are no words.
 fn words_of(alloc: Global, args: io::Result<env::Args<Global>>) -> Result<Vec<String>, AllocError> {

@@ -5,6 +5,7 @@ ghost use Rattle.wild_program.specs.Program.{IsLink, layout_status, layout_text,
 ghost use Rattle.wild_program.specs.Clauses.{HasItsCause, IsCalm, IsDetermined, IsComplete, IsHeadline};
 ghost use Rattle.wild_program.specs.Steps.{IsRefusal, IsAnswerOf, IsAnsweredBy};
 
+use crate::status::{CUT_SHORT, LINKED, NO_PLAN, READ_FAULT, REFUSED, TOO_LONG, USAGE};
 use serde_json::Value;
 use std::alloc::{AllocError, Global};
 use std::thread::Threads;
@@ -39,14 +40,14 @@ fn workers_of(alloc: Global, words: &[String]) -> Result<Option<u8>, AllocError>
     Ok(None)
 }
 
-/// Writes the text, and answers the status, or 5.
+/// Writes the text, and answers the status, or that a write failed.
 fn say<K: Sink>(sink: &mut K, answer: &[u8], code: u8) -> u8
     ensures { IsSaid (told (K.taken sink.old) (K.taken sink.new) (K.faults sink.old) (K.faults sink.new))
         code answer.now result }
 {
     match write_whole(sink, answer) {
         Ok(()) => code,
-        Err(_) => 5,
+        Err(_) => CUT_SHORT,
     }
 }
 
@@ -63,7 +64,7 @@ fn layout_answer(
     match write::<ElfX86_64>(rt, alloc, layout, workers) {
         Ok(made) => {
             let text = image_answer(alloc, made.out.as_slice(), made.counts.as_slice())?;
-            Ok((0, text))
+            Ok((LINKED, text))
         }
         Err(error) => refusal_of(alloc, error),
     }
@@ -77,7 +78,7 @@ fn refusal_of(alloc: Global, error: Error) -> Result<(u8, Vec<u8>), AllocError>
         Fault::OutOfMemory => Err(AllocError),
         _ => {
             let text = refusal_answer(alloc, error)?;
-            Ok((1, text.into_bytes()))
+            Ok((REFUSED, text.into_bytes()))
         }
     }
 }
@@ -97,7 +98,7 @@ fn plan_answer(
             if e.is_memory() {
                 return Err(AllocError);
             }
-            return Ok((3, b"not a plan: json\n".to_vec(alloc)?));
+            return Ok((NO_PLAN, b"not a plan: json\n".to_vec(alloc)?));
         }
     };
     let layout = match read_plan(alloc, &value) {
@@ -105,7 +106,7 @@ fn plan_answer(
         Err(PlanFault::OutOfMemory) => return Err(AllocError),
         Err(PlanFault::At(path)) => {
             let text = no_plan_answer(alloc, path.as_str())?;
-            return Ok((3, text.into_bytes()));
+            return Ok((NO_PLAN, text.into_bytes()));
         }
     };
     plans_are_fixed();
@@ -128,13 +129,13 @@ fn answered<S: Source, K: Sink>(
     ensures memory { OnErr result (K.taken sink.new ≡ K.taken sink.old) }
 {
     let Some(workers) = workers_of(alloc, words)? else {
-        return Ok(say(sink, b"usage: link W\n", 2));
+        return Ok(say(sink, b"usage: link W\n", USAGE));
     };
     let bytes = match read_whole(alloc, source, LIMIT) {
         Ok(bytes) => bytes,
         Err(ReadFault::Memory) => return Err(AllocError),
-        Err(ReadFault::Failed) => return Ok(say(sink, b"read fault\n", 4)),
-        Err(ReadFault::TooLong) => return Ok(say(sink, b"plan too long\n", 7)),
+        Err(ReadFault::Failed) => return Ok(say(sink, b"read fault\n", READ_FAULT)),
+        Err(ReadFault::TooLong) => return Ok(say(sink, b"plan too long\n", TOO_LONG)),
     };
     let (code, answer) = plan_answer(rt, alloc, &bytes, workers)?;
     Ok(say(sink, &answer, code))

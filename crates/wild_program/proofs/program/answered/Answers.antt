@@ -1,4 +1,3 @@
-use Rattle.std.proofs.Common.{◌≡◌}
 use Rattle.wild_program.specs.Program.{of_plan, IsLink}
 use Rattle.wild_program.proofs.program.answered.Goals as goal
 

@@ -1,4 +1,4 @@
-use Rattle.std.proofs.Common.{◌≡◌, sym, ◌∙◌, rules, arith, string_bytes, decimal, ap, Bool, not, bytes_eq, true, false}
+use Rattle.std.proofs.Common.{sym, ◌∙◌, arith, bytes_eq}
 use Rattle.std.specs.Prelude.{codes}
 use Rattle.std.proofs.lemmas.Slice.Eq.{bytes_eq-Decides}
 use Rattle.wild_program.proofs.TwoWords.{two_of, is_link, not_not}
