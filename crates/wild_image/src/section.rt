@@ -64,17 +64,16 @@ fn write_relocations<A: Arch>(
 }
 
 /// Refuses a section in which two relocations write one byte.
-fn check_overlap<A: Arch>(
+fn check_overlap(
     alloc: Global,
     layout: &Layout,
     place: InputPlace,
     section: &InputSection,
 ) -> Result<(), Error>
-    requires machine { layout.now.machine ≡ A.machine }
     requires lies { All (FieldLies layout.now.machine (length section.now.bytes)) section.now.relocations }
     ensures { Answers result (overlap_errors (at_section place.group place.file place.section) (first_shared (sites layout.now section.now) 0 (length section.now.bytes))) }
 {
-    match shared_byte::<A>(alloc, layout, section)? {
+    match shared_byte(alloc, layout, section)? {
         Some(byte) => Err(Error {
             fault: Fault::OverlappingSites { byte: byte as u64 },
             at: place.section(),
@@ -103,7 +102,7 @@ fn write_data<A: Arch>(
 {
     room.copy_from_slice(section.bytes.as_slice());
     write_relocations::<A>(layout, values, place, section, room)?;
-    check_overlap::<A>(alloc, layout, place, section)
+    check_overlap(alloc, layout, place, section)
 }
 
 /// The file offset of a section that owns bytes.

@@ -14,6 +14,7 @@ use Rattle.wild_text.specs.Plan.{fixed as fixed_output}
 use Rattle.wild_plan.specs.declared.kind.OutputKind.{OutputKind}
 use Rattle.wild_layout.specs.Numbers.{NumbersFit}
 use Rattle.wild_meaning.specs.World.{IsFixed}
+use Rattle.wild_program.specs.Exit as exit
 use Rattle.wild_program.specs.Program.{Answer, usage, read_fault, too_long, of_plan, status, text as text_of, errors_status, errors_text, layout_text, Turn, Told, IsDue, IsSaid, IsMeant, IsLinkedText}
 use Rattle.wild_program.specs.Clauses.{IsHeadline}
 use Rattle.wild_program.proofs.Statuses.{clash}
@@ -29,9 +30,9 @@ appended (Some ys) (Some zs) xs added text b a h =
     let after : zs ≡ xs ++ text = cc in
     append_cancel_left xs text added (sym after ∙ h ∙ ap (λ (ws : List ℕ). ws ++ added) before)
 
-no_errors : (es : List Error) (said : ℕ) → said ≡ 0 → said ≡ errors_status es → es ≡ []
+no_errors : (es : List Error) (said : ℕ) → said ≡ exit.linked → said ≡ errors_status es → es ≡ []
 no_errors [] said zero h = refl
-no_errors (e ∷ es) said zero h = clash 0 1 said refl zero h
+no_errors (e ∷ es) said zero h = clash exit.linked exit.refused said refl zero h
 
 fixed_kind : (l : Layout) → l.kind ≡ fixed_output → IsFixed l.kind
 fixed_kind l e = subst (λ (k : OutputKind). IsFixed k) (sym e) tt
@@ -48,11 +49,11 @@ image_of t l plan_bytes text sound fixed fits left meant none is =
 
 said_image : (t : Turn) (u : Told) (said : ℕ) (a : Answer) (words : List (String Global)) → ImagesAreSound → PlansAreFixed → AnswerFits a → IsDue words t a
     → said ≡ status a → Appends u.taken_before u.taken_after (text_of a) → IsHeadline t u said
-said_image t u said usage words sound fixed fits due h took plan_bytes before text zero left b a = clash 0 2 said refl zero h
-said_image t u said read_fault words sound fixed fits due h took plan_bytes before text zero left b a = clash 0 4 said refl zero h
-said_image t u said too_long words sound fixed fits due h took plan_bytes before text zero left b a = clash 0 7 said refl zero h
-said_image t u said (of_plan no_json) words sound fixed fits due h took plan_bytes before text zero left b a = clash 0 3 said refl zero h
-said_image t u said (of_plan (no_plan path)) words sound fixed fits due h took plan_bytes before text zero left b a = clash 0 3 said refl zero h
+said_image t u said usage words sound fixed fits due h took plan_bytes before text zero left b a = clash exit.linked exit.usage said refl zero h
+said_image t u said read_fault words sound fixed fits due h took plan_bytes before text zero left b a = clash exit.linked exit.read_fault said refl zero h
+said_image t u said too_long words sound fixed fits due h took plan_bytes before text zero left b a = clash exit.linked exit.too_long said refl zero h
+said_image t u said (of_plan no_json) words sound fixed fits due h took plan_bytes before text zero left b a = clash exit.linked exit.no_plan said refl zero h
+said_image t u said (of_plan (no_plan path)) words sound fixed fits due h took plan_bytes before text zero left b a = clash exit.linked exit.no_plan said refl zero h
 said_image t u said (of_plan (plan l)) words sound fixed fits due h took plan_bytes before text zero left b a =
     image_of t l plan_bytes text sound fixed fits left due.1 (no_errors (errors l) said zero h)
     (appended u.taken_before u.taken_after before (layout_text l) text b a took)
@@ -60,7 +61,7 @@ said_image t u said (of_plan (plan l)) words sound fixed fits due h took plan_by
 told_image : (t : Turn) (u : Told) (said : ℕ) (a : Answer) (words : List (String Global)) → ImagesAreSound → PlansAreFixed → AnswerFits a → IsDue words t a
     → IsSaid u (status a) (text_of a) said → IsHeadline t u said
 told_image t u said a words sound fixed fits due (inl h) = said_image t u said a words sound fixed fits due h.0 h.1
-told_image t u said a words sound fixed fits due (inr h) = λ plan_bytes before text zero left b c. clash 0 5 said refl zero h.0
+told_image t u said a words sound fixed fits due (inr h) = λ plan_bytes before text zero left b c. clash exit.linked exit.cut_short said refl zero h.0
 
 pub headline : (words : List (String Global)) (t : Turn) (u : Told) (said : ℕ) → ImagesAreSound → PlansAreFixed → IsAnsweredBy words t u said → IsHeadline t u said
 headline words t u said sound fixed h = told_image t u said h.answer words sound fixed h.fits h.due h.told_as

@@ -1,7 +1,7 @@
 -- What each status of the program says.
 --   HasItsCause words turn told said    each status comes only with its cause
 --   IsDetermined words turn told said   where no count rose, the words and the plan determine status and text
---   IsHeadline turn told said           the text of status 0 is that of a sound image
+--   IsHeadline turn told said           the text of an image that was written is that of a sound image
 use Rattle.std.specs.Prelude.{◌≡◌, ℕ, ◌<◌, ◌≤◌, List, [], ◌∷◌, length, String, Some, ◌⊎◌, ◌++◌}
 use Rattle.std.specs.declared.alloc.Global.{Global}
 use Rattle.std.specs.Io.KnownBytes.{Appends}
@@ -10,6 +10,7 @@ use Rattle.wild_plan.specs.declared.fault.Error.{Error}
 use Rattle.wild_plan.specs.declared.layout.Layout.{Layout}
 use Rattle.wild_layout.specs.Faults.{errors}
 use Rattle.wild_text.specs.Means.{Meaning, no_json, no_plan, plan, Means}
+use Rattle.wild_program.specs.Exit as exit
 use Rattle.wild_program.specs.Program.{IsCommand, limit, Turn, IsTooLong, IsMeant, IsUntouched, Told, IsCutShort, Answer, usage, too_long, of_plan, status, text, IsLinkedText}
 
 -- no JSON, or the value stands for no layout
@@ -22,13 +23,13 @@ HasErrors t es = (layout : Layout) × IsMeant t (plan layout) × (errors layout 
 
 -- each status comes only with its cause
 pub record HasItsCause (words : List (String Global)) (t : Turn) (u : Told) (said : ℕ) : Type 0 where
-  pub no_command : said ≡ 2 → (IsCommand words → ⊥) × IsUntouched t
-  pub read_fault : said ≡ 4 → Rose t.faults_before t.faults_after
-  pub too_long : said ≡ 7 → IsTooLong t
-  pub no_plan : said ≡ 3 → IsNoPlan t
-  pub refused : said ≡ 1 → (first : Error) × (others : List Error) × HasErrors t (first ∷ others)
-  pub linked : said ≡ 0 → HasErrors t []
-  pub cut_short : said ≡ 5 → (text : List ℕ) × IsCutShort u text
+  pub no_command : said ≡ exit.usage → (IsCommand words → ⊥) × IsUntouched t
+  pub read_fault : said ≡ exit.read_fault → Rose t.faults_before t.faults_after
+  pub too_long : said ≡ exit.too_long → IsTooLong t
+  pub no_plan : said ≡ exit.no_plan → IsNoPlan t
+  pub refused : said ≡ exit.refused → (first : Error) × (others : List Error) × HasErrors t (first ∷ others)
+  pub linked : said ≡ exit.linked → HasErrors t []
+  pub cut_short : said ≡ exit.cut_short → (text : List ℕ) × IsCutShort u text
 
 -- neither count rose
 pub record IsCalm (t : Turn) (u : Told) : Type 0 where
@@ -50,9 +51,9 @@ pub record IsDetermined (words : List (String Global)) (t : Turn) (u : Told) (sa
 -- where the words are a command, the plan is short and its layout has no faults, the image is answered
 abbrev pub IsComplete : List (String Global) → Turn → ℕ → Type 0
 IsComplete words t said = (whole : List ℕ) (layout : Layout) → IsCommand words → t.left_before ≡ Some whole → length whole ≤ limit
-    → Means whole (plan layout) → errors layout ≡ [] → said ≡ 0
+    → Means whole (plan layout) → errors layout ≡ [] → said ≡ exit.linked
 
--- with status 0, what was added is the text of an image that is what it owes the plan's layout
+-- where the image was written, what was added is the text of an image that is what it owes the plan's layout
 abbrev pub IsHeadline : Turn → Told → ℕ → Type 0
-IsHeadline t u said = (plan_bytes before text : List ℕ) → said ≡ 0 → t.left_before ≡ Some plan_bytes → u.taken_before ≡ Some before
+IsHeadline t u said = (plan_bytes before text : List ℕ) → said ≡ exit.linked → t.left_before ≡ Some plan_bytes → u.taken_before ≡ Some before
     → u.taken_after ≡ Some (before ++ text) → IsLinkedText plan_bytes text

@@ -14,6 +14,7 @@ use Rattle.wild_layout.specs.Faults.{errors}
 use Rattle.wild_meaning.specs.Linked.{IsSound}
 use Rattle.wild_text.specs.Means.{Meaning, no_json, no_plan, plan, Means}
 use Rattle.wild_text.specs.Answer.{image_text, refusal_text, no_plan_text}
+use Rattle.wild_program.specs.Exit as exit
 
 -- the words are `link` and a number of workers from 1 to 64, in decimal
 abbrev pub IsLink : List (String Global) → ℕ → Type 0
@@ -32,14 +33,14 @@ pub data Answer : Type 0 where
 
 -- of a layout with these faults
 abbrev pub errors_status : List Error → ℕ
-errors_status [] = 0
-errors_status (e ∷ es) = 1
+errors_status [] = exit.linked
+errors_status (e ∷ es) = exit.refused
 
 abbrev pub errors_text : Layout → List Error → List ℕ
 errors_text l [] = image_text (bytes l) (counts l)
 errors_text l (e ∷ es) = refusal_text e
 
--- 0 where the layout has no faults
+-- linked where the layout has no faults
 abbrev pub layout_status : Layout → ℕ
 layout_status l = errors_status (errors l)
 
@@ -48,11 +49,11 @@ abbrev pub layout_text : Layout → List ℕ
 layout_text l = errors_text l (errors l)
 
 abbrev pub status : Answer → ℕ
-status usage = 2
-status read_fault = 4
-status too_long = 7
-status (of_plan no_json) = 3
-status (of_plan (no_plan path)) = 3
+status usage = exit.usage
+status read_fault = exit.read_fault
+status too_long = exit.too_long
+status (of_plan no_json) = exit.no_plan
+status (of_plan (no_plan path)) = exit.no_plan
 status (of_plan (plan layout)) = layout_status layout
 
 abbrev pub text : Answer → List ℕ
@@ -118,9 +119,9 @@ pub record IsCutShort (t : Told) (text : List ℕ) : Type 0 where
   pub cause : Rose t.faults_before t.faults_after
   pub front : AppendsFront t.taken_before t.taken_after text
 
--- the whole text was taken and the status is the answer's; or the status is 5 and the text was cut short
+-- the whole text was taken and the status is the answer's; or a write failed and the text was cut short
 abbrev pub IsSaid : Told → ℕ → List ℕ → ℕ → Type 0
-IsSaid t status text said = ((said ≡ status) × Appends t.taken_before t.taken_after text) ⊎ ((said ≡ 5) × IsCutShort t text)
+IsSaid t status text said = ((said ≡ status) × Appends t.taken_before t.taken_after text) ⊎ ((said ≡ exit.cut_short) × IsCutShort t text)
 
 -- the status that was answered, with its cause and its text
 abbrev pub IsAnswered : List (String Global) → Turn → Told → ℕ → Type 0

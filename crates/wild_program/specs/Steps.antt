@@ -7,6 +7,7 @@ use Rattle.wild_layout.specs.Numbers.{NumbersFit}
 use Rattle.wild_text.specs.Answer.{refusal_text}
 use Rattle.wild_text.specs.Means.{Meaning, no_json, no_plan, plan, Means}
 use Rattle.wild_program.specs.Program.{Answer, usage, read_fault, too_long, of_plan, status, text, Turn, Told, IsDue, IsSaid}
+use Rattle.wild_program.specs.Exit as exit
 
 -- the numbers of a layout have their types' ranges
 abbrev pub MeaningFits : Meaning → Type 0
@@ -17,7 +18,7 @@ MeaningFits (plan layout) = NumbersFit layout
 -- the status and the text are those of a fault that is not want of memory
 pub record IsRefusal (error : Error) (code : ℕ) (answer : List ℕ) : Type 0 where
   pub known : error.fault ≡ OutOfMemory → ⊥
-  pub status_is : code ≡ 1
+  pub status_is : code ≡ exit.refused
   pub text_is : answer ≡ refusal_text error
 
 -- the status and the text are those of what the bytes stand for

@@ -1,6 +1,7 @@
 //! All that the program does, over any source and sink.
 ghost use Rattle.std.specs.Prelude.{◌≡◌, ◌≢◌, ℕ, IfOk, OnErr, MatchOption};
 ghost use Rattle.wild_plan.specs.declared.kind.Machine.TheVariants.{X86_64};
+ghost use Rattle.wild_program.specs.Exit.{read_fault, cut_short};
 ghost use Rattle.wild_program.specs.Program.{IsLink, layout_status, layout_text, turn, told, IsSaid, IsAnswered};
 ghost use Rattle.wild_program.specs.Clauses.{HasItsCause, IsCalm, IsDetermined, IsComplete, IsHeadline};
 ghost use Rattle.wild_program.specs.Steps.{IsRefusal, IsAnswerOf, IsAnsweredBy};
@@ -142,8 +143,7 @@ fn answered<S: Source, K: Sink>(
 }
 
 /// All that the program does: reads the plan that the words ask for, and writes the answer's text. The status is
-/// 0 for an image, 1 for a layout with a fault, 2 for words that are no command, 3 for bytes that are no plan, 4
-/// for a read that failed, 5 for a write that failed, 7 for a plan that is too long.
+/// one of those of `status`.
 pub fn run<S: Source, K: Sink>(
     rt: &impl Threads,
     alloc: Global,
@@ -155,7 +155,7 @@ pub fn run<S: Source, K: Sink>(
     ensures answer { IfOk result (λ said. IsAnswered words.now
         (turn (S.left source.old) (S.left source.new) (S.faults source.old) (S.faults source.new))
         (told (K.taken sink.old) (K.taken sink.new) (K.faults sink.old) (K.faults sink.new)) said) }
-    // Where status 0 is answered, the text is that of an image that the loader accepts in every legal world, with
+    // Where an image is written, the text is that of an image that the loader accepts in every legal world, with
     // each kept reference as its relocation demands.
     ensures headline { IfOk result (λ said. IsHeadline
         (turn (S.left source.old) (S.left source.new) (S.faults source.old) (S.faults source.new))
@@ -193,8 +193,8 @@ pub fn run_surely(
     source: &mut SureSource,
     sink: &mut SureSink,
 ) -> Result<u8, AllocError>
-    ensures read { IfOk result (λ said. said ≢ 4) }
-    ensures written { IfOk result (λ said. said ≢ 5) }
+    ensures read { IfOk result (λ said. said ≢ read_fault) }
+    ensures written { IfOk result (λ said. said ≢ cut_short) }
 {
     run(rt, alloc, words, source, sink)
 }

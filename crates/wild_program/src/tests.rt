@@ -144,7 +144,7 @@ fn no_plans(rt: HostRuntime) -> Result<(), Fail> {
 const NO_CODE: &str =
     r#"{"machine":"x86_64","kind":"static","options":{"relax":true,"strip_all":true},"page_size":4096,"parts":[{"role":"file_header","size":64,"address":4194304,"align":8},{"role":"program_headers","offset":64,"address":4194368,"align":8},{"role":"shstrtab","section":1,"offset":64,"size":11},{"role":"section_headers","offset":80,"size":128,"align":8}],"sections":[{},{"name":"2e7368737472746162","kind":3,"offset":64,"size":11,"align":1}],"groups":[{"files":[{"role":"prelude"},{"role":"epilogue"}],"part_sizes":[64,0,11,128]}],"entry":{"address":4194432}}"#;
 
-/// Computed from the definitions by a reader who had not seen the writer.
+/// Computed by hand from the definitions.
 const NO_CODE_TEXT: &str = "image 208
 7f454c4602010100000000000000000002003e00010000008000400000000000
 4000000000000000500000000000000000000000400038000000400002000100
