@@ -142,8 +142,10 @@ fn answered<S: Source, K: Sink>(
     Ok(say(sink, &answer, code))
 }
 
-/// All that the program does: reads the plan that the words ask for, and writes the answer's text. The status is
-/// one of those of `status`.
+/// All that the program does: reads the plan that the words ask for, and writes the answer's text. The status is 0
+/// (`LINKED`) for an image, 1 (`REFUSED`) for a layout with a fault, 2 (`USAGE`) for words that are no command, 3
+/// (`NO_PLAN`) for bytes that are no plan, 4 (`READ_FAULT`) for a read that failed, 5 (`CUT_SHORT`) for a write that
+/// failed, 7 (`TOO_LONG`) for a plan that is too long.
 pub fn run<S: Source, K: Sink>(
     rt: &impl Threads,
     alloc: Global,
