@@ -17,6 +17,6 @@ pub mod x86_64;
 pub use dynamic::DynamicRelocationKind;
 pub use info::{OutOfRange, PageMask, RelocationKind, RelocationKindInfo, RelocationSize, Width};
 pub use instruction::{AArch64Instruction, BitMask};
-pub use laws::{fields_of_aarch64, fields_of_x86_64, widths_of_fields};
+pub use laws::{fields_of_aarch64, fields_of_x86_64, rows_have_no_bias, widths_of_fields};
 pub use names::{DisplayRelocation, RelName};
 pub use range::{AllowedRange, Sign};
