@@ -16,6 +16,9 @@ mod tests;
 mod work;
 
 pub use gathering::{Gathered, gather};
+pub use hand::{Hand, Shape};
 pub use job::{Counted, Gate, Job, OpenGate};
 pub use per_worker::PerWorker;
+pub use rule::{Law, View};
 pub use steps::{Core, Step, every_run_is_kept};
+pub use work::{Board, Crew, Token, claim, count, join_in, split};

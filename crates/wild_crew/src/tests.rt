@@ -117,6 +117,69 @@ fn gathers_the_same_for_each_number_of_workers(rt: HostRuntime) -> Result<(), Fa
     Ok(())
 }
 
+// How often each group of three was entered, and how often it was run.
+#[derive(Drop)]
+struct Marks {
+    entered: [AtomicU64; 3],
+    ran: [AtomicU64; 3],
+}
+
+impl Gate for Marks {
+    fn enter(&self, group: u32) {
+        if let Some(mark) = self.entered.get(group as usize) {
+            mark.fetch_add(1, Ordering::SeqCst);
+        }
+    }
+}
+
+impl Job<Reads> for Marks {
+    ghost use Rattle.std.specs.Prelude.{◌≡◌, [], ◌∷◌};
+    ghost use Rattle.wild_crew.specs.Worked.{read_by};
+
+    ghost number = { λ _. 3 };
+
+    ghost gives = { λ _ g p. p.group ≡ g };
+
+    ghost counts_of = { λ _ g. (1, read_by g) ∷ [] };
+
+    fn groups(&self) -> u32 {
+        3
+    }
+
+    fn run(&self, group: u32) -> Result<Reads, AllocError> {
+        self.ran[group as usize].fetch_add(1, Ordering::SeqCst);
+        Three.run(group)
+    }
+}
+
+fn no_marks() -> [AtomicU64; 3] {
+    [AtomicU64::new(0), AtomicU64::new(0), AtomicU64::new(0)]
+}
+
+#[test]
+fn each_group_is_entered_and_run_once(rt: HostRuntime) -> Result<(), Fail> {
+    for workers in [1, 2, 64] {
+        let marks = Marks {
+            entered: no_marks(),
+            ran: no_marks(),
+        };
+        gather(&rt, rt.alloc(), &marks, 2, workers, &marks)?;
+        for group in 0..3usize {
+            assert_eq!(rt;
+                marks.entered[group].load(Ordering::SeqCst),
+                1,
+                "gate of {group}"
+            );
+            assert_eq!(rt;
+                marks.ran[group].load(Ordering::SeqCst),
+                1,
+                "runs of {group}"
+            );
+        }
+    }
+    Ok(())
+}
+
 #[test]
 fn steps_of_two_workers(rt: HostRuntime) -> Result<(), Fail> {
     let mut core = Core::new(rt.alloc(), 2, 1)?;
