@@ -1,0 +1,83 @@
+-- Clause 6: where segments stand, and which bytes of a section they load (gABI, "Program Header").
+--   has_byte side s a g           the segment loads the byte of the section with address a
+--   bytes_are_loaded side gs s    each byte of the section that is to lie in a segment lies in one
+use Rattle.std.specs.Prelude.{ℕ, zero, suc, ◌+◌, ◌%◌, ◌==◌, Bool, true, not, ◌&&◌, ◌||◌, if◌then◌else◌, nat_lt, nat_le, List, [], ◌∷◌, Option, Some, None}
+use Rattle.std.specs.List.{list_any}
+use Rattle.wild_records.specs.Abi.Section.{sht_nobits, sht_rela}
+use Rattle.wild_records.specs.Abi.Segment.{pt_load, pt_dynamic}
+use Rattle.wild_plan.specs.declared.section.Section.{Section}
+use Rattle.wild_plan.specs.declared.section.Segment.{Segment}
+use Rattle.wild_plan.specs.declared.section.Side.{Side}
+use Rattle.wild_plan.specs.declared.section.Side.TheVariants as side
+use Rattle.wild_plan.specs.Lookups.{allocated, thread_local}
+
+-- ---- the order
+
+abbrev pub congruent : ℕ → ℕ → ℕ → Bool
+congruent page a b = not (page == 0) && a % page == b % page
+
+-- the segment begins at end or behind it, has no less memory than file bytes, and its address and offset agree
+-- within a page
+abbrev pub stands_behind : ℕ → ℕ → Segment → Bool
+stands_behind page end g = nat_le end g.address && nat_le g.file_size g.mem_size && congruent page g.address g.offset
+
+-- the first loaded segment that does not stand behind the one before it
+abbrev pub segment_out_of_order : ℕ → ℕ → ℕ → List Segment → Option ℕ
+segment_out_of_order page i end [] = None
+segment_out_of_order page i end (g ∷ gs) =
+    if g.kind == pt_load
+    then (if stands_behind page end g then segment_out_of_order page (i + 1) (g.address + g.mem_size) gs else Some i)
+    else segment_out_of_order page (i + 1) end gs
+
+-- ---- the bytes of sections
+
+-- how many bytes the segment has in memory, or in the file
+abbrev pub size_on : Side → Segment → ℕ
+size_on side.Memory g = g.mem_size
+size_on side.File g = g.file_size
+
+-- the section's file bytes are as far from the segment's as its addresses are
+abbrev pub at_equal_distance : Section → Segment → Bool
+at_equal_distance s g = s.offset + g.address == s.address + g.offset
+
+-- address a lies in the loaded segment, at equal distance in file and memory where the section has file bytes
+abbrev pub has_byte : Side → Section → ℕ → Segment → Bool
+has_byte on s a g = g.kind == pt_load && (nat_le g.address a && nat_lt a (g.address + size_on on g)) && (s.kind == sht_nobits || at_equal_distance s g)
+
+-- an allocated section, other than thread-local ones without data
+abbrev pub is_to_load : Section → Bool
+is_to_load s = allocated s.flags && not (thread_local s.flags && s.kind == sht_nobits)
+
+-- an allocated section with data
+abbrev pub has_file_bytes : Section → Bool
+has_file_bytes s = allocated s.flags && not (s.kind == sht_nobits)
+
+-- the section's bytes are to lie in memory, or among the file bytes of segments
+abbrev pub is_asked : Side → Section → Bool
+is_asked side.Memory s = is_to_load s
+is_asked side.File s = has_file_bytes s
+
+-- every number below n passes
+abbrev pub all_below : (ℕ → Bool) → ℕ → Bool
+all_below test zero = true
+all_below test (suc n) = test n && all_below test n
+
+-- each byte of the section that is to lie in a segment lies in one
+abbrev pub bytes_are_loaded : Side → List Segment → Section → Bool
+bytes_are_loaded on segments s = not (is_asked on s) || all_below (λ k. list_any (has_byte on s (s.address + k)) segments) s.size
+
+-- ---- other tests
+
+abbrev pub leaves_zero_free : Segment → Bool
+leaves_zero_free g = not (g.kind == pt_load && g.address == 0 && not (g.mem_size == 0))
+
+abbrev pub segment_in_image : ℕ → Segment → Bool
+segment_in_image size g = nat_le (g.offset + g.file_size) size
+
+-- no part "dynamic" is there, so no segment PT_DYNAMIC is
+abbrev pub is_not_dynamic : Segment → Bool
+is_not_dynamic g = not (g.kind == pt_dynamic)
+
+-- no relocation part is there, so no allocated section of type SHT_RELA has bytes
+abbrev pub has_no_entries : Section → Bool
+has_no_entries s = not (allocated s.flags && s.kind == sht_rela && not (s.size == 0))
