@@ -1,21 +1,35 @@
 //! A model of the loader and of the processor: what an image is in memory, and what its code does.
 #![tactic(auto)]
 
+mod answers;
+mod change;
 mod effect;
 mod fault;
 mod headers;
 mod image;
+mod index;
+mod kind;
 mod laws;
 mod memory;
+mod places;
+mod relocate;
+mod runs;
 mod segments;
 mod tables;
 #[cfg(test)]
 mod tests;
 mod world;
 
+pub use change::{Change, Patch};
 pub use effect::{Effect, EffectKind, step_x86_64};
 pub use fault::LoadFault;
 pub use image::load_image;
-pub use laws::{bytes_are_loaded, calls_are_read, images_are_loaded, numbers_are_read};
+pub use kind::DynamicKind;
+pub use laws::{
+    bytes_are_loaded, calls_are_read, dynamic_images_are_loaded, entries_make_changes,
+    linked_images_are_loaded, numbers_are_read, parts_are_put, relative_tables_are_applied,
+    relocated_tables_are_applied, static_images_are_loaded, tables_are_applied, words_are_places,
+};
 pub use memory::{Machine, Memory, Run};
+pub use tables::{Span, Tables};
 pub use world::{Answer, World};

@@ -2,7 +2,17 @@
 use super::*;
 use std::alloc::Global;
 use std::test::*;
-use wild_words::Items;
+use wild_records::abi::dynamic::{DT_JMPREL, DT_PLTRELSZ, DT_RELA, DT_RELASZ, DT_RELR, DT_RELRSZ};
+use wild_records::abi::header::{ELFCLASS64, ELFDATA2LSB, ELFMAG, EM_AARCH64, EM_X86_64, ET_DYN};
+use wild_records::abi::relocation::{
+    R_AARCH64_GLOB_DAT, R_AARCH64_JUMP_SLOT, R_AARCH64_RELATIVE, R_AARCH64_TLSDESC, R_X86_64_64,
+    R_X86_64_COPY, R_X86_64_DTPMOD64, R_X86_64_DTPOFF64, R_X86_64_GLOB_DAT, R_X86_64_IRELATIVE,
+    R_X86_64_JUMP_SLOT, R_X86_64_NONE, R_X86_64_RELATIVE, R_X86_64_SIZE32, R_X86_64_SIZE64,
+    R_X86_64_TLSDESC, R_X86_64_TPOFF64,
+};
+use wild_records::abi::segment::{PT_DYNAMIC, PT_LOAD};
+use wild_records::{DynamicEntry, FileHeader, ProgramHeader, Rela, Relr};
+use wild_words::{Bytes, Items};
 
 /// A fixed x86-64 executable: a call and two returns at 0x400080, loaded with the headers before them.
 const IMAGE: &[u8] = b"\x7fELF\x02\x01\x01\0\0\0\0\0\0\0\0\0\x02\0>\0\x01\0\0\0\x80\0@\0\0\0\0\0\
@@ -151,17 +161,6 @@ fn overlap(rt: HostRuntime) -> Result<(), Fail> {
 }
 
 #[test]
-fn tables(rt: HostRuntime) -> Result<(), Fail> {
-    let table = LoadFault::NoTable { tag: 0 };
-    // PT_DYNAMIC, and an allocated SHT_RELA; then one that is not allocated, and an empty one.
-    assert_eq!(rt; fault_of(&rt, &[(64, 2)])?, Some(table));
-    assert_eq!(rt; fault_of(&rt, &[(220, 4)])?, Some(table));
-    assert_eq!(rt; fault_of(&rt, &[(220, 4), (224, 4)])?, None);
-    assert_eq!(rt; fault_of(&rt, &[(220, 4), (248, 0)])?, None);
-    Ok(())
-}
-
-#[test]
 fn out_of_memory(rt: HostRuntime) -> Result<(), Fail> {
     // A memory size of more than 2^62 bytes.
     assert_eq!(rt;
@@ -171,10 +170,386 @@ fn out_of_memory(rt: HostRuntime) -> Result<(), Fail> {
     Ok(())
 }
 
+/// The headers of an image that is loaded from address 0 on, with bytes behind those of the file, and whose dynamic
+/// section stands at 0xb0.
+fn append_headers(image: &mut Vec<u8>, machine: u16) -> Result<(), Fail> {
+    let header = FileHeader {
+        magic: ELFMAG,
+        class: ELFCLASS64,
+        encoding: ELFDATA2LSB,
+        ident_version: 1,
+        os_abi: 0,
+        abi_version: 0,
+        file_type: ET_DYN,
+        machine,
+        version: 1,
+        entry: 0,
+        program_offset: 64,
+        section_offset: 0,
+        flags: 0,
+        header_size: 64,
+        program_entry_size: 56,
+        program_count: 2,
+        section_entry_size: 64,
+        section_count: 0,
+        name_table: 0,
+    };
+    let mut slot = [0; 64];
+    header.put(&mut slot);
+    image.extend_from_slice(&slot)?;
+    for (kind, place, file_size, mem_size) in [
+        (PT_LOAD, 0, 0x500, 0x600),
+        (PT_DYNAMIC, 0xb0, 0x90, 0x90),
+    ] {
+        let segment = ProgramHeader {
+            kind,
+            flags: 6,
+            offset: place,
+            address: place,
+            physical: place,
+            file_size,
+            mem_size,
+            align: 8,
+        };
+        let mut slot = [0; 56];
+        segment.put(&mut slot);
+        image.extend_from_slice(&slot)?;
+    }
+    Ok(())
+}
+
+/// Such an image: words of packed relative relocations at 0x140, entries with addends at 0x180, and from 0x400 on the
+/// 8-byte numbers from 0 to 31.
+fn dynamic_image(
+    alloc: Global,
+    machine: u16,
+    tags: &[(u64, u64)],
+    words: &[u64],
+    entries: &[Rela],
+) -> Result<Vec<u8>, Fail> {
+    let mut image = Vec::new(alloc);
+    append_headers(&mut image, machine)?;
+    for (tag, value) in tags {
+        let mut slot = [0; 16];
+        let entry = DynamicEntry {
+            tag: *tag,
+            value: *value,
+        };
+        entry.put(&mut slot);
+        image.extend_from_slice(&slot)?;
+    }
+    image.resize(0x140, 0)?;
+    for word in words {
+        let mut slot = [0; 8];
+        Relr { entry: *word }.put(&mut slot);
+        image.extend_from_slice(&slot)?;
+    }
+    image.resize(0x180, 0)?;
+    for entry in entries {
+        let mut slot = [0; 24];
+        entry.put(&mut slot);
+        image.extend_from_slice(&slot)?;
+    }
+    image.resize(0x400, 0)?;
+    for number in 0..32u8 {
+        image.extend_from_slice(&[number, 0, 0, 0, 0, 0, 0, 0])?;
+    }
+    Ok(image)
+}
+
+/// The tags of both tables; their sizes are those of two words and of three entries.
+const BOTH: &[(u64, u64)] = &[
+    (DT_RELR, 0x140),
+    (DT_RELRSZ, 16),
+    (DT_RELA, 0x180),
+    (DT_RELASZ, 72),
+];
+
+fn entry(offset: u64, number: u32, symbol: u32, addend: i64) -> Rela {
+    Rela {
+        offset,
+        number,
+        symbol,
+        addend,
+    }
+}
+
+/// A world with an answer for symbol 1, a resolver and two modules.
+fn full_world(alloc: Global, base: u64) -> Result<World, Fail> {
+    let mut world = world_at(alloc, base);
+    for address in [0, 0x7000] {
+        let answer = Answer {
+            address,
+            module: 2,
+            offset: 0x30,
+            size: 3,
+            bytes: Bytes::from_vec(b"abc".to_vec(alloc)?),
+        };
+        world.symbols.push(answer).ok().ok_or("memory")?;
+    }
+    world
+        .resolvers
+        .push((0x10020, 0x9999))
+        .ok()
+        .ok_or("memory")?;
+    world.modules.push((2, -0x40)).ok().ok_or("memory")?;
+    world.modules.push((1, -0x80)).ok().ok_or("memory")?;
+    Ok(world)
+}
+
+/// What an image with a table of three entries with addends is in a full world at base 0x10000.
+fn loaded(
+    rt: &HostRuntime,
+    machine: u16,
+    entries: [Rela; 3],
+) -> Result<Result<Memory, LoadFault>, Fail> {
+    let alloc = rt.alloc();
+    let tags = &[(DT_RELA, 0x180), (DT_RELASZ, 72)];
+    let image = dynamic_image(alloc, machine, tags, &[], &entries)?;
+    Ok(load_image(alloc, image.as_slice(), &full_world(alloc, 0x10000)?))
+}
+
 #[test]
-fn headers_that_are_laid_out_are_loaded() {
-    images_are_loaded();
+fn packed_and_relative(rt: HostRuntime) -> Result<(), Fail> {
+    let alloc = rt.alloc();
+    // The place 0x400, then bits 1 and 3 of a bitmap from 0x408 on.
+    let words = &[0x400, 0b1011];
+    let entries = &[
+        entry(0x440, R_X86_64_RELATIVE, 0, 0x123),
+        entry(0x448, R_X86_64_RELATIVE, 0, -1),
+        entry(0x450, R_X86_64_RELATIVE, 0, 0),
+    ];
+    let image = dynamic_image(alloc, EM_X86_64, BOTH, words, entries)?;
+    let memory = load_image(alloc, image.as_slice(), &world_at(alloc, 0x10000))
+        .ok()
+        .ok_or("refused")?;
+    let wanted = [
+        (0x10400, 0x10000),
+        (0x10408, 0x10001),
+        (0x10410, 2),
+        (0x10418, 0x10003),
+        (0x10420, 4),
+        (0x10440, 0x10123),
+        (0x10448, 0xffff),
+        (0x10450, 0x10000),
+        (0x10458, 11),
+        (0x10500, 0),
+        (0x105f8, 0),
+    ];
+    for (address, word) in wanted {
+        assert_eq!(rt; memory.word(address), Some(word), "at {address}");
+    }
+    assert_eq!(rt; memory.word(0x105f9), None);
+    Ok(())
+}
+
+#[test]
+fn x86_64_entries(rt: HostRuntime) -> Result<(), Fail> {
+    // 64, GLOB_DAT, JUMP_SLOT; IRELATIVE, DTPMOD64 with and without a symbol; DTPOFF64, TPOFF64 with and without a
+    // symbol; SIZE32, SIZE64, COPY.
+    let cases = [
+        (
+            [
+                entry(0x400, R_X86_64_64, 1, 5),
+                entry(0x408, R_X86_64_GLOB_DAT, 1, 5),
+                entry(0x410, R_X86_64_JUMP_SLOT, 1, 5),
+            ],
+            [0x7005, 0x7000, 0x7000],
+        ),
+        (
+            [
+                entry(0x400, R_X86_64_IRELATIVE, 0, 0x20),
+                entry(0x408, R_X86_64_DTPMOD64, 1, 0),
+                entry(0x410, R_X86_64_DTPMOD64, 0, 0),
+            ],
+            [0x9999, 2, 1],
+        ),
+        (
+            [
+                entry(0x400, R_X86_64_DTPOFF64, 1, 2),
+                entry(0x408, R_X86_64_TPOFF64, 1, 2),
+                entry(0x410, R_X86_64_TPOFF64, 0, 2),
+            ],
+            [0x32, 0xffff_ffff_ffff_fff2, 0xffff_ffff_ffff_ff82],
+        ),
+        (
+            [
+                entry(0x404, R_X86_64_SIZE32, 1, 1),
+                entry(0x408, R_X86_64_SIZE64, 1, 1),
+                entry(0x411, R_X86_64_COPY, 1, 0),
+            ],
+            [0x4_0000_0000, 4, 0x6362_6102],
+        ),
+    ];
+    for (entries, words) in cases {
+        let memory = loaded(&rt, EM_X86_64, entries)?.ok().ok_or("refused")?;
+        let [first, second, third] = words;
+        assert_eq!(rt; memory.word(0x10400), Some(first));
+        assert_eq!(rt; memory.word(0x10408), Some(second));
+        assert_eq!(rt; memory.word(0x10410), Some(third));
+    }
+    Ok(())
+}
+
+#[test]
+fn aarch64_entries(rt: HostRuntime) -> Result<(), Fail> {
+    // GLOB_DAT and JUMP_SLOT with addends, and a descriptor.
+    let entries = [
+        entry(0x400, R_AARCH64_GLOB_DAT, 1, 5),
+        entry(0x408, R_AARCH64_JUMP_SLOT, 1, 6),
+        entry(0x410, R_AARCH64_TLSDESC, 1, 2),
+    ];
+    let memory = loaded(&rt, EM_AARCH64, entries)?.ok().ok_or("refused")?;
+    assert_eq!(rt; memory.machine, Machine::AArch64);
+    assert_eq!(rt; memory.word(0x10400), Some(0x7005));
+    assert_eq!(rt; memory.word(0x10408), Some(0x7006));
+    assert_eq!(rt; memory.word(0x10410), Some(2));
+    assert_eq!(rt; memory.descriptor_at(0x10410), Some(0xffff_ffff_ffff_fff2));
+    assert_eq!(rt; memory.descriptor_at(0x10418), None);
+    Ok(())
+}
+
+#[test]
+fn refused_entries(rt: HostRuntime) -> Result<(), Fail> {
+    let last = entry(0x410, R_X86_64_RELATIVE, 0, 0);
+    let cases = [
+        (
+            [entry(0x400, R_X86_64_NONE, 0, 0), last, last],
+            LoadFault::UnknownDynamic {
+                number: R_X86_64_NONE,
+            },
+        ),
+        (
+            [entry(0x400, R_AARCH64_RELATIVE, 0, 0), last, last],
+            LoadFault::UnknownDynamic {
+                number: R_AARCH64_RELATIVE,
+            },
+        ),
+        (
+            [entry(0x400, R_X86_64_GLOB_DAT, 2, 0), last, last],
+            LoadFault::UnknownSymbol { index: 2 },
+        ),
+        (
+            [entry(0x400, R_X86_64_IRELATIVE, 0, 0), last, last],
+            LoadFault::NoAnswer { value: 0x10000 },
+        ),
+        (
+            [entry(0x5f9, R_X86_64_RELATIVE, 0, 0), last, last],
+            LoadFault::Unloaded { address: 0x10600 },
+        ),
+        (
+            [
+                entry(0x5f8, R_X86_64_RELATIVE, 0, 0),
+                entry(0x409, R_X86_64_RELATIVE, 0, 0),
+                last,
+            ],
+            LoadFault::Overlap { address: 0x10410 },
+        ),
+        // A descriptor takes 16 bytes.
+        (
+            [
+                entry(0x401, R_X86_64_TLSDESC, 0, 0),
+                entry(0x418, R_X86_64_RELATIVE, 0, 0),
+                last,
+            ],
+            LoadFault::Overlap { address: 0x10410 },
+        ),
+    ];
+    for (entries, fault) in cases {
+        assert_eq!(rt; loaded(&rt, EM_X86_64, entries)?.err(), Some(fault));
+    }
+    Ok(())
+}
+
+#[test]
+fn refused_tables(rt: HostRuntime) -> Result<(), Fail> {
+    let alloc = rt.alloc();
+    let cases: [(&[(u64, u64)], LoadFault); 6] = [
+        (&[(DT_RELA, 0x180)], LoadFault::NoTable { tag: DT_RELA }),
+        (
+            &[(DT_PLTRELSZ, 24)],
+            LoadFault::NoTable { tag: DT_PLTRELSZ },
+        ),
+        // The size stands behind the end of the entries.
+        (
+            &[(DT_RELR, 0x140), (0, 0), (DT_RELRSZ, 8)],
+            LoadFault::NoTable { tag: DT_RELR },
+        ),
+        (
+            &[(DT_RELR, 0x4f9), (DT_RELRSZ, 8)],
+            LoadFault::Cut { offset: 0x4f9 },
+        ),
+        (
+            &[(DT_RELR, 0x600), (DT_RELRSZ, 8)],
+            LoadFault::Cut { offset: 0x600 },
+        ),
+        // A place of RELR is a place of RELA.
+        (BOTH, LoadFault::Overlap { address: 0x10404 }),
+    ];
+    let entries = &[
+        entry(0x404, R_X86_64_RELATIVE, 0, 0),
+        entry(0x418, R_X86_64_RELATIVE, 0, 0),
+        entry(0x420, R_X86_64_RELATIVE, 0, 0),
+    ];
+    for (tags, fault) in cases {
+        let image = dynamic_image(alloc, EM_X86_64, tags, &[0x400, 1], entries)?;
+        let found = load_image(alloc, image.as_slice(), &world_at(alloc, 0x10000)).err();
+        assert_eq!(rt; found, Some(fault));
+    }
+    Ok(())
+}
+
+/// Tables of size 0 are none, wherever they are said to stand; of several tags of one kind the first counts.
+#[test]
+fn empty_tables(rt: HostRuntime) -> Result<(), Fail> {
+    let alloc = rt.alloc();
+    let tags = &[
+        (DT_RELR, 0x9999),
+        (DT_RELRSZ, 0),
+        (DT_JMPREL, 0u64.wrapping_sub(8)),
+        (DT_PLTRELSZ, 0),
+        (DT_RELA, 0x180),
+        (DT_RELASZ, 24),
+        (DT_RELASZ, 0x9999),
+        (DT_RELA, 0x9999),
+    ];
+    let entries = &[entry(0x400, R_X86_64_RELATIVE, 0, 5)];
+    let image = dynamic_image(alloc, EM_X86_64, tags, &[], entries)?;
+    let memory = load_image(alloc, image.as_slice(), &world_at(alloc, 0x10000))
+        .ok()
+        .ok_or("refused")?;
+    assert_eq!(rt; memory.word(0x10400), Some(0x10005));
+    assert_eq!(rt; memory.word(0x10408), Some(1));
+    Ok(())
+}
+
+/// An allocated section of entries, without a dynamic section.
+#[test]
+fn section_tables(rt: HostRuntime) -> Result<(), Fail> {
+    // The section has its 7 bytes at 0x80: no whole entry. Then 24 bytes, of the number `.tex`.
+    assert_eq!(rt; fault_of(&rt, &[(220, 4)])?, None);
+    let found = fault_of(&rt, &[(220, 4), (248, 24)])?;
+    assert_eq!(rt;
+        found,
+        Some(LoadFault::UnknownDynamic {
+            number: 0x7865_742e
+        })
+    );
+    Ok(())
+}
+
+#[test]
+fn laws_are_there() {
+    dynamic_images_are_loaded();
+    static_images_are_loaded();
+    linked_images_are_loaded();
+    relative_tables_are_applied();
     bytes_are_loaded();
+    words_are_places();
+    entries_make_changes();
+    parts_are_put();
+    tables_are_applied();
+    relocated_tables_are_applied();
     numbers_are_read();
     calls_are_read();
 }

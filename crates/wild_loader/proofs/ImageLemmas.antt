@@ -1,0 +1,161 @@
+-- An image whose headers and tables stand in it is its segments with the tables applied.
+use Rattle.std.proofs.Common.{◌≡◌, ℕ, ◌<◌, inl, inr, true, false, List, [], ◌∷◌, length, refl, arith, ◌/◌, ◌%◌, get_or, ◌∙◌}
+use Rattle.std.specs.Prelude.{All, not, ◌&&◌, ◌==◌, nat_le, None, Ok}
+use Rattle.std.proofs.lemmas.List.Elements.{All-head, All-tail}
+use Rattle.wild_records.specs.Abi.Section.{sht_rela, shf_alloc}
+use Rattle.wild_records.specs.Abi.Segment.{pt_dynamic}
+use Rattle.wild_loader.specs.declared.memory.Machine.{Machine}
+use Rattle.wild_loader.specs.declared.memory.Run.{Run}
+use Rattle.wild_loader.specs.Memory.{memory_of}
+use Rattle.wild_loader.specs.Places.{places_from}
+use Rattle.wild_words.specs.Extents.{least_extent}
+use Rattle.wild_loader.specs.Runs.{overlaid}
+use Rattle.std.specs.List.{flat_map}
+use Rattle.std.proofs.lemmas.Bool.{cases_Bool, le-leb, ne_eqb, eqb-true, eqb-false, eq-eqb, and_parts, both_ways, not-true}
+use Rattle.wild_words.specs.Words.{Stands}
+use Rattle.wild_words.specs.Record.{spell}
+use Rattle.wild_words.proofs.RecordLemmas.{length-spell}
+use Rattle.wild_records.specs.Dynamic.{DynamicEntryIsRead}
+use Rattle.wild_records.specs.FileHeader.{file_header_fields, file_header_at, FileHeaderIsRead, file_header_size}
+use Rattle.wild_records.specs.ProgramHeader.{program_header_size, ProgramHeaderIsRead}
+use Rattle.wild_records.specs.Relocations.{RelaIsRead, RelrIsRead}
+use Rattle.wild_records.specs.SectionHeader.{section_header_size, section_header_at, SectionHeaderFits, SectionHeaderIsRead}
+use Rattle.wild_records.specs.declared.dynamic.DynamicEntry.{DynamicEntry}
+use Rattle.wild_records.specs.declared.file_header.FileHeader.{FileHeader}
+use Rattle.wild_records.specs.declared.program_header.ProgramHeader.{ProgramHeader}
+use Rattle.wild_records.specs.declared.relocations.Rela.{Rela}
+use Rattle.wild_records.specs.declared.section_header.SectionHeader.{SectionHeader}
+use Rattle.wild_loader.specs.declared.tables.Tables.{Tables}
+use Rattle.wild_loader.specs.declared.world.World.{World}
+use Rattle.wild_loader.specs.Headers.{header, is_loadable_header, machine_of, program_headers, section_count, sections}
+use Rattle.wild_loader.specs.Tables.{tables, first_dynamic, section_tables, section_entries, has_entries}
+use Rattle.wild_loader.specs.Relocate.{relocate, add_all, apart, notes}
+use Rattle.wild_loader.specs.Load.{load, load_with}
+use Rattle.wild_loader.specs.Laws.{HasHeaders, AreLoadable, HasDynamic, HasTables, HasSectionTables, section_relas, loaded_runs, loaded_memory, first_size, program_bytes, section_bytes, DynamicImagesAreLoaded, StaticImagesAreLoaded, PlainImagesAreLoaded, IsStatic, HasNoEntries}
+use Rattle.wild_loader.proofs.RecordLists.{programs-read, sections-read, section-first, length-records, length-program, length-section}
+use Rattle.wild_loader.proofs.SegmentLemmas.{segments-loaded}
+use Rattle.wild_loader.proofs.TableLemmas.{lies-table, dynamic-found, sections-found}
+
+-- ---- headers
+
+file_header-front : (e : FileHeader) → length (spell (file_header_fields e)) ≡ file_header_size
+unfolding file_header_fields
+file_header-front e = length-spell (file_header_fields e)
+
+header-read : FileHeaderIsRead → (image : List ℕ) (e : FileHeader) (hs : List ProgramHeader) (ss : List SectionHeader) → HasHeaders image e hs ss → is_loadable_header e ≡ true → header image ≡ Ok e
+unfolding header
+header-read read image e hs ss laid loadable =
+    let front = file_header-front e in
+    let room = laid.file_header.fits in
+    let long : nat_le file_header_size (length image) ≡ true = le-leb _ _ (omega arith) in
+    let is : file_header_at image 0 ≡ e = read image 0 e laid.fits laid.file_header in
+    let programs = laid.programs.fits in
+    let wide = length-records program_bytes program_header_size length-program hs in
+    let count = laid.program_count in
+    let table = lies-table image e.program_offset e.program_count program_header_size (omega (arith, wide, count, programs)) in
+    rw (long, is, loadable, table) refl
+
+programs-laid : ProgramHeaderIsRead → (image : List ℕ) (e : FileHeader) (hs : List ProgramHeader) (ss : List SectionHeader) → HasHeaders image e hs ss → program_headers image e.program_count e.program_offset ≡ hs
+programs-laid read image e hs ss laid =
+    let count = laid.program_count in
+    rw count (programs-read read image hs e.program_offset laid.programs_fit laid.programs)
+
+-- section header 0 tells how many there are
+first-told : SectionHeaderIsRead → (image : List ℕ) (ss : List SectionHeader) (at : ℕ) → 0 < length ss → All SectionHeaderFits ss → Stands image at (flat_map section_bytes ss) → (section_header_at image at).size ≡ first_size ss
+first-told read image [] at some fits st = absurd (omega arith)
+first-told read image (s ∷ ss) at some fits st = rw (section-first read image at s ss fits st) refl
+
+counted : SectionHeaderIsRead → (image : List ℕ) (e : FileHeader) (hs : List ProgramHeader) (ss : List SectionHeader) → HasHeaders image e hs ss → section_count image e ≡ Ok (length ss)
+counted read image e hs ss laid =
+    let told = laid.section_count in
+    let some = laid.some_section in
+    let room = laid.sections.fits in
+    let long = length-records section_bytes section_header_size length-section ss in
+    elim (cases_Bool (e.section_count == 0)) [
+      | inl t ↦
+          (let first = first-told read image ss e.section_offset some laid.sections_fit laid.sections in
+          let one = lies-table image e.section_offset 1 section_header_size (omega (arith, some, room, long)) in
+          let count : first_size ss ≡ length ss = rw t at told in
+          rw (t, one, first, count) refl)
+      | inr f ↦ (let count : e.section_count ≡ length ss = rw f at told in rw (f, count) refl)
+    ]
+
+sections-laid : SectionHeaderIsRead → (image : List ℕ) (e : FileHeader) (hs : List ProgramHeader) (ss : List SectionHeader) → HasHeaders image e hs ss → 0 < e.section_offset → sections image e ≡ Ok ss
+unfolding sections
+sections-laid read image e hs ss laid some =
+    let room = laid.sections.fits in
+    let long = length-records section_bytes section_header_size length-section ss in
+    let count = counted read image e hs ss laid in
+    let table = lies-table image e.section_offset (length ss) section_header_size (omega (arith, room, long)) in
+    let there : (e.section_offset == 0) ≡ false = ne_eqb e.section_offset 0 (λ z. omega (arith, some, z)) in
+    let all = sections-read read image ss e.section_offset laid.sections_fit laid.sections in
+    rw (there, count, table, all) refl
+
+-- ---- the whole
+
+loaded_by : FileHeaderIsRead → ProgramHeaderIsRead → (w : World) (image : List ℕ) (e : FileHeader) (hs : List ProgramHeader) (ss : List SectionHeader) (t : Tables) → HasHeaders image e hs ss → is_loadable_header e ≡ true → AreLoadable w.base image hs → tables image e hs ≡ Ok t → load w image ≡ relocate w (loaded_memory (machine_of e) w.base image hs) t
+unfolding load load_with
+loaded_by file program w image e hs ss t laid loadable can found =
+    let head = header-read file image e hs ss laid loadable in
+    let programs = programs-laid program image e hs ss laid in
+    let runs = segments-loaded w.base image hs can in
+    rw (head, programs, runs, found) refl
+
+dynamic-tables : DynamicEntryIsRead → RelaIsRead → RelrIsRead → (base : ℕ) (image : List ℕ) (e : FileHeader) (hs : List ProgramHeader) (ds : List DynamicEntry) (t : Tables) → AreLoadable base image hs → HasDynamic image hs ds → HasTables image hs ds t → tables image e hs ≡ Ok t
+unfolding tables
+dynamic-tables dynamic rela relr base image e hs ds t can has named = rw (has.first) (dynamic-found dynamic rela relr base image hs ds t can has named)
+
+static-tables : SectionHeaderIsRead → RelaIsRead → (image : List ℕ) (e : FileHeader) (hs : List ProgramHeader) (ss : List SectionHeader) (of : SectionHeader → List Rela) → HasHeaders image e hs ss → first_dynamic hs ≡ None → 0 < e.section_offset → HasSectionTables image ss of → tables image e hs ≡ Ok (record { words = []; entries = section_relas ss of; jumps = [] })
+unfolding tables section_tables
+static-tables section rela image e hs ss of laid none some has =
+    let all = sections-laid section image e hs ss laid some in
+    let found = sections-found rela image ss of [] has in
+    rw (none, all, found) refl
+
+pub dynamic-loaded : FileHeaderIsRead → ProgramHeaderIsRead → DynamicEntryIsRead → RelaIsRead → RelrIsRead → DynamicImagesAreLoaded
+dynamic-loaded file program dynamic rela relr w image e hs ss ds t laid loadable can has named = loaded_by file program w image e hs ss t laid loadable can (dynamic-tables dynamic rela relr w.base image e hs ds t can has named)
+
+pub static-loaded : FileHeaderIsRead → ProgramHeaderIsRead → SectionHeaderIsRead → RelaIsRead → StaticImagesAreLoaded
+static-loaded file program section rela w image e hs ss of laid loadable can none some has = loaded_by file program w image e hs ss _ laid loadable can (static-tables section rela image e hs ss of laid none some has)
+
+-- ---- no tables
+
+-- no header is PT_DYNAMIC
+no-dynamic : (hs : List ProgramHeader) → All IsStatic hs → first_dynamic hs ≡ None
+unfolding first_dynamic
+no-dynamic [] static = refl
+no-dynamic (h ∷ hs) static = rw (ne_eqb h.kind pt_dynamic (All-head IsStatic h hs static)) (no-dynamic hs (All-tail IsStatic h hs static))
+
+-- a section without entries is not read
+not-read : (s : SectionHeader) → HasNoEntries s → has_entries s ≡ true → ⊥
+not-read s none h =
+    let one = and_parts (s.kind == sht_rela && s.flags / shf_alloc % 2 == 1) (not (s.size == 0)) h in
+    let two = and_parts (s.kind == sht_rela) (s.flags / shf_alloc % 2 == 1) one.0 in
+    let z : (s.size == 0) ≡ true = eq-eqb s.size 0 (none (eqb-true _ _ two.0) (eqb-true _ _ two.1)) in
+    both_ways (s.size == 0) (not-true (s.size == 0) one.1) z
+
+no-entries : (ss : List SectionHeader) → section_relas ss (λ s. []) ≡ []
+no-entries [] = refl
+no-entries (s ∷ ss) =
+    elim (cases_Bool (has_entries s)) [
+      | inl t ↦ rw t (no-entries ss)
+      | inr f ↦ rw f (no-entries ss)
+    ]
+
+plain-tables : SectionHeaderIsRead → RelaIsRead → (image : List ℕ) (e : FileHeader) (hs : List ProgramHeader) (ss : List SectionHeader) → HasHeaders image e hs ss → All IsStatic hs → All HasNoEntries ss → tables image e hs ≡ Ok (record { words = []; entries = []; jumps = [] })
+unfolding tables section_tables sections section_entries
+plain-tables section rela image e hs ss laid static none =
+    elim (cases_Bool (e.section_offset == 0)) [
+      | inl t ↦ rw (no-dynamic hs static, t) refl
+      | inr f ↦
+          (let has : HasSectionTables image ss (λ s. []) = λ k d l read. absurd (not-read (get_or ss k d) (none k d l) read) in
+          let found = static-tables section rela image e hs ss (λ s. []) laid (no-dynamic hs static) (let ne = eqb-false e.section_offset 0 f in omega (arith, ne)) has in
+          rw (no-entries ss) at found)
+    ]
+
+nothing-relocated : (w : World) (machine : Machine) (runs : List Run) → relocate w (memory_of machine runs) (record { words = []; entries = []; jumps = [] }) ≡ Ok (memory_of machine runs)
+unfolding relocate places_from add_all apart least_extent overlaid notes
+nothing-relocated w machine runs = refl
+
+pub plain-loaded : FileHeaderIsRead → ProgramHeaderIsRead → SectionHeaderIsRead → RelaIsRead → PlainImagesAreLoaded
+plain-loaded file program section rela w image e hs ss laid loadable can static none = loaded_by file program w image e hs ss _ laid loadable can (plain-tables section rela image e hs ss laid static none) ∙ nothing-relocated w (machine_of e) (loaded_runs w.base image hs)
