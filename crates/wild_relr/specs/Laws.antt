@@ -1,0 +1,14 @@
+-- What a reader of words finds.
+--   LengthsOfWords  words have 8 bytes each
+--   WordsAreRead    word k is read at 8 k
+use Rattle.std.specs.Prelude.{◌≡◌, ℕ, ◌+◌, ◌*◌, ◌^◌, ◌<◌, List, length, All, slice_index_or}
+use Rattle.wild_words.specs.Words.{number_at, Stands}
+use Rattle.wild_relr.specs.Written.{word_bytes}
+
+-- words have 8 bytes each
+abbrev pub LengthsOfWords : Type 0
+LengthsOfWords = (ws : List ℕ) → length (word_bytes ws) ≡ 8 * length ws
+
+-- where words stand, word k is read at 8 k
+abbrev pub WordsAreRead : Type 0
+WordsAreRead = (whole ws : List ℕ) (at k d : ℕ) → All (λ w. w < 2 ^ 64) ws → Stands whole at (word_bytes ws) → k < length ws → number_at whole (at + 8 * k) 8 ≡ slice_index_or ws k d

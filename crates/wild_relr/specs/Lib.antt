@@ -1,0 +1,5 @@
+pub mod Places
+pub mod Packing
+pub mod Packed
+pub mod Written
+pub mod Laws

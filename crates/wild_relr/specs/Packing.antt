@@ -1,0 +1,90 @@
+-- How places become words.
+--   slot start place   which bit of the window that starts there the place is
+--   choice run place   what the place does: the three cases
+--   after state place  the words and the run with one place more
+--   Follows state      the run stands as the last words say
+--   Records            one place more is decoded
+use Rattle.std.specs.Prelude.{◌≡◌, ℕ, ◌+◌, ◌-◌, ◌*◌, ◌/◌, ◌%◌, ◌^◌, ◌<◌, ◌==◌, ◌&&◌, nat_le, nat_lt, if◌then◌else◌, Option, Some, None, List, [], ◌∷◌, ◌++◌, All, Contains, IsPermutation}
+use Rattle.wild_relr.specs.declared.run.Run.{Run}
+use Rattle.wild_relr.specs.declared.run.Run.TheVariants.{Closed, Address, Bitmap}
+use Rattle.wild_relr.specs.declared.run.Choice.{Choice}
+use Rattle.wild_relr.specs.declared.run.Choice.TheVariants.{Joins, Adds}
+use Rattle.wild_relr.specs.Places.{places, next_of}
+
+-- which bit of the window that starts there the place is, where it fits
+unfoldable pub slot : ℕ → ℕ → Option ℕ
+slot start place = if nat_le start place && ((place - start) % 8 == 0 && nat_lt (place - start) 504) then Some ((place - start) / 8) else None
+
+-- a bitmap word of one bit
+unfoldable pub bitmap : ℕ → ℕ
+bitmap i = 1 + 2 * 2 ^ i
+
+-- the word with that bit
+unfoldable pub with_bit : ℕ → ℕ → ℕ
+with_bit i w = if w / (2 * 2 ^ i) % 2 == 0 then w + 2 * 2 ^ i else w
+
+-- a new address word
+abbrev pub starts : ℕ → Choice
+starts place = Adds place (Address place)
+
+-- the window at start, if the place fits it, else what is otherwise
+abbrev pub opens : ℕ → Option ℕ → Choice → Choice
+opens start (Some i) otherwise = Adds (bitmap i) (Bitmap start)
+opens start None otherwise = otherwise
+
+abbrev pub joins : Option ℕ → Choice → Choice
+joins (Some i) otherwise = Joins i
+joins None otherwise = otherwise
+
+-- the first case that holds: the place joins the window, opens the one behind a word, or is an address word
+unfoldable pub choice : Run → ℕ → Choice
+choice Closed place = starts place
+choice (Address a) place = opens (a + 8) (slot (a + 8) place) (starts place)
+choice (Bitmap s) place = joins (slot s place) (opens (s + 504) (slot (s + 504) place) (starts place))
+
+-- words, and where their run stands
+pub record State : Type 0 where
+  pub run : Run
+  pub words : List ℕ
+
+-- the bit in the last word
+unfoldable pub joined : ℕ → List ℕ → List ℕ
+joined i [] = []
+joined i (w ∷ []) = with_bit i w ∷ []
+joined i (w ∷ v ∷ ws) = w ∷ joined i (v ∷ ws)
+
+abbrev pub chosen : Choice → State → State
+chosen (Joins i) s = record { run = s.run; words = joined i s.words }
+chosen (Adds w r) s = record { run = r; words = s.words ++ w ∷ [] }
+
+-- one place more
+abbrev pub after : State → ℕ → State
+after s place = chosen (choice s.run place) s
+
+-- the last word is a bitmap, whose window starts there
+pub record EndsInBitmap (start : ℕ) (ws : List ℕ) : Type 0 where
+  pub front : List ℕ
+  pub word : ℕ
+  pub is : ws ≡ front ++ word ∷ []
+  pub starts : next_of front ≡ start
+  pub odd : word % 2 ≡ 1
+
+-- the run stands as the last words say
+abbrev pub FollowsRun : Run → List ℕ → Type 0
+FollowsRun Closed ws = Unit {0}
+FollowsRun (Address a) ws = next_of ws ≡ a + 8
+FollowsRun (Bitmap s) ws = EndsInBitmap s ws
+
+abbrev pub Follows : State → Type 0
+Follows s = FollowsRun s.run s.words
+
+-- one place more is decoded, behind the others where it is the greatest
+pub record Records (before after : List ℕ) (place : ℕ) : Type 0 where
+  pub each : IsPermutation (place ∷ places before) (places after)
+  pub last : All (λ q. q < place) (places before) → places after ≡ places before ++ place ∷ []
+
+abbrev pub EachPlaceIsRecorded : Type 0
+EachPlaceIsRecorded = (s : State) (place : ℕ) → Follows s → place % 2 ≡ 0 → (Contains (places s.words) place → ⊥) → Records s.words (after s place).words place
+
+abbrev pub RunsAreFollowed : Type 0
+RunsAreFollowed = (s : State) (place : ℕ) → Follows s → place % 2 ≡ 0 → Follows (after s place)

@@ -1,0 +1,31 @@
+//! What a place does.
+ghost use Rattle.std.specs.Prelude.{◌≡◌};
+ghost use Rattle.wild_relr.specs.Written.{IsInWord};
+ghost use Rattle.wild_relr.specs.Packing.{choice};
+
+use crate::bits::{bitmap_of, slot_of};
+use crate::run::{Choice, Run};
+
+/// The first case that holds: the place joins the window, opens the one behind a word, or is an address word.
+#[tactic(auto, unfolding(crate::specs::Packing::choice))]
+pub fn choice(run: Run, place: u64) -> Choice
+    ensures is { result ≡ choice run place }
+    ensures in_word { IsInWord result }
+{
+    match run {
+        Run::Closed => Choice::Adds(place, Run::Address(place)),
+        Run::Address(address) => match slot_of(address, 8, place) {
+            Some(slot) => Choice::Adds(bitmap_of(slot), Run::Bitmap(address + 8)),
+            None => Choice::Adds(place, Run::Address(place)),
+        },
+        Run::Bitmap(start) => {
+            if let Some(slot) = slot_of(start, 0, place) {
+                return Choice::Joins(slot);
+            }
+            match slot_of(start, 504, place) {
+                Some(slot) => Choice::Adds(bitmap_of(slot), Run::Bitmap(start + 504)),
+                None => Choice::Adds(place, Run::Address(place)),
+            }
+        }
+    }
+}

@@ -1,0 +1,21 @@
+//! Words of packed relative relocations (RELR): what they mean, and how they are written as the places come.
+#![tactic(auto)]
+
+mod bits;
+mod cases;
+mod count;
+mod laws;
+mod run;
+mod words;
+mod writer;
+
+pub use cases::choice;
+pub use count::count_words;
+pub use laws::{
+    blocks_hold_their_slots, each_place_is_recorded, flat_is_a_run, pieces_are_packed,
+    pieces_are_recorded, places_are_even, rising_runs_keep_order, runs_are_counted,
+    runs_are_recorded, words_are_read,
+};
+pub use run::{Choice, Run};
+pub use words::block_words;
+pub use writer::{Full, RelrWriter};

@@ -1,0 +1,4 @@
+pub mod Entries
+pub mod Words
+pub mod Tables
+pub mod Laws

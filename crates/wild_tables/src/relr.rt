@@ -1,0 +1,135 @@
+//! Words of packed relative relocations in the room of their part (gABI, "Relative Relocation Table").
+ghost use Rattle.std.specs.Prelude.{◌≡◌, ◌*◌, ◌%◌, ◌^◌, ◌<◌, ◌≤◌, length, take, Contains, OnOk, OnErr, IfOk};
+ghost use Rattle.wild_records.specs.Relocations.{relr_size};
+ghost use Rattle.wild_relr.specs.Places.{places};
+ghost use Rattle.wild_relr.specs.Packing.{after, Follows, Records};
+ghost use Rattle.wild_relr.specs.Packed.{after_flat, reset, nothing};
+ghost use Rattle.wild_relr.specs.Written.{word_bytes};
+
+use std::alloc::{AllocError, Global};
+use std::marker::Model;
+use wild_records::Relr;
+use wild_relr::{Full, RelrWriter, each_place_is_recorded};
+
+/// Words from the front of a part on.
+#[derive(Drop)]
+pub struct RelrTable {
+    part: Vec<u8>,
+    writer: RelrWriter,
+}
+
+impl Model for RelrTable {
+    ghost use Rattle.wild_tables.specs.Words.{Words, words_of_table, IsTable};
+
+    ghost Value = { Words };
+
+    ghost view = { λ t. words_of_table t.part.items t.writer };
+
+    ghost invariant = { λ t. IsTable t.part.items t.writer };
+}
+
+impl RelrTable {
+    /// No words yet, in a part of `room` bytes.
+    pub fn new(alloc: Global, room: usize) -> Result<Self, AllocError>
+        ensures { IfOk result (λ t. (t.state ≡ nothing) × (t.room ≡ room)) }
+    {
+        Ok(RelrTable {
+            part: vec![in alloc; 0; room]?,
+            writer: RelrWriter::new(),
+        })
+    }
+
+    /// Records an even place. Refused exactly where the words with it do not fit, and nothing changes then.
+    pub fn write(&mut self, place: u64) -> Result<(), Full>
+        requires { place % 2 ≡ 0 }
+        ensures ok { OnOk result (self.new.state ≡ after self.old.state place) }
+        ensures recorded { OnOk result ((Contains (places self.old.state.words) place → ⊥) → Records self.old.state.words self.new.state.words place) }
+        ensures fits { OnOk result (relr_size * length (after self.old.state place).words ≤ self.old.room) }
+        ensures full { OnErr result (self.old.room < relr_size * length (after self.old.state place).words) }
+        ensures kept { OnErr result (self.new ≡ self.old) }
+        ensures room { self.new.room ≡ self.old.room }
+    {
+        each_place_is_recorded();
+        self.follow();
+        self.put(place)
+    }
+
+    /// The run stands as the words say.
+    fn follow(&self)
+        ensures { Follows self.now.state }
+    {
+        let _writer = &self.writer;
+    }
+
+    /// An even place in the words.
+    fn put(&mut self, place: u64) -> Result<(), Full>
+        requires { place % 2 ≡ 0 }
+        ensures ok { OnOk result (self.new.state ≡ after self.old.state place) }
+        ensures fits { OnOk result (relr_size * length (after self.old.state place).words ≤ self.old.room) }
+        ensures full { OnErr result (self.old.room < relr_size * length (after self.old.state place).words) }
+        ensures kept { OnErr result (self.new ≡ self.old) }
+        ensures room { self.new.room ≡ self.old.room }
+    {
+        self.writer.write(self.part.as_mut_slice(), place)
+    }
+
+    /// Records an even place by a word of its own, and ends the run. Refused exactly where the words with it do
+    /// not fit, and nothing changes then.
+    pub fn write_flat(&mut self, place: u64) -> Result<(), Full>
+        requires { place % 2 ≡ 0 }
+        ensures ok { OnOk result (self.new.state ≡ after_flat self.old.state place) }
+        ensures recorded { OnOk result ((Contains (places self.old.state.words) place → ⊥) → Records self.old.state.words self.new.state.words place) }
+        ensures fits { OnOk result (relr_size * length (after_flat self.old.state place).words ≤ self.old.room) }
+        ensures full { OnErr result (self.old.room < relr_size * length (after_flat self.old.state place).words) }
+        ensures kept { OnErr result (self.new ≡ self.old) }
+        ensures room { self.new.room ≡ self.old.room }
+    {
+        each_place_is_recorded();
+        self.put_flat(place)
+    }
+
+    /// An even place in a word of its own.
+    fn put_flat(&mut self, place: u64) -> Result<(), Full>
+        requires { place % 2 ≡ 0 }
+        ensures ok { OnOk result (self.new.state ≡ after_flat self.old.state place) }
+        ensures fits { OnOk result (relr_size * length (after_flat self.old.state place).words ≤ self.old.room) }
+        ensures full { OnErr result (self.old.room < relr_size * length (after_flat self.old.state place).words) }
+        ensures kept { OnErr result (self.new ≡ self.old) }
+        ensures room { self.new.room ≡ self.old.room }
+    {
+        self.writer.write_flat(self.part.as_mut_slice(), place)
+    }
+
+    /// Ends the run, and changes no word.
+    pub fn reset_run(&mut self)
+        ensures state { self.new.state ≡ reset self.old.state }
+        ensures room { self.new.room ≡ self.old.room }
+    {
+        self.writer.reset_run();
+    }
+
+    /// How many bytes the part has.
+    pub fn room(&self) -> usize
+        ensures room { result ≡ self.now.room }
+        ensures small { result < 2 ^ 63 }
+    {
+        self.part.as_slice().len()
+    }
+
+    /// How many bytes the words have.
+    pub fn used(&self) -> usize
+        ensures used { result ≡ relr_size * length self.now.state.words }
+        ensures fits { result ≤ self.now.room }
+    {
+        self.writer.len() * Relr::SIZE
+    }
+
+    /// The bytes of the part: those of the words, and then the room that is left.
+    #[tactic(auto, using(crate::proofs::TableLemmas::words_stand))]
+    pub fn bytes(&self) -> &[u8]
+        ensures written { take (relr_size * length self.now.state.words) result.now ≡ word_bytes self.now.state.words }
+        ensures room { length result.now ≡ self.now.room }
+    {
+        self.part.as_slice()
+    }
+}
