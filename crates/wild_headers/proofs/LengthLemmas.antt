@@ -1,0 +1,45 @@
+-- How long the headers are.
+use Rattle.std.proofs.Common.{◌≡◌, ℕ, ◌+◌, ◌*◌, List, [], ◌∷◌, ◌++◌, length, refl, ap, ◌∙◌, arith}
+use Rattle.std.specs.List.{flat_map}
+use Rattle.std.proofs.lemmas.List.{length-append}
+use Rattle.wild_words.specs.Record.{spell}
+use Rattle.wild_records.specs.ProgramHeader.{program_header_size, program_header_fields}
+use Rattle.wild_records.specs.SectionHeader.{section_header_size, section_header_fields}
+use Rattle.wild_plan.specs.declared.section.Section.{Section}
+use Rattle.wild_plan.specs.declared.layout.Layout.{Layout}
+use Rattle.wild_plan.specs.Lists.{total}
+use Rattle.wild_headers.specs.Headers.{file_header, program_header, headers_from, section_headers_of}
+use Rattle.wild_headers.specs.Laws.{LengthsOfHeaders}
+use Rattle.wild_headers.proofs.HeaderLemmas.{length-file_header, length-program_header, length-section_header}
+
+pub length-table : {X : Type 0} (f : X → List ℕ) (n : ℕ) → ((x : X) → length (f x) ≡ n) → (xs : List X) → length (flat_map f xs) ≡ n * length xs
+length-table f n h [] = omega arith
+length-table f n h (x ∷ xs) =
+    let e = length-append (f x) (flat_map f xs) in
+    let here = h x in
+    let rest = length-table f n h xs in
+    omega (arith, e, here, rest)
+
+length-headers_from : (name : ℕ) (ss : List Section) → length (headers_from name ss) ≡ length ss
+length-headers_from name [] = refl
+length-headers_from name (s ∷ ss) = let e = length-headers_from (name + length s.name + 1) ss in omega (arith, e)
+
+pub length-section_headers_of : (l : Layout) (ss : List Section) → length (section_headers_of l ss) ≡ length ss
+length-section_headers_of l [] = refl
+length-section_headers_of l (s ∷ ss) = let e = length-headers_from (length s.name + 1) ss in omega (arith, e)
+
+length-names : (ss : List Section) → length (flat_map (λ (s : Section). s.name ++ 0 ∷ []) ss) ≡ total (λ (s : Section). length s.name + 1) ss
+length-names [] = refl
+length-names (s ∷ ss) =
+    let e = length-append (s.name ++ 0 ∷ []) (flat_map (λ (t : Section). t.name ++ 0 ∷ []) ss) in
+    let here : length (s.name ++ 0 ∷ []) ≡ length s.name + 1 = length-append s.name (0 ∷ []) in
+    let rest = length-names ss in
+    omega (arith, e, here, rest)
+
+pub lengths_of_headers : (l : Layout) → LengthsOfHeaders l
+lengths_of_headers l = record {
+  file_header = length-file_header (file_header l);
+  program_headers = length-table (λ g. spell (program_header_fields (program_header l g))) program_header_size (λ g. length-program_header (program_header l g)) l.segments;
+  section_headers = length-table (λ h. spell (section_header_fields h)) section_header_size length-section_header (section_headers_of l l.sections) ∙ ap (λ (k : ℕ). section_header_size * k) (length-section_headers_of l l.sections);
+  names = length-names l.sections;
+}

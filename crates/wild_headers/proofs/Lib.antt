@@ -1,0 +1,4 @@
+pub mod ListLemmas
+pub mod HeaderLemmas
+pub mod LengthLemmas
+pub mod ReadLemmas

@@ -1,0 +1,68 @@
+-- What stands where in the headers.
+use Rattle.std.proofs.Common.{◌≡◌, ℕ, zero, suc, ◌+◌, ◌-◌, ◌*◌, ◌<◌, ◌≤◌, List, [], ◌∷◌, ◌++◌, length, take, get_or, refl, sym, ap, ◌∙◌, arith, subst}
+use Rattle.std.specs.List.{flat_map}
+use Rattle.std.proofs.lemmas.List.{length-append, get_or-append_right, get_or_append_left}
+use Rattle.wild_words.specs.Words.{Stands}
+use Rattle.wild_words.specs.Record.{spell}
+use Rattle.wild_records.specs.ProgramHeader.{program_header_size, program_header_fields}
+use Rattle.wild_records.specs.SectionHeader.{section_header_size, section_header_fields}
+use Rattle.wild_records.specs.declared.section_header.SectionHeader.{SectionHeader}
+use Rattle.wild_plan.specs.declared.section.Section.{Section}
+use Rattle.wild_plan.specs.declared.layout.Layout.{Layout}
+use Rattle.wild_plan.specs.Lists.{total}
+use Rattle.wild_headers.specs.Headers.{program_header, section_header, headers_from, section_headers_of}
+use Rattle.wild_headers.specs.Laws.{ProgramHeadersStand, SectionHeadersStand, NamesStand}
+use Rattle.wild_headers.proofs.HeaderLemmas.{length-program_header, length-section_header, named}
+use Rattle.wild_headers.proofs.LengthLemmas.{length-section_headers_of}
+
+Stands-front : (xs ys : List ℕ) → Stands (xs ++ ys) 0 xs
+Stands-front xs ys = record { fits = let e = length-append xs ys in omega (arith, e); same = λ k l. let z : 0 + k ≡ k = omega arith in rw z (get_or_append_left xs ys 0 k l) }
+
+Stands-behind : (xs ys part : List ℕ) (n at whole : ℕ) → length xs ≡ n → whole ≡ n + at → Stands ys at part → Stands (xs ++ ys) whole part
+Stands-behind xs ys part n at whole len is s = record {
+  fits = let e = length-append xs ys in let f = s.fits in omega (arith, e, f, len, is);
+  same = λ k l.
+      let a : whole + k - n ≡ at + k = omega (arith, is) in
+      get_or-append_right xs ys n (whole + k) 0 len (omega (arith, is)) ∙ ap (λ (i : ℕ). get_or ys i 0) a ∙ s.same k l;
+}
+
+-- entry k of a table whose entries have the same width
+Stands-table : {X : Type 0} (f : X → List ℕ) (n : ℕ) → ((x : X) → length (f x) ≡ n) → (xs : List X) (k : ℕ) (d : X) → k < length xs → Stands (flat_map f xs) (n * k) (f (get_or xs k d))
+Stands-table f n w [] k d l = absurd (omega (arith, l))
+Stands-table f n w (x ∷ xs) zero d l = let e : n * 0 ≡ 0 = omega arith in rw e (Stands-front (f x) (flat_map f xs))
+Stands-table f n w (x ∷ xs) (suc k) d l =
+    let e : n * suc k ≡ n + n * k = omega arith in
+    Stands-behind (f x) (flat_map f xs) (f (get_or xs k d)) n (n * k) (n * (suc k)) (w x) e (Stands-table f n w xs k d (omega (arith, l)))
+
+pub programs_stand : ProgramHeadersStand
+programs_stand l k d h = Stands-table (λ g. spell (program_header_fields (program_header l g))) program_header_size (λ g. length-program_header (program_header l g)) l.segments k d h
+
+pub sections_stand : SectionHeadersStand
+sections_stand l k d h =
+    let n = length-section_headers_of l l.sections in
+    Stands-table (λ x. spell (section_header_fields x)) section_header_size length-section_header (section_headers_of l l.sections) k d (omega (arith, n, h))
+
+-- the name that a header tells begins behind those before it
+name_of_header : (name : ℕ) (ss : List Section) (k : ℕ) (h : SectionHeader) → k < length ss → (get_or (headers_from name ss) k h).name ≡ name + total named (take k ss)
+unfolding section_header
+name_of_header name [] k h l = absurd (omega (arith, l))
+name_of_header name (s ∷ ss) zero h l = omega arith
+name_of_header name (s ∷ ss) (suc k) h l = let e = name_of_header (name + length s.name + 1) ss k h (omega (arith, l)) in omega (arith, e)
+
+Stands-name : (ss : List Section) (k : ℕ) (d : Section) → k < length ss → Stands (flat_map (λ (s : Section). s.name ++ 0 ∷ []) ss) (total named (take k ss)) ((get_or ss k d).name ++ 0 ∷ [])
+Stands-name [] k d l = absurd (omega (arith, l))
+Stands-name (s ∷ ss) zero d l = Stands-front (s.name ++ 0 ∷ []) (flat_map (λ (t : Section). t.name ++ 0 ∷ []) ss)
+Stands-name (s ∷ ss) (suc k) d l =
+    Stands-behind (s.name ++ 0 ∷ []) (flat_map (λ (t : Section). t.name ++ 0 ∷ []) ss) ((get_or ss k d).name ++ 0 ∷ []) (length s.name + 1) (total named (take k ss)) (total named (take (suc k) (s ∷ ss)))
+    (length-append s.name (0 ∷ [])) (omega arith) (Stands-name ss k d (omega (arith, l)))
+
+pub names_stand : NamesStand
+names_stand l k d h some few = at l l.sections k d h some few
+  where
+    at : (l : Layout) (ss : List Section) (k : ℕ) (d : Section) (h : SectionHeader) → 1 ≤ k → k < length ss → Stands (flat_map (λ (s : Section). s.name ++ 0 ∷ []) ss) (get_or (section_headers_of l ss) k h).name ((get_or ss k d).name ++ 0 ∷ [])
+    at l [] k d h some few = absurd (omega (arith, few))
+    at l (s ∷ ss) zero d h some few = absurd (omega (arith, some))
+    at l (s ∷ ss) (suc k) d h some few =
+        let e = name_of_header (length s.name + 1) ss k h (omega (arith, few)) in
+        let same : (get_or (headers_from (length s.name + 1) ss) k h).name ≡ total named (take (suc k) (s ∷ ss)) = omega (arith, e) in
+        rw same (Stands-name (s ∷ ss) (suc k) d few)

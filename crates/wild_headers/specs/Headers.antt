@@ -1,0 +1,169 @@
+-- The headers of an image (gABI, "ELF Header", "Section Header", "Program Header").
+--   file_header l         the file header; file_header_bytes l its bytes
+--   program_header l g    the header of a segment; program_header_bytes l the bytes of all
+--   section_headers_of l  the section headers; section_header_bytes l their bytes
+--   names_of l            the names of the sections
+use Rattle.std.specs.Prelude.{ℕ, ◌+◌, ◌-◌, ◌%◌, ◌/◌, ◌==◌, if◌then◌else◌, nat_lt, max, List, [], ◌∷◌, ◌++◌, length, Option, Some}
+use Rattle.std.specs.List.{flat_map}
+use Rattle.wild_words.specs.Record.{spell}
+use Rattle.wild_records.specs.Abi.Header.{elfmag, elfclass64, elfdata2lsb, ev_current, elfosabi_none, et_rel, et_exec, et_dyn, em_x86_64, em_aarch64}
+use Rattle.wild_records.specs.Abi.Section.{sht_null, shn_undef, shn_loreserve, shn_xindex, shf_compressed}
+use Rattle.wild_records.specs.Abi.Segment.{pt_load, pt_gnu_stack, pf_x}
+use Rattle.wild_records.specs.declared.file_header.FileHeader.{FileHeader}
+use Rattle.wild_records.specs.declared.program_header.ProgramHeader.{ProgramHeader}
+use Rattle.wild_records.specs.declared.section_header.SectionHeader.{SectionHeader}
+use Rattle.wild_records.specs.FileHeader.{file_header_size, file_header_fields}
+use Rattle.wild_records.specs.ProgramHeader.{program_header_size, program_header_fields}
+use Rattle.wild_records.specs.SectionHeader.{section_header_size, section_header_fields}
+use Rattle.wild_plan.specs.declared.kind.Machine.{Machine}
+use Rattle.wild_plan.specs.declared.kind.Machine.TheVariants as machine
+use Rattle.wild_plan.specs.declared.kind.RelocationModel.TheVariants as model
+use Rattle.wild_plan.specs.declared.kind.OutputKind.{OutputKind}
+use Rattle.wild_plan.specs.declared.kind.OutputKind.TheVariants as output
+use Rattle.wild_plan.specs.declared.part.Part.{Part}
+use Rattle.wild_plan.specs.declared.part.Role.{Role}
+use Rattle.wild_plan.specs.declared.part.Role.TheVariants as role
+use Rattle.wild_plan.specs.declared.section.Section.{Section}
+use Rattle.wild_plan.specs.declared.section.Segment.{Segment}
+use Rattle.wild_plan.specs.declared.layout.Entry.{Entry}
+use Rattle.wild_plan.specs.declared.layout.Entry.TheVariants as entry
+use Rattle.wild_plan.specs.declared.layout.Layout.{Layout}
+use Rattle.wild_plan.specs.Lookups.{bit}
+use Rattle.wild_plan.specs.Places.{has_role}
+
+-- e_type
+abbrev pub file_type : OutputKind → ℕ
+file_type output.PartialObject = et_rel
+file_type output.SharedObject = et_dyn
+file_type (output.StaticExecutable model.Relocatable) = et_dyn
+file_type (output.DynamicExecutable model.Relocatable) = et_dyn
+file_type other = et_exec
+
+-- e_machine
+abbrev pub machine_number : Machine → ℕ
+machine_number machine.X86_64 = em_x86_64
+machine_number machine.AArch64 = em_aarch64
+
+-- e_entry: 0 where the layout gives no address
+abbrev pub entry_address : Option Entry → ℕ
+entry_address (Some (entry.Address a)) = a
+entry_address other = 0
+
+-- the offset of the first part of a role; 0 where there is none
+abbrev pub offset_of_role : Role → List Part → ℕ
+offset_of_role r [] = 0
+offset_of_role r (p ∷ ps) = if has_role r p then p.offset else offset_of_role r ps
+
+-- the section of the first part of a role; section 0 where there is none
+abbrev pub section_of_role : Role → List Part → ℕ
+section_of_role r [] = shn_undef
+section_of_role r (p ∷ ps) = if has_role r p then p.section else section_of_role r ps
+
+-- the header index of the section of the names
+abbrev pub name_table : Layout → ℕ
+name_table l = section_of_role role.Shstrtab l.parts
+
+-- a number that has a field of the file header, or from SHN_LORESERVE on the escape
+abbrev pub or_escape : ℕ → ℕ → ℕ
+or_escape n escape = if nat_lt n shn_loreserve then n else escape
+
+-- a number that has no field of the file header, and is told by section header 0
+abbrev pub or_none : ℕ → ℕ
+or_none n = if nat_lt n shn_loreserve then 0 else n
+
+unfoldable pub file_header : Layout → FileHeader
+file_header l = record {
+  magic = elfmag;
+  class = elfclass64;
+  encoding = elfdata2lsb;
+  ident_version = ev_current;
+  os_abi = elfosabi_none;
+  abi_version = 0;
+  file_type = file_type l.kind;
+  machine = machine_number l.machine;
+  version = ev_current;
+  entry = entry_address l.entry;
+  program_offset = file_header_size;
+  section_offset = offset_of_role role.SectionHeaders l.parts;
+  flags = 0;
+  header_size = file_header_size;
+  program_entry_size = program_header_size;
+  program_count = length l.segments;
+  section_entry_size = section_header_size;
+  section_count = or_escape (length l.sections) shn_undef;
+  name_table = or_escape (name_table l) shn_xindex;
+}
+
+-- PF_X is set
+abbrev pub with_execute : ℕ → ℕ
+with_execute flags = if flags / pf_x % 2 == 0 then flags + pf_x else flags
+
+-- PT_LOAD is aligned to pages at least; PT_GNU_STACK to 16, and is executable where asked for
+unfoldable pub program_header : Layout → Segment → ProgramHeader
+program_header l g = record {
+  kind = g.kind;
+  flags = if g.kind == pt_gnu_stack then (if l.options.execstack then with_execute g.flags else g.flags) else g.flags;
+  offset = g.offset;
+  address = g.address;
+  physical = g.physical;
+  file_size = g.file_size;
+  mem_size = g.mem_size;
+  align = if g.kind == pt_load then max l.page_size g.align else (if g.kind == pt_gnu_stack then 16 else g.align);
+}
+
+-- section header 0: what has no room in the file header
+unfoldable pub null_header : Layout → SectionHeader
+null_header l = record {
+  name = 0;
+  kind = sht_null;
+  flags = 0;
+  address = 0;
+  offset = 0;
+  size = or_none (length l.sections);
+  link = or_none (name_table l);
+  info = 0;
+  align = 0;
+  entry_size = 0;
+}
+
+-- SHF_COMPRESSED is cleared
+abbrev pub uncompressed : ℕ → ℕ
+uncompressed flags = if bit flags shf_compressed then flags - shf_compressed else flags
+
+-- the header of another section, whose name begins at that offset of the names
+unfoldable pub section_header : ℕ → Section → SectionHeader
+section_header name s = record {
+  name = name;
+  kind = s.kind;
+  flags = uncompressed s.flags;
+  address = s.address;
+  offset = s.offset;
+  size = s.size;
+  link = s.link;
+  info = s.info;
+  align = s.align;
+  entry_size = s.entsize;
+}
+
+-- the headers of the sections from a name offset on
+abbrev pub headers_from : ℕ → List Section → List SectionHeader
+headers_from name [] = []
+headers_from name (s ∷ ss) = section_header name s ∷ headers_from (name + length s.name + 1) ss
+
+-- all section headers
+abbrev pub section_headers_of : Layout → List Section → List SectionHeader
+section_headers_of l [] = []
+section_headers_of l (s ∷ ss) = null_header l ∷ headers_from (length s.name + 1) ss
+
+abbrev pub file_header_bytes : Layout → List ℕ
+file_header_bytes l = spell (file_header_fields (file_header l))
+
+abbrev pub program_header_bytes : Layout → List ℕ
+program_header_bytes l = flat_map (λ g. spell (program_header_fields (program_header l g))) l.segments
+
+abbrev pub section_header_bytes : Layout → List ℕ
+section_header_bytes l = flat_map (λ h. spell (section_header_fields h)) (section_headers_of l l.sections)
+
+-- the names of the sections, a zero behind each (gABI, "String Table")
+abbrev pub names_of : Layout → List ℕ
+names_of l = flat_map (λ s. s.name ++ 0 ∷ []) l.sections

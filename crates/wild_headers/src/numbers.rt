@@ -1,0 +1,62 @@
+//! What the headers tell of the sections, by its place in them.
+ghost use Rattle.std.specs.Prelude.{◌≡◌};
+ghost use Rattle.wild_headers.specs.Headers.{offset_of_role, section_of_role, or_escape, or_none};
+ghost use Rattle.wild_plan.specs.Places.{has_role};
+ghost use Rattle.wild_plan.specs.declared.part.Role.TheVariants.{SectionHeaders, Shstrtab};
+
+use wild_plan::{Part, Role};
+use wild_records::abi::section::{SHN_LORESERVE, SHN_UNDEF};
+
+/// A number of sections, or an index of one, as the file header has it.
+pub(crate) fn or_escape(n: usize, escape: u16) -> u16
+    ensures { result ≡ or_escape n escape }
+{
+    if n < SHN_LORESERVE as usize {
+        n as u16
+    } else {
+        escape
+    }
+}
+
+/// What section header 0 tells of it.
+pub(crate) fn or_none(n: usize) -> usize
+    ensures { result ≡ or_none n }
+{
+    if n < SHN_LORESERVE as usize { 0 } else { n }
+}
+
+fn has_section_headers(part: &Part) -> bool
+    ensures { result ≡ has_role SectionHeaders part.now }
+{
+    matches!(part.role, Role::SectionHeaders)
+}
+
+fn has_section_names(part: &Part) -> bool
+    ensures { result ≡ has_role Shstrtab part.now }
+{
+    matches!(part.role, Role::Shstrtab)
+}
+
+/// The offset of the section headers.
+pub(crate) fn section_headers_offset(parts: &[Part]) -> u64
+    ensures { result ≡ offset_of_role SectionHeaders parts.now }
+{
+    for part in parts {
+        if has_section_headers(part) {
+            return part.offset;
+        }
+    }
+    0
+}
+
+/// The header index of the section of the names.
+pub(crate) fn name_table(parts: &[Part]) -> usize
+    ensures { result ≡ section_of_role Shstrtab parts.now }
+{
+    for part in parts {
+        if has_section_names(part) {
+            return part.section;
+        }
+    }
+    SHN_UNDEF as usize
+}

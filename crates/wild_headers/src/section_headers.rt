@@ -1,0 +1,100 @@
+//! The section headers (gABI, "Section Header").
+ghost use Rattle.std.specs.Prelude.{◌≡◌, ◌+◌, ◌*◌, ◌^◌, ◌<◌, ◌≤◌, ◌==◌, if◌then◌else◌, length};
+ghost use Rattle.wild_words.specs.Words.{place};
+ghost use Rattle.wild_words.specs.Record.{spell};
+ghost use Rattle.wild_records.specs.SectionHeader.{section_header_size, section_header_fields};
+ghost use Rattle.wild_plan.specs.Needs.{name_bytes};
+ghost use Rattle.wild_headers.specs.Headers.{name_table, null_header, uncompressed, section_header, section_header_bytes};
+
+use crate::numbers::{name_table, or_none};
+use wild_plan::{Layout, Section};
+use wild_records::SectionHeader;
+use wild_records::abi::section::{SHF_COMPRESSED, SHT_NULL};
+use wild_words::put;
+
+#[tactic(auto, unfolding(crate::specs::Headers::null_header))]
+fn null_header(layout: &Layout) -> SectionHeader
+    requires { name_table layout.now < 2 ^ 32 }
+    ensures { result ≡ null_header layout.now }
+{
+    SectionHeader {
+        name: 0,
+        kind: SHT_NULL,
+        flags: 0,
+        address: 0,
+        offset: 0,
+        size: or_none(layout.sections.len()) as u64,
+        link: or_none(name_table(layout.parts.as_slice())) as u32,
+        info: 0,
+        align: 0,
+        entry_size: 0,
+    }
+}
+
+/// The flags without `SHF_COMPRESSED`.
+#[tactic(auto, unfolding(wild_plan::specs::Lookups::bit))]
+fn uncompressed(flags: u64) -> u64
+    ensures { result ≡ uncompressed flags }
+{
+    if flags & SHF_COMPRESSED == SHF_COMPRESSED {
+        flags - SHF_COMPRESSED
+    } else {
+        flags
+    }
+}
+
+#[tactic(auto, unfolding(crate::specs::Headers::section_header))]
+fn section_header(name: u32, section: &Section) -> SectionHeader
+    ensures { result ≡ section_header name section.now }
+{
+    SectionHeader {
+        name,
+        kind: section.kind,
+        flags: uncompressed(section.flags),
+        address: section.address,
+        offset: section.offset,
+        size: section.size,
+        link: section.link,
+        info: section.info,
+        align: section.align,
+        entry_size: section.entsize,
+    }
+}
+
+/// The header of the section with that index, whose name begins at `name`.
+fn header_of(layout: &Layout, i: usize, name: u64, section: &Section) -> SectionHeader
+    requires name { name < 2 ^ 32 }
+    requires name_table { name_table layout.now < 2 ^ 32 }
+    ensures { result ≡ (if i == 0 then null_header layout.now else section_header name section.now) }
+{
+    if i == 0 {
+        null_header(layout)
+    } else {
+        section_header(name as u32, section)
+    }
+}
+
+fn put_section_header(layout: &Layout, section: &Section, i: usize, name: u64, out: &mut [u8])
+    requires room { section_header_size * i + section_header_size ≤ length out.old }
+    requires name { name < 2 ^ 32 }
+    requires name_table { name_table layout.now < 2 ^ 32 }
+    ensures { out.new ≡ place (section_header_size * i) (spell (section_header_fields (if i == 0 then null_header layout.now else section_header name section.now))) out.old }
+{
+    let mut header = [0; SectionHeader::SIZE];
+    header_of(layout, i, name, section).put(&mut header);
+    put(out, i * SectionHeader::SIZE, &header);
+}
+
+/// Writes the section headers into their room.
+pub fn write_section_headers(layout: &Layout, out: &mut [u8])
+    requires room { length out.old ≡ section_header_size * length layout.now.sections }
+    requires names { name_bytes layout.now < 2 ^ 32 }
+    requires name_table { name_table layout.now < 2 ^ 32 }
+    ensures { out.new ≡ section_header_bytes layout.now }
+{
+    let mut name = 0;
+    for (i, section) in layout.sections.as_slice().iter().enumerate() {
+        put_section_header(layout, section, i, name, out);
+        name += section.name.len() as u64 + 1;
+    }
+}

@@ -1,0 +1,30 @@
+//! The names of the sections (gABI, "String Table").
+ghost use Rattle.std.specs.Prelude.{◌≡◌, ◌+◌, ◌≤◌, [], ◌∷◌, ◌++◌, length};
+ghost use Rattle.wild_words.specs.Words.{place};
+ghost use Rattle.wild_plan.specs.Needs.{name_bytes};
+ghost use Rattle.wild_headers.specs.Headers.{names_of};
+
+use wild_plan::{Layout, Section};
+use wild_words::{put, put_u8};
+
+/// Writes the name of a section, and a zero behind it.
+#[tactic(auto, using(crate::proofs::HeaderLemmas::place_word_behind))]
+fn put_name(section: &Section, at: usize, out: &mut [u8])
+    requires { at + (length section.now.name + 1) ≤ length out.old }
+    ensures { out.new ≡ place at (section.now.name ++ 0 ∷ []) out.old }
+{
+    put(out, at, section.name.as_slice());
+    put_u8(out, at + section.name.len(), 0);
+}
+
+/// Writes the names of the sections into their room.
+pub fn write_section_names(layout: &Layout, out: &mut [u8])
+    requires room { length out.old ≡ name_bytes layout.now }
+    ensures { out.new ≡ names_of layout.now }
+{
+    let mut at = 0;
+    for section in layout.sections.as_slice() {
+        put_name(section, at, out);
+        at += section.name.len() + 1;
+    }
+}
