@@ -1,0 +1,70 @@
+-- Lists joined end to end, item by item with their numbers, and two such lists interleaved.
+use Rattle.std.proofs.Common.{◌≡◌, ℕ, zero, suc, ◌+◌, ◌<◌, List, [], ◌∷◌, ◌++◌, length, get_or, All, AllPairs, Contains, flat_map, arith}
+use Rattle.std.proofs.lemmas.List.Elements.{All-nil, All-cons, All-head, All-tail, All-append, Contains-append_left, Contains-append_right}
+use Rattle.wild_layout.specs.Faults.{flat_map_from}
+use Rattle.wild_geometry.proofs.ListLemmas.{AllPairs-nil, AllPairs-cons, AllPairs-head, AllPairs-tail, AllPairs-append, All-append-left, All-append-right}
+
+pub All-flat_map_from : {X Y : Type 0} (P : Y → Type 0) (f : ℕ → X → List Y) (i : ℕ) (xs : List X) → ((n k : ℕ) (d : X) → n ≡ i + k → k < length xs → All P (f n (get_or xs k d))) → All P (flat_map_from f i xs)
+All-flat_map_from P f i [] h = All-nil P
+All-flat_map_from P f i (x ∷ xs) h =
+    All-append P (f i x) (flat_map_from f (i + 1) xs) (h i 0 x (omega arith) (omega arith))
+    (All-flat_map_from P f (i + 1) xs (λ n k d e l. h n (suc k) d (omega arith) (omega arith)))
+
+pub AllPairs-flat_map_from : {X Y : Type 0} (R : Y → Y → Type 0) (f : ℕ → X → List Y) (i : ℕ) (xs : List X) → ((n k : ℕ) (d : X) → n ≡ i + k → k < length xs → AllPairs R (f n (get_or xs k d)))
+    → ((m n j k : ℕ) (d e : X) → m ≡ i + j → n ≡ i + k → j < k → k < length xs → All (λ a. All (R a) (f n (get_or xs k e))) (f m (get_or xs j d))) → AllPairs R (flat_map_from f i xs)
+AllPairs-flat_map_from R f i [] h p = AllPairs-nil R
+AllPairs-flat_map_from R f i (x ∷ xs) h p =
+    AllPairs-append R (f i x) (flat_map_from f (i + 1) xs)
+    (h i 0 x (omega arith) (omega arith))
+    (AllPairs-flat_map_from R f (i + 1) xs (λ n k d e l. h n (suc k) d (omega arith) (omega arith)) (λ m n j k d e a b lt l. p m n (suc j) (suc k) d e (omega arith) (omega arith) (omega arith) (omega arith)))
+    (λ q d l. All-flat_map_from (R (get_or (f i x) q d)) f (i + 1) xs (λ n k e a b. p i n 0 (suc k) x e (omega arith) (omega arith) (omega arith) (omega arith) q d l))
+
+pub Contains-flat_map_from : {X Y : Type 0} (f : ℕ → X → List Y) (i : ℕ) (xs : List X) (n k : ℕ) (d : X) (y : Y) → n ≡ i + k → k < length xs → Contains (f n (get_or xs k d)) y → Contains (flat_map_from f i xs) y
+Contains-flat_map_from f i [] n k d y e l c = absurd (omega arith)
+Contains-flat_map_from f i (x ∷ xs) n zero d y e l c =
+    let same : n ≡ i = omega arith in
+    Contains-append_left (f i x) (flat_map_from f (i + 1) xs) y (rw same at c)
+Contains-flat_map_from f i (x ∷ xs) n (suc k) d y e l c = Contains-append_right (f i x) (flat_map_from f (i + 1) xs) y (Contains-flat_map_from f (i + 1) xs n k d y (omega arith) (omega arith) c)
+
+-- ---- parts of a list whose items are apart
+
+AllPairs-left : {X : Type 0} (R : X → X → Type 0) (xs ys : List X) → AllPairs R (xs ++ ys) → AllPairs R xs
+AllPairs-left R [] ys p = AllPairs-nil R
+AllPairs-left R (x ∷ xs) ys p = AllPairs-cons R x xs (All-append-left (R x) xs ys (AllPairs-head R x (xs ++ ys) p)) (AllPairs-left R xs ys (AllPairs-tail R x (xs ++ ys) p))
+
+AllPairs-right : {X : Type 0} (R : X → X → Type 0) (xs ys : List X) → AllPairs R (xs ++ ys) → AllPairs R ys
+AllPairs-right R [] ys p = p
+AllPairs-right R (x ∷ xs) ys p = AllPairs-right R xs ys (AllPairs-tail R x (xs ++ ys) p)
+
+AllPairs-cross : {X : Type 0} (R : X → X → Type 0) (xs ys : List X) → AllPairs R (xs ++ ys) → All (λ x. All (R x) ys) xs
+AllPairs-cross R [] ys p = All-nil (λ x. All (R x) ys)
+AllPairs-cross R (x ∷ xs) ys p = All-cons (λ z. All (R z) ys) x xs (All-append-right (R x) xs ys (AllPairs-head R x (xs ++ ys) p)) (AllPairs-cross R xs ys (AllPairs-tail R x (xs ++ ys) p))
+
+-- ---- what f and g give, item by item
+
+abbrev pub both : {X Y : Type 0} → (ℕ → X → List Y) → (X → List Y) → ℕ → X → List Y
+both f g n x = f n x ++ g x
+
+pub All-both : {X Y : Type 0} (P : Y → Type 0) (f : ℕ → X → List Y) (g : X → List Y) (i : ℕ) (xs : List X) → All P (flat_map_from f i xs) → All P (flat_map g xs) → All P (flat_map_from (both f g) i xs)
+All-both P f g i [] a b = All-nil P
+All-both P f g i (x ∷ xs) a b =
+    All-append P (f i x ++ g x) (flat_map_from (both f g) (i + 1) xs)
+    (All-append P (f i x) (g x) (All-append-left P (f i x) (flat_map_from f (i + 1) xs) a) (All-append-left P (g x) (flat_map g xs) b))
+    (All-both P f g (i + 1) xs (All-append-right P (f i x) (flat_map_from f (i + 1) xs) a) (All-append-right P (g x) (flat_map g xs) b))
+
+pub AllPairs-both : {X Y : Type 0} (R : Y → Y → Type 0) (f : ℕ → X → List Y) (g : X → List Y) (i : ℕ) (xs : List X) → ((x y : Y) → R x y → R y x) → AllPairs R (flat_map_from f i xs) → AllPairs R (flat_map g xs) → All (λ a. All (R a) (flat_map g xs)) (flat_map_from f i xs) → AllPairs R (flat_map_from (both f g) i xs)
+AllPairs-both R f g i [] sym p q c = AllPairs-nil R
+AllPairs-both R f g i (x ∷ xs) sym p q c =
+    let fs = flat_map_from f (i + 1) xs in
+    let gs = flat_map g xs in
+    let front = All-append-left (λ a. All (R a) (g x ++ gs)) (f i x) fs c in
+    let behind = All-append-right (λ a. All (R a) (g x ++ gs)) (f i x) fs c in
+    let later = AllPairs-both R f g (i + 1) xs sym (AllPairs-right R (f i x) fs p) (AllPairs-right R (g x) gs q) (λ k d l. All-append-right (R (get_or fs k d)) (g x) gs (behind k d l)) in
+    let across = AllPairs-cross R (f i x) fs p in
+    let across2 = AllPairs-cross R (g x) gs q in
+    AllPairs-append R (f i x ++ g x) (flat_map_from (both f g) (i + 1) xs)
+    (AllPairs-append R (f i x) (g x) (AllPairs-left R (f i x) fs p) (AllPairs-left R (g x) gs q) (λ k d l. All-append-left (R (get_or (f i x) k d)) (g x) gs (front k d l)))
+    later
+    (All-append (λ a. All (R a) (flat_map_from (both f g) (i + 1) xs)) (f i x) (g x)
+    (λ k d l. All-both (R (get_or (f i x) k d)) f g (i + 1) xs (across k d l) (All-append-right (R (get_or (f i x) k d)) (g x) gs (front k d l)))
+    (λ k d l. All-both (R (get_or (g x) k d)) f g (i + 1) xs (λ m e n. sym (get_or fs m e) (get_or (g x) k d) (All-append-left (R (get_or fs m e)) (g x) gs (behind m e n) k d l)) (across2 k d l)))

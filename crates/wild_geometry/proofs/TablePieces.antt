@@ -1,0 +1,284 @@
+-- What the groups give to the parts lies in the image, each piece apart from the others.
+use Rattle.std.proofs.Common.{◌≡◌, ℕ, zero, suc, ◌+◌, ◌-◌, ◌*◌, ◌<◌, ◌≤◌, ◌⊎◌, inl, inr, ◌==◌, true, false, Bool, List, [], ◌∷◌, ◌++◌, length, get_or, take, All, AllPairs, Contains, Option, Some, slice_get, flat_map, refl, sym, ap, ◌∙◌, arith, subst}
+use Rattle.std.proofs.lemmas.Bool.{cases_Bool, cases_order, and_parts, or_cases, leb-true, eqb-true, eqb-false}
+use Rattle.std.proofs.lemmas.Option.{slice_get-get_or, same_Some}
+use Rattle.std.proofs.lemmas.List.Elements.{All-nil, All-cons, Contains-append_left}
+use Rattle.wild_records.specs.FileHeader.{file_header_size}
+use Rattle.wild_words.specs.Overlay.{Piece, Apart, AreApart}
+use Rattle.wild_plan.specs.declared.part.Part.{Part}
+use Rattle.wild_plan.specs.declared.part.Role.{Role}
+use Rattle.wild_plan.specs.declared.part.Role.TheVariants as role
+use Rattle.wild_plan.specs.declared.input.InputSection.{InputSection}
+use Rattle.wild_plan.specs.declared.file.Group.{Group}
+use Rattle.wild_plan.specs.declared.layout.Layout.{Layout}
+use Rattle.wild_plan.specs.Lists.{total}
+use Rattle.wild_plan.specs.Lookups.{is_filled, takes_file_bytes, image_size}
+use Rattle.wild_plan.specs.Contents.{given}
+use Rattle.wild_plan.specs.Needs.{whole_of}
+use Rattle.wild_plan.specs.Places.{role_place, has_role, takes_room, ends_low}
+use Rattle.wild_headers.specs.Headers.{offset_of_role}
+use Rattle.wild_layout.specs.Content.{whole_bytes, content}
+use Rattle.wild_layout.specs.Image.{some_piece, given_before, table_piece, table_pieces, owned_pieces, group_pieces, section_piece, pieces}
+use Rattle.wild_layout.specs.Faults.{flat_map_from}
+use Rattle.wild_layout.specs.Geometry.{PartLies, IsPiece, HasTables}
+use Rattle.wild_geometry.proofs.ListLemmas.{All-flat_map, All-optional, ItemAt-within}
+use Rattle.wild_geometry.proofs.InterleaveLemmas.{All-flat_map_from, AllPairs-flat_map_from, Contains-flat_map_from, All-both, AllPairs-both}
+use Rattle.wild_geometry.proofs.ClauseLemmas.{Laid}
+use Rattle.wild_geometry.proofs.OrderLemmas.{Takes, EndsBy-image, Follows, PartsFollow-from_order}
+use Rattle.wild_geometry.proofs.TableLemmas.{role_place-1, role_place-2, role_place-3, StandsAt, StandsAt-from_test, StandsAt-from_missing}
+use Rattle.wild_geometry.proofs.ShareLemmas.{size_from_shares, content_is_given, content_of_raw, content_of_first, length-whole_bytes}
+use Rattle.wild_geometry.proofs.SectionLemmas.{all_sections, Stood, Runs}
+use Rattle.wild_geometry.proofs.PieceLemmas.{RangesApart, parts_apart, piece_of, place_is, section_pieces, section_pieces_by_group, Standing, section_pieces_apart, InImage, section_pieces_within}
+
+-- ---- sums
+
+total_to : {X : Type 0} (f : X → ℕ) (xs : List X) (j k : ℕ) (d : X) → j < k → k ≤ length xs → total f (take j xs) + f (get_or xs j d) ≤ total f (take k xs)
+total_to f [] j k d l m = absurd (omega arith)
+total_to f (x ∷ xs) j zero d l m = absurd (omega arith)
+total_to f (x ∷ xs) zero (suc k) d l m = omega arith
+total_to f (x ∷ xs) (suc j) (suc k) d l m = let a = total_to f xs j k d (omega arith) (omega arith) in omega arith
+
+total_within : {X : Type 0} (f : X → ℕ) (xs : List X) (j : ℕ) (d : X) → j < length xs → total f (take j xs) + f (get_or xs j d) ≤ total f xs
+total_within f [] j d l = absurd (omega arith)
+total_within f (x ∷ xs) zero d l = omega arith
+total_within f (x ∷ xs) (suc j) d l = let a = total_within f xs j d (omega arith) in omega arith
+
+-- ---- parts
+
+not_raw_takes : (l : Layout) (p : Part) → takes_room l p ≡ true → has_role role.Raw p ≡ false → Takes l p
+not_raw_takes l p h raw = elim (or_cases (has_role role.Raw p) (takes_file_bytes l p.section) h) [ inl e ↦ cc | inr t ↦ t ]
+
+pub PartLies-from_laid : (l : Layout) → Laid l → (i : ℕ) (p : Part) → i < length l.parts → PartLies l i (get_or l.parts i p)
+PartLies-from_laid l h i p m = record {
+  low = leb-true _ _ (and_parts _ (ends_low (get_or l.parts i p).offset (get_or l.parts i p).size) (h.sizes.parts i p m)).1;
+  shares = size_from_shares l.groups 0 l.parts h.shares.sums i i p (omega arith) m;
+  tables = λ raw j g n. content_is_given l h.counts h.shares h.needed i p m raw j g n;
+  ends = λ raw some. EndsBy-image l i p m (not_raw_takes l (get_or l.parts i p) (h.parts.room i p m) raw) some;
+}
+
+-- ---- what a group gives to a part
+
+-- group j's bytes of part i, where there are some
+record Given (l : Layout) (i : ℕ) (p : Part) (j : ℕ) (n : ℕ) : Type 0 where
+  raw : has_role role.Raw p ≡ false
+  takes : Takes l p
+  share : (g : Group) → given i (get_or l.groups j g) ≡ n
+  some : 1 ≤ n
+  ends : given_before l i j + n ≤ p.size
+
+given_from_content : (l : Layout) → Laid l → (i : ℕ) (p : Part) → i < length l.parts → (j : ℕ) (g : Group) → j < length l.groups → 1 ≤ length (content l (get_or l.parts i p).role (get_or l.groups j g)) → Given l i (get_or l.parts i p) j (length (content l (get_or l.parts i p).role (get_or l.groups j g)))
+given_from_content l h i p m j g n some =
+    let q = get_or l.parts i p in
+    elim (cases_Bool (has_role role.Raw q)) [
+      | inl t ↦ absurd (let z = content_of_raw l q.role (get_or l.groups j g) (eqb-true _ _ t) in omega arith)
+      | inr raw ↦
+          (let lies = PartLies-from_laid l h i p m in
+          let share = lies.tables raw j g n in
+          let sum = lies.shares in
+          let within = total_within (given i) l.groups j g n in
+          record {
+            raw = raw;
+            takes = not_raw_takes l q (h.parts.room i p m) raw;
+            share = λ f. ap (given i) (same l.groups j f g n) ∙ sym share;
+            some = some;
+            ends = omega arith;
+          })
+    ]
+  where
+    same : {X : Type 0} (xs : List X) (k : ℕ) (d e : X) → k < length xs → get_or xs k d ≡ get_or xs k e
+    same [] k d e l = absurd (omega arith)
+    same (x ∷ xs) zero d e l = refl
+    same (x ∷ xs) (suc k) d e l = same xs k d e (omega arith)
+
+All-some : (P : Piece → Type 0) (at : ℕ) (bs : List ℕ) → (1 ≤ length bs → P (record { at = at; bytes = bs })) → All P (some_piece at bs)
+All-some P at bs h =
+    elim (cases_Bool (length bs == 0)) [
+      | inl t ↦ rw t (All-nil P)
+      | inr f ↦ rw f (All-cons P (record { at = at; bytes = bs }) [] (h (let e = eqb-false (length bs) 0 f in omega arith)) (All-nil P))
+    ]
+
+AllPairs-some : (R : Piece → Piece → Type 0) (at : ℕ) (bs : List ℕ) → AllPairs R (some_piece at bs)
+AllPairs-some R at bs =
+    elim (cases_Bool (length bs == 0)) [
+      | inl t ↦ rw t (λ i j d l m. absurd (omega arith))
+      | inr f ↦ rw f (λ i j d l m. absurd (omega arith))
+    ]
+
+abbrev piece_in : Layout → ℕ → Part → ℕ → List ℕ → Piece
+piece_in l i p j bs = record { at = p.offset + given_before l i j; bytes = bs }
+
+-- ---- apart
+
+tables_apart : (l : Layout) → AllPairs (Follows l) l.parts → (i k : ℕ) (p q : Part) (a b : ℕ) (xs ys : List ℕ) → slice_get l.parts i ≡ Some p → slice_get l.parts k ≡ Some q → Given l i p a (length xs) → Given l k q b (length ys) → b ≤ length l.groups → Group → (i ≡ k → a < b) → Apart (piece_in l i p a xs) (piece_in l k q b ys)
+tables_apart l f i k p q a b xs ys is at x y few g order =
+    let u = x.ends in
+    let v = y.ends in
+    elim (cases_order i k) [
+      | inl e ↦
+          (let same : p ≡ q = same_Some p q (sym is ∙ ap (slice_get l.parts) e ∙ at) in
+          let one = ap (λ (r : Part). r.offset) same in
+          let s = x.share g in
+          let before = total_to (given i) l.groups a b g (order e) few in
+          let on = ap (λ (n : ℕ). given_before l n b) e in
+          inl (omega arith))
+      | inr (inl before) ↦ elim (parts_apart l f i k p q is at (λ e. omega arith) x.takes y.takes) [ inl c ↦ inl (omega arith) | inr d ↦ inr (omega arith) ]
+      | inr (inr behind) ↦ elim (parts_apart l f i k p q is at (λ e. omega arith) x.takes y.takes) [ inl c ↦ inl (omega arith) | inr d ↦ inr (omega arith) ]
+    ]
+
+section_apart : (l : Layout) → AllPairs (Follows l) l.parts → (i : ℕ) (p : Part) (j : ℕ) (xs : List ℕ) (s : InputSection) → slice_get l.parts i ≡ Some p → Given l i p j (length xs) → Stood l s → Apart (piece_in l i p j xs) (piece_of l s)
+section_apart l f i p j xs s is x st =
+    let u = x.ends in
+    let place = place_is l s st in
+    let len = st.length in
+    let from = st.from in
+    let to = st.to in
+    let differ : i ≡ s.part → ⊥ = λ e.
+    (let same : p ≡ st.part = same_Some p st.part (sym is ∙ ap (slice_get l.parts) e ∙ st.is) in
+    let raw : role_place p.role ≡ 0 = ap (λ (r : Part). role_place r.role) same ∙ ap role_place st.raw in
+    eqb-false (role_place p.role) 0 x.raw raw) in
+    elim (parts_apart l f i s.part p st.part is st.is differ x.takes st.takes) [ inl c ↦ inl (omega arith) | inr d ↦ inr (omega arith) ]
+
+-- ---- all pieces
+
+abbrev given_pieces : Layout → List Piece
+given_pieces l = flat_map_from (table_pieces l) 0 l.groups
+
+abbrev content_at : Layout → ℕ → Part → ℕ → Group → List ℕ
+content_at l i p j g = content l (get_or l.parts i p).role (get_or l.groups j g)
+
+abbrev piece_at : Layout → ℕ → Part → ℕ → Group → Piece
+piece_at l i p j g = piece_in l i (get_or l.parts i p) j (content_at l i p j g)
+
+-- what holds of each piece of a group
+each_given : (l : Layout) (P : Piece → Type 0) (n j : ℕ) (g : Group) → n ≡ j → ((i : ℕ) (p : Part) → i < length l.parts → 1 ≤ length (content_at l i p j g) → P (piece_at l i p j g)) → All P (table_pieces l n (get_or l.groups j g))
+each_given l P n j g at h =
+    rw at (All-flat_map_from P (table_piece l j (get_or l.groups j g)) 0 l.parts (λ m i p e low. one m i p (omega arith) low))
+  where
+    one : (m i : ℕ) (p : Part) → m ≡ i → i < length l.parts → All P (table_piece l j (get_or l.groups j g) m (get_or l.parts i p))
+    one m i p e low = rw e (All-some P ((get_or l.parts i p).offset + given_before l i j) (content_at l i p j g) (h i p low))
+
+two_given : (l : Layout) → Laid l → AllPairs (Follows l) l.parts → (i k : ℕ) (p q : Part) (a b : ℕ) (g f : Group) → i < length l.parts → k < length l.parts → a < length l.groups → b < length l.groups → 1 ≤ length (content_at l i p a g) → 1 ≤ length (content_at l k q b f) → (i ≡ k → a < b) → Apart (piece_at l i p a g) (piece_at l k q b f)
+two_given l h follow i k p q a b g f li lk la lb x y order =
+    tables_apart l follow i k (get_or l.parts i p) (get_or l.parts k q) a b (content_at l i p a g) (content_at l k q b f)
+    (slice_get-get_or l.parts i p li) (slice_get-get_or l.parts k q lk)
+    (given_from_content l h i p li a g la x) (given_from_content l h k q lk b f lb y)
+    (omega arith) g order
+
+-- the pieces of one group
+group_apart : (l : Layout) → Laid l → AllPairs (Follows l) l.parts → (n j : ℕ) (g : Group) → n ≡ j → j < length l.groups → AllPairs Apart (table_pieces l n (get_or l.groups j g))
+group_apart l h follow n j g at low =
+    rw at (AllPairs-flat_map_from Apart (table_piece l j (get_or l.groups j g)) 0 l.parts
+    (λ m i p e m'. AllPairs-some Apart ((get_or l.parts i p).offset + given_before l m j) (content_at l i p j g))
+    (λ m o i k p q c d lt lk. two m o i k p q (omega arith) (omega arith) lt lk))
+  where
+    two : (m o i k : ℕ) (p q : Part) → m ≡ i → o ≡ k → i < k → k < length l.parts → All (λ a. All (Apart a) (table_piece l j (get_or l.groups j g) o (get_or l.parts k q))) (table_piece l j (get_or l.groups j g) m (get_or l.parts i p))
+    two m o i k p q c d lt lk =
+        rw (c, d) (All-some (λ a. All (Apart a) (table_piece l j (get_or l.groups j g) k (get_or l.parts k q))) ((get_or l.parts i p).offset + given_before l i j) (content_at l i p j g) (λ x.
+        All-some (Apart (piece_at l i p j g)) ((get_or l.parts k q).offset + given_before l k j) (content_at l k q j g) (λ y.
+        two_given l h follow i k p q j j g g (omega arith) lk low low x y (λ e. absurd (omega arith)))))
+
+given_apart : (l : Layout) → Laid l → AllPairs (Follows l) l.parts → AllPairs Apart (given_pieces l)
+given_apart l h follow =
+    AllPairs-flat_map_from Apart (table_pieces l) 0 l.groups
+    (λ n j g e low. group_apart l h follow n j g (omega arith) low)
+    (λ m n j k g f c d lt low. two m n j k g f (omega arith) (omega arith) lt low)
+  where
+    two : (m n j k : ℕ) (g f : Group) → m ≡ j → n ≡ k → j < k → k < length l.groups → All (λ a. All (Apart a) (table_pieces l n (get_or l.groups k f))) (table_pieces l m (get_or l.groups j g))
+    two m n j k g f c d lt low =
+        each_given l (λ a. All (Apart a) (table_pieces l n (get_or l.groups k f))) m j g c (λ i p li x.
+        each_given l (Apart (piece_at l i p j g)) n k f d (λ o q lk y.
+        two_given l h follow i o p q j k g f li lk (omega arith) low x y (λ e. lt)))
+
+given_and_sections : (l : Layout) → Laid l → Standing l → All (λ a. All (Apart a) (section_pieces l)) (given_pieces l)
+given_and_sections l h st =
+    All-flat_map_from (λ a. All (Apart a) (section_pieces l)) (table_pieces l) 0 l.groups (λ n j g e low.
+    each_given l (λ a. All (Apart a) (section_pieces l)) n j g (omega arith) (λ i p li x.
+    All-flat_map (Apart (piece_at l i p j g)) (section_piece l) (all_sections l) (λ k s m.
+    All-optional (Apart (piece_at l i p j g)) (is_filled l (get_or (all_sections l) k s)) (piece_of l (get_or (all_sections l) k s)) (λ c.
+    section_apart l st.follow i (get_or l.parts i p) j (content_at l i p j g) (get_or (all_sections l) k s) (slice_get-get_or l.parts i p li) (given_from_content l h i p li j g low x) (st.stood k s m c)))))
+
+given_within : (l : Layout) → Laid l → All (InImage l) (given_pieces l)
+given_within l h =
+    All-flat_map_from (InImage l) (table_pieces l) 0 l.groups (λ n j g e low.
+    each_given l (InImage l) n j g (omega arith) (λ i p li x.
+    let one = given_from_content l h i p li j g low x in
+    let ends = one.ends in
+    let in_image = EndsBy-image l i p li one.takes (omega arith) in
+    omega arith))
+
+Apart-other : (p q : Piece) → Apart p q → Apart q p
+Apart-other p q (inl a) = inr a
+Apart-other p q (inr a) = inl a
+
+pub AreApart-from_laid : (l : Layout) → Laid l → Runs l → All (λ s. is_filled l s ≡ true → Stood l s) (all_sections l) → AreApart (image_size l) (pieces l)
+unfolding pieces
+AreApart-from_laid l laid runs stood =
+    let h : Standing l = record { follow = (PartsFollow-from_order l 0 0 l.parts laid.order).pairs; ends = EndsBy-image l; runs = runs; stood = stood } in
+    let same = section_pieces_by_group l in
+    record {
+      within = All-both (InImage l) (table_pieces l) (owned_pieces l) 0 l.groups (given_within l laid) (subst (All (InImage l)) same (section_pieces_within l h));
+      apart = AllPairs-both Apart (table_pieces l) (owned_pieces l) 0 l.groups Apart-other (given_apart l laid h.follow) (subst (AllPairs Apart) same (section_pieces_apart l h)) (subst (λ (ps : List Piece). All (λ a. All (Apart a) ps) (given_pieces l)) same (given_and_sections l laid h));
+    }
+
+-- ---- the tables
+
+Contains-some : (at : ℕ) (bs : List ℕ) → 1 ≤ length bs → Contains (some_piece at bs) (record { at = at; bytes = bs })
+Contains-some at bs some =
+    elim (cases_Bool (length bs == 0)) [
+      | inl t ↦ absurd (let e = eqb-true (length bs) 0 t in omega arith)
+      | inr f ↦ rw f (0, omega arith, refl)
+    ]
+
+-- what stands once in the image stands where its part does
+IsPiece-from_part : (l : Layout) → Laid l → (r : Role) (at : ℕ) (s : StandsAt r at l.parts) → s.item.role ≡ r → has_role role.Raw s.item ≡ false → (length (whole_bytes l r) ≡ 0 → at ≤ image_size l) → Group → IsPiece l at (whole_bytes l r)
+unfolding pieces
+IsPiece-from_part l h r at s is raw empty g = by s.listed.0 s.listed.1 s.listed.2
+  where
+    by : (i : ℕ) → i < length l.parts → get_or l.parts i s.item ≡ s.item → IsPiece l at (whole_bytes l r)
+    by i low read =
+        let role_is : (get_or l.parts i s.item).role ≡ r = ap (λ (p : Part). p.role) read ∙ is in
+        let first : content_at l i s.item 0 g ≡ whole_bytes l r = ap (λ (q : Role). content l q (get_or l.groups 0 g)) role_is ∙ content_of_first l r g h.counts.some_group h.shares in
+        let offset : (get_or l.parts i s.item).offset ≡ at = ap (λ (p : Part). p.offset) read ∙ s.there in
+        let long = ap length first in
+        elim (cases_Bool (length (whole_bytes l r) == 0)) [
+          | inl t ↦
+              (let none = eqb-true (length (whole_bytes l r)) 0 t in
+              let low_enough = empty none in
+              record { within = omega arith; listed = λ some. absurd (omega arith) })
+          | inr f ↦
+              (let some : 1 ≤ length (whole_bytes l r) = (let e = eqb-false (length (whole_bytes l r)) 0 f in omega arith) in
+              let one = given_from_content l h i s.item low 0 g h.counts.some_group (omega arith) in
+              let ends = one.ends in
+              let in_image = EndsBy-image l i s.item low one.takes (omega arith) in
+              record { within = omega arith; listed = λ some. listed i low first offset some })
+        ]
+      where
+        listed : (i : ℕ) → i < length l.parts → content_at l i s.item 0 g ≡ whole_bytes l r → (get_or l.parts i s.item).offset ≡ at → 1 ≤ length (whole_bytes l r) → Contains (pieces l) (record { at = at; bytes = whole_bytes l r })
+        listed i low first offset some =
+            let long = ap length first in
+            let here : Contains (some_piece ((get_or l.parts i s.item).offset + given_before l i 0) (content_at l i s.item 0 g)) (piece_at l i s.item 0 g) = Contains-some ((get_or l.parts i s.item).offset + given_before l i 0) (content_at l i s.item 0 g) (omega arith) in
+            let in_tables = Contains-flat_map_from (table_piece l 0 (get_or l.groups 0 g)) 0 l.parts i i s.item (piece_at l i s.item 0 g) (omega arith) low here in
+            let in_group = Contains-append_left (table_pieces l 0 (get_or l.groups 0 g)) (owned_pieces l (get_or l.groups 0 g)) (piece_at l i s.item 0 g) in_tables in
+            let all = Contains-flat_map_from (group_pieces l) 0 l.groups 0 0 g (piece_at l i s.item 0 g) (omega arith) h.counts.some_group in_group in
+            let place : (get_or l.parts i s.item).offset + given_before l i 0 ≡ at = omega arith in
+            let P : ℕ → List ℕ → Type 0 = λ n bs. Contains (pieces l) (record { at = n; bytes = bs }) in
+            subst (λ (bs : List ℕ). P at bs) first (subst (λ (n : ℕ). P n (content_at l i s.item 0 g)) place all)
+
+pub HasTables-from_laid : (l : Layout) → Laid l → HasTables l
+HasTables-from_laid l h = by (ItemAt-within l.groups 0 h.counts.some_group).item
+  where
+    by : Group → HasTables l
+    by g =
+        let f = StandsAt-from_test role.FileHeader 0 0 l.parts h.roles.file_header in
+        let p = StandsAt-from_test role.ProgramHeaders file_header_size 0 l.parts h.roles.program_headers in
+        let s = StandsAt-from_missing role.SectionHeaders l.parts h.roles.section_headers in
+        let header_length = length-whole_bytes l role.FileHeader in
+        let sections_length = length-whole_bytes l role.SectionHeaders in
+        let some = h.counts.some_section in
+        let header = IsPiece-from_part l h role.FileHeader 0 f (role_place-1 f.item.role f.has) (rw f.has refl) (λ e. absurd (omega arith)) g in
+        let within = header.within in
+        record {
+          file_header = header;
+          program_headers = IsPiece-from_part l h role.ProgramHeaders file_header_size p (role_place-2 p.item.role p.has) (rw p.has refl) (λ e. omega arith) g;
+          section_headers = IsPiece-from_part l h role.SectionHeaders (offset_of_role role.SectionHeaders l.parts) s (role_place-3 s.item.role s.has) (rw s.has refl) (λ e. absurd (omega arith)) g;
+        }
