@@ -1,0 +1,191 @@
+-- The shares of the plan of n groups are what is needed, and its relocations have no faults.
+use Rattle.std.proofs.Common.{◌≡◌, ℕ, ◌+◌, ◌*◌, ◌-◌, ◌^◌, ◌<◌, ◌≤◌, ◌==◌, ◌%◌, inl, inr, Bool, true, false, if◌then◌else◌, ◌||◌, min, [], ◌∷◌, length, map, refl, sym, ap, ◌∙◌, arith}
+use Rattle.std.specs.Prelude.{Some, None, Ok, nat_le, nat_lt, slice_get}
+use Rattle.std.specs.List.{flat_map, range_with_len}
+use lib.IntN.{negsuc}
+use Rattle.std.proofs.lemmas.Bool.{cases_Bool, cases_lt, le-leb, lt-ltb, le-ltb}
+use Rattle.wild_words.specs.Words.{word}
+use Rattle.wild_plan.specs.declared.part.Part.{Part}
+use Rattle.wild_plan.specs.declared.part.Role.{Role}
+use Rattle.wild_plan.specs.declared.part.Role.TheVariants as role
+use Rattle.wild_plan.specs.declared.file.File.{File}
+use Rattle.wild_plan.specs.declared.file.Group.{Group}
+use Rattle.wild_plan.specs.declared.file.FileRole.TheVariants as file_role
+use Rattle.wild_plan.specs.Lists.{total}
+use Rattle.wild_plan.specs.Needs.{needs, needs_of, share}
+use Rattle.wild_plan.specs.Rows.{row_of}
+use Rattle.wild_plan.specs.Contents.{given}
+use Rattle.wild_plan.specs.Lookups.{is_read}
+use Rattle.wild_reloc.specs.TableX86_64.{x86_64_row}
+use Rattle.wild_reloc.specs.declared.info.RelocationSize.TheVariants.{ByteSize}
+use Rattle.wild_reloc.specs.declared.info.Width.TheVariants.{Four}
+use Rattle.wild_words.specs.Extents.{least_extent}
+use Rattle.wild_plan.specs.Treatment.{row_treatment, treatment}
+use Rattle.wild_layout.specs.declared.decision.Decision.TheVariants.{Field}
+use Rattle.wild_layout.specs.Decide.{decided, decide}
+use Rattle.wild_layout.specs.Sites.{field_site, site, extent_of}
+use Rattle.wild_layout.specs.Values.{raw_value, displacement, place_of}
+use Rattle.wild_layout.specs.Faults.{errors, flat_map_from, share_errors, part_errors, relocation_errors, section_errors, file_errors, group_errors}
+use Rattle.wild_made.specs.Made.{made_section, made_object, plain_file, made_files, made_symbol, made_group, made_relocation, made_parts, made, callee, start_of}
+use Rattle.wild_made.specs.Laws.{IsCount}
+use Rattle.wild_made.proofs.ListLemmas.{made_from, nothing_from, item_at}
+use Rattle.wild_made.proofs.GroupLemmas.{clauses_hold}
+
+-- ---- shares
+
+no_share_errors : (part group x y : ℕ) → x ≡ y → share_errors part group x y ≡ []
+no_share_errors part group x y e = let a = le-ltb x y (omega arith) in let b = le-ltb y x (omega arith) in rw (a, b) refl
+
+needs_made : (n i j : ℕ) (p : Part) → j < n → slice_get (made_parts n) i ≡ Some p → needs (made n) i j ≡ needs_of (made n) p.role i (made_group n j)
+unfolding needs made
+needs_made n i j p h e = rw (e, item_at (made_group n) 0 n j j h (omega arith)) refl
+
+-- what only the prelude needs
+prelude_total : (t : File → ℕ) (n i w : ℕ) → t (plain_file file_role.Prelude) ≡ w → t (made_object n i) ≡ 0 → t (plain_file file_role.Epilogue) ≡ 0 → total t (made_files n i) ≡ (if i == 0 then w else 0)
+prelude_total t n i w first own last =
+    elim (cases_Bool (i == 0)) [
+      | inl a ↦ elim (cases_Bool (i + 1 == n)) [ inl b ↦ rw (a, b, first, own, last) (omega arith) | inr b ↦ rw (a, b, first, own) (omega arith) ]
+      | inr a ↦ elim (cases_Bool (i + 1 == n)) [ inl b ↦ rw (a, b, own, last) refl | inr b ↦ rw (a, b, own) refl ]
+    ]
+
+own_needed : (n i j w : ℕ) (r : Role) (p : Part) → j < n → slice_get (made_parts n) i ≡ Some p → needs_of (made n) p.role i (made_group n j) ≡ min (2 ^ 64 - 1) (total (share (made n) r) (made_files n j)) → share (made n) r (plain_file file_role.Prelude) ≡ w
+    → w < 2 ^ 64 → given i (made_group n j) ≡ (if j == 0 then w else 0) → given i (made_group n j) ≡ needs (made n) i j
+own_needed n i j w r p h at is whole small has =
+    let e = prelude_total (share (made n) r) n j w whole refl refl in
+    has ∙ sym (needs_made n i j p h at ∙ is ∙ rw e (limit (j == 0) w small))
+  where
+    limit : (b : Bool) (w : ℕ) → w < 2 ^ 64 → min (2 ^ 64 - 1) (if b then w else 0) ≡ (if b then w else 0)
+    limit true w small = omega arith
+    limit false w small = refl
+
+-- a group has the bytes of a part that it is given
+has_given : (n i j c : ℕ) → given i (made_group n 0) ≡ c → given i (made_group n 1) ≡ 0 → given i (made_group n j) ≡ (if j == 0 then c else 0)
+has_given n i j c first later = elim (cases_Bool (j == 0)) [ inl a ↦ rw a first | inr a ↦ rw a later ]
+
+header_needed : (n j : ℕ) → j < n → given 0 (made_group n j) ≡ needs (made n) 0 j
+unfolding made
+header_needed n j h = own_needed n 0 j 64 role.FileHeader _ h refl refl refl (omega arith) (has_given n 0 j 64 refl refl)
+
+segments_needed : (n j : ℕ) → j < n → given 1 (made_group n j) ≡ needs (made n) 1 j
+unfolding made
+segments_needed n j h = own_needed n 1 j 56 role.ProgramHeaders _ h refl refl refl (omega arith) (has_given n 1 j 56 refl refl)
+
+code_needed : (n j : ℕ) → j < n → given 2 (made_group n j) ≡ needs (made n) 2 j
+code_needed n j h = sym (needs_made n 2 j _ h refl)
+
+names_needed : (n j : ℕ) → j < n → given 3 (made_group n j) ≡ needs (made n) 3 j
+unfolding made
+names_needed n j h = own_needed n 3 j 17 role.Shstrtab _ h refl refl refl (omega arith) (has_given n 3 j 17 refl refl)
+
+sections_needed : (n j : ℕ) → j < n → given 4 (made_group n j) ≡ needs (made n) 4 j
+unfolding made
+sections_needed n j h = own_needed n 4 j 192 role.SectionHeaders _ h refl refl refl (omega arith) (has_given n 4 j 192 refl refl)
+
+part_clean : (n i : ℕ) → ((j : ℕ) → j < n → given i (made_group n j) ≡ needs (made n) i j) → flat_map_from (λ j (g : Group). share_errors i j (given i g) (needs (made n) i j)) 0 (made_from (made_group n) 0 n) ≡ []
+part_clean n i h = nothing_from (λ j (g : Group). share_errors i j (given i g) (needs (made n) i j)) (made_group n) 0 n (λ j low high. no_share_errors i j _ _ (h j (omega arith)))
+
+pub no_part_errors : (n : ℕ) → flat_map_from (part_errors (made n)) 0 (made n).parts ≡ []
+unfolding made
+no_part_errors n =
+    simp (part_clean n 0 (header_needed n), part_clean n 1 (segments_needed n), part_clean n 2 (code_needed n), part_clean n 3 (names_needed n), part_clean n 4 (sections_needed n)) refl
+
+-- ---- values
+
+raw_value_made : (n c : ℕ) → c < n → raw_value (made n) c ≡ Some (start_of c)
+unfolding raw_value made
+raw_value_made n c h = let e = item_at made_symbol 0 n c c h (omega arith) in simp e refl
+
+-- a distance in the field's range
+in_range : (s p : ℕ) → 4194432 ≤ s → s < 8388736 → 4194432 ≤ p → p < 8388736 → (nat_lt (((s + 18446744073709551612) % 2 ^ 64 + (2 ^ 64 - p % 2 ^ 64)) % 2 ^ 64) (2 ^ 31) || nat_le (2 ^ 64 - 2 ^ 31) (((s + 18446744073709551612) % 2 ^ 64 + (2 ^ 64 - p % 2 ^ 64)) % 2 ^ 64)) ≡ true
+in_range s p a b c d =
+    let e : (s + 18446744073709551612) % 2 ^ 64 ≡ s - 4 = omega arith in
+    let f : p % 2 ^ 64 ≡ p = omega arith in
+    elim (cases_lt (s - 4) p) [
+      | inl low ↦
+          (let g : (s - 4 + (2 ^ 64 - p)) % 2 ^ 64 ≡ s - 4 + (2 ^ 64 - p) = omega arith in
+          let small : nat_lt (s - 4 + (2 ^ 64 - p)) (2 ^ 31) ≡ false = le-ltb _ _ (omega arith) in
+          let large : nat_le (2 ^ 64 - 2 ^ 31) (s - 4 + (2 ^ 64 - p)) ≡ true = le-leb _ _ (omega arith) in
+          rw (e, f, g, small, large) refl)
+      | inr high ↦
+          (let g : (s - 4 + (2 ^ 64 - p)) % 2 ^ 64 ≡ s - 4 - p = omega arith in
+          let small : nat_lt (s - 4 - p) (2 ^ 31) ≡ true = lt-ltb _ _ (omega arith) in
+          rw (e, f, g, small) refl)
+    ]
+
+allowed : (n i j c : ℕ) → IsCount n → i < n → j < 8 → c < n → (nat_lt (((4194432 + 64 * c + 18446744073709551612) % 2 ^ 64 + (2 ^ 64 - (4194432 + 64 * i + (8 * j + 1)) % 2 ^ 64)) % 2 ^ 64) (2 ^ 31)
+    || nat_le (2 ^ 64 - 2 ^ 31) (((4194432 + 64 * c + 18446744073709551612) % 2 ^ 64 + (2 ^ 64 - (4194432 + 64 * i + (8 * j + 1)) % 2 ^ 64)) % 2 ^ 64)) ≡ true
+allowed n i j c h low call named = let few = h.few in in_range (4194432 + 64 * c) (4194432 + 64 * i + (8 * j + 1)) (omega arith) (omega arith) (omega arith) (omega arith)
+
+-- the value of a call
+abbrev call_value : ℕ → ℕ → ℕ → ℕ
+call_value n i j = displacement (start_of (callee n i j)) (negsuc 3) (place_of (made_section n i) (made_relocation n i j))
+
+decided_made : (n i j : ℕ) → IsCount n → i < n → j < 8 → decided (made n) (made_section n i) (made_relocation n i j) ≡ Ok (Field (ByteSize Four) (call_value n i j))
+unfolding decided treatment row_treatment row_of x86_64_row made_section made
+decided_made n i j h low call =
+    let some = h.some in
+    let named : callee n i j < n = omega arith in
+    simp (raw_value_made n (callee n i j) named, allowed n i j (callee n i j) h low call named) refl
+
+listed_made : (n i j : ℕ) → j < 8 → slice_get (made_section n i).relocations j ≡ Some (made_relocation n i j)
+unfolding made_section
+listed_made n i j call = item_at (made_relocation n i) 0 8 j j call (omega arith)
+
+relocation_clean : (n i j g f k : ℕ) → IsCount n → i < n → j < 8 → relocation_errors (made n) g f k (made_section n i) j ≡ []
+unfolding relocation_errors decide
+relocation_clean n i j g f k h low call = rw (listed_made n i j call, decided_made n i j h low call) refl
+
+relocations_clean : (n i k : ℕ) (g f : ℕ) → IsCount n → i < n → flat_map (relocation_errors (made n) g f k (made_section n i)) (range_with_len 0 8) ≡ []
+relocations_clean n i k g f h low =
+    let e = relocation_errors (made n) g f k (made_section n i) in
+    let c : (j : ℕ) → j < 8 → e j ≡ [] = λ j call. relocation_clean n i j g f k h low call in
+    simp (c 0 (omega arith), c 1 (omega arith), c 2 (omega arith), c 3 (omega arith), c 4 (omega arith), c 5 (omega arith), c 6 (omega arith), c 7 (omega arith)) refl
+
+site_made : (n i j : ℕ) → IsCount n → i < n → j < 8 → site (made n) (made_section n i) j ≡ field_site (made_section n i) (8 * j + 1) (ByteSize Four) (call_value n i j) ∷ []
+unfolding site decide
+site_made n i j h low call = rw (listed_made n i j call, decided_made n i j h low call) refl
+
+-- eight fields of four bytes
+call_extents : (n i : ℕ) → IsCount n → i < n → map extent_of (flat_map (site (made n) (made_section n i)) (range_with_len 0 8)) ≡ map (λ (j : ℕ). record { start = 8 * j + 1; end = 8 * j + 1 + 4 }) (range_with_len 0 8)
+unfolding word
+call_extents n i h low =
+    let s = site (made n) (made_section n i) in
+    let c : (j : ℕ) → j < 8 → s j ≡ field_site (made_section n i) (8 * j + 1) (ByteSize Four) (call_value n i j) ∷ [] = λ j call. site_made n i j h low call in
+    simp (c 0 (omega arith), c 1 (omega arith), c 2 (omega arith), c 3 (omega arith), c 4 (omega arith), c 5 (omega arith), c 6 (omega arith), c 7 (omega arith)) refl
+
+-- no byte is of two fields
+none_shared : (n i : ℕ) → IsCount n → i < n → least_extent (map extent_of (flat_map (site (made n) (made_section n i)) (range_with_len 0 8))) ≡ None
+unfolding least_extent
+none_shared n i h low = ap least_extent (call_extents n i h low) ∙ refl
+
+relocations_made : (n i : ℕ) → length (made_section n i).relocations ≡ 8
+unfolding made_section
+relocations_made n i = refl
+
+is_read_made : (n i : ℕ) → is_read (made_section n i) ≡ true
+unfolding made_section
+is_read_made n i = refl
+
+section_clean : (n i g f k : ℕ) → IsCount n → i < n → section_errors (made n) g f k (made_section n i) ≡ []
+unfolding section_errors
+section_clean n i g f k h low = rw (is_read_made n i, relocations_made n i, relocations_clean n i k g f h low, none_shared n i h low) refl
+
+files_clean : (n i g k : ℕ) → IsCount n → i < n → flat_map_from (file_errors (made n) g) k (made_files n i) ≡ []
+unfolding file_errors
+files_clean n i g k h low =
+    let one = section_clean n i g k 0 h low in
+    let two = section_clean n i g (k + 1) 0 h low in
+    elim (cases_Bool (i == 0)) [
+      | inl a ↦ elim (cases_Bool (i + 1 == n)) [ inl b ↦ simp (a, b, two) refl | inr b ↦ simp (a, b, two) refl ]
+      | inr a ↦ elim (cases_Bool (i + 1 == n)) [ inl b ↦ simp (a, b, one) refl | inr b ↦ simp (a, b, one) refl ]
+    ]
+
+pub no_group_errors : (n : ℕ) → IsCount n → flat_map_from (group_errors (made n)) 0 (made n).groups ≡ []
+unfolding group_errors made
+no_group_errors n h = nothing_from (group_errors (made n)) (made_group n) 0 n (λ k low high. files_clean n k k 0 h (omega arith))
+
+-- ---- no faults
+
+pub no_errors : (n : ℕ) → IsCount n → errors (made n) ≡ []
+unfolding errors
+no_errors n h = rw (clauses_hold n h, no_part_errors n, no_group_errors n h) refl

@@ -1,0 +1,162 @@
+-- The clauses on sizes, counts, parts, sections and segments hold of the plan of n groups.
+use Rattle.std.proofs.Common.{◌≡◌, ℕ, ◌+◌, ◌*◌, ◌-◌, ◌^◌, ◌<◌, ◌==◌, ◌%◌, inl, inr, Bool, true, false, not, ◌||◌, [], ◌∷◌, drop, refl, arith}
+use Rattle.std.specs.Prelude.{None, Ok, nat_le, codes}
+use Rattle.std.specs.List.{list_all, list_any}
+use lib.Count.{ones}
+use Rattle.std.proofs.lemmas.Bool.{cases_Bool, le-leb, lt-ltb, ne_eqb}
+use Rattle.wild_plan.specs.declared.file.File.{File}
+use Rattle.wild_plan.specs.declared.file.FileRole.TheVariants as file_role
+use Rattle.wild_plan.specs.declared.input.InputSection.{InputSection}
+use Rattle.wild_plan.specs.Lists.{first_failing, total}
+use Rattle.wild_plan.specs.Lookups.{bit, image_size}
+use Rattle.wild_plan.specs.Places.{group_fits, relocations_of, relocations_in, relocation_count}
+use Rattle.wild_plan.specs.Segments.{has_byte, is_asked, bytes_are_loaded}
+use Rattle.wild_plan.specs.Contents.{each_in, each_section}
+use Rattle.wild_plan.specs.declared.section.Section.{Section}
+use Rattle.wild_plan.specs.declared.section.Side.{Side}
+use Rattle.wild_plan.specs.declared.section.Side.TheVariants as side
+use Rattle.wild_plan.proofs.CoverLemmas.{all_below_from}
+use Rattle.wild_records.specs.Abi.Section.{sht_progbits, sht_strtab}
+use Rattle.wild_plan.specs.WellFormed.{check_sizes, check_counts, check_order, check_roles, check_sections, check_segments}
+use Rattle.wild_made.specs.Made.{made_section, made_object, plain_file, made_files, made_symbol, made_group, section_with, made_sections, made_segment, made}
+use Rattle.wild_made.specs.Laws.{IsCount}
+use Rattle.wild_made.proofs.ListLemmas.{made_from, none_fails, total_same, length_made}
+
+-- ---- the files of a group
+
+pub all_files : (t : File → Bool) (n i : ℕ) → t (plain_file file_role.Prelude) ≡ true → t (made_object n i) ≡ true → t (plain_file file_role.Epilogue) ≡ true → list_all t (made_files n i) ≡ true
+all_files t n i first own last =
+    elim (cases_Bool (i == 0)) [
+      | inl a ↦ elim (cases_Bool (i + 1 == n)) [ inl b ↦ rw (a, b, first, own, last) refl | inr b ↦ rw (a, b, first, own) refl ]
+      | inr a ↦ elim (cases_Bool (i + 1 == n)) [ inl b ↦ rw (a, b, own, last) refl | inr b ↦ rw (a, b, own) refl ]
+    ]
+
+pub each_made : (t : InputSection → Bool) (n i : ℕ) → t (made_section n i) ≡ true → each_section t (made_group n i) ≡ true
+each_made t n i h = all_files (each_in t) n i refl (rw h refl) refl
+
+-- each input section passes
+pub sections_pass : (t : InputSection → Bool) (n : ℕ) → ((i : ℕ) → i < n → t (made_section n i) ≡ true) → first_failing (each_section t) 0 (made_from (made_group n) 0 n) ≡ None
+sections_pass t n h = none_fails (each_section t) (made_group n) 0 0 n (λ k low high. each_made t n k (h k (omega arith)))
+
+-- ---- clause 1
+
+group_sizes : (n : ℕ) → IsCount n → first_failing group_fits 0 (made_from (made_group n) 0 n) ≡ None
+unfolding made_section
+group_sizes n c = sections_pass (λ (s : InputSection). nat_le (s.address + s.size) (2 ^ 62)) n (λ i h. le-leb (4194432 + 64 * i + 64) (2 ^ 62) (let f = c.few in omega arith))
+
+pub sizes_hold : (n : ℕ) → IsCount n → check_sizes (made n) ≡ Ok tt
+unfolding check_sizes made ones
+sizes_hold n c =
+    let few = c.few in
+    let a = le-leb (4194432 + 64 * n) (2 ^ 62) (omega arith) in
+    let b = le-leb (128 + 64 * n) (2 ^ 62) (omega arith) in
+    let d = le-leb (128 + 64 * n + 17) (2 ^ 62) (omega arith) in
+    let e = le-leb (152 + 64 * n + 192) (2 ^ 62) (omega arith) in
+    let f = le-leb (4194304 + (128 + 64 * n)) (2 ^ 62) (omega arith) in
+    let g = le-leb (0 + (128 + 64 * n)) (2 ^ 62) (omega arith) in
+    simp (a, b, d, e, f, g, group_sizes n c) refl
+
+-- ---- clause 2
+
+pub total_files : (t : File → ℕ) (n i : ℕ) → t (plain_file file_role.Prelude) ≡ 0 → t (plain_file file_role.Epilogue) ≡ 0 → total t (made_files n i) ≡ t (made_object n i)
+total_files t n i first last =
+    elim (cases_Bool (i == 0)) [
+      | inl a ↦ elim (cases_Bool (i + 1 == n)) [ inl b ↦ rw (a, b, first, last) (omega arith) | inr b ↦ rw (a, b, first) (omega arith) ]
+      | inr a ↦ elim (cases_Bool (i + 1 == n)) [ inl b ↦ rw (a, b, last) (omega arith) | inr b ↦ rw (a, b) (omega arith) ]
+    ]
+
+group_relocations : (n i : ℕ) → relocations_of (made_group n i) ≡ 8
+unfolding made_section
+group_relocations n i = total_files relocations_in n i refl refl
+
+pub relocations_made : (n : ℕ) → relocation_count (made n) ≡ 8 * n
+unfolding made
+relocations_made n = total_same relocations_of (made_group n) 8 0 n (λ k low high. group_relocations n k)
+
+pub counts_hold : (n : ℕ) → IsCount n → check_counts (made n) ≡ Ok tt
+unfolding check_counts made
+counts_hold n c =
+    let some = c.some in
+    let few = c.few in
+    let symbols = length_made made_symbol 0 n in
+    let groups = length_made (made_group n) 0 n in
+    let a = lt-ltb n (2 ^ 32 - 1) (omega arith) in
+    let b = lt-ltb (8 * n) (2 ^ 32 - 1) (omega arith) in
+    let d = le-leb 1 n some in
+    simp (symbols, groups, relocations_made n, a, b, d) refl
+
+-- ---- clauses 3, 4 and 5
+
+pub order_holds : (n : ℕ) → IsCount n → check_order (made n) ≡ Ok tt
+unfolding check_order made
+order_holds n c =
+    let a = le-leb (128 + 64 * n) (128 + 64 * n) (omega arith) in
+    let b = le-leb (128 + 64 * n + 17) (152 + 64 * n) (omega arith) in
+    let d : (128 + 64 * n) % 1 ≡ 0 = omega arith in
+    let e : (152 + 64 * n) % 8 ≡ 0 = omega arith in
+    simp (a, b, d, e) refl
+
+pub roles_hold : (n : ℕ) → check_roles (made n) ≡ Ok tt
+unfolding check_roles made
+roles_hold n = refl
+
+pub sections_hold : (n : ℕ) → check_sections (made n) ≡ Ok tt
+unfolding check_sections made bit
+sections_hold n =
+    let a = le-leb (128 + 64 * n) (128 + 64 * n) (omega arith) in
+    let b = le-leb (128 + 64 * n + 17) (128 + 64 * n + 17) (omega arith) in
+    simp (a, b) refl
+
+-- ---- clause 6
+
+-- how many bytes the image has
+pub size_made : (n : ℕ) → IsCount n → image_size (made n) ≡ 344 + 64 * n
+unfolding image_size made
+size_made n c =
+    let some = c.some in
+    let a = ne_eqb (64 * n) 0 (λ h. omega arith) in
+    simp a (omega arith)
+
+-- the output section of the code
+abbrev text : ℕ → Section
+text n = section_with (codes ".text") sht_progbits 6 4194432 128 (64 * n) 16
+
+-- the segment has each byte of the code
+code_in_segment : (on : Side) (n k : ℕ) → k < 64 * n → has_byte on (text n) (4194432 + k) (made_segment n) ≡ true
+code_in_segment side.Memory n k lt =
+    let a = le-leb 4194304 (4194432 + k) (omega arith) in
+    let b = lt-ltb (4194432 + k) (4194304 + (128 + 64 * n)) (omega arith) in
+    simp (a, b) refl
+code_in_segment side.File n k lt =
+    let a = le-leb 4194304 (4194432 + k) (omega arith) in
+    let b = lt-ltb (4194432 + k) (4194304 + (128 + 64 * n)) (omega arith) in
+    simp (a, b) refl
+
+code_loaded : (on : Side) (n : ℕ) → bytes_are_loaded on (made_segment n ∷ []) (text n) ≡ true
+code_loaded on n =
+    let each = all_below_from (λ k. list_any (has_byte on (text n) (4194432 + k)) (made_segment n ∷ [])) (64 * n) (λ k lt. let here = code_in_segment on n k lt in rw here refl) in
+    or_true (not (is_asked on (text n))) _ each
+  where
+    or_true : (b c : Bool) → c ≡ true → (b || c) ≡ true
+    or_true true c h = refl
+    or_true false c h = h
+
+-- section names are loaded nowhere
+names_loaded : (on : Side) (n : ℕ) → bytes_are_loaded on (made_segment n ∷ []) (section_with (codes ".shstrtab") sht_strtab 0 0 (128 + 64 * n) 17 1) ≡ true
+unfolding bit
+names_loaded side.Memory n = refl
+names_loaded side.File n = refl
+
+each_loaded : (on : Side) (n : ℕ) → first_failing (bytes_are_loaded on (made_segment n ∷ [])) 1 (drop 1 (made_sections n)) ≡ None
+each_loaded on n =
+    let a = code_loaded on n in
+    let b = names_loaded on n in
+    rw (a, b) refl
+
+pub segments_hold : (n : ℕ) → IsCount n → check_segments (made n) ≡ Ok tt
+unfolding check_segments made bit
+segments_hold n c =
+    let some = c.some in
+    let a = le-leb (128 + 64 * n) (128 + 64 * n) (omega arith) in
+    let e = le-leb (0 + (128 + 64 * n)) (344 + 64 * n) (omega arith) in
+    rw (a, each_loaded side.Memory n, size_made n c, e) refl
