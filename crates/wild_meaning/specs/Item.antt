@@ -1,0 +1,55 @@
+-- What references are asked of.
+--   Item             input bytes that are loaded, with their relocations
+--   IsKept l item    the item is one of the layout's: an input section that is loaded, allocated and has data
+--   IsReference ..   a relocation of an item that refers to something
+use Rattle.std.specs.Prelude.{◌≡◌, ◌≢◌, ℕ, ◌+◌, false, List, Contains}
+use Rattle.wild_records.specs.Abi.Relocation.{r_x86_64_none}
+use Rattle.wild_records.specs.Abi.Section.{shf_alloc}
+use Rattle.wild_plan.specs.declared.input.Slot.TheVariants as slot
+use Rattle.wild_plan.specs.declared.input.InputRelocation.{InputRelocation}
+use Rattle.wild_plan.specs.declared.input.InputSection.{InputSection}
+use Rattle.wild_plan.specs.declared.file.File.{File}
+use Rattle.wild_plan.specs.declared.file.Group.{Group}
+use Rattle.wild_plan.specs.declared.layout.Layout.{Layout}
+use Rattle.wild_loader.specs.declared.world.World.{World}
+use Rattle.wild_meaning.specs.Section.{IsSet}
+
+-- input bytes and their relocations, at an address of the layout; the flags are the input section's own (gABI, sh_flags)
+pub record Item : Type 0 where
+  pub address : ℕ
+  pub flags : ℕ
+  pub bytes : List ℕ
+  pub relocations : List InputRelocation
+
+-- the loaded address of a byte of an item
+abbrev pub place_at : World → Item → ℕ → ℕ
+place_at w item offset = w.base + item.address + offset
+
+-- a relocation other than R_X86_64_NONE and R_AARCH64_NONE, which are 0
+pub record IsReference (item : Item) (r : InputRelocation) : Type 0 where
+  pub listed : Contains item.relocations r
+  pub refers : r.number ≢ r_x86_64_none
+
+-- an input section of the layout
+pub record IsInput (l : Layout) (s : InputSection) : Type 0 where
+  pub group : Group
+  pub grouped : Contains l.groups group
+  pub file : File
+  pub filed : Contains group.files file
+  pub listed : Contains file.sections s
+
+-- an input section that is loaded, allocated and has data
+pub record IsKeptSection (l : Layout) (s : InputSection) : Type 0 where
+  pub input : IsInput l s
+  pub loaded : s.slot ≡ slot.Loaded
+  pub room : IsSet s.flags shf_alloc
+  pub has_data : s.nobits ≡ false
+
+abbrev pub item_of : InputSection → Item
+item_of s = record { address = s.address; flags = s.flags; bytes = s.bytes; relocations = s.relocations }
+
+-- an item of the layout that stands in memory
+pub record IsKept (l : Layout) (item : Item) : Type 0 where
+  pub section : InputSection
+  pub kept : IsKeptSection l section
+  pub is : item ≡ item_of section

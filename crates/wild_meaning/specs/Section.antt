@@ -1,0 +1,29 @@
+-- Whether a section has room in memory, and whether an input section has an address.
+--   IsSet flags flag       the flag is set
+--   IsAllocatedPart l n    part n lies in a section that has room in memory
+--   IsPlaced l s           the input section has an address
+use Rattle.std.specs.Prelude.{◌≡◌, ◌≢◌, ℕ, ◌/◌, ◌%◌, ◌⊎◌, Some, slice_get}
+use Rattle.wild_records.specs.Abi.Section.{shn_undef, shf_alloc}
+use Rattle.wild_plan.specs.declared.part.Part.{Part}
+use Rattle.wild_plan.specs.declared.section.Section.{Section}
+use Rattle.wild_plan.specs.declared.input.Slot.TheVariants as slot
+use Rattle.wild_plan.specs.declared.input.InputSection.{InputSection}
+use Rattle.wild_plan.specs.declared.layout.Layout.{Layout}
+
+-- the flag, a power of two, is set (gABI, "Section Header", sh_flags)
+abbrev pub IsSet : ℕ → ℕ → Type 0
+IsSet flags flag = flags / flag % 2 ≡ 1
+
+-- the part lies in a section other than section 0 that has room in memory (gABI, SHF_ALLOC)
+pub record IsAllocatedPart (l : Layout) (n : ℕ) : Type 0 where
+  pub part : Part
+  pub listed : slice_get l.parts n ≡ Some part
+  pub named : part.section ≢ shn_undef
+  pub section : Section
+  pub found : slice_get l.sections part.section ≡ Some section
+  pub room : IsSet section.flags shf_alloc
+
+-- the input section is not discarded, and its address is not 0 or its part has no room in memory
+pub record IsPlaced (l : Layout) (s : InputSection) : Type 0 where
+  pub kept : s.slot ≢ slot.Discard
+  pub address : (s.address ≢ 0) ⊎ (IsAllocatedPart l s.part → ⊥)
