@@ -1,11 +1,13 @@
 pub mod ListLemmas
-pub mod HeaderLemmas
 pub mod PaddingLemmas
 pub mod ValueLemmas
-pub mod RowLemmas
-pub mod OverlapLemmas
 pub mod FaultLemmas
 pub mod PieceLemmas
 pub mod CountLemmas
 pub mod TableLemmas
 pub mod OutputLemmas
+pub mod OwnedLemmas
+pub mod JobLemmas
+pub mod AppendLemmas
+pub mod GatherLemmas
+pub mod DecidedLemmas

@@ -1,7 +1,6 @@
 -- Laws of the whole image, and of all faults.
 use Rattle.std.proofs.Common.{suc, if◌then◌else◌, ◌≡◌, ℕ, ◌^◌, ◌<◌, ◌≤◌, ◌-◌, nat_le, List, [], ◌∷◌, ◌++◌, length, Bool, true, false, Result, Ok, Err, refl, sym, ap, ◌∙◌, arith, nat_lt}
 use Rattle.std.specs.Prelude.{All, OnOk}
-use Rattle.std.specs.List.{flat_map}
 use Rattle.std.proofs.lemmas.Bool.{and_parts, ltb-true}
 use Rattle.wild_words.specs.Overlay.{overlay}
 use Rattle.wild_plan.specs.declared.fault.Clause.{Clause}
@@ -11,8 +10,8 @@ use Rattle.wild_plan.specs.declared.layout.Layout.{Layout}
 use Rattle.wild_plan.specs.Lists.{unless}
 use Rattle.wild_plan.specs.Places.{has_role, relocation_count, counts_fit}
 use Rattle.wild_plan.specs.WellFormed.{fails, first_error, first_clause, check_sizes, check_counts}
-use Rattle.wild_layout.specs.Headers.{section_of_role}
-use Rattle.wild_layout.specs.Image.{own_piece, group_pieces, pieces, padding, bytes}
+use Rattle.wild_headers.specs.Headers.{section_of_role}
+use Rattle.wild_layout.specs.Image.{group_pieces, pieces, padding, bytes}
 use Rattle.wild_layout.specs.Faults.{clause_errors, flat_map_from, part_errors, group_errors, errors}
 use Rattle.wild_layout.specs.Geometry.{IsLaidOut}
 use Rattle.wild_image.specs.Steps.{FieldsFit}
@@ -20,7 +19,6 @@ use Rattle.wild_plan.specs.declared.part.Role.{Role}
 use Rattle.wild_plan.specs.declared.part.Role.TheVariants as role
 use Rattle.wild_plan.specs.Needs.{name_bytes}
 use Rattle.wild_plan.specs.Faults.{Refuses}
-use Rattle.wild_image.proofs.PieceLemmas.{overlay-append}
 use Rattle.wild_image.proofs.FaultLemmas.{Refuses-front, Refuses-behind}
 
 section_below : (r : Role) (n : ℕ) (ps : List Part) → 1 ≤ n → All (λ (p : Part). p.section < n) ps → section_of_role r ps < n
@@ -35,18 +33,16 @@ section_below r n (p ∷ ps) h all = by (has_role r p) (all 0 p (omega arith)) (
 pub FieldsFit-IsLaidOut : (l : Layout) → IsLaidOut l → FieldsFit l
 FieldsFit-IsLaidOut l h = record {
   segments = let e = h.segments in omega arith;
+  sections = h.sections;
   names = h.names;
   name_table = let e = section_below role.Shstrtab (length l.sections) l.parts h.some_section h.named in let f = h.sections in omega (arith, e, f);
 }
 
--- the padding, the parts and the groups make the image
-pub image_is : (result : Result (Unit {0}) Error) (l : Layout) (one two three : List ℕ) → one ≡ padding l → two ≡ overlay (flat_map (own_piece l) l.parts) one
-    → OnOk result (three ≡ overlay (flat_map (group_pieces l) l.groups) two) → OnOk result (three ≡ bytes l)
+-- the padding and the groups make the image
+pub image_is : (result : Result (Unit {0}) Error) (l : Layout) (one two : List ℕ) → one ≡ padding l → OnOk result (two ≡ overlay (flat_map_from (group_pieces l) 0 l.groups) one) → OnOk result (two ≡ bytes l)
 unfolding bytes pieces
-image_is (Ok x) l one two three a b c =
-    c ∙ ap (overlay (flat_map (group_pieces l) l.groups)) (b ∙ ap (overlay (flat_map (own_piece l) l.parts)) a)
-    ∙ sym (overlay-append (flat_map (own_piece l) l.parts) (flat_map (group_pieces l) l.groups) (padding l))
-image_is (Err x) l one two three a b c = c
+image_is (Ok x) l one two a b = b ∙ ap (overlay (flat_map_from (group_pieces l) 0 l.groups)) a
+image_is (Err x) l one two a b = b
 
 -- without faults of clauses and shares, those of the groups are all
 pub errors_behind : (l : Layout) → clause_errors (first_clause l) ≡ [] → flat_map_from (part_errors l) 0 l.parts ≡ [] → flat_map_from (group_errors l) 0 l.groups ≡ errors l
@@ -57,15 +53,15 @@ clause_holds : (r : Result (Unit {0}) Clause) → clause_errors r ≡ [] → r �
 clause_holds (Ok x) h = refl
 clause_holds (Err c) h = cc
 
-first_holds : (r s : Result (Unit {0}) Clause) → first_error r s ≡ Ok tt → r ≡ Ok tt
+pub first_holds : (r s : Result (Unit {0}) Clause) → first_error r s ≡ Ok tt → r ≡ Ok tt
 first_holds (Ok x) s h = refl
 first_holds (Err c) s h = cc
 
-rest_holds : (r s : Result (Unit {0}) Clause) → first_error r s ≡ Ok tt → s ≡ Ok tt
+pub rest_holds : (r s : Result (Unit {0}) Clause) → first_error r s ≡ Ok tt → s ≡ Ok tt
 rest_holds (Ok x) s h = h
 rest_holds (Err c) s h = cc
 
-test_holds : (b : Bool) → fails 2 (unless b) ≡ Ok tt → b ≡ true
+pub test_holds : (b : Bool) → fails 2 (unless b) ≡ Ok tt → b ≡ true
 test_holds true h = refl
 test_holds false h = cc
 

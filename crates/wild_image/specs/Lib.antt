@@ -1,2 +1,6 @@
 pub mod Steps
+pub mod Decided
 pub mod Placed
+pub mod Pieces
+pub mod Jobs
+pub mod Append

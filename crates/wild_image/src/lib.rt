@@ -1,13 +1,15 @@
 //! Writes the image of a layout.
 #![tactic(auto)]
 
+mod append;
 mod arch;
-mod counts;
-mod groups;
-mod headers;
+mod job;
 mod output;
 mod overlap;
 mod padding;
+mod pairs;
+mod part_bytes;
+mod piece;
 mod place;
 mod relocation;
 mod resolve;
@@ -19,6 +21,9 @@ mod tests;
 mod values;
 
 pub use arch::{Arch, ElfX86_64};
-pub use headers::{populate_file_header, write_program_headers, write_section_headers};
-pub use output::{SizedOutput, write};
+pub use output::{SizedOutput, write, write_gated};
 pub use padding::fill_padding_for_sections;
+pub use part_bytes::PartBytes;
+pub use piece::{GroupPiece, write_group};
+pub use shares::check_shares;
+pub use wild_headers::{populate_file_header, write_program_headers, write_section_headers};

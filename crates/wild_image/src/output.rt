@@ -1,31 +1,35 @@
 //! The image of a layout.
-ghost use Rattle.std.specs.Prelude.{◌≡◌, ◌<◌, ◌^◌, length, Ok, OnOk, IfOk};
+ghost use Rattle.std.specs.Prelude.{◌≡◌, ◌<◌, ◌≤◌, ◌^◌, ℕ, [], length, Ok, Some, slice_get, replicate, OnOk, IfOk};
 ghost use Rattle.wild_plan.specs.Faults.{Answers};
 ghost use Rattle.wild_plan.specs.Lookups.{image_size};
 ghost use Rattle.wild_plan.specs.Places.{relocation_count};
 ghost use Rattle.wild_plan.specs.WellFormed.{first_clause};
 ghost use Rattle.wild_layout.specs.Image.{bytes, counts};
-ghost use Rattle.wild_layout.specs.Faults.{clause_errors, flat_map_from, group_errors, errors};
+ghost use Rattle.wild_layout.specs.Warnings.{warnings};
+ghost use Rattle.wild_layout.specs.Faults.{clause_errors, flat_map_from, part_errors, group_errors, errors};
 ghost use Rattle.wild_layout.specs.Geometry.{IsLaidOut};
-ghost use Rattle.wild_image.specs.Steps.{HasValues};
+ghost use Rattle.wild_image.specs.Jobs.{GivesParts};
+ghost use Rattle.wild_image.specs.declared.job.Outcome.{Outcome};
 
+use crate::append::append_all;
 use crate::arch::Arch;
-use crate::counts::counts_of;
-use crate::groups::write_groups;
+use crate::job::{GroupJob, Outcome};
 use crate::padding::fill_padding_for_sections;
 use crate::shares::check_shares;
-use crate::tables::write_parts;
 use crate::values::values_of;
 use std::alloc::Global;
+use std::marker::PhantomData;
 use std::thread::Threads;
+use wild_crew::{Gate, OpenGate, gather};
 use wild_geometry::layouts_are_laid_out;
-use wild_plan::{At, Error, Fault, Layout, well_formed};
+use wild_plan::{At, EntryWarning, Error, Fault, Layout, well_formed};
 use wild_words::{Bytes, Items};
 
-/// An image, and how many relocations of each section were read for it.
+/// An image, what is said beside it, and how many relocations of each section were read for it.
 #[derive(Drop)]
 pub struct SizedOutput {
     pub out: Bytes,
+    pub warnings: Items<EntryWarning>,
     pub counts: Items<u64>,
 }
 
@@ -45,59 +49,103 @@ fn check_clauses(layout: &Layout) -> Result<(), Error>
     }
 }
 
-/// Writes all bytes of an image, or answers the first fault.
+/// Writes all bytes of an image, or answers the first fault of the groups.
 fn write_bytes<A: Arch>(
-    alloc: Global,
     layout: &Layout,
-    values: &[Option<u64>],
+    outcomes: &[Outcome],
+    starts: &mut [u64],
+    cursors: &mut [usize],
     out: &mut [u8],
 ) -> Result<(), Error>
     requires machine { layout.now.machine ≡ A.machine }
     requires laid_out { IsLaidOut layout.now }
-    requires values { HasValues layout.now values.now }
+    requires starts { starts.old ≡ replicate (length layout.now.parts) 0 }
+    requires cursors { length cursors.old ≡ length layout.now.parts }
+    requires count { length outcomes.now ≡ length layout.now.groups }
+    requires each { (g : ℕ) (o : Outcome) → slice_get outcomes.now g ≡ Some o → GivesParts layout.now g o.parts }
     requires room { length out.old ≡ image_size layout.now }
     ensures faults { Answers result (flat_map_from (group_errors layout.now) 0 layout.now.groups) }
     ensures image { OnOk result (out.new ≡ bytes layout.now) }
 {
     fill_padding_for_sections::<A>(layout, out);
-    write_parts(layout, out);
-    write_groups::<A>(alloc, layout, values, out)
+    append_all(layout, outcomes, starts, cursors, out)
 }
 
 /// The image of a layout whose clauses hold and whose shares are what is needed, or its first fault.
-fn write_laid_out<A: Arch>(alloc: Global, layout: &Layout) -> Result<SizedOutput, Error>
+fn write_laid_out<A: Arch + Sync, G: Gate + Sync, R: Threads + Sync>(
+    rt: &R,
+    alloc: Global,
+    layout: &Layout,
+    workers: u8,
+    gate: &G,
+) -> Result<SizedOutput, Error>
     requires machine { layout.now.machine ≡ A.machine }
+    requires workers { (1 ≤ workers) × (workers ≤ 64) }
+    requires clauses { first_clause layout.now ≡ Ok tt }
+    requires shares { flat_map_from (part_errors layout.now) 0 layout.now.parts ≡ [] }
     requires laid_out { IsLaidOut layout.now }
     requires few { relocation_count layout.now < 2 ^ 64 }
     ensures faults { Answers result (flat_map_from (group_errors layout.now) 0 layout.now.groups) }
     ensures image { IfOk result (λ o. o.out ≡ bytes layout.now) }
+    ensures warnings { IfOk result (λ o. o.warnings ≡ warnings layout.now) }
     ensures counts { IfOk result (λ o. o.counts ≡ counts layout.now) }
 {
     let values = values_of(alloc, layout)?;
+    let job = GroupJob::<A> {
+        alloc,
+        layout,
+        values: &values,
+        arch: PhantomData,
+    };
+    let sections = layout.sections.len() as u32;
+    let gathered = gather(rt, alloc, &job, sections, u32::from(workers), gate)?;
+    let mut starts = vec![in alloc; 0u64; layout.parts.len()]?;
+    let mut cursors = vec![in alloc; 0usize; layout.parts.len()]?;
     let mut out = vec![in alloc; 0u8; layout.image_end() as usize]?;
-    write_bytes::<A>(alloc, layout, &values, &mut out)?;
-    let counts = counts_of(alloc, layout)?;
+    let pieces = gathered.pieces.as_slice();
+    write_bytes::<A>(layout, pieces, &mut starts, &mut cursors, &mut out)?;
     Ok(SizedOutput {
         out: Bytes::from_vec(out),
-        counts: Items::from_vec(counts),
+        warnings: Items::new(alloc),
+        counts: gathered.totals,
     })
 }
 
-/// The image of a layout, or its first fault. All work is done by the caller's thread for now: `_rt` and
-/// `_workers` are for writers that share it.
-pub fn write<A: Arch>(
-    _rt: &impl Threads,
+/// The image of a layout, or its first fault, by so many workers, each of which enters the gate before each group
+/// that it works on.
+pub fn write_gated<A: Arch + Sync>(
+    rt: &(impl Threads + Sync),
     alloc: Global,
     layout: &Layout,
-    _workers: u8,
+    workers: u8,
+    gate: &(impl Gate + Sync),
 ) -> Result<SizedOutput, Error>
     requires machine { layout.now.machine ≡ A.machine }
+    requires workers { (1 ≤ workers) × (workers ≤ 64) }
     ensures faults { Answers result (errors layout.now) }
     ensures image { IfOk result (λ o. o.out ≡ bytes layout.now) }
+    ensures warnings { IfOk result (λ o. o.warnings ≡ warnings layout.now) }
     ensures counts { IfOk result (λ o. o.counts ≡ counts layout.now) }
 {
     check_clauses(layout)?;
     check_shares(layout)?;
     layouts_are_laid_out();
-    write_laid_out::<A>(alloc, layout)
+    write_laid_out::<A, _, _>(rt, alloc, layout, workers, gate)
+}
+
+/// The image of a layout, or its first fault, by so many workers.
+pub fn write<A: Arch + Sync>(
+    rt: &(impl Threads + Sync),
+    alloc: Global,
+    layout: &Layout,
+    workers: u8,
+) -> Result<SizedOutput, Error>
+    requires machine { layout.now.machine ≡ A.machine }
+    requires workers { (1 ≤ workers) × (workers ≤ 64) }
+    ensures faults { Answers result (errors layout.now) }
+    ensures image { IfOk result (λ o. o.out ≡ bytes layout.now) }
+    ensures warnings { IfOk result (λ o. o.warnings ≡ warnings layout.now) }
+    ensures counts { IfOk result (λ o. o.counts ≡ counts layout.now) }
+{
+    write_gated::<A>(rt, alloc, layout, workers, &OpenGate)
 }

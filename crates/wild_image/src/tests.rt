@@ -1,11 +1,14 @@
 //! The smallest fixed executable: a call and two returns.
-ghost use Rattle.std.specs.Prelude.{◌≡◌, IfOk};
+ghost use Rattle.std.specs.Prelude.{◌≡◌, ◌<◌, ◌≤◌, IfOk};
 ghost use Rattle.wild_plan.specs.declared.kind.Machine.TheVariants as machine;
 
 use super::*;
 use std::alloc::{AllocError, Global};
+use std::sync::atomic::{AtomicU64, Ordering};
 use std::test::Fail;
 use std::thread::Threads;
+use wild_crew::Gate;
+use wild_made::make_plan;
 use wild_plan::*;
 use wild_records::abi::relocation::R_X86_64_PC32;
 use wild_records::abi::section::{SHF_ALLOC, SHF_EXECINSTR, SHT_NULL, SHT_PROGBITS, SHT_STRTAB};
@@ -130,9 +133,10 @@ fn symbols(alloc: Global) -> Result<Items<Symbol>, AllocError> {
         emit: false,
         resolution: Some(Resolution {
             raw_value: 0x40_0086,
-            dynsym: None,
-            got: None,
-            plt: None,
+            flags: ValueFlags::NON_INTERPOSABLE,
+            dynamic_symbol_index: None,
+            got_address: None,
+            plt_address: None,
         }),
     })?;
     Ok(all)
@@ -244,7 +248,7 @@ fn relocation(offset: u64, number: u32) -> InputRelocation {
 
 /// Why a layout with these relocations has no image; none where it has one.
 fn refused(
-    rt: &impl Threads,
+    rt: &(impl Threads + Sync),
     alloc: Global,
     relocations: &[InputRelocation],
 ) -> Result<Option<Error>, AllocError> {
@@ -294,5 +298,168 @@ fn tells_the_least_byte_of_two_fields(rt: HostRuntime) -> Result<(), Fail> {
     )?
     .ok_or("no fault")?;
     assert_eq!(rt; error.fault, Fault::OverlappingSites { byte: 3 });
+    Ok(())
+}
+
+/// The sum of all bytes of the image of so many groups, by so many workers.
+fn sum_of(
+    rt: &(impl Threads + Sync),
+    alloc: Global,
+    groups: u32,
+    workers: u8,
+) -> Result<(usize, u64), Fail>
+    requires { (1 ≤ groups) × (groups ≤ 65536) × (1 ≤ workers) × (workers ≤ 64) }
+{
+    let layout = make_plan(alloc, groups)?;
+    let image = write::<ElfX86_64>(rt, alloc, &layout, workers)?;
+    let mut sum: u64 = 0;
+    for byte in image.out.as_slice() {
+        sum = sum.wrapping_add(u64::from(*byte));
+    }
+    Ok((image.out.len(), sum))
+}
+
+#[test]
+fn sums_of_made_plans(rt: HostRuntime) -> Result<(), Fail> {
+    assert_eq!(rt; sum_of(&rt, rt.alloc(), 1, 1)?, (408, 16871));
+    assert_eq!(rt; sum_of(&rt, rt.alloc(), 2, 1)?, (472, 25303));
+    assert_eq!(rt; sum_of(&rt, rt.alloc(), 2, 2)?, (472, 25303));
+    Ok(())
+}
+
+/// Eight places for calls in 64 bytes.
+const PLACES: [u64; 8] = [1, 9, 17, 25, 33, 41, 49, 57];
+
+/// So many relocations of that type at symbol 0.
+fn calls(alloc: Global, count: usize, number: u32) -> Result<Items<InputRelocation>, AllocError> {
+    let mut all = Items::new(alloc);
+    for place in PLACES.iter().take(count) {
+        all.push(relocation(*place, number))?;
+    }
+    Ok(all)
+}
+
+/// Group `index` of three, with those relocations.
+fn group_of_three(
+    alloc: Global,
+    index: u64,
+    relocations: Items<InputRelocation>,
+) -> Result<Group, AllocError>
+    requires { index < 3 }
+{
+    let mut object = file(alloc, FileRole::Object);
+    object.first_symbol = index as usize;
+    object.symbol_count = 1;
+    object.sections.push(InputSection {
+        address: 4194432 + 64 * index,
+        size: 64,
+        bytes: bytes(alloc, &[0x90; 64])?,
+        relocations,
+        ..text(alloc, &[])?
+    })?;
+    let mut files = Items::new(alloc);
+    if index == 0 {
+        files.push(file(alloc, FileRole::Prelude))?;
+    }
+    files.push(object)?;
+    if index == 2 {
+        files.push(file(alloc, FileRole::Epilogue))?;
+    }
+    let sizes: [u64; 5] = if index == 0 {
+        [64, 56, 64, 17, 192]
+    } else {
+        [0, 0, 64, 0, 0]
+    };
+    Ok(Group {
+        files,
+        part_sizes: Items::from_vec(Vec::from_slice(alloc, &sizes)?),
+        dynstr_start: 0,
+        strtab_start: 0,
+        eh_frame_start: 0,
+        symtab_local_start: 0,
+        symtab_global_start: 0,
+    })
+}
+
+/// Three groups that read 2, 0 and 5 relocations of those types.
+fn three_groups(alloc: Global, first: u32, last: u32) -> Result<Layout, AllocError>
+    ensures { IfOk result (λ l. l.machine ≡ machine.X86_64) }
+{
+    let mut groups = Items::new(alloc);
+    groups.push(group_of_three(alloc, 0, calls(alloc, 2, first)?)?)?;
+    groups.push(group_of_three(alloc, 1, calls(alloc, 0, first)?)?)?;
+    groups.push(group_of_three(alloc, 2, calls(alloc, 5, last)?)?)?;
+    Ok(Layout {
+        groups,
+        ..make_plan(alloc, 3)?
+    })
+}
+
+/// What so many workers count of the code of three groups; or their fault.
+fn counted_by(
+    rt: &(impl Threads + Sync),
+    alloc: Global,
+    layout: &Layout,
+    workers: u8,
+) -> Result<u64, Error>
+    requires machine { layout.now.machine ≡ machine.X86_64 }
+    requires workers { (1 ≤ workers) × (workers ≤ 64) }
+{
+    let image = write::<ElfX86_64>(rt, alloc, layout, workers)?;
+    Ok(image.counts.as_slice().get(1).copied().unwrap_or(0))
+}
+
+#[test]
+fn counts_are_the_same_for_any_workers(rt: HostRuntime) -> Result<(), Fail> {
+    let layout = three_groups(rt.alloc(), R_X86_64_PC32, R_X86_64_PC32)?;
+    assert_eq!(rt; counted_by(&rt, rt.alloc(), &layout, 1), Ok(7));
+    assert_eq!(rt; counted_by(&rt, rt.alloc(), &layout, 2), Ok(7));
+    assert_eq!(rt; counted_by(&rt, rt.alloc(), &layout, 64), Ok(7));
+    Ok(())
+}
+
+#[test]
+fn first_fault_for_any_workers(rt: HostRuntime) -> Result<(), Fail> {
+    let layout = three_groups(rt.alloc(), 99, 98)?;
+    let first = counted_by(&rt, rt.alloc(), &layout, 1)
+        .err()
+        .ok_or("no fault")?;
+    assert_eq!(rt; first.fault, Fault::UnsupportedRelocation { number: 99 });
+    assert_eq!(rt; counted_by(&rt, rt.alloc(), &layout, 2), Err(first));
+    assert_eq!(rt; counted_by(&rt, rt.alloc(), &layout, 64), Err(first));
+    Ok(())
+}
+
+/// Counts who enters; the first waits for a second.
+#[derive(Drop)]
+struct Meeting {
+    entered: AtomicU64,
+    met: AtomicU64,
+}
+
+impl Gate for Meeting {
+    fn enter(&self, _group: u32) {
+        if self.entered.fetch_add(1, Ordering::SeqCst) > 0 {
+            return;
+        }
+        for _ in 0..268435456u64 {
+            if self.entered.load(Ordering::SeqCst) > 1 {
+                self.met.store(1, Ordering::SeqCst);
+                return;
+            }
+        }
+    }
+}
+
+#[test]
+fn two_workers_meet(rt: HostRuntime) -> Result<(), Fail> {
+    let layout = make_plan(rt.alloc(), 2)?;
+    let gate = Meeting {
+        entered: AtomicU64::new(0),
+        met: AtomicU64::new(0),
+    };
+    let image = write_gated::<ElfX86_64>(&rt, rt.alloc(), &layout, 2, &gate)?;
+    assert_eq!(rt; image.out.len(), 472);
+    assert_eq!(rt; gate.met.load(Ordering::SeqCst), 1);
     Ok(())
 }

@@ -1,0 +1,97 @@
+-- Laws of what the groups count, gathered.
+use Rattle.std.proofs.Common.{◌≡◌, ℕ, suc, ◌+◌, ◌^◌, ◌<◌, ◌==◌, ◌&&◌, Bool, true, false, if◌then◌else◌, List, [], ◌∷◌, ◌++◌, length, get_or, refl, ◌∙◌, arith, All}
+use Rattle.std.specs.Prelude.{Option, Some, None, slice_get}
+use Rattle.std.specs.List.{flat_map}
+use Rattle.std.proofs.lemmas.List.Elements.{All-nil}
+use Rattle.std.proofs.lemmas.List.FromFn.{fill_by_all}
+use Rattle.wild_plan.specs.declared.part.Part.{Part}
+use Rattle.wild_plan.specs.declared.input.InputSection.{InputSection}
+use Rattle.wild_plan.specs.declared.file.Group.{Group}
+use Rattle.wild_plan.specs.declared.layout.Layout.{Layout}
+use Rattle.wild_plan.specs.Lists.{total}
+use Rattle.wild_plan.specs.Lookups.{is_read, section_of, section_of_part}
+use Rattle.wild_plan.specs.Places.{relocation_count}
+use Rattle.wild_layout.specs.Image.{counted, count_of, counts}
+use Rattle.wild_layout.specs.Geometry.{IsLaidOut}
+use Rattle.wild_geometry.proofs.ListLemmas.{All-flat_map, All-optional, holds_at}
+use Rattle.wild_crew.specs.Sums.{between, n_if}
+use Rattle.wild_crew.specs.Sums.{counted as counted_in}
+use Rattle.wild_crew.specs.Ended.{sum_of, AreTotals}
+use Rattle.wild_image.specs.Steps.{group_relocations, file_counted, group_counted}
+use Rattle.wild_image.specs.Pieces.{section_pairs, file_pairs, group_pairs, pairs_of, pairs_at}
+use Rattle.wild_image.proofs.CountLemmas.{group_counted-le, total_le}
+
+-- ---- the sections of the pairs
+
+pub section_below : (l : Layout) → IsLaidOut l → (part : ℕ) → section_of l part < length l.sections
+section_below l h part = by l h (slice_get l.parts part) part refl
+  where
+    by : (l : Layout) → IsLaidOut l → (o : Option Part) (part : ℕ) → slice_get l.parts part ≡ o → section_of_part o < length l.sections
+    by l h None part e = let s = h.some_section in omega arith
+    by l h (Some p) part e = holds_at (λ (q : Part). q.section < length l.sections) l.parts part p e h.named
+
+abbrev IsBelow : ℕ → ℕ × ℕ → Type 0
+IsBelow n p = p.0 < n
+
+pub pairs_below : (l : Layout) → IsLaidOut l → (g : ℕ) → All (λ p. p.0 < length l.sections) (pairs_at l g)
+unfolding pairs_at
+pairs_below l h g = by l h (slice_get l.groups g)
+  where
+    by : (l : Layout) → IsLaidOut l → (o : Option Group) → All (IsBelow (length l.sections)) (pairs_of l o)
+    by l h None = All-nil (IsBelow (length l.sections))
+    by l h (Some g) =
+        All-flat_map (IsBelow (length l.sections)) (file_pairs l) g.files (λ i d m.
+        All-flat_map (IsBelow (length l.sections)) (section_pairs l) (get_or g.files i d).sections (λ j e n.
+        All-optional (IsBelow (length l.sections)) (is_read (get_or (get_or g.files i d).sections j e)) (section_of l (get_or (get_or g.files i d).sections j e).part, length (get_or (get_or g.files i d).sections j e).relocations) (λ r.
+        section_below l h (get_or (get_or g.files i d).sections j e).part)))
+
+-- ---- their sums
+
+counted-append : (k : ℕ) (xs ys : List (ℕ × ℕ)) → counted_in k (xs ++ ys) ≡ counted_in k xs + counted_in k ys
+counted-append k [] ys = omega arith
+counted-append k (x ∷ xs) ys = let e = counted-append k xs ys in omega (arith, e)
+
+counted-flat_map : {X : Type 0} (k : ℕ) (f : X → List (ℕ × ℕ)) (t : X → ℕ) → ((x : X) → counted_in k (f x) ≡ t x) → (xs : List X) → counted_in k (flat_map f xs) ≡ total t xs
+counted-flat_map k f t h [] = refl
+counted-flat_map k f t h (x ∷ xs) =
+    let a = counted-append k (f x) (flat_map f xs) in
+    let b = h x in
+    let c = counted-flat_map k f t h xs in
+    omega (arith, a, b, c)
+
+pair_counted : (read same : Bool) (n : ℕ) → (if read then n_if same n + 0 else 0) ≡ (if read && same then n else 0)
+pair_counted true true n = omega arith
+pair_counted true false n = refl
+pair_counted false same n = refl
+
+section_counted : (l : Layout) (k : ℕ) (s : InputSection) → counted_in k (section_pairs l s) ≡ counted l k s
+section_counted l k s = by (is_read s) k (section_of l s.part) (length s.relocations) ∙ pair_counted (is_read s) (section_of l s.part == k) (length s.relocations)
+  where
+    by : (read : Bool) (k at n : ℕ) → counted_in k (if read then (at, n) ∷ [] else []) ≡ (if read then n_if (at == k) n + 0 else 0)
+    by true k at n = refl
+    by false k at n = refl
+
+group_sum : (l : Layout) (k : ℕ) (g : Group) → counted_in k (group_pairs l g) ≡ group_counted l k g
+group_sum l k g = counted-flat_map k (file_pairs l) (file_counted l k) (λ f. counted-flat_map k (section_pairs l) (counted l k) (section_counted l k) f.sections) g.files
+
+between_is : {X : Type 0} (t : X → ℕ) (h : ℕ → ℕ) (xs : List X) (a : ℕ) → ((j n : ℕ) (x : X) → n ≡ a + j → slice_get xs j ≡ Some x → h n ≡ t x) → between h a (length xs) ≡ total t xs
+between_is t h [] a e = refl
+between_is t h (x ∷ xs) a e =
+    let here = e 0 a x (omega arith) refl in
+    let rest = between_is t h xs (suc a) (λ j n y m at. e (suc j) n y (omega arith) at) in
+    omega (arith, here, rest)
+
+sum_is : (l : Layout) (k : ℕ) → sum_of (pairs_at l) (length l.groups) k ≡ count_of l k
+unfolding pairs_at
+sum_is l k = between_is (group_counted l k) (λ g. counted_in k (pairs_at l g)) l.groups 0 (λ j n g m at. found l k j n g m at)
+  where
+    found : (l : Layout) (k j n : ℕ) (g : Group) → n ≡ 0 + j → slice_get l.groups j ≡ Some g → counted_in k (pairs_of l (slice_get l.groups n)) ≡ group_counted l k g
+    found l k j n g m at = let e : n ≡ j = omega arith in rw (e, at) (group_sum l k g)
+
+pub sums_fit : (l : Layout) → relocation_count l < 2 ^ 64 → (k : ℕ) → sum_of (pairs_at l) (length l.groups) k < 2 ^ 64
+sums_fit l few k = let e = sum_is l k in let m = total_le (group_counted l k) group_relocations (group_counted-le l k) l.groups in omega (arith, e, m, few)
+
+-- the totals are the counts
+pub totals_are : (l : Layout) (totals : List ℕ) → AreTotals (pairs_at l) (length l.groups) (length l.sections) totals → totals ≡ counts l
+unfolding counts
+totals_are l totals h = fill_by_all (count_of l) totals (length l.sections) 0 h.0 (λ k low. h.1 k low ∙ sum_is l k)

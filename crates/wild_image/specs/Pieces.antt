@@ -1,0 +1,66 @@
+-- What a group has of each part, and what it counts.
+--   owned_in l part s     the bytes of an input section, where it owns some of that part
+--   group_owned l part g  those of a group's input sections, one behind the other in the order of processing
+--   group_parts l g       what the group gives to each part, with those behind it
+--   group_pairs l g     a pair of a section and a number for each input section that is read
+use Rattle.std.specs.Prelude.{ℕ, ◌==◌, ◌&&◌, if◌then◌else◌, List, [], ◌∷◌, ◌++◌, map, length, Option, Some, None, slice_get}
+use Rattle.std.specs.List.{flat_map, range_with_len}
+use Rattle.wild_plan.specs.declared.part.Part.{Part}
+use Rattle.wild_plan.specs.declared.part.Role.{Role}
+use Rattle.wild_plan.specs.declared.part.Role.TheVariants as role
+use Rattle.wild_plan.specs.declared.input.InputSection.{InputSection}
+use Rattle.wild_plan.specs.declared.file.File.{File}
+use Rattle.wild_plan.specs.declared.file.Group.{Group}
+use Rattle.wild_plan.specs.declared.layout.Layout.{Layout}
+use Rattle.wild_plan.specs.Lookups.{section_of, is_filled, is_read}
+use Rattle.wild_layout.specs.Sites.{section_bytes}
+use Rattle.wild_layout.specs.Content.{file_content}
+
+-- the bytes of an input section, where it owns some of that part
+abbrev pub owned_in : Layout → ℕ → InputSection → List ℕ
+owned_in l part s = if is_filled l s && s.part == part then section_bytes l s else []
+
+abbrev pub file_owned : Layout → ℕ → File → List ℕ
+file_owned l part f = flat_map (owned_in l part) f.sections
+
+abbrev pub group_owned : Layout → ℕ → Group → List ℕ
+group_owned l part g = flat_map (file_owned l part) g.files
+
+-- the role of a part; raw where there is none
+abbrev pub role_of : Option Part → Role
+role_of None = role.Raw
+role_of (Some p) = p.role
+
+-- what a file gives to a part
+abbrev pub file_given : Layout → ℕ → File → List ℕ
+file_given l part f = file_content l (role_of (slice_get l.parts part)) f
+
+-- what a group gives to a part
+abbrev pub group_given : Layout → ℕ → Group → List ℕ
+group_given l part g = flat_map (file_given l part) g.files
+
+-- all that a group has of a part
+abbrev pub group_part : Layout → Group → ℕ → List ℕ
+group_part l g part = group_given l part g ++ group_owned l part g
+
+-- all that a group has of each part
+unfoldable pub group_parts : Layout → Group → List (List ℕ)
+group_parts l g = map (group_part l g) (range_with_len 0 (length l.parts))
+
+-- what an input section adds to which count
+abbrev pub section_pairs : Layout → InputSection → List (ℕ × ℕ)
+section_pairs l s = if is_read s then (section_of l s.part, length s.relocations) ∷ [] else []
+
+abbrev pub file_pairs : Layout → File → List (ℕ × ℕ)
+file_pairs l f = flat_map (section_pairs l) f.sections
+
+abbrev pub group_pairs : Layout → Group → List (ℕ × ℕ)
+group_pairs l g = flat_map (file_pairs l) g.files
+
+abbrev pub pairs_of : Layout → Option Group → List (ℕ × ℕ)
+pairs_of l None = []
+pairs_of l (Some g) = group_pairs l g
+
+-- those of the group with that number
+unfoldable pub pairs_at : Layout → ℕ → List (ℕ × ℕ)
+pairs_at l g = pairs_of l (slice_get l.groups g)

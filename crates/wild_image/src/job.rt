@@ -1,0 +1,69 @@
+//! The work of an image, cut into groups.
+ghost use Rattle.std.specs.Prelude.{◌≡◌, Ok, []};
+ghost use Rattle.wild_plan.specs.WellFormed.{first_clause};
+ghost use Rattle.wild_layout.specs.Faults.{flat_map_from, part_errors};
+ghost use Rattle.wild_image.specs.Steps.{HasValues};
+
+use crate::arch::Arch;
+use crate::pairs::pairs_of_group;
+use crate::part_bytes::PartBytes;
+use crate::piece::parts_of_group;
+use std::alloc::{AllocError, Global};
+use std::marker::PhantomData;
+use wild_crew::{Counted, Job};
+use wild_geometry::layouts_are_laid_out;
+use wild_plan::{Error, Layout};
+use wild_words::Items;
+
+/// What came of a group: what it has of each part, or its first fault; and what it counted.
+#[derive(Drop)]
+pub(crate) struct Outcome {
+    pub(crate) parts: Result<Items<PartBytes>, Error>,
+    pub(crate) counts: Vec<(u32, u64)>,
+}
+
+impl Counted for Outcome {
+    ghost listed = { λ o. o.counts.items };
+
+    fn counts(&self) -> &[(u32, u64)] {
+        self.counts.as_slice()
+    }
+}
+
+/// The groups of a layout whose clauses hold and whose shares are what is needed.
+#[derive(Drop)]
+pub(crate) struct GroupJob<'a, A: Arch> {
+    pub(crate) alloc: Global,
+    pub(crate) layout: &'a Layout,
+    pub(crate) values: &'a [Option<u64>],
+    pub(crate) arch: PhantomData<A>,
+    ghost machine: { layout.now.machine ≡ A.machine },
+    ghost clauses: { first_clause layout.now ≡ Ok tt },
+    ghost shares: { flat_map_from (part_errors layout.now) 0 layout.now.parts ≡ [] },
+    ghost values_are: { HasValues layout.now values.now },
+}
+
+impl<'a, A: Arch> Job<Outcome> for GroupJob<'a, A> {
+    ghost use Rattle.std.specs.Prelude.{length};
+    ghost use Rattle.wild_image.specs.Pieces.{pairs_at};
+    ghost use Rattle.wild_image.specs.Jobs.{GivesParts};
+
+    ghost number = { λ j. length j.layout.now.groups };
+
+    ghost gives = { λ j g o. GivesParts j.layout.now g o.parts };
+
+    ghost counts_of = { λ j g. pairs_at j.layout.now g };
+
+    fn groups(&self) -> u32 {
+        self.layout.groups.len() as u32
+    }
+
+    fn run(&self, group: u32) -> Result<Outcome, AllocError> {
+        layouts_are_laid_out();
+        let index = group as usize;
+        let found = &self.layout.groups.as_slice()[index];
+        let counts = pairs_of_group(self.alloc, self.layout, found)?;
+        let parts = parts_of_group::<A>(self.alloc, self.layout, self.values, index, found);
+        Ok(Outcome { parts, counts })
+    }
+}
