@@ -75,9 +75,9 @@ fn adapters(rt: HostRuntime) -> Result<(), Fail> {
     let alloc = rt.alloc();
     let mut source = Reading::new(b"image".as_slice());
     let bytes = read_whole(alloc, &mut source, 5).ok().ok_or("read")?;
-    let mut sink = Writing::new(Vec::new(alloc));
+    let mut out = Vec::new(alloc);
+    let mut sink = Writing::new(&mut out);
     assert!(rt; write_whole(&mut sink, &bytes).is_ok());
-    assert_eq!(rt; sink.inner.as_slice(), b"image".as_slice());
-    assert!(rt; source.faults == 0 && sink.faults == 0);
+    assert_eq!(rt; out.as_slice(), b"image".as_slice());
     Ok(())
 }

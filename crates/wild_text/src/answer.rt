@@ -3,13 +3,16 @@ ghost use Rattle.std.specs.Prelude.{◌≡◌, ◌++◌, ◌*◌, IfOk, OnOk, st
 ghost use Rattle.hex.specs.Hex.{encode_lower};
 ghost use Rattle.wild_text.specs.Answer.{image_text, count_lines, hex_text, no_plan_text};
 
+use crate::warning::push_warnings;
 use std::alloc::{AllocError, Global};
 use std::fmt::Write;
+use wild_plan::{EntryWarning, Layout};
 
 /// How many bytes of an image a line shows.
 const LINE: usize = 32;
 
-fn push_counts(out: &mut String, counts: &[u64]) -> Result<(), AllocError>
+/// Adds a line for each section that has relocations.
+pub fn push_counts(out: &mut String, counts: &[u64]) -> Result<(), AllocError>
     ensures { OnOk result (string_bytes out.new ≡ string_bytes out.old ++ count_lines 0 counts.now) }
 {
     for (section, count) in counts.iter().enumerate() {
@@ -43,12 +46,19 @@ fn push_hex(out: &mut Vec<u8>, bytes: &[u8]) -> Result<(), AllocError>
     Ok(())
 }
 
-/// The text for an image, with the number of relocations of each section.
-pub fn image_answer(alloc: Global, image: &[u8], counts: &[u64]) -> Result<Vec<u8>, AllocError>
-    ensures { IfOk result (λ v. v.items ≡ image_text image.now counts.now) }
+/// The text for an image of a layout, with what is said beside it and the number of relocations of each section.
+pub fn image_answer(
+    alloc: Global,
+    layout: &Layout,
+    image: &[u8],
+    warnings: &[EntryWarning],
+    counts: &[u64],
+) -> Result<Vec<u8>, AllocError>
+    ensures { IfOk result (λ v. v.items ≡ image_text layout.now image.now warnings.now counts.now) }
 {
     let size = image.len();
     let mut head = format!(in alloc; "image {size}\n")?;
+    push_warnings(&mut head, alloc, layout, warnings)?;
     push_counts(&mut head, counts)?;
     let mut out = head.into_bytes();
     out.reserve(size.saturating_mul(2).saturating_add(size.div_ceil(LINE)))?;

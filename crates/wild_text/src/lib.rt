@@ -12,8 +12,9 @@ mod plan;
 mod refusal;
 mod symbol;
 mod values;
+mod warning;
 
-pub use answer::{image_answer, no_plan_answer};
+pub use answer::{image_answer, no_plan_answer, push_counts};
 pub use fault::PlanFault;
 pub use laws::{parts_are_read_again, plans_are_fixed};
 pub use plan::read_plan;

@@ -2,7 +2,7 @@
 use super::*;
 use serde_json::Value;
 use std::test::*;
-use wild_plan::{At, Error, Fault, Machine, Missing, Role};
+use wild_plan::{At, EntryWarning, Error, Fault, Machine, Missing, Role};
 
 /// The text that is answered for a plan that is refused, empty for one that is read.
 fn refused(rt: &HostRuntime, plan: &str) -> Result<String, Fail> {
@@ -170,10 +170,37 @@ fn a_plan(rt: HostRuntime) -> Result<(), Fail> {
 #[test]
 fn an_image(rt: HostRuntime) -> Result<(), Fail> {
     let alloc = rt.alloc();
-    let text = image_answer(alloc, &[0xa5; 33], &[0, 3, 0, 1])?;
-    let lines =
-        "image 33\ncount 1 3\ncount 3 1\na5a5a5a5a5a5a5a5a5a5a5a5a5a5a5a5a5a5a5a5a5a5a5a5a5a5a5a5a5a5a5a5\na5\n";
+    let names =
+        r#"{"options":{"strip_all":true},"symbols":[{"name":"5f7374617274"},{"name":"ff"}]}"#;
+    let value = Value::from_str(alloc, names).ok().ok_or("json")?;
+    let layout = read_plan(alloc, &value).ok().ok_or("plan")?;
+    let warnings = [
+        EntryWarning::Defaulted {
+            symbol: 0,
+            address: 0x40_00b0,
+        },
+        EntryWarning::EmptyText { symbol: 1 },
+    ];
+    let text = image_answer(alloc, &layout, &[0xa5; 33], &warnings, &[0, 3, 0, 1])?;
+    let lines = "image 33
+warning cannot find entry symbol `_start`, defaulting to 0x4000b0
+warning cannot find entry symbol `ff` and .text is empty, not setting entry point
+count 1 3
+count 3 1
+a5a5a5a5a5a5a5a5a5a5a5a5a5a5a5a5a5a5a5a5a5a5a5a5a5a5a5a5a5a5a5a5
+a5
+";
     assert_eq!(rt; text.as_slice(), lines.as_bytes());
+    Ok(())
+}
+
+#[test]
+fn a_plan_fault(rt: HostRuntime) -> Result<(), Fail> {
+    let alloc = rt.alloc();
+    let fault = PlanFault::At(String::from_str(alloc, "/kind")?);
+    assert_eq!(rt; format!(in alloc; "{fault}")?.as_str(), "not a plan: /kind");
+    let refused = PlanFault::OutOfMemory;
+    assert_eq!(rt; format!(in alloc; "{refused}")?.as_str(), "out of memory");
     Ok(())
 }
 
