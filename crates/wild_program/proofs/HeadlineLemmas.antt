@@ -5,6 +5,7 @@ use Rattle.std.specs.Io.KnownBytes.{Appends}
 use Rattle.wild_plan.specs.declared.fault.Error.{Error}
 use Rattle.wild_plan.specs.declared.layout.Layout.{Layout}
 use Rattle.wild_layout.specs.Image.{bytes, counts}
+use Rattle.wild_layout.specs.Warnings.{warnings}
 use Rattle.wild_layout.specs.Faults.{errors}
 use Rattle.wild_laws.specs.Laws.{ImagesAreSound}
 use Rattle.wild_text.specs.Means.{no_json, no_plan, plan, Means}
@@ -15,9 +16,10 @@ use Rattle.wild_plan.specs.declared.kind.OutputKind.{OutputKind}
 use Rattle.wild_layout.specs.Numbers.{NumbersFit}
 use Rattle.wild_meaning.specs.World.{IsFixed}
 use Rattle.wild_program.specs.Exit as exit
-use Rattle.wild_program.specs.Program.{Answer, usage, read_fault, too_long, of_plan, status, text as text_of, errors_status, errors_text, layout_text, Turn, Told, IsDue, IsSaid, IsMeant, IsLinkedText}
+use Rattle.wild_program.specs.Program.{Answer, usage, read_fault, too_long, of_plan, of_make, status, text as text_of, errors_status, errors_text, layout_text, Turn, Told, IsDue, IsSaid, IsMeant, IsLinkedText}
 use Rattle.wild_program.specs.Clauses.{IsHeadline}
 use Rattle.wild_program.proofs.Statuses.{clash}
+use Rattle.wild_program.proofs.Commands.{two_commands}
 use Rattle.wild_program.specs.Steps.{IsAnsweredBy, AnswerFits}
 use Rattle.wild_program.proofs.SourceLemmas.{all_read}
 
@@ -44,24 +46,25 @@ image_of t l plan_bytes text sound fixed fits left meant none is =
     let same = all_read t plan_bytes meant.0 left meant.1 in
     let means = subst (λ (b : List ℕ). Means b (plan l)) (sym same) meant.2 in
     let target = fixed means.0 l means.2 in
-    let shown : text ≡ image_text (bytes l) (counts l) = is ∙ ap (errors_text l) none in
-    (l, means, bytes l, counts l, shown, sound l target.machine (fixed_kind l target.kind) fits none)
+    let shown : text ≡ image_text l (bytes l) (warnings l) (counts l) = is ∙ ap (errors_text l) none in
+    (l, means, bytes l, warnings l, counts l, shown, inl (fixed_kind l target.kind), sound l target.machine (fixed_kind l target.kind) fits none)
 
 said_image : (t : Turn) (u : Told) (said : ℕ) (a : Answer) (words : List (String Global)) → ImagesAreSound → PlansAreFixed → AnswerFits a → IsDue words t a
-    → said ≡ status a → Appends u.taken_before u.taken_after (text_of a) → IsHeadline t u said
-said_image t u said usage words sound fixed fits due h took plan_bytes before text zero left b a = clash exit.linked exit.usage said refl zero h
-said_image t u said read_fault words sound fixed fits due h took plan_bytes before text zero left b a = clash exit.linked exit.read_fault said refl zero h
-said_image t u said too_long words sound fixed fits due h took plan_bytes before text zero left b a = clash exit.linked exit.too_long said refl zero h
-said_image t u said (of_plan no_json) words sound fixed fits due h took plan_bytes before text zero left b a = clash exit.linked exit.no_plan said refl zero h
-said_image t u said (of_plan (no_plan path)) words sound fixed fits due h took plan_bytes before text zero left b a = clash exit.linked exit.no_plan said refl zero h
-said_image t u said (of_plan (plan l)) words sound fixed fits due h took plan_bytes before text zero left b a =
+    → said ≡ status a → Appends u.taken_before u.taken_after (text_of a) → IsHeadline words t u said
+said_image t u said usage words sound fixed fits due h took plan_bytes before text command zero left b a = clash exit.linked exit.usage said refl zero h
+said_image t u said read_fault words sound fixed fits due h took plan_bytes before text command zero left b a = clash exit.linked exit.read_fault said refl zero h
+said_image t u said too_long words sound fixed fits due h took plan_bytes before text command zero left b a = clash exit.linked exit.too_long said refl zero h
+said_image t u said (of_plan no_json) words sound fixed fits due h took plan_bytes before text command zero left b a = clash exit.linked exit.no_plan said refl zero h
+said_image t u said (of_plan (no_plan path)) words sound fixed fits due h took plan_bytes before text command zero left b a = clash exit.linked exit.no_plan said refl zero h
+said_image t u said (of_plan (plan l)) words sound fixed fits due h took plan_bytes before text command zero left b a =
     image_of t l plan_bytes text sound fixed fits left due.1 (no_errors (errors l) said zero h)
     (appended u.taken_before u.taken_after before (layout_text l) text b a took)
+said_image t u said (of_make n) words sound fixed fits due h took plan_bytes before text command zero left b a = two_commands words n command due.0
 
 told_image : (t : Turn) (u : Told) (said : ℕ) (a : Answer) (words : List (String Global)) → ImagesAreSound → PlansAreFixed → AnswerFits a → IsDue words t a
-    → IsSaid u (status a) (text_of a) said → IsHeadline t u said
+    → IsSaid u (status a) (text_of a) said → IsHeadline words t u said
 told_image t u said a words sound fixed fits due (inl h) = said_image t u said a words sound fixed fits due h.0 h.1
-told_image t u said a words sound fixed fits due (inr h) = λ plan_bytes before text zero left b c. clash exit.linked exit.cut_short said refl zero h.0
+told_image t u said a words sound fixed fits due (inr h) = λ plan_bytes before text command zero left b c. clash exit.linked exit.cut_short said refl zero h.0
 
-pub headline : (words : List (String Global)) (t : Turn) (u : Told) (said : ℕ) → ImagesAreSound → PlansAreFixed → IsAnsweredBy words t u said → IsHeadline t u said
+pub headline : (words : List (String Global)) (t : Turn) (u : Told) (said : ℕ) → ImagesAreSound → PlansAreFixed → IsAnsweredBy words t u said → IsHeadline words t u said
 headline words t u said sound fixed h = told_image t u said h.answer words sound fixed h.fits h.due h.told_as

@@ -3,26 +3,50 @@
 --   IsDue words turn answer   when each answer is due
 --   IsSaid told status text said   how an answer was said: the whole text was taken, or a write failed
 --   IsLinkedText plan text    the text is that of an image that is what it owes the plan's layout
-use Rattle.std.specs.Prelude.{◌≡◌, ℕ, ◌+◌, ◌^◌, ◌≤◌, List, [], ◌∷◌, length, map, codes, decimal, string_bytes, String, Option, ◌⊎◌}
+use Rattle.std.specs.Prelude.{◌≡◌, ℕ, ◌+◌, ◌^◌, ◌≤◌, List, [], ◌∷◌, ◌++◌, length, map, codes, decimal, string_bytes, String, Option, ◌⊎◌}
+use Rattle.std.specs.List.{sum}
 use Rattle.std.specs.declared.alloc.Global.{Global}
+use Rattle.wild_program.specs.declared.command.Command.{Command}
+use Rattle.wild_program.specs.declared.command.Command.TheVariants as command
+use Rattle.wild_made.specs.Made.{made}
 use Rattle.std.specs.Io.KnownBytes.{Consumes, Appends, IsAtEnd}
 use Rattle.wild_outside.specs.Causes.{Rose, AppendsFront}
 use Rattle.wild_plan.specs.declared.fault.Error.{Error}
 use Rattle.wild_plan.specs.declared.layout.Layout.{Layout}
+use Rattle.wild_plan.specs.declared.warning.EntryWarning.{EntryWarning}
 use Rattle.wild_layout.specs.Image.{bytes, counts}
+use Rattle.wild_layout.specs.Warnings.{warnings}
 use Rattle.wild_layout.specs.Faults.{errors}
+use Rattle.wild_meaning.specs.World.{IsLoadable}
 use Rattle.wild_meaning.specs.Linked.{IsSound}
 use Rattle.wild_text.specs.Means.{Meaning, no_json, no_plan, plan, Means}
-use Rattle.wild_text.specs.Answer.{image_text, refusal_text, no_plan_text}
+use Rattle.wild_text.specs.Answer.{image_text, image_line, count_lines, refusal_text, no_plan_text}
 use Rattle.wild_program.specs.Exit as exit
 
 -- the words are `link` and a number of workers from 1 to 64, in decimal
 abbrev pub IsLink : List (String Global) → ℕ → Type 0
 IsLink words n = (map string_bytes words ≡ codes "link" ∷ decimal n ∷ []) × (1 ≤ n) × (n ≤ 64)
 
+-- the words are `make`, a number of groups from 1 to 65,536 and a number of workers from 1 to 64, in decimal
+abbrev pub IsMake : List (String Global) → ℕ → ℕ → Type 0
+IsMake words n w = (map string_bytes words ≡ codes "make" ∷ decimal n ∷ decimal w ∷ []) × (1 ≤ n) × (n ≤ 65536) × (1 ≤ w) × (w ≤ 64)
+
+-- the words ask for the image of a plan
+abbrev pub IsLinked : List (String Global) → Type 0
+IsLinked words = (n : ℕ) × IsLink words n
+
+-- the words ask for the summary of a made plan's image
+abbrev pub IsMade : List (String Global) → Type 0
+IsMade words = (n : ℕ) × (w : ℕ) × IsMake words n w
+
 -- the words are a command
 abbrev pub IsCommand : List (String Global) → Type 0
-IsCommand words = (n : ℕ) × IsLink words n
+IsCommand words = IsLinked words ⊎ IsMade words
+
+-- what a command asks for
+abbrev pub Asks : List (String Global) → Command → Type 0
+Asks words (command.Link w) = IsLink words w
+Asks words (command.Make n w) = IsMake words n w
 
 -- what may be answered
 pub data Answer : Type 0 where
@@ -30,6 +54,7 @@ pub data Answer : Type 0 where
   read_fault : Answer
   too_long : Answer
   of_plan : Meaning → Answer
+  of_make : ℕ → Answer
 
 -- of a layout with these faults
 abbrev pub errors_status : List Error → ℕ
@@ -37,7 +62,7 @@ errors_status [] = exit.linked
 errors_status (e ∷ es) = exit.refused
 
 abbrev pub errors_text : Layout → List Error → List ℕ
-errors_text l [] = image_text (bytes l) (counts l)
+errors_text l [] = image_text l (bytes l) (warnings l) (counts l)
 errors_text l (e ∷ es) = refusal_text e
 
 -- linked where the layout has no faults
@@ -48,6 +73,14 @@ layout_status l = errors_status (errors l)
 abbrev pub layout_text : Layout → List ℕ
 layout_text l = errors_text l (errors l)
 
+-- the summary of an image of n groups: its groups and bytes, its counts, and the sum of its bytes
+abbrev pub summary_text : ℕ → List ℕ → List ℕ → List ℕ
+summary_text n image counts = codes "groups " ++ decimal n ++ codes "\n" ++ image_line (length image) ++ count_lines 0 counts ++ codes "sum " ++ decimal (sum image) ++ codes "\n"
+
+-- that of the made plan of n groups
+abbrev pub made_text : ℕ → List ℕ
+made_text n = summary_text n (bytes (made n)) (counts (made n))
+
 abbrev pub status : Answer → ℕ
 status usage = exit.usage
 status read_fault = exit.read_fault
@@ -55,14 +88,16 @@ status too_long = exit.too_long
 status (of_plan no_json) = exit.no_plan
 status (of_plan (no_plan path)) = exit.no_plan
 status (of_plan (plan layout)) = layout_status layout
+status (of_make n) = exit.linked
 
 abbrev pub text : Answer → List ℕ
-text usage = codes "usage: link W\n"
+text usage = codes "usage: link W | make N W\n"
 text read_fault = codes "read fault\n"
 text too_long = codes "plan too long\n"
 text (of_plan no_json) = codes "not a plan: json\n"
 text (of_plan (no_plan path)) = no_plan_text path
 text (of_plan (plan layout)) = layout_text layout
+text (of_make n) = made_text n
 
 -- how many bytes a plan may have
 abbrev pub limit : ℕ
@@ -100,9 +135,10 @@ IsMeant t meaning = (whole : List ℕ) × IsRead t whole × Means whole meaning
 -- when each answer is due
 abbrev pub IsDue : List (String Global) → Turn → Answer → Type 0
 IsDue words t usage = (IsCommand words → ⊥) × IsUntouched t
-IsDue words t read_fault = IsCommand words × Rose t.faults_before t.faults_after
-IsDue words t too_long = IsCommand words × IsTooLong t
-IsDue words t (of_plan meaning) = IsCommand words × IsMeant t meaning
+IsDue words t read_fault = IsLinked words × Rose t.faults_before t.faults_after
+IsDue words t too_long = IsLinked words × IsTooLong t
+IsDue words t (of_plan meaning) = IsLinked words × IsMeant t meaning
+IsDue words t (of_make n) = ((w : ℕ) × IsMake words n w) × IsUntouched t
 
 -- how the sink stood before and after
 pub record Told : Type 0 where
@@ -127,7 +163,8 @@ IsSaid t status text said = ((said ≡ status) × Appends t.taken_before t.taken
 abbrev pub IsAnswered : List (String Global) → Turn → Told → ℕ → Type 0
 IsAnswered words t u said = (a : Answer) × IsDue words t a × IsSaid u (status a) (text a) said
 
--- the text is that of an image for the plan's layout that the loader accepts in every legal world, with each
--- kept reference as it has to be
+-- the text is that of an image for the plan's layout, whose output is one that is loaded; the loader accepts the image in
+-- every legal world, with each kept reference as it has to be
 abbrev pub IsLinkedText : List ℕ → List ℕ → Type 0
-IsLinkedText plan_bytes text = (layout : Layout) × Means plan_bytes (plan layout) × (image : List ℕ) × (counts : List ℕ) × (text ≡ image_text image counts) × IsSound layout image
+IsLinkedText plan_bytes text = (layout : Layout) × Means plan_bytes (plan layout) × (image : List ℕ) × (warnings : List EntryWarning) × (counts : List ℕ)
+    × (text ≡ image_text layout image warnings counts) × IsLoadable layout.kind × IsSound layout image

@@ -1,12 +1,16 @@
 //! All that the program does, over any source and sink.
-ghost use Rattle.std.specs.Prelude.{◌≡◌, ◌≢◌, ℕ, IfOk, OnErr, MatchOption};
+ghost use Rattle.std.specs.Prelude.{◌≡◌, ◌≢◌, ◌≤◌, Some, None, IfOk, OnErr};
 ghost use Rattle.wild_plan.specs.declared.kind.Machine.TheVariants.{X86_64};
+ghost use Rattle.wild_outside.specs.Memory.{sure_left};
 ghost use Rattle.wild_program.specs.Exit.{read_fault, cut_short};
 ghost use Rattle.wild_program.specs.Program.{IsLink, layout_status, layout_text, turn, told, IsSaid, IsAnswered};
-ghost use Rattle.wild_program.specs.Clauses.{HasItsCause, IsCalm, IsDetermined, IsComplete, IsHeadline};
+ghost use Rattle.wild_program.specs.Clauses.{HasItsCause, IsCalm, IsDetermined, IsComplete, IsHeadline, IsMadeBy};
 ghost use Rattle.wild_program.specs.Steps.{IsRefusal, IsAnswerOf, IsAnsweredBy};
 
+use crate::command::Command;
+use crate::making::made_answer;
 use crate::status::{CUT_SHORT, LINKED, NO_PLAN, READ_FAULT, REFUSED, TOO_LONG, USAGE};
+use crate::words::command_of;
 use serde_json::Value;
 use std::alloc::{AllocError, Global};
 use std::thread::Threads;
@@ -22,25 +26,6 @@ use wild_text::{
 /// How many bytes a plan may have.
 const LIMIT: usize = 1 << 31;
 
-/// The number of workers, where the words are a command.
-fn workers_of(alloc: Global, words: &[String]) -> Result<Option<u8>, AllocError>
-    ensures { IfOk result (λ o. MatchOption o ((n : ℕ) → IsLink words.now n → ⊥) (λ n. IsLink words.now n)) }
-{
-    let [command, number] = words else {
-        return Ok(None);
-    };
-    if command.as_str() != "link" {
-        return Ok(None);
-    }
-    for n in 1..65u8 {
-        let digits = n.to_string(alloc)?;
-        if digits.as_str() == number.as_str() {
-            return Ok(Some(n));
-        }
-    }
-    Ok(None)
-}
-
 /// Writes the text, and answers the status, or that a write failed.
 fn say<K: Sink>(sink: &mut K, answer: &[u8], code: u8) -> u8
     ensures { IsSaid (told (K.taken sink.old) (K.taken sink.new) (K.faults sink.old) (K.faults sink.new))
@@ -54,17 +39,24 @@ fn say<K: Sink>(sink: &mut K, answer: &[u8], code: u8) -> u8
 
 /// The status and the text for a layout.
 fn layout_answer(
-    rt: &impl Threads,
+    rt: &(impl Threads + Sync),
     alloc: Global,
     layout: &Layout,
     workers: u8,
 ) -> Result<(u8, Vec<u8>), AllocError>
-    requires { layout.now.machine ≡ X86_64 }
+    requires machine { layout.now.machine ≡ X86_64 }
+    requires workers { (1 ≤ workers) × (workers ≤ 64) }
     ensures { IfOk result (λ a. (a.0 ≡ layout_status layout.now) × (a.1.items ≡ layout_text layout.now)) }
 {
     match write::<ElfX86_64>(rt, alloc, layout, workers) {
         Ok(made) => {
-            let text = image_answer(alloc, made.out.as_slice(), made.counts.as_slice())?;
+            let text = image_answer(
+                alloc,
+                layout,
+                made.out.as_slice(),
+                made.warnings.as_slice(),
+                made.counts.as_slice(),
+            )?;
             Ok((LINKED, text))
         }
         Err(error) => refusal_of(alloc, error),
@@ -86,11 +78,12 @@ fn refusal_of(alloc: Global, error: Error) -> Result<(u8, Vec<u8>), AllocError>
 
 /// The status and the text for the bytes of a plan.
 fn plan_answer(
-    rt: &impl Threads,
+    rt: &(impl Threads + Sync),
     alloc: Global,
     bytes: &[u8],
     workers: u8,
 ) -> Result<(u8, Vec<u8>), AllocError>
+    requires { (1 ≤ workers) × (workers ≤ 64) }
     ensures { IfOk result (λ a. IsAnswerOf bytes.now a.0 a.1.items) }
 {
     let value = match Value::from_slice(alloc, bytes) {
@@ -116,22 +109,21 @@ fn plan_answer(
     Ok(answer)
 }
 
-/// Reads, decides and says.
-fn answered<S: Source, K: Sink>(
-    rt: &impl Threads,
+/// Reads the plan, decides and says.
+fn linked<S: Source, K: Sink>(
+    rt: &(impl Threads + Sync),
     alloc: Global,
     words: &[String],
+    workers: u8,
     source: &mut S,
     sink: &mut K,
 ) -> Result<u8, AllocError>
+    requires { IsLink words.now workers }
     ensures ok { IfOk result (λ said. IsAnsweredBy words.now
         (turn (S.left source.old) (S.left source.new) (S.faults source.old) (S.faults source.new))
         (told (K.taken sink.old) (K.taken sink.new) (K.faults sink.old) (K.faults sink.new)) said) }
     ensures memory { OnErr result (K.taken sink.new ≡ K.taken sink.old) }
 {
-    let Some(workers) = workers_of(alloc, words)? else {
-        return Ok(say(sink, b"usage: link W\n", USAGE));
-    };
     let bytes = match read_whole(alloc, source, LIMIT) {
         Ok(bytes) => bytes,
         Err(ReadFault::Memory) => return Err(AllocError),
@@ -142,12 +134,35 @@ fn answered<S: Source, K: Sink>(
     Ok(say(sink, &answer, code))
 }
 
+/// Reads where that is asked for, decides and says.
+fn answered<S: Source, K: Sink>(
+    rt: &(impl Threads + Sync),
+    alloc: Global,
+    words: &[String],
+    source: &mut S,
+    sink: &mut K,
+) -> Result<u8, AllocError>
+    ensures ok { IfOk result (λ said. IsAnsweredBy words.now
+        (turn (S.left source.old) (S.left source.new) (S.faults source.old) (S.faults source.new))
+        (told (K.taken sink.old) (K.taken sink.new) (K.faults sink.old) (K.faults sink.new)) said) }
+    ensures memory { OnErr result (K.taken sink.new ≡ K.taken sink.old) }
+{
+    match command_of(alloc, words)? {
+        None => Ok(say(sink, b"usage: link W | make N W\n", USAGE)),
+        Some(Command::Link { workers }) => linked(rt, alloc, words, workers, source, sink),
+        Some(Command::Make { groups, workers }) => {
+            let answer = made_answer(rt, alloc, groups, workers)?;
+            Ok(say(sink, &answer, LINKED))
+        }
+    }
+}
+
 /// All that the program does: reads the plan that the words ask for, and writes the answer's text. The status is 0
-/// (`LINKED`) for an image, 1 (`REFUSED`) for a layout with a fault, 2 (`USAGE`) for words that are no command, 3
+/// (`LINKED`) for an image or the summary of one, 1 (`REFUSED`) for a layout with a fault, 2 (`USAGE`) for words that are no command, 3
 /// (`NO_PLAN`) for bytes that are no plan, 4 (`READ_FAULT`) for a read that failed, 5 (`CUT_SHORT`) for a write that
 /// failed, 7 (`TOO_LONG`) for a plan that is too long.
 pub fn run<S: Source, K: Sink>(
-    rt: &impl Threads,
+    rt: &(impl Threads + Sync),
     alloc: Global,
     words: &[String],
     source: &mut S,
@@ -159,7 +174,7 @@ pub fn run<S: Source, K: Sink>(
         (told (K.taken sink.old) (K.taken sink.new) (K.faults sink.old) (K.faults sink.new)) said) }
     // Where an image is written, the text is that of an image that the loader accepts in every legal world, with
     // each kept reference as its relocation demands.
-    ensures headline { IfOk result (λ said. IsHeadline
+    ensures headline { IfOk result (λ said. IsHeadline words.now
         (turn (S.left source.old) (S.left source.new) (S.faults source.old) (S.faults source.new))
         (told (K.taken sink.old) (K.taken sink.new) (K.faults sink.old) (K.faults sink.new)) said) }
     // Each status comes only with its cause.
@@ -179,6 +194,10 @@ pub fn run<S: Source, K: Sink>(
         (told (K.taken sink.old) (K.taken sink.new) (K.faults sink.old) (K.faults sink.new))
         → IsComplete words.now
         (turn (S.left source.old) (S.left source.new) (S.faults source.old) (S.faults source.new)) said) }
+    // `make N W` reads nothing, and writes the summary of the made plan's image.
+    ensures made { IfOk result (λ said. IsMadeBy words.now
+        (turn (S.left source.old) (S.left source.new) (S.faults source.old) (S.faults source.new))
+        (told (K.taken sink.old) (K.taken sink.new) (K.faults sink.old) (K.faults sink.new)) said) }
     // Where memory is refused, nothing has been written.
     ensures memory { OnErr result (K.taken sink.new ≡ K.taken sink.old) }
 {
@@ -187,9 +206,10 @@ pub fn run<S: Source, K: Sink>(
     answered(rt, alloc, words, source, sink)
 }
 
-/// The program over a source and a sink that never fail: no status says that a read or a write did.
+/// The program over a source and a sink that never fail: no status says that a read or a write did, and the words and
+/// the plan determine the status.
 pub fn run_surely(
-    rt: &impl Threads,
+    rt: &(impl Threads + Sync),
     alloc: Global,
     words: &[String],
     source: &mut SureSource,
@@ -197,6 +217,10 @@ pub fn run_surely(
 ) -> Result<u8, AllocError>
     ensures read { IfOk result (λ said. said ≢ read_fault) }
     ensures written { IfOk result (λ said. said ≢ cut_short) }
+    ensures determined { IfOk result (λ said. IsDetermined words.now
+        (turn (Some (sure_left source.old)) (Some (sure_left source.new)) 0 0) (told None None 0 0) said) }
+    ensures complete { IfOk result (λ said. IsComplete words.now
+        (turn (Some (sure_left source.old)) (Some (sure_left source.new)) 0 0) said) }
 {
     run(rt, alloc, words, source, sink)
 }

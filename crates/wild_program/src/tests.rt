@@ -26,7 +26,7 @@ pub(crate) const CALM: Outside<'static> = Outside {
 };
 
 pub(crate) fn answer(
-    rt: &impl Threads,
+    rt: &(impl Threads + Sync),
     alloc: Global,
     words: &[&str],
     plan: &[u8],
@@ -50,19 +50,23 @@ pub(crate) fn answer(
 
 #[test]
 fn no_command(rt: HostRuntime) -> Result<(), Fail> {
-    let none: [&[&str]; 7] = [
+    let none: [&[&str]; 11] = [
         &[],
         &["link"],
         &["link", "0"],
         &["link", "65"],
         &["link", "01"],
         &["make", "1"],
+        &["make", "0", "1"],
+        &["make", "01", "1"],
+        &["make", "1", "01"],
+        &["make", "65537", "1"],
         &["--help"],
     ];
     for words in &none {
         let (status, text) = answer(&rt, rt.alloc(), *words, b"{}", &CALM)?;
         assert!(rt; status == 2);
-        assert_eq!(rt; text.as_slice(), b"usage: link W\n".as_slice());
+        assert_eq!(rt; text.as_slice(), b"usage: link W | make N W\n".as_slice());
     }
     Ok(())
 }
@@ -99,24 +103,42 @@ fn cut_plans(rt: HostRuntime) -> Result<(), Fail> {
     Ok(())
 }
 
+/// Computed by hand from the definitions.
+const SMALLEST_TEXT: &str = "image 344
+count 1 1
+7f454c4602010100000000000000000002003e00010000008000400000000000
+4000000000000000980000000000000000000000400038000100400003000200
+0100000005000000000000000000000000004000000000000000400000000000
+8700000000000000870000000000000000100000000000000000000000000000
+e801000000c3c3002e74657874002e7368737472746162000000000000000000
+0000000000000000000000000000000000000000000000000000000000000000
+0000000000000000000000000000000000000000000000000100000001000000
+0600000000000000800040000000000080000000000000000700000000000000
+0000000000000000100000000000000000000000000000000700000003000000
+0000000000000000000000000000000087000000000000001100000000000000
+000000000000000001000000000000000000000000000000
+";
+
+/// Each write of the text fails, or takes nothing.
 #[test]
 fn failing_writes(rt: HostRuntime) -> Result<(), Fail> {
-    let (_, whole) = answer(&rt, rt.alloc(), &["link", "1"], b"[]", &CALM)?;
-    for call in 0..4u64 {
+    let words = ["link", "1"];
+    let whole = SMALLEST_TEXT.as_bytes();
+    for call in 0..90u64 {
         let fails = Outside {
             writes: &[call],
-            most: 4,
+            most: 8,
             ..CALM
         };
         let takes_none = Outside {
             empty: &[call],
-            most: 4,
+            most: 8,
             ..CALM
         };
         for outside in &[fails, takes_none] {
-            let (status, taken) = answer(&rt, rt.alloc(), &["link", "1"], b"[]", outside)?;
+            let (status, taken) = answer(&rt, rt.alloc(), &words, SMALLEST.as_bytes(), outside)?;
             assert!(rt; status == 5);
-            assert!(rt; whole.as_slice().starts_with(&taken) && taken.len() == 4 * call as usize);
+            assert!(rt; whole.starts_with(&taken) && taken.len() == 8 * call as usize);
         }
     }
     Ok(())
@@ -137,6 +159,28 @@ fn no_plans(rt: HostRuntime) -> Result<(), Fail> {
         assert!(rt; status == 3);
         assert_eq!(rt; text.as_slice(), line.as_bytes());
     }
+    Ok(())
+}
+
+/// A text above 4,096 bytes with a list above 1,000 items is read and written as any other: a relocation of number 0
+/// writes nothing, and is counted.
+#[test]
+fn long_plans(rt: HostRuntime) -> Result<(), Fail> {
+    let alloc = rt.alloc();
+    let last = r#""addend":-4}"#;
+    let mut items = String::from_str(alloc, last)?;
+    for _ in 0..1200 {
+        items.push_str(r#",{"number":0}"#)?;
+    }
+    let plan = String::from_str(alloc, SMALLEST)?.replace(alloc, last, items.as_str())?;
+    let text = String::from_str(alloc, SMALLEST_TEXT)?.replace(
+        alloc,
+        "count 1 1\n",
+        "count 1 1201\n",
+    )?;
+    let (status, said) = answer(&rt, alloc, &["link", "2"], plan.as_bytes(), &CALM)?;
+    assert!(rt; status == 0);
+    assert_eq!(rt; said.as_slice(), text.as_bytes());
     Ok(())
 }
 
@@ -162,6 +206,30 @@ fn headers_alone(rt: HostRuntime) -> Result<(), Fail> {
         let (status, text) = answer(&rt, rt.alloc(), &words, NO_CODE.as_bytes(), &CALM)?;
         assert!(rt; status == 0);
         assert_eq!(rt; text.as_slice(), NO_CODE_TEXT.as_bytes());
+    }
+    Ok(())
+}
+
+#[test]
+fn made_plans(rt: HostRuntime) -> Result<(), Fail> {
+    let rows: [(&[&str], &str); 3] = [
+        (
+            &["make", "1", "1"],
+            "groups 1\nimage 408\ncount 1 8\nsum 16871\n",
+        ),
+        (
+            &["make", "2", "1"],
+            "groups 2\nimage 472\ncount 1 16\nsum 25303\n",
+        ),
+        (
+            &["make", "2", "2"],
+            "groups 2\nimage 472\ncount 1 16\nsum 25303\n",
+        ),
+    ];
+    for (words, text) in rows {
+        let (status, said) = answer(&rt, rt.alloc(), words, b"", &CALM)?;
+        assert_eq!(rt; status, 0);
+        assert_eq!(rt; said.as_slice(), text.as_bytes());
     }
     Ok(())
 }

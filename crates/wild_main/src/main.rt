@@ -1,0 +1,17 @@
+//! The program over standard input and output: `link W` and `make N W`.
+#![tactic(auto)]
+
+use std::process::ExitCode;
+use std::{env, io};
+use wild_program::{Reading, Writing, run, status_of, words_of};
+
+fn main(rt: HostRuntime) -> ExitCode {
+    let alloc = rt.alloc();
+    let mut source = Reading::new(rt.reader());
+    let mut sink = Writing::new(io::writer(&rt));
+    let outcome = match words_of(alloc, env::args(&rt)) {
+        Ok(words) => run(&rt, alloc, &words, &mut source, &mut sink),
+        Err(e) => Err(e),
+    };
+    ExitCode::from(status_of(outcome))
+}

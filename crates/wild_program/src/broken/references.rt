@@ -1,0 +1,264 @@
+//! Plans with a relocation that cannot be written, and which of two faults is the first.
+use super::Broken;
+use crate::tests::SMALLEST;
+
+/// The smallest executable with 16 bytes of code, for fields of 8 bytes.
+const WIDE: &str =
+    r#"{"machine":"x86_64","kind":"static","options":{"relax":true,"strip_all":true},"page_size":4096,"parts":[{"role":"file_header","size":64,"address":4194304,"align":8},{"role":"program_headers","offset":64,"address":4194368,"size":56,"align":8},{"role":"raw","section":1,"offset":128,"address":4194432,"size":16,"align":16},{"role":"shstrtab","section":2,"offset":144,"size":17,"align":1},{"role":"section_headers","offset":168,"size":192,"align":8}],"sections":[{},{"name":"2e74657874","kind":1,"flags":6,"address":4194432,"offset":128,"size":16,"align":16},{"name":"2e7368737472746162","kind":3,"offset":144,"size":17,"align":1}],"segments":[{"kind":1,"flags":5,"address":4194304,"physical":4194304,"file_size":144,"mem_size":144,"align":4096}],"symbols":[{"name":"66","info":2,"place":{"section":0},"value":6,"flags":["NON_INTERPOSABLE"],"resolution":{"raw_value":4194438}}],"groups":[{"files":[{"role":"prelude"},{"role":"object","symbol_count":1,"sections":[{"slot":"loaded","part":2,"address":4194432,"size":16,"flags":6,"bytes":"e800000000c3c3909090909090909090","relocations":[{"offset":1,"number":2,"symbol":0,"addend":-4}]}]},{"role":"epilogue"}],"part_sizes":[64,56,16,17,192]}],"entry":{"address":4194432}}"#;
+
+/// A row for each fault of a relocation.
+pub(super) const REFERENCES: [Broken; 35] = [
+    // relocations
+    Broken {
+        plan: SMALLEST,
+        changes: &[(r#""number":2,"#, r#""number":3,"#)],
+        answer: "refused UnsupportedRelocation number=3 at group=0 file=1 section=0 offset=1",
+    },
+    Broken {
+        plan: SMALLEST,
+        changes: &[(r#""number":2,"#, r#""number":4294967295,"#)],
+        answer: "refused UnsupportedRelocation number=4294967295 at group=0 file=1 section=0 offset=1",
+    },
+    Broken {
+        plan: SMALLEST,
+        changes: &[(
+            r#","number":2,"symbol":0,"addend":-4}"#,
+            r#"000,"number":99}"#,
+        )],
+        answer: "refused UnsupportedRelocation number=99 at group=0 file=1 section=0 offset=1000",
+    },
+    Broken {
+        plan: SMALLEST,
+        changes: &[(r#"":2,"symbol":0,"#, r#"":10,"symbol":null,"#)],
+        answer: "refused UnsupportedRelocation number=10 at group=0 file=1 section=0 offset=1",
+    },
+    Broken {
+        plan: SMALLEST,
+        changes: &[(r#"":2,"symbol":0,"#, r#"":11,"symbol":null,"#)],
+        answer: "refused UnsupportedRelocation number=11 at group=0 file=1 section=0 offset=1",
+    },
+    Broken {
+        plan: WIDE,
+        changes: &[(
+            r#""offset":1,"number":2,"symbol":0,"addend":-4}"#,
+            r#""number":1}"#,
+        )],
+        answer: "refused UnsupportedRelocation number=1 at group=0 file=1 section=0 offset=0",
+    },
+    Broken {
+        plan: SMALLEST,
+        changes: &[(r#""symbol":0,"#, r#""symbol":null,"#)],
+        answer: "image 344",
+    },
+    Broken {
+        plan: SMALLEST,
+        changes: &[(r#""number":2,"#, r#""number":99,"#)],
+        answer: "refused UnsupportedRelocation number=99 at group=0 file=1 section=0 offset=1",
+    },
+    Broken {
+        plan: SMALLEST,
+        changes: &[(
+            r#""place":{"section":0},"value":6,"flags":["NON_INTERPOSABLE"],"resolution":{"raw_value":4194438}"#,
+            r#""place":"undefined","value":6,"flags":["NON_INTERPOSABLE"],"resolution":null"#,
+        )],
+        answer: "refused MissingResolution what=address symbol=0 at group=0 file=1 section=0 offset=1",
+    },
+    // out of range, at both ends
+    Broken {
+        plan: SMALLEST,
+        changes: &[(r#""addend":-4}"#, r#""addend":2147483642}"#)],
+        answer: "image 344",
+    },
+    Broken {
+        plan: SMALLEST,
+        changes: &[(r#""addend":-4}"#, r#""addend":2147483643}"#)],
+        answer: "refused OutOfRange value=2147483648 at group=0 file=1 section=0 offset=1",
+    },
+    Broken {
+        plan: SMALLEST,
+        changes: &[(r#""addend":-4}"#, r#""addend":-2147483653}"#)],
+        answer: "image 344",
+    },
+    Broken {
+        plan: SMALLEST,
+        changes: &[(r#""addend":-4}"#, r#""addend":-2147483654}"#)],
+        answer: "refused OutOfRange value=-2147483649 at group=0 file=1 section=0 offset=1",
+    },
+    Broken {
+        plan: SMALLEST,
+        changes: &[(
+            r#"":2,"symbol":0,"addend":-4}"#,
+            r#"":10,"symbol":0,"addend":4290772857}"#,
+        )],
+        answer: "image 344",
+    },
+    Broken {
+        plan: SMALLEST,
+        changes: &[(r#""raw_value":4194438"#, r#""raw_value":2151678085"#)],
+        answer: "refused OutOfRange value=2147483648 at group=0 file=1 section=0 offset=1",
+    },
+    Broken {
+        plan: SMALLEST,
+        changes: &[(r#""raw_value":4194438"#, r#""raw_value":2151678084"#)],
+        answer: "image 344",
+    },
+    // overlapping fields
+    Broken {
+        plan: WIDE,
+        changes: &[(
+            r#"":1,"number":2,"symbol":0,"addend":-4}"#,
+            r#"":0,"number":1,"symbol":0},{"offset":4,"number":1,"symbol":0}"#,
+        )],
+        answer: "refused OverlappingSites byte=4 at group=0 file=1 section=0",
+    },
+    Broken {
+        plan: WIDE,
+        changes: &[(
+            r#"":1,"number":2,"symbol":0,"addend":-4}"#,
+            r#"":4,"number":1,"symbol":0},{"offset":0,"number":1,"symbol":0}"#,
+        )],
+        answer: "refused OverlappingSites byte=4 at group=0 file=1 section=0",
+    },
+    Broken {
+        plan: WIDE,
+        changes: &[(
+            r#"":1,"number":2,"symbol":0,"addend":-4}"#,
+            r#"":0,"number":1,"symbol":0},{"offset":7,"number":1,"symbol":0}"#,
+        )],
+        answer: "refused OverlappingSites byte=7 at group=0 file=1 section=0",
+    },
+    Broken {
+        plan: WIDE,
+        changes: &[(
+            r#"":1,"number":2,"symbol":0,"addend":-4}"#,
+            r#"":0,"number":1,"symbol":0},{"offset":8,"number":1,"symbol":0}"#,
+        )],
+        answer: "image 360",
+    },
+    Broken {
+        plan: WIDE,
+        changes: &[(
+            r#"":1,"number":2,"symbol":0,"addend":-4}"#,
+            r#"":0,"number":1,"symbol":0},{"offset":2,"number":10,"symbol":0}"#,
+        )],
+        answer: "refused OverlappingSites byte=2 at group=0 file=1 section=0",
+    },
+    Broken {
+        plan: SMALLEST,
+        changes: &[(
+            r#""addend":-4}"#,
+            r#""addend":-4},{"offset":3,"number":2,"symbol":0,"addend":-4}"#,
+        )],
+        answer: "refused OverlappingSites byte=3 at group=0 file=1 section=0",
+    },
+    // order: the first of two faults
+    Broken {
+        plan: SMALLEST,
+        changes: &[(
+            r#"":16},{"role":"shstrtab","section":2,"offset":135,"size":17,"align":1}"#,
+            r#"":3},{"role":"shstrtab","section":2,"offset":135,"size":17,"align":3}"#,
+        )],
+        answer: "refused MalformedLayout clause=1 index=2",
+    },
+    Broken {
+        plan: SMALLEST,
+        changes: &[(
+            r#"":135,"size":17,"align":1},{"role":"section_headers""#,
+            r#"":134,"size":17,"align":1},{"role":"shstrtab""#,
+        )],
+        answer: "refused MalformedLayout clause=3 index=3",
+    },
+    Broken {
+        plan: SMALLEST,
+        changes: &[(
+            r#"{},{"name":"2e74657874","kind":1,"flags":6,"address":4194432,"offset":128,"size":7,"#,
+            r#"{"kind":1},{"name":"2e74657874","kind":1,"flags":6,"address":4194432,"offset":128,"size":6,"#,
+        )],
+        answer: "refused MalformedLayout clause=5 index=0",
+    },
+    Broken {
+        plan: SMALLEST,
+        changes: &[(
+            r#"":135,"size":17,"align":1}],"segments":[{"kind":1,"flags":5,"address":4194304,"physical":4194304,"file_size":135,"mem_size":135,"#,
+            r#"":136,"size":17,"align":1}],"segments":[{"kind":1,"flags":5,"address":4194304,"physical":4194304,"file_size":135,"mem_size":134,"#,
+        )],
+        answer: "refused MalformedLayout clause=5 index=3",
+    },
+    Broken {
+        plan: SMALLEST,
+        changes: &[(
+            r#"":135,"mem_size":135,"align":4096}"#,
+            r#"":134,"mem_size":135,"align":4096},{"kind":2}"#,
+        )],
+        answer: "refused MalformedLayout clause=6 index=1",
+    },
+    Broken {
+        plan: SMALLEST,
+        changes: &[(
+            r#""epilogue"}],"part_sizes":[64,56,7,17,192]"#,
+            r#""object"}],"part_sizes":[64,56,7,17,193]"#,
+        )],
+        answer: "refused MalformedLayout clause=7 index=4",
+    },
+    Broken {
+        plan: SMALLEST,
+        changes: &[
+            (r#""page_size":4096,"#, r#""page_size":4095,"#),
+            (r#""number":2,"#, r#""number":99,"#),
+        ],
+        answer: "refused MalformedLayout clause=1 index=0",
+    },
+    Broken {
+        plan: SMALLEST,
+        changes: &[(
+            r#"{"offset":1,"number":2,"symbol":0,"addend":-4}"#,
+            r#"{"offset":4,"number":2,"symbol":0,"addend":-4},{"number":99}"#,
+        )],
+        answer: "refused MalformedLayout clause=10 index=0",
+    },
+    Broken {
+        plan: SMALLEST,
+        changes: &[
+            (
+                r#""offset":135,"size":17,"align":1},{"role":"section_headers""#,
+                r#""offset":135,"size":16,"align":1},{"role":"section_headers""#,
+            ),
+            (r#",17,192]"#, r#",16,192]"#),
+            (r#""number":2,"#, r#""number":99,"#),
+        ],
+        answer: "refused InsufficientAllocation part=3 group=0 given=16 needed=17",
+    },
+    Broken {
+        plan: SMALLEST,
+        changes: &[
+            (r#""offset":152,"size":192,"#, r#""offset":152,"size":256,"#),
+            (r#",17,192]"#, r#",17,256]"#),
+            (r#""number":2,"#, r#""number":99,"#),
+        ],
+        answer: "refused ExcessiveAllocation part=4 group=0 given=256 needed=192",
+    },
+    Broken {
+        plan: SMALLEST,
+        changes: &[(
+            r#""number":2,"symbol":0,"addend":-4}"#,
+            r#""number":99},{"offset":3,"number":2,"symbol":0,"addend":-4}"#,
+        )],
+        answer: "refused UnsupportedRelocation number=99 at group=0 file=1 section=0 offset=1",
+    },
+    Broken {
+        plan: SMALLEST,
+        changes: &[(
+            r#""size":7,"flags":6,"bytes":"e800000000c3c3","relocations":[{"offset":1,"number":2,"symbol":0,"addend":-4}]}"#,
+            r#""size":5,"flags":6,"bytes":"e800000000","relocations":[{"offset":1,"number":99,"symbol":0,"addend":-4}]},{"slot":"loaded","part":2,"address":4194437,"size":2,"flags":6,"bytes":"c3c3","relocations":[{"number":98}]}"#,
+        )],
+        answer: "refused UnsupportedRelocation number=99 at group=0 file=1 section=0 offset=1",
+    },
+    Broken {
+        plan: SMALLEST,
+        changes: &[(
+            r#""size":7,"flags":6,"bytes":"e800000000c3c3","relocations":[{"offset":1,"number":2,"symbol":0,"addend":-4}]}"#,
+            r#""size":5,"flags":6,"bytes":"e800000000","relocations":[{"offset":1,"number":2,"symbol":0,"addend":-4}]},{"slot":"loaded","part":2,"address":4194437,"size":2,"flags":6,"bytes":"c3c3","relocations":[{"number":98}]}"#,
+        )],
+        answer: "refused UnsupportedRelocation number=98 at group=0 file=1 section=1 offset=0",
+    },
+];

@@ -1,0 +1,24 @@
+//! The program as a library: `link W` reads a plan and writes its image as text; `make N W` writes the summary of the
+//! image of N groups. Where it reads and writes is the caller's choice.
+#![tactic(auto)]
+
+#[cfg(test)]
+mod broken;
+mod command;
+mod making;
+mod program;
+mod status;
+#[cfg(test)]
+mod tests;
+mod words;
+
+pub use command::Command;
+pub use program::{run, run_surely};
+pub use status::{
+    CUT_SHORT, LINKED, NO_MEMORY, NO_PLAN, READ_FAULT, REFUSED, TOO_LONG, USAGE, status_of,
+};
+pub use wild_outside::{
+    Failed, MemSink, MemSource, ReadFault, Reading, Sink, Source, SureSink, SureSource, Writing,
+};
+pub use wild_text::{PlanFault, read_plan};
+pub use words::{command_of, words_of};
