@@ -1,6 +1,5 @@
 -- What a kind of output is.
 use Rattle.std.specs.Prelude.{Bool, true, false}
-use Rattle.wild_plan.specs.declared.kind.RelocationModel.{RelocationModel}
 use Rattle.wild_plan.specs.declared.kind.RelocationModel.TheVariants.{NonRelocatable, Relocatable}
 use Rattle.wild_plan.specs.declared.kind.OutputKind.{OutputKind}
 use Rattle.wild_plan.specs.declared.kind.OutputKind.TheVariants.{StaticExecutable, DynamicExecutable, SharedObject, PartialObject}

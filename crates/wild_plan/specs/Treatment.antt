@@ -1,16 +1,19 @@
 -- What is done with a relocation, as far as the layout alone says it: no value is taken.
 --   flags_at l i          what is known of the value of the symbol that defines symbol i
 --   is_left l s row i     the address of symbol i is left to a dynamic entry
+--   is_barred l s row i   the field is too narrow for an address that another module may define
+--   moves l i             the address of symbol i moves with the base
 --   treatment l s r       what is done with relocation r of section s
-use Rattle.std.specs.Prelude.{ℕ, Bool, ◌&&◌, ◌==◌, if◌then◌else◌, Option, Some, None, option_map, unwrap_or, slice_get}
+use Rattle.std.specs.Prelude.{ℕ, Bool, not, ◌&&◌, ◌||◌, ◌==◌, if◌then◌else◌, Option, Some, None, option_map, unwrap_or, slice_get}
 use Rattle.wild_plan.specs.declared.symbol.Symbol.{Symbol}
 use Rattle.wild_plan.specs.declared.symbol.ValueFlags.{ValueFlags}
 use Rattle.wild_plan.specs.declared.input.InputRelocation.{InputRelocation}
 use Rattle.wild_plan.specs.declared.input.InputSection.{InputSection}
 use Rattle.wild_plan.specs.declared.layout.Layout.{Layout}
 use Rattle.wild_plan.specs.declared.treatment.Treatment.{Treatment}
-use Rattle.wild_plan.specs.declared.treatment.Treatment.TheVariants.{Nothing, Value, Symbolic, Unsupported}
-use Rattle.wild_plan.specs.Flags.{interposable}
+use Rattle.wild_plan.specs.declared.treatment.Treatment.TheVariants.{Nothing, Value, BaseRelative, Symbolic, Recompile, Unsupported}
+use Rattle.wild_plan.specs.Flags.{has_flag, interposable, absolute, dynamic, copy_relocation, plt_stub}
+use Rattle.wild_plan.specs.Kinds.{is_position_independent}
 use Rattle.wild_plan.specs.Lookups.{canonical, writable, allocated}
 use Rattle.wild_plan.specs.Rows.{row_of}
 use Rattle.wild_reloc.specs.Field.{field_width}
@@ -27,16 +30,53 @@ flags_at l i = unwrap_or (option_map (λ (s : Symbol). s.flags) (slice_get l.sym
 abbrev pub is_left : Layout → InputSection → RelocationKindInfo → ℕ → Bool
 is_left l s row i = allocated s.flags && writable s.flags && field_width row == 8 && interposable (flags_at l i)
 
--- S + A needs a symbol
-abbrev pub absolute_treatment : Layout → InputSection → RelocationKindInfo → Option ℕ → Treatment
-absolute_treatment l s row None = Unsupported
-absolute_treatment l s row (Some i) = if is_left l s row i then Symbolic i else Value row
+-- another module may define the symbol, and neither a copy of it nor a stub has an address of this output (gABI,
+-- "Symbol Visibility")
+abbrev pub is_elsewhere : ValueFlags → Bool
+is_elsewhere f = (interposable f || has_flag f dynamic) && not (has_flag f copy_relocation || has_flag f plt_stub)
 
--- the kinds that are known: no value, S + A, S + A - P
+-- an address of another module is not known when the output is linked, and only a field of 8 bytes can be left to a
+-- loader (x86-64 psABI, "Position-Independent Code")
+abbrev pub is_barred : Layout → InputSection → RelocationKindInfo → ℕ → Bool
+is_barred l s row i = allocated s.flags && is_position_independent l.kind && not (field_width row == 8) && is_elsewhere (flags_at l i)
+
+-- the address moves with the base: the output does, and the value is not absolute (gABI, "Symbol Table", SHN_ABS)
+abbrev pub moves : Layout → ℕ → Bool
+moves l i = is_position_independent l.kind && not (has_flag (flags_at l i) absolute)
+
+-- an address that moves is stored by a loader: in a field of 8 bytes (x86-64 psABI, "Relocation Types",
+-- R_X86_64_RELATIVE)
+abbrev pub moved_treatment : RelocationKindInfo → Treatment
+moved_treatment row = if field_width row == 8 then BaseRelative else Recompile
+
+-- S + A of symbol i
+abbrev pub address_treatment : Layout → InputSection → RelocationKindInfo → ℕ → Treatment
+address_treatment l s row i =
+    if is_barred l s row i then Recompile
+    else if is_left l s row i then Symbolic i
+    else if allocated s.flags && moves l i then moved_treatment row
+    else Value row
+
+-- a value that needs a symbol
+abbrev pub named : Option ℕ → (ℕ → Treatment) → Treatment
+named None by = Unsupported
+named (Some i) by = by i
+
+-- S + A - P: without a symbol it is the distance from address 0, which moves
+abbrev pub distance_treatment : Layout → InputSection → RelocationKindInfo → Option ℕ → Treatment
+distance_treatment l s row None = if allocated s.flags && is_position_independent l.kind then Recompile else Value row
+distance_treatment l s row (Some i) = if is_barred l s row i then Recompile else Value row
+
+-- the kinds that are known: no value; S + A; S + A - P; GOT + A - P; S + A - GOT; offsets in thread storage; sizes
 abbrev pub kind_treatment : Layout → InputSection → Option ℕ → RelocationKindInfo → RelocationKind → Treatment
 kind_treatment l s symbol row kinds.None = Nothing
-kind_treatment l s symbol row kinds.Absolute = absolute_treatment l s row symbol
-kind_treatment l s symbol row kinds.Relative = Value row
+kind_treatment l s symbol row kinds.Absolute = named symbol (address_treatment l s row)
+kind_treatment l s symbol row kinds.Relative = distance_treatment l s row symbol
+kind_treatment l s symbol row kinds.GotBaseRelative = Value row
+kind_treatment l s symbol row kinds.SymRelGotBase = named symbol (λ i. Value row)
+kind_treatment l s symbol row kinds.DtpOff = named symbol (λ i. Value row)
+kind_treatment l s symbol row kinds.TpOff = named symbol (λ i. Value row)
+kind_treatment l s symbol row kinds.SymbolSize = named symbol (λ i. Value row)
 kind_treatment l s symbol row other = Unsupported
 
 unfoldable pub row_treatment : Layout → InputSection → Option ℕ → Option RelocationKindInfo → Treatment

@@ -1,6 +1,6 @@
 //! What is done with a relocation, as far as the layout alone says it: no value is taken.
 ghost use Rattle.std.specs.Prelude.{◌≡◌};
-ghost use Rattle.wild_plan.specs.Treatment.{flags_at, is_left, absolute_treatment, row_treatment, treatment};
+ghost use Rattle.wild_plan.specs.Treatment.{flags_at, is_left, is_elsewhere, is_barred, moves, moved_treatment, address_treatment, distance_treatment, row_treatment, treatment};
 
 use crate::input::{InputRelocation, InputSection};
 use crate::layout::Layout;
@@ -16,8 +16,12 @@ pub enum Treatment {
     Nothing,
     /// A value is written into the field of this row.
     Value(RelocationKindInfo),
+    /// An address that moves with the base is stored in 8 bytes by a loader.
+    BaseRelative,
     /// The address of this symbol, which another module may define, is left to a dynamic entry.
     Symbolic(usize),
+    /// The field cannot hold an address that is known only where the image is loaded.
+    Recompile,
     /// The type is not known, or needs a symbol and has none.
     Unsupported,
 }
@@ -43,20 +47,89 @@ fn is_left(layout: &Layout, section: &InputSection, row: &RelocationKindInfo, sy
         && flags_at(layout, symbol).is_interposable()
 }
 
-/// What is done with a relocation that writes S + A.
+/// Whether another module may define the symbol, and neither a copy of it nor a stub has an address of this output.
+fn is_elsewhere(flags: ValueFlags) -> bool
+    ensures { result ≡ is_elsewhere flags }
+{
+    (flags.is_interposable() || flags.is_dynamic())
+        && !(flags.needs_copy_relocation() || flags.needs_plt())
+}
+
+/// Whether the field is too narrow for the address of the symbol, which another module may define.
 #[inline]
-fn absolute_treatment(
+fn is_barred(
+    layout: &Layout,
+    section: &InputSection,
+    row: &RelocationKindInfo,
+    symbol: usize,
+) -> bool
+    ensures { result ≡ is_barred layout.now section.now row.now symbol }
+{
+    is_allocated(section.flags)
+        && layout.kind.is_position_independent()
+        && row.width() != 8
+        && is_elsewhere(flags_at(layout, symbol))
+}
+
+/// Whether the address of the symbol moves with the base.
+#[inline]
+fn moves(layout: &Layout, symbol: usize) -> bool
+    ensures { result ≡ moves layout.now symbol }
+{
+    layout.kind.is_position_independent() && !flags_at(layout, symbol).is_absolute()
+}
+
+/// What is done with an address that moves with the base.
+#[inline]
+fn moved_treatment(row: &RelocationKindInfo) -> Treatment
+    ensures { result ≡ moved_treatment row.now }
+{
+    if row.width() == 8 {
+        Treatment::BaseRelative
+    } else {
+        Treatment::Recompile
+    }
+}
+
+/// What is done with a relocation that writes S + A of that symbol.
+#[inline]
+fn address_treatment(
+    layout: &Layout,
+    section: &InputSection,
+    row: RelocationKindInfo,
+    symbol: usize,
+) -> Treatment
+    ensures { result ≡ address_treatment layout.now section.now row symbol }
+{
+    if is_barred(layout, section, &row, symbol) {
+        Treatment::Recompile
+    } else if is_left(layout, section, &row, symbol) {
+        Treatment::Symbolic(symbol)
+    } else if is_allocated(section.flags) && moves(layout, symbol) {
+        moved_treatment(&row)
+    } else {
+        Treatment::Value(row)
+    }
+}
+
+/// What is done with a relocation that writes S + A - P.
+#[inline]
+fn distance_treatment(
     layout: &Layout,
     section: &InputSection,
     row: RelocationKindInfo,
     symbol: Option<usize>,
 ) -> Treatment
-    ensures { result ≡ absolute_treatment layout.now section.now row symbol }
+    ensures { result ≡ distance_treatment layout.now section.now row symbol }
 {
-    match symbol {
-        Some(symbol) if is_left(layout, section, &row, symbol) => Treatment::Symbolic(symbol),
-        Some(_) => Treatment::Value(row),
-        None => Treatment::Unsupported,
+    let refused = match symbol {
+        Some(symbol) => is_barred(layout, section, &row, symbol),
+        None => is_allocated(section.flags) && layout.kind.is_position_independent(),
+    };
+    if refused {
+        Treatment::Recompile
+    } else {
+        Treatment::Value(row)
     }
 }
 
@@ -74,10 +147,15 @@ pub fn row_treatment(
     let Some(row) = row else {
         return Treatment::Unsupported;
     };
-    match row.kind {
-        RelocationKind::None => Treatment::Nothing,
-        RelocationKind::Absolute => absolute_treatment(layout, section, row, symbol),
-        RelocationKind::Relative => Treatment::Value(row),
+    match (row.kind, symbol) {
+        (RelocationKind::None, _) => Treatment::Nothing,
+        (RelocationKind::Absolute, Some(symbol)) => address_treatment(layout, section, row, symbol),
+        (RelocationKind::Relative, symbol) => distance_treatment(layout, section, row, symbol),
+        (RelocationKind::GotBaseRelative, _)
+        | (RelocationKind::SymRelGotBase, Some(_))
+        | (RelocationKind::DtpOff, Some(_))
+        | (RelocationKind::TpOff, Some(_))
+        | (RelocationKind::SymbolSize, Some(_)) => Treatment::Value(row),
         _ => Treatment::Unsupported,
     }
 }

@@ -2,9 +2,11 @@
 ghost use Rattle.std.specs.Prelude.{◌≡◌, ◌<◌, length};
 ghost use Rattle.wild_plan.specs.Faults.{nowhere};
 ghost use Rattle.wild_plan.specs.Places.{has_role};
-ghost use Rattle.wild_tables.specs.Tables.{part_of, share_of, insufficient, excessive};
+ghost use Rattle.wild_plan.specs.Shares.{part_of, share_of, insufficient, excessive};
 
-use wild_plan::{At, Error, Fault, Layout, Part, Role};
+use crate::fault::{At, Error, Fault};
+use crate::layout::Layout;
+use crate::part::{Part, Role};
 
 fn has_role(role: Role, part: &Part) -> bool
     ensures { result ≡ has_role role part.now }
@@ -13,7 +15,7 @@ fn has_role(role: Role, part: &Part) -> bool
 }
 
 /// The place of the first part of a role; the number of parts where there is none.
-pub(crate) fn part_of(layout: &Layout, role: Role) -> usize
+pub fn part_of(layout: &Layout, role: Role) -> usize
     ensures { result ≡ part_of layout.now role }
 {
     for (i, part) in layout.parts.as_slice().iter().enumerate() {
@@ -25,7 +27,7 @@ pub(crate) fn part_of(layout: &Layout, role: Role) -> usize
 }
 
 /// The group's share of the part of a role; 0 where there is no such group.
-pub(crate) fn share_of(layout: &Layout, group: usize, role: Role) -> u64
+pub fn share_of(layout: &Layout, group: usize, role: Role) -> u64
     ensures { result ≡ share_of layout.now group role }
 {
     match layout.groups.as_slice().get(group) {
@@ -35,13 +37,7 @@ pub(crate) fn share_of(layout: &Layout, group: usize, role: Role) -> u64
 }
 
 /// A share that is smaller than what has to be written there.
-pub(crate) fn insufficient(
-    layout: &Layout,
-    group: usize,
-    role: Role,
-    given: usize,
-    needed: usize,
-) -> Error
+pub fn insufficient(layout: &Layout, group: usize, role: Role, given: usize, needed: usize) -> Error
     ensures { result ≡ insufficient layout.now group role given needed }
 {
     Error {
@@ -56,13 +52,7 @@ pub(crate) fn insufficient(
 }
 
 /// A share that is larger than what has to be written there.
-pub(crate) fn excessive(
-    layout: &Layout,
-    group: usize,
-    role: Role,
-    given: usize,
-    needed: usize,
-) -> Error
+pub fn excessive(layout: &Layout, group: usize, role: Role, given: usize, needed: usize) -> Error
     ensures { result ≡ excessive layout.now group role given needed }
 {
     Error {

@@ -1,0 +1,72 @@
+-- The addresses of a movable output that a loader adds its base to: by an entry with an addend, or by a word of packed
+-- relocations (gABI, "Relocation", "Relative Relocation Table").
+--   place_of s r                    P, the address of the field
+--   packs l place                   the address at the place is recorded by a packed word
+--   listed_places, packed_places    the places of a section's addresses that move: those that have an entry, and those
+--                                   that are packed
+--   entry_count l f, word_count l f   how many entries, and how many words, a file has
+use Rattle.std.specs.Prelude.{ℕ, ◌+◌, ◌%◌, ◌^◌, ◌==◌, ◌&&◌, Bool, true, false, not, if◌then◌else◌, List, [], length, Option, Some, None, option_to_list}
+use Rattle.std.specs.List.{flat_map}
+use Rattle.wild_relr.specs.Packed.{packed}
+use Rattle.wild_plan.specs.declared.input.InputRelocation.{InputRelocation}
+use Rattle.wild_plan.specs.declared.input.InputSection.{InputSection}
+use Rattle.wild_plan.specs.declared.file.File.{File}
+use Rattle.wild_plan.specs.declared.layout.Layout.{Layout}
+use Rattle.wild_plan.specs.declared.treatment.Treatment.{Treatment}
+use Rattle.wild_plan.specs.declared.treatment.Treatment.TheVariants.{BaseRelative}
+use Rattle.wild_plan.specs.Kinds.{is_position_independent}
+use Rattle.wild_plan.specs.Lists.{total}
+use Rattle.wild_plan.specs.Lookups.{is_read}
+use Rattle.wild_plan.specs.Treatment.{treatment}
+
+-- the address of the field
+abbrev pub place_of : InputSection → InputRelocation → ℕ
+place_of s r = (s.address + r.offset) % 2 ^ 64
+
+-- words of packed relocations are asked for, and the place is one that they can name: an even one
+abbrev pub packs : Layout → ℕ → Bool
+packs l place = l.options.relr && place % 2 == 0
+
+abbrev pub is_base_relative : Treatment → Bool
+is_base_relative BaseRelative = true
+is_base_relative other = false
+
+-- the address that the relocation writes moves
+abbrev pub is_moved : Layout → InputSection → InputRelocation → Bool
+is_moved l s r = is_base_relative (treatment l s r)
+
+-- its place, where that has an entry
+abbrev pub listed_place : Layout → InputSection → InputRelocation → Option ℕ
+listed_place l s r = if is_moved l s r && not (packs l (place_of s r)) then Some (place_of s r) else None
+
+-- its place, where that is packed
+abbrev pub packed_place : Layout → InputSection → InputRelocation → Option ℕ
+packed_place l s r = if is_moved l s r && packs l (place_of s r) then Some (place_of s r) else None
+
+-- no address of a fixed output moves, and only relocations of loaded sections with data are read
+abbrev pub has_moved : Layout → InputSection → Bool
+has_moved l s = is_position_independent l.kind && is_read s
+
+-- what the relocations of a section give, where it may have addresses that move
+abbrev pub moved_of : {X : Type 0} → Layout → InputSection → (InputRelocation → Option X) → List X
+moved_of l s f = if has_moved l s then flat_map (λ r. option_to_list (f r)) s.relocations else []
+
+-- the places that have an entry, in the order of the relocations
+unfoldable pub listed_places : Layout → InputSection → List ℕ
+listed_places l s = moved_of l s (listed_place l s)
+
+-- the places that are packed
+unfoldable pub packed_places : Layout → InputSection → List ℕ
+packed_places l s = moved_of l s (packed_place l s)
+
+-- the words of an input section: its places are a run of their own
+abbrev pub words_of : Layout → InputSection → List ℕ
+words_of l s = packed (packed_places l s)
+
+-- how many entries a file has
+abbrev pub entry_count : Layout → File → ℕ
+entry_count l f = total (λ s. length (listed_places l s)) f.sections
+
+-- how many words
+abbrev pub word_count : Layout → File → ℕ
+word_count l f = total (λ s. length (words_of l s)) f.sections

@@ -1,0 +1,151 @@
+//! The addresses of a movable output that a loader adds its base to, counted.
+ghost use Rattle.std.specs.Prelude.{◌≡◌, ℕ, ◌+◌, ◌-◌, ◌^◌, ◌%◌, ◌≤◌, true, min, List, length, ◌++◌, is_some, option_to_list};
+ghost use Rattle.std.specs.List.{flat_map};
+ghost use Rattle.wild_relr.specs.Packed.{counted, packed};
+ghost use Rattle.wild_plan.specs.Entries.{place_of, packs, is_moved, listed_place, packed_place, has_moved, listed_places, words_of, entry_count, word_count};
+
+use crate::file::File;
+use crate::input::{InputRelocation, InputSection};
+use crate::layout::Layout;
+use crate::treatment::{Treatment, treatment_of};
+use wild_relr::{Choice, Run, choice, runs_are_counted};
+
+impl InputSection {
+    /// The address of the field of a relocation, modulo 2^64.
+    pub fn place_of(&self, relocation: &InputRelocation) -> u64
+        ensures { result ≡ place_of self.now relocation.now }
+    {
+        self.address.wrapping_add(relocation.offset)
+    }
+}
+
+impl Layout {
+    /// Whether the address at a place is recorded by a word of packed relocations: these are asked for, and the place is
+    /// an even one.
+    pub fn packs(&self, place: u64) -> bool
+        ensures is { result ≡ packs self.now place }
+        ensures even { result ≡ true → place % 2 ≡ 0 }
+    {
+        self.options.relr && place % 2 == 0
+    }
+
+    /// Whether a section may have addresses that move with the base.
+    fn has_moved(&self, section: &InputSection) -> bool
+        ensures { result ≡ has_moved self.now section.now }
+    {
+        self.kind.is_position_independent() && section.is_read()
+    }
+}
+
+/// Whether the address that a relocation writes moves with the base.
+fn is_moved(layout: &Layout, section: &InputSection, relocation: &InputRelocation) -> bool
+    ensures { result ≡ is_moved layout.now section.now relocation.now }
+{
+    matches!(
+        treatment_of(layout, section, relocation),
+        Treatment::BaseRelative
+    )
+}
+
+/// The place of a relocation, where that is packed.
+pub fn packed_place(
+    layout: &Layout,
+    section: &InputSection,
+    relocation: &InputRelocation,
+) -> Option<u64>
+    ensures { result ≡ packed_place layout.now section.now relocation.now }
+{
+    let place = section.place_of(relocation);
+    if is_moved(layout, section, relocation) && layout.packs(place) {
+        Some(place)
+    } else {
+        None
+    }
+}
+
+/// Whether the place of a relocation has an entry with an addend.
+fn is_listed(layout: &Layout, section: &InputSection, relocation: &InputRelocation) -> bool
+    ensures { result ≡ is_some (listed_place layout.now section.now relocation.now) }
+{
+    is_moved(layout, section, relocation) && !layout.packs(section.place_of(relocation))
+}
+
+/// How many entries with addends an input section has.
+#[tactic(auto, unfolding(crate::specs::Entries::listed_places))]
+fn entries_in(layout: &Layout, section: &InputSection) -> usize
+    ensures { result ≡ length (listed_places layout.now section.now) }
+{
+    let mut count = 0;
+    if layout.has_moved(section) {
+        for relocation in section.relocations.as_slice() {
+            if is_listed(layout, section, relocation) {
+                count += 1;
+            }
+        }
+    }
+    count
+}
+
+/// How many words a place adds to a run, and where the run stands behind it.
+#[tactic(auto, using(crate::proofs::EntryLemmas::counted_more))]
+fn count_place(run: Run, place: Option<u64>) -> (usize, Run)
+    ensures rest { (ps : List ℕ) → result.0 + counted result.1 ps ≡ counted run (option_to_list place ++ ps) }
+    ensures few { result.0 ≤ 1 }
+{
+    match place {
+        Some(place) => match choice(run, place) {
+            Choice::Adds(_, next) => (1, next),
+            Choice::Joins(_) => (0, run),
+        },
+        None => (0, run),
+    }
+}
+
+/// How many words relocations of a section have.
+fn count_words(layout: &Layout, section: &InputSection, relocations: &[InputRelocation]) -> usize
+    ensures { result ≡ length (packed (flat_map (λ r. option_to_list (packed_place layout.now section.now r)) relocations.now)) }
+{
+    let mut count = 0;
+    let mut run = Run::Closed;
+    for relocation in relocations {
+        let (more, next) = count_place(run, packed_place(layout, section, relocation));
+        count += more;
+        run = next;
+    }
+    runs_are_counted();
+    count
+}
+
+/// How many words of packed relocations an input section has.
+#[tactic(auto, unfolding(crate::specs::Entries::packed_places), using(crate::proofs::EntryLemmas::packed_none))]
+fn words_in(layout: &Layout, section: &InputSection) -> usize
+    ensures { result ≡ length (words_of layout.now section.now) }
+{
+    if layout.has_moved(section) {
+        count_words(layout, section, section.relocations.as_slice())
+    } else {
+        0
+    }
+}
+
+/// How many entries with addends a file has, at most 2^64 - 1.
+pub fn entry_count(layout: &Layout, file: &File) -> u64
+    ensures { result ≡ min (2 ^ 64 - 1) (entry_count layout.now file.now) }
+{
+    let mut sum: u64 = 0;
+    for section in file.sections.as_slice() {
+        sum = sum.saturating_add(entries_in(layout, section) as u64);
+    }
+    sum
+}
+
+/// How many words of packed relocations a file has, at most 2^64 - 1.
+pub fn word_count(layout: &Layout, file: &File) -> u64
+    ensures { result ≡ min (2 ^ 64 - 1) (word_count layout.now file.now) }
+{
+    let mut sum: u64 = 0;
+    for section in file.sections.as_slice() {
+        sum = sum.saturating_add(words_in(layout, section) as u64);
+    }
+    sum
+}
