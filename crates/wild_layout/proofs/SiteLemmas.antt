@@ -1,6 +1,6 @@
 -- The sites of an input section: what each relocation writes, where it lies, and that they are apart.
 use Rattle.std.proofs.Common.{◌≡◌, ℕ, zero, suc, ◌+◌, ◌<◌, ◌≤◌, ◌⊎◌, inl, inr, List, [], ◌∷◌, ◌++◌, length, get_or, slice_range, refl, sym, ◌∙◌, arith, subst}
-use Rattle.std.specs.Prelude.{Option, Some, None, Result, Ok, Err, All, Contains, slice_get}
+use Rattle.std.specs.Prelude.{Option, Some, None, Result, Ok, Err, All, Contains, slice_get, if◌then◌else◌}
 use Rattle.std.specs.List.{flat_map, range_with_len}
 use Rattle.std.proofs.lemmas.Option.{get_or_from_slice_get, slice_get_within}
 use Rattle.std.proofs.lemmas.List.Elements.{All-append, Contains-append_left, Contains-append_right}
@@ -11,13 +11,15 @@ use Rattle.wild_plan.specs.declared.input.InputSection.{InputSection}
 use Rattle.wild_plan.specs.declared.layout.Layout.{Layout}
 use Rattle.wild_reloc.specs.Field.{size_width}
 use Rattle.wild_reloc.specs.declared.info.RelocationSize.{RelocationSize}
+use Rattle.wild_reloc.specs.declared.info.RelocationSize.TheVariants.{ByteSize}
+use Rattle.wild_reloc.specs.declared.info.Width.TheVariants.{Eight}
 use Rattle.wild_reloc.proofs.PlaceLemmas.{length-size_written}
 use Rattle.wild_layout.specs.declared.decision.Decision.{Decision}
-use Rattle.wild_layout.specs.declared.decision.Decision.TheVariants.{Nothing, Field}
+use Rattle.wild_layout.specs.declared.decision.Decision.TheVariants.{Nothing, Field, Moved}
 use Rattle.wild_layout.specs.Decide.{decided, decide}
-use Rattle.wild_layout.specs.Sites.{field_site, site_of, site_at, site, sites, shared_byte}
+use Rattle.wild_layout.specs.Sites.{Written, written_by, field_site, site_of, site_at, site, sites, shared_byte}
 use Rattle.wild_layout.specs.Geometry.{FieldLies}
-use Rattle.wild_layout.proofs.DecideLemmas.{IsField, decided_field, field_has_bytes, field_ends}
+use Rattle.wild_layout.proofs.DecideLemmas.{HasField, decided_field, decided_moved, field_has, moved_has, field_has_bytes, field_ends}
 use Rattle.wild_layout.proofs.SitesApart.{IsFieldIn, fields_apart}
 
 pub All-one : {X : Type 0} (P : X → Type 0) (x : X) → P x → All P (x ∷ [])
@@ -46,43 +48,43 @@ Contains-flat_map {X} {Y} f (z ∷ zs) x y c d = cases f z zs x y c.0 c.1 c.2 d 
 
 -- ---- the site of a relocation
 
--- relocation i writes a field
+-- relocation i writes a field, as it was decided
 pub record IsSite (l : Layout) (s : InputSection) (i : ℕ) : Type 0 where
   pub relocation : InputRelocation
   pub listed : slice_get s.relocations i ≡ Some relocation
-  pub size : RelocationSize
-  pub value : ℕ
-  pub field : IsField l s relocation size value
-  pub is : site l s i ≡ field_site s relocation.offset size value ∷ []
-
-pub site_field : (l : Layout) (s : InputSection) (i : ℕ) (r : InputRelocation) (z : RelocationSize) (v : ℕ) → slice_get s.relocations i ≡ Some r → decide l s i ≡ Ok (Field z v) → site l s i ≡ field_site s r.offset z v ∷ []
-unfolding site
-site_field l s i r z v listed is = rw (listed, is) refl
+  pub decision : Decision
+  pub made : decided l s relocation ≡ Ok decision
+  pub written : Written
+  pub by : written_by decision ≡ Some written
+  pub field : HasField l relocation written.size
+  pub is : site l s i ≡ field_site s relocation.offset written.size written.value ∷ []
 
 pub decide_listed : (l : Layout) (s : InputSection) (r : InputRelocation) (i : ℕ) → slice_get s.relocations i ≡ Some r → decide l s i ≡ decided l s r
 unfolding decide
 decide_listed l s r i e = rw e refl
+
+-- the site of a decision
+pub site_written : (l : Layout) (s : InputSection) (i : ℕ) (r : InputRelocation) (d : Decision) (w : Written) → slice_get s.relocations i ≡ Some r → decided l s r ≡ Ok d → written_by d ≡ Some w → site l s i ≡ field_site s r.offset w.size w.value ∷ []
+unfolding site
+site_written l s i r d w listed is by = let e = decide_listed l s r i listed in rw (listed, e, is, by) refl
 
 -- a relocation writes nothing, or a field
 pub site_cases : (l : Layout) (s : InputSection) (i : ℕ) → (site l s i ≡ []) ⊎ IsSite l s i
 unfolding site
 site_cases l s i = listed l s i (slice_get s.relocations i) refl
   where
-    decision : (l : Layout) (s : InputSection) (i : ℕ) (r : InputRelocation) (d : Result Decision Fault) → slice_get s.relocations i ≡ Some r → decide l s i ≡ d → (site_of s r d ≡ []) ⊎ IsSite l s i
+    site_for : (l : Layout) (s : InputSection) (i : ℕ) (r : InputRelocation) (d : Decision) (w : Written) → slice_get s.relocations i ≡ Some r → decided l s r ≡ Ok d → written_by d ≡ Some w → HasField l r w.size → IsSite l s i
+    site_for l s i r d w e is by f = record { relocation = r; listed = e; decision = d; made = is; written = w; by = by; field = f; is = site_written l s i r d w e is by }
+
+    decision : (l : Layout) (s : InputSection) (i : ℕ) (r : InputRelocation) (d : Result Decision Fault) → slice_get s.relocations i ≡ Some r → decided l s r ≡ d → (site_of s r d ≡ []) ⊎ IsSite l s i
     decision l s i r (Err f) e is = inl refl
     decision l s i r (Ok Nothing) e is = inl refl
-    decision l s i r (Ok (Field z v)) e is = inr (record {
-      relocation = r;
-      listed = e;
-      size = z;
-      value = v;
-      field = decided_field l s r z v (sym (decide_listed l s r i e) ∙ is);
-      is = site_field l s i r z v e is;
-    })
+    decision l s i r (Ok (Field z v)) e is = inr (site_for l s i r (Field z v) (record { size = z; value = v }) e is refl (field_has l s r z v (decided_field l s r z v is)))
+    decision l s i r (Ok (Moved v packed)) e is = inr (site_for l s i r (Moved v packed) (record { size = ByteSize Eight; value = if packed then v else 0 }) e is refl (moved_has l s r v packed (decided_moved l s r v packed is)))
 
     listed : (l : Layout) (s : InputSection) (i : ℕ) (o : Option InputRelocation) → slice_get s.relocations i ≡ o → (site_at s (decide l s i) o ≡ []) ⊎ IsSite l s i
     listed l s i None e = inl refl
-    listed l s i (Some r) e = decision l s i r (decide l s i) e refl
+    listed l s i (Some r) e = let same = decide_listed l s r i e in subst (λ (d : Result Decision Fault). (site_of s r d ≡ []) ⊎ IsSite l s i) (sym same) (decision l s i r (decided l s r) e refl)
 
 pub All-of : (P : Piece → Type 0) (ps qs : List Piece) → ps ≡ qs → All P qs → All P ps
 All-of P ps qs e h = subst (λ (xs : List Piece). All P xs) (sym e) h
@@ -94,21 +96,21 @@ All-at P xs i x h e = subst P (get_or_from_slice_get xs i x x e) (h i x (slice_g
 pub length-field_site : (s : InputSection) (at : ℕ) (z : RelocationSize) (v : ℕ) → length (field_site s at z v).bytes ≡ size_width z
 length-field_site s at z v = length-size_written z v (slice_range s.bytes at (at + size_width z))
 
-pub field_lies : (l : Layout) (s : InputSection) (r : InputRelocation) (z : RelocationSize) (v : ℕ) → IsField l s r z v → length s.bytes ≡ s.size → FieldLies l.machine s.size r → r.offset + size_width z ≤ length s.bytes
-field_lies l s r z v f full lies = let e = field_ends l s r z v s.size f lies in omega (arith, e, full)
+pub field_lies : (l : Layout) (s : InputSection) (r : InputRelocation) (z : RelocationSize) → HasField l r z → length s.bytes ≡ s.size → FieldLies l.machine s.size r → r.offset + size_width z ≤ length s.bytes
+field_lies l s r z f full lies = let e = field_ends l r z s.size f lies in omega (arith, e, full)
 
 site_is_field : (l : Layout) (s : InputSection) (i : ℕ) → All (FieldLies l.machine (length s.bytes)) s.relocations → All (IsFieldIn (length s.bytes)) (site l s i)
 site_is_field l s i lies =
     elim (site_cases l s i) [
       | inl none ↦ All-of (IsFieldIn (length s.bytes)) _ [] none (All-none (IsFieldIn (length s.bytes)))
-      | inr some ↦ All-of (IsFieldIn (length s.bytes)) _ _ some.is (All-one (IsFieldIn (length s.bytes)) (field_site s some.relocation.offset some.size some.value) (is_field l s some.relocation some.size some.value some.field (All-at (FieldLies l.machine (length s.bytes)) s.relocations i some.relocation lies some.listed)))
+      | inr some ↦ All-of (IsFieldIn (length s.bytes)) _ _ some.is (All-one (IsFieldIn (length s.bytes)) (field_site s some.relocation.offset some.written.size some.written.value) (is_field l s some.relocation some.written.size some.written.value some.field (All-at (FieldLies l.machine (length s.bytes)) s.relocations i some.relocation lies some.listed)))
     ]
   where
-    is_field : (l : Layout) (s : InputSection) (r : InputRelocation) (z : RelocationSize) (v : ℕ) → IsField l s r z v → FieldLies l.machine (length s.bytes) r → IsFieldIn (length s.bytes) (field_site s r.offset z v)
+    is_field : (l : Layout) (s : InputSection) (r : InputRelocation) (z : RelocationSize) (v : ℕ) → HasField l r z → FieldLies l.machine (length s.bytes) r → IsFieldIn (length s.bytes) (field_site s r.offset z v)
     is_field l s r z v f lies =
         let w = length-field_site s r.offset z v in
-        let lie = field_ends l s r z v (length s.bytes) f lies in
-        let some = field_has_bytes l s r z v f in
+        let lie = field_ends l r z (length s.bytes) f lies in
+        let some = field_has_bytes l r z f in
         record { ends = omega (arith, w, lie); some = omega (arith, w, some) }
 
 -- the sites of a section lie in its bytes, each apart from the others

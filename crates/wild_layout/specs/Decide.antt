@@ -1,6 +1,6 @@
 -- What is decided of each relocation of a section: what it writes, or why it is refused.
---   address_of l symbol    S, the address of the symbol; 0 without a symbol; or that it has none
 --   field row v            the value v in the row's field, where that takes it
+--   moved_to l s r a       the address a plus A, which moves, at the place
 --   decide_by l s r t      what is decided of a relocation with that treatment
 --   decide l s i           what is decided of relocation i of section s
 use Rattle.std.specs.Prelude.{ℕ, Option, Some, None, Result, Ok, Err, if◌then◌else◌, slice_get}
@@ -12,36 +12,35 @@ use Rattle.wild_plan.specs.declared.input.InputSection.{InputSection}
 use Rattle.wild_plan.specs.declared.layout.Layout.{Layout}
 use Rattle.wild_plan.specs.declared.treatment.Treatment.{Treatment}
 use Rattle.wild_plan.specs.declared.treatment.Treatment.TheVariants as treatments
+use Rattle.wild_plan.specs.Entries.{packs}
 use Rattle.wild_plan.specs.Treatment.{treatment}
 use Rattle.wild_reloc.specs.Field.{allows}
 use Rattle.wild_reloc.specs.declared.info.RelocationKindInfo.{RelocationKindInfo}
 use Rattle.wild_layout.specs.declared.decision.Decision.{Decision}
-use Rattle.wild_layout.specs.declared.decision.Decision.TheVariants.{Nothing, Field}
-use Rattle.wild_layout.specs.Values.{raw_value, place_of, value_by}
-
-abbrev pub address_or : ℕ → Option ℕ → Result ℕ Fault
-address_or i None = Err (faults.MissingResolution missing.Address i)
-address_or i (Some a) = Ok a
-
--- the address of the symbol; 0 without a symbol
-abbrev pub address_of : Layout → Option ℕ → Result ℕ Fault
-address_of l None = Ok 0
-address_of l (Some i) = address_or i (raw_value l i)
+use Rattle.wild_layout.specs.declared.decision.Decision.TheVariants.{Nothing, Field, Moved}
+use Rattle.wild_layout.specs.Values.{place_of, sum, address_of, term_of, value_by}
 
 -- a value in the row's field, where it is in range
 abbrev pub field : RelocationKindInfo → ℕ → Result Decision Fault
 field row v = if allows row v then Ok (Field row.size v) else Err (faults.OutOfRange v)
 
--- the value of the row's kind, for that address
-abbrev pub field_for : InputSection → InputRelocation → RelocationKindInfo → Result ℕ Fault → Result Decision Fault
-field_for s r row (Err f) = Err f
-field_for s r row (Ok a) = field row (value_by row.kind a r.addend (place_of s r))
+-- the value of the row's kind, for what A is added to
+abbrev pub field_for : Layout → InputSection → InputRelocation → RelocationKindInfo → Result ℕ Fault → Result Decision Fault
+field_for l s r row (Err f) = Err f
+field_for l s r row (Ok a) = field row (value_by l row.kind a r.addend (place_of s r))
+
+-- an address that moves with the base: packed, or listed as an entry
+abbrev pub moved_to : Layout → InputSection → InputRelocation → Result ℕ Fault → Result Decision Fault
+moved_to l s r (Err f) = Err f
+moved_to l s r (Ok a) = Ok (Moved (sum a r.addend) (packs l (place_of s r)))
 
 -- what is decided of a relocation, by its treatment
 abbrev pub decide_by : Layout → InputSection → InputRelocation → Treatment → Result Decision Fault
 decide_by l s r treatments.Nothing = Ok Nothing
-decide_by l s r (treatments.Value row) = field_for s r row (address_of l r.symbol)
+decide_by l s r (treatments.Value row) = field_for l s r row (term_of l r.symbol row.kind)
+decide_by l s r treatments.BaseRelative = moved_to l s r (address_of l r.symbol)
 decide_by l s r (treatments.Symbolic i) = Err (faults.MissingResolution missing.DynamicSymbol i)
+decide_by l s r treatments.Recompile = Err (faults.RecompileWithPic r.number)
 decide_by l s r treatments.Unsupported = Err (faults.UnsupportedRelocation r.number)
 
 -- the same, by the relocation

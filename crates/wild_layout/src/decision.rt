@@ -1,11 +1,14 @@
 //! What is decided of a relocation.
 use wild_reloc::RelocationSize;
 
-/// What a relocation writes into the bytes of its section.
+/// What a relocation writes into the bytes of its section, and what it leaves to a loader.
 #[derive(Clone, Copy, Debug, PartialEq, Eq)]
 pub enum Decision {
     /// Nothing.
     Nothing,
     /// A value into a field of that size, at the relocation's offset.
     Field { size: RelocationSize, value: u64 },
+    /// The address `value`, which moves with the base, in 8 bytes: where it is packed it stands there and a loader adds the
+    /// base to it; else 0 does, and a loader stores the sum of base and value by an entry.
+    Moved { value: u64, packed: bool },
 }

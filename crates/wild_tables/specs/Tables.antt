@@ -20,9 +20,8 @@ use Rattle.wild_plan.specs.declared.fault.Error.{Error}
 use Rattle.wild_plan.specs.declared.fault.Fault.TheVariants as faults
 use Rattle.wild_plan.specs.declared.file.Group.{Group}
 use Rattle.wild_plan.specs.declared.layout.Layout.{Layout}
-use Rattle.wild_plan.specs.Contents.{given}
-use Rattle.wild_plan.specs.Faults.{nowhere}
-use Rattle.wild_plan.specs.Places.{has_role}
+use Rattle.wild_plan.specs.Entries.{packs}
+use Rattle.wild_plan.specs.Shares.{share_of, insufficient, excessive}
 use Rattle.wild_relr.specs.Packing.{State, after}
 use Rattle.wild_relr.specs.Packed.{after_flat, nothing}
 use Rattle.wild_tables.specs.Entries.{Entries}
@@ -42,25 +41,6 @@ relative_used t = rela_size * length t.relative.entries
 abbrev pub packed_used : Tables → ℕ
 packed_used t = relr_size * length t.packed.state.words
 
--- ---- parts
-
--- the place of the first part of a role; the number of parts where there is none
-abbrev pub part_of_role : Role → ℕ → List Part → ℕ
-part_of_role r i [] = i
-part_of_role r i (p ∷ ps) = if has_role r p then i else part_of_role r (i + 1) ps
-
--- the part of the role
-abbrev pub part_of : Layout → Role → ℕ
-part_of l r = part_of_role r 0 l.parts
-
-abbrev pub given_by : ℕ → Option Group → ℕ
-given_by part None = 0
-given_by part (Some g) = given part g
-
--- the group's share of the part of a role
-abbrev pub share_of : Layout → ℕ → Role → ℕ
-share_of l group r = given_by (part_of l r) (slice_get l.groups group)
-
 -- no entry and no word, in the group's shares
 abbrev pub no_entries : Layout → ℕ → Tables
 no_entries l group = record {
@@ -79,10 +59,6 @@ relative_type machine.AArch64 = aarch64_type Relative
 -- the entry by which a loader stores base plus value at the place
 abbrev pub relative_entry : Layout → ℕ → ℕ → Rela
 relative_entry l place value = record { offset = place; number = relative_type l.machine; symbol = 0; addend = cast_signed w64 value }
-
--- words of packed relocations are asked for, and the place is one that they can name: an even one
-abbrev pub packs : Layout → ℕ → Bool
-packs l place = l.options.relr && place % 2 == 0
 
 -- one entry more
 abbrev pub with_entry : Layout → ℕ → ℕ → Tables → Tables
@@ -113,14 +89,6 @@ abbrev pub site_word : Layout → ℕ → ℕ → ℕ
 site_word l place value = if packs l place then value else 0
 
 -- ---- room
-
--- a share that is smaller than what has to be written there
-abbrev pub insufficient : Layout → ℕ → Role → ℕ → ℕ → Error
-insufficient l group r has needed = record { fault = faults.InsufficientAllocation (part_of l r) group has needed; at = nowhere }
-
--- a share that is larger
-abbrev pub excessive : Layout → ℕ → Role → ℕ → ℕ → Error
-excessive l group r has needed = record { fault = faults.ExcessiveAllocation (part_of l r) group has needed; at = nowhere }
 
 -- the entries have their room; else by how much
 abbrev pub room_for_entries : Layout → Tables → Result (Unit {0}) Error

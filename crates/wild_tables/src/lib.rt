@@ -2,7 +2,6 @@
 #![tactic(auto)]
 
 mod laws;
-mod parts;
 mod rela;
 mod relr;
 #[cfg(test)]

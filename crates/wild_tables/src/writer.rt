@@ -7,15 +7,16 @@ ghost use Rattle.wild_relr.specs.Packing.{after, Records};
 ghost use Rattle.wild_relr.specs.Packed.{after_flat, reset};
 ghost use Rattle.wild_relr.specs.Written.{word_bytes};
 ghost use Rattle.wild_tables.specs.Entries.{rela_bytes};
-ghost use Rattle.wild_tables.specs.Tables.{no_entries, relative_used, packed_used, relative_type, relative_entry, packs, with_entry, with_words, with_address, with_flat, site_word, insufficient, room_for_entries, room_for_words, room_for, left_over};
+ghost use Rattle.wild_tables.specs.Tables.{no_entries, relative_used, packed_used, relative_type, relative_entry, with_entry, with_words, with_address, with_flat, site_word, room_for_entries, room_for_words, room_for, left_over};
+ghost use Rattle.wild_plan.specs.Entries.{packs};
+ghost use Rattle.wild_plan.specs.Shares.{insufficient};
 ghost use Rattle.wild_plan.specs.declared.part.Role.TheVariants.{RelrDyn};
 
-use crate::parts::{excessive, insufficient, share_of};
 use crate::rela::RelaTable;
 use crate::relr::RelrTable;
 use std::alloc::{AllocError, Global};
 use std::marker::Model;
-use wild_plan::{Error, Layout, Machine, Role};
+use wild_plan::{Error, Layout, Machine, Role, excessive, insufficient, share_of};
 use wild_records::{Rela, Relr};
 use wild_reloc::DynamicRelocationKind;
 use wild_words::put_u64;
@@ -57,14 +58,6 @@ fn relative_entry(layout: &Layout, place: u64, value: u64) -> Rela
         symbol: 0,
         addend: value.cast_signed(),
     }
-}
-
-/// Whether the address at a place is packed.
-fn packs(layout: &Layout, place: u64) -> bool
-    ensures is { result ≡ packs layout.now place }
-    ensures even { result ≡ true → place % 2 ≡ 0 }
-{
-    layout.options.relr && place % 2 == 0
 }
 
 impl TableWriter {
@@ -159,7 +152,7 @@ impl TableWriter {
         ensures kept { OnErr result (self.new ≡ self.old) }
         ensures site_kept { OnErr result (site.new ≡ site.old) }
     {
-        if packs(layout, place) {
+        if layout.packs(place) {
             self.pack(layout, place)?;
             put_site(site, value);
         } else {
@@ -187,7 +180,7 @@ impl TableWriter {
         ensures recorded { OnOk result (packs layout.now place ≡ true → (Contains (places self.old.packed.state.words) place → ⊥) → Records self.old.packed.state.words self.new.packed.state.words place) }
         ensures kept { OnErr result (self.new ≡ self.old) }
     {
-        if packs(layout, place) {
+        if layout.packs(place) {
             self.pack_flat(layout, place)
         } else {
             self.list(layout, place, value)
