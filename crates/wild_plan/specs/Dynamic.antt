@@ -1,0 +1,252 @@
+-- The entries of the dynamic section that the last file writes (gABI, "Dynamic Section").
+--   dynamic_number tag        the number of an entry
+--   dynamic_entry l tag       its value; none where the entry is left out
+--   named_strings l           the strings that entries name, each with the number of its entry
+--   dynamic_strings l         these strings alone
+--   epilogue_strings l        their bytes in the string table, each with a zero behind it
+--   string_start l            how many bytes of the string table stand before them
+--   dynamic_entries l         all these entries, in order
+--   dynamic_count l           how many they are
+use Rattle.std.specs.Prelude.{ℕ, ◌+◌, ◌-◌, ◌/◌, ◌^◌, ◌==◌, Bool, not, ◌&&◌, if◌then◌else◌, min, List, [], ◌∷◌, ◌++◌, length, map, find, flat_map, bytes_eq, codes, bit_or, Option, Some, None, option_map}
+use Rattle.std.specs.Option.{option_or}
+use Rattle.wild_records.specs.Abi.Dynamic.{dt_null, dt_strtab, dt_symtab, dt_rela, dt_relasz, dt_relaent, dt_strsz, dt_syment, dt_init, dt_fini, dt_soname, dt_rpath, dt_debug, dt_textrel, dt_init_array, dt_fini_array, dt_init_arraysz, dt_fini_arraysz, dt_runpath, dt_flags, dt_preinit_array, dt_preinit_arraysz, dt_relrsz, dt_relr, dt_relrent, dt_relacount, dt_flags_1, dt_auxiliary, df_origin, df_textrel, df_bind_now, df_static_tls, df_1_now, df_1_nodelete, df_1_origin, df_1_interpose, df_1_pie}
+use Rattle.wild_records.specs.Abi.Section.{sht_nobits}
+use Rattle.wild_records.specs.Relocations.{rela_size, relr_size}
+use Rattle.wild_records.specs.SymtabEntry.{symtab_entry_size}
+use Rattle.wild_records.specs.declared.dynamic.DynamicEntry.{DynamicEntry}
+use Rattle.wild_plan.specs.declared.dynamic.DynamicTag.{DynamicTag}
+use Rattle.wild_plan.specs.declared.dynamic.DynamicTag.TheVariants as tags
+use Rattle.wild_plan.specs.declared.kind.OutputKind.{OutputKind}
+use Rattle.wild_plan.specs.declared.options.Options.{Options}
+use Rattle.wild_plan.specs.declared.part.Part.{Part}
+use Rattle.wild_plan.specs.declared.part.Role.{Role}
+use Rattle.wild_plan.specs.declared.part.Role.TheVariants as role
+use Rattle.wild_plan.specs.declared.section.Section.{Section}
+use Rattle.wild_plan.specs.declared.layout.Layout.{Layout}
+use Rattle.wild_plan.specs.Kinds.{is_executable, is_shared_object, is_position_independent, needs_dynamic}
+use Rattle.wild_plan.specs.Lists.{total}
+use Rattle.wild_plan.specs.Places.{has_role}
+
+-- the number of an entry
+unfoldable pub dynamic_number : DynamicTag → ℕ
+dynamic_number tags.Init = dt_init
+dynamic_number tags.Fini = dt_fini
+dynamic_number tags.InitArray = dt_init_array
+dynamic_number tags.InitArraySize = dt_init_arraysz
+dynamic_number tags.FiniArray = dt_fini_array
+dynamic_number tags.FiniArraySize = dt_fini_arraysz
+dynamic_number tags.PreinitArray = dt_preinit_array
+dynamic_number tags.PreinitArraySize = dt_preinit_arraysz
+dynamic_number tags.StringTable = dt_strtab
+dynamic_number tags.StringSize = dt_strsz
+dynamic_number tags.SymbolTable = dt_symtab
+dynamic_number tags.SymbolSize = dt_syment
+dynamic_number tags.Rela = dt_rela
+dynamic_number tags.RelaSize = dt_relasz
+dynamic_number tags.RelaEntry = dt_relaent
+dynamic_number tags.RelaCount = dt_relacount
+dynamic_number tags.Relr = dt_relr
+dynamic_number tags.RelrSize = dt_relrsz
+dynamic_number tags.RelrEntry = dt_relrent
+dynamic_number tags.Debug = dt_debug
+dynamic_number tags.Textrel = dt_textrel
+dynamic_number tags.Flags = dt_flags
+dynamic_number tags.Flags1 = dt_flags_1
+dynamic_number tags.Null = dt_null
+
+-- ---- where a table or a function stands
+
+-- the section has the name, and bytes in the file
+abbrev pub has_bytes : List ℕ → Section → Bool
+has_bytes name s = bytes_eq s.name name && not (s.kind == sht_nobits) && not (s.size == 0)
+
+-- the first section of a name with bytes in the file (gABI, "Special Sections": .init, .init_array and their like)
+unfoldable pub section_named : Layout → List ℕ → Option Section
+section_named l name = find (has_bytes name) l.sections
+
+abbrev pub section_address : Layout → List ℕ → Option ℕ
+section_address l name = option_map (λ (s : Section). s.address) (section_named l name)
+
+abbrev pub section_size : Layout → List ℕ → Option ℕ
+section_size l name = option_map (λ (s : Section). s.size) (section_named l name)
+
+-- the part of a role
+unfoldable pub part_with : Layout → Role → Option Part
+part_with l r = find (has_role r) l.parts
+
+abbrev pub part_address : Option Part → Option ℕ
+part_address p = option_map (λ (x : Part). x.address) p
+
+abbrev pub part_size : Option Part → Option ℕ
+part_size p = option_map (λ (x : Part). x.size) p
+
+-- a number for each part that is there
+abbrev pub beside : ℕ → Option Part → Option ℕ
+beside n p = option_map (λ (x : Part). n) p
+
+abbrev pub unless_empty : Option Part → Option Part
+unless_empty None = None
+unless_empty (Some p) = if p.size == 0 then None else Some p
+
+-- the part of a role, where it is not empty
+abbrev pub filled_part : Layout → Role → Option Part
+filled_part l r = unless_empty (part_with l r)
+
+-- where entries with addends begin: relative entries stand first (LSB, "Dynamic Entries", DT_RELACOUNT)
+unfoldable pub first_entries : Layout → Option Part
+first_entries l = option_or (filled_part l role.RelaDynRelative) (filled_part l role.RelaDynGeneral)
+
+abbrev pub bytes_of : Option Part → ℕ
+bytes_of None = 0
+bytes_of (Some p) = p.size
+
+-- the bytes of all entries with addends, at most 2^64 - 1
+unfoldable pub entries_bytes : Layout → ℕ
+entries_bytes l = min (2 ^ 64 - 1) (bytes_of (part_with l role.RelaDynRelative) + bytes_of (part_with l role.RelaDynGeneral))
+
+-- how many entries are relative, where there are any
+abbrev pub relative_count : Layout → Option ℕ
+relative_count l = option_map (λ (p : Part). p.size / rela_size) (filled_part l role.RelaDynRelative)
+
+-- ---- flags
+
+abbrev pub only : Bool → ℕ → Option ℕ
+only ok n = if ok then Some n else None
+
+abbrev pub flag : Bool → ℕ → ℕ
+flag ok n = if ok then n else 0
+
+-- DT_FLAGS: all entries are taken at the start; room in the initial thread storage is asked for by libraries alone, an
+-- executable has it
+unfoldable pub dynamic_flags : OutputKind → Options → ℕ
+dynamic_flags kind o = bit_or (bit_or (bit_or df_bind_now (flag (not (is_executable kind) && o.static_tls) df_static_tls)) (flag o.textrel df_textrel)) (flag o.origin df_origin)
+
+-- DT_FLAGS_1 (glibc, `elf.h`): two of them are for libraries alone
+unfoldable pub dynamic_flags_1 : OutputKind → Options → ℕ
+dynamic_flags_1 kind o =
+    bit_or (bit_or (bit_or (bit_or df_1_now (flag (is_executable kind && is_position_independent kind) df_1_pie)) (flag o.origin df_1_origin)) (flag (is_shared_object kind && o.nodelete) df_1_nodelete)) (flag (is_shared_object kind && o.interpose) df_1_interpose)
+
+-- ---- entries
+
+-- the value of an entry; none where it is left out
+unfoldable pub dynamic_entry : Layout → DynamicTag → Option ℕ
+dynamic_entry l tags.Init = section_address l (codes ".init")
+dynamic_entry l tags.Fini = section_address l (codes ".fini")
+dynamic_entry l tags.InitArray = section_address l (codes ".init_array")
+dynamic_entry l tags.InitArraySize = section_size l (codes ".init_array")
+dynamic_entry l tags.FiniArray = section_address l (codes ".fini_array")
+dynamic_entry l tags.FiniArraySize = section_size l (codes ".fini_array")
+dynamic_entry l tags.PreinitArray = section_address l (codes ".preinit_array")
+dynamic_entry l tags.PreinitArraySize = section_size l (codes ".preinit_array")
+dynamic_entry l tags.StringTable = part_address (part_with l role.Dynstr)
+dynamic_entry l tags.StringSize = part_size (part_with l role.Dynstr)
+dynamic_entry l tags.SymbolTable = part_address (part_with l role.Dynsym)
+dynamic_entry l tags.SymbolSize = beside symtab_entry_size (part_with l role.Dynsym)
+dynamic_entry l tags.Rela = part_address (first_entries l)
+dynamic_entry l tags.RelaSize = beside (entries_bytes l) (first_entries l)
+dynamic_entry l tags.RelaEntry = beside rela_size (first_entries l)
+dynamic_entry l tags.RelaCount = relative_count l
+dynamic_entry l tags.Relr = part_address (part_with l role.RelrDyn)
+dynamic_entry l tags.RelrSize = part_size (part_with l role.RelrDyn)
+dynamic_entry l tags.RelrEntry = beside relr_size (part_with l role.RelrDyn)
+dynamic_entry l tags.Debug = only (is_executable l.kind) 0
+dynamic_entry l tags.Textrel = only l.options.textrel 0
+dynamic_entry l tags.Flags = Some (dynamic_flags l.kind l.options)
+dynamic_entry l tags.Flags1 = Some (dynamic_flags_1 l.kind l.options)
+dynamic_entry l tags.Null = Some 0
+
+-- the entries in their order; those of the address table and of stubs stand before Rela, those of hash tables and of
+-- versions before Debug, those of AArch64 before Null
+unfoldable pub all_tags : List DynamicTag
+all_tags =
+    tags.Init ∷ tags.Fini ∷ tags.InitArray ∷ tags.InitArraySize ∷ tags.FiniArray ∷ tags.FiniArraySize ∷ tags.PreinitArray ∷ tags.PreinitArraySize
+    ∷ tags.StringTable ∷ tags.StringSize ∷ tags.SymbolTable ∷ tags.SymbolSize
+    ∷ tags.Rela ∷ tags.RelaSize ∷ tags.RelaEntry ∷ tags.RelaCount ∷ tags.Relr ∷ tags.RelrSize ∷ tags.RelrEntry
+    ∷ tags.Debug ∷ tags.Textrel ∷ tags.Flags ∷ tags.Flags1 ∷ tags.Null ∷ []
+
+-- an entry, where it has a value
+abbrev pub entry_with : ℕ → Option ℕ → List DynamicEntry
+entry_with number None = []
+entry_with number (Some value) = record { tag = number; value = value } ∷ []
+
+abbrev pub entry_of : Layout → DynamicTag → List DynamicEntry
+entry_of l tag = entry_with (dynamic_number tag) (dynamic_entry l tag)
+
+-- ---- strings
+
+-- the entry of a search path (gABI, "Dynamic Section": DT_RUNPATH in place of DT_RPATH)
+abbrev pub path_number : Options → ℕ
+path_number o = if o.new_dtags then dt_runpath else dt_rpath
+
+-- a string and the number of the entry that names it
+pub record NamedString : Type 0 where
+  pub number : ℕ
+  pub text : List ℕ
+
+abbrev pub named : ℕ → Option (List ℕ) → List NamedString
+named number None = []
+named number (Some text) = record { number = number; text = text } ∷ []
+
+abbrev pub auxiliary_string : List ℕ → NamedString
+auxiliary_string text = record { number = dt_auxiliary; text = text }
+
+abbrev pub option_strings : Options → List NamedString
+option_strings o = named (path_number o) o.rpath ++ (named dt_soname o.soname ++ map auxiliary_string o.auxiliary)
+
+-- the strings that entries name
+unfoldable pub named_strings : Layout → List NamedString
+named_strings l = if needs_dynamic l.kind then option_strings l.options else []
+
+abbrev pub texts_of : List NamedString → List (List ℕ)
+texts_of ss = map (λ (s : NamedString). s.text) ss
+
+-- these strings alone
+abbrev pub dynamic_strings : Layout → List (List ℕ)
+dynamic_strings l = texts_of (named_strings l)
+
+-- their bytes, each string with a zero behind it (gABI, "String Table")
+abbrev pub epilogue_strings : Layout → List ℕ
+epilogue_strings l = flat_map (λ text. text ++ 0 ∷ []) (dynamic_strings l)
+
+abbrev pub text_room : List ℕ → ℕ
+text_room text = length text + 1
+
+abbrev pub room_of : Option (List ℕ) → ℕ
+room_of None = 0
+room_of (Some text) = text_room text
+
+-- how many bytes that are
+abbrev pub epilogue_string_bytes : Layout → ℕ
+epilogue_string_bytes l = total text_room (dynamic_strings l)
+
+-- the string table begins with the empty string (gABI, "String Table"), which is the first file's
+abbrev pub empty_string : List ℕ
+empty_string = 0 ∷ []
+
+-- how many bytes of the string table stand before the last file's strings: those of the empty string, as no other file
+-- has strings there
+abbrev pub string_start : Layout → ℕ
+string_start l = length empty_string
+
+-- an offset in the string table, at most 2^64 - 1
+abbrev pub offset_value : ℕ → ℕ
+offset_value at = min (2 ^ 64 - 1) at
+
+-- the entries of strings that stand one behind the other from an offset on, each with a zero
+unfoldable pub string_entries : ℕ → List NamedString → List DynamicEntry
+string_entries at [] = []
+string_entries at (s ∷ ss) = record { tag = s.number; value = offset_value at } ∷ string_entries (at + text_room s.text) ss
+
+-- ---- the whole
+
+-- the entries with values of their own, in order
+unfoldable pub tag_entries : Layout → List DynamicEntry
+tag_entries l = if needs_dynamic l.kind then flat_map (entry_of l) all_tags else []
+
+-- all entries of the last file, in order
+unfoldable pub dynamic_entries : Layout → List DynamicEntry
+dynamic_entries l = string_entries (string_start l) (named_strings l) ++ tag_entries l
+
+-- how many they are
+abbrev pub dynamic_count : Layout → ℕ
+dynamic_count l = length (dynamic_entries l)

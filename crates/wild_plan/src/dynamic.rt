@@ -1,0 +1,404 @@
+//! The entries of the dynamic section that the last file writes (gABI, "Dynamic Section").
+ghost use Rattle.std.specs.Prelude.{◌≡◌, ◌+◌, ◌^◌, ◌<◌, ◌≤◌, length, option_map};
+ghost use Rattle.wild_plan.specs.declared.layout.Layout.{Layout};
+ghost use Rattle.wild_plan.specs.Dynamic.{dynamic_number, has_bytes, section_named, section_address, section_size, part_with, part_address, part_size, beside, filled_part, first_entries, bytes_of, entries_bytes, relative_count, only, flag, dynamic_flags, dynamic_flags_1, dynamic_entry, all_tags, named_strings, text_room, room_of, epilogue_strings, epilogue_string_bytes, tag_entries, dynamic_count};
+ghost use Rattle.wild_plan.specs.Lists.{total};
+ghost use Rattle.wild_plan.specs.Places.{has_role};
+
+use crate::kind::OutputKind;
+use crate::layout::Layout;
+use crate::options::Options;
+use crate::part::{Part, Role};
+use crate::section::Section;
+use wild_records::abi::dynamic::{
+    DF_1_INTERPOSE, DF_1_NODELETE, DF_1_NOW, DF_1_ORIGIN, DF_1_PIE, DF_BIND_NOW, DF_ORIGIN,
+    DF_STATIC_TLS, DF_TEXTREL, DT_DEBUG, DT_FINI, DT_FINI_ARRAY, DT_FINI_ARRAYSZ, DT_FLAGS,
+    DT_FLAGS_1, DT_INIT, DT_INIT_ARRAY, DT_INIT_ARRAYSZ, DT_NULL, DT_PREINIT_ARRAY,
+    DT_PREINIT_ARRAYSZ, DT_RELA, DT_RELACOUNT, DT_RELAENT, DT_RELASZ, DT_RELR, DT_RELRENT,
+    DT_RELRSZ, DT_STRSZ, DT_STRTAB, DT_SYMENT, DT_SYMTAB, DT_TEXTREL,
+};
+use wild_records::abi::section::SHT_NOBITS;
+use wild_records::{Rela, Relr, SymtabEntry};
+use wild_words::Bytes;
+
+/// An entry with a value of its own, in the order in which they stand.
+#[derive(Clone, Copy, Debug, PartialEq, Eq)]
+pub enum DynamicTag {
+    /// The address of `.init`.
+    Init,
+    /// The address of `.fini`.
+    Fini,
+    InitArray,
+    InitArraySize,
+    FiniArray,
+    FiniArraySize,
+    PreinitArray,
+    PreinitArraySize,
+    StringTable,
+    StringSize,
+    SymbolTable,
+    /// How many bytes one symbol has.
+    SymbolSize,
+    Rela,
+    RelaSize,
+    /// How many bytes one entry with an addend has.
+    RelaEntry,
+    /// How many of them are relative.
+    RelaCount,
+    Relr,
+    RelrSize,
+    /// How many bytes one word of packed relocations has.
+    RelrEntry,
+    /// A word for debuggers.
+    Debug,
+    Textrel,
+    Flags,
+    Flags1,
+    /// The end of the entries.
+    Null,
+}
+
+impl DynamicTag {
+    /// All of them, in their order.
+    #[tactic(auto, unfolding(crate::specs::Dynamic::all_tags))]
+    pub fn all() -> [DynamicTag; 24]
+        ensures { result ≡ all_tags }
+    {
+        [
+            DynamicTag::Init,
+            DynamicTag::Fini,
+            DynamicTag::InitArray,
+            DynamicTag::InitArraySize,
+            DynamicTag::FiniArray,
+            DynamicTag::FiniArraySize,
+            DynamicTag::PreinitArray,
+            DynamicTag::PreinitArraySize,
+            DynamicTag::StringTable,
+            DynamicTag::StringSize,
+            DynamicTag::SymbolTable,
+            DynamicTag::SymbolSize,
+            DynamicTag::Rela,
+            DynamicTag::RelaSize,
+            DynamicTag::RelaEntry,
+            DynamicTag::RelaCount,
+            DynamicTag::Relr,
+            DynamicTag::RelrSize,
+            DynamicTag::RelrEntry,
+            DynamicTag::Debug,
+            DynamicTag::Textrel,
+            DynamicTag::Flags,
+            DynamicTag::Flags1,
+            DynamicTag::Null,
+        ]
+    }
+
+    /// The number of the entry (`d_tag`).
+    #[tactic(auto, unfolding(crate::specs::Dynamic::dynamic_number))]
+    pub fn number(self) -> u64
+        ensures { result ≡ dynamic_number self }
+    {
+        match self {
+            DynamicTag::Init => DT_INIT,
+            DynamicTag::Fini => DT_FINI,
+            DynamicTag::InitArray => DT_INIT_ARRAY,
+            DynamicTag::InitArraySize => DT_INIT_ARRAYSZ,
+            DynamicTag::FiniArray => DT_FINI_ARRAY,
+            DynamicTag::FiniArraySize => DT_FINI_ARRAYSZ,
+            DynamicTag::PreinitArray => DT_PREINIT_ARRAY,
+            DynamicTag::PreinitArraySize => DT_PREINIT_ARRAYSZ,
+            DynamicTag::StringTable => DT_STRTAB,
+            DynamicTag::StringSize => DT_STRSZ,
+            DynamicTag::SymbolTable => DT_SYMTAB,
+            DynamicTag::SymbolSize => DT_SYMENT,
+            DynamicTag::Rela => DT_RELA,
+            DynamicTag::RelaSize => DT_RELASZ,
+            DynamicTag::RelaEntry => DT_RELAENT,
+            DynamicTag::RelaCount => DT_RELACOUNT,
+            DynamicTag::Relr => DT_RELR,
+            DynamicTag::RelrSize => DT_RELRSZ,
+            DynamicTag::RelrEntry => DT_RELRENT,
+            DynamicTag::Debug => DT_DEBUG,
+            DynamicTag::Textrel => DT_TEXTREL,
+            DynamicTag::Flags => DT_FLAGS,
+            DynamicTag::Flags1 => DT_FLAGS_1,
+            DynamicTag::Null => DT_NULL,
+        }
+    }
+}
+
+/// Whether a section has the name, and bytes in the file.
+fn has_bytes(name: &[u8], section: &Section) -> bool
+    ensures { result ≡ has_bytes name.now section.now }
+{
+    section.name.as_slice() == name && section.kind != SHT_NOBITS && section.size != 0
+}
+
+/// Address and size of a run in memory.
+#[derive(Clone, Copy)]
+struct Run {
+    address: u64,
+    size: u64,
+}
+
+/// Where the first section of a name with bytes in the file stands.
+#[tactic(auto, unfolding(crate::specs::Dynamic::section_named))]
+fn section_named(layout: &Layout, name: &[u8]) -> Option<Run>
+    ensures address { option_map (λ r. r.address) result ≡ section_address layout.now name.now }
+    ensures size { option_map (λ r. r.size) result ≡ section_size layout.now name.now }
+{
+    for section in layout.sections.as_slice() {
+        if has_bytes(name, section) {
+            return Some(Run {
+                address: section.address,
+                size: section.size,
+            });
+        }
+    }
+    None
+}
+
+fn section_address(layout: &Layout, name: &[u8]) -> Option<u64>
+    ensures { result ≡ section_address layout.now name.now }
+{
+    section_named(layout, name).map(|run| run.address)
+}
+
+fn section_size(layout: &Layout, name: &[u8]) -> Option<u64>
+    ensures { result ≡ section_size layout.now name.now }
+{
+    section_named(layout, name).map(|run| run.size)
+}
+
+fn has_role(role: Role, part: &Part) -> bool
+    ensures { result ≡ has_role role part.now }
+{
+    part.role as usize == role as usize
+}
+
+/// The part of a role.
+#[tactic(auto, unfolding(crate::specs::Dynamic::part_with))]
+fn part_with(layout: &Layout, role: Role) -> Option<Part>
+    ensures { result ≡ part_with layout.now role }
+{
+    for part in layout.parts.as_slice() {
+        if has_role(role, part) {
+            return Some(*part);
+        }
+    }
+    None
+}
+
+fn part_address(part: Option<Part>) -> Option<u64>
+    ensures { result ≡ part_address part }
+{
+    part.map(|part| part.address)
+}
+
+fn part_size(part: Option<Part>) -> Option<u64>
+    ensures { result ≡ part_size part }
+{
+    part.map(|part| part.size)
+}
+
+/// A number beside each part that is there.
+fn beside(number: u64, part: Option<Part>) -> Option<u64>
+    ensures { result ≡ beside number part }
+{
+    part.map(|_| number)
+}
+
+/// The part of a role, where it is not empty.
+fn filled_part(layout: &Layout, role: Role) -> Option<Part>
+    ensures { result ≡ filled_part layout.now role }
+{
+    part_with(layout, role).filter(|part| part.size != 0)
+}
+
+/// The part at whose front the entries with addends begin.
+#[tactic(auto, unfolding(crate::specs::Dynamic::first_entries))]
+fn first_entries(layout: &Layout) -> Option<Part>
+    ensures { result ≡ first_entries layout.now }
+{
+    filled_part(layout, Role::RelaDynRelative).or(filled_part(layout, Role::RelaDynGeneral))
+}
+
+fn bytes_of(part: Option<Part>) -> u64
+    ensures { result ≡ bytes_of part }
+{
+    match part {
+        Some(part) => part.size,
+        None => 0,
+    }
+}
+
+/// The bytes of all entries with addends, at most 2^64 - 1.
+#[tactic(auto, unfolding(crate::specs::Dynamic::entries_bytes))]
+fn entries_bytes(layout: &Layout) -> u64
+    ensures { result ≡ entries_bytes layout.now }
+{
+    let relative = bytes_of(part_with(layout, Role::RelaDynRelative));
+    let general = bytes_of(part_with(layout, Role::RelaDynGeneral));
+    relative.saturating_add(general)
+}
+
+/// How many relative entries there are, where there are any.
+fn relative_count(layout: &Layout) -> Option<u64>
+    ensures { result ≡ relative_count layout.now }
+{
+    filled_part(layout, Role::RelaDynRelative).map(|part| part.size / Rela::SIZE as u64)
+}
+
+fn only(ok: bool, value: u64) -> Option<u64>
+    ensures { result ≡ only ok value }
+{
+    if ok { Some(value) } else { None }
+}
+
+fn flag(ok: bool, bit: u64) -> u64
+    ensures { result ≡ flag ok bit }
+{
+    if ok { bit } else { 0 }
+}
+
+/// The flags of `DT_FLAGS`.
+#[tactic(auto, unfolding(crate::specs::Dynamic::dynamic_flags))]
+fn dynamic_flags(kind: OutputKind, options: &Options) -> u64
+    ensures { result ≡ dynamic_flags kind options.now }
+{
+    let static_tls = !kind.is_executable() && options.static_tls;
+    DF_BIND_NOW
+        | flag(static_tls, DF_STATIC_TLS)
+        | flag(options.textrel, DF_TEXTREL)
+        | flag(options.origin, DF_ORIGIN)
+}
+
+/// The flags of `DT_FLAGS_1`.
+#[tactic(auto, unfolding(crate::specs::Dynamic::dynamic_flags_1))]
+fn dynamic_flags_1(kind: OutputKind, options: &Options) -> u64
+    ensures { result ≡ dynamic_flags_1 kind options.now }
+{
+    let movable = kind.is_executable() && kind.is_position_independent();
+    let shared = kind.is_shared_object();
+    DF_1_NOW
+        | flag(movable, DF_1_PIE)
+        | flag(options.origin, DF_1_ORIGIN)
+        | flag(shared && options.nodelete, DF_1_NODELETE)
+        | flag(shared && options.interpose, DF_1_INTERPOSE)
+}
+
+/// The value of an entry; none where it is left out.
+#[tactic(auto, unfolding(crate::specs::Dynamic::dynamic_entry))]
+pub fn dynamic_entry(layout: &Layout, tag: DynamicTag) -> Option<u64>
+    ensures { result ≡ dynamic_entry layout.now tag }
+{
+    match tag {
+        DynamicTag::Init => section_address(layout, b".init"),
+        DynamicTag::Fini => section_address(layout, b".fini"),
+        DynamicTag::InitArray => section_address(layout, b".init_array"),
+        DynamicTag::InitArraySize => section_size(layout, b".init_array"),
+        DynamicTag::FiniArray => section_address(layout, b".fini_array"),
+        DynamicTag::FiniArraySize => section_size(layout, b".fini_array"),
+        DynamicTag::PreinitArray => section_address(layout, b".preinit_array"),
+        DynamicTag::PreinitArraySize => section_size(layout, b".preinit_array"),
+        DynamicTag::StringTable => part_address(part_with(layout, Role::Dynstr)),
+        DynamicTag::StringSize => part_size(part_with(layout, Role::Dynstr)),
+        DynamicTag::SymbolTable => part_address(part_with(layout, Role::Dynsym)),
+        DynamicTag::SymbolSize => {
+            beside(SymtabEntry::SIZE as u64, part_with(layout, Role::Dynsym))
+        }
+        DynamicTag::Rela => part_address(first_entries(layout)),
+        DynamicTag::RelaSize => beside(entries_bytes(layout), first_entries(layout)),
+        DynamicTag::RelaEntry => beside(Rela::SIZE as u64, first_entries(layout)),
+        DynamicTag::RelaCount => relative_count(layout),
+        DynamicTag::Relr => part_address(part_with(layout, Role::RelrDyn)),
+        DynamicTag::RelrSize => part_size(part_with(layout, Role::RelrDyn)),
+        DynamicTag::RelrEntry => beside(Relr::SIZE as u64, part_with(layout, Role::RelrDyn)),
+        DynamicTag::Debug => only(layout.kind.is_executable(), 0),
+        DynamicTag::Textrel => only(layout.options.textrel, 0),
+        DynamicTag::Flags => Some(dynamic_flags(layout.kind, &layout.options)),
+        DynamicTag::Flags1 => Some(dynamic_flags_1(layout.kind, &layout.options)),
+        DynamicTag::Null => Some(0),
+    }
+}
+
+/// How many entries with values of their own there are.
+#[tactic(auto, unfolding(crate::specs::Dynamic::tag_entries, crate::specs::Dynamic::all_tags), using(crate::proofs::DynamicLemmas::length_entry))]
+fn tag_count(layout: &Layout) -> usize
+    ensures count { result ≡ length (tag_entries layout.now) }
+    ensures few { result < 25 }
+{
+    if !layout.kind.needs_dynamic() {
+        return 0;
+    }
+    let mut count = 0;
+    for tag in DynamicTag::all() {
+        if dynamic_entry(layout, tag).is_some() {
+            count += 1;
+        }
+    }
+    count
+}
+
+/// How many entries name strings.
+#[tactic(auto, unfolding(crate::specs::Dynamic::named_strings))]
+fn string_count(layout: &Layout) -> usize
+    ensures count { result ≡ length (named_strings layout.now) }
+    ensures few { result < 2 ^ 63 + 2 }
+{
+    let options = &layout.options;
+    if !layout.kind.needs_dynamic() {
+        return 0;
+    }
+    usize::from(options.rpath.is_some())
+        + usize::from(options.soname.is_some())
+        + options.auxiliary.as_slice().len()
+}
+
+/// How many entries the last file has; none where the output has no entries for dynamic linking.
+#[tactic(auto, using(crate::proofs::DynamicLemmas::length_dynamic_entries))]
+pub fn dynamic_count(layout: &Layout) -> usize
+    ensures { result ≡ dynamic_count layout.now }
+{
+    string_count(layout) + tag_count(layout)
+}
+
+/// How many bytes a string has with its zero.
+fn room_of(text: &Option<Bytes>) -> u128
+    ensures value { result ≡ room_of text.now }
+    ensures small { result ≤ 2 ^ 64 }
+{
+    match text {
+        Some(text) => text.len() as u128 + 1,
+        None => 0,
+    }
+}
+
+/// How many bytes strings have, each with its zero.
+fn rooms_of(texts: &[Bytes]) -> u128
+    ensures value { result ≡ total text_room texts.now }
+    ensures small { result ≤ 2 ^ 127 }
+{
+    let mut sum: u128 = 0;
+    for text in texts {
+        sum += text.len() as u128 + 1;
+    }
+    sum
+}
+
+/// How many bytes of the string table the strings have that entries name, each with its zero.
+#[tactic(auto, unfolding(crate::specs::Dynamic::named_strings), using(crate::proofs::DynamicLemmas::rooms))]
+pub fn epilogue_string_bytes(layout: &Layout) -> u128
+    ensures { result ≡ epilogue_string_bytes layout.now }
+{
+    let options = &layout.options;
+    if !layout.kind.needs_dynamic() {
+        return 0;
+    }
+    room_of(&options.rpath) + room_of(&options.soname) + rooms_of(options.auxiliary.as_slice())
+}
+
+/// What stands in the string table for the strings that entries name is as long as they need.
+#[tactic(auto, using(crate::proofs::DynamicLemmas::length_strings))]
+pub fn strings_have_their_room()
+    ensures { (l : Layout) → length (epilogue_strings l) ≡ epilogue_string_bytes l }
+{}
