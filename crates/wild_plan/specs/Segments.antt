@@ -1,15 +1,27 @@
 -- Clause 6: where segments stand, and which bytes of a section they load (gABI, "Program Header").
 --   has_byte side s a g           the segment loads the byte of the section with address a
 --   bytes_are_loaded side gs s    each byte of the section that is to lie in a segment lies in one
-use Rattle.std.specs.Prelude.{ℕ, zero, suc, ◌+◌, ◌%◌, ◌==◌, Bool, true, not, ◌&&◌, ◌||◌, if◌then◌else◌, nat_lt, nat_le, List, [], ◌∷◌, Option, Some, None}
+--   is_segment_of p g             the segment has the place and the size of the part
+--   dynamic_astray p i gs         the first PT_DYNAMIC segment that is not that of the part
+--   holds_entries parts k s       the bytes of the SHT_RELA section k are those of the parts with entries
+--   table_is_loaded l p           one segment carries the whole table of relative entries to its addresses
+use Rattle.std.specs.Prelude.{ℕ, zero, suc, ◌+◌, ◌%◌, ◌==◌, Bool, true, false, not, ◌&&◌, ◌||◌, if◌then◌else◌, nat_lt, nat_le, List, [], ◌∷◌, find, Option, Some, None}
 use Rattle.std.specs.List.{list_any}
 use Rattle.wild_records.specs.Abi.Section.{sht_nobits, sht_rela}
 use Rattle.wild_records.specs.Abi.Segment.{pt_load, pt_dynamic}
+use Rattle.wild_plan.specs.declared.kind.OutputKind.{OutputKind}
+use Rattle.wild_plan.specs.declared.layout.Layout.{Layout}
+use Rattle.wild_plan.specs.declared.part.Part.{Part}
+use Rattle.wild_plan.specs.declared.part.Role.{Role}
+use Rattle.wild_plan.specs.declared.part.Role.TheVariants as role
 use Rattle.wild_plan.specs.declared.section.Section.{Section}
 use Rattle.wild_plan.specs.declared.section.Segment.{Segment}
 use Rattle.wild_plan.specs.declared.section.Side.{Side}
 use Rattle.wild_plan.specs.declared.section.Side.TheVariants as side
-use Rattle.wild_plan.specs.Lookups.{allocated, thread_local}
+use Rattle.wild_plan.specs.Kinds.{has_fixed_load_address, needs_dynamic}
+use Rattle.wild_plan.specs.Lists.{total}
+use Rattle.wild_plan.specs.Lookups.{allocated, thread_local, is_allocated_section, kind_at}
+use Rattle.wild_plan.specs.Places.{has_role, within}
 
 -- ---- the order
 
@@ -68,16 +80,79 @@ bytes_are_loaded on segments s = not (is_asked on s) || all_below (λ k. list_an
 
 -- ---- other tests
 
-abbrev pub leaves_zero_free : Segment → Bool
-leaves_zero_free g = not (g.kind == pt_load && g.address == 0 && not (g.mem_size == 0))
+-- an output that is loaded at its own addresses has nothing at address 0
+abbrev pub leaves_zero_free : OutputKind → Segment → Bool
+leaves_zero_free kind g = not (has_fixed_load_address kind && g.kind == pt_load && g.address == 0 && not (g.mem_size == 0))
 
 abbrev pub segment_in_image : ℕ → Segment → Bool
 segment_in_image size g = nat_le (g.offset + g.file_size) size
 
--- no part "dynamic" is there, so no segment PT_DYNAMIC is
-abbrev pub is_not_dynamic : Segment → Bool
-is_not_dynamic g = not (g.kind == pt_dynamic)
+-- ---- the dynamic section (gABI, "Program Header": PT_DYNAMIC)
 
--- no relocation part is there, so no allocated section of type SHT_RELA has bytes
-abbrev pub has_no_entries : Section → Bool
-has_no_entries s = not (allocated s.flags && s.kind == sht_rela && not (s.size == 0))
+-- the segment has the place and the size of the part
+abbrev pub is_segment_of : Option Part → Segment → Bool
+is_segment_of None g = false
+is_segment_of (Some p) g = g.offset == p.offset && g.address == p.address && g.file_size == p.size && g.mem_size == p.size
+
+-- place 0, where a part is left that has no segment
+abbrev pub segment_lacking : Option Part → Option ℕ
+segment_lacking None = None
+segment_lacking (Some p) = Some 0
+
+-- the first PT_DYNAMIC segment that is not that of the part; only one is
+abbrev pub dynamic_astray : Option Part → ℕ → List Segment → Option ℕ
+dynamic_astray p i [] = segment_lacking p
+dynamic_astray p i (g ∷ gs) =
+    if g.kind == pt_dynamic
+    then (if is_segment_of p g then dynamic_astray None (i + 1) gs else Some i)
+    else dynamic_astray p (i + 1) gs
+
+-- the first part of a role
+abbrev pub part_with : Role → List Part → Option Part
+part_with r parts = find (has_role r) parts
+
+-- ---- relocation entries of an executable without a dynamic section, which are found by their sections
+
+abbrev pub is_entry_role : Role → Bool
+is_entry_role role.RelaPlt = true
+is_entry_role role.RelaDynRelative = true
+is_entry_role role.RelaDynGeneral = true
+is_entry_role other = false
+
+-- the parts with relocation entries
+abbrev pub entry_parts : List Part → List (Option Part)
+entry_parts parts = part_with role.RelaPlt parts ∷ part_with role.RelaDynRelative parts ∷ part_with role.RelaDynGeneral parts ∷ []
+
+-- the bytes of a part that stands in section k
+abbrev pub bytes_in : ℕ → Option Part → ℕ
+bytes_in k None = 0
+bytes_in k (Some p) = if p.section == k then p.size else 0
+
+-- an allocated section of type SHT_RELA holds those parts, without other bytes (gABI, "Sections")
+abbrev pub holds_entries : List (Option Part) → ℕ → Section → Bool
+holds_entries parts k s = not (allocated s.flags && s.kind == sht_rela) || total (bytes_in k) parts == s.size
+
+-- the first such section, from number k on, that does not
+abbrev pub entries_astray : List (Option Part) → ℕ → List Section → Option ℕ
+entries_astray parts k [] = None
+entries_astray parts k (s ∷ ss) = if holds_entries parts k s then entries_astray parts (k + 1) ss else Some k
+
+-- and those parts stand in such sections
+abbrev pub stands_in_entries : Layout → Part → Bool
+stands_in_entries l p = not (is_entry_role p.role) || (is_allocated_section l p.section && kind_at l p.section == sht_rela)
+
+-- ---- tables of relative entries, which a loader finds by the dynamic section and reads out of one segment
+
+abbrev pub is_relative_role : Role → Bool
+is_relative_role role.RelaDynRelative = true
+is_relative_role role.RelrDyn = true
+is_relative_role other = false
+
+-- the file bytes of the segment have those of the part, at equal distance in file and memory
+abbrev pub carries_part : Part → Segment → Bool
+carries_part p g = g.kind == pt_load && within g.offset g.file_size p.offset p.size && p.offset + g.address == p.address + g.offset
+
+-- one segment carries the whole table to its addresses
+abbrev pub table_is_loaded : Layout → Part → Bool
+table_is_loaded l p =
+    not (needs_dynamic l.kind) || not (is_relative_role p.role) || p.size == 0 || list_any (carries_part p) l.segments

@@ -1,0 +1,184 @@
+//! Clause 6: what a loader finds by the dynamic section, or by the sections where there is none.
+ghost use Rattle.std.specs.Prelude.{◌≡◌, drop};
+ghost use Rattle.std.specs.List.{list_any};
+ghost use Rattle.wild_plan.specs.Lists.{first_failing, total};
+ghost use Rattle.wild_plan.specs.Segments.{is_segment_of, segment_lacking, dynamic_astray, part_with, is_entry_role, entry_parts, bytes_in, holds_entries, entries_astray, stands_in_entries, is_relative_role, carries_part, table_is_loaded};
+ghost use Rattle.wild_plan.specs.WellFormed.{check_entries};
+
+use crate::clauses::fails;
+use crate::clauses::roles::{has_role, is_fixed_static};
+use crate::clauses::sections::within;
+use crate::extent::{behind_first, wide_sum};
+use crate::fault::Clause;
+use crate::layout::Layout;
+use crate::lookups::is_allocated;
+use crate::part::{Part, Role};
+use crate::section::{Section, Segment};
+use wild_records::abi::section::SHT_RELA;
+use wild_records::abi::segment::{PT_DYNAMIC, PT_LOAD};
+
+/// The part of a role.
+fn part_with(role: Role, parts: &[Part]) -> Option<Part>
+    ensures { result ≡ part_with role parts.now }
+{
+    for part in parts {
+        if has_role(role, part) {
+            return Some(*part);
+        }
+    }
+    None
+}
+
+/// Whether the segment has the place and the size of the part.
+fn is_segment_of(part: Option<Part>, segment: &Segment) -> bool
+    ensures { result ≡ is_segment_of part segment.now }
+{
+    match part {
+        Some(part) => {
+            segment.offset == part.offset
+                && segment.address == part.address
+                && segment.file_size == part.size
+                && segment.mem_size == part.size
+        }
+        None => false,
+    }
+}
+
+/// The place of the first `PT_DYNAMIC` segment that is not that of the dynamic section; only one is.
+pub(crate) fn dynamic_astray(layout: &Layout, segments: &[Segment]) -> Option<usize>
+    ensures { result ≡ dynamic_astray (part_with Role.Dynamic layout.now.parts) 0 segments.now }
+{
+    let mut part = part_with(Role::Dynamic, layout.parts.as_slice());
+    for (i, segment) in segments.iter().enumerate() {
+        if segment.kind == PT_DYNAMIC {
+            if !is_segment_of(part, segment) {
+                return Some(i);
+            }
+            part = None;
+        }
+    }
+    part.map(|_| 0)
+}
+
+/// The parts with relocation entries.
+fn entry_parts(parts: &[Part]) -> [Option<Part>; 3]
+    ensures { result ≡ entry_parts parts.now }
+{
+    [
+        part_with(Role::RelaPlt, parts),
+        part_with(Role::RelaDynRelative, parts),
+        part_with(Role::RelaDynGeneral, parts),
+    ]
+}
+
+/// The bytes of a part that stands in that section.
+fn bytes_in(section: usize, part: Option<Part>) -> u64
+    ensures { result ≡ bytes_in section part }
+{
+    match part {
+        Some(part) if part.section == section => part.size,
+        _ => 0,
+    }
+}
+
+/// The bytes of the parts that stand in that section.
+fn all_bytes_in(section: usize, parts: &[Option<Part>; 3]) -> u128
+    ensures { result ≡ total (bytes_in section) parts.now }
+{
+    let [first, second, third] = *parts;
+    let last = u128::from(bytes_in(section, third));
+    wide_sum(bytes_in(section, first), bytes_in(section, second)) + last
+}
+
+fn holds_entries(parts: &[Option<Part>; 3], index: usize, section: &Section) -> bool
+    ensures { result ≡ holds_entries parts.now index section.now }
+{
+    !(is_allocated(section.flags) && section.kind == SHT_RELA)
+        || all_bytes_in(index, parts) == u128::from(section.size)
+}
+
+/// `later` are the sections behind section 0.
+fn entries_astray(parts: &[Option<Part>; 3], later: &[Section]) -> Option<usize>
+    ensures { result ≡ entries_astray parts.now 1 later.now }
+{
+    for (i, section) in later.iter().enumerate() {
+        if !holds_entries(parts, i + 1, section) {
+            return Some(i + 1);
+        }
+    }
+    None
+}
+
+fn is_entry_role(role: Role) -> bool
+    ensures { result ≡ is_entry_role role }
+{
+    matches!(
+        role,
+        Role::RelaPlt | Role::RelaDynRelative | Role::RelaDynGeneral
+    )
+}
+
+fn stands_in_entries(layout: &Layout, part: &Part) -> bool
+    ensures { result ≡ stands_in_entries layout.now part.now }
+{
+    !is_entry_role(part.role)
+        || layout.is_allocated_section(part.section) && layout.kind_at(part.section) == SHT_RELA
+}
+
+fn part_outside_entries(layout: &Layout, parts: &[Part]) -> Option<usize>
+    ensures { result ≡ first_failing (stands_in_entries layout.now) 0 parts.now }
+{
+    parts
+        .iter()
+        .position(|part| !stands_in_entries(layout, part))
+}
+
+#[tactic(auto, unfolding(crate::specs::WellFormed::check_entries))]
+pub(crate) fn check_entries(layout: &Layout) -> Result<(), Clause>
+    ensures { result ≡ check_entries layout.now }
+{
+    if !is_fixed_static(layout.kind) {
+        return Ok(());
+    }
+    let parts = layout.parts.as_slice();
+    let later = behind_first(layout.sections.as_slice());
+    fails(6, entries_astray(&entry_parts(parts), later))?;
+    fails(6, part_outside_entries(layout, parts))
+}
+
+fn is_relative_role(role: Role) -> bool
+    ensures { result ≡ is_relative_role role }
+{
+    matches!(role, Role::RelaDynRelative | Role::RelrDyn)
+}
+
+/// Whether the file bytes of the segment have those of the part, at equal distance in file and memory.
+fn carries_part(part: &Part, segment: &Segment) -> bool
+    ensures { result ≡ carries_part part.now segment.now }
+{
+    segment.kind == PT_LOAD
+        && within(segment.offset, segment.file_size, part.offset, part.size)
+        && wide_sum(part.offset, segment.address) == wide_sum(part.address, segment.offset)
+}
+
+fn is_carried(segments: &[Segment], part: &Part) -> bool
+    ensures { result ≡ list_any (carries_part part.now) segments.now }
+{
+    segments.iter().any(|segment| carries_part(part, segment))
+}
+
+/// Whether one segment carries the part to its addresses, where it is a table of relative entries.
+fn table_is_loaded(layout: &Layout, part: &Part) -> bool
+    ensures { result ≡ table_is_loaded layout.now part.now }
+{
+    !layout.kind.needs_dynamic()
+        || !is_relative_role(part.role)
+        || part.size == 0
+        || is_carried(layout.segments.as_slice(), part)
+}
+
+pub(crate) fn table_not_loaded(layout: &Layout, parts: &[Part]) -> Option<usize>
+    ensures { result ≡ first_failing (table_is_loaded layout.now) 0 parts.now }
+{
+    parts.iter().position(|part| !table_is_loaded(layout, part))
+}
