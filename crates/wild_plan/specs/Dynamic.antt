@@ -7,10 +7,11 @@
 --   string_start l            how many bytes of the string table stand before them
 --   dynamic_entries l         all these entries, in order
 --   dynamic_count l           how many they are
-use Rattle.std.specs.Prelude.{ℕ, ◌+◌, ◌-◌, ◌/◌, ◌^◌, ◌==◌, Bool, not, ◌&&◌, if◌then◌else◌, min, List, [], ◌∷◌, ◌++◌, length, map, find, flat_map, bytes_eq, codes, bit_or, Option, Some, None, option_map}
+use Rattle.std.specs.Prelude.{ℕ, ◌+◌, ◌-◌, ◌/◌, ◌^◌, ◌==◌, Bool, not, ◌&&◌, if◌then◌else◌, min, List, [], ◌∷◌, ◌++◌, length, map, All, find, flat_map, bytes_eq, codes, bit_or, Option, Some, None, option_map}
 use Rattle.std.specs.Option.{option_or}
 use Rattle.wild_records.specs.Abi.Dynamic.{dt_null, dt_strtab, dt_symtab, dt_rela, dt_relasz, dt_relaent, dt_strsz, dt_syment, dt_init, dt_fini, dt_soname, dt_rpath, dt_debug, dt_textrel, dt_init_array, dt_fini_array, dt_init_arraysz, dt_fini_arraysz, dt_runpath, dt_flags, dt_preinit_array, dt_preinit_arraysz, dt_relrsz, dt_relr, dt_relrent, dt_relacount, dt_flags_1, dt_auxiliary, df_origin, df_textrel, df_bind_now, df_static_tls, df_1_now, df_1_nodelete, df_1_origin, df_1_interpose, df_1_pie}
 use Rattle.wild_records.specs.Abi.Section.{sht_nobits}
+use Rattle.wild_records.specs.Dynamic.{DynamicEntryFits}
 use Rattle.wild_records.specs.Relocations.{rela_size, relr_size}
 use Rattle.wild_records.specs.SymtabEntry.{symtab_entry_size}
 use Rattle.wild_records.specs.declared.dynamic.DynamicEntry.{DynamicEntry}
@@ -228,14 +229,14 @@ empty_string = 0 ∷ []
 abbrev pub string_start : Layout → ℕ
 string_start l = length empty_string
 
--- an offset in the string table, at most 2^64 - 1
-abbrev pub offset_value : ℕ → ℕ
-offset_value at = min (2 ^ 64 - 1) at
+-- the offset behind a string and its zero, at most 2^64 - 1
+abbrev pub behind_text : ℕ → List ℕ → ℕ
+behind_text at text = min (2 ^ 64 - 1) (at + text_room text)
 
 -- the entries of strings that stand one behind the other from an offset on, each with a zero
 unfoldable pub string_entries : ℕ → List NamedString → List DynamicEntry
 string_entries at [] = []
-string_entries at (s ∷ ss) = record { tag = s.number; value = offset_value at } ∷ string_entries (at + text_room s.text) ss
+string_entries at (s ∷ ss) = record { tag = s.number; value = at } ∷ string_entries (behind_text at s.text) ss
 
 -- ---- the whole
 
@@ -250,3 +251,7 @@ dynamic_entries l = string_entries (string_start l) (named_strings l) ++ tag_ent
 -- how many they are
 abbrev pub dynamic_count : Layout → ℕ
 dynamic_count l = length (dynamic_entries l)
+
+-- the entry of a tag has the ranges of its fields, where it is there
+pub record TagFits (l : Layout) (tag : DynamicTag) : Type 0 where
+  pub entry : All DynamicEntryFits (entry_of l tag)

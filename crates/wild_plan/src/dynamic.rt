@@ -1,7 +1,8 @@
 //! The entries of the dynamic section that the last file writes (gABI, "Dynamic Section").
-ghost use Rattle.std.specs.Prelude.{◌≡◌, ◌+◌, ◌^◌, ◌<◌, ◌≤◌, length, option_map};
+ghost use Rattle.std.specs.Prelude.{◌≡◌, ◌+◌, ◌^◌, ◌<◌, ◌≤◌, length, option_map, All};
+ghost use Rattle.wild_records.specs.Dynamic.{DynamicEntryFits};
 ghost use Rattle.wild_plan.specs.declared.layout.Layout.{Layout};
-ghost use Rattle.wild_plan.specs.Dynamic.{dynamic_number, has_bytes, section_named, section_address, section_size, part_with, part_address, part_size, beside, filled_part, first_entries, bytes_of, entries_bytes, relative_count, only, flag, dynamic_flags, dynamic_flags_1, dynamic_entry, all_tags, named_strings, text_room, room_of, epilogue_strings, epilogue_string_bytes, tag_entries, dynamic_count};
+ghost use Rattle.wild_plan.specs.Dynamic.{dynamic_number, has_bytes, section_named, section_address, section_size, part_with, part_address, part_size, beside, filled_part, first_entries, bytes_of, entries_bytes, relative_count, only, flag, dynamic_flags, dynamic_flags_1, dynamic_entry, all_tags, TagFits, named_strings, text_room, room_of, epilogue_strings, epilogue_string_bytes, tag_entries, dynamic_entries, dynamic_count};
 ghost use Rattle.wild_plan.specs.Lists.{total};
 ghost use Rattle.wild_plan.specs.Places.{has_role};
 
@@ -402,3 +403,31 @@ pub fn epilogue_string_bytes(layout: &Layout) -> u128
 pub fn strings_have_their_room()
     ensures { (l : Layout) → length (epilogue_strings l) ≡ epilogue_string_bytes l }
 {}
+
+/// The entry of a tag has the ranges of its fields.
+#[tactic(auto, using(crate::proofs::DynamicLemmas::entry_fits))]
+fn entry_fits(layout: &Layout, tag: DynamicTag)
+    ensures { TagFits layout.now tag }
+{
+    let _number = tag.number();
+    let _value = dynamic_entry(layout, tag);
+}
+
+/// Each entry with a value of its own has the ranges of its fields.
+fn tags_fit(layout: &Layout)
+    ensures { All (TagFits layout.now) all_tags }
+{
+    for tag in DynamicTag::all() {
+        entry_fits(layout, tag);
+    }
+}
+
+/// Each entry has the ranges of its fields.
+#[tactic(auto, using(crate::proofs::DynamicLemmas::all_fit, crate::proofs::DynamicLemmas::no_tags_fit, crate::proofs::DynamicLemmas::tags_fit))]
+pub fn dynamic_entries_fit(layout: &Layout)
+    ensures { All DynamicEntryFits (dynamic_entries layout.now) }
+{
+    if layout.kind.needs_dynamic() {
+        tags_fit(layout);
+    }
+}

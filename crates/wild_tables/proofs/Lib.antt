@@ -1,3 +1,5 @@
+pub mod DynamicLemmas
+pub mod FoundLemmas
 pub mod EntryLemmas
 pub mod LoadedLemmas
 pub mod TableLemmas
