@@ -191,8 +191,11 @@ named number (Some text) = record { number = number; text = text } ∷ []
 abbrev pub auxiliary_string : List ℕ → NamedString
 auxiliary_string text = record { number = dt_auxiliary; text = text }
 
+abbrev pub auxiliary_strings : List (List ℕ) → List NamedString
+auxiliary_strings texts = map auxiliary_string texts
+
 abbrev pub option_strings : Options → List NamedString
-option_strings o = named (path_number o) o.rpath ++ (named dt_soname o.soname ++ map auxiliary_string o.auxiliary)
+option_strings o = named (path_number o) o.rpath ++ (named dt_soname o.soname ++ auxiliary_strings o.auxiliary)
 
 -- the strings that entries name
 unfoldable pub named_strings : Layout → List NamedString

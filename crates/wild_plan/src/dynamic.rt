@@ -59,6 +59,9 @@ pub enum DynamicTag {
     Null,
 }
 
+/// Where the strings that entries name begin in the string table: behind the empty string.
+pub const STRING_START: u64 = 1;
+
 impl DynamicTag {
     /// All of them, in their order.
     #[tactic(auto, unfolding(crate::specs::Dynamic::all_tags))]

@@ -1,11 +1,11 @@
 -- What a reader finds by a tag in the entries of the last file.
-use Rattle.std.proofs.Common.{◌≡◌, ◌≢◌, ℕ, ◌==◌, Bool, true, false, not, ◌&&◌, if◌then◌else◌, List, [], ◌∷◌, ◌++◌, take, drop, map, replicate, ◌/◌, ◌-◌, Option, Some, None, refl, sym, ap, ◌∙◌, arith, subst}
+use Rattle.std.proofs.Common.{◌≡◌, ◌≢◌, ℕ, ◌+◌, ◌==◌, Bool, true, false, not, ◌&&◌, if◌then◌else◌, List, [], ◌∷◌, ◌++◌, take, drop, map, replicate, ◌/◌, ◌-◌, Option, Some, None, refl, sym, ap, ◌∙◌, subst}
 use Rattle.std.specs.Prelude.{flat_map}
 use Rattle.std.specs.List.{list_all}
-use Rattle.std.proofs.lemmas.Bool.{and_parts}
+use Rattle.std.proofs.lemmas.Bool.{and_parts, eq-eqb}
 use Rattle.std.proofs.lemmas.List.{append_assoc, append-nil}
 use Rattle.std.proofs.lemmas.Grind.{flat_map-append}
-use Rattle.wild_records.specs.Abi.Dynamic.{dt_null, dt_rela, dt_relasz, dt_jmprel, dt_pltrelsz, dt_relr, dt_relrsz, dt_soname, dt_runpath, dt_rpath, dt_auxiliary}
+use Rattle.wild_records.specs.Abi.Dynamic.{dt_null, dt_jmprel, dt_pltrelsz, dt_soname, dt_runpath, dt_rpath, dt_auxiliary}
 use Rattle.wild_records.specs.declared.dynamic.DynamicEntry.{DynamicEntry}
 use Rattle.wild_plan.specs.declared.dynamic.DynamicTag.{DynamicTag}
 use Rattle.wild_plan.specs.declared.dynamic.DynamicTag.TheVariants as tags
@@ -51,7 +51,7 @@ entry_passed m n (Some v) rest h = let e = differs_is (n == m) h in rw e refl
 entry_found : (n : ℕ) (v : Option ℕ) (rest : List DynamicEntry) → tagged n rest ≡ None → tagged n (entry_with n v ++ rest) ≡ v
 unfolding tagged
 entry_found n None rest h = h
-entry_found n (Some v) rest h = let e : (n == n) ≡ true = omega arith in rw e refl
+entry_found n (Some v) rest h = let e = eq-eqb n n refl in rw e refl
 
 -- ---- the entries of tags
 
@@ -112,8 +112,8 @@ option_strings_differ m o h =
     let b = and_parts (differs m dt_rpath) (differs m dt_soname && differs m dt_auxiliary) a.1 in
     let c = and_parts (differs m dt_soname) (differs m dt_auxiliary) b.1 in
     all_joined (string_differs m) (named (path_number o) o.rpath) (named dt_soname o.soname ++ map auxiliary_string o.auxiliary)
-      (named_differ m (path_number o) o.rpath (path_differs m o.new_dtags a.0 b.0))
-      (all_joined (string_differs m) (named dt_soname o.soname) (map auxiliary_string o.auxiliary) (named_differ m dt_soname o.soname c.0) (auxiliary_differ m o.auxiliary c.1))
+    (named_differ m (path_number o) o.rpath (path_differs m o.new_dtags a.0 b.0))
+    (all_joined (string_differs m) (named dt_soname o.soname) (map auxiliary_string o.auxiliary) (named_differ m dt_soname o.soname c.0) (auxiliary_differ m o.auxiliary c.1))
 
 strings_differ : (m : ℕ) (l : Layout) → needs_dynamic l.kind ≡ true → no_string m ≡ true → list_all (string_differs m) (named_strings l) ≡ true
 unfolding named_strings
@@ -154,11 +154,11 @@ ahead_of_null l rest n =
     ap before_null (append_assoc S (tag_entries l) rest)
     ∙ strings_kept (string_start l) (named_strings l) (tag_entries l ++ rest) (strings_differ dt_null l n refl)
     ∙ ap (λ (x : List DynamicEntry). S ++ x) (
-      ap (λ (x : List DynamicEntry). before_null (x ++ rest)) (tags_split l n)
-      ∙ ap before_null (append_assoc F E rest)
-      ∙ tags_kept l front_tags (E ++ rest) front_ends
-      ∙ ap (λ (x : List DynamicEntry). F ++ x) (null_ends l rest)
-      ∙ append-nil F)
+    ap (λ (x : List DynamicEntry). before_null (x ++ rest)) (tags_split l n)
+    ∙ ap before_null (append_assoc F E rest)
+    ∙ tags_kept l front_tags (E ++ rest) front_ends
+    ∙ ap (λ (x : List DynamicEntry). F ++ x) (null_ends l rest)
+    ∙ append-nil F)
 
 pub behind_null : (l : Layout) (rest : List DynamicEntry) → needs_dynamic l.kind ≡ true → before_null (dynamic_entries l ++ rest) ≡ before_null (dynamic_entries l)
 behind_null l rest n =
@@ -170,21 +170,22 @@ behind_null l rest n =
 record IsAmong (t : DynamicTag) (front back : List DynamicTag) : Type 0 where
   whole : front ++ t ∷ back ≡ front_tags
   strings : no_string (dynamic_number t) ≡ true
-  front : list_all (tag_differs (dynamic_number t)) front ≡ true
-  back : list_all (tag_differs (dynamic_number t)) back ≡ true
+  ahead : list_all (tag_differs (dynamic_number t)) front ≡ true
+  behind : list_all (tag_differs (dynamic_number t)) back ≡ true
+
+nothing : (n : ℕ) → tagged n [] ≡ None
+unfolding tagged
+nothing n = refl
 
 found_among : (l : Layout) (t : DynamicTag) (front back : List DynamicTag) → IsAmong t front back
     → tagged (dynamic_number t) (flat_map (entry_of l) (front ++ t ∷ back)) ≡ dynamic_entry l t
 found_among l t front back a =
     let n = dynamic_number t in
     let B = flat_map (entry_of l) back in
-    let none : tagged n B ≡ None = ap (tagged n) (sym (append-nil B)) ∙ tags_passed n l back [] a.back ∙ nothing n in
+    let none : tagged n B ≡ None = ap (tagged n) (sym (append-nil B)) ∙ tags_passed n l back [] a.behind ∙ nothing n in
     ap (tagged n) (flat_map-append (entry_of l) front (t ∷ back))
-    ∙ tags_passed n l front (entry_of l t ++ B) a.front
-    ∙ entry_found n (dynamic_entry l t) B none where
-  nothing : (n : ℕ) → tagged n [] ≡ None
-  unfolding tagged
-  nothing n = refl
+    ∙ tags_passed n l front (entry_of l t ++ B) a.ahead
+    ∙ entry_found n (dynamic_entry l t) B none
 
 found_in : (l : Layout) (rest : List DynamicEntry) (t : DynamicTag) (front back : List DynamicTag) → needs_dynamic l.kind ≡ true → IsAmong t front back
     → tagged (dynamic_number t) (before_null (dynamic_entries l ++ rest)) ≡ dynamic_entry l t
@@ -195,7 +196,7 @@ found_in l rest t front back n a =
     ∙ subst P a.whole (found_among l t front back a)
 
 -- how many tags stand ahead of one
-place_of : DynamicTag → ℕ
+abbrev place_of : DynamicTag → ℕ
 place_of tags.Init = 0
 place_of tags.Fini = 1
 place_of tags.InitArray = 2
@@ -223,29 +224,29 @@ place_of tags.Null = 23
 
 among : (t : DynamicTag) → t ≢ tags.Null → IsAmong t (take (place_of t) front_tags) (drop (place_of t + 1) front_tags)
 unfolding dynamic_number
-among tags.Init h = record { whole = refl; strings = refl; front = refl; back = refl }
-among tags.Fini h = record { whole = refl; strings = refl; front = refl; back = refl }
-among tags.InitArray h = record { whole = refl; strings = refl; front = refl; back = refl }
-among tags.InitArraySize h = record { whole = refl; strings = refl; front = refl; back = refl }
-among tags.FiniArray h = record { whole = refl; strings = refl; front = refl; back = refl }
-among tags.FiniArraySize h = record { whole = refl; strings = refl; front = refl; back = refl }
-among tags.PreinitArray h = record { whole = refl; strings = refl; front = refl; back = refl }
-among tags.PreinitArraySize h = record { whole = refl; strings = refl; front = refl; back = refl }
-among tags.StringTable h = record { whole = refl; strings = refl; front = refl; back = refl }
-among tags.StringSize h = record { whole = refl; strings = refl; front = refl; back = refl }
-among tags.SymbolTable h = record { whole = refl; strings = refl; front = refl; back = refl }
-among tags.SymbolSize h = record { whole = refl; strings = refl; front = refl; back = refl }
-among tags.Rela h = record { whole = refl; strings = refl; front = refl; back = refl }
-among tags.RelaSize h = record { whole = refl; strings = refl; front = refl; back = refl }
-among tags.RelaEntry h = record { whole = refl; strings = refl; front = refl; back = refl }
-among tags.RelaCount h = record { whole = refl; strings = refl; front = refl; back = refl }
-among tags.Relr h = record { whole = refl; strings = refl; front = refl; back = refl }
-among tags.RelrSize h = record { whole = refl; strings = refl; front = refl; back = refl }
-among tags.RelrEntry h = record { whole = refl; strings = refl; front = refl; back = refl }
-among tags.Debug h = record { whole = refl; strings = refl; front = refl; back = refl }
-among tags.Textrel h = record { whole = refl; strings = refl; front = refl; back = refl }
-among tags.Flags h = record { whole = refl; strings = refl; front = refl; back = refl }
-among tags.Flags1 h = record { whole = refl; strings = refl; front = refl; back = refl }
+among tags.Init h = record { whole = refl; strings = refl; ahead = refl; behind = refl }
+among tags.Fini h = record { whole = refl; strings = refl; ahead = refl; behind = refl }
+among tags.InitArray h = record { whole = refl; strings = refl; ahead = refl; behind = refl }
+among tags.InitArraySize h = record { whole = refl; strings = refl; ahead = refl; behind = refl }
+among tags.FiniArray h = record { whole = refl; strings = refl; ahead = refl; behind = refl }
+among tags.FiniArraySize h = record { whole = refl; strings = refl; ahead = refl; behind = refl }
+among tags.PreinitArray h = record { whole = refl; strings = refl; ahead = refl; behind = refl }
+among tags.PreinitArraySize h = record { whole = refl; strings = refl; ahead = refl; behind = refl }
+among tags.StringTable h = record { whole = refl; strings = refl; ahead = refl; behind = refl }
+among tags.StringSize h = record { whole = refl; strings = refl; ahead = refl; behind = refl }
+among tags.SymbolTable h = record { whole = refl; strings = refl; ahead = refl; behind = refl }
+among tags.SymbolSize h = record { whole = refl; strings = refl; ahead = refl; behind = refl }
+among tags.Rela h = record { whole = refl; strings = refl; ahead = refl; behind = refl }
+among tags.RelaSize h = record { whole = refl; strings = refl; ahead = refl; behind = refl }
+among tags.RelaEntry h = record { whole = refl; strings = refl; ahead = refl; behind = refl }
+among tags.RelaCount h = record { whole = refl; strings = refl; ahead = refl; behind = refl }
+among tags.Relr h = record { whole = refl; strings = refl; ahead = refl; behind = refl }
+among tags.RelrSize h = record { whole = refl; strings = refl; ahead = refl; behind = refl }
+among tags.RelrEntry h = record { whole = refl; strings = refl; ahead = refl; behind = refl }
+among tags.Debug h = record { whole = refl; strings = refl; ahead = refl; behind = refl }
+among tags.Textrel h = record { whole = refl; strings = refl; ahead = refl; behind = refl }
+among tags.Flags h = record { whole = refl; strings = refl; ahead = refl; behind = refl }
+among tags.Flags1 h = record { whole = refl; strings = refl; ahead = refl; behind = refl }
 among tags.Null h = absurd (h refl)
 
 pub found : (l : Layout) (rest : List DynamicEntry) (t : DynamicTag) → needs_dynamic l.kind ≡ true → t ≢ tags.Null → tagged (dynamic_number t) (before_null (dynamic_entries l ++ rest)) ≡ dynamic_entry l t

@@ -7,7 +7,7 @@
 --   BehindNullIsNotRead       nothing behind DT_NULL is read
 --   EntriesAreFound           the value of a tag is its entry's
 --   TablesAreNamed            the tables that a loader finds by their tags
-use Rattle.std.specs.Prelude.{◌≡◌, ◌≢◌, ℕ, ◌-◌, ◌*◌, ◌/◌, ◌≤◌, true, List, [], ◌∷◌, ◌++◌, length, replicate, flat_map, All, Option, None}
+use Rattle.std.specs.Prelude.{◌≡◌, ◌≢◌, ℕ, ◌-◌, ◌*◌, ◌/◌, ◌≤◌, true, List, [], ◌∷◌, ◌++◌, length, replicate, flat_map, All, None}
 use Rattle.wild_words.specs.Record.{spell}
 use Rattle.wild_words.specs.Words.{Stands}
 use Rattle.wild_records.specs.Abi.Dynamic.{dt_rela, dt_relasz, dt_jmprel, dt_pltrelsz, dt_relr, dt_relrsz}
@@ -16,7 +16,7 @@ use Rattle.wild_records.specs.declared.dynamic.DynamicEntry.{DynamicEntry}
 use Rattle.wild_plan.specs.declared.dynamic.DynamicTag.{DynamicTag}
 use Rattle.wild_plan.specs.declared.dynamic.DynamicTag.TheVariants as tags
 use Rattle.wild_plan.specs.declared.layout.Layout.{Layout}
-use Rattle.wild_plan.specs.Dynamic.{dynamic_number, dynamic_entry, dynamic_entries, dynamic_count}
+use Rattle.wild_plan.specs.Dynamic.{NamedString, behind_text, dynamic_number, dynamic_entry, dynamic_entries, dynamic_count}
 use Rattle.wild_plan.specs.Kinds.{needs_dynamic}
 use Rattle.wild_loader.specs.Laws.{before_null}
 use Rattle.wild_loader.specs.Tables.{tagged}
@@ -24,6 +24,11 @@ use Rattle.wild_loader.specs.Tables.{tagged}
 -- the bytes of entries
 abbrev pub entries_bytes : List DynamicEntry → List ℕ
 entries_bytes ds = flat_map (λ d. spell (dynamic_entry_fields d)) ds
+
+-- the offset in the string table behind strings, each with its zero
+abbrev pub behind_strings : ℕ → List NamedString → ℕ
+behind_strings at [] = at
+behind_strings at (s ∷ ss) = behind_strings (behind_text at s.text) ss
 
 -- the entries in a room of bytes, and zeros behind them
 abbrev pub dynamic_bytes : Layout → ℕ → List ℕ

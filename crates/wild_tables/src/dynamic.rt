@@ -1,13 +1,13 @@
 //! The dynamic section of the last file (gABI, "Dynamic Section").
-ghost use Rattle.std.specs.Prelude.{◌≡◌, ◌+◌, ◌*◌, ◌≤◌, ◌++◌, length, take, replicate};
-ghost use Rattle.wild_words.specs.Record.{spell};
-ghost use Rattle.wild_records.specs.Dynamic.{dynamic_entry_size, dynamic_entry_fields};
-ghost use Rattle.wild_plan.specs.Dynamic.{dynamic_entry, entry_of, dynamic_count};
-ghost use Rattle.wild_tables.specs.Dynamic.{dynamic_bytes, entries_bytes, LengthsOfDynamic, RecordsStand, RecordsFit, BehindNullIsNotRead, EntriesAreFound, TablesAreNamed};
+ghost use Rattle.std.specs.Prelude.{◌≡◌, ◌+◌, ◌*◌, ◌≤◌, ◌++◌, [], ◌∷◌, length, take, replicate};
+ghost use Rattle.wild_records.specs.Dynamic.{dynamic_entry_size};
+ghost use Rattle.wild_plan.specs.Dynamic.{named, behind_text, string_entries, entry_of, tag_entries, auxiliary_strings, named_strings, string_start, dynamic_count};
+ghost use Rattle.wild_tables.specs.Dynamic.{dynamic_bytes, entries_bytes, behind_strings, LengthsOfDynamic, RecordsStand, RecordsFit, BehindNullIsNotRead, EntriesAreFound, TablesAreNamed};
 
-use wild_plan::{DynamicTag, Layout};
+use wild_plan::{DynamicTag, Layout, STRING_START, dynamic_entry};
 use wild_records::DynamicEntry;
-use wild_words::put;
+use wild_records::abi::dynamic::{DT_AUXILIARY, DT_RPATH, DT_RUNPATH, DT_SONAME};
+use wild_words::{Bytes, put};
 
 /// Zeros over all bytes.
 pub fn write_unused(out: &mut [u8])
@@ -16,9 +16,152 @@ pub fn write_unused(out: &mut [u8])
     out.fill(0);
 }
 
+/// An entry at an offset; answers the offset behind it.
+#[tactic(auto, using(crate::proofs::DynamicLemmas::entry_put, crate::proofs::DynamicLemmas::entry_room))]
+fn write_entry(out: &mut [u8], at: usize, entry: DynamicEntry) -> usize
+    requires { at + dynamic_entry_size ≤ length out.old }
+    ensures at { result ≡ at + dynamic_entry_size }
+    ensures written { take result out.new ≡ take at out.old ++ entries_bytes (entry ∷ []) }
+    ensures room { length out.new ≡ length out.old }
+{
+    let mut bytes = [0; DynamicEntry::SIZE];
+    entry.put(&mut bytes);
+    put(out, at, &bytes);
+    at + DynamicEntry::SIZE
+}
+
+/// The entry of a tag, where it has a value, at an offset; answers the offset behind it.
+fn write_tag(layout: &Layout, tag: DynamicTag, out: &mut [u8], at: usize) -> usize
+    requires { at + dynamic_entry_size * length (entry_of layout.now tag) ≤ length out.old }
+    ensures at { result ≡ at + dynamic_entry_size * length (entry_of layout.now tag) }
+    ensures written { take result out.new ≡ take at out.old ++ entries_bytes (entry_of layout.now tag) }
+    ensures room { length out.new ≡ length out.old }
+{
+    match dynamic_entry(layout, tag) {
+        Some(value) => write_entry(
+            out,
+            at,
+            DynamicEntry {
+                tag: tag.number(),
+                value,
+            },
+        ),
+        None => at,
+    }
+}
+
+/// The entries with values of their own at an offset; answers the offset behind them.
+#[tactic(auto, using(crate::proofs::DynamicLemmas::tag_more, crate::proofs::DynamicLemmas::tag_count), unfolding(wild_plan::specs::Dynamic::tag_entries, wild_plan::specs::Dynamic::all_tags))]
+fn write_tags(layout: &Layout, out: &mut [u8], at: usize) -> usize
+    requires { at + dynamic_entry_size * length (tag_entries layout.now) ≤ length out.old }
+    ensures at { result ≡ at + dynamic_entry_size * length (tag_entries layout.now) }
+    ensures written { take result out.new ≡ take at out.old ++ entries_bytes (tag_entries layout.now) }
+    ensures room { length out.new ≡ length out.old }
+{
+    let mut at = at;
+    if layout.kind.needs_dynamic() {
+        for tag in DynamicTag::all() {
+            at = write_tag(layout, tag, out, at);
+        }
+    }
+    at
+}
+
+/// Where the next entry stands, and where the string that it names stands in the string table.
+#[derive(Clone, Copy)]
+struct Cursor {
+    at: usize,
+    offset: u64,
+}
+
+/// The entry of a string; answers where the next ones stand.
+fn write_string(out: &mut [u8], cursor: Cursor, number: u64, text: &[u8]) -> Cursor
+    requires { cursor.at + dynamic_entry_size ≤ length out.old }
+    ensures at { result.at ≡ cursor.at + dynamic_entry_size }
+    ensures offset { result.offset ≡ behind_text cursor.offset text.now }
+    ensures written { take result.at out.new ≡ take cursor.at out.old ++ entries_bytes (record { tag = number; value = cursor.offset } ∷ []) }
+    ensures room { length out.new ≡ length out.old }
+{
+    let entry = DynamicEntry {
+        tag: number,
+        value: cursor.offset,
+    };
+    Cursor {
+        at: write_entry(out, cursor.at, entry),
+        offset: cursor.offset.saturating_add(text.len() as u64 + 1),
+    }
+}
+
+/// The entry of a string that is there.
+#[tactic(auto, using(crate::proofs::DynamicLemmas::option_none, crate::proofs::DynamicLemmas::option_some))]
+fn write_option(out: &mut [u8], cursor: Cursor, number: u64, text: &Option<Bytes>) -> Cursor
+    requires { cursor.at + dynamic_entry_size * length (named number text.now) ≤ length out.old }
+    ensures at { result.at ≡ cursor.at + dynamic_entry_size * length (named number text.now) }
+    ensures offset { result.offset ≡ behind_strings cursor.offset (named number text.now) }
+    ensures written { take result.at out.new ≡ take cursor.at out.old ++ entries_bytes (string_entries cursor.offset (named number text.now)) }
+    ensures room { length out.new ≡ length out.old }
+{
+    match text {
+        Some(text) => write_string(out, cursor, number, text.as_slice()),
+        None => cursor,
+    }
+}
+
+/// The entries of the auxiliary strings.
+#[tactic(auto, using(crate::proofs::DynamicLemmas::string_more, crate::proofs::DynamicLemmas::strings_end))]
+fn write_auxiliary(out: &mut [u8], cursor: Cursor, texts: &[Bytes]) -> Cursor
+    requires { cursor.at + dynamic_entry_size * length texts.now ≤ length out.old }
+    ensures at { result.at ≡ cursor.at + dynamic_entry_size * length texts.now }
+    ensures offset { result.offset ≡ behind_strings cursor.offset (auxiliary_strings texts.now) }
+    ensures written { take result.at out.new ≡ take cursor.at out.old ++ entries_bytes (string_entries cursor.offset (auxiliary_strings texts.now)) }
+    ensures room { length out.new ≡ length out.old }
+{
+    let mut cursor = cursor;
+    for text in texts {
+        cursor = write_string(out, cursor, DT_AUXILIARY, text.as_slice());
+    }
+    cursor
+}
+
+/// The entries that name strings, from the front on; answers the offset behind them.
+#[tactic(auto, using(crate::proofs::DynamicLemmas::option_bytes, crate::proofs::DynamicLemmas::option_count, crate::proofs::DynamicLemmas::no_strings), unfolding(wild_plan::specs::Dynamic::named_strings))]
+fn write_strings(layout: &Layout, out: &mut [u8]) -> usize
+    requires { dynamic_entry_size * length (named_strings layout.now) ≤ length out.old }
+    ensures at { result ≡ dynamic_entry_size * length (named_strings layout.now) }
+    ensures written { take result out.new ≡ entries_bytes (string_entries (string_start layout.now) (named_strings layout.now)) }
+    ensures room { length out.new ≡ length out.old }
+{
+    if !layout.kind.needs_dynamic() {
+        return 0;
+    }
+    let options = &layout.options;
+    let path = if options.new_dtags {
+        DT_RUNPATH
+    } else {
+        DT_RPATH
+    };
+    let start = Cursor {
+        at: 0,
+        offset: STRING_START,
+    };
+    let cursor = write_option(out, start, path, &options.rpath);
+    let cursor = write_option(out, cursor, DT_SONAME, &options.soname);
+    write_auxiliary(out, cursor, options.auxiliary.as_slice()).at
+}
+
+/// Writes the entries of the last file into their room, and zeros behind them.
+#[tactic(auto, using(crate::proofs::DynamicLemmas::whole_count, crate::proofs::DynamicLemmas::whole_entries))]
+pub fn write_dynamic(layout: &Layout, out: &mut [u8])
+    requires { dynamic_entry_size * dynamic_count layout.now ≤ length out.old }
+    ensures { out.new ≡ dynamic_bytes layout.now (length out.old) }
+{
+    let at = write_strings(layout, out);
+    let at = write_tags(layout, out, at);
+    write_unused(&mut out[at..]);
+}
+
 /// The bytes of the dynamic section fill its room, a reader finds the entries of the last file there and nothing behind
 /// `DT_NULL`, and by each tag the value of its entry.
-#[tactic(auto, using(crate::proofs::DynamicLemmas::lengths, crate::proofs::DynamicLemmas::records_at, crate::proofs::DynamicLemmas::records_fit, crate::proofs::FoundLemmas::behind_null, crate::proofs::FoundLemmas::found, crate::proofs::FoundLemmas::tables_named))]
 pub fn dynamic_sections_are_read()
     ensures lengths { LengthsOfDynamic }
     ensures stand { RecordsStand }
