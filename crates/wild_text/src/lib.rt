@@ -7,6 +7,7 @@ mod input;
 mod laws;
 mod lists;
 mod members;
+mod options;
 mod output;
 mod plan;
 mod refusal;
@@ -16,7 +17,7 @@ mod warning;
 
 pub use answer::{image_answer, no_plan_answer, push_counts};
 pub use fault::PlanFault;
-pub use laws::{parts_are_read_again, plans_are_fixed};
+pub use laws::{parts_are_read_again, plans_are_static};
 pub use plan::read_plan;
 pub use refusal::refusal_answer;
 

@@ -2,7 +2,7 @@
 use super::*;
 use serde_json::Value;
 use std::test::*;
-use wild_plan::{At, EntryWarning, Error, Fault, Machine, Missing, Role};
+use wild_plan::{At, EntryWarning, Error, Fault, Machine, Missing, Role, Tls};
 
 /// The text that is answered for a plan that is refused, empty for one that is read.
 fn refused(rt: &HostRuntime, plan: &str) -> Result<String, Fail> {
@@ -15,7 +15,7 @@ fn refused(rt: &HostRuntime, plan: &str) -> Result<String, Fail> {
     }
 }
 
-const REFUSED: [(&str, &str); 34] = [
+const REFUSED: [(&str, &str); 43] = [
     ("[]", "not a plan: \n"),
     ("{}", "not a plan: /options/strip_all\n"),
     (r#"{"options":7}"#, "not a plan: /options\n"),
@@ -31,6 +31,19 @@ const REFUSED: [(&str, &str); 34] = [
     (
         r#"{"options":{"strip_all":true,"bti":true}}"#,
         "not a plan: /options/bti\n",
+    ),
+    (r#"{"options":{"relr":1}}"#, "not a plan: /options/relr\n"),
+    (
+        r#"{"options":{"strip_all":true,"rpath":0,"static_tls":0}}"#,
+        "not a plan: /options/static_tls\n",
+    ),
+    (
+        r#"{"options":{"strip_all":true,"soname":"6"}}"#,
+        "not a plan: /options/soname\n",
+    ),
+    (
+        r#"{"options":{"strip_all":true,"auxiliary":["61",null]}}"#,
+        "not a plan: /options/auxiliary/1\n",
     ),
     (r#"{"machine":"aarch64"}"#, "not a plan: /machine\n"),
     (
@@ -54,7 +67,7 @@ const REFUSED: [(&str, &str); 34] = [
         "not a plan: /page_size\n",
     ),
     (
-        r#"{"options":{"strip_all":true},"tls":{},"parts":[{},{},{"size":"1"}]}"#,
+        r#"{"options":{"strip_all":true},"interp":"","parts":[{},{},{"size":"1"}]}"#,
         "not a plan: /parts/2/size\n",
     ),
     (
@@ -62,7 +75,27 @@ const REFUSED: [(&str, &str); 34] = [
         "not a plan: /parts/0/role\n",
     ),
     (
-        r#"{"options":{"strip_all":true},"tls":{},"\u0061bc":0}"#,
+        r#"{"options":{"strip_all":true},"got_base":null,"tls":null}"#,
+        "not a plan: /tls\n",
+    ),
+    (
+        r#"{"options":{"strip_all":true},"tls":{"module":1,"start":8}}"#,
+        "not a plan: /tls/module\n",
+    ),
+    (
+        r#"{"options":{"strip_all":true},"got_base":null,"symbols":0}"#,
+        "not a plan: /got_base\n",
+    ),
+    (
+        r#"{"options":{"strip_all":true},"groups":[{"dynstr_start":"1"}]}"#,
+        "not a plan: /groups/0/dynstr_start\n",
+    ),
+    (
+        r#"{"options":{"strip_all":true},"groups":[{"dynstr_start":1,"strtab_start":1}]}"#,
+        "not a plan: /groups/0/strtab_start\n",
+    ),
+    (
+        r#"{"options":{"strip_all":true},"interp":"","\u0061bc":0}"#,
         "not a plan: /abc\n",
     ),
     (
@@ -164,6 +197,46 @@ fn a_plan(rt: HostRuntime) -> Result<(), Fail> {
     assert!(rt;
         matches!(layout.symbols.as_slice(), [s] if s.flags.0 == 9 && s.name.as_slice() == b"o".as_slice())
     );
+    Ok(())
+}
+
+const MOVABLE_PLAN: &str =
+    r#"{"kind":"static_pie","options":{"relr":true,"strip_all":true,"new_dtags":true,"nodelete":true,"textrel":true,"rpath":"2F6c","auxiliary":["61",""]},"parts":[{"role":"rela_dyn_relative"},{"role":"relr_dyn"},{"role":"dynsym"},{"role":"dynstr"},{"role":"dynamic"}],"tls":{"end":16},"got_base":8192,"groups":[{"dynstr_start":1}]}"#;
+
+#[test]
+fn members_of_a_movable_plan(rt: HostRuntime) -> Result<(), Fail> {
+    let alloc = rt.alloc();
+    let value = Value::from_str(alloc, MOVABLE_PLAN).ok().ok_or("json")?;
+    let layout = read_plan(alloc, &value).ok().ok_or("plan")?;
+    assert!(rt; layout.kind.is_static_executable() && layout.kind.is_position_independent());
+    let asked = &layout.options;
+    assert!(rt; asked.relr && asked.new_dtags && asked.nodelete && asked.textrel);
+    assert!(rt; !asked.execstack && !asked.origin && !asked.interpose && !asked.static_tls);
+    assert!(rt; matches!(&asked.rpath, Some(path) if path.as_slice() == b"/l".as_slice()));
+    assert!(rt; asked.soname.is_none() && asked.auxiliary.as_slice().len() == 2);
+    assert!(rt;
+        matches!(
+            layout.tls,
+            Tls {
+                start: 0,
+                end: 16,
+                align: 1
+            }
+        )
+    );
+    assert!(rt;
+        matches!(layout.groups.as_slice(), [group] if layout.got_base == 8192 && group.dynstr_start == 1)
+    );
+    let roles = [
+        Role::RelaDynRelative,
+        Role::RelrDyn,
+        Role::Dynsym,
+        Role::Dynstr,
+        Role::Dynamic,
+    ];
+    for (part, role) in layout.parts.as_slice().iter().zip(&roles) {
+        assert!(rt; part.role == *role);
+    }
     Ok(())
 }
 
