@@ -326,6 +326,11 @@ fn refusals(rt: HostRuntime) -> Result<(), Fail> {
             "refused UnsupportedRelocation number=99 at group=0 file=1 section=1 offset=4\n",
         ),
         (
+            Fault::RecompileWithPic { number: 10 },
+            at(Some(2), Some(26)),
+            "refused RecompileWithPic number=10 at group=0 file=2 section=2 offset=26\n",
+        ),
+        (
             Fault::MissingResolution {
                 what: Missing::Address,
                 symbol: 7,

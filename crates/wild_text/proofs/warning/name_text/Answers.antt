@@ -1,4 +1,4 @@
-use Rattle.std.proofs.Common.{◌≡◌, sym, ◌∙◌}
+use Rattle.std.proofs.Common.{sym, ◌∙◌}
 use Rattle.std.proofs.lemmas.Result.{IfOk-weaker}
 use Rattle.wild_text.proofs.NameLemmas.{shown_text, shown_hex}
 use Rattle.wild_text.proofs.warning.name_text.Goals as goal
