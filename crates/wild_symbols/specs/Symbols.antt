@@ -1,0 +1,65 @@
+-- Symbols, one behind the other (gABI, "Symbol Table").
+--   symbol_bytes es      the bytes of symbols
+--   symbols_in bytes n   the n symbols at the front of bytes
+--   Symbols              what callers see of a list of symbols, in the group's share of a part
+--   with_entry e t       one symbol more
+--   room_for_entry t     there is room for one, or InsufficientAllocation
+--   left_of_symbols t    no room is left, or ExcessiveAllocation
+use Rattle.std.specs.Prelude.{◌≡◌, ℕ, zero, suc, ◌+◌, ◌*◌, ◌≤◌, nat_lt, if◌then◌else◌, List, [], ◌∷◌, ◌++◌, length, take, Result, Ok, Err}
+use Rattle.std.specs.List.{flat_map}
+use Rattle.wild_words.specs.Record.{spell}
+use Rattle.wild_records.specs.declared.symtab_entry.SymtabEntry.{SymtabEntry}
+use Rattle.wild_records.specs.SymtabEntry.{symtab_entry_size, symtab_entry_fields, symtab_entry_at}
+use Rattle.wild_plan.specs.declared.fault.Error.{Error}
+use Rattle.wild_plan.specs.declared.fault.Fault.TheVariants as faults
+use Rattle.wild_plan.specs.Faults.{nowhere}
+
+-- the bytes of symbols
+abbrev pub symbol_bytes : List SymtabEntry → List ℕ
+symbol_bytes es = flat_map (λ e. spell (symtab_entry_fields e)) es
+
+-- the n symbols at the front
+unfoldable pub symbols_in : List ℕ → ℕ → List SymtabEntry
+symbols_in bytes zero = []
+symbols_in bytes (suc n) = symbols_in bytes n ++ symtab_entry_at bytes (symtab_entry_size * n) ∷ []
+
+-- symbols of a group: the place of their part, the group, the symbols so far, and how many bytes the share has
+pub record Symbols : Type 0 where
+  pub part : ℕ
+  pub group : ℕ
+  pub symbols : List SymtabEntry
+  pub room : ℕ
+
+abbrev pub symbols_of : ℕ → ℕ → List ℕ → ℕ → Symbols
+symbols_of part group bytes n = record { part = part; group = group; symbols = symbols_in bytes n; room = length bytes }
+
+-- the first bytes are those of the symbols that are read there
+unfoldable pub IsSpelled : List ℕ → ℕ → Type 0
+IsSpelled bytes n = take (symtab_entry_size * n) bytes ≡ symbol_bytes (symbols_in bytes n)
+
+-- the symbols lie in the share
+pub record IsSymbols (bytes : List ℕ) (n : ℕ) : Type 0 where
+  pub fits : symtab_entry_size * n ≤ length bytes
+  pub spelled : IsSpelled bytes n
+
+-- one symbol more
+abbrev pub with_entry : SymtabEntry → Symbols → Symbols
+with_entry e t = record t { symbols = t.symbols ++ e ∷ [] }
+
+-- how many bytes the symbols have
+abbrev pub symbols_used : Symbols → ℕ
+symbols_used t = symtab_entry_size * length t.symbols
+
+-- there is room for one symbol more; else how many bytes the share would need
+abbrev pub room_for_entry : Symbols → Result (Unit {0}) Error
+room_for_entry t =
+    if nat_lt t.room (symbols_used t + symtab_entry_size)
+    then Err (record { fault = faults.InsufficientAllocation t.part t.group t.room (symbols_used t + symtab_entry_size); at = nowhere })
+    else Ok tt
+
+-- no room is left
+abbrev pub left_of_symbols : Symbols → Result (Unit {0}) Error
+left_of_symbols t =
+    if nat_lt (symbols_used t) t.room
+    then Err (record { fault = faults.ExcessiveAllocation t.part t.group t.room (symbols_used t); at = nowhere })
+    else Ok tt

@@ -1,0 +1,93 @@
+-- The symbol tables of a group (gABI, "Symbol Table").
+--   no_dynamic_symbols l group    no symbols yet, in the group's shares of the dynamic table and of its strings
+--   symbol name s value a         a symbol whose name stands at that offset of the strings
+--   with_symbol local name s value a w    one symbol and its name more
+--   room_for_symbol local name w  there is room for both, or InsufficientAllocation
+--   left_over w                   no room is left, or ExcessiveAllocation of the first table that has
+use Rattle.std.specs.Prelude.{ℕ, ◌<◌, Bool, true, false, List, [], Result, Ok, Err, Option, Some, None, slice_get}
+use Rattle.wild_records.specs.Abi.Section.{shn_loreserve, shn_undef}
+use Rattle.wild_records.specs.SymbolSections.{split_index}
+use Rattle.wild_records.specs.declared.symtab_entry.SymtabEntry.{SymtabEntry}
+use Rattle.wild_records.specs.declared.symbol_section.SymbolSection.{SymbolSection}
+use Rattle.wild_records.specs.declared.symbol_section.SymbolSection.TheVariants.{Raw, Index}
+use Rattle.wild_plan.specs.declared.part.Role.TheVariants as role
+use Rattle.wild_plan.specs.declared.fault.Error.{Error}
+use Rattle.wild_plan.specs.declared.file.Group.{Group}
+use Rattle.wild_plan.specs.declared.layout.Layout.{Layout}
+use Rattle.wild_symbols.specs.Shares.{part_of, share_of}
+use Rattle.wild_symbols.specs.Strings.{offset_of, with_string, room_for_string, left_of_strings}
+use Rattle.wild_symbols.specs.Symbols.{Symbols, with_entry, room_for_entry, left_of_symbols}
+use Rattle.wild_symbols.specs.declared.writer.SymbolAttributes.{SymbolAttributes}
+use Rattle.wild_symbols.specs.declared.writer.SymbolTableWriter.{SymbolTableWriter}
+
+-- ---- an empty dynamic table
+
+abbrev pub dynstr_start_of : Option Group → ℕ
+dynstr_start_of None = 0
+dynstr_start_of (Some g) = g.dynstr_start
+
+-- where the group's strings begin in the strings of the dynamic table
+abbrev pub dynstr_start : Layout → ℕ → ℕ
+dynstr_start l group = dynstr_start_of (slice_get l.groups group)
+
+-- no symbols and no strings yet; a dynamic table has no room for local symbols
+abbrev pub no_dynamic_symbols : Layout → ℕ → SymbolTableWriter
+no_dynamic_symbols l group = record {
+  locals = record { part = part_of l role.SymtabLocal; group = group; symbols = []; room = 0 };
+  globals = record { part = part_of l role.Dynsym; group = group; symbols = []; room = share_of l group role.Dynsym };
+  strtab = record { part = part_of l role.Dynstr; group = group; start = dynstr_start l group; bytes = []; room = share_of l group role.Dynstr };
+}
+
+-- ---- one symbol
+
+-- st_shndx
+abbrev pub section_number : SymbolSection → ℕ
+section_number (Raw n) = n
+section_number (Index i) = (split_index i).0
+
+-- st_shndx has room for the header index: from SHN_LORESERVE on it stands in a table beside the symbols
+abbrev pub IsInReach : SymbolSection → Type 0
+IsInReach (Raw n) = Unit {0}
+IsInReach (Index i) = i < shn_loreserve
+
+-- a symbol, by the offset of its name, where it lies, and what it says of itself
+abbrev pub symbol : ℕ → SymbolSection → ℕ → SymbolAttributes → SymtabEntry
+symbol name s value a = record { name = name; info = a.info; other = a.other; section = section_number s; value = value; size = a.size }
+
+-- the local symbols, or the global ones
+abbrev pub list_of : Bool → SymbolTableWriter → Symbols
+list_of true w = w.locals
+list_of false w = w.globals
+
+-- one symbol more in its list
+abbrev pub with_listed : Bool → SymtabEntry → SymbolTableWriter → SymbolTableWriter
+with_listed true e w = record w { locals = with_entry e w.locals }
+with_listed false e w = record w { globals = with_entry e w.globals }
+
+-- one string more
+abbrev pub with_name : List ℕ → SymbolTableWriter → SymbolTableWriter
+with_name name w = record w { strtab = with_string name w.strtab }
+
+-- one symbol more, whose name is the next string
+abbrev pub with_symbol : Bool → List ℕ → SymbolSection → ℕ → SymbolAttributes → SymbolTableWriter → SymbolTableWriter
+with_symbol local name s value a w = with_listed local (symbol (offset_of w.strtab) s value a) (with_name name w)
+
+-- a symbol that no section has, of value 0
+abbrev pub with_undefined : Bool → List ℕ → SymbolAttributes → SymbolTableWriter → SymbolTableWriter
+with_undefined local name a w = with_symbol local name (Raw shn_undef) 0 a w
+
+-- ---- room
+
+-- the first fault of two tests
+abbrev pub and_then : {X : Type 0} → Result (Unit {0}) Error → Result X Error → Result (Unit {0}) Error
+and_then (Err e) r = Err e
+and_then (Ok t) (Err e) = Err e
+and_then (Ok t) (Ok x) = Ok tt
+
+-- there is room for the symbol, and for its name
+abbrev pub room_for_symbol : Bool → List ℕ → SymbolTableWriter → Result (Unit {0}) Error
+room_for_symbol local name w = and_then (room_for_entry (list_of local w)) (room_for_string name w.strtab)
+
+-- no table has room left; else the first that has, in the order of roles
+abbrev pub left_over : SymbolTableWriter → Result (Unit {0}) Error
+left_over w = and_then (and_then (left_of_symbols w.locals) (left_of_symbols w.globals)) (left_of_strings w.strtab)

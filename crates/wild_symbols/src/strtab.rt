@@ -1,0 +1,105 @@
+//! Strings in the room of their part (gABI, "String Table").
+ghost use Rattle.std.specs.Prelude.{◌≡◌, ◌+◌, ◌^◌, ◌<◌, ◌≤◌, [], ◌∷◌, ◌++◌, length, take, OnOk, OnErr, IfOk};
+ghost use Rattle.wild_words.specs.Words.{place};
+ghost use Rattle.wild_symbols.specs.Strings.{string, with_string, room_for_string, left_of_strings};
+
+use crate::faults::{excessive, insufficient};
+use std::alloc::{AllocError, Global};
+use std::marker::Model;
+use wild_plan::Error;
+use wild_words::{put, put_u8};
+
+/// Strings behind each other, each with a zero behind it, from the front of a group's share on. The share begins
+/// at `start` of the output's table, and ends below 2^32.
+#[derive(Drop)]
+pub struct StrTabWriter {
+    part: usize,
+    group: usize,
+    start: u32,
+    share: Vec<u8>,
+    used: usize,
+}
+
+impl Model for StrTabWriter {
+    ghost use Rattle.wild_symbols.specs.Strings.{Strings, strings_in, IsStrings};
+
+    ghost Value = { Strings };
+
+    ghost view = { λ t. strings_in t.part t.group t.start t.share.items t.used };
+
+    ghost invariant = { λ t. IsStrings t.start t.share.items t.used };
+}
+
+/// A string and its zero at an offset.
+#[tactic(auto, using(crate::proofs::StringLemmas::front_of_string))]
+fn put_string(out: &mut [u8], at: usize, bytes: &[u8])
+    requires { at + (length bytes.now + 1) ≤ length out.old }
+    ensures { take (at + (length bytes.now + 1)) out.new ≡ take at out.old ++ string bytes.now }
+{
+    put(out, at, bytes);
+    put_u8(out, at + bytes.len(), 0);
+}
+
+impl StrTabWriter {
+    /// No strings yet, in a share of `room` bytes of the part at a place in the layout's list.
+    pub(crate) fn new(
+        alloc: Global,
+        part: usize,
+        group: usize,
+        start: u32,
+        room: usize,
+    ) -> Result<Self, AllocError>
+        requires { start + room < 2 ^ 32 }
+        ensures { IfOk result (λ t. t ≡ record { part = part; group = group; start = start; bytes = []; room = room }) }
+    {
+        Ok(StrTabWriter {
+            part,
+            group,
+            start,
+            share: vec![in alloc; 0; room]?,
+            used: 0,
+        })
+    }
+
+    /// Writes a string and a zero behind the others, and answers its offset in the output's table.
+    ///
+    /// # Errors
+    ///
+    /// `InsufficientAllocation` exactly where the two do not fit what is left of the share; nothing changes then.
+    pub fn write_str(&mut self, bytes: &[u8]) -> Result<u32, Error>
+        ensures answered { result ≡ room_for_string bytes.now self.old }
+        ensures written { OnOk result (self.new ≡ with_string bytes.now self.old) }
+        ensures kept { OnErr result (self.new ≡ self.old) }
+    {
+        let needed = self.used + (bytes.len() + 1);
+        if self.share.len() < needed {
+            return Err(insufficient(self.part, self.group, self.share.len(), needed));
+        }
+        put_string(self.share.as_mut_slice(), self.used, bytes);
+        let offset = self.start + self.used as u32;
+        self.used = needed;
+        Ok(offset)
+    }
+
+    /// Whether the share is full.
+    ///
+    /// # Errors
+    ///
+    /// `ExcessiveAllocation` exactly where room is left.
+    pub fn check_exhausted(&self) -> Result<(), Error>
+        ensures { result ≡ left_of_strings self.now }
+    {
+        if self.used < self.share.len() {
+            return Err(excessive(self.part, self.group, self.share.len(), self.used));
+        }
+        Ok(())
+    }
+
+    /// The bytes of the share: those of the strings, and then the room that is left.
+    pub fn bytes(&self) -> &[u8]
+        ensures written { take (length self.now.bytes) result.now ≡ self.now.bytes }
+        ensures room { length result.now ≡ self.now.room }
+    {
+        self.share.as_slice()
+    }
+}
