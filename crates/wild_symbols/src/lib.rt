@@ -2,11 +2,15 @@
 #![tactic(auto)]
 
 mod faults;
+mod laws;
 mod parts;
 mod strtab;
 mod symbol_table;
+#[cfg(test)]
+mod tests;
 mod writer;
 
+pub use laws::{strings_stand, symbols_are_read};
 pub use strtab::StrTabWriter;
 pub use symbol_table::SymbolTable;
 pub use writer::{SymbolAttributes, SymbolTableWriter};

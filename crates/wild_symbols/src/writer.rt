@@ -39,7 +39,7 @@ pub struct SymbolTableWriter {
 }
 
 /// Where the group's strings begin in the strings of the dynamic table; 0 where there is no such group.
-fn dynstr_start(layout: &Layout, group: usize) -> u64
+pub(crate) fn dynstr_start(layout: &Layout, group: usize) -> u64
     ensures { result ≡ dynstr_start layout.now group }
 {
     match layout.groups.as_slice().get(group) {

@@ -1,0 +1,207 @@
+//! The dynamic symbols and strings that `gcc -shared -fPIC -nostdlib -O1 -Wl,--hash-style=sysv` made with GNU ld 2.40
+//! of two files:
+//!
+//! ```c
+//! extern void exit(int) __attribute__((weak));
+//! extern int answer;
+//! void finish(void) { exit(answer); }
+//! ```
+//! ```c
+//! int answer = 42;
+//! ```
+use super::*;
+use crate::parts::share_of;
+use crate::writer::dynstr_start;
+use std::alloc::{AllocError, Global};
+use std::test::Fail;
+use wild_plan::*;
+use wild_records::SymbolSection;
+use wild_words::{Bytes, Items};
+
+/// The null symbol, `finish`, `answer` and `exit`.
+#[rattlefmt::skip]
+const SYMBOLS: [u8; 96] = [
+    0, 0, 0, 0, 0, 0, 0, 0, 0, 0, 0, 0, 0, 0, 0, 0, 0, 0, 0, 0, 0, 0, 0, 0,
+    0x01, 0, 0, 0, 0x12, 0, 0x08, 0, 0x20, 0x10, 0, 0, 0, 0, 0, 0, 0x12, 0, 0, 0, 0, 0, 0, 0,
+    0x08, 0, 0, 0, 0x11, 0, 0x0e, 0, 0x08, 0x40, 0, 0, 0, 0, 0, 0, 0x04, 0, 0, 0, 0, 0, 0, 0,
+    0x0f, 0, 0, 0, 0x20, 0, 0, 0, 0, 0, 0, 0, 0, 0, 0, 0, 0, 0, 0, 0, 0, 0, 0, 0,
+];
+
+const STRINGS: &[u8] = b"\0finish\0answer\0exit\0";
+
+fn part(role: Role, size: u64) -> Part {
+    Part {
+        role,
+        section: 0,
+        offset: 0,
+        address: 0,
+        size,
+        align: 8,
+    }
+}
+
+/// A group with that much room for symbols and for strings.
+fn group(
+    alloc: Global,
+    symbols: u64,
+    strings: u64,
+    dynstr_start: u64,
+) -> Result<Group, AllocError> {
+    Ok(Group {
+        files: Items::new(alloc),
+        part_sizes: Items::from_vec(vec![in alloc; symbols, strings]?),
+        dynstr_start,
+        strtab_start: 0,
+        eh_frame_start: 0,
+        symtab_local_start: 0,
+        symtab_global_start: 0,
+    })
+}
+
+/// Two groups: one with the room of the null symbol, `finish` and `answer`, one with that of `exit`.
+fn layout(alloc: Global) -> Result<Layout, AllocError> {
+    let parts = vec![in alloc; part(Role::Dynsym, 96), part(Role::Dynstr, 20)]?;
+    let mut groups = Items::new(alloc);
+    groups.push(group(alloc, 72, 15, 0)?)?;
+    groups.push(group(alloc, 24, 5, 15)?)?;
+    Ok(Layout {
+        machine: Machine::X86_64,
+        kind: OutputKind::StaticExecutable(RelocationModel::Relocatable),
+        options: Options::none(alloc),
+        page_size: 4096,
+        parts: Items::from_vec(parts),
+        sections: Items::new(alloc),
+        segments: Items::new(alloc),
+        tls: Tls {
+            start: 0,
+            end: 0,
+            align: 1,
+        },
+        got_base: 0,
+        got_header: 0,
+        tlsld: None,
+        primary_part: 0,
+        symbols: Items::new(alloc),
+        groups,
+        dynsyms: Items::new(alloc),
+        sysv_hash: None,
+        gnu_hash: None,
+        verdefs: Items::new(alloc),
+        thunk_blocks: Items::new(alloc),
+        sorted: Items::new(alloc),
+        merged: Items::new(alloc),
+        identity: Identity {
+            part: 0,
+            bytes: Bytes::new(alloc),
+        },
+        interp: Bytes::new(alloc),
+        properties: Items::new(alloc),
+        entry: None,
+        build_id: None,
+    })
+}
+
+fn writer(alloc: Global, layout: &Layout, group: usize) -> Result<SymbolTableWriter, Fail> {
+    let start = dynstr_start(layout, group);
+    let share = share_of(layout, group, Role::Dynstr);
+    if start > 100 || share > 100 {
+        return Err("long strings".into());
+    }
+    Ok(SymbolTableWriter::new_dynamic(alloc, layout, group)?)
+}
+
+fn attributes(info: u8, size: u64) -> SymbolAttributes {
+    SymbolAttributes {
+        info,
+        other: 0,
+        size,
+    }
+}
+
+#[test]
+fn writes_what_ld_wrote(rt: HostRuntime) -> Result<(), Fail> {
+    let layout = layout(rt.alloc())?;
+    let mut first = writer(rt.alloc(), &layout, 0)?;
+    first.undefined_symbol(false, b"", attributes(0, 0))?;
+    first.define_symbol(
+        false,
+        b"finish",
+        SymbolSection::Index(8),
+        0x1020,
+        attributes(0x12, 18),
+    )?;
+    first.define_symbol(
+        false,
+        b"answer",
+        SymbolSection::Raw(14),
+        0x4008,
+        attributes(0x11, 4),
+    )?;
+    let mut second = writer(rt.alloc(), &layout, 1)?;
+    second.undefined_symbol(false, b"exit", attributes(0x20, 0))?;
+    assert_eq!(rt; first.symbols(), &SYMBOLS[..72]);
+    assert_eq!(rt; second.symbols(), &SYMBOLS[72..]);
+    assert_eq!(rt; first.strings(), &STRINGS[..15]);
+    assert_eq!(rt; second.strings(), &STRINGS[15..]);
+    assert!(rt; first.check_exhausted().is_ok());
+    assert!(rt; second.check_exhausted().is_ok());
+    Ok(())
+}
+
+#[test]
+fn answers_offsets_in_the_output(rt: HostRuntime) -> Result<(), Fail> {
+    let layout = layout(rt.alloc())?;
+    let mut first = writer(rt.alloc(), &layout, 0)?;
+    assert_eq!(rt; first.strtab.write_str(b"")?, 0);
+    assert_eq!(rt; first.strtab.write_str(b"exit")?, 1);
+    assert_eq!(rt; first.strtab.write_str(b"exit")?, 6);
+    assert_eq!(rt; first.strings(), b"\0exit\0exit\0\0\0\0\0".as_slice());
+    let mut second = writer(rt.alloc(), &layout, 1)?;
+    assert_eq!(rt; second.strtab.write_str(b"a")?, 15);
+    assert_eq!(rt; second.strtab.write_str(b"b")?, 17);
+    Ok(())
+}
+
+#[test]
+fn tells_the_room_that_lacks_or_is_left(rt: HostRuntime) -> Result<(), Fail> {
+    let layout = layout(rt.alloc())?;
+    let mut second = writer(rt.alloc(), &layout, 1)?;
+    let refused = second.undefined_symbol(false, b"exits", attributes(0x20, 0));
+    let lacks = Fault::InsufficientAllocation {
+        part: 1,
+        group: 1,
+        given: 5,
+        needed: 6,
+    };
+    assert_eq!(rt; refused.err().ok_or("no fault")?.fault, lacks);
+    let left = Fault::ExcessiveAllocation {
+        part: 0,
+        group: 1,
+        given: 24,
+        needed: 0,
+    };
+    assert_eq!(rt;
+        second.check_exhausted().err().ok_or("no fault")?.fault,
+        left
+    );
+    second.undefined_symbol(false, b"a", attributes(0x20, 0))?;
+    let left = Fault::ExcessiveAllocation {
+        part: 1,
+        group: 1,
+        given: 5,
+        needed: 2,
+    };
+    assert_eq!(rt;
+        second.check_exhausted().err().ok_or("no fault")?.fault,
+        left
+    );
+    let refused = second.undefined_symbol(true, b"", attributes(0, 0));
+    let lacks = Fault::InsufficientAllocation {
+        part: 2,
+        group: 1,
+        given: 0,
+        needed: 24,
+    };
+    assert_eq!(rt; refused.err().ok_or("no fault")?.fault, lacks);
+    Ok(())
+}
