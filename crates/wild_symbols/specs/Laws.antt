@@ -4,7 +4,7 @@
 --   LengthsOfStrings   strings have their bytes and a zero each
 --   StringsAreBehind   strings that are written stand behind those that were there
 --   StringsStand       each string stands at the offset that was answered, with a zero behind it
-use Rattle.std.specs.Prelude.{◌≡◌, ℕ, ◌+◌, ◌*◌, ◌<◌, List, [], ◌∷◌, ◌++◌, length, take, All, slice_index_or}
+use Rattle.std.specs.Prelude.{◌≡◌, ℕ, ◌+◌, ◌*◌, ◌<◌, List, ◌++◌, length, take, All, slice_index_or}
 use Rattle.wild_words.specs.Words.{Stands}
 use Rattle.wild_records.specs.declared.symtab_entry.SymtabEntry.{SymtabEntry}
 use Rattle.wild_records.specs.SymtabEntry.{symtab_entry_size, symtab_entry_at, SymtabEntryFits}

@@ -14,7 +14,7 @@ use Rattle.wild_plan.specs.declared.part.Role.TheVariants as role
 use Rattle.wild_plan.specs.declared.fault.Error.{Error}
 use Rattle.wild_plan.specs.declared.file.Group.{Group}
 use Rattle.wild_plan.specs.declared.layout.Layout.{Layout}
-use Rattle.wild_symbols.specs.Shares.{part_of, share_of}
+use Rattle.wild_plan.specs.Shares.{part_of, share_of}
 use Rattle.wild_symbols.specs.Strings.{offset_of, with_string, room_for_string, left_of_strings}
 use Rattle.wild_symbols.specs.Symbols.{Symbols, with_entry, room_for_entry, left_of_symbols}
 use Rattle.wild_symbols.specs.declared.writer.SymbolAttributes.{SymbolAttributes}

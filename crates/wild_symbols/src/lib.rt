@@ -3,7 +3,6 @@
 
 mod faults;
 mod laws;
-mod parts;
 mod strtab;
 mod symbol_table;
 #[cfg(test)]
@@ -13,4 +12,4 @@ mod writer;
 pub use laws::{strings_stand, symbols_are_read};
 pub use strtab::StrTabWriter;
 pub use symbol_table::SymbolTable;
-pub use writer::{SymbolAttributes, SymbolTableWriter};
+pub use writer::{SymbolAttributes, SymbolTableWriter, dynstr_start};

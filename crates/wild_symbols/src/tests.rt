@@ -10,7 +10,6 @@
 //! int answer = 42;
 //! ```
 use super::*;
-use crate::parts::share_of;
 use crate::writer::dynstr_start;
 use std::alloc::{AllocError, Global};
 use std::test::Fail;

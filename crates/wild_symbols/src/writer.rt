@@ -3,15 +3,14 @@ ghost use Rattle.std.specs.Prelude.{◌≡◌, ℕ, ◌+◌, ◌*◌, ◌^◌, �
 ghost use Rattle.wild_plan.specs.declared.part.Role.TheVariants.{Dynstr};
 ghost use Rattle.wild_records.specs.SymtabEntry.{symtab_entry_size, symtab_entry_at};
 ghost use Rattle.wild_records.specs.declared.symtab_entry.SymtabEntry.{SymtabEntry as Entry};
-ghost use Rattle.wild_symbols.specs.Shares.{share_of};
+ghost use Rattle.wild_plan.specs.Shares.{share_of};
 ghost use Rattle.wild_symbols.specs.Symbols.{symbol_bytes, symbols_used, room_for_entry};
 ghost use Rattle.wild_symbols.specs.Tables.{dynstr_start, no_dynamic_symbols, section_number, IsInReach, list_of, with_listed, with_symbol, with_undefined, room_for_symbol, left_over};
 
-use crate::parts::{part_of, share_of};
 use crate::strtab::StrTabWriter;
 use crate::symbol_table::SymbolTable;
 use std::alloc::{AllocError, Global};
-use wild_plan::{Error, Layout, Role};
+use wild_plan::{Error, Layout, Role, part_of, share_of};
 use wild_records::abi::section::SHN_UNDEF;
 use wild_records::{SymbolSection, SymtabEntry};
 
@@ -39,7 +38,7 @@ pub struct SymbolTableWriter {
 }
 
 /// Where the group's strings begin in the strings of the dynamic table; 0 where there is no such group.
-pub(crate) fn dynstr_start(layout: &Layout, group: usize) -> u64
+pub fn dynstr_start(layout: &Layout, group: usize) -> u64
     ensures { result ≡ dynstr_start layout.now group }
 {
     match layout.groups.as_slice().get(group) {
