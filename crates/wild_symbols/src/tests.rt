@@ -17,16 +17,19 @@ use wild_plan::*;
 use wild_records::SymbolSection;
 use wild_words::{Bytes, Items};
 
-/// The null symbol, `finish`, `answer` and `exit`.
+/// The null symbol, `finish` and `answer`.
 #[rattlefmt::skip]
-const SYMBOLS: [u8; 96] = [
+const FIRST_SYMBOLS: [u8; 72] = [
     0, 0, 0, 0, 0, 0, 0, 0, 0, 0, 0, 0, 0, 0, 0, 0, 0, 0, 0, 0, 0, 0, 0, 0,
     0x01, 0, 0, 0, 0x12, 0, 0x08, 0, 0x20, 0x10, 0, 0, 0, 0, 0, 0, 0x12, 0, 0, 0, 0, 0, 0, 0,
     0x08, 0, 0, 0, 0x11, 0, 0x0e, 0, 0x08, 0x40, 0, 0, 0, 0, 0, 0, 0x04, 0, 0, 0, 0, 0, 0, 0,
-    0x0f, 0, 0, 0, 0x20, 0, 0, 0, 0, 0, 0, 0, 0, 0, 0, 0, 0, 0, 0, 0, 0, 0, 0, 0,
 ];
 
-const STRINGS: &[u8] = b"\0finish\0answer\0exit\0";
+/// The symbol behind these, `exit`.
+#[rattlefmt::skip]
+const EXIT: [u8; 24] = [
+    0x0f, 0, 0, 0, 0x20, 0, 0, 0, 0, 0, 0, 0, 0, 0, 0, 0, 0, 0, 0, 0, 0, 0, 0, 0,
+];
 
 fn part(role: Role, size: u64) -> Part {
     Part {
@@ -58,11 +61,15 @@ fn group(
 }
 
 /// Two groups: one with the room of the null symbol, `finish` and `answer`, one with that of `exit`.
-fn layout(alloc: Global) -> Result<Layout, AllocError> {
-    let parts = vec![in alloc; part(Role::Dynsym, 96), part(Role::Dynstr, 20)]?;
+fn groups(alloc: Global) -> Result<Items<Group>, AllocError> {
     let mut groups = Items::new(alloc);
     groups.push(group(alloc, 72, 15, 0)?)?;
     groups.push(group(alloc, 24, 5, 15)?)?;
+    Ok(groups)
+}
+
+fn layout(alloc: Global) -> Result<Layout, AllocError> {
+    let parts = vec![in alloc; part(Role::Dynsym, 96), part(Role::Dynstr, 20)]?;
     Ok(Layout {
         machine: Machine::X86_64,
         kind: OutputKind::StaticExecutable(RelocationModel::Relocatable),
@@ -81,7 +88,7 @@ fn layout(alloc: Global) -> Result<Layout, AllocError> {
         tlsld: None,
         primary_part: 0,
         symbols: Items::new(alloc),
-        groups,
+        groups: groups(alloc)?,
         dynsyms: Items::new(alloc),
         sysv_hash: None,
         gnu_hash: None,
@@ -117,32 +124,37 @@ fn attributes(info: u8, size: u64) -> SymbolAttributes {
     }
 }
 
+/// The null symbol, `finish` and `answer`.
+fn put_first(writer: &mut SymbolTableWriter) -> Result<(), Error> {
+    let finish = SymbolSection::Index(8);
+    let answer = SymbolSection::Raw(14);
+    writer.undefined_symbol(false, b"", attributes(0, 0))?;
+    writer.define_symbol(false, b"finish", finish, 0x1020, attributes(0x12, 18))?;
+    writer.define_symbol(false, b"answer", answer, 0x4008, attributes(0x11, 4))
+}
+
 #[test]
 fn writes_what_ld_wrote(rt: HostRuntime) -> Result<(), Fail> {
     let layout = layout(rt.alloc())?;
     let mut first = writer(rt.alloc(), &layout, 0)?;
-    first.undefined_symbol(false, b"", attributes(0, 0))?;
-    first.define_symbol(
-        false,
-        b"finish",
-        SymbolSection::Index(8),
-        0x1020,
-        attributes(0x12, 18),
-    )?;
-    first.define_symbol(
-        false,
-        b"answer",
-        SymbolSection::Raw(14),
-        0x4008,
-        attributes(0x11, 4),
-    )?;
-    let mut second = writer(rt.alloc(), &layout, 1)?;
-    second.undefined_symbol(false, b"exit", attributes(0x20, 0))?;
-    assert_eq!(rt; first.symbols(), &SYMBOLS[..72]);
-    assert_eq!(rt; second.symbols(), &SYMBOLS[72..]);
-    assert_eq!(rt; first.strings(), &STRINGS[..15]);
-    assert_eq!(rt; second.strings(), &STRINGS[15..]);
+    assert!(rt; put_first(&mut first).is_ok());
+    assert_eq!(rt; first.symbols(), FIRST_SYMBOLS.as_slice());
+    assert_eq!(rt; first.strings(), b"\0finish\0answer\0".as_slice());
     assert!(rt; first.check_exhausted().is_ok());
+    Ok(())
+}
+
+#[test]
+fn writes_behind_the_group_before(rt: HostRuntime) -> Result<(), Fail> {
+    let layout = layout(rt.alloc())?;
+    let mut second = writer(rt.alloc(), &layout, 1)?;
+    assert!(rt;
+        second
+            .undefined_symbol(false, b"exit", attributes(0x20, 0))
+            .is_ok()
+    );
+    assert_eq!(rt; second.symbols(), EXIT.as_slice());
+    assert_eq!(rt; second.strings(), b"exit\0".as_slice());
     assert!(rt; second.check_exhausted().is_ok());
     Ok(())
 }
@@ -151,13 +163,10 @@ fn writes_what_ld_wrote(rt: HostRuntime) -> Result<(), Fail> {
 fn answers_offsets_in_the_output(rt: HostRuntime) -> Result<(), Fail> {
     let layout = layout(rt.alloc())?;
     let mut first = writer(rt.alloc(), &layout, 0)?;
-    assert_eq!(rt; first.strtab.write_str(b"")?, 0);
-    assert_eq!(rt; first.strtab.write_str(b"exit")?, 1);
-    assert_eq!(rt; first.strtab.write_str(b"exit")?, 6);
+    assert!(rt; matches!(first.strtab.write_str(b""), Ok(0)));
+    assert!(rt; matches!(first.strtab.write_str(b"exit"), Ok(1)));
+    assert!(rt; matches!(first.strtab.write_str(b"exit"), Ok(6)));
     assert_eq!(rt; first.strings(), b"\0exit\0exit\0\0\0\0\0".as_slice());
-    let mut second = writer(rt.alloc(), &layout, 1)?;
-    assert_eq!(rt; second.strtab.write_str(b"a")?, 15);
-    assert_eq!(rt; second.strtab.write_str(b"b")?, 17);
     Ok(())
 }
 
@@ -183,24 +192,5 @@ fn tells_the_room_that_lacks_or_is_left(rt: HostRuntime) -> Result<(), Fail> {
         second.check_exhausted().err().ok_or("no fault")?.fault,
         left
     );
-    second.undefined_symbol(false, b"a", attributes(0x20, 0))?;
-    let left = Fault::ExcessiveAllocation {
-        part: 1,
-        group: 1,
-        given: 5,
-        needed: 2,
-    };
-    assert_eq!(rt;
-        second.check_exhausted().err().ok_or("no fault")?.fault,
-        left
-    );
-    let refused = second.undefined_symbol(true, b"", attributes(0, 0));
-    let lacks = Fault::InsufficientAllocation {
-        part: 2,
-        group: 1,
-        given: 0,
-        needed: 24,
-    };
-    assert_eq!(rt; refused.err().ok_or("no fault")?.fault, lacks);
     Ok(())
 }
