@@ -194,7 +194,7 @@ pub decision_site : (l : Layout) (s : InputSection) (i : ℕ) (r : InputRelocati
 unfolding site
 decision_site l s i r d e is = rw e (ap (λ (x : Result Decision _). site_of s r x) (decide_listed l s r i e ∙ is))
 
-listed_at : (s : InputSection) (items : List InputRelocation) (i : ℕ) (x : InputRelocation) → items ≡ s.relocations → i < length items → slice_get s.relocations i ≡ Some (get_or items i x)
+pub listed_at : (s : InputSection) (items : List InputRelocation) (i : ℕ) (x : InputRelocation) → items ≡ s.relocations → i < length items → slice_get s.relocations i ≡ Some (get_or items i x)
 listed_at s items i x same h = subst (λ (xs : List InputRelocation). slice_get xs i ≡ Some (get_or items i x)) same (slice_get-get_or items i x h)
 
 pub refuses_decision : (l : Layout) (g f k : ℕ) (s : InputSection) (items : List InputRelocation) (i : ℕ) (x : InputRelocation) (e : Error) → i < length items → items ≡ s.relocations → flat_map (relocation_errors l g f k s) (range_with_len 0 i) ≡ []

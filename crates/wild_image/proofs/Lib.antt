@@ -11,3 +11,4 @@ pub mod JobLemmas
 pub mod AppendLemmas
 pub mod GatherLemmas
 pub mod DecidedLemmas
+pub mod AscendingLemmas

@@ -3,8 +3,9 @@
 --   decided_extents rs ds   where that stands
 --   ascends reach es        each extent begins where those before it end, or behind
 --   put_decision old r d    bytes after one relocation was written over them
+--   reach_behind n r d      where a field that begins at n or behind ends; none where it begins before
 --   AreDecided l s ds       the decisions are those of the section's relocations
-use Rattle.std.specs.Prelude.{◌≡◌, ℕ, ◌+◌, ◌≤◌, Bool, true, ◌&&◌, nat_le, max, List, [], ◌∷◌, ◌++◌, length, Option, Some, None, Ok, option_to_list, slice_range}
+use Rattle.std.specs.Prelude.{◌≡◌, ℕ, ◌+◌, ◌≤◌, Bool, true, ◌&&◌, nat_le, nat_lt, if◌then◌else◌, max, List, [], ◌∷◌, ◌++◌, length, Option, Some, None, Ok, option_to_list, slice_range}
 use Rattle.wild_words.specs.Words.{place}
 use Rattle.wild_words.specs.Overlay.{Piece}
 use Rattle.wild_words.specs.declared.extents.Extent.{Extent}
@@ -42,6 +43,11 @@ ascends reach (e ∷ es) = nat_le reach e.start && ascends (max reach e.end) es
 abbrev pub put_decision : List ℕ → InputRelocation → Decision → List ℕ
 put_decision old r Nothing = old
 put_decision old r (Field size v) = place r.offset (size_written size v (slice_range old r.offset (r.offset + size_width size))) old
+
+-- where a field that begins at `reach` or behind ends; none where it begins before
+abbrev pub reach_behind : ℕ → InputRelocation → Decision → Option ℕ
+reach_behind reach r Nothing = Some reach
+reach_behind reach r (Field size v) = if nat_lt r.offset reach then None else Some (r.offset + size_width size)
 
 -- what a relocation writes lies in n bytes
 abbrev pub DecisionLies : ℕ → InputRelocation → Decision → Type 0

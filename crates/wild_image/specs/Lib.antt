@@ -4,3 +4,4 @@ pub mod Placed
 pub mod Pieces
 pub mod Jobs
 pub mod Append
+pub mod Counts

@@ -5,7 +5,7 @@ ghost use Rattle.wild_layout.specs.Faults.{flat_map_from, part_errors};
 ghost use Rattle.wild_image.specs.Steps.{HasValues};
 
 use crate::arch::Arch;
-use crate::pairs::pairs_of_group;
+use crate::pairs::{Pairs, pairs_of_group};
 use crate::part_bytes::PartBytes;
 use crate::piece::parts_of_group;
 use std::alloc::{AllocError, Global};
@@ -19,11 +19,13 @@ use wild_words::Items;
 #[derive(Drop)]
 pub(crate) struct Outcome {
     pub(crate) parts: Result<Items<PartBytes>, Error>,
-    pub(crate) counts: Vec<(u32, u64)>,
+    pub(crate) counts: Pairs,
 }
 
 impl Counted for Outcome {
-    ghost listed = { λ o. o.counts.items };
+    ghost use Rattle.wild_image.specs.Counts.{listed as listed_in};
+
+    ghost listed = { λ o. listed_in o.counts };
 
     fn counts(&self) -> &[(u32, u64)] {
         self.counts.as_slice()

@@ -223,10 +223,10 @@ fn piece_of<A: Arch>(
     ensures counts { IfOk result (λ p. p.counts ≡ group_pairs layout.now group.now) }
 {
     let parts = parts_of_group::<A>(alloc, layout, values, index, group)?;
-    let counts = pairs_of_group(alloc, layout, group)?;
+    let pairs = pairs_of_group(alloc, layout, group)?;
     Ok(GroupPiece {
         parts,
-        counts: Items::from_vec(counts),
+        counts: Items::from_vec(Vec::from_slice(alloc, pairs.as_slice())?),
     })
 }
 

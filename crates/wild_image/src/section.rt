@@ -1,9 +1,9 @@
 //! The bytes of input sections.
-ghost use Rattle.std.specs.Prelude.{◌≡◌, length, Ok, OnOk, IfOk, All, true, slice_get, ◌<◌, ◌^◌};
+ghost use Rattle.std.specs.Prelude.{◌≡◌, [], length, Ok, OnOk, IfOk, IfErr, All, true, slice_get, ◌<◌, ◌^◌};
 ghost use Rattle.std.specs.List.{flat_map, range_with_len};
 ghost use Rattle.wild_words.specs.Overlay.{overlay, AreApart};
 ghost use Rattle.wild_words.specs.Extents.{least_extent};
-ghost use Rattle.wild_plan.specs.Faults.{Answers};
+ghost use Rattle.wild_plan.specs.Faults.{Answers, Refuses};
 ghost use Rattle.wild_plan.specs.Lookups.{is_read};
 ghost use Rattle.wild_layout.specs.Decide.{decided};
 ghost use Rattle.wild_layout.specs.Sites.{section_bytes};
@@ -16,7 +16,7 @@ ghost use Rattle.wild_image.specs.Decided.{AreDecided, decided_sites, decided_ex
 use crate::arch::Arch;
 use crate::overlap::shared_byte;
 use crate::place::InputPlace;
-use crate::relocation::{decide, write_decision};
+use crate::relocation::{decide, write_behind, write_decision};
 use std::alloc::Global;
 use wild_layout::Decision;
 use wild_plan::{Error, Fault, InputRelocation, InputSection, Layout, Part};
@@ -97,10 +97,40 @@ fn write_decisions(section: &InputSection, decisions: &[Decision], room: &mut [u
     }
 }
 
-/// Writes the bytes of a section whose relocations are read, with its fields, or answers its first fault: all
-/// relocations are decided and found apart before one is written.
+/// Writes the relocations of a section over its bytes, as long as each field begins where those before it end, or
+/// behind: tells whether all did, or answers the first fault of a relocation.
 #[tactic(auto, unfolding(wild_layout::specs::Faults::section_errors, wild_layout::specs::Sites::section_bytes))]
-pub(crate) fn write_data<A: Arch>(
+fn write_ascending<A: Arch>(
+    layout: &Layout,
+    values: &[Option<u64>],
+    place: InputPlace,
+    section: &InputSection,
+    room: &mut [u8],
+) -> Result<bool, Error>
+    requires machine { layout.now.machine ≡ A.machine }
+    requires values { HasValues layout.now values.now }
+    requires read { is_read section.now ≡ true }
+    requires lies { All (FieldLies layout.now.machine (length room.old)) section.now.relocations }
+    requires bytes { room.old ≡ section.now.bytes }
+    ensures faults { IfErr result (λ e. Refuses e (section_errors layout.now place.group place.file place.section section.now)) }
+    ensures none { IfOk result (λ all. all ≡ true → section_errors layout.now place.group place.file place.section section.now ≡ []) }
+    ensures bytes { IfOk result (λ all. all ≡ true → room.new ≡ section_bytes layout.now section.now) }
+{
+    let mut reach = 0;
+    for relocation in section.relocations.as_slice() {
+        let decision = decide_at::<A>(layout, values, place, section, relocation)?;
+        match write_behind(reach, relocation, decision, room) {
+            Some(end) => reach = end,
+            None => return Ok(false),
+        }
+    }
+    Ok(true)
+}
+
+/// Writes the bytes of a section whose relocations are read, with its fields in any order, or answers its first
+/// fault: all relocations are decided and found apart before one is written.
+#[tactic(auto, unfolding(wild_layout::specs::Faults::section_errors, wild_layout::specs::Sites::section_bytes))]
+fn write_apart<A: Arch>(
     alloc: Global,
     layout: &Layout,
     values: &[Option<u64>],
@@ -121,6 +151,31 @@ pub(crate) fn write_data<A: Arch>(
     room.copy_from_slice(section.bytes.as_slice());
     write_decisions(section, &decisions, room);
     Ok(())
+}
+
+/// Writes the bytes of a section whose relocations are read, with its fields, or answers its first fault. Fields in
+/// order are decided and written once; only others ask for memory.
+pub(crate) fn write_data<A: Arch>(
+    alloc: Global,
+    layout: &Layout,
+    values: &[Option<u64>],
+    place: InputPlace,
+    section: &InputSection,
+    room: &mut [u8],
+) -> Result<(), Error>
+    requires machine { layout.now.machine ≡ A.machine }
+    requires values { HasValues layout.now values.now }
+    requires read { is_read section.now ≡ true }
+    requires lies { All (FieldLies layout.now.machine (length room.old)) section.now.relocations }
+    requires room { length room.old ≡ length section.now.bytes }
+    ensures faults { Answers result (section_errors layout.now place.group place.file place.section section.now) }
+    ensures bytes { OnOk result (room.new ≡ section_bytes layout.now section.now) }
+{
+    room.copy_from_slice(section.bytes.as_slice());
+    if write_ascending::<A>(layout, values, place, section, room)? {
+        return Ok(());
+    }
+    write_apart::<A>(alloc, layout, values, place, section, room)
 }
 
 /// The file offset of a section that owns bytes.

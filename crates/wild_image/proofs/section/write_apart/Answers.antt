@@ -1,6 +1,6 @@
 use Rattle.std.proofs.lemmas.Result.{err_from_is_err_and}
 use Rattle.wild_image.proofs.DecidedLemmas.{overlap_refused, section_passes, decided_apart}
-use Rattle.wild_image.proofs.section.write_data.Goals as goal
+use Rattle.wild_image.proofs.section.write_apart.Goals as goal
 
 pub returns-in_err-check_overlap-clause-faults : goal.returns-in_err-check_overlap-clause-faults
 returns-in_err-check_overlap-clause-faults g c =

@@ -1,0 +1,148 @@
+-- Laws of fields that are written one behind the other.
+use Rattle.std.proofs.Common.{◌≡◌, ℕ, ◌+◌, ◌<◌, ◌≤◌, inl, inr, true, false, List, [], ◌∷◌, ◌++◌, length, get_or, map, nat_lt, if◌then◌else◌, refl, sym, ap, ◌∙◌, arith, subst}
+use Rattle.std.specs.Prelude.{Bool, All, AllPairs, Some, None, Ok, slice_get, replicate}
+use Rattle.std.specs.List.{flat_map, range_with_len}
+use Rattle.std.proofs.lemmas.Bool.{cases_lt, lt-ltb, le-ltb}
+use Rattle.std.proofs.lemmas.List.{append-nil, take_all}
+use Rattle.std.proofs.lemmas.List.Elements.{All-nil, All-cons, All-head, All-tail, All-append, All-push}
+use Rattle.wild_words.specs.Overlay.{Piece, overlay, Apart, AreApart}
+use Rattle.wild_words.specs.declared.extents.Extent.{Extent}
+use Rattle.wild_words.specs.Extents.{SharesNothing, least_extent}
+use Rattle.wild_words.proofs.ExtentLemmas.{none-shared, beside-nothing}
+use Rattle.wild_plan.specs.declared.input.InputRelocation.{InputRelocation}
+use Rattle.wild_plan.specs.declared.input.InputSection.{InputSection}
+use Rattle.wild_plan.specs.declared.fault.Error.{Error}
+use Rattle.wild_plan.specs.declared.layout.Layout.{Layout}
+use Rattle.wild_plan.specs.Faults.{Refuses}
+use Rattle.wild_plan.specs.Lookups.{is_read}
+use Rattle.wild_reloc.specs.Field.{size_width}
+use Rattle.wild_layout.specs.declared.decision.Decision.{Decision}
+use Rattle.wild_layout.specs.declared.decision.Decision.TheVariants.{Nothing, Field}
+use Rattle.wild_layout.specs.Decide.{decided}
+use Rattle.wild_layout.specs.Sites.{field_site, site_of, site, sites, extent_of, shared_byte, section_bytes}
+use Rattle.wild_layout.specs.Faults.{relocation_errors, refusal_of, at_offset, at_section, overlap_errors, section_errors}
+use Rattle.wild_layout.specs.Geometry.{FieldLies}
+use Rattle.wild_layout.proofs.DecideLemmas.{decided_field, field_ends}
+use Rattle.wild_layout.proofs.SiteLemmas.{length-field_site, All-at}
+use Rattle.wild_geometry.proofs.ListLemmas.{AllPairs-nil, AllPairs-cons, AllPairs-head, AllPairs-tail, AllPairs-append}
+use Rattle.wild_image.specs.Decided.{put_decision, DecisionLies, reach_behind}
+use Rattle.wild_image.proofs.ListLemmas.{flat_map-numbers}
+use Rattle.wild_image.proofs.FaultLemmas.{Refuses-front}
+use Rattle.wild_image.proofs.DecidedLemmas.{listed_at, none_refused, refuses_decision, decision_site, put_next}
+
+-- the piece ends at n or before
+abbrev EndsBy : ℕ → Piece → Type 0
+EndsBy n p = p.at + length p.bytes ≤ n
+
+-- the first i relocations were written one behind the other
+pub record HasAscended (l : Layout) (g f k : ℕ) (s : InputSection) (i reach : ℕ) (room : List ℕ) : Type 0 where
+  pub none : flat_map (relocation_errors l g f k s) (range_with_len 0 i) ≡ []
+  pub bytes : room ≡ overlay (flat_map (site l s) (range_with_len 0 i)) s.bytes
+  pub apart : AreApart (length s.bytes) (flat_map (site l s) (range_with_len 0 i))
+  pub ends : All (EndsBy reach) (flat_map (site l s) (range_with_len 0 i))
+
+pub not_begun : (l : Layout) (g f k : ℕ) (s : InputSection) (room : List ℕ) → room ≡ s.bytes → HasAscended l g f k s 0 0 room
+not_begun l g f k s room is = record {
+  none = refl;
+  bytes = is;
+  apart = record { within = All-nil (λ (p : Piece). p.at + length p.bytes ≤ length s.bytes); apart = AllPairs-nil Apart };
+  ends = All-nil (EndsBy 0);
+}
+
+-- a decided field lies where the clauses say
+pub decision_lies : (l : Layout) (s : InputSection) (items : List InputRelocation) (i n : ℕ) (x : InputRelocation) (d : Decision) → items ≡ s.relocations → i < length items → All (FieldLies l.machine n) s.relocations → decided l s (get_or items i x) ≡ Ok d → DecisionLies n (get_or items i x) d
+decision_lies l s items i n x d same h lies is = by l s (get_or items i x) n d (All-at (FieldLies l.machine n) s.relocations i (get_or items i x) lies (listed_at s items i x same h)) is
+  where
+    by : (l : Layout) (s : InputSection) (r : InputRelocation) (n : ℕ) (d : Decision) → FieldLies l.machine n r → decided l s r ≡ Ok d → DecisionLies n r d
+    by l s r n Nothing lies is = tt
+    by l s r n (Field z v) lies is = field_ends l s r z v n (decided_field l s r z v is) lies
+
+-- one more piece, behind the others
+pub record Behind (s : InputSection) (n next : ℕ) (ps : List Piece) : Type 0 where
+  pub apart : AreApart n ps
+  pub ends : All (EndsBy next) ps
+
+one_behind : (n reach next : ℕ) (ps : List Piece) (p : Piece) → AreApart n ps → All (EndsBy reach) ps → reach ≤ p.at → p.at + length p.bytes ≤ n → next ≡ p.at + length p.bytes → AreApart n (ps ++ p ∷ [])
+one_behind n reach next ps p apart ends low inside is = record {
+  within = All-push (λ (q : Piece). q.at + length q.bytes ≤ n) ps p apart.within inside;
+  apart = AllPairs-append Apart ps (p ∷ []) apart.apart (AllPairs-cons Apart p [] (All-nil (Apart p)) (AllPairs-nil Apart)) (λ k d h. All-cons (Apart (get_or ps k d)) p [] (inl (let e = ends k d h in omega (arith, e, low))) (All-nil (Apart (get_or ps k d))));
+}
+
+ends_later : (reach next : ℕ) (ps : List Piece) → reach ≤ next → All (EndsBy reach) ps → All (EndsBy next) ps
+ends_later reach next ps low ends = λ k d h. let e = ends k d h in omega (arith, e, low)
+
+field_behind : (s : InputSection) (n reach next : ℕ) (ps : List Piece) (p : Piece) → AreApart n ps → All (EndsBy reach) ps → reach ≤ p.at → p.at + length p.bytes ≤ n → next ≡ p.at + length p.bytes → Behind s n next (ps ++ p ∷ [])
+field_behind s n reach next ps p apart ends low inside is = record {
+  apart = one_behind n reach next ps p apart ends low inside is;
+  ends = All-push (EndsBy next) ps p (ends_later reach next ps (omega (arith, low, is)) ends) (omega (arith, is));
+}
+
+pub site_behind : (s : InputSection) (n reach next : ℕ) (ps : List Piece) (r : InputRelocation) (d : Decision) → AreApart n ps → All (EndsBy reach) ps → DecisionLies n r d → reach_behind reach r d ≡ Some next → Behind s n next (ps ++ site_of s r (Ok d))
+site_behind s n reach next ps r Nothing apart ends lies is =
+    let e : reach ≡ next = cc in
+    subst (λ (qs : List Piece). Behind s n next qs) (sym (append-nil ps)) (record { apart = apart; ends = subst (λ (k : ℕ). All (EndsBy k) ps) e ends })
+site_behind s n reach next ps r (Field z v) apart ends lies is =
+    elim (cases_lt r.offset reach) [
+      | inl l ↦ (let t = lt-ltb r.offset reach l in cc (rw t at is))
+      | inr m ↦
+          (let t = le-ltb r.offset reach m in
+          let e : r.offset + size_width z ≡ next = cc (rw t at is) in
+          let w = length-field_site s r.offset z v in
+          field_behind s n reach next ps (field_site s r.offset z v) apart ends m (omega (arith, w, lies)) (omega (arith, w, e)))
+    ]
+
+-- one more relocation, written behind the others
+pub ascended_more : (l : Layout) (g f k : ℕ) (s : InputSection) (items : List InputRelocation) (i reach next : ℕ) (x : InputRelocation) (d : Decision) (now room : List ℕ) → items ≡ s.relocations → i < length items → All (FieldLies l.machine (length s.bytes)) s.relocations
+    → HasAscended l g f k s i reach now → refusal_of (at_offset g f k (get_or items i x).offset) (decided l s (get_or items i x)) ≡ [] → decided l s (get_or items i x) ≡ Ok d → reach_behind reach (get_or items i x) d ≡ Some next → room ≡ put_decision now (get_or items i x) d → HasAscended l g f k s (i + 1) next room
+ascended_more l g f k s items i reach next x d now room same h lies before none is reaches put =
+    let r = get_or items i x in
+    let ps = flat_map (site l s) (range_with_len 0 i) in
+    let here = decision_site l s i r d (listed_at s items i x same h) is in
+    let more : flat_map (site l s) (range_with_len 0 (i + 1)) ≡ ps ++ site_of s r (Ok d) = flat_map-numbers (site l s) i ∙ ap (λ (qs : List Piece). ps ++ qs) here in
+    let lie = decision_lies l s items i (length s.bytes) x d same h lies is in
+    let behind = site_behind s (length s.bytes) reach next ps r d before.apart before.ends lie reaches in
+    let apart : AreApart (length s.bytes) (ps ++ (site_of s r (Ok d) ++ [])) = subst (λ (qs : List Piece). AreApart (length s.bytes) (ps ++ qs)) (sym (append-nil (site_of s r (Ok d)))) behind.apart in
+    record {
+      none = none_refused l g f k s items i x h same before.none none;
+      bytes = put ∙ ap (λ (old : List ℕ). put_decision old r d) before.bytes ∙ put_next s ps [] r d apart ∙ ap (λ (qs : List Piece). overlay qs s.bytes) (sym more);
+      apart = subst (AreApart (length s.bytes)) (sym more) behind.apart;
+      ends = subst (λ (qs : List Piece). All (EndsBy next) qs) (sym more) behind.ends;
+    }
+
+-- ---- all of them
+
+beside_all : (p : Piece) (ps : List Piece) → All (Apart p) ps → All (SharesNothing (extent_of p)) (map extent_of ps)
+beside_all p [] h = All-nil (SharesNothing (extent_of p))
+beside_all p (q ∷ ps) h = All-cons (SharesNothing (extent_of p)) (extent_of q) (map extent_of ps) (beside-nothing (extent_of p) (extent_of q) (All-head (Apart p) q ps h)) (beside_all p ps (All-tail (Apart p) q ps h))
+
+pairs_beside : (ps : List Piece) → AllPairs Apart ps → AllPairs SharesNothing (map extent_of ps)
+pairs_beside [] h = AllPairs-nil SharesNothing
+pairs_beside (p ∷ ps) h = AllPairs-cons SharesNothing (extent_of p) (map extent_of ps) (beside_all p ps (AllPairs-head Apart p ps h)) (pairs_beside ps (AllPairs-tail Apart p ps h))
+
+nothing_shared : (n : ℕ) (ps : List Piece) → AreApart n ps → least_extent (map extent_of ps) ≡ None
+nothing_shared n ps h = none-shared (map extent_of ps) (pairs_beside ps h.apart)
+
+-- the first fault of a relocation is that of the section
+pub ascending_refused : (l : Layout) (g f k : ℕ) (s : InputSection) (items : List InputRelocation) (i reach : ℕ) (x : InputRelocation) (room : List ℕ) (e : Error) → is_read s ≡ true → items ≡ s.relocations → i < length items → HasAscended l g f k s i reach room
+    → Refuses e (refusal_of (at_offset g f k (get_or items i x).offset) (decided l s (get_or items i x))) → Refuses e (section_errors l g f k s)
+unfolding section_errors
+ascending_refused l g f k s items i reach x room e read same h before here =
+    rw read (Refuses-front e (flat_map (relocation_errors l g f k s) (range_with_len 0 (length s.relocations))) (overlap_errors (at_section g f k) (shared_byte l s)) (refuses_decision l g f k s items i x e h same before.none here))
+
+at_end : (l : Layout) (g f k : ℕ) (s : InputSection) (items : List InputRelocation) (i reach : ℕ) (room : List ℕ) → items ≡ s.relocations → i ≡ length items → HasAscended l g f k s i reach room → HasAscended l g f k s (length s.relocations) reach room
+at_end l g f k s items i reach room same end h = subst (λ (n : ℕ). HasAscended l g f k s n reach room) (end ∙ ap length same) h
+
+-- a section that was written so has no fault
+pub ascending_passes : (l : Layout) (g f k : ℕ) (s : InputSection) (items : List InputRelocation) (i reach : ℕ) (room : List ℕ) → is_read s ≡ true → items ≡ s.relocations → i ≡ length items → HasAscended l g f k s i reach room → section_errors l g f k s ≡ []
+unfolding section_errors
+ascending_passes l g f k s items i reach room read same end h =
+    let all = at_end l g f k s items i reach room same end h in
+    let shared : shared_byte l s ≡ None = nothing_shared (length s.bytes) (sites l s) all.apart in
+    rw (read, all.none, shared) refl
+
+-- and its bytes are there
+pub ascending_written : (l : Layout) (g f k : ℕ) (s : InputSection) (items : List InputRelocation) (i reach : ℕ) (room : List ℕ) → s.nobits ≡ false → items ≡ s.relocations → i ≡ length items → HasAscended l g f k s i reach room → room ≡ section_bytes l s
+unfolding section_bytes
+ascending_written l g f k s items i reach room own same end h =
+    let all = at_end l g f k s items i reach room same end h in
+    subst (λ (b : Bool). room ≡ (if b then replicate s.size 0 else overlay (sites l s) s.bytes)) (sym own) all.bytes
