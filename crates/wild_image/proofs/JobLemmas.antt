@@ -10,8 +10,8 @@ use Rattle.wild_plan.specs.Needs.{name_bytes}
 use Rattle.wild_plan.specs.Places.{counts_fit}
 use Rattle.wild_plan.specs.WellFormed.{first_clause, check_sizes, check_counts}
 use Rattle.wild_layout.specs.Faults.{group_errors}
-use Rattle.wild_image.specs.Pieces.{group_parts, group_pairs, pairs_at}
-use Rattle.wild_image.specs.Jobs.{GivesParts, GivesPiece}
+use Rattle.wild_image.specs.Pieces.{group_bytes, group_parts, group_pairs, pairs_at}
+use Rattle.wild_image.specs.Jobs.{GivesBytes, GivesPiece}
 use Rattle.wild_image.specs.declared.piece.GroupPiece.{GroupPiece}
 use Rattle.wild_image.proofs.OutputLemmas.{first_holds, rest_holds, test_holds}
 
@@ -29,21 +29,21 @@ unfolding first_clause
 few_groups l h = let e = few_counted l (first_holds (check_counts l) _ (rest_holds (check_sizes l) _ h)) in omega (arith, e)
 
 -- what a group was found to give is what the group with its number gives
-pub gives_found : (l : Layout) (i : ℕ) (found : Group) (r : Result (List (List ℕ)) Error) → slice_get l.groups i ≡ Some found → Answers r (group_errors l i found) → IfOk r (λ parts. parts ≡ group_parts l found) → GivesParts l i r
-gives_found l i found r at faults parts = λ g e. given l i found g r (cc) faults parts
+pub gives_found : (l : Layout) (i : ℕ) (found : Group) (r : Result (List ℕ) Error) → slice_get l.groups i ≡ Some found → Answers r (group_errors l i found) → IfOk r (λ bs. bs ≡ group_bytes l found) → GivesBytes l i r
+gives_found l i found r at faults bytes = λ g e. given l i found g r (cc) faults bytes
   where
-    given : (l : Layout) (i : ℕ) (found g : Group) (r : Result (List (List ℕ)) Error) → found ≡ g → Answers r (group_errors l i found) → IfOk r (λ parts. parts ≡ group_parts l found) → Answers r (group_errors l i g) × IfOk r (λ parts. parts ≡ group_parts l g)
-    given l i found g r same faults parts = (subst (λ (x : Group). Answers r (group_errors l i x)) same faults, subst (λ (x : Group). IfOk r (λ ps. ps ≡ group_parts l x)) same parts)
+    given : (l : Layout) (i : ℕ) (found g : Group) (r : Result (List ℕ) Error) → found ≡ g → Answers r (group_errors l i found) → IfOk r (λ bs. bs ≡ group_bytes l found) → Answers r (group_errors l i g) × IfOk r (λ bs. bs ≡ group_bytes l g)
+    given l i found g r same faults bytes = (subst (λ (x : Group). Answers r (group_errors l i x)) same faults, subst (λ (x : Group). IfOk r (λ bs. bs ≡ group_bytes l x)) same bytes)
 
 pub pairs_found : (l : Layout) (i : ℕ) (found : Group) (pairs : List (ℕ × ℕ)) → slice_get l.groups i ≡ Some found → pairs ≡ group_pairs l found → pairs ≡ pairs_at l i
 unfolding pairs_at
 pairs_found l i found pairs at is = rw at is
 
 -- what a group gave
-pub parts_given : (l : Layout) (i : ℕ) (g : Group) (r : Result (List (List ℕ)) Error) (parts : List (List ℕ)) → GivesParts l i r → slice_get l.groups i ≡ Some g → r ≡ Ok parts → (group_errors l i g ≡ []) × (parts ≡ group_parts l g)
-parts_given l i g r parts gives at is = rw is at (gives g at)
+pub bytes_given : (l : Layout) (i : ℕ) (g : Group) (r : Result (List ℕ) Error) (bytes : List ℕ) → GivesBytes l i r → slice_get l.groups i ≡ Some g → r ≡ Ok bytes → (group_errors l i g ≡ []) × (bytes ≡ group_bytes l g)
+bytes_given l i g r bytes gives at is = rw is at (gives g at)
 
-pub fault_given : (l : Layout) (i : ℕ) (g : Group) (r : Result (List (List ℕ)) Error) (e : Error) → GivesParts l i r → slice_get l.groups i ≡ Some g → r ≡ Err e → Refuses e (group_errors l i g)
+pub fault_given : (l : Layout) (i : ℕ) (g : Group) (r : Result (List ℕ) Error) (e : Error) → GivesBytes l i r → slice_get l.groups i ≡ Some g → r ≡ Err e → Refuses e (group_errors l i g)
 fault_given l i g r e gives at is = (rw is at (gives g at)).0
 
 pub piece_found : (l : Layout) (i : ℕ) (found : Group) (r : Result GroupPiece Error) → slice_get l.groups i ≡ Some found → Answers r (group_errors l i found) → IfOk r (λ p. p.parts ≡ group_parts l found) → IfOk r (λ p. p.counts ≡ group_pairs l found) → GivesPiece l i r

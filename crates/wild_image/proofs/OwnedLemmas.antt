@@ -38,6 +38,14 @@ owned_read {X} f xs i x base now next h read long before step k low =
     ∙ append_assoc (get_or base k []) (flat_map (f k) (take i xs)) (f k (get_or xs i x))
     ∙ ap (λ (ys : List ℕ). get_or base k [] ++ ys) (sym (flat_map-more (f k) xs i x h))
 
+-- the same, of one list of bytes
+pub bytes_read : {X : Type 0} (f : X → List ℕ) (xs : List X) (i : ℕ) (x : X) (base now next : List ℕ) → i < length xs → x ≡ get_or xs i x → now ≡ base ++ flat_map f (take i xs) → next ≡ now ++ f x → next ≡ base ++ flat_map f (take (i + 1) xs)
+bytes_read {X} f xs i x base now next h read before step =
+    let P : X → Type 0 = λ y. next ≡ now ++ f y in
+    subst P read step ∙ ap (λ (ys : List ℕ). ys ++ f (get_or xs i x)) before
+    ∙ append_assoc base (flat_map f (take i xs)) (f (get_or xs i x))
+    ∙ ap (λ (ys : List ℕ). base ++ ys) (sym (flat_map-more f xs i x h))
+
 -- all parts of a group, from nothing: first what it gives, then what its input sections own
 pub parts_are : (l : Layout) (g : Group) (base tables parts : List (List ℕ)) → base ≡ replicate (length l.parts) [] → length parts ≡ length l.parts → ((k : ℕ) → k < length l.parts → get_or tables k [] ≡ get_or base k [] ++ group_given l k g) → ((k : ℕ) → k < length l.parts → get_or parts k [] ≡ get_or tables k [] ++ group_owned l k g) → parts ≡ group_parts l g
 unfolding group_parts

@@ -2,7 +2,8 @@
 --   owned_in l part s     the bytes of an input section, where it owns some of that part
 --   group_owned l part g  those of a group's input sections, one behind the other in the order of processing
 --   group_parts l g       what the group gives to each part, with those behind it
---   group_pairs l g     a pair of a section and a number for each input section that is read
+--   group_bytes l g       what the group gives to the tables, part by part, and behind that its input sections' bytes
+--   group_pairs l g       a pair of a section and a number for each input section that is read
 use Rattle.std.specs.Prelude.{ℕ, ◌==◌, ◌&&◌, if◌then◌else◌, List, [], ◌∷◌, ◌++◌, map, length, Option, Some, None, slice_get}
 use Rattle.std.specs.List.{flat_map, range_with_len}
 use Rattle.wild_plan.specs.declared.part.Part.{Part}
@@ -14,7 +15,7 @@ use Rattle.wild_plan.specs.declared.file.Group.{Group}
 use Rattle.wild_plan.specs.declared.layout.Layout.{Layout}
 use Rattle.wild_plan.specs.Lookups.{section_of, is_filled, is_read}
 use Rattle.wild_layout.specs.Sites.{section_bytes}
-use Rattle.wild_layout.specs.Content.{file_content}
+use Rattle.wild_layout.specs.Content.{file_content, content}
 
 -- the bytes of an input section, where it owns some of that part
 abbrev pub owned_in : Layout → ℕ → InputSection → List ℕ
@@ -46,6 +47,25 @@ group_part l g part = group_given l part g ++ group_owned l part g
 -- all that a group has of each part
 unfoldable pub group_parts : Layout → Group → List (List ℕ)
 group_parts l g = map (group_part l g) (range_with_len 0 (length l.parts))
+
+-- what a group gives to the tables, part by part
+abbrev pub group_tables : Layout → Group → List ℕ
+group_tables l g = flat_map (λ (p : Part). content l p.role g) l.parts
+
+-- the bytes of an input section that owns some
+abbrev pub section_owned : Layout → InputSection → List ℕ
+section_owned l s = if is_filled l s then section_bytes l s else []
+
+abbrev pub file_sections : Layout → File → List ℕ
+file_sections l f = flat_map (section_owned l) f.sections
+
+-- those of a group's input sections, in the order of processing
+abbrev pub group_sections : Layout → Group → List ℕ
+group_sections l g = flat_map (file_sections l) g.files
+
+-- all bytes of a group: what it gives to the tables, then its input sections'
+unfoldable pub group_bytes : Layout → Group → List ℕ
+group_bytes l g = group_tables l g ++ group_sections l g
 
 -- what an input section adds to which count
 abbrev pub section_pairs : Layout → InputSection → List (ℕ × ℕ)

@@ -1,99 +1,73 @@
 //! Putting what the groups have into the image.
-ghost use Rattle.std.specs.Prelude.{◌≡◌, ◌+◌, ◌<◌, ◌≤◌, ◌^◌, ℕ, Some, if◌then◌else◌, length, replicate, slice_get, slice_index, OnOk, All};
+ghost use Rattle.std.specs.Prelude.{◌≡◌, ◌+◌, ◌<◌, ◌≤◌, ◌^◌, ℕ, Some, if◌then◌else◌, length, replicate, slice_get, OnOk, All};
 ghost use Rattle.wild_words.specs.Overlay.{overlay};
 ghost use Rattle.wild_plan.specs.declared.file.File.{File};
-ghost use Rattle.wild_plan.specs.declared.part.Part.{Part};
 ghost use Rattle.wild_plan.specs.declared.part.Role.TheVariants.{Raw};
 ghost use Rattle.wild_plan.specs.Faults.{Answers};
 ghost use Rattle.wild_plan.specs.Lookups.{image_size};
 ghost use Rattle.wild_plan.specs.Places.{has_role};
 ghost use Rattle.wild_plan.specs.Contents.{given};
+ghost use Rattle.wild_layout.specs.Content.{content};
 ghost use Rattle.wild_layout.specs.Image.{section_piece, file_pieces, owned_pieces, given_before, table_piece, table_pieces, group_pieces};
 ghost use Rattle.wild_layout.specs.Faults.{flat_map_from, group_errors};
 ghost use Rattle.wild_layout.specs.Geometry.{SectionLies, EachSection};
-ghost use Rattle.wild_image.specs.Pieces.{owned_in, file_owned, group_owned, group_given, group_part, group_parts};
-ghost use Rattle.wild_image.specs.Append.{Begins, Moves, HasStarts, EachPartLies};
-ghost use Rattle.wild_image.specs.Jobs.{GivesParts};
+ghost use Rattle.wild_image.specs.Pieces.{section_owned, file_sections, group_tables, group_sections, group_bytes};
+ghost use Rattle.wild_image.specs.Append.{BeginsWith, GoesOn, HasStarts, EachPartLies};
+ghost use Rattle.wild_image.specs.Jobs.{GivesBytes};
 ghost use Rattle.wild_image.specs.declared.job.Outcome.{Outcome};
 
 use crate::job::Outcome;
-use crate::part_bytes::PartBytes;
 use crate::section::offset_of;
 use wild_plan::{Error, File, Group, InputSection, Layout, Part, Role};
 use wild_words::put;
 
-/// Where some bytes of a part end.
-fn end_of(part: &[u8], from: usize, size: usize) -> usize
-    requires { from + size ≤ length part.now }
-    ensures end { result ≡ from + size }
-    ensures within { result ≤ length part.now }
-{
-    from + size
-}
-
-/// Puts the bytes of a section, the next of its part, into the image.
-fn append_section(
+/// Puts the bytes of a section, the first of these, into the image, and tells what stands behind them.
+fn append_section<'b>(
     layout: &Layout,
     section: &InputSection,
-    parts: &[PartBytes],
-    cursors: &mut [usize],
+    bytes: &'b [u8],
     out: &mut [u8],
-)
+) -> &'b [u8]
     requires lies { SectionLies layout.now section.now }
     requires room { length out.old ≡ image_size layout.now }
-    requires parts { (length parts.now ≡ length layout.now.parts) × (length cursors.old ≡ length layout.now.parts) }
-    requires next { Begins (λ k. owned_in layout.now k section.now) parts.now cursors.old }
+    requires own { BeginsWith (section_owned layout.now section.now) bytes.now }
     ensures image { out.new ≡ overlay (section_piece layout.now section.now) out.old }
-    ensures rest { Moves (λ k. owned_in layout.now k section.now) parts.now cursors.old cursors.new }
+    ensures rest { GoesOn (section_owned layout.now section.now) bytes.now result.now }
 {
     if !section.is_filled(layout) {
-        return;
+        return bytes;
     }
     let start = offset_of(layout.parts.as_slice(), section) as usize;
-    let size = section.size as usize;
-    let from = cursors[section.part];
-    let bytes = parts[section.part].as_slice();
-    let end = end_of(bytes, from, size);
-    put(out, start, &bytes[from..end]);
-    cursors[section.part] = end;
+    let (own, rest) = bytes.split_at(section.size as usize);
+    put(out, start, own);
+    rest
 }
 
-/// Puts the bytes of the sections of a file into the image.
-fn append_file(
-    layout: &Layout,
-    file: &File,
-    parts: &[PartBytes],
-    cursors: &mut [usize],
-    out: &mut [u8],
-)
+/// Puts the bytes of the sections of a file into the image, and tells what stands behind them.
+fn append_file<'b>(layout: &Layout, file: &File, bytes: &'b [u8], out: &mut [u8]) -> &'b [u8]
     requires lies { All (SectionLies layout.now) file.now.sections }
     requires room { length out.old ≡ image_size layout.now }
-    requires parts { (length parts.now ≡ length layout.now.parts) × (length cursors.old ≡ length layout.now.parts) }
-    requires next { Begins (λ k. file_owned layout.now k file.now) parts.now cursors.old }
+    requires own { BeginsWith (file_sections layout.now file.now) bytes.now }
     ensures image { out.new ≡ overlay (file_pieces layout.now file.now) out.old }
-    ensures rest { Moves (λ k. file_owned layout.now k file.now) parts.now cursors.old cursors.new }
+    ensures rest { GoesOn (file_sections layout.now file.now) bytes.now result.now }
 {
+    let mut rest = bytes;
     for section in file.sections.as_slice() {
-        append_section(layout, section, parts, cursors, out);
+        rest = append_section(layout, section, rest, out);
     }
+    rest
 }
 
-/// Puts the bytes of a group into the image.
-fn append_files(
-    layout: &Layout,
-    group: &Group,
-    parts: &[PartBytes],
-    cursors: &mut [usize],
-    out: &mut [u8],
-)
+/// Puts the bytes of a group's input sections into the image.
+fn append_files(layout: &Layout, group: &Group, bytes: &[u8], out: &mut [u8])
     requires lies { All (λ (f : File). All (SectionLies layout.now) f.sections) group.now.files }
     requires room { length out.old ≡ image_size layout.now }
-    requires parts { (length parts.now ≡ length layout.now.parts) × (length cursors.old ≡ length layout.now.parts) }
-    requires next { Begins (λ k. group_owned layout.now k group.now) parts.now cursors.old }
+    requires own { BeginsWith (group_sections layout.now group.now) bytes.now }
     ensures image { out.new ≡ overlay (owned_pieces layout.now group.now) out.old }
 {
+    let mut rest = bytes;
     for file in group.files.as_slice() {
-        append_file(layout, file, parts, cursors, out);
+        rest = append_file(layout, file, rest, out);
     }
 }
 
@@ -107,57 +81,58 @@ fn table_size(part: &Part, group: &Group, i: usize) -> u64
     }
 }
 
-/// Puts what the group with that number gives to part i into the image, behind what the groups before are given
-/// of it, and tells how many bytes that is.
-fn append_table(
+/// Puts what the group with that number gives to part i, the first of these bytes, into the image, behind what the
+/// groups before are given of it, and tells what stands behind that.
+fn append_table<'b>(
     layout: &Layout,
     index: usize,
     group: &Group,
     i: usize,
-    bytes: &[u8],
+    part: &Part,
+    bytes: &'b [u8],
     start: u64,
     out: &mut [u8],
-) -> usize
-    requires part { i < length layout.now.parts }
+) -> &'b [u8]
+    requires part { slice_get layout.now.parts i ≡ Some part.now }
     requires parts { EachPartLies layout.now }
     requires group { slice_get layout.now.groups index ≡ Some group.now }
     requires start { start ≡ given_before layout.now i index }
-    requires bytes { bytes.now ≡ group_part layout.now group.now i }
+    requires own { BeginsWith (content layout.now part.now.role group.now) bytes.now }
     requires room { (length out.old ≡ image_size layout.now) × (image_size layout.now ≤ 2 ^ 62) }
-    ensures image { (p : Part) → slice_get layout.now.parts i ≡ Some p → out.new ≡ overlay (table_piece layout.now index group.now i p) out.old }
-    ensures size { result ≡ length (group_given layout.now i group.now) }
+    ensures image { out.new ≡ overlay (table_piece layout.now index group.now i part.now) out.old }
+    ensures rest { GoesOn (content layout.now part.now.role group.now) bytes.now result.now }
 {
-    let part = &layout.parts.as_slice()[i];
     let size = table_size(part, group, i) as usize;
-    if size != 0 {
-        put(out, (part.offset + start) as usize, &bytes[..size]);
+    if size == 0 {
+        return bytes;
     }
-    size
+    let (own, rest) = bytes.split_at(size);
+    put(out, (part.offset + start) as usize, own);
+    rest
 }
 
-/// Puts what the group with that number gives to the parts into the image; the cursors stand behind it then.
-fn append_tables(
+/// Puts what the group with that number gives to the parts into the image, and tells what stands behind that.
+fn append_tables<'b>(
     layout: &Layout,
     index: usize,
     group: &Group,
-    parts: &[PartBytes],
+    bytes: &'b [u8],
     starts: &[u64],
-    cursors: &mut [usize],
     out: &mut [u8],
-)
+) -> &'b [u8]
     requires lies { EachPartLies layout.now }
     requires group { slice_get layout.now.groups index ≡ Some group.now }
-    requires count { length parts.now ≡ length layout.now.parts }
-    requires parts { parts.now ≡ group_parts layout.now group.now }
+    requires own { BeginsWith (group_tables layout.now group.now) bytes.now }
     requires starts { HasStarts layout.now index starts.now }
-    requires cursors { length cursors.old ≡ length layout.now.parts }
     requires room { (length out.old ≡ image_size layout.now) × (image_size layout.now ≤ 2 ^ 62) }
     ensures image { out.new ≡ overlay (table_pieces layout.now index group.now) out.old }
-    ensures cursors { (k : ℕ) → k < length cursors.old → slice_index cursors.new k ≡ length (group_given layout.now k group.now) }
+    ensures rest { GoesOn (group_tables layout.now group.now) bytes.now result.now }
 {
-    for i in 0..layout.parts.len() {
-        cursors[i] = append_table(layout, index, group, i, parts[i].as_slice(), starts[i], out);
+    let mut rest = bytes;
+    for (i, part) in layout.parts.as_slice().iter().enumerate() {
+        rest = append_table(layout, index, group, i, part, rest, starts[i], out);
     }
+    rest
 }
 
 /// Moves each part's start behind what the group with that number is given of it.
@@ -177,22 +152,20 @@ fn append_group(
     layout: &Layout,
     index: usize,
     group: &Group,
-    parts: &[PartBytes],
+    bytes: &[u8],
     starts: &[u64],
-    cursors: &mut [usize],
     out: &mut [u8],
 )
     requires inputs { All (λ (f : File). All (SectionLies layout.now) f.sections) group.now.files }
     requires lies { EachPartLies layout.now }
     requires group { slice_get layout.now.groups index ≡ Some group.now }
-    requires parts { parts.now ≡ group_parts layout.now group.now }
+    requires bytes { bytes.now ≡ group_bytes layout.now group.now }
     requires starts { HasStarts layout.now index starts.now }
-    requires cursors { length cursors.old ≡ length layout.now.parts }
     requires room { (length out.old ≡ image_size layout.now) × (image_size layout.now ≤ 2 ^ 62) }
     ensures image { out.new ≡ overlay (group_pieces layout.now index group.now) out.old }
 {
-    append_tables(layout, index, group, parts, starts, cursors, out);
-    append_files(layout, group, parts, cursors, out);
+    let rest = append_tables(layout, index, group, bytes, starts, out);
+    append_files(layout, group, rest, out);
 }
 
 /// Puts what the groups have into the image, or answers the first fault in the order of the groups.
@@ -201,22 +174,20 @@ pub(crate) fn append_all(
     layout: &Layout,
     outcomes: &[Outcome],
     starts: &mut [u64],
-    cursors: &mut [usize],
     out: &mut [u8],
 ) -> Result<(), Error>
     requires inputs { EachSection layout.now (SectionLies layout.now) }
     requires lies { EachPartLies layout.now }
     requires starts { starts.old ≡ replicate (length layout.now.parts) 0 }
-    requires cursors { length cursors.old ≡ length layout.now.parts }
     requires count { length outcomes.now ≡ length layout.now.groups }
-    requires each { (g : ℕ) (o : Outcome) → slice_get outcomes.now g ≡ Some o → GivesParts layout.now g o.parts }
+    requires each { (g : ℕ) (o : Outcome) → slice_get outcomes.now g ≡ Some o → GivesBytes layout.now g o.bytes }
     requires room { (length out.old ≡ image_size layout.now) × (image_size layout.now ≤ 2 ^ 62) }
     ensures faults { Answers result (flat_map_from (group_errors layout.now) 0 layout.now.groups) }
     ensures image { OnOk result (out.new ≡ overlay (flat_map_from (group_pieces layout.now) 0 layout.now.groups) out.old) }
 {
     for (i, group) in layout.groups.as_slice().iter().enumerate() {
-        match &outcomes[i].parts {
-            Ok(parts) => append_group(layout, i, group, parts.as_slice(), starts, cursors, out),
+        match &outcomes[i].bytes {
+            Ok(bytes) => append_group(layout, i, group, bytes.as_slice(), starts, out),
             Err(error) => return Err(*error),
         }
         move_starts(layout, i, group, starts);

@@ -5,20 +5,19 @@ ghost use Rattle.wild_layout.specs.Faults.{flat_map_from, part_errors};
 ghost use Rattle.wild_image.specs.Steps.{HasValues};
 
 use crate::arch::Arch;
+use crate::buffer::bytes_of_group;
 use crate::pairs::{Pairs, pairs_of_group};
 use crate::part_bytes::PartBytes;
-use crate::piece::parts_of_group;
 use std::alloc::{AllocError, Global};
 use std::marker::PhantomData;
 use wild_crew::{Counted, Job};
 use wild_geometry::layouts_are_laid_out;
 use wild_plan::{Error, Layout};
-use wild_words::Items;
 
-/// What came of a group: what it has of each part, or its first fault; and what it counted.
+/// What came of a group: all its bytes, or its first fault; and what it counted.
 #[derive(Drop)]
 pub(crate) struct Outcome {
-    pub(crate) parts: Result<Items<PartBytes>, Error>,
+    pub(crate) bytes: Result<PartBytes, Error>,
     pub(crate) counts: Pairs,
 }
 
@@ -48,11 +47,11 @@ pub(crate) struct GroupJob<'a, A: Arch> {
 impl<'a, A: Arch> Job<Outcome> for GroupJob<'a, A> {
     ghost use Rattle.std.specs.Prelude.{length};
     ghost use Rattle.wild_image.specs.Pieces.{pairs_at};
-    ghost use Rattle.wild_image.specs.Jobs.{GivesParts};
+    ghost use Rattle.wild_image.specs.Jobs.{GivesBytes};
 
     ghost number = { λ j. length j.layout.now.groups };
 
-    ghost gives = { λ j g o. GivesParts j.layout.now g o.parts };
+    ghost gives = { λ j g o. GivesBytes j.layout.now g o.bytes };
 
     ghost counts_of = { λ j g. pairs_at j.layout.now g };
 
@@ -65,7 +64,7 @@ impl<'a, A: Arch> Job<Outcome> for GroupJob<'a, A> {
         let index = group as usize;
         let found = &self.layout.groups.as_slice()[index];
         let counts = pairs_of_group(self.alloc, self.layout, found)?;
-        let parts = parts_of_group::<A>(self.alloc, self.layout, self.values, index, found);
-        Ok(Outcome { parts, counts })
+        let bytes = bytes_of_group::<A>(self.alloc, self.layout, self.values, index, found);
+        Ok(Outcome { bytes, counts })
     }
 }

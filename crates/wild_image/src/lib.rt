@@ -3,6 +3,7 @@
 
 mod append;
 mod arch;
+mod buffer;
 mod job;
 mod output;
 mod overlap;

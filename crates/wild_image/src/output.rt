@@ -8,7 +8,7 @@ ghost use Rattle.wild_layout.specs.Image.{bytes, counts};
 ghost use Rattle.wild_layout.specs.Warnings.{warnings};
 ghost use Rattle.wild_layout.specs.Faults.{clause_errors, flat_map_from, part_errors, group_errors, errors};
 ghost use Rattle.wild_layout.specs.Geometry.{IsLaidOut};
-ghost use Rattle.wild_image.specs.Jobs.{GivesParts};
+ghost use Rattle.wild_image.specs.Jobs.{GivesBytes};
 ghost use Rattle.wild_image.specs.declared.job.Outcome.{Outcome};
 
 use crate::append::append_all;
@@ -54,21 +54,19 @@ fn write_bytes<A: Arch>(
     layout: &Layout,
     outcomes: &[Outcome],
     starts: &mut [u64],
-    cursors: &mut [usize],
     out: &mut [u8],
 ) -> Result<(), Error>
     requires machine { layout.now.machine ≡ A.machine }
     requires laid_out { IsLaidOut layout.now }
     requires starts { starts.old ≡ replicate (length layout.now.parts) 0 }
-    requires cursors { length cursors.old ≡ length layout.now.parts }
     requires count { length outcomes.now ≡ length layout.now.groups }
-    requires each { (g : ℕ) (o : Outcome) → slice_get outcomes.now g ≡ Some o → GivesParts layout.now g o.parts }
+    requires each { (g : ℕ) (o : Outcome) → slice_get outcomes.now g ≡ Some o → GivesBytes layout.now g o.bytes }
     requires room { length out.old ≡ image_size layout.now }
     ensures faults { Answers result (flat_map_from (group_errors layout.now) 0 layout.now.groups) }
     ensures image { OnOk result (out.new ≡ bytes layout.now) }
 {
     fill_padding_for_sections::<A>(layout, out);
-    append_all(layout, outcomes, starts, cursors, out)
+    append_all(layout, outcomes, starts, out)
 }
 
 /// The image of a layout whose clauses hold and whose shares are what is needed, or its first fault.
@@ -100,10 +98,9 @@ fn write_laid_out<A: Arch + Sync, G: Gate + Sync, R: Threads + Sync>(
     let sections = layout.sections.len() as u32;
     let gathered = gather(rt, alloc, &job, sections, u32::from(workers), gate)?;
     let mut starts = vec![in alloc; 0u64; layout.parts.len()]?;
-    let mut cursors = vec![in alloc; 0usize; layout.parts.len()]?;
     let mut out = vec![in alloc; 0u8; layout.image_end() as usize]?;
     let pieces = gathered.pieces.as_slice();
-    write_bytes::<A>(layout, pieces, &mut starts, &mut cursors, &mut out)?;
+    write_bytes::<A>(layout, pieces, &mut starts, &mut out)?;
     Ok(SizedOutput {
         out: Bytes::from_vec(out),
         warnings: Items::new(alloc),

@@ -23,7 +23,7 @@ use wild_plan::{Error, File, Group, InputSection, Layout};
 use wild_words::Items;
 
 /// Answers the first fault of a section whose relocations are read and that owns no bytes.
-fn check_data<A: Arch>(
+pub(crate) fn check_data<A: Arch>(
     alloc: Global,
     layout: &Layout,
     values: &[Option<u64>],
@@ -42,7 +42,7 @@ fn check_data<A: Arch>(
 }
 
 /// So many zeros.
-fn zeros(alloc: Global, count: usize) -> Result<Vec<u8>, AllocError>
+pub(crate) fn zeros(alloc: Global, count: usize) -> Result<Vec<u8>, AllocError>
     ensures { IfOk result (λ v. v.items ≡ replicate count 0) }
 {
     Ok(vec![in alloc; 0u8; count]?)
@@ -135,7 +135,7 @@ fn take_group<A: Arch>(
 }
 
 /// How many bytes a group has of a part that stands in the file.
-fn room_of(layout: &Layout, group: &Group, part: usize) -> usize {
+pub(crate) fn room_of(layout: &Layout, group: &Group, part: usize) -> usize {
     let given = group.given(part);
     if given != 0 && layout.takes_file_bytes(layout.section_of(part)) {
         given as usize
@@ -178,7 +178,7 @@ fn fill_parts<A: Arch>(
 }
 
 /// What a group has of each part, or its first fault.
-pub(crate) fn parts_of_group<A: Arch>(
+fn parts_of_group<A: Arch>(
     alloc: Global,
     layout: &Layout,
     values: &[Option<u64>],

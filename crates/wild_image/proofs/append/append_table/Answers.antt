@@ -1,50 +1,50 @@
-use Rattle.std.proofs.Common.{◌≡◌, ◌≤◌, length, ap, ◌∙◌, sym, arith}
-use Rattle.std.proofs.lemmas.List.{length-take-le}
+use Rattle.std.proofs.Common.{◌≡◌, ℕ, ◌+◌, ◌≤◌, ◌<◌, ◌∙◌, length, ap, subst, arith}
+use Rattle.std.specs.Prelude.{slice_get}
+use Rattle.std.proofs.lemmas.Option.{slice_get_within, get_or_from_slice_get}
 use Rattle.wild_plan.specs.declared.part.Part.{Part}
-use Rattle.wild_plan.specs.declared.part.Role.TheVariants as role
-use Rattle.wild_image.proofs.TableLemmas.{in_part, start_fits, table_put_at, table_not_put_at}
+use Rattle.wild_layout.specs.Content.{content}
+use Rattle.wild_image.proofs.AppendLemmas.{cut_off}
+use Rattle.wild_image.proofs.TableLemmas.{in_part, start_fits, table_put, table_not_put, table_stays}
 use Rattle.wild_image.proofs.append.append_table.Goals as goal
+
+pub split_at-requires : goal.split_at-requires
+split_at-requires c =
+    let h = in_part c.args.layout.now c.args.i c.args.index c.table_size-size.result c.args.part.now c.args.group.now c.requires.parts c.requires.part c.requires.group c.table_size-size.ensures in
+    (cut_off (content c.args.layout.now c.args.part.now.role c.args.group.now) c.args.bytes.now c.table_size-size.result h.size c.requires.own).within
 
 pub overflow_add-part : goal.overflow_add-part
 overflow_add-part c =
-    let l = c.args.layout.now in
-    let none : Part = record { role = role.Raw; section = 0; offset = 0; address = 0; size = 0; align = 0 } in
-    let low = (c.requires.parts c.args.i none c.requires.part).low in
-    let fits = start_fits l c.args.i c.args.index none c.args.group.now c.requires.parts c.requires.part c.requires.group in
-    rw c.as_slice.ensures (omega (arith, low, fits, c.requires.start))
-
-pub slice_bounds-put-end : goal.slice_bounds-put-end
-slice_bounds-put-end c =
-    let h = in_part c.args.layout.now c.args.i c.args.index c.table_size-size.result _ c.args.group.now c.requires.parts c.requires.part c.requires.group (rw c.as_slice.ensures at c.table_size-size.ensures) in
-    let long = h.long in
-    let same = ap length c.requires.bytes in
-    sym (length-take-le c.table_size-size.result c.args.bytes.now (omega (arith, long, same)))
+    let h = in_part c.args.layout.now c.args.i c.args.index c.table_size-size.result c.args.part.now c.args.group.now c.requires.parts c.requires.part c.requires.group c.table_size-size.ensures in
+    let some : 1 ≤ c.table_size-size.result = omega (arith, c.if-size-eq0.false) in
+    let fits = h.fits some in
+    omega (arith, fits, c.requires.start, c.requires.room.1)
 
 pub put-requires : goal.put-requires
 put-requires c =
-    let h = in_part c.args.layout.now c.args.i c.args.index c.table_size-size.result _ c.args.group.now c.requires.parts c.requires.part c.requires.group (rw c.as_slice.ensures at c.table_size-size.ensures) in
-    let long = h.long in
-    let same = ap length c.requires.bytes in
-    let n = length-take-le c.table_size-size.result c.args.bytes.now (omega (arith, long, same)) in
-    let some : 1 ≤ c.table_size-size.result = omega (arith, c.if-size-ne0.true) in
+    let h = in_part c.args.layout.now c.args.i c.args.index c.table_size-size.result c.args.part.now c.args.group.now c.requires.parts c.requires.part c.requires.group c.table_size-size.ensures in
+    let some : 1 ≤ c.table_size-size.result = omega (arith, c.if-size-eq0.false) in
     let fits = h.fits some in
-    rw c.as_slice.ensures (omega (arith, n, fits, c.requires.start, c.requires.room.0))
+    omega (arith, fits, c.requires.start, c.requires.room.0, c.split_at.ensures.front_len)
 
-pub returns-then-size-ne0-clause-image : goal.returns-then-size-ne0-clause-image
-returns-then-size-ne0-clause-image c =
-    let h = in_part c.args.layout.now c.args.i c.args.index c.table_size-size.result _ c.args.group.now c.requires.parts c.requires.part c.requires.group (rw c.as_slice.ensures at c.table_size-size.ensures) in
-    let some : 1 ≤ c.table_size-size.result = omega (arith, c.if-size-ne0.true) in
-    table_put_at c.args.layout.now c.args.i c.args.index c.args.start c.table_size-size.result _ c.args.group.now c.args.bytes.now c.args.out.now c.put.new.out h some c.requires.start c.requires.bytes (rw c.as_slice.ensures at c.put.ensures)
+pub returns-clause-image : goal.returns-clause-image
+returns-clause-image c =
+    let h = in_part c.args.layout.now c.args.i c.args.index c.table_size-size.result c.args.part.now c.args.group.now c.requires.parts c.requires.part c.requires.group c.table_size-size.ensures in
+    let some : 1 ≤ c.table_size-size.result = omega (arith, c.if-size-eq0.false) in
+    let cut = cut_off (content c.args.layout.now c.args.part.now.role c.args.group.now) c.args.bytes.now c.table_size-size.result h.size c.requires.own in
+    table_put c.args.layout.now c.args.i c.args.index _ c.table_size-size.result c.args.part.now c.args.group.now _ c.args.out.now c.put.new.out h some (ap (λ (n : ℕ). c.args.part.now.offset + n) c.requires.start) (c.split_at.ensures.front ∙ cut.front) c.put.ensures
 
-pub returns-then-size-ne0-clause-size : goal.returns-then-size-ne0-clause-size
-returns-then-size-ne0-clause-size c =
-    (in_part c.args.layout.now c.args.i c.args.index c.table_size-size.result _ c.args.group.now c.requires.parts c.requires.part c.requires.group (rw c.as_slice.ensures at c.table_size-size.ensures)).size
+pub returns-clause-rest : goal.returns-clause-rest
+returns-clause-rest c =
+    let h = in_part c.args.layout.now c.args.i c.args.index c.table_size-size.result c.args.part.now c.args.group.now c.requires.parts c.requires.part c.requires.group c.table_size-size.ensures in
+    let cut = cut_off (content c.args.layout.now c.args.part.now.role c.args.group.now) c.args.bytes.now c.table_size-size.result h.size c.requires.own in
+    λ rest e. c.split_at.ensures.back ∙ cut.back rest e
 
-pub returns-else-size-ne0-clause-image : goal.returns-else-size-ne0-clause-image
-returns-else-size-ne0-clause-image c =
-    let h = in_part c.args.layout.now c.args.i c.args.index c.table_size-size.result _ c.args.group.now c.requires.parts c.requires.part c.requires.group (rw c.as_slice.ensures at c.table_size-size.ensures) in
-    table_not_put_at c.args.layout.now c.args.i c.args.index c.table_size-size.result _ c.args.group.now c.args.out.now h (omega (arith, c.if-size-ne0.false))
+pub returns-then-size-eq0-clause-image : goal.returns-then-size-eq0-clause-image
+returns-then-size-eq0-clause-image c =
+    let h = in_part c.args.layout.now c.args.i c.args.index c.table_size-size.result c.args.part.now c.args.group.now c.requires.parts c.requires.part c.requires.group c.table_size-size.ensures in
+    table_not_put c.args.layout.now c.args.i c.args.index c.table_size-size.result c.args.part.now c.args.group.now c.args.out.now h (omega (arith, c.if-size-eq0.true))
 
-pub returns-else-size-ne0-clause-size : goal.returns-else-size-ne0-clause-size
-returns-else-size-ne0-clause-size c =
-    (in_part c.args.layout.now c.args.i c.args.index c.table_size-size.result _ c.args.group.now c.requires.parts c.requires.part c.requires.group (rw c.as_slice.ensures at c.table_size-size.ensures)).size
+pub returns-then-size-eq0-clause-rest : goal.returns-then-size-eq0-clause-rest
+returns-then-size-eq0-clause-rest c =
+    let h = in_part c.args.layout.now c.args.i c.args.index c.table_size-size.result c.args.part.now c.args.group.now c.requires.parts c.requires.part c.requires.group c.table_size-size.ensures in
+    table_stays c.args.layout.now c.args.i c.args.index c.table_size-size.result c.args.part.now c.args.group.now c.args.bytes.now h (omega (arith, c.if-size-eq0.true))

@@ -1,25 +1,34 @@
-use Rattle.std.proofs.Common.{◌≡◌, ◌<◌, get_or, length, [], ◌∙◌, arith}
-use Rattle.std.proofs.lemmas.List.{get_or_default}
+use Rattle.std.proofs.Common.{get_or}
+use Rattle.wild_plan.specs.declared.part.Part.{Part}
+use Rattle.wild_layout.specs.Content.{content}
 use Rattle.wild_layout.specs.Image.{table_piece}
-use Rattle.wild_geometry.proofs.ListLemmas.{ItemAt-within}
-use Rattle.wild_image.proofs.AppendLemmas.{part_at}
-use Rattle.wild_image.proofs.TableLemmas.{overlay_from, changed_more}
+use Rattle.wild_image.proofs.AppendLemmas.{next_begins_at, stands_more_at, read_at}
+use Rattle.wild_image.proofs.TableLemmas.{overlay_from}
 use Rattle.wild_image.proofs.append.append_tables.Goals as goal
 
-pub append_table-requires-clause-bytes : goal.append_table-requires-clause-bytes
-append_table-requires-clause-bytes c =
+pub append_table-rest-requires-clause-part : goal.append_table-rest-requires-clause-part
+append_table-rest-requires-clause-part c =
     let l = c.args.layout.now in
-    let i = c.loop-i.i in
-    let inside : i < length l.parts = omega (arith, c.loop-i-test.true, c.len-i-end.ensures) in
-    c.as_slice.ensures ∙ c.index-parts-i.is ∙ get_or_default c.args.parts.now i _ [] (omega (arith, inside, c.requires.count)) ∙ part_at l c.args.group.now c.args.parts.now i c.requires.parts inside
+    let items = c.as_slice-part-items.result.now in
+    let same = c.as_slice-part-items.ensures in
+    let h = c.loop-i-test.true in
+    read_at l.parts items c.loop-i.i _ same h
+
+pub append_table-rest-requires-clause-own : goal.append_table-rest-requires-clause-own
+append_table-rest-requires-clause-own c =
+    let l = c.args.layout.now in
+    let items = c.as_slice-part-items.result.now in
+    let same = c.as_slice-part-items.ensures in
+    let h = c.loop-i-test.true in
+    next_begins_at (λ (p : Part). content l p.role c.args.group.now) l.parts items c.loop-i.i _ c.args.bytes.now c.loop-i.rest.now same h c.requires.own c.loop-i.invariant.1
 
 pub loop-i-preserved : goal.loop-i-preserved
 loop-i-preserved c =
     let l = c.args.layout.now in
-    let i = c.loop-i.i in
-    let inside : i < length l.parts = omega (arith, c.loop-i-test.true, c.len-i-end.ensures) in
-    let p = ItemAt-within l.parts i inside in
-    let kept = c.loop-i.invariant.1.count in (
-      overlay_from (table_piece l c.args.index c.args.group.now) l.parts i p.item c.args.out.now c.loop-i.out c.append_table.new.out p.is c.loop-i.invariant.0 (c.append_table.ensures.image p.item p.is),
-      changed_more 0 _ c.args.cursors.now i c.loop-i.cursors _ c.loop-i.invariant.1 (omega (arith, inside, kept, c.requires.cursors)) c.append_table.ensures.size,
+    let items = c.as_slice-part-items.result.now in
+    let same = c.as_slice-part-items.ensures in
+    let h = c.loop-i-test.true in
+    let at = read_at l.parts items c.loop-i.i _ same h in (
+      overlay_from (table_piece l c.args.index c.args.group.now) l.parts c.loop-i.i _ c.args.out.now c.loop-i.out c.append_table-rest.new.out at c.loop-i.invariant.0 c.append_table-rest.ensures.image,
+      stands_more_at (λ (p : Part). content l p.role c.args.group.now) l.parts items c.loop-i.i _ c.args.bytes.now c.loop-i.rest.now c.append_table-rest.result.now same h c.loop-i.invariant.1 c.append_table-rest.ensures.rest,
     )

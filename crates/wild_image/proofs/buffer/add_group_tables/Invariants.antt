@@ -1,0 +1,8 @@
+use Rattle.std.proofs.Common.{◌≡◌, ◌++◌, take}
+use Rattle.std.specs.List.{flat_map}
+use Rattle.wild_plan.specs.declared.part.Part.{Part}
+use Rattle.wild_layout.specs.Content.{content}
+use Rattle.wild_image.proofs.buffer.add_group_tables.Given as goal
+
+abbrev pub invariant-loop-part : goal.invariant-loop-part
+invariant-loop-part l = l.bytes ≡ l.initial.bytes ++ flat_map (λ (p : Part). content l.layout p.role l.group) (take l.part-index l.layout.parts)

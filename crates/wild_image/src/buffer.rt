@@ -1,0 +1,182 @@
+//! All bytes of a group in one buffer: what it gives to the tables, part by part, and behind that its input
+//! sections' bytes in the order of processing.
+ghost use Rattle.std.specs.Prelude.{◌≡◌, ◌++◌, IfOk, OnOk, All};
+ghost use Rattle.wild_plan.specs.declared.file.File.{File};
+ghost use Rattle.wild_plan.specs.Faults.{Answers};
+ghost use Rattle.wild_layout.specs.Content.{file_content, content};
+ghost use Rattle.wild_layout.specs.Faults.{section_errors, file_errors, group_errors};
+ghost use Rattle.wild_layout.specs.Geometry.{SectionLies};
+ghost use Rattle.wild_image.specs.Steps.{HasValues, FieldsFit};
+ghost use Rattle.wild_image.specs.Pieces.{section_owned, file_sections, group_sections, group_tables, group_bytes};
+
+use crate::arch::Arch;
+use crate::part_bytes::PartBytes;
+use crate::piece::{check_data, room_of, zeros};
+use crate::place::InputPlace;
+use crate::tables::whole_bytes;
+use std::alloc::{AllocError, Global};
+use wild_plan::{Error, File, Group, InputSection, Layout, Role};
+
+/// Adds what a file gives to a part of that role.
+fn add_file_content(
+    alloc: Global,
+    layout: &Layout,
+    role: Role,
+    file: &File,
+    bytes: &mut PartBytes,
+) -> Result<(), AllocError>
+    requires fits { FieldsFit layout.now }
+    ensures { OnOk result (bytes.new ≡ bytes.old ++ file_content layout.now role file.now) }
+{
+    if file.role.is_prelude() {
+        let whole = whole_bytes(alloc, layout, role)?;
+        bytes.extend(&whole)?;
+    }
+    Ok(())
+}
+
+/// Adds what a group gives to a part of that role.
+fn add_content(
+    alloc: Global,
+    layout: &Layout,
+    role: Role,
+    group: &Group,
+    bytes: &mut PartBytes,
+) -> Result<(), AllocError>
+    requires fits { FieldsFit layout.now }
+    ensures { OnOk result (bytes.new ≡ bytes.old ++ content layout.now role group.now) }
+{
+    for file in group.files.as_slice() {
+        add_file_content(alloc, layout, role, file, bytes)?;
+    }
+    Ok(())
+}
+
+/// Adds what a group gives to the tables, part by part.
+fn add_group_tables(
+    alloc: Global,
+    layout: &Layout,
+    group: &Group,
+    bytes: &mut PartBytes,
+) -> Result<(), AllocError>
+    requires fits { FieldsFit layout.now }
+    ensures { OnOk result (bytes.new ≡ bytes.old ++ group_tables layout.now group.now) }
+{
+    for part in layout.parts.as_slice() {
+        add_content(alloc, layout, part.role, group, bytes)?;
+    }
+    Ok(())
+}
+
+/// Adds the bytes of a section, or answers its first fault.
+#[tactic(auto, unfolding(wild_layout::specs::Faults::section_errors))]
+fn add_section<A: Arch>(
+    alloc: Global,
+    layout: &Layout,
+    values: &[Option<u64>],
+    place: InputPlace,
+    section: &InputSection,
+    bytes: &mut PartBytes,
+) -> Result<(), Error>
+    requires machine { layout.now.machine ≡ A.machine }
+    requires values { HasValues layout.now values.now }
+    requires lies { SectionLies layout.now section.now }
+    ensures faults { Answers result (section_errors layout.now place.group place.file place.section section.now) }
+    ensures bytes { OnOk result (bytes.new ≡ bytes.old ++ section_owned layout.now section.now) }
+{
+    if section.is_read() {
+        if section.is_filled(layout) {
+            return bytes.add_data::<A>(alloc, layout, values, place, section);
+        }
+        return check_data::<A>(alloc, layout, values, place, section);
+    }
+    if section.is_filled(layout) {
+        let zeros = zeros(alloc, section.size as usize)?;
+        bytes.extend(&zeros)?;
+    }
+    Ok(())
+}
+
+/// Adds the bytes of the sections of a file, or answers its first fault.
+#[tactic(auto, using(crate::proofs::FaultLemmas::first_from), unfolding(wild_layout::specs::Faults::file_errors))]
+fn add_file_sections<A: Arch>(
+    alloc: Global,
+    layout: &Layout,
+    values: &[Option<u64>],
+    place: InputPlace,
+    file: &File,
+    bytes: &mut PartBytes,
+) -> Result<(), Error>
+    requires machine { layout.now.machine ≡ A.machine }
+    requires values { HasValues layout.now values.now }
+    requires lies { All (SectionLies layout.now) file.now.sections }
+    ensures faults { Answers result (file_errors layout.now place.group place.file file.now) }
+    ensures bytes { OnOk result (bytes.new ≡ bytes.old ++ file_sections layout.now file.now) }
+{
+    for (i, section) in file.sections.as_slice().iter().enumerate() {
+        let here = InputPlace {
+            section: i,
+            ..place
+        };
+        add_section::<A>(alloc, layout, values, here, section, bytes)?;
+    }
+    Ok(())
+}
+
+/// Adds the bytes of a group's input sections, or answers its first fault.
+#[tactic(auto, using(crate::proofs::FaultLemmas::first_from), unfolding(wild_layout::specs::Faults::group_errors))]
+fn add_group_sections<A: Arch>(
+    alloc: Global,
+    layout: &Layout,
+    values: &[Option<u64>],
+    index: usize,
+    group: &Group,
+    bytes: &mut PartBytes,
+) -> Result<(), Error>
+    requires machine { layout.now.machine ≡ A.machine }
+    requires values { HasValues layout.now values.now }
+    requires lies { All (λ (f : File). All (SectionLies layout.now) f.sections) group.now.files }
+    ensures faults { Answers result (group_errors layout.now index group.now) }
+    ensures bytes { OnOk result (bytes.new ≡ bytes.old ++ group_sections layout.now group.now) }
+{
+    for (i, file) in group.files.as_slice().iter().enumerate() {
+        let place = InputPlace {
+            group: index,
+            file: i,
+            section: 0,
+        };
+        add_file_sections::<A>(alloc, layout, values, place, file, bytes)?;
+    }
+    Ok(())
+}
+
+/// How many bytes a group has, so that its buffer is taken at once.
+fn room_of_group(layout: &Layout, group: &Group) -> usize {
+    let mut room: usize = 0;
+    for i in 0..layout.parts.len() {
+        room = room.saturating_add(room_of(layout, group, i));
+    }
+    room
+}
+
+/// All bytes of a group, or its first fault.
+#[tactic(auto, unfolding(crate::specs::Pieces::group_bytes))]
+pub(crate) fn bytes_of_group<A: Arch>(
+    alloc: Global,
+    layout: &Layout,
+    values: &[Option<u64>],
+    index: usize,
+    group: &Group,
+) -> Result<PartBytes, Error>
+    requires machine { layout.now.machine ≡ A.machine }
+    requires values { HasValues layout.now values.now }
+    requires lies { All (λ (f : File). All (SectionLies layout.now) f.sections) group.now.files }
+    requires fits { FieldsFit layout.now }
+    ensures faults { Answers result (group_errors layout.now index group.now) }
+    ensures bytes { IfOk result (λ bs. bs ≡ group_bytes layout.now group.now) }
+{
+    let mut bytes = PartBytes::with_room(alloc, room_of_group(layout, group))?;
+    add_group_tables(alloc, layout, group, &mut bytes)?;
+    add_group_sections::<A>(alloc, layout, values, index, group, &mut bytes)?;
+    Ok(bytes)
+}
