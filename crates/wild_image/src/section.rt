@@ -22,7 +22,7 @@ use wild_layout::Decision;
 use wild_plan::{Error, Fault, InputRelocation, InputSection, Layout, Part};
 
 /// What is decided of a relocation of the section at that place, or its fault.
-#[inline]
+#[inline(always)]
 fn decide_at<A: Arch>(
     layout: &Layout,
     values: &[Option<u64>],
