@@ -1,5 +1,5 @@
 -- What the groups give to the parts lies in the image, each piece apart from the others.
-use Rattle.std.proofs.Common.{◌≡◌, ℕ, zero, suc, ◌+◌, ◌-◌, ◌*◌, ◌<◌, ◌≤◌, ◌⊎◌, inl, inr, ◌==◌, true, false, Bool, List, [], ◌∷◌, ◌++◌, length, get_or, take, All, AllPairs, Contains, Option, Some, slice_get, flat_map, refl, sym, ap, ◌∙◌, arith, subst}
+use Rattle.std.proofs.Common.{◌≡◌, ℕ, zero, suc, ◌+◌, ◌<◌, ◌≤◌, inl, inr, ◌==◌, true, false, List, [], ◌∷◌, length, get_or, All, AllPairs, Contains, Some, slice_get, refl, sym, ap, ◌∙◌, arith, subst}
 use Rattle.std.proofs.lemmas.Bool.{cases_Bool, cases_order, and_parts, or_cases, leb-true, eqb-true, eqb-false}
 use Rattle.std.proofs.lemmas.Option.{slice_get-get_or, same_Some}
 use Rattle.std.proofs.lemmas.List.Elements.{All-nil, All-cons, Contains-append_left}
@@ -9,15 +9,14 @@ use Rattle.wild_plan.specs.declared.part.Part.{Part}
 use Rattle.wild_plan.specs.declared.part.Role.{Role}
 use Rattle.wild_plan.specs.declared.part.Role.TheVariants as role
 use Rattle.wild_plan.specs.declared.input.InputSection.{InputSection}
+use Rattle.wild_plan.specs.declared.file.File.{File}
 use Rattle.wild_plan.specs.declared.file.Group.{Group}
 use Rattle.wild_plan.specs.declared.layout.Layout.{Layout}
-use Rattle.wild_plan.specs.Lists.{total}
 use Rattle.wild_plan.specs.Lookups.{is_filled, takes_file_bytes, image_size}
 use Rattle.wild_plan.specs.Contents.{given}
-use Rattle.wild_plan.specs.Needs.{whole_of}
 use Rattle.wild_plan.specs.Places.{role_place, has_role, takes_room, ends_low}
 use Rattle.wild_headers.specs.Headers.{offset_of_role}
-use Rattle.wild_layout.specs.Content.{whole_bytes, content}
+use Rattle.wild_layout.specs.Content.{whole_bytes, own_bytes, content}
 use Rattle.wild_layout.specs.Image.{some_piece, given_before, table_piece, table_pieces, owned_pieces, group_pieces, section_piece, pieces}
 use Rattle.wild_layout.specs.Faults.{flat_map_from}
 use Rattle.wild_layout.specs.Geometry.{PartLies, IsPiece, HasTables}
@@ -26,33 +25,21 @@ use Rattle.wild_geometry.proofs.InterleaveLemmas.{All-flat_map_from, AllPairs-fl
 use Rattle.wild_geometry.proofs.ClauseLemmas.{Laid}
 use Rattle.wild_geometry.proofs.OrderLemmas.{Takes, EndsBy-image, Follows, PartsFollow-from_order}
 use Rattle.wild_geometry.proofs.TableLemmas.{role_place-1, role_place-2, role_place-3, StandsAt, StandsAt-from_test, StandsAt-from_missing}
-use Rattle.wild_geometry.proofs.ShareLemmas.{size_from_shares, content_is_given, content_of_raw, content_of_first, length-whole_bytes}
+use Rattle.wild_geometry.proofs.ShareLemmas.{total_to, total_within, size_from_shares, content_is_given, content_of_raw, content_of_first}
+use Rattle.wild_geometry.proofs.ContentLemmas.{length-whole_bytes}
 use Rattle.wild_geometry.proofs.SectionLemmas.{all_sections, Stood, Runs}
-use Rattle.wild_geometry.proofs.PieceLemmas.{RangesApart, parts_apart, piece_of, place_is, section_pieces, section_pieces_by_group, Standing, section_pieces_apart, InImage, section_pieces_within}
-
--- ---- sums
-
-total_to : {X : Type 0} (f : X → ℕ) (xs : List X) (j k : ℕ) (d : X) → j < k → k ≤ length xs → total f (take j xs) + f (get_or xs j d) ≤ total f (take k xs)
-total_to f [] j k d l m = absurd (omega arith)
-total_to f (x ∷ xs) j zero d l m = absurd (omega arith)
-total_to f (x ∷ xs) zero (suc k) d l m = omega arith
-total_to f (x ∷ xs) (suc j) (suc k) d l m = let a = total_to f xs j k d (omega arith) (omega arith) in omega arith
-
-total_within : {X : Type 0} (f : X → ℕ) (xs : List X) (j : ℕ) (d : X) → j < length xs → total f (take j xs) + f (get_or xs j d) ≤ total f xs
-total_within f [] j d l = absurd (omega arith)
-total_within f (x ∷ xs) zero d l = omega arith
-total_within f (x ∷ xs) (suc j) d l = let a = total_within f xs j d (omega arith) in omega arith
+use Rattle.wild_geometry.proofs.PieceLemmas.{parts_apart, piece_of, place_is, section_pieces, section_pieces_by_group, Standing, section_pieces_apart, InImage, section_pieces_within}
 
 -- ---- parts
 
-not_raw_takes : (l : Layout) (p : Part) → takes_room l p ≡ true → has_role role.Raw p ≡ false → Takes l p
+pub not_raw_takes : (l : Layout) (p : Part) → takes_room l p ≡ true → has_role role.Raw p ≡ false → Takes l p
 not_raw_takes l p h raw = elim (or_cases (has_role role.Raw p) (takes_file_bytes l p.section) h) [ inl e ↦ cc | inr t ↦ t ]
 
 pub PartLies-from_laid : (l : Layout) → Laid l → (i : ℕ) (p : Part) → i < length l.parts → PartLies l i (get_or l.parts i p)
 PartLies-from_laid l h i p m = record {
   low = leb-true _ _ (and_parts _ (ends_low (get_or l.parts i p).offset (get_or l.parts i p).size) (h.sizes.parts i p m)).1;
   shares = size_from_shares l.groups 0 l.parts h.shares.sums i i p (omega arith) m;
-  tables = λ raw j g n. content_is_given l h.counts h.shares h.needed i p m raw j g n;
+  tables = λ raw j g n. content_is_given l h.sizes.parts h.shares h.roles.again h.needed i p m raw j g n;
   ends = λ raw some. EndsBy-image l i p m (not_raw_takes l (get_or l.parts i p) (h.parts.room i p m) raw) some;
 }
 
@@ -222,7 +209,7 @@ AreApart-from_laid l laid runs stood =
 
 -- ---- the tables
 
-Contains-some : (at : ℕ) (bs : List ℕ) → 1 ≤ length bs → Contains (some_piece at bs) (record { at = at; bytes = bs })
+pub Contains-some : (at : ℕ) (bs : List ℕ) → 1 ≤ length bs → Contains (some_piece at bs) (record { at = at; bytes = bs })
 Contains-some at bs some =
     elim (cases_Bool (length bs == 0)) [
       | inl t ↦ absurd (let e = eqb-true (length bs) 0 t in omega arith)
@@ -230,14 +217,14 @@ Contains-some at bs some =
     ]
 
 -- what stands once in the image stands where its part does
-IsPiece-from_part : (l : Layout) → Laid l → (r : Role) (at : ℕ) (s : StandsAt r at l.parts) → s.item.role ≡ r → has_role role.Raw s.item ≡ false → (length (whole_bytes l r) ≡ 0 → at ≤ image_size l) → Group → IsPiece l at (whole_bytes l r)
+IsPiece-from_part : (l : Layout) → Laid l → (r : Role) (at : ℕ) (s : StandsAt r at l.parts) → s.item.role ≡ r → has_role role.Raw s.item ≡ false → (length (whole_bytes l r) ≡ 0 → at ≤ image_size l) → ((f : File) → own_bytes l r f ≡ []) → Group → IsPiece l at (whole_bytes l r)
 unfolding pieces
-IsPiece-from_part l h r at s is raw empty g = by s.listed.0 s.listed.1 s.listed.2
+IsPiece-from_part l h r at s is raw empty own g = by s.listed.0 s.listed.1 s.listed.2
   where
     by : (i : ℕ) → i < length l.parts → get_or l.parts i s.item ≡ s.item → IsPiece l at (whole_bytes l r)
     by i low read =
         let role_is : (get_or l.parts i s.item).role ≡ r = ap (λ (p : Part). p.role) read ∙ is in
-        let first : content_at l i s.item 0 g ≡ whole_bytes l r = ap (λ (q : Role). content l q (get_or l.groups 0 g)) role_is ∙ content_of_first l r g h.counts.some_group h.shares in
+        let first : content_at l i s.item 0 g ≡ whole_bytes l r = ap (λ (q : Role). content l q (get_or l.groups 0 g)) role_is ∙ content_of_first l r g own h.counts.some_group h.shares in
         let offset : (get_or l.parts i s.item).offset ≡ at = ap (λ (p : Part). p.offset) read ∙ s.there in
         let long = ap length first in
         elim (cases_Bool (length (whole_bytes l r) == 0)) [
@@ -275,10 +262,10 @@ HasTables-from_laid l h = by (ItemAt-within l.groups 0 h.counts.some_group).item
         let header_length = length-whole_bytes l role.FileHeader in
         let sections_length = length-whole_bytes l role.SectionHeaders in
         let some = h.counts.some_section in
-        let header = IsPiece-from_part l h role.FileHeader 0 f (role_place-1 f.item.role f.has) (rw f.has refl) (λ e. absurd (omega arith)) g in
+        let header = IsPiece-from_part l h role.FileHeader 0 f (role_place-1 f.item.role f.has) (rw f.has refl) (λ e. absurd (omega arith)) (λ x. refl) g in
         let within = header.within in
         record {
           file_header = header;
-          program_headers = IsPiece-from_part l h role.ProgramHeaders file_header_size p (role_place-2 p.item.role p.has) (rw p.has refl) (λ e. omega arith) g;
-          section_headers = IsPiece-from_part l h role.SectionHeaders (offset_of_role role.SectionHeaders l.parts) s (role_place-3 s.item.role s.has) (rw s.has refl) (λ e. absurd (omega arith)) g;
+          program_headers = IsPiece-from_part l h role.ProgramHeaders file_header_size p (role_place-2 p.item.role p.has) (rw p.has refl) (λ e. omega arith) (λ x. refl) g;
+          section_headers = IsPiece-from_part l h role.SectionHeaders (offset_of_role role.SectionHeaders l.parts) s (role_place-3 s.item.role s.has) (rw s.has refl) (λ e. absurd (omega arith)) (λ x. refl) g;
         }
