@@ -1,5 +1,5 @@
 -- What a loader goes by stands where it looks.
-use Rattle.std.proofs.Common.{◌≡◌, ℕ, ◌+◌, ◌≤◌, inl, inr, ◌==◌, nat_le, Bool, true, false, not, ◌&&◌, ◌||◌, if◌then◌else◌, List, [], ◌∷◌, length, drop, find, All, Option, Some, None, flat_map, refl, ap, ◌∙◌, arith, subst}
+use Rattle.std.proofs.Common.{◌≡◌, ℕ, ◌+◌, ◌≤◌, inl, inr, ◌==◌, nat_le, Bool, true, false, not, ◌&&◌, ◌||◌, if◌then◌else◌, List, [], ◌∷◌, ◌++◌, length, drop, find, All, Option, Some, None, flat_map, refl, ap, ◌∙◌, arith, subst}
 use Rattle.std.specs.List.{list_any}
 use Rattle.std.proofs.lemmas.Bool.{cases_Bool, and_parts, leb-true, eqb-true, eqb-false, eq-eqb, ne_eqb}
 use Rattle.std.proofs.lemmas.List.Elements.{All-nil, All-cons}
@@ -30,7 +30,11 @@ use Rattle.wild_tables.specs.Entries.{rela_bytes}
 use Rattle.wild_layout.specs.Geometry.{IsStatic, HasSegment, IsCarriedWhole, HasNoEntries, HasTable, table_bytes}
 use Rattle.wild_geometry.proofs.ClauseLemmas.{Laid, Both-from_first_error, None-from_fails}
 use Rattle.wild_geometry.proofs.ListLemmas.{Found-from_list_any}
-use Rattle.wild_geometry.proofs.RoleLemmas.{FoundAt-from_find, HasTable-from_laid}
+use Rattle.wild_geometry.proofs.RoleLemmas.{FoundAt-from_find, nil_from_length, no_count, nothing_shared, HasTable-from_laid}
+use Rattle.wild_records.specs.declared.dynamic.DynamicEntry.{DynamicEntry}
+use Rattle.wild_plan.specs.Dynamic.{dynamic_entries, dynamic_count}
+use Rattle.wild_loader.specs.Laws.{before_null}
+use Rattle.wild_tables.proofs.FoundLemmas.{behind_null}
 use Rattle.wild_geometry.proofs.TableLemmas.{same_role}
 
 other : (b c : Bool) → (b || c) ≡ true → b ≡ false → c ≡ true
@@ -100,7 +104,23 @@ unasked false there n h e = cc
 pub no_dynamic_part : (l : Layout) → Laid l → is_fixed_static l.kind ≡ true → part_with role.Dynamic l.parts ≡ None
 no_dynamic_part l h fixed = none_found (has_role role.Dynamic) l.parts (unasked (is_fixed_static l.kind) (list_any (has_role role.Dynamic) l.parts) (role_place role.Dynamic) h.roles.unasked fixed)
 
--- ---- it has no entries
+-- ---- an output with entries for dynamic linking
+
+-- its dynamic section ends with DT_NULL, so that it is not empty: nothing behind it is read
+some_count : (l : Layout) → needs_dynamic l.kind ≡ true → dynamic_count l ≡ 0 → ⊥
+some_count l needs h =
+    let d : DynamicEntry = record { tag = 1; value = 0 } in
+    let P : List DynamicEntry → Type 0 = λ es. before_null (es ++ d ∷ []) ≡ before_null es in
+    cc (subst P (nil_from_length (dynamic_entries l) h) (behind_null l (d ∷ []) needs))
+
+pub dynamic_part : (l : Layout) → Laid l → needs_dynamic l.kind ≡ true → (p : Part) × (part_with role.Dynamic l.parts ≡ Some p)
+dynamic_part l h needs = by (part_with role.Dynamic l.parts) refl
+  where
+    by : (o : Option Part) → part_with role.Dynamic l.parts ≡ o → (p : Part) × (part_with role.Dynamic l.parts ≡ Some p)
+    by None e = absurd (some_count l needs (no_count l h (nothing_shared l h role.Dynamic e)))
+    by (Some p) e = (p, e)
+
+-- ---- an executable at its own addresses has no entries
 
 nothing_of : (l : Layout) (r : Role) → whole_bytes l r ≡ [] → ((f : File) → own_bytes l r f ≡ []) → (gs : List Group) → flat_map (content l r) gs ≡ []
 nothing_of l r e own [] = refl

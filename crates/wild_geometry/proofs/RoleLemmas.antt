@@ -67,7 +67,7 @@ take_all : {X : Type 0} (xs : List X) → take (length xs) xs ≡ xs
 take_all [] = refl
 take_all (x ∷ xs) = ap (λ ys. x ∷ ys) (take_all xs)
 
-nil_from_length : {X : Type 0} (xs : List X) → length xs ≡ 0 → xs ≡ []
+pub nil_from_length : {X : Type 0} (xs : List X) → length xs ≡ 0 → xs ≡ []
 nil_from_length [] h = refl
 nil_from_length (x ∷ xs) h = absurd (omega arith)
 
@@ -81,7 +81,7 @@ plain_nothing l r n (g ∷ gs) h =
 
 -- ---- the part of a role
 
-given_there : (l : Layout) (r : Role) → role_given l r ≡ true → list_any (has_role r) l.parts ≡ false → total_share l r ≡ 0
+pub given_there : (l : Layout) (r : Role) → role_given l r ≡ true → list_any (has_role r) l.parts ≡ false → total_share l r ≡ 0
 given_there l r h none = eqb-true _ _ (behind (list_any (has_role r) l.parts) (total_share l r == 0) h none)
   where
     behind : (b c : Bool) → (b || c) ≡ true → b ≡ false → c ≡ true
@@ -111,16 +111,22 @@ no_room l h none =
     let long = eqb-true _ _ each in
     ap (given_by (part_of l role.Dynamic)) item.is ∙ past_end item.item.part_sizes (part_of l role.Dynamic) (omega arith)
 
--- where the last group has nothing to write, no group gives anything to the dynamic section
-dynamic_nothing : (l : Layout) → Laid l → list_any (has_role role.Dynamic) l.parts ≡ false → total_share l role.Dynamic ≡ 0 → table_bytes l role.Dynamic ≡ []
-dynamic_nothing l h none shared =
-    let room = no_room l h none in
+-- where the last group has nothing to write, there are no entries
+pub no_count : (l : Layout) → Laid l → total_share l role.Dynamic ≡ 0 → dynamic_count l ≡ 0
+no_count l h shared =
     let some = h.counts.some_group in
     let item = ItemAt-within l.groups (length l.groups - 1) (omega arith) in
     let last : length l.groups - 1 + 1 ≡ length l.groups = omega arith in
     let own = dynamic_share l (get_or l.groups (length l.groups - 1) item.item) ∙ group_last (dynamic_entry_size * dynamic_count l) true 0 l.groups h.shares.files (length l.groups - 1) item.item (omega arith) in
     let own' = rw (eq-eqb _ _ last) at own in
     let whole = total_within (λ (g : Group). total (share l role.Dynamic) g.files) l.groups (length l.groups - 1) item.item (omega arith) in
+    omega arith
+
+-- and no group gives anything to the dynamic section
+dynamic_nothing : (l : Layout) → Laid l → list_any (has_role role.Dynamic) l.parts ≡ false → total_share l role.Dynamic ≡ 0 → table_bytes l role.Dynamic ≡ []
+dynamic_nothing l h none shared =
+    let room = no_room l h none in
+    let count = no_count l h shared in
     let long = lengths l (dynamic_room l) (omega arith) in
     by l.groups (omega arith)
   where
@@ -143,12 +149,17 @@ dynamic_nothing l h none shared =
             zero_if true n e = e
             zero_if false n e = refl
 
-missing_table : (l : Layout) → Laid l → (r : Role) → part_with r l.parts ≡ None → table_bytes l r ≡ []
-missing_table l h r none =
+-- where the part of a role is not there, nothing has to be written in one
+pub nothing_shared : (l : Layout) → Laid l → (r : Role) → part_with r l.parts ≡ None → total_share l r ≡ 0
+nothing_shared l h r none =
     let P : Role → Type 0 = λ s. role_given l s ≡ true in
     let asked = subst P (role_at r) (h.roles.given (role_place r) role.Raw (role_listed r)) in
+    given_there l r asked (none_passes (has_role r) l.parts none)
+
+missing_table : (l : Layout) → Laid l → (r : Role) → part_with r l.parts ≡ None → table_bytes l r ≡ []
+missing_table l h r none =
     let absent = none_passes (has_role r) l.parts none in
-    let shared = given_there l r asked absent in
+    let shared = nothing_shared l h r none in
     elim (cases_Bool (role_place r == role_place role.Dynamic)) [
       | inl t ↦
           (let is = same_role r role.Dynamic (eqb-true _ _ t) in
