@@ -1,6 +1,6 @@
 -- The shares of the plan of n groups are what is needed, and its relocations have no faults.
 use Rattle.std.proofs.Common.{◌≡◌, ℕ, ◌+◌, ◌*◌, ◌-◌, ◌^◌, ◌<◌, ◌≤◌, ◌==◌, ◌%◌, inl, inr, Bool, true, false, if◌then◌else◌, ◌||◌, min, [], ◌∷◌, length, map, refl, sym, ap, ◌∙◌, arith}
-use Rattle.std.specs.Prelude.{Some, None, Ok, nat_le, nat_lt, slice_get}
+use Rattle.std.specs.Prelude.{Some, None, Ok, nat_le, nat_lt, slice_get, slice_index_or}
 use Rattle.std.specs.List.{flat_map, range_with_len}
 use lib.IntN.{negsuc}
 use Rattle.std.proofs.lemmas.Bool.{cases_Bool, cases_lt, le-leb, lt-ltb, le-ltb}
@@ -15,7 +15,7 @@ use Rattle.wild_plan.specs.Lists.{total}
 use Rattle.wild_plan.specs.Needs.{needs, needs_of, share}
 use Rattle.wild_plan.specs.Rows.{row_of}
 use Rattle.wild_plan.specs.Contents.{given}
-use Rattle.wild_plan.specs.Lookups.{is_read}
+use Rattle.wild_plan.specs.Lookups.{bit, is_read}
 use Rattle.wild_reloc.specs.TableX86_64.{x86_64_row}
 use Rattle.wild_reloc.specs.declared.info.RelocationSize.TheVariants.{ByteSize}
 use Rattle.wild_reloc.specs.declared.info.Width.TheVariants.{Four}
@@ -25,16 +25,16 @@ use Rattle.wild_layout.specs.declared.decision.Decision.TheVariants.{Field}
 use Rattle.wild_layout.specs.Decide.{decided, decide}
 use Rattle.wild_layout.specs.Sites.{field_site, site, extent_of}
 use Rattle.wild_layout.specs.Values.{raw_value, displacement, place_of}
-use Rattle.wild_layout.specs.Faults.{errors, flat_map_from, share_errors, part_errors, relocation_errors, section_errors, file_errors, group_errors}
-use Rattle.wild_made.specs.Made.{made_section, made_object, plain_file, made_files, made_symbol, made_group, made_relocation, made_parts, made, callee, start_of}
+use Rattle.wild_layout.specs.Faults.{errors, flat_map_from, share_errors, has_spare, part_errors, relocation_errors, section_errors, file_errors, group_errors}
+use Rattle.wild_made.specs.Made.{made_section, made_object, plain_file, made_files, made_symbol, made_group, made_relocation, part_with, made_parts, made, callee, start_of}
 use Rattle.wild_made.specs.Laws.{IsCount}
 use Rattle.wild_made.proofs.ListLemmas.{made_from, nothing_from, item_at}
 use Rattle.wild_made.proofs.GroupLemmas.{clauses_hold}
 
 -- ---- shares
 
-no_share_errors : (part group x y : ℕ) → x ≡ y → share_errors part group x y ≡ []
-no_share_errors part group x y e = let a = le-ltb x y (omega arith) in let b = le-ltb y x (omega arith) in rw (a, b) refl
+no_share_errors : (spare : Bool) (part group x y : ℕ) → x ≡ y → share_errors spare part group x y ≡ []
+no_share_errors spare part group x y e = let a = le-ltb x y (omega arith) in let b = le-ltb y x (omega arith) in rw (a, b) refl
 
 needs_made : (n i j : ℕ) (p : Part) → j < n → slice_get (made_parts n) i ≡ Some p → needs (made n) i j ≡ needs_of (made n) p.role i (made_group n j)
 unfolding needs made
@@ -49,9 +49,9 @@ prelude_total t n i w first own last =
     ]
 
 own_needed : (n i j w : ℕ) (r : Role) (p : Part) → j < n → slice_get (made_parts n) i ≡ Some p → needs_of (made n) p.role i (made_group n j) ≡ min (2 ^ 64 - 1) (total (share (made n) r) (made_files n j)) → share (made n) r (plain_file file_role.Prelude) ≡ w
-    → w < 2 ^ 64 → given i (made_group n j) ≡ (if j == 0 then w else 0) → given i (made_group n j) ≡ needs (made n) i j
-own_needed n i j w r p h at is whole small has =
-    let e = prelude_total (share (made n) r) n j w whole refl refl in
+    → share (made n) r (made_object n j) ≡ 0 → share (made n) r (plain_file file_role.Epilogue) ≡ 0 → w < 2 ^ 64 → given i (made_group n j) ≡ (if j == 0 then w else 0) → given i (made_group n j) ≡ needs (made n) i j
+own_needed n i j w r p h at is whole own last small has =
+    let e = prelude_total (share (made n) r) n j w whole own last in
     has ∙ sym (needs_made n i j p h at ∙ is ∙ rw e (limit (j == 0) w small))
   where
     limit : (b : Bool) (w : ℕ) → w < 2 ^ 64 → min (2 ^ 64 - 1) (if b then w else 0) ≡ (if b then w else 0)
@@ -64,30 +64,32 @@ has_given n i j c first later = elim (cases_Bool (j == 0)) [ inl a ↦ rw a firs
 
 header_needed : (n j : ℕ) → j < n → given 0 (made_group n j) ≡ needs (made n) 0 j
 unfolding made
-header_needed n j h = own_needed n 0 j 64 role.FileHeader _ h refl refl refl (omega arith) (has_given n 0 j 64 refl refl)
+header_needed n j h = own_needed n 0 j 64 role.FileHeader _ h refl refl refl refl refl (omega arith) (has_given n 0 j 64 refl refl)
 
 segments_needed : (n j : ℕ) → j < n → given 1 (made_group n j) ≡ needs (made n) 1 j
 unfolding made
-segments_needed n j h = own_needed n 1 j 56 role.ProgramHeaders _ h refl refl refl (omega arith) (has_given n 1 j 56 refl refl)
+segments_needed n j h = own_needed n 1 j 56 role.ProgramHeaders _ h refl refl refl refl refl (omega arith) (has_given n 1 j 56 refl refl)
 
 code_needed : (n j : ℕ) → j < n → given 2 (made_group n j) ≡ needs (made n) 2 j
 code_needed n j h = sym (needs_made n 2 j _ h refl)
 
 names_needed : (n j : ℕ) → j < n → given 3 (made_group n j) ≡ needs (made n) 3 j
 unfolding made
-names_needed n j h = own_needed n 3 j 17 role.Shstrtab _ h refl refl refl (omega arith) (has_given n 3 j 17 refl refl)
+names_needed n j h = own_needed n 3 j 17 role.Shstrtab _ h refl refl refl refl refl (omega arith) (has_given n 3 j 17 refl refl)
 
 sections_needed : (n j : ℕ) → j < n → given 4 (made_group n j) ≡ needs (made n) 4 j
 unfolding made
-sections_needed n j h = own_needed n 4 j 192 role.SectionHeaders _ h refl refl refl (omega arith) (has_given n 4 j 192 refl refl)
+sections_needed n j h = own_needed n 4 j 192 role.SectionHeaders _ h refl refl refl refl refl (omega arith) (has_given n 4 j 192 refl refl)
 
-part_clean : (n i : ℕ) → ((j : ℕ) → j < n → given i (made_group n j) ≡ needs (made n) i j) → flat_map_from (λ j (g : Group). share_errors i j (given i g) (needs (made n) i j)) 0 (made_from (made_group n) 0 n) ≡ []
-part_clean n i h = nothing_from (λ j (g : Group). share_errors i j (given i g) (needs (made n) i j)) (made_group n) 0 n (λ j low high. no_share_errors i j _ _ (h j (omega arith)))
+part_clean : (n i : ℕ) (p : Part) → ((j : ℕ) → j < n → given i (made_group n j) ≡ needs (made n) i j) → flat_map_from (λ j (g : Group). share_errors (has_spare p g) i j (given i g) (needs (made n) i j)) 0 (made_from (made_group n) 0 n) ≡ []
+part_clean n i p h = nothing_from (λ j (g : Group). share_errors (has_spare p g) i j (given i g) (needs (made n) i j)) (made_group n) 0 n (λ j low high. no_share_errors (has_spare p (made_group n j)) i j _ _ (h j (omega arith)))
 
 pub no_part_errors : (n : ℕ) → flat_map_from (part_errors (made n)) 0 (made n).parts ≡ []
 unfolding made
 no_part_errors n =
-    simp (part_clean n 0 (header_needed n), part_clean n 1 (segments_needed n), part_clean n 2 (code_needed n), part_clean n 3 (names_needed n), part_clean n 4 (sections_needed n)) refl
+    let parts = made_parts n in
+    let part = λ (k : ℕ). slice_index_or parts k (part_with role.Raw 0 0 0 0 0) in
+    simp (part_clean n 0 (part 0) (header_needed n), part_clean n 1 (part 1) (segments_needed n), part_clean n 2 (part 2) (code_needed n), part_clean n 3 (part 3) (names_needed n), part_clean n 4 (part 4) (sections_needed n)) refl
 
 -- ---- values
 
@@ -121,7 +123,7 @@ abbrev call_value : ℕ → ℕ → ℕ → ℕ
 call_value n i j = displacement (start_of (callee n i j)) (negsuc 3) (place_of (made_section n i) (made_relocation n i j))
 
 decided_made : (n i j : ℕ) → IsCount n → i < n → j < 8 → decided (made n) (made_section n i) (made_relocation n i j) ≡ Ok (Field (ByteSize Four) (call_value n i j))
-unfolding decided treatment row_treatment row_of x86_64_row made_section made
+unfolding decided treatment row_treatment row_of x86_64_row made_section made bit
 decided_made n i j h low call =
     let some = h.some in
     let named : callee n i j < n = omega arith in

@@ -9,9 +9,9 @@ use Rattle.wild_plan.specs.Lists.{first_failing, total, through}
 use Rattle.wild_plan.specs.Lookups.{bit, files_of, file_of}
 use Rattle.wild_plan.specs.Rows.{row_of}
 use Rattle.wild_reloc.specs.TableX86_64.{x86_64_row}
-use Rattle.wild_plan.specs.Contents.{each_section, given, share_mismatch, has_share_for_each_part, files_placed, file_misplaced, part_placed, file_placed_in, parts_placed, section_misplaced, length_fits, discarded_is_empty, part_is_raw, allocation_agrees, bytes_take_room, fields_lie, input_name_fits, symbol_name_fits}
+use Rattle.wild_plan.specs.Contents.{each_section, given, share_mismatch, has_share_for_each_part, files_placed, file_misplaced, part_placed, file_placed_in, parts_placed, section_misplaced, length_fits, discarded_is_empty, part_is_raw, allocation_agrees, bytes_take_room, fields_lie, start_astray, input_name_fits, symbol_name_fits}
 use Rattle.wild_plan.specs.Indexes.{group_indexes_fit, file_indexes_fit, section_indexes_fit, relocation_index_fits, definition_is_own, range_follows, range_out_of_order, symbol_misfit}
-use Rattle.wild_plan.specs.WellFormed.{check_shares, check_inputs, check_indexes, check_fields, check_names, first_clause}
+use Rattle.wild_plan.specs.WellFormed.{check_shares, check_inputs, check_indexes, check_fields, check_tls, check_starts, check_names, first_clause}
 use Rattle.wild_made.specs.Made.{made_section, made_object, plain_file, made_files, made_symbol, made_group, made_relocation, made_parts, made, callee}
 use Rattle.wild_made.specs.Laws.{IsCount}
 use Rattle.wild_made.proofs.ListLemmas.{made_from, none_fails, total_same, length_made, both_true, list_all_made}
@@ -232,7 +232,7 @@ pub indexes_hold : (n : ℕ) → IsCount n → check_indexes (made n) ≡ Ok tt
 unfolding check_indexes made
 indexes_hold n c = rw (none_astray n 0 n (omega arith), group_indexes n c, definitions_own n, ranges_follow n 0 n) refl
 
--- ---- clauses 10 and 19
+-- ---- clauses 10, 15, 16 and 19
 
 fields_fit : (n : ℕ) → first_failing (each_section (fields_lie (made n).machine)) 0 (made_from (made_group n) 0 n) ≡ None
 unfolding made_section made row_of x86_64_row
@@ -241,6 +241,19 @@ fields_fit n = sections_pass (fields_lie (made n).machine) n (λ i h. refl)
 pub fields_hold : (n : ℕ) → check_fields (made n) ≡ Ok tt
 unfolding check_fields made
 fields_hold n = rw (fields_fit n) refl
+
+pub tls_holds : (n : ℕ) → check_tls (made n) ≡ Ok tt
+unfolding check_tls made
+tls_holds n = refl
+
+-- no group has dynamic strings
+none_starts_astray : (n a m : ℕ) → start_astray None 0 a (made_from (made_group n) a m) ≡ None
+none_starts_astray n a zero = refl
+none_starts_astray n a (suc m) = none_starts_astray n (a + 1) m
+
+pub starts_hold : (n : ℕ) → check_starts (made n) ≡ Ok tt
+unfolding check_starts made
+starts_hold n = rw (none_starts_astray n 0 n) refl
 
 input_names_fit : (n : ℕ) → first_failing (each_section input_name_fits) 0 (made_from (made_group n) 0 n) ≡ None
 unfolding made_section
@@ -254,4 +267,4 @@ names_hold n = rw (none_fails symbol_name_fits made_symbol 0 0 n (λ k low high.
 
 pub clauses_hold : (n : ℕ) → IsCount n → first_clause (made n) ≡ Ok tt
 unfolding first_clause
-clauses_hold n c = rw (sizes_hold n c, counts_hold n c, order_holds n c, roles_hold n, sections_hold n, segments_hold n c, shares_hold n c, inputs_hold n, indexes_hold n c, fields_hold n, names_hold n) refl
+clauses_hold n c = rw (sizes_hold n c, counts_hold n c, order_holds n c, roles_hold n, sections_hold n, segments_hold n c, shares_hold n c, inputs_hold n, indexes_hold n c, fields_hold n, tls_holds n, starts_hold n, names_hold n) refl

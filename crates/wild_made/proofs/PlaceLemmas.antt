@@ -1,15 +1,23 @@
 -- The clauses on sizes, counts, parts, sections and segments hold of the plan of n groups.
-use Rattle.std.proofs.Common.{◌≡◌, ℕ, ◌+◌, ◌*◌, ◌-◌, ◌^◌, ◌<◌, ◌==◌, ◌%◌, inl, inr, Bool, true, false, not, ◌||◌, [], ◌∷◌, drop, refl, arith}
+use Rattle.std.proofs.Common.{◌≡◌, ℕ, ◌+◌, ◌*◌, ◌-◌, ◌^◌, ◌<◌, ◌==◌, ◌%◌, inl, inr, Bool, true, false, not, ◌||◌, List, [], ◌∷◌, drop, refl, ◌∙◌, arith}
 use Rattle.std.specs.Prelude.{None, Ok, nat_le, codes}
 use Rattle.std.specs.List.{list_all, list_any}
 use lib.Count.{ones}
 use Rattle.std.proofs.lemmas.Bool.{cases_Bool, le-leb, lt-ltb, ne_eqb}
 use Rattle.wild_plan.specs.declared.file.File.{File}
 use Rattle.wild_plan.specs.declared.file.FileRole.TheVariants as file_role
+use Rattle.wild_plan.specs.declared.file.Group.{Group}
 use Rattle.wild_plan.specs.declared.input.InputSection.{InputSection}
 use Rattle.wild_plan.specs.Lists.{first_failing, total}
 use Rattle.wild_plan.specs.Lookups.{bit, image_size}
-use Rattle.wild_plan.specs.Places.{group_fits, relocations_of, relocations_in, relocation_count}
+use Rattle.wild_plan.specs.declared.part.Role.{Role}
+use Rattle.wild_plan.specs.declared.part.Role.TheVariants as role
+use Rattle.wild_plan.specs.Counts.{total_share, role_given}
+use Rattle.wild_plan.specs.Dynamic.{named_strings, dynamic_entries, string_entries, tag_entries}
+use Rattle.wild_plan.specs.Entries.{listed_places, packed_places}
+use Rattle.wild_plan.specs.Needs.{share}
+use Rattle.wild_relr.specs.Packed.{packed, packed_on}
+use Rattle.wild_plan.specs.Places.{group_fits, relocations_of, relocations_in, relocation_count, roles}
 use Rattle.wild_plan.specs.Segments.{has_byte, is_asked, bytes_are_loaded}
 use Rattle.wild_plan.specs.Contents.{each_in, each_section}
 use Rattle.wild_plan.specs.declared.section.Section.{Section}
@@ -17,7 +25,7 @@ use Rattle.wild_plan.specs.declared.section.Side.{Side}
 use Rattle.wild_plan.specs.declared.section.Side.TheVariants as side
 use Rattle.wild_plan.proofs.CoverLemmas.{all_below_from}
 use Rattle.wild_records.specs.Abi.Section.{sht_progbits, sht_strtab}
-use Rattle.wild_plan.specs.WellFormed.{check_sizes, check_counts, check_order, check_roles, check_sections, check_segments}
+use Rattle.wild_plan.specs.WellFormed.{check_sizes, check_counts, check_order, check_roles, check_sections, check_entries, check_segments}
 use Rattle.wild_made.specs.Made.{made_section, made_object, plain_file, made_files, made_symbol, made_group, section_with, made_sections, made_segment, made}
 use Rattle.wild_made.specs.Laws.{IsCount}
 use Rattle.wild_made.proofs.ListLemmas.{made_from, none_fails, total_same, length_made}
@@ -73,8 +81,13 @@ pub relocations_made : (n : ℕ) → relocation_count (made n) ≡ 8 * n
 unfolding made
 relocations_made n = total_same relocations_of (made_group n) 8 0 n (λ k low high. group_relocations n k)
 
+-- nothing has to be written in a part of a role where none of the three kinds of files writes there
+nothing_shared : (n : ℕ) (r : Role) → share (made n) r (plain_file file_role.Prelude) ≡ 0 → ((i : ℕ) → share (made n) r (made_object n i) ≡ 0) → share (made n) r (plain_file file_role.Epilogue) ≡ 0 → total_share (made n) r ≡ 0
+unfolding made
+nothing_shared n r first own last = let none = total_same (λ (g : Group). total (share (made n) r) g.files) (made_group n) 0 0 n (λ k low high. total_files (share (made n) r) n k first last ∙ own k) in omega arith
+
 pub counts_hold : (n : ℕ) → IsCount n → check_counts (made n) ≡ Ok tt
-unfolding check_counts made
+unfolding check_counts made named_strings
 counts_hold n c =
     let some = c.some in
     let few = c.few in
@@ -83,7 +96,7 @@ counts_hold n c =
     let a = lt-ltb n (2 ^ 32 - 1) (omega arith) in
     let b = lt-ltb (8 * n) (2 ^ 32 - 1) (omega arith) in
     let d = le-leb 1 n some in
-    simp (symbols, groups, relocations_made n, a, b, d) refl
+    simp (symbols, groups, relocations_made n, a, b, d, nothing_shared n role.Dynstr refl (λ i. refl) refl) refl
 
 -- ---- clauses 3, 4 and 5
 
@@ -96,9 +109,23 @@ order_holds n c =
     let e : (152 + 64 * n) % 8 ≡ 0 = omega arith in
     simp (a, b, d, e) refl
 
+-- each role is there, or nothing has to be written in a part of it
+each_given : (n : ℕ) (r : Role) → role_given (made n) r ≡ true
+unfolding made named_strings dynamic_entries string_entries tag_entries listed_places packed_places packed packed_on
+each_given n role.Raw = refl
+each_given n role.FileHeader = refl
+each_given n role.ProgramHeaders = refl
+each_given n role.SectionHeaders = refl
+each_given n role.Shstrtab = refl
+each_given n other = rw (nothing_shared n other refl (λ i. refl) refl) refl
+
+none_fails_in : {X : Type 0} (t : X → Bool) (i : ℕ) (xs : List X) → ((x : X) → t x ≡ true) → first_failing t i xs ≡ None
+none_fails_in t i [] h = refl
+none_fails_in t i (x ∷ xs) h = rw (h x) (none_fails_in t (i + 1) xs h)
+
 pub roles_hold : (n : ℕ) → check_roles (made n) ≡ Ok tt
 unfolding check_roles made
-roles_hold n = refl
+roles_hold n = rw (none_fails_in (role_given (made n)) 0 roles (each_given n)) refl
 
 pub sections_hold : (n : ℕ) → check_sections (made n) ≡ Ok tt
 unfolding check_sections made bit
@@ -154,7 +181,7 @@ each_loaded on n =
     rw (a, b) refl
 
 pub segments_hold : (n : ℕ) → IsCount n → check_segments (made n) ≡ Ok tt
-unfolding check_segments made bit
+unfolding check_segments check_entries made bit
 segments_hold n c =
     let some = c.some in
     let a = le-leb (128 + 64 * n) (128 + 64 * n) (omega arith) in
