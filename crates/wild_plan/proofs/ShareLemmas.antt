@@ -1,0 +1,81 @@
+-- What files have to write where nothing is needed.
+use Rattle.std.proofs.Common.{◌≡◌, ℕ, ◌+◌, ◌-◌, ◌*◌, ◌^◌, min, inl, inr, Bool, true, false, List, [], ◌∷◌, length, refl, ap, ◌∙◌, arith}
+use Rattle.std.specs.Prelude.{if◌then◌else◌, ◌&&◌, Option}
+use Rattle.std.proofs.lemmas.Bool.{cases_Bool}
+use Rattle.wild_relr.specs.Packed.{packed}
+use Rattle.wild_plan.specs.declared.file.File.{File}
+use Rattle.wild_plan.specs.declared.file.Group.{Group}
+use Rattle.wild_plan.specs.declared.input.InputRelocation.{InputRelocation}
+use Rattle.wild_plan.specs.declared.input.InputSection.{InputSection}
+use Rattle.wild_plan.specs.declared.layout.Layout.{Layout}
+use Rattle.wild_plan.specs.declared.part.Role.{Role}
+use Rattle.wild_plan.specs.declared.part.Role.TheVariants as role
+use Rattle.wild_plan.specs.Dynamic.{named_strings, tag_entries, string_entries, string_start, dynamic_entries, dynamic_count, dynamic_strings, epilogue_string_bytes}
+use Rattle.wild_plan.specs.Entries.{listed_place, packed_place, moved_of, listed_places, packed_places, words_of, entry_count, word_count}
+use Rattle.wild_plan.specs.Kinds.{is_position_independent, needs_dynamic}
+use Rattle.wild_plan.specs.Lists.{total}
+use Rattle.wild_plan.specs.Needs.{is_prelude, is_epilogue, whole_of, own_of, share}
+use Rattle.wild_plan.specs.Counts.{total_share}
+use Rattle.wild_plan.proofs.EntryLemmas.{packed_none}
+
+total_none : {X : Type 0} (f : X → ℕ) (xs : List X) → ((x : X) → f x ≡ 0) → total f xs ≡ 0
+total_none f [] h = refl
+total_none f (x ∷ xs) h = let a = h x in let b = total_none f xs h in omega (arith, a, b)
+
+-- ---- an output that does not move has no entries and no words
+
+no_moved : {X : Type 0} (l : Layout) (s : InputSection) (f : InputRelocation → Option X) → is_position_independent l.kind ≡ false → moved_of l s f ≡ []
+no_moved l s f h = rw h refl
+
+no_entries : (l : Layout) (f : File) → is_position_independent l.kind ≡ false → entry_count l f ≡ 0
+unfolding listed_places
+no_entries l f h = total_none (λ (s : InputSection). length (listed_places l s)) f.sections (λ s. ap length (no_moved l s (listed_place l s) h))
+
+no_words : (l : Layout) (f : File) → is_position_independent l.kind ≡ false → word_count l f ≡ 0
+unfolding packed_places
+no_words l f h = total_none (λ (s : InputSection). length (words_of l s)) f.sections (λ s. ap (λ (ps : List ℕ). length (packed ps)) (no_moved l s (packed_place l s) h) ∙ ap length packed_none)
+
+-- ---- one without dynamic linking has no dynamic section
+
+no_strings : (l : Layout) → needs_dynamic l.kind ≡ false → epilogue_string_bytes l ≡ 0
+unfolding named_strings
+no_strings l h = rw h refl
+
+no_dynamic : (l : Layout) → needs_dynamic l.kind ≡ false → dynamic_count l ≡ 0
+unfolding dynamic_entries named_strings tag_entries string_entries
+no_dynamic l h = rw h refl
+
+-- ---- shares
+
+own_none : (l : Layout) (r : Role) (f : File) → is_position_independent l.kind ≡ false → needs_dynamic l.kind ≡ false → own_of l r f ≡ 0
+own_none l role.RelaDynRelative f h d = let e = no_entries l f h in rw e refl
+own_none l role.RelrDyn f h d = let e = no_words l f h in rw e refl
+own_none l role.Dynsym f h d = rw d refl
+own_none l role.Dynstr f h d = let e = no_strings l d in by_end (is_epilogue f.role) e
+  where
+    by_end : (b : Bool) → epilogue_string_bytes l ≡ 0 → (if needs_dynamic l.kind && is_prelude f.role then 1 else 0) + (if b then epilogue_string_bytes l else 0) ≡ 0
+    by_end true e = rw (d, e) refl
+    by_end false e = rw d refl
+own_none l role.Dynamic f h d = let e = no_dynamic l d in by_end (is_epilogue f.role) e
+  where
+    by_end : (b : Bool) → dynamic_count l ≡ 0 → (if b then 16 * dynamic_count l else 0) ≡ 0
+    by_end true e = rw e refl
+    by_end false e = refl
+own_none l other f h d = refl
+
+share_none : (l : Layout) (r : Role) (f : File) → is_position_independent l.kind ≡ false → needs_dynamic l.kind ≡ false → whole_of l r ≡ 0 → share l r f ≡ 0
+share_none l r f h d w =
+    let own = own_none l r f h d in
+    elim (cases_Bool (is_prelude f.role)) [
+      | inl t ↦ rw (t, w, own) refl
+      | inr n ↦ rw (n, own) refl
+    ]
+
+-- where nothing stands once in the image, a static output at its own addresses needs nothing
+pub no_share : (l : Layout) (r : Role) (n : ℕ) → n ≡ min (2 ^ 64 - 1) (whole_of l r) → is_position_independent l.kind ≡ false → needs_dynamic l.kind ≡ false → n ≡ 0 → total_share l r ≡ 0
+no_share l r n is h d none =
+    let w : whole_of l r ≡ 0 = least (whole_of l r) n is none in
+    total_none (λ (g : Group). total (share l r) g.files) l.groups (λ g. total_none (share l r) g.files (λ f. share_none l r f h d w))
+  where
+    least : (k n : ℕ) → n ≡ min (2 ^ 64 - 1) k → n ≡ 0 → k ≡ 0
+    least k n e z = omega (arith, e, z)
