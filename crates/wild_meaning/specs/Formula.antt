@@ -1,15 +1,20 @@
 -- What a formula gives for a relocation of an item, in a world and a memory.
+--   IsTarget l w m symbol a  a is what S is
 --   IsSum l w m r x          x is S + A
+--   table_at l w             GOT
+--   IsOffset l w symbol t    t is S's offset from the thread pointer
+--   IsExtent l symbol z      z is Z
 --   Gives value l w m item r x   x is the value of the expression
 --   IsPlaceRelative value    the expression takes a place from an address
 use Rattle.std.specs.Prelude.{◌≡◌, ℕ, ◌+◌, ◌-◌, ◌%◌, ◌^◌, ⊤, Option, Some, None}
 use Rattle.std.specs.Int.{w64, cast_unsigned}
-use Rattle.wild_reloc.specs.Formula.{Value, SymbolAddress, Distance, PageDistance, FromTable, StubDistance, StubFromTable}
+use Rattle.wild_reloc.specs.Formula.{Value, SymbolAddress, Distance, PageDistance, FromTable, StubDistance, StubFromTable, TableDistance, ModuleOffset, PointerOffset, Size}
 use Rattle.wild_plan.specs.declared.input.InputRelocation.{InputRelocation}
 use Rattle.wild_plan.specs.declared.layout.Layout.{Layout}
 use Rattle.wild_loader.specs.declared.memory.Memory.{Memory}
 use Rattle.wild_loader.specs.declared.world.World.{World}
-use Rattle.wild_meaning.specs.Value.{Denotes}
+use Rattle.wild_meaning.specs.Value.{Denotes, HasSize}
+use Rattle.wild_meaning.specs.Thread.{HasThreadOffset, IsOffsetBase}
 use Rattle.wild_meaning.specs.Item.{Item, place_at}
 
 -- a is what S is: the symbol's address, or 0 without a symbol
@@ -23,14 +28,35 @@ pub record IsSum (l : Layout) (w : World) (m : Memory) (r : InputRelocation) (x 
   pub denoted : IsTarget l w m r.symbol symbol
   pub sum : x ≡ (symbol + cast_unsigned w64 r.addend) % 2 ^ 64
 
--- x is the value of the expression (x86-64 psABI, "Relocation Types"; aaelf64, "Relocation operations"). An expression
--- without a line gives no value: a layout with such a reference has no image yet
+-- GOT: the loaded address of the global offset table
+abbrev pub table_at : Layout → World → ℕ
+table_at l w = (w.base + l.got_base) % 2 ^ 64
+
+-- t is the offset of S from the thread pointer; without a symbol there is none
+abbrev pub IsOffset : Layout → World → Option ℕ → ℕ → Type 0
+IsOffset l w None t = ⊥
+IsOffset l w (Some i) t = HasThreadOffset l w i t
+
+-- z is Z, the symbol's size; without a symbol there is none
+abbrev pub IsExtent : Layout → Option ℕ → ℕ → Type 0
+IsExtent l None z = ⊥
+IsExtent l (Some i) z = HasSize l i z
+
+-- x is the value of the expression (x86-64 psABI, "Relocation Types"; aaelf64, "Relocation operations"; thread-local ones:
+-- "ELF Handling For Thread-Local Storage", "TLS Access Models"). An expression without a line gives no value: a layout with such a
+-- reference has no image yet
 abbrev pub Gives : Value → Layout → World → Memory → Item → InputRelocation → ℕ → Type 0
 Gives SymbolAddress l w m item r x = IsSum l w m r x
 Gives Distance l w m item r x = (t : ℕ) × IsSum l w m r t × (x ≡ (t + (2 ^ 64 - place_at w item r.offset)) % 2 ^ 64)
+Gives FromTable l w m item r x = (t : ℕ) × IsSum l w m r t × (x ≡ (t + (2 ^ 64 - table_at l w)) % 2 ^ 64)
+Gives TableDistance l w m item r x = x ≡ (table_at l w + cast_unsigned w64 r.addend + (2 ^ 64 - place_at w item r.offset)) % 2 ^ 64
+Gives PointerOffset l w m item r x = (t : ℕ) × IsOffset l w r.symbol t × (x ≡ (t + cast_unsigned w64 r.addend) % 2 ^ 64)
+Gives ModuleOffset l w m item r x = (t b : ℕ) × IsOffset l w r.symbol t × IsOffsetBase l.machine l.kind w b × (x ≡ (t + cast_unsigned w64 r.addend + (2 ^ 64 - b)) % 2 ^ 64)
+Gives Size l w m item r x = (z : ℕ) × IsExtent l r.symbol z × (x ≡ (z + cast_unsigned w64 r.addend) % 2 ^ 64)
 Gives other l w m item r x = ⊥
 
--- the expression takes P, Page(P) or GOT from S or L, also where it gives no value yet
+-- the expression takes P, Page(P) or GOT from S or L, also where it gives no value yet; GOT + A - P does not, since both
+-- move
 abbrev pub IsPlaceRelative : Value → Type 0
 IsPlaceRelative Distance = ⊤
 IsPlaceRelative PageDistance = ⊤

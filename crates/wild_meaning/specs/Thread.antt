@@ -1,0 +1,64 @@
+-- Thread-local storage ("ELF Handling For Thread-Local Storage", "Run-Time Handling of TLS"; AArch64 has variant I of its data
+-- structures, x86-64 variant II).
+--   thread_pointer l          the address that the thread pointer has where the initial data stand for a thread's own
+--   IsOwnDistance l d         d is the signed distance of the output's own data from the thread pointer
+--   HasDistance w d           d is the distance of the image's own module in the world, modulo 2^64
+--   HasThreadOffset l w i t   t is symbol i's offset from the thread pointer
+--   IsOffsetBase ..           offsets in the own module count from b
+use Rattle.std.specs.Prelude.{◌≡◌, ℕ, ℤ, ◌+◌, ◌-◌, ◌%◌, ◌^◌, ◌⊎◌, Ok}
+use Rattle.std.specs.Int.{w64, cast_unsigned}
+use Rattle.std.specs.Int.RustNames.{FitsSigned}
+use Rattle.wild_plan.specs.declared.kind.Machine.{Machine}
+use Rattle.wild_plan.specs.declared.kind.Machine.TheVariants as machine
+use Rattle.wild_plan.specs.declared.kind.OutputKind.{OutputKind}
+use Rattle.wild_plan.specs.declared.kind.OutputKind.TheVariants as output
+use Rattle.wild_plan.specs.declared.layout.Tls.{Tls}
+use Rattle.wild_plan.specs.declared.layout.Layout.{Layout}
+use Rattle.wild_loader.specs.declared.world.World.{World}
+use Rattle.wild_loader.specs.Changes.{distance_of}
+use Rattle.wild_meaning.specs.Value.{HasRaw, IsUndefined}
+
+-- the least multiple of an alignment that is not below n; 0 is no alignment (gABI, "Program Header", p_align)
+abbrev pub rounded_up : ℕ → ℕ → ℕ
+rounded_up n align = n + (align - n % align) % align
+
+-- the bytes of the thread control block that variant I has at the thread pointer, below the executable's data
+abbrev pub control_block_size : ℕ
+control_block_size = 16
+
+-- the thread pointer: behind the executable's data, or below them by the control block, up to the alignment
+abbrev pub thread_pointer_of : Machine → Tls → ℕ
+thread_pointer_of machine.X86_64 tls = rounded_up tls.end tls.align
+thread_pointer_of machine.AArch64 tls = tls.start + (2 ^ 64 - rounded_up control_block_size tls.align)
+
+abbrev pub thread_pointer : Layout → ℕ
+thread_pointer l = thread_pointer_of l.machine l.tls
+
+-- the data begin at the thread pointer plus d, modulo 2^64
+pub record IsOwnDistance (l : Layout) (d : ℤ) : Type 0 where
+  pub fits : FitsSigned w64 d
+  pub begins : (thread_pointer l + cast_unsigned w64 d) % 2 ^ 64 ≡ l.tls.start
+
+-- the distance that the world has for the image's own module
+abbrev pub HasDistance : World → ℕ → Type 0
+HasDistance w d = distance_of w w.own_module ≡ Ok d
+
+-- t is the own module's distance and symbol i's place in the initial data; the address of a thread-local symbol does not
+-- move with the base (no symbol is another module's yet)
+pub record IsThreadPlace (l : Layout) (w : World) (i t : ℕ) : Type 0 where
+  pub raw : ℕ
+  pub given : HasRaw l i raw
+  pub distance : ℕ
+  pub own : HasDistance w distance
+  pub sum : t ≡ (distance + raw + (2 ^ 64 - l.tls.start)) % 2 ^ 64
+
+-- t is symbol i's offset from the thread pointer; for one that nothing defines, or at address 0, also 0
+abbrev pub HasThreadOffset : Layout → World → ℕ → ℕ → Type 0
+HasThreadOffset l w i t = IsThreadPlace l w i t ⊎ ((IsUndefined l i ⊎ HasRaw l i 0) × (t ≡ 0))
+
+-- offsets in the own module count from b: from its data, but in an x86-64 executable, whose code has the thread pointer
+-- for their beginning, from there ("Linker Relaxations", from Local Dynamic to Local Exec)
+abbrev pub IsOffsetBase : Machine → OutputKind → World → ℕ → Type 0
+IsOffsetBase machine.X86_64 (output.StaticExecutable any) w b = b ≡ 0
+IsOffsetBase machine.X86_64 (output.DynamicExecutable any) w b = b ≡ 0
+IsOffsetBase machine kind w b = HasDistance w b
