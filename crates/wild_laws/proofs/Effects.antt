@@ -24,9 +24,10 @@ use Rattle.wild_meaning.specs.Item.{place_at, item_of, IsReference}
 use Rattle.wild_meaning.specs.Field.{formula_of, form_width, InNoField}
 use Rattle.wild_meaning.specs.Formula.{IsTarget, Gives}
 use Rattle.wild_meaning.specs.Template.{Operand, call_operand, operands_of, IsTemplate, IsGoal, DoesDemanded}
-use Rattle.wild_meaning.specs.Reference.{ItemHolds}
+use Rattle.wild_meaning.specs.Reference.{IsAsked, ItemHolds}
 use Rattle.wild_laws.proofs.Tests.{both_of}
-use Rattle.wild_laws.proofs.References.{IsSectionLoaded, other_byte, holds_plain}
+use Rattle.wild_laws.proofs.Fields.{IsSectionLoaded, other_byte}
+use Rattle.wild_laws.proofs.References.{holds_plain}
 
 -- ---- the template
 
@@ -70,11 +71,11 @@ Holds-cons m a b bs h t = λ k l. at m a b bs h t k l
     at m a b bs h t (suc k) l = let e : a + suc k ≡ a + 1 + k = omega arith in rw e (t k (omega arith))
 
 -- the call's arithmetic: behind the field, plus S + A - P
-call_sum : (a p t c : ℕ) → p ≡ a + 1 → a < 2 ^ 63 → (a + 5 + ((t + c) % 2 ^ 64 + (2 ^ 64 - p)) % 2 ^ 64) % 2 ^ 64 ≡ (t + c + 4) % 2 ^ 64
+call_sum : (a p t c : ℕ) → p ≡ a + 1 → a < 2 ^ 64 → (a + 5 + ((t + c) % 2 ^ 64 + (2 ^ 64 - p)) % 2 ^ 64) % 2 ^ 64 ≡ (t + c + 4) % 2 ^ 64
 call_sum a p t c e low = omega (arith, e, low)
 
 -- a field of 32 bits, read signed, in memory behind the opcode of a call
-call_goes : (m : Memory) (a p x t c : ℕ) (bytes : List ℕ) → CallsAreRead → m.machine ≡ machines.X86_64 → p ≡ a + 1 → a < 2 ^ 63 → byte_in m a ≡ Some 0xe8 → length bytes ≡ 4 → Holds m p bytes → sign_extended 32 (number bytes) ≡ x → x ≡ ((t + c) % 2 ^ 64 + (2 ^ 64 - p)) % 2 ^ 64
+call_goes : (m : Memory) (a p x t c : ℕ) (bytes : List ℕ) → CallsAreRead → m.machine ≡ machines.X86_64 → p ≡ a + 1 → a < 2 ^ 64 → byte_in m a ≡ Some 0xe8 → length bytes ≡ 4 → Holds m p bytes → sign_extended 32 (number bytes) ≡ x → x ≡ ((t + c) % 2 ^ 64 + (2 ^ 64 - p)) % 2 ^ 64
     → step m a ≡ Some (record { length = 5; width = 64; kind = effects.Call ((t + c + 4) % 2 ^ 64) })
 call_goes m a p x t c bytes calls same e low op four held read is =
     let here = subst (λ (q : ℕ). Holds m q bytes) e held in
@@ -110,10 +111,10 @@ opcode_held l w m s r start h t =
     let first : slice_index s.bytes start ≡ 0xe8 = sym (range_first s.bytes start 5 (omega arith)) ∙ stands_first 0xe8 (Any ∷ Any ∷ Any ∷ Any ∷ []) (slice_range s.bytes start (start + 5)) t.stands in
     other_byte l w m s start h (omega (arith, inside)) alone ∙ ap Some first
 
-call_does : (l : Layout) (w : World) (m : Memory) (s : InputSection) (r : InputRelocation) (start : ℕ) → CallsAreRead → IsSectionLoaded l w m s → IsReference (item_of s) r → IsTemplate l (item_of s) r start call_operand → DoesDemanded l w m (item_of s) r start call_operand
-call_does l w m s r start calls h ref t =
-    let plain = holds_plain l w m s r h ref in
-    let f = formula_is l.machine r.number plain.formula h.x86 (only_pc32 r.number t.number) plain.known in
+call_does : (l : Layout) (w : World) (m : Memory) (s : InputSection) (r : InputRelocation) (start : ℕ) → CallsAreRead → IsSectionLoaded l w m s → IsReference (item_of s) r → IsAsked l w r → IsTemplate l (item_of s) r start call_operand → DoesDemanded l w m (item_of s) r start call_operand
+call_does l w m s r start calls h ref asked t =
+    let plain = holds_plain l w m s r h ref asked in
+    let f = formula_is l.machine r.number plain.formula h.placed.x86 (only_pc32 r.number t.number) plain.known in
     let wide : length plain.field.bytes ≡ 4 = plain.field.wide ∙ ap (λ (g : Formula). form_width g.form) f in
     let read : sign_extended 32 (number plain.field.bytes) ≡ plain.value = subst (λ (g : Formula). Reads g.form plain.field.bytes plain.value) f plain.field.reads in
     let gives = subst (λ (g : Formula). Gives g.value l w m (item_of s) r plain.value) f plain.gives in
@@ -121,23 +122,22 @@ call_does l w m s r start calls h ref t =
     let behind = t.field in
     let next : place_at w (item_of s) r.offset ≡ place_at w (item_of s) start + 1 = omega (arith, behind) in
     let full = h.full in
-    let low = h.low in
     let inside = t.inside in
-    let z = h.base in
+    let ends = h.ends (omega (arith, inside)) in
     record {
       goal = gives.1.symbol;
       reached = goal_of l w m r.symbol gives.1.symbol gives.1.denoted;
-      effect = call_goes m (place_at w (item_of s) start) (place_at w (item_of s) r.offset) plain.value gives.1.symbol (cast_unsigned w64 r.addend) plain.field.bytes calls h.same next (omega (arith, full, low, inside, z)) (opcode_held l w m s r start h t) wide plain.field.held read is;
+      effect = call_goes m (place_at w (item_of s) start) (place_at w (item_of s) r.offset) plain.value gives.1.symbol (cast_unsigned w64 r.addend) plain.field.bytes calls h.same next (omega (arith, full, ends, inside)) (opcode_held l w m s r start h t) wide plain.field.held read is;
     }
 
-does_demanded : (l : Layout) (w : World) (m : Memory) (s : InputSection) (r : InputRelocation) (start : ℕ) (o : Operand) → CallsAreRead → IsSectionLoaded l w m s → IsReference (item_of s) r → IsTemplate l (item_of s) r start o → DoesDemanded l w m (item_of s) r start o
-does_demanded l w m s r start o calls h ref t =
+does_demanded : (l : Layout) (w : World) (m : Memory) (s : InputSection) (r : InputRelocation) (start : ℕ) (o : Operand) → CallsAreRead → IsSectionLoaded l w m s → IsReference (item_of s) r → IsAsked l w r → IsTemplate l (item_of s) r start o → DoesDemanded l w m (item_of s) r start o
+does_demanded l w m s r start o calls h ref asked t =
     let P : Operand → Type 0 = λ p. IsTemplate l (item_of s) r start p → DoesDemanded l w m (item_of s) r start p in
-    subst P (only_call l.machine o h.x86 t.known) (call_does l w m s r start calls h ref) t
+    subst P (only_call l.machine o h.placed.x86 t.known) (call_does l w m s r start calls h ref asked) t
 
 pub item_holds : (l : Layout) (w : World) (m : Memory) (s : InputSection) → CallsAreRead → IsSectionLoaded l w m s → ItemHolds l w m (item_of s)
 item_holds l w m s calls h = record {
-  references = λ r ref asked. inl (holds_plain l w m s r h ref);
-  effects = λ r start o ref asked t. does_demanded l w m s r start o calls h ref t;
+  references = λ r ref asked. inl (holds_plain l w m s r h ref asked);
+  effects = λ r start o ref asked t. does_demanded l w m s r start o calls h ref asked t;
   others = λ k lt out. other_byte l w m s k h lt out.fields;
 }

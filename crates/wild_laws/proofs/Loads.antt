@@ -1,5 +1,5 @@
 -- The image of a laid out layout is loaded.
-use Rattle.std.proofs.Common.{◌≡◌, ℕ, zero, suc, ◌+◌, ◌-◌, ◌^◌, ◌<◌, ◌≤◌, inl, inr, List, [], ◌∷◌, length, get_or, map, refl, sym, ap, ◌∙◌, arith, subst}
+use Rattle.std.proofs.Common.{◌≡◌, ℕ, zero, suc, ◌+◌, ◌-◌, ◌^◌, ◌<◌, ◌≤◌, inl, inr, true, List, [], ◌∷◌, length, get_or, map, refl, sym, ap, ◌∙◌, arith, subst}
 use Rattle.std.specs.Prelude.{AllPairs, Contains, drop, Ok}
 use Rattle.std.specs.List.{flat_map}
 use Rattle.std.proofs.lemmas.Bool.{cases_lt}
@@ -20,18 +20,19 @@ use Rattle.wild_plan.specs.declared.part.Role.TheVariants as role
 use Rattle.wild_plan.specs.declared.section.Segment.{Segment}
 use Rattle.wild_plan.specs.declared.layout.Layout.{Layout}
 use Rattle.wild_plan.specs.Lookups.{image_size}
+use Rattle.wild_plan.specs.Places.{is_fixed_static}
 use Rattle.wild_headers.specs.Headers.{file_header, program_header, section_headers_of, name_table, offset_of_role, file_header_bytes, program_header_bytes, section_header_bytes}
 use Rattle.wild_layout.specs.Image.{bytes, pieces, padding, padding_byte}
 use Rattle.wild_layout.specs.Numbers.{NumbersFit}
-use Rattle.wild_layout.specs.Geometry.{IsLaidOut, SegmentLoads, Ascends, IsPiece}
-use Rattle.wild_meaning.specs.World.{IsFixed}
+use Rattle.wild_layout.specs.Geometry.{IsLaidOut, SegmentLoads, IsStatic as StaticSegment, Ascends, IsPiece}
+use Rattle.wild_meaning.specs.World.{IsLegal}
 use Rattle.wild_loader.specs.declared.world.World.{World}
 use Rattle.wild_loader.specs.declared.memory.Memory.{Memory}
 use Rattle.wild_loader.specs.declared.memory.Machine.TheVariants as machines
 use Rattle.wild_loader.specs.Headers.{machine_of}
 use Rattle.wild_loader.specs.Load.{load}
 use Rattle.wild_loader.specs.Laws.{HasHeaders, IsLoadable, AreLoadable, Ascends as HeadersAscend, IsStatic, loaded_memory, PlainImagesAreLoaded, BytesAreLoaded, ZerosAreLoaded, CallsAreRead}
-use Rattle.wild_laws.specs.Laws.{HasOneOwnerEach}
+use Rattle.wild_laws.specs.Laws.{HasOneOwnerEach, IsStatic as IsStaticKind}
 use Rattle.wild_laws.proofs.HeadersFit.{file_header_fits, file_header_loads, name_table_below, program_header_fits, section_headers_fit, section_headers_static, length-section_headers, headers_told}
 use Rattle.wild_laws.proofs.Sections.{Tables}
 
@@ -52,7 +53,7 @@ length-padding l = length-map-range_with_len (padding_byte (drop 1 l.sections)) 
 apart_in : (l : Layout) → IsLaidOut l → AreApart (length (padding l)) (pieces l)
 apart_in l laid = subst (λ (n : ℕ). AreApart n (pieces l)) (sym (length-padding l)) laid.owners
 
-length-bytes : (l : Layout) → IsLaidOut l → length (bytes l) ≡ image_size l
+pub length-bytes : (l : Layout) → IsLaidOut l → length (bytes l) ≡ image_size l
 unfolding bytes
 length-bytes l laid = length-overlay (pieces l) (padding l) (apart_in l laid) ∙ length-padding l
 
@@ -99,7 +100,7 @@ names_low l laid =
     let few = laid.sections in
     omega (arith, below, few)
 
-pub has_headers : (l : Layout) → l.machine ≡ machine.X86_64 → IsFixed l.kind → NumbersFit l → IsLaidOut l → HasHeaders (bytes l) (file_header l) (map (program_header l) l.segments) (section_headers_of l l.sections)
+pub has_headers : (l : Layout) → l.machine ≡ machine.X86_64 → IsStaticKind l.kind → NumbersFit l → IsLaidOut l → HasHeaders (bytes l) (file_header l) (map (program_header l) l.segments) (section_headers_of l l.sections)
 unfolding file_header
 has_headers l m k numbers laid =
     record {
@@ -116,13 +117,12 @@ has_headers l m k numbers laid =
 
 -- ---- segments
 
-segment_loadable : (l : Layout) (w : World) (g : Segment) → w.base ≡ 0 → SegmentLoads (image_size l) g → IsLaidOut l → (program_header l g).kind ≡ pt_load → IsLoadable w.base (length (bytes l)) (program_header l g)
+segment_loadable : (l : Layout) (w : World) (g : Segment) → (g.kind ≡ pt_load → w.base + g.address + g.mem_size ≤ 2 ^ 64) → SegmentLoads (image_size l) g → IsLaidOut l → (program_header l g).kind ≡ pt_load → IsLoadable w.base (length (bytes l)) (program_header l g)
 unfolding program_header
-segment_loadable l w g z h laid k =
+segment_loadable l w g ends h laid k =
     let n = length-bytes l laid in
     let file = h.file in
-    let low = h.low in
-    record { file = omega (arith, n, file); sizes = h.sizes k; end = omega (arith, z, low) }
+    record { file = omega (arith, n, file); sizes = h.sizes k; end = ends k }
 
 pub kind_is : (l : Layout) (g : Segment) → (program_header l g).kind ≡ g.kind
 unfolding program_header
@@ -141,9 +141,9 @@ AllPairs-map {X} R f (x ∷ xs) h = λ i j d l m. at R f x xs h (AllPairs-map R 
     at R f x xs h again (suc i) (suc j) d l m = again i j d (omega arith) (omega arith)
     at R f x xs h again zero (suc j) d l m = All-map (R (f x)) f xs (λ k e lt. h 0 (suc k) e (omega arith) (omega arith)) j d (omega arith)
 
-pub are_loadable : (l : Layout) (w : World) → w.base ≡ 0 → IsLaidOut l → AreLoadable w.base (bytes l) (map (program_header l) l.segments)
-are_loadable l w z laid = record {
-  each = All-map (λ (h : ProgramHeader). h.kind ≡ pt_load → IsLoadable w.base (length (bytes l)) h) (program_header l) l.segments (λ i d lt. segment_loadable l w (get_or l.segments i d) z (laid.loadable.each i d lt) laid);
+pub are_loadable : (l : Layout) (w : World) → IsLegal l w → IsLaidOut l → AreLoadable w.base (bytes l) (map (program_header l) l.segments)
+are_loadable l w legal laid = record {
+  each = All-map (λ (h : ProgramHeader). h.kind ≡ pt_load → IsLoadable w.base (length (bytes l)) h) (program_header l) l.segments (λ i d lt. segment_loadable l w (get_or l.segments i d) (legal.ends i d lt) (laid.loadable.each i d lt) laid);
   ascend = AllPairs-map HeadersAscend (program_header l) l.segments (λ i j d lt m. headers_ascend l (get_or l.segments i d) (get_or l.segments j d) (laid.loadable.ascend i j d lt m));
 }
 
@@ -168,9 +168,9 @@ Contains-map f (z ∷ zs) x c = cases f z zs x c.0 c.1 c.2 (λ c'. Contains-map 
     cases f z zs x zero l e again = (0, omega arith, ap f e)
     cases f z zs x (suc k) l e again = let c = again (k, omega arith, e) in (suc c.0, omega (arith, c.1), c.2)
 
-segment_static : (l : Layout) (g : Segment) → SegmentLoads (image_size l) g → IsStatic (program_header l g)
+segment_static : (l : Layout) (g : Segment) → StaticSegment g → IsStatic (program_header l g)
 unfolding program_header
-segment_static l g h = h.static
+segment_static l g h = h
 
 -- the memory of the image in a world
 abbrev pub image_memory : Layout → World → Memory
@@ -180,11 +180,12 @@ pub image_machine : (l : Layout) (w : World) → l.machine ≡ machine.X86_64 �
 unfolding file_header
 image_machine l w m = rw m refl
 
-pub image_loads : (l : Layout) (w : World) → Laws → l.machine ≡ machine.X86_64 → IsFixed l.kind → NumbersFit l → w.base ≡ 0 → IsLaidOut l → load w (bytes l) ≡ Ok (image_memory l w)
-image_loads l w laws m k numbers z laid =
+-- an image without a dynamic section is its segments
+pub image_loads : (l : Layout) (w : World) → Laws → l.machine ≡ machine.X86_64 → IsStaticKind l.kind → is_fixed_static l.kind ≡ true → NumbersFit l → IsLegal l w → IsLaidOut l → load w (bytes l) ≡ Ok (image_memory l w)
+image_loads l w laws m k f numbers legal laid =
     laws.loaded w (bytes l) (file_header l) (map (program_header l) l.segments) (section_headers_of l l.sections)
     (has_headers l m k numbers laid)
     (file_header_loads l m k)
-    (are_loadable l w z laid)
-    (All-map IsStatic (program_header l) l.segments (λ i d lt. segment_static l (get_or l.segments i d) (laid.loadable.each i d lt)))
-    (section_headers_static l l.sections laid.loadable.entries)
+    (are_loadable l w legal laid)
+    (All-map IsStatic (program_header l) l.segments (λ i d lt. segment_static l (get_or l.segments i d) (laid.loadable.static (laid.loadable.fixed f) i d lt)))
+    (section_headers_static l l.sections (laid.loadable.entries f))

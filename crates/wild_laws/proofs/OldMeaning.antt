@@ -1,6 +1,6 @@
 -- The meaning of all layouts gives the first path's: fields that read as formulas, calls, and other bytes.
-use Rattle.std.proofs.Common.{◌≡◌, ℕ, zero, suc, ◌+◌, ◌-◌, ◌%◌, ◌^◌, ◌<◌, ◌≤◌, ◌⊎◌, inl, inr, Bool, true, false, List, [], ◌∷◌, length, get_or, slice_range, refl, sym, ap, ◌∙◌, arith, subst}
-use Rattle.std.specs.Prelude.{◌≢◌, Option, Some, None, All, Contains, slice_index, nat_lt, ◌==◌}
+use Rattle.std.proofs.Common.{◌≡◌, ℕ, zero, suc, ◌+◌, ◌-◌, ◌%◌, ◌^◌, ◌<◌, ◌≤◌, ◌⊎◌, inl, inr, true, false, List, [], ◌∷◌, length, get_or, slice_range, refl, sym, ap, ◌∙◌, arith, subst}
+use Rattle.std.specs.Prelude.{◌≢◌, Some, All, Contains, slice_index, nat_lt, ◌==◌}
 use Rattle.std.specs.Int.{w64, cast_unsigned}
 use Rattle.std.proofs.lemmas.Bool.{cases_Bool, eqb-true, eqb-false, ltb-true, ltb-false}
 use Rattle.std.proofs.lemmas.List.{length-take, length-drop}
@@ -13,7 +13,7 @@ use Rattle.wild_plan.specs.declared.input.InputRelocation.{InputRelocation}
 use Rattle.wild_plan.specs.declared.input.InputSection.{InputSection}
 use Rattle.wild_plan.specs.declared.layout.Layout.{Layout}
 use Rattle.wild_plan.specs.Lookups.{executable}
-use Rattle.wild_reloc.specs.Formula.{Formula, formula, Value, SymbolAddress, Distance, Plain, Signed, sign_extended}
+use Rattle.wild_reloc.specs.Formula.{Formula, formula, Distance, Plain, Signed, sign_extended}
 use Rattle.wild_reloc.specs.FormulaX86_64.{x86_64_formula}
 use Rattle.wild_loader.specs.declared.memory.Machine.TheVariants as machines
 use Rattle.wild_loader.specs.declared.memory.Memory.{Memory}
@@ -21,58 +21,27 @@ use Rattle.wild_loader.specs.declared.world.World.{World}
 use Rattle.wild_loader.specs.Memory.{Holds}
 use Rattle.wild_loader.specs.Effect.{Any, stands, call_near}
 use Rattle.wild_meaning.specs.World.{IsFixed}
-use Rattle.wild_meaning.specs.Value.{HasValue, moved}
-use Rattle.wild_meaning.specs.Item.{IsKept, item_of, place_at, IsReference}
+use Rattle.wild_meaning.specs.Item.{item_of, place_at, IsReference}
 use Rattle.wild_meaning.specs.Field.{formula_of, form_width, InNoField, IsInputByte}
-use Rattle.wild_meaning.specs.Formula.{IsTarget, Gives}
-use Rattle.wild_meaning.specs.Template.{Operand, call_operand, operands_of, size_of, IsOwnByte, IsTemplate, IsGoal, DoesDemanded}
-use Rattle.wild_meaning.specs.Reference.{HoldsPlain, HoldsRewritten, ReferenceHolds, IsOther, ItemHolds}
-use Rattle.wild_meaning.specs.Linked.{IsLinked, processor_of}
-use Rattle.wild_laws.specs.FirstPath.{AreBytes, IsNamed, IsAddress, Demands, HasFormula, IsCall, CallReaches, CallFieldsLie, InNoField as NoField, IsRelocated, IsLoadedSection, HoldsByFields, MeaningGivesFields}
+use Rattle.wild_meaning.specs.Template.{Operand, call_operand, operands_of, size_of, IsTemplate, DoesDemanded}
+use Rattle.wild_meaning.specs.Reference.{HoldsPlain, ReferenceHolds, IsOther, ItemHolds}
+use Rattle.wild_meaning.specs.Linked.{processor_of}
+use Rattle.wild_laws.specs.FirstPath.{AreBytes, HasFormula, IsCall, CallFieldsLie, InNoField as NoField, IsRelocated, WritesAddress, MeaningGivesFields}
 use Rattle.wild_laws.proofs.Bits.{bit_executable, executable_bit}
 use Rattle.wild_laws.proofs.Effects.{only_call, only_pc32, formula_pc32, range_first, stands_first}
 use Rattle.wild_laws.proofs.Calls.{call_bytes, loaded_below, displacement_is, signed_below}
+use Rattle.wild_laws.proofs.OldValues.{demanded_of, goal_named}
 use Rattle.wild_laws.proofs.Premises.{only_first, sections_kept, references_asked}
-
--- ---- values
-
-address : (l : Layout) (w : World) (i a : ℕ) → HasValue l w i a → IsAddress l w i a
-address l w i a h = record {
-  raw = h.raw;
-  given = h.given;
-  definition = h.absolute.definition;
-  defined = h.absolute.defined;
-  symbol = h.absolute.symbol;
-  listed = h.absolute.listed;
-  moves = h.moves ∙ ap (λ (b : Bool). moved b w.base h.raw) (sym h.absolute.flagged);
-}
-
-named : (l : Layout) (w : World) (m : Memory) (symbol : Option ℕ) (a : ℕ) → IsTarget l w m symbol a → IsNamed l w symbol a
-named l w m None a h = h
-named l w m (Some i) a h = address l w i a h
-
-goal_named : (l : Layout) (w : World) (m : Memory) (symbol : Option ℕ) (a : ℕ) → IsGoal l w m symbol a → IsNamed l w symbol a
-goal_named l w m None a h = h
-goal_named l w m (Some i) a h = subst (λ (x : ℕ). IsAddress l w i x) (sym h.2) (address l w i h.0 h.1)
-
-record IsDemanded (l : Layout) (w : World) (s : InputSection) (r : InputRelocation) (v : Value) (x : ℕ) : Type 0 where
-  target : ℕ
-  denoted : IsNamed l w r.symbol target
-  demanded : Demands v target r.addend (place_at w (item_of s) r.offset) x
-
-demanded_of : (l : Layout) (w : World) (m : Memory) (s : InputSection) (r : InputRelocation) (v : Value) (x : ℕ) → Gives v l w m (item_of s) r x → IsDemanded l w s r v x
-demanded_of l w m s r SymbolAddress x g = record { target = g.symbol; denoted = named l w m r.symbol g.symbol g.denoted; demanded = g.sum }
-demanded_of l w m s r Distance x g = record { target = g.1.symbol; denoted = named l w m r.symbol g.1.symbol g.1.denoted; demanded = g.2 ∙ ap (λ (n : ℕ). (n + (2 ^ 64 - place_at w (item_of s) r.offset)) % 2 ^ 64) g.1.sum }
-demanded_of l w m s r other x g = absurd g
 
 -- ---- references
 
-plain_formula : (l : Layout) (w : World) (m : Memory) (s : InputSection) (r : InputRelocation) → l.machine ≡ machine.X86_64 → HoldsPlain l w m (item_of s) r → HasFormula l w m s r
-plain_formula l w m s r x p =
-    let d = demanded_of l w m s r p.formula.value p.value p.gives in
+plain_formula : (l : Layout) (w : World) (m : Memory) (s : InputSection) (r : InputRelocation) → l.machine ≡ machine.X86_64 → WritesAddress r → HoldsPlain l w m (item_of s) r → HasFormula l w m s r
+plain_formula l w m s r x address p =
+    let known = subst (λ (k : Machine). formula_of k r.number ≡ Some p.formula) x p.known in
+    let d = demanded_of l w m s r p.formula.value p.value (address p.formula known) p.gives in
     record {
       formula = p.formula;
-      known = subst (λ (k : Machine). formula_of k r.number ≡ Some p.formula) x p.known;
+      known = known;
       target = d.target;
       denoted = d.denoted;
       value = p.value;
@@ -103,9 +72,9 @@ call_formula l w m s r start same small t d =
       };
     }
 
-has_formula : (l : Layout) (w : World) (m : Memory) (s : InputSection) (r : InputRelocation) → l.machine ≡ machine.X86_64 → m.machine ≡ machines.X86_64 → AreBytes m → ReferenceHolds l w m (item_of s) r → HasFormula l w m s r
-has_formula l w m s r x same small (inl p) = plain_formula l w m s r x p
-has_formula l w m s r x same small (inr q) =
+has_formula : (l : Layout) (w : World) (m : Memory) (s : InputSection) (r : InputRelocation) → l.machine ≡ machine.X86_64 → m.machine ≡ machines.X86_64 → AreBytes m → WritesAddress r → ReferenceHolds l w m (item_of s) r → HasFormula l w m s r
+has_formula l w m s r x same small address (inl p) = plain_formula l w m s r x address p
+has_formula l w m s r x same small address (inr q) =
     let P : Operand → Type 0 = λ o. IsTemplate l (item_of s) r q.start o → DoesDemanded l w m (item_of s) r q.start o → HasFormula l w m s r in
     subst P (only_call l.machine q.operand x q.template.known) (call_formula l w m s r q.start same small) q.template q.does
 
@@ -235,7 +204,7 @@ meaning_gives_fields = λ l w image x fixed linked small s loaded lie.
     let same = linked.machine ∙ ap processor_of x in
     let holds = linked.kept (item_of s) (sections_kept l s loaded) in
     record {
-      references = λ r ref. has_formula l w m s r x same small (holds.references r (record { listed = ref.listed; refers = ref.refers }) (references_asked.fixed l w r fixed));
+      references = λ r ref address. has_formula l w m s r x same small address (holds.references r (record { listed = ref.listed; refers = ref.refers }) (references_asked.fixed l w r fixed));
       calls = λ r k ref call out.
           (let d = holds.effects r k call_operand (record { listed = ref.listed; refers = ref.refers }) (references_asked.fixed l w r fixed) (call_template l s r k x lie ref call out) in
           record { target = d.goal; denoted = goal_named l w m r.symbol d.goal d.reached; calls = d.effect });

@@ -1,7 +1,6 @@
 -- The premises of the headline are met.
-use Rattle.std.proofs.Common.{◌≡◌, ℕ, zero, suc, ◌+◌, ◌%◌, ◌<◌, ◌≤◌, ◌⊎◌, inl, inr, Bool, true, false, [], ◌∷◌, get_or, refl, sym, ap, ◌∙◌, arith, subst}
+use Rattle.std.proofs.Common.{◌≡◌, ℕ, zero, suc, ◌+◌, ◌<◌, ◌≤◌, ◌⊎◌, inl, inr, Bool, true, false, [], ◌∷◌, get_or, refl, sym, ap, ◌∙◌, arith, subst}
 use Rattle.std.specs.Prelude.{Option, Some, None, Contains, ◌≢◌}
-use Rattle.std.proofs.Math.Nat.{zero-mod}
 use Rattle.wild_plan.specs.declared.kind.Machine.{Machine}
 use Rattle.wild_plan.specs.declared.kind.RelocationModel.TheVariants as model
 use Rattle.wild_plan.specs.declared.kind.OutputKind.{OutputKind}
@@ -11,41 +10,20 @@ use Rattle.wild_plan.specs.declared.input.InputRelocation.{InputRelocation}
 use Rattle.wild_plan.specs.declared.layout.Layout.{Layout}
 use Rattle.wild_plan.specs.Flags.{has_flag, absolute}
 use Rattle.wild_reloc.specs.Formula.{Formula}
-use Rattle.wild_layout.specs.Geometry.{LayoutsAreLaidOut}
 use Rattle.wild_meaning.specs.World.{IsFixed, IsMovable, IsLoadable}
 use Rattle.wild_meaning.specs.Value.{IsSymbol, IsDefinedBy, IsAbsolute, moved}
 use Rattle.wild_meaning.specs.Field.{form_width, InNoField}
 use Rattle.wild_meaning.specs.Template.{call_operand, operands_of, IsOwnByte}
-use Rattle.wild_laws.specs.Premises.{ZeroIsLegal, MovedIsLegal, KindsAreLoaded, SectionsAreKept, RelocationsRefer, DefinitionHas, ReferencesAreAsked, BlanksAreAsked, AddressesMove, WorkedCallIsAsked, worked_relocation, worked_item}
+use Rattle.wild_laws.specs.Premises.{KindsAreLoaded, SectionsAreKept, RelocationsRefer, DefinitionHas, ReferencesAreAsked, BlanksAreAsked, AddressesMove, WorkedCallIsAsked, worked_relocation, worked_item}
 use Rattle.wild_laws.proofs.Bits.{bit_alloc, thread_local_bit}
-use Rattle.wild_laws.proofs.NoErrors.{laid_out}
 
--- ---- worlds
-
-zero_divides : (base page : ℕ) → base ≡ 0 → base % page ≡ 0
-zero_divides base page z = ap (λ (b : ℕ). b % page) z ∙ zero-mod page
-
-pub zero_legal : LayoutsAreLaidOut → ZeroIsLegal
-zero_legal laws = λ l w none z.
-    let laid = laid_out laws l none in
-    record {
-      aligned = zero_divides w.base l.page_size z;
-      ends = λ k d lt loads. (let low = (laid.loadable.each k d lt).low in omega (arith, z, low));
-      fixed = λ f. z;
-    }
+-- ---- kinds
 
 -- no kind is both
-apart_kinds : (k : OutputKind) → IsFixed k → IsMovable k → ⊥
+pub apart_kinds : (k : OutputKind) → IsFixed k → IsMovable k → ⊥
 apart_kinds (output.StaticExecutable model.NonRelocatable) f m = m
 apart_kinds (output.DynamicExecutable model.NonRelocatable) f m = m
 apart_kinds other f m = f
-
-pub moved_legal : MovedIsLegal
-moved_legal = λ l w movable aligned ends. record {
-  aligned = aligned;
-  ends = λ k d lt loads. ends k d lt;
-  fixed = λ f. absurd (apart_kinds l.kind f movable);
-}
 
 loaded_kind : (k : OutputKind) → k ≢ output.PartialObject → IsLoadable k
 loaded_kind (output.StaticExecutable model.NonRelocatable) h = inl tt
@@ -56,7 +34,7 @@ loaded_kind output.SharedObject h = inr tt
 loaded_kind output.PartialObject h = absurd (h refl)
 
 pub kinds_loaded : KindsAreLoaded
-kinds_loaded = record { static = tt; dynamic = tt; static_elsewhere = tt; dynamic_elsewhere = tt; shared = tt; each = loaded_kind }
+kinds_loaded = record { static = tt; dynamic = tt; static_elsewhere = tt; dynamic_elsewhere = tt; shared = tt; each = loaded_kind; sound = λ any. tt }
 
 -- ---- items and references
 
@@ -102,6 +80,7 @@ pub references_asked : ReferencesAreAsked
 references_asked = record {
   zero = λ l w r z e. z;
   fixed = λ l w r f e. absurd (apart_kinds l.kind f e.movable);
+  placeless = λ l w r none e. absurd (none e.formula e.known e.relative);
   unnamed = λ l w r n e. absurd (let both : Some e.symbol ≡ None = sym e.named ∙ n in cc);
   moving = λ l w r i s n h f e. absurd (not_absolute l i s h f (subst (λ (j : ℕ). IsAbsolute l j) (let both : Some e.symbol ≡ Some i = sym e.named ∙ n in let same : e.symbol ≡ i = cc in same) e.absolute));
 }

@@ -1,7 +1,8 @@
 -- What an image owes a fixed x86-64 layout, told by fields and calls alone. It follows from the meaning of all layouts.
 --   HasFormula ..      the field in memory is the formula's
 --   CallReaches ..     a call goes to its target
---   HoldsByFields ..   each reference of an input section does
+--   WritesAddress r    the relocation's type is one of an address or a distance
+--   HoldsByFields ..   each such reference of an input section does
 use Rattle.std.specs.Prelude.{◌≡◌, ◌≢◌, ℕ, ℤ, ◌+◌, ◌-◌, ◌%◌, ◌^◌, ◌<◌, ◌≤◌, ◌⊎◌, true, false, List, length, Option, Some, None, All, Contains, slice_index}
 use Rattle.std.specs.Int.{w64, cast_unsigned}
 use Rattle.wild_records.specs.Abi.Relocation.{r_x86_64_none, r_x86_64_pc32}
@@ -42,6 +43,10 @@ pub record IsLoadedSection (l : Layout) (s : InputSection) : Type 0 where
 pub record IsRelocated (s : InputSection) (r : InputRelocation) : Type 0 where
   pub listed : Contains s.relocations r
   pub refers : r.number ≢ r_x86_64_none
+
+-- its type writes S + A or S + A - P (x86-64 psABI, "Relocation Types")
+abbrev pub WritesAddress : InputRelocation → Type 0
+WritesAddress r = (f : Formula) → x86_64_formula r.number ≡ Some f → (f.value ≡ SymbolAddress) ⊎ (f.value ≡ Distance)
 
 -- the loaded address of a place in an input section
 abbrev pub address_at : World → InputSection → ℕ → ℕ
@@ -108,10 +113,10 @@ pub record CallReaches (l : Layout) (w : World) (m : Memory) (s : InputSection) 
 abbrev pub InNoField : InputSection → ℕ → Type 0
 InNoField s k = All (λ (r : InputRelocation). (f : Formula) → x86_64_formula r.number ≡ Some f → (k < r.offset) ⊎ (r.offset + form_width f.form ≤ k)) s.relocations
 
--- each reference holds, each call reaches its target where no other field has its opcode, and every byte in no field is the
+-- each reference to an address or a distance holds, each call reaches its target where no other field has its opcode, and every byte in no field is the
 -- input's
 pub record HoldsByFields (l : Layout) (w : World) (m : Memory) (s : InputSection) : Type 0 where
-  pub references : (r : InputRelocation) → IsRelocated s r → HasFormula l w m s r
+  pub references : (r : InputRelocation) → IsRelocated s r → WritesAddress r → HasFormula l w m s r
   pub calls : (r : InputRelocation) (k : ℕ) → IsRelocated s r → IsCall s r k → InNoField s k → CallReaches l w m s r k
   pub others : (k : ℕ) → k < length s.bytes → InNoField s k → byte_in m (address_at w s k) ≡ Some (slice_index s.bytes k)
 

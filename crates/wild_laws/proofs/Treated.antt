@@ -1,0 +1,64 @@
+-- What is known of a relocation that writes a value: whether its symbol moves.
+use Rattle.std.proofs.Common.{◌≡◌, ℕ, ◌⊎◌, inl, inr, Bool, true, false, refl}
+use Rattle.std.specs.Prelude.{Option, Some, None, if◌then◌else◌, not, ◌&&◌, ◌==◌}
+use Rattle.std.proofs.lemmas.Bool.{cases_Bool}
+use Rattle.wild_plan.specs.declared.input.InputRelocation.{InputRelocation}
+use Rattle.wild_plan.specs.declared.input.InputSection.{InputSection}
+use Rattle.wild_plan.specs.declared.layout.Layout.{Layout}
+use Rattle.wild_plan.specs.declared.treatment.Treatment.{Treatment}
+use Rattle.wild_plan.specs.declared.treatment.Treatment.TheVariants as treatments
+use Rattle.wild_plan.specs.Flags.{has_flag, absolute}
+use Rattle.wild_plan.specs.Kinds.{is_position_independent}
+use Rattle.wild_plan.specs.Lookups.{allocated}
+use Rattle.wild_plan.specs.Rows.{row_of}
+use Rattle.wild_plan.specs.Treatment.{is_left, is_barred, flags_at, moves, moved_treatment, address_treatment, distance_treatment, named, kind_treatment, row_treatment, treatment}
+use Rattle.wild_reloc.specs.Field.{field_width}
+use Rattle.wild_reloc.specs.declared.info.RelocationKindInfo.{RelocationKindInfo}
+
+-- the treatment goes by the row's kind
+pub treated_by : (l : Layout) (s : InputSection) (r : InputRelocation) (row : RelocationKindInfo) → row_of l.machine r.number ≡ Some row → treatment l s r ≡ kind_treatment l s r.symbol row row.kind
+unfolding treatment row_treatment
+treated_by l s r row known = rw known refl
+
+-- ---- symbols
+
+-- a value that needs a symbol has one
+pub symbol_named : (symbol : Option ℕ) (by : ℕ → Treatment) (row : RelocationKindInfo) → named symbol by ≡ treatments.Value row → (i : ℕ) × (symbol ≡ Some i) × (by i ≡ treatments.Value row)
+symbol_named None by row h = cc
+symbol_named (Some i) by row h = (i, refl, h)
+
+-- what does not move is in an output that does not, or is absolute
+still_cases : (l : Layout) (i : ℕ) → moves l i ≡ false → (is_position_independent l.kind ≡ false) ⊎ (has_flag (flags_at l i) absolute ≡ true)
+still_cases l i h = by_tests (is_position_independent l.kind) (has_flag (flags_at l i) absolute) h
+  where
+    by_tests : (a b : Bool) → (a && not b) ≡ false → (a ≡ false) ⊎ (b ≡ true)
+    by_tests false b h = inl refl
+    by_tests true true h = inr refl
+    by_tests true false h = cc
+
+is_no_value : (row : RelocationKindInfo) → moved_treatment row ≡ treatments.Value row → ⊥
+is_no_value row h =
+    elim (cases_Bool (field_width row == 8)) [
+      | inl t ↦ cc (rw t at h)
+      | inr f ↦ cc (rw f at h)
+    ]
+
+-- the value of an address that is written in memory does not move
+pub address_still : (l : Layout) (s : InputSection) (row : RelocationKindInfo) (i : ℕ) → allocated s.flags ≡ true → address_treatment l s row i ≡ treatments.Value row → (is_position_independent l.kind ≡ false) ⊎ (has_flag (flags_at l i) absolute ≡ true)
+address_still l s row i room h = still_cases l i (by_tests (is_barred l s row i) (is_left l s row i) (allocated s.flags) (moves l i) room h)
+  where
+    by_tests : (barred left room moving : Bool) → room ≡ true → (if barred then treatments.Recompile else (if left then treatments.Symbolic i else (if room && moving then moved_treatment row else treatments.Value row))) ≡ treatments.Value row → moving ≡ false
+    by_tests barred left room false e h = refl
+    by_tests true left room true e h = cc
+    by_tests false true room true e h = cc
+    by_tests false false false true e h = cc
+    by_tests false false true true e h = absurd (is_no_value row h)
+
+-- a distance without a symbol is in an output that does not move
+pub distance_still : (l : Layout) (s : InputSection) (row : RelocationKindInfo) → allocated s.flags ≡ true → distance_treatment l s row None ≡ treatments.Value row → is_position_independent l.kind ≡ false
+distance_still l s row room h = by_tests (allocated s.flags) (is_position_independent l.kind) room h
+  where
+    by_tests : (a b : Bool) → a ≡ true → (if a && b then treatments.Recompile else treatments.Value row) ≡ treatments.Value row → b ≡ false
+    by_tests a false e h = refl
+    by_tests true true e h = cc
+    by_tests false true e h = cc
