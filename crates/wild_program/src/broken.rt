@@ -1,10 +1,12 @@
 //! A broken plan for each cause, and pairs that show which of two faults is the first.
 mod layouts;
+mod movable;
 mod references;
 mod texts;
 
 use crate::tests::{CALM, answer};
 use layouts::LAYOUTS;
+use movable::MOVABLE;
 use references::REFERENCES;
 use std::alloc::Global;
 use std::process::Abort;
@@ -55,6 +57,11 @@ fn broken_layouts(rt: HostRuntime) -> Result<(), Fail> {
 #[test]
 fn first_fault_for_any_workers(rt: HostRuntime) -> Result<(), Fail> {
     answers(&rt, rt.alloc(), &REFERENCES)
+}
+
+#[test]
+fn movable_outputs(rt: HostRuntime) -> Result<(), Fail> {
+    answers(&rt, rt.alloc(), &MOVABLE)
 }
 
 #[test]

@@ -6,6 +6,8 @@
 mod broken;
 mod command;
 mod making;
+#[cfg(test)]
+mod moved;
 mod program;
 mod status;
 #[cfg(test)]

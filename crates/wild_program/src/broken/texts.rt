@@ -27,7 +27,7 @@ pub(super) const TEXTS: [Broken; 16] = [
     },
     Broken {
         plan: SMALLEST,
-        changes: &[(r#""static""#, r#""static_pie""#)],
+        changes: &[(r#""static""#, r#""shared""#)],
         answer: "not a plan: /kind",
     },
     Broken {
