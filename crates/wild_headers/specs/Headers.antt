@@ -130,9 +130,18 @@ null_header l = record {
 abbrev pub uncompressed : ℕ → ℕ
 uncompressed flags = if bit flags shf_compressed then flags - shf_compressed else flags
 
+-- the header index of the section of the dynamic symbols; 0 where there are none
+abbrev pub symbol_table : Layout → ℕ
+symbol_table l = section_of_role role.Dynsym l.parts
+
+-- sh_info of a section: of symbols, how many local ones stand in front, which is the entry of zeros alone; else as it is
+-- given (gABI, "Sections", sh_link and sh_info)
+abbrev pub info_at : ℕ → ℕ → Section → ℕ
+info_at symbols i s = if i == symbols then 1 else s.info
+
 -- the header of another section, whose name begins at that offset of the names
-unfoldable pub section_header : ℕ → Section → SectionHeader
-section_header name s = record {
+unfoldable pub section_header : ℕ → ℕ → Section → SectionHeader
+section_header info name s = record {
   name = name;
   kind = s.kind;
   flags = uncompressed s.flags;
@@ -140,20 +149,20 @@ section_header name s = record {
   offset = s.offset;
   size = s.size;
   link = s.link;
-  info = s.info;
+  info = info;
   align = s.align;
   entry_size = s.entsize;
 }
 
--- the headers of the sections from a name offset on
-abbrev pub headers_from : ℕ → List Section → List SectionHeader
-headers_from name [] = []
-headers_from name (s ∷ ss) = section_header name s ∷ headers_from (name + length s.name + 1) ss
+-- the headers of the sections from number i and a name offset on
+abbrev pub headers_from : ℕ → ℕ → ℕ → List Section → List SectionHeader
+headers_from symbols i name [] = []
+headers_from symbols i name (s ∷ ss) = section_header (info_at symbols i s) name s ∷ headers_from symbols (i + 1) (name + length s.name + 1) ss
 
 -- all section headers
 abbrev pub section_headers_of : Layout → List Section → List SectionHeader
 section_headers_of l [] = []
-section_headers_of l (s ∷ ss) = null_header l ∷ headers_from (length s.name + 1) ss
+section_headers_of l (s ∷ ss) = null_header l ∷ headers_from (symbol_table l) 1 (length s.name + 1) ss
 
 abbrev pub file_header_bytes : Layout → List ℕ
 file_header_bytes l = spell (file_header_fields (file_header l))

@@ -2,7 +2,7 @@
 ghost use Rattle.std.specs.Prelude.{◌≡◌};
 ghost use Rattle.wild_headers.specs.Headers.{offset_of_role, section_of_role, or_escape, or_none};
 ghost use Rattle.wild_plan.specs.Places.{has_role};
-ghost use Rattle.wild_plan.specs.declared.part.Role.TheVariants.{SectionHeaders, Shstrtab};
+ghost use Rattle.wild_plan.specs.declared.part.Role.TheVariants.{SectionHeaders, Shstrtab, Dynsym};
 
 use wild_plan::{Part, Role};
 use wild_records::abi::section::{SHN_LORESERVE, SHN_UNDEF};
@@ -55,6 +55,24 @@ pub(crate) fn name_table(parts: &[Part]) -> usize
 {
     for part in parts {
         if has_section_names(part) {
+            return part.section;
+        }
+    }
+    SHN_UNDEF as usize
+}
+
+fn has_symbols(part: &Part) -> bool
+    ensures { result ≡ has_role Dynsym part.now }
+{
+    matches!(part.role, Role::Dynsym)
+}
+
+/// The header index of the section of the dynamic symbols; 0 where there are none.
+pub(crate) fn symbol_table(parts: &[Part]) -> usize
+    ensures { result ≡ section_of_role Dynsym parts.now }
+{
+    for part in parts {
+        if has_symbols(part) {
             return part.section;
         }
     }

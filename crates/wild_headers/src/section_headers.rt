@@ -4,9 +4,9 @@ ghost use Rattle.wild_words.specs.Words.{place};
 ghost use Rattle.wild_words.specs.Record.{spell};
 ghost use Rattle.wild_records.specs.SectionHeader.{section_header_size, section_header_fields};
 ghost use Rattle.wild_plan.specs.Needs.{name_bytes};
-ghost use Rattle.wild_headers.specs.Headers.{name_table, null_header, uncompressed, section_header, section_header_bytes};
+ghost use Rattle.wild_headers.specs.Headers.{name_table, symbol_table, null_header, uncompressed, info_at, section_header, section_header_bytes};
 
-use crate::numbers::{name_table, or_none};
+use crate::numbers::{name_table, or_none, symbol_table};
 use wild_plan::{Layout, Section};
 use wild_records::SectionHeader;
 use wild_records::abi::section::{SHF_COMPRESSED, SHT_NULL};
@@ -43,9 +43,16 @@ fn uncompressed(flags: u64) -> u64
     }
 }
 
+/// What `sh_info` of section i tells, where the dynamic symbols stand in section `symbols`.
+fn info_at(symbols: usize, i: usize, section: &Section) -> u32
+    ensures { result ≡ info_at symbols i section.now }
+{
+    if i == symbols { 1 } else { section.info }
+}
+
 #[tactic(auto, unfolding(crate::specs::Headers::section_header))]
-fn section_header(name: u32, section: &Section) -> SectionHeader
-    ensures { result ≡ section_header name section.now }
+fn section_header(info: u32, name: u32, section: &Section) -> SectionHeader
+    ensures { result ≡ section_header info name section.now }
 {
     SectionHeader {
         name,
@@ -55,33 +62,47 @@ fn section_header(name: u32, section: &Section) -> SectionHeader
         offset: section.offset,
         size: section.size,
         link: section.link,
-        info: section.info,
+        info,
         align: section.align,
         entry_size: section.entsize,
     }
 }
 
 /// The header of the section with that index, whose name begins at `name`.
-fn header_of(layout: &Layout, i: usize, name: u64, section: &Section) -> SectionHeader
+fn header_of(
+    layout: &Layout,
+    symbols: usize,
+    i: usize,
+    name: u64,
+    section: &Section,
+) -> SectionHeader
     requires name { name < 2 ^ 32 }
     requires name_table { name_table layout.now < 2 ^ 32 }
-    ensures { result ≡ (if i == 0 then null_header layout.now else section_header name section.now) }
+    ensures { result ≡ (if i == 0 then null_header layout.now else section_header (info_at symbols i section.now) name section.now) }
 {
     if i == 0 {
         null_header(layout)
     } else {
-        section_header(name as u32, section)
+        section_header(info_at(symbols, i, section), name as u32, section)
     }
 }
 
-fn put_section_header(layout: &Layout, section: &Section, i: usize, name: u64, out: &mut [u8])
+fn put_section_header(
+    layout: &Layout,
+    symbols: usize,
+    section: &Section,
+    i: usize,
+    name: u64,
+    out: &mut [u8],
+)
     requires room { section_header_size * i + section_header_size ≤ length out.old }
+    requires symbols { symbols ≡ symbol_table layout.now }
     requires name { name < 2 ^ 32 }
     requires name_table { name_table layout.now < 2 ^ 32 }
-    ensures { out.new ≡ place (section_header_size * i) (spell (section_header_fields (if i == 0 then null_header layout.now else section_header name section.now))) out.old }
+    ensures { out.new ≡ place (section_header_size * i) (spell (section_header_fields (if i == 0 then null_header layout.now else section_header (info_at (symbol_table layout.now) i section.now) name section.now))) out.old }
 {
     let mut header = [0; SectionHeader::SIZE];
-    header_of(layout, i, name, section).put(&mut header);
+    header_of(layout, symbols, i, name, section).put(&mut header);
     put(out, i * SectionHeader::SIZE, &header);
 }
 
@@ -92,9 +113,10 @@ pub fn write_section_headers(layout: &Layout, out: &mut [u8])
     requires name_table { name_table layout.now < 2 ^ 32 }
     ensures { out.new ≡ section_header_bytes layout.now }
 {
+    let symbols = symbol_table(layout.parts.as_slice());
     let mut name = 0;
     for (i, section) in layout.sections.as_slice().iter().enumerate() {
-        put_section_header(layout, section, i, name, out);
+        put_section_header(layout, symbols, section, i, name, out);
         name += section.name.len() as u64 + 1;
     }
 }
