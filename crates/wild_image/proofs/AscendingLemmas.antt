@@ -1,6 +1,6 @@
 -- Laws of fields that are written one behind the other.
 use Rattle.std.proofs.Common.{◌≡◌, ℕ, ◌+◌, ◌<◌, ◌≤◌, inl, inr, true, false, List, [], ◌∷◌, ◌++◌, length, get_or, map, nat_lt, if◌then◌else◌, refl, sym, ap, ◌∙◌, arith, subst}
-use Rattle.std.specs.Prelude.{Bool, All, AllPairs, Some, None, Ok, slice_get, replicate}
+use Rattle.std.specs.Prelude.{Bool, All, AllPairs, Option, Some, None, Ok, slice_get, replicate}
 use Rattle.std.specs.List.{flat_map, range_with_len}
 use Rattle.std.proofs.lemmas.Bool.{cases_lt, lt-ltb, le-ltb}
 use Rattle.std.proofs.lemmas.List.{append-nil, take_all}
@@ -16,16 +16,18 @@ use Rattle.wild_plan.specs.declared.layout.Layout.{Layout}
 use Rattle.wild_plan.specs.Faults.{Refuses}
 use Rattle.wild_plan.specs.Lookups.{is_read}
 use Rattle.wild_reloc.specs.Field.{size_width}
+use Rattle.wild_reloc.specs.declared.info.RelocationSize.TheVariants.{ByteSize}
+use Rattle.wild_reloc.specs.declared.info.Width.TheVariants.{Eight}
 use Rattle.wild_layout.specs.declared.decision.Decision.{Decision}
-use Rattle.wild_layout.specs.declared.decision.Decision.TheVariants.{Nothing, Field}
+use Rattle.wild_layout.specs.declared.decision.Decision.TheVariants.{Nothing, Field, Moved}
 use Rattle.wild_layout.specs.Decide.{decided}
-use Rattle.wild_layout.specs.Sites.{field_site, site_of, site, sites, extent_of, shared_byte, section_bytes}
+use Rattle.wild_layout.specs.Sites.{Written, written_by, field_site, site_by, site_of, site, sites, extent_of, shared_byte, section_bytes}
 use Rattle.wild_layout.specs.Faults.{relocation_errors, refusal_of, at_offset, at_section, overlap_errors, section_errors}
 use Rattle.wild_layout.specs.Geometry.{FieldLies}
-use Rattle.wild_layout.proofs.DecideLemmas.{decided_field, field_ends}
+use Rattle.wild_layout.proofs.DecideLemmas.{decided_field, decided_moved, field_has, moved_has, field_ends}
 use Rattle.wild_layout.proofs.SiteLemmas.{length-field_site, All-at}
 use Rattle.wild_geometry.proofs.ListLemmas.{AllPairs-nil, AllPairs-cons, AllPairs-head, AllPairs-tail, AllPairs-append}
-use Rattle.wild_image.specs.Decided.{put_decision, DecisionLies, reach_behind}
+use Rattle.wild_image.specs.Decided.{put_decision, WrittenLies, DecisionLies, reach_of, reach_behind}
 use Rattle.wild_image.proofs.ListLemmas.{flat_map-numbers}
 use Rattle.wild_image.proofs.FaultLemmas.{Refuses-front}
 use Rattle.wild_image.proofs.DecidedLemmas.{listed_at, none_refused, refuses_decision, decision_site, put_next}
@@ -55,7 +57,8 @@ decision_lies l s items i n x d same h lies is = by l s (get_or items i x) n d (
   where
     by : (l : Layout) (s : InputSection) (r : InputRelocation) (n : ℕ) (d : Decision) → FieldLies l.machine n r → decided l s r ≡ Ok d → DecisionLies n r d
     by l s r n Nothing lies is = tt
-    by l s r n (Field z v) lies is = field_ends l s r z v n (decided_field l s r z v is) lies
+    by l s r n (Field z v) lies is = field_ends l r z n (field_has l s r z v (decided_field l s r z v is)) lies
+    by l s r n (Moved v packed) lies is = field_ends l r (ByteSize Eight) n (moved_has l s r v packed (decided_moved l s r v packed is)) lies
 
 -- one more piece, behind the others
 pub record Behind (s : InputSection) (n next : ℕ) (ps : List Piece) : Type 0 where
@@ -78,18 +81,21 @@ field_behind s n reach next ps p apart ends low inside is = record {
 }
 
 pub site_behind : (s : InputSection) (n reach next : ℕ) (ps : List Piece) (r : InputRelocation) (d : Decision) → AreApart n ps → All (EndsBy reach) ps → DecisionLies n r d → reach_behind reach r d ≡ Some next → Behind s n next (ps ++ site_of s r (Ok d))
-site_behind s n reach next ps r Nothing apart ends lies is =
-    let e : reach ≡ next = cc in
-    subst (λ (qs : List Piece). Behind s n next qs) (sym (append-nil ps)) (record { apart = apart; ends = subst (λ (k : ℕ). All (EndsBy k) ps) e ends })
-site_behind s n reach next ps r (Field z v) apart ends lies is =
-    elim (cases_lt r.offset reach) [
-      | inl l ↦ (let t = lt-ltb r.offset reach l in cc (rw t at is))
-      | inr m ↦
-          (let t = le-ltb r.offset reach m in
-          let e : r.offset + size_width z ≡ next = cc (rw t at is) in
-          let w = length-field_site s r.offset z v in
-          field_behind s n reach next ps (field_site s r.offset z v) apart ends m (omega (arith, w, lies)) (omega (arith, w, e)))
-    ]
+site_behind s n reach next ps r d apart ends lies is = by s n reach next ps r (written_by d) apart ends lies is
+  where
+    by : (s : InputSection) (n reach next : ℕ) (ps : List Piece) (r : InputRelocation) (o : Option Written) → AreApart n ps → All (EndsBy reach) ps → WrittenLies n r.offset o → reach_of reach r.offset o ≡ Some next → Behind s n next (ps ++ site_by s r o)
+    by s n reach next ps r None apart ends lies is =
+        let e : reach ≡ next = cc in
+        subst (λ (qs : List Piece). Behind s n next qs) (sym (append-nil ps)) (record { apart = apart; ends = subst (λ (k : ℕ). All (EndsBy k) ps) e ends })
+    by s n reach next ps r (Some w) apart ends lies is =
+        elim (cases_lt r.offset reach) [
+          | inl l ↦ (let t = lt-ltb r.offset reach l in cc (rw t at is))
+          | inr m ↦
+              (let t = le-ltb r.offset reach m in
+              let e : r.offset + size_width w.size ≡ next = cc (rw t at is) in
+              let k = length-field_site s r.offset w.size w.value in
+              field_behind s n reach next ps (field_site s r.offset w.size w.value) apart ends m (omega (arith, k, lies)) (omega (arith, k, e)))
+        ]
 
 -- one more relocation, written behind the others
 pub ascended_more : (l : Layout) (g f k : ℕ) (s : InputSection) (items : List InputRelocation) (i reach next : ℕ) (x : InputRelocation) (d : Decision) (now room : List ℕ) → items ≡ s.relocations → i < length items → All (FieldLies l.machine (length s.bytes)) s.relocations

@@ -18,15 +18,14 @@ use Rattle.wild_plan.specs.declared.fault.Error.{Error}
 use Rattle.wild_plan.specs.declared.layout.Layout.{Layout}
 use Rattle.wild_reloc.specs.Field.{size_width, size_written}
 use Rattle.wild_layout.specs.declared.decision.Decision.{Decision}
-use Rattle.wild_layout.specs.declared.decision.Decision.TheVariants.{Nothing, Field}
 use Rattle.wild_layout.specs.Decide.{decided, decide}
-use Rattle.wild_layout.specs.Sites.{field_site, site_of, site, sites, extent_of, shared_byte}
+use Rattle.wild_layout.specs.Sites.{Written, written_by, field_site, site_by, site_of, site, sites, extent_of, shared_byte}
 use Rattle.wild_plan.specs.Faults.{Refuses}
 use Rattle.wild_plan.specs.Lookups.{is_read}
 use Rattle.wild_layout.specs.Faults.{relocation_errors, refusal_of, at_offset, at_section, overlap_errors, section_errors}
 use Rattle.wild_layout.specs.Geometry.{FieldLies}
 use Rattle.wild_layout.proofs.SiteLemmas.{length-field_site, decide_listed, sites_apart_in}
-use Rattle.wild_image.specs.Decided.{decided_sites, decided_extent, decided_extents, ascends, put_decision, DecisionLies, AreDecided}
+use Rattle.wild_image.specs.Decided.{decided_sites, written_extent, decided_extent, decided_extents, ascends, put_written, put_decision, WrittenLies, DecisionLies, AreDecided}
 use Rattle.wild_image.proofs.ListLemmas.{flat_map-numbers}
 use Rattle.wild_image.proofs.PieceLemmas.{overlay-append}
 use Rattle.wild_image.proofs.FaultLemmas.{refuses_number}
@@ -168,8 +167,11 @@ sites-split s (q ∷ rs) (x ∷ ds) (suc i) r d n h =
 
 -- where the sites are
 one_extent_is : (s : InputSection) (r : InputRelocation) (d : Decision) → map extent_of (site_of s r (Ok d)) ≡ option_to_list (decided_extent r d)
-one_extent_is s r Nothing = refl
-one_extent_is s r (Field z v) = let n = length-field_site s r.offset z v in rw n refl
+one_extent_is s r d = by s r (written_by d)
+  where
+    by : (s : InputSection) (r : InputRelocation) (o : Option Written) → map extent_of (site_by s r o) ≡ option_to_list (written_extent r.offset o)
+    by s r None = refl
+    by s r (Some w) = let n = length-field_site s r.offset w.size w.value in rw n refl
 
 map-append : (ps qs : List Piece) → map extent_of (ps ++ qs) ≡ map extent_of ps ++ map extent_of qs
 map-append [] qs = refl
@@ -258,18 +260,20 @@ section_passes l g f k s ds read dec none h =
 
 -- a relocation written over bytes in which those before it were written
 pub put_next : (s : InputSection) (ps rest : List Piece) (r : InputRelocation) (d : Decision) → AreApart (length s.bytes) (ps ++ (site_of s r (Ok d) ++ rest)) → put_decision (overlay ps s.bytes) r d ≡ overlay (ps ++ site_of s r (Ok d)) s.bytes
-put_next s ps rest r Nothing apart = ap (λ (qs : List Piece). overlay qs s.bytes) (sym (append-nil ps))
-put_next s ps rest r (Field z v) apart =
-    let p = field_site s r.offset z v in
-    let n = length-field_site s r.offset z v in
-    let own : slice_range (overlay ps s.bytes) r.offset (r.offset + length p.bytes) ≡ slice_range s.bytes r.offset (r.offset + length p.bytes) = own_range_next p ps rest s.bytes apart in
-    let own' : slice_range (overlay ps s.bytes) r.offset (r.offset + size_width z) ≡ slice_range s.bytes r.offset (r.offset + size_width z) = subst (λ (w : ℕ). slice_range (overlay ps s.bytes) r.offset (r.offset + w) ≡ slice_range s.bytes r.offset (r.offset + w)) n own in
-    ap (λ (old : List ℕ). place r.offset (size_written z v old) (overlay ps s.bytes)) own'
-    ∙ sym (overlay-append ps (p ∷ []) s.bytes)
+put_next s ps rest r d apart = by s ps rest r (written_by d) apart
+  where
+    by : (s : InputSection) (ps rest : List Piece) (r : InputRelocation) (o : Option Written) → AreApart (length s.bytes) (ps ++ (site_by s r o ++ rest)) → put_written (overlay ps s.bytes) r.offset o ≡ overlay (ps ++ site_by s r o) s.bytes
+    by s ps rest r None apart = ap (λ (qs : List Piece). overlay qs s.bytes) (sym (append-nil ps))
+    by s ps rest r (Some w) apart =
+        let p = field_site s r.offset w.size w.value in
+        let n = length-field_site s r.offset w.size w.value in
+        let own : slice_range (overlay ps s.bytes) r.offset (r.offset + length p.bytes) ≡ slice_range s.bytes r.offset (r.offset + length p.bytes) = own_range_next p ps rest s.bytes apart in
+        let own' : slice_range (overlay ps s.bytes) r.offset (r.offset + size_width w.size) ≡ slice_range s.bytes r.offset (r.offset + size_width w.size) = subst (λ (k : ℕ). slice_range (overlay ps s.bytes) r.offset (r.offset + k) ≡ slice_range s.bytes r.offset (r.offset + k)) n own in
+        ap (λ (old : List ℕ). place r.offset (size_written w.size w.value old) (overlay ps s.bytes)) own'
+        ∙ sym (overlay-append ps (p ∷ []) s.bytes)
 
 pub next_lies : (s : InputSection) (ps rest : List Piece) (r : InputRelocation) (d : Decision) (n : ℕ) → AreApart n (ps ++ (site_of s r (Ok d) ++ rest)) → DecisionLies n r d
-next_lies s ps rest r Nothing n apart = tt
-next_lies s ps rest r (Field z v) n apart = let w = length-field_site s r.offset z v in let e = within_next (field_site s r.offset z v) ps rest n apart in omega (arith, w, e)
+next_lies s ps rest r d n apart = by s ps rest r (written_by d) n apart
   where
     item : (p : Piece) (ps rest : List Piece) → get_or (ps ++ (p ∷ rest)) (length ps) p ≡ p
     item p [] rest = refl
@@ -281,6 +285,10 @@ next_lies s ps rest r (Field z v) n apart = let w = length-field_site s r.offset
 
     within_next : (p : Piece) (ps rest : List Piece) (n : ℕ) → AreApart n (ps ++ (p ∷ rest)) → p.at + length p.bytes ≤ n
     within_next p ps rest n h = subst (λ (q : Piece). q.at + length q.bytes ≤ n) (item p ps rest) (h.within (length ps) p (inside p ps rest))
+
+    by : (s : InputSection) (ps rest : List Piece) (r : InputRelocation) (o : Option Written) (n : ℕ) → AreApart n (ps ++ (site_by s r o ++ rest)) → WrittenLies n r.offset o
+    by s ps rest r None n apart = tt
+    by s ps rest r (Some w) n apart = let k = length-field_site s r.offset w.size w.value in let e = within_next (field_site s r.offset w.size w.value) ps rest n apart in omega (arith, k, e)
 
 -- one step of a loop over all
 pub step_lies : (s : InputSection) (items : List InputRelocation) (ds : List Decision) (i m n : ℕ) (r : InputRelocation) (d : Decision) → items ≡ s.relocations → length ds ≡ length s.relocations → i < length ds → m ≡ n → AreApart n (decided_sites s s.relocations ds) → DecisionLies m (get_or items i r) (get_or ds i d)

@@ -7,7 +7,8 @@ use Rattle.wild_plan.specs.declared.file.Group.{Group}
 use Rattle.wild_plan.specs.declared.layout.Layout.{Layout}
 use Rattle.wild_plan.specs.Faults.{Answers, Refuses}
 use Rattle.wild_plan.specs.Needs.{name_bytes}
-use Rattle.wild_plan.specs.Places.{counts_fit}
+use Rattle.wild_plan.specs.declared.part.Role.TheVariants as role
+use Rattle.wild_plan.specs.Counts.{total_share, counts_fit}
 use Rattle.wild_plan.specs.WellFormed.{first_clause, check_sizes, check_counts}
 use Rattle.wild_layout.specs.Faults.{group_errors}
 use Rattle.wild_image.specs.Pieces.{group_bytes, group_parts, group_pairs, pairs_at}
@@ -20,7 +21,8 @@ few_counted : (l : Layout) → check_counts l ≡ Ok tt → length l.groups < 2 
 unfolding check_counts
 few_counted l h =
     let a = test_holds (counts_fit l) h in
-    let b = and_parts _ (nat_lt (name_bytes l) (2 ^ 32)) a in
+    let z = and_parts _ (nat_lt (total_share l role.Dynstr) (2 ^ 32)) a in
+    let b = and_parts _ (nat_lt (name_bytes l) (2 ^ 32)) z.0 in
     let c = and_parts _ (nat_lt (length l.groups) (2 ^ 32 - 1)) b.0 in
     ltb-true _ _ c.1
 

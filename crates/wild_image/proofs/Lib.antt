@@ -12,3 +12,4 @@ pub mod AppendLemmas
 pub mod GatherLemmas
 pub mod DecidedLemmas
 pub mod AscendingLemmas
+pub mod OwnLemmas

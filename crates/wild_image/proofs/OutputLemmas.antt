@@ -8,7 +8,8 @@ use Rattle.wild_plan.specs.declared.fault.Error.{Error}
 use Rattle.wild_plan.specs.declared.part.Part.{Part}
 use Rattle.wild_plan.specs.declared.layout.Layout.{Layout}
 use Rattle.wild_plan.specs.Lists.{unless}
-use Rattle.wild_plan.specs.Places.{has_role, relocation_count, counts_fit}
+use Rattle.wild_plan.specs.Places.{has_role, relocation_count}
+use Rattle.wild_plan.specs.Counts.{total_share, counts_fit}
 use Rattle.wild_plan.specs.WellFormed.{fails, first_error, first_clause, check_sizes, check_counts}
 use Rattle.wild_headers.specs.Headers.{section_of_role}
 use Rattle.wild_layout.specs.Image.{group_pieces, pieces, padding, bytes}
@@ -69,7 +70,8 @@ few : (l : Layout) → check_counts l ≡ Ok tt → relocation_count l < 2 ^ 32
 unfolding check_counts
 few l h =
     let a = test_holds (counts_fit l) h in
-    let b = and_parts _ (nat_lt (name_bytes l) (2 ^ 32)) a in
+    let z = and_parts _ (nat_lt (total_share l role.Dynstr) (2 ^ 32)) a in
+    let b = and_parts _ (nat_lt (name_bytes l) (2 ^ 32)) z.0 in
     let c = and_parts _ (nat_lt (length l.groups) (2 ^ 32 - 1)) b.0 in
     let d = and_parts _ (nat_le 1 (length l.groups)) c.0 in
     let e = and_parts _ (nat_lt (relocation_count l) (2 ^ 32 - 1)) d.0 in

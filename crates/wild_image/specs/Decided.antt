@@ -14,8 +14,8 @@ use Rattle.wild_plan.specs.declared.input.InputSection.{InputSection}
 use Rattle.wild_plan.specs.declared.layout.Layout.{Layout}
 use Rattle.wild_reloc.specs.Field.{size_width, size_written}
 use Rattle.wild_layout.specs.declared.decision.Decision.{Decision}
-use Rattle.wild_layout.specs.declared.decision.Decision.TheVariants.{Nothing, Field}
-use Rattle.wild_layout.specs.Sites.{site_of, sites}
+use Rattle.wild_reloc.specs.declared.info.RelocationSize.{RelocationSize}
+use Rattle.wild_layout.specs.Sites.{Written, written_by, site_of, sites}
 
 -- what relocations write, as they were decided
 unfoldable pub decided_sites : InputSection → List InputRelocation → List Decision → List Piece
@@ -23,10 +23,17 @@ decided_sites s [] ds = []
 decided_sites s (r ∷ rs) [] = []
 decided_sites s (r ∷ rs) (d ∷ ds) = site_of s r (Ok d) ++ decided_sites s rs ds
 
+-- where a field of that size stands
+abbrev pub field_extent : ℕ → RelocationSize → Extent
+field_extent at size = record { start = at; end = at + size_width size }
+
+abbrev pub written_extent : ℕ → Option Written → Option Extent
+written_extent at None = None
+written_extent at (Some w) = Some (field_extent at w.size)
+
 -- where one stands that writes something
 abbrev pub decided_extent : InputRelocation → Decision → Option Extent
-decided_extent r Nothing = None
-decided_extent r (Field size v) = Some (record { start = r.offset; end = r.offset + size_width size })
+decided_extent r d = written_extent r.offset (written_by d)
 
 -- where they stand
 unfoldable pub decided_extents : List InputRelocation → List Decision → List Extent
@@ -39,20 +46,37 @@ unfoldable pub ascends : ℕ → List Extent → Bool
 ascends reach [] = true
 ascends reach (e ∷ es) = nat_le reach e.start && ascends (max reach e.end) es
 
+-- bytes after a field was written over them
+abbrev pub put_field : List ℕ → ℕ → RelocationSize → ℕ → List ℕ
+put_field old at size v = place at (size_written size v (slice_range old at (at + size_width size))) old
+
+abbrev pub put_written : List ℕ → ℕ → Option Written → List ℕ
+put_written old at None = old
+put_written old at (Some w) = put_field old at w.size w.value
+
 -- bytes after one relocation was written over them
 abbrev pub put_decision : List ℕ → InputRelocation → Decision → List ℕ
-put_decision old r Nothing = old
-put_decision old r (Field size v) = place r.offset (size_written size v (slice_range old r.offset (r.offset + size_width size))) old
+put_decision old r d = put_written old r.offset (written_by d)
 
--- where a field that begins at `reach` or behind ends; none where it begins before
+-- where a field ends that begins at `reach` or behind; none where it begins before
+abbrev pub reach_of_field : ℕ → ℕ → RelocationSize → Option ℕ
+reach_of_field reach at size = if nat_lt at reach then None else Some (at + size_width size)
+
+abbrev pub reach_of : ℕ → ℕ → Option Written → Option ℕ
+reach_of reach at None = Some reach
+reach_of reach at (Some w) = reach_of_field reach at w.size
+
+-- the same of what a relocation writes
 abbrev pub reach_behind : ℕ → InputRelocation → Decision → Option ℕ
-reach_behind reach r Nothing = Some reach
-reach_behind reach r (Field size v) = if nat_lt r.offset reach then None else Some (r.offset + size_width size)
+reach_behind reach r d = reach_of reach r.offset (written_by d)
+
+abbrev pub WrittenLies : ℕ → ℕ → Option Written → Type 0
+WrittenLies n at None = Unit {0}
+WrittenLies n at (Some w) = at + size_width w.size ≤ n
 
 -- what a relocation writes lies in n bytes
 abbrev pub DecisionLies : ℕ → InputRelocation → Decision → Type 0
-DecisionLies n r Nothing = Unit {0}
-DecisionLies n r (Field size v) = r.offset + size_width size ≤ n
+DecisionLies n r d = WrittenLies n r.offset (written_by d)
 
 -- the decisions are those of the section's relocations
 pub record AreDecided (l : Layout) (s : InputSection) (ds : List Decision) : Type 0 where

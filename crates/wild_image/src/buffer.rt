@@ -3,7 +3,6 @@
 ghost use Rattle.std.specs.Prelude.{◌≡◌, ◌++◌, IfOk, OnOk, All};
 ghost use Rattle.wild_plan.specs.declared.file.File.{File};
 ghost use Rattle.wild_plan.specs.Faults.{Answers};
-ghost use Rattle.wild_layout.specs.Content.{file_content, content};
 ghost use Rattle.wild_layout.specs.Faults.{section_errors, file_errors, group_errors};
 ghost use Rattle.wild_layout.specs.Geometry.{SectionLies};
 ghost use Rattle.wild_image.specs.Steps.{HasValues, FieldsFit};
@@ -13,57 +12,24 @@ use crate::arch::Arch;
 use crate::part_bytes::PartBytes;
 use crate::piece::{check_data, room_of, zeros};
 use crate::place::InputPlace;
-use crate::tables::whole_bytes;
+use crate::tables::add_content;
 use std::alloc::{AllocError, Global};
-use wild_plan::{Error, File, Group, InputSection, Layout, Role};
-
-/// Adds what a file gives to a part of that role.
-fn add_file_content(
-    alloc: Global,
-    layout: &Layout,
-    role: Role,
-    file: &File,
-    bytes: &mut PartBytes,
-) -> Result<(), AllocError>
-    requires fits { FieldsFit layout.now }
-    ensures { OnOk result (bytes.new ≡ bytes.old ++ file_content layout.now role file.now) }
-{
-    if file.role.is_prelude() {
-        let whole = whole_bytes(alloc, layout, role)?;
-        bytes.extend(&whole)?;
-    }
-    Ok(())
-}
-
-/// Adds what a group gives to a part of that role.
-fn add_content(
-    alloc: Global,
-    layout: &Layout,
-    role: Role,
-    group: &Group,
-    bytes: &mut PartBytes,
-) -> Result<(), AllocError>
-    requires fits { FieldsFit layout.now }
-    ensures { OnOk result (bytes.new ≡ bytes.old ++ content layout.now role group.now) }
-{
-    for file in group.files.as_slice() {
-        add_file_content(alloc, layout, role, file, bytes)?;
-    }
-    Ok(())
-}
+use wild_plan::{Error, File, Group, InputSection, Layout};
 
 /// Adds what a group gives to the tables, part by part.
 fn add_group_tables(
     alloc: Global,
     layout: &Layout,
+    values: &[Option<u64>],
     group: &Group,
     bytes: &mut PartBytes,
 ) -> Result<(), AllocError>
     requires fits { FieldsFit layout.now }
+    requires values { HasValues layout.now values.now }
     ensures { OnOk result (bytes.new ≡ bytes.old ++ group_tables layout.now group.now) }
 {
     for part in layout.parts.as_slice() {
-        add_content(alloc, layout, part.role, group, bytes)?;
+        add_content(alloc, layout, values, part.role, group, bytes)?;
     }
     Ok(())
 }
@@ -176,7 +142,7 @@ pub(crate) fn bytes_of_group<A: Arch>(
     ensures bytes { IfOk result (λ bs. bs ≡ group_bytes layout.now group.now) }
 {
     let mut bytes = PartBytes::with_room(alloc, room_of_group(layout, group))?;
-    add_group_tables(alloc, layout, group, &mut bytes)?;
+    add_group_tables(alloc, layout, values, group, &mut bytes)?;
     add_group_sections::<A>(alloc, layout, values, index, group, &mut bytes)?;
     Ok(bytes)
 }

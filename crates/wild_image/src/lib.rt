@@ -4,9 +4,11 @@
 mod append;
 mod arch;
 mod buffer;
+mod entries;
 mod job;
 mod output;
 mod overlap;
+mod own;
 mod padding;
 mod pairs;
 mod part_bytes;
@@ -20,6 +22,7 @@ mod tables;
 #[cfg(test)]
 mod tests;
 mod values;
+mod words;
 
 pub use arch::{Arch, ElfX86_64};
 pub use output::{SizedOutput, write, write_gated};

@@ -173,7 +173,7 @@ fn fill_parts<A: Arch>(
     ensures faults { Answers result (group_errors layout.now index group.now) }
     ensures parts { OnOk result (parts.new ≡ group_parts layout.now group.now) }
 {
-    add_tables(alloc, layout, group, parts)?;
+    add_tables(alloc, layout, values, group, parts)?;
     take_group::<A>(alloc, layout, values, index, group, parts)
 }
 

@@ -13,4 +13,4 @@ pub use dynamic::{dynamic_sections_are_read, write_dynamic, write_unused};
 pub use laws::{entries_add_the_base, entries_are_read, loaders_agree, places_are_loaded};
 pub use rela::RelaTable;
 pub use relr::RelrTable;
-pub use writer::TableWriter;
+pub use writer::{TableWriter, relative_entry};

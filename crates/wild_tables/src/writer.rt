@@ -49,7 +49,7 @@ fn relative_type(machine: Machine) -> u32
 }
 
 /// The entry by which a loader stores base plus value at the place.
-fn relative_entry(layout: &Layout, place: u64, value: u64) -> Rela
+pub fn relative_entry(layout: &Layout, place: u64, value: u64) -> Rela
     ensures { result ≡ relative_entry layout.now place value }
 {
     Rela {

@@ -1,7 +1,7 @@
-use Rattle.std.proofs.Common.{◌≡◌, [], ◌++◌, ℕ, ◌<◌, length, get_or, take}
-use Rattle.std.specs.List.{flat_map}
-use Rattle.wild_image.specs.Pieces.{file_given}
+use Rattle.std.proofs.Common.{[], ◌++◌, get_or}
+use Rattle.wild_image.specs.Pieces.{group_given}
+use Rattle.wild_image.proofs.TableLemmas.{Changed}
 use Rattle.wild_image.proofs.tables.add_tables.Given as goal
 
-abbrev pub invariant-loop-file : goal.invariant-loop-file
-invariant-loop-file l = (k : ℕ) → k < length l.parts → get_or l.parts k [] ≡ get_or l.initial.parts k [] ++ flat_map (file_given l.layout k) (take l.file-index l.group.files)
+abbrev pub invariant-loop-i : goal.invariant-loop-i
+invariant-loop-i l = Changed [] (λ k. get_or l.initial.parts k [] ++ group_given l.layout k l.group) l.initial.parts l.i l.parts

@@ -1,7 +1,7 @@
 use Rattle.std.proofs.Common.{◌≡◌, ◌++◌, take}
 use Rattle.std.specs.List.{flat_map}
 use Rattle.wild_layout.specs.Content.{file_content}
-use Rattle.wild_image.proofs.buffer.add_content.Given as goal
+use Rattle.wild_image.proofs.tables.add_content.Given as goal
 
 abbrev pub invariant-loop-file : goal.invariant-loop-file
 invariant-loop-file l = l.bytes ≡ l.initial.bytes ++ flat_map (file_content l.layout l.role) (take l.file-index l.group.files)

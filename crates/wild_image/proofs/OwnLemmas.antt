@@ -1,0 +1,188 @@
+-- Laws of what a file gives to the tables that a loader reads.
+use Rattle.std.proofs.Common.{◌≡◌, ℕ, zero, suc, ◌+◌, ◌-◌, ◌*◌, ◌%◌, ◌<◌, ◌≤◌, ◌==◌, ◌&&◌, inl, inr, Bool, true, false, not, if◌then◌else◌, max, List, [], ◌∷◌, ◌++◌, length, take, get_or, map, replicate, refl, sym, ap, ◌∙◌, arith}
+use Rattle.std.specs.Prelude.{Option, Some, None, option_to_list, slice_get}
+use Rattle.std.specs.List.{flat_map}
+use Rattle.std.proofs.lemmas.Bool.{cases_Bool, and_parts, eqb-true}
+use Rattle.std.proofs.lemmas.List.{append-nil, append_assoc, length-append, take_all}
+use Rattle.wild_records.specs.Dynamic.{dynamic_entry_size}
+use Rattle.wild_records.specs.Abi.Dynamic.{dt_soname}
+use Rattle.wild_records.specs.Relocations.{relr_size}
+use Rattle.wild_records.specs.declared.relocations.Rela.{Rela}
+use Rattle.wild_relr.specs.declared.run.Choice.{Choice}
+use Rattle.wild_relr.specs.declared.run.Choice.TheVariants.{Joins, Adds}
+use Rattle.wild_relr.specs.Packing.{State, joined, choice, chosen, after}
+use Rattle.wild_relr.specs.Packed.{packed, packed_on, afters, nothing}
+use Rattle.wild_relr.specs.Written.{word_bytes}
+use Rattle.wild_relr.proofs.PackedLemmas.{afters-packed}
+use Rattle.wild_plan.specs.declared.input.InputRelocation.{InputRelocation}
+use Rattle.wild_plan.specs.declared.input.InputSection.{InputSection}
+use Rattle.wild_plan.specs.declared.options.Options.{Options}
+use Rattle.wild_plan.specs.declared.part.Part.{Part}
+use Rattle.wild_plan.specs.declared.file.Group.{Group}
+use Rattle.wild_plan.specs.declared.layout.Layout.{Layout}
+use Rattle.wild_plan.specs.Kinds.{needs_dynamic}
+use Rattle.wild_plan.specs.Entries.{place_of, packs, is_moved, has_moved, packed_place, packed_places, words_of}
+use Rattle.wild_plan.specs.Dynamic.{NamedString, named, named_strings, texts_of, path_number, auxiliary_string, option_strings, dynamic_strings, epilogue_strings, dynamic_count}
+use Rattle.wild_tables.specs.Entries.{rela_bytes}
+use Rattle.wild_tables.specs.Dynamic.{dynamic_bytes}
+use Rattle.wild_layout.specs.Moved.{listed_entry, section_entries}
+use Rattle.wild_layout.specs.Content.{file_content, content}
+use Rattle.wild_image.specs.Pieces.{role_of, group_given}
+use Rattle.wild_image.specs.Own.{entry_bytes, section_entry_bytes, section_word_bytes, packed_in, zero_ended}
+use Rattle.wild_image.proofs.ListLemmas.{flat_map-append, flat_map-more}
+
+-- lists of lists, joined
+joined_by : {X Y Z : Type 0} (f : Y → List Z) (g : X → List Y) (xs : List X) → flat_map (λ x. flat_map f (g x)) xs ≡ flat_map f (flat_map g xs)
+joined_by f g [] = refl
+joined_by f g (x ∷ xs) = ap (λ ys. flat_map f (g x) ++ ys) (joined_by f g xs) ∙ sym (flat_map-append f (g x) (flat_map g xs))
+
+-- all of them, where a loop has ended
+pub all_joined : {X : Type 0} (f : X → List ℕ) (xs : List X) (i : ℕ) (base now whole : List ℕ) → length xs ≤ i → now ≡ base ++ flat_map f (take i xs) → whole ≡ flat_map f xs → now ≡ base ++ whole
+all_joined {X} f xs i base now whole end before is = before ∙ ap (λ (ys : List X). base ++ flat_map f ys) (take_all i xs end) ∙ ap (λ (ys : List ℕ). base ++ ys) (sym is)
+
+-- nothing to add
+pub none_added : (bytes own : List ℕ) → own ≡ [] → bytes ≡ bytes ++ own
+none_added bytes own none = sym (append-nil bytes) ∙ ap (λ (ys : List ℕ). bytes ++ ys) (sym none)
+
+-- what a group gives to a part, by the part's role
+pub given_is : (l : Layout) (i : ℕ) (p : Part) (g : Group) → slice_get l.parts i ≡ Some p → group_given l i g ≡ content l p.role g
+given_is l i p g e = ap (λ (o : Option Part). flat_map (file_content l (role_of o)) g.files) e
+
+-- ---- entries
+
+pub listed_entries : (l : Layout) (s : InputSection) → has_moved l s ≡ true → section_entry_bytes l s ≡ flat_map (entry_bytes l s) s.relocations
+unfolding section_entry_bytes entry_bytes section_entries
+listed_entries l s h = rw h (sym (joined_by _ (λ r. option_to_list (listed_entry l s r)) s.relocations))
+
+pub no_entries : (l : Layout) (s : InputSection) → has_moved l s ≡ false → section_entry_bytes l s ≡ []
+unfolding section_entry_bytes section_entries
+no_entries l s h = rw h refl
+
+pub entries_joined : (l : Layout) (ss : List InputSection) → rela_bytes (flat_map (section_entries l) ss) ≡ flat_map (section_entry_bytes l) ss
+unfolding section_entry_bytes
+entries_joined l ss = sym (joined_by _ (section_entries l) ss)
+
+-- ---- words
+
+length-joined : (i : ℕ) (ws : List ℕ) → length (joined i ws) ≡ length ws
+unfolding joined
+length-joined i [] = refl
+length-joined i (w ∷ []) = refl
+length-joined i (w ∷ v ∷ ws) = let e = length-joined i (v ∷ ws) in omega (arith, e)
+
+by_choice_few : (c : Choice) (s : State) → length (chosen c s).words ≤ length s.words + 1
+by_choice_few (Joins i) s = let e = length-joined i s.words in omega (arith, e)
+by_choice_few (Adds w r) s = let e = length-append s.words (w ∷ []) in omega (arith, e)
+
+-- a place adds a word at most
+pub one_more : (s : State) (p : ℕ) → length (after s p).words ≤ length s.words + 1
+one_more s p = by_choice_few (choice s.run p) s
+
+pub never_full : (s : State) (p room : ℕ) → relr_size * (length s.words + 1) ≤ room → room < relr_size * length (after s p).words → ⊥
+never_full s p room h m = let e = one_more s p in omega (arith, e, h, m)
+
+-- a place that is packed is even
+pub packed_even : (l : Layout) (s : InputSection) (r : InputRelocation) (p : ℕ) → packed_place l s r ≡ Some p → p % 2 ≡ 0
+packed_even l s r p h =
+    elim (cases_Bool (is_moved l s r && packs l (place_of s r))) [
+      | inl t ↦
+          (let both = and_parts (is_moved l s r) (packs l (place_of s r)) t in
+          let even = and_parts l.options.relr (place_of s r % 2 == 0) both.1 in
+          let e : place_of s r ≡ p = cc (rw t at h) in
+          ap (λ (n : ℕ). n % 2) (sym e) ∙ eqb-true _ _ even.1)
+      | inr f ↦ cc (rw f at h)
+    ]
+
+pub afters-append : (ps qs : List ℕ) (s : State) → afters s (ps ++ qs) ≡ afters (afters s ps) qs
+unfolding afters
+afters-append [] qs s = refl
+afters-append (p ∷ ps) qs s = afters-append ps qs (after s p)
+
+pub afters_none : (s : State) → afters s [] ≡ s
+unfolding afters
+afters_none s = refl
+
+pub afters_one : (s : State) (p : ℕ) → afters s (p ∷ []) ≡ after s p
+unfolding afters
+afters_one s p = refl
+
+-- the place of a relocation, where that is packed
+pub packed_some : (l : Layout) (s : InputSection) (r : InputRelocation) (p : ℕ) (now : State) → packed_place l s r ≡ Some p → afters now (packed_in l s r) ≡ after now p
+packed_some l s r p now e = ap (λ (o : Option ℕ). afters now (option_to_list o)) e ∙ afters_one now p
+
+pub not_packed : (l : Layout) (s : InputSection) (r : InputRelocation) (now : State) → packed_place l s r ≡ None → afters now (packed_in l s r) ≡ now
+not_packed l s r now e = ap (λ (o : Option ℕ). afters now (option_to_list o)) e ∙ afters_none now
+
+-- one more item's places
+pub run_more : {X : Type 0} (f : X → List ℕ) (xs : List X) (i : ℕ) (d : X) (first now next : State) → i < length xs → now ≡ afters first (flat_map f (take i xs)) → next ≡ afters now (f (get_or xs i d)) → next ≡ afters first (flat_map f (take (i + 1) xs))
+run_more f xs i d first now next h before is =
+    is ∙ ap (λ (x : State). afters x (f (get_or xs i d))) before
+    ∙ sym (afters-append (flat_map f (take i xs)) (f (get_or xs i d)) first)
+    ∙ ap (afters first) (sym (flat_map-more f xs i d h))
+
+-- the words of a run, place by place
+pub run_words : (ps : List ℕ) → (afters nothing ps).words ≡ packed ps
+run_words ps = afters-packed ps []
+
+pub packed_words : (l : Layout) (s : InputSection) → has_moved l s ≡ true → section_word_bytes l s ≡ word_bytes (packed (flat_map (packed_in l s) s.relocations))
+unfolding section_word_bytes packed_places
+packed_words l s h = rw h refl
+
+pub no_words : (l : Layout) (s : InputSection) → has_moved l s ≡ false → section_word_bytes l s ≡ []
+unfolding section_word_bytes packed_places packed packed_on
+no_words l s h = rw h refl
+
+pub words_joined : (l : Layout) (ss : List InputSection) → word_bytes (flat_map (words_of l) ss) ≡ flat_map (section_word_bytes l) ss
+unfolding section_word_bytes
+words_joined l ss = sym (joined_by _ (words_of l) ss)
+
+-- ---- strings
+
+texts-append : (xs ys : List NamedString) → flat_map zero_ended (texts_of (xs ++ ys)) ≡ flat_map zero_ended (texts_of xs) ++ flat_map zero_ended (texts_of ys)
+texts-append [] ys = refl
+texts-append (x ∷ xs) ys = ap (λ (zs : List ℕ). zero_ended x.text ++ zs) (texts-append xs ys) ∙ sym (append_assoc (zero_ended x.text) (flat_map zero_ended (texts_of xs)) (flat_map zero_ended (texts_of ys)))
+
+text_named : (n : ℕ) (o : Option (List ℕ)) → flat_map zero_ended (texts_of (named n o)) ≡ flat_map zero_ended (option_to_list o)
+text_named n None = refl
+text_named n (Some t) = refl
+
+text_auxiliary : (ts : List (List ℕ)) → flat_map zero_ended (texts_of (map auxiliary_string ts)) ≡ flat_map zero_ended ts
+text_auxiliary [] = refl
+text_auxiliary (t ∷ ts) = ap (λ (zs : List ℕ). zero_ended t ++ zs) (text_auxiliary ts)
+
+texts_are : (o : Options) → flat_map zero_ended (texts_of (option_strings o)) ≡ flat_map zero_ended (option_to_list o.rpath) ++ (flat_map zero_ended (option_to_list o.soname) ++ flat_map zero_ended o.auxiliary)
+texts_are o =
+    texts-append (named (path_number o) o.rpath) (named dt_soname o.soname ++ map auxiliary_string o.auxiliary)
+    ∙ ap (λ (zs : List ℕ). zs ++ flat_map zero_ended (texts_of (named dt_soname o.soname ++ map auxiliary_string o.auxiliary))) (text_named (path_number o) o.rpath)
+    ∙ ap (λ (zs : List ℕ). flat_map zero_ended (option_to_list o.rpath) ++ zs)
+        (texts-append (named dt_soname o.soname) (map auxiliary_string o.auxiliary)
+        ∙ ap (λ (zs : List ℕ). zs ++ flat_map zero_ended (texts_of (map auxiliary_string o.auxiliary))) (text_named dt_soname o.soname)
+        ∙ ap (λ (zs : List ℕ). flat_map zero_ended (option_to_list o.soname) ++ zs) (text_auxiliary o.auxiliary))
+
+pub strings_are : (l : Layout) → needs_dynamic l.kind ≡ true → epilogue_strings l ≡ flat_map zero_ended (option_to_list l.options.rpath) ++ (flat_map zero_ended (option_to_list l.options.soname) ++ flat_map zero_ended l.options.auxiliary)
+unfolding named_strings
+strings_are l h = rw h (texts_are l.options)
+
+pub no_strings : (l : Layout) → needs_dynamic l.kind ≡ false → epilogue_strings l ≡ []
+unfolding named_strings
+no_strings l h = rw h refl
+
+-- the strings, one after another
+pub strings_added : (l : Layout) (base a b now : List ℕ) (texts : List (List ℕ)) → needs_dynamic l.kind ≡ true → a ≡ base ++ flat_map zero_ended (option_to_list l.options.rpath) → b ≡ a ++ flat_map zero_ended (option_to_list l.options.soname) → now ≡ b ++ flat_map zero_ended texts → texts ≡ l.options.auxiliary → now ≡ base ++ epilogue_strings l
+strings_added l base a b now texts h path name last same =
+    let r = flat_map zero_ended (option_to_list l.options.rpath) in
+    let s = flat_map zero_ended (option_to_list l.options.soname) in
+    let x = flat_map zero_ended l.options.auxiliary in
+    last ∙ ap (λ (ts : List (List ℕ)). b ++ flat_map zero_ended ts) same
+    ∙ ap (λ (ys : List ℕ). ys ++ x) name
+    ∙ ap (λ (ys : List ℕ). (ys ++ s) ++ x) path
+    ∙ append_assoc (base ++ r) s x ∙ append_assoc base r (s ++ x)
+    ∙ ap (λ (ys : List ℕ). base ++ ys) (sym (strings_are l h))
+
+-- ---- the dynamic section
+
+-- more room than the entries have is what counts
+pub dynamic_by : (l : Layout) (room size : ℕ) → size ≡ max (dynamic_entry_size * dynamic_count l) room → dynamic_bytes l size ≡ dynamic_bytes l room
+dynamic_by l room size is =
+    let e : size - dynamic_entry_size * dynamic_count l ≡ room - dynamic_entry_size * dynamic_count l = omega (arith, is) in
+    rw e refl

@@ -1,0 +1,133 @@
+//! The entries with addends of a file: for each address that moves and is not packed, one by which a loader stores the
+//! sum of base and value (gABI, "Relocation").
+ghost use Rattle.std.specs.Prelude.{◌≡◌, [], ◌∷◌, ◌++◌, true, OnOk};
+ghost use Rattle.std.specs.List.{flat_map};
+ghost use Rattle.wild_plan.specs.Entries.{is_moved, listed_place, has_moved};
+ghost use Rattle.wild_tables.specs.Entries.{rela_bytes};
+ghost use Rattle.wild_layout.specs.Moved.{file_entries};
+ghost use Rattle.wild_image.specs.Steps.{HasValues};
+ghost use Rattle.wild_image.specs.Own.{entry_bytes, section_entry_bytes};
+
+use crate::part_bytes::PartBytes;
+use crate::resolve::moved_value;
+use std::alloc::AllocError;
+use wild_plan::{File, InputRelocation, InputSection, Layout, Treatment, treatment_of};
+use wild_records::Rela;
+use wild_tables::relative_entry;
+
+/// Whether a section may have addresses that move with the base.
+pub(crate) fn has_moved(layout: &Layout, section: &InputSection) -> bool
+    ensures { result ≡ has_moved layout.now section.now }
+{
+    layout.kind.is_position_independent() && section.is_read()
+}
+
+/// Whether the address that a relocation writes moves with the base.
+pub(crate) fn is_moved(
+    layout: &Layout,
+    section: &InputSection,
+    relocation: &InputRelocation,
+) -> bool
+    ensures { result ≡ is_moved layout.now section.now relocation.now }
+{
+    matches!(
+        treatment_of(layout, section, relocation),
+        Treatment::BaseRelative
+    )
+}
+
+/// The place of a relocation, where that has an entry.
+fn listed_place(
+    layout: &Layout,
+    section: &InputSection,
+    relocation: &InputRelocation,
+) -> Option<u64>
+    ensures { result ≡ listed_place layout.now section.now relocation.now }
+{
+    let place = section.place_of(relocation);
+    if is_moved(layout, section, relocation) && !layout.packs(place) {
+        Some(place)
+    } else {
+        None
+    }
+}
+
+/// Adds an entry.
+fn add_entry(entry: Rela, bytes: &mut PartBytes) -> Result<(), AllocError>
+    ensures { OnOk result (bytes.new ≡ bytes.old ++ rela_bytes (entry ∷ [])) }
+{
+    let mut room = [0; Rela::SIZE];
+    entry.put(&mut room);
+    bytes.extend(&room)
+}
+
+/// Adds the entry of a relocation, where it has one.
+#[tactic(auto, unfolding(crate::specs::Own::entry_bytes))]
+fn add_listed(
+    layout: &Layout,
+    values: &[Option<u64>],
+    section: &InputSection,
+    relocation: &InputRelocation,
+    bytes: &mut PartBytes,
+) -> Result<(), AllocError>
+    requires values { HasValues layout.now values.now }
+    ensures { OnOk result (bytes.new ≡ bytes.old ++ entry_bytes layout.now section.now relocation.now) }
+{
+    match listed_place(layout, section, relocation) {
+        Some(place) => {
+            let value = moved_value(layout, values, relocation);
+            add_entry(relative_entry(layout, place, value), bytes)
+        }
+        None => Ok(()),
+    }
+}
+
+/// Adds the entries of the relocations of a section.
+fn add_all_listed(
+    layout: &Layout,
+    values: &[Option<u64>],
+    section: &InputSection,
+    bytes: &mut PartBytes,
+) -> Result<(), AllocError>
+    requires values { HasValues layout.now values.now }
+    ensures { OnOk result (bytes.new ≡ bytes.old ++ flat_map (entry_bytes layout.now section.now) section.now.relocations) }
+{
+    for relocation in section.relocations.as_slice() {
+        add_listed(layout, values, section, relocation, bytes)?;
+    }
+    Ok(())
+}
+
+/// Adds the entries of a section.
+#[tactic(auto, using(crate::proofs::OwnLemmas::listed_entries, crate::proofs::OwnLemmas::no_entries))]
+fn add_section_entries(
+    layout: &Layout,
+    values: &[Option<u64>],
+    section: &InputSection,
+    bytes: &mut PartBytes,
+) -> Result<(), AllocError>
+    requires values { HasValues layout.now values.now }
+    ensures { OnOk result (bytes.new ≡ bytes.old ++ section_entry_bytes layout.now section.now) }
+{
+    if has_moved(layout, section) {
+        add_all_listed(layout, values, section, bytes)?;
+    }
+    Ok(())
+}
+
+/// Adds the entries of a file.
+#[tactic(auto, using(crate::proofs::OwnLemmas::entries_joined))]
+pub(crate) fn add_entries(
+    layout: &Layout,
+    values: &[Option<u64>],
+    file: &File,
+    bytes: &mut PartBytes,
+) -> Result<(), AllocError>
+    requires values { HasValues layout.now values.now }
+    ensures { OnOk result (bytes.new ≡ bytes.old ++ rela_bytes (file_entries layout.now file.now)) }
+{
+    for section in file.sections.as_slice() {
+        add_section_entries(layout, values, section, bytes)?;
+    }
+    Ok(())
+}
