@@ -155,9 +155,9 @@ texts_are o =
     texts-append (named (path_number o) o.rpath) (named dt_soname o.soname ++ map auxiliary_string o.auxiliary)
     ∙ ap (λ (zs : List ℕ). zs ++ flat_map zero_ended (texts_of (named dt_soname o.soname ++ map auxiliary_string o.auxiliary))) (text_named (path_number o) o.rpath)
     ∙ ap (λ (zs : List ℕ). flat_map zero_ended (option_to_list o.rpath) ++ zs)
-        (texts-append (named dt_soname o.soname) (map auxiliary_string o.auxiliary)
-        ∙ ap (λ (zs : List ℕ). zs ++ flat_map zero_ended (texts_of (map auxiliary_string o.auxiliary))) (text_named dt_soname o.soname)
-        ∙ ap (λ (zs : List ℕ). flat_map zero_ended (option_to_list o.soname) ++ zs) (text_auxiliary o.auxiliary))
+    (texts-append (named dt_soname o.soname) (map auxiliary_string o.auxiliary)
+    ∙ ap (λ (zs : List ℕ). zs ++ flat_map zero_ended (texts_of (map auxiliary_string o.auxiliary))) (text_named dt_soname o.soname)
+    ∙ ap (λ (zs : List ℕ). flat_map zero_ended (option_to_list o.soname) ++ zs) (text_auxiliary o.auxiliary))
 
 pub strings_are : (l : Layout) → needs_dynamic l.kind ≡ true → epilogue_strings l ≡ flat_map zero_ended (option_to_list l.options.rpath) ++ (flat_map zero_ended (option_to_list l.options.soname) ++ flat_map zero_ended l.options.auxiliary)
 unfolding named_strings

@@ -3,15 +3,22 @@ ghost use Rattle.std.specs.Prelude.{◌≡◌, ◌<◌, ◌≤◌, IfOk};
 ghost use Rattle.wild_plan.specs.declared.kind.Machine.TheVariants as machine;
 
 use super::*;
+use crate::entries::add_entries;
+use crate::relocation::decide;
+use crate::values::values_of;
+use crate::words::add_words;
 use std::alloc::{AllocError, Global};
 use std::sync::atomic::{AtomicU64, Ordering};
 use std::test::Fail;
 use std::thread::Threads;
 use wild_crew::Gate;
+use wild_layout::Decision;
 use wild_made::make_plan;
 use wild_plan::*;
-use wild_records::abi::relocation::R_X86_64_PC32;
-use wild_records::abi::section::{SHF_ALLOC, SHF_EXECINSTR, SHT_NULL, SHT_PROGBITS, SHT_STRTAB};
+use wild_records::abi::relocation::{R_X86_64_64, R_X86_64_PC32};
+use wild_records::abi::section::{
+    SHF_ALLOC, SHF_EXECINSTR, SHF_WRITE, SHT_NULL, SHT_PROGBITS, SHT_STRTAB,
+};
 use wild_records::abi::segment::{PF_R, PF_X, PT_LOAD};
 use wild_records::abi::symbol::STT_FUNC;
 use wild_words::{Bytes, Items};
@@ -118,7 +125,7 @@ fn segments(alloc: Global) -> Result<Items<Segment>, AllocError> {
     Ok(Items::from_vec(all))
 }
 
-fn symbols(alloc: Global) -> Result<Items<Symbol>, AllocError> {
+fn symbols(alloc: Global, address: u64) -> Result<Items<Symbol>, AllocError> {
     let mut all = Items::new(alloc);
     all.push(Symbol {
         name: bytes(alloc, b"f")?,
@@ -132,7 +139,7 @@ fn symbols(alloc: Global) -> Result<Items<Symbol>, AllocError> {
         version: 0,
         emit: false,
         resolution: Some(Resolution {
-            raw_value: 0x40_0086,
+            raw_value: address,
             flags: ValueFlags::NON_INTERPOSABLE,
             dynamic_symbol_index: None,
             got_address: None,
@@ -216,7 +223,7 @@ fn layout(alloc: Global, relocations: &[InputRelocation]) -> Result<Layout, Allo
         got_header: 0,
         tlsld: None,
         primary_part: 0,
-        symbols: symbols(alloc)?,
+        symbols: symbols(alloc, 0x40_0086)?,
         groups: groups(alloc, relocations)?,
         dynsyms: Items::new(alloc),
         sysv_hash: None,
@@ -461,5 +468,83 @@ fn two_workers_meet(rt: HostRuntime) -> Result<(), Fail> {
     let image = write_gated::<ElfX86_64>(&rt, rt.alloc(), &layout, 2, &gate)?;
     assert_eq!(rt; image.out.len(), 472);
     assert_eq!(rt; gate.met.load(Ordering::SeqCst), 1);
+    Ok(())
+}
+
+/// A layout of a static position-independent executable with packed relocations, whose symbol 0 stands at 0x1040.
+fn movable(alloc: Global) -> Result<Layout, AllocError>
+    ensures { IfOk result (λ l. l.machine ≡ machine.X86_64) }
+{
+    Ok(Layout {
+        kind: OutputKind::StaticExecutable(RelocationModel::Relocatable),
+        options: Options {
+            relr: true,
+            ..Options::none(alloc)
+        },
+        symbols: symbols(alloc, 0x1040)?,
+        ..layout(alloc, &[])?
+    })
+}
+
+/// A relocation that writes the address of symbol 0.
+fn address(offset: u64) -> InputRelocation {
+    InputRelocation {
+        number: R_X86_64_64,
+        addend: 0,
+        ..relocation(offset, R_X86_64_64)
+    }
+}
+
+/// Data at an address, with such relocations at these offsets.
+fn data(alloc: Global, start: u64, offsets: &[u64]) -> Result<InputSection, AllocError> {
+    let mut relocations = Items::new(alloc);
+    for offset in offsets {
+        relocations.push(address(*offset))?;
+    }
+    Ok(InputSection {
+        address: start,
+        flags: SHF_ALLOC | SHF_WRITE,
+        relocations,
+        ..text(alloc, &[])?
+    })
+}
+
+#[test]
+fn odd_places_have_entries(rt: HostRuntime) -> Result<(), Fail> {
+    let layout = movable(rt.alloc())?;
+    let values = values_of(rt.alloc(), &layout)?;
+    let section = data(rt.alloc(), 0x3000, &[1])?;
+    let decision = decide::<ElfX86_64>(&layout, &values, &section, &address(1));
+    let beside = Decision::Moved {
+        value: 0x1040,
+        packed: false,
+    };
+    assert_eq!(rt; decision, Ok(beside));
+    let mut object = file(rt.alloc(), FileRole::Object);
+    object.sections.push(section)?;
+    let mut entries = PartBytes::with_room(rt.alloc(), 0)?;
+    add_entries(&layout, &values, &object, &mut entries)?;
+    let wanted = [
+        0x01, 0x30, 0, 0, 0, 0, 0, 0, 0x08, 0, 0, 0, 0, 0, 0, 0, 0x40, 0x10, 0, 0, 0, 0, 0, 0,
+    ];
+    assert_eq!(rt; entries.as_slice(), wanted.as_slice());
+    Ok(())
+}
+
+#[test]
+fn even_places_are_packed_section_by_section(rt: HostRuntime) -> Result<(), Fail> {
+    let layout = movable(rt.alloc())?;
+    let mut object = file(rt.alloc(), FileRole::Object);
+    object
+        .sections
+        .push(data(rt.alloc(), 0x3000, &[0, 0x10, 0x1f8, 0x200])?)?;
+    object.sections.push(data(rt.alloc(), 0x3208, &[0])?)?;
+    let mut words = PartBytes::with_room(rt.alloc(), 0)?;
+    add_words(rt.alloc(), &layout, &object, &mut words)?;
+    let wanted = [
+        0x00, 0x30, 0, 0, 0, 0, 0, 0, 0x05, 0, 0, 0, 0, 0, 0, 0x80, 0x03, 0, 0, 0, 0, 0, 0, 0,
+        0x08, 0x32, 0, 0, 0, 0, 0, 0,
+    ];
+    assert_eq!(rt; words.as_slice(), wanted.as_slice());
     Ok(())
 }

@@ -65,11 +65,7 @@ fn pack(
 }
 
 /// The words of the relocations of a section, in room for one word each.
-fn words_in(
-    alloc: Global,
-    layout: &Layout,
-    section: &InputSection,
-) -> Result<RelrTable, AllocError>
+fn words_in(alloc: Global, layout: &Layout, section: &InputSection) -> Result<RelrTable, AllocError>
     ensures { IfOk result (λ t. t.state.words ≡ packed (flat_map (packed_in layout.now section.now) section.now.relocations)) }
 {
     let relocations = section.relocations.as_slice();
