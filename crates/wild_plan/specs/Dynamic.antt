@@ -26,7 +26,7 @@ use Rattle.wild_plan.specs.declared.section.Section.{Section}
 use Rattle.wild_plan.specs.declared.layout.Layout.{Layout}
 use Rattle.wild_plan.specs.Kinds.{is_executable, is_shared_object, is_position_independent, needs_dynamic}
 use Rattle.wild_plan.specs.Lists.{total}
-use Rattle.wild_plan.specs.Places.{has_role}
+use Rattle.wild_plan.specs.Segments.{part_with}
 
 -- the number of an entry
 unfoldable pub dynamic_number : DynamicTag → ℕ
@@ -71,10 +71,6 @@ section_address l name = option_map (λ (s : Section). s.address) (section_named
 abbrev pub section_size : Layout → List ℕ → Option ℕ
 section_size l name = option_map (λ (s : Section). s.size) (section_named l name)
 
--- the part of a role
-unfoldable pub part_with : Layout → Role → Option Part
-part_with l r = find (has_role r) l.parts
-
 abbrev pub part_address : Option Part → Option ℕ
 part_address p = option_map (λ (x : Part). x.address) p
 
@@ -91,7 +87,7 @@ unless_empty (Some p) = if p.size == 0 then None else Some p
 
 -- the part of a role, where it is not empty
 abbrev pub filled_part : Layout → Role → Option Part
-filled_part l r = unless_empty (part_with l r)
+filled_part l r = unless_empty (part_with r l.parts)
 
 -- where entries with addends begin: relative entries stand first (LSB, "Dynamic Entries", DT_RELACOUNT)
 unfoldable pub first_entries : Layout → Option Part
@@ -103,7 +99,7 @@ bytes_of (Some p) = p.size
 
 -- the bytes of all entries with addends, at most 2^64 - 1
 unfoldable pub entries_bytes : Layout → ℕ
-entries_bytes l = min (2 ^ 64 - 1) (bytes_of (part_with l role.RelaDynRelative) + bytes_of (part_with l role.RelaDynGeneral))
+entries_bytes l = min (2 ^ 64 - 1) (bytes_of (part_with role.RelaDynRelative l.parts) + bytes_of (part_with role.RelaDynGeneral l.parts))
 
 -- how many entries are relative, where there are any
 abbrev pub relative_count : Layout → Option ℕ
@@ -139,17 +135,17 @@ dynamic_entry l tags.FiniArray = section_address l (codes ".fini_array")
 dynamic_entry l tags.FiniArraySize = section_size l (codes ".fini_array")
 dynamic_entry l tags.PreinitArray = section_address l (codes ".preinit_array")
 dynamic_entry l tags.PreinitArraySize = section_size l (codes ".preinit_array")
-dynamic_entry l tags.StringTable = part_address (part_with l role.Dynstr)
-dynamic_entry l tags.StringSize = part_size (part_with l role.Dynstr)
-dynamic_entry l tags.SymbolTable = part_address (part_with l role.Dynsym)
-dynamic_entry l tags.SymbolSize = beside symtab_entry_size (part_with l role.Dynsym)
+dynamic_entry l tags.StringTable = part_address (part_with role.Dynstr l.parts)
+dynamic_entry l tags.StringSize = part_size (part_with role.Dynstr l.parts)
+dynamic_entry l tags.SymbolTable = part_address (part_with role.Dynsym l.parts)
+dynamic_entry l tags.SymbolSize = beside symtab_entry_size (part_with role.Dynsym l.parts)
 dynamic_entry l tags.Rela = part_address (first_entries l)
 dynamic_entry l tags.RelaSize = beside (entries_bytes l) (first_entries l)
 dynamic_entry l tags.RelaEntry = beside rela_size (first_entries l)
 dynamic_entry l tags.RelaCount = relative_count l
-dynamic_entry l tags.Relr = part_address (part_with l role.RelrDyn)
-dynamic_entry l tags.RelrSize = part_size (part_with l role.RelrDyn)
-dynamic_entry l tags.RelrEntry = beside relr_size (part_with l role.RelrDyn)
+dynamic_entry l tags.Relr = part_address (part_with role.RelrDyn l.parts)
+dynamic_entry l tags.RelrSize = part_size (part_with role.RelrDyn l.parts)
+dynamic_entry l tags.RelrEntry = beside relr_size (part_with role.RelrDyn l.parts)
 dynamic_entry l tags.Debug = only (is_executable l.kind) 0
 dynamic_entry l tags.Textrel = only l.options.textrel 0
 dynamic_entry l tags.Flags = Some (dynamic_flags l.kind l.options)

@@ -2,14 +2,13 @@
 ghost use Rattle.std.specs.Prelude.{◌≡◌, ◌+◌, ◌^◌, ◌<◌, ◌≤◌, length, option_map, All};
 ghost use Rattle.wild_records.specs.Dynamic.{DynamicEntryFits};
 ghost use Rattle.wild_plan.specs.declared.layout.Layout.{Layout};
-ghost use Rattle.wild_plan.specs.Dynamic.{dynamic_number, has_bytes, section_named, section_address, section_size, part_with, part_address, part_size, beside, filled_part, first_entries, bytes_of, entries_bytes, relative_count, only, flag, dynamic_flags, dynamic_flags_1, dynamic_entry, all_tags, TagFits, named_strings, text_room, room_of, epilogue_strings, epilogue_string_bytes, tag_entries, dynamic_entries, dynamic_count};
+ghost use Rattle.wild_plan.specs.Dynamic.{dynamic_number, has_bytes, section_named, section_address, section_size, part_address, part_size, beside, filled_part, first_entries, bytes_of, entries_bytes, relative_count, only, flag, dynamic_flags, dynamic_flags_1, dynamic_entry, all_tags, TagFits, named_strings, text_room, room_of, epilogue_strings, epilogue_string_bytes, tag_entries, dynamic_entries, dynamic_count};
 ghost use Rattle.wild_plan.specs.Lists.{total};
-ghost use Rattle.wild_plan.specs.Places.{has_role};
 
 use crate::kind::OutputKind;
 use crate::layout::Layout;
 use crate::options::Options;
-use crate::part::{Part, Role};
+use crate::part::{Part, Role, part_with};
 use crate::section::Section;
 use wild_records::abi::dynamic::{
     DF_1_INTERPOSE, DF_1_NODELETE, DF_1_NOW, DF_1_ORIGIN, DF_1_PIE, DF_BIND_NOW, DF_ORIGIN,
@@ -173,25 +172,6 @@ fn section_size(layout: &Layout, name: &[u8]) -> Option<u64>
     section_named(layout, name).map(|run| run.size)
 }
 
-fn has_role(role: Role, part: &Part) -> bool
-    ensures { result ≡ has_role role part.now }
-{
-    part.role as usize == role as usize
-}
-
-/// The part of a role.
-#[tactic(auto, unfolding(crate::specs::Dynamic::part_with))]
-fn part_with(layout: &Layout, role: Role) -> Option<Part>
-    ensures { result ≡ part_with layout.now role }
-{
-    for part in layout.parts.as_slice() {
-        if has_role(role, part) {
-            return Some(*part);
-        }
-    }
-    None
-}
-
 fn part_address(part: Option<Part>) -> Option<u64>
     ensures { result ≡ part_address part }
 {
@@ -215,7 +195,7 @@ fn beside(number: u64, part: Option<Part>) -> Option<u64>
 fn filled_part(layout: &Layout, role: Role) -> Option<Part>
     ensures { result ≡ filled_part layout.now role }
 {
-    part_with(layout, role).filter(|part| part.size != 0)
+    part_with(role, layout.parts.as_slice()).filter(|part| part.size != 0)
 }
 
 /// The part at whose front the entries with addends begin.
@@ -240,8 +220,8 @@ fn bytes_of(part: Option<Part>) -> u64
 fn entries_bytes(layout: &Layout) -> u64
     ensures { result ≡ entries_bytes layout.now }
 {
-    let relative = bytes_of(part_with(layout, Role::RelaDynRelative));
-    let general = bytes_of(part_with(layout, Role::RelaDynGeneral));
+    let relative = bytes_of(part_with(Role::RelaDynRelative, layout.parts.as_slice()));
+    let general = bytes_of(part_with(Role::RelaDynGeneral, layout.parts.as_slice()));
     relative.saturating_add(general)
 }
 
@@ -304,19 +284,25 @@ pub fn dynamic_entry(layout: &Layout, tag: DynamicTag) -> Option<u64>
         DynamicTag::FiniArraySize => section_size(layout, b".fini_array"),
         DynamicTag::PreinitArray => section_address(layout, b".preinit_array"),
         DynamicTag::PreinitArraySize => section_size(layout, b".preinit_array"),
-        DynamicTag::StringTable => part_address(part_with(layout, Role::Dynstr)),
-        DynamicTag::StringSize => part_size(part_with(layout, Role::Dynstr)),
-        DynamicTag::SymbolTable => part_address(part_with(layout, Role::Dynsym)),
+        DynamicTag::StringTable => part_address(part_with(Role::Dynstr, layout.parts.as_slice())),
+        DynamicTag::StringSize => part_size(part_with(Role::Dynstr, layout.parts.as_slice())),
+        DynamicTag::SymbolTable => part_address(part_with(Role::Dynsym, layout.parts.as_slice())),
         DynamicTag::SymbolSize => {
-            beside(SymtabEntry::SIZE as u64, part_with(layout, Role::Dynsym))
+            beside(
+                SymtabEntry::SIZE as u64,
+                part_with(Role::Dynsym, layout.parts.as_slice()),
+            )
         }
         DynamicTag::Rela => part_address(first_entries(layout)),
         DynamicTag::RelaSize => beside(entries_bytes(layout), first_entries(layout)),
         DynamicTag::RelaEntry => beside(Rela::SIZE as u64, first_entries(layout)),
         DynamicTag::RelaCount => relative_count(layout),
-        DynamicTag::Relr => part_address(part_with(layout, Role::RelrDyn)),
-        DynamicTag::RelrSize => part_size(part_with(layout, Role::RelrDyn)),
-        DynamicTag::RelrEntry => beside(Relr::SIZE as u64, part_with(layout, Role::RelrDyn)),
+        DynamicTag::Relr => part_address(part_with(Role::RelrDyn, layout.parts.as_slice())),
+        DynamicTag::RelrSize => part_size(part_with(Role::RelrDyn, layout.parts.as_slice())),
+        DynamicTag::RelrEntry => beside(
+            Relr::SIZE as u64,
+            part_with(Role::RelrDyn, layout.parts.as_slice()),
+        ),
         DynamicTag::Debug => only(layout.kind.is_executable(), 0),
         DynamicTag::Textrel => only(layout.options.textrel, 0),
         DynamicTag::Flags => Some(dynamic_flags(layout.kind, &layout.options)),

@@ -1,18 +1,11 @@
 //! A group's shares of the parts of the tables.
 ghost use Rattle.std.specs.Prelude.{◌≡◌, ◌<◌, length};
 ghost use Rattle.wild_plan.specs.Faults.{nowhere};
-ghost use Rattle.wild_plan.specs.Places.{has_role};
 ghost use Rattle.wild_plan.specs.Shares.{part_of, share_of, insufficient, excessive};
 
 use crate::fault::{At, Error, Fault};
 use crate::layout::Layout;
-use crate::part::{Part, Role};
-
-fn has_role(role: Role, part: &Part) -> bool
-    ensures { result ≡ has_role role part.now }
-{
-    part.role as usize == role as usize
-}
+use crate::part::{Role, has_role};
 
 /// The place of the first part of a role; the number of parts where there is none.
 pub fn part_of(layout: &Layout, role: Role) -> usize

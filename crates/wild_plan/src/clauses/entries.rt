@@ -6,28 +6,16 @@ ghost use Rattle.wild_plan.specs.Segments.{is_segment_of, segment_lacking, dynam
 ghost use Rattle.wild_plan.specs.WellFormed.{check_entries};
 
 use crate::clauses::fails;
-use crate::clauses::roles::{has_role, is_fixed_static};
+use crate::clauses::roles::is_fixed_static;
 use crate::clauses::sections::within;
 use crate::extent::{behind_first, wide_sum};
 use crate::fault::Clause;
 use crate::layout::Layout;
 use crate::lookups::is_allocated;
-use crate::part::{Part, Role};
+use crate::part::{Part, Role, part_with};
 use crate::section::{Section, Segment};
 use wild_records::abi::section::SHT_RELA;
 use wild_records::abi::segment::{PT_DYNAMIC, PT_LOAD};
-
-/// The part of a role.
-fn part_with(role: Role, parts: &[Part]) -> Option<Part>
-    ensures { result ≡ part_with role parts.now }
-{
-    for part in parts {
-        if has_role(role, part) {
-            return Some(*part);
-        }
-    }
-    None
-}
 
 /// Whether the segment has the place and the size of the part.
 fn is_segment_of(part: Option<Part>, segment: &Segment) -> bool

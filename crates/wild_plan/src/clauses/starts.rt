@@ -4,11 +4,10 @@ ghost use Rattle.wild_plan.specs.Contents.{given_at, place_with, start_astray};
 ghost use Rattle.wild_plan.specs.WellFormed.{check_starts};
 
 use crate::clauses::fails;
-use crate::clauses::roles::has_role;
 use crate::fault::Clause;
 use crate::file::Group;
 use crate::layout::Layout;
-use crate::part::{Part, Role};
+use crate::part::{Part, Role, has_role};
 
 /// The place of the part of a role.
 fn place_with(role: Role, parts: &[Part]) -> Option<usize>

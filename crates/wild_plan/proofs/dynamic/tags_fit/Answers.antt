@@ -1,9 +1,9 @@
-use Rattle.std.proofs.Common.{◌≡◌, ℕ, take, length, arith, subst, List, sym, ◌∙◌, ap}
+use Rattle.std.proofs.Common.{◌≡◌, take, length, arith, subst, List, ◌∙◌, ap}
 use Rattle.std.specs.Prelude.{All}
 use Rattle.std.proofs.lemmas.List.{take_all}
 use Rattle.std.proofs.lemmas.List.Elements.{All-more}
 use Rattle.wild_plan.specs.declared.dynamic.DynamicTag.{DynamicTag}
-use Rattle.wild_plan.specs.Dynamic.{TagFits, all_tags}
+use Rattle.wild_plan.specs.Dynamic.{TagFits}
 use Rattle.wild_plan.proofs.DynamicLemmas.{length_all_tags}
 use Rattle.wild_plan.proofs.dynamic.tags_fit.Goals as goal
 
