@@ -97,16 +97,10 @@ table_there l r stands laid place needs relative (Some p) e =
     let full = ((laid.roles r place).there p e).size in
     (sym full, λ some. table_at l r p stands laid place needs relative e (omega (arith, some, full)) full)
 
-part_same : (l : Layout) (r : Role) → dynamic.part_with l r ≡ part_with r l.parts
-unfolding dynamic.part_with
-part_same l r = refl
-
 -- the words, by their tags
 pub words_named : (l : Layout) → TablesStand → IsLaidOut l → needs_dynamic l.kind ≡ true → IsTableOf (bytes l) (map (program_header l) l.segments) (dynamic.dynamic_entry l tags.Relr) (dynamic.dynamic_entry l tags.RelrSize) (table_bytes l role.RelrDyn)
 unfolding dynamic.dynamic_entry
-words_named l stands laid needs =
-    let P : Option Part → Type 0 = λ o. IsTableOf (bytes l) (map (program_header l) l.segments) (dynamic.part_address o) (dynamic.part_size o) (table_bytes l role.RelrDyn) in
-    subst P (sym (part_same l role.RelrDyn)) (table_there l role.RelrDyn stands laid (λ e. cc) needs refl (part_with role.RelrDyn l.parts) refl)
+words_named l stands laid needs = table_there l role.RelrDyn stands laid (λ e. cc) needs refl (part_with role.RelrDyn l.parts) refl
 
 -- the part of other entries with addends has no bytes
 general_size : (l : Layout) (o : Option Part) → IsLaidOut l → part_with role.RelaDynGeneral l.parts ≡ o → dynamic.bytes_of o ≡ 0
@@ -147,6 +141,4 @@ entries_named l stands laid needs =
     let P : Option Part → Option Part → Option Part → ℕ → Type 0 = λ o q b n. IsTableOf (bytes l) (map (program_header l) l.segments) (dynamic.part_address (option_or (dynamic.unless_empty o) q)) (dynamic.beside (min (2 ^ 64 - 1) (dynamic.bytes_of o + n)) (option_or (dynamic.unless_empty o) q)) (table_bytes l role.RelaDynRelative) in
     let start = entries_by l (part_with role.RelaDynRelative l.parts) stands laid needs refl in
     let a = subst (λ (n : ℕ). P (part_with role.RelaDynRelative l.parts) None None n) (sym general) start in
-    let b = subst (λ (q : Option Part). P (part_with role.RelaDynRelative l.parts) q None (dynamic.bytes_of (part_with role.RelaDynGeneral l.parts))) (sym none) a in
-    let c = subst (λ (o : Option Part). P (part_with role.RelaDynRelative l.parts) (dynamic.unless_empty o) None (dynamic.bytes_of o)) (sym (part_same l role.RelaDynGeneral)) b in
-    subst (λ (o : Option Part). P o (dynamic.unless_empty (dynamic.part_with l role.RelaDynGeneral)) None (dynamic.bytes_of (dynamic.part_with l role.RelaDynGeneral))) (sym (part_same l role.RelaDynRelative)) c
+    subst (λ (q : Option Part). P (part_with role.RelaDynRelative l.parts) q None (dynamic.bytes_of (part_with role.RelaDynGeneral l.parts))) (sym none) a
