@@ -1,6 +1,7 @@
 pub mod ListLemmas
 pub mod PaddingLemmas
 pub mod ValueLemmas
+pub mod DistanceLemmas
 pub mod FaultLemmas
 pub mod PieceLemmas
 pub mod CountLemmas
