@@ -5,7 +5,6 @@ ghost use Rattle.wild_plan.specs.declared.file.File.{File};
 ghost use Rattle.wild_plan.specs.Faults.{Answers};
 ghost use Rattle.wild_layout.specs.Faults.{section_errors, file_errors, group_errors};
 ghost use Rattle.wild_layout.specs.Geometry.{SectionLies};
-ghost use Rattle.wild_image.specs.Steps.{HasValues, FieldsFit};
 ghost use Rattle.wild_image.specs.Pieces.{section_owned, file_sections, group_sections, group_tables, group_bytes};
 
 use crate::arch::Arch;
@@ -13,23 +12,21 @@ use crate::part_bytes::PartBytes;
 use crate::piece::{check_data, room_of, zeros};
 use crate::place::InputPlace;
 use crate::tables::add_content;
+use crate::values::Resolved;
 use std::alloc::{AllocError, Global};
 use wild_plan::{Error, File, Group, InputSection, Layout};
 
 /// Adds what a group gives to the tables, part by part.
-fn add_group_tables(
+fn add_group_tables<A: Arch>(
     alloc: Global,
-    layout: &Layout,
-    values: &[Option<u64>],
+    resolved: &Resolved<A>,
     group: &Group,
     bytes: &mut PartBytes,
 ) -> Result<(), AllocError>
-    requires fits { FieldsFit layout.now }
-    requires values { HasValues layout.now values.now }
-    ensures { OnOk result (bytes.new ≡ bytes.old ++ group_tables layout.now group.now) }
+    ensures { OnOk result (bytes.new ≡ bytes.old ++ group_tables resolved.now.layout.now group.now) }
 {
-    for part in layout.parts.as_slice() {
-        add_content(alloc, layout, values, part.role, group, bytes)?;
+    for part in resolved.layout.parts.as_slice() {
+        add_content(alloc, resolved, part.role, group, bytes)?;
     }
     Ok(())
 }
@@ -38,25 +35,22 @@ fn add_group_tables(
 #[tactic(auto, unfolding(wild_layout::specs::Faults::section_errors))]
 fn add_section<A: Arch>(
     alloc: Global,
-    layout: &Layout,
-    values: &[Option<u64>],
+    resolved: &Resolved<A>,
     place: InputPlace,
     section: &InputSection,
     bytes: &mut PartBytes,
 ) -> Result<(), Error>
-    requires machine { layout.now.machine ≡ A.machine }
-    requires values { HasValues layout.now values.now }
-    requires lies { SectionLies layout.now section.now }
-    ensures faults { Answers result (section_errors layout.now place.group place.file place.section section.now) }
-    ensures bytes { OnOk result (bytes.new ≡ bytes.old ++ section_owned layout.now section.now) }
+    requires lies { SectionLies resolved.now.layout.now section.now }
+    ensures faults { Answers result (section_errors resolved.now.layout.now place.group place.file place.section section.now) }
+    ensures bytes { OnOk result (bytes.new ≡ bytes.old ++ section_owned resolved.now.layout.now section.now) }
 {
     if section.is_read() {
-        if section.is_filled(layout) {
-            return bytes.add_data::<A>(alloc, layout, values, place, section);
+        if section.is_filled(resolved.layout) {
+            return bytes.add_data(alloc, resolved, place, section);
         }
-        return check_data::<A>(alloc, layout, values, place, section);
+        return check_data(alloc, resolved, place, section);
     }
-    if section.is_filled(layout) {
+    if section.is_filled(resolved.layout) {
         let zeros = zeros(alloc, section.size as usize)?;
         bytes.extend(&zeros)?;
     }
@@ -67,24 +61,21 @@ fn add_section<A: Arch>(
 #[tactic(auto, using(crate::proofs::FaultLemmas::first_from), unfolding(wild_layout::specs::Faults::file_errors))]
 fn add_file_sections<A: Arch>(
     alloc: Global,
-    layout: &Layout,
-    values: &[Option<u64>],
+    resolved: &Resolved<A>,
     place: InputPlace,
     file: &File,
     bytes: &mut PartBytes,
 ) -> Result<(), Error>
-    requires machine { layout.now.machine ≡ A.machine }
-    requires values { HasValues layout.now values.now }
-    requires lies { All (SectionLies layout.now) file.now.sections }
-    ensures faults { Answers result (file_errors layout.now place.group place.file file.now) }
-    ensures bytes { OnOk result (bytes.new ≡ bytes.old ++ file_sections layout.now file.now) }
+    requires lies { All (SectionLies resolved.now.layout.now) file.now.sections }
+    ensures faults { Answers result (file_errors resolved.now.layout.now place.group place.file file.now) }
+    ensures bytes { OnOk result (bytes.new ≡ bytes.old ++ file_sections resolved.now.layout.now file.now) }
 {
     for (i, section) in file.sections.as_slice().iter().enumerate() {
         let here = InputPlace {
             section: i,
             ..place
         };
-        add_section::<A>(alloc, layout, values, here, section, bytes)?;
+        add_section(alloc, resolved, here, section, bytes)?;
     }
     Ok(())
 }
@@ -93,17 +84,14 @@ fn add_file_sections<A: Arch>(
 #[tactic(auto, using(crate::proofs::FaultLemmas::first_from), unfolding(wild_layout::specs::Faults::group_errors))]
 fn add_group_sections<A: Arch>(
     alloc: Global,
-    layout: &Layout,
-    values: &[Option<u64>],
+    resolved: &Resolved<A>,
     index: usize,
     group: &Group,
     bytes: &mut PartBytes,
 ) -> Result<(), Error>
-    requires machine { layout.now.machine ≡ A.machine }
-    requires values { HasValues layout.now values.now }
-    requires lies { All (λ (f : File). All (SectionLies layout.now) f.sections) group.now.files }
-    ensures faults { Answers result (group_errors layout.now index group.now) }
-    ensures bytes { OnOk result (bytes.new ≡ bytes.old ++ group_sections layout.now group.now) }
+    requires lies { All (λ (f : File). All (SectionLies resolved.now.layout.now) f.sections) group.now.files }
+    ensures faults { Answers result (group_errors resolved.now.layout.now index group.now) }
+    ensures bytes { OnOk result (bytes.new ≡ bytes.old ++ group_sections resolved.now.layout.now group.now) }
 {
     for (i, file) in group.files.as_slice().iter().enumerate() {
         let place = InputPlace {
@@ -111,7 +99,7 @@ fn add_group_sections<A: Arch>(
             file: i,
             section: 0,
         };
-        add_file_sections::<A>(alloc, layout, values, place, file, bytes)?;
+        add_file_sections(alloc, resolved, place, file, bytes)?;
     }
     Ok(())
 }
@@ -129,20 +117,16 @@ fn room_of_group(layout: &Layout, group: &Group) -> usize {
 #[tactic(auto, unfolding(crate::specs::Pieces::group_bytes))]
 pub(crate) fn bytes_of_group<A: Arch>(
     alloc: Global,
-    layout: &Layout,
-    values: &[Option<u64>],
+    resolved: &Resolved<A>,
     index: usize,
     group: &Group,
 ) -> Result<PartBytes, Error>
-    requires machine { layout.now.machine ≡ A.machine }
-    requires values { HasValues layout.now values.now }
-    requires lies { All (λ (f : File). All (SectionLies layout.now) f.sections) group.now.files }
-    requires fits { FieldsFit layout.now }
-    ensures faults { Answers result (group_errors layout.now index group.now) }
-    ensures bytes { IfOk result (λ bs. bs ≡ group_bytes layout.now group.now) }
+    requires lies { All (λ (f : File). All (SectionLies resolved.now.layout.now) f.sections) group.now.files }
+    ensures faults { Answers result (group_errors resolved.now.layout.now index group.now) }
+    ensures bytes { IfOk result (λ bs. bs ≡ group_bytes resolved.now.layout.now group.now) }
 {
-    let mut bytes = PartBytes::with_room(alloc, room_of_group(layout, group))?;
-    add_group_tables(alloc, layout, values, group, &mut bytes)?;
-    add_group_sections::<A>(alloc, layout, values, index, group, &mut bytes)?;
+    let mut bytes = PartBytes::with_room(alloc, room_of_group(resolved.layout, group))?;
+    add_group_tables(alloc, resolved, group, &mut bytes)?;
+    add_group_sections(alloc, resolved, index, group, &mut bytes)?;
     Ok(bytes)
 }

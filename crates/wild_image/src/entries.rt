@@ -5,11 +5,12 @@ ghost use Rattle.std.specs.List.{flat_map};
 ghost use Rattle.wild_plan.specs.Entries.{is_moved, listed_place, has_moved};
 ghost use Rattle.wild_tables.specs.Entries.{rela_bytes};
 ghost use Rattle.wild_layout.specs.Moved.{file_entries};
-ghost use Rattle.wild_image.specs.Steps.{HasValues};
 ghost use Rattle.wild_image.specs.Own.{entry_bytes, section_entry_bytes};
 
+use crate::arch::Arch;
 use crate::part_bytes::PartBytes;
 use crate::resolve::moved_value;
+use crate::values::Resolved;
 use std::alloc::AllocError;
 use wild_plan::{File, InputRelocation, InputSection, Layout, Treatment, treatment_of};
 use wild_records::Rela;
@@ -63,71 +64,63 @@ fn add_entry(entry: Rela, bytes: &mut PartBytes) -> Result<(), AllocError>
 
 /// Adds the entry of a relocation, where it has one.
 #[tactic(auto, unfolding(crate::specs::Own::entry_bytes))]
-fn add_listed(
-    layout: &Layout,
-    values: &[Option<u64>],
+fn add_listed<A: Arch>(
+    resolved: &Resolved<A>,
     section: &InputSection,
     relocation: &InputRelocation,
     bytes: &mut PartBytes,
 ) -> Result<(), AllocError>
-    requires values { HasValues layout.now values.now }
-    ensures { OnOk result (bytes.new ≡ bytes.old ++ entry_bytes layout.now section.now relocation.now) }
+    ensures { OnOk result (bytes.new ≡ bytes.old ++ entry_bytes resolved.now.layout.now section.now relocation.now) }
 {
-    match listed_place(layout, section, relocation) {
+    match listed_place(resolved.layout, section, relocation) {
         Some(place) => {
-            let value = moved_value(layout, values, relocation);
-            add_entry(relative_entry(layout, place, value), bytes)
+            let value = moved_value(resolved, relocation);
+            add_entry(relative_entry(resolved.layout, place, value), bytes)
         }
         None => Ok(()),
     }
 }
 
 /// Adds the entries of the relocations of a section.
-fn add_all_listed(
-    layout: &Layout,
-    values: &[Option<u64>],
+fn add_all_listed<A: Arch>(
+    resolved: &Resolved<A>,
     section: &InputSection,
     bytes: &mut PartBytes,
 ) -> Result<(), AllocError>
-    requires values { HasValues layout.now values.now }
-    ensures { OnOk result (bytes.new ≡ bytes.old ++ flat_map (entry_bytes layout.now section.now) section.now.relocations) }
+    ensures { OnOk result (bytes.new ≡ bytes.old ++ flat_map (entry_bytes resolved.now.layout.now section.now) section.now.relocations) }
 {
     for relocation in section.relocations.as_slice() {
-        add_listed(layout, values, section, relocation, bytes)?;
+        add_listed(resolved, section, relocation, bytes)?;
     }
     Ok(())
 }
 
 /// Adds the entries of a section.
 #[tactic(auto, using(crate::proofs::OwnLemmas::listed_entries, crate::proofs::OwnLemmas::no_entries))]
-fn add_section_entries(
-    layout: &Layout,
-    values: &[Option<u64>],
+fn add_section_entries<A: Arch>(
+    resolved: &Resolved<A>,
     section: &InputSection,
     bytes: &mut PartBytes,
 ) -> Result<(), AllocError>
-    requires values { HasValues layout.now values.now }
-    ensures { OnOk result (bytes.new ≡ bytes.old ++ section_entry_bytes layout.now section.now) }
+    ensures { OnOk result (bytes.new ≡ bytes.old ++ section_entry_bytes resolved.now.layout.now section.now) }
 {
-    if has_moved(layout, section) {
-        add_all_listed(layout, values, section, bytes)?;
+    if has_moved(resolved.layout, section) {
+        add_all_listed(resolved, section, bytes)?;
     }
     Ok(())
 }
 
 /// Adds the entries of a file.
 #[tactic(auto, using(crate::proofs::OwnLemmas::entries_joined))]
-pub(crate) fn add_entries(
-    layout: &Layout,
-    values: &[Option<u64>],
+pub(crate) fn add_entries<A: Arch>(
+    resolved: &Resolved<A>,
     file: &File,
     bytes: &mut PartBytes,
 ) -> Result<(), AllocError>
-    requires values { HasValues layout.now values.now }
-    ensures { OnOk result (bytes.new ≡ bytes.old ++ rela_bytes (file_entries layout.now file.now)) }
+    ensures { OnOk result (bytes.new ≡ bytes.old ++ rela_bytes (file_entries resolved.now.layout.now file.now)) }
 {
     for section in file.sections.as_slice() {
-        add_section_entries(layout, values, section, bytes)?;
+        add_section_entries(resolved, section, bytes)?;
     }
     Ok(())
 }

@@ -2,17 +2,16 @@
 ghost use Rattle.std.specs.Prelude.{◌≡◌, Ok, []};
 ghost use Rattle.wild_plan.specs.WellFormed.{first_clause};
 ghost use Rattle.wild_layout.specs.Faults.{flat_map_from, part_errors};
-ghost use Rattle.wild_image.specs.Steps.{HasValues};
 
 use crate::arch::Arch;
 use crate::buffer::bytes_of_group;
 use crate::pairs::{Pairs, pairs_of_group};
 use crate::part_bytes::PartBytes;
+use crate::values::Resolved;
 use std::alloc::{AllocError, Global};
-use std::marker::PhantomData;
 use wild_crew::{Counted, Job};
 use wild_geometry::layouts_are_laid_out;
-use wild_plan::{Error, Layout};
+use wild_plan::Error;
 
 /// What came of a group: all its bytes, or its first fault; and what it counted.
 #[derive(Drop)]
@@ -35,13 +34,9 @@ impl Counted for Outcome {
 #[derive(Drop)]
 pub(crate) struct GroupJob<'a, A: Arch> {
     pub(crate) alloc: Global,
-    pub(crate) layout: &'a Layout,
-    pub(crate) values: &'a [Option<u64>],
-    pub(crate) arch: PhantomData<A>,
-    ghost machine: { layout.now.machine ≡ A.machine },
-    ghost clauses: { first_clause layout.now ≡ Ok tt },
-    ghost shares: { flat_map_from (part_errors layout.now) 0 layout.now.parts ≡ [] },
-    ghost values_are: { HasValues layout.now values.now },
+    pub(crate) resolved: Resolved<'a, A>,
+    ghost clauses: { first_clause resolved.layout.now ≡ Ok tt },
+    ghost shares: { flat_map_from (part_errors resolved.layout.now) 0 resolved.layout.now.parts ≡ [] },
 }
 
 impl<'a, A: Arch> Job<Outcome> for GroupJob<'a, A> {
@@ -49,22 +44,22 @@ impl<'a, A: Arch> Job<Outcome> for GroupJob<'a, A> {
     ghost use Rattle.wild_image.specs.Pieces.{pairs_at};
     ghost use Rattle.wild_image.specs.Jobs.{GivesBytes};
 
-    ghost number = { λ j. length j.layout.now.groups };
+    ghost number = { λ j. length j.resolved.layout.now.groups };
 
-    ghost gives = { λ j g o. GivesBytes j.layout.now g o.bytes };
+    ghost gives = { λ j g o. GivesBytes j.resolved.layout.now g o.bytes };
 
-    ghost counts_of = { λ j g. pairs_at j.layout.now g };
+    ghost counts_of = { λ j g. pairs_at j.resolved.layout.now g };
 
     fn groups(&self) -> u32 {
-        self.layout.groups.len() as u32
+        self.resolved.layout.groups.len() as u32
     }
 
     fn run(&self, group: u32) -> Result<Outcome, AllocError> {
         layouts_are_laid_out();
         let index = group as usize;
-        let found = &self.layout.groups.as_slice()[index];
-        let counts = pairs_of_group(self.alloc, self.layout, found)?;
-        let bytes = bytes_of_group::<A>(self.alloc, self.layout, self.values, index, found);
+        let found = &self.resolved.layout.groups.as_slice()[index];
+        let counts = pairs_of_group(self.alloc, self.resolved.layout, found)?;
+        let bytes = bytes_of_group(self.alloc, &self.resolved, index, found);
         Ok(Outcome { bytes, counts })
     }
 }

@@ -16,9 +16,8 @@ use crate::arch::Arch;
 use crate::job::{GroupJob, Outcome};
 use crate::padding::fill_padding_for_sections;
 use crate::shares::check_shares;
-use crate::values::values_of;
+use crate::values::Resolved;
 use std::alloc::Global;
-use std::marker::PhantomData;
 use std::thread::Threads;
 use wild_crew::{Gate, OpenGate, gather};
 use wild_geometry::layouts_are_laid_out;
@@ -88,13 +87,8 @@ fn write_laid_out<A: Arch + Sync, G: Gate + Sync, R: Threads + Sync>(
     ensures warnings { IfOk result (λ o. o.warnings ≡ warnings layout.now) }
     ensures counts { IfOk result (λ o. o.counts ≡ counts layout.now) }
 {
-    let values = values_of(alloc, layout)?;
-    let job = GroupJob::<A> {
-        alloc,
-        layout,
-        values: &values,
-        arch: PhantomData,
-    };
+    let resolved = Resolved::<A>::new(alloc, layout)?;
+    let job = GroupJob { alloc, resolved };
     let sections = layout.sections.len() as u32;
     let gathered = gather(rt, alloc, &job, sections, u32::from(workers), gate)?;
     let mut starts = vec![in alloc; 0u64; layout.parts.len()]?;

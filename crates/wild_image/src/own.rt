@@ -4,11 +4,12 @@ ghost use Rattle.std.specs.List.{flat_map};
 ghost use Rattle.wild_plan.specs.Dynamic.{epilogue_strings};
 ghost use Rattle.wild_tables.specs.Dynamic.{dynamic_bytes};
 ghost use Rattle.wild_layout.specs.Content.{first_bytes, last_bytes, dynamic_room, own_bytes};
-ghost use Rattle.wild_image.specs.Steps.{HasValues};
 ghost use Rattle.wild_image.specs.Own.{zero_ended};
 
+use crate::arch::Arch;
 use crate::entries::add_entries;
 use crate::part_bytes::PartBytes;
+use crate::values::Resolved;
 use crate::words::add_words;
 use std::alloc::{AllocError, Global};
 use wild_plan::{File, Layout, Role, dynamic_count, share_of};
@@ -117,26 +118,24 @@ fn add_last_dynamic(
 }
 
 /// Adds what a file gives to a part of that role that a loader reads.
-pub(crate) fn add_own(
+pub(crate) fn add_own<A: Arch>(
     alloc: Global,
-    layout: &Layout,
-    values: &[Option<u64>],
+    resolved: &Resolved<A>,
     role: Role,
     file: &File,
     bytes: &mut PartBytes,
 ) -> Result<(), AllocError>
-    requires values { HasValues layout.now values.now }
-    ensures { OnOk result (bytes.new ≡ bytes.old ++ own_bytes layout.now role file.now) }
+    ensures { OnOk result (bytes.new ≡ bytes.old ++ own_bytes resolved.now.layout.now role file.now) }
 {
     match role {
-        Role::RelaDynRelative => add_entries(layout, values, file, bytes),
-        Role::RelrDyn => add_words(alloc, layout, file, bytes),
-        Role::Dynsym => add_first(layout, file, &[0; SymtabEntry::SIZE], bytes),
+        Role::RelaDynRelative => add_entries(resolved, file, bytes),
+        Role::RelrDyn => add_words(alloc, resolved.layout, file, bytes),
+        Role::Dynsym => add_first(resolved.layout, file, &[0; SymtabEntry::SIZE], bytes),
         Role::Dynstr => {
-            add_first(layout, file, &[0], bytes)?;
-            add_last_strings(layout, file, bytes)
+            add_first(resolved.layout, file, &[0], bytes)?;
+            add_last_strings(resolved.layout, file, bytes)
         }
-        Role::Dynamic => add_last_dynamic(alloc, layout, file, bytes),
+        Role::Dynamic => add_last_dynamic(alloc, resolved.layout, file, bytes),
         _ => Ok(()),
     }
 }

@@ -5,14 +5,14 @@ ghost use Rattle.wild_plan.specs.Lookups.{is_read};
 ghost use Rattle.wild_layout.specs.Sites.{section_bytes};
 ghost use Rattle.wild_layout.specs.Faults.{section_errors};
 ghost use Rattle.wild_layout.specs.Geometry.{SectionLies};
-ghost use Rattle.wild_image.specs.Steps.{HasValues};
 
 use crate::arch::Arch;
 use crate::place::InputPlace;
 use crate::section::write_data;
+use crate::values::Resolved;
 use std::alloc::{AllocError, Global};
 use std::marker::Model;
-use wild_plan::{Error, InputSection, Layout};
+use wild_plan::{Error, InputSection};
 
 /// Bytes that grow at their end, which contracts see as a list of numbers.
 #[derive(Drop)]
@@ -49,28 +49,18 @@ impl PartBytes {
     pub(crate) fn add_data<A: Arch>(
         &mut self,
         alloc: Global,
-        layout: &Layout,
-        values: &[Option<u64>],
+        resolved: &Resolved<A>,
         place: InputPlace,
         section: &InputSection,
     ) -> Result<(), Error>
-        requires machine { layout.now.machine ≡ A.machine }
-        requires values { HasValues layout.now values.now }
         requires read { is_read section.now ≡ true }
-        requires lies { SectionLies layout.now section.now }
-        ensures faults { Answers result (section_errors layout.now place.group place.file place.section section.now) }
-        ensures bytes { OnOk result (self.new ≡ self.old ++ section_bytes layout.now section.now) }
+        requires lies { SectionLies resolved.now.layout.now section.now }
+        ensures faults { Answers result (section_errors resolved.now.layout.now place.group place.file place.section section.now) }
+        ensures bytes { OnOk result (self.new ≡ self.old ++ section_bytes resolved.now.layout.now section.now) }
     {
         let from = self.entries.len();
         self.entries.extend_from_slice(section.bytes.as_slice())?;
-        write_data::<A>(
-            alloc,
-            layout,
-            values,
-            place,
-            section,
-            &mut self.entries[from..],
-        )
+        write_data(alloc, resolved, place, section, &mut self.entries[from..])
     }
 
     /// The bytes.

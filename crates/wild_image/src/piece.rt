@@ -6,7 +6,6 @@ ghost use Rattle.wild_plan.specs.Lookups.{is_filled, is_read, section_of};
 ghost use Rattle.wild_plan.specs.WellFormed.{first_clause};
 ghost use Rattle.wild_layout.specs.Faults.{flat_map_from, part_errors, section_errors, file_errors, group_errors};
 ghost use Rattle.wild_layout.specs.Geometry.{SectionLies};
-ghost use Rattle.wild_image.specs.Steps.{HasValues, FieldsFit};
 ghost use Rattle.wild_image.specs.Pieces.{owned_in, file_owned, group_owned, group_parts, group_pairs};
 ghost use Rattle.wild_image.specs.Jobs.{GivesPiece};
 
@@ -16,7 +15,7 @@ use crate::part_bytes::PartBytes;
 use crate::place::InputPlace;
 use crate::section::write_data;
 use crate::tables::add_tables;
-use crate::values::values_of;
+use crate::values::Resolved;
 use std::alloc::{AllocError, Global};
 use wild_geometry::layouts_are_laid_out;
 use wild_plan::{Error, File, Group, InputSection, Layout};
@@ -25,20 +24,17 @@ use wild_words::Items;
 /// Answers the first fault of a section whose relocations are read and that owns no bytes.
 pub(crate) fn check_data<A: Arch>(
     alloc: Global,
-    layout: &Layout,
-    values: &[Option<u64>],
+    resolved: &Resolved<A>,
     place: InputPlace,
     section: &InputSection,
 ) -> Result<(), Error>
-    requires machine { layout.now.machine ≡ A.machine }
-    requires values { HasValues layout.now values.now }
     requires read { is_read section.now ≡ true }
-    requires none { is_filled layout.now section.now ≡ false }
-    requires lies { SectionLies layout.now section.now }
-    ensures faults { Answers result (section_errors layout.now place.group place.file place.section section.now) }
+    requires none { is_filled resolved.now.layout.now section.now ≡ false }
+    requires lies { SectionLies resolved.now.layout.now section.now }
+    ensures faults { Answers result (section_errors resolved.now.layout.now place.group place.file place.section section.now) }
 {
     let mut room = [0; 0];
-    write_data::<A>(alloc, layout, values, place, section, &mut room)
+    write_data(alloc, resolved, place, section, &mut room)
 }
 
 /// So many zeros.
@@ -52,27 +48,24 @@ pub(crate) fn zeros(alloc: Global, count: usize) -> Result<Vec<u8>, AllocError>
 #[tactic(auto, unfolding(wild_layout::specs::Faults::section_errors))]
 fn take_section<A: Arch>(
     alloc: Global,
-    layout: &Layout,
-    values: &[Option<u64>],
+    resolved: &Resolved<A>,
     place: InputPlace,
     section: &InputSection,
     parts: &mut [PartBytes],
 ) -> Result<(), Error>
-    requires machine { layout.now.machine ≡ A.machine }
-    requires values { HasValues layout.now values.now }
-    requires lies { SectionLies layout.now section.now }
-    requires room { length parts.old ≡ length layout.now.parts }
-    ensures faults { Answers result (section_errors layout.now place.group place.file place.section section.now) }
-    ensures owned { OnOk result ((k : ℕ) → k < length parts.old → slice_index_or parts.new k [] ≡ slice_index_or parts.old k [] ++ owned_in layout.now k section.now) }
+    requires lies { SectionLies resolved.now.layout.now section.now }
+    requires room { length parts.old ≡ length resolved.now.layout.now.parts }
+    ensures faults { Answers result (section_errors resolved.now.layout.now place.group place.file place.section section.now) }
+    ensures owned { OnOk result ((k : ℕ) → k < length parts.old → slice_index_or parts.new k [] ≡ slice_index_or parts.old k [] ++ owned_in resolved.now.layout.now k section.now) }
 {
     if section.is_read() {
-        if section.is_filled(layout) {
+        if section.is_filled(resolved.layout) {
             let part = &mut parts[section.part];
-            return part.add_data::<A>(alloc, layout, values, place, section);
+            return part.add_data(alloc, resolved, place, section);
         }
-        return check_data::<A>(alloc, layout, values, place, section);
+        return check_data(alloc, resolved, place, section);
     }
-    if section.is_filled(layout) {
+    if section.is_filled(resolved.layout) {
         let zeros = zeros(alloc, section.size as usize)?;
         parts[section.part].extend(&zeros)?;
     }
@@ -83,25 +76,22 @@ fn take_section<A: Arch>(
 #[tactic(auto, using(crate::proofs::FaultLemmas::first_from), unfolding(wild_layout::specs::Faults::file_errors))]
 fn take_file<A: Arch>(
     alloc: Global,
-    layout: &Layout,
-    values: &[Option<u64>],
+    resolved: &Resolved<A>,
     place: InputPlace,
     file: &File,
     parts: &mut [PartBytes],
 ) -> Result<(), Error>
-    requires machine { layout.now.machine ≡ A.machine }
-    requires values { HasValues layout.now values.now }
-    requires lies { All (SectionLies layout.now) file.now.sections }
-    requires room { length parts.old ≡ length layout.now.parts }
-    ensures faults { Answers result (file_errors layout.now place.group place.file file.now) }
-    ensures owned { OnOk result ((k : ℕ) → k < length parts.old → slice_index_or parts.new k [] ≡ slice_index_or parts.old k [] ++ file_owned layout.now k file.now) }
+    requires lies { All (SectionLies resolved.now.layout.now) file.now.sections }
+    requires room { length parts.old ≡ length resolved.now.layout.now.parts }
+    ensures faults { Answers result (file_errors resolved.now.layout.now place.group place.file file.now) }
+    ensures owned { OnOk result ((k : ℕ) → k < length parts.old → slice_index_or parts.new k [] ≡ slice_index_or parts.old k [] ++ file_owned resolved.now.layout.now k file.now) }
 {
     for (i, section) in file.sections.as_slice().iter().enumerate() {
         let here = InputPlace {
             section: i,
             ..place
         };
-        take_section::<A>(alloc, layout, values, here, section, parts)?;
+        take_section(alloc, resolved, here, section, parts)?;
     }
     Ok(())
 }
@@ -110,18 +100,15 @@ fn take_file<A: Arch>(
 #[tactic(auto, using(crate::proofs::FaultLemmas::first_from), unfolding(wild_layout::specs::Faults::group_errors))]
 fn take_group<A: Arch>(
     alloc: Global,
-    layout: &Layout,
-    values: &[Option<u64>],
+    resolved: &Resolved<A>,
     index: usize,
     group: &Group,
     parts: &mut [PartBytes],
 ) -> Result<(), Error>
-    requires machine { layout.now.machine ≡ A.machine }
-    requires values { HasValues layout.now values.now }
-    requires lies { All (λ (f : File). All (SectionLies layout.now) f.sections) group.now.files }
-    requires room { length parts.old ≡ length layout.now.parts }
-    ensures faults { Answers result (group_errors layout.now index group.now) }
-    ensures owned { OnOk result ((k : ℕ) → k < length parts.old → slice_index_or parts.new k [] ≡ slice_index_or parts.old k [] ++ group_owned layout.now k group.now) }
+    requires lies { All (λ (f : File). All (SectionLies resolved.now.layout.now) f.sections) group.now.files }
+    requires room { length parts.old ≡ length resolved.now.layout.now.parts }
+    ensures faults { Answers result (group_errors resolved.now.layout.now index group.now) }
+    ensures owned { OnOk result ((k : ℕ) → k < length parts.old → slice_index_or parts.new k [] ≡ slice_index_or parts.old k [] ++ group_owned resolved.now.layout.now k group.now) }
 {
     for (i, file) in group.files.as_slice().iter().enumerate() {
         let place = InputPlace {
@@ -129,7 +116,7 @@ fn take_group<A: Arch>(
             file: i,
             section: 0,
         };
-        take_file::<A>(alloc, layout, values, place, file, parts)?;
+        take_file(alloc, resolved, place, file, parts)?;
     }
     Ok(())
 }
@@ -159,41 +146,33 @@ fn no_parts(alloc: Global, layout: &Layout, group: &Group) -> Result<Vec<PartByt
 /// What a group has of each part, where there is nothing yet, or its first fault.
 fn fill_parts<A: Arch>(
     alloc: Global,
-    layout: &Layout,
-    values: &[Option<u64>],
+    resolved: &Resolved<A>,
     index: usize,
     group: &Group,
     parts: &mut [PartBytes],
 ) -> Result<(), Error>
-    requires machine { layout.now.machine ≡ A.machine }
-    requires values { HasValues layout.now values.now }
-    requires lies { All (λ (f : File). All (SectionLies layout.now) f.sections) group.now.files }
-    requires fits { FieldsFit layout.now }
-    requires none { parts.old ≡ replicate (length layout.now.parts) [] }
-    ensures faults { Answers result (group_errors layout.now index group.now) }
-    ensures parts { OnOk result (parts.new ≡ group_parts layout.now group.now) }
+    requires lies { All (λ (f : File). All (SectionLies resolved.now.layout.now) f.sections) group.now.files }
+    requires none { parts.old ≡ replicate (length resolved.now.layout.now.parts) [] }
+    ensures faults { Answers result (group_errors resolved.now.layout.now index group.now) }
+    ensures parts { OnOk result (parts.new ≡ group_parts resolved.now.layout.now group.now) }
 {
-    add_tables(alloc, layout, values, group, parts)?;
-    take_group::<A>(alloc, layout, values, index, group, parts)
+    add_tables(alloc, resolved, group, parts)?;
+    take_group(alloc, resolved, index, group, parts)
 }
 
 /// What a group has of each part, or its first fault.
 fn parts_of_group<A: Arch>(
     alloc: Global,
-    layout: &Layout,
-    values: &[Option<u64>],
+    resolved: &Resolved<A>,
     index: usize,
     group: &Group,
 ) -> Result<Items<PartBytes>, Error>
-    requires machine { layout.now.machine ≡ A.machine }
-    requires values { HasValues layout.now values.now }
-    requires lies { All (λ (f : File). All (SectionLies layout.now) f.sections) group.now.files }
-    requires fits { FieldsFit layout.now }
-    ensures faults { Answers result (group_errors layout.now index group.now) }
-    ensures parts { IfOk result (λ v. v ≡ group_parts layout.now group.now) }
+    requires lies { All (λ (f : File). All (SectionLies resolved.now.layout.now) f.sections) group.now.files }
+    ensures faults { Answers result (group_errors resolved.now.layout.now index group.now) }
+    ensures parts { IfOk result (λ v. v ≡ group_parts resolved.now.layout.now group.now) }
 {
-    let mut parts = no_parts(alloc, layout, group)?;
-    fill_parts::<A>(alloc, layout, values, index, group, &mut parts)?;
+    let mut parts = no_parts(alloc, resolved.layout, group)?;
+    fill_parts(alloc, resolved, index, group, &mut parts)?;
     Ok(Items::from_vec(parts))
 }
 
@@ -208,22 +187,18 @@ pub struct GroupPiece {
 /// What a group has and counts, or its first fault.
 fn piece_of<A: Arch>(
     alloc: Global,
-    layout: &Layout,
-    values: &[Option<u64>],
+    resolved: &Resolved<A>,
     index: usize,
     group: &Group,
 ) -> Result<GroupPiece, Error>
-    requires machine { layout.now.machine ≡ A.machine }
-    requires values { HasValues layout.now values.now }
-    requires lies { All (λ (f : File). All (SectionLies layout.now) f.sections) group.now.files }
-    requires fits { FieldsFit layout.now }
-    requires sections { (part : ℕ) → section_of layout.now part < 2 ^ 32 }
-    ensures faults { Answers result (group_errors layout.now index group.now) }
-    ensures parts { IfOk result (λ p. p.parts ≡ group_parts layout.now group.now) }
-    ensures counts { IfOk result (λ p. p.counts ≡ group_pairs layout.now group.now) }
+    requires lies { All (λ (f : File). All (SectionLies resolved.now.layout.now) f.sections) group.now.files }
+    requires sections { (part : ℕ) → section_of resolved.now.layout.now part < 2 ^ 32 }
+    ensures faults { Answers result (group_errors resolved.now.layout.now index group.now) }
+    ensures parts { IfOk result (λ p. p.parts ≡ group_parts resolved.now.layout.now group.now) }
+    ensures counts { IfOk result (λ p. p.counts ≡ group_pairs resolved.now.layout.now group.now) }
 {
-    let parts = parts_of_group::<A>(alloc, layout, values, index, group)?;
-    let pairs = pairs_of_group(alloc, layout, group)?;
+    let parts = parts_of_group(alloc, resolved, index, group)?;
+    let pairs = pairs_of_group(alloc, resolved.layout, group)?;
     Ok(GroupPiece {
         parts,
         counts: Items::from_vec(Vec::from_slice(alloc, pairs.as_slice())?),
@@ -244,7 +219,7 @@ pub fn write_group<A: Arch>(
     ensures { GivesPiece layout.now group result }
 {
     layouts_are_laid_out();
-    let values = values_of(alloc, layout)?;
+    let resolved = Resolved::<A>::new(alloc, layout)?;
     let found = &layout.groups.as_slice()[group];
-    piece_of::<A>(alloc, layout, &values, group, found)
+    piece_of(alloc, &resolved, group, found)
 }

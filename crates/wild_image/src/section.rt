@@ -10,32 +10,29 @@ ghost use Rattle.wild_layout.specs.Sites.{section_bytes};
 ghost use Rattle.wild_layout.specs.Image.{offset_in};
 ghost use Rattle.wild_layout.specs.Faults.{at_offset, at_section, refusal_of, relocation_errors, overlap_errors, section_errors};
 ghost use Rattle.wild_layout.specs.Geometry.{FieldLies};
-ghost use Rattle.wild_image.specs.Steps.{HasValues};
 ghost use Rattle.wild_image.specs.Decided.{AreDecided, decided_sites, decided_extents};
 
 use crate::arch::Arch;
 use crate::overlap::shared_byte;
 use crate::place::InputPlace;
 use crate::relocation::{decide, write_behind, write_decision};
+use crate::values::Resolved;
 use std::alloc::Global;
 use wild_layout::Decision;
-use wild_plan::{Error, Fault, InputRelocation, InputSection, Layout, Part};
+use wild_plan::{Error, Fault, InputRelocation, InputSection, Part};
 
 /// What is decided of a relocation of the section at that place, or its fault.
 #[inline(always)]
 fn decide_at<A: Arch>(
-    layout: &Layout,
-    values: &[Option<u64>],
+    resolved: &Resolved<A>,
     place: InputPlace,
     section: &InputSection,
     relocation: &InputRelocation,
 ) -> Result<Decision, Error>
-    requires machine { layout.now.machine ≡ A.machine }
-    requires values { HasValues layout.now values.now }
-    ensures faults { Answers result (refusal_of (at_offset place.group place.file place.section relocation.now.offset) (decided layout.now section.now relocation.now)) }
-    ensures decision { IfOk result (λ d. decided layout.now section.now relocation.now ≡ Ok d) }
+    ensures faults { Answers result (refusal_of (at_offset place.group place.file place.section relocation.now.offset) (decided resolved.now.layout.now section.now relocation.now)) }
+    ensures decision { IfOk result (λ d. decided resolved.now.layout.now section.now relocation.now ≡ Ok d) }
 {
-    match decide::<A>(layout, values, section, relocation) {
+    match decide(resolved, section, relocation) {
         Ok(decision) => Ok(decision),
         Err(fault) => Err(Error {
             fault,
@@ -47,19 +44,16 @@ fn decide_at<A: Arch>(
 /// What is decided of each relocation of a section, or the first fault of one.
 fn decide_all<A: Arch>(
     alloc: Global,
-    layout: &Layout,
-    values: &[Option<u64>],
+    resolved: &Resolved<A>,
     place: InputPlace,
     section: &InputSection,
 ) -> Result<Vec<Decision>, Error>
-    requires machine { layout.now.machine ≡ A.machine }
-    requires values { HasValues layout.now values.now }
-    ensures faults { Answers result (flat_map (relocation_errors layout.now place.group place.file place.section section.now) (range_with_len 0 (length section.now.relocations))) }
-    ensures decisions { IfOk result (λ v. AreDecided layout.now section.now v.items) }
+    ensures faults { Answers result (flat_map (relocation_errors resolved.now.layout.now place.group place.file place.section section.now) (range_with_len 0 (length section.now.relocations))) }
+    ensures decisions { IfOk result (λ v. AreDecided resolved.now.layout.now section.now v.items) }
 {
     let mut decisions = Vec::with_capacity(alloc, section.relocations.len())?;
     for relocation in section.relocations.as_slice() {
-        decisions.push(decide_at::<A>(layout, values, place, section, relocation)?)?;
+        decisions.push(decide_at(resolved, place, section, relocation)?)?;
     }
     Ok(decisions)
 }
@@ -101,24 +95,21 @@ fn write_decisions(section: &InputSection, decisions: &[Decision], room: &mut [u
 /// behind: tells whether all did, or answers the first fault of a relocation.
 #[tactic(auto, unfolding(wild_layout::specs::Faults::section_errors, wild_layout::specs::Sites::section_bytes))]
 fn write_ascending<A: Arch>(
-    layout: &Layout,
-    values: &[Option<u64>],
+    resolved: &Resolved<A>,
     place: InputPlace,
     section: &InputSection,
     room: &mut [u8],
 ) -> Result<bool, Error>
-    requires machine { layout.now.machine ≡ A.machine }
-    requires values { HasValues layout.now values.now }
     requires read { is_read section.now ≡ true }
-    requires lies { All (FieldLies layout.now.machine (length room.old)) section.now.relocations }
+    requires lies { All (FieldLies resolved.now.layout.now.machine (length room.old)) section.now.relocations }
     requires bytes { room.old ≡ section.now.bytes }
-    ensures faults { IfErr result (λ e. Refuses e (section_errors layout.now place.group place.file place.section section.now)) }
-    ensures none { IfOk result (λ all. all ≡ true → section_errors layout.now place.group place.file place.section section.now ≡ []) }
-    ensures bytes { IfOk result (λ all. all ≡ true → room.new ≡ section_bytes layout.now section.now) }
+    ensures faults { IfErr result (λ e. Refuses e (section_errors resolved.now.layout.now place.group place.file place.section section.now)) }
+    ensures none { IfOk result (λ all. all ≡ true → section_errors resolved.now.layout.now place.group place.file place.section section.now ≡ []) }
+    ensures bytes { IfOk result (λ all. all ≡ true → room.new ≡ section_bytes resolved.now.layout.now section.now) }
 {
     let mut reach = 0;
     for relocation in section.relocations.as_slice() {
-        let decision = decide_at::<A>(layout, values, place, section, relocation)?;
+        let decision = decide_at(resolved, place, section, relocation)?;
         match write_behind(reach, relocation, decision, room) {
             Some(end) => reach = end,
             None => return Ok(false),
@@ -132,21 +123,18 @@ fn write_ascending<A: Arch>(
 #[tactic(auto, unfolding(wild_layout::specs::Faults::section_errors, wild_layout::specs::Sites::section_bytes))]
 fn write_apart<A: Arch>(
     alloc: Global,
-    layout: &Layout,
-    values: &[Option<u64>],
+    resolved: &Resolved<A>,
     place: InputPlace,
     section: &InputSection,
     room: &mut [u8],
 ) -> Result<(), Error>
-    requires machine { layout.now.machine ≡ A.machine }
-    requires values { HasValues layout.now values.now }
     requires read { is_read section.now ≡ true }
-    requires lies { All (FieldLies layout.now.machine (length room.old)) section.now.relocations }
+    requires lies { All (FieldLies resolved.now.layout.now.machine (length room.old)) section.now.relocations }
     requires room { length room.old ≡ length section.now.bytes }
-    ensures faults { Answers result (section_errors layout.now place.group place.file place.section section.now) }
-    ensures bytes { OnOk result (room.new ≡ section_bytes layout.now section.now) }
+    ensures faults { Answers result (section_errors resolved.now.layout.now place.group place.file place.section section.now) }
+    ensures bytes { OnOk result (room.new ≡ section_bytes resolved.now.layout.now section.now) }
 {
-    let decisions = decide_all::<A>(alloc, layout, values, place, section)?;
+    let decisions = decide_all(alloc, resolved, place, section)?;
     check_overlap(alloc, place, section, &decisions)?;
     room.copy_from_slice(section.bytes.as_slice());
     write_decisions(section, &decisions, room);
@@ -157,25 +145,22 @@ fn write_apart<A: Arch>(
 /// order are decided and written once; only others ask for memory.
 pub(crate) fn write_data<A: Arch>(
     alloc: Global,
-    layout: &Layout,
-    values: &[Option<u64>],
+    resolved: &Resolved<A>,
     place: InputPlace,
     section: &InputSection,
     room: &mut [u8],
 ) -> Result<(), Error>
-    requires machine { layout.now.machine ≡ A.machine }
-    requires values { HasValues layout.now values.now }
     requires read { is_read section.now ≡ true }
-    requires lies { All (FieldLies layout.now.machine (length room.old)) section.now.relocations }
+    requires lies { All (FieldLies resolved.now.layout.now.machine (length room.old)) section.now.relocations }
     requires room { length room.old ≡ length section.now.bytes }
-    ensures faults { Answers result (section_errors layout.now place.group place.file place.section section.now) }
-    ensures bytes { OnOk result (room.new ≡ section_bytes layout.now section.now) }
+    ensures faults { Answers result (section_errors resolved.now.layout.now place.group place.file place.section section.now) }
+    ensures bytes { OnOk result (room.new ≡ section_bytes resolved.now.layout.now section.now) }
 {
     room.copy_from_slice(section.bytes.as_slice());
-    if write_ascending::<A>(layout, values, place, section, room)? {
+    if write_ascending(resolved, place, section, room)? {
         return Ok(());
     }
-    write_apart::<A>(alloc, layout, values, place, section, room)
+    write_apart(alloc, resolved, place, section, room)
 }
 
 /// The file offset of a section that owns bytes.

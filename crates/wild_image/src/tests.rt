@@ -1,11 +1,12 @@
 //! The smallest fixed executable: a call and two returns.
 ghost use Rattle.std.specs.Prelude.{◌≡◌, ◌<◌, ◌≤◌, IfOk};
 ghost use Rattle.wild_plan.specs.declared.kind.Machine.TheVariants as machine;
+ghost use Rattle.wild_image.specs.Steps.{FieldsFit};
 
 use super::*;
 use crate::entries::add_entries;
 use crate::relocation::decide;
-use crate::values::values_of;
+use crate::values::Resolved;
 use crate::words::add_words;
 use std::alloc::{AllocError, Global};
 use std::sync::atomic::{AtomicU64, Ordering};
@@ -471,9 +472,11 @@ fn two_workers_meet(rt: HostRuntime) -> Result<(), Fail> {
     Ok(())
 }
 
-/// A layout of a static position-independent executable with packed relocations, whose symbol 0 stands at 0x1040.
+/// A layout of a static position-independent executable with packed relocations, whose symbol 0 stands at 0x1040; it
+/// has no sections.
 fn movable(alloc: Global) -> Result<Layout, AllocError>
-    ensures { IfOk result (λ l. l.machine ≡ machine.X86_64) }
+    ensures machine { IfOk result (λ l. l.machine ≡ machine.X86_64) }
+    ensures fits { IfOk result (λ l. FieldsFit l) }
 {
     Ok(Layout {
         kind: OutputKind::StaticExecutable(RelocationModel::Relocatable),
@@ -481,6 +484,9 @@ fn movable(alloc: Global) -> Result<Layout, AllocError>
             relr: true,
             ..Options::none(alloc)
         },
+        parts: Items::new(alloc),
+        sections: Items::new(alloc),
+        segments: Items::new(alloc),
         symbols: symbols(alloc, 0x1040)?,
         ..layout(alloc, &[])?
     })
@@ -512,9 +518,9 @@ fn data(alloc: Global, start: u64, offsets: &[u64]) -> Result<InputSection, Allo
 #[test]
 fn odd_places_have_entries(rt: HostRuntime) -> Result<(), Fail> {
     let layout = movable(rt.alloc())?;
-    let values = values_of(rt.alloc(), &layout)?;
+    let resolved = Resolved::<ElfX86_64>::new(rt.alloc(), &layout)?;
     let section = data(rt.alloc(), 0x3000, &[1])?;
-    let decision = decide::<ElfX86_64>(&layout, &values, &section, &address(1));
+    let decision = decide(&resolved, &section, &address(1));
     let beside = Decision::Moved {
         value: 0x1040,
         packed: false,
@@ -523,7 +529,7 @@ fn odd_places_have_entries(rt: HostRuntime) -> Result<(), Fail> {
     let mut object = file(rt.alloc(), FileRole::Object);
     object.sections.push(section)?;
     let mut entries = PartBytes::with_room(rt.alloc(), 0)?;
-    add_entries(&layout, &values, &object, &mut entries)?;
+    add_entries(&resolved, &object, &mut entries)?;
     let wanted = [
         0x01, 0x30, 0, 0, 0, 0, 0, 0, 0x08, 0, 0, 0, 0, 0, 0, 0, 0x40, 0x10, 0, 0, 0, 0, 0, 0,
     ];

@@ -6,5 +6,5 @@ use Rattle.wild_image.proofs.buffer.add_group_sections.Given as goal
 
 abbrev pub invariant-loop-i : goal.invariant-loop-i
 invariant-loop-i g l =
-    (flat_map_from (file_errors l.layout l.index) 0 (take l.i l.file-items) ≡ [])
-    × (l.bytes ≡ l.initial.bytes ++ flat_map (file_sections l.layout) (take l.i l.file-items))
+    (flat_map_from (file_errors l.resolved.layout.now l.index) 0 (take l.i l.file-items) ≡ [])
+    × (l.bytes ≡ l.initial.bytes ++ flat_map (file_sections l.resolved.layout.now) (take l.i l.file-items))

@@ -5,4 +5,4 @@ use Rattle.wild_layout.specs.Content.{content}
 use Rattle.wild_image.proofs.buffer.add_group_tables.Given as goal
 
 abbrev pub invariant-loop-part : goal.invariant-loop-part
-invariant-loop-part l = l.bytes ≡ l.initial.bytes ++ flat_map (λ (p : Part). content l.layout p.role l.group) (take l.part-index l.layout.parts)
+invariant-loop-part g l = l.bytes ≡ l.initial.bytes ++ flat_map (λ (p : Part). content l.resolved.layout.now p.role l.group) (take l.part-index l.resolved.layout.now.parts)

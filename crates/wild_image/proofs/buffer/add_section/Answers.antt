@@ -5,7 +5,7 @@ use Rattle.wild_image.proofs.buffer.add_section.Goals as goal
 
 pub returns-in_ok-extend-clause-bytes : goal.returns-in_ok-extend-clause-bytes
 returns-in_ok-extend-clause-bytes g c =
-    let l = c.args.layout.now in
+    let l = c.args.resolved.now.layout.now in
     let s = c.args.section.now in
     let filled : is_filled l s ≡ true = search rules in
     let zeros = c.deref.ensures.value ∙ c.in_ok-zeros.ensures ∙ section_zeros l s (search rules) filled in

@@ -4,4 +4,4 @@ use Rattle.wild_image.specs.Own.{entry_bytes}
 use Rattle.wild_image.proofs.entries.add_all_listed.Given as goal
 
 abbrev pub invariant-loop-relocation : goal.invariant-loop-relocation
-invariant-loop-relocation l = l.bytes ≡ l.initial.bytes ++ flat_map (entry_bytes l.layout l.section) (take l.relocation-index l.section.relocations)
+invariant-loop-relocation g l = l.bytes ≡ l.initial.bytes ++ flat_map (entry_bytes l.resolved.layout.now l.section) (take l.relocation-index l.section.relocations)

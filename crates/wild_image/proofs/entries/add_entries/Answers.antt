@@ -4,8 +4,8 @@ use Rattle.wild_image.proofs.OwnLemmas.{all_joined, entries_joined}
 use Rattle.wild_image.proofs.entries.add_entries.Goals as goal
 
 pub returns : goal.returns
-returns c =
+returns g c =
     let same = ap length c.as_slice-section-items.ensures in
     let end = c.loop-section.auto.section-index-end in
     let out = c.loop-section-test.false in
-    all_joined (section_entry_bytes c.args.layout.now) c.args.file.now.sections c.loop-section.section-index c.args.bytes.now c.loop-section.bytes _ (omega (arith, same, end, out)) c.loop-section.invariant (entries_joined c.args.layout.now c.args.file.now.sections)
+    all_joined (section_entry_bytes c.args.resolved.now.layout.now) c.args.file.now.sections c.loop-section.section-index c.args.bytes.now c.loop-section.bytes _ (omega (arith, same, end, out)) c.loop-section.invariant (entries_joined c.args.resolved.now.layout.now c.args.file.now.sections)

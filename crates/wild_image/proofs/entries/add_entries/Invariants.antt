@@ -4,4 +4,4 @@ use Rattle.wild_image.specs.Own.{section_entry_bytes}
 use Rattle.wild_image.proofs.entries.add_entries.Given as goal
 
 abbrev pub invariant-loop-section : goal.invariant-loop-section
-invariant-loop-section l = l.bytes ≡ l.initial.bytes ++ flat_map (section_entry_bytes l.layout) (take l.section-index l.file.sections)
+invariant-loop-section g l = l.bytes ≡ l.initial.bytes ++ flat_map (section_entry_bytes l.resolved.layout.now) (take l.section-index l.file.sections)

@@ -3,15 +3,15 @@ use Rattle.std.proofs.lemmas.List.{length-replicate}
 use Rattle.wild_image.proofs.OwnedLemmas.{parts_are_ok}
 use Rattle.wild_image.proofs.piece.fill_parts.Goals as goal
 
-pub add_tables-requires-clause-room : goal.add_tables-requires-clause-room
-add_tables-requires-clause-room g c = ap length c.requires.none ∙ length-replicate (length c.args.layout.now.parts) []
+pub add_tables-requires : goal.add_tables-requires
+add_tables-requires g c = record { room = ap length c.requires.none ∙ length-replicate (length c.args.resolved.now.layout.now.parts) [] }
 
 pub take_group-requires-clause-room : goal.take_group-requires-clause-room
-take_group-requires-clause-room g c = c.add_tables.auto.parts ∙ ap length c.requires.none ∙ length-replicate (length c.args.layout.now.parts) []
+take_group-requires-clause-room g c = c.add_tables.auto.parts ∙ ap length c.requires.none ∙ length-replicate (length c.args.resolved.now.layout.now.parts) []
 
 pub returns-clause-parts : goal.returns-clause-parts
 returns-clause-parts g c =
-    let l = c.args.layout.now in
+    let l = c.args.resolved.now.layout.now in
     let room = ap length c.requires.none ∙ length-replicate (length l.parts) [] in
     let tables = c.add_tables.auto.parts ∙ room in
     let long = c.take_group.auto.parts ∙ tables in

@@ -6,7 +6,7 @@ use Rattle.wild_image.proofs.piece.take_section.Goals as goal
 
 pub returns-in_ok-extend-clause-owned : goal.returns-in_ok-extend-clause-owned
 returns-in_ok-extend-clause-owned g c =
-    let l = c.args.layout.now in
+    let l = c.args.resolved.now.layout.now in
     let s = c.args.section.now in
     let filled : is_filled l s ≡ true = search rules in
     let zeros = c.deref.ensures.value ∙ c.in_ok-zeros.ensures ∙ section_zeros l s (search rules) filled in

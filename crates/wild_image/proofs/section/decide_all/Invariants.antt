@@ -7,7 +7,7 @@ use Rattle.wild_image.proofs.section.decide_all.Given as goal
 
 abbrev pub invariant-loop-relocation : goal.invariant-loop-relocation
 invariant-loop-relocation g l = record {
-  none : flat_map (relocation_errors l.layout l.place.group l.place.file l.place.section l.section) (range_with_len 0 l.relocation-index) ≡ [];
+  none : flat_map (relocation_errors l.resolved.layout.now l.place.group l.place.file l.place.section l.section) (range_with_len 0 l.relocation-index) ≡ [];
   count : length l.decisions.items ≡ l.relocation-index;
-  same : decided_sites l.section (take l.relocation-index l.relocation-items) l.decisions.items ≡ flat_map (site l.layout l.section) (range_with_len 0 l.relocation-index);
+  same : decided_sites l.section (take l.relocation-index l.relocation-items) l.decisions.items ≡ flat_map (site l.resolved.layout.now l.section) (range_with_len 0 l.relocation-index);
 }

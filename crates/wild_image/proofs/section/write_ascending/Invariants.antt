@@ -2,4 +2,4 @@ use Rattle.wild_image.proofs.AscendingLemmas.{HasAscended}
 use Rattle.wild_image.proofs.section.write_ascending.Given as goal
 
 abbrev pub invariant-loop-relocation : goal.invariant-loop-relocation
-invariant-loop-relocation g l = HasAscended l.layout l.place.group l.place.file l.place.section l.section l.relocation-index l.reach l.room
+invariant-loop-relocation g l = HasAscended l.resolved.layout.now l.place.group l.place.file l.place.section l.section l.relocation-index l.reach l.room

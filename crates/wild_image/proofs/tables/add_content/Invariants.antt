@@ -4,4 +4,4 @@ use Rattle.wild_layout.specs.Content.{file_content}
 use Rattle.wild_image.proofs.tables.add_content.Given as goal
 
 abbrev pub invariant-loop-file : goal.invariant-loop-file
-invariant-loop-file l = l.bytes ≡ l.initial.bytes ++ flat_map (file_content l.layout l.role) (take l.file-index l.group.files)
+invariant-loop-file g l = l.bytes ≡ l.initial.bytes ++ flat_map (file_content l.resolved.layout.now l.role) (take l.file-index l.group.files)

@@ -4,4 +4,4 @@ use Rattle.wild_image.proofs.TableLemmas.{Changed}
 use Rattle.wild_image.proofs.tables.add_tables.Given as goal
 
 abbrev pub invariant-loop-i : goal.invariant-loop-i
-invariant-loop-i l = Changed [] (λ k. get_or l.initial.parts k [] ++ group_given l.layout k l.group) l.initial.parts l.i l.parts
+invariant-loop-i g l = Changed [] (λ k. get_or l.initial.parts k [] ++ group_given l.resolved.layout.now k l.group) l.initial.parts l.i l.parts
