@@ -2,6 +2,7 @@
 ghost use Rattle.std.specs.Prelude.{◌≡◌};
 ghost use Rattle.wild_plan.specs.Treatment.{flags_at, is_left, is_elsewhere, is_barred, moves, moved_treatment, address_treatment, distance_treatment, row_treatment, treatment};
 
+use crate::index::SymbolIndex;
 use crate::input::{InputRelocation, InputSection};
 use crate::layout::Layout;
 use crate::lookups::{is_allocated, is_writable};
@@ -19,7 +20,7 @@ pub enum Treatment {
     /// An address that moves with the base is stored in 8 bytes by a loader.
     BaseRelative,
     /// The address of this symbol, which another module may define, is left to a dynamic entry.
-    Symbolic(usize),
+    Symbolic(SymbolIndex),
     /// The field cannot hold an address that is known only where the image is loaded.
     Recompile,
     /// The type is not known, or needs a symbol and has none.
@@ -27,10 +28,10 @@ pub enum Treatment {
 }
 
 /// What is known of the value of the symbol that defines a symbol.
-fn flags_at(layout: &Layout, symbol: usize) -> ValueFlags
+fn flags_at(layout: &Layout, symbol: SymbolIndex) -> ValueFlags
     ensures { result ≡ flags_at layout.now symbol }
 {
-    match layout.symbols.as_slice().get(layout.canonical(symbol)) {
+    match layout.symbols.as_slice().get(layout.canonical(symbol).0) {
         Some(found) => found.flags,
         None => ValueFlags(0),
     }
@@ -38,7 +39,12 @@ fn flags_at(layout: &Layout, symbol: usize) -> ValueFlags
 
 /// Whether the address of the symbol is left to a dynamic entry.
 #[inline]
-fn is_left(layout: &Layout, section: &InputSection, row: &RelocationKindInfo, symbol: usize) -> bool
+fn is_left(
+    layout: &Layout,
+    section: &InputSection,
+    row: &RelocationKindInfo,
+    symbol: SymbolIndex,
+) -> bool
     ensures { result ≡ is_left layout.now section.now row.now symbol }
 {
     is_allocated(section.flags)
@@ -61,7 +67,7 @@ fn is_barred(
     layout: &Layout,
     section: &InputSection,
     row: &RelocationKindInfo,
-    symbol: usize,
+    symbol: SymbolIndex,
 ) -> bool
     ensures { result ≡ is_barred layout.now section.now row.now symbol }
 {
@@ -73,7 +79,7 @@ fn is_barred(
 
 /// Whether the address of the symbol moves with the base.
 #[inline]
-fn moves(layout: &Layout, symbol: usize) -> bool
+fn moves(layout: &Layout, symbol: SymbolIndex) -> bool
     ensures { result ≡ moves layout.now symbol }
 {
     layout.kind.is_position_independent() && !flags_at(layout, symbol).is_absolute()
@@ -97,7 +103,7 @@ fn address_treatment(
     layout: &Layout,
     section: &InputSection,
     row: RelocationKindInfo,
-    symbol: usize,
+    symbol: SymbolIndex,
 ) -> Treatment
     ensures { result ≡ address_treatment layout.now section.now row symbol }
 {
@@ -118,7 +124,7 @@ fn distance_treatment(
     layout: &Layout,
     section: &InputSection,
     row: RelocationKindInfo,
-    symbol: Option<usize>,
+    symbol: Option<SymbolIndex>,
 ) -> Treatment
     ensures { result ≡ distance_treatment layout.now section.now row symbol }
 {
@@ -139,7 +145,7 @@ fn distance_treatment(
 pub fn row_treatment(
     layout: &Layout,
     section: &InputSection,
-    symbol: Option<usize>,
+    symbol: Option<SymbolIndex>,
     row: Option<RelocationKindInfo>,
 ) -> Treatment
     ensures { result ≡ row_treatment layout.now section.now symbol row }

@@ -10,6 +10,7 @@ use crate::clauses::roles::is_fixed_static;
 use crate::clauses::sections::within;
 use crate::extent::{behind_first, wide_sum};
 use crate::fault::Clause;
+use crate::index::SectionIndex;
 use crate::layout::Layout;
 use crate::lookups::is_allocated;
 use crate::part::{Part, Role, part_with};
@@ -60,7 +61,7 @@ fn entry_parts(parts: &[Part]) -> [Option<Part>; 3]
 }
 
 /// The bytes of a part that stands in that section.
-fn bytes_in(section: usize, part: Option<Part>) -> u64
+fn bytes_in(section: SectionIndex, part: Option<Part>) -> u64
     ensures { result ≡ bytes_in section part }
 {
     match part {
@@ -70,7 +71,7 @@ fn bytes_in(section: usize, part: Option<Part>) -> u64
 }
 
 /// The bytes of the parts that stand in that section.
-fn all_bytes_in(section: usize, parts: &[Option<Part>; 3]) -> u128
+fn all_bytes_in(section: SectionIndex, parts: &[Option<Part>; 3]) -> u128
     ensures { result ≡ total (bytes_in section) parts.now }
 {
     let [first, second, third] = *parts;
@@ -78,7 +79,7 @@ fn all_bytes_in(section: usize, parts: &[Option<Part>; 3]) -> u128
     wide_sum(bytes_in(section, first), bytes_in(section, second)) + last
 }
 
-fn holds_entries(parts: &[Option<Part>; 3], index: usize, section: &Section) -> bool
+fn holds_entries(parts: &[Option<Part>; 3], index: SectionIndex, section: &Section) -> bool
     ensures { result ≡ holds_entries parts.now index section.now }
 {
     !(is_allocated(section.flags) && section.kind == SHT_RELA)
@@ -90,7 +91,7 @@ fn entries_astray(parts: &[Option<Part>; 3], later: &[Section]) -> Option<usize>
     ensures { result ≡ entries_astray parts.now 1 later.now }
 {
     for (i, section) in later.iter().enumerate() {
-        if !holds_entries(parts, i + 1, section) {
+        if !holds_entries(parts, SectionIndex(i + 1), section) {
             return Some(i + 1);
         }
     }

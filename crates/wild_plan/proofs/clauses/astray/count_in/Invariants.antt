@@ -3,4 +3,4 @@ use Rattle.wild_plan.specs.Astray.{count_in}
 use Rattle.wild_plan.proofs.clauses.astray.count_in.Given as goal
 
 abbrev pub invariant-loop-file : goal.invariant-loop-file
-invariant-loop-file l = count_in (drop l.file-index l.files) l.symbol ≡ count_in l.files l.symbol
+invariant-loop-file l = count_in (drop l.file-index l.files) l.fn.symbol ≡ count_in l.files l.fn.symbol

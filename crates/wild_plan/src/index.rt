@@ -1,0 +1,31 @@
+//! Indexes into the tables of an object file. They are numbers to contracts; in code neither stands in the other's place.
+use std::marker::Model;
+
+/// A header index: the place of an output section in the section header table (gABI, "Section Header"). 0, `SHN_UNDEF`,
+/// is no section.
+#[derive(Clone, Copy, Debug, PartialEq, Eq)]
+pub struct SectionIndex(pub usize);
+
+impl Model for SectionIndex {
+    ghost use Rattle.std.specs.Prelude.{ℕ};
+
+    ghost Value = { ℕ };
+
+    ghost view = { λ index. index.0 };
+
+    ghost inverse = { λ number. record { 0 = number } };
+}
+
+/// The place of a symbol in the layout's list of symbols.
+#[derive(Clone, Copy, Debug, PartialEq, Eq)]
+pub struct SymbolIndex(pub usize);
+
+impl Model for SymbolIndex {
+    ghost use Rattle.std.specs.Prelude.{ℕ};
+
+    ghost Value = { ℕ };
+
+    ghost view = { λ index. index.0 };
+
+    ghost inverse = { λ number. record { 0 = number } };
+}
