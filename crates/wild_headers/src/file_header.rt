@@ -69,7 +69,7 @@ fn file_header(layout: &Layout) -> FileHeader
         program_count: layout.segments.len() as u16,
         section_entry_size: SectionHeader::SIZE as u16,
         section_count: or_escape(layout.sections.len(), SHN_UNDEF),
-        name_table: or_escape(name_table(layout.parts.as_slice()), SHN_XINDEX),
+        name_table: or_escape(name_table(layout.parts.as_slice()).0, SHN_XINDEX),
     }
 }
 

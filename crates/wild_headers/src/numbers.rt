@@ -4,7 +4,7 @@ ghost use Rattle.wild_headers.specs.Headers.{offset_of_role, section_of_role, or
 ghost use Rattle.wild_plan.specs.Places.{has_role};
 ghost use Rattle.wild_plan.specs.declared.part.Role.TheVariants.{SectionHeaders, Shstrtab, Dynsym};
 
-use wild_plan::{Part, Role};
+use wild_plan::{Part, Role, SectionIndex};
 use wild_records::abi::section::{SHN_LORESERVE, SHN_UNDEF};
 
 /// A number of sections, or an index of one, as the file header has it.
@@ -50,7 +50,7 @@ pub(crate) fn section_headers_offset(parts: &[Part]) -> u64
 }
 
 /// The header index of the section of the names.
-pub(crate) fn name_table(parts: &[Part]) -> usize
+pub(crate) fn name_table(parts: &[Part]) -> SectionIndex
     ensures { result ≡ section_of_role Shstrtab parts.now }
 {
     for part in parts {
@@ -58,7 +58,7 @@ pub(crate) fn name_table(parts: &[Part]) -> usize
             return part.section;
         }
     }
-    SHN_UNDEF as usize
+    SectionIndex(SHN_UNDEF as usize)
 }
 
 fn has_symbols(part: &Part) -> bool
@@ -68,7 +68,7 @@ fn has_symbols(part: &Part) -> bool
 }
 
 /// The header index of the section of the dynamic symbols; 0 where there are none.
-pub(crate) fn symbol_table(parts: &[Part]) -> usize
+pub(crate) fn symbol_table(parts: &[Part]) -> SectionIndex
     ensures { result ≡ section_of_role Dynsym parts.now }
 {
     for part in parts {
@@ -76,5 +76,5 @@ pub(crate) fn symbol_table(parts: &[Part]) -> usize
             return part.section;
         }
     }
-    SHN_UNDEF as usize
+    SectionIndex(SHN_UNDEF as usize)
 }

@@ -7,7 +7,7 @@ ghost use Rattle.wild_plan.specs.Needs.{name_bytes};
 ghost use Rattle.wild_headers.specs.Headers.{name_table, symbol_table, null_header, uncompressed, info_at, section_header, section_header_bytes};
 
 use crate::numbers::{name_table, or_none, symbol_table};
-use wild_plan::{Layout, Section};
+use wild_plan::{Layout, Section, SectionIndex};
 use wild_records::SectionHeader;
 use wild_records::abi::section::{SHF_COMPRESSED, SHT_NULL};
 use wild_words::put;
@@ -24,7 +24,7 @@ fn null_header(layout: &Layout) -> SectionHeader
         address: 0,
         offset: 0,
         size: or_none(layout.sections.len()) as u64,
-        link: or_none(name_table(layout.parts.as_slice())) as u32,
+        link: or_none(name_table(layout.parts.as_slice()).0) as u32,
         info: 0,
         align: 0,
         entry_size: 0,
@@ -44,7 +44,7 @@ fn uncompressed(flags: u64) -> u64
 }
 
 /// What `sh_info` of section i tells, where the dynamic symbols stand in section `symbols`.
-fn info_at(symbols: usize, i: usize, section: &Section) -> u32
+fn info_at(symbols: SectionIndex, i: SectionIndex, section: &Section) -> u32
     ensures { result ≡ info_at symbols i section.now }
 {
     if i == symbols { 1 } else { section.info }
@@ -71,8 +71,8 @@ fn section_header(info: u32, name: u32, section: &Section) -> SectionHeader
 /// The header of the section with that index, whose name begins at `name`.
 fn header_of(
     layout: &Layout,
-    symbols: usize,
-    i: usize,
+    symbols: SectionIndex,
+    i: SectionIndex,
     name: u64,
     section: &Section,
 ) -> SectionHeader
@@ -80,7 +80,7 @@ fn header_of(
     requires name_table { name_table layout.now < 2 ^ 32 }
     ensures { result ≡ (if i == 0 then null_header layout.now else section_header (info_at symbols i section.now) name section.now) }
 {
-    if i == 0 {
+    if i.0 == 0 {
         null_header(layout)
     } else {
         section_header(info_at(symbols, i, section), name as u32, section)
@@ -89,7 +89,7 @@ fn header_of(
 
 fn put_section_header(
     layout: &Layout,
-    symbols: usize,
+    symbols: SectionIndex,
     section: &Section,
     i: usize,
     name: u64,
@@ -102,7 +102,7 @@ fn put_section_header(
     ensures { out.new ≡ place (section_header_size * i) (spell (section_header_fields (if i == 0 then null_header layout.now else section_header (info_at (symbol_table layout.now) i section.now) name section.now))) out.old }
 {
     let mut header = [0; SectionHeader::SIZE];
-    header_of(layout, symbols, i, name, section).put(&mut header);
+    header_of(layout, symbols, SectionIndex(i), name, section).put(&mut header);
     put(out, i * SectionHeader::SIZE, &header);
 }
 

@@ -7,7 +7,7 @@ ghost use Rattle.wild_made.specs.Made.{made_symbol, made_relocation, made_sectio
 use std::alloc::{AllocError, Global};
 use wild_plan::{
     File, FileRole, Group, InputRelocation, InputSection, Place, Resolution, Slot, Symbol,
-    ValueFlags,
+    SymbolIndex, ValueFlags,
 };
 use wild_records::abi::relocation::R_X86_64_PC32;
 use wild_records::abi::symbol::STT_FUNC;
@@ -65,7 +65,7 @@ fn relocation(groups: u32, group: u32, call: u32) -> InputRelocation
     InputRelocation {
         offset: 8 * u64::from(call) + 1,
         number: R_X86_64_PC32,
-        symbol: Some(((5 * (8 * group + call) + 3) % groups) as usize),
+        symbol: Some(SymbolIndex(((5 * (8 * group + call) + 3) % groups) as usize)),
         addend: -4,
         malformed: false,
     }
@@ -118,7 +118,7 @@ fn plain_file(alloc: Global, role: FileRole) -> File
 {
     File {
         role,
-        first_symbol: 0,
+        first_symbol: SymbolIndex(0),
         symbol_count: 0,
         sections: Items::new(alloc),
         thunk_block: 0,
@@ -136,7 +136,7 @@ fn object(alloc: Global, groups: u32, group: u32) -> Result<File, AllocError>
     let mut sections = Vec::with_capacity(alloc, 1)?;
     sections.push(section(alloc, groups, group)?)?;
     Ok(File {
-        first_symbol: group as usize,
+        first_symbol: SymbolIndex(group as usize),
         symbol_count: 1,
         sections: Items::from_vec(sections),
         ..plain_file(alloc, FileRole::Object)

@@ -9,13 +9,16 @@ use crate::group::{group, symbol};
 use std::alloc::{AllocError, Global};
 use wild_plan::{
     Entry, Group, Identity, Layout, Machine, Options, OutputKind, Part, RelocationModel, Role,
-    Section, Segment, Symbol, Tls,
+    Section, SectionIndex, Segment, Symbol, Tls,
 };
 use wild_records::abi::section::{SHT_NULL, SHT_PROGBITS, SHT_STRTAB};
 use wild_records::abi::segment::PT_LOAD;
 use wild_words::{Bytes, Items};
 
-fn part(role: Role, section: usize, offset: u64, address: u64, size: u64, align: u64) -> Part
+/// The header index of a part that stands in no section.
+const NO_SECTION: SectionIndex = SectionIndex(0);
+
+fn part(role: Role, section: SectionIndex, offset: u64, address: u64, size: u64, align: u64) -> Part
     ensures { result ≡ part_with role section offset address size align }
 {
     Part {
@@ -34,11 +37,11 @@ fn parts(alloc: Global, groups: u32) -> Result<Items<Part>, AllocError>
 {
     let size = 64 * u64::from(groups);
     let all = vec![in alloc;
-        part(Role::FileHeader, 0, 0, 4194304, 64, 8),
-        part(Role::ProgramHeaders, 0, 64, 4194368, 56, 8),
-        part(Role::Raw, 1, 128, 4194432, size, 16),
-        part(Role::Shstrtab, 2, 128 + size, 0, 17, 1),
-        part(Role::SectionHeaders, 0, 152 + size, 0, 192, 8),
+        part(Role::FileHeader, NO_SECTION, 0, 4194304, 64, 8),
+        part(Role::ProgramHeaders, NO_SECTION, 64, 4194368, 56, 8),
+        part(Role::Raw, SectionIndex(1), 128, 4194432, size, 16),
+        part(Role::Shstrtab, SectionIndex(2), 128 + size, 0, 17, 1),
+        part(Role::SectionHeaders, NO_SECTION, 152 + size, 0, 192, 8),
     ]?;
     Ok(Items::from_vec(all))
 }

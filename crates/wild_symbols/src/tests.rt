@@ -29,7 +29,7 @@ const EXIT: [u8; 24] = [
 fn part(role: Role) -> Part {
     Part {
         role,
-        section: 0,
+        section: SectionIndex(0),
         offset: 0,
         address: 0,
         size: 0,

@@ -56,7 +56,7 @@ const ENTRIES_OF_LD: [(u64, u64); 12] = [
 fn part(role: Role, address: u64, size: u64) -> Part {
     Part {
         role,
-        section: 0,
+        section: SectionIndex(0),
         offset: 0,
         address,
         size,

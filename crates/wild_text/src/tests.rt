@@ -2,7 +2,7 @@
 use super::*;
 use serde_json::Value;
 use std::test::*;
-use wild_plan::{At, EntryWarning, Error, Fault, Machine, Missing, Role, Tls};
+use wild_plan::{At, EntryWarning, Error, Fault, Machine, Missing, Role, SymbolIndex, Tls};
 
 /// The text that is answered for a plan that is refused, empty for one that is read.
 fn refused(rt: &HostRuntime, plan: &str) -> Result<String, Fail> {
@@ -249,10 +249,12 @@ fn an_image(rt: HostRuntime) -> Result<(), Fail> {
     let layout = read_plan(alloc, &value).ok().ok_or("plan")?;
     let warnings = [
         EntryWarning::Defaulted {
-            symbol: 0,
+            symbol: SymbolIndex(0),
             address: 0x40_00b0,
         },
-        EntryWarning::EmptyText { symbol: 1 },
+        EntryWarning::EmptyText {
+            symbol: SymbolIndex(1),
+        },
     ];
     let text = image_answer(alloc, &layout, &[0xa5; 33], &warnings, &[0, 3, 0, 1])?;
     let lines = "image 33
@@ -333,7 +335,7 @@ fn refusals(rt: HostRuntime) -> Result<(), Fail> {
         (
             Fault::MissingResolution {
                 what: Missing::Address,
-                symbol: 7,
+                symbol: SymbolIndex(7),
             },
             at(None, None),
             "refused MissingResolution what=address symbol=7 at group=0\n",
@@ -341,7 +343,7 @@ fn refusals(rt: HostRuntime) -> Result<(), Fail> {
         (
             Fault::MissingResolution {
                 what: Missing::DynamicSymbol,
-                symbol: 7,
+                symbol: SymbolIndex(7),
             },
             At::NOWHERE,
             "refused MissingResolution what=dynsym symbol=7\n",

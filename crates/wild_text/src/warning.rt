@@ -5,7 +5,7 @@ ghost use Rattle.wild_text.specs.Answer.{shown_name, name_of, warning_text, warn
 
 use std::alloc::{AllocError, Global};
 use std::fmt::Write;
-use wild_plan::{EntryWarning, Layout};
+use wild_plan::{EntryWarning, Layout, SymbolIndex};
 
 /// A name as it is shown: itself where it is text, else in hex.
 fn name_text(alloc: Global, name: &[u8]) -> Result<String, AllocError>
@@ -18,10 +18,10 @@ fn name_text(alloc: Global, name: &[u8]) -> Result<String, AllocError>
 }
 
 /// The name of a symbol as it is shown.
-fn symbol_text(alloc: Global, layout: &Layout, symbol: usize) -> Result<String, AllocError>
+fn symbol_text(alloc: Global, layout: &Layout, symbol: SymbolIndex) -> Result<String, AllocError>
     ensures { IfOk result (λ s. string_bytes s ≡ shown_name (name_of (slice_get layout.now.symbols symbol))) }
 {
-    match layout.symbols.as_slice().get(symbol) {
+    match layout.symbols.as_slice().get(symbol.0) {
         Some(found) => name_text(alloc, found.name.as_slice()),
         None => name_text(alloc, b""),
     }
