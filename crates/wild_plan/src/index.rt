@@ -1,4 +1,4 @@
-//! Indexes into the tables of an object file. They are numbers to contracts; in code neither stands in the other's place.
+//! Indexes of output sections and of symbols. They are numbers to contracts; code takes neither for the other.
 use std::marker::Model;
 
 /// A header index: the place of an output section in the section header table (gABI, "Section Header"). 0, `SHN_UNDEF`,

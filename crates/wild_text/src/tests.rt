@@ -335,7 +335,7 @@ fn refusals(rt: HostRuntime) -> Result<(), Fail> {
         (
             Fault::MissingResolution {
                 what: Missing::Address,
-                symbol: SymbolIndex(7),
+                symbol: 7,
             },
             at(None, None),
             "refused MissingResolution what=address symbol=7 at group=0\n",
@@ -343,7 +343,7 @@ fn refusals(rt: HostRuntime) -> Result<(), Fail> {
         (
             Fault::MissingResolution {
                 what: Missing::DynamicSymbol,
-                symbol: SymbolIndex(7),
+                symbol: 7,
             },
             At::NOWHERE,
             "refused MissingResolution what=dynsym symbol=7\n",
