@@ -75,10 +75,16 @@ fn relocations(alloc: Global, groups: u32, group: u32) -> Result<Items<InputRelo
     requires { (0 < groups) × (group < 65536) }
     ensures { IfOk result (λ v. v ≡ map (made_relocation groups group) (range_with_len 0 8)) }
 {
-    let mut all = Vec::with_capacity(alloc, 8)?;
-    for call in 0..8 {
-        all.push(relocation(groups, group, call))?;
-    }
+    let all = vec![in alloc;
+        relocation(groups, group, 0),
+        relocation(groups, group, 1),
+        relocation(groups, group, 2),
+        relocation(groups, group, 3),
+        relocation(groups, group, 4),
+        relocation(groups, group, 5),
+        relocation(groups, group, 6),
+        relocation(groups, group, 7),
+    ]?;
     Ok(Items::from_vec(all))
 }
 
