@@ -15,7 +15,7 @@ use Rattle.wild_meaning.specs.World.{IsFirstModule, first_module}
 use Rattle.wild_laws.specs.Premises.{ZeroIsLegal, MovedIsLegal, WorldsAreThere, OffsetsCount}
 use Rattle.wild_laws.proofs.Premises.{apart_kinds}
 use Rattle.wild_laws.proofs.NoErrors.{laid_out}
-use Rattle.wild_laws.proofs.ThreadValues.{own_distance, thread_place, thread_sum}
+use Rattle.wild_values.specs.Laws.{ThreadPlacesAreKnown}
 
 -- ---- legal worlds
 
@@ -97,14 +97,14 @@ worlds_there laws = record {
 one_number : (a b : ℕ) (o : Result ℕ LoadFault) → o ≡ Ok a → o ≡ Ok b → a ≡ b
 one_number a b o h g = let e : Ok a ≡ Ok b = sym h ∙ g in cc
 
-pub offsets_count : OffsetsCount
-offsets_count = record {
-  there = λ l w i raw e legal given. (_, thread_place l w i raw (legal.first e) given);
+pub offsets_count : ThreadPlacesAreKnown → OffsetsCount
+offsets_count laws = record {
+  there = λ l w i raw e legal given. (_, laws.there l w i raw (legal.first e) given);
   less = λ l w i t e legal p.
       (let f = legal.first e in
-      let d = one_number (cast_unsigned w64 f.distance) p.distance (distance_of w w.own_module) (own_distance l w f) p.own in
+      let d = one_number (cast_unsigned w64 f.distance) p.distance (distance_of w w.own_module) (laws.own l w f) p.own in
       (p.raw, p.given, p.sum ∙ ap (λ (n : ℕ). (n + p.raw + (2 ^ 64 - l.tls.start)) % 2 ^ 64) (sym d) ∙ whole l w p.raw f));
 }
   where
     whole : (l : Layout) (w : World) (raw : ℕ) → (f : IsFirstModule l w) → (cast_unsigned w64 f.distance + raw + (2 ^ 64 - l.tls.start)) % 2 ^ 64 ≡ (raw + (2 ^ 64 - thread_pointer l % 2 ^ 64)) % 2 ^ 64
-    whole l w raw f = (let h = thread_sum l w raw 0 f in omega (arith, h))
+    whole l w raw f = (let h = laws.less l w raw 0 f in omega (arith, h))

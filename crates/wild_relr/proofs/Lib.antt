@@ -5,3 +5,4 @@ pub mod PackedLemmas
 pub mod WriterLemmas
 pub mod RunLemmas
 pub mod SpellLemmas
+mod FitLemmas

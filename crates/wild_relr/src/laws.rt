@@ -1,5 +1,5 @@
 //! Laws of packed places.
-ghost use Rattle.wild_relr.specs.Laws.{LengthsOfWords, WordsAreRead};
+ghost use Rattle.wild_relr.specs.Laws.{LengthsOfWords, WordsAreRead, WordsFit};
 ghost use Rattle.wild_relr.specs.Places.{PlacesAreEven};
 ghost use Rattle.wild_relr.specs.Packing.{EachPlaceIsRecorded, RunsAreFollowed};
 ghost use Rattle.wild_relr.specs.Packed.{PiecesArePacked, BlocksHoldTheirSlots, NoBlockHasNoWords, RunsAreRecorded, RunsAreCounted, PiecesAreRecorded, FlatIsARun, RisingRunsKeepOrder};
@@ -56,4 +56,9 @@ pub fn rising_runs_keep_order()
 pub fn words_are_read()
     ensures lengths { LengthsOfWords }
     ensures read { WordsAreRead }
+{}
+
+/// The words of places below 2^64 are below 2^64.
+pub fn words_fit()
+    ensures { WordsFit }
 {}

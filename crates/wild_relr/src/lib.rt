@@ -14,7 +14,7 @@ pub use count::count_words;
 pub use laws::{
     blocks_hold_their_slots, each_place_is_recorded, flat_is_a_run, pieces_are_packed,
     pieces_are_recorded, places_are_even, rising_runs_keep_order, runs_are_counted,
-    runs_are_recorded, words_are_read,
+    runs_are_recorded, words_are_read, words_fit,
 };
 pub use run::{Choice, Run};
 pub use words::block_words;

@@ -13,6 +13,6 @@ returns c = record {
   asked = references_asked;
   blanks = blanks_asked;
   addresses = addresses_move;
-  offsets = offsets_count;
+  offsets = offsets_count c.thread_places_are_known.ensures;
   calls = worked_asked;
 }

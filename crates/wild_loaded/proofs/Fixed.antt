@@ -1,0 +1,45 @@
+-- An image without a dynamic section is loaded; what the file header tells.
+use Rattle.std.proofs.Common.{◌≡◌, refl, ap, ◌∙◌}
+use Rattle.wild_plan.specs.declared.layout.Layout.{Layout}
+use Rattle.wild_headers.specs.Headers.{entry_address, file_type, file_header}
+use Rattle.wild_loader.specs.Laws.{PlainImagesAreLoaded}
+use Rattle.wild_loaded.specs.Memory.{image_memory}
+use Rattle.wild_loaded.specs.Laws.{HeadersTell, SectionsAreStored, ZerosAreStored, FixedImagesAreLoaded}
+use Rattle.wild_loaded.proofs.FileType.{kind_fits, movable_type, plain_fixed, plain_still}
+use Rattle.wild_loaded.proofs.Carried.{kept_is_read}
+use Rattle.wild_loaded.proofs.Loads.{image_machine, image_loads, has_headers}
+use Rattle.wild_loaded.proofs.Stored.{still_section}
+
+-- ---- the file header
+
+entry_is : (l : Layout) → (file_header l).entry ≡ entry_address l.entry
+unfolding file_header
+entry_is l = refl
+
+type_is : (l : Layout) → (file_header l).file_type ≡ file_type l.kind
+unfolding file_header
+type_is l = refl
+
+pub header_told : HeadersTell
+header_told = λ l m k numbers laid.
+    let headers = has_headers l m k numbers laid in
+    record {
+      header = file_header l;
+      fits = headers.fits;
+      stands = headers.file_header;
+      fixed = λ f. type_is l ∙ kind_fits l.kind f;
+      movable = λ f. type_is l ∙ movable_type l.kind f;
+      address = λ a e. entry_is l ∙ ap entry_address e;
+      none = λ e. entry_is l ∙ ap entry_address e;
+    }
+
+-- ---- the image
+
+pub fixed_loaded : PlainImagesAreLoaded → SectionsAreStored → ZerosAreStored → FixedImagesAreLoaded
+fixed_loaded law stored zeros = λ l w m k plain numbers legal laid decisions. record {
+  memory = image_memory l w;
+  accepted = image_loads l w law m k (plain_fixed l.kind k plain) numbers legal laid;
+  machine = image_machine l w m;
+  sections = λ s kept. still_section l w (image_memory l w) s (plain_still l.kind plain) (stored l w s legal laid kept (decisions s kept.input (kept_is_read l s kept)));
+  zeros = λ a b. zeros l w a legal laid b;
+}

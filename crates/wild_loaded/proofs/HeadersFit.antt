@@ -1,0 +1,243 @@
+-- The headers of an image have their fields' ranges, and the loader takes them.
+use Rattle.std.proofs.Common.{◌≡◌, ℕ, zero, suc, ◌+◌, ◌-◌, ◌*◌, ◌/◌, ◌%◌, ◌^◌, ◌<◌, ◌≤◌, inl, inr, Bool, true, false, List, [], ◌∷◌, length, get_or, max, refl, sym, ap, ◌∙◌, arith}
+use Rattle.std.specs.Prelude.{All, drop, if◌then◌else◌, ◌==◌, nat_lt}
+use Rattle.std.specs.Int.RustNames.{bit_and}
+use Rattle.std.proofs.lemmas.Bool.{cases_Bool, eqb-true, ltb-true}
+use Rattle.std.proofs.lemmas.Nat.Bits.{and_pow}
+use Rattle.wild_records.specs.Abi.Header.{em_x86_64}
+use Rattle.wild_records.specs.Abi.Section.{shf_compressed, shn_loreserve, shf_alloc}
+use Rattle.wild_records.specs.Abi.Segment.{pt_load, pt_gnu_stack, pf_x}
+use Rattle.wild_records.specs.FileHeader.{FileHeaderFits}
+use Rattle.wild_records.specs.ProgramHeader.{ProgramHeaderFits}
+use Rattle.wild_records.specs.SectionHeader.{SectionHeaderFits}
+use Rattle.wild_plan.specs.declared.kind.Machine.{Machine}
+use Rattle.wild_plan.specs.declared.kind.Machine.TheVariants as machine
+use Rattle.wild_plan.specs.declared.part.Part.{Part}
+use Rattle.wild_plan.specs.declared.part.Role.{Role}
+use Rattle.wild_plan.specs.declared.part.Role.TheVariants as role
+use Rattle.wild_plan.specs.declared.section.Section.{Section}
+use Rattle.wild_plan.specs.declared.section.Segment.{Segment}
+use Rattle.wild_plan.specs.declared.layout.Layout.{Layout}
+use Rattle.wild_plan.specs.Lists.{total}
+use Rattle.wild_plan.specs.Lookups.{bit}
+use Rattle.wild_plan.specs.Places.{has_role}
+use Rattle.wild_headers.specs.Headers.{machine_number, or_escape, or_none, name_table, section_of_role, file_header, with_execute, program_header, null_header, uncompressed, symbol_table, info_at, section_header, headers_from, section_headers_of}
+use Rattle.wild_layout.specs.Numbers.{NumbersFit, SegmentNumbers, SectionNumbers}
+use Rattle.wild_layout.specs.Geometry.{HasNoEntries}
+use Rattle.wild_meaning.specs.World.{IsLoadable}
+use Rattle.wild_loaded.proofs.Bits.{alloc_bit}
+use Rattle.wild_loaded.proofs.FileType.{type_known, type_fits}
+use Rattle.wild_loader.specs.Headers.{is_loadable_header}
+use Rattle.wild_loader.specs.Laws.{HasNoEntries as NoEntries, told_sections, first_size}
+
+-- ---- bits
+
+compressed_bit : (f : ℕ) → bit f shf_compressed ≡ true → f / shf_compressed % 2 ≡ 1
+unfolding bit
+compressed_bit f h =
+    let a : bit_and f 2048 ≡ f / 2048 % 2 * 2048 = and_pow f 11 in
+    let e : bit_and f 2048 ≡ 2048 = eqb-true _ _ h in
+    omega (arith, a, e)
+
+-- clearing SHF_COMPRESSED leaves SHF_ALLOC
+uncompressed-alloc : (f : ℕ) → uncompressed f / shf_alloc % 2 ≡ f / shf_alloc % 2
+uncompressed-alloc f =
+    elim (cases_Bool (bit f shf_compressed)) [
+      | inl t ↦ (let b : f / 2048 % 2 ≡ 1 = compressed_bit f t in let e : (f - 2048) / 2 % 2 ≡ f / 2 % 2 = omega (arith, b) in rw t e)
+      | inr n ↦ rw n refl
+    ]
+
+uncompressed-le : (f : ℕ) → uncompressed f ≤ f
+uncompressed-le f =
+    elim (cases_Bool (bit f shf_compressed)) [
+      | inl t ↦ rw t (omega arith)
+      | inr n ↦ rw n (omega arith)
+    ]
+
+-- ---- escapes
+
+escape_fits : (n e : ℕ) → e < 2 ^ 16 → or_escape n e < 2 ^ 16
+escape_fits n e h =
+    elim (cases_Bool (nat_lt n shn_loreserve)) [
+      | inl t ↦ (let l = ltb-true _ _ t in rw t (omega (arith, l)))
+      | inr f ↦ rw f h
+    ]
+
+none_fits : (n m : ℕ) → n < m → or_none n < m
+none_fits n m h =
+    elim (cases_Bool (nat_lt n shn_loreserve)) [
+      | inl t ↦ rw t (omega (arith, h))
+      | inr f ↦ rw f h
+    ]
+
+-- the section of the names is one of n
+pub name_table_below : (l : Layout) (n : ℕ) → 1 ≤ n → All (λ (p : Part). p.section < n) l.parts → name_table l < n
+name_table_below l n some h = role_below role.Shstrtab l.parts n some h
+  where
+    role_below : (r : Role) (ps : List Part) (n : ℕ) → 1 ≤ n → All (λ (p : Part). p.section < n) ps → section_of_role r ps < n
+    role_below r [] n some h = some
+    role_below r (p ∷ ps) n some h =
+        elim (cases_Bool (has_role r p)) [
+          | inl t ↦ rw t (h 0 p (omega arith))
+          | inr f ↦ rw f (role_below r ps n some (λ k d l. h (suc k) d (omega arith)))
+        ]
+
+-- the number of sections is told
+pub sections_told : (n : ℕ) → 1 ≤ n → (if or_escape n 0 == 0 then or_none n else or_escape n 0) ≡ n
+sections_told n h =
+    elim (cases_Bool (nat_lt n shn_loreserve)) [
+      | inl t ↦ (let f : (n == 0) ≡ false = not_zero n h in rw (t, f) refl)
+      | inr f ↦ rw f refl
+    ]
+  where
+    not_zero : (n : ℕ) → 1 ≤ n → (n == 0) ≡ false
+    not_zero n h =
+        elim (cases_Bool (n == 0)) [
+          | inl t ↦ absurd (let e = eqb-true n 0 t in omega (arith, e, h))
+          | inr f ↦ f
+        ]
+
+-- ---- the file header
+
+number_is : (m : Machine) → m ≡ machine.X86_64 → machine_number m ≡ em_x86_64
+number_is m e = ap machine_number e
+
+pub file_header_fits : (l : Layout) → l.machine ≡ machine.X86_64 → IsLoadable l.kind → NumbersFit l → length l.segments ≤ 65534 → (file_header l).section_offset < 2 ^ 64 → FileHeaderFits (file_header l)
+unfolding file_header
+file_header_fits l m k numbers few low =
+    let t = type_fits l.kind k in
+    let n = number_is l.machine m in
+    record {
+      front = record { magic = omega arith; class = omega arith; encoding = omega arith; ident_version = omega arith; os_abi = omega arith; abi_version = omega arith; file_type = t };
+      middle = record { machine = omega (arith, n); version = omega arith; entry = numbers.entry; program_offset = omega arith; section_offset = low; flags = omega arith; header_size = omega arith };
+      back = record { program_entry_size = omega arith; program_count = omega (arith, few); section_entry_size = omega arith; section_count = escape_fits (length l.sections) 0 (omega arith); name_table = escape_fits (name_table l) 0xffff (omega arith) };
+    }
+
+pub file_header_loads : (l : Layout) → l.machine ≡ machine.X86_64 → IsLoadable l.kind → is_loadable_header (file_header l) ≡ true
+unfolding file_header
+file_header_loads l m k =
+    elim (type_known l.kind k) [
+      | inl e ↦ rw (e, number_is l.machine m) refl
+      | inr e ↦ rw (e, number_is l.machine m) refl
+    ]
+
+-- ---- program headers
+
+execute_fits : (f : ℕ) → f < 2 ^ 32 → with_execute f < 2 ^ 32
+execute_fits f h =
+    elim (cases_Bool (f / pf_x % 2 == 0)) [
+      | inl t ↦ (let e : f / 1 % 2 ≡ 0 = eqb-true _ _ t in rw t (omega (arith, h, e)))
+      | inr n ↦ rw n h
+    ]
+
+flags_fit : (a b : Bool) (f : ℕ) → f < 2 ^ 32 → (if a then (if b then with_execute f else f) else f) < 2 ^ 32
+flags_fit true true f h = execute_fits f h
+flags_fit true false f h = h
+flags_fit false b f h = h
+
+align_fits : (a b : Bool) (page align : ℕ) → page < 2 ^ 64 → align < 2 ^ 64 → (if a then max page align else (if b then 16 else align)) < 2 ^ 64
+align_fits true b page align p h = omega (arith, p, h)
+align_fits false true page align p h = omega arith
+align_fits false false page align p h = h
+
+pub program_header_fits : (l : Layout) (g : Segment) → l.page_size < 2 ^ 64 → SegmentNumbers g → ProgramHeaderFits (program_header l g)
+unfolding program_header
+program_header_fits l g page n = record {
+  front = record {
+    kind = n.kind;
+    flags = flags_fit (g.kind == pt_gnu_stack) l.options.execstack g.flags n.flags;
+    offset = n.offset;
+    address = n.address;
+    physical = n.physical;
+    file_size = n.file_size;
+    mem_size = n.mem_size;
+  };
+  back = record { align = align_fits (g.kind == pt_load) (g.kind == pt_gnu_stack) l.page_size g.align page n.align };
+}
+
+-- ---- section headers
+
+info_fits : (d i : ℕ) (s : Section) → SectionNumbers s → info_at d i s < 2 ^ 32
+info_fits d i s n =
+    elim (cases_Bool (i == d)) [
+      | inl t ↦ rw t (omega arith)
+      | inr f ↦ rw f n.links.info
+    ]
+
+section_header_fits : (info name : ℕ) (s : Section) → info < 2 ^ 32 → name < 2 ^ 32 → SectionNumbers s → SectionHeaderFits (section_header info name s)
+unfolding section_header
+section_header_fits info name s told h n =
+    let f = uncompressed-le s.flags in
+    let p = n.places.flags in
+    record {
+      front = record { name = h; kind = n.places.kind; flags = omega (arith, f, p); address = n.places.address; offset = n.places.offset; size = n.places.size; link = n.links.link };
+      back = record { info = told; align = n.links.align; entry_size = n.links.entsize };
+    }
+
+null_header_fits : (l : Layout) → length l.sections < 2 ^ 31 → name_table l < 2 ^ 32 → SectionHeaderFits (null_header l)
+unfolding null_header
+null_header_fits l few named =
+    let s = none_fits (length l.sections) (2 ^ 64) (omega (arith, few)) in
+    let n = none_fits (name_table l) (2 ^ 32) named in
+    record {
+      front = record { name = omega arith; kind = omega arith; flags = omega arith; address = omega arith; offset = omega arith; size = s; link = n };
+      back = record { info = omega arith; align = omega arith; entry_size = omega arith };
+    }
+
+All-cons' : {X : Type 0} (P : X → Type 0) (x : X) (xs : List X) → P x → All P xs → All P (x ∷ xs)
+All-cons' P x xs h t = λ k d l. at P x xs h t k d l
+  where
+    at : {X : Type 0} (P : X → Type 0) (x : X) (xs : List X) → P x → All P xs → (k : ℕ) (d : X) → k < length (x ∷ xs) → P (get_or (x ∷ xs) k d)
+    at P x xs h t zero d l = h
+    at P x xs h t (suc k) d l = t k d (omega arith)
+
+headers_fit : (e i name : ℕ) (ss : List Section) → name + total (λ (s : Section). length s.name + 1) ss < 2 ^ 32 → All SectionNumbers ss → All SectionHeaderFits (headers_from e i name ss)
+headers_fit e i name [] h n = λ k d l. absurd (omega arith)
+headers_fit e i name (s ∷ ss) h n =
+    All-cons' SectionHeaderFits (section_header (info_at e i s) name s) (headers_from e (i + 1) (name + length s.name + 1) ss)
+    (section_header_fits (info_at e i s) name s (info_fits e i s (n 0 s (omega arith))) (omega (arith, h)) (n 0 s (omega arith)))
+    (headers_fit e (i + 1) (name + length s.name + 1) ss (omega (arith, h)) (λ k d l. n (suc k) d (omega arith)))
+
+pub section_headers_fit : (l : Layout) (ss : List Section) → length l.sections < 2 ^ 31 → name_table l < 2 ^ 32 → total (λ (s : Section). length s.name + 1) ss < 2 ^ 32 → All SectionNumbers ss → All SectionHeaderFits (section_headers_of l ss)
+section_headers_fit l [] few named h n = λ k d m. absurd (omega arith)
+section_headers_fit l (s ∷ ss) few named h n =
+    All-cons' SectionHeaderFits (null_header l) (headers_from (symbol_table l) 1 (length s.name + 1) ss)
+    (null_header_fits l few named)
+    (headers_fit (symbol_table l) 1 (length s.name + 1) ss (omega (arith, h)) (λ k d m. n (suc k) d (omega arith)))
+
+-- no section header tells entries
+section_static : (info name : ℕ) (s : Section) → HasNoEntries s → NoEntries (section_header info name s)
+unfolding section_header
+section_static info name s h = λ kind flags. h (alloc_bit s.flags (sym (uncompressed-alloc s.flags) ∙ flags)) kind
+
+null_static : (l : Layout) → NoEntries (null_header l)
+unfolding null_header
+null_static l = λ kind flags. absurd (omega (arith, kind))
+
+headers_static : (e i name : ℕ) (ss : List Section) → All HasNoEntries ss → All NoEntries (headers_from e i name ss)
+headers_static e i name [] h = λ k d l. absurd (omega arith)
+headers_static e i name (s ∷ ss) h = All-cons' NoEntries (section_header (info_at e i s) name s) (headers_from e (i + 1) (name + length s.name + 1) ss) (section_static (info_at e i s) name s (h 0 s (omega arith))) (headers_static e (i + 1) (name + length s.name + 1) ss (λ k d l. h (suc k) d (omega arith)))
+
+pub section_headers_static : (l : Layout) (ss : List Section) → All HasNoEntries (drop 1 ss) → All NoEntries (section_headers_of l ss)
+section_headers_static l [] h = λ k d m. absurd (omega arith)
+section_headers_static l (s ∷ ss) h = All-cons' NoEntries (null_header l) (headers_from (symbol_table l) 1 (length s.name + 1) ss) (null_static l) (headers_static (symbol_table l) 1 (length s.name + 1) ss h)
+
+length-headers : (e i name : ℕ) (ss : List Section) → length (headers_from e i name ss) ≡ length ss
+length-headers e i name [] = refl
+length-headers e i name (s ∷ ss) = ap suc (length-headers e (i + 1) (name + length s.name + 1) ss)
+
+pub length-section_headers : (l : Layout) (ss : List Section) → length (section_headers_of l ss) ≡ length ss
+length-section_headers l [] = refl
+length-section_headers l (s ∷ ss) = ap suc (length-headers (symbol_table l) 1 (length s.name + 1) ss)
+
+first_size_is : (l : Layout) (ss : List Section) → 1 ≤ length ss → first_size (section_headers_of l ss) ≡ or_none (length l.sections)
+unfolding null_header
+first_size_is l [] h = absurd (omega (arith, h))
+first_size_is l (s ∷ ss) h = refl
+
+pub headers_told : (l : Layout) → 1 ≤ length l.sections → told_sections (file_header l) (section_headers_of l l.sections) ≡ length (section_headers_of l l.sections)
+unfolding file_header
+headers_told l h =
+    let f = first_size_is l l.sections h in
+    let n = length-section_headers l l.sections in
+    ap (λ (m : ℕ). if or_escape (length l.sections) 0 == 0 then m else or_escape (length l.sections) 0) f ∙ sections_told (length l.sections) h ∙ sym n

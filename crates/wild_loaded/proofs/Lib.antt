@@ -1,0 +1,7 @@
+mod Bits
+mod FileType
+mod HeadersFit
+mod Loads
+mod Carried
+mod Stored
+mod Fixed

@@ -1,0 +1,177 @@
+-- The image of a laid out layout is loaded.
+use Rattle.std.proofs.Common.{◌≡◌, ℕ, zero, suc, ◌+◌, ◌-◌, ◌^◌, ◌<◌, ◌≤◌, inl, inr, true, List, [], ◌∷◌, length, get_or, map, refl, sym, ap, ◌∙◌, arith, subst}
+use Rattle.std.specs.Prelude.{AllPairs, Contains, drop, Ok}
+use Rattle.std.specs.List.{flat_map}
+use Rattle.std.proofs.lemmas.Bool.{cases_lt}
+use Rattle.std.proofs.lemmas.List.{length-map}
+use Rattle.std.proofs.lemmas.List.FromFn.{length-map-range_with_len}
+use Rattle.std.proofs.lemmas.List.Folds.{flat_map-map}
+use Rattle.std.proofs.lemmas.List.Elements.{All-map}
+use Rattle.wild_records.specs.FileHeader.{file_header_size}
+use Rattle.wild_records.specs.Abi.Segment.{pt_load}
+use Rattle.wild_words.specs.Words.{Stands}
+use Rattle.wild_words.specs.Record.{spell}
+use Rattle.wild_words.specs.Overlay.{Piece, AreApart}
+use Rattle.wild_words.proofs.OverlayLemmas.{Stands-overlay, overlay-outside, length-overlay}
+use Rattle.wild_records.specs.ProgramHeader.{ProgramHeaderFits, program_header_fields}
+use Rattle.wild_records.specs.declared.program_header.ProgramHeader.{ProgramHeader}
+use Rattle.wild_plan.specs.declared.kind.Machine.TheVariants as machine
+use Rattle.wild_plan.specs.declared.part.Role.TheVariants as role
+use Rattle.wild_plan.specs.declared.section.Segment.{Segment}
+use Rattle.wild_plan.specs.declared.layout.Layout.{Layout}
+use Rattle.wild_plan.specs.Lookups.{image_size}
+use Rattle.wild_plan.specs.Places.{is_fixed_static}
+use Rattle.wild_headers.specs.Headers.{file_header, program_header, section_headers_of, name_table, offset_of_role, file_header_bytes, program_header_bytes, section_header_bytes}
+use Rattle.wild_layout.specs.Image.{bytes, pieces, padding, padding_byte}
+use Rattle.wild_layout.specs.Numbers.{NumbersFit}
+use Rattle.wild_layout.specs.Geometry.{IsLaidOut, SegmentLoads, IsStatic as StaticSegment, Ascends, IsPiece}
+use Rattle.wild_meaning.specs.World.{IsLoadable as IsLoadableKind, IsLegal}
+use Rattle.wild_loader.specs.declared.world.World.{World}
+use Rattle.wild_loader.specs.declared.memory.Machine.TheVariants as machines
+use Rattle.wild_loader.specs.Load.{load}
+use Rattle.wild_loader.specs.Laws.{HasHeaders, IsLoadable, AreLoadable, Ascends as HeadersAscend, IsStatic, PlainImagesAreLoaded}
+use Rattle.wild_loaded.specs.Owners.{HasOneOwnerEach}
+use Rattle.wild_loaded.specs.Memory.{image_memory}
+use Rattle.wild_loaded.proofs.HeadersFit.{file_header_fits, file_header_loads, name_table_below, program_header_fits, section_headers_fit, section_headers_static, length-section_headers, headers_told}
+
+-- ---- owners
+
+length-padding : (l : Layout) → length (padding l) ≡ image_size l
+unfolding padding
+length-padding l = length-map-range_with_len (padding_byte (drop 1 l.sections)) 0 (image_size l)
+
+apart_in : (l : Layout) → IsLaidOut l → AreApart (length (padding l)) (pieces l)
+apart_in l laid = subst (λ (n : ℕ). AreApart n (pieces l)) (sym (length-padding l)) laid.owners
+
+pub length-bytes : (l : Layout) → IsLaidOut l → length (bytes l) ≡ image_size l
+unfolding bytes
+length-bytes l laid = length-overlay (pieces l) (padding l) (apart_in l laid) ∙ length-padding l
+
+pub piece_stands : (l : Layout) (p : Piece) → IsLaidOut l → Contains (pieces l) p → Stands (bytes l) p.at p.bytes
+unfolding bytes
+piece_stands l p laid c = Stands-overlay p (pieces l) (padding l) (apart_in l laid) c
+
+pub one_owner_each : (l : Layout) → IsLaidOut l → HasOneOwnerEach l
+unfolding bytes
+one_owner_each l laid = record {
+  size = length-bytes l laid;
+  apart = laid.owners;
+  owned = λ p c. piece_stands l p laid c;
+  padded = λ k none. overlay-outside k (pieces l) (padding l) (apart_in l laid) none;
+}
+
+-- ---- tables
+
+-- a table of the image stands at its offset
+table_stands : (l : Layout) (at : ℕ) (bs : List ℕ) → IsLaidOut l → IsPiece l at bs → Stands (bytes l) at bs
+table_stands l at bs laid t =
+    elim (cases_lt 0 (length bs)) [
+      | inl some ↦ piece_stands l (record { at = at; bytes = bs }) laid (t.listed (omega (arith, some)))
+      | inr none ↦ record { fits = let n = length-bytes l laid in let w = t.within in omega (arith, n, w); same = λ k lt. absurd (omega (arith, lt, none)) }
+    ]
+
+segment_headers : Layout → List ProgramHeader
+segment_headers l = map (program_header l) l.segments
+
+programs_stand : (l : Layout) → IsLaidOut l → Stands (bytes l) file_header_size (flat_map (λ (h : ProgramHeader). spell (program_header_fields h)) (map (program_header l) l.segments))
+programs_stand l laid =
+    let st = table_stands l file_header_size (program_header_bytes l) laid laid.tables.program_headers in
+    subst (λ (xs : List ℕ). Stands (bytes l) file_header_size xs) (sym (flat_map-map (λ (h : ProgramHeader). spell (program_header_fields h)) (program_header l) l.segments)) st
+
+headers_offset : (l : Layout) → IsLaidOut l → offset_of_role role.SectionHeaders l.parts < 2 ^ 64
+headers_offset l laid =
+    let within = laid.tables.section_headers.within in
+    let size = laid.size in
+    omega (arith, within, size)
+
+names_low : (l : Layout) → IsLaidOut l → name_table l < 2 ^ 32
+names_low l laid =
+    let below = name_table_below l (length l.sections) laid.some_section laid.named in
+    let few = laid.sections in
+    omega (arith, below, few)
+
+pub has_headers : (l : Layout) → l.machine ≡ machine.X86_64 → IsLoadableKind l.kind → NumbersFit l → IsLaidOut l → HasHeaders (bytes l) (file_header l) (map (program_header l) l.segments) (section_headers_of l l.sections)
+unfolding file_header
+has_headers l m k numbers laid =
+    record {
+      fits = file_header_fits l m k numbers laid.segments (headers_offset l laid);
+      file_header = table_stands l 0 (file_header_bytes l) laid laid.tables.file_header;
+      programs_fit = All-map ProgramHeaderFits (program_header l) l.segments (λ i d lt. program_header_fits l (get_or l.segments i d) numbers.page (numbers.segments i d lt));
+      programs = programs_stand l laid;
+      program_count = sym (length-map l.segments (program_header l));
+      sections_fit = section_headers_fit l l.sections laid.sections (names_low l laid) laid.names numbers.sections;
+      sections = table_stands l (offset_of_role role.SectionHeaders l.parts) (section_header_bytes l) laid laid.tables.section_headers;
+      section_count = headers_told l laid.some_section;
+      some_section = let n = length-section_headers l l.sections in let some = laid.some_section in omega (arith, n, some);
+    }
+
+-- ---- segments
+
+segment_loadable : (l : Layout) (w : World) (g : Segment) → (g.kind ≡ pt_load → w.base + g.address + g.mem_size ≤ 2 ^ 64) → SegmentLoads (image_size l) g → IsLaidOut l → (program_header l g).kind ≡ pt_load → IsLoadable w.base (length (bytes l)) (program_header l g)
+unfolding program_header
+segment_loadable l w g ends h laid k =
+    let n = length-bytes l laid in
+    let file = h.file in
+    record { file = omega (arith, n, file); sizes = h.sizes k; end = ends k }
+
+pub kind_is : (l : Layout) (g : Segment) → (program_header l g).kind ≡ g.kind
+unfolding program_header
+kind_is l g = refl
+
+headers_ascend : (l : Layout) (g h : Segment) → Ascends g h → HeadersAscend (program_header l g) (program_header l h)
+unfolding program_header
+headers_ascend l g h a = a
+
+AllPairs-map : {X Y : Type 0} (R : Y → Y → Type 0) (f : X → Y) (xs : List X) → AllPairs (λ x y. R (f x) (f y)) xs → AllPairs R (map f xs)
+AllPairs-map {X} R f [] h = λ i j d l m. absurd (omega arith)
+AllPairs-map {X} R f (x ∷ xs) h = λ i j d l m. at R f x xs h (AllPairs-map R f xs (λ i j d l m. h (suc i) (suc j) d (omega arith) (omega arith))) i j d l m
+  where
+    at : {X Y : Type 0} (R : Y → Y → Type 0) (f : X → Y) (x : X) (xs : List X) → AllPairs (λ x y. R (f x) (f y)) (x ∷ xs) → AllPairs R (map f xs) → (i j : ℕ) (d : Y) → i < j → j < length (map f (x ∷ xs)) → R (get_or (map f (x ∷ xs)) i d) (get_or (map f (x ∷ xs)) j d)
+    at R f x xs h again i zero d l m = absurd (omega arith)
+    at R f x xs h again (suc i) (suc j) d l m = again i j d (omega arith) (omega arith)
+    at R f x xs h again zero (suc j) d l m = All-map (R (f x)) f xs (λ k e lt. h 0 (suc k) e (omega arith) (omega arith)) j d (omega arith)
+
+pub are_loadable : (l : Layout) (w : World) → IsLegal l w → IsLaidOut l → AreLoadable w.base (bytes l) (map (program_header l) l.segments)
+are_loadable l w legal laid = record {
+  each = All-map (λ (h : ProgramHeader). h.kind ≡ pt_load → IsLoadable w.base (length (bytes l)) h) (program_header l) l.segments (λ i d lt. segment_loadable l w (get_or l.segments i d) (legal.ends i d lt) (laid.loadable.each i d lt) laid);
+  ascend = AllPairs-map HeadersAscend (program_header l) l.segments (λ i j d lt m. headers_ascend l (get_or l.segments i d) (get_or l.segments j d) (laid.loadable.ascend i j d lt m));
+}
+
+-- what a program header tells of a segment
+pub header_from : (l : Layout) (h : Segment) (a : ℕ) → h.address ≤ a → (program_header l h).address ≤ a
+unfolding program_header
+header_from l h a le = le
+
+pub header_to : (l : Layout) (h : Segment) (e : ℕ) → e ≤ h.address + h.file_size → e ≤ (program_header l h).address + (program_header l h).file_size
+unfolding program_header
+header_to l h e le = le
+
+pub header_distance : (l : Layout) (h : Segment) (a place : ℕ) → place ≡ h.offset + (a - h.address) → place ≡ (program_header l h).offset + (a - (program_header l h).address)
+unfolding program_header
+header_distance l h a place e = e
+
+pub Contains-map : {X Y : Type 0} (f : X → Y) (xs : List X) (x : X) → Contains xs x → Contains (map f xs) (f x)
+Contains-map f [] x c = absurd (omega (arith, c.1))
+Contains-map f (z ∷ zs) x c = cases f z zs x c.0 c.1 c.2 (λ c'. Contains-map f zs x c')
+  where
+    cases : {X Y : Type 0} (f : X → Y) (z : X) (zs : List X) (x : X) (k : ℕ) → k < length (z ∷ zs) → get_or (z ∷ zs) k x ≡ x → (Contains zs x → Contains (map f zs) (f x)) → Contains (f z ∷ map f zs) (f x)
+    cases f z zs x zero l e again = (0, omega arith, ap f e)
+    cases f z zs x (suc k) l e again = let c = again (k, omega arith, e) in (suc c.0, omega (arith, c.1), c.2)
+
+segment_static : (l : Layout) (g : Segment) → StaticSegment g → IsStatic (program_header l g)
+unfolding program_header
+segment_static l g h = h
+
+pub image_machine : (l : Layout) (w : World) → l.machine ≡ machine.X86_64 → (image_memory l w).machine ≡ machines.X86_64
+unfolding file_header
+image_machine l w m = rw m refl
+
+-- an image without a dynamic section is its segments
+pub image_loads : (l : Layout) (w : World) → PlainImagesAreLoaded → l.machine ≡ machine.X86_64 → IsLoadableKind l.kind → is_fixed_static l.kind ≡ true → NumbersFit l → IsLegal l w → IsLaidOut l → load w (bytes l) ≡ Ok (image_memory l w)
+image_loads l w law m k f numbers legal laid =
+    law w (bytes l) (file_header l) (map (program_header l) l.segments) (section_headers_of l l.sections)
+    (has_headers l m k numbers laid)
+    (file_header_loads l m k)
+    (are_loadable l w legal laid)
+    (All-map IsStatic (program_header l) l.segments (λ i d lt. segment_static l (get_or l.segments i d) (laid.loadable.static (laid.loadable.fixed f) i d lt)))
+    (section_headers_static l l.sections (laid.loadable.entries f))

@@ -1,0 +1,110 @@
+-- Kept sections in the memory of an image that no entry has changed: their fields, their other bytes, and zeros.
+use Rattle.std.proofs.Common.{◌≡◌, ℕ, ◌+◌, ◌<◌, ◌≤◌, Bool, true, false, not, List, [], ◌∷◌, length, refl, sym, ap, ◌∙◌, arith, subst}
+use Rattle.std.specs.Prelude.{◌&&◌, Some, Ok, Contains, slice_get}
+use Rattle.std.specs.List.{range_with_len}
+use Rattle.std.proofs.lemmas.Option.{slice_get-get_or}
+use Rattle.std.proofs.lemmas.List.FromFn.{get_or-range_with_len, length-range_with_len}
+use Rattle.wild_words.specs.Words.{word, Stands}
+use Rattle.wild_words.specs.Overlay.{Piece, overlay, AreApart}
+use Rattle.wild_words.proofs.OverlayLemmas.{Stands-overlay, overlay-outside, length-overlay}
+use Rattle.wild_plan.specs.declared.section.Segment.{Segment}
+use Rattle.wild_plan.specs.declared.input.InputRelocation.{InputRelocation}
+use Rattle.wild_plan.specs.declared.input.InputSection.{InputSection}
+use Rattle.wild_plan.specs.declared.layout.Layout.{Layout}
+use Rattle.wild_plan.specs.Flags.{has_flag, absolute}
+use Rattle.wild_plan.specs.Kinds.{is_position_independent}
+use Rattle.wild_plan.specs.Treatment.{flags_at}
+use Rattle.wild_reloc.specs.declared.info.RelocationSize.TheVariants.{ByteSize}
+use Rattle.wild_reloc.specs.declared.info.Width.TheVariants.{Eight}
+use Rattle.wild_headers.specs.Headers.{file_header, program_header}
+use Rattle.wild_layout.specs.declared.decision.Decision.{Decision}
+use Rattle.wild_layout.specs.declared.decision.Decision.TheVariants.{Field, Moved}
+use Rattle.wild_layout.specs.Decide.{decided}
+use Rattle.wild_layout.specs.Sites.{Written, written_by, field_site, site, sites}
+use Rattle.wild_layout.specs.Image.{bytes}
+use Rattle.wild_layout.specs.Geometry.{SectionLies}
+use Rattle.wild_layout.proofs.DecideLemmas.{decided_moved}
+use Rattle.wild_layout.proofs.SiteLemmas.{Contains-flat_map, site_written}
+use Rattle.wild_geometry.specs.Loaded.{HasSection, in_file, in_memory}
+use Rattle.wild_loader.specs.declared.memory.Memory.{Memory}
+use Rattle.wild_loader.specs.declared.world.World.{World}
+use Rattle.wild_loader.specs.Headers.{machine_of}
+use Rattle.wild_loader.specs.Memory.{Holds, byte_in}
+use Rattle.wild_loader.specs.Laws.{BytesAreLoaded, ZerosAreLoaded}
+use Rattle.wild_loaded.specs.Memory.{image_memory, headers_of}
+use Rattle.wild_loaded.specs.Laws.{SectionsAreStored, ZerosAreStored}
+use Rattle.wild_loaded.proofs.Carried.{each_at, section_held, section_ends}
+use Rattle.wild_loaded.proofs.Loads.{are_loadable, kind_is, Contains-map}
+
+-- ---- fields
+
+-- what stands in bytes that memory has
+Holds-inner : (m : Memory) (a off : ℕ) (whole part : List ℕ) → Holds m a whole → Stands whole off part → Holds m (a + off) part
+Holds-inner m a off whole part h st = λ k l.
+    let f = st.fits in
+    let e : a + off + k ≡ a + (off + k) = omega arith in
+    rw e (h (off + k) (omega arith) ∙ ap Some (st.same k l))
+
+range-Contains : (n i : ℕ) → i < n → Contains (range_with_len 0 n) i
+range-Contains n i h = let e = length-range_with_len 0 n in let g = get_or-range_with_len 0 n i i h in (i, omega (arith, e, h), omega (arith, g))
+
+-- the field of a relocation stands in the section's bytes
+field_stands : (l : Layout) (s : InputSection) (r : InputRelocation) (d : Decision) (x : Written) → AreApart (length s.bytes) (sites l s) → Contains s.relocations r → decided l s r ≡ Ok d → written_by d ≡ Some x → Stands (overlay (sites l s) s.bytes) r.offset (field_site s r.offset x.size x.value).bytes
+field_stands l s r d x apart c made by =
+    let p = field_site s r.offset x.size x.value in
+    let listed : slice_get s.relocations c.0 ≡ Some r = slice_get-get_or s.relocations c.0 r c.1 ∙ ap Some c.2 in
+    let one : Contains (p ∷ []) p = (0, omega arith, refl) in
+    let here : Contains (site l s c.0) p = subst (λ (ps : List Piece). Contains ps p) (sym (site_written l s c.0 r d x listed made by)) one in
+    Stands-overlay p (sites l s) s.bytes apart (Contains-flat_map (site l s) (range_with_len 0 (length s.relocations)) c.0 p (range-Contains (length s.relocations) c.0 c.1) here)
+
+pub sections_stored : BytesAreLoaded → SectionsAreStored
+sections_stored law = λ l w s legal laid k decisions.
+    let lies = each_at (SectionLies l) l s laid.inputs k.input in
+    let held = section_held l w s law legal laid decisions.apart k lies in
+    let whole = overlay (sites l s) s.bytes in
+    let len = length-overlay (sites l s) s.bytes decisions.apart in
+    record {
+      ends = section_ends l w s legal laid k lies;
+      values = λ r z v c made. Holds-inner (image_memory l w) (w.base + s.address) r.offset whole (field_site s r.offset z v).bytes held (field_stands l s r (Field z v) (record { size = z; value = v }) decisions.apart c made refl);
+      addresses = λ r v packed c made. Holds-inner (image_memory l w) (w.base + s.address) r.offset whole (word 8 (in_file v packed)) held (field_stands l s r (Moved v packed) (record { size = ByteSize Eight; value = in_file v packed }) decisions.apart c made refl);
+      others = λ i lt out. held i (omega (arith, len, lt)) ∙ ap Some (overlay-outside i (sites l s) s.bytes decisions.apart out);
+    }
+
+-- ---- zeros
+
+-- what a program header tells of a segment's end
+header_behind : (l : Layout) (h : Segment) (a : ℕ) → h.address + h.file_size ≤ a → (program_header l h).address + (program_header l h).file_size ≤ a
+unfolding program_header
+header_behind l h a le = le
+
+header_room : (l : Layout) (h : Segment) (e : ℕ) → e ≤ h.address + h.mem_size → e ≤ (program_header l h).address + (program_header l h).mem_size
+unfolding program_header
+header_room l h e le = le
+
+pub zeros_stored : ZerosAreLoaded → ZerosAreStored
+zeros_stored law = λ l w a legal laid b.
+    let to = b.to in
+    let zeros = law (machine_of (file_header l)) w.base (bytes l) (headers_of l) (program_header l b.segment) a 1
+    (are_loadable l w legal laid)
+    (Contains-map (program_header l) l.segments b.segment b.listed)
+    (kind_is l b.segment ∙ b.loads)
+    (header_behind l b.segment a b.from)
+    (header_room l b.segment (a + 1) (omega (arith, to)))
+    in
+    let e : w.base + a + 0 ≡ w.base + a = omega arith in
+    subst (λ (x : ℕ). byte_in (image_memory l w) x ≡ Some 0) e (zeros 0 (omega arith))
+
+-- ---- outputs that do not move
+
+no_address : (l : Layout) (s : InputSection) (r : InputRelocation) (v : ℕ) (packed : Bool) → is_position_independent l.kind ≡ false → decided l s r ≡ Ok (Moved v packed) → ⊥
+no_address l s r v packed still made =
+    let a = decided_moved l s r v packed made in
+    by_tests (is_position_independent l.kind) (not (has_flag (flags_at l a.by.number) absolute)) still a.by.moves
+  where
+    by_tests : (a b : Bool) → a ≡ false → (a && b) ≡ true → ⊥
+    by_tests true b e h = cc
+    by_tests false b e h = cc
+
+-- a section of such an output is in memory as in the file
+pub still_section : (l : Layout) (w : World) (m : Memory) (s : InputSection) → is_position_independent l.kind ≡ false → HasSection l w m s in_file → HasSection l w m s (in_memory w)
+still_section l w m s still h = record { ends = h.ends; values = h.values; addresses = λ r v packed c made. absurd (no_address l s r v packed still made); others = h.others }

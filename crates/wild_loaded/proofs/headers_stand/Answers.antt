@@ -1,0 +1,13 @@
+use Rattle.wild_loaded.proofs.HeadersFit.{file_header_loads}
+use Rattle.wild_loaded.proofs.Loads.{has_headers}
+use Rattle.wild_loaded.proofs.Fixed.{header_told}
+use Rattle.wild_loaded.proofs.headers_stand.Goals as goal
+
+pub returns-clause-stand : goal.returns-clause-stand
+returns-clause-stand c = record {
+  stand = λ l m k numbers laid. has_headers l m k numbers laid;
+  taken = λ l m k. file_header_loads l m k;
+}
+
+pub returns-clause-tell : goal.returns-clause-tell
+returns-clause-tell c = header_told

@@ -1,0 +1,8 @@
+use Rattle.wild_loaded.proofs.Stored.{sections_stored, zeros_stored}
+use Rattle.wild_loaded.proofs.sections_are_stored.Goals as goal
+
+pub returns-clause-sections : goal.returns-clause-sections
+returns-clause-sections c = sections_stored c.bytes_are_loaded.ensures.bytes
+
+pub returns-clause-zeros : goal.returns-clause-zeros
+returns-clause-zeros c = zeros_stored c.bytes_are_loaded.ensures.zeros

@@ -1,0 +1,53 @@
+-- The memory that a loader makes of an image.
+--   headers_of l       the program headers of the image
+--   image_memory l w   its loaded segments in a world, before any entry is applied
+--   IsStored l s       the section's bytes stand in the file, and loaded segments carry each to its address
+--   EachDecided l      each section that is read is decided
+--   HasMemory l w      the loader accepts the image, and memory has each kept section as it was decided
+use Rattle.std.specs.Prelude.{◌≡◌, ℕ, ◌+◌, ◌<◌, true, List, length, map, Some, Ok}
+use Rattle.wild_records.specs.declared.program_header.ProgramHeader.{ProgramHeader}
+use Rattle.wild_plan.specs.declared.input.InputSection.{InputSection}
+use Rattle.wild_plan.specs.declared.layout.Layout.{Layout}
+use Rattle.wild_plan.specs.declared.section.Segment.{Segment}
+use Rattle.wild_plan.specs.Lookups.{is_read, is_filled}
+use Rattle.wild_headers.specs.Headers.{file_header, program_header}
+use Rattle.wild_layout.specs.Sites.{section_bytes}
+use Rattle.wild_layout.specs.Image.{bytes}
+use Rattle.wild_layout.specs.Geometry.{IsCarried}
+use Rattle.wild_geometry.specs.Loaded.{IsDecided, HasSection, in_memory}
+use Rattle.wild_loader.specs.declared.memory.Machine.TheVariants as machines
+use Rattle.wild_loader.specs.declared.memory.Memory.{Memory}
+use Rattle.wild_loader.specs.declared.world.World.{World}
+use Rattle.wild_loader.specs.Headers.{machine_of}
+use Rattle.wild_loader.specs.Load.{load}
+use Rattle.wild_loader.specs.Memory.{byte_in}
+use Rattle.wild_loader.specs.Laws.{loaded_memory}
+use Rattle.wild_meaning.specs.Item.{IsInput, IsKeptSection}
+use Rattle.wild_meaning.specs.Linked.{IsBehind}
+
+-- the section has bytes in the file, as many as it has room for, and each is carried to its address
+pub record IsStored (l : Layout) (s : InputSection) : Type 0 where
+  pub filled : is_filled l s ≡ true
+  pub full : length (section_bytes l s) ≡ s.size
+  pub carried : (k : ℕ) → k < s.size → (h : Segment) × IsCarried l s k h
+
+-- the program headers of the image, one a segment
+abbrev pub headers_of : Layout → List ProgramHeader
+headers_of l = map (program_header l) l.segments
+
+-- the loaded segments of the image, at the world's base
+abbrev pub image_memory : Layout → World → Memory
+image_memory l w = loaded_memory (machine_of (file_header l)) w.base (bytes l) (headers_of l)
+
+-- each section whose relocations are read has decisions that lie apart
+abbrev pub EachDecided : Layout → Type 0
+EachDecided l = (s : InputSection) → IsInput l s → is_read s ≡ true → IsDecided l s
+
+-- the loader accepts the image; memory has each kept section as it was decided, addresses that move more by the base, and
+-- zeros behind the file bytes of segments
+pub record HasMemory (l : Layout) (w : World) : Type 0 where
+  pub memory : Memory
+  pub accepted : load w (bytes l) ≡ Ok memory
+  pub machine : memory.machine ≡ machines.X86_64
+  pub sections : (s : InputSection) → IsKeptSection l s → HasSection l w memory s (in_memory w)
+  pub zeros : (a : ℕ) → IsBehind l a → byte_in memory (w.base + a) ≡ Some 0

@@ -1,0 +1,44 @@
+//! What a loader makes of the image of a laid out layout before any entry is applied.
+#![tactic(auto)]
+
+ghost use Rattle.wild_loaded.specs.Laws.{FixedImagesAreLoaded, HeadersStand, HeadersTell, OwnersAreKnown, SectionsAreCarried, SectionsAreStored, SegmentsAreLoadable, ZerosAreStored};
+
+use wild_loader::{bytes_are_loaded, static_images_are_loaded};
+
+/// Each piece stands in the image, no byte is of two pieces, and a byte that no piece holds is padding.
+pub fn owners_are_known()
+    ensures { OwnersAreKnown }
+{}
+
+/// A reader finds each header where the file header tells, and a loader takes them; they tell the output's type, and
+/// where the program begins.
+pub fn headers_stand()
+    ensures stand { HeadersStand }
+    ensures tell { HeadersTell }
+{}
+
+/// In a legal world the segments can be loaded.
+pub fn segments_are_loadable()
+    ensures { SegmentsAreLoadable }
+{}
+
+/// A kept section that has bytes has them in the file, and loaded segments carry each to its address.
+pub fn sections_are_carried()
+    ensures { SectionsAreCarried }
+{}
+
+/// The memory of the loaded segments has each kept section as the file has it, and zeros behind the file bytes.
+pub fn sections_are_stored()
+    ensures sections { SectionsAreStored }
+    ensures zeros { ZerosAreStored }
+{
+    bytes_are_loaded();
+}
+
+/// The loader accepts an image without a dynamic section, and memory has each kept section as it was decided.
+pub fn fixed_images_are_loaded()
+    ensures { FixedImagesAreLoaded }
+{
+    static_images_are_loaded();
+    sections_are_stored();
+}

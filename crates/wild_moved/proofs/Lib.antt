@@ -1,0 +1,13 @@
+mod PairLemmas
+mod SectionsApart
+mod PlacesApart
+mod MovedPlaces
+mod MovedSections
+mod MovedMemory
+mod RelativeOrder
+mod RelativeMemory
+mod MovedLoaded
+mod MovedTables
+mod TableBytes
+mod MovedImages
+mod Moving

@@ -1,0 +1,181 @@
+-- The dynamic section of an image, and the tables that it names.
+use Rattle.std.proofs.Common.{◌≡◌, ℕ, suc, ◌+◌, ◌-◌, ◌*◌, ◌/◌, ◌≤◌, inl, inr, true, List, [], ◌∷◌, ◌++◌, length, map, replicate, refl, sym, ap, ◌∙◌, arith, subst}
+use Rattle.std.specs.Prelude.{Option, Some, None, Contains, ◌==◌}
+use Rattle.std.specs.List.{flat_map}
+use Rattle.std.proofs.lemmas.Bool.{cases_Bool}
+use Rattle.std.proofs.lemmas.List.{length-append, length-replicate}
+use Rattle.std.proofs.lemmas.List.Elements.{All-contains}
+use Rattle.wild_words.specs.Words.{Stands}
+use Rattle.wild_words.proofs.OverlayLemmas.{Stands-inner}
+use Rattle.wild_records.specs.Abi.Segment.{pt_dynamic}
+use Rattle.wild_records.specs.Dynamic.{dynamic_entry_size}
+use Rattle.wild_records.specs.declared.dynamic.DynamicEntry.{DynamicEntry}
+use Rattle.wild_records.specs.declared.program_header.ProgramHeader.{ProgramHeader}
+use Rattle.wild_plan.specs.declared.part.Part.{Part}
+use Rattle.wild_plan.specs.declared.part.Role.TheVariants as role
+use Rattle.wild_plan.specs.declared.section.Segment.{Segment}
+use Rattle.wild_plan.specs.declared.layout.Layout.{Layout}
+use Rattle.wild_plan.specs.declared.dynamic.DynamicTag.TheVariants as tags
+use Rattle.wild_plan.specs.Dynamic.{dynamic_number, dynamic_entry, dynamic_flags, dynamic_entries, dynamic_count}
+use Rattle.wild_plan.specs.Segments.{part_with}
+use Rattle.wild_plan.specs.Kinds.{needs_dynamic}
+use Rattle.wild_plan.specs.Lookups.{image_size}
+use Rattle.wild_headers.specs.Headers.{program_header}
+use Rattle.wild_layout.specs.Image.{bytes}
+use Rattle.wild_layout.specs.Numbers.{NumbersFit}
+use Rattle.wild_layout.specs.Geometry.{IsLaidOut, SegmentLoads, first_dynamic, table_bytes, TablesStand}
+use Rattle.wild_layout.specs.Content.{dynamic_room}
+use Rattle.wild_loader.specs.Tables.{first_dynamic as found_dynamic, tagged}
+use Rattle.wild_loader.specs.Laws.{HasDynamic, HasTables, IsTableOf, word_bytes, rela_bytes, before_null}
+use Rattle.wild_tables.specs.Dynamic.{dynamic_records, dynamic_bytes, entries_bytes, LengthsOfDynamic, RecordsStand, RecordsFit, EntriesAreFound, TablesAreNamed}
+use Rattle.wild_relr.specs.Laws.{WordsFit}
+use Rattle.wild_loaded.specs.Laws.{OwnersAreKnown}
+use Rattle.wild_moved.specs.Tables.{tables_of}
+use Rattle.wild_moved.specs.Laws.{TablesAreFound}
+use Rattle.wild_moved.proofs.MovedTables.{entries_fit, words_fit}
+use Rattle.wild_moved.proofs.TableBytes.{words_are, entries_are, words_named, entries_named}
+
+-- what the crates below owe of a dynamic section
+pub record DynamicLaws : Type 0 where
+  pub stand : TablesStand
+  pub lengths : LengthsOfDynamic
+  pub records : RecordsStand
+  pub fit : RecordsFit
+  pub found : EntriesAreFound
+  pub named : TablesAreNamed
+  pub owners : OwnersAreKnown
+  pub words : WordsFit
+
+-- ---- the part of the dynamic section
+
+-- the dynamic section is there, with the last file's entries and the room behind them
+pub record HasDynamicPart (l : Layout) : Type 0 where
+  pub part : Part
+  pub there : part_with role.Dynamic l.parts ≡ Some part
+  pub some : 1 ≤ part.size
+  pub room : dynamic_entry_size * dynamic_count l ≤ part.size
+  pub bytes : table_bytes l role.Dynamic ≡ dynamic_bytes l part.size
+
+no_tag : (n : ℕ) → tagged n [] ≡ None
+unfolding tagged
+no_tag n = refl
+
+-- some entry is there: DT_FLAGS is one of them
+some_entry : (l : Layout) → EntriesAreFound → needs_dynamic l.kind ≡ true → 1 ≤ dynamic_count l
+unfolding dynamic_entry
+some_entry l law needs = by_entries (dynamic_entries l) (law l [] tags.Flags needs (λ e. cc))
+  where
+    by_entries : (ds : List DynamicEntry) → tagged (dynamic_number tags.Flags) (before_null (ds ++ [])) ≡ Some (dynamic_flags l.kind l.options) → 1 ≤ length ds
+    by_entries [] h = (let e : None ≡ Some (dynamic_flags l.kind l.options) = sym (no_tag (dynamic_number tags.Flags)) ∙ h in cc)
+    by_entries (d ∷ ds) h = omega arith
+
+abbrev zeroed : ℕ
+zeroed = 0
+
+-- the entries' bytes
+entries_length : (l : Layout) → LengthsOfDynamic → length (entries_bytes (dynamic_entries l)) ≡ dynamic_entry_size * dynamic_count l
+entries_length l law =
+    let n = dynamic_entry_size * dynamic_count l in
+    let whole = law l n (omega arith) in
+    let parts = length-append (entries_bytes (dynamic_entries l)) (replicate (n - n) zeroed) in
+    let rest = length-replicate (n - n) zeroed in
+    omega (arith, whole, parts, rest)
+
+dynamic_part : (l : Layout) → LengthsOfDynamic → EntriesAreFound → IsLaidOut l → needs_dynamic l.kind ≡ true → HasDynamicPart l
+dynamic_part l lengths found laid needs =
+    let p = laid.loadable.movable needs in
+    let whole = laid.dynamic needs in
+    let size = ((laid.roles role.Dynamic (λ e. cc)).there p.0 p.1).size in
+    let bytes = ap (λ (bs : List ℕ). length bs) whole in
+    let n = dynamic_entry_size * dynamic_count l in
+    let front = entries_length l lengths in
+    let parts = length-append (entries_bytes (dynamic_entries l)) (replicate (dynamic_room l - n) zeroed) in
+    let rest = length-replicate (dynamic_room l - n) zeroed in
+    let count = some_entry l found needs in
+    let same : p.0.size - n ≡ dynamic_room l - n = omega (arith, size, bytes, front, parts, rest) in
+    record {
+      part = p.0;
+      there = p.1;
+      some = omega (arith, size, bytes, front, parts, rest, count);
+      room = omega (arith, size, bytes, front, parts, rest);
+      bytes = whole ∙ ap (λ (k : ℕ). entries_bytes (dynamic_entries l) ++ replicate k 0) (sym same);
+    }
+
+-- ---- the segment of the dynamic section
+
+kind_test : (l : Layout) (g : Segment) → ((program_header l g).kind == pt_dynamic) ≡ (g.kind == pt_dynamic)
+unfolding program_header
+kind_test l g = refl
+
+first_header : (l : Layout) (gs : List Segment) (g : Segment) → first_dynamic gs ≡ Some g → found_dynamic (map (program_header l) gs) ≡ Some (program_header l g)
+unfolding found_dynamic
+first_header l [] g h = cc
+first_header l (x ∷ xs) g h =
+    let same = kind_test l x in
+    elim (cases_Bool (x.kind == pt_dynamic)) [
+      | inl t ↦ (let e : Some x ≡ Some g = rw t at h in let is : x ≡ g = cc in rw (same, t) (ap (λ (s : Segment). Some (program_header l s)) is))
+      | inr f ↦ (let e : first_dynamic xs ≡ Some g = rw f at h in rw (same, f) (first_header l xs g e))
+    ]
+
+segment_place : (l : Layout) (g : Segment) → ((program_header l g).offset ≡ g.offset) × ((program_header l g).file_size ≡ g.file_size)
+unfolding program_header
+segment_place l g = (refl, refl)
+
+first_listed : (gs : List Segment) (g : Segment) → first_dynamic gs ≡ Some g → Contains gs g
+first_listed [] g h = cc
+first_listed (x ∷ xs) g h =
+    elim (cases_Bool (x.kind == pt_dynamic)) [
+      | inl t ↦ (let e : Some x ≡ Some g = rw t at h in let is : x ≡ g = cc in (0, omega arith, is))
+      | inr f ↦ (let e : first_dynamic xs ≡ Some g = rw f at h in let c = first_listed xs g e in (suc c.0, omega (arith, c.1), c.2))
+    ]
+
+-- ---- the dynamic section
+
+has_dynamic : (l : Layout) → DynamicLaws → NumbersFit l → IsLaidOut l → (d : HasDynamicPart l) → HasDynamic (bytes l) (map (program_header l) l.segments) (dynamic_records l d.part.size)
+has_dynamic l laws numbers laid d =
+    let s = laid.loadable.dynamic d.part d.there in
+    let place = segment_place l s.segment in
+    let c = first_listed l.segments s.segment s.first in
+    let file = (All-contains (SegmentLoads (image_size l)) l.segments s.segment laid.loadable.each c).file in
+    let n = (laws.owners l laid).size in
+    let at = laws.records l d.part.size d.room in
+    let offset = place.0 ∙ s.offset in
+    let size = place.1 ∙ s.file_size in
+    let o = place.0 in
+    let z = place.1 in
+    let here = laws.stand l laid role.Dynamic (λ e. cc) d.part d.there d.some in
+    let whole = subst (λ (bs : List ℕ). Stands (bytes l) d.part.offset bs) d.bytes here in
+    let inner = Stands-inner (bytes l) (dynamic_bytes l d.part.size) (entries_bytes (dynamic_records l d.part.size)) d.part.offset 0 whole at.stand in
+    let nothing : d.part.offset + 0 ≡ (program_header l s.segment).offset = (let f : d.part.offset + 0 ≡ d.part.offset = omega arith in f ∙ sym offset) in
+    record {
+      segment = program_header l s.segment;
+      first = first_header l l.segments s.segment s.first;
+      room = omega (arith, file, n, o, z);
+      count = ap (λ (k : ℕ). k / dynamic_entry_size) size ∙ at.count;
+      fits = laws.fit l d.part.size numbers.dynamic;
+      entries = subst (λ (a : ℕ). Stands (bytes l) a (entries_bytes (dynamic_records l d.part.size))) nothing inner;
+    }
+
+-- ---- the tables
+
+table_of : (image : List ℕ) (hs : List ProgramHeader) (a b c d : Option ℕ) (xs ys : List ℕ) → c ≡ a → d ≡ b → xs ≡ ys → IsTableOf image hs a b xs → IsTableOf image hs c d ys
+table_of image hs a b c d xs ys e f g h =
+    subst (λ (o : Option ℕ). IsTableOf image hs o d ys) (sym e) (subst (λ (o : Option ℕ). IsTableOf image hs a o ys) (sym f) (subst (λ (bs : List ℕ). IsTableOf image hs a b bs) g h))
+
+has_tables : (l : Layout) (room : ℕ) → DynamicLaws → IsLaidOut l → needs_dynamic l.kind ≡ true → HasTables (bytes l) (map (program_header l) l.segments) (dynamic_records l room) (tables_of l)
+has_tables l room laws laid needs =
+    let hs = map (program_header l) l.segments in
+    let n = laws.named l room needs in
+    record {
+      words_fit = words_fit l laws.words;
+      words = table_of (bytes l) hs (dynamic_entry l tags.Relr) (dynamic_entry l tags.RelrSize) _ _ (table_bytes l role.RelrDyn) (flat_map word_bytes (tables_of l).words) n.words n.words_size (words_are l) (words_named l laws.stand laid needs);
+      entries_fit = entries_fit l;
+      entries = table_of (bytes l) hs (dynamic_entry l tags.Rela) (dynamic_entry l tags.RelaSize) _ _ (table_bytes l role.RelaDynRelative) (flat_map rela_bytes (tables_of l).entries) n.entries n.entries_size (entries_are l) (entries_named l laws.stand laid needs);
+      jumps_fit = λ k e m. absurd (omega (arith, m));
+      jumps = table_of (bytes l) hs None None _ _ [] [] n.jumps n.jumps_size refl refl;
+    }
+
+pub tables_found : DynamicLaws → TablesAreFound
+tables_found laws = λ l needs numbers laid.
+    let d = dynamic_part l laws.lengths laws.found laid needs in
+    record { entries = dynamic_records l d.part.size; dynamic = has_dynamic l laws numbers laid d; tables = has_tables l d.part.size laws laid needs }

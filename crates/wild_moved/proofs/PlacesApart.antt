@@ -1,0 +1,118 @@
+-- Places of eight bytes in kept sections lie beside each other in memory.
+use Rattle.std.proofs.Common.{◌≡◌, ℕ, zero, suc, ◌+◌, ◌-◌, ◌<◌, ◌≤◌, ◌⊎◌, inl, inr, List, [], ◌∷◌, length, get_or, refl, sym, ap, ◌∙◌, arith, subst}
+use Rattle.std.specs.Prelude.{All, AllPairs, Contains}
+use Rattle.std.specs.List.{flat_map}
+use Rattle.std.proofs.lemmas.Bool.{cases_lt}
+use Rattle.wild_words.specs.Overlay.{Piece, Apart}
+use Rattle.wild_plan.specs.declared.input.InputSection.{InputSection}
+use Rattle.wild_plan.specs.declared.layout.Layout.{Layout}
+use Rattle.wild_layout.specs.Image.{section_piece}
+use Rattle.wild_layout.specs.Geometry.{IsLaidOut}
+use Rattle.wild_loader.specs.EntryLaws.{AreBeside}
+use Rattle.wild_moved.proofs.PairLemmas.{All-join, AllPairs-joining, Across, at_places}
+use Rattle.wild_loaded.specs.Memory.{IsStored}
+use Rattle.wild_moved.proofs.SectionsApart.{all_sections, section_pieces_apart, addresses_differ}
+
+-- the address lies outside the eight bytes at a place
+abbrev pub IsOutside : ℕ → ℕ → Type 0
+IsOutside a b = (a < b) ⊎ (b + 8 ≤ a)
+
+-- the eight bytes at a place lie in the section
+pub record LiesIn (s : InputSection) (a : ℕ) : Type 0 where
+  pub from : s.address ≤ a
+  pub to : a + 8 ≤ s.address + s.size
+
+-- places in sections that are stored, beside each other in each
+pub record HavePlaces (l : Layout) (of : InputSection → List ℕ) : Type 0 where
+  pub stored : All (λ (s : InputSection). 1 ≤ length (of s) → IsStored l s) (all_sections l)
+  pub within : All (λ (s : InputSection). All (LiesIn s) (of s)) (all_sections l)
+  pub beside : All (λ (s : InputSection). AllPairs AreBeside (of s)) (all_sections l)
+
+-- ---- two sections
+
+-- the places of two sections whose pieces are apart
+beside_across : (l : Layout) (s t : InputSection) (a b : ℕ) → IsLaidOut l → IsStored l s → IsStored l t → Across Apart (section_piece l) s t → LiesIn s a → LiesIn t b → AreBeside a b
+beside_across l s t a b laid ss st across la lb =
+    let af = la.from in
+    let ae = la.to in
+    let bf = lb.from in
+    let be = lb.to in
+    elim (cases_lt b (a + 8)) [
+      | inr ge ↦ inl ge
+      | inl lt ↦ elim (cases_lt a (b + 8)) [
+        | inr ge ↦ inr ge
+        | inl gt ↦ elim (cases_lt a b) [
+          | inl up ↦ absurd (addresses_differ l s t (b - s.address) (b - t.address) laid ss st across (omega (arith, af, ae, lt, up)) (omega (arith, bf, be)) (omega (arith, af, bf, up)))
+          | inr down ↦ absurd (addresses_differ l s t (a - s.address) (a - t.address) laid ss st across (omega (arith, af, ae)) (omega (arith, bf, be, gt, down)) (omega (arith, af, bf, down)))
+        ]
+      ]
+    ]
+
+-- a byte of one section and a place of the other
+outside_across : (l : Layout) (s t : InputSection) (k b : ℕ) → IsLaidOut l → IsStored l s → IsStored l t → Across Apart (section_piece l) s t → k < s.size → LiesIn t b → IsOutside (s.address + k) b
+outside_across l s t k b laid ss st across below lb =
+    let bf = lb.from in
+    let be = lb.to in
+    elim (cases_lt (s.address + k) b) [
+      | inl lt ↦ inl lt
+      | inr ge ↦ elim (cases_lt (s.address + k) (b + 8)) [
+        | inr le ↦ inr le
+        | inl lt ↦ absurd (addresses_differ l s t k (s.address + k - t.address) laid ss st across below (omega (arith, bf, be, ge, lt)) (omega (arith, bf, ge)))
+      ]
+    ]
+
+across_back : (l : Layout) (s t : InputSection) → Across Apart (section_piece l) s t → Across Apart (section_piece l) t s
+across_back l s t a = λ k d m i e n. back (get_or (section_piece l s) i e) (get_or (section_piece l t) k d) (a i e n k d m)
+  where
+    back : (p q : Piece) → Apart p q → Apart q p
+    back p q (inl h) = inr h
+    back p q (inr h) = inl h
+
+-- ---- all sections
+
+some_place : (xs : List ℕ) (i : ℕ) → i < length xs → 1 ≤ length xs
+some_place xs i h = omega (arith, h)
+
+-- all places lie beside each other
+pub places_beside : (l : Layout) (of : InputSection → List ℕ) → IsLaidOut l → HavePlaces l of → AllPairs AreBeside (flat_map of (all_sections l))
+places_beside l of laid h =
+    let apart = section_pieces_apart l laid.owners.apart in
+    AllPairs-joining AreBeside of (all_sections l) h.beside
+    (λ i j d lt m. (λ k e n p f q.
+    beside_across l (get_or (all_sections l) i d) (get_or (all_sections l) j d) (get_or (of (get_or (all_sections l) i d)) k e) (get_or (of (get_or (all_sections l) j d)) p f) laid
+    (h.stored i d (omega (arith, lt, m)) (some_place _ k n))
+    (h.stored j d m (some_place _ p q))
+    (apart i j d lt m)
+    (h.within i d (omega (arith, lt, m)) k e n)
+    (h.within j d m p f q)))
+
+pub get_or-any : {X : Type 0} (xs : List X) (k : ℕ) (d e : X) → k < length xs → get_or xs k d ≡ get_or xs k e
+get_or-any [] k d e h = absurd (omega arith)
+get_or-any (x ∷ xs) zero d e h = refl
+get_or-any (x ∷ xs) (suc k) d e h = get_or-any xs k d e (omega arith)
+
+-- a byte outside the places of its own section is outside all places
+pub outside_all : (l : Layout) (of : InputSection → List ℕ) (s : InputSection) (k : ℕ) → IsLaidOut l → HavePlaces l of → Contains (all_sections l) s → IsStored l s → k < s.size → All (IsOutside (s.address + k)) (of s) → All (IsOutside (s.address + k)) (flat_map of (all_sections l))
+outside_all l of s k laid h c stored below own =
+    All-join (IsOutside (s.address + k)) of (all_sections l)
+    (λ j d m. elim (same_place j c.0) [
+      | inl e ↦ (let here : get_or (all_sections l) j d ≡ s = get_or-any (all_sections l) j d s m ∙ ap (λ (i : ℕ). get_or (all_sections l) i s) e ∙ c.2 in subst (λ (t : InputSection). All (IsOutside (s.address + k)) (of t)) (sym here) own)
+      | inr other ↦ there l of s k laid h c stored below j d m other
+    ])
+  where
+    same_place : (i j : ℕ) → (i ≡ j) ⊎ (i ≡ j → ⊥)
+    same_place i j =
+        elim (cases_lt i j) [
+          | inl lt ↦ inr (λ e. omega (arith, e, lt))
+          | inr ge ↦ elim (cases_lt j i) [
+            | inl lt ↦ inr (λ e. omega (arith, e, lt))
+            | inr le ↦ inl (omega (arith, ge, le))
+          ]
+        ]
+
+    there : (l : Layout) (of : InputSection → List ℕ) (s : InputSection) (k : ℕ) → IsLaidOut l → HavePlaces l of → (c : Contains (all_sections l) s) → IsStored l s → k < s.size → (j : ℕ) (d : InputSection) → j < length (all_sections l) → (j ≡ c.0 → ⊥) → All (IsOutside (s.address + k)) (of (get_or (all_sections l) j d))
+    there l of s k laid h c stored below j d m other =
+        let pair = at_places (Across Apart (section_piece l)) (all_sections l) (across_back l) (section_pieces_apart l laid.owners.apart) c.0 j d (λ e. other (sym e)) c.1 m in
+        let here : get_or (all_sections l) c.0 d ≡ s = get_or-any (all_sections l) c.0 d s c.1 ∙ c.2 in
+        let across = subst (λ (t : InputSection). Across Apart (section_piece l) t (get_or (all_sections l) j d)) here pair in
+        λ p f q. outside_across l s (get_or (all_sections l) j d) k (get_or (of (get_or (all_sections l) j d)) p f) laid stored (h.stored j d m (some_place _ p q)) across below (h.within j d m p f q)

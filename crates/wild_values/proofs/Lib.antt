@@ -1,0 +1,17 @@
+mod Tests
+mod Bits
+mod KnownRows
+mod Written
+mod Sections
+mod Fields
+mod Moves
+mod Values
+mod Symbols
+mod ThreadValues
+mod Treated
+mod ValueKinds
+mod ThreadKinds
+mod AddressKinds
+mod References
+mod Effects
+mod WholeSections

@@ -1,0 +1,166 @@
+-- The writer's value of a symbol is the symbol's address.
+use Rattle.std.proofs.Common.{◌≡◌, ℕ, suc, ◌+◌, ◌%◌, ◌^◌, ◌<◌, ◌≤◌, ◌⊎◌, inl, inr, Bool, true, false, List, [], ◌∷◌, refl, sym, ap, ◌∙◌, arith, subst}
+use Rattle.std.specs.Prelude.{Option, Some, None, Contains, slice_get, option_and_then, option_map, not, ◌&&◌, ◌==◌, nat_le, nat_lt}
+use Rattle.std.specs.List.{flat_map}
+use Rattle.std.proofs.lemmas.Bool.{cases_Bool, ne_eqb, leb-true, ltb-true}
+use Rattle.std.proofs.lemmas.List.Elements.{Contains-append_cases}
+use Rattle.wild_plan.specs.declared.symbol.Place.{Place}
+use Rattle.wild_plan.specs.declared.symbol.Place.TheVariants as at
+use Rattle.wild_plan.specs.declared.symbol.Symbol.{Symbol}
+use Rattle.wild_plan.specs.declared.symbol.Resolution.{Resolution}
+use Rattle.wild_plan.specs.declared.input.Slot.{Slot}
+use Rattle.wild_plan.specs.declared.input.Slot.TheVariants as slot
+use Rattle.wild_plan.specs.declared.input.InputSection.{InputSection}
+use Rattle.wild_plan.specs.declared.file.File.{File}
+use Rattle.wild_plan.specs.declared.file.Group.{Group}
+use Rattle.wild_plan.specs.declared.layout.Layout.{Layout}
+use Rattle.wild_plan.specs.Lookups.{canonical, has_address, is_discarded, files_of, file_of, is_allocated_part}
+use Rattle.wild_layout.specs.Values.{raw_value, resolved_or, placed_value, address_at, address_in_file, address_in_section}
+use Rattle.wild_meaning.specs.Section.{IsAllocatedPart, IsPlaced}
+use Rattle.wild_meaning.specs.Value.{IsSymbol, IsDefinedBy, IsOwnFile, StandsAt, IsResolved, IsUnresolved, HasRaw}
+use Rattle.wild_values.proofs.Bits.{alloc_bit}
+use Rattle.wild_values.proofs.Tests.{both_of, either_of}
+
+-- ---- the own file of a symbol
+
+pub record IsFoundIn (files : List File) (i : ℕ) (f : File) : Type 0 where
+  pub listed : Contains files f
+  pub from : f.first_symbol ≤ i
+  pub to : i < f.first_symbol + f.symbol_count
+
+found_later : (g : File) (files : List File) (i : ℕ) (f : File) → IsFoundIn files i f → IsFoundIn (g ∷ files) i f
+found_later g files i f h = record { listed = (suc h.listed.0, omega (arith, h.listed.1), h.listed.2); from = h.from; to = h.to }
+
+file_of-found : (files : List File) (i : ℕ) (f : File) → file_of files i ≡ Some f → IsFoundIn files i f
+file_of-found [] i f h = cc
+file_of-found (g ∷ files) i f h =
+    elim (cases_Bool (nat_le g.first_symbol i && nat_lt i (g.first_symbol + g.symbol_count))) [
+      | inl t ↦ here g files i f (both_of _ _ t) (rw t at h)
+      | inr n ↦ found_later g files i f (file_of-found files i f (rw n at h))
+    ]
+  where
+    here : (g : File) (files : List File) (i : ℕ) (f : File) → (nat_le g.first_symbol i ≡ true) × (nat_lt i (g.first_symbol + g.symbol_count) ≡ true) → Some g ≡ Some f → IsFoundIn (g ∷ files) i f
+    here g files i f t e =
+        let same : g ≡ f = cc in
+        subst (λ (x : File). IsFoundIn (g ∷ files) i x) same (record { listed = (0, omega arith, refl); from = leb-true _ _ t.0; to = ltb-true _ _ t.1 })
+
+-- an item of a list of lists is an item of one of them
+pub Contains-from_flat_map : {X Y : Type 0} (f : X → List Y) (xs : List X) (y : Y) → Contains (flat_map f xs) y → (x : X) × Contains xs x × Contains (f x) y
+Contains-from_flat_map f [] y c = absurd (omega (arith, c.1))
+Contains-from_flat_map {X} f (x ∷ xs) y c =
+    elim (Contains-append_cases (f x) (flat_map f xs) y c) [
+      | inl here ↦ (x, (0, omega arith, refl), here)
+      | inr there ↦ later x xs (Contains-from_flat_map f xs y there)
+    ]
+  where
+    later : (x : X) (xs : List X) → (z : X) × Contains xs z × Contains (f z) y → (z : X) × Contains (x ∷ xs) z × Contains (f z) y
+    later x xs h = (h.0, (suc h.1.0, omega (arith, h.1.1), h.1.2), h.2)
+
+own_file : (l : Layout) (i : ℕ) (f : File) → file_of (files_of l.groups) i ≡ Some f → IsOwnFile l i f
+own_file l i f h =
+    let found = file_of-found (files_of l.groups) i f h in
+    let g = Contains-from_flat_map (λ (g : Group). g.files) l.groups f found.listed in
+    record { group = g.0; grouped = g.1; listed = g.2; from = found.from; to = found.to }
+
+-- ---- where a symbol stands
+
+not-true : (b : Bool) → not b ≡ true → b ≡ false
+not-true false h = refl
+not-true true h = cc
+
+not_discarded : (s : Slot) → is_discarded s ≡ false → s ≡ slot.Discard → ⊥
+not_discarded s h e = let t : is_discarded s ≡ is_discarded slot.Discard = ap is_discarded e in cc
+
+-- a part that the reader sees in memory the writer sees there too
+allocated_part : (l : Layout) (n : ℕ) → IsAllocatedPart l n → is_allocated_part l n ≡ true
+allocated_part l n h =
+    let real : (h.part.section == 0) ≡ false = ne_eqb h.part.section 0 h.named in
+    let room = alloc_bit h.section.flags h.room in
+    rw (h.listed, h.found, real, room) refl
+
+not_allocated : (l : Layout) (n : ℕ) → is_allocated_part l n ≡ false → IsAllocatedPart l n → ⊥
+not_allocated l n f h = (let t = allocated_part l n h in cc)
+
+is_placed : (l : Layout) (s : InputSection) → has_address l s ≡ true → IsPlaced l s
+is_placed l s h =
+    let parts = both_of _ _ h in
+    record {
+      kept = not_discarded s.slot (not-true _ parts.0);
+      address = elim (either_of _ _ parts.1) [
+        | inl a ↦ inl (λ z. zero_not s.address (not-true _ a) z)
+        | inr b ↦ inr (not_allocated l s.part (not-true _ b))
+      ];
+    }
+  where
+    zero_not : (a : ℕ) → (a == 0) ≡ false → a ≡ 0 → ⊥
+    zero_not a f z = let t : (a == 0) ≡ true = rw z refl in cc
+
+section_stands : (l : Layout) (i a n : ℕ) (symbol : Symbol) (f : File) (o : Option InputSection) → IsSymbol l i symbol → symbol.place ≡ at.Section n → IsOwnFile l i f → slice_get f.sections n ≡ o → address_in_section l symbol.value o ≡ Some a → StandsAt l i a
+section_stands l i a n symbol f None listed place own found h = cc
+section_stands l i a n symbol f (Some s) listed place own found h =
+    elim (cases_Bool (has_address l s)) [
+      | inr none ↦ cc (rw none at h)
+      | inl t ↦
+          (let e : Some ((s.address + symbol.value) % 2 ^ 64) ≡ Some a = rw t at h in
+          let same : (s.address + symbol.value) % 2 ^ 64 ≡ a = cc in
+          record { symbol = symbol; listed = listed; number = n; place = place; file = f; own = own; section = s; found = found; placed = is_placed l s t; address = sym same })
+    ]
+
+file_stands : (l : Layout) (i a n : ℕ) (symbol : Symbol) (o : Option File) → IsSymbol l i symbol → symbol.place ≡ at.Section n → file_of (files_of l.groups) i ≡ o → address_in_file l n symbol.value o ≡ Some a → StandsAt l i a
+file_stands l i a n symbol None listed place is h = cc
+file_stands l i a n symbol (Some f) listed place is h = section_stands l i a n symbol f (slice_get f.sections n) listed place (own_file l i f is) refl h
+
+place_stands : (l : Layout) (i a : ℕ) (symbol : Symbol) (p : Place) → IsSymbol l i symbol → symbol.place ≡ p → address_at l i symbol.value p ≡ Some a → StandsAt l i a
+place_stands l i a symbol at.Undefined listed place h = cc
+place_stands l i a symbol at.Absolute listed place h = cc
+place_stands l i a symbol at.Common listed place h = cc
+place_stands l i a symbol (at.Output k) listed place h = cc
+place_stands l i a symbol (at.Section n) listed place h = file_stands l i a n symbol (file_of (files_of l.groups) i) listed place refl h
+
+-- ---- the value
+
+-- what was decided of a symbol, seen from the list
+abbrev pub decided : Layout → ℕ → Option ℕ
+decided l c = option_and_then (λ (s : Symbol). option_map (λ r. r.raw_value) s.resolution) (slice_get l.symbols c)
+
+resolved_some : (l : Layout) (c a : ℕ) (o : Option Symbol) → slice_get l.symbols c ≡ o → option_and_then (λ (s : Symbol). option_map (λ r. r.raw_value) s.resolution) o ≡ Some a → IsResolved l c a
+resolved_some l c a None is h = cc
+resolved_some l c a (Some s) is h = inner l c a s s.resolution is refl h
+  where
+    inner : (l : Layout) (c a : ℕ) (s : Symbol) (r : Option Resolution) → slice_get l.symbols c ≡ Some s → s.resolution ≡ r → option_map (λ r. r.raw_value) r ≡ Some a → IsResolved l c a
+    inner l c a s None is e h = cc
+    inner l c a s (Some r) is e h = let same : r.raw_value ≡ a = cc in record { symbol = s; listed = is; resolution = r; decided = e; value = sym same }
+
+resolved_none : (l : Layout) (c : ℕ) (o : Option Symbol) → slice_get l.symbols c ≡ o → option_and_then (λ (s : Symbol). option_map (λ r. r.raw_value) s.resolution) o ≡ None → IsUnresolved l c
+resolved_none l c None is h = λ s e. (let f : None ≡ Some s = sym is ∙ e in cc)
+resolved_none l c (Some t) is h = λ s e. (let same : t ≡ s = cc in subst (λ (x : Symbol). x.resolution ≡ None) same (inner t t.resolution refl h))
+  where
+    inner : (t : Symbol) (r : Option Resolution) → t.resolution ≡ r → option_map (λ r. r.raw_value) r ≡ None → t.resolution ≡ None
+    inner t None e h = e
+    inner t (Some r) e h = cc
+
+given_by : (l : Layout) (i c a : ℕ) (symbol : Symbol) (d : Option ℕ) → IsSymbol l i symbol → decided l c ≡ d → resolved_or d (placed_value l i) ≡ Some a → IsResolved l c a ⊎ (IsUnresolved l c × StandsAt l i a)
+given_by l i c a symbol (Some v) listed is h =
+    let same : v ≡ a = cc in
+    inl (resolved_some l c a (slice_get l.symbols c) refl (is ∙ ap Some same))
+given_by l i c a symbol None listed is h =
+    let placed : address_at l i symbol.value symbol.place ≡ Some a = rw listed at h in
+    inr (resolved_none l c (slice_get l.symbols c) refl is, place_stands l i a symbol symbol.place listed refl placed)
+
+defined_by : (l : Layout) (i : ℕ) (symbol : Symbol) (d : Option ℕ) → IsSymbol l i symbol → symbol.definition ≡ d → (c : ℕ) × (canonical l i ≡ c) × IsDefinedBy l i c
+defined_by l i symbol None listed is = (i, rw (listed, is) refl, record { symbol = symbol; listed = listed; defined = inr (is, refl) })
+defined_by l i symbol (Some c) listed is = (c, rw (listed, is) refl, record { symbol = symbol; listed = listed; defined = inl is })
+
+-- a symbol with a value is one of the layout's
+listed_of : (l : Layout) (i a : ℕ) (o : Option Symbol) → slice_get l.symbols i ≡ o → raw_value l i ≡ Some a → (s : Symbol) × IsSymbol l i s
+unfolding raw_value
+listed_of l i a None is h = cc (rw (is, is) at h)
+listed_of l i a (Some s) is h = (s, is)
+
+pub has_raw : (l : Layout) (i a : ℕ) → raw_value l i ≡ Some a → HasRaw l i a
+unfolding raw_value
+has_raw l i a h =
+    let s = listed_of l i a (slice_get l.symbols i) refl h in
+    let d = defined_by l i s.0 s.0.definition s.1 refl in
+    let h' : resolved_or (decided l d.0) (placed_value l i) ≡ Some a = rw d.1 at h in
+    record { definition = d.0; defined = d.2; given = given_by l i d.0 a s.0 (decided l d.0) s.1 refl h' }

@@ -1,0 +1,99 @@
+-- A kept section that memory has as it was decided holds.
+use Rattle.std.proofs.Common.{◌≡◌, ℕ, List, true, false, refl}
+use Rattle.std.specs.Prelude.{All, Contains, slice_get, Some}
+use Rattle.std.proofs.lemmas.List.Elements.{All-contains}
+use Rattle.std.proofs.lemmas.Option.{get_or_from_slice_get, slice_get_within}
+use Rattle.wild_plan.specs.declared.kind.Machine.TheVariants as machine
+use Rattle.wild_plan.specs.declared.kind.RelocationModel.TheVariants as model
+use Rattle.wild_plan.specs.declared.kind.OutputKind.{OutputKind}
+use Rattle.wild_plan.specs.declared.kind.OutputKind.TheVariants as output
+use Rattle.wild_plan.specs.declared.input.Slot.{Slot}
+use Rattle.wild_plan.specs.declared.input.InputRelocation.{InputRelocation}
+use Rattle.wild_plan.specs.declared.input.InputSection.{InputSection}
+use Rattle.wild_plan.specs.declared.file.File.{File}
+use Rattle.wild_plan.specs.declared.file.Group.{Group}
+use Rattle.wild_plan.specs.declared.layout.Layout.{Layout}
+use Rattle.wild_plan.specs.Kinds.{is_position_independent}
+use Rattle.wild_plan.specs.Lookups.{is_loaded, is_read}
+use Rattle.wild_layout.specs.Numbers.{NumbersFit}
+use Rattle.wild_layout.specs.Geometry.{IsLaidOut, SectionLies, NamesSymbol, EachSection}
+use Rattle.wild_geometry.specs.Loaded.{IsDecided, HasSection, in_memory}
+use Rattle.wild_loader.specs.declared.memory.Memory.{Memory}
+use Rattle.wild_loader.specs.declared.memory.Machine.TheVariants as machines
+use Rattle.wild_loader.specs.declared.world.World.{World}
+use Rattle.wild_loader.specs.Laws.{CallsAreRead}
+use Rattle.wild_meaning.specs.World.{IsFixed, IsMovable, IsExecutable, IsLegal}
+use Rattle.wild_meaning.specs.Item.{IsInput, IsKeptSection}
+use Rattle.wild_values.specs.Terms.{IsPlaced}
+use Rattle.wild_values.specs.Laws.{SectionsHold}
+use Rattle.wild_values.proofs.Bits.{alloc_bit}
+use Rattle.wild_values.proofs.Sections.{Tables, in_no_site}
+use Rattle.wild_values.proofs.Fields.{KindLaws, IsSectionLoaded}
+use Rattle.wild_values.proofs.Effects.{item_holds}
+
+-- ---- kinds
+
+still_fixed : (k : OutputKind) → IsExecutable k → is_position_independent k ≡ false → IsFixed k
+still_fixed (output.StaticExecutable model.NonRelocatable) h e = tt
+still_fixed (output.StaticExecutable model.Relocatable) h e = cc
+still_fixed (output.DynamicExecutable model.NonRelocatable) h e = tt
+still_fixed (output.DynamicExecutable model.Relocatable) h e = cc
+still_fixed output.SharedObject h e = absurd h
+still_fixed output.PartialObject h e = absurd h
+
+moving_movable : (k : OutputKind) → is_position_independent k ≡ true → IsMovable k
+moving_movable (output.StaticExecutable model.Relocatable) e = tt
+moving_movable (output.StaticExecutable model.NonRelocatable) e = cc
+moving_movable (output.DynamicExecutable model.Relocatable) e = tt
+moving_movable (output.DynamicExecutable model.NonRelocatable) e = cc
+moving_movable output.SharedObject e = tt
+moving_movable output.PartialObject e = cc
+
+-- ---- a layout in a legal world
+
+placed : (l : Layout) (w : World) → l.machine ≡ machine.X86_64 → IsExecutable l.kind → NumbersFit l → IsLegal l w → IsLaidOut l → IsPlaced l w
+placed l w m program numbers legal laid = record {
+  x86 = m;
+  still = λ e. legal.fixed (still_fixed l.kind program e);
+  movable = moving_movable l.kind;
+  program = program;
+  module_one = legal.first program;
+  got = numbers.got;
+  tls_end = numbers.tls.end;
+  named = laid.definitions;
+}
+
+-- ---- a kept section
+
+read_if : (s : InputSection) (at : Slot) → s.slot ≡ at → is_loaded at ≡ true → s.nobits ≡ false → is_read s ≡ true
+read_if s at e t n = rw (e, t, n) refl
+
+each_at : (P : InputSection → Type 0) (l : Layout) (s : InputSection) → EachSection l P → IsInput l s → P s
+each_at P l s h k =
+    All-contains P k.file.sections s (All-contains (λ (f : File). All P f.sections) k.group.files k.file (All-contains (λ (g : Group). All (λ (f : File). All P f.sections) g.files) l.groups k.group h k.grouped) k.filed) k.listed
+
+listed_at : (xs : List InputRelocation) (i : ℕ) (r : InputRelocation) → slice_get xs i ≡ Some r → Contains xs r
+listed_at xs i r e = (i, slice_get_within xs i r e, get_or_from_slice_get xs i r r e)
+
+section_loaded : (l : Layout) (w : World) (m : Memory) (s : InputSection) → Tables → KindLaws → IsPlaced l w → IsLaidOut l → m.machine ≡ machines.X86_64 → IsKeptSection l s → IsDecided l s → HasSection l w m s (in_memory w) → IsSectionLoaded l w m s
+section_loaded l w m s tables kinds p laid same k decided h =
+    let lies = each_at (SectionLies l) l s laid.inputs k.input in
+    record {
+      tables = tables;
+      kinds = kinds;
+      placed = p;
+      same = same;
+      room = alloc_bit s.flags k.room;
+      clean = decided;
+      symbols = each_at (λ (s : InputSection). All (NamesSymbol l) s.relocations) l s laid.symbols k.input;
+      full = lies.bytes (read_if s _ k.loaded refl k.has_data);
+      low = lies.small;
+      ends = h.ends;
+      lies = lies.fields;
+      values = λ r v. h.values r v.size v.value (listed_at s.relocations v.written.index r v.written.listed) v.written.made;
+      addresses = λ r a. h.addresses r a.value a.packed (listed_at s.relocations a.written.index r a.written.listed) a.written.made;
+      others = λ i lt out. h.others i lt (in_no_site l s i tables p.x86 out);
+    }
+
+pub sections_hold : Tables → KindLaws → CallsAreRead → SectionsHold
+sections_hold tables kinds calls = λ l w m s x program numbers legal laid same k decided h. item_holds l w m s calls (section_loaded l w m s tables kinds (placed l w x program numbers legal laid) laid same k decided h)

@@ -1,0 +1,18 @@
+use Rattle.wild_values.proofs.WholeSections.{sections_hold}
+use Rattle.wild_values.proofs.sections_hold.Goals as goal
+
+pub returns : goal.returns
+returns c =
+    sections_hold
+    (record { agree = c.fields_of_x86_64.ensures.agree; widths = c.widths_of_fields.ensures })
+    (record {
+      sum = c.sums_are_given.ensures;
+      distance = c.distances_are_given.ensures;
+      from_table = c.offsets_from_the_table_are_given.ensures;
+      table = c.distances_of_the_table_are_given.ensures;
+      size = c.sizes_are_given.ensures;
+      pointer = c.offsets_from_the_thread_pointer_are_given.ensures;
+      own = c.offsets_in_the_module_are_given.ensures;
+      address = c.addresses_are_given.ensures;
+    })
+    c.calls_are_read.ensures.field
