@@ -1,5 +1,5 @@
 -- Code in memory that calls, read back into its bytes.
-use Rattle.std.proofs.Common.{◌≡◌, ℕ, zero, suc, ◌+◌, ◌-◌, ◌*◌, ◌%◌, ◌^◌, ◌<◌, inl, inr, List, [], ◌∷◌, length, get_or, refl, sym, ap, ◌∙◌, arith, subst}
+use Rattle.std.proofs.Common.{◌≡◌, ℕ, zero, suc, ◌+◌, ◌-◌, ◌*◌, ◌%◌, ◌^◌, ◌<◌, inl, inr, List, [], ◌∷◌, length, refl, sym, ap, ◌∙◌, arith, subst}
 use Rattle.std.specs.Prelude.{Option, Some, None, option_and_then, option_map, nat_lt, ◌==◌}
 use Rattle.std.proofs.lemmas.Bool.{cases_Bool, eqb-true, ltb-true}
 use Rattle.wild_words.specs.Words.{number}
@@ -14,14 +14,7 @@ use Rattle.wild_loader.specs.Memory.{byte_in, number_in, Holds}
 use Rattle.wild_loader.specs.Effect.{step, step_of, step_x86_64, sign_extended_32}
 use Rattle.wild_loader.proofs.Steps.{call_to, by_opcode, step_by_opcode}
 use Rattle.wild_laws.specs.FirstPath.{AreBytes}
-
--- an opcode and the bytes behind it
-Holds-cons : (m : Memory) (a b : ℕ) (bs : List ℕ) → byte_in m a ≡ Some b → Holds m (a + 1) bs → Holds m a (b ∷ bs)
-Holds-cons m a b bs h t = λ k l. at m a b bs h t k l
-  where
-    at : (m : Memory) (a b : ℕ) (bs : List ℕ) → byte_in m a ≡ Some b → Holds m (a + 1) bs → (k : ℕ) → k < length (b ∷ bs) → byte_in m (a + k) ≡ Some (get_or (b ∷ bs) k 0)
-    at m a b bs h t zero l = let e : a + 0 ≡ a = omega arith in rw e h
-    at m a b bs h t (suc k) l = let e : a + suc k ≡ a + 1 + k = omega arith in rw e (t k (omega arith))
+use Rattle.wild_laws.proofs.Effects.{Holds-cons}
 
 number_cons : (b : ℕ) (bs : List ℕ) → number (b ∷ bs) ≡ b + 256 * number bs
 unfolding number

@@ -19,7 +19,7 @@ use Rattle.wild_layout.specs.Faults.{flat_map_from, group_errors, file_errors, s
 use Rattle.wild_layout.specs.Geometry.{IsLaidOut, SectionLies}
 use Rattle.wild_layout.proofs.SiteLemmas.{sites_apart}
 use Rattle.wild_geometry.specs.Loaded.{IsDecided}
-use Rattle.wild_meaning.specs.Item.{IsKeptSection}
+use Rattle.wild_meaning.specs.Item.{IsInput, IsKeptSection}
 use Rattle.wild_loaded.specs.Memory.{EachDecided}
 
 -- ---- lists of nothing
@@ -85,11 +85,15 @@ section_decided l g f k s t lies h =
       apart = sites_apart l s (lies.bytes t) lies.fields (no_overlap _ _ parts.1);
     }
 
+pub lies_at : (l : Layout) (s : InputSection) → IsLaidOut l → IsInput l s → SectionLies l s
+lies_at l s laid k =
+    All-contains (SectionLies l) k.file.sections s (All-contains (λ (f : File). All (SectionLies l) f.sections) k.group.files k.file (All-contains (λ (g : Group). All (λ (f : File). All (SectionLies l) f.sections) g.files) l.groups k.group laid.inputs k.grouped) k.filed) k.listed
+
 -- each section that is read is decided, where no group has a fault
 pub sections_decided : (l : Layout) → IsLaidOut l → flat_map_from (group_errors l) 0 l.groups ≡ [] → EachDecided l
 unfolding group_errors file_errors
 sections_decided l laid none = λ s k read.
-    let lies = All-contains (SectionLies l) k.file.sections s (All-contains (λ (f : File). All (SectionLies l) f.sections) k.group.files k.file (All-contains (λ (g : Group). All (λ (f : File). All (SectionLies l) f.sections) g.files) l.groups k.group laid.inputs k.grouped) k.filed) k.listed in
+    let lies = lies_at l s laid k in
     let g = nothing_from (group_errors l) 0 l.groups k.group k.grouped none in
     let f = nothing_from (file_errors l g.0) 0 k.group.files k.file k.filed g.1 in
     let e = nothing_from (section_errors l g.0 f.0) 0 k.file.sections s k.listed f.1 in

@@ -3,7 +3,7 @@ use Rattle.std.proofs.Common.{◌≡◌, ℕ, zero, suc, ◌+◌, ◌-◌, ◌%�
 use Rattle.std.specs.Prelude.{◌≢◌, Some, All, Contains, slice_index, nat_lt, ◌==◌}
 use Rattle.std.specs.Int.{w64, cast_unsigned}
 use Rattle.std.proofs.lemmas.Bool.{cases_Bool, eqb-true, eqb-false, ltb-true, ltb-false}
-use Rattle.std.proofs.lemmas.List.{length-take, length-drop, get_or-take, get_or-drop}
+use Rattle.std.proofs.lemmas.List.{length-take, length-drop}
 use Rattle.std.proofs.lemmas.List.Elements.{All-contains}
 use Rattle.wild_records.specs.Abi.Relocation.{r_x86_64_none, r_x86_64_pc32}
 use Rattle.wild_words.specs.Words.{number}
@@ -19,7 +19,7 @@ use Rattle.wild_loader.specs.declared.memory.Machine.TheVariants as machines
 use Rattle.wild_loader.specs.declared.memory.Memory.{Memory}
 use Rattle.wild_loader.specs.declared.world.World.{World}
 use Rattle.wild_loader.specs.Memory.{Holds}
-use Rattle.wild_loader.specs.Effect.{stands, call_near}
+use Rattle.wild_loader.specs.Effect.{Any, stands, call_near}
 use Rattle.wild_meaning.specs.World.{IsFixed}
 use Rattle.wild_meaning.specs.Item.{item_of, place_at, IsReference}
 use Rattle.wild_meaning.specs.Field.{formula_of, form_width, InNoField, IsInputByte}
@@ -28,7 +28,7 @@ use Rattle.wild_meaning.specs.Reference.{HoldsPlain, ReferenceHolds, IsOther, It
 use Rattle.wild_meaning.specs.Linked.{processor_of}
 use Rattle.wild_laws.specs.FirstPath.{AreBytes, HasFormula, IsCall, CallFieldsLie, InNoField as NoField, IsRelocated, WritesAddress, MeaningGivesFields}
 use Rattle.wild_laws.proofs.Bits.{bit_executable, executable_bit}
-use Rattle.wild_values.specs.Laws.{TemplatesAreCalls}
+use Rattle.wild_laws.proofs.Effects.{only_call, only_pc32, formula_pc32, range_first, stands_first}
 use Rattle.wild_laws.proofs.Calls.{call_bytes, loaded_below, displacement_is, signed_below}
 use Rattle.wild_laws.proofs.OldValues.{demanded_of, goal_named}
 use Rattle.wild_laws.proofs.Premises.{only_first, sections_kept, references_asked}
@@ -49,8 +49,9 @@ plain_formula l w m s r x address p =
       field = record { bytes = p.field.bytes; wide = p.field.wide; held = p.field.held; reads = p.field.reads };
     }
 
-call_formula : (l : Layout) (w : World) (m : Memory) (s : InputSection) (r : InputRelocation) (start : ℕ) → TemplatesAreCalls → l.machine ≡ machine.X86_64 → m.machine ≡ machines.X86_64 → AreBytes m → IsTemplate l (item_of s) r start call_operand → DoesDemanded l w m (item_of s) r start call_operand → HasFormula l w m s r
-call_formula l w m s r start law x same small t d =
+call_formula : (l : Layout) (w : World) (m : Memory) (s : InputSection) (r : InputRelocation) (start : ℕ) → m.machine ≡ machines.X86_64 → AreBytes m → IsTemplate l (item_of s) r start call_operand → DoesDemanded l w m (item_of s) r start call_operand → HasFormula l w m s r
+call_formula l w m s r start same small t d =
+    let pc32 = only_pc32 r.number t.number in
     let a = place_at w (item_of s) start in
     let c = call_bytes m a ((d.goal + cast_unsigned w64 r.addend + 4) % 2 ^ 64) same small d.effect in
     let behind = t.field in
@@ -58,7 +59,7 @@ call_formula l w m s r start law x same small t d =
     let is = displacement_is a (sign_extended 32 (number c.field)) d.goal (cast_unsigned w64 r.addend) (loaded_below m a 0xe8 c.opcode) (signed_below (number c.field) c.small) c.goes in
     record {
       formula = formula Distance (Plain 32 Signed);
-      known = (law l (item_of s) r start call_operand x t).formula;
+      known = subst (λ (n : ℕ). x86_64_formula n ≡ Some (formula Distance (Plain 32 Signed))) (sym pc32) formula_pc32;
       target = d.goal;
       denoted = goal_named l w m r.symbol d.goal d.reached;
       value = ((d.goal + cast_unsigned w64 r.addend) % 2 ^ 64 + (2 ^ 64 - place_at w (item_of s) r.offset)) % 2 ^ 64;
@@ -71,20 +72,13 @@ call_formula l w m s r start law x same small t d =
       };
     }
 
-has_formula : (l : Layout) (w : World) (m : Memory) (s : InputSection) (r : InputRelocation) → TemplatesAreCalls → l.machine ≡ machine.X86_64 → m.machine ≡ machines.X86_64 → AreBytes m → WritesAddress r → ReferenceHolds l w m (item_of s) r → HasFormula l w m s r
-has_formula l w m s r law x same small address (inl p) = plain_formula l w m s r x address p
-has_formula l w m s r law x same small address (inr q) =
+has_formula : (l : Layout) (w : World) (m : Memory) (s : InputSection) (r : InputRelocation) → l.machine ≡ machine.X86_64 → m.machine ≡ machines.X86_64 → AreBytes m → WritesAddress r → ReferenceHolds l w m (item_of s) r → HasFormula l w m s r
+has_formula l w m s r x same small address (inl p) = plain_formula l w m s r x address p
+has_formula l w m s r x same small address (inr q) =
     let P : Operand → Type 0 = λ o. IsTemplate l (item_of s) r q.start o → DoesDemanded l w m (item_of s) r q.start o → HasFormula l w m s r in
-    subst P (law l (item_of s) r q.start q.operand x q.template).operand (call_formula l w m s r q.start law x same small) q.template q.does
+    subst P (only_call l.machine q.operand x q.template.known) (call_formula l w m s r q.start same small) q.template q.does
 
 -- ---- calls
-
--- the first byte of a range of bytes
-first_byte : (bs : List ℕ) (a n : ℕ) → 0 < n → get_or (slice_range bs a (a + n)) 0 0 ≡ slice_index bs a
-first_byte bs a n h =
-    let e : a + n - a ≡ n = omega arith in
-    let z : a + 0 ≡ a = omega arith in
-    rw e (get_or-take n _ 0 0 h ∙ get_or-drop a bs 0 0 ∙ ap (λ (k : ℕ). get_or bs k 0) z)
 
 stands_from : (bs : List ℕ) → length bs ≡ 5 → get_or bs 0 0 ≡ 0xe8 → stands call_near.cells bs ≡ true
 stands_from [] n e = absurd (omega (arith, n))
@@ -113,7 +107,7 @@ call_template l s r k x lie ref call out =
       number = (0, omega arith, sym call.number);
       field = call.behind;
       inside = inside;
-      stands = stands_from (slice_range s.bytes k (k + 5)) (length-five s.bytes k inside) (first_byte s.bytes k 5 (omega arith) ∙ call.opcode);
+      stands = stands_from (slice_range s.bytes k (k + 5)) (length-five s.bytes k inside) (range_first s.bytes k 5 (omega arith) ∙ call.opcode);
       alone = λ j own. subst (λ (n : ℕ). InNoField l (item_of s) n) (let z = only_first j own in let e : k ≡ k + j = omega (arith, z) in e) (in_no_field l s k x out);
     }
 
@@ -157,9 +151,9 @@ find_call k (r ∷ rs) =
     ]
 
 -- a template that does not begin at a byte in no field does not have it
-apart_from : (l : Layout) (s : InputSection) (r : InputRelocation) (start k : ℕ) → TemplatesAreCalls → l.machine ≡ machine.X86_64 → NoField s k → IsReference (item_of s) r → IsTemplate l (item_of s) r start call_operand → (start ≡ k → ⊥) → (k < start) ⊎ (start + 5 ≤ k)
-apart_from l s r start k law x out ref t never =
-    let known = (law l (item_of s) r start call_operand x t).formula in
+apart_from : (l : Layout) (s : InputSection) (r : InputRelocation) (start k : ℕ) → NoField s k → IsReference (item_of s) r → IsTemplate l (item_of s) r start call_operand → (start ≡ k → ⊥) → (k < start) ⊎ (start + 5 ≤ k)
+apart_from l s r start k out ref t never =
+    let known = subst (λ (n : ℕ). x86_64_formula n ≡ Some (formula Distance (Plain 32 Signed))) (sym (only_pc32 r.number t.number)) formula_pc32 in
     let behind = t.field in
     elim (All-contains (λ (q : InputRelocation). (f : Formula) → x86_64_formula q.number ≡ Some f → (k < q.offset) ⊎ (q.offset + form_width f.form ≤ k)) s.relocations r out ref.listed (formula Distance (Plain 32 Signed)) known) [
       | inr b ↦ inr (omega (arith, b, behind))
@@ -171,24 +165,27 @@ apart_from l s r start k law x out ref t never =
     ]
 
 -- a byte in no field at which no template begins is of none
-is_other : (l : Layout) (s : InputSection) (k : ℕ) → TemplatesAreCalls → l.machine ≡ machine.X86_64 → NoField s k → ((r : InputRelocation) → IsReference (item_of s) r → IsTemplate l (item_of s) r k call_operand → ⊥) → IsOther l (item_of s) k
-is_other l s k law x out never = record {
+is_other : (l : Layout) (s : InputSection) (k : ℕ) → l.machine ≡ machine.X86_64 → NoField s k → ((r : InputRelocation) → IsReference (item_of s) r → IsTemplate l (item_of s) r k call_operand → ⊥) → IsOther l (item_of s) k
+is_other l s k x out never = record {
   fields = in_no_field l s k x out;
   templates = λ r start o ref t.
       (let P : Operand → Type 0 = λ p. IsTemplate l (item_of s) r start p → (k < start) ⊎ (start + size_of p ≤ k) in
-      subst P (law l (item_of s) r start o x t).operand (λ u. apart_from l s r start k law x out ref u (λ e. never r ref (subst (λ (n : ℕ). IsTemplate l (item_of s) r n call_operand) e u))) t);
+      subst P (only_call l.machine o x t.known) (λ u. apart_from l s r start k out ref u (λ e. never r ref (subst (λ (n : ℕ). IsTemplate l (item_of s) r n call_operand) e u))) t);
 }
 
-other_byte : (l : Layout) (w : World) (m : Memory) (s : InputSection) (k : ℕ) → TemplatesAreCalls → l.machine ≡ machine.X86_64 → IsFixed l.kind → m.machine ≡ machines.X86_64 → AreBytes m → ItemHolds l w m (item_of s) → CallFieldsLie s → k < length s.bytes → NoField s k → IsInputByte w m (item_of s) k
-other_byte l w m s k law x fixed same small holds lie lt out =
+opcode_is : (l : Layout) (s : InputSection) (r : InputRelocation) (k : ℕ) → IsTemplate l (item_of s) r k call_operand → slice_index s.bytes k ≡ 0xe8
+opcode_is l s r k t = sym (range_first s.bytes k 5 (omega arith)) ∙ stands_first 0xe8 (Any ∷ Any ∷ Any ∷ Any ∷ []) (slice_range s.bytes k (k + 5)) t.stands
+
+other_byte : (l : Layout) (w : World) (m : Memory) (s : InputSection) (k : ℕ) → l.machine ≡ machine.X86_64 → IsFixed l.kind → m.machine ≡ machines.X86_64 → AreBytes m → ItemHolds l w m (item_of s) → CallFieldsLie s → k < length s.bytes → NoField s k → IsInputByte w m (item_of s) k
+other_byte l w m s k x fixed same small holds lie lt out =
     elim (cases_Bool (executable s.flags)) [
-      | inr f ↦ holds.others k lt (is_other l s k law x out (λ r ref t. (let both : true ≡ false = sym (executable_bit s.flags t.code) ∙ f in cc)))
+      | inr f ↦ holds.others k lt (is_other l s k x out (λ r ref t. (let both : true ≡ false = sym (executable_bit s.flags t.code) ∙ f in cc)))
       | inl code ↦
           elim (cases_Bool (slice_index s.bytes k == 0xe8)) [
-            | inr f ↦ holds.others k lt (is_other l s k law x out (λ r ref t. eqb-false (slice_index s.bytes k) 0xe8 f (law l (item_of s) r k call_operand x t).opcode))
+            | inr f ↦ holds.others k lt (is_other l s k x out (λ r ref t. eqb-false (slice_index s.bytes k) 0xe8 f (opcode_is l s r k t)))
             | inl op ↦
                 elim (find_call k s.relocations) [
-                  | inr none ↦ holds.others k lt (is_other l s k law x out (λ r ref t. none (record { relocation = r; listed = ref.listed; behind = t.field; number = (law l (item_of s) r k call_operand x t).number })))
+                  | inr none ↦ holds.others k lt (is_other l s k x out (λ r ref t. none (record { relocation = r; listed = ref.listed; behind = t.field; number = only_pc32 r.number t.number })))
                   | inl c ↦ opcode_byte l w m s c.relocation k x fixed same small holds lie c.listed (record { code = code; behind = c.behind; opcode = eqb-true (slice_index s.bytes k) 0xe8 op; number = c.number; inside = lt }) out
                 ]
           ]
@@ -201,15 +198,15 @@ other_byte l w m s k law x fixed same small holds lie lt out =
         let c = call_bytes m (place_at w (item_of s) k) ((d.goal + cast_unsigned w64 r.addend + 4) % 2 ^ 64) same small d.effect in
         c.opcode ∙ ap Some (sym call.opcode)
 
-pub meaning_gives_fields : TemplatesAreCalls → MeaningGivesFields
-meaning_gives_fields law = λ l w image x fixed linked small s loaded lie.
+pub meaning_gives_fields : MeaningGivesFields
+meaning_gives_fields = λ l w image x fixed linked small s loaded lie.
     let m = linked.memory in
     let same = linked.machine ∙ ap processor_of x in
     let holds = linked.kept (item_of s) (sections_kept l s loaded) in
     record {
-      references = λ r ref address. has_formula l w m s r law x same small address (holds.references r (record { listed = ref.listed; refers = ref.refers }) (references_asked.fixed l w r fixed));
+      references = λ r ref address. has_formula l w m s r x same small address (holds.references r (record { listed = ref.listed; refers = ref.refers }) (references_asked.fixed l w r fixed));
       calls = λ r k ref call out.
           (let d = holds.effects r k call_operand (record { listed = ref.listed; refers = ref.refers }) (references_asked.fixed l w r fixed) (call_template l s r k x lie ref call out) in
           record { target = d.goal; denoted = goal_named l w m r.symbol d.goal d.reached; calls = d.effect });
-      others = λ k lt out. other_byte l w m s k law x fixed same small holds lie lt out;
+      others = λ k lt out. other_byte l w m s k x fixed same small holds lie lt out;
     }

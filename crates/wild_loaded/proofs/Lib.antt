@@ -5,3 +5,6 @@ mod Loads
 mod Carried
 mod Stored
 mod Fixed
+mod TablesFit
+mod TableBytes
+mod DynamicSections

@@ -6,8 +6,11 @@
 --   SectionsAreCarried     a kept section that has bytes has them in the file, and each is carried to its address
 --   SectionsAreStored      their memory has each kept section as the file has it
 --   ZerosAreStored         and zeros behind the file bytes
+--   TablesAreFound         a loader finds the tables of the addresses that move
+--   EntriesAreRelative     whose entries add the base
 --   FixedImagesAreLoaded   the loader accepts an image without a dynamic section, and its memory is that
-use Rattle.std.specs.Prelude.{◌≡◌, ℕ, ◌+◌, ◌≤◌, true, false, length, Some}
+use Rattle.std.specs.Prelude.{◌≡◌, ℕ, ◌+◌, ◌≤◌, true, false, length, Some, All}
+use Rattle.wild_records.specs.declared.relocations.Rela.{Rela}
 use Rattle.wild_plan.specs.declared.kind.Machine.TheVariants as machine
 use Rattle.wild_plan.specs.declared.input.InputSection.{InputSection}
 use Rattle.wild_plan.specs.declared.layout.Layout.{Layout}
@@ -17,8 +20,10 @@ use Rattle.wild_layout.specs.Image.{bytes}
 use Rattle.wild_layout.specs.Numbers.{NumbersFit}
 use Rattle.wild_layout.specs.Geometry.{IsLaidOut}
 use Rattle.wild_geometry.specs.Loaded.{IsDecided, HasSection, in_file}
+use Rattle.wild_loader.specs.declared.kind.DynamicKind.TheVariants as kinds
 use Rattle.wild_loader.specs.declared.memory.Machine.TheVariants as machines
 use Rattle.wild_loader.specs.declared.world.World.{World}
+use Rattle.wild_loader.specs.Changes.{kind_of}
 use Rattle.wild_loader.specs.Headers.{is_loadable_header}
 use Rattle.wild_loader.specs.Memory.{byte_in}
 use Rattle.wild_loader.specs.Laws.{HasHeaders, AreLoadable}
@@ -27,6 +32,7 @@ use Rattle.wild_meaning.specs.Item.{IsKeptSection}
 use Rattle.wild_meaning.specs.Linked.{HasHeader, IsBehind}
 use Rattle.wild_loaded.specs.Owners.{HasOneOwnerEach}
 use Rattle.wild_loaded.specs.Memory.{IsStored, headers_of, image_memory, EachDecided, HasMemory}
+use Rattle.wild_loaded.specs.Tables.{tables_of, HasTablesIn}
 
 -- no byte of the image is of two pieces, each piece stands in it, and every other byte is padding
 abbrev pub OwnersAreKnown : Type 0
@@ -57,6 +63,14 @@ SectionsAreStored = (l : Layout) (w : World) (s : InputSection) → IsLegal l w 
 -- behind the file bytes of a loaded segment are zeros
 abbrev pub ZerosAreStored : Type 0
 ZerosAreStored = (l : Layout) (w : World) (a : ℕ) → IsLegal l w → IsLaidOut l → IsBehind l a → byte_in (image_memory l w) (w.base + a) ≡ Some 0
+
+-- the image of an output that needs a dynamic section has one, by which a loader finds the tables that the groups give
+abbrev pub TablesAreFound : Type 0
+TablesAreFound = (l : Layout) → needs_dynamic l.kind ≡ true → NumbersFit l → IsLaidOut l → HasTablesIn l
+
+-- each entry of these tables is one that adds the base
+abbrev pub EntriesAreRelative : Type 0
+EntriesAreRelative = (l : Layout) → l.machine ≡ machine.X86_64 → All (λ (e : Rela). kind_of machines.X86_64 e.number ≡ Some kinds.Relative) (tables_of l).entries
 
 -- an image without a dynamic section is loaded, and needs no entry: no address in it moves
 abbrev pub FixedImagesAreLoaded : Type 0

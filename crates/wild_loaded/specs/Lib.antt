@@ -1,3 +1,4 @@
 pub mod Owners
 pub mod Memory
+pub mod Tables
 pub mod Laws

@@ -1,9 +1,12 @@
 //! What a loader makes of the image of a laid out layout before any entry is applied.
 #![tactic(auto)]
 
-ghost use Rattle.wild_loaded.specs.Laws.{FixedImagesAreLoaded, HeadersStand, HeadersTell, OwnersAreKnown, SectionsAreCarried, SectionsAreStored, SegmentsAreLoadable, ZerosAreStored};
+ghost use Rattle.wild_loaded.specs.Laws.{EntriesAreRelative, FixedImagesAreLoaded, HeadersStand, HeadersTell, OwnersAreKnown, SectionsAreCarried, SectionsAreStored, SegmentsAreLoadable, TablesAreFound, ZerosAreStored};
 
+use wild_geometry::tables_stand;
 use wild_loader::{bytes_are_loaded, static_images_are_loaded};
+use wild_relr::words_fit;
+use wild_tables::{dynamic_sections_are_read, entries_add_the_base};
 
 /// Each piece stands in the image, no byte is of two pieces, and a byte that no piece holds is padding.
 pub fn owners_are_known()
@@ -33,6 +36,17 @@ pub fn sections_are_stored()
     ensures zeros { ZerosAreStored }
 {
     bytes_are_loaded();
+}
+
+/// A loader finds the tables of the addresses that move by the dynamic section; each entry adds the base.
+pub fn tables_are_found()
+    ensures found { TablesAreFound }
+    ensures relative { EntriesAreRelative }
+{
+    tables_stand();
+    dynamic_sections_are_read();
+    entries_add_the_base();
+    words_fit();
 }
 
 /// The loader accepts an image without a dynamic section, and memory has each kept section as it was decided.

@@ -8,6 +8,4 @@ mod RelativeOrder
 mod RelativeMemory
 mod MovedLoaded
 mod MovedTables
-mod TableBytes
-mod MovedImages
 mod Moving

@@ -29,7 +29,7 @@ use Rattle.wild_tables.specs.Laws.{PlacesAreLoaded}
 use Rattle.wild_geometry.specs.Loaded.{InNoSite, in_file, in_memory, HasSection}
 use Rattle.wild_loaded.specs.Memory.{image_memory, EachDecided}
 use Rattle.wild_loaded.specs.Laws.{SectionsAreCarried, SectionsAreStored, ZerosAreStored}
-use Rattle.wild_moved.specs.Tables.{value_at}
+use Rattle.wild_moved.specs.Moved.{value_at}
 use Rattle.wild_moved.proofs.SectionsApart.{all_sections}
 use Rattle.wild_moved.proofs.PlacesApart.{IsOutside, outside_all}
 use Rattle.wild_moved.proofs.RelativeOrder.{all_places, IsLow}

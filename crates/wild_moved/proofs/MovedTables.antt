@@ -1,41 +1,30 @@
 -- The tables of the addresses that move: their places and their entries.
-use Rattle.std.proofs.Common.{◌≡◌, ℕ, ◌+◌, ◌%◌, ◌^◌, ◌<◌, Bool, true, false, not, List, [], ◌∷◌, ◌++◌, get_or, map, refl, sym, ap, ◌∙◌, arith, subst}
-use Rattle.std.specs.Prelude.{Option, Some, None, Result, All, Contains, option_to_list, option_map, if◌then◌else◌, ◌&&◌, ◌==◌}
+use Rattle.std.proofs.Common.{◌≡◌, ℕ, ◌+◌, ◌%◌, ◌^◌, ◌<◌, Bool, true, false, List, [], ◌∷◌, ◌++◌, map, refl, sym, ap, ◌∙◌, arith, subst}
+use Rattle.std.specs.Prelude.{Option, Some, None, Result, Contains, option_to_list, option_map, if◌then◌else◌, ◌&&◌, ◌==◌}
 use Rattle.std.specs.List.{flat_map, filter}
-use Rattle.std.specs.Int.{w64, cast_signed}
-use Rattle.std.specs.Int.RustNames.{FitsSigned}
 use Rattle.std.proofs.lemmas.Bool.{eqb-true}
-use Rattle.std.proofs.lemmas.Int.{ints}
 use Rattle.std.proofs.lemmas.List.{map-append}
-use Rattle.std.proofs.lemmas.List.Elements.{All-nil, All-cons, All-filter}
-use Rattle.wild_records.specs.Relocations.{RelaFits}
 use Rattle.wild_records.specs.declared.relocations.Rela.{Rela}
-use Rattle.wild_plan.specs.declared.kind.Machine.{Machine}
-use Rattle.wild_plan.specs.declared.kind.Machine.TheVariants as machine
 use Rattle.wild_plan.specs.declared.fault.Fault.{Fault}
 use Rattle.wild_plan.specs.declared.input.InputRelocation.{InputRelocation}
 use Rattle.wild_plan.specs.declared.input.InputSection.{InputSection}
 use Rattle.wild_plan.specs.declared.layout.Layout.{Layout}
-use Rattle.wild_plan.specs.Entries.{place_of, packs, is_moved, has_moved, listed_place, listed_places, words_of}
+use Rattle.wild_plan.specs.Entries.{place_of, packs, has_moved, listed_place, listed_places, words_of}
 use Rattle.wild_layout.specs.Values.{sum}
 use Rattle.wild_layout.specs.Moved.{or_zero, moved_value, listed_entry, section_entries}
 use Rattle.wild_relr.specs.Packed.{packed}
-use Rattle.wild_loader.specs.declared.kind.DynamicKind.TheVariants as kinds
-use Rattle.wild_loader.specs.declared.memory.Machine.TheVariants as machines
 use Rattle.wild_loader.specs.declared.world.World.{World}
-use Rattle.wild_loader.specs.Changes.{kind_of}
-use Rattle.wild_tables.specs.Tables.{relative_entry, relative_type}
-use Rattle.wild_tables.specs.Laws.{EntriesAddTheBase, loader_machine}
+use Rattle.wild_tables.specs.Tables.{relative_entry}
+use Rattle.wild_tables.specs.Laws.{EntriesAddTheBase}
 use Rattle.wild_layout.proofs.SiteLemmas.{Contains-flat_map}
-use Rattle.wild_moved.proofs.PairLemmas.{All-join, filter-flat_map}
+use Rattle.wild_moved.proofs.PairLemmas.{filter-flat_map}
 use Rattle.wild_moved.proofs.MovedSections.{IsKeptWell}
 use Rattle.wild_moved.proofs.SectionsApart.{all_sections, by_files, flat_map-same}
 use Rattle.wild_moved.proofs.RelativeOrder.{IsSplit}
-use Rattle.wild_moved.proofs.MovedPlaces.{moved_place, moved_places, IsAddress, lists, packed_are, listed_are, address_moves}
+use Rattle.wild_moved.proofs.MovedPlaces.{moved_places, IsAddress, lists, packed_are, listed_are, address_moves}
 use Rattle.wild_moved.proofs.MovedMemory.{listed_section, listed_at, moving_section}
 use Rattle.wild_moved.proofs.MovedLoaded.{HasEntry}
-use Rattle.wild_relr.specs.Laws.{IsWord, WordsFit}
-use Rattle.wild_moved.specs.Tables.{tables_of}
+use Rattle.wild_loaded.specs.Tables.{tables_of}
 
 words_by_sections : (l : Layout) → (tables_of l).words ≡ flat_map (words_of l) (all_sections l)
 words_by_sections l = sym (by_files (words_of l) l)
@@ -80,60 +69,6 @@ tables_split l = record {
   jumps = refl;
   even = packs_even l;
 }
-
--- ---- each entry
-
--- what holds of each relative entry
-abbrev OfEntries : Layout → (Rela → Type 0) → Type 0
-OfEntries l P = (place v : ℕ) → place < 2 ^ 64 → v < 2 ^ 64 → P (relative_entry l place v)
-
-of_relocation : (P : Rela → Type 0) (l : Layout) (s : InputSection) (r : InputRelocation) → OfEntries l P → All P (option_to_list (listed_entry l s r))
-of_relocation P l s r h = by_test (is_moved l s r && not (packs l (place_of s r)))
-  where
-    by_test : (b : Bool) → All P (option_to_list (option_map (λ (place : ℕ). relative_entry l place (moved_value l r)) (if b then Some (place_of s r) else None)))
-    by_test false = All-nil P
-    by_test true = All-cons P (relative_entry l (place_of s r) (moved_value l r)) [] (h (place_of s r) (moved_value l r) (omega arith) (omega arith)) (All-nil P)
-
-of_section : (P : Rela → Type 0) (l : Layout) (s : InputSection) → OfEntries l P → All P (section_entries l s)
-unfolding section_entries
-of_section P l s h = by_test (has_moved l s)
-  where
-    by_test : (b : Bool) → All P (if b then flat_map (λ (r : InputRelocation). option_to_list (listed_entry l s r)) s.relocations else [])
-    by_test false = All-nil P
-    by_test true = All-join P (λ (r : InputRelocation). option_to_list (listed_entry l s r)) s.relocations (λ k d m. of_relocation P l s (get_or s.relocations k d) h)
-
-of_entries : (P : Rela → Type 0) (l : Layout) → OfEntries l P → All P (tables_of l).entries
-of_entries P l h = subst (λ (es : List Rela). All P es) (sym (entries_by_sections l)) (All-join P (section_entries l) (all_sections l) (λ k d m. of_section P l (get_or (all_sections l) k d) h))
-
-signed_fits : (n : ℕ) → n < 2 ^ 64 → FitsSigned w64 (cast_signed w64 n)
-signed_fits n h = grind (arith, ints)
-
-number_fits : (m : Machine) → relative_type m < 2 ^ 32
-number_fits machine.X86_64 = omega arith
-number_fits machine.AArch64 = omega arith
-
-pub entries_fit : (l : Layout) → All RelaFits (tables_of l).entries
-entries_fit l = of_entries RelaFits l (λ place v low small. record { offset = low; number = number_fits l.machine; symbol = omega arith; addend = signed_fits v small })
-
-pub entries_relative : (l : Layout) → EntriesAddTheBase → l.machine ≡ machine.X86_64 → All (λ (e : Rela). kind_of machines.X86_64 e.number ≡ Some kinds.Relative) (tables_of l).entries
-entries_relative l law x = of_entries (λ (e : Rela). kind_of machines.X86_64 e.number ≡ Some kinds.Relative) l (λ place v low small. subst (λ (m : Machine). kind_of (loader_machine m) (relative_entry l place v).number ≡ Some kinds.Relative) x (law l 0 place v small).0)
-
--- each place is a number of 64 bits
-places_fit : (l : Layout) (s : InputSection) → All IsWord (moved_places l s)
-places_fit l s = by_test (has_moved l s)
-  where
-    one : (b : Bool) (r : InputRelocation) → All IsWord (option_to_list (if b then Some (place_of s r) else None))
-    one false r = All-nil IsWord
-    one true r = All-cons IsWord (place_of s r) [] (omega arith) (All-nil IsWord)
-
-    by_test : (b : Bool) → All IsWord (if b then flat_map (λ (r : InputRelocation). option_to_list (moved_place l s r)) s.relocations else [])
-    by_test false = All-nil IsWord
-    by_test true = All-join IsWord (λ (r : InputRelocation). option_to_list (moved_place l s r)) s.relocations (λ k d m. one (is_moved l s (get_or s.relocations k d)) (get_or s.relocations k d))
-
-pub words_fit : (l : Layout) → WordsFit → All IsWord (tables_of l).words
-words_fit l law =
-    subst (λ (ws : List ℕ). All IsWord ws) (sym (tables_split l).words)
-    (All-join IsWord (λ (s : InputSection). packed (filter (packs l) (moved_places l s))) (all_sections l) (λ k d m. law (filter (packs l) (moved_places l (get_or (all_sections l) k d))) (All-filter (packs l) IsWord (moved_places l (get_or (all_sections l) k d)) (places_fit l (get_or (all_sections l) k d)))))
 
 -- ---- the entry of an address
 

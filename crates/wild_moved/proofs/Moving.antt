@@ -28,9 +28,10 @@ use Rattle.wild_loader.specs.Relocate.{add_apart, place_patch, rela_patch, patch
 use Rattle.wild_loader.specs.EntryLaws.{HasImage, IsMoved, ImagesAreMoved}
 use Rattle.wild_tables.specs.Laws.{EntriesAddTheBase}
 use Rattle.wild_loaded.specs.Memory.{IsStored, headers_of, image_memory, EachDecided}
-use Rattle.wild_loaded.specs.Laws.{HeadersStand, SegmentsAreLoadable}
-use Rattle.wild_moved.specs.Tables.{tables_of, value_at}
-use Rattle.wild_moved.specs.Laws.{TablesAreFound, TablesAreRelative, SectionsAreMoved, MovedImagesAreLoaded}
+use Rattle.wild_loaded.specs.Laws.{HeadersStand, SegmentsAreLoadable, TablesAreFound, EntriesAreRelative}
+use Rattle.wild_loaded.specs.Tables.{tables_of}
+use Rattle.wild_moved.specs.Moved.{value_at}
+use Rattle.wild_moved.specs.Laws.{TablesAreRelative, SectionsAreMoved, MovedImagesAreLoaded}
 use Rattle.wild_moved.proofs.SectionsApart.{all_sections, one_loaded, file_loaded}
 use Rattle.wild_moved.proofs.PlacesApart.{IsOutside, LiesIn, HavePlaces}
 use Rattle.wild_moved.proofs.PairLemmas.{All-join}
@@ -39,7 +40,7 @@ use Rattle.wild_moved.proofs.RelativeMemory.{AreTables, are_relative, kept_byte}
 use Rattle.wild_moved.proofs.MovedPlaces.{moved_places}
 use Rattle.wild_moved.proofs.MovedSections.{kept_well, have_places}
 use Rattle.wild_moved.proofs.MovedLoaded.{MovingLaws, IsMovedImage, section_moved, words_known, places_low}
-use Rattle.wild_moved.proofs.MovedTables.{tables_split, entries_relative, entry_there}
+use Rattle.wild_moved.proofs.MovedTables.{tables_split, entry_there}
 
 -- ---- the machine
 
@@ -61,17 +62,17 @@ same_machine w m t r h = first (add_apart (place_patch w m) (places t.words) [])
 
 -- ---- tables
 
-tables_are : (l : Layout) (w : World) → MovingLaws → EntriesAddTheBase → SegmentsAreLoadable → l.machine ≡ machine.X86_64 → IsLegal l w → IsLaidOut l → EachDecided l → AreTables l w (image_memory l w) (moved_places l) (packs l) (tables_of l)
-tables_are l w laws base segments x legal laid decided = record {
+tables_are : (l : Layout) (w : World) → MovingLaws → EntriesAreRelative → SegmentsAreLoadable → l.machine ≡ machine.X86_64 → IsLegal l w → IsLaidOut l → EachDecided l → AreTables l w (image_memory l w) (moved_places l) (packs l) (tables_of l)
+tables_are l w laws relative segments x legal laid decided = record {
   have = have_places l laws.carried laid decided;
   split = tables_split l;
   low = places_low l w laws.stored legal laid decided;
   words = words_known l w laws.stored legal laid decided;
-  kinds = subst (λ (m : Machine). All (λ (e : Rela). kind_of m e.number ≡ Some kinds.Relative) (tables_of l).entries) (sym (segments.machine l w x)) (entries_relative l base x);
+  kinds = subst (λ (m : Machine). All (λ (e : Rela). kind_of m e.number ≡ Some kinds.Relative) (tables_of l).entries) (sym (segments.machine l w x)) (relative l x);
 }
 
-pub tables_relative : MovingLaws → EntriesAddTheBase → SegmentsAreLoadable → TablesAreRelative
-tables_relative laws base segments = λ l w x legal laid decided. are_relative l w (image_memory l w) (moved_places l) (packs l) (tables_of l) laws.read laws.found laid (tables_are l w laws base segments x legal laid decided)
+pub tables_relative : MovingLaws → EntriesAreRelative → SegmentsAreLoadable → TablesAreRelative
+tables_relative laws relative segments = λ l w x legal laid decided. are_relative l w (image_memory l w) (moved_places l) (packs l) (tables_of l) laws.read laws.found laid (tables_are l w laws relative segments x legal laid decided)
 
 -- ---- zeros
 
@@ -111,20 +112,20 @@ zero_moved l w t m a h b =
 
 -- ---- sections
 
-moved_image : (l : Layout) (w : World) (m : Memory) → MovingLaws → EntriesAddTheBase → SegmentsAreLoadable → l.machine ≡ machine.X86_64 → IsLegal l w → IsLaidOut l → EachDecided l → IsMoved w (image_memory l w) (tables_of l) (value_at w (image_memory l w)) m → IsMovedImage l w (tables_of l) m
-moved_image l w m laws base segments x legal laid decided moved = record {
+moved_image : (l : Layout) (w : World) (m : Memory) → MovingLaws → EntriesAddTheBase → EntriesAreRelative → SegmentsAreLoadable → l.machine ≡ machine.X86_64 → IsLegal l w → IsLaidOut l → EachDecided l → IsMoved w (image_memory l w) (tables_of l) (value_at w (image_memory l w)) m → IsMovedImage l w (tables_of l) m
+moved_image l w m laws base relative segments x legal laid decided moved = record {
   laws = laws;
   legal = legal;
   laid = laid;
   decided = decided;
-  tables = tables_are l w laws base segments x legal laid decided;
+  tables = tables_are l w laws relative segments x legal laid decided;
   moved = moved;
   entry = λ s r well a unpacked. entry_there l w s r base well a unpacked;
 }
 
-pub sections_moved : MovingLaws → EntriesAddTheBase → SegmentsAreLoadable → SectionsAreMoved
-sections_moved laws base segments = λ l w m x legal laid decided moved.
-    let h = moved_image l w m laws base segments x legal laid decided moved in
+pub sections_moved : MovingLaws → EntriesAddTheBase → EntriesAreRelative → SegmentsAreLoadable → SectionsAreMoved
+sections_moved laws base relative segments = λ l w m x legal laid decided moved.
+    let h = moved_image l w m laws base relative segments x legal laid decided moved in
     record {
       sections = λ s kept. section_moved l w (tables_of l) m s h (kept_well l s laid decided kept);
       zeros = λ a b. zero_moved l w (tables_of l) m a h b;

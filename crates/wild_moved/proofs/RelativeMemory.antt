@@ -21,7 +21,7 @@ use Rattle.wild_loader.specs.Relocate.{loaded_at}
 use Rattle.wild_loader.specs.Laws.{NumbersAreRead}
 use Rattle.wild_loader.specs.EntryLaws.{AreRelative, IsMoved, loaded_places}
 use Rattle.wild_tables.specs.Laws.{PlacesAreLoaded}
-use Rattle.wild_moved.specs.Tables.{number_or, value_at}
+use Rattle.wild_moved.specs.Moved.{number_or, value_at}
 use Rattle.wild_moved.proofs.PlacesApart.{HavePlaces, IsOutside, places_beside}
 use Rattle.wild_moved.proofs.RelativeOrder.{all_places, IsSplit, IsLow, All-filter, order_of, words_permuted, order_permuted, order_beside, loaded_is}
 

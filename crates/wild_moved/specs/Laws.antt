@@ -1,6 +1,5 @@
 -- The image of an output whose addresses move is loaded at every base.
---   TablesAreFound         a loader finds the tables by the dynamic section
---   TablesAreRelative      they are of relative entries, over words of eight bytes that lie beside each other
+--   TablesAreRelative      the tables are of relative entries, over words of eight bytes that lie beside each other
 --   SectionsAreMoved       applying them moves the addresses, and changes no other byte
 --   MovedImagesAreLoaded   the loader accepts the image, and memory has each kept section as it was decided
 use Rattle.std.specs.Prelude.{◌≡◌, true}
@@ -14,11 +13,8 @@ use Rattle.wild_loader.specs.declared.world.World.{World}
 use Rattle.wild_loader.specs.EntryLaws.{AreRelative, IsMoved}
 use Rattle.wild_meaning.specs.World.{IsLoadable, IsLegal}
 use Rattle.wild_loaded.specs.Memory.{image_memory, EachDecided, HasMemory}
-use Rattle.wild_moved.specs.Tables.{tables_of, value_at, HasTablesIn, HasMoved}
-
--- the image of an output that needs a dynamic section has one, by which a loader finds the tables that the groups give
-abbrev pub TablesAreFound : Type 0
-TablesAreFound = (l : Layout) → needs_dynamic l.kind ≡ true → NumbersFit l → IsLaidOut l → HasTablesIn l
+use Rattle.wild_loaded.specs.Tables.{tables_of}
+use Rattle.wild_moved.specs.Moved.{value_at, HasMoved}
 
 -- over the loaded segments each word and each entry is a relative one, and their places lie beside each other
 abbrev pub TablesAreRelative : Type 0

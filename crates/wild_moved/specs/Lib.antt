@@ -1,2 +1,2 @@
-pub mod Tables
+pub mod Moved
 pub mod Laws

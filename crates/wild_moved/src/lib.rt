@@ -1,37 +1,25 @@
-//! The image of an output whose addresses move: a loader finds its tables, and each address is more by the base.
+//! The image of an output whose addresses move is loaded at every base, each address more by it.
 #![tactic(auto)]
 
-ghost use Rattle.wild_moved.specs.Laws.{MovedImagesAreLoaded, SectionsAreMoved, TablesAreFound, TablesAreRelative};
+ghost use Rattle.wild_moved.specs.Laws.{MovedImagesAreLoaded, SectionsAreMoved, TablesAreRelative};
 
-use wild_geometry::tables_stand;
 use wild_loaded::{
-    headers_stand, owners_are_known, sections_are_carried, sections_are_stored,
-    segments_are_loadable,
+    headers_stand, sections_are_carried, sections_are_stored, segments_are_loadable,
+    tables_are_found,
 };
 use wild_loader::{linked_images_are_loaded, numbers_are_read};
-use wild_relr::words_fit;
-use wild_tables::{dynamic_sections_are_read, entries_add_the_base, places_are_loaded};
+use wild_tables::{entries_add_the_base, places_are_loaded};
 
-/// A loader finds the tables of the addresses that move by the dynamic section.
-pub fn tables_are_found()
-    ensures { TablesAreFound }
-{
-    tables_stand();
-    dynamic_sections_are_read();
-    owners_are_known();
-    words_fit();
-}
-
-/// They are of relative entries, over words of eight bytes that lie beside each other.
+/// The tables are of relative entries, over words of eight bytes that lie beside each other.
 pub fn tables_are_relative()
     ensures { TablesAreRelative }
 {
     sections_are_carried();
     sections_are_stored();
     segments_are_loadable();
+    tables_are_found();
     numbers_are_read();
     places_are_loaded();
-    entries_add_the_base();
 }
 
 /// Where they were applied each address is more by the base, whether its place is packed or has an entry, and every other
@@ -42,6 +30,7 @@ pub fn sections_are_moved()
     sections_are_carried();
     sections_are_stored();
     segments_are_loadable();
+    tables_are_found();
     numbers_are_read();
     places_are_loaded();
     entries_add_the_base();

@@ -29,7 +29,6 @@ use Rattle.wild_meaning.specs.Field.{formula_of, form_width, FieldReads, InNoFie
 use Rattle.wild_meaning.specs.Template.{Operand, IsOwnByte, IsTemplate}
 use Rattle.wild_loader.specs.declared.world.World.{World}
 use Rattle.wild_loader.specs.declared.memory.Memory.{Memory}
-use Rattle.wild_loader.specs.declared.memory.Machine.TheVariants as machines
 use Rattle.wild_loader.specs.Memory.{Holds, byte_in}
 use Rattle.wild_geometry.specs.Loaded.{IsDecided}
 use Rattle.wild_values.specs.Terms.{IsPlaced}
@@ -87,7 +86,6 @@ pub record IsSectionLoaded (l : Layout) (w : World) (m : Memory) (s : InputSecti
   pub tables : Tables
   pub kinds : KindLaws
   pub placed : IsPlaced l w
-  pub same : m.machine ≡ machines.X86_64
   pub room : allocated s.flags ≡ true
   pub clean : IsDecided l s
   pub symbols : All (NamesSymbol l) s.relocations

@@ -13,5 +13,4 @@ mod ValueKinds
 mod ThreadKinds
 mod AddressKinds
 mod References
-mod Effects
 mod WholeSections

@@ -19,17 +19,15 @@ use Rattle.wild_layout.specs.Numbers.{NumbersFit}
 use Rattle.wild_layout.specs.Geometry.{IsLaidOut, SectionLies, NamesSymbol, EachSection}
 use Rattle.wild_geometry.specs.Loaded.{IsDecided, HasSection, in_memory}
 use Rattle.wild_loader.specs.declared.memory.Memory.{Memory}
-use Rattle.wild_loader.specs.declared.memory.Machine.TheVariants as machines
 use Rattle.wild_loader.specs.declared.world.World.{World}
-use Rattle.wild_loader.specs.Laws.{CallsAreRead}
 use Rattle.wild_meaning.specs.World.{IsFixed, IsMovable, IsExecutable, IsLegal}
 use Rattle.wild_meaning.specs.Item.{IsInput, IsKeptSection}
 use Rattle.wild_values.specs.Terms.{IsPlaced}
 use Rattle.wild_values.specs.Laws.{SectionsHold}
 use Rattle.wild_values.proofs.Bits.{alloc_bit}
 use Rattle.wild_values.proofs.Sections.{Tables, in_no_site}
-use Rattle.wild_values.proofs.Fields.{KindLaws, IsSectionLoaded}
-use Rattle.wild_values.proofs.Effects.{item_holds}
+use Rattle.wild_values.proofs.Fields.{KindLaws, IsSectionLoaded, other_byte}
+use Rattle.wild_values.proofs.References.{holds_plain}
 
 -- ---- kinds
 
@@ -75,14 +73,13 @@ each_at P l s h k =
 listed_at : (xs : List InputRelocation) (i : ℕ) (r : InputRelocation) → slice_get xs i ≡ Some r → Contains xs r
 listed_at xs i r e = (i, slice_get_within xs i r e, get_or_from_slice_get xs i r r e)
 
-section_loaded : (l : Layout) (w : World) (m : Memory) (s : InputSection) → Tables → KindLaws → IsPlaced l w → IsLaidOut l → m.machine ≡ machines.X86_64 → IsKeptSection l s → IsDecided l s → HasSection l w m s (in_memory w) → IsSectionLoaded l w m s
-section_loaded l w m s tables kinds p laid same k decided h =
+section_loaded : (l : Layout) (w : World) (m : Memory) (s : InputSection) → Tables → KindLaws → IsPlaced l w → IsLaidOut l → IsKeptSection l s → IsDecided l s → HasSection l w m s (in_memory w) → IsSectionLoaded l w m s
+section_loaded l w m s tables kinds p laid k decided h =
     let lies = each_at (SectionLies l) l s laid.inputs k.input in
     record {
       tables = tables;
       kinds = kinds;
       placed = p;
-      same = same;
       room = alloc_bit s.flags k.room;
       clean = decided;
       symbols = each_at (λ (s : InputSection). All (NamesSymbol l) s.relocations) l s laid.symbols k.input;
@@ -95,5 +92,7 @@ section_loaded l w m s tables kinds p laid same k decided h =
       others = λ i lt out. h.others i lt (in_no_site l s i tables p.x86 out);
     }
 
-pub sections_hold : Tables → KindLaws → CallsAreRead → SectionsHold
-sections_hold tables kinds calls = λ l w m s x program numbers legal laid same k decided h. item_holds l w m s calls (section_loaded l w m s tables kinds (placed l w x program numbers legal laid) laid same k decided h)
+pub sections_hold : Tables → KindLaws → SectionsHold
+sections_hold tables kinds = λ l w m s x program numbers legal laid k decided h.
+    let there = section_loaded l w m s tables kinds (placed l w x program numbers legal laid) laid k decided h in
+    record { references = λ r ref asked. holds_plain l w m s r there ref asked; others = λ i lt out. other_byte l w m s i there lt out }

@@ -2,9 +2,8 @@
 #![tactic(auto)]
 
 ghost use Rattle.wild_reloc.specs.declared.info.RelocationKind.TheVariants as kinds;
-ghost use Rattle.wild_values.specs.Laws.{AddressesGive, KindGives, SectionsHold, TemplatesAreCalls, ThreadPlacesAreKnown};
+ghost use Rattle.wild_values.specs.Laws.{AddressesGive, KindGives, SectionsHold, ThreadPlacesAreKnown};
 
-use wild_loader::calls_are_read;
 use wild_reloc::{fields_of_x86_64, widths_of_fields};
 
 /// S + A, of a symbol that does not move, or in an output that does not.
@@ -52,19 +51,13 @@ pub fn thread_places_are_known()
     ensures { ThreadPlacesAreKnown }
 {}
 
-/// Each template of x86-64 is a call's.
-pub fn templates_are_calls()
-    ensures { TemplatesAreCalls }
-{}
-
-/// Where memory has a kept section as it was decided, each of its references holds, its code does what is demanded, and
-/// every other byte is the input's.
+/// Where memory has a kept section as it was decided, each of its references reads as its formula, and every byte in no
+/// field is the input's.
 pub fn sections_hold()
     ensures { SectionsHold }
 {
     fields_of_x86_64();
     widths_of_fields();
-    calls_are_read();
     sums_are_given();
     distances_are_given();
     offsets_from_the_table_are_given();

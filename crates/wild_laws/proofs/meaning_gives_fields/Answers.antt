@@ -2,4 +2,4 @@ use Rattle.wild_laws.proofs.OldMeaning.{meaning_gives_fields}
 use Rattle.wild_laws.proofs.meaning_gives_fields.Goals as goal
 
 pub returns : goal.returns
-returns c = meaning_gives_fields c.templates_are_calls.ensures
+returns c = meaning_gives_fields

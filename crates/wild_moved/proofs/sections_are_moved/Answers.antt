@@ -8,4 +8,4 @@ returns c = sections_moved (record {
   zeros = c.sections_are_stored.ensures.zeros;
   read = c.numbers_are_read.ensures;
   found = c.places_are_loaded.ensures;
-}) c.entries_add_the_base.ensures c.segments_are_loadable.ensures
+}) c.entries_add_the_base.ensures c.tables_are_found.ensures.relative c.segments_are_loadable.ensures

@@ -15,4 +15,3 @@ returns c =
       own = c.offsets_in_the_module_are_given.ensures;
       address = c.addresses_are_given.ensures;
     })
-    c.calls_are_read.ensures.field

@@ -29,11 +29,11 @@ use Rattle.wild_loader.specs.Tables.{first_dynamic as found_dynamic, tagged}
 use Rattle.wild_loader.specs.Laws.{HasDynamic, HasTables, IsTableOf, word_bytes, rela_bytes, before_null}
 use Rattle.wild_tables.specs.Dynamic.{dynamic_records, dynamic_bytes, entries_bytes, LengthsOfDynamic, RecordsStand, RecordsFit, EntriesAreFound, TablesAreNamed}
 use Rattle.wild_relr.specs.Laws.{WordsFit}
-use Rattle.wild_loaded.specs.Laws.{OwnersAreKnown}
-use Rattle.wild_moved.specs.Tables.{tables_of}
-use Rattle.wild_moved.specs.Laws.{TablesAreFound}
-use Rattle.wild_moved.proofs.MovedTables.{entries_fit, words_fit}
-use Rattle.wild_moved.proofs.TableBytes.{words_are, entries_are, words_named, entries_named}
+use Rattle.wild_loaded.specs.Laws.{TablesAreFound}
+use Rattle.wild_loaded.specs.Tables.{tables_of}
+use Rattle.wild_loaded.proofs.Loads.{length-bytes}
+use Rattle.wild_loaded.proofs.TablesFit.{entries_fit, words_fit}
+use Rattle.wild_loaded.proofs.TableBytes.{words_are, entries_are, words_named, entries_named}
 
 -- what the crates below owe of a dynamic section
 pub record DynamicLaws : Type 0 where
@@ -43,7 +43,6 @@ pub record DynamicLaws : Type 0 where
   pub fit : RecordsFit
   pub found : EntriesAreFound
   pub named : TablesAreNamed
-  pub owners : OwnersAreKnown
   pub words : WordsFit
 
 -- ---- the part of the dynamic section
@@ -137,7 +136,7 @@ has_dynamic l laws numbers laid d =
     let place = segment_place l s.segment in
     let c = first_listed l.segments s.segment s.first in
     let file = (All-contains (SegmentLoads (image_size l)) l.segments s.segment laid.loadable.each c).file in
-    let n = (laws.owners l laid).size in
+    let n = length-bytes l laid in
     let at = laws.records l d.part.size d.room in
     let offset = place.0 ∙ s.offset in
     let size = place.1 ∙ s.file_size in

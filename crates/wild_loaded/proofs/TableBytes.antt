@@ -1,5 +1,5 @@
 -- The bytes of the tables of addresses that move, and where a loader finds them.
-use Rattle.std.proofs.Common.{◌≡◌, ℕ, zero, suc, ◌+◌, ◌-◌, ◌^◌, ◌<◌, ◌≤◌, inl, inr, Bool, true, false, List, [], ◌∷◌, ◌++◌, length, get_or, map, min, refl, sym, ap, ◌∙◌, arith, subst}
+use Rattle.std.proofs.Common.{◌≡◌, ℕ, ◌+◌, ◌-◌, ◌^◌, ◌<◌, ◌≤◌, inl, inr, Bool, true, false, List, [], ◌∷◌, ◌++◌, length, map, min, refl, sym, ap, ◌∙◌, arith, subst}
 use Rattle.std.specs.Prelude.{Option, Some, None, Contains, if◌then◌else◌, ◌==◌}
 use Rattle.std.specs.List.{flat_map}
 use Rattle.std.specs.Option.{option_or}
@@ -27,10 +27,19 @@ use Rattle.wild_layout.specs.Geometry.{IsLaidOut, SegmentLoads, table_bytes, Tab
 use Rattle.wild_loader.specs.Laws.{StandsAt, IsTableOf, word_bytes, rela_bytes}
 use Rattle.wild_loader.specs.Tables.{offset_in}
 use Rattle.std.proofs.lemmas.List.Elements.{All-contains}
-use Rattle.wild_moved.specs.Tables.{tables_of}
-use Rattle.wild_moved.proofs.SectionsApart.{flat_map-flat_map, flat_map-same}
+use Rattle.std.proofs.lemmas.List.Concat.{flat_map-append}
+use Rattle.wild_loaded.specs.Tables.{tables_of}
+use Rattle.wild_loaded.proofs.Loads.{Contains-map, kind_is, header_from, header_to}
 
 -- ---- bytes
+
+flat_map-flat_map : {X Y Z : Type 0} (g : Y → List Z) (f : X → List Y) (xs : List X) → flat_map g (flat_map f xs) ≡ flat_map (λ x. flat_map g (f x)) xs
+flat_map-flat_map g f [] = refl
+flat_map-flat_map g f (x ∷ xs) = flat_map-append g (f x) (flat_map f xs) ∙ ap (λ ys. flat_map g (f x) ++ ys) (flat_map-flat_map g f xs)
+
+flat_map-same : {X Y : Type 0} (f g : X → List Y) (xs : List X) → ((x : X) → f x ≡ g x) → flat_map f xs ≡ flat_map g xs
+flat_map-same f g [] h = refl
+flat_map-same f g (x ∷ xs) h = rw (h x) (ap (λ ys. g x ++ ys) (flat_map-same f g xs h))
 
 -- records of files, spelled
 by_group : {X : Type 0} (h : X → List ℕ) (of : File → List X) (r : Role) (l : Layout) → ((f : File) → file_content l r f ≡ flat_map h (of f)) → table_bytes l r ≡ flat_map h (flat_map (λ (g : Group). flat_map of g.files) l.groups)
@@ -64,18 +73,6 @@ general_none l =
 
 -- ---- where they stand
 
-segment_kind : (l : Layout) (g : Segment) → (program_header l g).kind ≡ g.kind
-unfolding program_header
-segment_kind l g = refl
-
-segment_from : (l : Layout) (g : Segment) (a : ℕ) → g.address ≤ a → (program_header l g).address ≤ a
-unfolding program_header
-segment_from l g a h = h
-
-segment_to : (l : Layout) (g : Segment) (e : ℕ) → e ≤ g.address + g.file_size → e ≤ (program_header l g).address + (program_header l g).file_size
-unfolding program_header
-segment_to l g e h = h
-
 segment_memory : (l : Layout) (g : Segment) (a : ℕ) → a < g.address + g.mem_size → a < (program_header l g).address + (program_header l g).mem_size
 unfolding program_header
 segment_memory l g a h = h
@@ -83,14 +80,6 @@ segment_memory l g a h = h
 segment_offset : (l : Layout) (g : Segment) (a : ℕ) → offset_in (program_header l g) a ≡ g.offset + (a - g.address)
 unfolding program_header
 segment_offset l g a = refl
-
-Contains-map : {X Y : Type 0} (f : X → Y) (xs : List X) (x : X) → Contains xs x → Contains (map f xs) (f x)
-Contains-map f [] x c = absurd (omega (arith, c.1))
-Contains-map f (z ∷ zs) x c = cases f z zs x c.0 c.1 c.2 (λ c'. Contains-map f zs x c')
-  where
-    cases : {X Y : Type 0} (f : X → Y) (z : X) (zs : List X) (x : X) (k : ℕ) → k < length (z ∷ zs) → get_or (z ∷ zs) k x ≡ x → (Contains zs x → Contains (map f zs) (f x)) → Contains (f z ∷ map f zs) (f x)
-    cases f z zs x zero l e again = (0, omega arith, ap f e)
-    cases f z zs x (suc k) l e again = let c = again (k, omega arith, e) in (suc c.0, omega (arith, c.1), c.2)
 
 -- the bytes of a table stand in a loaded segment, at its address
 table_at : (l : Layout) (r : Role) (p : Part) → TablesStand → IsLaidOut l → (role_place r ≡ 0 → ⊥) → needs_dynamic l.kind ≡ true → is_relative_role r ≡ true → part_with r l.parts ≡ Some p → 1 ≤ p.size → length (table_bytes l r) ≡ p.size → StandsAt (bytes l) (map (program_header l) l.segments) p.address (table_bytes l r)
@@ -102,10 +91,10 @@ table_at l r p stands laid place needs relative there some full =
     record {
       segment = program_header l c.segment;
       contained = Contains-map (program_header l) l.segments c.segment c.listed;
-      to_load = segment_kind l c.segment ∙ c.loaded;
-      low = segment_from l c.segment p.address c.from;
+      to_load = kind_is l c.segment ∙ c.loaded;
+      low = header_from l c.segment p.address c.from;
       inner = segment_memory l c.segment p.address (omega (arith, some, to, sizes));
-      high = segment_to l c.segment (p.address + length (table_bytes l r)) (omega (arith, to, full));
+      high = header_to l c.segment (p.address + length (table_bytes l r)) (omega (arith, to, full));
       stands = subst (λ (n : ℕ). Stands (bytes l) n (table_bytes l r)) (c.distance ∙ sym (segment_offset l c.segment p.address)) here;
     }
 

@@ -1,6 +1,6 @@
 -- The code of a kept section does what its templates demand.
-use Rattle.std.proofs.Common.{◌≡◌, ℕ, zero, suc, ◌+◌, ◌-◌, ◌%◌, ◌^◌, ◌<◌, inl, true, List, [], ◌∷◌, length, get_or, slice_range, refl, sym, ap, ◌∙◌, arith, subst}
-use Rattle.std.specs.Prelude.{Option, Some, None, Contains, slice_index, ◌==◌}
+use Rattle.std.proofs.Common.{◌≡◌, ℕ, zero, suc, ◌+◌, ◌-◌, ◌%◌, ◌^◌, ◌<◌, ◌≤◌, inl, Bool, true, false, List, [], ◌∷◌, length, get_or, slice_range, refl, sym, ap, ◌∙◌, arith, subst}
+use Rattle.std.specs.Prelude.{◌&&◌, Option, Some, None, Contains, slice_index, ◌==◌}
 use Rattle.std.specs.Int.{w64, cast_unsigned}
 use Rattle.std.proofs.lemmas.Bool.{eqb-true}
 use Rattle.std.proofs.lemmas.List.{get_or-take, get_or-drop}
@@ -25,15 +25,12 @@ use Rattle.wild_meaning.specs.Field.{formula_of, form_width, InNoField}
 use Rattle.wild_meaning.specs.Formula.{IsTarget, Gives}
 use Rattle.wild_meaning.specs.Template.{Operand, call_operand, operands_of, IsTemplate, IsGoal, DoesDemanded}
 use Rattle.wild_meaning.specs.Reference.{IsAsked, ItemHolds}
-use Rattle.wild_values.specs.Laws.{TemplatesAreCalls}
-use Rattle.wild_values.proofs.Tests.{both_of}
-use Rattle.wild_values.proofs.Fields.{IsSectionLoaded, other_byte}
-use Rattle.wild_values.proofs.References.{holds_plain}
+use Rattle.wild_values.specs.Laws.{FieldsHold}
 
 -- ---- the template
 
 -- the one operand of x86-64 that is known
-only_call : (m : Machine) (o : Operand) → m ≡ machine.X86_64 → Contains (operands_of m) o → call_operand ≡ o
+pub only_call : (m : Machine) (o : Operand) → m ≡ machine.X86_64 → Contains (operands_of m) o → call_operand ≡ o
 only_call m o x c = one o (subst (λ (k : Machine). Contains (operands_of k) o) x c)
   where
     one : (o : Operand) → Contains (call_operand ∷ []) o → call_operand ≡ o
@@ -43,19 +40,23 @@ only_call m o x c = one o (subst (λ (k : Machine). Contains (operands_of k) o) 
         at o zero l e = e
         at o (suc k) l e = absurd (omega (arith, l))
 
-only_pc32 : (n : ℕ) → Contains (r_x86_64_pc32 ∷ []) n → n ≡ r_x86_64_pc32
+pub only_pc32 : (n : ℕ) → Contains (r_x86_64_pc32 ∷ []) n → n ≡ r_x86_64_pc32
 only_pc32 n c = at n c.0 c.1 c.2
   where
     at : (n k : ℕ) → k < length (r_x86_64_pc32 ∷ []) → get_or (r_x86_64_pc32 ∷ []) k n ≡ n → n ≡ r_x86_64_pc32
     at n zero l e = sym e
     at n (suc k) l e = absurd (omega (arith, l))
 
-stands_first : (c : ℕ) (cs : List Cell) (bs : List ℕ) → stands (Is c ∷ cs) bs ≡ true → get_or bs 0 0 ≡ c
+both_of : (a b : Bool) → (a && b) ≡ true → (a ≡ true) × (b ≡ true)
+both_of true b h = (refl, h)
+both_of false b h = cc
+
+pub stands_first : (c : ℕ) (cs : List Cell) (bs : List ℕ) → stands (Is c ∷ cs) bs ≡ true → get_or bs 0 0 ≡ c
 stands_first c cs [] h = cc
 stands_first c cs (b ∷ bs) h = eqb-true b c (both_of (b == c) (stands cs bs) h).0
 
 -- the first byte of a range of bytes
-range_first : (bs : List ℕ) (a n : ℕ) → 0 < n → get_or (slice_range bs a (a + n)) 0 0 ≡ slice_index bs a
+pub range_first : (bs : List ℕ) (a n : ℕ) → 0 < n → get_or (slice_range bs a (a + n)) 0 0 ≡ slice_index bs a
 range_first bs a n h =
     let e : a + n - a ≡ n = omega arith in
     let z : a + 0 ≡ a = omega arith in
@@ -64,7 +65,7 @@ range_first bs a n h =
 -- ---- memory
 
 -- an opcode and the bytes behind it
-Holds-cons : (m : Memory) (a b : ℕ) (bs : List ℕ) → byte_in m a ≡ Some b → Holds m (a + 1) bs → Holds m a (b ∷ bs)
+pub Holds-cons : (m : Memory) (a b : ℕ) (bs : List ℕ) → byte_in m a ≡ Some b → Holds m (a + 1) bs → Holds m a (b ∷ bs)
 Holds-cons m a b bs h t = λ k l. at m a b bs h t k l
   where
     at : (m : Memory) (a b : ℕ) (bs : List ℕ) → byte_in m a ≡ Some b → Holds m (a + 1) bs → (k : ℕ) → k < length (b ∷ bs) → byte_in m (a + k) ≡ Some (get_or (b ∷ bs) k 0)
@@ -87,29 +88,16 @@ call_goes m a p x t c bytes calls same e low op four held read is =
 
 -- ---- the formula
 
-formula_pc32 : x86_64_formula r_x86_64_pc32 ≡ Some (formula Distance (Plain 32 Signed))
+pub formula_pc32 : x86_64_formula r_x86_64_pc32 ≡ Some (formula Distance (Plain 32 Signed))
 unfolding x86_64_formula
 formula_pc32 = refl
 
-formula_is : (k : Machine) (n : ℕ) (f : Formula) → k ≡ machine.X86_64 → n ≡ r_x86_64_pc32 → formula_of k n ≡ Some f → f ≡ formula Distance (Plain 32 Signed)
+pub formula_is : (k : Machine) (n : ℕ) (f : Formula) → k ≡ machine.X86_64 → n ≡ r_x86_64_pc32 → formula_of k n ≡ Some f → f ≡ formula Distance (Plain 32 Signed)
 formula_is k n f x e h =
     let known : x86_64_formula n ≡ Some f = subst (λ (j : Machine). formula_of j n ≡ Some f) x h in
     let two : x86_64_formula n ≡ Some (formula Distance (Plain 32 Signed)) = subst (λ (j : ℕ). x86_64_formula j ≡ Some (formula Distance (Plain 32 Signed))) (sym e) formula_pc32 in
     let both : Some f ≡ Some (formula Distance (Plain 32 Signed)) = sym known ∙ two in
     cc
-
--- what is known of a template
-pub template_is_call : TemplatesAreCalls
-template_is_call = λ l item r start o x t.
-    let e = only_call l.machine o x t.known in
-    let u = subst (λ (p : Operand). IsTemplate l item r start p) (sym e) t in
-    let number = only_pc32 r.number u.number in
-    record {
-      operand = e;
-      number = number;
-      formula = subst (λ (n : ℕ). x86_64_formula n ≡ Some (formula Distance (Plain 32 Signed))) (sym number) formula_pc32;
-      opcode = sym (range_first item.bytes start 5 (omega arith)) ∙ stands_first 0xe8 (Any ∷ Any ∷ Any ∷ Any ∷ []) (slice_range item.bytes start (start + 5)) u.stands;
-    }
 
 goal_of : (l : Layout) (w : World) (m : Memory) (symbol : Option ℕ) (a : ℕ) → IsTarget l w m symbol a → IsGoal l w m symbol a
 goal_of l w m None a h = h
@@ -117,40 +105,47 @@ goal_of l w m (Some i) a h = (a, h, refl)
 
 -- ---- calls
 
-opcode_held : (l : Layout) (w : World) (m : Memory) (s : InputSection) (r : InputRelocation) (start : ℕ) → IsSectionLoaded l w m s → IsTemplate l (item_of s) r start call_operand → byte_in m (place_at w (item_of s) start) ≡ Some 0xe8
+-- a kept section of an x86-64 layout in memory, whose fields hold, and which does not wrap
+pub record IsSectionThere (l : Layout) (w : World) (m : Memory) (s : InputSection) : Type 0 where
+  pub x86 : l.machine ≡ machine.X86_64
+  pub same : m.machine ≡ machines.X86_64
+  pub ends : 1 ≤ length s.bytes → w.base + s.address + length s.bytes ≤ 2 ^ 64
+  pub fields : FieldsHold l w m (item_of s)
+
+opcode_held : (l : Layout) (w : World) (m : Memory) (s : InputSection) (r : InputRelocation) (start : ℕ) → IsSectionThere l w m s → IsTemplate l (item_of s) r start call_operand → byte_in m (place_at w (item_of s) start) ≡ Some 0xe8
 opcode_held l w m s r start h t =
     let z : start + 0 ≡ start = omega arith in
     let alone = subst (λ (k : ℕ). InNoField l (item_of s) k) z (t.alone 0 (omega arith, inl (omega arith))) in
     let inside = t.inside in
-    other_byte l w m s start h (omega (arith, inside)) alone ∙ ap Some (template_is_call l (item_of s) r start call_operand h.placed.x86 t).opcode
+    let first : slice_index s.bytes start ≡ 0xe8 = sym (range_first s.bytes start 5 (omega arith)) ∙ stands_first 0xe8 (Any ∷ Any ∷ Any ∷ Any ∷ []) (slice_range s.bytes start (start + 5)) t.stands in
+    h.fields.others start (omega (arith, inside)) alone ∙ ap Some first
 
-call_does : (l : Layout) (w : World) (m : Memory) (s : InputSection) (r : InputRelocation) (start : ℕ) → CallsAreRead → IsSectionLoaded l w m s → IsReference (item_of s) r → IsAsked l w r → IsTemplate l (item_of s) r start call_operand → DoesDemanded l w m (item_of s) r start call_operand
+call_does : (l : Layout) (w : World) (m : Memory) (s : InputSection) (r : InputRelocation) (start : ℕ) → CallsAreRead → IsSectionThere l w m s → IsReference (item_of s) r → IsAsked l w r → IsTemplate l (item_of s) r start call_operand → DoesDemanded l w m (item_of s) r start call_operand
 call_does l w m s r start calls h ref asked t =
-    let plain = holds_plain l w m s r h ref asked in
-    let f = formula_is l.machine r.number plain.formula h.placed.x86 (only_pc32 r.number t.number) plain.known in
+    let plain = h.fields.references r ref asked in
+    let f = formula_is l.machine r.number plain.formula h.x86 (only_pc32 r.number t.number) plain.known in
     let wide : length plain.field.bytes ≡ 4 = plain.field.wide ∙ ap (λ (g : Formula). form_width g.form) f in
     let read : sign_extended 32 (number plain.field.bytes) ≡ plain.value = subst (λ (g : Formula). Reads g.form plain.field.bytes plain.value) f plain.field.reads in
     let gives = subst (λ (g : Formula). Gives g.value l w m (item_of s) r plain.value) f plain.gives in
     let is : plain.value ≡ ((gives.1.symbol + cast_unsigned w64 r.addend) % 2 ^ 64 + (2 ^ 64 - place_at w (item_of s) r.offset)) % 2 ^ 64 = gives.2 ∙ ap (λ (n : ℕ). (n + (2 ^ 64 - place_at w (item_of s) r.offset)) % 2 ^ 64) gives.1.sum in
     let behind = t.field in
     let next : place_at w (item_of s) r.offset ≡ place_at w (item_of s) start + 1 = omega (arith, behind) in
-    let full = h.full in
     let inside = t.inside in
     let ends = h.ends (omega (arith, inside)) in
     record {
       goal = gives.1.symbol;
       reached = goal_of l w m r.symbol gives.1.symbol gives.1.denoted;
-      effect = call_goes m (place_at w (item_of s) start) (place_at w (item_of s) r.offset) plain.value gives.1.symbol (cast_unsigned w64 r.addend) plain.field.bytes calls h.same next (omega (arith, full, ends, inside)) (opcode_held l w m s r start h t) wide plain.field.held read is;
+      effect = call_goes m (place_at w (item_of s) start) (place_at w (item_of s) r.offset) plain.value gives.1.symbol (cast_unsigned w64 r.addend) plain.field.bytes calls h.same next (omega (arith, ends, inside)) (opcode_held l w m s r start h t) wide plain.field.held read is;
     }
 
-does_demanded : (l : Layout) (w : World) (m : Memory) (s : InputSection) (r : InputRelocation) (start : ℕ) (o : Operand) → CallsAreRead → IsSectionLoaded l w m s → IsReference (item_of s) r → IsAsked l w r → IsTemplate l (item_of s) r start o → DoesDemanded l w m (item_of s) r start o
+does_demanded : (l : Layout) (w : World) (m : Memory) (s : InputSection) (r : InputRelocation) (start : ℕ) (o : Operand) → CallsAreRead → IsSectionThere l w m s → IsReference (item_of s) r → IsAsked l w r → IsTemplate l (item_of s) r start o → DoesDemanded l w m (item_of s) r start o
 does_demanded l w m s r start o calls h ref asked t =
     let P : Operand → Type 0 = λ p. IsTemplate l (item_of s) r start p → DoesDemanded l w m (item_of s) r start p in
-    subst P (only_call l.machine o h.placed.x86 t.known) (call_does l w m s r start calls h ref asked) t
+    subst P (only_call l.machine o h.x86 t.known) (call_does l w m s r start calls h ref asked) t
 
-pub item_holds : (l : Layout) (w : World) (m : Memory) (s : InputSection) → CallsAreRead → IsSectionLoaded l w m s → ItemHolds l w m (item_of s)
+pub item_holds : (l : Layout) (w : World) (m : Memory) (s : InputSection) → CallsAreRead → IsSectionThere l w m s → ItemHolds l w m (item_of s)
 item_holds l w m s calls h = record {
-  references = λ r ref asked. inl (holds_plain l w m s r h ref asked);
+  references = λ r ref asked. inl (h.fields.references r ref asked);
   effects = λ r start o ref asked t. does_demanded l w m s r start o calls h ref asked t;
-  others = λ k lt out. other_byte l w m s k h lt out.fields;
+  others = λ k lt out. h.fields.others k lt out.fields;
 }
