@@ -1,4 +1,5 @@
 pub mod Strings
 pub mod Symbols
 pub mod Tables
+pub mod Lending
 pub mod Laws

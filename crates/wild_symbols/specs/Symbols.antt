@@ -5,7 +5,10 @@
 --   with_entry e t       one symbol more
 --   room_for_entry t     there is room for one, or InsufficientAllocation
 --   left_of_symbols t    no room is left, or ExcessiveAllocation
-use Rattle.std.specs.Prelude.{◌≡◌, ℕ, zero, suc, ◌+◌, ◌*◌, ◌≤◌, nat_lt, if◌then◌else◌, List, [], ◌∷◌, ◌++◌, length, take, Result, Ok, Err}
+--   room_for_entries n t there is room for n symbols more, or InsufficientAllocation
+--   front_symbols n t    the symbols with room for n more alone; kept_symbols n t is how many bytes that leaves behind
+--   symbols_joined k t   the room behind is theirs again, k bytes of it
+use Rattle.std.specs.Prelude.{◌≡◌, ℕ, zero, suc, ◌+◌, ◌-◌, ◌*◌, ◌≤◌, min, nat_lt, if◌then◌else◌, List, [], ◌∷◌, ◌++◌, length, take, Result, Ok, Err}
 use Rattle.std.specs.List.{flat_map}
 use Rattle.wild_words.specs.Record.{spell}
 use Rattle.wild_records.specs.declared.symtab_entry.SymtabEntry.{SymtabEntry}
@@ -23,23 +26,26 @@ unfoldable pub symbols_in : List ℕ → ℕ → List SymtabEntry
 symbols_in bytes zero = []
 symbols_in bytes (suc n) = symbols_in bytes n ++ symtab_entry_at bytes (symtab_entry_size * n) ∷ []
 
--- symbols of a group: the place of their part, the group, the symbols so far, and how many bytes the share has
+-- symbols of a group: the place of their part, the group, the symbols so far, how many bytes of the share are theirs,
+-- and how many behind these are kept for later
 pub record Symbols : Type 0 where
   pub part : ℕ
   pub group : ℕ
   pub symbols : List SymtabEntry
   pub room : ℕ
+  pub behind : ℕ
 
-abbrev pub symbols_of : ℕ → ℕ → List ℕ → ℕ → Symbols
-symbols_of part group bytes n = record { part = part; group = group; symbols = symbols_in bytes n; room = length bytes }
+abbrev pub symbols_of : ℕ → ℕ → List ℕ → ℕ → ℕ → Symbols
+symbols_of part group bytes n behind =
+    record { part = part; group = group; symbols = symbols_in bytes n; room = length bytes - behind; behind = behind }
 
 -- the first bytes are those of the symbols that are read there
 unfoldable pub IsSpelled : List ℕ → ℕ → Type 0
 IsSpelled bytes n = take (symtab_entry_size * n) bytes ≡ symbol_bytes (symbols_in bytes n)
 
--- the symbols lie in the share
-pub record IsSymbols (bytes : List ℕ) (n : ℕ) : Type 0 where
-  pub fits : symtab_entry_size * n ≤ length bytes
+-- the symbols lie in their part of the share
+pub record IsSymbols (bytes : List ℕ) (n behind : ℕ) : Type 0 where
+  pub fits : symtab_entry_size * n + behind ≤ length bytes
   pub spelled : IsSpelled bytes n
 
 -- one symbol more
@@ -63,3 +69,24 @@ left_of_symbols t =
     if nat_lt (symbols_used t) t.room
     then Err (record { fault = faults.ExcessiveAllocation t.part t.group t.room (symbols_used t); at = nowhere })
     else Ok tt
+
+-- ---- the front of a share
+
+-- there is room for n symbols more; else how many bytes the share would need
+abbrev pub room_for_entries : ℕ → Symbols → Result (Unit {0}) Error
+room_for_entries n t =
+    if nat_lt t.room (symbols_used t + symtab_entry_size * n)
+    then Err (record { fault = faults.InsufficientAllocation t.part t.group t.room (symbols_used t + symtab_entry_size * n); at = nowhere })
+    else Ok tt
+
+-- how many bytes lie behind the next n symbols
+abbrev pub kept_symbols : ℕ → Symbols → ℕ
+kept_symbols n t = t.room - (symbols_used t + symtab_entry_size * n)
+
+-- the same symbols, with room for n more alone
+abbrev pub front_symbols : ℕ → Symbols → Symbols
+front_symbols n t = record t { room = symbols_used t + symtab_entry_size * n; behind = t.behind + kept_symbols n t }
+
+-- the same symbols, to which k bytes of what is kept behind them belong again
+abbrev pub symbols_joined : ℕ → Symbols → Symbols
+symbols_joined k t = record t { room = t.room + min k t.behind; behind = t.behind - min k t.behind }

@@ -4,6 +4,9 @@
 --   with_symbol local name s value a w    one symbol and its name more
 --   room_for_symbol local name w  there is room for both, or InsufficientAllocation
 --   left_over w                   no room is left, or ExcessiveAllocation of the first table that has
+--   room_for_prefix n m w         there is room for n global symbols and m bytes of strings, or InsufficientAllocation
+--   prefix_of n m w               the writer with that room alone; kept_behind n m w is what that leaves behind
+--   joined kept w                 the room behind is the writer's again
 use Rattle.std.specs.Prelude.{ℕ, ◌<◌, Bool, true, false, List, [], Result, Ok, Err, Option, Some, None, slice_get}
 use Rattle.wild_records.specs.Abi.Section.{shn_loreserve, shn_undef}
 use Rattle.wild_records.specs.SymbolSections.{split_index}
@@ -15,8 +18,9 @@ use Rattle.wild_plan.specs.declared.fault.Error.{Error}
 use Rattle.wild_plan.specs.declared.file.Group.{Group}
 use Rattle.wild_plan.specs.declared.layout.Layout.{Layout}
 use Rattle.wild_plan.specs.Shares.{part_of, share_of}
-use Rattle.wild_symbols.specs.Strings.{offset_of, with_string, room_for_string, left_of_strings}
-use Rattle.wild_symbols.specs.Symbols.{Symbols, with_entry, room_for_entry, left_of_symbols}
+use Rattle.wild_symbols.specs.Strings.{offset_of, with_string, room_for_string, left_of_strings, room_for_bytes, kept_strings, front_strings, strings_joined}
+use Rattle.wild_symbols.specs.Symbols.{Symbols, with_entry, room_for_entry, left_of_symbols, room_for_entries, kept_symbols, front_symbols, symbols_joined}
+use Rattle.wild_symbols.specs.declared.prefix.KeptBehind.{KeptBehind}
 use Rattle.wild_symbols.specs.declared.writer.SymbolAttributes.{SymbolAttributes}
 use Rattle.wild_symbols.specs.declared.writer.SymbolTableWriter.{SymbolTableWriter}
 
@@ -33,9 +37,9 @@ dynstr_start l group = dynstr_start_of (slice_get l.groups group)
 -- no symbols and no strings yet; a dynamic table has no room for local symbols
 abbrev pub no_dynamic_symbols : Layout → ℕ → SymbolTableWriter
 no_dynamic_symbols l group = record {
-  locals = record { part = part_of l role.SymtabLocal; group = group; symbols = []; room = 0 };
-  globals = record { part = part_of l role.Dynsym; group = group; symbols = []; room = share_of l group role.Dynsym };
-  strtab = record { part = part_of l role.Dynstr; group = group; start = dynstr_start l group; bytes = []; room = share_of l group role.Dynstr };
+  locals = record { part = part_of l role.SymtabLocal; group = group; symbols = []; room = 0; behind = 0 };
+  globals = record { part = part_of l role.Dynsym; group = group; symbols = []; room = share_of l group role.Dynsym; behind = 0 };
+  strtab = record { part = part_of l role.Dynstr; group = group; start = dynstr_start l group; bytes = []; room = share_of l group role.Dynstr; behind = 0 };
 }
 
 -- ---- one symbol
@@ -91,3 +95,21 @@ room_for_symbol local name w = and_then (room_for_entry (list_of local w)) (room
 -- no table has room left; else the first that has, in the order of roles
 abbrev pub left_over : SymbolTableWriter → Result (Unit {0}) Error
 left_over w = and_then (and_then (left_of_symbols w.locals) (left_of_symbols w.globals)) (left_of_strings w.strtab)
+
+-- ---- the front of a share
+
+-- there is room for n global symbols more, and for m bytes of strings
+abbrev pub room_for_prefix : ℕ → ℕ → SymbolTableWriter → Result (Unit {0}) Error
+room_for_prefix n m w = and_then (room_for_entries n w.globals) (room_for_bytes m w.strtab)
+
+-- how many bytes of each table lie behind that
+abbrev pub kept_behind : ℕ → ℕ → SymbolTableWriter → KeptBehind
+kept_behind n m w = record { locals = kept_symbols 0 w.locals; globals = kept_symbols n w.globals; strings = kept_strings m w.strtab }
+
+-- the writer with room for these alone, and for no local symbol
+abbrev pub prefix_of : ℕ → ℕ → SymbolTableWriter → SymbolTableWriter
+prefix_of n m w = record { locals = front_symbols 0 w.locals; globals = front_symbols n w.globals; strtab = front_strings m w.strtab }
+
+-- the writer, to which what is kept behind belongs again
+abbrev pub joined : KeptBehind → SymbolTableWriter → SymbolTableWriter
+joined k w = record { locals = symbols_joined k.locals w.locals; globals = symbols_joined k.globals w.globals; strtab = strings_joined k.strings w.strtab }

@@ -3,6 +3,7 @@
 
 mod faults;
 mod laws;
+mod prefix;
 mod strtab;
 mod symbol_table;
 #[cfg(test)]
@@ -10,6 +11,7 @@ mod tests;
 mod writer;
 
 pub use laws::{strings_stand, symbols_are_read};
+pub use prefix::{KeptBehind, SymbolTablePrefix};
 pub use strtab::StrTabWriter;
 pub use symbol_table::SymbolTable;
 pub use writer::{SymbolAttributes, SymbolTableWriter, dynstr_start};

@@ -1,7 +1,7 @@
 //! Strings in the room of their part (gABI, "String Table").
 ghost use Rattle.std.specs.Prelude.{◌≡◌, ◌+◌, ◌^◌, ◌<◌, ◌≤◌, [], ◌∷◌, ◌++◌, length, take, OnOk, OnErr, IfOk};
 ghost use Rattle.wild_words.specs.Words.{place};
-ghost use Rattle.wild_symbols.specs.Strings.{string, with_string, room_for_string, left_of_strings};
+ghost use Rattle.wild_symbols.specs.Strings.{string, with_string, room_for_string, left_of_strings, room_for_bytes, kept_strings, front_strings, strings_joined};
 
 use crate::faults::{excessive, insufficient};
 use std::alloc::{AllocError, Global};
@@ -18,6 +18,7 @@ pub struct StrTabWriter {
     start: u32,
     share: Vec<u8>,
     used: usize,
+    behind: usize,
 }
 
 impl Model for StrTabWriter {
@@ -25,9 +26,9 @@ impl Model for StrTabWriter {
 
     ghost Value = { Strings };
 
-    ghost view = { λ t. strings_in t.part t.group t.start t.share.items t.used };
+    ghost view = { λ t. strings_in t.part t.group t.start t.share.items t.used t.behind };
 
-    ghost invariant = { λ t. IsStrings t.start t.share.items t.used };
+    ghost invariant = { λ t. IsStrings t.start t.share.items t.used t.behind };
 }
 
 /// A string and its zero at an offset.
@@ -50,7 +51,7 @@ impl StrTabWriter {
         room: usize,
     ) -> Result<Self, AllocError>
         requires { start + room < 2 ^ 32 }
-        ensures { IfOk result (λ t. t ≡ record { part = part; group = group; start = start; bytes = []; room = room }) }
+        ensures { IfOk result (λ t. t ≡ record { part = part; group = group; start = start; bytes = []; room = room; behind = 0 }) }
     {
         Ok(StrTabWriter {
             part,
@@ -58,6 +59,7 @@ impl StrTabWriter {
             start,
             share: vec![in alloc; 0; room]?,
             used: 0,
+            behind: 0,
         })
     }
 
@@ -71,9 +73,10 @@ impl StrTabWriter {
         ensures written { OnOk result (self.new ≡ with_string bytes.now self.old) }
         ensures kept { OnErr result (self.new ≡ self.old) }
     {
+        let room = self.room();
         let needed = self.used + (bytes.len() + 1);
-        if self.share.len() < needed {
-            return Err(insufficient(self.part, self.group, self.share.len(), needed));
+        if room < needed {
+            return Err(insufficient(self.part, self.group, room, needed));
         }
         put_string(self.share.as_mut_slice(), self.used, bytes);
         let offset = self.start + self.used as u32;
@@ -89,16 +92,58 @@ impl StrTabWriter {
     pub fn check_exhausted(&self) -> Result<(), Error>
         ensures { result ≡ left_of_strings self.now }
     {
-        if self.used < self.share.len() {
-            return Err(excessive(self.part, self.group, self.share.len(), self.used));
+        let room = self.room();
+        if self.used < room {
+            return Err(excessive(self.part, self.group, room, self.used));
         }
         Ok(())
+    }
+
+    /// How many bytes of the share are the strings'.
+    fn room(&self) -> usize
+        ensures { result ≡ self.now.room }
+    {
+        self.share.len() - self.behind
+    }
+
+    /// Whether there is room for so many bytes more.
+    ///
+    /// # Errors
+    ///
+    /// `InsufficientAllocation` exactly where there is not.
+    pub(crate) fn check_bytes(&self, bytes: u32) -> Result<(), Error>
+        ensures { result ≡ room_for_bytes bytes self.now }
+    {
+        let room = self.room();
+        let needed = self.used + bytes as usize;
+        if room < needed {
+            return Err(insufficient(self.part, self.group, room, needed));
+        }
+        Ok(())
+    }
+
+    /// Leaves room for so many bytes more alone, and answers how many lie behind.
+    pub(crate) fn take_front(&mut self, bytes: u32) -> usize
+        requires { length self.old.bytes + bytes ≤ self.old.room }
+        ensures front { self.new ≡ front_strings bytes self.old }
+        ensures kept { result ≡ kept_strings bytes self.old }
+    {
+        let kept = self.share.len() - self.behind - (self.used + bytes as usize);
+        self.behind += kept;
+        kept
+    }
+
+    /// So many bytes of what is kept behind belong to the strings again.
+    pub(crate) fn join(&mut self, kept: usize)
+        ensures { self.new ≡ strings_joined kept self.old }
+    {
+        self.behind -= kept.min(self.behind);
     }
 
     /// The bytes of the share: those of the strings, and then the room that is left.
     pub fn bytes(&self) -> &[u8]
         ensures written { take (length self.now.bytes) result.now ≡ self.now.bytes }
-        ensures room { length result.now ≡ self.now.room }
+        ensures room { length result.now ≡ self.now.room + self.now.behind }
     {
         self.share.as_slice()
     }

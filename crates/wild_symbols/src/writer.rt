@@ -166,7 +166,7 @@ impl SymbolTableWriter {
     pub fn symbols(&self) -> &[u8]
         ensures written { take (symbols_used self.now.globals) result.now ≡ symbol_bytes self.now.globals.symbols }
         ensures read { (k : ℕ) (d : Entry) → k < length self.now.globals.symbols → symtab_entry_at result.now (symtab_entry_size * k) ≡ slice_index_or self.now.globals.symbols k d }
-        ensures room { length result.now ≡ self.now.globals.room }
+        ensures room { length result.now ≡ self.now.globals.room + self.now.globals.behind }
     {
         self.globals.bytes()
     }
@@ -174,7 +174,7 @@ impl SymbolTableWriter {
     /// The bytes of the group's share of the strings: those of the strings, and then the room that is left.
     pub fn strings(&self) -> &[u8]
         ensures written { take (length self.now.strtab.bytes) result.now ≡ self.now.strtab.bytes }
-        ensures room { length result.now ≡ self.now.strtab.room }
+        ensures room { length result.now ≡ self.now.strtab.room + self.now.strtab.behind }
     {
         self.strtab.bytes()
     }

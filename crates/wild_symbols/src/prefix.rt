@@ -1,0 +1,92 @@
+//! The front of a group's shares, for the symbols of one maker.
+ghost use Rattle.std.specs.Prelude.{◌≡◌, ◌+◌, ◌*◌, ◌≤◌, length, IfOk, IfErr, Ok, Err};
+ghost use Rattle.std.specs.Borrow.{sem};
+ghost use Rattle.wild_records.specs.SymtabEntry.{symtab_entry_size};
+ghost use Rattle.wild_symbols.specs.Symbols.{symbols_used};
+ghost use Rattle.wild_symbols.specs.Tables.{room_for_prefix, kept_behind, prefix_of, joined};
+ghost use Rattle.wild_symbols.specs.Lending.{PrefixOrNone};
+
+use crate::writer::SymbolTableWriter;
+use wild_plan::Error;
+
+/// How many bytes of each table are kept behind a prefix.
+#[derive(Clone, Copy, Debug, PartialEq, Eq)]
+pub struct KeptBehind {
+    pub locals: usize,
+    pub globals: usize,
+    pub strings: usize,
+}
+
+/// A writer with room for so many global symbols and bytes of strings alone, and for no local symbol. What is written
+/// stands behind what the writer had. When the prefix is let go, what lies behind it is the writer's again, which goes
+/// on behind what was written.
+pub struct SymbolTablePrefix<'a> {
+    /// The writer, while it has the prefix alone.
+    pub writer: &'a mut SymbolTableWriter,
+    kept: KeptBehind,
+}
+
+impl<'a> Drop for SymbolTablePrefix<'a> {
+    fn drop(self)
+        ensures { self.exit.0.now ≡ joined self.entry.kept self.entry.writer.now }
+    {
+        let SymbolTablePrefix { writer, kept } = self;
+        writer.join(kept);
+    }
+}
+
+impl SymbolTableWriter {
+    /// Whether there is room for so many global symbols, and bytes of strings, more.
+    fn check_prefix(&self, symbols: u32, strings: u32) -> Result<(), Error>
+        ensures { result ≡ room_for_prefix symbols strings self.now }
+    {
+        self.globals.check_entries(symbols)?;
+        self.strtab.check_bytes(strings)
+    }
+
+    /// Leaves that room alone, and answers what lies behind.
+    fn take_front(&mut self, symbols: u32, strings: u32) -> KeptBehind
+        requires { room_for_prefix symbols strings self.old ≡ Ok tt }
+        ensures front { self.new ≡ prefix_of symbols strings self.old }
+        ensures kept { result ≡ kept_behind symbols strings self.old }
+    {
+        KeptBehind {
+            locals: self.locals.close(),
+            globals: self.globals.take_front(symbols),
+            strings: self.strtab.take_front(strings),
+        }
+    }
+
+    /// What is kept behind belongs to the writer again.
+    fn join(&mut self, kept: KeptBehind)
+        ensures { self.new ≡ joined kept self.old }
+    {
+        self.locals.join(kept.locals);
+        self.globals.join(kept.globals);
+        self.strtab.join(kept.strings);
+    }
+
+    /// Takes a prefix: the writer with room for `symbols` global symbols and for `strings` bytes of strings alone. No
+    /// memory is taken.
+    ///
+    /// # Errors
+    ///
+    /// `InsufficientAllocation` exactly where so many symbols, or else so many bytes, do not fit what is left of their
+    /// share; nothing changes then.
+    pub fn take_prefix_global(
+        &mut self,
+        symbols: u32,
+        strings: u32,
+    ) -> Result<SymbolTablePrefix<'_>, Error>
+        ensures* kept_at_error { sem 𝓛 (PrefixOrNone self.entry result) }
+        ensures refused { IfErr result (λ e. room_for_prefix symbols strings self.old ≡ Err e) }
+        ensures taken { IfOk result (λ p. room_for_prefix symbols strings self.old ≡ Ok tt) }
+        ensures same_reference { IfOk result (λ p. p.writer.ghost_name ≡ self.entry.ghost_name) }
+        ensures front { IfOk result (λ p. p.writer.now ≡ prefix_of symbols strings self.old) }
+        ensures behind { IfOk result (λ p. p.kept ≡ kept_behind symbols strings self.old) }
+    {
+        self.check_prefix(symbols, strings)?;
+        let kept = self.take_front(symbols, strings);
+        Ok(SymbolTablePrefix { writer: self, kept })
+    }
+}
