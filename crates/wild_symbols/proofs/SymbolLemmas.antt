@@ -93,7 +93,8 @@ spelled_more bs n r m e read fits l s =
 
 -- ---- reading
 
-Stands-symbol : (es : List SymtabEntry) (k : ℕ) (d : SymtabEntry) → k < length es → Stands (symbol_bytes es) (24 * k) (spell (symtab_entry_fields (get_or es k d)))
+-- symbol k of symbols
+pub Stands-symbol : (es : List SymtabEntry) (k : ℕ) (d : SymtabEntry) → k < length es → Stands (symbol_bytes es) (24 * k) (spell (symtab_entry_fields (get_or es k d)))
 Stands-symbol [] k d l = absurd (omega (arith, l))
 Stands-symbol (r ∷ es) zero d l = Stands-left (spell (symtab_entry_fields r)) (symbol_bytes es)
 Stands-symbol (r ∷ es) (suc k) d l =

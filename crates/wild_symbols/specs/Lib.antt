@@ -2,4 +2,5 @@ pub mod Strings
 pub mod Symbols
 pub mod Tables
 pub mod Lending
+pub mod Runs
 pub mod Laws

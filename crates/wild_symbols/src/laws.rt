@@ -1,4 +1,5 @@
 //! Laws of the tables.
+ghost use Rattle.wild_symbols.specs.Runs.{RunsAreRead, RunsCount, RunsStandBehind, RunsWithRoomAreWhole};
 ghost use Rattle.wild_symbols.specs.Laws.{LengthsOfSymbols, SymbolsAreRead, LengthsOfStrings, StringsAreBehind, StringsStand};
 
 use wild_records::symtab_entry_is_read;
@@ -18,3 +19,14 @@ pub fn strings_stand()
     ensures behind { StringsAreBehind }
     ensures stand { StringsStand }
 {}
+
+/// Of any list of calls of `define_symbol` and `undefined_symbol`, each that was taken gave one symbol behind those of
+/// before. It is read with the fields of its call, and the call's name stands where the symbol tells, with a zero
+/// behind it. Where there is room for all, each was taken.
+pub fn runs_are_read()
+    ensures read { RunsAreRead }
+    ensures count { RunsCount }
+    ensures behind { RunsStandBehind }
+{
+    symtab_entry_is_read();
+}

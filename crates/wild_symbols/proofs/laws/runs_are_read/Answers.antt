@@ -1,0 +1,11 @@
+use Rattle.wild_symbols.proofs.RunLemmas.{run_read, run_counted, stand_behind}
+use Rattle.wild_symbols.proofs.laws.runs_are_read.Goals as goal
+
+pub returns-clause-read : goal.returns-clause-read
+returns-clause-read c = λ cs w local k table strings at d. run_read c.symtab_entry_is_read.ensures cs w local k table strings at d
+
+pub returns-clause-count : goal.returns-clause-count
+returns-clause-count c = run_counted
+
+pub returns-clause-behind : goal.returns-clause-behind
+returns-clause-behind c = stand_behind

@@ -1,0 +1,123 @@
+-- Whole runs of a writer: lists of calls of define_symbol and undefined_symbol.
+--   SymbolCall            what a call is given; undefined is one of undefined_symbol
+--   has_room c w          the symbol and its name fit
+--   called c w            what the call leaves; after cs w what calls leave, one after another
+--   taken local cs w      the calls that gave a local symbol, or a global one
+--   IsOf strings c e      the symbol is the call's, and its name stands in the strings
+--   RunsAreRead           symbol k of a run is that of the k-th call that gave one
+--   RunsCount             each call that gave a symbol gave one
+--   RunsStandBehind       what stood before a run stands before what it wrote
+--   RunsWithRoomAreWhole  where there is room for all, each call gives its symbol
+use Rattle.std.specs.Prelude.{◌≡◌, ℕ, ◌+◌, ◌*◌, ◌<◌, ◌≤◌, ◌^◌, Bool, true, false, not, ◌&&◌, if◌then◌else◌, List, [], ◌∷◌, ◌++◌, length, take, All, slice_index_or, Result, Ok, Err}
+use Rattle.std.specs.List.{filter}
+use Rattle.wild_words.specs.Words.{Stands}
+use Rattle.wild_records.specs.Abi.Section.{shn_undef}
+use Rattle.wild_records.specs.declared.symtab_entry.SymtabEntry.{SymtabEntry}
+use Rattle.wild_records.specs.declared.symbol_section.SymbolSection.{SymbolSection}
+use Rattle.wild_records.specs.declared.symbol_section.SymbolSection.TheVariants.{Raw}
+use Rattle.wild_records.specs.SymtabEntry.{symtab_entry_size, symtab_entry_at}
+use Rattle.wild_plan.specs.declared.fault.Error.{Error}
+use Rattle.wild_plan.specs.Lists.{total}
+use Rattle.wild_symbols.specs.Strings.{string}
+use Rattle.wild_symbols.specs.Symbols.{symbol_bytes, symbols_used}
+use Rattle.wild_symbols.specs.Tables.{section_number, list_of, with_symbol, room_for_symbol, room_for_prefix, kept_behind, prefix_of, joined}
+use Rattle.wild_symbols.specs.declared.writer.SymbolAttributes.{SymbolAttributes}
+use Rattle.wild_symbols.specs.declared.writer.SymbolTableWriter.{SymbolTableWriter}
+
+-- what a call is given
+pub record SymbolCall : Type 0 where
+  pub local : Bool
+  pub name : List ℕ
+  pub section : SymbolSection
+  pub value : ℕ
+  pub attributes : SymbolAttributes
+
+abbrev pub defined : Bool → List ℕ → SymbolSection → ℕ → SymbolAttributes → SymbolCall
+defined local name s value a = record { local = local; name = name; section = s; value = value; attributes = a }
+
+-- a symbol that no section has, of value 0
+abbrev pub undefined : Bool → List ℕ → SymbolAttributes → SymbolCall
+undefined local name a = defined local name (Raw shn_undef) 0 a
+
+-- what it is given fits the fields of a symbol (gABI, "Symbol Table")
+pub record SymbolCallFits (c : SymbolCall) : Type 0 where
+  pub info : c.attributes.info < 2 ^ 8
+  pub other : c.attributes.other < 2 ^ 8
+  pub section : section_number c.section < 2 ^ 16
+  pub value : c.value < 2 ^ 64
+  pub size : c.attributes.size < 2 ^ 64
+
+-- ---- runs
+
+abbrev pub is_ok : {X : Type 0} → Result X Error → Bool
+is_ok (Ok x) = true
+is_ok (Err e) = false
+
+-- the symbol and its name fit
+abbrev pub has_room : SymbolCall → SymbolTableWriter → Bool
+has_room c w = is_ok (room_for_symbol c.local c.name w)
+
+abbrev pub called_if : Bool → SymbolCall → SymbolTableWriter → SymbolTableWriter
+called_if true c w = with_symbol c.local c.name c.section c.value c.attributes w
+called_if false c w = w
+
+-- what a call leaves: one symbol and its name more; where they do not fit, the writer as it was
+abbrev pub called : SymbolCall → SymbolTableWriter → SymbolTableWriter
+called c w = called_if (has_room c w) c w
+
+-- what calls leave, one after another
+abbrev pub after : List SymbolCall → SymbolTableWriter → SymbolTableWriter
+after [] w = w
+after (c ∷ cs) w = after cs (called c w)
+
+-- a call of that kind of symbols
+abbrev pub is_in : Bool → Bool → Bool
+is_in true local = local
+is_in false local = not local
+
+abbrev pub taken_if : Bool → Bool → SymbolCall → List SymbolCall → List SymbolCall
+taken_if true true c cs = c ∷ cs
+taken_if true false c cs = cs
+taken_if false here c cs = cs
+
+-- the calls that gave a local symbol, or those that gave a global one
+abbrev pub taken : Bool → List SymbolCall → SymbolTableWriter → List SymbolCall
+taken local [] w = []
+taken local (c ∷ cs) w = taken_if (has_room c w) (is_in local c.local) c (taken local cs (called c w))
+
+-- ---- what is read
+
+-- the symbol has the call's fields, and the call's name stands at st_name of the strings, with a zero behind it
+-- (gABI, "Symbol Table", "String Table")
+pub record IsOf (strings : List ℕ) (c : SymbolCall) (e : SymtabEntry) : Type 0 where
+  pub named : Stands strings e.name (string c.name)
+  pub section : e.section ≡ section_number c.section
+  pub value : e.value ≡ c.value
+  pub info : e.info ≡ c.attributes.info
+  pub other : e.other ≡ c.attributes.other
+  pub size : e.size ≡ c.attributes.size
+
+-- where the symbols of a list stand, and the group's strings in the output's table, symbol k of a run is that of the
+-- k-th call that gave one, behind those of before
+abbrev pub RunsAreRead : Type 0
+RunsAreRead = (cs : List SymbolCall) (w : SymbolTableWriter) (local : Bool) (k : ℕ) (table strings : List ℕ) (at : ℕ) (d : SymbolCall) → All SymbolCallFits cs → w.strtab.start + w.strtab.room < 2 ^ 32
+    → Stands table at (symbol_bytes (list_of local (after cs w)).symbols) → Stands strings w.strtab.start (after cs w).strtab.bytes → k < length (taken local cs w)
+    → IsOf strings (slice_index_or (taken local cs w) k d) (symtab_entry_at table (at + symtab_entry_size * (length (list_of local w).symbols + k)))
+
+-- each call that gave a symbol gave one, and no other came
+abbrev pub RunsCount : Type 0
+RunsCount = (cs : List SymbolCall) (w : SymbolTableWriter) (local : Bool) → length (list_of local (after cs w)).symbols ≡ length (list_of local w).symbols + length (taken local cs w)
+
+-- what stood before a run stands before what it wrote
+abbrev pub RunsStandBehind : Type 0
+RunsStandBehind = (cs : List SymbolCall) (w : SymbolTableWriter) (local : Bool) → (take (length (list_of local w).symbols) (list_of local (after cs w)).symbols ≡ (list_of local w).symbols) × (take (length w.strtab.bytes) (after cs w).strtab.bytes ≡ w.strtab.bytes)
+
+-- there is room for the symbols of these calls, and for their names
+pub record HasRoomFor (cs : List SymbolCall) (w : SymbolTableWriter) : Type 0 where
+  pub locals : symbols_used w.locals + symtab_entry_size * length (filter (λ c. c.local) cs) ≤ w.locals.room
+  pub globals : symbols_used w.globals + symtab_entry_size * length (filter (λ c. not c.local) cs) ≤ w.globals.room
+  pub names : length w.strtab.bytes + total (λ c. length c.name + 1) cs ≤ w.strtab.room
+
+-- where there is room for all, each call gives its symbol
+abbrev pub RunsWithRoomAreWhole : Type 0
+RunsWithRoomAreWhole = (cs : List SymbolCall) (w : SymbolTableWriter) (local : Bool) → HasRoomFor cs w → taken local cs w ≡ filter (λ c. is_in local c.local) cs
