@@ -1,3 +1,4 @@
 pub mod StringLemmas
 pub mod SymbolLemmas
 pub mod RunLemmas
+pub mod RoomLemmas

@@ -1,7 +1,6 @@
 -- Laws of whole runs of a writer.
-use Rattle.std.proofs.Common.{◌≡◌, ℕ, zero, suc, ◌+◌, ◌-◌, ◌*◌, ◌<◌, ◌≤◌, ◌^◌, Bool, true, false, not, ◌&&◌, nat_lt, if◌then◌else◌, List, [], ◌∷◌, ◌++◌, length, take, get_or, Result, Ok, Err, refl, sym, ap, ◌∙◌, arith, subst}
+use Rattle.std.proofs.Common.{◌≡◌, ℕ, zero, suc, ◌+◌, ◌-◌, ◌*◌, ◌<◌, ◌≤◌, ◌^◌, Bool, true, false, if◌then◌else◌, List, [], ◌∷◌, ◌++◌, length, take, get_or, Result, Ok, Err, refl, sym, ap, ◌∙◌, arith, subst}
 use Rattle.std.specs.Prelude.{All}
-use Rattle.std.specs.List.{filter}
 use Rattle.std.proofs.Math.Seq.{take-append_seam}
 use Rattle.std.proofs.lemmas.Bool.{ltb-false}
 use Rattle.std.proofs.lemmas.List.{append_assoc, append-nil, length-append, get_or_append_left, get_or-append_right}
@@ -11,13 +10,12 @@ use Rattle.wild_words.proofs.OverlayLemmas.{Stands-inner}
 use Rattle.wild_words.proofs.RecordLemmas.{Stands-left, Stands-right}
 use Rattle.wild_records.specs.declared.symtab_entry.SymtabEntry.{SymtabEntry}
 use Rattle.wild_records.specs.declared.symbol_section.SymbolSection.{SymbolSection}
-use Rattle.wild_records.specs.SymtabEntry.{symtab_entry_size, symtab_entry_fields, symtab_entry_at, SymtabEntryFits, SymtabEntryIsRead}
+use Rattle.wild_records.specs.SymtabEntry.{symtab_entry_fields, symtab_entry_at, SymtabEntryFits, SymtabEntryIsRead}
 use Rattle.wild_plan.specs.declared.fault.Error.{Error}
-use Rattle.wild_plan.specs.Lists.{total}
-use Rattle.wild_symbols.specs.Strings.{string, offset_of, with_string, room_for_string}
-use Rattle.wild_symbols.specs.Symbols.{symbol_bytes, symbols_used}
-use Rattle.wild_symbols.specs.Tables.{section_number, symbol, list_of, with_symbol, and_then, room_for_symbol}
-use Rattle.wild_symbols.specs.Runs.{SymbolCall, SymbolCallFits, is_ok, has_room, called_if, called, after, is_in, taken_if, taken, IsOf, RunsAreRead, RunsCount, RunsStandBehind}
+use Rattle.wild_symbols.specs.Strings.{string, offset_of, with_string}
+use Rattle.wild_symbols.specs.Symbols.{symbol_bytes}
+use Rattle.wild_symbols.specs.Tables.{symbol, list_of, with_symbol, and_then}
+use Rattle.wild_symbols.specs.Runs.{SymbolCall, SymbolCallFits, is_ok, has_room, called_if, called, after, is_in, taken_if, taken, IsOf, RunsCount, RunsStandBehind}
 use Rattle.wild_symbols.specs.declared.writer.SymbolAttributes.{SymbolAttributes}
 use Rattle.wild_symbols.specs.declared.writer.SymbolTableWriter.{SymbolTableWriter}
 use Rattle.wild_symbols.proofs.SymbolLemmas.{Stands-symbol}
@@ -28,21 +26,21 @@ use Rattle.wild_symbols.proofs.SymbolLemmas.{Stands-symbol}
 abbrev entry_of : SymbolCall → SymbolTableWriter → SymtabEntry
 entry_of c w = symbol (offset_of w.strtab) c.section c.value c.attributes
 
-symbols_here : (local l : Bool) (name : List ℕ) (s : SymbolSection) (v : ℕ) (a : SymbolAttributes) (w : SymbolTableWriter) → is_in local l ≡ true
+pub symbols_here : (local l : Bool) (name : List ℕ) (s : SymbolSection) (v : ℕ) (a : SymbolAttributes) (w : SymbolTableWriter) → is_in local l ≡ true
     → (list_of local (with_symbol l name s v a w)).symbols ≡ (list_of local w).symbols ++ symbol (offset_of w.strtab) s v a ∷ []
 symbols_here true true name s v a w h = refl
 symbols_here true false name s v a w h = cc
 symbols_here false true name s v a w h = cc
 symbols_here false false name s v a w h = refl
 
-symbols_other : (local l : Bool) (name : List ℕ) (s : SymbolSection) (v : ℕ) (a : SymbolAttributes) (w : SymbolTableWriter) → is_in local l ≡ false
+pub symbols_other : (local l : Bool) (name : List ℕ) (s : SymbolSection) (v : ℕ) (a : SymbolAttributes) (w : SymbolTableWriter) → is_in local l ≡ false
     → (list_of local (with_symbol l name s v a w)).symbols ≡ (list_of local w).symbols
 symbols_other true true name s v a w h = cc
 symbols_other true false name s v a w h = refl
 symbols_other false true name s v a w h = refl
 symbols_other false false name s v a w h = cc
 
-strtab-with_symbol : (l : Bool) (name : List ℕ) (s : SymbolSection) (v : ℕ) (a : SymbolAttributes) (w : SymbolTableWriter) → (with_symbol l name s v a w).strtab ≡ with_string name w.strtab
+pub strtab-with_symbol : (l : Bool) (name : List ℕ) (s : SymbolSection) (v : ℕ) (a : SymbolAttributes) (w : SymbolTableWriter) → (with_symbol l name s v a w).strtab ≡ with_string name w.strtab
 strtab-with_symbol true name s v a w = refl
 strtab-with_symbol false name s v a w = refl
 

@@ -8,7 +8,8 @@
 --   RunsCount             each call that gave a symbol gave one
 --   RunsStandBehind       what stood before a run stands before what it wrote
 --   RunsWithRoomAreWhole  where there is room for all, each call gives its symbol
-use Rattle.std.specs.Prelude.{◌≡◌, ℕ, ◌+◌, ◌*◌, ◌<◌, ◌≤◌, ◌^◌, Bool, true, false, not, ◌&&◌, if◌then◌else◌, List, [], ◌∷◌, ◌++◌, length, take, All, slice_index_or, Result, Ok, Err}
+--   PrefixesAreTheWriters what calls write through a prefix, the writer itself would have written
+use Rattle.std.specs.Prelude.{◌≡◌, ℕ, ◌+◌, ◌*◌, ◌<◌, ◌≤◌, ◌^◌, Bool, true, false, not, List, [], ◌∷◌, length, take, All, slice_index_or, Result, Ok, Err}
 use Rattle.std.specs.List.{filter}
 use Rattle.wild_words.specs.Words.{Stands}
 use Rattle.wild_records.specs.Abi.Section.{shn_undef}
@@ -114,10 +115,15 @@ RunsStandBehind = (cs : List SymbolCall) (w : SymbolTableWriter) (local : Bool) 
 
 -- there is room for the symbols of these calls, and for their names
 pub record HasRoomFor (cs : List SymbolCall) (w : SymbolTableWriter) : Type 0 where
-  pub locals : symbols_used w.locals + symtab_entry_size * length (filter (λ c. c.local) cs) ≤ w.locals.room
-  pub globals : symbols_used w.globals + symtab_entry_size * length (filter (λ c. not c.local) cs) ≤ w.globals.room
+  pub symbols : (local : Bool) → symbols_used (list_of local w) + symtab_entry_size * length (filter (λ c. is_in local c.local) cs) ≤ (list_of local w).room
   pub names : length w.strtab.bytes + total (λ c. length c.name + 1) cs ≤ w.strtab.room
 
 -- where there is room for all, each call gives its symbol
 abbrev pub RunsWithRoomAreWhole : Type 0
 RunsWithRoomAreWhole = (cs : List SymbolCall) (w : SymbolTableWriter) (local : Bool) → HasRoomFor cs w → taken local cs w ≡ filter (λ c. is_in local c.local) cs
+
+-- what calls write through a prefix that has room for them, the writer itself would have written; when the prefix is
+-- let go, the writer has all its room again
+abbrev pub PrefixesAreTheWriters : Type 0
+PrefixesAreTheWriters = (n m : ℕ) (cs : List SymbolCall) (w : SymbolTableWriter) → room_for_prefix n m w ≡ Ok tt → symbols_used w.locals ≤ w.locals.room → HasRoomFor cs (prefix_of n m w)
+    → joined (kept_behind n m w) (after cs (prefix_of n m w)) ≡ after cs w

@@ -1,5 +1,5 @@
 //! Laws of the tables.
-ghost use Rattle.wild_symbols.specs.Runs.{RunsAreRead, RunsCount, RunsStandBehind, RunsWithRoomAreWhole};
+ghost use Rattle.wild_symbols.specs.Runs.{RunsAreRead, RunsCount, RunsStandBehind, RunsWithRoomAreWhole, PrefixesAreTheWriters};
 ghost use Rattle.wild_symbols.specs.Laws.{LengthsOfSymbols, SymbolsAreRead, LengthsOfStrings, StringsAreBehind, StringsStand};
 
 use wild_records::symtab_entry_is_read;
@@ -27,6 +27,13 @@ pub fn runs_are_read()
     ensures read { RunsAreRead }
     ensures count { RunsCount }
     ensures behind { RunsStandBehind }
+    ensures whole { RunsWithRoomAreWhole }
 {
     symtab_entry_is_read();
 }
+
+/// What calls write through a prefix that has room for them, the writer itself would have written; when the prefix is
+/// let go, the writer has all its room again.
+pub fn prefixes_are_the_writers()
+    ensures { PrefixesAreTheWriters }
+{}

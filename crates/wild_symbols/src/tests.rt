@@ -20,6 +20,14 @@ const FIRST_SYMBOLS: [u8; 48] = [
     0x01, 0, 0, 0, 0x12, 0, 0x07, 0, 0x20, 0x10, 0, 0, 0, 0, 0, 0, 0x0e, 0, 0, 0, 0, 0, 0, 0,
 ];
 
+/// The null symbol, `finish` and `exit`, in one table.
+#[rattlefmt::skip]
+const ALL_SYMBOLS: [u8; 72] = [
+    0, 0, 0, 0, 0, 0, 0, 0, 0, 0, 0, 0, 0, 0, 0, 0, 0, 0, 0, 0, 0, 0, 0, 0,
+    0x01, 0, 0, 0, 0x12, 0, 0x07, 0, 0x20, 0x10, 0, 0, 0, 0, 0, 0, 0x0e, 0, 0, 0, 0, 0, 0, 0,
+    0x08, 0, 0, 0, 0x20, 0, 0, 0, 0, 0, 0, 0, 0, 0, 0, 0, 0, 0, 0, 0, 0, 0, 0, 0,
+];
+
 /// The symbol behind these, `exit`.
 #[rattlefmt::skip]
 const EXIT: [u8; 24] = [
@@ -144,5 +152,23 @@ fn writes_what_ld_wrote(rt: HostRuntime) -> Result<(), Fail> {
     assert!(rt; first(rt.alloc())?);
     assert!(rt; second(rt.alloc(), b"exit")?);
     assert!(rt; !second(rt.alloc(), b"exits")?);
+    Ok(())
+}
+
+/// The null symbol and `finish` through a prefix, and then `exit` behind it.
+fn put_in_turn(writer: &mut SymbolTableWriter) -> Result<(), Error> {
+    let prefix = writer.take_prefix_global(2, 8)?;
+    put_first(prefix.writer)?;
+    prefix.writer.check_exhausted()?;
+    drop(prefix);
+    writer.undefined_symbol(false, b"exit", attributes(0x20, 0))
+}
+
+#[test]
+fn goes_on_behind_a_prefix(rt: HostRuntime) -> Result<(), Fail> {
+    let mut writer = writer(rt.alloc(), group(rt.alloc(), 72, 13, 0)?)?;
+    assert!(rt; put_in_turn(&mut writer).is_ok());
+    assert!(rt; has(&writer, &ALL_SYMBOLS, b"\0finish\0exit\0"));
+    assert!(rt; writer.take_prefix_global(1, 0).is_err());
     Ok(())
 }

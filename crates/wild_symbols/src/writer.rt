@@ -6,6 +6,7 @@ ghost use Rattle.wild_records.specs.declared.symtab_entry.SymtabEntry.{SymtabEnt
 ghost use Rattle.wild_plan.specs.Shares.{share_of};
 ghost use Rattle.wild_symbols.specs.Symbols.{symbol_bytes, symbols_used, room_for_entry};
 ghost use Rattle.wild_symbols.specs.Tables.{dynstr_start, no_dynamic_symbols, section_number, IsInReach, list_of, with_listed, with_symbol, with_undefined, room_for_symbol, left_over};
+ghost use Rattle.wild_symbols.specs.Runs.{defined, undefined, called};
 
 use crate::strtab::StrTabWriter;
 use crate::symbol_table::SymbolTable;
@@ -115,6 +116,7 @@ impl SymbolTableWriter {
         ensures answered { result ≡ room_for_symbol is_local name.now self.old }
         ensures written { OnOk result (self.new ≡ with_symbol is_local name.now section value attributes self.old) }
         ensures kept { OnErr result (self.new ≡ self.old) }
+        ensures call { self.new ≡ called (defined is_local name.now section value attributes) self.old }
     {
         self.check_room(is_local)?;
         let entry = SymtabEntry {
@@ -144,6 +146,7 @@ impl SymbolTableWriter {
         ensures answered { result ≡ room_for_symbol is_local name.now self.old }
         ensures written { OnOk result (self.new ≡ with_undefined is_local name.now attributes self.old) }
         ensures kept { OnErr result (self.new ≡ self.old) }
+        ensures call { self.new ≡ called (undefined is_local name.now attributes) self.old }
     {
         self.define_symbol(is_local, name, SymbolSection::Raw(SHN_UNDEF), 0, attributes)
     }

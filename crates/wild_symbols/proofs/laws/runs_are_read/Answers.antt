@@ -1,4 +1,5 @@
 use Rattle.wild_symbols.proofs.RunLemmas.{run_read, run_counted, stand_behind}
+use Rattle.wild_symbols.proofs.RoomLemmas.{run_whole}
 use Rattle.wild_symbols.proofs.laws.runs_are_read.Goals as goal
 
 pub returns-clause-read : goal.returns-clause-read
@@ -9,3 +10,6 @@ returns-clause-count c = run_counted
 
 pub returns-clause-behind : goal.returns-clause-behind
 returns-clause-behind c = stand_behind
+
+pub returns-clause-whole : goal.returns-clause-whole
+returns-clause-whole c = run_whole
