@@ -1,0 +1,10 @@
+pub mod BloomLemmas
+pub mod BucketLemmas
+pub mod ChainLemmas
+pub mod FoundLemmas
+pub mod NameLemmas
+pub mod ScanLemmas
+pub mod StringLemmas
+pub mod SysvLemmas
+pub mod TableLemmas
+pub mod WriterLemmas

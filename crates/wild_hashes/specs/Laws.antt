@@ -1,0 +1,109 @@
+-- What a look-up finds in a table that was made of names.
+--   first_named i ns name      the first symbol of that name, where ns are the names from symbol i on
+--   IsGnuLaidOut t hs          what is asked of a GNU table's settings, and of the order of its symbols
+--   Reads, ReadsWords          a reader gives these items
+--   GnuIsRead, SysvIsRead      readers give the words of a table
+--   AreNumbered                the defined symbols in their tables
+--   GnuLookUpFindsTheFirst, SysvLookUpFindsTheFirst   the first symbol of any name is found, and none where none has it
+use Rattle.std.specs.Prelude.{Bool, true, ◌&&◌, nat_le, Result, ◌*◌, slice_index, slice_index_or, ◌≡◌, ℕ, ◌+◌, ◌%◌, ◌^◌, ◌<◌, ◌≤◌, if◌then◌else◌, List, [], ◌∷◌, length, map, bytes_eq, AllPairs, Option, Some, None, Ok}
+use Rattle.wild_words.specs.Words.{Stands}
+use Rattle.wild_records.specs.Hashes.{gnu_hash, sysv_hash}
+use Rattle.wild_records.specs.HashTables.{GnuHashHeaderFits}
+use Rattle.wild_records.specs.declared.hash_tables.GnuHashHeader.{GnuHashHeader}
+use Rattle.wild_plan.specs.declared.layout.DynamicSymbol.{DynamicSymbol}
+use Rattle.wild_hashes.specs.declared.fault.LookupFault.{LookupFault}
+use Rattle.wild_hashes.specs.Tables.{sysv_hash_of, gnu_hash_of, bloom, buckets, gnu_chains, sysv_chains, gnu_table, sysv_table}
+use Rattle.wild_hashes.specs.Reading.{read, IsNamed}
+use Rattle.wild_hashes.specs.LookUp.{gnu_find, sysv_by, gnu_lookup, sysv_lookup}
+
+-- the first symbol of that name, where ns are the names from symbol i on
+abbrev pub first_named : ℕ → List (List ℕ) → List ℕ → Option ℕ
+first_named i [] name = None
+first_named i (n ∷ ns) name = if bytes_eq n name then Some i else first_named (i + 1) ns name
+
+-- what is asked of a GNU table's settings and of the hashes of the defined symbols, which ascend by bucket
+pub record IsGnuLaidOut (t : GnuHashHeader) (hs : List ℕ) : Type 0 where
+  pub fits : GnuHashHeaderFits t
+  pub some_bucket : 1 ≤ t.bucket_count
+  pub some_bloom : 1 ≤ t.bloom_count
+  pub short_shift : t.bloom_shift < 32
+  pub ascend : AllPairs (λ g h. g % t.bucket_count ≤ h % t.bucket_count) hs
+
+-- a reader of single items gives these, from index i on
+abbrev pub Reads : {X : Type 0} → (ℕ → Result X LookupFault) → ℕ → List X → X → Type 0
+Reads read i xs d = (k : ℕ) → k < length xs → read (i + k) ≡ Ok (slice_index_or xs k d)
+
+-- a reader of numbers gives these words of w bytes each, from a place on
+abbrev pub ReadsWords : (ℕ → ℕ → Result ℕ LookupFault) → ℕ → ℕ → List ℕ → Type 0
+ReadsWords read at w xs = (k : ℕ) → k < length xs → read (at + w * k) w ≡ Ok (slice_index xs k)
+
+-- a GNU table of these hashes is read from a place on, behind its header
+pub record GnuIsRead (read : ℕ → ℕ → Result ℕ LookupFault) (at : ℕ) (t : GnuHashHeader) (hs : List ℕ) : Type 0 where
+  pub bloom : ReadsWords read (at + 16) 8 (bloom t.bloom_count t.bloom_shift hs)
+  pub buckets : ReadsWords read (at + 16 + 8 * t.bloom_count) 4 (buckets t.bucket_count t.symbol_base hs)
+  pub chains : ReadsWords read (at + 16 + 8 * t.bloom_count + 4 * t.bucket_count) 4 (gnu_chains t.bucket_count hs)
+
+-- a System V table of these hashes is read from a place on
+pub record SysvIsRead (read : ℕ → ℕ → Result ℕ LookupFault) (at n base : ℕ) (hs : List ℕ) : Type 0 where
+  pub buckets_count : read at 4 ≡ Ok n
+  pub count : read (at + 4) 4 ≡ Ok (base + length hs)
+  pub buckets : ReadsWords read (at + 8) 4 (buckets n base hs)
+  pub chains : ReadsWords read (at + 8 + 4 * n + 4 * base) 4 (sysv_chains n base hs)
+
+-- where a GNU table is read, and the names ns from its base on are, the first symbol of a name is found, and no other
+-- name is
+abbrev pub GnuReadersFindTheFirst : Type 0
+GnuReadersFindTheFirst = (read : ℕ → ℕ → Result ℕ LookupFault) (named : ℕ → Result (List ℕ) LookupFault) (left at : ℕ) (t : GnuHashHeader) (ns : List (List ℕ)) (name : List ℕ) → GnuIsRead read at t (map gnu_hash ns) → Reads named t.symbol_base ns [] → 1 ≤ t.symbol_base
+    → IsGnuLaidOut t (map gnu_hash ns) → length ns ≤ left → gnu_find read named name (gnu_hash name) left at t ≡ Ok (first_named t.symbol_base ns name)
+
+-- the same of a System V table
+abbrev pub SysvReadersFindTheFirst : Type 0
+SysvReadersFindTheFirst = (read : ℕ → ℕ → Result ℕ LookupFault) (named : ℕ → Result (List ℕ) LookupFault) (at n base : ℕ) (ns : List (List ℕ)) (name : List ℕ) → SysvIsRead read at n base (map sysv_hash ns) → Reads named base ns [] → 1 ≤ base → 1 ≤ n
+    → sysv_by read named name at ≡ Ok (first_named base ns name)
+
+-- where a GNU table stands in bytes, and the names ns from its base on are read, the first symbol of a name is found
+abbrev pub GnuTablesInBytesFindTheFirst : Type 0
+GnuTablesInBytesFindTheFirst = (image : List ℕ) (named : ℕ → Result (List ℕ) LookupFault) (left at : ℕ) (t : GnuHashHeader) (ns : List (List ℕ)) (name : List ℕ) → Stands image at (gnu_table t (map gnu_hash ns)) → Reads named t.symbol_base ns [] → 1 ≤ t.symbol_base
+    → t.symbol_base + length ns < 2 ^ 32 → IsGnuLaidOut t (map gnu_hash ns) → length ns ≤ left → gnu_find (read image) named name (gnu_hash name) left at t ≡ Ok (first_named t.symbol_base ns name)
+
+-- the same of a System V table
+abbrev pub SysvTablesInBytesFindTheFirst : Type 0
+SysvTablesInBytesFindTheFirst = (image : List ℕ) (named : ℕ → Result (List ℕ) LookupFault) (at n base : ℕ) (ns : List (List ℕ)) (name : List ℕ) → Stands image at (sysv_table n base (map sysv_hash ns)) → Reads named base ns [] → 1 ≤ base → base + length ns < 2 ^ 32 → 1 ≤ n → n < 2 ^ 32
+    → sysv_by (read image) named name at ≡ Ok (first_named base ns name)
+
+-- each hash's bucket is at most the next one's
+abbrev pub ascends_from : ℕ → ℕ → List ℕ → Bool
+ascends_from n h [] = true
+ascends_from n h (g ∷ gs) = nat_le (h % n) (g % n) && ascends_from n g gs
+
+abbrev pub ascends : ℕ → List ℕ → Bool
+ascends n [] = true
+ascends n (h ∷ hs) = ascends_from n h hs
+
+-- a scan over neighbours is enough
+abbrev pub NeighboursAscend : Type 0
+NeighboursAscend = (n : ℕ) (hs : List ℕ) → ascends n hs ≡ true → AllPairs (λ g h. g % n ≤ h % n) hs
+
+-- ---- the tables that are written
+
+-- the names of symbols
+abbrev pub names_of : List DynamicSymbol → List (List ℕ)
+names_of ds = map (λ d. d.name) ds
+
+-- the defined symbols have the indexes from base on of the dynamic symbol table, which is not that of the null symbol;
+-- each index has 32 bits
+pub record AreNumbered (symbols strings : List ℕ) (base : ℕ) (ds : List DynamicSymbol) : Type 0 where
+  pub not_0 : 1 ≤ base
+  pub few : base + length ds < 2 ^ 32
+  pub named : (k : ℕ) → k < length ds → IsNamed symbols strings (base + k) (slice_index_or (names_of ds) k [])
+
+-- where a GNU table of the defined symbols stands at the front of bytes, the look-up of any name gives the first symbol
+-- that has it, and none where none has
+abbrev pub GnuLookUpFindsTheFirst : Type 0
+GnuLookUpFindsTheFirst = (table symbols strings : List ℕ) (t : GnuHashHeader) (ds : List DynamicSymbol) (name : List ℕ) → Stands table 0 (gnu_table t (map gnu_hash_of ds)) → AreNumbered symbols strings t.symbol_base ds → IsGnuLaidOut t (map gnu_hash_of ds)
+    → gnu_lookup table symbols strings name ≡ Ok (first_named t.symbol_base (names_of ds) name)
+
+-- the same of a System V table
+abbrev pub SysvLookUpFindsTheFirst : Type 0
+SysvLookUpFindsTheFirst = (table symbols strings : List ℕ) (n base : ℕ) (ds : List DynamicSymbol) (name : List ℕ) → Stands table 0 (sysv_table n base (map sysv_hash_of ds)) → AreNumbered symbols strings base ds → 1 ≤ n → n < 2 ^ 32
+    → sysv_lookup table symbols strings name ≡ Ok (first_named base (names_of ds) name)

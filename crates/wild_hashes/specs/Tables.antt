@@ -1,0 +1,72 @@
+-- The words of hash tables of symbols, from the hashes of their names.
+--   buckets n i hs          the first symbol of each bucket, or 0
+--   sysv_chains n i hs      for each symbol the next one of its bucket, or 0
+--   bloom n shift hs        the words of the Bloom filter
+--   gnu_chains n hs         for each symbol its hash, with bit 0 where it is its bucket's last
+--   gnu_table, sysv_table   the bytes of the tables
+--   sysv_hash_of, gnu_hash_of   the hashes of a symbol's name
+--   gnu_header              the header of a GNU table, by its shape
+-- In each, symbols of the hashes hs have the indexes from i on.
+use Rattle.std.specs.Prelude.{ℕ, ◌+◌, ◌*◌, ◌/◌, ◌%◌, ◌^◌, Bool, true, not, ◌==◌, if◌then◌else◌, List, [], ◌∷◌, ◌++◌, length, replicate, slice_index, slice_set, bit_or}
+use Rattle.wild_words.specs.Words.{word}
+use Rattle.wild_words.specs.Record.{spell}
+use Rattle.wild_records.specs.Hashes.{sysv_hash, gnu_hash}
+use Rattle.wild_plan.specs.declared.layout.DynamicSymbol.{DynamicSymbol}
+use Rattle.wild_plan.specs.declared.layout.GnuHash.{GnuHash}
+use Rattle.wild_records.specs.HashTables.{gnu_hash_header_fields}
+use Rattle.wild_records.specs.declared.hash_tables.GnuHashHeader.{GnuHashHeader}
+
+-- the hash of a symbol's name in System V's table, and in GNU's
+unfoldable pub sysv_hash_of : DynamicSymbol → ℕ
+sysv_hash_of d = sysv_hash d.name
+
+unfoldable pub gnu_hash_of : DynamicSymbol → ℕ
+gnu_hash_of d = gnu_hash d.name
+
+-- the header of a GNU table
+abbrev pub gnu_header : GnuHash → GnuHashHeader
+gnu_header g = record { bucket_count = g.buckets; symbol_base = g.base; bloom_count = g.bloom_count; bloom_shift = g.bloom_shift }
+
+-- the first symbol of each of n buckets, or 0; a symbol goes over those behind it
+abbrev pub buckets : ℕ → ℕ → List ℕ → List ℕ
+buckets n i [] = replicate n 0
+buckets n i (h ∷ hs) = slice_set (buckets n (i + 1) hs) (h % n) i
+
+-- the next symbol of each symbol's bucket, or 0 (gABI, "Hash Table")
+abbrev pub sysv_chains : ℕ → ℕ → List ℕ → List ℕ
+sysv_chains n i [] = []
+sysv_chains n i (h ∷ hs) = slice_index (buckets n (i + 1) hs) (h % n) ∷ sysv_chains n (i + 1) hs
+
+-- a word of the Bloom filter, with the two bits of a hash
+abbrev pub with_bits : ℕ → ℕ → ℕ → ℕ
+with_bits shift h old = bit_or (bit_or old (2 ^ (h % 64))) (2 ^ (h / 2 ^ shift % 64))
+
+-- the n words of the Bloom filter: two bits of each hash (GNU, "DT_GNU_HASH")
+abbrev pub bloom : ℕ → ℕ → List ℕ → List ℕ
+bloom n shift [] = replicate n 0
+bloom n shift (h ∷ hs) = slice_set (bloom n shift hs) (h / 64 % n) (with_bits shift h (slice_index (bloom n shift hs) (h / 64 % n)))
+
+-- a symbol is its bucket's last: the next one is in another
+abbrev pub is_last : ℕ → ℕ → List ℕ → Bool
+is_last n h [] = true
+is_last n h (g ∷ gs) = not (g % n == h % n)
+
+-- each symbol's hash, with bit 0 set at a bucket's last alone (GNU, "DT_GNU_HASH")
+abbrev pub gnu_chains : ℕ → List ℕ → List ℕ
+gnu_chains n [] = []
+gnu_chains n (h ∷ hs) = (2 * (h / 2) + (if is_last n h hs then 1 else 0)) ∷ gnu_chains n hs
+
+-- words of w bytes each
+unfoldable pub words : ℕ → List ℕ → List ℕ
+words w [] = []
+words w (x ∷ xs) = word w x ++ words w xs
+
+-- the GNU hash table of the symbols from the header's base on, whose names have these hashes
+unfoldable pub gnu_table : GnuHashHeader → List ℕ → List ℕ
+gnu_table t hs =
+    spell (gnu_hash_header_fields t) ++ (words 8 (bloom t.bloom_count t.bloom_shift hs) ++ (words 4 (buckets t.bucket_count t.symbol_base hs) ++ words 4 (gnu_chains t.bucket_count hs)))
+
+-- the System V hash table of n buckets of symbols whose names have these hashes, behind base others
+unfoldable pub sysv_table : ℕ → ℕ → List ℕ → List ℕ
+sysv_table n base hs =
+    words 4 (n ∷ (base + length hs) ∷ []) ++ (words 4 (buckets n base hs) ++ (words 4 (replicate base 0) ++ words 4 (sysv_chains n base hs)))

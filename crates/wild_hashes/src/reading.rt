@@ -1,0 +1,113 @@
+//! Words of a hash table, and names of symbols.
+ghost use Rattle.std.specs.Prelude.{◌≡◌, ◌+◌, ◌*◌, ◌≤◌, ◌^◌, ◌<◌, length, position, IfOk, IfSome};
+ghost use Rattle.wild_hashes.specs.Reading.{read, is_zero, string_at, name_offset, symbol_name, has_name};
+ghost use Rattle.wild_hashes.specs.LookUp.{chain_word, is_named};
+
+use crate::fault::LookupFault;
+use wild_records::SymtabEntry;
+use wild_words::{read_u32, read_u64};
+
+/// The bytes that a look-up reads: from where a hash table stands on, from where the dynamic symbol table stands on,
+/// and from where its strings stand on.
+#[derive(Clone, Copy)]
+pub struct LookupTables<'a> {
+    pub hashes: &'a [u8],
+    pub symbols: &'a [u8],
+    pub strings: &'a [u8],
+}
+
+/// The 4 bytes at an offset of a table.
+#[tactic(auto, unfolding(crate::specs::Reading::read))]
+pub(crate) fn read_word(table: &[u8], at: usize) -> Result<u32, LookupFault>
+    ensures read { result ≡ read table.now at 4 }
+    ensures inside { IfOk result (λ _. at + 4 ≤ length table.now) }
+{
+    if table.len() < 4 || table.len() - 4 < at {
+        return Err(LookupFault::Cut { offset: at as u64 });
+    }
+    Ok(read_u32(table, at))
+}
+
+/// The 8 bytes at an offset of a table.
+#[tactic(auto, unfolding(crate::specs::Reading::read))]
+pub(crate) fn read_double_word(table: &[u8], at: usize) -> Result<u64, LookupFault>
+    ensures { result ≡ read table.now at 8 }
+{
+    if table.len() < 8 || table.len() - 8 < at {
+        return Err(LookupFault::Cut { offset: at as u64 });
+    }
+    Ok(read_u64(table, at))
+}
+
+/// The word of a symbol in the chains that begin at an offset with symbol 0.
+#[tactic(auto, using(crate::proofs::ScanLemmas::chain_word_0))]
+pub(crate) fn chain_word(table: &[u8], at: usize, index: u32) -> Result<u32, LookupFault>
+    requires { at < 2 ^ 40 }
+    ensures { result ≡ chain_word (read table.now) at 0 index }
+{
+    read_word(table, at + 4 * index as usize)
+}
+
+/// The place of the first zero.
+fn find_zero(bytes: &[u8]) -> Option<usize>
+    ensures first { result ≡ position is_zero bytes.now }
+    ensures inside { IfSome result (λ i. i < length bytes.now) }
+{
+    bytes.iter().position(|byte| *byte == 0)
+}
+
+/// Whether the string from an offset on is the name.
+#[tactic(auto, using(crate::proofs::StringLemmas::string_steps))]
+fn is_string(strings: &[u8], at: usize, name: &[u8]) -> Result<bool, LookupFault>
+    ensures { result ≡ has_name (string_at strings.now) name.now at }
+{
+    if at > strings.len() {
+        return Err(LookupFault::NoString { offset: at as u64 });
+    }
+    let rest = &strings[at..];
+    match find_zero(rest) {
+        Some(end) => Ok(&rest[..end] == name),
+        None => Err(LookupFault::NoString { offset: at as u64 }),
+    }
+}
+
+/// Where the name of a symbol begins.
+#[tactic(auto, unfolding(crate::specs::Reading::name_offset, wild_records::specs::SymtabEntry::symtab_entry_at))]
+fn name_offset(symbols: &[u8], index: u64) -> Result<u32, LookupFault>
+    ensures { result ≡ name_offset symbols.now index }
+{
+    if symbols.len() as u64 / SymtabEntry::SIZE as u64 <= index {
+        return Err(LookupFault::NoSymbol { index });
+    }
+    Ok(read_u32(symbols, SymtabEntry::SIZE * index as usize))
+}
+
+/// Whether a symbol has that name.
+#[tactic(auto, unfolding(crate::specs::Reading::symbol_name))]
+pub(crate) fn has_name(
+    tables: &LookupTables<'_>,
+    index: u64,
+    name: &[u8],
+) -> Result<bool, LookupFault>
+    ensures { result ≡ has_name (symbol_name tables.now.symbols.now tables.now.strings.now) name.now index }
+{
+    let at = name_offset(tables.symbols, index)?;
+    is_string(tables.strings, at as usize, name)
+}
+
+/// Whether a symbol has that name, where its chain's word has the name's hash; else its name is not read.
+pub(crate) fn is_named(
+    tables: &LookupTables<'_>,
+    index: u64,
+    name: &[u8],
+    hash: u32,
+    word: u32,
+) -> Result<bool, LookupFault>
+    ensures { result ≡ is_named (symbol_name tables.now.symbols.now tables.now.strings.now) name.now hash word index }
+{
+    if word / 2 == hash / 2 {
+        has_name(tables, index, name)
+    } else {
+        Ok(false)
+    }
+}
