@@ -5,6 +5,8 @@ mod fault;
 mod laws;
 mod lookup;
 mod reading;
+#[cfg(test)]
+mod tests;
 mod writers;
 
 pub use fault::LookupFault;
