@@ -134,6 +134,6 @@ gnu_bucket_finds chain named name n left base i (m ∷ ns) b p o l a c r =
           rw (bucket_here n i (gnu_hash name % n) (gnu_hash m) (map gnu_hash ns) b e, z) (gnu_scan_finds chain named name n left i m ns (omega arith) e a c r))
       | inr d ↦
           (let other = other_name gnu_hash m name (λ e. d (ap (λ (h : ℕ). h % n) e)) in
-          rw (bucket_other n i (gnu_hash name % n) (gnu_hash m) (map gnu_hash ns) d, other)
+          rw (bucket_other n i (gnu_hash name % n) (gnu_hash m) (map gnu_hash ns) b d, other)
           (gnu_bucket_finds chain named name n left base (i + 1) ns b p (omega arith) (omega arith) (ascends_rest n (gnu_hash m) (map gnu_hash ns) a) (reads_rest chain i _ 0 (gnu_chains n (map gnu_hash ns)) c) (reads_rest named i m [] ns r)))
     ]

@@ -1,14 +1,14 @@
 -- The look-up along System V chains, through readers that read the chains and the names.
-use Rattle.std.proofs.Common.{◌≡◌, ℕ, zero, suc, ◌+◌, ◌%◌, ◌<◌, ◌≤◌, Bool, true, false, List, [], ◌∷◌, length, map, get_or, refl, arith, ◌∙◌, ap, inl, inr, Option, Some, None, Result, Ok}
+use Rattle.std.proofs.Common.{◌≡◌, ℕ, zero, suc, ◌+◌, ◌%◌, ◌<◌, ◌≤◌, Bool, true, false, List, [], ◌∷◌, length, map, get_or, refl, arith, ◌∙◌, sym, ap, inl, inr, Option, Some, None, Result, Ok}
 use Rattle.std.specs.Prelude.{bytes_eq, if◌then◌else◌, ◌==◌}
 use Rattle.std.proofs.lemmas.Bool.{cases_eq, cases_Bool, ne_eqb}
 use Rattle.std.proofs.lemmas.Slice.Eq.{bytes_eq-Decides}
 use Rattle.wild_records.specs.Hashes.{sysv_hash}
 use Rattle.wild_hashes.specs.declared.fault.LookupFault.{LookupFault}
-use Rattle.wild_hashes.specs.Tables.{buckets, sysv_chains}
+use Rattle.wild_hashes.specs.Tables.{first_in, buckets, sysv_chains}
 use Rattle.wild_hashes.specs.LookUp.{sysv_scan}
 use Rattle.wild_hashes.specs.Laws.{first_named, Reads}
-use Rattle.wild_hashes.proofs.BucketLemmas.{no_bucket, bucket_here, bucket_other}
+use Rattle.wild_hashes.proofs.BucketLemmas.{no_bucket, bucket_is, bucket_here, bucket_other}
 
 pub reads_first : {X : Type 0} (read : ℕ → Result X LookupFault) (i : ℕ) (x d : X) (xs : List X) → Reads read i (x ∷ xs) d → read i ≡ Ok x
 reads_first read i x d xs h = let e : i + 0 ≡ i = omega arith in rw e at (h 0 (omega arith))
@@ -45,11 +45,12 @@ sysv_scan_finds chain named name n (suc left) i (m ∷ ns) b p l c r =
     elim (cases_eq (sysv_hash m % n) (sysv_hash name % n)) [
       | inl e ↦
           (let here = bucket_here n i (sysv_hash name % n) (sysv_hash m) hs b e in
-          let next = rw e at (reads_first chain i (get_or (buckets n (i + 1) hs) (sysv_hash m % n) 0) 0 (sysv_chains n (i + 1) hs) c) in
+          let there = reads_first chain i (first_in n (sysv_hash m % n) (i + 1) hs) 0 (sysv_chains n (i + 1) hs) c ∙ ap (λ (x : ℕ). Ok x) (sym (bucket_is n (i + 1) (sysv_hash m % n) hs (omega (arith, e, b)))) in
+          let next = rw e at there in
           let rest = sysv_scan_finds chain named name n left (i + 1) ns b (omega arith) (omega arith) (reads_rest chain i _ 0 _ c) (reads_rest named i m [] ns r) in
           rw here (sysv_step chain named name left i _ m p (reads_first named i m [] ns r) next ∙ chosen (bytes_eq m name) i _ _ rest))
       | inr d ↦
           (let other = other_name sysv_hash m name (λ e. d (ap (λ (h : ℕ). h % n) e)) in
-          rw (bucket_other n i (sysv_hash name % n) (sysv_hash m) hs d, other)
+          rw (bucket_other n i (sysv_hash name % n) (sysv_hash m) hs b d, other)
           (sysv_scan_finds chain named name n (suc left) (i + 1) ns b (omega arith) (omega arith) (reads_rest chain i _ 0 _ c) (reads_rest named i m [] ns r)))
     ]

@@ -2,7 +2,6 @@
 use Rattle.std.proofs.Common.{Result, ◌≡◌, ℕ, zero, suc, ◌+◌, ◌-◌, ◌*◌, ◌%◌, ◌^◌, ◌<◌, ◌≤◌, List, [], ◌∷◌, ◌++◌, length, get_or, replicate, refl, arith, ◌∙◌, ap, Ok}
 use Rattle.std.proofs.lemmas.Bool.{le-leb}
 use Rattle.std.proofs.lemmas.List.{length-append, length-replicate}
-use Rattle.std.proofs.Math.Nat.{mod-lt}
 use Rattle.wild_words.specs.Words.{word, Stands}
 use Rattle.wild_words.specs.Record.{spell}
 use Rattle.wild_words.proofs.WordLemmas.{length-word}
@@ -14,7 +13,7 @@ use Rattle.wild_hashes.specs.declared.fault.LookupFault.{LookupFault}
 use Rattle.wild_hashes.specs.Tables.{buckets, sysv_chains, bloom, gnu_chains, words, gnu_table, sysv_table}
 use Rattle.wild_hashes.specs.Reading.{read}
 use Rattle.wild_hashes.specs.LookUp.{chain_word}
-use Rattle.wild_hashes.proofs.BucketLemmas.{length-buckets, bucket_small}
+use Rattle.wild_hashes.proofs.BucketLemmas.{length-buckets, first_small}
 use Rattle.wild_hashes.proofs.BloomLemmas.{length-bloom}
 use Rattle.wild_hashes.specs.Laws.{Reads, ReadsWords}
 
@@ -61,7 +60,7 @@ length-sysv_chains n i (h ∷ hs) = let e = length-sysv_chains n (i + 1) hs in o
 
 pub sysv_chains_small : (n i m : ℕ) (hs : List ℕ) → 0 < n → i + length hs ≤ m → (k : ℕ) → k < length (sysv_chains n i hs) → get_or (sysv_chains n i hs) k 0 < m
 sysv_chains_small n i m [] p h k l = absurd (omega arith)
-sysv_chains_small n i m (g ∷ hs) p h zero l = bucket_small n (i + 1) (g % n) m hs (omega arith) (mod-lt g p) (omega arith)
+sysv_chains_small n i m (g ∷ hs) p h zero l = first_small n (g % n) (i + 1) m hs (omega arith) (omega arith)
 sysv_chains_small n i m (g ∷ hs) p h (suc k) l = sysv_chains_small n (i + 1) m hs p (omega arith) k (omega arith)
 
 -- the parts of a System V table stand in bytes

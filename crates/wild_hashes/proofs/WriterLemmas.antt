@@ -11,8 +11,8 @@ use Rattle.wild_words.proofs.RecordLemmas.{number-stands}
 use Rattle.wild_plan.specs.declared.layout.DynamicSymbol.{DynamicSymbol}
 use Rattle.wild_hashes.specs.Tables.{gnu_hash_of, sysv_hash_of, words, buckets, bloom, with_bits, gnu_chains, sysv_chains, is_last}
 use Rattle.wild_hashes.proofs.TableLemmas.{Stands-word}
-use Rattle.wild_hashes.proofs.BucketLemmas.{length-buckets, bucket_small}
-use Rattle.wild_hashes.proofs.BloomLemmas.{length-bloom, bloom_small}
+use Rattle.wild_hashes.proofs.BucketLemmas.{length-buckets, bucket_small, bucket_is, buckets-nil, buckets-cons}
+use Rattle.wild_hashes.proofs.BloomLemmas.{length-bloom, bloom_small, bloom-nil, bloom-cons}
 
 -- bytes put behind a front
 place_behind : (front part old : List ℕ) (a : ℕ) → place (length front + a) part (front ++ old) ≡ front ++ place a part old
@@ -67,11 +67,11 @@ pub buckets_more : (f : DynamicSymbol → ℕ) (n base i j : ℕ) (names : List 
 buckets_more f n base i j names x p l e r =
     let s : base + j ≡ base + i + 1 = omega arith in
     let b = length-buckets n (base + i + 1) (map f (drop j names)) in
-    rw (s, hashes_from f names i j x l e r) (place-word 4 (f x % n) (base + i) (buckets n (base + i + 1) (map f (drop j names))) (omega arith))
+    rw (s, hashes_from f names i j x l e r) (place-word 4 (f x % n) (base + i) (buckets n (base + i + 1) (map f (drop j names))) (omega arith) ∙ ap (words 4) (buckets-cons n (base + i) (f x) (map f (drop j names)) p))
 
 -- none in the buckets
 pub buckets_none : (f : DynamicSymbol → ℕ) (n base i m : ℕ) (names : List DynamicSymbol) → m ≡ 4 * n → i ≡ length names → replicate m 0 ≡ words 4 (buckets n (base + i) (map f (drop i names)))
-buckets_none f n base i m names e s = rw (s, hashes_behind f names) (zero_words 4 n m e)
+buckets_none f n base i m names e s = rw (s, hashes_behind f names) (zero_words 4 n m e ∙ ap (words 4) (sym (buckets-nil n (base + length names))))
 
 pub buckets_all : (f : DynamicSymbol → ℕ) (n base i : ℕ) (names : List DynamicSymbol) → i ≡ 0 → words 4 (buckets n (base + i) (map f (drop i names))) ≡ words 4 (buckets n base (map f names))
 buckets_all f n base i names e = let z : base + 0 ≡ base = omega arith in rw (e, z) refl
@@ -96,10 +96,10 @@ bloom_more n shift i j v names x out p l e r o q =
     let b = length-bloom n shift hs in
     let in_range : k < n = mod-lt (gnu_hash_of x / 64) p in
     let value : v ≡ get_or (bloom n shift hs) k 0 = q ∙ ap (λ (bs : List ℕ). number (slice_range bs (8 * k) (8 * k + 8))) o ∙ words_read 8 k (bloom n shift hs) (omega arith) (bloom_small n shift k hs in_range) in
-    rw (o, value, hashes_from gnu_hash_of names i j x l e r) (place-word 8 k _ (bloom n shift hs) (omega arith))
+    rw (o, value, hashes_from gnu_hash_of names i j x l e r) (place-word 8 k _ (bloom n shift hs) (omega arith) ∙ ap (words 8) (bloom-cons n shift (gnu_hash_of x) hs in_range))
 
 pub bloom_none : (n shift i m : ℕ) (names : List DynamicSymbol) → m ≡ 8 * n → i ≡ length names → replicate m 0 ≡ words 8 (bloom n shift (map gnu_hash_of (drop i names)))
-bloom_none n shift i m names e s = rw (s, hashes_behind gnu_hash_of names) (zero_words 8 n m e)
+bloom_none n shift i m names e s = rw (s, hashes_behind gnu_hash_of names) (zero_words 8 n m e ∙ ap (words 8) (sym (bloom-nil n shift)))
 
 pub bloom_all : (n shift i : ℕ) (names : List DynamicSymbol) → i ≡ 0 → words 8 (bloom n shift (map gnu_hash_of (drop i names))) ≡ words 8 (bloom n shift (map gnu_hash_of names))
 bloom_all n shift i names e = rw e refl
@@ -169,7 +169,7 @@ sysv_chains_more n base i j v names x firsts out p few l e r o d f q =
     let b = length-buckets n (base + j) hs in
     let count : length hs ≡ length names - j = length-map (drop j names) sysv_hash_of ∙ length-drop j names in
     let value : v ≡ get_or (buckets n (base + j) hs) k 0 = q ∙ ap (λ (bs : List ℕ). number (slice_range bs (4 * k) (4 * k + 4))) f ∙ words_read 4 k (buckets n (base + j) hs) (omega arith) (bucket_small n (base + j) k (2 ^ 32) hs (omega arith) in_range (omega arith)) in
-    rw (hashes_from sysv_hash_of names i j x l e r, s) (word_in_front i j v out (sysv_chains n (base + j) hs) e (omega arith) d ∙ ap (λ (y : ℕ). words 4 (y ∷ sysv_chains n (base + j) hs)) value)
+    rw (hashes_from sysv_hash_of names i j x l e r, s) (word_in_front i j v out (sysv_chains n (base + j) hs) e (omega arith) d ∙ ap (λ (y : ℕ). words 4 (y ∷ sysv_chains n (base + j) hs)) (value ∙ bucket_is n (base + j) k hs in_range))
 
 pub sysv_chains_none : (n base i m : ℕ) (names : List DynamicSymbol) (out : List ℕ) → i ≡ length names → m ≡ 4 * i → length out ≡ 4 * length names → drop m out ≡ words 4 (sysv_chains n (base + i) (map sysv_hash_of (drop i names)))
 sysv_chains_none n base i m names out e f o = let z : m ≡ length out = omega arith in rw (z, e, hashes_behind sysv_hash_of names, no_words 4) (drop-length out)

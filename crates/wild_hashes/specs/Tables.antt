@@ -1,13 +1,15 @@
 -- The words of hash tables of symbols, from the hashes of their names.
---   buckets n i hs          the first symbol of each bucket, or 0
+--   first_in n b i hs       the first symbol of bucket b of n, or 0
+--   buckets n i hs          that of each bucket
 --   sysv_chains n i hs      for each symbol the next one of its bucket, or 0
---   bloom n shift hs        the words of the Bloom filter
+--   bloom n shift hs        the words of the Bloom filter; bloom_word n shift w hs is word w
 --   gnu_chains n hs         for each symbol its hash, with bit 0 where it is its bucket's last
 --   gnu_table, sysv_table   the bytes of the tables
 --   sysv_hash_of, gnu_hash_of   the hashes of a symbol's name
 --   gnu_header              the header of a GNU table, by its shape
 -- In each, symbols of the hashes hs have the indexes from i on.
-use Rattle.std.specs.Prelude.{ℕ, ◌+◌, ◌*◌, ◌/◌, ◌%◌, ◌^◌, Bool, true, not, ◌==◌, if◌then◌else◌, List, [], ◌∷◌, ◌++◌, length, replicate, slice_index, slice_set, bit_or}
+use Rattle.std.specs.Prelude.{ℕ, ◌+◌, ◌*◌, ◌/◌, ◌%◌, ◌^◌, Bool, true, not, ◌==◌, if◌then◌else◌, List, [], ◌∷◌, ◌++◌, length, map, replicate, bit_or}
+use Rattle.std.specs.List.{range_with_len}
 use Rattle.wild_words.specs.Words.{word}
 use Rattle.wild_words.specs.Record.{spell}
 use Rattle.wild_records.specs.Hashes.{sysv_hash, gnu_hash}
@@ -27,24 +29,32 @@ gnu_hash_of d = gnu_hash d.name
 abbrev pub gnu_header : GnuHash → GnuHashHeader
 gnu_header g = record { bucket_count = g.buckets; symbol_base = g.base; bloom_count = g.bloom_count; bloom_shift = g.bloom_shift }
 
--- the first symbol of each of n buckets, or 0; a symbol goes over those behind it
-abbrev pub buckets : ℕ → ℕ → List ℕ → List ℕ
-buckets n i [] = replicate n 0
-buckets n i (h ∷ hs) = slice_set (buckets n (i + 1) hs) (h % n) i
+-- the first symbol of bucket b, or 0 where it has none
+abbrev pub first_in : ℕ → ℕ → ℕ → List ℕ → ℕ
+first_in n b i [] = 0
+first_in n b i (h ∷ hs) = if h % n == b then i else first_in n b (i + 1) hs
+
+-- the first symbol of each of n buckets (gABI, "Hash Table"; GNU, "DT_GNU_HASH")
+unfoldable pub buckets : ℕ → ℕ → List ℕ → List ℕ
+buckets n i hs = map (λ b. first_in n b i hs) (range_with_len 0 n)
 
 -- the next symbol of each symbol's bucket, or 0 (gABI, "Hash Table")
 abbrev pub sysv_chains : ℕ → ℕ → List ℕ → List ℕ
 sysv_chains n i [] = []
-sysv_chains n i (h ∷ hs) = slice_index (buckets n (i + 1) hs) (h % n) ∷ sysv_chains n (i + 1) hs
+sysv_chains n i (h ∷ hs) = first_in n (h % n) (i + 1) hs ∷ sysv_chains n (i + 1) hs
 
 -- a word of the Bloom filter, with the two bits of a hash
 abbrev pub with_bits : ℕ → ℕ → ℕ → ℕ
 with_bits shift h old = bit_or (bit_or old (2 ^ (h % 64))) (2 ^ (h / 2 ^ shift % 64))
 
--- the n words of the Bloom filter: two bits of each hash (GNU, "DT_GNU_HASH")
-abbrev pub bloom : ℕ → ℕ → List ℕ → List ℕ
-bloom n shift [] = replicate n 0
-bloom n shift (h ∷ hs) = slice_set (bloom n shift hs) (h / 64 % n) (with_bits shift h (slice_index (bloom n shift hs) (h / 64 % n)))
+-- word w of n of the Bloom filter: the two bits of each hash that it has
+abbrev pub bloom_word : ℕ → ℕ → ℕ → List ℕ → ℕ
+bloom_word n shift w [] = 0
+bloom_word n shift w (h ∷ hs) = if h / 64 % n == w then with_bits shift h (bloom_word n shift w hs) else bloom_word n shift w hs
+
+-- the n words of the Bloom filter (GNU, "DT_GNU_HASH")
+unfoldable pub bloom : ℕ → ℕ → List ℕ → List ℕ
+bloom n shift hs = map (λ w. bloom_word n shift w hs) (range_with_len 0 n)
 
 -- a symbol is its bucket's last: the next one is in another
 abbrev pub is_last : ℕ → ℕ → List ℕ → Bool
