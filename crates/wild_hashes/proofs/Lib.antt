@@ -8,3 +8,4 @@ pub mod StringLemmas
 pub mod SysvLemmas
 pub mod TableLemmas
 pub mod WriterLemmas
+pub mod ImageLemmas

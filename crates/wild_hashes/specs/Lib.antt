@@ -1,4 +1,5 @@
 pub mod Tables
 pub mod Reading
 pub mod LookUp
+pub mod Image
 pub mod Laws

@@ -2,6 +2,7 @@
 #![tactic(auto)]
 
 mod fault;
+mod image;
 mod laws;
 mod lookup;
 mod reading;
@@ -9,8 +10,9 @@ mod reading;
 mod tests;
 mod writers;
 
-pub use fault::LookupFault;
+pub use fault::{ImageFault, LookupFault};
+pub use image::{Part, Parts};
 pub use laws::{gnu_look_up_finds_the_first, neighbours_ascend, sysv_look_up_finds_the_first};
-pub use lookup::{lookup_gnu, lookup_sysv};
+pub use lookup::{find_gnu_symbol, find_sysv_symbol};
 pub use reading::LookupTables;
 pub use writers::{write_gnu_hash_tables, write_sysv_hash_table};

@@ -58,7 +58,7 @@ fn find_sysv(
 
 /// The look-up in a System V table.
 #[tactic(auto, unfolding(crate::specs::LookUp::sysv_lookup, crate::specs::LookUp::sysv_by))]
-pub fn lookup_sysv(tables: &LookupTables<'_>, name: &[u8]) -> Result<Option<u64>, LookupFault>
+pub fn find_sysv_symbol(tables: &LookupTables<'_>, name: &[u8]) -> Result<Option<u64>, LookupFault>
     ensures { result ≡ sysv_lookup tables.now.hashes.now tables.now.symbols.now tables.now.strings.now name.now }
 {
     let buckets = read_word(tables.hashes, 0)?;
@@ -176,7 +176,7 @@ fn find_gnu(
 
 /// The look-up in a GNU table.
 #[tactic(auto, unfolding(crate::specs::LookUp::gnu_lookup))]
-pub fn lookup_gnu(tables: &LookupTables<'_>, name: &[u8]) -> Result<Option<u64>, LookupFault>
+pub fn find_gnu_symbol(tables: &LookupTables<'_>, name: &[u8]) -> Result<Option<u64>, LookupFault>
     ensures { result ≡ gnu_lookup tables.now.hashes.now tables.now.symbols.now tables.now.strings.now name.now }
 {
     let Some(header) = GnuHashHeader::get(tables.hashes) else {

@@ -115,11 +115,11 @@ fn gnu_table_and_look_up(rt: HostRuntime) -> Result<(), AllocError> {
     let mut out = [0xff; 40];
     write_gnu_hash_tables(&mut out, &shape, &array[..]);
     assert_eq!(rt; out, GNU);
-    assert_eq!(rt; lookup_gnu(&exits(&out), b"exit"), Ok(Some(2)));
-    assert_eq!(rt; lookup_gnu(&exits(&out), b""), Ok(Some(1)));
-    assert_eq!(rt; lookup_gnu(&exits(&out), b"exim"), Ok(None));
+    assert_eq!(rt; find_gnu_symbol(&exits(&out), b"exit"), Ok(Some(2)));
+    assert_eq!(rt; find_gnu_symbol(&exits(&out), b""), Ok(Some(1)));
+    assert_eq!(rt; find_gnu_symbol(&exits(&out), b"exim"), Ok(None));
     assert_eq!(rt;
-        lookup_gnu(&exits(&out[..32]), b"exit"),
+        find_gnu_symbol(&exits(&out[..32]), b"exit"),
         Err(LookupFault::Cut { offset: 32 })
     );
     Ok(())
@@ -136,12 +136,12 @@ fn sysv_table_and_look_up(rt: HostRuntime) -> Result<(), AllocError> {
     let mut out = [0xff; 28];
     write_sysv_hash_table(&mut out, 1, 1, &array[..]);
     assert_eq!(rt; out, SYSV);
-    assert_eq!(rt; lookup_sysv(&exits(&out), b"exit"), Ok(Some(2)));
-    assert_eq!(rt; lookup_sysv(&exits(&out), b""), Ok(Some(1)));
-    assert_eq!(rt; lookup_sysv(&exits(&out), b"exim"), Ok(None));
+    assert_eq!(rt; find_sysv_symbol(&exits(&out), b"exit"), Ok(Some(2)));
+    assert_eq!(rt; find_sysv_symbol(&exits(&out), b""), Ok(Some(1)));
+    assert_eq!(rt; find_sysv_symbol(&exits(&out), b"exim"), Ok(None));
     out[24] = 2;
     assert_eq!(rt;
-        lookup_sysv(&exits(&out), b"exim"),
+        find_sysv_symbol(&exits(&out), b"exim"),
         Err(LookupFault::Cycle { index: 3 })
     );
     Ok(())
@@ -172,11 +172,11 @@ fn writes_the_gnu_table_of_ld(rt: HostRuntime) -> Result<(), AllocError> {
 #[test]
 fn finds_what_readelf_numbers(rt: HostRuntime) {
     let gnu = made_by_ld(&LD_GNU);
-    assert_eq!(rt; lookup_gnu(&gnu, b"beta"), Ok(Some(3)));
-    assert_eq!(rt; lookup_gnu(&gnu, b"gamma_"), Ok(Some(6)));
-    assert_eq!(rt; lookup_gnu(&gnu, b"exit"), Ok(None));
+    assert_eq!(rt; find_gnu_symbol(&gnu, b"beta"), Ok(Some(3)));
+    assert_eq!(rt; find_gnu_symbol(&gnu, b"gamma_"), Ok(Some(6)));
+    assert_eq!(rt; find_gnu_symbol(&gnu, b"exit"), Ok(None));
     let sysv = made_by_ld(&LD_SYSV);
-    assert_eq!(rt; lookup_sysv(&sysv, b"alpha"), Ok(Some(5)));
-    assert_eq!(rt; lookup_sysv(&sysv, b"exit"), Ok(Some(1)));
-    assert_eq!(rt; lookup_sysv(&sysv, b"omega"), Ok(None));
+    assert_eq!(rt; find_sysv_symbol(&sysv, b"alpha"), Ok(Some(5)));
+    assert_eq!(rt; find_sysv_symbol(&sysv, b"exit"), Ok(Some(1)));
+    assert_eq!(rt; find_sysv_symbol(&sysv, b"omega"), Ok(None));
 }

@@ -1,0 +1,123 @@
+-- The look-up of a name in an image: its hash table, symbols and strings are those that the dynamic section names.
+--   image_header image        the file header, where it is one and the program headers lie in the image
+--   dynamic_of image hs       the entries of the dynamic section, none where there is no such segment
+--   part_at image hs a        the file bytes from an address on, in the first segment to load that has it
+--   tables_of image tag       the parts of a look-up in the hash table of a tag; none where the image has no such table
+--   gnu_lookup_in image name, sysv_lookup_in image name   the symbol that the image's table leads to
+use Rattle.std.specs.Prelude.{ℕ, ◌+◌, ◌-◌, ◌*◌, ◌/◌, ◌%◌, ◌^◌, ◌&&◌, ◌==◌, if◌then◌else◌, nat_le, min, List, [], ◌∷◌, length, take, drop, Option, Some, None, Result, Ok, Err}
+use Rattle.wild_records.specs.Abi.Dynamic.{dt_hash, dt_gnu_hash, dt_symtab, dt_strtab, dt_strsz}
+use Rattle.wild_records.specs.Dynamic.{dynamic_entry_size}
+use Rattle.wild_records.specs.FileHeader.{file_header_size, file_header_at}
+use Rattle.wild_records.specs.ProgramHeader.{program_header_size}
+use Rattle.wild_records.specs.SymtabEntry.{symtab_entry_size}
+use Rattle.wild_records.specs.declared.dynamic.DynamicEntry.{DynamicEntry}
+use Rattle.wild_records.specs.declared.file_header.FileHeader.{FileHeader}
+use Rattle.wild_records.specs.declared.program_header.ProgramHeader.{ProgramHeader}
+use Rattle.wild_loader.specs.Headers.{is_loadable_header, program_headers}
+use Rattle.wild_loader.specs.Tables.{dynamic_entries, first_dynamic, tagged, has_in_memory, offset_in}
+use Rattle.wild_hashes.specs.declared.fault.LookupFault.{LookupFault}
+use Rattle.wild_hashes.specs.declared.fault.LookupFault.TheVariants as low
+use Rattle.wild_hashes.specs.declared.fault.ImageFault.{ImageFault}
+use Rattle.wild_hashes.specs.declared.fault.ImageFault.TheVariants as faults
+use Rattle.wild_hashes.specs.declared.image.Part.{Part}
+use Rattle.wild_hashes.specs.declared.image.Parts.{Parts}
+use Rattle.wild_hashes.specs.LookUp.{gnu_lookup, sysv_lookup}
+
+-- one step, and what it gives to the next; the first fault is the whole's
+infixl 10 ◌>>>◌
+abbrev pub ◌>>>◌ : {A B : Type 0} → Result A ImageFault → (A → Result B ImageFault) → Result B ImageFault
+(Ok x) >>> f = f x
+(Err e) >>> f = Err e
+
+-- ---- the image
+
+-- the file header (gABI, "ELF Header")
+unfoldable pub image_header : List ℕ → Result FileHeader ImageFault
+image_header image =
+    if nat_le file_header_size (length image) && is_loadable_header (file_header_at image 0)
+    then (if nat_le ((file_header_at image 0).program_offset + program_header_size * (file_header_at image 0).program_count) (length image) then Ok (file_header_at image 0) else Err (faults.Cut (file_header_at image 0).program_offset))
+    else Err faults.NotElf
+
+-- the entries of the dynamic section of a segment, which lies in the image; an empty one has none
+abbrev pub dynamic_in : List ℕ → Option ProgramHeader → Result (List DynamicEntry) ImageFault
+dynamic_in image None = Ok []
+dynamic_in image (Some d) =
+    if d.file_size == 0 then Ok []
+    else if nat_le (d.offset + d.file_size) (length image) then Ok (dynamic_entries image (d.file_size / dynamic_entry_size) d.offset) else Err (faults.Cut d.offset)
+
+-- the file bytes from an address of a segment on: where they begin (modulo 2^64 as a fault tells it, and within the
+-- image), and how many there are
+abbrev pub part_in : List ℕ → ProgramHeader → ℕ → Part
+part_in image h a = record {
+  offset = offset_in h a % 2 ^ 64;
+  start = min (offset_in h a) (length image);
+  size = min (h.address + h.file_size - a) (length image - offset_in h a);
+}
+
+-- the file bytes from an address on, in the first segment to load that has the address (gABI, "Program Header")
+unfoldable pub part_at : List ℕ → List ProgramHeader → ℕ → Result Part ImageFault
+part_at image [] a = Err (faults.Cut a)
+part_at image (h ∷ hs) a = if has_in_memory h a then Ok (part_in image h a) else part_at image hs a
+
+-- those of the table of a tag
+unfoldable pub part_of : List ℕ → List ProgramHeader → ℕ → Option ℕ → Result Part ImageFault
+part_of image hs tag None = Err (faults.NoTable tag)
+part_of image hs tag (Some a) = part_at image hs a
+
+-- the first n of them; else the table is cut
+abbrev pub sized : ℕ → Part → Result Part ImageFault
+sized n p = if nat_le n p.size then Ok (record p { size = n }) else Err (faults.Cut p.offset)
+
+-- the string table by its address and its size
+unfoldable pub strings_of : List ℕ → List ProgramHeader → Option ℕ → Option ℕ → Result Part ImageFault
+strings_of image hs None None = Err (faults.NoTable dt_strtab)
+strings_of image hs None (Some n) = Err (faults.NoTable dt_strsz)
+strings_of image hs (Some a) None = Err (faults.NoTable dt_strtab)
+strings_of image hs (Some a) (Some n) = part_at image hs a >>> λ p. sized n p
+
+-- the parts of a look-up in the hash table at an address
+abbrev pub parts_by : List ℕ → List ProgramHeader → List DynamicEntry → Option ℕ → Result (Option Parts) ImageFault
+parts_by image hs ds None = Ok None
+parts_by image hs ds (Some a) =
+    part_at image hs a >>> λ t. part_of image hs dt_symtab (tagged dt_symtab ds) >>> λ s. strings_of image hs (tagged dt_strtab ds) (tagged dt_strsz ds) >>> λ n.
+    Ok (Some (record { hashes = t; symbols = s; strings = n }))
+
+abbrev pub parts_of : List ℕ → List ProgramHeader → ℕ → Result (Option Parts) ImageFault
+parts_of image hs tag = dynamic_in image (first_dynamic hs) >>> λ ds. parts_by image hs ds (tagged tag ds)
+
+-- the parts of a look-up in the hash table of a tag
+unfoldable pub tables_of : List ℕ → ℕ → Result (Option Parts) ImageFault
+tables_of image tag = image_header image >>> λ e. parts_of image (program_headers image e.program_count e.program_offset) tag
+
+-- ---- the look-up
+
+-- the bytes of a part
+abbrev pub bytes_of : List ℕ → Part → List ℕ
+bytes_of image p = take p.size (drop p.start image)
+
+-- a fault of a look-up in the image
+abbrev pub placed : Parts → LookupFault → ImageFault
+placed ps (low.Cut at) = faults.Cut ((ps.hashes.offset + at) % 2 ^ 64)
+placed ps (low.NoSymbol i) = faults.Cut ((ps.symbols.offset + symtab_entry_size * i) % 2 ^ 64)
+placed ps (low.NoString at) = faults.Cut ((ps.strings.offset + at) % 2 ^ 64)
+placed ps (low.Cycle i) = faults.Cycle i
+
+abbrev pub answer : Parts → Result (Option ℕ) LookupFault → Result (Option ℕ) ImageFault
+answer ps (Ok found) = Ok found
+answer ps (Err e) = Err (placed ps e)
+
+abbrev pub gnu_by : List ℕ → List ℕ → Option Parts → Result (Option ℕ) ImageFault
+gnu_by image name None = Ok None
+gnu_by image name (Some ps) = answer ps (gnu_lookup (bytes_of image ps.hashes) (bytes_of image ps.symbols) (bytes_of image ps.strings) name)
+
+abbrev pub sysv_by : List ℕ → List ℕ → Option Parts → Result (Option ℕ) ImageFault
+sysv_by image name None = Ok None
+sysv_by image name (Some ps) = answer ps (sysv_lookup (bytes_of image ps.hashes) (bytes_of image ps.symbols) (bytes_of image ps.strings) name)
+
+-- the symbol that the GNU table of an image leads to
+unfoldable pub gnu_lookup_in : List ℕ → List ℕ → Result (Option ℕ) ImageFault
+gnu_lookup_in image name = tables_of image dt_gnu_hash >>> λ ps. gnu_by image name ps
+
+-- the symbol that the System V table of an image leads to
+unfoldable pub sysv_lookup_in : List ℕ → List ℕ → Result (Option ℕ) ImageFault
+sysv_lookup_in image name = tables_of image dt_hash >>> λ ps. sysv_by image name ps

@@ -1,0 +1,208 @@
+//! The look-up of a name in an image. No call takes memory.
+ghost use Rattle.std.specs.Prelude.{◌≡◌, ◌+◌, ◌*◌, ◌/◌, ◌≤◌, ◌<◌, [], length, IfOk, IfSome, Ok};
+ghost use Rattle.wild_records.specs.Dynamic.{dynamic_entry_size};
+ghost use Rattle.wild_records.specs.FileHeader.{file_header_at};
+ghost use Rattle.wild_records.specs.ProgramHeader.{program_header_size};
+ghost use Rattle.wild_loader.specs.Headers.{is_loadable_header, program_headers};
+ghost use Rattle.wild_loader.specs.Tables.{dynamic_entries, first_dynamic, tagged, has_in_memory};
+ghost use Rattle.wild_hashes.specs.Image.{image_header, dynamic_in, part_in, part_at, part_of, sized, strings_of, parts_of, tables_of, bytes_of, placed, answer, gnu_lookup_in, sysv_lookup_in};
+
+use crate::fault::{ImageFault, LookupFault};
+use crate::lookup::{find_gnu_symbol, find_sysv_symbol};
+use crate::reading::LookupTables;
+use wild_records::abi::dynamic::{DT_GNU_HASH, DT_HASH, DT_NULL, DT_STRSZ, DT_STRTAB, DT_SYMTAB};
+use wild_records::abi::header::{
+    ELFCLASS64, ELFDATA2LSB, ELFMAG, EM_AARCH64, EM_X86_64, ET_DYN, ET_EXEC,
+};
+use wild_records::abi::segment::{PT_DYNAMIC, PT_LOAD};
+use wild_records::{DynamicEntry, FileHeader, ProgramHeader, SymtabEntry};
+
+/// The file bytes from an address on.
+#[derive(Clone, Copy, Debug, PartialEq, Eq)]
+pub struct Part {
+    /// Their offset as a fault tells it.
+    pub offset: u64,
+    /// Where they begin in the image.
+    pub start: usize,
+    /// How many there are.
+    pub size: usize,
+}
+
+/// What a look-up reads of an image.
+#[derive(Clone, Copy, Debug, PartialEq, Eq)]
+pub struct Parts {
+    pub hashes: Part,
+    pub symbols: Part,
+    pub strings: Part,
+}
+
+/// So many records of an image behind each other.
+#[derive(Clone, Copy, Debug, PartialEq, Eq)]
+struct Records {
+    start: usize,
+    count: usize,
+}
+
+/// Whether it is the header of an executable or shared file that is known.
+fn is_loadable(header: &FileHeader) -> bool
+    ensures { result ≡ is_loadable_header header.now }
+{
+    header.magic == ELFMAG
+        && header.class == ELFCLASS64
+        && header.encoding == ELFDATA2LSB
+        && (header.file_type == ET_EXEC || header.file_type == ET_DYN)
+        && (header.machine == EM_X86_64 || header.machine == EM_AARCH64)
+}
+
+/// The file header, where it is one and the program headers lie in the image.
+#[tactic(auto, unfolding(crate::specs::Image::image_header))]
+fn read_header(image: &[u8]) -> Result<FileHeader, ImageFault>
+    ensures is { result ≡ image_header image.now }
+    ensures room { IfOk result (λ h. h.program_offset + program_header_size * h.program_count ≤ length image.now) }
+{
+    let Some(header) = FileHeader::get(image) else {
+        return Err(ImageFault::NotElf);
+    };
+    if !is_loadable(&header) {
+        return Err(ImageFault::NotElf);
+    }
+    let size = ProgramHeader::SIZE as u128 * header.program_count as u128;
+    if header.program_offset as u128 + size <= image.len() as u128 {
+        Ok(header)
+    } else {
+        Err(ImageFault::Cut {
+            offset: header.program_offset,
+        })
+    }
+}
+
+/// The first segment of type PT_DYNAMIC.
+#[tactic(auto, using(crate::proofs::ImageLemmas::dynamic_steps))]
+fn find_dynamic(image: &[u8], headers: Records) -> Option<ProgramHeader>
+    requires { headers.start + program_header_size * headers.count ≤ length image.now }
+    ensures { result ≡ first_dynamic (program_headers image.now headers.count headers.start) }
+{
+    for i in 0..headers.count {
+        let header = ProgramHeader::read(image, headers.start + ProgramHeader::SIZE * i);
+        if header.kind == PT_DYNAMIC {
+            return Some(header);
+        }
+    }
+    None
+}
+
+/// The value of the first dynamic entry with a tag, before the first DT_NULL.
+#[tactic(auto, using(crate::proofs::ImageLemmas::tag_steps))]
+fn find_tag(image: &[u8], entries: Records, tag: u64) -> Option<u64>
+    requires { entries.start + dynamic_entry_size * entries.count ≤ length image.now }
+    ensures { result ≡ tagged tag (dynamic_entries image.now entries.count entries.start) }
+{
+    for i in 0..entries.count {
+        let entry = DynamicEntry::read(image, entries.start + DynamicEntry::SIZE * i);
+        if entry.tag == DT_NULL {
+            return None;
+        }
+        if entry.tag == tag {
+            return Some(entry.value);
+        }
+    }
+    None
+}
+
+/// Whether a segment to load has an address in memory.
+fn is_in(header: &ProgramHeader, address: u64) -> bool
+    ensures { result ≡ has_in_memory header.now address }
+{
+    header.kind == PT_LOAD
+        && header.address <= address
+        && (address as u128) < header.address as u128 + header.mem_size as u128
+}
+
+/// The file bytes from an address of a segment on.
+fn part_within(image: &[u8], header: &ProgramHeader, address: u64) -> Part
+    requires { header.now.address ≤ address }
+    ensures is { result ≡ part_in image.now header.now address }
+    ensures room { result.start + result.size ≤ length image.now }
+{
+    let distance = address - header.address;
+    let offset = header.offset as u128 + distance as u128;
+    let file_end = header.address as u128 + header.file_size as u128;
+    let start = offset.min(image.len() as u128) as usize;
+    let left = image.len() - start;
+    let size = file_end.saturating_sub(address as u128).min(left as u128) as usize;
+    Part {
+        offset: header.offset.wrapping_add(distance),
+        start,
+        size,
+    }
+}
+
+/// The file bytes from an address on, in the first segment to load that has the address.
+#[tactic(auto, using(crate::proofs::ImageLemmas::part_steps))]
+fn find_part(image: &[u8], headers: Records, address: u64) -> Result<Part, ImageFault>
+    requires { headers.start + program_header_size * headers.count ≤ length image.now }
+    ensures is { result ≡ part_at image.now (program_headers image.now headers.count headers.start) address }
+    ensures room { IfOk result (λ p. p.start + p.size ≤ length image.now) }
+{
+    for i in 0..headers.count {
+        let header = ProgramHeader::read(image, headers.start + ProgramHeader::SIZE * i);
+        if is_in(&header, address) {
+            return Ok(part_within(image, &header, address));
+        }
+    }
+    Err(ImageFault::Cut { offset: address })
+}
+
+/// The file bytes of the table of a tag.
+#[tactic(auto, unfolding(crate::specs::Image::part_of))]
+fn find_table(
+    image: &[u8],
+    headers: Records,
+    tag: u64,
+    address: Option<u64>,
+) -> Result<Part, ImageFault>
+    requires { headers.start + program_header_size * headers.count ≤ length image.now }
+    ensures is { result ≡ part_of image.now (program_headers image.now headers.count headers.start) tag address }
+    ensures room { IfOk result (λ p. p.start + p.size ≤ length image.now) }
+{
+    match address {
+        Some(address) => find_part(image, headers, address),
+        None => Err(ImageFault::NoTable { tag }),
+    }
+}
+
+/// The first bytes of a part.
+fn sized(part: Part, size: u64) -> Result<Part, ImageFault>
+    ensures { result ≡ sized size part }
+{
+    if size <= part.size as u64 {
+        Ok(Part {
+            offset: part.offset,
+            start: part.start,
+            size: size as usize,
+        })
+    } else {
+        Err(ImageFault::Cut {
+            offset: part.offset,
+        })
+    }
+}
+
+/// The string table by its address and its size.
+#[tactic(auto, unfolding(crate::specs::Image::strings_of))]
+fn find_strings(
+    image: &[u8],
+    headers: Records,
+    address: Option<u64>,
+    size: Option<u64>,
+) -> Result<Part, ImageFault>
+    requires { headers.start + program_header_size * headers.count ≤ length image.now }
+    ensures is { result ≡ strings_of image.now (program_headers image.now headers.count headers.start) address size }
+    ensures room { IfOk result (λ p. p.start + p.size ≤ length image.now) }
+{
+    match (address, size) {
+        (Some(address), Some(size)) => sized(find_part(image, headers, address)?, size),
+        (None, Some(_)) => Err(ImageFault::NoTable { tag: DT_STRSZ }),
+        _ => Err(ImageFault::NoTable { tag: DT_STRTAB }),
+    }
+}
