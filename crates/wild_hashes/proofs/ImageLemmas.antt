@@ -1,5 +1,5 @@
 -- The steps of the walks over an image's headers and dynamic entries.
-use Rattle.std.proofs.Common.{◌≡◌, Bool, true, false, ℕ, zero, suc, ◌+◌, ◌-◌, ◌*◌, ◌<◌, ◌≤◌, List, [], ◌∷◌, refl, arith, Option, Some, None, Result, Ok, Err}
+use Rattle.std.proofs.Common.{◌≡◌, Bool, true, false, ℕ, zero, suc, ◌+◌, ◌-◌, ◌*◌, ◌%◌, ◌^◌, ◌<◌, ◌≤◌, List, [], ◌∷◌, refl, arith, Option, Some, None, Result, Ok, Err}
 use Rattle.std.specs.Prelude.{if◌then◌else◌, ◌==◌}
 use Rattle.wild_records.specs.ProgramHeader.{program_header_at}
 use Rattle.wild_records.specs.Dynamic.{dynamic_entry_at}
@@ -55,3 +55,7 @@ unfolding tagged dynamic_entries
 tagged_none image tag count i start l = let e : count - i ≡ 0 = omega (arith, l) in rw e refl
 
 pub ruleset tag_steps = (tagged_more, tagged_none)
+
+-- a product that is wrapped before a sum
+pub wrapped_once : (a b : ℕ) → (a + b * 24 % 2 ^ 64) % 2 ^ 64 ≡ (a + 24 * b) % 2 ^ 64
+wrapped_once a b = omega arith

@@ -4,7 +4,7 @@
 --   part_at image hs a        the file bytes from an address on, in the first segment to load that has it
 --   tables_of image tag       the parts of a look-up in the hash table of a tag; none where the image has no such table
 --   gnu_lookup_in image name, sysv_lookup_in image name   the symbol that the image's table leads to
-use Rattle.std.specs.Prelude.{ℕ, ◌+◌, ◌-◌, ◌*◌, ◌/◌, ◌%◌, ◌^◌, ◌&&◌, ◌==◌, if◌then◌else◌, nat_le, min, List, [], ◌∷◌, length, take, drop, Option, Some, None, Result, Ok, Err}
+use Rattle.std.specs.Prelude.{ℕ, ◌+◌, ◌-◌, ◌*◌, ◌/◌, ◌%◌, ◌^◌, ◌≤◌, ◌&&◌, ◌==◌, if◌then◌else◌, nat_le, min, List, [], ◌∷◌, length, take, drop, Option, Some, None, Result, Ok, Err}
 use Rattle.wild_records.specs.Abi.Dynamic.{dt_hash, dt_gnu_hash, dt_symtab, dt_strtab, dt_strsz}
 use Rattle.wild_records.specs.Dynamic.{dynamic_entry_size}
 use Rattle.wild_records.specs.FileHeader.{file_header_size, file_header_at}
@@ -88,6 +88,16 @@ parts_of image hs tag = dynamic_in image (first_dynamic hs) >>> λ ds. parts_by 
 -- the parts of a look-up in the hash table of a tag
 unfoldable pub tables_of : List ℕ → ℕ → Result (Option Parts) ImageFault
 tables_of image tag = image_header image >>> λ e. parts_of image (program_headers image e.program_count e.program_offset) tag
+
+-- a part lies in the image
+abbrev pub IsInside : List ℕ → Part → Type 0
+IsInside image p = p.start + p.size ≤ length image
+
+-- the parts lie in the image
+pub record AreInside (image : List ℕ) (ps : Parts) : Type 0 where
+  pub hashes : IsInside image ps.hashes
+  pub symbols : IsInside image ps.symbols
+  pub strings : IsInside image ps.strings
 
 -- ---- the look-up
 

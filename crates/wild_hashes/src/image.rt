@@ -1,11 +1,11 @@
 //! The look-up of a name in an image. No call takes memory.
-ghost use Rattle.std.specs.Prelude.{◌≡◌, ◌+◌, ◌*◌, ◌/◌, ◌≤◌, ◌<◌, [], length, IfOk, IfSome, Ok};
+ghost use Rattle.std.specs.Prelude.{◌≡◌, ◌+◌, ◌*◌, ◌/◌, ◌≤◌, ◌<◌, [], length, IfOk, IfErr, IfSome, Ok, Err};
 ghost use Rattle.wild_records.specs.Dynamic.{dynamic_entry_size};
 ghost use Rattle.wild_records.specs.FileHeader.{file_header_at};
 ghost use Rattle.wild_records.specs.ProgramHeader.{program_header_size};
 ghost use Rattle.wild_loader.specs.Headers.{is_loadable_header, program_headers};
 ghost use Rattle.wild_loader.specs.Tables.{dynamic_entries, first_dynamic, tagged, has_in_memory};
-ghost use Rattle.wild_hashes.specs.Image.{image_header, dynamic_in, part_in, part_at, part_of, sized, strings_of, parts_of, tables_of, bytes_of, placed, answer, gnu_lookup_in, sysv_lookup_in};
+ghost use Rattle.wild_hashes.specs.Image.{image_header, dynamic_in, part_in, part_at, part_of, sized, strings_of, parts_by, tables_of, IsInside, AreInside, bytes_of, placed, answer, gnu_lookup_in, sysv_lookup_in};
 
 use crate::fault::{ImageFault, LookupFault};
 use crate::lookup::{find_gnu_symbol, find_sysv_symbol};
@@ -122,7 +122,7 @@ fn is_in(header: &ProgramHeader, address: u64) -> bool
 fn part_within(image: &[u8], header: &ProgramHeader, address: u64) -> Part
     requires { header.now.address ≤ address }
     ensures is { result ≡ part_in image.now header.now address }
-    ensures room { result.start + result.size ≤ length image.now }
+    ensures room { IsInside image.now result }
 {
     let distance = address - header.address;
     let offset = header.offset as u128 + distance as u128;
@@ -142,7 +142,7 @@ fn part_within(image: &[u8], header: &ProgramHeader, address: u64) -> Part
 fn find_part(image: &[u8], headers: Records, address: u64) -> Result<Part, ImageFault>
     requires { headers.start + program_header_size * headers.count ≤ length image.now }
     ensures is { result ≡ part_at image.now (program_headers image.now headers.count headers.start) address }
-    ensures room { IfOk result (λ p. p.start + p.size ≤ length image.now) }
+    ensures room { IfOk result (λ p. IsInside image.now p) }
 {
     for i in 0..headers.count {
         let header = ProgramHeader::read(image, headers.start + ProgramHeader::SIZE * i);
@@ -163,7 +163,7 @@ fn find_table(
 ) -> Result<Part, ImageFault>
     requires { headers.start + program_header_size * headers.count ≤ length image.now }
     ensures is { result ≡ part_of image.now (program_headers image.now headers.count headers.start) tag address }
-    ensures room { IfOk result (λ p. p.start + p.size ≤ length image.now) }
+    ensures room { IfOk result (λ p. IsInside image.now p) }
 {
     match address {
         Some(address) => find_part(image, headers, address),
@@ -198,11 +198,148 @@ fn find_strings(
 ) -> Result<Part, ImageFault>
     requires { headers.start + program_header_size * headers.count ≤ length image.now }
     ensures is { result ≡ strings_of image.now (program_headers image.now headers.count headers.start) address size }
-    ensures room { IfOk result (λ p. p.start + p.size ≤ length image.now) }
+    ensures room { IfOk result (λ p. IsInside image.now p) }
 {
     match (address, size) {
         (Some(address), Some(size)) => sized(find_part(image, headers, address)?, size),
         (None, Some(_)) => Err(ImageFault::NoTable { tag: DT_STRSZ }),
         _ => Err(ImageFault::NoTable { tag: DT_STRTAB }),
     }
+}
+
+/// The entries of the dynamic section of a segment, where there is one.
+#[tactic(auto, unfolding(wild_loader::specs::Tables::dynamic_entries))]
+fn find_entries(image: &[u8], segment: Option<ProgramHeader>) -> Result<Records, ImageFault>
+    ensures is { IfOk result (λ r. dynamic_in image.now segment ≡ Ok (dynamic_entries image.now r.count r.start)) }
+    ensures refused { IfErr result (λ e. dynamic_in image.now segment ≡ Err e) }
+    ensures room { IfOk result (λ r. r.start + dynamic_entry_size * r.count ≤ length image.now) }
+{
+    let Some(segment) = segment else {
+        return Ok(Records { start: 0, count: 0 });
+    };
+    if segment.file_size == 0 {
+        return Ok(Records { start: 0, count: 0 });
+    }
+    let end = segment.offset as u128 + segment.file_size as u128;
+    if end > image.len() as u128 {
+        return Err(ImageFault::Cut {
+            offset: segment.offset,
+        });
+    }
+    Ok(Records {
+        start: segment.offset as usize,
+        count: segment.file_size as usize / DynamicEntry::SIZE,
+    })
+}
+
+/// The parts of a look-up in the hash table of a tag; none where no entry has the tag.
+fn find_parts(
+    image: &[u8],
+    headers: Records,
+    entries: Records,
+    tag: u64,
+) -> Result<Option<Parts>, ImageFault>
+    requires headers { headers.start + program_header_size * headers.count ≤ length image.now }
+    requires entries { entries.start + dynamic_entry_size * entries.count ≤ length image.now }
+    ensures is { let ds = dynamic_entries image.now entries.count entries.start in result ≡ parts_by image.now (program_headers image.now headers.count headers.start) ds (tagged tag ds) }
+    ensures room { IfOk result (λ found. IfSome found (λ ps. AreInside image.now ps)) }
+{
+    let Some(address) = find_tag(image, entries, tag) else {
+        return Ok(None);
+    };
+    let hashes = find_part(image, headers, address)?;
+    let symbols_at = find_tag(image, entries, DT_SYMTAB);
+    let symbols = find_table(image, headers, DT_SYMTAB, symbols_at)?;
+    let strings_at = find_tag(image, entries, DT_STRTAB);
+    let strings_size = find_tag(image, entries, DT_STRSZ);
+    let strings = find_strings(image, headers, strings_at, strings_size)?;
+    Ok(Some(Parts {
+        hashes,
+        symbols,
+        strings,
+    }))
+}
+
+/// The same, from the file header on.
+#[tactic(auto, unfolding(crate::specs::Image::tables_of))]
+fn find_tables(image: &[u8], tag: u64) -> Result<Option<Parts>, ImageFault>
+    ensures is { result ≡ tables_of image.now tag }
+    ensures room { IfOk result (λ found. IfSome found (λ ps. AreInside image.now ps)) }
+{
+    let header = read_header(image)?;
+    let headers = Records {
+        start: header.program_offset as usize,
+        count: header.program_count as usize,
+    };
+    let entries = find_entries(image, find_dynamic(image, headers))?;
+    find_parts(image, headers, entries, tag)
+}
+
+/// The bytes of a part.
+fn bytes_of(image: &[u8], part: Part) -> &[u8]
+    requires { IsInside image.now part }
+    ensures { result.now ≡ bytes_of image.now part }
+{
+    &image[part.start..part.start + part.size]
+}
+
+/// A fault of a look-up in the image.
+#[tactic(auto, using(crate::proofs::ImageLemmas::wrapped_once))]
+fn placed(parts: Parts, fault: LookupFault) -> ImageFault
+    ensures { result ≡ placed parts fault }
+{
+    let offset = match fault {
+        LookupFault::Cut { offset } => parts.hashes.offset.wrapping_add(offset),
+        LookupFault::NoSymbol { index } => {
+            let distance = index.wrapping_mul(SymtabEntry::SIZE as u64);
+            parts.symbols.offset.wrapping_add(distance)
+        }
+        LookupFault::NoString { offset } => parts.strings.offset.wrapping_add(offset),
+        LookupFault::Cycle { index } => return ImageFault::Cycle { index },
+    };
+    ImageFault::Cut { offset }
+}
+
+/// What a look-up in the parts says of the image.
+fn answer(parts: Parts, found: Result<Option<u64>, LookupFault>) -> Result<Option<u64>, ImageFault>
+    ensures { result ≡ answer parts found }
+{
+    match found {
+        Ok(index) => Ok(index),
+        Err(fault) => Err(placed(parts, fault)),
+    }
+}
+
+/// Looks a name up in the GNU hash table of an image, and answers the index of the dynamic symbol; none where the image
+/// has no such table, or one without buckets or without a Bloom filter.
+#[tactic(auto, unfolding(crate::specs::Image::gnu_lookup_in))]
+pub fn lookup_gnu(image: &[u8], name: &[u8]) -> Result<Option<u64>, ImageFault>
+    ensures { result ≡ gnu_lookup_in image.now name.now }
+{
+    let Some(parts) = find_tables(image, DT_GNU_HASH)? else {
+        return Ok(None);
+    };
+    let tables = LookupTables {
+        hashes: bytes_of(image, parts.hashes),
+        symbols: bytes_of(image, parts.symbols),
+        strings: bytes_of(image, parts.strings),
+    };
+    answer(parts, find_gnu_symbol(&tables, name))
+}
+
+/// Looks a name up in the System V hash table of an image, and answers the index of the dynamic symbol; none where the
+/// image has no such table, or one without buckets.
+#[tactic(auto, unfolding(crate::specs::Image::sysv_lookup_in))]
+pub fn lookup_sysv(image: &[u8], name: &[u8]) -> Result<Option<u64>, ImageFault>
+    ensures { result ≡ sysv_lookup_in image.now name.now }
+{
+    let Some(parts) = find_tables(image, DT_HASH)? else {
+        return Ok(None);
+    };
+    let tables = LookupTables {
+        hashes: bytes_of(image, parts.hashes),
+        symbols: bytes_of(image, parts.symbols),
+        strings: bytes_of(image, parts.strings),
+    };
+    answer(parts, find_sysv_symbol(&tables, name))
 }

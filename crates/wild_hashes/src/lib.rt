@@ -11,7 +11,7 @@ mod tests;
 mod writers;
 
 pub use fault::{ImageFault, LookupFault};
-pub use image::{Part, Parts};
+pub use image::{Part, Parts, lookup_gnu, lookup_sysv};
 pub use laws::{gnu_look_up_finds_the_first, neighbours_ascend, sysv_look_up_finds_the_first};
 pub use lookup::{find_gnu_symbol, find_sysv_symbol};
 pub use reading::LookupTables;
