@@ -1,0 +1,10 @@
+-- What is written does what is asked of it.
+use Rattle.std.specs.Prelude.{◌≡◌, ℕ, ◌+◌, ◌%◌, ◌^◌, ◌<◌, ◌≤◌, length, true, Some}
+use Rattle.wild_meaning.specs.Instruction.{jump_through}
+use Rattle.wild_meaning.specs.InstructionX86_64.{meaning_x86_64}
+use Rattle.wild_relax.specs.Stub.{stub_x86_64}
+
+-- a stub that reaches its slot jumps, wherever the output stands, to the address in that slot
+abbrev pub StubsJump : Type 0
+StubsJump = (base slot stub : ℕ) → slot < 2 ^ 64 → stub < 2 ^ 64 → (stub_x86_64 slot stub).reaches ≡ true
+    → meaning_x86_64 (base + stub) (stub_x86_64 slot stub).bytes ≡ Some (jump_through ((base + slot) % 2 ^ 64))

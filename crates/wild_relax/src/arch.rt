@@ -1,0 +1,97 @@
+//! What differs between the machines.
+ghost use Rattle.std.specs.Prelude.{◌≡◌, false, length, is_ok, IfErr, OnOk, OnErr};
+ghost use Rattle.std.specs.List.{list_any};
+
+use crate::stub::PltTooFar;
+use wild_plan::{Layout, Machine};
+use wild_reloc::{DynamicRelocationKind, RelName, RelocationKindInfo};
+
+/// A machine that images are written for.
+pub trait Arch {
+    ghost use Rattle.std.specs.Prelude.{ℕ, Bool, List, Option, ◌==◌};
+    ghost use Rattle.wild_plan.specs.declared.kind.Machine.{Machine};
+    ghost use Rattle.wild_plan.specs.declared.layout.Tls.{Tls};
+    ghost use Rattle.wild_reloc.specs.declared.dynamic.DynamicRelocationKind.{DynamicRelocationKind};
+    ghost use Rattle.wild_reloc.specs.declared.info.RelocationKindInfo.{RelocationKindInfo};
+    ghost use Rattle.wild_reloc.specs.declared.names.RelName.{RelName};
+    ghost use Rattle.wild_relax.specs.Stub.{Stub};
+
+    /// The machine.
+    ghost machine: { Machine };
+
+    /// The row of a relocation type; none where the table has none.
+    ghost row_of: { ℕ → Option RelocationKindInfo };
+
+    /// How a relocation type is printed.
+    ghost name_of: { ℕ → RelName };
+
+    /// The relocation types whose field cannot hold what another module may define.
+    ghost barred: { List ℕ };
+
+    /// The relocation types whose field cannot hold an address of a shared object.
+    ghost barred_in_shared: { List ℕ };
+
+    /// The type of a dynamic entry.
+    ghost dynamic_type: { DynamicRelocationKind → ℕ };
+
+    /// Where the thread pointer stands beside the thread-local data, modulo 2^64.
+    ghost pointer: { Tls → ℕ };
+
+    /// The stub at an address that goes on to the address in a slot; with `bti`, for outputs whose indirect branches
+    /// have to land on a mark.
+    ghost stub: { (slot stub : ℕ) → (bti : Bool) → Stub };
+
+    /// The machine (gABI, `e_machine`).
+    fn arch_identifier() -> Machine
+        ensures { result ≡ Self.machine };
+
+    /// The row of a relocation type; none where the table has none.
+    fn relocation_from_raw(number: u32) -> Option<RelocationKindInfo>
+        ensures { result ≡ Self.row_of number };
+
+    /// The name of a relocation type, for printing.
+    fn rel_type_to_string(number: u32) -> RelName
+        ensures { result ≡ Self.name_of number };
+
+    /// Whether the field of that type cannot hold the address of a symbol that another module may define.
+    fn is_disallowed_for_interposable_symbols(number: u32) -> bool
+        ensures { result ≡ list_any (λ barred. number == barred) Self.barred };
+
+    /// Whether the field of that type cannot hold an address of a shared object, which its loader chooses.
+    fn is_disallowed_in_shared_object(number: u32) -> bool
+        ensures { result ≡ list_any (λ barred. number == barred) Self.barred_in_shared };
+
+    /// The type of a dynamic entry.
+    fn get_dynamic_relocation_type(kind: DynamicRelocationKind) -> u32
+        ensures { result ≡ Self.dynamic_type kind };
+
+    /// Where the thread pointer stands, modulo 2^64.
+    fn tp_offset_start(layout: &Layout) -> u64
+        ensures { result ≡ Self.pointer layout.now.tls };
+
+    /// Writes the stub at `plt_address` that goes on to the address in the slot at `got_address`. It is refused exactly
+    /// where the slot is too far, and then nothing changes.
+    fn write_plt_entry(
+        plt_entry: &mut [u8],
+        got_address: u64,
+        plt_address: u64,
+    ) -> Result<(), PltTooFar>
+        requires { length plt_entry.old ≡ 16 }
+        ensures accepted { is_ok result ≡ (Self.stub got_address plt_address false).reaches }
+        ensures value { IfErr result (λ far. far.value ≡ (Self.stub got_address plt_address false).distance) }
+        ensures written { OnOk result (plt_entry.new ≡ (Self.stub got_address plt_address false).bytes) }
+        ensures unchanged { OnErr result (plt_entry.new ≡ plt_entry.old) };
+
+    /// The same for an output whose indirect branches may have to land on a mark (`bti`).
+    fn write_plt_entry_with_bti(
+        plt_entry: &mut [u8],
+        got_address: u64,
+        plt_address: u64,
+        bti: bool,
+    ) -> Result<(), PltTooFar>
+        requires { length plt_entry.old ≡ 16 }
+        ensures accepted { is_ok result ≡ (Self.stub got_address plt_address bti).reaches }
+        ensures value { IfErr result (λ far. far.value ≡ (Self.stub got_address plt_address bti).distance) }
+        ensures written { OnOk result (plt_entry.new ≡ (Self.stub got_address plt_address bti).bytes) }
+        ensures unchanged { OnErr result (plt_entry.new ≡ plt_entry.old) };
+}

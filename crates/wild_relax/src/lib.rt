@@ -1,0 +1,21 @@
+//! What differs between the machines, and the rewrites of instructions that need no slot or stub.
+#![tactic(auto)]
+
+mod arch;
+mod laws;
+mod pattern;
+mod reference;
+mod row;
+mod stub;
+#[cfg(test)]
+mod tests;
+mod thread;
+mod x86_64;
+
+pub use arch::Arch;
+pub use laws::stubs_jump_to_their_slots;
+pub use pattern::{GeneralForm, LocalForm, Operation, Prefix};
+pub use reference::{RelocationInfo, UnknownSequence};
+pub use row::{DescriptorUse, Row};
+pub use stub::PltTooFar;
+pub use x86_64::ElfX86_64;

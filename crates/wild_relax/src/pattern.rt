@@ -1,0 +1,338 @@
+//! The bytes that the rows of x86-64 look for in the input (Intel SDM; x86-64 psABI, "Linker Optimization"; "ELF Handling For
+//! Thread-Local Storage", "Linker Relaxations").
+ghost use Rattle.std.specs.Prelude.{◌≡◌, ◌≤◌, length};
+ghost use Rattle.wild_relax.specs.Pattern.{fits, stands, cells_of, field_of, stands_before};
+
+/// The prefix of an instruction that works on 64 bits.
+#[derive(Clone, Copy, Debug, PartialEq, Eq)]
+pub enum Prefix {
+    /// One byte, for 16 registers (Intel SDM, "REX Prefixes").
+    Rex,
+    /// Two bytes, for 32 registers (Intel APX, "REX2").
+    Rex2,
+}
+
+/// What an instruction does with its register and the word in a slot.
+#[derive(Clone, Copy, Debug, PartialEq, Eq)]
+pub enum Operation {
+    Mov,
+    Sub,
+    Cmp,
+    Add,
+}
+
+/// A sequence that asks `__tls_get_addr` for the address of a symbol.
+#[derive(Clone, Copy, Debug, PartialEq, Eq)]
+pub enum GeneralForm {
+    /// By a call.
+    Regular,
+    /// By a call through a slot.
+    NoPlt,
+    /// By a call to a distance of 64 bits.
+    Large,
+}
+
+/// A sequence that asks `__tls_get_addr` for the start of the output's own thread-local data.
+#[derive(Clone, Copy, Debug, PartialEq, Eq)]
+pub enum LocalForm {
+    /// By a call.
+    Regular,
+    /// By a call to a distance of 64 bits.
+    Large,
+    /// By a call through a slot.
+    NoPlt,
+}
+
+/// Bytes of the input, with a relocation's field among them.
+#[derive(Clone, Copy, Debug, PartialEq, Eq)]
+pub enum Pattern {
+    /// None.
+    Nothing,
+    /// A register and the word in a slot, of 64 bits.
+    Wide(Prefix, Operation),
+    /// `mov` of the word in a slot, of 32 bits.
+    Mov,
+    /// `call` through a slot.
+    Call,
+    /// `jmp` through a slot.
+    Jump,
+    /// All of a sequence.
+    General(GeneralForm),
+    /// A sequence up to the opcode of its call.
+    LocalStart(LocalForm),
+    /// All of a sequence.
+    Local(LocalForm),
+    /// `lea` of a descriptor.
+    Lea(Prefix),
+    /// `call` through a descriptor.
+    DescriptorCall,
+}
+
+// What one byte may be: a fixed one; a REX prefix, or the payload of a REX2 prefix, for 64 bits without an index or a base; a
+// ModRM byte of `[rip + displacement]`; or any.
+#[derive(Clone, Copy, Debug, PartialEq, Eq)]
+pub(crate) enum Cell {
+    Is(u8),
+    RexWide,
+    Rex2Wide,
+    Slot,
+    Any,
+}
+
+use Cell::{Any, Is, Rex2Wide, RexWide, Slot};
+
+const NO_CELLS: [Cell; 0] = [];
+
+const REX_MOV: [Cell; 7] = [RexWide, Is(0x8b), Slot, Any, Any, Any, Any];
+
+const REX_SUB: [Cell; 7] = [RexWide, Is(0x2b), Slot, Any, Any, Any, Any];
+
+const REX_CMP: [Cell; 7] = [RexWide, Is(0x3b), Slot, Any, Any, Any, Any];
+
+const REX_ADD: [Cell; 7] = [RexWide, Is(0x03), Slot, Any, Any, Any, Any];
+
+const REX_LEA: [Cell; 7] = [RexWide, Is(0x8d), Slot, Any, Any, Any, Any];
+
+const REX2_MOV: [Cell; 8] = [Is(0xd5), RexWide, Is(0x8b), Slot, Any, Any, Any, Any];
+
+const REX2_SUB: [Cell; 8] = [Is(0xd5), RexWide, Is(0x2b), Slot, Any, Any, Any, Any];
+
+const REX2_CMP: [Cell; 8] = [Is(0xd5), RexWide, Is(0x3b), Slot, Any, Any, Any, Any];
+
+const REX2_ADD: [Cell; 8] = [Is(0xd5), RexWide, Is(0x03), Slot, Any, Any, Any, Any];
+
+const REX2_LEA: [Cell; 8] = [Is(0xd5), Rex2Wide, Is(0x8d), Slot, Any, Any, Any, Any];
+
+const MOV: [Cell; 6] = [Is(0x8b), Slot, Any, Any, Any, Any];
+
+const CALL: [Cell; 6] = [Is(0xff), Is(0x15), Any, Any, Any, Any];
+
+const JUMP: [Cell; 6] = [Is(0xff), Is(0x25), Any, Any, Any, Any];
+
+const DESCRIPTOR_CALL: [Cell; 2] = [Is(0xff), Is(0x10)];
+
+// `lea rdi, [rip + symbol]; call __tls_get_addr`, with prefixes that make it 16 bytes.
+const GENERAL: [Cell; 16] = [
+    Is(0x66),
+    Is(0x48),
+    Is(0x8d),
+    Is(0x3d),
+    Any,
+    Any,
+    Any,
+    Any,
+    Is(0x66),
+    Is(0x66),
+    Is(0x48),
+    Is(0xe8),
+    Any,
+    Any,
+    Any,
+    Any,
+];
+
+// The same with `call [rip + slot]`.
+const GENERAL_NO_PLT: [Cell; 16] = [
+    Is(0x66),
+    Is(0x48),
+    Is(0x8d),
+    Is(0x3d),
+    Any,
+    Any,
+    Any,
+    Any,
+    Is(0x66),
+    Is(0x48),
+    Is(0xff),
+    Is(0x15),
+    Any,
+    Any,
+    Any,
+    Any,
+];
+
+// `lea rdi, [rip + symbol]; movabs rax, distance; add rax, rbx; call rax`.
+const LARGE: [Cell; 22] = [
+    Is(0x48),
+    Is(0x8d),
+    Is(0x3d),
+    Any,
+    Any,
+    Any,
+    Any,
+    Is(0x48),
+    Is(0xb8),
+    Any,
+    Any,
+    Any,
+    Any,
+    Any,
+    Any,
+    Any,
+    Any,
+    Is(0x48),
+    Is(0x01),
+    Is(0xd8),
+    Is(0xff),
+    Is(0xd0),
+];
+
+// `lea rdi, [rip + symbol]; call __tls_get_addr`.
+const LOCAL: [Cell; 12] = [
+    Is(0x48),
+    Is(0x8d),
+    Is(0x3d),
+    Any,
+    Any,
+    Any,
+    Any,
+    Is(0xe8),
+    Any,
+    Any,
+    Any,
+    Any,
+];
+
+// The same with `call [rip + slot]`.
+const LOCAL_NO_PLT: [Cell; 13] = [
+    Is(0x48),
+    Is(0x8d),
+    Is(0x3d),
+    Any,
+    Any,
+    Any,
+    Any,
+    Is(0xff),
+    Is(0x15),
+    Any,
+    Any,
+    Any,
+    Any,
+];
+
+const LOCAL_START: [Cell; 8] = [Is(0x48), Is(0x8d), Is(0x3d), Any, Any, Any, Any, Is(0xe8)];
+
+const LARGE_START: [Cell; 9] = [
+    Is(0x48),
+    Is(0x8d),
+    Is(0x3d),
+    Any,
+    Any,
+    Any,
+    Any,
+    Is(0x48),
+    Is(0xb8),
+];
+
+const LOCAL_NO_PLT_START: [Cell; 9] = [
+    Is(0x48),
+    Is(0x8d),
+    Is(0x3d),
+    Any,
+    Any,
+    Any,
+    Any,
+    Is(0xff),
+    Is(0x15),
+];
+
+fn wide_cells(prefix: Prefix, operation: Operation) -> &'static [Cell]
+    ensures value { result.now ≡ cells_of (Pattern.Wide prefix operation) }
+    ensures short { length result.now ≤ 22 }
+{
+    match (prefix, operation) {
+        (Prefix::Rex, Operation::Mov) => &REX_MOV,
+        (Prefix::Rex, Operation::Sub) => &REX_SUB,
+        (Prefix::Rex, Operation::Cmp) => &REX_CMP,
+        (Prefix::Rex, Operation::Add) => &REX_ADD,
+        (Prefix::Rex2, Operation::Mov) => &REX2_MOV,
+        (Prefix::Rex2, Operation::Sub) => &REX2_SUB,
+        (Prefix::Rex2, Operation::Cmp) => &REX2_CMP,
+        (Prefix::Rex2, Operation::Add) => &REX2_ADD,
+    }
+}
+
+// The bytes of a pattern.
+fn cells(pattern: Pattern) -> &'static [Cell]
+    ensures value { result.now ≡ cells_of pattern }
+    ensures short { length result.now ≤ 22 }
+{
+    match pattern {
+        Pattern::Nothing => &NO_CELLS,
+        Pattern::Wide(prefix, operation) => wide_cells(prefix, operation),
+        Pattern::Mov => &MOV,
+        Pattern::Call => &CALL,
+        Pattern::Jump => &JUMP,
+        Pattern::General(GeneralForm::Regular) => &GENERAL,
+        Pattern::General(GeneralForm::NoPlt) => &GENERAL_NO_PLT,
+        Pattern::General(GeneralForm::Large) => &LARGE,
+        Pattern::LocalStart(LocalForm::Regular) => &LOCAL_START,
+        Pattern::LocalStart(LocalForm::Large) => &LARGE_START,
+        Pattern::LocalStart(LocalForm::NoPlt) => &LOCAL_NO_PLT_START,
+        Pattern::Local(LocalForm::Regular) => &LOCAL,
+        Pattern::Local(LocalForm::Large) => &LARGE,
+        Pattern::Local(LocalForm::NoPlt) => &LOCAL_NO_PLT,
+        Pattern::Lea(Prefix::Rex) => &REX_LEA,
+        Pattern::Lea(Prefix::Rex2) => &REX2_LEA,
+        Pattern::DescriptorCall => &DESCRIPTOR_CALL,
+    }
+}
+
+// How far behind the pattern's start the field begins.
+fn field(pattern: Pattern) -> u64
+    ensures value { result ≡ field_of pattern }
+    ensures low { result ≤ 4 }
+{
+    match pattern {
+        Pattern::Nothing | Pattern::DescriptorCall => 0,
+        Pattern::Mov | Pattern::Call | Pattern::Jump => 2,
+        Pattern::General(GeneralForm::Large)
+        | Pattern::LocalStart(_)
+        | Pattern::Local(_)
+        | Pattern::Wide(Prefix::Rex, _)
+        | Pattern::Lea(Prefix::Rex) => 3,
+        Pattern::General(_) | Pattern::Wide(Prefix::Rex2, _) | Pattern::Lea(Prefix::Rex2) => 4,
+    }
+}
+
+fn is_fit(cell: Cell, byte: u8) -> bool
+    ensures { result ≡ fits cell byte }
+{
+    match cell {
+        Is(fixed) => byte == fixed,
+        RexWide => byte == 0x48 || byte == 0x4c,
+        Rex2Wide => byte == 0x08 || byte == 0x0c || byte == 0x48 || byte == 0x4c,
+        Slot => byte & 0xc7 == 5,
+        Any => true,
+    }
+}
+
+// Whether the bytes begin with what the cells say.
+fn is_standing(cells: &[Cell], bytes: &[u8]) -> bool
+    ensures { result ≡ stands cells.now bytes.now }
+{
+    match cells.split_first() {
+        None => true,
+        Some((cell, cells)) => match bytes.split_first() {
+            None => false,
+            Some((byte, bytes)) => is_fit(*cell, *byte) && is_standing(cells, bytes),
+        },
+    }
+}
+
+/// Whether the pattern stands in the bytes with its field at the offset, whole.
+#[tactic(auto, unfolding(crate::specs::Pattern::stands_before, crate::specs::Pattern::stands_at))]
+pub(crate) fn is_standing_before(bytes: &[u8], offset: u64, pattern: Pattern) -> bool
+    ensures { result ≡ stands_before bytes.now offset pattern }
+{
+    let field = field(pattern);
+    if offset < field {
+        return false;
+    }
+    let start = (offset - field) as usize;
+    let cells = cells(pattern);
+    if bytes.len() < cells.len() || bytes.len() - cells.len() < start {
+        return false;
+    }
+    is_standing(cells, &bytes[start..start + cells.len()])
+}

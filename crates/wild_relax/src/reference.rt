@@ -1,0 +1,99 @@
+//! What the rows of rewrites ask of a relocation.
+ghost use Rattle.std.specs.Prelude.{◌≡◌, ◌+◌, slice_get};
+ghost use Rattle.wild_relax.specs.Question.{question, relocation_of, next_of, is_known, is_own, minus_four, zero};
+
+use wild_plan::{OutputKind, ValueFlags};
+
+/// A relocation of an input section.
+#[derive(Clone, Copy, Debug, PartialEq, Eq)]
+pub struct RelocationInfo {
+    /// The machine's relocation type.
+    pub number: u32,
+    /// Where its field begins in the section, in bytes.
+    pub offset: u64,
+    /// The symbol that it names.
+    pub symbol: Option<usize>,
+    pub addend: i64,
+    /// Whether the symbol's name is `__tls_get_addr`.
+    pub names_tls_get_addr: bool,
+}
+
+/// A row stands at a relocation, and the bytes or the next relocation are not what it needs.
+#[derive(Clone, Copy, Debug, PartialEq, Eq)]
+pub struct UnknownSequence {
+    /// The relocation type of the input.
+    pub number: u32,
+}
+
+const NOTHING: RelocationInfo = RelocationInfo {
+    number: 0,
+    offset: 0,
+    symbol: None,
+    addend: 0,
+    names_tls_get_addr: false,
+};
+
+// A relocation, with all that a row asks of it.
+#[derive(Clone, Copy)]
+pub(crate) struct Reference<'a> {
+    pub relocations: &'a [RelocationInfo],
+    pub at: usize,
+    pub bytes: &'a [u8],
+    pub flags: ValueFlags,
+    pub kind: OutputKind,
+    pub section_flags: u64,
+    pub relax: bool,
+    pub value: u64,
+    pub address: u64,
+}
+
+impl Reference<'_> {
+    // The relocation; without one, a relocation that does nothing.
+    pub(crate) fn relocation(&self) -> RelocationInfo
+        ensures { result ≡ relocation_of (question self.now) }
+    {
+        match self.relocations.get(self.at) {
+            Some(relocation) => *relocation,
+            None => NOTHING,
+        }
+    }
+
+    // The relocation behind it.
+    pub(crate) fn next(&self) -> Option<RelocationInfo>
+        ensures { result ≡ next_of (question self.now) }
+    {
+        let next = self.at.checked_add(1)?;
+        self.relocations.get(next).copied()
+    }
+
+    // Whether the value is a number when the image is linked.
+    pub(crate) fn is_known(&self) -> bool
+        ensures { result ≡ is_known (question self.now) }
+    {
+        self.flags.is_absolute()
+            || self.flags.has_link_time_address() && self.kind.has_fixed_load_address()
+    }
+
+    // Whether this output's definition is the one that counts.
+    pub(crate) fn is_own(&self) -> bool
+        ensures { result ≡ is_own (question self.now) }
+    {
+        !self.flags.is_interposable()
+    }
+}
+
+// Whether an addend takes back the four bytes of its field.
+#[tactic(auto, unfolding(crate::specs::Question::minus_four))]
+pub(crate) fn is_minus_four(addend: i64) -> bool
+    ensures { result ≡ minus_four addend }
+{
+    addend == -4
+}
+
+// Whether an addend adds nothing.
+#[tactic(auto, unfolding(crate::specs::Question::zero))]
+pub(crate) fn is_zero(addend: i64) -> bool
+    ensures { result ≡ zero addend }
+{
+    addend == 0
+}

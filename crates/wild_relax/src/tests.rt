@@ -1,0 +1,3 @@
+//! Bytes as other tools write them.
+use super::*;
+use std::test::Fail;
