@@ -1,1 +1,2 @@
 pub mod StubLemmas
+pub mod RewriteLemmas

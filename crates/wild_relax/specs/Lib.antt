@@ -5,4 +5,7 @@ pub mod Question
 pub mod Pattern
 pub mod First
 pub mod Rows
+pub mod Rewrite
+pub mod RewriteX86_64
+pub mod Relaxation
 pub mod Laws

@@ -2,8 +2,10 @@
 ghost use Rattle.std.specs.Prelude.{◌≡◌, false, length, is_ok, IfErr, OnOk, OnErr};
 ghost use Rattle.std.specs.List.{list_any};
 
+use crate::reference::{RelocationInfo, UnknownSequence};
+use crate::relaxation::Relaxation;
 use crate::stub::PltTooFar;
-use wild_plan::{Layout, Machine};
+use wild_plan::{Layout, Machine, OutputKind, ValueFlags};
 use wild_reloc::{DynamicRelocationKind, RelName, RelocationKindInfo};
 
 /// A machine that images are written for.
@@ -14,7 +16,13 @@ pub trait Arch {
     ghost use Rattle.wild_reloc.specs.declared.dynamic.DynamicRelocationKind.{DynamicRelocationKind};
     ghost use Rattle.wild_reloc.specs.declared.info.RelocationKindInfo.{RelocationKindInfo};
     ghost use Rattle.wild_reloc.specs.declared.names.RelName.{RelName};
+    ghost use Rattle.std.specs.Prelude.{Result};
+    ghost use Rattle.wild_relax.specs.declared.reference.UnknownSequence.{UnknownSequence};
+    ghost use Rattle.wild_relax.specs.Question.{Question};
     ghost use Rattle.wild_relax.specs.Stub.{Stub};
+
+    /// A rewrite of instructions of the machine.
+    type Relaxation: Relaxation;
 
     /// The machine.
     ghost machine: { Machine };
@@ -40,6 +48,9 @@ pub trait Arch {
     /// The stub at an address that goes on to the address in a slot; with `bti`, for outputs whose indirect branches
     /// have to land on a mark.
     ghost stub: { (slot stub : ℕ) → (bti : Bool) → Stub };
+
+    /// The first rewrite that stands at a relocation; refused where what it needs besides is not there.
+    ghost relaxation: { Question → Result (Option Self.Relaxation) UnknownSequence };
 
     /// The machine (gABI, `e_machine`).
     fn arch_identifier() -> Machine
@@ -94,4 +105,30 @@ pub trait Arch {
         ensures value { IfErr result (λ far. far.value ≡ (Self.stub got_address plt_address bti).distance) }
         ensures written { OnOk result (plt_entry.new ≡ (Self.stub got_address plt_address bti).bytes) }
         ensures unchanged { OnErr result (plt_entry.new ≡ plt_entry.old) };
+
+    /// The first rewrite that stands at relocation `at` of a section; none where none stands. `section_bytes` are the bytes
+    /// of the input, never rewritten ones; `flags` and `sym_addr` are those of the symbol, `section_flags` are `sh_flags`.
+    /// A symbol of merged strings has another value for each addend: no rewrite is asked for it.
+    fn new_relaxation(
+        relocations: &[RelocationInfo],
+        at: usize,
+        section_bytes: &[u8],
+        flags: ValueFlags,
+        output_kind: OutputKind,
+        section_flags: u64,
+        relax: bool,
+        sym_addr: u64,
+        section_address: u64,
+    ) -> Result<Option<Self::Relaxation>, UnknownSequence>
+        ensures first { result ≡ Self.relaxation (record {
+          relocations = relocations.now;
+          at = at;
+          bytes = section_bytes.now;
+          flags = flags;
+          kind = output_kind;
+          section_flags = section_flags;
+          relax = relax;
+          value = sym_addr;
+          address = section_address;
+        }) };
 }

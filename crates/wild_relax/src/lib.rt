@@ -5,6 +5,8 @@ mod arch;
 mod laws;
 mod pattern;
 mod reference;
+mod relaxation;
+mod rewrite;
 mod row;
 mod stub;
 #[cfg(test)]
@@ -16,6 +18,7 @@ pub use arch::Arch;
 pub use laws::stubs_jump_to_their_slots;
 pub use pattern::{GeneralForm, LocalForm, Operation, Prefix};
 pub use reference::{RelocationInfo, UnknownSequence};
+pub use relaxation::{Relaxation, RelaxationKind, RelocationModifier};
 pub use row::{DescriptorUse, Row};
 pub use stub::PltTooFar;
-pub use x86_64::ElfX86_64;
+pub use x86_64::{ElfX86_64, ElfX86_64Relaxation};

@@ -257,7 +257,7 @@ fn takes_section(row: Row, reference: &Reference) -> bool
 }
 
 // Whether the row is taken also where rewriting is off.
-fn is_mandatory(row: Row, reference: &Reference) -> bool
+pub(crate) fn is_mandatory(row: Row, reference: &Reference) -> bool
     ensures { result ≡ is_mandatory row (question reference.now) }
 {
     let by_itself = reference.kind.is_static_executable();

@@ -1,8 +1,12 @@
 //! x86-64 (x86-64 psABI).
 use crate::arch::Arch;
+use crate::reference::{Reference, RelocationInfo, UnknownSequence};
+use crate::relaxation::{Relaxation, RelaxationKind, RelocationModifier};
+use crate::rewrite;
+use crate::row::{Row, choose, is_mandatory};
 use crate::stub::{PltTooFar, write_stub};
 use crate::thread::pointer_x86_64;
-use wild_plan::{Layout, Machine};
+use wild_plan::{Layout, Machine, OutputKind, ValueFlags};
 use wild_records::abi::relocation::{
     R_X86_64_8, R_X86_64_16, R_X86_64_32, R_X86_64_32S, R_X86_64_PC8, R_X86_64_PC16, R_X86_64_PC32,
 };
@@ -19,6 +23,9 @@ impl Arch for ElfX86_64 {
     ghost use Rattle.wild_relax.specs.Barred.{barred_x86_64, barred_in_shared_x86_64};
     ghost use Rattle.wild_relax.specs.Stub.{stub_x86_64};
     ghost use Rattle.wild_relax.specs.Thread.{pointer_x86_64};
+    ghost use Rattle.wild_relax.specs.Relaxation.{relaxation_x86_64};
+
+    type Relaxation = ElfX86_64Relaxation;
 
     ghost machine = { X86_64 };
 
@@ -35,6 +42,8 @@ impl Arch for ElfX86_64 {
     ghost pointer = { pointer_x86_64 };
 
     ghost stub = { λ slot stub bti. stub_x86_64 slot stub };
+
+    ghost relaxation = { relaxation_x86_64 };
 
     fn arch_identifier() -> Machine {
         Machine::X86_64
@@ -91,5 +100,86 @@ impl Arch for ElfX86_64 {
         _bti: bool,
     ) -> Result<(), PltTooFar> {
         write_stub(plt_entry, got_address, plt_address)
+    }
+
+    fn new_relaxation(
+        relocations: &[RelocationInfo],
+        at: usize,
+        section_bytes: &[u8],
+        flags: ValueFlags,
+        output_kind: OutputKind,
+        section_flags: u64,
+        relax: bool,
+        sym_addr: u64,
+        section_address: u64,
+    ) -> Result<Option<ElfX86_64Relaxation>, UnknownSequence> {
+        let reference = Reference {
+            relocations,
+            at,
+            bytes: section_bytes,
+            flags,
+            kind: output_kind,
+            section_flags,
+            relax,
+            value: sym_addr,
+            address: section_address,
+        };
+        match choose(&reference)? {
+            None => Ok(None),
+            Some(row) => Ok(Some(ElfX86_64Relaxation {
+                row,
+                mandatory: is_mandatory(row, &reference),
+            })),
+        }
+    }
+}
+
+/// A rewrite of instructions of x86-64 that stands at a relocation.
+#[derive(Clone, Copy, Debug, PartialEq, Eq)]
+pub struct ElfX86_64Relaxation {
+    pub row: Row,
+    /// Whether it is taken also where rewriting is off.
+    pub mandatory: bool,
+}
+
+impl Relaxation for ElfX86_64Relaxation {
+    ghost use Rattle.wild_reloc.specs.TableX86_64.{x86_64_row};
+    ghost use Rattle.wild_relax.specs.RewriteX86_64.{rewrite_of, kind_of, is_number};
+
+    ghost rewrite = { λ r. rewrite_of r.row };
+
+    ghost mandatory = { λ r. r.mandatory };
+
+    ghost kind = { λ r. kind_of r.row };
+
+    ghost row_of = { x86_64_row };
+
+    ghost falls_back = { λ r. is_number r.row };
+
+    fn apply(&self, section_bytes: &mut [u8], offset_in_section: &mut u64, addend: &mut i64) {
+        let start = *offset_in_section - rewrite::back(self.row);
+        rewrite::write(self.row, section_bytes, start as usize);
+        *offset_in_section = start + rewrite::field(self.row);
+        *addend = rewrite::addend_written(self.row, *addend);
+    }
+
+    fn rel_info(&self) -> RelocationKindInfo {
+        rewrite::row_written(self.row)
+    }
+
+    fn debug_kind(&self) -> RelaxationKind {
+        rewrite::kind(self.row)
+    }
+
+    fn next_modifier(&self) -> RelocationModifier {
+        rewrite::next_modifier(self.row)
+    }
+
+    fn is_mandatory(&self) -> bool {
+        self.mandatory
+    }
+
+    fn needs_got_fallback(&self) -> bool {
+        rewrite::is_number(self.row)
     }
 }

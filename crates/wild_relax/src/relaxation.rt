@@ -1,0 +1,107 @@
+//! What a rewrite is to the writer of a section.
+ghost use Rattle.std.specs.Prelude.{◌≡◌, ◌+◌, ◌-◌, ◌≤◌, length, Some};
+
+use wild_reloc::RelocationKindInfo;
+
+/// What becomes of an instruction, by the names of the first linker that had them; `n` bytes of it stand before the field.
+#[derive(Clone, Copy, Debug, PartialEq, Eq)]
+pub enum RelaxationKind {
+    /// No byte but the field's changes.
+    NoOp,
+    /// `mov` of the word in a slot to `lea`.
+    MovIndirectToLea,
+    /// `mov` of the word in a slot to one of an immediate.
+    MovIndirectToAbsolute,
+    /// The same with a prefix.
+    RexMovIndirectToAbsolute(u8),
+    /// `sub` of the word in a slot to one of an immediate, with a prefix.
+    RexSubIndirectToAbsolute(u8),
+    /// `cmp` with the word in a slot to one with an immediate, with a prefix.
+    RexCmpIndirectToAbsolute(u8),
+    /// `add` of the word in a slot to one of an immediate, with a prefix.
+    RexAddIndirectToAbsolute(u8),
+    /// `call` through a slot to a direct one.
+    CallIndirectToRelative,
+    /// `jmp` through a slot to a direct one.
+    JmpIndirectToRelative,
+    /// A call of `__tls_get_addr` for a symbol to the thread pointer and a number.
+    TlsGdToLocalExec,
+    /// The same, of a call to a distance of 64 bits.
+    TlsGdToLocalExecLarge,
+    /// A call of `__tls_get_addr` for a symbol to the thread pointer and the offset in a slot.
+    TlsGdToInitialExec,
+    /// A call of `__tls_get_addr` for the output's own data to the thread pointer.
+    TlsLdToLocalExec,
+    /// The same, of a call to a distance of 64 bits.
+    TlsLdToLocalExec64,
+    /// The same, of a call through a slot.
+    TlsLdToLocalExecNoPlt,
+    /// `lea` of a descriptor to `mov` of the offset from the thread pointer.
+    TlsDescToLocalExec(u8),
+    /// `lea` of a descriptor to `mov` of the offset in a slot.
+    TlsDescToInitialExec,
+    /// The call through a descriptor to nothing.
+    SkipTlsDescCall,
+}
+
+/// What is done with the relocation behind a rewritten one.
+#[derive(Clone, Copy, Debug, PartialEq, Eq)]
+pub enum RelocationModifier {
+    /// It is taken for itself.
+    Normal,
+    /// It is of the same sequence, and writes nothing.
+    SkipNextRelocation,
+}
+
+/// A rewrite of instructions that stands at a relocation.
+pub trait Relaxation {
+    ghost use Rattle.std.specs.Prelude.{ℕ, Bool, Option};
+    ghost use Rattle.wild_reloc.specs.declared.info.RelocationKindInfo.{RelocationKindInfo};
+    ghost use Rattle.wild_relax.specs.Rewrite.{Rewrite, rewritten};
+    ghost use Rattle.wild_relax.specs.declared.relaxation.RelaxationKind.{RelaxationKind};
+
+    /// What is written, and as which relocation type.
+    ghost rewrite: { Self → Rewrite };
+
+    /// Whether it is taken also where rewriting is off.
+    ghost mandatory: { Self → Bool };
+
+    /// Its kind.
+    ghost kind: { Self → RelaxationKind };
+
+    /// The row of the relocation type by which the field is written.
+    ghost row_of: { ℕ → Option RelocationKindInfo };
+
+    /// Whether the field gets a number, for which the slot is asked where it does not fit.
+    ghost falls_back: { Self → Bool };
+
+    /// Writes the instructions, all but their field, into the bytes of the section, and moves the place of the field and
+    /// its addend. The bytes around the field, before and behind as many as the rewrite changes, are in the section; no
+    /// others change.
+    fn apply(&self, section_bytes: &mut [u8], offset_in_section: &mut u64, addend: &mut i64)
+        requires before { (Self.rewrite self.now).back ≤ offset_in_section.old }
+        requires behind { offset_in_section.old - (Self.rewrite self.now).back + (Self.rewrite self.now).size ≤ length section_bytes.old }
+        ensures bytes { section_bytes.new ≡ rewritten (Self.rewrite self.now) offset_in_section.old section_bytes.old }
+        ensures offset { offset_in_section.new ≡ offset_in_section.old - (Self.rewrite self.now).back + (Self.rewrite self.now).field }
+        ensures addend { addend.new ≡ (Self.rewrite self.now).addend addend.old };
+
+    /// The row of the relocation type by which the field is written.
+    fn rel_info(&self) -> RelocationKindInfo
+        ensures { Some result ≡ Self.row_of (Self.rewrite self.now).number };
+
+    /// What becomes of the instructions.
+    fn debug_kind(&self) -> RelaxationKind
+        ensures { result ≡ Self.kind self.now };
+
+    /// What is done with the relocation behind.
+    fn next_modifier(&self) -> RelocationModifier
+        ensures { result ≡ (Self.rewrite self.now).next };
+
+    /// Whether it is taken also where rewriting is off.
+    fn is_mandatory(&self) -> bool
+        ensures { result ≡ Self.mandatory self.now };
+
+    /// Whether the field gets the value itself, and not a distance: where it does not fit, the slot is asked after all.
+    fn needs_got_fallback(&self) -> bool
+        ensures { result ≡ Self.falls_back self.now };
+}
