@@ -1,2 +1,3 @@
 pub mod StubLemmas
 pub mod RewriteLemmas
+pub mod RoomLemmas

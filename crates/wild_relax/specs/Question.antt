@@ -42,8 +42,12 @@ question r = record {
 abbrev pub no_relocation : RelocationInfo
 no_relocation = record { number = 0; offset = 0; symbol = None; addend = pos 0; names_tls_get_addr = false }
 
+-- relocation i; without one, a relocation that does nothing
+abbrev pub entry_at : List RelocationInfo → ℕ → RelocationInfo
+entry_at relocations i = slice_index_or relocations i no_relocation
+
 abbrev pub relocation_of : Question → RelocationInfo
-relocation_of q = slice_index_or q.relocations q.at no_relocation
+relocation_of q = entry_at q.relocations q.at
 
 abbrev pub next_of : Question → Option RelocationInfo
 next_of q = slice_get q.relocations (q.at + 1)

@@ -1,7 +1,8 @@
 -- What a rewrite writes.
 --   Rewrite            which bytes around the field it replaces, by what, and how the field is written then
 --   rewritten w o bs   the bytes of a section after a rewrite whose field stood at o
-use Rattle.std.specs.Prelude.{ℕ, ℤ, ◌+◌, ◌-◌, List, slice_range}
+--   HasRoom w o n      the bytes that it replaces are among the n bytes of the section
+use Rattle.std.specs.Prelude.{ℕ, ℤ, ◌+◌, ◌-◌, ◌≤◌, List, slice_range}
 use Rattle.wild_words.specs.Words.{place}
 use Rattle.wild_relax.specs.declared.relaxation.RelocationModifier.{RelocationModifier}
 
@@ -21,3 +22,7 @@ replaced w start old = place start (w.bytes (slice_range old start (start + w.si
 
 abbrev pub rewritten : Rewrite → ℕ → List ℕ → List ℕ
 rewritten w offset old = replaced w (offset - w.back) old
+
+pub record HasRoom (w : Rewrite) (offset length : ℕ) : Type 0 where
+  pub before : w.back ≤ offset
+  pub behind : offset - w.back + w.size ≤ length

@@ -16,9 +16,10 @@ pub trait Arch {
     ghost use Rattle.wild_reloc.specs.declared.dynamic.DynamicRelocationKind.{DynamicRelocationKind};
     ghost use Rattle.wild_reloc.specs.declared.info.RelocationKindInfo.{RelocationKindInfo};
     ghost use Rattle.wild_reloc.specs.declared.names.RelName.{RelName};
-    ghost use Rattle.std.specs.Prelude.{Result};
+    ghost use Rattle.std.specs.Prelude.{Result, IfOk, IfSome};
     ghost use Rattle.wild_relax.specs.declared.reference.UnknownSequence.{UnknownSequence};
-    ghost use Rattle.wild_relax.specs.Question.{Question};
+    ghost use Rattle.wild_relax.specs.Question.{Question, entry_at};
+    ghost use Rattle.wild_relax.specs.Rewrite.{HasRoom};
     ghost use Rattle.wild_relax.specs.Stub.{Stub};
 
     /// A rewrite of instructions of the machine.
@@ -108,7 +109,8 @@ pub trait Arch {
 
     /// The first rewrite that stands at relocation `at` of a section; none where none stands. `section_bytes` are the bytes
     /// of the input, never rewritten ones; `flags` and `sym_addr` are those of the symbol, `section_flags` are `sh_flags`.
-    /// A symbol of merged strings has another value for each addend: no rewrite is asked for it.
+    /// A symbol of merged strings has another value for each addend: no rewrite is asked for it. The bytes that a rewrite
+    /// replaces are in the section.
     fn new_relaxation(
         relocations: &[RelocationInfo],
         at: usize,
@@ -130,5 +132,7 @@ pub trait Arch {
           relax = relax;
           value = sym_addr;
           address = section_address;
-        }) };
+        }) }
+        ensures room { IfOk result (λ found. IfSome found (λ r.
+            HasRoom (Self.Relaxation.rewrite r) (entry_at relocations.now at).offset (length section_bytes.now))) };
 }
