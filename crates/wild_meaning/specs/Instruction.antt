@@ -4,7 +4,9 @@
 --   Action             what is done with an operand
 --   Template           the bytes of an instruction, and what it does at an address with those bytes
 --   meaning ts a bs    what the code of those bytes does at an address
-use Rattle.std.specs.Prelude.{ℕ, ◌+◌, ◌-◌, ◌/◌, ◌%◌, ◌^◌, ◌==◌, Bool, true, false, ◌&&◌, nat_le, nat_lt, if◌then◌else◌, List, [], ◌∷◌, length, drop, Option, Some, None}
+--   Reader             what operands read as
+--   effect read act    the deed of an action, with what its operand reads as
+use Rattle.std.specs.Prelude.{ℕ, ◌+◌, ◌-◌, ◌/◌, ◌%◌, ◌^◌, ◌==◌, Bool, true, false, ◌&&◌, nat_le, nat_lt, if◌then◌else◌, List, [], ◌∷◌, length, drop, Option, Some, None, option_map}
 use Rattle.std.specs.Int.RustNames.{bit_and}
 use Rattle.wild_words.specs.Words.{number_at}
 
@@ -39,16 +41,16 @@ exact (b ∷ bs) = Is b ∷ exact bs
 abbrev pub field : List Cell
 field = Any ∷ Any ∷ Any ∷ Any ∷ []
 
--- what an action works with: a number; the word at an address; the offset from the thread pointer that the pair of a
--- module and an offset at an address stands for; or that for which the descriptor at an address stands
+-- what an action works with: a number; the word at an address; or the offset from the thread pointer that the pair of a module
+-- and an offset at an address stands for
 pub data Operand : Type 0 where
   Number : ℕ → Operand
   Word : ℕ → Operand
   Pair : ℕ → Operand
-  Descriptor : ℕ → Operand
 
 -- what is done with an operand: a register is set to it, has it added or taken from it, or is compared with it; the code there
--- is called, or gone to; a register is set to the thread pointer and it; or nothing
+-- is called, or gone to; a register is set to the thread pointer and it; the function of the descriptor that a register points to
+-- is called, which leaves the offset there in that register; or nothing
 pub data Deed : Type 0 where
   Set : ℕ → Deed
   Add : ℕ → Deed
@@ -57,6 +59,7 @@ pub data Deed : Type 0 where
   Call : Deed
   Jump : Deed
   SetThreadAddress : ℕ → Deed
+  CallDescriptor : ℕ → Deed
   Nothing : Deed
 
 -- a deed, the number of bits that it works on, and its operand
@@ -99,3 +102,23 @@ fills nop t bs = nat_le (length t.cells) (length bs) && (stands t.cells bs && ar
 abbrev pub meaning : ℕ → List Template → ℕ → List ℕ → Option Action
 meaning nop [] a bs = None
 meaning nop (t ∷ ts) a bs = if fills nop t bs then Some (t.action a bs) else meaning nop ts a bs
+
+-- what operands read as
+abbrev pub Reader : Type 0
+Reader = Operand → Option ℕ
+
+-- a deed, the number of bits that it works on, and what it works with
+pub record Effect : Type 0 where
+  pub deed : Deed
+  pub width : ℕ
+  pub value : ℕ
+
+abbrev pub with_value : Action → ℕ → Effect
+with_value act v = record { deed = act.deed; width = act.width; value = v % 2 ^ act.width }
+
+abbrev pub effect : Reader → Action → Option Effect
+effect read act = option_map (with_value act) (read act.operand)
+
+-- whatever it is, the operand reads as v
+abbrev pub as_value : ℕ → Reader
+as_value v operand = Some v

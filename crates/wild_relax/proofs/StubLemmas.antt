@@ -1,22 +1,21 @@
 -- Stubs jump to their slots.
-use Rattle.std.proofs.Common.{◌≡◌, ℕ, ◌+◌, ◌-◌, ◌*◌, ◌/◌, ◌%◌, ◌^◌, ◌<◌, ◌≤◌, true, false, [], ◌∷◌, refl, sym, ap, ◌∙◌, arith, subst}
-use Rattle.std.specs.Prelude.{Some, nat_lt, nat_le, ◌||◌}
+use Rattle.std.proofs.Common.{◌≡◌, ℕ, ◌+◌, ◌-◌, ◌*◌, ◌/◌, ◌%◌, ◌^◌, ◌<◌, true, refl, arith}
 use Rattle.std.proofs.lemmas.Bool.Decides.{nat_tests}
 use Rattle.wild_words.specs.Words.{word, number, place}
 use Rattle.wild_reloc.specs.Range.{of_bits, contains}
 use Rattle.wild_reloc.specs.declared.range.Sign.TheVariants.{Signed}
-use Rattle.wild_meaning.specs.Instruction.{jump_through, signed_32, sum_64}
+use Rattle.wild_meaning.specs.Instruction.{signed_32, sum_64}
 use Rattle.wild_meaning.specs.InstructionX86_64.{meaning_x86_64}
-use Rattle.wild_relax.specs.Stub.{stub_x86_64, displacement_x86_64}
+use Rattle.wild_relax.specs.Stub.{displacement_x86_64}
 use Rattle.wild_relax.specs.Laws.{StubsJump}
 
 -- a displacement of 32 bits is read back
-read_back : (d : ℕ) → d < 2 ^ 64 → contains (of_bits 32 Signed) d ≡ true → signed_32 (d % 256 + 256 * (d / 256 % 256 + 256 * (d / 256 / 256 % 256 + 256 * (d / 256 / 256 / 256 % 256 + 256 * 0)))) ≡ d
+pub read_back : (d : ℕ) → d < 2 ^ 64 → contains (of_bits 32 Signed) d ≡ true → signed_32 (d % 256 + 256 * (d / 256 % 256 + 256 * (d / 256 / 256 % 256 + 256 * (d / 256 / 256 / 256 % 256 + 256 * 0)))) ≡ d
 read_back d h range =
     let e : d % 256 + 256 * (d / 256 % 256 + 256 * (d / 256 / 256 % 256 + 256 * (d / 256 / 256 / 256 % 256 + 256 * 0))) ≡ d % 2 ^ 32 = omega arith in
     rw e (grind (arith, nat_tests))
 
-lands : (base slot stub d : ℕ) → d ≡ (slot + (2 ^ 64 - (stub + 11) % 2 ^ 64)) % 2 ^ 64 → sum_64 (base + stub + 11) d ≡ (base + slot) % 2 ^ 64
+pub lands : (base slot stub d : ℕ) → d ≡ (slot + (2 ^ 64 - (stub + 11) % 2 ^ 64)) % 2 ^ 64 → sum_64 (base + stub + 11) d ≡ (base + slot) % 2 ^ 64
 lands base slot stub d e = omega arith
 
 pub stubs_jump : StubsJump

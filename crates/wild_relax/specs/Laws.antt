@@ -1,5 +1,5 @@
 -- What is written does what is asked of it.
-use Rattle.std.specs.Prelude.{◌≡◌, ℕ, ◌+◌, ◌%◌, ◌^◌, ◌<◌, ◌≤◌, length, true, Some}
+use Rattle.std.specs.Prelude.{◌≡◌, ℕ, ◌+◌, ◌%◌, ◌^◌, ◌<◌, true, Some}
 use Rattle.wild_meaning.specs.Instruction.{jump_through}
 use Rattle.wild_meaning.specs.InstructionX86_64.{meaning_x86_64}
 use Rattle.wild_relax.specs.Stub.{stub_x86_64}

@@ -8,4 +8,5 @@ pub mod Rows
 pub mod Rewrite
 pub mod RewriteX86_64
 pub mod Relaxation
+pub mod Keep
 pub mod Laws

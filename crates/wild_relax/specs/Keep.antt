@@ -1,0 +1,104 @@
+-- The law of the rewrites of x86-64: what is written in place of an instruction does what the instruction demands of its operand.
+--   pattern_of row           all bytes of the input that belong to the row
+--   linked row info v old    what stands in their place, with the field that holds a value
+--   Lands row read p v value the value that the field holds at p is the one by which the operand reads as v
+--   RowsKeep                 the law
+use Rattle.std.specs.Prelude.{◌≡◌, ℕ, ◌+◌, ◌-◌, ◌%◌, ◌^◌, ◌<◌, true, List, [], length, Option, Some}
+use Rattle.wild_words.specs.Words.{place}
+use Rattle.wild_reloc.specs.Field.{allows, written}
+use Rattle.wild_reloc.specs.TableX86_64.{x86_64_row}
+use Rattle.wild_reloc.specs.declared.info.RelocationKindInfo.{RelocationKindInfo}
+use Rattle.wild_meaning.specs.Instruction.{Reader, Number, Word, Nothing, Effect, sum_64}
+use Rattle.wild_meaning.specs.InstructionX86_64.{effect_x86_64, demand_x86_64}
+use Rattle.wild_relax.specs.declared.pattern.GeneralForm.TheVariants as general
+use Rattle.wild_relax.specs.declared.pattern.Cell.{Cell}
+use Rattle.wild_relax.specs.declared.pattern.Pattern.{Pattern}
+use Rattle.wild_relax.specs.declared.pattern.Pattern.TheVariants as pattern
+use Rattle.wild_relax.specs.declared.row.DescriptorUse.TheVariants.{LocalExec, InitialExec}
+use Rattle.wild_relax.specs.declared.row.Row.{Row}
+use Rattle.wild_relax.specs.declared.row.Row.TheVariants.{IfuncThroughStub, RexGotToImmediate, RexGotMovToLea, GotMovToImmediate, GotMovToLea, IndirectCallToDirect, IndirectJumpToDirect, PlainGotMovToLea, InitialExecToLocalExec, Plt32ToPc32, PltOffToGotOff, GeneralDynamicToLocalExec, GeneralDynamicToInitialExec, LocalDynamicToLocalExec, DescriptorLea, DescriptorCall}
+use Rattle.wild_relax.specs.Pattern.{cells_of, field_of, stands}
+use Rattle.wild_relax.specs.Rows.{always_pattern}
+use Rattle.wild_relax.specs.Rewrite.{rewritten}
+use Rattle.wild_relax.specs.RewriteX86_64.{rewrite_of}
+
+-- the bytes that it needs, or those without which it does not stand
+abbrev pub pattern_of : Row → Pattern
+pattern_of (LocalDynamicToLocalExec f) = pattern.Local f
+pattern_of (DescriptorLea p u) = pattern.Lea p
+pattern_of DescriptorCall = pattern.DescriptorCall
+pattern_of other = always_pattern other
+
+-- the bytes are that pattern
+pub record IsWhole (cells : List Cell) (bs : List ℕ) : Type 0 where
+  pub long : length bs ≡ length cells
+  pub same : stands cells bs ≡ true
+
+-- the row changes bytes around its field, and the table has it
+abbrev pub IsChanging : Row → Type 0
+IsChanging IfuncThroughStub = ⊥
+IsChanging Plt32ToPc32 = ⊥
+IsChanging PltOffToGotOff = ⊥
+IsChanging (GeneralDynamicToInitialExec general.Large) = ⊥
+IsChanging other = Unit {0}
+
+-- where the field stands then, behind the pattern's start
+abbrev pub field_in : Row → ℕ
+field_in row = field_of (pattern_of row) - (rewrite_of row).back + (rewrite_of row).field
+
+-- the pattern's bytes after the rewrite and the writing of the field
+abbrev pub linked : Row → RelocationKindInfo → ℕ → List ℕ → List ℕ
+linked row info value old = place (field_in row) (written info value []) (rewritten (rewrite_of row) (field_of (pattern_of row)) old)
+
+-- numbers are what they are
+abbrev pub ReadsNumbers : Reader → Type 0
+ReadsNumbers read = (n : ℕ) → read (Number n) ≡ Some n
+
+-- from the end of a field of four bytes at p to v: S - 4 - P
+abbrev pub distance : (v p : ℕ) → ℕ
+distance v p = (v + (2 ^ 64 - 4) + (2 ^ 64 - p % 2 ^ 64)) % 2 ^ 64
+
+-- by its relocation type the field holds the distance of v, v itself, or the distance of a slot that holds v; the output's own
+-- thread-local data begin at offset 0 of themselves; and a descriptor's call has no operand
+abbrev pub Lands : Row → Reader → ℕ → ℕ → ℕ → Type 0
+Lands (RexGotToImmediate p o) read place v value = value ≡ v
+Lands (RexGotMovToLea p) read place v value = value ≡ distance v place
+Lands GotMovToImmediate read place v value = value ≡ v
+Lands GotMovToLea read place v value = value ≡ distance v place
+Lands IndirectCallToDirect read place v value = value ≡ distance v place
+Lands IndirectJumpToDirect read place v value = value ≡ distance v place
+Lands PlainGotMovToLea read place v value = value ≡ distance v place
+Lands (InitialExecToLocalExec p o) read place v value = value ≡ v
+Lands (GeneralDynamicToLocalExec f) read place v value = value ≡ v
+Lands (GeneralDynamicToInitialExec f) read place v value = read (Word (sum_64 (place + 4) value)) ≡ Some v
+Lands (LocalDynamicToLocalExec f) read place v value = v ≡ 0
+Lands (DescriptorLea p LocalExec) read place v value = value ≡ v
+Lands (DescriptorLea p InitialExec) read place v value = read (Word (sum_64 (place + 4) value)) ≡ Some v
+Lands other read place v value = Unit {0}
+
+-- nothing is done
+abbrev pub no_effect : Effect
+no_effect = record { deed = Nothing; width = 64; value = 0 }
+
+-- the effect of the input's bytes where their operand reads as v; where descriptors' values are offsets, the call through one
+-- has nothing to do
+abbrev pub demanded : Row → ℕ → ℕ → List ℕ → Option Effect
+demanded DescriptorCall v a old = Some no_effect
+demanded row v a old = demand_x86_64 v a old
+
+abbrev pub Keeps : Row → RelocationKindInfo → Reader → ℕ → ℕ → ℕ → List ℕ → Type 0
+Keeps row info read a v value old = effect_x86_64 read a (linked row info value old) ≡ demanded row v a old
+
+-- a value that the field takes, and that lands
+pub record IsField (row : Row) (info : RelocationKindInfo) (read : Reader) (a v value : ℕ) : Type 0 where
+  pub row_of : Some info ≡ x86_64_row (rewrite_of row).number
+  pub allowed : allows info value ≡ true
+  pub small : value < 2 ^ 64
+  pub operand : v < 2 ^ 64
+  pub numbers : ReadsNumbers read
+  pub lands : Lands row read (a + field_in row) v value
+
+-- at any address a and for any operand
+abbrev pub RowsKeep : Type 0
+RowsKeep = (row : Row) (info : RelocationKindInfo) (read : Reader) (a v value : ℕ) (old : List ℕ) → IsChanging row → IsWhole (cells_of (pattern_of row)) old
+    → IsField row info read a v value → Keeps row info read a v value old
