@@ -3,3 +3,5 @@ pub mod FoundLemmas
 pub mod EntryLemmas
 pub mod LoadedLemmas
 pub mod TableLemmas
+pub mod WordTableLemmas
+pub mod SlotLemmas

@@ -1,5 +1,10 @@
 pub mod Entries
 pub mod Words
+pub mod GotWords
+pub mod Storage
+pub mod Slots
+pub mod SlotParts
 pub mod Tables
+pub mod Verify
 pub mod Laws
 pub mod Dynamic

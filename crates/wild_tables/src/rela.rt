@@ -52,9 +52,20 @@ impl RelaTable {
         if self.part.len() - Rela::SIZE * self.count < Rela::SIZE {
             return Err(Full);
         }
+        self.push(entry);
+        Ok(())
+    }
+
+    /// Adds an entry behind the others.
+    #[tactic(auto, using(crate::proofs::EntryLemmas::length_entries_in))]
+    pub fn push(&mut self, entry: Rela)
+        requires { rela_size * (length self.old.entries + 1) ≤ self.old.room }
+        ensures entries { self.new.entries ≡ self.old.entries ++ entry ∷ [] }
+        ensures room { self.new.room ≡ self.old.room }
+    {
+        prove!(Rela::SIZE * self.count + Rela::SIZE <= self.part.len());
         add_entry(self.part.as_mut_slice(), self.count, entry);
         self.count += 1;
-        Ok(())
     }
 
     /// How many bytes the part has.

@@ -1,9 +1,9 @@
 //! Words of packed relative relocations in the room of their part (gABI, "Relative Relocation Table").
-ghost use Rattle.std.specs.Prelude.{◌≡◌, ◌*◌, ◌%◌, ◌^◌, ◌<◌, ◌≤◌, length, take, Contains, OnOk, OnErr, IfOk};
+ghost use Rattle.std.specs.Prelude.{◌≡◌, ◌≢◌, ◌+◌, ◌*◌, ◌%◌, ◌^◌, ◌<◌, ◌≤◌, ◌++◌, length, take, Contains, OnOk, OnErr, IfOk};
 ghost use Rattle.wild_records.specs.Relocations.{relr_size};
 ghost use Rattle.wild_relr.specs.Places.{places};
 ghost use Rattle.wild_relr.specs.Packing.{after, Follows, Records};
-ghost use Rattle.wild_relr.specs.Packed.{after_flat, reset, nothing};
+ghost use Rattle.wild_relr.specs.Packed.{after_flat, after_block, reset, nothing, slots};
 ghost use Rattle.wild_relr.specs.Written.{word_bytes};
 
 use std::alloc::{AllocError, Global};
@@ -98,6 +98,33 @@ impl RelrTable {
         ensures room { self.new.room ≡ self.old.room }
     {
         self.writer.write_flat(self.part.as_mut_slice(), place)
+    }
+
+    /// Records an even place by a word of its own, and ends the run.
+    pub fn push_flat(&mut self, place: u64)
+        requires even { place % 2 ≡ 0 }
+        requires fits { relr_size * (length self.old.state.words + 1) ≤ self.old.room }
+        ensures state { self.new.state ≡ after_flat self.old.state place }
+        ensures room { self.new.room ≡ self.old.room }
+    {
+        match self.put_flat(place) {
+            Ok(()) => {}
+            Err(_) => unreachable!(),
+        }
+    }
+
+    /// Records the `n` places from `base` on, 8 bytes apart, by a block of words, and ends the run. Refused exactly
+    /// where the words with it do not fit, and nothing changes then.
+    pub fn write_block(&mut self, base: u64, n: u64) -> Result<(), Full>
+        requires { base % 2 ≡ 0 }
+        ensures ok { OnOk result (self.new.state ≡ after_block self.old.state base n) }
+        ensures recorded { OnOk result (base ≢ 0 → places self.new.state.words ≡ places self.old.state.words ++ slots base n) }
+        ensures fits { OnOk result (relr_size * length (after_block self.old.state base n).words ≤ self.old.room) }
+        ensures full { OnErr result (self.old.room < relr_size * length (after_block self.old.state base n).words) }
+        ensures kept { OnErr result (self.new ≡ self.old) }
+        ensures room { self.new.room ≡ self.old.room }
+    {
+        self.writer.write_block(self.part.as_mut_slice(), base, n)
     }
 
     /// Ends the run, and changes no word.

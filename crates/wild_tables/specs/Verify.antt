@@ -1,0 +1,61 @@
+-- Whether sizes of parts are those that a resolution needs.
+--   open_setting kind options         what slots ask of an output, where each address is one of the thread-local data
+--   needed_sizes kind options r       the bytes of a resolution's slots in the parts, in the order of roles
+--   first_difference i given needed   the sizes are what is needed, or the first that is not
+use Rattle.std.specs.Prelude.{ℕ, ◌+◌, ◌-◌, ◌*◌, ◌^◌, nat_lt, if◌then◌else◌, List, [], ◌∷◌, length, None, unwrap_or, Result, Ok, Err}
+use Rattle.wild_records.specs.Relocations.{rela_size, relr_size}
+use Rattle.wild_plan.specs.declared.kind.Machine.TheVariants.{X86_64}
+use Rattle.wild_plan.specs.declared.kind.OutputKind.{OutputKind}
+use Rattle.wild_plan.specs.declared.options.Options.{Options}
+use Rattle.wild_plan.specs.declared.symbol.Resolution.{Resolution}
+use Rattle.wild_plan.specs.declared.fault.Error.{Error}
+use Rattle.wild_plan.specs.declared.fault.Fault.{Fault}
+use Rattle.wild_plan.specs.declared.fault.Fault.TheVariants as faults
+use Rattle.wild_plan.specs.Faults.{nowhere}
+use Rattle.wild_tables.specs.declared.slot.Setting.{Setting}
+use Rattle.wild_tables.specs.declared.slot.SlotWord.{SlotWord}
+use Rattle.wild_tables.specs.declared.slot_parts.WordPart.{WordPart}
+use Rattle.wild_tables.specs.declared.slot_parts.WordPart.TheVariants as words
+use Rattle.wild_tables.specs.declared.slot_parts.EntryPart.{EntryPart}
+use Rattle.wild_tables.specs.declared.slot_parts.EntryPart.TheVariants as entries
+use Rattle.wild_tables.specs.Slots.{SlotContent, slot}
+use Rattle.wild_tables.specs.SlotParts.{slot_words, slot_entries, flat_places}
+
+-- sizes do not hang on where the thread-local data are, as long as the symbol is in them
+abbrev pub open_setting : OutputKind → Options → Setting
+open_setting kind options = record { kind = kind; relr = options.relr; tls = record { start = 0; end = 2 ^ 64 - 1; align = 1 }; thread_pointer = 0 }
+
+abbrev pub words_size : WordPart → Options → ℕ → List SlotWord → ℕ
+words_size part options at ws = 8 * length (slot_words part options.relr at ws)
+
+-- how many entries there are does not hang on the machine
+abbrev pub entries_size : EntryPart → Options → ℕ → List SlotWord → ℕ
+entries_size part options at ws = rela_size * length (slot_entries part X86_64 options.relr at ws)
+
+unfoldable pub content_sizes : Options → ℕ → SlotContent → List ℕ
+content_sizes options at c =
+    0 ∷ 0 ∷ 0 ∷ 0 ∷ 0
+    ∷ words_size words.Got options at c.words
+    ∷ words_size words.Block options at c.words
+    ∷ (if c.has_stub then 16 else 0)
+    ∷ entries_size entries.Plt options at c.words
+    ∷ entries_size entries.Relative options at c.words
+    ∷ entries_size entries.General options at c.words
+    ∷ relr_size * length (flat_places options.relr at c.words)
+    ∷ 0 ∷ 0 ∷ 0 ∷ 0 ∷ 0 ∷ 0 ∷ 0 ∷ 0 ∷ 0 ∷ 0 ∷ 0 ∷ 0 ∷ 0 ∷ 0 ∷ 0 ∷ 0 ∷ 0 ∷ 0 ∷ []
+
+-- of the slots up to a fault
+abbrev pub needed_sizes : OutputKind → Options → Resolution → List ℕ
+needed_sizes kind options r = content_sizes options (unwrap_or r.got_address 0) (slot (open_setting kind options) None r)
+
+abbrev pub differs : Fault → Result (Unit {0}) Error
+differs f = Err (record { fault = f; at = nowhere })
+
+-- of the part in that place
+abbrev pub first_difference : ℕ → List ℕ → List ℕ → Result (Unit {0}) Error
+first_difference i [] ns = Ok tt
+first_difference i (g ∷ gs) [] = Ok tt
+first_difference i (g ∷ gs) (n ∷ ns) =
+    if nat_lt g n then differs (faults.InsufficientAllocation i 0 g n)
+    else if nat_lt n g then differs (faults.ExcessiveAllocation i 0 g n)
+    else first_difference (i + 1) gs ns

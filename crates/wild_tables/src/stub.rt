@@ -1,0 +1,80 @@
+//! Stubs in the room of their part.
+ghost use Rattle.std.specs.Prelude.{◌≡◌, ◌+◌, ◌^◌, ◌<◌, ◌≤◌, [], ◌++◌, length, take, IfOk};
+
+use std::alloc::{AllocError, Global};
+use std::marker::Model;
+use wild_words::put;
+
+/// The bytes of stubs behind each other, from the front of a part on.
+#[derive(Drop)]
+pub struct StubTable {
+    part: Vec<u8>,
+    used: usize,
+}
+
+impl Model for StubTable {
+    ghost use Rattle.std.specs.Prelude.{◌≤◌, length};
+    ghost use Rattle.wild_tables.specs.GotWords.{Stubs, stubs_of_part};
+
+    ghost Value = { Stubs };
+
+    ghost view = { λ t. stubs_of_part t.part.items t.used };
+
+    ghost invariant = { λ t. t.used ≤ length t.part.items };
+}
+
+impl StubTable {
+    /// No stubs yet, in a part of `room` bytes.
+    pub fn new(alloc: Global, room: usize) -> Result<Self, AllocError>
+        ensures { IfOk result (λ t. (t.bytes ≡ []) × (t.room ≡ room)) }
+    {
+        Ok(StubTable {
+            part: vec![in alloc; 0; room]?,
+            used: 0,
+        })
+    }
+
+    /// Adds the bytes of a stub behind the others.
+    pub fn push(&mut self, stub: &[u8])
+        requires { length self.old.bytes + length stub.now ≤ self.old.room }
+        ensures bytes { self.new.bytes ≡ self.old.bytes ++ stub.now }
+        ensures room { self.new.room ≡ self.old.room }
+    {
+        prove!(self.used + stub.len() <= self.part.len());
+        add_stub(self.part.as_mut_slice(), self.used, stub);
+        self.used += stub.len();
+    }
+
+    /// How many bytes the part has.
+    pub fn room(&self) -> usize
+        ensures room { result ≡ self.now.room }
+        ensures small { result < 2 ^ 63 }
+    {
+        self.part.as_slice().len()
+    }
+
+    /// How many bytes the stubs have.
+    pub fn used(&self) -> usize
+        ensures used { result ≡ length self.now.bytes }
+        ensures fits { result ≤ self.now.room }
+    {
+        self.used
+    }
+
+    /// The bytes of the part: those of the stubs, and then the room that is left.
+    pub fn bytes(&self) -> &[u8]
+        ensures written { take (length self.now.bytes) result.now ≡ self.now.bytes }
+        ensures room { length result.now ≡ self.now.room }
+    {
+        self.part.as_slice()
+    }
+}
+
+/// A stub behind the `used` bytes.
+#[tactic(auto, using(crate::proofs::WordTableLemmas::stub_put))]
+fn add_stub(out: &mut [u8], used: usize, stub: &[u8])
+    requires { used + length stub.now ≤ length out.old }
+    ensures { take (used + length stub.now) out.new ≡ take used out.old ++ stub.now }
+{
+    put(out, used, stub);
+}

@@ -1,0 +1,129 @@
+//! Whether sizes of parts are those that a resolution needs.
+ghost use Rattle.std.specs.Prelude.{◌≡◌, ◌*◌, ◌≤◌, length};
+ghost use Rattle.wild_records.specs.Relocations.{rela_size};
+ghost use Rattle.wild_tables.specs.Verify.{open_setting, words_size, entries_size, content_sizes, needed_sizes, differs, first_difference};
+
+use crate::cases::slot_of;
+use crate::content::Slot;
+use crate::slot::{STUB_SIZE, Setting, SlotWord, WORD_SIZE};
+use crate::slot_parts::{EntryPart, WordPart, count_entries, count_flat, count_words};
+use wild_plan::{At, Error, Fault, Machine, Options, OutputKind, Resolution, Tls};
+use wild_records::{Rela, Relr};
+
+/// How many roles a part can have.
+pub const ROLES: usize = 30;
+
+/// What slots ask of an output, where each address is one of the thread-local data.
+fn open_setting(kind: OutputKind, options: &Options) -> Setting
+    ensures { result ≡ open_setting kind options.now }
+{
+    Setting {
+        kind,
+        relr: options.relr,
+        tls: Tls {
+            start: 0,
+            end: u64::MAX,
+            align: 1,
+        },
+        thread_pointer: 0,
+    }
+}
+
+/// The bytes of words in a part.
+fn words_size(part: WordPart, options: &Options, place: u64, words: &[SlotWord]) -> u64
+    requires { length words.now ≤ 5 }
+    ensures { result ≡ words_size part options.now place words.now }
+{
+    (WORD_SIZE * count_words(part, options.relr, place, words)) as u64
+}
+
+/// The bytes of entries in a part.
+fn entries_size(part: EntryPart, options: &Options, place: u64, words: &[SlotWord]) -> u64
+    requires { length words.now ≤ 5 }
+    ensures { result ≡ entries_size part options.now place words.now }
+{
+    let count = count_entries(part, Machine::X86_64, options.relr, place, words);
+    (Rela::SIZE * count) as u64
+}
+
+/// The bytes of slots in the parts, in the order of roles.
+#[tactic(auto, unfolding(crate::specs::Verify::content_sizes))]
+fn content_sizes(options: &Options, place: u64, slot: &Slot) -> [u64; ROLES]
+    ensures { result ≡ content_sizes options.now place slot.now }
+{
+    let words = slot.words();
+    let got = words_size(WordPart::Got, options, place, words);
+    let block = words_size(WordPart::Block, options, place, words);
+    let stub = if slot.has_stub() { STUB_SIZE as u64 } else { 0 };
+    let plt = entries_size(EntryPart::Plt, options, place, words);
+    let relative = entries_size(EntryPart::Relative, options, place, words);
+    let general = entries_size(EntryPart::General, options, place, words);
+    let packed = (Relr::SIZE * count_flat(options.relr, place, words)) as u64;
+    [
+        0, 0, 0, 0, 0, got, block, stub, plt, relative, general, packed, 0, 0, 0, 0, 0, 0, 0, 0, 0,
+        0, 0, 0, 0, 0, 0, 0, 0, 0,
+    ]
+}
+
+/// The bytes of a resolution's slots in the parts, in the order of roles.
+fn needed_sizes(kind: OutputKind, options: &Options, resolution: &Resolution) -> [u64; ROLES]
+    ensures { result ≡ needed_sizes kind options.now resolution.now }
+{
+    let slot = slot_of(&open_setting(kind, options), None, resolution);
+    content_sizes(options, resolution.got_address.unwrap_or(0), &slot)
+}
+
+/// The first size that is not what is needed.
+fn first_difference(given: &[u64], needed: &[u64]) -> Result<(), Error>
+    requires { length given.now ≡ length needed.now }
+    ensures { result ≡ first_difference 0 given.now needed.now }
+{
+    for (part, size) in given.iter().enumerate() {
+        let need = needed[part];
+        if *size < need {
+            return differs(Fault::InsufficientAllocation {
+                part,
+                group: 0,
+                given: *size,
+                needed: need,
+            });
+        }
+        if need < *size {
+            return differs(Fault::ExcessiveAllocation {
+                part,
+                group: 0,
+                given: *size,
+                needed: need,
+            });
+        }
+    }
+    Ok(())
+}
+
+fn differs(fault: Fault) -> Result<(), Error>
+    ensures { result ≡ differs fault }
+{
+    Err(Error {
+        fault,
+        at: At::NOWHERE,
+    })
+}
+
+/// Whether the sizes of the parts, one for each role in their order, are those that the slots of a resolution need: its
+/// words, its stub, its entries, and RELR words of addresses that do not stand in the block. A thread-local symbol is taken
+/// to be in the data, and the stub to be near its slot.
+///
+/// # Errors
+///
+/// `InsufficientAllocation` or `ExcessiveAllocation` for the first role whose size is another; the part is the role's place,
+/// the group is 0.
+pub fn verify_resolution_allocation(
+    kind: OutputKind,
+    sizes: &[u64; ROLES],
+    resolution: &Resolution,
+    options: &Options,
+) -> Result<(), Error>
+    ensures { result ≡ first_difference 0 sizes.now (needed_sizes kind options.now resolution.now) }
+{
+    first_difference(sizes, &needed_sizes(kind, options, resolution))
+}
