@@ -5,3 +5,4 @@ pub mod LoadedLemmas
 pub mod TableLemmas
 pub mod WordTableLemmas
 pub mod SlotLemmas
+pub mod PlacedLemmas

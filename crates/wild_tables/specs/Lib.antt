@@ -7,4 +7,5 @@ pub mod SlotParts
 pub mod Tables
 pub mod Verify
 pub mod Laws
+pub mod SlotLaws
 pub mod Dynamic

@@ -1,8 +1,9 @@
 //! Laws of the tables.
 ghost use Rattle.wild_tables.specs.Laws.{LengthsOfEntries, EntriesAreRead, LoadersAgree, PlacesAreLoaded, EntriesAddTheBase};
+ghost use Rattle.wild_tables.specs.SlotLaws.{EachWordStands, WordsStandInOrder, EachFillingIsThere, EntriesFillWords, TypesAreKnown};
 
 use wild_records::rela_is_read;
-use wild_relr::pieces_are_recorded;
+use wild_relr::{pieces_are_recorded, words_are_read};
 
 /// Entries have 24 bytes each, and each is read where it stands.
 pub fn entries_are_read()
@@ -28,4 +29,19 @@ pub fn places_are_loaded()
 /// A loader takes the entry of an address for a relative one, and stores the base plus the value.
 pub fn entries_add_the_base()
     ensures { EntriesAddTheBase }
+{}
+
+/// Each word of a slot stands in its part, and each that a loader fills has one entry or RELR word, which names its place.
+pub fn slots_are_filled()
+    ensures stand { EachWordStands }
+    ensures read { WordsStandInOrder }
+    ensures filled { EachFillingIsThere }
+    ensures places { EntriesFillWords }
+{
+    words_are_read();
+}
+
+/// A loader knows each entry by its number, on either machine.
+pub fn types_are_known()
+    ensures { TypesAreKnown }
 {}

@@ -20,7 +20,10 @@ mod writer;
 pub use cases::{slot_of, storage_pair};
 pub use content::Slot;
 pub use dynamic::{dynamic_sections_are_read, write_dynamic, write_unused};
-pub use laws::{entries_add_the_base, entries_are_read, loaders_agree, places_are_loaded};
+pub use laws::{
+    entries_add_the_base, entries_are_read, loaders_agree, places_are_loaded, slots_are_filled,
+    types_are_known,
+};
 pub use rela::RelaTable;
 pub use relr::RelrTable;
 pub use room::Room;
