@@ -1,11 +1,9 @@
 -- Words of slots at their places.
-use Rattle.std.proofs.Common.{◌≡◌, ℕ, zero, suc, ◌+◌, ◌*◌, ◌%◌, ◌^◌, ◌<◌, if◌then◌else◌, Bool, true, false, Some, None, List, [], ◌∷◌, ◌++◌, length, get_or, refl, sym, ap, ◌∙◌, arith}
+use Rattle.std.proofs.Common.{◌≡◌, ℕ, zero, suc, ◌+◌, ◌^◌, ◌<◌, if◌then◌else◌, Bool, true, false, Some, None, List, [], ◌∷◌, ◌++◌, length, get_or, refl, sym, ap, ◌∙◌, arith}
 use Rattle.std.specs.Prelude.{All, option_to_list, Option}
 use Rattle.std.proofs.lemmas.List.{length-append}
 use Rattle.std.proofs.lemmas.List.Elements.{All-nil, All-cons, All-head, All-tail, All-append}
-use Rattle.wild_words.specs.Words.{number_at, Stands}
 use Rattle.wild_relr.specs.Laws.{WordsAreRead}
-use Rattle.wild_relr.specs.Written.{word_bytes}
 use Rattle.wild_records.specs.declared.relocations.Rela.{Rela}
 use Rattle.wild_reloc.specs.declared.dynamic.DynamicRelocationKind.TheVariants as entry_kinds
 use Rattle.wild_plan.specs.declared.kind.Machine.{Machine}
@@ -16,8 +14,8 @@ use Rattle.wild_tables.specs.declared.slot.SlotWord.TheVariants.{Number, Address
 use Rattle.wild_tables.specs.declared.slot_parts.WordPart.TheVariants as words
 use Rattle.wild_tables.specs.declared.slot_parts.EntryPart.{EntryPart}
 use Rattle.wild_tables.specs.declared.slot_parts.EntryPart.TheVariants as entries
-use Rattle.wild_tables.specs.SlotParts.{next, is_packed, address_entry, entry_at, at_places, word_of, entry_of, flat_place, slot_words, slot_entries, flat_places}
-use Rattle.wild_tables.specs.SlotLaws.{EachWordStands, EachFillingIsThere, WordsStandInOrder, EntriesFillWords, TypesAreKnown, Fills, filled, is_in_block, word_place}
+use Rattle.wild_tables.specs.SlotParts.{next, is_packed, address_entry, entry_at, at_places, word_of, entry_of, flat_place, slot_words, slot_entries}
+use Rattle.wild_tables.specs.SlotLaws.{EachWordStands, EachFillingIsThere, WordsStandInOrder, EntriesFillWords, CountsAreOfAnyMachine, TypesAreKnown, Fills, filled, is_in_block, word_place}
 
 count : {X : Type 0} → Option X → ℕ
 count o = length (option_to_list o)
@@ -133,7 +131,7 @@ entry_fills entries.Plt m relr at (Plt e) ws l = one_entry (Fills relr at (Plt e
 entry_fills entries.General m relr at (General e) ws l = one_entry (Fills relr at (General e ∷ ws)) (entry_at m at e) (record { index = 0; word = General e; listed = (omega arith, refl); place = sym (place-zero at l); zero = refl })
 entry_fills entries.Relative m relr at (Address a) ws l =
     unpacked_entry (Fills relr at (Address a ∷ ws)) (is_packed relr at) (address_entry m at a)
-      (λ f. record { index = 0; word = Address a; listed = (omega arith, refl); place = sym (place-zero at l); zero = ap (λ (b : Bool). Some (if b then a else 0)) f })
+    (λ f. record { index = 0; word = Address a; listed = (omega arith, refl); place = sym (place-zero at l); zero = ap (λ (b : Bool). Some (if b then a else 0)) f })
 entry_fills entries.Plt m relr at w ws l = All-nil (Fills relr at (w ∷ ws))
 entry_fills entries.General m relr at w ws l = All-nil (Fills relr at (w ∷ ws))
 entry_fills entries.Relative m relr at w ws l = All-nil (Fills relr at (w ∷ ws))
@@ -149,6 +147,31 @@ entries_fill part m relr at (w ∷ ws) l =
     let low : next at < 2 ^ 64 = omega arith in
     let rest = entries_fill part m relr (next at) ws low in
     All-append (Fills relr at (w ∷ ws)) (option_to_list (entry_of part m relr at w)) (slot_entries part m relr (next at) ws) (entry_fills part m relr at w ws l) (λ k d n. fills_later relr at w ws _ (rest k d n))
+
+-- ---- counts
+
+one_or_none : {X : Type 0} (b : Bool) (x y : X) → count (if b then None else Some x) ≡ count (if b then None else Some y)
+unfolding count
+one_or_none true x y = refl
+one_or_none false x y = refl
+
+entry-count : (part : EntryPart) (m n : Machine) (relr : Bool) (at : ℕ) (w : SlotWord) → count (entry_of part m relr at w) ≡ count (entry_of part n relr at w)
+unfolding count
+entry-count entries.Plt m n relr at (Plt e) = refl
+entry-count entries.General m n relr at (General e) = refl
+entry-count entries.Relative m n relr at (Address a) = one_or_none (is_packed relr at) (address_entry m at a) (address_entry n at a)
+entry-count entries.Plt m n relr at w = refl
+entry-count entries.General m n relr at w = refl
+entry-count entries.Relative m n relr at w = refl
+
+pub counts_same : CountsAreOfAnyMachine
+counts_same part m n relr at [] = refl
+counts_same part m n relr at (w ∷ ws) =
+    let once = entry-count part m n relr at w in
+    let a = placed-count (entry_of part m relr) at w ws in
+    let b = placed-count (entry_of part n relr) at w ws in
+    let rest = counts_same part m n relr (next at) ws in
+    omega (arith, once, a, b, rest)
 
 -- ---- numbers
 

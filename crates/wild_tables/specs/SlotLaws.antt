@@ -3,8 +3,9 @@
 --   WordsStandInOrder   word k of a slot of `got` is read at 8 k
 --   EachFillingIsThere  each word that is no number, and not in the block, has one entry or one RELR word
 --   EntriesFillWords    each entry names the place of a word that is 0 in the file
+--   CountsAreOfAnyMachine  how many entries there are does not hang on the machine
 --   TypesAreKnown       a loader knows the number of each entry
-use Rattle.std.specs.Prelude.{◌≡◌, ℕ, ◌+◌, ◌*◌, ◌%◌, ◌^◌, ◌<◌, Bool, true, false, Option, Some, None, List, [], ◌∷◌, length, All, Contains, slice_index_or}
+use Rattle.std.specs.Prelude.{◌≡◌, ℕ, ◌+◌, ◌*◌, ◌%◌, ◌^◌, ◌<◌, Bool, true, false, Option, Some, None, List, length, All, slice_index_or}
 use Rattle.wild_words.specs.Words.{number_at, Stands}
 use Rattle.wild_relr.specs.Written.{word_bytes}
 use Rattle.wild_records.specs.declared.relocations.Rela.{Rela}
@@ -16,12 +17,12 @@ use Rattle.wild_loader.specs.declared.kind.DynamicKind.{DynamicKind}
 use Rattle.wild_loader.specs.declared.kind.DynamicKind.TheVariants as kinds
 use Rattle.wild_loader.specs.Changes.{kind_of}
 use Rattle.wild_tables.specs.declared.slot.SlotWord.{SlotWord}
-use Rattle.wild_tables.specs.declared.slot.SlotWord.TheVariants.{Number, Address, InBlock, General, Plt}
+use Rattle.wild_tables.specs.declared.slot.SlotWord.TheVariants.{Number, InBlock}
 use Rattle.wild_tables.specs.declared.slot_parts.WordPart.TheVariants as words
 use Rattle.wild_tables.specs.declared.slot_parts.EntryPart.{EntryPart}
 use Rattle.wild_tables.specs.declared.slot_parts.EntryPart.TheVariants as entries
 use Rattle.wild_tables.specs.Laws.{loader_machine}
-use Rattle.wild_tables.specs.SlotParts.{next, at_places, word_of, slot_words, slot_entries, flat_places, type_of}
+use Rattle.wild_tables.specs.SlotParts.{at_places, word_of, slot_words, slot_entries, flat_places, type_of}
 
 -- each word is one of `got` or of `got_relr`, and of one of them alone
 abbrev pub EachWordStands : Type 0
@@ -52,7 +53,7 @@ filled other = Some other
 abbrev pub EachFillingIsThere : Type 0
 EachFillingIsThere = (m : Machine) (relr : Bool) (at : ℕ) (ws : List SlotWord)
     → length (slot_entries entries.Plt m relr at ws) + length (slot_entries entries.Relative m relr at ws) + length (slot_entries entries.General m relr at ws) + length (flat_places relr at ws)
-      ≡ length (at_places (λ at. filled) at ws)
+    ≡ length (at_places (λ at. filled) at ws)
 
 -- the entry is that of word k, which is 0 in the file
 pub record Fills (relr : Bool) (at : ℕ) (ws : List SlotWord) (e : Rela) : Type 0 where
@@ -64,6 +65,11 @@ pub record Fills (relr : Bool) (at : ℕ) (ws : List SlotWord) (e : Rela) : Type
 
 abbrev pub EntriesFillWords : Type 0
 EntriesFillWords = (part : EntryPart) (m : Machine) (relr : Bool) (at : ℕ) (ws : List SlotWord) → at < 2 ^ 64 → All (Fills relr at ws) (slot_entries part m relr at ws)
+
+-- how many entries there are does not hang on the machine
+abbrev pub CountsAreOfAnyMachine : Type 0
+CountsAreOfAnyMachine = (part : EntryPart) (m n : Machine) (relr : Bool) (at : ℕ) (ws : List SlotWord)
+    → length (slot_entries part m relr at ws) ≡ length (slot_entries part n relr at ws)
 
 -- what a loader does at each machine; the slots of AArch64 have an addend, which is 0 (x86-64 psABI and aaelf64,
 -- "Relocation Types")

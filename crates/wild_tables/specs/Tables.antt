@@ -5,7 +5,8 @@
 --   with_slot l r stub t           with the slots of a resolution
 --   with_header l t                with what stands once
 --   with_block base n t            with the block of packed slots
---   with_general l place e t       with an entry of `rela_dyn_general`
+--   with_general e t               with an entry of `rela_dyn_general`
+--   with_copy l r t                with a copied symbol
 --   room_for l place t             the table of a place has its room, or InsufficientAllocation
 --   room_for_all l t               each table has its room, or InsufficientAllocation of the first that has not
 --   left_over l t                  no table has room left, or ExcessiveAllocation of the first that has
@@ -13,7 +14,7 @@ use Rattle.std.specs.Prelude.{ℕ, ℤ, ◌-◌, ◌*◌, ◌^◌, ◌≤◌, na
 use Rattle.wild_records.specs.declared.relocations.Rela.{Rela}
 use Rattle.wild_records.specs.Relocations.{rela_size, relr_size}
 use Rattle.wild_reloc.specs.declared.dynamic.DynamicRelocationKind.{DynamicRelocationKind}
-use Rattle.wild_reloc.specs.declared.dynamic.DynamicRelocationKind.TheVariants.{Relative}
+use Rattle.wild_reloc.specs.declared.dynamic.DynamicRelocationKind.TheVariants.{Copy, Relative}
 use Rattle.wild_plan.specs.declared.kind.Machine.{Machine}
 use Rattle.wild_plan.specs.declared.part.Role.{Role}
 use Rattle.wild_plan.specs.declared.part.Role.TheVariants as role
@@ -31,6 +32,7 @@ use Rattle.wild_tables.specs.Words.{Words}
 use Rattle.wild_tables.specs.GotWords.{GotWords, Stubs}
 use Rattle.wild_tables.specs.declared.slot.Setting.{Setting}
 use Rattle.wild_tables.specs.declared.slot.SlotFault.{SlotFault}
+use Rattle.wild_tables.specs.declared.slot.SlotFault.TheVariants.{NoDynamicSymbol}
 use Rattle.wild_tables.specs.declared.slot.SlotWord.{SlotWord}
 use Rattle.wild_tables.specs.declared.slot.Refused.{Refused}
 use Rattle.wild_tables.specs.declared.slot.Refused.TheVariants as refused
@@ -38,7 +40,7 @@ use Rattle.wild_tables.specs.declared.slot_parts.WordPart.TheVariants as words
 use Rattle.wild_tables.specs.declared.slot_parts.EntryPart.TheVariants as entries
 use Rattle.wild_tables.specs.declared.room.Room.{Room}
 use Rattle.wild_tables.specs.Slots.{SlotContent, setting_of, slot, storage_pair}
-use Rattle.wild_tables.specs.SlotParts.{type_of, address_entry, slot_words, slot_entries, flat_places}
+use Rattle.wild_tables.specs.SlotParts.{type_of, address_entry, entry_at, slot_words, slot_entries, flat_places}
 
 -- a group's tables, in the order of their roles, and the place of the part of the last one
 pub record Tables : Type 0 where
@@ -194,6 +196,18 @@ with_general e t = record t { general = more_entries (e ∷ []) t.general }
 abbrev pub symbol_entry : Layout → ℕ → ℤ → ℕ → DynamicRelocationKind → Rela
 symbol_entry l at addend symbol kind = record { offset = at; number = type_of l.machine kind; symbol = symbol; addend = addend }
 
+-- the entry by which a loader copies the symbol's bytes to its address in this output
+abbrev pub copy_entry : Layout → Resolution → ℕ → Rela
+copy_entry l r d = entry_at l.machine r.raw_value (record { kind = Copy; symbol = d; addend = 0 })
+
+abbrev pub with_copy_of : Layout → Resolution → Option ℕ → Tables → Tables
+with_copy_of l r None t = t
+with_copy_of l r (Some d) t = with_general (copy_entry l r d) t
+
+-- a copied symbol
+abbrev pub with_copy : Layout → Resolution → Tables → Tables
+with_copy l r t = with_copy_of l r r.dynamic_symbol_index t
+
 -- ---- room
 
 -- a table's room: what it has, and what of it is used
@@ -296,3 +310,8 @@ abbrev pub slot_answer : Result (Unit {0}) Error → Option SlotFault → Result
 slot_answer (Err e) fault = Err (refused.Room e)
 slot_answer (Ok u) (Some f) = Err (refused.Fault f)
 slot_answer (Ok u) None = Ok tt
+
+-- what is answered for a copied symbol: it has to be one of the dynamic symbol table
+abbrev pub copy_answer : Option ℕ → Result (Unit {0}) Error → Result (Unit {0}) Refused
+copy_answer None room = Err (refused.Fault NoDynamicSymbol)
+copy_answer (Some d) room = slot_answer room None

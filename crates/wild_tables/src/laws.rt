@@ -1,6 +1,6 @@
 //! Laws of the tables.
 ghost use Rattle.wild_tables.specs.Laws.{LengthsOfEntries, EntriesAreRead, LoadersAgree, PlacesAreLoaded, EntriesAddTheBase};
-ghost use Rattle.wild_tables.specs.SlotLaws.{EachWordStands, WordsStandInOrder, EachFillingIsThere, EntriesFillWords, TypesAreKnown};
+ghost use Rattle.wild_tables.specs.SlotLaws.{EachWordStands, WordsStandInOrder, EachFillingIsThere, EntriesFillWords, CountsAreOfAnyMachine, TypesAreKnown};
 
 use wild_records::rela_is_read;
 use wild_relr::{pieces_are_recorded, words_are_read};
@@ -37,6 +37,7 @@ pub fn slots_are_filled()
     ensures read { WordsStandInOrder }
     ensures filled { EachFillingIsThere }
     ensures places { EntriesFillWords }
+    ensures counts { CountsAreOfAnyMachine }
 {
     words_are_read();
 }

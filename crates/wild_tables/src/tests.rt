@@ -78,13 +78,13 @@ fn parts_of_ld(alloc: Global) -> Result<Vec<Part>, AllocError> {
     ]?)
 }
 
-fn groups(alloc: Global) -> Result<Items<Group>, AllocError>
+fn groups(alloc: Global, sizes: Vec<u64>) -> Result<Items<Group>, AllocError>
     ensures { IfOk result (λ gs. length gs ≡ 1) }
 {
     let mut all = Items::new(alloc);
     all.push(Group {
         files: Items::new(alloc),
-        part_sizes: Items::from_vec(vec![in alloc; 24, 32]?),
+        part_sizes: Items::from_vec(sizes),
         dynstr_start: 0,
         strtab_start: 0,
         eh_frame_start: 0,
@@ -97,27 +97,42 @@ fn groups(alloc: Global) -> Result<Items<Group>, AllocError>
 fn layout(alloc: Global, relr: bool, parts: Vec<Part>) -> Result<Layout, AllocError>
     ensures { IfOk result (λ l. length l.groups ≡ 1) }
 {
+    let kind = OutputKind::StaticExecutable(RelocationModel::Relocatable);
+    let sizes = vec![in alloc; 24, 32]?;
+    layout_of(alloc, kind, relr, parts, sizes)
+}
+
+/// A layout with thread-local data from 0x403000 to 0x403010, and shares of that many bytes.
+fn layout_of(
+    alloc: Global,
+    kind: OutputKind,
+    relr: bool,
+    parts: Vec<Part>,
+    sizes: Vec<u64>,
+) -> Result<Layout, AllocError>
+    ensures { IfOk result (λ l. length l.groups ≡ 1) }
+{
     let mut options = Options::none(alloc);
     options.relr = relr;
     Ok(Layout {
         machine: Machine::X86_64,
-        kind: OutputKind::StaticExecutable(RelocationModel::Relocatable),
+        kind,
         options,
         page_size: 4096,
         parts: Items::from_vec(parts),
         sections: Items::new(alloc),
         segments: Items::new(alloc),
         tls: Tls {
-            start: 0,
-            end: 0,
-            align: 1,
+            start: 0x40_3000,
+            end: 0x40_3010,
+            align: 16,
         },
         got_base: 0,
         got_header: 0,
         tlsld: None,
         primary_part: 0,
         symbols: Items::new(alloc),
-        groups: groups(alloc)?,
+        groups: groups(alloc, sizes)?,
         dynsyms: Items::new(alloc),
         sysv_hash: None,
         gnu_hash: None,
@@ -213,6 +228,203 @@ fn packs_slots_as_a_block(rt: HostRuntime) {
     assert!(rt; words.write_flat(&mut out, 0x4000).is_err());
     assert_eq!(rt; block_words(0x3000, 3), 2);
     assert_eq!(rt; count_words(&[0x3000, 0x3010, 0x31f8, 0x3200]), 3);
+}
+
+/// A layout whose group has `got` bytes of slots and `general` bytes of general entries.
+fn layout_of_slots(
+    alloc: Global,
+    kind: OutputKind,
+    got: u64,
+    general: u64,
+) -> Result<Layout, AllocError>
+    ensures { IfOk result (λ l. length l.groups ≡ 1) }
+{
+    let parts = vec![in alloc;
+        part(Role::Got, 0x4000, got),
+        part(Role::RelaDynGeneral, 0, general),
+    ]?;
+    layout_of(alloc, kind, false, parts, vec![in alloc; got, general]?)
+}
+
+/// A thread-local symbol of the output's own with slots at 0x4000.
+fn thread_local(raw_value: u64, slots: u32) -> Resolution {
+    Resolution {
+        raw_value,
+        flags: ValueFlags(8 | slots),
+        dynamic_symbol_index: None,
+        got_address: Some(0x4000),
+        plt_address: None,
+    }
+}
+
+const FIXED: OutputKind = OutputKind::StaticExecutable(RelocationModel::NonRelocatable);
+
+/// A slot with an offset (128), a module pair (256) and a descriptor (512) in a shared object: a symbol 8 bytes behind the
+/// start of the thread-local data.
+const ALL_SLOTS: u32 = 128 | 256 | 512;
+
+/// R_X86_64_TPOFF64, R_X86_64_DTPMOD64 and R_X86_64_TLSDESC at 0x4000, 0x4008 and 0x4018.
+#[rattlefmt::skip]
+const THREAD_ENTRIES: [u8; 72] = [
+    0x00, 0x40, 0, 0, 0, 0, 0, 0, 18, 0, 0, 0, 0, 0, 0, 0, 8, 0, 0, 0, 0, 0, 0, 0,
+    0x08, 0x40, 0, 0, 0, 0, 0, 0, 16, 0, 0, 0, 0, 0, 0, 0, 0, 0, 0, 0, 0, 0, 0, 0,
+    0x18, 0x40, 0, 0, 0, 0, 0, 0, 36, 0, 0, 0, 0, 0, 0, 0, 8, 0, 0, 0, 0, 0, 0, 0,
+];
+
+#[test]
+fn writes_thread_local_slots_of_a_shared_object(rt: HostRuntime) -> Result<(), Fail> {
+    let layout = layout_of_slots(rt.alloc(), OutputKind::SharedObject, 40, 72)?;
+    let mut tables = TableWriter::new(rt.alloc(), &layout, 0)?;
+    let resolution = thread_local(0x40_3008, ALL_SLOTS);
+    let written = tables.process_resolution(&layout, &resolution, Err(0));
+    assert!(rt; written.is_ok());
+    let got = tables.got_words();
+    assert_eq!(rt; got.len(), 40);
+    for (at, value) in [(0, 0), (8, 0), (16, 8), (24, 0), (32, 0)] {
+        if at + 8 <= got.len() {
+            assert_eq!(rt; read_u64(got, at), value);
+        }
+    }
+    assert_eq!(rt; tables.general_entries(), THREAD_ENTRIES.as_slice());
+    assert!(rt; tables.validate_empty(&layout).is_ok());
+    Ok(())
+}
+
+#[test]
+fn tells_sizes_that_a_resolution_does_not_need(rt: HostRuntime) -> Result<(), Fail> {
+    let options = Options::none(rt.alloc());
+    let resolution = thread_local(0x3008, ALL_SLOTS);
+    let kind = OutputKind::SharedObject;
+    let mut sizes = [0; ROLES];
+    sizes[10] = 72;
+    sizes[5] = 40;
+    assert!(rt; verify_resolution_allocation(kind, &sizes, &resolution, &options).is_ok());
+    sizes[5] = 32;
+    let error = verify_resolution_allocation(kind, &sizes, &resolution, &options)
+        .err()
+        .ok_or("no fault")?;
+    assert_eq!(rt;
+        error.fault,
+        Fault::InsufficientAllocation {
+            part: 5,
+            group: 0,
+            given: 32,
+            needed: 40,
+        }
+    );
+    sizes[5] = 48;
+    let error = verify_resolution_allocation(kind, &sizes, &resolution, &options)
+        .err()
+        .ok_or("no fault")?;
+    assert_eq!(rt;
+        error.fault,
+        Fault::ExcessiveAllocation {
+            part: 5,
+            group: 0,
+            given: 48,
+            needed: 40,
+        }
+    );
+    Ok(())
+}
+
+/// What becomes of an offset slot of that value in a table of one word.
+fn offset_slot(alloc: Global, value: u64) -> Result<(Option<Refused>, u64), Fail> {
+    let layout = layout_of_slots(alloc, FIXED, 8, 0)?;
+    let mut tables = TableWriter::new(alloc, &layout, 0)?;
+    let refused = tables
+        .process_resolution(&layout, &thread_local(value, 128), Err(0))
+        .err();
+    let got = tables.got_words();
+    if got.len() < 8 {
+        return Err("no word".into());
+    }
+    Ok((refused, read_u64(got, 0)))
+}
+
+#[test]
+fn offsets_end_with_the_thread_local_data(rt: HostRuntime) -> Result<(), Fail> {
+    assert_eq!(rt; offset_slot(rt.alloc(), 0x40_3010)?, (None, 0));
+    assert_eq!(rt;
+        offset_slot(rt.alloc(), 0x40_3008)?,
+        (None, 0xffff_ffff_ffff_fff8)
+    );
+    assert_eq!(rt; offset_slot(rt.alloc(), 0)?, (None, 0));
+    let (refused, _) = offset_slot(rt.alloc(), 0x40_3011)?;
+    assert_eq!(rt;
+        refused,
+        Some(Refused::Fault(SlotFault::TlsOutOfSegment { value: 4_206_609, }))
+    );
+    Ok(())
+}
+
+#[test]
+fn tells_the_room_that_a_slot_lacks(rt: HostRuntime) -> Result<(), Fail> {
+    let layout = layout_of_slots(rt.alloc(), FIXED, 8, 0)?;
+    let mut tables = TableWriter::new(rt.alloc(), &layout, 0)?;
+    let refused = tables
+        .process_resolution(&layout, &thread_local(0x40_3008, 256), Err(0))
+        .err()
+        .ok_or("no fault")?;
+    let Refused::Room(error) = refused else {
+        return Err("a fault of the slot".into());
+    };
+    assert_eq!(rt;
+        error.fault,
+        Fault::InsufficientAllocation {
+            part: 0,
+            group: 0,
+            given: 8,
+            needed: 16,
+        }
+    );
+    Ok(())
+}
+
+#[test]
+fn writes_the_pair_of_the_data_once(rt: HostRuntime) -> Result<(), Fail> {
+    let mut layout = layout_of_slots(rt.alloc(), FIXED, 40, 0)?;
+    layout.got_header = 3;
+    layout.tlsld = Some(0x4018);
+    let mut tables = TableWriter::new(rt.alloc(), &layout, 0)?;
+    tables.write_plt_got_entries(&layout)?;
+    let got = tables.got_words();
+    for (at, value) in [(0, 0), (8, 0), (16, 0), (24, 1), (32, 0x10)] {
+        if at + 8 <= got.len() {
+            assert_eq!(rt; read_u64(got, at), value);
+        }
+    }
+    assert!(rt; tables.validate_empty(&layout).is_ok());
+    Ok(())
+}
+
+#[test]
+fn packs_the_block_of_a_group(rt: HostRuntime) -> Result<(), Fail> {
+    let layout = layout(rt.alloc(), true, parts_of_tables(rt.alloc())?)?;
+    let mut tables = TableWriter::new(rt.alloc(), &layout, 0)?;
+    tables.write_got_relr_bitmap(0x3000, 3)?;
+    tables.write_got_relr_bitmap(0x4000, 0)?;
+    tables.write_got_relr_bitmap(0x5000, 1)?;
+    let words = tables.relr_words();
+    for (at, value) in [(0, 0x3000), (8, 7), (16, 0x5000), (24, 0)] {
+        if at + 8 <= words.len() {
+            assert_eq!(rt; read_u64(words, at), value);
+        }
+    }
+    let error = tables
+        .write_got_relr_bitmap(0x6000, 3)
+        .err()
+        .ok_or("no fault")?;
+    assert_eq!(rt;
+        error.fault,
+        Fault::InsufficientAllocation {
+            part: 1,
+            group: 0,
+            given: 32,
+            needed: 40,
+        }
+    );
+    Ok(())
 }
 
 /// Writes the dynamic section of a layout with ld's parts, where it fits.

@@ -10,7 +10,7 @@ ghost use Rattle.wild_relr.specs.Packing.{after, Records};
 ghost use Rattle.wild_relr.specs.Packed.{after_flat, reset, slots};
 ghost use Rattle.wild_relr.specs.Written.{word_bytes};
 ghost use Rattle.wild_tables.specs.Entries.{rela_bytes};
-ghost use Rattle.wild_tables.specs.Tables.{no_entries, relative_used, packed_used, relative_entry, with_entry, with_words, with_address, with_flat, site_word, room_for_entries, room_for_words, room_for, rooms, words_room, entries_room, stubs_room, packed_room, more_words, more_stubs, more_entries, more_places, room_for_all, with_content, with_slot, content_of, slot_answer, Fit, left_over, storage_words, with_header, room_for_header, HeaderFits, with_block, room_for_block, with_general, room_for_general, symbol_entry};
+ghost use Rattle.wild_tables.specs.Tables.{no_entries, relative_used, packed_used, relative_entry, with_entry, with_words, with_address, with_flat, site_word, room_for_entries, room_for_words, room_for, rooms, words_room, entries_room, stubs_room, packed_room, more_words, more_stubs, more_entries, more_places, room_for_all, with_content, with_slot, content_of, slot_answer, Fit, left_over, storage_words, with_header, room_for_header, HeaderFits, with_block, room_for_block, with_general, room_for_general, symbol_entry, with_copy, copy_answer};
 ghost use Rattle.wild_plan.specs.Entries.{packs};
 ghost use Rattle.wild_plan.specs.Shares.{insufficient};
 ghost use Rattle.wild_plan.specs.declared.part.Role.TheVariants.{RelrDyn};
@@ -19,10 +19,10 @@ use crate::cases::{slot_of, storage_pair};
 use crate::rela::RelaTable;
 use crate::relr::RelrTable;
 use crate::room::{Room, first_left, first_short};
-use crate::slot::{Refused, STUB_SIZE, Setting, SlotWord, WORD_SIZE};
+use crate::slot::{Refused, STUB_SIZE, Setting, SlotEntry, SlotFault, SlotWord, WORD_SIZE};
 use crate::slot_parts::{
     EntryPart, WordPart, add_entries, add_flat, add_words, add_zeros, address_entry, count_entries,
-    count_flat, count_words, type_of,
+    count_flat, count_words, entry_at, type_of,
 };
 use crate::stub::StubTable;
 use crate::word::WordTable;
@@ -512,6 +512,34 @@ impl TableWriter {
     {
         let kind = DynamicRelocationKind::Irelative;
         self.write_dynamic_symbol_relocation(layout, place, resolver.cast_signed(), 0, kind)
+    }
+
+    /// Adds the entry by which a loader copies a symbol's bytes to its address in this output.
+    ///
+    /// # Errors
+    ///
+    /// `Refused::Fault` where the symbol has no index in the dynamic symbol table, `Refused::Room` where
+    /// `rela_dyn_general` has no room. Nothing changes then.
+    pub fn write_copy_relocation(
+        &mut self,
+        layout: &Layout,
+        resolution: &Resolution,
+    ) -> Result<(), Refused>
+        ensures answered { result ≡ copy_answer resolution.now.dynamic_symbol_index (room_for_general layout.now (with_copy layout.now resolution.now self.old)) }
+        ensures written { OnOk result (self.new ≡ with_copy layout.now resolution.now self.old) }
+        ensures kept { OnErr result (self.new ≡ self.old) }
+    {
+        let Some(symbol) = resolution.dynamic_symbol_index else {
+            return Err(Refused::Fault(SlotFault::NoDynamicSymbol));
+        };
+        let copy = SlotEntry {
+            kind: DynamicRelocationKind::Copy,
+            symbol,
+            addend: 0,
+        };
+        let entry = entry_at(layout.machine, resolution.raw_value, copy);
+        self.list_general(layout, entry)?;
+        Ok(())
     }
 
     /// The bytes of the group's share of `got`: those of the words, and then the room that is left.

@@ -1,4 +1,4 @@
-use Rattle.wild_tables.proofs.PlacedLemmas.{words_stand, words_in_order, fillings_are_there, entries_fill}
+use Rattle.wild_tables.proofs.PlacedLemmas.{words_stand, words_in_order, fillings_are_there, entries_fill, counts_same}
 use Rattle.wild_tables.proofs.laws.slots_are_filled.Goals as goal
 
 pub returns-clause-stand : goal.returns-clause-stand
@@ -12,3 +12,6 @@ returns-clause-filled c = fillings_are_there
 
 pub returns-clause-places : goal.returns-clause-places
 returns-clause-places c = entries_fill
+
+pub returns-clause-counts : goal.returns-clause-counts
+returns-clause-counts c = counts_same
