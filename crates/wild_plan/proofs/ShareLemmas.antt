@@ -1,7 +1,8 @@
 -- What files have to write where nothing is needed.
-use Rattle.std.proofs.Common.{◌≡◌, ℕ, ◌+◌, ◌-◌, ◌*◌, ◌^◌, min, inl, inr, Bool, true, false, List, [], ◌∷◌, length, refl, ap, ◌∙◌, arith}
+use Rattle.std.proofs.Common.{◌≡◌, ℕ, ◌+◌, ◌-◌, ◌*◌, ◌^◌, ◌<◌, min, inl, inr, Bool, true, false, List, [], ◌∷◌, length, drop, get_or, refl, ap, ◌∙◌, arith}
 use Rattle.std.specs.Prelude.{if◌then◌else◌, ◌&&◌, Option}
 use Rattle.std.proofs.lemmas.Bool.{cases_Bool}
+use Rattle.std.proofs.lemmas.List.{drop_more}
 use Rattle.wild_relr.specs.Packed.{packed}
 use Rattle.wild_plan.specs.declared.file.File.{File}
 use Rattle.wild_plan.specs.declared.file.Group.{Group}
@@ -10,9 +11,9 @@ use Rattle.wild_plan.specs.declared.input.InputSection.{InputSection}
 use Rattle.wild_plan.specs.declared.layout.Layout.{Layout}
 use Rattle.wild_plan.specs.declared.part.Role.{Role}
 use Rattle.wild_plan.specs.declared.part.Role.TheVariants as role
-use Rattle.wild_plan.specs.Dynamic.{named_strings, tag_entries, string_entries, string_start, dynamic_entries, dynamic_count, dynamic_strings, epilogue_string_bytes}
+use Rattle.wild_plan.specs.Dynamic.{empty_string, named_strings, tag_entries, string_entries, string_start, dynamic_entries, dynamic_count, dynamic_strings, epilogue_string_bytes}
 use Rattle.wild_plan.specs.Entries.{listed_place, packed_place, moved_of, listed_places, packed_places, words_of, entry_count, word_count}
-use Rattle.wild_plan.specs.Kinds.{is_position_independent, needs_dynamic}
+use Rattle.wild_plan.specs.Kinds.{is_position_independent, needs_dynamic, needs_dynsym}
 use Rattle.wild_plan.specs.Lists.{total}
 use Rattle.wild_plan.specs.Needs.{is_prelude, is_epilogue, whole_of, own_of, share}
 use Rattle.wild_plan.specs.Counts.{total_share}
@@ -79,3 +80,29 @@ no_share l r n is h d none =
   where
     least : (k n : ℕ) → n ≡ min (2 ^ 64 - 1) k → n ≡ 0 → k ≡ 0
     least k n e z = omega (arith, e, z)
+
+-- ---- a file that is neither first nor last, in an output that does not move
+
+first_none : (kind role : Bool) (n : ℕ) → role ≡ false → (if kind && role then n else 0) ≡ 0
+first_none true role n h = rw h refl
+first_none false role n h = refl
+
+own_plain : (l : Layout) (r : Role) (f : File) → is_position_independent l.kind ≡ false → is_prelude f.role ≡ false → is_epilogue f.role ≡ false → own_of l r f ≡ 0
+own_plain l role.RelaDynRelative f h p e = let n = no_entries l f h in rw n refl
+own_plain l role.RelrDyn f h p e = let n = no_words l f h in rw n refl
+own_plain l role.Dynsym f h p e = first_none (needs_dynsym l.kind) (is_prelude f.role) _ p
+own_plain l role.Dynstr f h p e = let n = first_none (needs_dynsym l.kind) (is_prelude f.role) (length empty_string) p in rw e (omega (arith, n))
+own_plain l role.Dynamic f h p e = rw e refl
+own_plain l other f h p e = refl
+
+pub share_plain : (l : Layout) (r : Role) (f : File) → is_position_independent l.kind ≡ false → is_prelude f.role ≡ false → is_epilogue f.role ≡ false → share l r f ≡ 0
+share_plain l r f h p e = let own = own_plain l r f h p e in rw (p, own) refl
+
+-- one more such file
+pub total_plain : (l : Layout) (files : List File) (i : ℕ) (f : File) → i < length files → f ≡ get_or files i f → ((r : Role) → total (share l r) (drop i files) ≡ total (share l r) files) → ((r : Role) → share l r f ≡ 0) → (r : Role) → total (share l r) (drop (i + 1) files) ≡ total (share l r) files
+total_plain l files i f h read before here r =
+    let m = ap (total (share l r)) (drop_more files i f h) in
+    let e = ap (share l r) read in
+    let a = before r in
+    let b = here r in
+    omega (arith, m, e, a, b)
