@@ -1,8 +1,8 @@
 -- What files have to write where nothing is needed.
-use Rattle.std.proofs.Common.{◌≡◌, ℕ, ◌+◌, ◌-◌, ◌*◌, ◌^◌, ◌<◌, min, inl, inr, Bool, true, false, List, [], ◌∷◌, length, drop, get_or, refl, ap, ◌∙◌, arith}
-use Rattle.std.specs.Prelude.{if◌then◌else◌, ◌&&◌, Option}
-use Rattle.std.proofs.lemmas.Bool.{cases_Bool}
-use Rattle.std.proofs.lemmas.List.{drop_more}
+use Rattle.std.proofs.Common.{◌≡◌, ℕ, ◌+◌, ◌-◌, ◌*◌, ◌^◌, min, inl, inr, Bool, true, false, List, [], ◌∷◌, length, refl, sym, ap, ◌∙◌, arith}
+use Rattle.std.specs.Prelude.{if◌then◌else◌, not, ◌&&◌, Option}
+use Rattle.std.specs.List.{list_all}
+use Rattle.std.proofs.lemmas.Bool.{cases_Bool, and_parts}
 use Rattle.wild_relr.specs.Packed.{packed}
 use Rattle.wild_plan.specs.declared.file.File.{File}
 use Rattle.wild_plan.specs.declared.file.Group.{Group}
@@ -15,7 +15,7 @@ use Rattle.wild_plan.specs.Dynamic.{empty_string, named_strings, tag_entries, st
 use Rattle.wild_plan.specs.Entries.{listed_place, packed_place, moved_of, listed_places, packed_places, words_of, entry_count, word_count}
 use Rattle.wild_plan.specs.Kinds.{is_position_independent, needs_dynamic, needs_dynsym}
 use Rattle.wild_plan.specs.Lists.{total}
-use Rattle.wild_plan.specs.Needs.{is_prelude, is_epilogue, whole_of, own_of, share}
+use Rattle.wild_plan.specs.Needs.{is_prelude, is_epilogue, whole_of, own_of, share, is_plain}
 use Rattle.wild_plan.specs.Counts.{total_share}
 use Rattle.wild_plan.proofs.EntryLemmas.{packed_none}
 
@@ -95,14 +95,37 @@ own_plain l role.Dynstr f h p e = let n = first_none (needs_dynsym l.kind) (is_p
 own_plain l role.Dynamic f h p e = rw e refl
 own_plain l other f h p e = refl
 
-pub share_plain : (l : Layout) (r : Role) (f : File) → is_position_independent l.kind ≡ false → is_prelude f.role ≡ false → is_epilogue f.role ≡ false → share l r f ≡ 0
-share_plain l r f h p e = let own = own_plain l r f h p e in rw (p, own) refl
+-- the tests of a plain file
+pub record Tests (l : Layout) (f : File) : Type 0 where
+  pub fixed : is_position_independent l.kind ≡ false
+  pub first : is_prelude f.role ≡ false
+  pub last : is_epilogue f.role ≡ false
 
--- one more such file
-pub total_plain : (l : Layout) (files : List File) (i : ℕ) (f : File) → i < length files → f ≡ get_or files i f → ((r : Role) → total (share l r) (drop i files) ≡ total (share l r) files) → ((r : Role) → share l r f ≡ 0) → (r : Role) → total (share l r) (drop (i + 1) files) ≡ total (share l r) files
-total_plain l files i f h read before here r =
-    let m = ap (total (share l r)) (drop_more files i f h) in
-    let e = ap (share l r) read in
-    let a = before r in
-    let b = here r in
-    omega (arith, m, e, a, b)
+tests_of : (l : Layout) (f : File) → is_plain l f ≡ true → Tests l f
+tests_of l f h =
+    let a = and_parts (not (is_position_independent l.kind) && not (is_prelude f.role)) (not (is_epilogue f.role)) h in
+    let b = and_parts (not (is_position_independent l.kind)) (not (is_prelude f.role)) a.0 in
+    record { fixed = no (is_position_independent l.kind) b.0; first = no (is_prelude f.role) b.1; last = no (is_epilogue f.role) a.1 }
+  where
+    no : (b : Bool) → not b ≡ true → b ≡ false
+    no true h = cc
+    no false h = refl
+
+pub share_plain : (l : Layout) (r : Role) (f : File) → is_plain l f ≡ true → share l r f ≡ 0
+share_plain l r f h =
+    let t = tests_of l f h in
+    let own = own_plain l r f t.fixed t.first t.last in
+    rw (t.first, own) refl
+
+-- a list of such files
+pub total_plain : (l : Layout) (r : Role) (files : List File) → list_all (is_plain l) files ≡ true → total (share l r) files ≡ 0
+total_plain l r [] h = refl
+total_plain l r (f ∷ files) h =
+    let p = and_parts (is_plain l f) (list_all (is_plain l) files) h in
+    let a = share_plain l r f p.0 in
+    let b = total_plain l r files p.1 in
+    omega (arith, a, b)
+
+-- a test that told it
+pub plain_needs : (l : Layout) (files : List File) (told : Bool) → told ≡ list_all (is_plain l) files → told ≡ true → (r : Role) → total (share l r) files ≡ 0
+plain_needs l files told is h = λ r. total_plain l r files (sym is ∙ h)
