@@ -38,18 +38,18 @@ stands_more {X} f xs i x base now next h read stands goes = λ rest e.
     goes (flat_map f (drop (i + 1) xs) ++ rest) (subst P (sym read) (stands rest e ∙ split ∙ append_assoc (f (get_or xs i x)) (flat_map f (drop (i + 1) xs)) rest))
 
 -- the same, for an item that a loop read by its place
-pub next_begins_at : {X : Type 0} (f : X → List ℕ) (xs items : List X) (i : ℕ) (d : X) (base now : List ℕ) → items ≡ xs → i < length items → BeginsWith (flat_map f xs) base → StandsBehind f xs base now i → BeginsWith (f (get_or items i d)) now
-next_begins_at {X} f xs items i d base now same h begins stands =
+pub next_begins_at : {X : Type 0} (f : X → List ℕ) (xs items : List X) (i : ℕ) (d : X) (base now : List ℕ) → items ≡ xs → i < length items → d ≡ get_or items i d → BeginsWith (flat_map f xs) base → StandsBehind f xs base now i → BeginsWith (f d) now
+next_begins_at {X} f xs items i d base now same h read begins stands =
     let P : List X → Type 0 = λ ys. i < length ys → BeginsWith (f (get_or ys i d)) now in
-    subst P (sym same) (λ low. next_begins f xs i (get_or xs i d) base now low (get_or_default xs i d (get_or xs i d) low) begins stands) h
+    subst (λ (x : X). BeginsWith (f x) now) (sym read) (subst P (sym same) (λ low. next_begins f xs i (get_or xs i d) base now low (get_or_default xs i d (get_or xs i d) low) begins stands) h)
 
-pub stands_more_at : {X : Type 0} (f : X → List ℕ) (xs items : List X) (i : ℕ) (d : X) (base now next : List ℕ) → items ≡ xs → i < length items → StandsBehind f xs base now i → GoesOn (f (get_or items i d)) now next → StandsBehind f xs base next (i + 1)
-stands_more_at {X} f xs items i d base now next same h stands goes =
+pub stands_more_at : {X : Type 0} (f : X → List ℕ) (xs items : List X) (i : ℕ) (d : X) (base now next : List ℕ) → items ≡ xs → i < length items → d ≡ get_or items i d → StandsBehind f xs base now i → GoesOn (f d) now next → StandsBehind f xs base next (i + 1)
+stands_more_at {X} f xs items i d base now next same h read stands goes =
     let P : List X → Type 0 = λ ys. i < length ys → GoesOn (f (get_or ys i d)) now next → StandsBehind f xs base next (i + 1) in
-    subst P (sym same) (λ low on. stands_more f xs i (get_or xs i d) base now next low (get_or_default xs i d (get_or xs i d) low) stands on) h goes
+    subst P (sym same) (λ low on. stands_more f xs i (get_or xs i d) base now next low (get_or_default xs i d (get_or xs i d) low) stands on) h (subst (λ (x : X). GoesOn (f x) now next) read goes)
 
-pub read_at : {X : Type 0} (xs items : List X) (i : ℕ) (d : X) → items ≡ xs → i < length items → slice_get xs i ≡ Some (get_or items i d)
-read_at {X} xs items i d same h = let P : List X → Type 0 = λ ys. slice_get ys i ≡ Some (get_or items i d) in subst P same (slice_get-get_or items i d h)
+pub read_at : {X : Type 0} (xs items : List X) (i : ℕ) (d : X) → items ≡ xs → i < length items → d ≡ get_or items i d → slice_get xs i ≡ Some d
+read_at {X} xs items i d same h read = let P : List X → Type 0 = λ ys. slice_get ys i ≡ Some d in subst P same (slice_get-get_or items i d h ∙ ap (λ (x : X). Some x) (sym read))
 
 drop_past : {X : Type 0} (xs : List X) (i : ℕ) → length xs ≤ i → drop i xs ≡ []
 drop_past [] zero h = refl

@@ -52,8 +52,8 @@ not_begun l g f k s room is = record {
 }
 
 -- a decided field lies where the clauses say
-pub decision_lies : (l : Layout) (s : InputSection) (items : List InputRelocation) (i n : ℕ) (x : InputRelocation) (d : Decision) → items ≡ s.relocations → i < length items → All (FieldLies l.machine n) s.relocations → decided l s (get_or items i x) ≡ Ok d → DecisionLies n (get_or items i x) d
-decision_lies l s items i n x d same h lies is = by l s (get_or items i x) n d (All-at (FieldLies l.machine n) s.relocations i (get_or items i x) lies (listed_at s items i x same h)) is
+pub decision_lies : (l : Layout) (s : InputSection) (items : List InputRelocation) (i n : ℕ) (x : InputRelocation) (d : Decision) → items ≡ s.relocations → i < length items → x ≡ get_or items i x → All (FieldLies l.machine n) s.relocations → decided l s x ≡ Ok d → DecisionLies n x d
+decision_lies l s items i n x d same h read lies is = by l s x n d (All-at (FieldLies l.machine n) s.relocations i x lies (listed_at s items i x same h read)) is
   where
     by : (l : Layout) (s : InputSection) (r : InputRelocation) (n : ℕ) (d : Decision) → FieldLies l.machine n r → decided l s r ≡ Ok d → DecisionLies n r d
     by l s r n Nothing lies is = tt
@@ -98,19 +98,18 @@ site_behind s n reach next ps r d apart ends lies is = by s n reach next ps r (w
         ]
 
 -- one more relocation, written behind the others
-pub ascended_more : (l : Layout) (g f k : ℕ) (s : InputSection) (items : List InputRelocation) (i reach next : ℕ) (x : InputRelocation) (d : Decision) (now room : List ℕ) → items ≡ s.relocations → i < length items → All (FieldLies l.machine (length s.bytes)) s.relocations
-    → HasAscended l g f k s i reach now → refusal_of (at_offset g f k (get_or items i x).offset) (decided l s (get_or items i x)) ≡ [] → decided l s (get_or items i x) ≡ Ok d → reach_behind reach (get_or items i x) d ≡ Some next → room ≡ put_decision now (get_or items i x) d → HasAscended l g f k s (i + 1) next room
-ascended_more l g f k s items i reach next x d now room same h lies before none is reaches put =
-    let r = get_or items i x in
+pub ascended_more : (l : Layout) (g f k : ℕ) (s : InputSection) (items : List InputRelocation) (i reach next : ℕ) (x : InputRelocation) (d : Decision) (now room : List ℕ) → items ≡ s.relocations → i < length items → x ≡ get_or items i x → All (FieldLies l.machine (length s.bytes)) s.relocations
+    → HasAscended l g f k s i reach now → refusal_of (at_offset g f k x.offset) (decided l s x) ≡ [] → decided l s x ≡ Ok d → reach_behind reach x d ≡ Some next → room ≡ put_decision now x d → HasAscended l g f k s (i + 1) next room
+ascended_more l g f k s items i reach next x d now room same h read lies before none is reaches put =
     let ps = flat_map (site l s) (range_with_len 0 i) in
-    let here = decision_site l s i r d (listed_at s items i x same h) is in
-    let more : flat_map (site l s) (range_with_len 0 (i + 1)) ≡ ps ++ site_of s r (Ok d) = flat_map-numbers (site l s) i ∙ ap (λ (qs : List Piece). ps ++ qs) here in
-    let lie = decision_lies l s items i (length s.bytes) x d same h lies is in
-    let behind = site_behind s (length s.bytes) reach next ps r d before.apart before.ends lie reaches in
-    let apart : AreApart (length s.bytes) (ps ++ (site_of s r (Ok d) ++ [])) = subst (λ (qs : List Piece). AreApart (length s.bytes) (ps ++ qs)) (sym (append-nil (site_of s r (Ok d)))) behind.apart in
+    let here = decision_site l s i x d (listed_at s items i x same h read) is in
+    let more : flat_map (site l s) (range_with_len 0 (i + 1)) ≡ ps ++ site_of s x (Ok d) = flat_map-numbers (site l s) i ∙ ap (λ (qs : List Piece). ps ++ qs) here in
+    let lie = decision_lies l s items i (length s.bytes) x d same h read lies is in
+    let behind = site_behind s (length s.bytes) reach next ps x d before.apart before.ends lie reaches in
+    let apart : AreApart (length s.bytes) (ps ++ (site_of s x (Ok d) ++ [])) = subst (λ (qs : List Piece). AreApart (length s.bytes) (ps ++ qs)) (sym (append-nil (site_of s x (Ok d)))) behind.apart in
     record {
-      none = none_refused l g f k s items i x h same before.none none;
-      bytes = put ∙ ap (λ (old : List ℕ). put_decision old r d) before.bytes ∙ put_next s ps [] r d apart ∙ ap (λ (qs : List Piece). overlay qs s.bytes) (sym more);
+      none = none_refused l g f k s items i x h same read before.none none;
+      bytes = put ∙ ap (λ (old : List ℕ). put_decision old x d) before.bytes ∙ put_next s ps [] x d apart ∙ ap (λ (qs : List Piece). overlay qs s.bytes) (sym more);
       apart = subst (AreApart (length s.bytes)) (sym more) behind.apart;
       ends = subst (λ (qs : List Piece). All (EndsBy next) qs) (sym more) behind.ends;
     }
@@ -129,11 +128,11 @@ nothing_shared : (n : ℕ) (ps : List Piece) → AreApart n ps → least_extent 
 nothing_shared n ps h = none-shared (map extent_of ps) (pairs_beside ps h.apart)
 
 -- the first fault of a relocation is that of the section
-pub ascending_refused : (l : Layout) (g f k : ℕ) (s : InputSection) (items : List InputRelocation) (i reach : ℕ) (x : InputRelocation) (room : List ℕ) (e : Error) → is_read s ≡ true → items ≡ s.relocations → i < length items → HasAscended l g f k s i reach room
-    → Refuses e (refusal_of (at_offset g f k (get_or items i x).offset) (decided l s (get_or items i x))) → Refuses e (section_errors l g f k s)
+pub ascending_refused : (l : Layout) (g f k : ℕ) (s : InputSection) (items : List InputRelocation) (i reach : ℕ) (x : InputRelocation) (room : List ℕ) (e : Error) → is_read s ≡ true → items ≡ s.relocations → i < length items → x ≡ get_or items i x → HasAscended l g f k s i reach room
+    → Refuses e (refusal_of (at_offset g f k x.offset) (decided l s x)) → Refuses e (section_errors l g f k s)
 unfolding section_errors
-ascending_refused l g f k s items i reach x room e read same h before here =
-    rw read (Refuses-front e (flat_map (relocation_errors l g f k s) (range_with_len 0 (length s.relocations))) (overlap_errors (at_section g f k) (shared_byte l s)) (refuses_decision l g f k s items i x e h same before.none here))
+ascending_refused l g f k s items i reach x room e reads same h read before here =
+    rw reads (Refuses-front e (flat_map (relocation_errors l g f k s) (range_with_len 0 (length s.relocations))) (overlap_errors (at_section g f k) (shared_byte l s)) (refuses_decision l g f k s items i x e h same read before.none here))
 
 at_end : (l : Layout) (g f k : ℕ) (s : InputSection) (items : List InputRelocation) (i reach : ℕ) (room : List ℕ) → items ≡ s.relocations → i ≡ length items → HasAscended l g f k s i reach room → HasAscended l g f k s (length s.relocations) reach room
 at_end l g f k s items i reach room same end h = subst (λ (n : ℕ). HasAscended l g f k s n reach room) (end ∙ ap length same) h

@@ -196,34 +196,33 @@ pub decision_site : (l : Layout) (s : InputSection) (i : ℕ) (r : InputRelocati
 unfolding site
 decision_site l s i r d e is = rw e (ap (λ (x : Result Decision _). site_of s r x) (decide_listed l s r i e ∙ is))
 
-pub listed_at : (s : InputSection) (items : List InputRelocation) (i : ℕ) (x : InputRelocation) → items ≡ s.relocations → i < length items → slice_get s.relocations i ≡ Some (get_or items i x)
-listed_at s items i x same h = subst (λ (xs : List InputRelocation). slice_get xs i ≡ Some (get_or items i x)) same (slice_get-get_or items i x h)
+pub listed_at : (s : InputSection) (items : List InputRelocation) (i : ℕ) (x : InputRelocation) → items ≡ s.relocations → i < length items → x ≡ get_or items i x → slice_get s.relocations i ≡ Some x
+listed_at s items i x same h read = subst (λ (xs : List InputRelocation). slice_get xs i ≡ Some x) same (slice_get-get_or items i x h ∙ ap (λ (r : InputRelocation). Some r) (sym read))
 
-pub refuses_decision : (l : Layout) (g f k : ℕ) (s : InputSection) (items : List InputRelocation) (i : ℕ) (x : InputRelocation) (e : Error) → i < length items → items ≡ s.relocations → flat_map (relocation_errors l g f k s) (range_with_len 0 i) ≡ []
-    → Refuses e (refusal_of (at_offset g f k (get_or items i x).offset) (decided l s (get_or items i x))) → Refuses e (flat_map (relocation_errors l g f k s) (range_with_len 0 (length s.relocations)))
-refuses_decision l g f k s items i x e h same none here =
+pub refuses_decision : (l : Layout) (g f k : ℕ) (s : InputSection) (items : List InputRelocation) (i : ℕ) (x : InputRelocation) (e : Error) → i < length items → items ≡ s.relocations → x ≡ get_or items i x → flat_map (relocation_errors l g f k s) (range_with_len 0 i) ≡ []
+    → Refuses e (refusal_of (at_offset g f k x.offset) (decided l s x)) → Refuses e (flat_map (relocation_errors l g f k s) (range_with_len 0 (length s.relocations)))
+refuses_decision l g f k s items i x e h same read none here =
     let n = ap length same in
-    refuses_number (relocation_errors l g f k s) 0 (length s.relocations) i i e (omega (arith, n, h)) (omega arith) none (subst (λ (es : List Error). Refuses e es) (sym (decision_errors l g f k s i (get_or items i x) (listed_at s items i x same h))) here)
+    refuses_number (relocation_errors l g f k s) 0 (length s.relocations) i i e (omega (arith, n, h)) (omega arith) none (subst (λ (es : List Error). Refuses e es) (sym (decision_errors l g f k s i x (listed_at s items i x same h read))) here)
 
-pub none_refused : (l : Layout) (g f k : ℕ) (s : InputSection) (items : List InputRelocation) (i : ℕ) (x : InputRelocation) → i < length items → items ≡ s.relocations → flat_map (relocation_errors l g f k s) (range_with_len 0 i) ≡ []
-    → refusal_of (at_offset g f k (get_or items i x).offset) (decided l s (get_or items i x)) ≡ [] → flat_map (relocation_errors l g f k s) (range_with_len 0 (i + 1)) ≡ []
-none_refused l g f k s items i x h same none here =
-    flat_map-numbers (relocation_errors l g f k s) i ∙ ap (λ (es : List Error). es ++ relocation_errors l g f k s i) none ∙ decision_errors l g f k s i (get_or items i x) (listed_at s items i x same h) ∙ here
+pub none_refused : (l : Layout) (g f k : ℕ) (s : InputSection) (items : List InputRelocation) (i : ℕ) (x : InputRelocation) → i < length items → items ≡ s.relocations → x ≡ get_or items i x → flat_map (relocation_errors l g f k s) (range_with_len 0 i) ≡ []
+    → refusal_of (at_offset g f k x.offset) (decided l s x) ≡ [] → flat_map (relocation_errors l g f k s) (range_with_len 0 (i + 1)) ≡ []
+none_refused l g f k s items i x h same read none here =
+    flat_map-numbers (relocation_errors l g f k s) i ∙ ap (λ (es : List Error). es ++ relocation_errors l g f k s i) none ∙ decision_errors l g f k s i x (listed_at s items i x same h read) ∙ here
 
 pub length-push : (ds next : List Decision) (d : Decision) (i : ℕ) → length ds ≡ i → next ≡ ds ++ d ∷ [] → length next ≡ i + 1
 length-push ds next d i count pushed = let a = ap length pushed in let b = length-append ds (d ∷ []) in omega (arith, a, b, count)
 
-pub decisions-more : (l : Layout) (s : InputSection) (items : List InputRelocation) (ds next : List Decision) (i : ℕ) (x : InputRelocation) (d : Decision) → items ≡ s.relocations → i < length items → length ds ≡ i → next ≡ ds ++ d ∷ [] → decided l s (get_or items i x) ≡ Ok d
+pub decisions-more : (l : Layout) (s : InputSection) (items : List InputRelocation) (ds next : List Decision) (i : ℕ) (x : InputRelocation) (d : Decision) → items ≡ s.relocations → i < length items → x ≡ get_or items i x → length ds ≡ i → next ≡ ds ++ d ∷ [] → decided l s x ≡ Ok d
     → decided_sites s (take i items) ds ≡ flat_map (site l s) (range_with_len 0 i) → decided_sites s (take (i + 1) items) next ≡ flat_map (site l s) (range_with_len 0 (i + 1))
-decisions-more l s items ds next i x d same h count pushed is before =
-    let r = get_or items i x in
+decisions-more l s items ds next i x d same h read count pushed is before =
     let a = length-take i items in
     let n : length (take i items) ≡ length ds = omega (arith, a, h, count) in
     ap (λ (es : List Decision). decided_sites s (take (i + 1) items) es) pushed
-    ∙ ap (λ (qs : List InputRelocation). decided_sites s qs (ds ++ d ∷ [])) (take_more items i x h)
-    ∙ sites-append s (take i items) (r ∷ []) ds (d ∷ []) n
-    ∙ ap (λ (ps : List Piece). ps ++ decided_sites s (r ∷ []) (d ∷ [])) before
-    ∙ ap (λ (ps : List Piece). flat_map (site l s) (range_with_len 0 i) ++ ps) (one_site s r d ∙ sym (decision_site l s i r d (listed_at s items i x same h) is))
+    ∙ ap (λ (qs : List InputRelocation). decided_sites s qs (ds ++ d ∷ [])) (take_more items i x h ∙ ap (λ (r : InputRelocation). take i items ++ r ∷ []) (sym read))
+    ∙ sites-append s (take i items) (x ∷ []) ds (d ∷ []) n
+    ∙ ap (λ (ps : List Piece). ps ++ decided_sites s (x ∷ []) (d ∷ [])) before
+    ∙ ap (λ (ps : List Piece). flat_map (site l s) (range_with_len 0 i) ++ ps) (one_site s x d ∙ sym (decision_site l s i x d (listed_at s items i x same h read) is))
     ∙ sym (flat_map-numbers (site l s) i)
 
 -- all were decided
@@ -291,11 +290,12 @@ next_lies s ps rest r d n apart = by s ps rest r (written_by d) n apart
     by s ps rest r (Some w) n apart = let k = length-field_site s r.offset w.size w.value in let e = within_next (field_site s r.offset w.size w.value) ps rest n apart in omega (arith, k, e)
 
 -- one step of a loop over all
-pub step_lies : (s : InputSection) (items : List InputRelocation) (ds : List Decision) (i m n : ℕ) (r : InputRelocation) (d : Decision) → items ≡ s.relocations → length ds ≡ length s.relocations → i < length ds → m ≡ n → AreApart n (decided_sites s s.relocations ds) → DecisionLies m (get_or items i r) (get_or ds i d)
-step_lies s items ds i m n r d same count h long apart =
+pub step_lies : (s : InputSection) (items : List InputRelocation) (ds : List Decision) (i m n : ℕ) (r : InputRelocation) (d : Decision) → items ≡ s.relocations → length ds ≡ length s.relocations → i < length ds → r ≡ get_or items i r → m ≡ n → AreApart n (decided_sites s s.relocations ds) → DecisionLies m r (get_or ds i d)
+step_lies s items ds i m n r d same count h read long apart =
     let split = subst (λ (ps : List Piece). AreApart n ps) (sites-split s s.relocations ds i r d count h) apart in
     let lies = next_lies s (decided_sites s (take i s.relocations) (take i ds)) (decided_sites s (drop (suc i) s.relocations) (drop (suc i) ds)) (get_or s.relocations i r) (get_or ds i d) n split in
-    subst (λ (rs : List InputRelocation). DecisionLies m (get_or rs i r) (get_or ds i d)) (sym same) (subst (λ (k : ℕ). DecisionLies k (get_or s.relocations i r) (get_or ds i d)) (sym long) lies)
+    let at = subst (λ (rs : List InputRelocation). DecisionLies m (get_or rs i r) (get_or ds i d)) (sym same) (subst (λ (k : ℕ). DecisionLies k (get_or s.relocations i r) (get_or ds i d)) (sym long) lies) in
+    subst (λ (q : InputRelocation). DecisionLies m q (get_or ds i d)) (sym read) at
 
 own_step : (s : InputSection) (ds : List Decision) (i : ℕ) (r : InputRelocation) (d : Decision) (room next : List ℕ) → length ds ≡ length s.relocations → i < length ds → AreApart (length s.bytes) (decided_sites s s.relocations ds)
     → room ≡ overlay (decided_sites s (take i s.relocations) (take i ds)) s.bytes → next ≡ put_decision room (get_or s.relocations i r) (get_or ds i d) → next ≡ overlay (decided_sites s (take (i + 1) s.relocations) (take (i + 1) ds)) s.bytes
@@ -305,12 +305,12 @@ own_step s ds i r d room next count h apart before is =
     ∙ put_next s (decided_sites s (take i s.relocations) (take i ds)) (decided_sites s (drop (suc i) s.relocations) (drop (suc i) ds)) (get_or s.relocations i r) (get_or ds i d) split
     ∙ ap (λ (ps : List Piece). overlay ps s.bytes) (sym (sites-more s s.relocations ds i r d count h))
 
-pub step_put : (s : InputSection) (items : List InputRelocation) (ds : List Decision) (i : ℕ) (r : InputRelocation) (d : Decision) (first room next : List ℕ) → items ≡ s.relocations → length ds ≡ length s.relocations → i < length ds → first ≡ s.bytes → AreApart (length first) (decided_sites s s.relocations ds)
-    → room ≡ overlay (decided_sites s (take i items) (take i ds)) first → next ≡ put_decision room (get_or items i r) (get_or ds i d) → next ≡ overlay (decided_sites s (take (i + 1) items) (take (i + 1) ds)) first
-step_put s items ds i r d first room next same count h whole apart before is =
+pub step_put : (s : InputSection) (items : List InputRelocation) (ds : List Decision) (i : ℕ) (r : InputRelocation) (d : Decision) (first room next : List ℕ) → items ≡ s.relocations → length ds ≡ length s.relocations → i < length ds → r ≡ get_or items i r → first ≡ s.bytes → AreApart (length first) (decided_sites s s.relocations ds)
+    → room ≡ overlay (decided_sites s (take i items) (take i ds)) first → next ≡ put_decision room r (get_or ds i d) → next ≡ overlay (decided_sites s (take (i + 1) items) (take (i + 1) ds)) first
+step_put s items ds i r d first room next same count h read whole apart before is =
     let apart' = subst (λ (xs : List ℕ). AreApart (length xs) (decided_sites s s.relocations ds)) whole apart in
     let before' : room ≡ overlay (decided_sites s (take i s.relocations) (take i ds)) s.bytes = before ∙ ap (λ (rs : List InputRelocation). overlay (decided_sites s (take i rs) (take i ds)) first) same ∙ ap (overlay (decided_sites s (take i s.relocations) (take i ds))) whole in
-    let is' : next ≡ put_decision room (get_or s.relocations i r) (get_or ds i d) = is ∙ ap (λ (rs : List InputRelocation). put_decision room (get_or rs i r) (get_or ds i d)) same in
+    let is' : next ≡ put_decision room (get_or s.relocations i r) (get_or ds i d) = is ∙ ap (λ (q : InputRelocation). put_decision room q (get_or ds i d)) read ∙ ap (λ (rs : List InputRelocation). put_decision room (get_or rs i r) (get_or ds i d)) same in
     own_step s ds i r d room next count h apart' before' is' ∙ ap (λ (rs : List InputRelocation). overlay (decided_sites s (take (i + 1) rs) (take (i + 1) ds)) s.bytes) (sym same) ∙ ap (overlay (decided_sites s (take (i + 1) items) (take (i + 1) ds))) (sym whole)
 
 -- the decided sites are apart, where no byte is of two of them

@@ -55,7 +55,10 @@ fn bytes(alloc: Global, entries: &[u8]) -> Result<Bytes, AllocError> {
     Ok(Bytes::from_vec(Vec::from_slice(alloc, entries)?))
 }
 
-fn part(role: Role, section: usize, offset: u64, size: u64, align: u64) -> Part {
+/// The header index of a part that stands in no section.
+const NO_SECTION: SectionIndex = SectionIndex(0);
+
+fn part(role: Role, section: SectionIndex, offset: u64, size: u64, align: u64) -> Part {
     Part {
         role,
         section,
@@ -68,11 +71,11 @@ fn part(role: Role, section: usize, offset: u64, size: u64, align: u64) -> Part 
 
 fn parts(alloc: Global) -> Result<Items<Part>, AllocError> {
     let all = vec![in alloc;
-        part(Role::FileHeader, 0, 0, 64, 8),
-        part(Role::ProgramHeaders, 0, 64, 56, 8),
-        part(Role::Raw, 1, 128, 7, 16),
-        part(Role::Shstrtab, 2, 135, 17, 1),
-        part(Role::SectionHeaders, 0, 152, 192, 8),
+        part(Role::FileHeader, NO_SECTION, 0, 64, 8),
+        part(Role::ProgramHeaders, NO_SECTION, 64, 56, 8),
+        part(Role::Raw, SectionIndex(1), 128, 7, 16),
+        part(Role::Shstrtab, SectionIndex(2), 135, 17, 1),
+        part(Role::SectionHeaders, NO_SECTION, 152, 192, 8),
     ]?;
     Ok(Items::from_vec(all))
 }
@@ -153,7 +156,7 @@ fn symbols(alloc: Global, address: u64) -> Result<Items<Symbol>, AllocError> {
 fn file(alloc: Global, role: FileRole) -> File {
     File {
         role,
-        first_symbol: 0,
+        first_symbol: SymbolIndex(0),
         symbol_count: 0,
         sections: Items::new(alloc),
         thunk_block: 0,
@@ -248,7 +251,7 @@ fn relocation(offset: u64, number: u32) -> InputRelocation {
     InputRelocation {
         offset,
         number,
-        symbol: Some(0),
+        symbol: Some(SymbolIndex(0)),
         addend: -4,
         malformed: false,
     }
@@ -340,11 +343,12 @@ const PLACES: [u64; 8] = [1, 9, 17, 25, 33, 41, 49, 57];
 
 /// So many relocations of that type at symbol 0.
 fn calls(alloc: Global, count: usize, number: u32) -> Result<Items<InputRelocation>, AllocError> {
-    let mut all = Items::new(alloc);
-    for place in PLACES.iter().take(count) {
-        all.push(relocation(*place, number))?;
-    }
-    Ok(all)
+    let all = PLACES
+        .iter()
+        .take(count)
+        .map(|place| relocation(*place, number))
+        .collect(alloc)?;
+    Ok(Items::from_vec(all))
 }
 
 /// Group `index` of three, with those relocations.
@@ -356,7 +360,7 @@ fn group_of_three(
     requires { index < 3 }
 {
     let mut object = file(alloc, FileRole::Object);
-    object.first_symbol = index as usize;
+    object.first_symbol = SymbolIndex(index as usize);
     object.symbol_count = 1;
     object.sections.push(InputSection {
         address: 4194432 + 64 * index,

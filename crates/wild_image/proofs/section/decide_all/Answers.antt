@@ -12,11 +12,11 @@ pub returns-in_err-decide_at-clause-faults : goal.returns-in_err-decide_at-claus
 returns-in_err-decide_at-clause-faults g c =
     let r = c.from_residual-in_err-decide_at in
     let p = err_from_is_err_and r.result r.ensures.1 in
-    rw (p.1, p.2) (refuses_decision c.args.resolved.now.layout.now c.args.place.group c.args.place.file c.args.place.section c.args.section.now c.as_slice-relocation-items.result.now c.loop-relocation.relocation-index _ _ c.loop-relocation-test.true c.as_slice-relocation-items.ensures c.loop-relocation.invariant.none c.in_err-decide_at.ensures.faults)
+    rw (p.1, p.2) (refuses_decision c.args.resolved.now.layout.now c.args.place.group c.args.place.file c.args.place.section c.args.section.now c.as_slice-relocation-items.result.now c.loop-relocation.relocation-index _ _ c.loop-relocation-test.true c.as_slice-relocation-items.ensures c.relocation-item.is c.loop-relocation.invariant.none c.in_err-decide_at.ensures.faults)
 
 pub loop-relocation-preserved : goal.loop-relocation-preserved
 loop-relocation-preserved g c = record {
-  none = none_refused c.args.resolved.now.layout.now c.args.place.group c.args.place.file c.args.place.section c.args.section.now c.as_slice-relocation-items.result.now c.loop-relocation.relocation-index _ c.loop-relocation-test.true c.as_slice-relocation-items.ensures c.loop-relocation.invariant.none c.in_ok-decide_at.ensures.faults;
+  none = none_refused c.args.resolved.now.layout.now c.args.place.group c.args.place.file c.args.place.section c.args.section.now c.as_slice-relocation-items.result.now c.loop-relocation.relocation-index _ c.loop-relocation-test.true c.as_slice-relocation-items.ensures c.relocation-item.is c.loop-relocation.invariant.none c.in_ok-decide_at.ensures.faults;
   count = length-push c.loop-relocation.decisions.items c.push.new.self.items _ c.loop-relocation.relocation-index c.loop-relocation.invariant.count c.in_ok-push.ensures.items;
-  same = decisions-more c.args.resolved.now.layout.now c.args.section.now c.as_slice-relocation-items.result.now c.loop-relocation.decisions.items c.push.new.self.items c.loop-relocation.relocation-index _ _ c.as_slice-relocation-items.ensures c.loop-relocation-test.true c.loop-relocation.invariant.count c.in_ok-push.ensures.items c.in_ok-decide_at.ensures.decision c.loop-relocation.invariant.same;
+  same = decisions-more c.args.resolved.now.layout.now c.args.section.now c.as_slice-relocation-items.result.now c.loop-relocation.decisions.items c.push.new.self.items c.loop-relocation.relocation-index _ _ c.as_slice-relocation-items.ensures c.loop-relocation-test.true c.relocation-item.is c.loop-relocation.invariant.count c.in_ok-push.ensures.items c.in_ok-decide_at.ensures.decision c.loop-relocation.invariant.same;
 }

@@ -20,7 +20,7 @@ loop-relocation-preserved c =
     let before = c.loop-relocation.invariant.few in
     let more = c.pack.ensures.few in
     record {
-      state = run_more (packed_in c.args.layout.now c.args.section.now) c.as_slice-relocations.result.now c.loop-relocation.relocation-index _ nothing c.loop-relocation.words.state c.pack.new.words.state c.loop-relocation-test.true c.loop-relocation.invariant.state c.pack.ensures.state;
+      state = run_more (packed_in c.args.layout.now c.args.section.now) c.as_slice-relocations.result.now c.loop-relocation.relocation-index _ nothing c.loop-relocation.words.state c.pack.new.words.state c.loop-relocation-test.true c.loop-relocation.invariant.state (c.pack.ensures.state ∙ ap (λ (r : InputRelocation). afters c.loop-relocation.words.state (packed_in c.args.layout.now c.args.section.now r)) c.relocation-item.is);
       few = omega (arith, before, more);
       room = c.pack.ensures.room ∙ c.loop-relocation.invariant.room;
     }
