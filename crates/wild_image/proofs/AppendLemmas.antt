@@ -97,11 +97,20 @@ pub section_stays : (l : Layout) (s : InputSection) (bytes : List ℕ) → is_fi
 section_stays l s bytes none = λ rest e. rw none at e
 
 -- all bytes of a group begin with what it gives to the tables
-pub group_begins : (l : Layout) (g : Group) (bytes : List ℕ) → bytes ≡ group_bytes l g → BeginsWith (group_tables l g) bytes
+pub group_begins : (l : Layout) (g : Group) (bytes : List ℕ) → BeginsWith (group_bytes l g) bytes → BeginsWith (group_tables l g) bytes
 unfolding group_bytes
-group_begins l g bytes is = (group_sections l g, is)
+group_begins l g bytes begins = (group_sections l g ++ begins.0, begins.1 ∙ append_assoc (group_tables l g) (group_sections l g) begins.0)
 
 -- and go on with its input sections
-pub group_goes_on : (l : Layout) (g : Group) (bytes rest : List ℕ) → bytes ≡ group_bytes l g → GoesOn (group_tables l g) bytes rest → BeginsWith (group_sections l g) rest
+pub group_goes_on : (l : Layout) (g : Group) (bytes rest : List ℕ) → BeginsWith (group_bytes l g) bytes → GoesOn (group_tables l g) bytes rest → BeginsWith (group_sections l g) rest
 unfolding group_bytes
-group_goes_on l g bytes rest is goes = ([], goes (group_sections l g) is ∙ sym (append-nil (group_sections l g)))
+group_goes_on l g bytes rest begins goes = (begins.0, goes (group_sections l g ++ begins.0) (begins.1 ∙ append_assoc (group_tables l g) (group_sections l g) begins.0))
+
+-- behind both stands what stands behind the group
+pub group_ends : (l : Layout) (g : Group) (bytes sections rest : List ℕ) → GoesOn (group_tables l g) bytes sections → GoesOn (group_sections l g) sections rest → GoesOn (group_bytes l g) bytes rest
+unfolding group_bytes
+group_ends l g bytes sections rest tables goes = λ after e. goes after (tables (group_sections l g ++ after) (e ∙ append_assoc (group_tables l g) (group_sections l g) after))
+
+-- bytes that are all of some items begin with those
+pub begins_all : (own bytes : List ℕ) → bytes ≡ own → BeginsWith own bytes
+begins_all own bytes is = ([], is ∙ sym (append-nil own))

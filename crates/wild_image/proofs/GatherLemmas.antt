@@ -1,5 +1,5 @@
 -- Laws of what the groups count, gathered.
-use Rattle.std.proofs.Common.{◌≡◌, ℕ, suc, ◌+◌, ◌^◌, ◌<◌, ◌==◌, ◌&&◌, Bool, true, false, if◌then◌else◌, List, [], ◌∷◌, ◌++◌, length, get_or, refl, ◌∙◌, arith, All}
+use Rattle.std.proofs.Common.{◌≡◌, ℕ, suc, ◌+◌, ◌^◌, ◌<◌, ◌==◌, ◌&&◌, Bool, true, false, if◌then◌else◌, List, [], ◌∷◌, ◌++◌, length, get_or, refl, sym, ◌∙◌, arith, All}
 use Rattle.std.specs.Prelude.{Option, Some, None, slice_get}
 use Rattle.std.specs.List.{flat_map}
 use Rattle.std.proofs.lemmas.List.Elements.{All-nil}
@@ -18,7 +18,10 @@ use Rattle.wild_crew.specs.Sums.{between, n_if}
 use Rattle.wild_crew.specs.Sums.{counted as counted_in}
 use Rattle.wild_crew.specs.Ended.{sum_of, AreTotals}
 use Rattle.wild_image.specs.Steps.{group_relocations, file_counted, group_counted}
-use Rattle.wild_image.specs.Pieces.{section_pairs, file_pairs, group_pairs, pairs_of, pairs_at}
+use Rattle.wild_image.specs.Pieces.{section_pairs, file_pairs, group_pairs}
+use Rattle.wild_image.specs.Batches.{AreBatches, batch_pairs, pairs_of, pairs_at}
+use Rattle.wild_image.specs.declared.batch.Batch.{Batch}
+use Rattle.wild_image.proofs.BatchLemmas.{cut_of, total_joined}
 use Rattle.wild_image.proofs.CountLemmas.{group_counted-le, total_le}
 
 -- ---- the sections of the pairs
@@ -33,17 +36,20 @@ section_below l h part = by l h (slice_get l.parts part) part refl
 abbrev IsBelow : ℕ → ℕ × ℕ → Type 0
 IsBelow n p = p.0 < n
 
-pub pairs_below : (l : Layout) → IsLaidOut l → (g : ℕ) → All (λ p. p.0 < length l.sections) (pairs_at l g)
+group_below : (l : Layout) → IsLaidOut l → (g : Group) → All (IsBelow (length l.sections)) (group_pairs l g)
+group_below l h g =
+    All-flat_map (IsBelow (length l.sections)) (file_pairs l) g.files (λ i d m.
+    All-flat_map (IsBelow (length l.sections)) (section_pairs l) (get_or g.files i d).sections (λ j e n.
+    All-optional (IsBelow (length l.sections)) (is_read (get_or (get_or g.files i d).sections j e)) (section_of l (get_or (get_or g.files i d).sections j e).part, length (get_or (get_or g.files i d).sections j e).relocations) (λ r.
+    section_below l h (get_or (get_or g.files i d).sections j e).part)))
+
+pub pairs_below : (l : Layout) → IsLaidOut l → (bs : List Batch) (i : ℕ) → All (λ p. p.0 < length l.sections) (pairs_at l bs i)
 unfolding pairs_at
-pairs_below l h g = by l h (slice_get l.groups g)
+pairs_below l h bs i = by l h (slice_get bs i)
   where
-    by : (l : Layout) → IsLaidOut l → (o : Option Group) → All (IsBelow (length l.sections)) (pairs_of l o)
+    by : (l : Layout) → IsLaidOut l → (o : Option Batch) → All (IsBelow (length l.sections)) (pairs_of l o)
     by l h None = All-nil (IsBelow (length l.sections))
-    by l h (Some g) =
-        All-flat_map (IsBelow (length l.sections)) (file_pairs l) g.files (λ i d m.
-        All-flat_map (IsBelow (length l.sections)) (section_pairs l) (get_or g.files i d).sections (λ j e n.
-        All-optional (IsBelow (length l.sections)) (is_read (get_or (get_or g.files i d).sections j e)) (section_of l (get_or (get_or g.files i d).sections j e).part, length (get_or (get_or g.files i d).sections j e).relocations) (λ r.
-        section_below l h (get_or (get_or g.files i d).sections j e).part)))
+    by l h (Some b) = All-flat_map (IsBelow (length l.sections)) (group_pairs l) b.groups.now (λ j d m. group_below l h (get_or b.groups.now j d))
 
 -- ---- their sums
 
@@ -81,17 +87,26 @@ between_is t h (x ∷ xs) a e =
     let rest = between_is t h xs (suc a) (λ j n y m at. e (suc j) n y (omega arith) at) in
     omega (arith, here, rest)
 
-sum_is : (l : Layout) (k : ℕ) → sum_of (pairs_at l) (length l.groups) k ≡ count_of l k
-unfolding pairs_at
-sum_is l k = between_is (group_counted l k) (λ g. counted_in k (pairs_at l g)) l.groups 0 (λ j n g m at. found l k j n g m at)
-  where
-    found : (l : Layout) (k j n : ℕ) (g : Group) → n ≡ 0 + j → slice_get l.groups j ≡ Some g → counted_in k (pairs_of l (slice_get l.groups n)) ≡ group_counted l k g
-    found l k j n g m at = let e : n ≡ j = omega arith in rw (e, at) (group_sum l k g)
+-- what a batch counts of section k
+abbrev batch_counted : Layout → ℕ → Batch → ℕ
+batch_counted l k b = total (group_counted l k) b.groups.now
 
-pub sums_fit : (l : Layout) → relocation_count l < 2 ^ 64 → (k : ℕ) → sum_of (pairs_at l) (length l.groups) k < 2 ^ 64
-sums_fit l few k = let e = sum_is l k in let m = total_le (group_counted l k) group_relocations (group_counted-le l k) l.groups in omega (arith, e, m, few)
+batch_sum : (l : Layout) (k : ℕ) (b : Batch) → counted_in k (batch_pairs l b) ≡ batch_counted l k b
+batch_sum l k b = counted-flat_map k (group_pairs l) (group_counted l k) (group_sum l k) b.groups.now
+
+sum_is : (l : Layout) (bs : List Batch) (k : ℕ) → AreBatches l.groups bs → sum_of (pairs_at l bs) (length bs) k ≡ count_of l k
+unfolding pairs_at
+sum_is l bs k h =
+    between_is (batch_counted l k) (λ i. counted_in k (pairs_at l bs i)) bs 0 (λ j n b m at. found l bs k j n b m at)
+    ∙ sym (total_joined (group_counted l k) 0 l.groups bs (cut_of l.groups bs h))
+  where
+    found : (l : Layout) (bs : List Batch) (k j n : ℕ) (b : Batch) → n ≡ 0 + j → slice_get bs j ≡ Some b → counted_in k (pairs_of l (slice_get bs n)) ≡ batch_counted l k b
+    found l bs k j n b m at = let e : n ≡ j = omega arith in rw (e, at) (batch_sum l k b)
+
+pub sums_fit : (l : Layout) (bs : List Batch) → AreBatches l.groups bs → relocation_count l < 2 ^ 64 → (k : ℕ) → sum_of (pairs_at l bs) (length bs) k < 2 ^ 64
+sums_fit l bs h few k = let e = sum_is l bs k h in let m = total_le (group_counted l k) group_relocations (group_counted-le l k) l.groups in omega (arith, e, m, few)
 
 -- the totals are the counts
-pub totals_are : (l : Layout) (totals : List ℕ) → AreTotals (pairs_at l) (length l.groups) (length l.sections) totals → totals ≡ counts l
+pub totals_are : (l : Layout) (bs : List Batch) (totals : List ℕ) → AreBatches l.groups bs → AreTotals (pairs_at l bs) (length bs) (length l.sections) totals → totals ≡ counts l
 unfolding counts
-totals_are l totals h = fill_by_all (count_of l) totals (length l.sections) 0 h.0 (λ k low. h.1 k low ∙ sum_is l k)
+totals_are l bs totals are h = fill_by_all (count_of l) totals (length l.sections) 0 h.0 (λ k low. h.1 k low ∙ sum_is l bs k are)

@@ -11,8 +11,10 @@ use Rattle.wild_plan.specs.declared.part.Role.TheVariants as role
 use Rattle.wild_plan.specs.Counts.{total_share, counts_fit}
 use Rattle.wild_plan.specs.WellFormed.{first_clause, check_sizes, check_counts}
 use Rattle.wild_layout.specs.Faults.{group_errors}
-use Rattle.wild_image.specs.Pieces.{group_bytes, group_parts, group_pairs, pairs_at}
-use Rattle.wild_image.specs.Jobs.{GivesBytes, GivesPiece}
+use Rattle.wild_image.specs.Pieces.{group_parts, group_pairs}
+use Rattle.wild_image.specs.Batches.{batch_errors, batch_bytes, batch_pairs, pairs_at, GivesBatch}
+use Rattle.wild_image.specs.declared.batch.Batch.{Batch}
+use Rattle.wild_image.specs.Jobs.{GivesPiece}
 use Rattle.wild_image.specs.declared.piece.GroupPiece.{GroupPiece}
 use Rattle.wild_image.proofs.OutputLemmas.{first_holds, rest_holds, test_holds}
 
@@ -30,23 +32,23 @@ pub few_groups : (l : Layout) → first_clause l ≡ Ok tt → length l.groups <
 unfolding first_clause
 few_groups l h = let e = few_counted l (first_holds (check_counts l) _ (rest_holds (check_sizes l) _ h)) in omega (arith, e)
 
--- what a group was found to give is what the group with its number gives
-pub gives_found : (l : Layout) (i : ℕ) (found : Group) (r : Result (List ℕ) Error) → slice_get l.groups i ≡ Some found → Answers r (group_errors l i found) → IfOk r (λ bs. bs ≡ group_bytes l found) → GivesBytes l i r
-gives_found l i found r at faults bytes = λ g e. given l i found g r (cc) faults bytes
+-- what a batch was found to give is what the batch with its number gives
+pub gives_found : (l : Layout) (bs : List Batch) (i : ℕ) (found : Batch) (r : Result (List ℕ) Error) → slice_get bs i ≡ Some found → Answers r (batch_errors l found) → IfOk r (λ bytes. bytes ≡ batch_bytes l found) → GivesBatch l bs i r
+gives_found l bs i found r at faults bytes = λ b e. given l found b r (cc) faults bytes
   where
-    given : (l : Layout) (i : ℕ) (found g : Group) (r : Result (List ℕ) Error) → found ≡ g → Answers r (group_errors l i found) → IfOk r (λ bs. bs ≡ group_bytes l found) → Answers r (group_errors l i g) × IfOk r (λ bs. bs ≡ group_bytes l g)
-    given l i found g r same faults bytes = (subst (λ (x : Group). Answers r (group_errors l i x)) same faults, subst (λ (x : Group). IfOk r (λ bs. bs ≡ group_bytes l x)) same bytes)
+    given : (l : Layout) (found b : Batch) (r : Result (List ℕ) Error) → found ≡ b → Answers r (batch_errors l found) → IfOk r (λ bytes. bytes ≡ batch_bytes l found) → Answers r (batch_errors l b) × IfOk r (λ bytes. bytes ≡ batch_bytes l b)
+    given l found b r same faults bytes = (subst (λ (x : Batch). Answers r (batch_errors l x)) same faults, subst (λ (x : Batch). IfOk r (λ bytes. bytes ≡ batch_bytes l x)) same bytes)
 
-pub pairs_found : (l : Layout) (i : ℕ) (found : Group) (pairs : List (ℕ × ℕ)) → slice_get l.groups i ≡ Some found → pairs ≡ group_pairs l found → pairs ≡ pairs_at l i
+pub pairs_found : (l : Layout) (bs : List Batch) (i : ℕ) (found : Batch) (pairs : List (ℕ × ℕ)) → slice_get bs i ≡ Some found → pairs ≡ batch_pairs l found → pairs ≡ pairs_at l bs i
 unfolding pairs_at
-pairs_found l i found pairs at is = rw at is
+pairs_found l bs i found pairs at is = rw at is
 
--- what a group gave
-pub bytes_given : (l : Layout) (i : ℕ) (g : Group) (r : Result (List ℕ) Error) (bytes : List ℕ) → GivesBytes l i r → slice_get l.groups i ≡ Some g → r ≡ Ok bytes → (group_errors l i g ≡ []) × (bytes ≡ group_bytes l g)
-bytes_given l i g r bytes gives at is = rw is at (gives g at)
+-- what a batch gave
+pub bytes_given : (l : Layout) (bs : List Batch) (i : ℕ) (b : Batch) (r : Result (List ℕ) Error) (bytes : List ℕ) → GivesBatch l bs i r → slice_get bs i ≡ Some b → r ≡ Ok bytes → (batch_errors l b ≡ []) × (bytes ≡ batch_bytes l b)
+bytes_given l bs i b r bytes gives at is = rw is at (gives b at)
 
-pub fault_given : (l : Layout) (i : ℕ) (g : Group) (r : Result (List ℕ) Error) (e : Error) → GivesBytes l i r → slice_get l.groups i ≡ Some g → r ≡ Err e → Refuses e (group_errors l i g)
-fault_given l i g r e gives at is = (rw is at (gives g at)).0
+pub fault_given : (l : Layout) (bs : List Batch) (i : ℕ) (b : Batch) (r : Result (List ℕ) Error) (e : Error) → GivesBatch l bs i r → slice_get bs i ≡ Some b → r ≡ Err e → Refuses e (batch_errors l b)
+fault_given l bs i b r e gives at is = (rw is at (gives b at)).0
 
 pub piece_found : (l : Layout) (i : ℕ) (found : Group) (r : Result GroupPiece Error) → slice_get l.groups i ≡ Some found → Answers r (group_errors l i found) → IfOk r (λ p. p.parts ≡ group_parts l found) → IfOk r (λ p. p.counts ≡ group_pairs l found) → GivesPiece l i r
 piece_found l i found r at faults parts counts = λ g e. given l i found g r (cc) faults parts counts

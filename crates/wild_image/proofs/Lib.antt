@@ -14,3 +14,5 @@ pub mod GatherLemmas
 pub mod DecidedLemmas
 pub mod AscendingLemmas
 pub mod OwnLemmas
+pub mod BatchLemmas
+pub mod PlainLemmas

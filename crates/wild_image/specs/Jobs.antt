@@ -1,5 +1,4 @@
 -- What comes of a group.
---   GivesBytes l i r   r is all bytes of group i, or its first fault
 --   GivesPiece l i r   r is what group i has of each part, with what it counts, or its first fault
 use Rattle.std.specs.Prelude.{◌≡◌, ℕ, List, Some, slice_get, Result, IfOk}
 use Rattle.wild_plan.specs.declared.fault.Error.{Error}
@@ -7,11 +6,8 @@ use Rattle.wild_plan.specs.declared.file.Group.{Group}
 use Rattle.wild_plan.specs.declared.layout.Layout.{Layout}
 use Rattle.wild_plan.specs.Faults.{Answers}
 use Rattle.wild_layout.specs.Faults.{group_errors}
-use Rattle.wild_image.specs.Pieces.{group_bytes, group_parts, group_pairs}
+use Rattle.wild_image.specs.Pieces.{group_parts, group_pairs}
 use Rattle.wild_image.specs.declared.piece.GroupPiece.{GroupPiece}
-
-abbrev pub GivesBytes : Layout → ℕ → Result (List ℕ) Error → Type 0
-GivesBytes l i r = (g : Group) → slice_get l.groups i ≡ Some g → Answers r (group_errors l i g) × IfOk r (λ bs. bs ≡ group_bytes l g)
 
 abbrev pub GivesPiece : Layout → ℕ → Result GroupPiece Error → Type 0
 GivesPiece l i r = (g : Group) → slice_get l.groups i ≡ Some g → Answers r (group_errors l i g) × IfOk r (λ p. (p.parts ≡ group_parts l g) × (p.counts ≡ group_pairs l g))

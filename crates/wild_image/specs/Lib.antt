@@ -1,8 +1,9 @@
-pub mod Steps
+pub mod Append
+pub mod Batches
+pub mod Counts
 pub mod Decided
-pub mod Placed
+pub mod Jobs
 pub mod Own
 pub mod Pieces
-pub mod Jobs
-pub mod Append
-pub mod Counts
+pub mod Placed
+pub mod Steps

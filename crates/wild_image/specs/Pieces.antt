@@ -76,11 +76,3 @@ file_pairs l f = flat_map (section_pairs l) f.sections
 
 abbrev pub group_pairs : Layout → Group → List (ℕ × ℕ)
 group_pairs l g = flat_map (file_pairs l) g.files
-
-abbrev pub pairs_of : Layout → Option Group → List (ℕ × ℕ)
-pairs_of l None = []
-pairs_of l (Some g) = group_pairs l g
-
--- those of the group with that number
-unfoldable pub pairs_at : Layout → ℕ → List (ℕ × ℕ)
-pairs_at l g = pairs_of l (slice_get l.groups g)

@@ -1,7 +1,9 @@
 //! Putting what the groups have into the image.
 ghost use Rattle.std.specs.Prelude.{◌≡◌, ◌+◌, ◌<◌, ◌≤◌, ◌^◌, ℕ, Some, if◌then◌else◌, length, replicate, slice_get, OnOk, All};
+ghost use Rattle.std.specs.List.{flat_map};
 ghost use Rattle.wild_words.specs.Overlay.{overlay};
 ghost use Rattle.wild_plan.specs.declared.file.File.{File};
+ghost use Rattle.wild_plan.specs.declared.file.Group.{Group};
 ghost use Rattle.wild_plan.specs.declared.part.Role.TheVariants.{Raw};
 ghost use Rattle.wild_plan.specs.Faults.{Answers};
 ghost use Rattle.wild_plan.specs.Lookups.{image_size};
@@ -9,13 +11,13 @@ ghost use Rattle.wild_plan.specs.Places.{has_role};
 ghost use Rattle.wild_plan.specs.Contents.{given};
 ghost use Rattle.wild_layout.specs.Content.{content};
 ghost use Rattle.wild_layout.specs.Image.{section_piece, file_pieces, owned_pieces, given_before, table_piece, table_pieces, group_pieces};
-ghost use Rattle.wild_layout.specs.Faults.{flat_map_from, group_errors};
 ghost use Rattle.wild_layout.specs.Geometry.{SectionLies, EachSection};
 ghost use Rattle.wild_image.specs.Pieces.{section_owned, file_sections, group_tables, group_sections, group_bytes};
 ghost use Rattle.wild_image.specs.Append.{BeginsWith, GoesOn, HasStarts, EachPartLies};
-ghost use Rattle.wild_image.specs.Jobs.{GivesBytes};
+ghost use Rattle.wild_image.specs.Batches.{AreBatches, IsWithin, GivesBatch, batch_errors, batch_pieces, batch_bytes};
 ghost use Rattle.wild_image.specs.declared.job.Outcome.{Outcome};
 
+use crate::batch::Batch;
 use crate::job::Outcome;
 use crate::section::offset_of;
 use wild_plan::{Error, File, Group, InputSection, Layout, Part, Role};
@@ -58,17 +60,19 @@ fn append_file<'b>(layout: &Layout, file: &File, bytes: &'b [u8], out: &mut [u8]
     rest
 }
 
-/// Puts the bytes of a group's input sections into the image.
-fn append_files(layout: &Layout, group: &Group, bytes: &[u8], out: &mut [u8])
+/// Puts the bytes of a group's input sections into the image, and tells what stands behind them.
+fn append_files<'b>(layout: &Layout, group: &Group, bytes: &'b [u8], out: &mut [u8]) -> &'b [u8]
     requires lies { All (λ (f : File). All (SectionLies layout.now) f.sections) group.now.files }
     requires room { length out.old ≡ image_size layout.now }
     requires own { BeginsWith (group_sections layout.now group.now) bytes.now }
     ensures image { out.new ≡ overlay (owned_pieces layout.now group.now) out.old }
+    ensures rest { GoesOn (group_sections layout.now group.now) bytes.now result.now }
 {
     let mut rest = bytes;
     for file in group.files.as_slice() {
         rest = append_file(layout, file, rest, out);
     }
+    rest
 }
 
 /// How many of its bytes a group gives to a part: none of a raw one.
@@ -147,50 +151,73 @@ fn move_starts(layout: &Layout, index: usize, group: &Group, starts: &mut [u64])
     }
 }
 
-/// Puts all that the group with that number has into the image.
-fn append_group(
+/// Puts all that the group with that number has, the first of these bytes, into the image, and tells what stands behind
+/// that.
+fn append_group<'b>(
     layout: &Layout,
     index: usize,
     group: &Group,
-    bytes: &[u8],
+    bytes: &'b [u8],
     starts: &[u64],
     out: &mut [u8],
-)
+) -> &'b [u8]
     requires inputs { All (λ (f : File). All (SectionLies layout.now) f.sections) group.now.files }
     requires lies { EachPartLies layout.now }
     requires group { slice_get layout.now.groups index ≡ Some group.now }
-    requires bytes { bytes.now ≡ group_bytes layout.now group.now }
+    requires own { BeginsWith (group_bytes layout.now group.now) bytes.now }
     requires starts { HasStarts layout.now index starts.now }
     requires room { (length out.old ≡ image_size layout.now) × (image_size layout.now ≤ 2 ^ 62) }
     ensures image { out.new ≡ overlay (group_pieces layout.now index group.now) out.old }
+    ensures rest { GoesOn (group_bytes layout.now group.now) bytes.now result.now }
 {
     let rest = append_tables(layout, index, group, bytes, starts, out);
-    append_files(layout, group, rest, out);
+    append_files(layout, group, rest, out)
 }
 
-/// Puts what the groups have into the image, or answers the first fault in the order of the groups.
-#[tactic(auto, using(crate::proofs::FaultLemmas::first_from))]
+/// Puts all that a batch has into the image, and moves the parts' starts behind it.
+fn append_batch(layout: &Layout, batch: &Batch, bytes: &[u8], starts: &mut [u64], out: &mut [u8])
+    requires inputs { All (λ (g : Group). All (λ (f : File). All (SectionLies layout.now) f.sections) g.files) batch.now.groups.now }
+    requires lies { EachPartLies layout.now }
+    requires within { IsWithin layout.now.groups batch.now }
+    requires small { batch.now.first + length batch.now.groups.now < 2 ^ 64 }
+    requires bytes { bytes.now ≡ batch_bytes layout.now batch.now }
+    requires starts { HasStarts layout.now batch.now.first starts.old }
+    requires room { (length out.old ≡ image_size layout.now) × (image_size layout.now ≤ 2 ^ 62) }
+    ensures image { out.new ≡ overlay (batch_pieces layout.now batch.now) out.old }
+    ensures starts { HasStarts layout.now (batch.now.first + length batch.now.groups.now) starts.new }
+{
+    let mut rest = bytes;
+    for (i, group) in batch.groups.iter().enumerate() {
+        let index = batch.first + i;
+        rest = append_group(layout, index, group, rest, starts, out);
+        move_starts(layout, index, group, starts);
+    }
+}
+
+/// Puts what the batches have into the image, or answers the first fault in the order of the groups.
 pub(crate) fn append_all(
     layout: &Layout,
+    batches: &[Batch],
     outcomes: &[Outcome],
     starts: &mut [u64],
     out: &mut [u8],
 ) -> Result<(), Error>
     requires inputs { EachSection layout.now (SectionLies layout.now) }
     requires lies { EachPartLies layout.now }
+    requires few { length layout.now.groups < 2 ^ 32 }
+    requires batches { AreBatches layout.now.groups batches.now }
     requires starts { starts.old ≡ replicate (length layout.now.parts) 0 }
-    requires count { length outcomes.now ≡ length layout.now.groups }
-    requires each { (g : ℕ) (o : Outcome) → slice_get outcomes.now g ≡ Some o → GivesBytes layout.now g o.bytes }
+    requires count { length outcomes.now ≡ length batches.now }
+    requires each { (i : ℕ) (o : Outcome) → slice_get outcomes.now i ≡ Some o → GivesBatch layout.now batches.now i o.bytes }
     requires room { (length out.old ≡ image_size layout.now) × (image_size layout.now ≤ 2 ^ 62) }
-    ensures faults { Answers result (flat_map_from (group_errors layout.now) 0 layout.now.groups) }
-    ensures image { OnOk result (out.new ≡ overlay (flat_map_from (group_pieces layout.now) 0 layout.now.groups) out.old) }
+    ensures faults { Answers result (flat_map (batch_errors layout.now) batches.now) }
+    ensures image { OnOk result (out.new ≡ overlay (flat_map (batch_pieces layout.now) batches.now) out.old) }
 {
-    for (i, group) in layout.groups.as_slice().iter().enumerate() {
+    for (i, batch) in batches.iter().enumerate() {
         match &outcomes[i].bytes {
-            Ok(bytes) => append_group(layout, i, group, bytes.as_slice(), starts, out),
+            Ok(bytes) => append_batch(layout, batch, bytes.as_slice(), starts, out),
             Err(error) => return Err(*error),
         }
-        move_starts(layout, i, group, starts);
     }
     Ok(())
 }

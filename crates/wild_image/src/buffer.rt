@@ -1,20 +1,23 @@
 //! All bytes of a group in one buffer: what it gives to the tables, part by part, and behind that its input
 //! sections' bytes in the order of processing.
-ghost use Rattle.std.specs.Prelude.{◌≡◌, ◌++◌, IfOk, OnOk, All};
+ghost use Rattle.std.specs.Prelude.{◌≡◌, ◌+◌, ◌<◌, ◌^◌, ◌++◌, length, IfOk, OnOk, All};
 ghost use Rattle.wild_plan.specs.declared.file.File.{File};
+ghost use Rattle.wild_plan.specs.declared.file.Group.{Group};
 ghost use Rattle.wild_plan.specs.Faults.{Answers};
 ghost use Rattle.wild_layout.specs.Faults.{section_errors, file_errors, group_errors};
 ghost use Rattle.wild_layout.specs.Geometry.{SectionLies};
 ghost use Rattle.wild_image.specs.Pieces.{section_owned, file_sections, group_sections, group_tables, group_bytes};
+ghost use Rattle.wild_image.specs.Batches.{batch_errors, batch_bytes};
 
 use crate::arch::Arch;
+use crate::batch::Batch;
 use crate::part_bytes::PartBytes;
-use crate::piece::{check_data, room_of, zeros};
+use crate::piece::{check_data, zeros};
 use crate::place::InputPlace;
 use crate::tables::add_content;
 use crate::values::Resolved;
 use std::alloc::{AllocError, Global};
-use wild_plan::{Error, File, Group, InputSection, Layout};
+use wild_plan::{Error, File, Group, InputSection, Layout, is_plain_group};
 
 /// Adds what a group gives to the tables, part by part.
 fn add_group_tables<A: Arch>(
@@ -25,6 +28,9 @@ fn add_group_tables<A: Arch>(
 ) -> Result<(), AllocError>
     ensures { OnOk result (bytes.new ≡ bytes.old ++ group_tables resolved.now.layout.now group.now) }
 {
+    if is_plain_group(resolved.layout, group) {
+        return Ok(());
+    }
     for part in resolved.layout.parts.as_slice() {
         add_content(alloc, resolved, part.role, group, bytes)?;
     }
@@ -104,29 +110,55 @@ fn add_group_sections<A: Arch>(
     Ok(())
 }
 
-/// How many bytes a group has, so that its buffer is taken at once.
-fn room_of_group(layout: &Layout, group: &Group) -> usize {
+/// How many bytes some groups have, so that their buffer is taken at once.
+fn room_of_groups(layout: &Layout, groups: &[Group]) -> usize {
     let mut room: usize = 0;
-    for i in 0..layout.parts.len() {
-        room = room.saturating_add(room_of(layout, group, i));
+    for group in groups {
+        for (part, size) in layout
+            .parts
+            .as_slice()
+            .iter()
+            .zip(group.part_sizes.as_slice())
+        {
+            if *size != 0 && layout.takes_file_bytes(part.section) {
+                room = room.saturating_add(*size as usize);
+            }
+        }
     }
     room
 }
 
-/// All bytes of a group, or its first fault.
+/// Adds all bytes of a group, or answers its first fault.
 #[tactic(auto, unfolding(crate::specs::Pieces::group_bytes))]
-pub(crate) fn bytes_of_group<A: Arch>(
+fn add_group<A: Arch>(
     alloc: Global,
     resolved: &Resolved<A>,
     index: usize,
     group: &Group,
-) -> Result<PartBytes, Error>
+    bytes: &mut PartBytes,
+) -> Result<(), Error>
     requires lies { All (λ (f : File). All (SectionLies resolved.now.layout.now) f.sections) group.now.files }
     ensures faults { Answers result (group_errors resolved.now.layout.now index group.now) }
-    ensures bytes { IfOk result (λ bs. bs ≡ group_bytes resolved.now.layout.now group.now) }
+    ensures bytes { OnOk result (bytes.new ≡ bytes.old ++ group_bytes resolved.now.layout.now group.now) }
 {
-    let mut bytes = PartBytes::with_room(alloc, room_of_group(resolved.layout, group))?;
-    add_group_tables(alloc, resolved, group, &mut bytes)?;
-    add_group_sections(alloc, resolved, index, group, &mut bytes)?;
+    add_group_tables(alloc, resolved, group, bytes)?;
+    add_group_sections(alloc, resolved, index, group, bytes)
+}
+
+/// All bytes of a batch, or its first fault.
+pub(crate) fn bytes_of_batch<A: Arch>(
+    alloc: Global,
+    resolved: &Resolved<A>,
+    batch: &Batch,
+) -> Result<PartBytes, Error>
+    requires lies { All (λ (g : Group). All (λ (f : File). All (SectionLies resolved.now.layout.now) f.sections) g.files) batch.now.groups.now }
+    requires small { batch.now.first + length batch.now.groups.now < 2 ^ 64 }
+    ensures faults { Answers result (batch_errors resolved.now.layout.now batch.now) }
+    ensures bytes { IfOk result (λ bs. bs ≡ batch_bytes resolved.now.layout.now batch.now) }
+{
+    let mut bytes = PartBytes::with_room(alloc, room_of_groups(resolved.layout, batch.groups))?;
+    for (i, group) in batch.groups.iter().enumerate() {
+        add_group(alloc, resolved, batch.first + i, group, &mut bytes)?;
+    }
     Ok(bytes)
 }

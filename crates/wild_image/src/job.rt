@@ -1,11 +1,13 @@
-//! The work of an image, cut into groups.
-ghost use Rattle.std.specs.Prelude.{◌≡◌, Ok, []};
+//! The work of an image, cut into batches of groups.
+ghost use Rattle.std.specs.Prelude.{◌≡◌, ◌<◌, ◌^◌, length, Ok, []};
 ghost use Rattle.wild_plan.specs.WellFormed.{first_clause};
 ghost use Rattle.wild_layout.specs.Faults.{flat_map_from, part_errors};
+ghost use Rattle.wild_image.specs.Batches.{AreBatches};
 
 use crate::arch::Arch;
-use crate::buffer::bytes_of_group;
-use crate::pairs::{Pairs, pairs_of_group};
+use crate::batch::Batch;
+use crate::buffer::bytes_of_batch;
+use crate::pairs::{Pairs, pairs_of_groups};
 use crate::part_bytes::PartBytes;
 use crate::values::Resolved;
 use std::alloc::{AllocError, Global};
@@ -13,7 +15,7 @@ use wild_crew::{Counted, Job};
 use wild_geometry::layouts_are_laid_out;
 use wild_plan::Error;
 
-/// What came of a group: all its bytes, or its first fault; and what it counted.
+/// What came of a batch: all its bytes, or its first fault; and what it counted.
 #[derive(Drop)]
 pub(crate) struct Outcome {
     pub(crate) bytes: Result<PartBytes, Error>,
@@ -30,36 +32,37 @@ impl Counted for Outcome {
     }
 }
 
-/// The groups of a layout whose clauses hold and whose shares are what is needed.
+/// The batches of a layout whose clauses hold and whose shares are what is needed.
 #[derive(Drop)]
 pub(crate) struct GroupJob<'a, A: Arch> {
     pub(crate) alloc: Global,
     pub(crate) resolved: Resolved<'a, A>,
+    pub(crate) batches: &'a [Batch<'a>],
     ghost clauses: { first_clause resolved.layout.now ≡ Ok tt },
     ghost shares: { flat_map_from (part_errors resolved.layout.now) 0 resolved.layout.now.parts ≡ [] },
+    ghost batches_are: { AreBatches resolved.layout.now.groups batches.now },
+    ghost few: { length batches.now < 2 ^ 32 },
 }
 
 impl<'a, A: Arch> Job<Outcome> for GroupJob<'a, A> {
     ghost use Rattle.std.specs.Prelude.{length};
-    ghost use Rattle.wild_image.specs.Pieces.{pairs_at};
-    ghost use Rattle.wild_image.specs.Jobs.{GivesBytes};
+    ghost use Rattle.wild_image.specs.Batches.{GivesBatch, pairs_at};
 
-    ghost number = { λ j. length j.resolved.layout.now.groups };
+    ghost number = { λ j. length j.batches.now };
 
-    ghost gives = { λ j g o. GivesBytes j.resolved.layout.now g o.bytes };
+    ghost gives = { λ j i o. GivesBatch j.resolved.layout.now j.batches.now i o.bytes };
 
-    ghost counts_of = { λ j g. pairs_at j.resolved.layout.now g };
+    ghost counts_of = { λ j i. pairs_at j.resolved.layout.now j.batches.now i };
 
     fn groups(&self) -> u32 {
-        self.resolved.layout.groups.len() as u32
+        self.batches.len() as u32
     }
 
     fn run(&self, group: u32) -> Result<Outcome, AllocError> {
         layouts_are_laid_out();
-        let index = group as usize;
-        let found = &self.resolved.layout.groups.as_slice()[index];
-        let counts = pairs_of_group(self.alloc, self.resolved.layout, found)?;
-        let bytes = bytes_of_group(self.alloc, &self.resolved, index, found);
+        let batch = &self.batches[group as usize];
+        let counts = pairs_of_groups(self.alloc, self.resolved.layout, batch.groups)?;
+        let bytes = bytes_of_batch(self.alloc, &self.resolved, batch);
         Ok(Outcome { bytes, counts })
     }
 }

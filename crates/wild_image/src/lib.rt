@@ -3,6 +3,7 @@
 
 mod append;
 mod arch;
+mod batch;
 mod buffer;
 mod entries;
 mod job;

@@ -8,13 +8,14 @@ ghost use Rattle.wild_layout.specs.Image.{bytes, counts};
 ghost use Rattle.wild_layout.specs.Warnings.{warnings};
 ghost use Rattle.wild_layout.specs.Faults.{clause_errors, flat_map_from, part_errors, group_errors, errors};
 ghost use Rattle.wild_layout.specs.Geometry.{IsLaidOut};
-ghost use Rattle.wild_image.specs.Jobs.{GivesBytes};
+ghost use Rattle.wild_image.specs.Batches.{AreBatches, GivesBatch};
 ghost use Rattle.wild_image.specs.declared.job.Outcome.{Outcome};
 
 use crate::append::append_all;
 use crate::arch::Arch;
+use crate::batch::{Batch, batch_size, batches_of};
 use crate::job::{GroupJob, Outcome};
-use crate::padding::fill_padding_for_sections;
+use crate::padding::fill_sections;
 use crate::shares::check_shares;
 use crate::values::Resolved;
 use std::alloc::Global;
@@ -51,6 +52,7 @@ fn check_clauses(layout: &Layout) -> Result<(), Error>
 /// Writes all bytes of an image, or answers the first fault of the groups.
 fn write_bytes<A: Arch>(
     layout: &Layout,
+    batches: &[Batch],
     outcomes: &[Outcome],
     starts: &mut [u64],
     out: &mut [u8],
@@ -58,14 +60,16 @@ fn write_bytes<A: Arch>(
     requires machine { layout.now.machine ≡ A.machine }
     requires laid_out { IsLaidOut layout.now }
     requires starts { starts.old ≡ replicate (length layout.now.parts) 0 }
-    requires count { length outcomes.now ≡ length layout.now.groups }
-    requires each { (g : ℕ) (o : Outcome) → slice_get outcomes.now g ≡ Some o → GivesBytes layout.now g o.bytes }
-    requires room { length out.old ≡ image_size layout.now }
+    requires few { length layout.now.groups < 2 ^ 32 }
+    requires batches { AreBatches layout.now.groups batches.now }
+    requires count { length outcomes.now ≡ length batches.now }
+    requires each { (i : ℕ) (o : Outcome) → slice_get outcomes.now i ≡ Some o → GivesBatch layout.now batches.now i o.bytes }
+    requires zeros { out.old ≡ replicate (image_size layout.now) 0 }
     ensures faults { Answers result (flat_map_from (group_errors layout.now) 0 layout.now.groups) }
     ensures image { OnOk result (out.new ≡ bytes layout.now) }
 {
-    fill_padding_for_sections::<A>(layout, out);
-    append_all(layout, outcomes, starts, out)
+    fill_sections::<A>(layout, out);
+    append_all(layout, batches, outcomes, starts, out)
 }
 
 /// The image of a layout whose clauses hold and whose shares are what is needed, or its first fault.
@@ -88,13 +92,20 @@ fn write_laid_out<A: Arch + Sync, G: Gate + Sync, R: Threads + Sync>(
     ensures counts { IfOk result (λ o. o.counts ≡ counts layout.now) }
 {
     let resolved = Resolved::<A>::new(alloc, layout)?;
-    let job = GroupJob { alloc, resolved };
+    let groups = layout.groups.as_slice();
+    let cut = batches_of(alloc, groups, batch_size(groups.len()))?;
+    let batches = cut.as_slice();
+    let job = GroupJob {
+        alloc,
+        resolved,
+        batches,
+    };
     let sections = layout.sections.len() as u32;
     let gathered = gather(rt, alloc, &job, sections, u32::from(workers), gate)?;
     let mut starts = vec![in alloc; 0u64; layout.parts.len()]?;
     let mut out = vec![in alloc; 0u8; layout.image_end() as usize]?;
     let pieces = gathered.pieces.as_slice();
-    write_bytes::<A>(layout, pieces, &mut starts, &mut out)?;
+    write_bytes::<A>(layout, batches, pieces, &mut starts, &mut out)?;
     Ok(SizedOutput {
         out: Bytes::from_vec(out),
         warnings: Items::new(alloc),
@@ -102,7 +113,7 @@ fn write_laid_out<A: Arch + Sync, G: Gate + Sync, R: Threads + Sync>(
     })
 }
 
-/// The image of a layout, or its first fault, by so many workers, each of which enters the gate before each group
+/// The image of a layout, or its first fault, by so many workers, each of which enters the gate before each batch of groups
 /// that it works on.
 pub fn write_gated<A: Arch + Sync>(
     rt: &(impl Threads + Sync),

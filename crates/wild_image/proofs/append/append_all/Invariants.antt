@@ -1,12 +1,12 @@
 use Rattle.std.proofs.Common.{◌≡◌, [], take}
+use Rattle.std.specs.List.{flat_map}
 use Rattle.wild_words.specs.Overlay.{overlay}
-use Rattle.wild_layout.specs.Image.{group_pieces}
-use Rattle.wild_layout.specs.Faults.{flat_map_from, group_errors}
-use Rattle.wild_image.specs.Append.{HasStarts}
+use Rattle.wild_image.specs.Batches.{batch_errors, batch_pieces}
+use Rattle.wild_image.proofs.BatchLemmas.{IsNext}
 use Rattle.wild_image.proofs.append.append_all.Given as goal
 
 abbrev pub invariant-loop-i : goal.invariant-loop-i
 invariant-loop-i l =
-    (flat_map_from (group_errors l.layout) 0 (take l.i l.layout.groups) ≡ [])
-    × (l.out ≡ overlay (flat_map_from (group_pieces l.layout) 0 (take l.i l.layout.groups)) l.initial.out)
-    × HasStarts l.layout l.i l.starts
+    (flat_map (batch_errors l.layout) (take l.i l.batches) ≡ [])
+    × (l.out ≡ overlay (flat_map (batch_pieces l.layout) (take l.i l.batches)) l.initial.out)
+    × IsNext l.layout l.batches l.i l.starts

@@ -1,5 +1,23 @@
+use Rattle.std.proofs.Common.{◌≡◌, ℕ, List, sym, subst}
+use Rattle.std.specs.Prelude.{OnOk}
+use Rattle.wild_words.specs.Overlay.{Piece, overlay}
+use Rattle.wild_plan.specs.declared.fault.Error.{Error}
+use Rattle.wild_plan.specs.Faults.{Answers}
+use Rattle.wild_layout.specs.Image.{group_pieces}
+use Rattle.wild_layout.specs.Faults.{group_errors}
+use Rattle.wild_image.proofs.BatchLemmas.{cut_of, joined}
 use Rattle.wild_image.proofs.OutputLemmas.{image_is}
 use Rattle.wild_image.proofs.output.write_bytes.Goals as goal
 
+pub returns-clause-faults : goal.returns-clause-faults
+returns-clause-faults g c =
+    let l = c.args.layout.now in
+    let P : List Error → Type 0 = λ es. Answers c.append_all.result es in
+    subst P (sym (joined (group_errors l) 0 l.groups c.args.batches.now (cut_of l.groups c.args.batches.now c.requires.batches))) c.append_all.ensures.faults
+
 pub returns-clause-image : goal.returns-clause-image
-returns-clause-image g c = image_is _ c.args.layout.now c.fill_padding_for_sections.new.out c.append_all.new.out c.fill_padding_for_sections.ensures c.append_all.ensures.image
+returns-clause-image g c =
+    let l = c.args.layout.now in
+    let P : List Piece → Type 0 = λ ps. OnOk c.append_all.result (c.append_all.new.out ≡ overlay ps c.fill_sections.new.out) in
+    let whole = subst P (sym (joined (group_pieces l) 0 l.groups c.args.batches.now (cut_of l.groups c.args.batches.now c.requires.batches))) c.append_all.ensures.image in
+    image_is _ l c.fill_sections.new.out c.append_all.new.out c.fill_sections.ensures whole

@@ -1,32 +1,69 @@
-use Rattle.std.proofs.Common.{ℕ, ◌<◌, ◌^◌, length, ap, arith, subst, sym}
+use Rattle.std.proofs.Common.{◌≡◌, ℕ, List, [], ◌<◌, ◌^◌, length, ap, arith, subst, sym}
 use Rattle.wild_crew.specs.Ended.{AreTotals}
+use Rattle.wild_plan.specs.declared.file.Group.{Group}
 use Rattle.wild_plan.specs.declared.layout.Layout.{Layout}
 use Rattle.wild_plan.specs.Places.{relocation_count}
+use Rattle.wild_layout.specs.Faults.{flat_map_from, part_errors}
 use Rattle.wild_layout.specs.Geometry.{IsLaidOut}
-use Rattle.wild_image.specs.Pieces.{pairs_at}
-use Rattle.wild_image.specs.Jobs.{GivesBytes}
+use Rattle.wild_image.specs.declared.batch.Batch.{Batch}
+use Rattle.wild_image.specs.Batches.{AreBatches, GivesBatch, pairs_at}
 use Rattle.wild_image.proofs.OutputLemmas.{FieldsFit-IsLaidOut}
 use Rattle.wild_image.proofs.GatherLemmas.{pairs_below, sums_fit, totals_are}
+use Rattle.wild_image.proofs.JobLemmas.{few_groups}
 use Rattle.wild_image.proofs.output.write_laid_out.Goals as goal
 
 pub new-requires-clause-fits : goal.new-requires-clause-fits
 new-requires-clause-fits g c = FieldsFit-IsLaidOut c.args.layout.now c.requires.laid_out
 
+pub invariant_of-job-clause-shares : goal.invariant_of-job-clause-shares
+invariant_of-job-clause-shares g c = subst (λ (l : Layout). flat_map_from (part_errors l) 0 l.parts ≡ []) (sym c.in_ok-resolved.ensures) c.requires.shares
+
+pub invariant_of-job-clause-batches_are : goal.invariant_of-job-clause-batches_are
+invariant_of-job-clause-batches_are g c =
+    let bs = c.as_slice-batches.result.now in
+    let cut = subst (λ (xs : List Batch). AreBatches c.as_slice-groups.result.now xs) (sym c.as_slice-batches.ensures.value) c.in_ok-cut.ensures.batches in
+    let all = subst (λ (gs : List Group). AreBatches gs bs) c.as_slice-groups.ensures cut in
+    subst (λ (l : Layout). AreBatches l.groups bs) (sym c.in_ok-resolved.ensures) all
+
+pub invariant_of-job-clause-few : goal.invariant_of-job-clause-few
+invariant_of-job-clause-few g c =
+    let few = few_groups c.args.layout.now c.requires.clauses in
+    let least = c.in_ok-cut.ensures.few in
+    let one = ap length c.as_slice-batches.ensures.value in
+    let two = ap length c.as_slice-groups.ensures in
+    omega (arith, few, least, one, two)
+
 pub gather-requires-clause-sections : goal.gather-requires-clause-sections
 gather-requires-clause-sections g c κs within = λ j low k d m.
     let same = c.in_ok-resolved.ensures in
-    let below = pairs_below c.in_ok-resolved.resolved.layout.now (subst IsLaidOut (sym same) c.requires.laid_out) j k d m in
+    let below = pairs_below c.in_ok-resolved.resolved.layout.now (subst IsLaidOut (sym same) c.requires.laid_out) c.as_slice-batches.result.now j k d m in
     let all = ap (λ (l : Layout). length l.sections) same in
     omega (arith, below, all, c.len-sections.ensures)
 
 pub gather-requires-clause-fit : goal.gather-requires-clause-fit
-gather-requires-clause-fit g c κs within = λ k low. sums_fit c.in_ok-resolved.resolved.layout.now (subst (λ (l : Layout). relocation_count l < 2 ^ 64) (sym c.in_ok-resolved.ensures) c.requires.few) k
+gather-requires-clause-fit g c κs within = λ k low.
+    let same = c.in_ok-resolved.ensures in
+    let bs = c.as_slice-batches.result.now in
+    let cut = subst (λ (xs : List Batch). AreBatches c.as_slice-groups.result.now xs) (sym c.as_slice-batches.ensures.value) c.in_ok-cut.ensures.batches in
+    let all = subst (λ (gs : List Group). AreBatches gs bs) c.as_slice-groups.ensures cut in
+    sums_fit c.in_ok-resolved.resolved.layout.now bs (subst (λ (l : Layout). AreBatches l.groups bs) (sym same) all) (subst (λ (l : Layout). relocation_count l < 2 ^ 64) (sym same) c.requires.few) k
+
+pub write_bytes-requires-clause-few : goal.write_bytes-requires-clause-few
+write_bytes-requires-clause-few g c = few_groups c.args.layout.now c.requires.clauses
+
+pub write_bytes-requires-clause-batches : goal.write_bytes-requires-clause-batches
+write_bytes-requires-clause-batches g c =
+    let cut = subst (λ (xs : List Batch). AreBatches c.as_slice-groups.result.now xs) (sym c.as_slice-batches.ensures.value) c.in_ok-cut.ensures.batches in
+    subst (λ (gs : List Group). AreBatches gs c.as_slice-batches.result.now) c.as_slice-groups.ensures cut
 
 pub write_bytes-requires-clause-each : goal.write_bytes-requires-clause-each
-write_bytes-requires-clause-each g c = λ j o at. subst (λ (l : Layout). GivesBytes l j o.bytes) c.in_ok-resolved.ensures (c.in_ok-gathered.ensures.pieces.1 j o (rw c.as_slice-pieces.ensures at at))
+write_bytes-requires-clause-each g c = λ j o at. subst (λ (l : Layout). GivesBatch l c.as_slice-batches.result.now j o.bytes) c.in_ok-resolved.ensures (c.in_ok-gathered.ensures.pieces.1 j o (rw c.as_slice-pieces.ensures at at))
 
 pub returns-clause-counts : goal.returns-clause-counts
 returns-clause-counts g c =
     let l = c.args.layout.now in
-    let totals = subst (λ (m : Layout). AreTotals (pairs_at m) (length m.groups) c.len-sections.result c.in_ok-gathered.gathered.totals) c.in_ok-resolved.ensures c.in_ok-gathered.ensures.totals in
-    totals_are l c.in_ok-gathered.gathered.totals (subst (λ (n : ℕ). AreTotals (pairs_at l) (length l.groups) n c.in_ok-gathered.gathered.totals) c.len-sections.ensures totals)
+    let bs = c.as_slice-batches.result.now in
+    let cut = subst (λ (xs : List Batch). AreBatches c.as_slice-groups.result.now xs) (sym c.as_slice-batches.ensures.value) c.in_ok-cut.ensures.batches in
+    let all = subst (λ (gs : List Group). AreBatches gs bs) c.as_slice-groups.ensures cut in
+    let totals = subst (λ (m : Layout). AreTotals (pairs_at m bs) (length bs) c.len-sections.result c.in_ok-gathered.gathered.totals) c.in_ok-resolved.ensures c.in_ok-gathered.ensures.totals in
+    totals_are l bs c.in_ok-gathered.gathered.totals all (subst (λ (n : ℕ). AreTotals (pairs_at l bs) (length bs) n c.in_ok-gathered.gathered.totals) c.len-sections.ensures totals)

@@ -1,12 +1,36 @@
-use Rattle.std.proofs.Common.{◌≡◌, rules, length}
-use Rattle.std.specs.Prelude.{slice_get, Some}
-use Rattle.std.proofs.lemmas.Option.{slice_get_read}
-use Rattle.wild_image.proofs.JobLemmas.{gives_found, pairs_found}
+use Rattle.std.proofs.Common.{◌≡◌, get_or, refl, arith}
+use Rattle.std.specs.Prelude.{slice_get, Some, All}
+use Rattle.std.proofs.lemmas.Option.{slice_get-get_or}
+use Rattle.wild_plan.specs.declared.file.File.{File}
+use Rattle.wild_plan.specs.declared.file.Group.{Group}
+use Rattle.wild_layout.specs.Geometry.{SectionLies}
+use Rattle.wild_image.proofs.JobLemmas.{gives_found, pairs_found, few_groups}
+use Rattle.wild_image.proofs.BatchLemmas.{cut_of, batches_within, batches_end, holds_within}
 use Rattle.wild_image.proofs.job.GroupJobJobOutcome.run.Goals as goal
+
+pub bytes_of_batch-bytes-requires-clause-lies : goal.bytes_of_batch-bytes-requires-clause-lies
+bytes_of_batch-bytes-requires-clause-lies g c =
+    let l = c.args.self.now.resolved.layout.now in
+    let bs = c.args.self.now.batches.now in
+    let found = get_or bs c.args.group c.index-self-group.result in
+    let at : slice_get bs c.args.group ≡ Some found = slice_get-get_or bs c.args.group c.index-self-group.result c.requires in
+    let within = batches_within l.groups l.groups 0 bs c.args.group found refl (cut_of l.groups bs c.args.self.now.batches_are) at in
+    holds_within (λ (g : Group). All (λ (f : File). All (SectionLies l) f.sections) g.files) l.groups found within (c.layouts_are_laid_out.ensures l c.args.self.now.clauses c.args.self.now.shares).inputs
+
+pub bytes_of_batch-bytes-requires-clause-small : goal.bytes_of_batch-bytes-requires-clause-small
+bytes_of_batch-bytes-requires-clause-small g c =
+    let l = c.args.self.now.resolved.layout.now in
+    let bs = c.args.self.now.batches.now in
+    let found = get_or bs c.args.group c.index-self-group.result in
+    let at : slice_get bs c.args.group ≡ Some found = slice_get-get_or bs c.args.group c.index-self-group.result c.requires in
+    let ends = batches_end l.groups 0 bs c.args.group found (cut_of l.groups bs c.args.self.now.batches_are) at in
+    let few = few_groups l c.args.self.now.clauses in
+    omega (arith, ends, few)
 
 pub returns : goal.returns
 returns g c =
     let l = c.args.self.now.resolved.layout.now in
-    let found = c.index-as_slice-index.result in
-    let at : slice_get l.groups c.args.group ≡ Some found = slice_get_read l.groups (length l.groups) c.args.group found (search rules) c.requires (search rules) in
-    (gives_found l c.args.group found _ at c.bytes_of_group-bytes.ensures.faults c.bytes_of_group-bytes.ensures.bytes, pairs_found l c.args.group found _ at c.in_ok-counts.ensures)
+    let bs = c.args.self.now.batches.now in
+    let found = get_or bs c.args.group c.index-self-group.result in
+    let at : slice_get bs c.args.group ≡ Some found = slice_get-get_or bs c.args.group c.index-self-group.result c.requires in
+    (gives_found l bs c.args.group found _ at c.bytes_of_batch-bytes.ensures.faults c.bytes_of_batch-bytes.ensures.bytes, pairs_found l bs c.args.group found _ at c.in_ok-counts.ensures)

@@ -1,0 +1,105 @@
+-- Groups that write nothing but their input sections.
+use Rattle.std.proofs.Common.{◌≡◌, ℕ, zero, suc, ◌+◌, ◌<◌, ◌==◌, inl, inr, Bool, true, false, List, [], ◌∷◌, ◌++◌, length, take, get_or, refl, sym, ap, ◌∙◌, arith, subst}
+use Rattle.std.specs.Prelude.{not, ◌&&◌, if◌then◌else◌, Some, slice_get}
+use Rattle.std.specs.List.{flat_map, list_all}
+use Rattle.std.proofs.lemmas.Bool.{cases_Bool, cases_order, and_parts, eqb-true, eqb-false}
+use Rattle.std.proofs.lemmas.List.{append-nil, nil_from_length}
+use Rattle.std.proofs.lemmas.Option.{get_or_from_slice_get}
+use Rattle.wild_plan.specs.declared.file.File.{File}
+use Rattle.wild_plan.specs.declared.file.Group.{Group}
+use Rattle.wild_plan.specs.declared.layout.Layout.{Layout}
+use Rattle.wild_plan.specs.declared.part.Part.{Part}
+use Rattle.wild_plan.specs.declared.part.Role.{Role}
+use Rattle.wild_plan.specs.declared.part.Role.TheVariants as role
+use Rattle.wild_plan.specs.Contents.{given}
+use Rattle.wild_plan.specs.Kinds.{is_position_independent}
+use Rattle.wild_plan.specs.Lists.{total}
+use Rattle.wild_plan.specs.Places.{role_place}
+use Rattle.wild_plan.specs.Needs.{is_prelude, is_epilogue, is_plain, last_of, share, needs_of, needs}
+use Rattle.wild_tables.specs.Dynamic.{dynamic_bytes}
+use Rattle.wild_layout.specs.Content.{dynamic_room, content}
+use Rattle.wild_layout.specs.Faults.{flat_map_from, has_spare, share_errors}
+use Rattle.wild_geometry.proofs.ContentLemmas.{length-content, length-dynamic_content}
+use Rattle.wild_geometry.proofs.TableLemmas.{same_role}
+use Rattle.wild_image.specs.Pieces.{group_tables}
+use Rattle.wild_image.specs.Steps.{share_faults, part_faults}
+
+-- ---- what they give to the tables
+
+last_none : (role : Bool) (n : ℕ) → role ≡ false → (if role then n else 0) ≡ 0
+last_none role n h = rw h refl
+
+no_last : (l : Layout) (n : ℕ) (files : List File) → list_all (is_plain l) files ≡ true → total (λ (f : File). last_of f.role n) files ≡ 0
+no_last l n [] h = refl
+no_last l n (f ∷ files) h =
+    let p = and_parts (is_plain l f) (list_all (is_plain l) files) h in
+    let q = and_parts (not (is_position_independent l.kind) && not (is_prelude f.role)) (not (is_epilogue f.role)) p.0 in
+    let a = last_none (is_epilogue f.role) n (no (is_epilogue f.role) q.1) in
+    let b = no_last l n files p.1 in
+    omega (arith, a, b)
+  where
+    no : (b : Bool) → not b ≡ true → b ≡ false
+    no true h = cc
+    no false h = refl
+
+content_plain : (l : Layout) (r : Role) (g : Group) → list_all (is_plain l) g.files ≡ true → ((q : Role) → total (share l q) g.files ≡ 0) → content l r g ≡ []
+content_plain l r g plain none =
+    elim (cases_Bool (role_place r == role_place role.Dynamic)) [
+      | inl t ↦
+          (let is = same_role r role.Dynamic (eqb-true _ _ t) in
+          let long = length-dynamic_content l g ∙ no_last l (length (dynamic_bytes l (dynamic_room l))) g.files plain in
+          ap (λ (q : Role). content l q g) is ∙ nil_from_length (content l role.Dynamic g) long)
+      | inr f ↦ nil_from_length (content l r g) (length-content l r g (eqb-false _ _ f) ∙ none r)
+    ]
+
+flat_map-none : {X Y : Type 0} (f : X → List Y) (xs : List X) → ((x : X) → f x ≡ []) → flat_map f xs ≡ []
+flat_map-none f [] h = refl
+flat_map-none f (x ∷ xs) h = let a = h x in let b = flat_map-none f xs h in rw (a, b) refl
+
+pub tables_plain : (l : Layout) (g : Group) (bytes : List ℕ) → list_all (is_plain l) g.files ≡ true → ((q : Role) → total (share l q) g.files ≡ 0) → bytes ≡ bytes ++ group_tables l g
+tables_plain l g bytes plain none = let e = flat_map-none (λ (p : Part). content l p.role g) l.parts (λ p. content_plain l p.role g plain none) in rw e (sym (append-nil bytes))
+
+-- ---- what they need
+
+need_none : (l : Layout) (r : Role) (i : ℕ) (g : Group) → given i g ≡ 0 → ((q : Role) → total (share l q) g.files ≡ 0) → needs_of l r i g ≡ 0
+need_none l role.Raw i g zero_is none = zero_is
+need_none l other i g zero_is none = let e = none other in rw e refl
+
+needs_none : (l : Layout) (i j : ℕ) (p : Part) (g : Group) → slice_get l.parts i ≡ Some p → slice_get l.groups j ≡ Some g → given i g ≡ 0 → ((q : Role) → total (share l q) g.files ≡ 0) → needs l i j ≡ 0
+unfolding needs
+needs_none l i j p g part group zero_is none = rw (part, group) (need_none l p.role i g zero_is none)
+
+errors_none : (spare : Bool) (i j has needed : ℕ) → has ≡ 0 → needed ≡ 0 → share_errors spare i j has needed ≡ []
+errors_none true i j has needed a b = rw (a, b) refl
+errors_none false i j has needed a b = rw (a, b) refl
+
+pub share_plain : (l : Layout) (i j : ℕ) (p : Part) (g : Group) → slice_get l.parts i ≡ Some p → slice_get l.groups j ≡ Some g → given i g ≡ 0 → ((q : Role) → total (share l q) g.files ≡ 0) → share_faults l i p j g ≡ []
+unfolding share_faults
+share_plain l i j p g part group zero_is none = errors_none (has_spare p g) i j (given i g) (needs l i j) zero_is (needs_none l i j p g part group zero_is none)
+
+-- ---- no share has a fault
+
+none_each : {X Y : Type 0} (f : ℕ → X → List Y) (n : ℕ) (xs : List X) → ((k m : ℕ) (x : X) → m ≡ n + k → slice_get xs k ≡ Some x → f m x ≡ []) → flat_map_from f n xs ≡ []
+none_each f n [] h = refl
+none_each f n (x ∷ xs) h =
+    let a = h 0 n x (omega arith) refl in
+    let b = none_each f (n + 1) xs (λ k m y e at. h (suc k) m y (omega arith) at) in
+    rw (a, b) refl
+
+pub shares_none : (l : Layout) → ((j : ℕ) (g : Group) → slice_get l.groups j ≡ Some g → (i : ℕ) (p : Part) → slice_get l.parts i ≡ Some p → share_faults l i p j g ≡ []) → flat_map_from (part_faults l) 0 l.parts ≡ []
+unfolding part_faults
+shares_none l h =
+    none_each (part_faults l) 0 l.parts (λ i m p e at.
+    none_each (share_faults l m p) 0 l.groups (λ j n g d found.
+    (let x : m ≡ i = omega arith in let y : n ≡ j = omega arith in rw (x, y) (h j g found i p at))))
+
+-- one more part
+pub share_more : (l : Layout) (j : ℕ) (g : Group) (items : List Part) (i : ℕ) (d : Part) → items ≡ l.parts → i < length items → ((k : ℕ) (p : Part) → k < i → slice_get l.parts k ≡ Some p → share_faults l k p j g ≡ []) → share_faults l i (get_or items i d) j g ≡ [] → (k : ℕ) (p : Part) → k < i + 1 → slice_get l.parts k ≡ Some p → share_faults l k p j g ≡ []
+share_more l j g items i d same inside before here k p low at = elim (cases_order k i) [
+  | inl e ↦
+      (let there : get_or items k d ≡ p = ap (λ (ps : List Part). get_or ps k d) same ∙ get_or_from_slice_get l.parts k p d at in
+      let F : ℕ → Type 0 = λ n. share_faults l n (get_or items n d) j g ≡ [] in
+      subst (λ (q : Part). share_faults l k q j g ≡ []) there (subst F (sym e) here))
+  | inr (inl b) ↦ before k p b at
+  | inr (inr c) ↦ absurd (omega (arith, c, low))
+]

@@ -1,0 +1,10 @@
+use Rattle.std.proofs.Common.{◌≡◌, [], take}
+use Rattle.std.specs.List.{flat_map}
+use Rattle.wild_layout.specs.Faults.{flat_map_from, group_errors}
+use Rattle.wild_image.specs.Pieces.{group_bytes}
+use Rattle.wild_image.proofs.buffer.bytes_of_batch.Given as goal
+
+abbrev pub invariant-loop-i : goal.invariant-loop-i
+invariant-loop-i g l =
+    (flat_map_from (group_errors l.resolved.layout.now) l.batch.first (take l.i l.batch.groups.now) ≡ [])
+    × (l.bytes ≡ flat_map (group_bytes l.resolved.layout.now) (take l.i l.batch.groups.now))
