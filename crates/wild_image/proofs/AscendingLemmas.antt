@@ -52,13 +52,16 @@ not_begun l g f k s room is = record {
 }
 
 -- a decided field lies where the clauses say
+pub relocation_lies : (l : Layout) (s : InputSection) (r : InputRelocation) (n : ℕ) (d : Decision) → FieldLies l.machine n r → decided l s r ≡ Ok d → DecisionLies n r d
+relocation_lies l s r n Nothing lies is = tt
+relocation_lies l s r n (Field z v) lies is = field_ends l r z n (field_has l s r z v (decided_field l s r z v is)) lies
+relocation_lies l s r n (Moved v packed) lies is = field_ends l r (ByteSize Eight) n (moved_has l s r v packed (decided_moved l s r v packed is)) lies
+
+pub field_at : (l : Layout) (s : InputSection) (items : List InputRelocation) (i n : ℕ) (x : InputRelocation) → items ≡ s.relocations → i < length items → x ≡ get_or items i x → All (FieldLies l.machine n) s.relocations → FieldLies l.machine n x
+field_at l s items i n x same h read lies = All-at (FieldLies l.machine n) s.relocations i x lies (listed_at s items i x same h read)
+
 pub decision_lies : (l : Layout) (s : InputSection) (items : List InputRelocation) (i n : ℕ) (x : InputRelocation) (d : Decision) → items ≡ s.relocations → i < length items → x ≡ get_or items i x → All (FieldLies l.machine n) s.relocations → decided l s x ≡ Ok d → DecisionLies n x d
-decision_lies l s items i n x d same h read lies is = by l s x n d (All-at (FieldLies l.machine n) s.relocations i x lies (listed_at s items i x same h read)) is
-  where
-    by : (l : Layout) (s : InputSection) (r : InputRelocation) (n : ℕ) (d : Decision) → FieldLies l.machine n r → decided l s r ≡ Ok d → DecisionLies n r d
-    by l s r n Nothing lies is = tt
-    by l s r n (Field z v) lies is = field_ends l r z n (field_has l s r z v (decided_field l s r z v is)) lies
-    by l s r n (Moved v packed) lies is = field_ends l r (ByteSize Eight) n (moved_has l s r v packed (decided_moved l s r v packed is)) lies
+decision_lies l s items i n x d same h read lies is = relocation_lies l s x n d (field_at l s items i n x same h read lies) is
 
 -- one more piece, behind the others
 pub record Behind (s : InputSection) (n next : ℕ) (ps : List Piece) : Type 0 where

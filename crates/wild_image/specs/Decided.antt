@@ -4,6 +4,7 @@
 --   ascends reach es        each extent begins where those before it end, or behind
 --   put_decision old r d    bytes after one relocation was written over them
 --   reach_behind n r d      where a field that begins at n or behind ends; none where it begins before
+--   IsNext l s r n e a b    relocation r was decided and written behind n
 --   AreDecided l s ds       the decisions are those of the section's relocations
 use Rattle.std.specs.Prelude.{◌≡◌, ℕ, ◌+◌, ◌≤◌, Bool, true, ◌&&◌, nat_le, nat_lt, if◌then◌else◌, max, List, [], ◌∷◌, ◌++◌, length, Option, Some, None, Ok, option_to_list, slice_range}
 use Rattle.wild_words.specs.Words.{place}
@@ -15,6 +16,7 @@ use Rattle.wild_plan.specs.declared.layout.Layout.{Layout}
 use Rattle.wild_reloc.specs.Field.{size_width, size_written}
 use Rattle.wild_layout.specs.declared.decision.Decision.{Decision}
 use Rattle.wild_reloc.specs.declared.info.RelocationSize.{RelocationSize}
+use Rattle.wild_layout.specs.Decide.{decided}
 use Rattle.wild_layout.specs.Sites.{Written, written_by, site_of, sites}
 
 -- what relocations write, as they were decided
@@ -77,6 +79,13 @@ WrittenLies n at (Some w) = at + size_width w.size ≤ n
 -- what a relocation writes lies in n bytes
 abbrev pub DecisionLies : ℕ → InputRelocation → Decision → Type 0
 DecisionLies n r d = WrittenLies n r.offset (written_by d)
+
+-- a relocation was decided and written, where its field begins at `reach` or behind
+pub record IsNext (l : Layout) (s : InputSection) (r : InputRelocation) (reach : ℕ) (next : Option ℕ) (old new : List ℕ) : Type 0 where
+  pub decision : Decision
+  pub is : decided l s r ≡ Ok decision
+  pub reached : next ≡ reach_behind reach r decision
+  pub written : (end : ℕ) → next ≡ Some end → new ≡ put_decision old r decision
 
 -- the decisions are those of the section's relocations
 pub record AreDecided (l : Layout) (s : InputSection) (ds : List Decision) : Type 0 where

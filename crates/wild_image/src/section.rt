@@ -10,12 +10,12 @@ ghost use Rattle.wild_layout.specs.Sites.{section_bytes};
 ghost use Rattle.wild_layout.specs.Image.{offset_in};
 ghost use Rattle.wild_layout.specs.Faults.{at_offset, at_section, refusal_of, relocation_errors, overlap_errors, section_errors};
 ghost use Rattle.wild_layout.specs.Geometry.{FieldLies};
-ghost use Rattle.wild_image.specs.Decided.{AreDecided, decided_sites, decided_extents};
+ghost use Rattle.wild_image.specs.Decided.{AreDecided, IsNext, decided_sites, decided_extents};
 
 use crate::arch::Arch;
 use crate::overlap::shared_byte;
 use crate::place::InputPlace;
-use crate::relocation::{decide, write_behind, write_decision};
+use crate::relocation::{common_value, decide, four_behind, write_behind, write_decision};
 use crate::values::Resolved;
 use std::alloc::Global;
 use wild_layout::Decision;
@@ -91,6 +91,44 @@ fn write_decisions(section: &InputSection, decisions: &[Decision], room: &mut [u
     }
 }
 
+/// Decides a relocation and writes it, where its field begins at `reach` or behind: where it ends then; none where it
+/// begins before.
+fn write_decided<A: Arch>(
+    resolved: &Resolved<A>,
+    place: InputPlace,
+    section: &InputSection,
+    relocation: &InputRelocation,
+    reach: u64,
+    room: &mut [u8],
+) -> Result<Option<u64>, Error>
+    requires lies { FieldLies resolved.now.layout.now.machine (length room.old) relocation.now }
+    ensures faults { Answers result (refusal_of (at_offset place.group place.file place.section relocation.now.offset) (decided resolved.now.layout.now section.now relocation.now)) }
+    ensures next { IfOk result (λ next. IsNext resolved.now.layout.now section.now relocation.now reach next room.old room.new) }
+{
+    let decision = decide_at(resolved, place, section, relocation)?;
+    Ok(write_behind(reach, relocation, decision, room))
+}
+
+/// The same, with the most common relocations first.
+#[inline(always)]
+fn write_next<A: Arch>(
+    resolved: &Resolved<A>,
+    place: InputPlace,
+    section: &InputSection,
+    relocation: &InputRelocation,
+    reach: u64,
+    room: &mut [u8],
+) -> Result<Option<u64>, Error>
+    requires lies { FieldLies resolved.now.layout.now.machine (length room.old) relocation.now }
+    ensures faults { Answers result (refusal_of (at_offset place.group place.file place.section relocation.now.offset) (decided resolved.now.layout.now section.now relocation.now)) }
+    ensures next { IfOk result (λ next. IsNext resolved.now.layout.now section.now relocation.now reach next room.old room.new) }
+{
+    match common_value(resolved, section, relocation) {
+        Some(value) => Ok(four_behind(reach, relocation.offset, value, room)),
+        None => write_decided(resolved, place, section, relocation, reach, room),
+    }
+}
+
 /// Writes the relocations of a section over its bytes, as long as each field begins where those before it end, or
 /// behind: tells whether all did, or answers the first fault of a relocation.
 #[tactic(auto, unfolding(wild_layout::specs::Faults::section_errors, wild_layout::specs::Sites::section_bytes))]
@@ -109,8 +147,7 @@ fn write_ascending<A: Arch>(
 {
     let mut reach = 0;
     for relocation in section.relocations.as_slice() {
-        let decision = decide_at(resolved, place, section, relocation)?;
-        match write_behind(reach, relocation, decision, room) {
+        match write_next(resolved, place, section, relocation, reach, room)? {
             Some(end) => reach = end,
             None => return Ok(false),
         }
