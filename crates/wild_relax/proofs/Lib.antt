@@ -6,3 +6,4 @@ pub mod KeepLemmas
 pub mod ImmediateLemmas
 pub mod SequenceLemmas
 pub mod RowLemmas
+pub mod SectionLemmas

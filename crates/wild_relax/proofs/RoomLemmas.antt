@@ -50,11 +50,11 @@ room_in : (bs : List ℕ) (offset : ℕ) (p : Pattern) (w : Rewrite) → stands_
 unfolding stands_before stands_at
 room_in bs offset p w s l = record { before = grind (arith, nat_tests); behind = grind (arith, nat_tests) }
 
-always_stands : (q : Question) (row : Row) → applies q row ≡ true → stands_before q.bytes (relocation_of q).offset (always_pattern row) ≡ true
+pub always_stands : (q : Question) (row : Row) → applies q row ≡ true → stands_before q.bytes (relocation_of q).offset (always_pattern row) ≡ true
 unfolding applies
 always_stands q row h = (both _ _ h).1
 
-needed_stands : (q : Question) (row : Row) → has_its_sequence q row ≡ true → stands_before q.bytes (relocation_of q).offset (needed_pattern row) ≡ true
+pub needed_stands : (q : Question) (row : Row) → has_its_sequence q row ≡ true → stands_before q.bytes (relocation_of q).offset (needed_pattern row) ≡ true
 unfolding has_its_sequence
 needed_stands q row h = (both _ _ (both _ _ h).0).0
 

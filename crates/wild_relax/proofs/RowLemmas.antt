@@ -47,27 +47,27 @@ plain_signed info kind value e small h =
     let P : RelocationKindInfo → Type 0 = λ i. allows i value ≡ true → IsSignedField i value in
     subst P (sym e) (λ range. record { bytes = refl; back = back_of value small range }) h
 
-pc32 : (info : RelocationKindInfo) → Some info ≡ x86_64_row 2 → info ≡ plain kinds.Relative Four Signed
+pub pc32 : (info : RelocationKindInfo) → Some info ≡ x86_64_row 2 → info ≡ plain kinds.Relative Four Signed
 unfolding x86_64_row
 pc32 info e = cc
 
-signed_32s : (info : RelocationKindInfo) → Some info ≡ x86_64_row 11 → info ≡ plain kinds.Absolute Four Signed
+pub signed_32s : (info : RelocationKindInfo) → Some info ≡ x86_64_row 11 → info ≡ plain kinds.Absolute Four Signed
 unfolding x86_64_row
 signed_32s info e = cc
 
-unsigned_32 : (info : RelocationKindInfo) → Some info ≡ x86_64_row 10 → info ≡ plain kinds.Absolute Four Unsigned
+pub unsigned_32 : (info : RelocationKindInfo) → Some info ≡ x86_64_row 10 → info ≡ plain kinds.Absolute Four Unsigned
 unfolding x86_64_row
 unsigned_32 info e = cc
 
-tpoff32 : (info : RelocationKindInfo) → Some info ≡ x86_64_row 23 → info ≡ plain kinds.TpOff Four Signed
+pub tpoff32 : (info : RelocationKindInfo) → Some info ≡ x86_64_row 23 → info ≡ plain kinds.TpOff Four Signed
 unfolding x86_64_row
 tpoff32 info e = cc
 
-gottpoff : (info : RelocationKindInfo) → Some info ≡ x86_64_row 22 → info ≡ plain kinds.GotTpOff Four Signed
+pub gottpoff : (info : RelocationKindInfo) → Some info ≡ x86_64_row 22 → info ≡ plain kinds.GotTpOff Four Signed
 unfolding x86_64_row
 gottpoff info e = cc
 
-nothing : (info : RelocationKindInfo) → Some info ≡ x86_64_row 0 → info ≡ plain kinds.None Zero Signed
+pub nothing : (info : RelocationKindInfo) → Some info ≡ x86_64_row 0 → info ≡ plain kinds.None Zero Signed
 unfolding x86_64_row
 nothing info e = cc
 

@@ -9,4 +9,5 @@ pub mod Rewrite
 pub mod RewriteX86_64
 pub mod Relaxation
 pub mod Keep
+pub mod Section
 pub mod Laws

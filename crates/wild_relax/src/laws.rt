@@ -1,6 +1,9 @@
 //! Laws: what is written does what is asked of it.
 ghost use Rattle.wild_relax.specs.Laws.{StubsJump};
 ghost use Rattle.wild_relax.specs.Keep.{RowsKeep};
+ghost use Rattle.wild_relax.specs.Section.{ChosenAreWhole, SectionsAreLinked};
+
+use wild_words::owners_of_bytes;
 
 /// The code of a stub, at its address in an output that stands anywhere, jumps to the address in its slot.
 pub fn stubs_jump_to_their_slots()
@@ -11,3 +14,12 @@ pub fn stubs_jump_to_their_slots()
 pub fn rewrites_keep_the_effect()
     ensures { RowsKeep }
 {}
+
+/// A row is chosen only where its whole pattern stands in the input, and the rewrite and its field, written into the section,
+/// change nothing but that pattern.
+pub fn rewrites_stay_in_their_patterns()
+    ensures whole { ChosenAreWhole }
+    ensures linked { SectionsAreLinked }
+{
+    owners_of_bytes();
+}

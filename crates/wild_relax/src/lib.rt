@@ -15,7 +15,9 @@ mod thread;
 mod x86_64;
 
 pub use arch::Arch;
-pub use laws::stubs_jump_to_their_slots;
+pub use laws::{
+    rewrites_keep_the_effect, rewrites_stay_in_their_patterns, stubs_jump_to_their_slots,
+};
 pub use pattern::{GeneralForm, LocalForm, Operation, Prefix};
 pub use reference::{RelocationInfo, UnknownSequence};
 pub use relaxation::{Relaxation, RelaxationKind, RelocationModifier};

@@ -1,0 +1,212 @@
+-- A rewrite in its section.
+use Rattle.std.proofs.Common.{◌≡◌, ℕ, ◌+◌, ◌-◌, ◌≤◌, true, List, [], ◌∷◌, ◌++◌, length, take, drop, refl, sym, ap, ◌∙◌, arith, subst, ⊎_elim, inl, inr}
+use Rattle.std.specs.Prelude.{Some, Ok, ◌⊎◌, slice_range}
+use Rattle.std.proofs.lemmas.Bool.Decides.{nat_tests}
+use Rattle.std.proofs.lemmas.List.{drop-drop, take-take, drop-take, take-append-drop, length-take-le, length-drop}
+use Rattle.std.proofs.lemmas.List.Elements.{All-nil, All-cons}
+use Rattle.wild_words.specs.Words.{word, place}
+use Rattle.wild_words.specs.Overlay.{Piece, PiecesOverAPart}
+use Rattle.wild_reloc.specs.Field.{written}
+use Rattle.wild_reloc.specs.TableX86_64.{x86_64_row}
+use Rattle.wild_reloc.specs.declared.info.RelocationKindInfo.{RelocationKindInfo}
+use Rattle.wild_relax.specs.declared.pattern.Prefix.TheVariants.{Rex, Rex2}
+use Rattle.wild_relax.specs.declared.pattern.GeneralForm.TheVariants as general
+use Rattle.wild_relax.specs.declared.pattern.LocalForm.TheVariants as local
+use Rattle.wild_relax.specs.declared.pattern.Pattern.{Pattern}
+use Rattle.wild_relax.specs.declared.row.DescriptorUse.TheVariants.{LocalExec, InitialExec}
+use Rattle.wild_relax.specs.declared.row.Row.{Row}
+use Rattle.wild_relax.specs.declared.row.Row.TheVariants.{IfuncThroughStub, RexGotToImmediate, RexGotMovToLea, GotMovToImmediate, GotMovToLea, IndirectCallToDirect, IndirectJumpToDirect, PlainGotMovToLea, InitialExecToLocalExec, Plt32ToPc32, PltOffToGotOff, GeneralDynamicToLocalExec, GeneralDynamicToInitialExec, LocalDynamicToLocalExec, DescriptorLea, DescriptorCall}
+use Rattle.wild_relax.specs.Question.{Question, relocation_of}
+use Rattle.wild_relax.specs.Pattern.{cells_of, field_of, stands_before, stands_at}
+use Rattle.wild_relax.specs.Rows.{always_pattern, needed_pattern, chosen_x86_64}
+use Rattle.wild_relax.specs.Rewrite.{rewritten}
+use Rattle.wild_relax.specs.RewriteX86_64.{rewrite_of}
+use Rattle.wild_relax.specs.Keep.{pattern_of, field_in, IsWhole, IsChanging}
+use Rattle.wild_relax.specs.Section.{start_of, window, field_after, ChosenAreWhole, SectionsAreLinked}
+use Rattle.wild_relax.proofs.RoomLemmas.{chosen_is, always_stands, needed_stands}
+use Rattle.wild_relax.proofs.RowLemmas.{pc32, signed_32s, unsigned_32, tpoff32, gottpoff, nothing}
+
+-- ---- the pattern stands in the input
+
+-- it has its place in the bytes, whole
+pub record IsAt (bs : List ℕ) (offset : ℕ) (p : Pattern) : Type 0 where
+  pub before : field_of p ≤ offset
+  pub inside : offset - field_of p + length (cells_of p) ≤ length bs
+  pub whole : IsWhole (cells_of p) (slice_range bs (offset - field_of p) (offset - field_of p + length (cells_of p)))
+
+length-window : (bs : List ℕ) (s n : ℕ) → s + n ≤ length bs → length (slice_range bs s (s + n)) ≡ n
+length-window bs s n h =
+    let e : s + n - s ≡ n = omega arith in
+    let d = length-drop s bs in
+    rw e (length-take-le n (drop s bs) (omega (arith, d)))
+
+at_place : (bs : List ℕ) (offset : ℕ) (p : Pattern) → stands_before bs offset p ≡ true → IsAt bs offset p
+unfolding stands_before stands_at
+at_place bs offset p h =
+    let inside : offset - field_of p + length (cells_of p) ≤ length bs = grind (arith, nat_tests) in
+    record {
+      before = grind (arith, nat_tests);
+      inside = inside;
+      whole = record { long = length-window bs (offset - field_of p) (length (cells_of p)) inside; same = grind (arith, nat_tests) };
+    }
+
+pattern_is : (row : Row) → (pattern_of row ≡ always_pattern row) ⊎ (pattern_of row ≡ needed_pattern row)
+pattern_is IfuncThroughStub = inl refl
+pattern_is (RexGotToImmediate p o) = inl refl
+pattern_is (RexGotMovToLea p) = inl refl
+pattern_is GotMovToImmediate = inl refl
+pattern_is GotMovToLea = inl refl
+pattern_is IndirectCallToDirect = inl refl
+pattern_is IndirectJumpToDirect = inl refl
+pattern_is PlainGotMovToLea = inl refl
+pattern_is (InitialExecToLocalExec p o) = inl refl
+pattern_is Plt32ToPc32 = inl refl
+pattern_is PltOffToGotOff = inl refl
+pattern_is (GeneralDynamicToLocalExec f) = inl refl
+pattern_is (GeneralDynamicToInitialExec f) = inl refl
+pattern_is (LocalDynamicToLocalExec f) = inr refl
+pattern_is (DescriptorLea p u) = inr refl
+pattern_is DescriptorCall = inr refl
+
+pub chosen_at : (q : Question) (row : Row) → chosen_x86_64 q ≡ Ok (Some row) → IsAt q.bytes (relocation_of q).offset (pattern_of row)
+chosen_at q row e =
+    let first = chosen_is q row e in
+    let P : Pattern → Type 0 = λ p. IsAt q.bytes (relocation_of q).offset p in
+    ⊎_elim
+    (λ h. subst P (sym h) (at_place q.bytes (relocation_of q).offset (always_pattern row) (always_stands q row first.here)))
+    (λ h. subst P (sym h) (at_place q.bytes (relocation_of q).offset (needed_pattern row) (needed_stands q row first.whole)))
+    (pattern_is row)
+
+pub chosen_are_whole : ChosenAreWhole
+chosen_are_whole q row e = (chosen_at q row e).whole
+
+-- ---- the rewrite and the field lie in the pattern
+
+-- how many bytes the field has
+abbrev width : Row → ℕ
+width (LocalDynamicToLocalExec f) = 0
+width DescriptorCall = 0
+width other = 4
+
+record IsInside (row : Row) : Type 0 where
+  back : (rewrite_of row).back ≤ field_of (pattern_of row)
+  size : (old : List ℕ) → length ((rewrite_of row).bytes old) ≡ (rewrite_of row).size
+  bytes : field_of (pattern_of row) - (rewrite_of row).back + (rewrite_of row).size ≤ length (cells_of (pattern_of row))
+  field : field_in row + width row ≤ length (cells_of (pattern_of row))
+
+inside : (row : Row) → IsChanging row → IsInside row
+inside IfuncThroughStub known = absurd known
+inside (RexGotToImmediate Rex o) known = record { back = omega arith; size = λ old. refl; bytes = omega arith; field = omega arith }
+inside (RexGotToImmediate Rex2 o) known = record { back = omega arith; size = λ old. refl; bytes = omega arith; field = omega arith }
+inside (RexGotMovToLea Rex) known = record { back = omega arith; size = λ old. refl; bytes = omega arith; field = omega arith }
+inside (RexGotMovToLea Rex2) known = record { back = omega arith; size = λ old. refl; bytes = omega arith; field = omega arith }
+inside GotMovToImmediate known = record { back = omega arith; size = λ old. refl; bytes = omega arith; field = omega arith }
+inside GotMovToLea known = record { back = omega arith; size = λ old. refl; bytes = omega arith; field = omega arith }
+inside IndirectCallToDirect known = record { back = omega arith; size = λ old. refl; bytes = omega arith; field = omega arith }
+inside IndirectJumpToDirect known = record { back = omega arith; size = λ old. refl; bytes = omega arith; field = omega arith }
+inside PlainGotMovToLea known = record { back = omega arith; size = λ old. refl; bytes = omega arith; field = omega arith }
+inside (InitialExecToLocalExec Rex o) known = record { back = omega arith; size = λ old. refl; bytes = omega arith; field = omega arith }
+inside (InitialExecToLocalExec Rex2 o) known = record { back = omega arith; size = λ old. refl; bytes = omega arith; field = omega arith }
+inside Plt32ToPc32 known = absurd known
+inside PltOffToGotOff known = absurd known
+inside (GeneralDynamicToLocalExec general.Regular) known = record { back = omega arith; size = λ old. refl; bytes = omega arith; field = omega arith }
+inside (GeneralDynamicToLocalExec general.NoPlt) known = record { back = omega arith; size = λ old. refl; bytes = omega arith; field = omega arith }
+inside (GeneralDynamicToLocalExec general.Large) known = record { back = omega arith; size = λ old. refl; bytes = omega arith; field = omega arith }
+inside (GeneralDynamicToInitialExec general.Regular) known = record { back = omega arith; size = λ old. refl; bytes = omega arith; field = omega arith }
+inside (GeneralDynamicToInitialExec general.NoPlt) known = record { back = omega arith; size = λ old. refl; bytes = omega arith; field = omega arith }
+inside (GeneralDynamicToInitialExec general.Large) known = absurd known
+inside (LocalDynamicToLocalExec local.Regular) known = record { back = omega arith; size = λ old. refl; bytes = omega arith; field = omega arith }
+inside (LocalDynamicToLocalExec local.Large) known = record { back = omega arith; size = λ old. refl; bytes = omega arith; field = omega arith }
+inside (LocalDynamicToLocalExec local.NoPlt) known = record { back = omega arith; size = λ old. refl; bytes = omega arith; field = omega arith }
+inside (DescriptorLea Rex LocalExec) known = record { back = omega arith; size = λ old. refl; bytes = omega arith; field = omega arith }
+inside (DescriptorLea Rex2 LocalExec) known = record { back = omega arith; size = λ old. refl; bytes = omega arith; field = omega arith }
+inside (DescriptorLea Rex InitialExec) known = record { back = omega arith; size = λ old. refl; bytes = omega arith; field = omega arith }
+inside (DescriptorLea Rex2 InitialExec) known = record { back = omega arith; size = λ old. refl; bytes = omega arith; field = omega arith }
+inside DescriptorCall known = record { back = omega arith; size = λ old. refl; bytes = omega arith; field = omega arith }
+
+as_long : (info other : RelocationKindInfo) (value : ℕ) → info ≡ other → length (written info value []) ≡ length (written other value [])
+as_long info other value e = ap (λ i. length (written i value [])) e
+
+field_long : (row : Row) (info : RelocationKindInfo) (value : ℕ) → IsChanging row → Some info ≡ x86_64_row (rewrite_of row).number → length (written info value []) ≡ width row
+unfolding word
+field_long IfuncThroughStub info value known e = absurd known
+field_long (RexGotToImmediate p o) info value known e = as_long info _ value (signed_32s info e)
+field_long (RexGotMovToLea p) info value known e = as_long info _ value (pc32 info e)
+field_long GotMovToImmediate info value known e = as_long info _ value (unsigned_32 info e)
+field_long GotMovToLea info value known e = as_long info _ value (pc32 info e)
+field_long IndirectCallToDirect info value known e = as_long info _ value (pc32 info e)
+field_long IndirectJumpToDirect info value known e = as_long info _ value (pc32 info e)
+field_long PlainGotMovToLea info value known e = as_long info _ value (pc32 info e)
+field_long (InitialExecToLocalExec p o) info value known e = as_long info _ value (tpoff32 info e)
+field_long Plt32ToPc32 info value known e = absurd known
+field_long PltOffToGotOff info value known e = absurd known
+field_long (GeneralDynamicToLocalExec general.Regular) info value known e = as_long info _ value (tpoff32 info e)
+field_long (GeneralDynamicToLocalExec general.NoPlt) info value known e = as_long info _ value (tpoff32 info e)
+field_long (GeneralDynamicToLocalExec general.Large) info value known e = as_long info _ value (tpoff32 info e)
+field_long (GeneralDynamicToInitialExec f) info value known e = as_long info _ value (gottpoff info e)
+field_long (LocalDynamicToLocalExec local.Regular) info value known e = as_long info _ value (nothing info e)
+field_long (LocalDynamicToLocalExec local.Large) info value known e = as_long info _ value (nothing info e)
+field_long (LocalDynamicToLocalExec local.NoPlt) info value known e = as_long info _ value (nothing info e)
+field_long (DescriptorLea p LocalExec) info value known e = as_long info _ value (tpoff32 info e)
+field_long (DescriptorLea p InitialExec) info value known e = as_long info _ value (gottpoff info e)
+field_long DescriptorCall info value known e = as_long info _ value (nothing info e)
+
+-- ---- the section
+
+place_same : (s n : ℕ) (xs : List ℕ) → s + n ≤ length xs → place s (slice_range xs s (s + n)) xs ≡ xs
+unfolding place
+place_same s n xs h =
+    let e : s + n - s ≡ n = omega arith in
+    let l = length-window xs s n h in
+    let tail : drop (s + length (slice_range xs s (s + n))) xs ≡ drop n (drop s xs) = rw l (sym (drop-drop n s xs)) in
+    let middle : slice_range xs s (s + n) ≡ take n (drop s xs) = rw e refl in
+    ap (λ (t : List ℕ). take s xs ++ (slice_range xs s (s + n) ++ t)) tail
+    ∙ ap (λ (m : List ℕ). take s xs ++ (m ++ drop n (drop s xs))) middle
+    ∙ ap (λ (t : List ℕ). take s xs ++ t) (take-append-drop n (drop s xs))
+    ∙ take-append-drop s xs
+
+-- a part of a part
+inner : (s n k m : ℕ) (xs : List ℕ) → k + m ≤ n → slice_range (slice_range xs s (s + n)) k (k + m) ≡ slice_range xs (s + k) (s + k + m)
+inner s n k m xs h =
+    let e : s + n - s ≡ n = omega arith in
+    let f : k + m - k ≡ m = omega arith in
+    let g : s + k + m - (s + k) ≡ m = omega arith in
+    let r : n ≡ k + (n - k) = omega arith in
+    let cut : drop k (take n (drop s xs)) ≡ take (n - k) (drop k (drop s xs)) =
+    subst (λ (x : ℕ). drop k (take x (drop s xs)) ≡ take (n - k) (drop k (drop s xs))) (sym r) (drop-take k (n - k) (drop s xs)) in
+    rw (e, f, g) (ap (take m) cut ∙ take-take m (n - k) (drop k (drop s xs)) (omega arith) ∙ ap (take m) (drop-drop k s xs))
+
+pub sections_are_linked : PiecesOverAPart → SectionsAreLinked
+sections_are_linked over q row info value chosen known e =
+    let at = chosen_at q row chosen in
+    let xs = q.bytes in
+    let o = (relocation_of q).offset in
+    let s = start_of q row in
+    let n = length (cells_of (pattern_of row)) in
+    let part = window q row in
+    let w = rewrite_of row in
+    let k = field_of (pattern_of row) - w.back in
+    let fits = inside row known in
+    let back = fits.back in
+    let bytes_fit = fits.bytes in
+    let field_fits = fits.field in
+    let before = at.before in
+    let within = at.inside in
+    let long : length part ≡ n = at.whole.long in
+    let field_is = field_long row info value known e in
+    let size_is = fits.size (slice_range part k (k + w.size)) in
+    let same : place s part xs ≡ xs = place_same s n xs within in
+    let a : o - w.back ≡ s + k = omega arith in
+    let b : field_after q row ≡ s + field_in row = omega arith in
+    let old : slice_range part k (k + w.size) ≡ slice_range xs (s + k) (s + k + w.size) = inner s n k w.size xs (omega arith) in
+    let first : Piece = record { at = k; bytes = w.bytes (slice_range part k (k + w.size)) } in
+    let second : Piece = record { at = field_in row; bytes = written info value [] } in
+    let Lies : Piece → Type 0 = λ p. p.at + length p.bytes ≤ length part in
+    let first_lies : k + length (w.bytes (slice_range part k (k + w.size))) ≤ length part = omega arith in
+    let second_lies : field_in row + length (written info value []) ≤ length part = omega arith in
+    let linked_in = over s part xs (first ∷ second ∷ []) (omega arith) (All-cons Lies first (second ∷ []) first_lies (All-cons Lies second [] second_lies (All-nil Lies))) in
+    ap (λ (x : ℕ). place x (written info value []) (rewritten w o xs)) b
+    ∙ ap (λ (x : ℕ). place (s + field_in row) (written info value []) (place x (w.bytes (slice_range xs x (x + w.size))) xs)) a
+    ∙ ap (λ (z : List ℕ). place (s + field_in row) (written info value []) (place (s + k) (w.bytes z) xs)) (sym old)
+    ∙ ap (λ (z : List ℕ). place (s + field_in row) (written info value []) (place (s + k) (w.bytes (slice_range part k (k + w.size))) z)) (sym same)
+    ∙ linked_in
