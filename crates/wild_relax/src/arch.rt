@@ -1,5 +1,6 @@
 //! What differs between the machines.
-ghost use Rattle.std.specs.Prelude.{◌≡◌, false, length, is_ok, IfErr, OnOk, OnErr};
+ghost use Rattle.std.specs.Prelude.{◌≡◌, false, length, replicate, if◌then◌else◌, is_ok, IfErr, OnOk, OnErr};
+ghost use Rattle.wild_plan.specs.Lookups.{executable};
 ghost use Rattle.std.specs.List.{list_any};
 
 use crate::reference::{RelocationInfo, UnknownSequence};
@@ -14,7 +15,7 @@ pub trait Arch {
     ghost use Rattle.wild_plan.specs.declared.kind.Machine.{Machine};
     ghost use Rattle.wild_plan.specs.declared.layout.Tls.{Tls};
     ghost use Rattle.wild_reloc.specs.declared.dynamic.DynamicRelocationKind.{DynamicRelocationKind};
-    ghost use Rattle.wild_reloc.specs.declared.info.RelocationKindInfo.{RelocationKindInfo};
+    ghost use Rattle.wild_plan.specs.Rows.{row_of};
     ghost use Rattle.wild_reloc.specs.declared.names.RelName.{RelName};
     ghost use Rattle.std.specs.Prelude.{Result, IfOk, IfSome};
     ghost use Rattle.wild_relax.specs.declared.reference.UnknownSequence.{UnknownSequence};
@@ -27,9 +28,6 @@ pub trait Arch {
 
     /// The machine.
     ghost machine: { Machine };
-
-    /// The row of a relocation type; none where the table has none.
-    ghost row_of: { ℕ → Option RelocationKindInfo };
 
     /// How a relocation type is printed.
     ghost name_of: { ℕ → RelName };
@@ -53,17 +51,28 @@ pub trait Arch {
     /// The first rewrite that stands at a relocation; refused where what it needs besides is not there.
     ghost relaxation: { Question → Result (Option Self.Relaxation) UnknownSequence };
 
+    /// What stands between sections of code: so many bytes that are not to be run.
+    ghost nop_padding: { ℕ → List ℕ };
+
     /// The machine (gABI, `e_machine`).
     fn arch_identifier() -> Machine
         ensures { result ≡ Self.machine };
 
     /// The row of a relocation type; none where the table has none.
     fn relocation_from_raw(number: u32) -> Option<RelocationKindInfo>
-        ensures { result ≡ Self.row_of number };
+        ensures { result ≡ row_of Self.machine number };
 
     /// The name of a relocation type, for printing.
     fn rel_type_to_string(number: u32) -> RelName
         ensures { result ≡ Self.name_of number };
+
+    /// Fills the padding of a section of code.
+    fn fill_nop_padding(room: &mut [u8])
+        ensures { room.new ≡ Self.nop_padding (length room.old) };
+
+    /// Fills the padding of a section with those flags (`sh_flags`).
+    fn fill_section_padding(room: &mut [u8], section_flags: u64)
+        ensures { room.new ≡ (if executable section_flags then Self.nop_padding (length room.old) else replicate (length room.old) 0) };
 
     /// Whether the field of that type cannot hold the address of a symbol that another module may define.
     fn is_disallowed_for_interposable_symbols(number: u32) -> bool
@@ -135,4 +144,7 @@ pub trait Arch {
         }) }
         ensures room { IfOk result (λ found. IfSome found (λ r.
             HasRoom (Self.Relaxation.rewrite r) (entry_at relocations.now at).offset (length section_bytes.now))) };
+
+    /// The rewrites are the machine's own.
+    ghost same_machine: { Self.Relaxation.machine ≡ Self.machine };
 }

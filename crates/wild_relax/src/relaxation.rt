@@ -55,8 +55,9 @@ pub enum RelocationModifier {
 
 /// A rewrite of instructions that stands at a relocation.
 pub trait Relaxation {
-    ghost use Rattle.std.specs.Prelude.{ℕ, Bool, Option};
-    ghost use Rattle.wild_reloc.specs.declared.info.RelocationKindInfo.{RelocationKindInfo};
+    ghost use Rattle.std.specs.Prelude.{Bool};
+    ghost use Rattle.wild_plan.specs.declared.kind.Machine.{Machine};
+    ghost use Rattle.wild_plan.specs.Rows.{row_of};
     ghost use Rattle.wild_relax.specs.Rewrite.{Rewrite, rewritten};
     ghost use Rattle.wild_relax.specs.declared.relaxation.RelaxationKind.{RelaxationKind};
 
@@ -69,8 +70,8 @@ pub trait Relaxation {
     /// Its kind.
     ghost kind: { Self → RelaxationKind };
 
-    /// The row of the relocation type by which the field is written.
-    ghost row_of: { ℕ → Option RelocationKindInfo };
+    /// The machine.
+    ghost machine: { Machine };
 
     /// Whether the field gets a number, for which the slot is asked where it does not fit.
     ghost falls_back: { Self → Bool };
@@ -87,7 +88,7 @@ pub trait Relaxation {
 
     /// The row of the relocation type by which the field is written.
     fn rel_info(&self) -> RelocationKindInfo
-        ensures { Some result ≡ Self.row_of (Self.rewrite self.now).number };
+        ensures { Some result ≡ row_of Self.machine (Self.rewrite self.now).number };
 
     /// What becomes of the instructions.
     fn debug_kind(&self) -> RelaxationKind

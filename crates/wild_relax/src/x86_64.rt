@@ -6,7 +6,7 @@ use crate::rewrite;
 use crate::row::{Row, choose, is_mandatory};
 use crate::stub::{PltTooFar, write_stub};
 use crate::thread::pointer_x86_64;
-use wild_plan::{Layout, Machine, OutputKind, ValueFlags};
+use wild_plan::{Layout, Machine, OutputKind, ValueFlags, is_executable, row_of};
 use wild_records::abi::relocation::{
     R_X86_64_8, R_X86_64_16, R_X86_64_32, R_X86_64_32S, R_X86_64_PC8, R_X86_64_PC16, R_X86_64_PC32,
 };
@@ -16,8 +16,8 @@ use wild_reloc::{DynamicRelocationKind, RelName, RelocationKindInfo, x86_64};
 pub struct ElfX86_64;
 
 impl Arch for ElfX86_64 {
+    ghost use Rattle.std.specs.Prelude.{replicate, refl};
     ghost use Rattle.wild_plan.specs.declared.kind.Machine.TheVariants.{X86_64};
-    ghost use Rattle.wild_reloc.specs.TableX86_64.{x86_64_row};
     ghost use Rattle.wild_reloc.specs.Dynamic.{x86_64_type};
     ghost use Rattle.wild_reloc.specs.declared.names.RelName.TheVariants as names;
     ghost use Rattle.wild_relax.specs.Barred.{barred_x86_64, barred_in_shared_x86_64};
@@ -28,8 +28,6 @@ impl Arch for ElfX86_64 {
     type Relaxation = ElfX86_64Relaxation;
 
     ghost machine = { X86_64 };
-
-    ghost row_of = { x86_64_row };
 
     ghost name_of = { names.X86_64 };
 
@@ -45,16 +43,32 @@ impl Arch for ElfX86_64 {
 
     ghost relaxation = { relaxation_x86_64 };
 
+    ghost nop_padding = { λ n. replicate n 0xcc };
+
+    ghost same_machine = { refl };
+
     fn arch_identifier() -> Machine {
         Machine::X86_64
     }
 
     fn relocation_from_raw(number: u32) -> Option<RelocationKindInfo> {
-        x86_64::relocation_from_raw(number)
+        row_of(Machine::X86_64, number)
     }
 
     fn rel_type_to_string(number: u32) -> RelName {
         x86_64::rel_type_to_string(number)
+    }
+
+    fn fill_nop_padding(room: &mut [u8]) {
+        room.fill(0xcc);
+    }
+
+    fn fill_section_padding(room: &mut [u8], section_flags: u64) {
+        if is_executable(section_flags) {
+            room.fill(0xcc);
+        } else {
+            room.fill(0);
+        }
     }
 
     fn is_disallowed_for_interposable_symbols(number: u32) -> bool {
@@ -143,7 +157,7 @@ pub struct ElfX86_64Relaxation {
 }
 
 impl Relaxation for ElfX86_64Relaxation {
-    ghost use Rattle.wild_reloc.specs.TableX86_64.{x86_64_row};
+    ghost use Rattle.wild_plan.specs.declared.kind.Machine.TheVariants.{X86_64};
     ghost use Rattle.wild_relax.specs.RewriteX86_64.{rewrite_of, kind_of, is_number};
 
     ghost rewrite = { λ r. rewrite_of r.row };
@@ -152,7 +166,7 @@ impl Relaxation for ElfX86_64Relaxation {
 
     ghost kind = { λ r. kind_of r.row };
 
-    ghost row_of = { x86_64_row };
+    ghost machine = { X86_64 };
 
     ghost falls_back = { λ r. is_number r.row };
 
@@ -163,6 +177,7 @@ impl Relaxation for ElfX86_64Relaxation {
         *addend = rewrite::addend_written(self.row, *addend);
     }
 
+    #[tactic(auto, unfolding(wild_plan::specs::Rows::row_of))]
     fn rel_info(&self) -> RelocationKindInfo {
         rewrite::row_written(self.row)
     }
