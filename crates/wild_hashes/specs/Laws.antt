@@ -5,6 +5,7 @@
 --   GnuIsRead, SysvIsRead      readers give the words of a table
 --   AreNumbered                the defined symbols in their tables
 --   GnuLookUpFindsTheFirst, SysvLookUpFindsTheFirst   the first symbol of any name is found, and none where none has it
+--   GnuLookUpInImagesFindsTheFirst, SysvLookUpInImagesFindsTheFirst   the same in an image that names such tables
 use Rattle.std.specs.Prelude.{Bool, true, ◌&&◌, nat_le, Result, ◌*◌, slice_index, slice_index_or, ◌≡◌, ℕ, ◌+◌, ◌%◌, ◌^◌, ◌<◌, ◌≤◌, if◌then◌else◌, List, [], ◌∷◌, length, map, bytes_eq, AllPairs, Option, Some, None, Ok}
 use Rattle.wild_words.specs.Words.{Stands}
 use Rattle.wild_records.specs.Hashes.{gnu_hash, sysv_hash}
@@ -14,6 +15,9 @@ use Rattle.wild_plan.specs.declared.layout.DynamicSymbol.{DynamicSymbol}
 use Rattle.wild_hashes.specs.declared.fault.LookupFault.{LookupFault}
 use Rattle.wild_hashes.specs.Tables.{sysv_hash_of, gnu_hash_of, bloom, buckets, gnu_chains, sysv_chains, gnu_table, sysv_table}
 use Rattle.wild_hashes.specs.Reading.{read, IsNamed}
+use Rattle.wild_records.specs.Abi.Dynamic.{dt_hash, dt_gnu_hash}
+use Rattle.wild_hashes.specs.declared.image.Parts.{Parts}
+use Rattle.wild_hashes.specs.Image.{tables_of, bytes_of, gnu_lookup_in, sysv_lookup_in}
 use Rattle.wild_hashes.specs.LookUp.{gnu_find, sysv_by, gnu_lookup, sysv_lookup}
 
 -- the first symbol of that name, where ns are the names from symbol i on
@@ -107,3 +111,16 @@ GnuLookUpFindsTheFirst = (table symbols strings : List ℕ) (t : GnuHashHeader) 
 abbrev pub SysvLookUpFindsTheFirst : Type 0
 SysvLookUpFindsTheFirst = (table symbols strings : List ℕ) (n base : ℕ) (ds : List DynamicSymbol) (name : List ℕ) → Stands table 0 (sysv_table n base (map sysv_hash_of ds)) → AreNumbered symbols strings base ds → 1 ≤ n → n < 2 ^ 32
     → sysv_lookup table symbols strings name ≡ Ok (first_named base (names_of ds) name)
+
+-- where an image's dynamic section names such tables, the look-up in the image gives the first symbol of any name, and
+-- none where none has it
+abbrev pub GnuLookUpInImagesFindsTheFirst : Type 0
+GnuLookUpInImagesFindsTheFirst = (image : List ℕ) (ps : Parts) (t : GnuHashHeader) (ds : List DynamicSymbol) (name : List ℕ) → tables_of image dt_gnu_hash ≡ Ok (Some ps) → Stands (bytes_of image ps.hashes) 0 (gnu_table t (map gnu_hash_of ds))
+    → AreNumbered (bytes_of image ps.symbols) (bytes_of image ps.strings) t.symbol_base ds → IsGnuLaidOut t (map gnu_hash_of ds)
+    → gnu_lookup_in image name ≡ Ok (first_named t.symbol_base (names_of ds) name)
+
+-- the same of a System V table
+abbrev pub SysvLookUpInImagesFindsTheFirst : Type 0
+SysvLookUpInImagesFindsTheFirst = (image : List ℕ) (ps : Parts) (n base : ℕ) (ds : List DynamicSymbol) (name : List ℕ) → tables_of image dt_hash ≡ Ok (Some ps) → Stands (bytes_of image ps.hashes) 0 (sysv_table n base (map sysv_hash_of ds))
+    → AreNumbered (bytes_of image ps.symbols) (bytes_of image ps.strings) base ds → 1 ≤ n → n < 2 ^ 32
+    → sysv_lookup_in image name ≡ Ok (first_named base (names_of ds) name)

@@ -1,14 +1,15 @@
 //! What a look-up finds.
-ghost use Rattle.wild_hashes.specs.Laws.{GnuReadersFindTheFirst, GnuTablesInBytesFindTheFirst, GnuLookUpFindsTheFirst, SysvReadersFindTheFirst, SysvTablesInBytesFindTheFirst, SysvLookUpFindsTheFirst, NeighboursAscend};
+ghost use Rattle.wild_hashes.specs.Laws.{GnuReadersFindTheFirst, GnuTablesInBytesFindTheFirst, GnuLookUpFindsTheFirst, GnuLookUpInImagesFindsTheFirst, SysvReadersFindTheFirst, SysvTablesInBytesFindTheFirst, SysvLookUpFindsTheFirst, SysvLookUpInImagesFindsTheFirst, NeighboursAscend};
 
 use wild_records::gnu_hash_header_is_read;
 
 /// In a GNU hash table of defined symbols the look-up of any name gives the first symbol that has it, and none where
-/// none has: through readers of its words and of names, where it stands in bytes, and in the bytes that are written.
+/// none has: through readers of its words and of names, where it stands in bytes, in the bytes that are written, and in an image that names them.
 pub fn gnu_look_up_finds_the_first()
     ensures readers { GnuReadersFindTheFirst }
     ensures standing { GnuTablesInBytesFindTheFirst }
     ensures written { GnuLookUpFindsTheFirst }
+    ensures images { GnuLookUpInImagesFindsTheFirst }
 {
     gnu_hash_header_is_read();
 }
@@ -18,6 +19,7 @@ pub fn sysv_look_up_finds_the_first()
     ensures readers { SysvReadersFindTheFirst }
     ensures standing { SysvTablesInBytesFindTheFirst }
     ensures written { SysvLookUpFindsTheFirst }
+    ensures images { SysvLookUpInImagesFindsTheFirst }
 {}
 
 /// Symbols ascend by bucket where each one's bucket is at most the next one's.

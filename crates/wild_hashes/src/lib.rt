@@ -3,6 +3,8 @@
 
 mod fault;
 mod image;
+#[cfg(test)]
+mod image_tests;
 mod laws;
 mod lookup;
 mod reading;
