@@ -6,7 +6,7 @@ use Rattle.wild_records.specs.Dynamic.{dynamic_entry_at}
 use Rattle.wild_loader.specs.Headers.{program_headers}
 use Rattle.wild_loader.specs.Tables.{dynamic_entries, first_dynamic, tagged, has_in_memory}
 use Rattle.wild_hashes.specs.declared.fault.ImageFault.TheVariants as faults
-use Rattle.wild_hashes.specs.Image.{part_in, part_at, bytes_of, gnu_lookup_in, sysv_lookup_in}
+use Rattle.wild_hashes.specs.Image.{part_in, part_at, bytes_of, bytes_if, gnu_lookup_in, sysv_lookup_in}
 use Rattle.wild_hashes.specs.Laws.{GnuLookUpFindsTheFirst, GnuLookUpInImagesFindsTheFirst, SysvLookUpFindsTheFirst, SysvLookUpInImagesFindsTheFirst}
 
 headers_more : (image : List ℕ) (count i start : ℕ) → i < count → program_headers image (count - i) (start + 56 * i) ≡ program_header_at image (start + 56 * i) ∷ program_headers image (count - (i + 1)) (start + 56 * (i + 1))
@@ -66,11 +66,11 @@ wrapped_once a b = omega arith
 pub gnu_found_in_image : GnuLookUpFindsTheFirst → GnuLookUpInImagesFindsTheFirst
 unfolding gnu_lookup_in
 gnu_found_in_image found image ps t ds name e st named laid =
-    let f = found (bytes_of image ps.hashes) (bytes_of image ps.symbols) (bytes_of image ps.strings) t ds name st named laid in
+    let f = found (bytes_of image ps.hashes) (bytes_if image ps.symbols) (bytes_if image ps.strings) t ds name st named laid in
     rw (e, f) refl
 
 pub sysv_found_in_image : SysvLookUpFindsTheFirst → SysvLookUpInImagesFindsTheFirst
 unfolding sysv_lookup_in
 sysv_found_in_image found image ps n base ds name e st named p q =
-    let f = found (bytes_of image ps.hashes) (bytes_of image ps.symbols) (bytes_of image ps.strings) n base ds name st named p q in
+    let f = found (bytes_of image ps.hashes) (bytes_if image ps.symbols) (bytes_if image ps.strings) n base ds name st named p q in
     rw (e, f) refl

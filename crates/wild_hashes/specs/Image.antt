@@ -4,7 +4,7 @@
 --   part_at image hs a        the file bytes from an address on, in the first segment to load that has it
 --   tables_of image tag       the parts of a look-up in the hash table of a tag; none where the image has no such table
 --   gnu_lookup_in image name, sysv_lookup_in image name   the symbol that the image's table leads to
-use Rattle.std.specs.Prelude.{ℕ, ◌+◌, ◌-◌, ◌*◌, ◌/◌, ◌%◌, ◌^◌, ◌≤◌, ◌&&◌, ◌==◌, if◌then◌else◌, nat_le, min, List, [], ◌∷◌, length, take, drop, Option, Some, None, Result, Ok, Err}
+use Rattle.std.specs.Prelude.{ℕ, ◌+◌, ◌-◌, ◌*◌, ◌/◌, ◌%◌, ◌^◌, ◌≤◌, ◌&&◌, ◌==◌, if◌then◌else◌, nat_le, min, List, [], ◌∷◌, length, take, drop, Option, Some, None, Result, Ok, Err, IfOk}
 use Rattle.wild_records.specs.Abi.Dynamic.{dt_hash, dt_gnu_hash, dt_symtab, dt_strtab, dt_strsz}
 use Rattle.wild_records.specs.Dynamic.{dynamic_entry_size}
 use Rattle.wild_records.specs.FileHeader.{file_header_size, file_header_at}
@@ -75,12 +75,13 @@ strings_of image hs None (Some n) = Err (faults.NoTable dt_strsz)
 strings_of image hs (Some a) None = Err (faults.NoTable dt_strtab)
 strings_of image hs (Some a) (Some n) = part_at image hs a >>> λ p. sized n p
 
--- the parts of a look-up in the hash table at an address
+-- the parts of a look-up in the hash table at an address: symbols and strings are needed where a name is read, and no
+-- earlier, so each is told, or why it is not there
 abbrev pub parts_by : List ℕ → List ProgramHeader → List DynamicEntry → Option ℕ → Result (Option Parts) ImageFault
 parts_by image hs ds None = Ok None
 parts_by image hs ds (Some a) =
-    part_at image hs a >>> λ t. part_of image hs dt_symtab (tagged dt_symtab ds) >>> λ s. strings_of image hs (tagged dt_strtab ds) (tagged dt_strsz ds) >>> λ n.
-    Ok (Some (record { hashes = t; symbols = s; strings = n }))
+    part_at image hs a >>> λ t.
+    Ok (Some (record { hashes = t; symbols = part_of image hs dt_symtab (tagged dt_symtab ds); strings = strings_of image hs (tagged dt_strtab ds) (tagged dt_strsz ds) }))
 
 abbrev pub parts_of : List ℕ → List ProgramHeader → ℕ → Result (Option Parts) ImageFault
 parts_of image hs tag = dynamic_in image (first_dynamic hs) >>> λ ds. parts_by image hs ds (tagged tag ds)
@@ -96,8 +97,8 @@ IsInside image p = p.start + p.size ≤ length image
 -- the parts lie in the image
 pub record AreInside (image : List ℕ) (ps : Parts) : Type 0 where
   pub hashes : IsInside image ps.hashes
-  pub symbols : IsInside image ps.symbols
-  pub strings : IsInside image ps.strings
+  pub symbols : IfOk ps.symbols (λ p. IsInside image p)
+  pub strings : IfOk ps.strings (λ p. IsInside image p)
 
 -- ---- the look-up
 
@@ -105,11 +106,21 @@ pub record AreInside (image : List ℕ) (ps : Parts) : Type 0 where
 abbrev pub bytes_of : List ℕ → Part → List ℕ
 bytes_of image p = take p.size (drop p.start image)
 
+-- those of one that may not be there
+abbrev pub bytes_if : List ℕ → Result Part ImageFault → List ℕ
+bytes_if image (Ok p) = bytes_of image p
+bytes_if image (Err e) = []
+
+-- what is cut at an offset of a part; or why the part is not there
+abbrev pub cut_in : Result Part ImageFault → ℕ → ImageFault
+cut_in (Ok p) at = faults.Cut ((p.offset + at) % 2 ^ 64)
+cut_in (Err e) at = e
+
 -- a fault of a look-up in the image
 abbrev pub placed : Parts → LookupFault → ImageFault
 placed ps (low.Cut at) = faults.Cut ((ps.hashes.offset + at) % 2 ^ 64)
-placed ps (low.NoSymbol i) = faults.Cut ((ps.symbols.offset + symtab_entry_size * i) % 2 ^ 64)
-placed ps (low.NoString at) = faults.Cut ((ps.strings.offset + at) % 2 ^ 64)
+placed ps (low.NoSymbol i) = cut_in ps.symbols (symtab_entry_size * i)
+placed ps (low.NoString at) = cut_in ps.strings at
 placed ps (low.Cycle i) = faults.Cycle i
 
 abbrev pub answer : Parts → Result (Option ℕ) LookupFault → Result (Option ℕ) ImageFault
@@ -118,11 +129,11 @@ answer ps (Err e) = Err (placed ps e)
 
 abbrev pub gnu_by : List ℕ → List ℕ → Option Parts → Result (Option ℕ) ImageFault
 gnu_by image name None = Ok None
-gnu_by image name (Some ps) = answer ps (gnu_lookup (bytes_of image ps.hashes) (bytes_of image ps.symbols) (bytes_of image ps.strings) name)
+gnu_by image name (Some ps) = answer ps (gnu_lookup (bytes_of image ps.hashes) (bytes_if image ps.symbols) (bytes_if image ps.strings) name)
 
 abbrev pub sysv_by : List ℕ → List ℕ → Option Parts → Result (Option ℕ) ImageFault
 sysv_by image name None = Ok None
-sysv_by image name (Some ps) = answer ps (sysv_lookup (bytes_of image ps.hashes) (bytes_of image ps.symbols) (bytes_of image ps.strings) name)
+sysv_by image name (Some ps) = answer ps (sysv_lookup (bytes_of image ps.hashes) (bytes_if image ps.symbols) (bytes_if image ps.strings) name)
 
 -- the symbol that the GNU table of an image leads to
 unfoldable pub gnu_lookup_in : List ℕ → List ℕ → Result (Option ℕ) ImageFault

@@ -17,7 +17,7 @@ use Rattle.wild_hashes.specs.Tables.{sysv_hash_of, gnu_hash_of, bloom, buckets, 
 use Rattle.wild_hashes.specs.Reading.{read, IsNamed}
 use Rattle.wild_records.specs.Abi.Dynamic.{dt_hash, dt_gnu_hash}
 use Rattle.wild_hashes.specs.declared.image.Parts.{Parts}
-use Rattle.wild_hashes.specs.Image.{tables_of, bytes_of, gnu_lookup_in, sysv_lookup_in}
+use Rattle.wild_hashes.specs.Image.{tables_of, bytes_of, bytes_if, gnu_lookup_in, sysv_lookup_in}
 use Rattle.wild_hashes.specs.LookUp.{gnu_find, sysv_by, gnu_lookup, sysv_lookup}
 
 -- the first symbol of that name, where ns are the names from symbol i on
@@ -116,11 +116,11 @@ SysvLookUpFindsTheFirst = (table symbols strings : List ℕ) (n base : ℕ) (ds 
 -- none where none has it
 abbrev pub GnuLookUpInImagesFindsTheFirst : Type 0
 GnuLookUpInImagesFindsTheFirst = (image : List ℕ) (ps : Parts) (t : GnuHashHeader) (ds : List DynamicSymbol) (name : List ℕ) → tables_of image dt_gnu_hash ≡ Ok (Some ps) → Stands (bytes_of image ps.hashes) 0 (gnu_table t (map gnu_hash_of ds))
-    → AreNumbered (bytes_of image ps.symbols) (bytes_of image ps.strings) t.symbol_base ds → IsGnuLaidOut t (map gnu_hash_of ds)
+    → AreNumbered (bytes_if image ps.symbols) (bytes_if image ps.strings) t.symbol_base ds → IsGnuLaidOut t (map gnu_hash_of ds)
     → gnu_lookup_in image name ≡ Ok (first_named t.symbol_base (names_of ds) name)
 
 -- the same of a System V table
 abbrev pub SysvLookUpInImagesFindsTheFirst : Type 0
 SysvLookUpInImagesFindsTheFirst = (image : List ℕ) (ps : Parts) (n base : ℕ) (ds : List DynamicSymbol) (name : List ℕ) → tables_of image dt_hash ≡ Ok (Some ps) → Stands (bytes_of image ps.hashes) 0 (sysv_table n base (map sysv_hash_of ds))
-    → AreNumbered (bytes_of image ps.symbols) (bytes_of image ps.strings) base ds → 1 ≤ n → n < 2 ^ 32
+    → AreNumbered (bytes_if image ps.symbols) (bytes_if image ps.strings) base ds → 1 ≤ n → n < 2 ^ 32
     → sysv_lookup_in image name ≡ Ok (first_named base (names_of ds) name)

@@ -3,9 +3,10 @@ ghost use Rattle.std.specs.Prelude.{◌≡◌, ◌+◌, ◌*◌, ◌/◌, ◌≤
 ghost use Rattle.wild_records.specs.Dynamic.{dynamic_entry_size};
 ghost use Rattle.wild_records.specs.FileHeader.{file_header_at};
 ghost use Rattle.wild_records.specs.ProgramHeader.{program_header_size};
+ghost use Rattle.wild_records.specs.SymtabEntry.{symtab_entry_size};
 ghost use Rattle.wild_loader.specs.Headers.{is_loadable_header, program_headers};
 ghost use Rattle.wild_loader.specs.Tables.{dynamic_entries, first_dynamic, tagged, has_in_memory};
-ghost use Rattle.wild_hashes.specs.Image.{image_header, dynamic_in, part_in, part_at, part_of, sized, strings_of, parts_by, tables_of, IsInside, AreInside, bytes_of, placed, answer, gnu_lookup_in, sysv_lookup_in};
+ghost use Rattle.wild_hashes.specs.Image.{image_header, dynamic_in, part_in, part_at, part_of, sized, strings_of, parts_by, tables_of, IsInside, AreInside, bytes_of, bytes_if, cut_in, placed, answer, gnu_lookup_in, sysv_lookup_in};
 
 use crate::fault::{ImageFault, LookupFault};
 use crate::lookup::{find_gnu_symbol, find_sysv_symbol};
@@ -28,12 +29,13 @@ pub struct Part {
     pub size: usize,
 }
 
-/// What a look-up reads of an image.
+/// What a look-up reads of an image. Symbols and strings are needed where a name is read, and no earlier: each is there,
+/// or the fault of such a name.
 #[derive(Clone, Copy, Debug, PartialEq, Eq)]
 pub struct Parts {
     pub hashes: Part,
-    pub symbols: Part,
-    pub strings: Part,
+    pub symbols: Result<Part, ImageFault>,
+    pub strings: Result<Part, ImageFault>,
 }
 
 /// So many records of an image behind each other.
@@ -249,10 +251,10 @@ fn find_parts(
     };
     let hashes = find_part(image, headers, address)?;
     let symbols_at = find_tag(image, entries, DT_SYMTAB);
-    let symbols = find_table(image, headers, DT_SYMTAB, symbols_at)?;
+    let symbols = find_table(image, headers, DT_SYMTAB, symbols_at);
     let strings_at = find_tag(image, entries, DT_STRTAB);
     let strings_size = find_tag(image, entries, DT_STRSZ);
-    let strings = find_strings(image, headers, strings_at, strings_size)?;
+    let strings = find_strings(image, headers, strings_at, strings_size);
     Ok(Some(Parts {
         hashes,
         symbols,
@@ -283,21 +285,55 @@ fn bytes_of(image: &[u8], part: Part) -> &[u8]
     &image[part.start..part.start + part.size]
 }
 
-/// A fault of a look-up in the image.
+/// Those of one that may not be there.
+fn bytes_if(image: &[u8], part: Result<Part, ImageFault>) -> &[u8]
+    requires { IfOk part (λ p. IsInside image.now p) }
+    ensures { result.now ≡ bytes_if image.now part }
+{
+    match part {
+        Ok(part) => bytes_of(image, part),
+        Err(_) => &image[..0],
+    }
+}
+
+/// What is cut at an offset of a part; or why the part is not there.
+fn cut_in(part: Result<Part, ImageFault>, at: u64) -> ImageFault
+    ensures { result ≡ cut_in part at }
+{
+    match part {
+        Ok(part) => ImageFault::Cut {
+            offset: part.offset.wrapping_add(at),
+        },
+        Err(fault) => fault,
+    }
+}
+
+/// The symbol table that has no such symbol.
 #[tactic(auto, using(crate::proofs::ImageLemmas::wrapped_once))]
+fn symbol_cut(symbols: Result<Part, ImageFault>, index: u64) -> ImageFault
+    ensures { result ≡ cut_in symbols (symtab_entry_size * index) }
+{
+    match symbols {
+        Ok(part) => {
+            let distance = index.wrapping_mul(SymtabEntry::SIZE as u64);
+            ImageFault::Cut {
+                offset: part.offset.wrapping_add(distance),
+            }
+        }
+        Err(fault) => fault,
+    }
+}
+
+/// A fault of a look-up in the image.
 fn placed(parts: Parts, fault: LookupFault) -> ImageFault
     ensures { result ≡ placed parts fault }
 {
-    let offset = match fault {
-        LookupFault::Cut { offset } => parts.hashes.offset.wrapping_add(offset),
-        LookupFault::NoSymbol { index } => {
-            let distance = index.wrapping_mul(SymtabEntry::SIZE as u64);
-            parts.symbols.offset.wrapping_add(distance)
-        }
-        LookupFault::NoString { offset } => parts.strings.offset.wrapping_add(offset),
-        LookupFault::Cycle { index } => return ImageFault::Cycle { index },
-    };
-    ImageFault::Cut { offset }
+    match fault {
+        LookupFault::Cut { offset } => cut_in(Ok(parts.hashes), offset),
+        LookupFault::NoSymbol { index } => symbol_cut(parts.symbols, index),
+        LookupFault::NoString { offset } => cut_in(parts.strings, offset),
+        LookupFault::Cycle { index } => ImageFault::Cycle { index },
+    }
 }
 
 /// What a look-up in the parts says of the image.
@@ -321,8 +357,8 @@ pub fn lookup_gnu(image: &[u8], name: &[u8]) -> Result<Option<u64>, ImageFault>
     };
     let tables = LookupTables {
         hashes: bytes_of(image, parts.hashes),
-        symbols: bytes_of(image, parts.symbols),
-        strings: bytes_of(image, parts.strings),
+        symbols: bytes_if(image, parts.symbols),
+        strings: bytes_if(image, parts.strings),
     };
     answer(parts, find_gnu_symbol(&tables, name))
 }
@@ -338,8 +374,8 @@ pub fn lookup_sysv(image: &[u8], name: &[u8]) -> Result<Option<u64>, ImageFault>
     };
     let tables = LookupTables {
         hashes: bytes_of(image, parts.hashes),
-        symbols: bytes_of(image, parts.symbols),
-        strings: bytes_of(image, parts.strings),
+        symbols: bytes_if(image, parts.symbols),
+        strings: bytes_if(image, parts.strings),
     };
     answer(parts, find_sysv_symbol(&tables, name))
 }

@@ -77,6 +77,7 @@ fn tells_why_an_image_has_no_symbols(rt: HostRuntime) {
         lookup_sysv(&image, b"beta"),
         Err(ImageFault::NoTable { tag: 6 })
     );
+    assert_eq!(rt; lookup_gnu(&image, b"gamma"), Ok(None));
     image[448] = 0x70;
     assert_eq!(rt; lookup_sysv(&image, b"beta"), Ok(None));
 }
