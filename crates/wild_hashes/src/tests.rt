@@ -13,7 +13,7 @@
 //! `readelf --dyn-syms` numbers its symbols: 1 exit, 2 delta, 3 beta, 4 printf_, 5 alpha, 6 gamma_.
 use super::*;
 use std::alloc::{AllocError, Global};
-use wild_plan::{DynamicSymbol, GnuHash};
+use wild_plan::{DynamicSymbol, GnuHash, SymbolIndex};
 use wild_words::Bytes;
 
 /// The GNU table of "", "exit", "exit".
@@ -74,7 +74,7 @@ const LD_STRINGS: &[u8] = b"\0beta\0gamma_\0exit\0delta\0printf_\0alpha\0";
 
 fn definition(alloc: Global, name: &[u8]) -> Result<DynamicSymbol, AllocError> {
     Ok(DynamicSymbol {
-        symbol: 0,
+        symbol: SymbolIndex(0),
         name: Bytes::from_vec(Vec::from_slice(alloc, name)?),
         version: 1,
     })
