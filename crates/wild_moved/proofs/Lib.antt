@@ -2,6 +2,7 @@ mod PairLemmas
 mod SectionsApart
 mod PlacesApart
 mod MovedPlaces
+mod KeptSections
 mod MovedSections
 mod MovedMemory
 mod RelativeOrder

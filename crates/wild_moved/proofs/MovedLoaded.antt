@@ -36,7 +36,8 @@ use Rattle.wild_moved.proofs.RelativeOrder.{all_places, IsLow}
 use Rattle.wild_moved.proofs.RelativeMemory.{HasWord, AreTables, moved_word, listed_word, kept_byte}
 use Rattle.wild_moved.proofs.PairLemmas.{All-join}
 use Rattle.wild_moved.proofs.MovedPlaces.{moved_places, IsAddress}
-use Rattle.wild_moved.proofs.MovedSections.{IsKeptWell, IsMovedThere, place_known, moved_there, lies_there, All-each}
+use Rattle.wild_moved.proofs.KeptSections.{IsKeptWell}
+use Rattle.wild_moved.proofs.MovedSections.{IsMovedThere, place_known, moved_there, lies_there, All-each}
 use Rattle.wild_moved.proofs.MovedMemory.{address_low, address_ends, value_ends, place_there, outside_value, outside_site, listed_section, listed_at, place_listed}
 
 -- what the crates below owe

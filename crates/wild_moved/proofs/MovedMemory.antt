@@ -31,7 +31,8 @@ use Rattle.wild_geometry.specs.Loaded.{InNoSite}
 use Rattle.wild_moved.proofs.SectionsApart.{all_sections, sections_of}
 use Rattle.wild_moved.proofs.PlacesApart.{IsOutside}
 use Rattle.wild_moved.proofs.MovedPlaces.{moved_place, moved_places, IsAddress, address_moves}
-use Rattle.wild_moved.proofs.MovedSections.{IsKeptWell, kept_is_read, IsMovedThere, address_site, site_width, sites_apart_at, site_there}
+use Rattle.wild_moved.proofs.KeptSections.{IsKeptWell, kept_is_read}
+use Rattle.wild_moved.proofs.MovedSections.{IsMovedThere, address_site, site_width, sites_apart_at, site_there}
 use Rattle.wild_moved.proofs.PairLemmas.{All-joined}
 
 -- ---- the word of an address before it is moved

@@ -1,11 +1,7 @@
 -- The places of the addresses that move lie in kept sections, beside each other.
-use Rattle.std.proofs.Common.{◌≡◌, ℕ, zero, suc, ◌+◌, ◌*◌, ◌/◌, ◌%◌, ◌^◌, ◌<◌, ◌≤◌, ◌⊎◌, inl, inr, Bool, true, false, not, List, [], ◌∷◌, length, get_or, refl, sym, ap, ◌∙◌, arith, subst}
+use Rattle.std.proofs.Common.{◌≡◌, ℕ, zero, suc, ◌+◌, ◌%◌, ◌^◌, ◌<◌, ◌≤◌, ◌⊎◌, inl, inr, Bool, true, false, not, List, [], ◌∷◌, length, get_or, refl, sym, ap, ◌∙◌, arith, subst}
 use Rattle.std.specs.Prelude.{Some, None, All, AllPairs, Contains, option_to_list, if◌then◌else◌, ◌&&◌, slice_get}
 use Rattle.std.specs.List.{flat_map, range_with_len}
-use Rattle.std.specs.Int.RustNames.{bit_and}
-use Rattle.std.proofs.lemmas.Bool.{eqb-true}
-use Rattle.std.proofs.lemmas.Nat.Bits.{and_pow}
-use Rattle.std.proofs.lemmas.List.Elements.{All-contains}
 use Rattle.std.proofs.lemmas.List.FromFn.{get_or-range_with_len, length-range_with_len}
 use Rattle.std.proofs.lemmas.Option.{slice_get-get_or}
 use Rattle.wild_words.specs.Overlay.{Piece, Apart}
@@ -13,68 +9,33 @@ use Rattle.wild_plan.specs.declared.input.Slot.{Slot}
 use Rattle.wild_plan.specs.declared.input.Slot.TheVariants as slot
 use Rattle.wild_plan.specs.declared.input.InputRelocation.{InputRelocation}
 use Rattle.wild_plan.specs.declared.input.InputSection.{InputSection}
-use Rattle.wild_records.specs.Abi.Section.{shf_alloc}
 use Rattle.wild_plan.specs.declared.file.File.{File}
-use Rattle.wild_plan.specs.declared.file.Group.{Group}
 use Rattle.wild_plan.specs.declared.layout.Layout.{Layout}
 use Rattle.wild_plan.specs.Entries.{place_of, is_moved, has_moved}
 use Rattle.wild_plan.specs.Kinds.{is_position_independent}
-use Rattle.wild_plan.specs.Lookups.{bit, allocated, is_loaded, is_read}
+use Rattle.wild_plan.specs.Lookups.{is_loaded, is_read}
 use Rattle.wild_layout.specs.declared.decision.Decision.TheVariants.{Moved}
 use Rattle.wild_layout.specs.Sites.{field_site, site}
 use Rattle.wild_reloc.specs.declared.info.RelocationSize.TheVariants.{ByteSize}
 use Rattle.wild_reloc.specs.declared.info.Width.TheVariants.{Eight}
-use Rattle.wild_layout.specs.Geometry.{IsLaidOut, SectionLies, EachSection, FieldLies}
+use Rattle.wild_layout.specs.Geometry.{IsLaidOut, FieldLies}
 use Rattle.wild_layout.proofs.SiteLemmas.{All-at, site_written, length-field_site, field_lies}
-use Rattle.wild_meaning.specs.Section.{IsSet}
 use Rattle.wild_meaning.specs.Item.{IsInput, IsKeptSection}
 use Rattle.wild_loader.specs.EntryLaws.{AreBeside}
-use Rattle.wild_geometry.specs.Loaded.{IsDecided, in_file}
+use Rattle.wild_geometry.specs.Loaded.{in_file}
 use Rattle.wild_loaded.specs.Memory.{IsStored, EachDecided}
 use Rattle.wild_loaded.specs.Laws.{SectionsAreCarried}
 use Rattle.wild_moved.proofs.PairLemmas.{AllPairs-joined, AllPairs-joining, AllPairs-none, Across, Contains-from_flat_map}
+use Rattle.wild_moved.proofs.KeptSections.{IsKeptWell, bit_alloc, kept_well}
 use Rattle.wild_moved.proofs.SectionsApart.{all_sections, sections_of}
 use Rattle.wild_moved.proofs.PlacesApart.{LiesIn, HavePlaces, get_or-any}
 use Rattle.wild_moved.proofs.MovedPlaces.{moved_place, moved_places, IsAddress, address_there}
 
--- ---- kept sections
+-- ---- the section of a place
 
 both_of : (a b : Bool) → (a && b) ≡ true → (a ≡ true) × (b ≡ true)
 both_of true b h = (refl, h)
 both_of false b h = cc
-
--- a flag, as the writer tests it and as the reader does
-bit_alloc : (f : ℕ) → allocated f ≡ true → IsSet f shf_alloc
-unfolding bit
-bit_alloc f h =
-    let a : bit_and f 2 ≡ f / 2 % 2 * 2 = and_pow f 1 in
-    let e : bit_and f 2 ≡ 2 = eqb-true _ _ h in
-    omega (arith, a, e)
-
-read_if : (s : InputSection) (at : Slot) → s.slot ≡ at → is_loaded at ≡ true → s.nobits ≡ false → is_read s ≡ true
-read_if s at e t n = rw (e, t, n) refl
-
-pub kept_is_read : (l : Layout) (s : InputSection) → IsKeptSection l s → is_read s ≡ true
-kept_is_read l s k = read_if s _ k.loaded refl k.has_data
-
-each_at : (P : InputSection → Type 0) (l : Layout) (s : InputSection) → EachSection l P → IsInput l s → P s
-each_at P l s h k =
-    All-contains P k.file.sections s (All-contains (λ (f : File). All P f.sections) k.group.files k.file (All-contains (λ (g : Group). All (λ (f : File). All P f.sections) g.files) l.groups k.group h k.grouped) k.filed) k.listed
-
--- what is known of a kept section of a layout that is laid out and decided
-pub record IsKeptWell (l : Layout) (s : InputSection) : Type 0 where
-  pub kept : IsKeptSection l s
-  pub decisions : IsDecided l s
-  pub lies : SectionLies l s
-  pub full : length s.bytes ≡ s.size
-
-pub kept_well : (l : Layout) (s : InputSection) → IsLaidOut l → EachDecided l → IsKeptSection l s → IsKeptWell l s
-kept_well l s laid decided k =
-    let lies = each_at (SectionLies l) l s laid.inputs k.input in
-    let read = kept_is_read l s k in
-    record { kept = k; decisions = decided s k.input read; lies = lies; full = lies.bytes read }
-
--- ---- the section of a place
 
 pub input_of : (l : Layout) (s : InputSection) → Contains (all_sections l) s → IsInput l s
 input_of l s c =

@@ -18,7 +18,7 @@ use Rattle.wild_tables.specs.Tables.{relative_entry}
 use Rattle.wild_tables.specs.Laws.{EntriesAddTheBase}
 use Rattle.wild_layout.proofs.SiteLemmas.{Contains-flat_map}
 use Rattle.wild_moved.proofs.PairLemmas.{filter-flat_map}
-use Rattle.wild_moved.proofs.MovedSections.{IsKeptWell}
+use Rattle.wild_moved.proofs.KeptSections.{IsKeptWell}
 use Rattle.wild_moved.proofs.SectionsApart.{all_sections, by_files, flat_map-same}
 use Rattle.wild_moved.proofs.RelativeOrder.{IsSplit}
 use Rattle.wild_moved.proofs.MovedPlaces.{moved_places, IsAddress, lists, packed_are, listed_are, address_moves}

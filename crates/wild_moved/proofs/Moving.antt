@@ -38,7 +38,8 @@ use Rattle.wild_moved.proofs.PairLemmas.{All-join}
 use Rattle.wild_moved.proofs.RelativeOrder.{all_places}
 use Rattle.wild_moved.proofs.RelativeMemory.{AreTables, are_relative, kept_byte}
 use Rattle.wild_moved.proofs.MovedPlaces.{moved_places}
-use Rattle.wild_moved.proofs.MovedSections.{kept_well, have_places}
+use Rattle.wild_moved.proofs.KeptSections.{kept_well}
+use Rattle.wild_moved.proofs.MovedSections.{have_places}
 use Rattle.wild_moved.proofs.MovedLoaded.{MovingLaws, IsMovedImage, section_moved, words_known, places_low}
 use Rattle.wild_moved.proofs.MovedTables.{tables_split, entry_there}
 
