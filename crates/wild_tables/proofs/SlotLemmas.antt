@@ -12,7 +12,9 @@ use Rattle.wild_plan.specs.declared.part.Role.TheVariants as role
 use Rattle.wild_relr.specs.Packing.{State}
 use Rattle.wild_relr.specs.Packed.{after_flat}
 use Rattle.wild_tables.specs.declared.room.Room.{Room}
-use Rattle.wild_tables.specs.Tables.{Tables, Fit, HeaderFits, after_flats, rooms, words_room, entries_room, capped, first_short, room_for_all, room_for_header}
+use Rattle.wild_tables.specs.Tables.{Tables}
+use Rattle.wild_tables.specs.SlotTables.{after_flats}
+use Rattle.wild_tables.specs.Rooms.{Fit, HeaderFits, rooms, words_room, entries_room, capped, first_short, room_for_all, room_for_header}
 
 -- items behind items
 pub items_joined : (c : SlotContent) (xs ys : List SlotItem) → with_items c (xs ++ ys) ≡ with_items (with_items c xs) ys

@@ -5,6 +5,8 @@ pub mod Storage
 pub mod Slots
 pub mod SlotParts
 pub mod Tables
+pub mod SlotTables
+pub mod Rooms
 pub mod Verify
 pub mod Laws
 pub mod SlotLaws

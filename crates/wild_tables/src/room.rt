@@ -1,8 +1,17 @@
 //! How much of their rooms tables use.
-ghost use Rattle.std.specs.Prelude.{◌≡◌};
-ghost use Rattle.wild_tables.specs.Tables.{first_short, first_left};
+ghost use Rattle.std.specs.Prelude.{◌≡◌, ℕ, ◌≤◌, List, length};
+ghost use Rattle.wild_records.specs.declared.relocations.Rela.{Rela};
+ghost use Rattle.wild_tables.specs.Tables.{more_words, more_stubs, more_entries};
+ghost use Rattle.wild_tables.specs.SlotTables.{more_places};
+ghost use Rattle.wild_tables.specs.Rooms.{words_room, stubs_room, entries_room, packed_room, first_short, first_left};
 
+use crate::rela::RelaTable;
+use crate::relr::RelrTable;
+use crate::slot::WORD_SIZE;
+use crate::stub::StubTable;
+use crate::word::WordTable;
 use wild_plan::{Error, Layout, Role, excessive, insufficient};
+use wild_records::{Rela, Relr};
 
 /// How many bytes a group's share of a part has, and how many of them are used or needed.
 #[derive(Clone, Copy)]
@@ -34,4 +43,79 @@ pub(crate) fn first_left(layout: &Layout, group: usize, rooms: &[Room]) -> Resul
         }
     }
     Ok(())
+}
+
+/// The room of a table of words.
+pub(crate) fn words_room(role: Role, table: &WordTable) -> Room
+    ensures { result ≡ words_room role table.now }
+{
+    Room {
+        role,
+        used: table.used(),
+        given: table.room(),
+    }
+}
+
+/// The room of a table of entries.
+pub(crate) fn entries_room(role: Role, table: &RelaTable) -> Room
+    ensures { result ≡ entries_room role table.now }
+{
+    Room {
+        role,
+        used: table.used(),
+        given: table.room(),
+    }
+}
+
+/// The room of a table of words with more of them.
+pub(crate) fn words_room_with(role: Role, table: &WordTable, more: usize) -> Room
+    requires { more ≤ 5 }
+    ensures { (ws : List ℕ) → length ws ≡ more → result ≡ words_room role (more_words ws table.now) }
+{
+    let given = table.room();
+    Room {
+        role,
+        used: table.used() + WORD_SIZE * more,
+        given,
+    }
+}
+
+/// The room of the stubs with bytes more.
+pub(crate) fn stubs_room_with(table: &StubTable, more: usize) -> Room
+    requires { more ≤ 16 }
+    ensures { (bytes : List ℕ) → length bytes ≡ more → result ≡ stubs_room (more_stubs bytes table.now) }
+{
+    let given = table.room();
+    Room {
+        role: Role::PltGot,
+        used: table.used() + more,
+        given,
+    }
+}
+
+/// The room of a table of entries with more of them.
+pub(crate) fn entries_room_with(role: Role, table: &RelaTable, more: usize) -> Room
+    requires { more ≤ 5 }
+    ensures { (es : List Rela) → length es ≡ more → result ≡ entries_room role (more_entries es table.now) }
+{
+    let given = table.room();
+    Room {
+        role,
+        used: table.used() + Rela::SIZE * more,
+        given,
+    }
+}
+
+/// The room of the packed words with more of them.
+#[tactic(auto, using(crate::proofs::SlotLemmas::length_after_flats))]
+pub(crate) fn packed_room_with(table: &RelrTable, more: usize) -> Room
+    requires { more ≤ 5 }
+    ensures { (ps : List ℕ) → length ps ≡ more → result ≡ packed_room (more_places ps table.now) }
+{
+    let given = table.room();
+    Room {
+        role: Role::RelrDyn,
+        used: table.used() + Relr::SIZE * more,
+        given,
+    }
 }

@@ -1,6 +1,6 @@
 //! What the words of slots give to the parts of an image.
 ghost use Rattle.std.specs.Prelude.{◌≡◌, ◌+◌, ◌*◌, ◌%◌, ◌≤◌, ◌++◌, true, length, replicate, IfSome};
-ghost use Rattle.wild_tables.specs.Tables.{after_flats};
+ghost use Rattle.wild_tables.specs.SlotTables.{after_flats};
 ghost use Rattle.wild_tables.specs.SlotParts.{next, is_packed, word_of, slot_words, type_of, entry_at, address_entry, entry_of, slot_entries, flat_place, flat_places};
 
 use crate::rela::RelaTable;

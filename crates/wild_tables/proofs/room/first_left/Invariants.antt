@@ -1,5 +1,5 @@
 use Rattle.std.proofs.Common.{◌≡◌, drop}
-use Rattle.wild_tables.specs.Tables.{first_left}
+use Rattle.wild_tables.specs.Rooms.{first_left}
 use Rattle.wild_tables.proofs.room.first_left.Given as goal
 
 abbrev pub invariant-loop-room : goal.invariant-loop-room

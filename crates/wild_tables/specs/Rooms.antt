@@ -1,0 +1,112 @@
+-- How much of their rooms the tables of a group use.
+--   rooms t            what each table has and uses, in the order of roles
+--   room_for_all l t   each table has its room, or InsufficientAllocation of the first that has not
+--   left_over l t      no table has room left, or ExcessiveAllocation of the first that has
+--   Fit t              each table fits its part
+--   slot_answer        what is answered for a slot
+use Rattle.std.specs.Prelude.{ℕ, ◌-◌, ◌*◌, ◌^◌, ◌≤◌, nat_lt, min, if◌then◌else◌, List, [], ◌∷◌, length, Option, Some, None, Result, Ok, Err}
+use Rattle.wild_records.specs.Relocations.{rela_size, relr_size}
+use Rattle.wild_plan.specs.declared.part.Role.{Role}
+use Rattle.wild_plan.specs.declared.part.Role.TheVariants as role
+use Rattle.wild_plan.specs.declared.fault.Error.{Error}
+use Rattle.wild_plan.specs.declared.fault.Fault.TheVariants as faults
+use Rattle.wild_plan.specs.Faults.{nowhere}
+use Rattle.wild_plan.specs.declared.layout.Layout.{Layout}
+use Rattle.wild_plan.specs.Shares.{insufficient, excessive}
+use Rattle.wild_tables.specs.Entries.{Entries}
+use Rattle.wild_tables.specs.Words.{Words}
+use Rattle.wild_tables.specs.GotWords.{GotWords, Stubs}
+use Rattle.wild_tables.specs.declared.slot.SlotFault.{SlotFault}
+use Rattle.wild_tables.specs.declared.slot.SlotFault.TheVariants.{NoDynamicSymbol}
+use Rattle.wild_tables.specs.declared.slot.Refused.{Refused}
+use Rattle.wild_tables.specs.declared.slot.Refused.TheVariants as refused
+use Rattle.wild_tables.specs.declared.room.Room.{Room}
+use Rattle.wild_tables.specs.Tables.{Tables, packed_used}
+
+-- a table's room: what it has, and what of it is used
+abbrev pub words_room : Role → GotWords → Room
+words_room r t = record { role = r; used = 8 * length t.words; given = t.room }
+
+abbrev pub stubs_room : Stubs → Room
+stubs_room t = record { role = role.PltGot; used = length t.bytes; given = t.room }
+
+abbrev pub packed_room : Words → Room
+packed_room t = record { role = role.RelrDyn; used = relr_size * length t.state.words; given = t.room }
+
+abbrev pub entries_room : Role → Entries → Room
+entries_room r t = record { role = r; used = rela_size * length t.entries; given = t.room }
+
+-- the tables in the order of their roles
+abbrev pub rooms : Tables → List Room
+rooms t =
+    words_room role.Got t.got
+    ∷ words_room role.GotRelr t.block
+    ∷ stubs_room t.stubs
+    ∷ entries_room role.RelaPlt t.plt
+    ∷ entries_room role.RelaDynRelative t.relative
+    ∷ entries_room role.RelaDynGeneral t.general
+    ∷ packed_room t.packed
+    ∷ []
+
+-- the first that has too little room
+abbrev pub first_short : Layout → ℕ → List Room → Result (Unit {0}) Error
+first_short l group [] = Ok tt
+first_short l group (r ∷ rs) = if nat_lt r.given r.used then Err (insufficient l group r.role r.given r.used) else first_short l group rs
+
+-- the first that has room left
+abbrev pub first_left : Layout → ℕ → List Room → Result (Unit {0}) Error
+first_left l group [] = Ok tt
+first_left l group (r ∷ rs) = if nat_lt r.used r.given then Err (excessive l group r.role r.given r.used) else first_left l group rs
+
+-- each table has its room; else by how much the first has not
+abbrev pub room_for_all : Layout → Tables → Result (Unit {0}) Error
+room_for_all l t = first_short l t.group (rooms t)
+
+-- no table has room left; else by how much the first has, in the order of roles
+abbrev pub left_over : Layout → Tables → Result (Unit {0}) Error
+left_over l t = first_left l t.group (rooms t)
+
+-- a number of bytes that is too large for one is 2^64 - 1
+abbrev pub capped : Room → Room
+capped r = record r { used = min (2 ^ 64 - 1) r.used }
+
+-- the two tables of what stands once have their room
+abbrev pub room_for_header : Layout → Tables → Result (Unit {0}) Error
+room_for_header l t = first_short l t.group (capped (words_room role.Got t.got) ∷ entries_room role.RelaDynGeneral t.general ∷ [])
+
+-- these two fit their parts
+pub record HeaderFits (t : Tables) : Type 0 where
+  pub got : 8 * length t.got.words ≤ t.got.room
+  pub general : rela_size * length t.general.entries ≤ t.general.room
+
+-- the general entries have their room
+abbrev pub room_for_general : Layout → Tables → Result (Unit {0}) Error
+room_for_general l t = first_short l t.group (entries_room role.RelaDynGeneral t.general ∷ [])
+
+-- the words have their room, in the part that the tables were made for
+abbrev pub room_for_block : Tables → Result (Unit {0}) Error
+room_for_block t =
+    if nat_lt t.packed.room (packed_used t)
+    then Err (record { fault = faults.InsufficientAllocation t.packed_part t.group t.packed.room (packed_used t); at = nowhere })
+    else Ok tt
+
+-- each table fits its part
+pub record Fit (t : Tables) : Type 0 where
+  pub got : 8 * length t.got.words ≤ t.got.room
+  pub block : 8 * length t.block.words ≤ t.block.room
+  pub stubs : length t.stubs.bytes ≤ t.stubs.room
+  pub plt : rela_size * length t.plt.entries ≤ t.plt.room
+  pub relative : rela_size * length t.relative.entries ≤ t.relative.room
+  pub general : rela_size * length t.general.entries ≤ t.general.room
+  pub packed : packed_used t ≤ t.packed.room
+
+-- what is answered for a slot: the room that lacks, else what failed
+abbrev pub slot_answer : Result (Unit {0}) Error → Option SlotFault → Result (Unit {0}) Refused
+slot_answer (Err e) fault = Err (refused.Room e)
+slot_answer (Ok u) (Some f) = Err (refused.Fault f)
+slot_answer (Ok u) None = Ok tt
+
+-- what is answered for a copied symbol: it has to be one of the dynamic symbol table
+abbrev pub copy_answer : Option ℕ → Result (Unit {0}) Error → Result (Unit {0}) Refused
+copy_answer None room = Err (refused.Fault NoDynamicSymbol)
+copy_answer (Some d) room = slot_answer room None

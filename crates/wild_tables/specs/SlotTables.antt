@@ -1,0 +1,108 @@
+-- The tables of a group with more in them.
+--   with_placed l at ws t   with words from a place on, each in its part with its entry in its own
+--   with_slot l r stub t    with the slots of a resolution, and its stub: its bytes, or its distance where that is too far
+--   with_header l t         with what stands once
+--   with_block base n t     with the places of the block, packed
+--   with_general e t        with an entry of `rela_dyn_general`
+--   with_copy l r t         with a copied symbol
+use Rattle.std.specs.Prelude.{ℕ, ℤ, if◌then◌else◌, List, [], ◌∷◌, ◌++◌, replicate, Option, Some, None, unwrap_or, Result, Ok, Err}
+use Rattle.wild_records.specs.declared.relocations.Rela.{Rela}
+use Rattle.wild_reloc.specs.declared.dynamic.DynamicRelocationKind.{DynamicRelocationKind}
+use Rattle.wild_reloc.specs.declared.dynamic.DynamicRelocationKind.TheVariants.{Copy}
+use Rattle.wild_plan.specs.declared.layout.Layout.{Layout}
+use Rattle.wild_plan.specs.declared.symbol.Resolution.{Resolution}
+use Rattle.wild_relr.specs.Packing.{State}
+use Rattle.wild_relr.specs.Packed.{after_flat, after_block}
+use Rattle.wild_tables.specs.Words.{Words}
+use Rattle.wild_tables.specs.declared.slot.Setting.{Setting}
+use Rattle.wild_tables.specs.declared.slot.SlotWord.{SlotWord}
+use Rattle.wild_tables.specs.declared.slot_parts.WordPart.TheVariants as words
+use Rattle.wild_tables.specs.declared.slot_parts.EntryPart.TheVariants as entries
+use Rattle.wild_tables.specs.Slots.{SlotContent, setting_of, slot, storage_pair}
+use Rattle.wild_tables.specs.SlotParts.{type_of, entry_at, slot_words, slot_entries, flat_places}
+use Rattle.wild_tables.specs.Tables.{Tables, more_words, more_stubs, more_entries, with_words}
+
+-- places by words of their own
+abbrev pub after_flats : State → List ℕ → State
+after_flats s [] = s
+after_flats s (p ∷ ps) = after_flats (after_flat s p) ps
+
+abbrev pub more_places : List ℕ → Words → Words
+more_places ps t = record { state = after_flats t.state ps; room = t.room }
+
+-- words from a place on, each in its part with its entry in its own
+abbrev pub with_placed : Layout → ℕ → List SlotWord → Tables → Tables
+with_placed l at ws t = record t {
+  got = more_words (slot_words words.Got l.options.relr at ws) t.got;
+  block = more_words (slot_words words.Block l.options.relr at ws) t.block;
+  plt = more_entries (slot_entries entries.Plt l.machine l.options.relr at ws) t.plt;
+  relative = more_entries (slot_entries entries.Relative l.machine l.options.relr at ws) t.relative;
+  general = more_entries (slot_entries entries.General l.machine l.options.relr at ws) t.general;
+  packed = more_places (flat_places l.options.relr at ws) t.packed;
+}
+
+-- the bytes of the stub, or by how much it is too far from its slot
+abbrev pub distance_of : Result (List ℕ) ℕ → Option ℕ
+distance_of (Ok bytes) = None
+distance_of (Err distance) = Some distance
+
+abbrev pub bytes_of : Result (List ℕ) ℕ → List ℕ
+bytes_of (Ok bytes) = bytes
+bytes_of (Err distance) = []
+
+-- what is written for a resolution of a layout
+abbrev pub content_of : Layout → Resolution → Result (List ℕ) ℕ → SlotContent
+content_of l r stub = slot (setting_of l) (distance_of stub) r
+
+abbrev pub stub_of : SlotContent → Result (List ℕ) ℕ → List ℕ
+stub_of c stub = if c.has_stub then bytes_of stub else []
+
+-- words from a place on, and a stub
+abbrev pub with_content : Layout → ℕ → List SlotWord → List ℕ → Tables → Tables
+with_content l at ws stub t = record (with_placed l at ws t) { stubs = more_stubs stub t.stubs }
+
+-- the slots of a resolution, and its stub
+abbrev pub with_slot : Layout → Resolution → Result (List ℕ) ℕ → Tables → Tables
+with_slot l r stub t = with_content l (unwrap_or r.got_address 0) (content_of l r stub).words (stub_of (content_of l r stub) stub) t
+
+-- ---- what stands once
+
+abbrev pub pair_at : Setting → Option ℕ → List SlotWord
+pair_at s None = []
+pair_at s (Some at) = storage_pair s
+
+-- the pair of the output's own thread-local data, where it has a place
+abbrev pub storage_words : Layout → List SlotWord
+storage_words l = pair_at (setting_of l) l.tlsld
+
+-- the reserved words at the start of the table, which are 0 in the file, and the pair of the output's own thread-local data
+-- with its entry
+abbrev pub with_header : Layout → Tables → Tables
+with_header l t = record t {
+  got = more_words (replicate l.got_header 0 ++ slot_words words.Got l.options.relr (unwrap_or l.tlsld 0) (storage_words l)) t.got;
+  general = more_entries (slot_entries entries.General l.machine l.options.relr (unwrap_or l.tlsld 0) (storage_words l)) t.general;
+}
+
+-- the places of n slots from base on, packed by a block of words
+abbrev pub with_block : ℕ → ℕ → Tables → Tables
+with_block base n t = with_words (after_block t.packed.state base n) t
+
+-- an entry of `rela_dyn_general` more
+abbrev pub with_general : Rela → Tables → Tables
+with_general e t = record t { general = more_entries (e ∷ []) t.general }
+
+-- the entry by which a loader fills a place by a symbol (gABI, "Relocation")
+abbrev pub symbol_entry : Layout → ℕ → ℤ → ℕ → DynamicRelocationKind → Rela
+symbol_entry l at addend symbol kind = record { offset = at; number = type_of l.machine kind; symbol = symbol; addend = addend }
+
+-- the entry by which a loader copies the symbol's bytes to its address in this output
+abbrev pub copy_entry : Layout → Resolution → ℕ → Rela
+copy_entry l r d = entry_at l.machine r.raw_value (record { kind = Copy; symbol = d; addend = 0 })
+
+abbrev pub with_copy_of : Layout → Resolution → Option ℕ → Tables → Tables
+with_copy_of l r None t = t
+with_copy_of l r (Some d) t = with_general (copy_entry l r d) t
+
+-- a copied symbol
+abbrev pub with_copy : Layout → Resolution → Tables → Tables
+with_copy l r t = with_copy_of l r r.dynamic_symbol_index t

@@ -1,0 +1,326 @@
+//! Slots, what stands once, and entries that fill a place.
+ghost use Rattle.std.specs.Prelude.{◌≡◌, ◌≢◌, ◌++◌, ◌%◌, ◌≤◌, unwrap_or, length, OnOk, OnErr};
+ghost use Rattle.std.specs.Int.{cast_signed, w64};
+ghost use Rattle.wild_reloc.specs.declared.dynamic.DynamicRelocationKind.TheVariants.{Irelative};
+ghost use Rattle.wild_relr.specs.Places.{places};
+ghost use Rattle.wild_relr.specs.Packed.{slots};
+ghost use Rattle.wild_tables.specs.SlotTables.{with_content, with_slot, content_of, storage_words, with_header, with_block, with_general, symbol_entry, with_copy};
+ghost use Rattle.wild_tables.specs.Rooms.{rooms, room_for_all, Fit, room_for_header, HeaderFits, room_for_block, room_for_general, slot_answer, copy_answer};
+
+use super::{TABLES, TableWriter};
+use crate::cases::{slot_of, storage_pair};
+use crate::room::{
+    Room, entries_room_with, first_short, packed_room_with, stubs_room_with, words_room_with,
+};
+use crate::slot::{Refused, STUB_SIZE, Setting, SlotEntry, SlotFault, SlotWord, WORD_SIZE};
+use crate::slot_parts::{
+    EntryPart, WordPart, add_entries, add_flat, add_words, add_zeros, count_entries, count_flat,
+    count_words, entry_at, type_of,
+};
+use wild_plan::{At, Error, Fault, Layout, Resolution, Role, insufficient};
+use wild_records::Rela;
+use wild_reloc::DynamicRelocationKind;
+use wild_relr::block_words;
+
+impl TableWriter {
+    /// The tables' rooms with words from a place on and a stub.
+    #[tactic(auto, using(crate::proofs::SlotLemmas::length_after_flats))]
+    fn rooms_with(
+        &self,
+        layout: &Layout,
+        place: u64,
+        words: &[SlotWord],
+        stub: &[u8],
+    ) -> [Room; TABLES]
+        requires words { length words.now ≤ 5 }
+        requires stub { length stub.now ≤ 16 }
+        ensures { result ≡ rooms (with_content layout.now place words.now stub.now self.now) }
+    {
+        let relr = layout.options.relr;
+        let machine = layout.machine;
+        let got = count_words(WordPart::Got, relr, place, words);
+        let block = count_words(WordPart::Block, relr, place, words);
+        let plt = count_entries(EntryPart::Plt, machine, relr, place, words);
+        let relative = count_entries(EntryPart::Relative, machine, relr, place, words);
+        let general = count_entries(EntryPart::General, machine, relr, place, words);
+        [
+            words_room_with(Role::Got, &self.got, got),
+            words_room_with(Role::GotRelr, &self.block, block),
+            stubs_room_with(&self.stubs, stub.len()),
+            entries_room_with(Role::RelaPlt, &self.plt, plt),
+            entries_room_with(Role::RelaDynRelative, &self.relative, relative),
+            entries_room_with(Role::RelaDynGeneral, &self.general, general),
+            packed_room_with(&self.packed, count_flat(relr, place, words)),
+        ]
+    }
+
+    /// `InsufficientAllocation` for the first table that is too small for words from a place on and a stub.
+    #[tactic(auto, using(crate::proofs::SlotLemmas::answer_fits))]
+    fn room_for_content(
+        &self,
+        layout: &Layout,
+        place: u64,
+        words: &[SlotWord],
+        stub: &[u8],
+    ) -> Result<(), Error>
+        requires words { length words.now ≤ 5 }
+        requires stub { length stub.now ≤ 16 }
+        ensures answered { result ≡ room_for_all layout.now (with_content layout.now place words.now stub.now self.now) }
+        ensures fit { OnOk result (Fit (with_content layout.now place words.now stub.now self.now)) }
+    {
+        let rooms = self.rooms_with(layout, place, words, stub);
+        first_short(layout, self.group, &rooms)
+    }
+
+    /// Words from a place on, each in its part with its entry in its own, and a stub.
+    #[tactic(auto, using(crate::proofs::SlotLemmas::length_after_flats))]
+    fn put_content(&mut self, layout: &Layout, place: u64, words: &[SlotWord], stub: &[u8])
+        requires { Fit (with_content layout.now place words.now stub.now self.old) }
+        ensures { self.new ≡ with_content layout.now place words.now stub.now self.old }
+    {
+        let relr = layout.options.relr;
+        let machine = layout.machine;
+        add_words(&mut self.got, WordPart::Got, relr, place, words);
+        add_words(&mut self.block, WordPart::Block, relr, place, words);
+        self.stubs.push(stub);
+        add_entries(&mut self.plt, EntryPart::Plt, machine, relr, place, words);
+        add_entries(
+            &mut self.relative,
+            EntryPart::Relative,
+            machine,
+            relr,
+            place,
+            words,
+        );
+        add_entries(
+            &mut self.general,
+            EntryPart::General,
+            machine,
+            relr,
+            place,
+            words,
+        );
+        add_flat(&mut self.packed, relr, place, words);
+    }
+
+    /// Writes the slots of a resolution and its stub, which is given by its bytes, or by its distance from the slot where
+    /// that is too far: the words from the slot's place on, the entries that fill them, and RELR words of addresses that
+    /// do not stand in the block.
+    ///
+    /// # Errors
+    ///
+    /// `Refused::Room` where a part has too little room for what comes before a fault, else `Refused::Fault` where the
+    /// slots have one. Nothing changes then.
+    pub fn process_resolution(
+        &mut self,
+        layout: &Layout,
+        resolution: &Resolution,
+        stub: Result<[u8; STUB_SIZE], u64>,
+    ) -> Result<(), Refused>
+        ensures answered { result ≡ slot_answer (room_for_all layout.now (with_slot layout.now resolution.now stub self.old)) (content_of layout.now resolution.now stub).fault }
+        ensures written { OnOk result (self.new ≡ with_slot layout.now resolution.now stub self.old) }
+        ensures kept { OnErr result (self.new ≡ self.old) }
+    {
+        let far = match stub {
+            Ok(_) => None,
+            Err(distance) => Some(distance),
+        };
+        let slot = slot_of(&Setting::of(layout), far, resolution);
+        let bytes: &[u8] = match &stub {
+            Ok(bytes) if slot.has_stub() => bytes,
+            _ => &[],
+        };
+        let place = resolution.got_address.unwrap_or(0);
+        self.room_for_content(layout, place, slot.words(), bytes)?;
+        if let Some(fault) = slot.fault() {
+            return Err(Refused::Fault(fault));
+        }
+        self.put_content(layout, place, slot.words(), bytes);
+        Ok(())
+    }
+
+    /// `InsufficientAllocation` for the first table that is too small for what stands once.
+    #[tactic(auto, using(crate::proofs::SlotLemmas::header_fits))]
+    fn room_for_header(&self, layout: &Layout, place: u64, pair: &[SlotWord]) -> Result<(), Error>
+        requires place { place ≡ unwrap_or layout.now.tlsld 0 }
+        requires pair { pair.now ≡ storage_words layout.now }
+        ensures answered { result ≡ room_for_header layout.now (with_header layout.now self.now) }
+        ensures fit { OnOk result (HeaderFits (with_header layout.now self.now)) }
+    {
+        let relr = layout.options.relr;
+        let words = count_words(WordPart::Got, relr, place, pair);
+        let entries = count_entries(EntryPart::General, layout.machine, relr, place, pair);
+        let zeros = (layout.got_header as usize).saturating_mul(WORD_SIZE);
+        let given = self.got.room();
+        let got = Room {
+            role: Role::Got,
+            used: (self.got.used() + WORD_SIZE * words).saturating_add(zeros),
+            given,
+        };
+        let general = entries_room_with(Role::RelaDynGeneral, &self.general, entries);
+        first_short(layout, self.group, &[got, general])
+    }
+
+    /// What stands once.
+    fn put_header(&mut self, layout: &Layout, place: u64, pair: &[SlotWord])
+        requires place { place ≡ unwrap_or layout.now.tlsld 0 }
+        requires pair { pair.now ≡ storage_words layout.now }
+        requires fit { HeaderFits (with_header layout.now self.old) }
+        ensures { self.new ≡ with_header layout.now self.old }
+    {
+        let relr = layout.options.relr;
+        add_zeros(&mut self.got, layout.got_header as usize);
+        add_words(&mut self.got, WordPart::Got, relr, place, pair);
+        let general = &mut self.general;
+        add_entries(
+            general,
+            EntryPart::General,
+            layout.machine,
+            relr,
+            place,
+            pair,
+        );
+    }
+
+    /// Writes what stands once at the start of the global offset table: the reserved words, and the module pair of the
+    /// output's own thread-local data.
+    ///
+    /// # Errors
+    ///
+    /// `InsufficientAllocation` exactly where a part has too little room; nothing changes then.
+    pub fn write_plt_got_entries(&mut self, layout: &Layout) -> Result<(), Error>
+        ensures answered { result ≡ room_for_header layout.now (with_header layout.now self.old) }
+        ensures written { OnOk result (self.new ≡ with_header layout.now self.old) }
+        ensures kept { OnErr result (self.new ≡ self.old) }
+    {
+        let both = storage_pair(&Setting::of(layout));
+        let pair: &[SlotWord] = match layout.tlsld {
+            Some(_) => &both,
+            None => &[],
+        };
+        let place = layout.tlsld.unwrap_or(0);
+        self.room_for_header(layout, place, pair)?;
+        self.put_header(layout, place, pair);
+        Ok(())
+    }
+
+    /// Records the `n` places from `base` on, 8 bytes apart, by one block of packed words: the group's words of `got_relr`.
+    /// Nothing is recorded where `n` or `base` is 0.
+    ///
+    /// # Errors
+    ///
+    /// `InsufficientAllocation` exactly where the words do not fit; nothing changes then.
+    pub fn write_got_relr_bitmap(&mut self, base: u64, n: u64) -> Result<(), Error>
+        requires { base % 2 ≡ 0 }
+        ensures answered { result ≡ room_for_block (with_block base n self.old) }
+        ensures written { OnOk result (self.new ≡ with_block base n self.old) }
+        ensures recorded { OnOk result (base ≢ 0 → places self.new.packed.state.words ≡ places self.old.packed.state.words ++ slots base n) }
+        ensures kept { OnErr result (self.new ≡ self.old) }
+    {
+        match self.packed.write_block(base, n) {
+            Ok(()) => Ok(()),
+            Err(_) => {
+                let given = self.packed.room();
+                let needed = self.packed.used() as u64 + 8 * block_words(base, n);
+                Err(Error {
+                    fault: Fault::InsufficientAllocation {
+                        part: self.packed_part,
+                        group: self.group,
+                        given: given as u64,
+                        needed,
+                    },
+                    at: At::NOWHERE,
+                })
+            }
+        }
+    }
+
+    /// Adds an entry to `rela_dyn_general`.
+    fn list_general(&mut self, layout: &Layout, entry: Rela) -> Result<(), Error>
+        ensures answered { result ≡ room_for_general layout.now (with_general entry self.old) }
+        ensures written { OnOk result (self.new ≡ with_general entry self.old) }
+        ensures kept { OnErr result (self.new ≡ self.old) }
+    {
+        match self.general.write(entry) {
+            Ok(()) => Ok(()),
+            Err(_) => {
+                let given = self.general.room();
+                let needed = self.general.used() + Rela::SIZE;
+                Err(insufficient(layout, self.group, Role::RelaDynGeneral, given, needed))
+            }
+        }
+    }
+
+    /// Adds the entry by which a loader fills a place by a symbol of the dynamic symbol table.
+    ///
+    /// # Errors
+    ///
+    /// `InsufficientAllocation` exactly where `rela_dyn_general` has no room for it; nothing changes then.
+    pub fn write_dynamic_symbol_relocation(
+        &mut self,
+        layout: &Layout,
+        place: u64,
+        addend: i64,
+        symbol: u32,
+        kind: DynamicRelocationKind,
+    ) -> Result<(), Error>
+        ensures answered { result ≡ room_for_general layout.now (with_general (symbol_entry layout.now place addend symbol kind) self.old) }
+        ensures written { OnOk result (self.new ≡ with_general (symbol_entry layout.now place addend symbol kind) self.old) }
+        ensures kept { OnErr result (self.new ≡ self.old) }
+    {
+        let entry = Rela {
+            offset: place,
+            number: type_of(layout.machine, kind),
+            symbol,
+            addend,
+        };
+        self.list_general(layout, entry)
+    }
+
+    /// Adds the entry by which a loader stores at a place what the resolver at an address answers.
+    ///
+    /// # Errors
+    ///
+    /// `InsufficientAllocation` exactly where `rela_dyn_general` has no room for it; nothing changes then.
+    pub fn write_ifunc_relocation_for_data(
+        &mut self,
+        layout: &Layout,
+        place: u64,
+        resolver: u64,
+    ) -> Result<(), Error>
+        ensures answered { result ≡ room_for_general layout.now (with_general (symbol_entry layout.now place (cast_signed w64 resolver) 0 Irelative) self.old) }
+        ensures written { OnOk result (self.new ≡ with_general (symbol_entry layout.now place (cast_signed w64 resolver) 0 Irelative) self.old) }
+        ensures kept { OnErr result (self.new ≡ self.old) }
+    {
+        let kind = DynamicRelocationKind::Irelative;
+        self.write_dynamic_symbol_relocation(layout, place, resolver.cast_signed(), 0, kind)
+    }
+
+    /// Adds the entry by which a loader copies a symbol's bytes to its address in this output.
+    ///
+    /// # Errors
+    ///
+    /// `Refused::Fault` where the symbol has no index in the dynamic symbol table, `Refused::Room` where
+    /// `rela_dyn_general` has no room. Nothing changes then.
+    pub fn write_copy_relocation(
+        &mut self,
+        layout: &Layout,
+        resolution: &Resolution,
+    ) -> Result<(), Refused>
+        ensures answered { result ≡ copy_answer resolution.now.dynamic_symbol_index (room_for_general layout.now (with_copy layout.now resolution.now self.old)) }
+        ensures written { OnOk result (self.new ≡ with_copy layout.now resolution.now self.old) }
+        ensures kept { OnErr result (self.new ≡ self.old) }
+    {
+        let Some(symbol) = resolution.dynamic_symbol_index else {
+            return Err(Refused::Fault(SlotFault::NoDynamicSymbol));
+        };
+        let copy = SlotEntry {
+            kind: DynamicRelocationKind::Copy,
+            symbol,
+            addend: 0,
+        };
+        let entry = entry_at(layout.machine, resolution.raw_value, copy);
+        self.list_general(layout, entry)?;
+        Ok(())
+    }
+}
