@@ -1,8 +1,8 @@
 //! The entries with addends of a file: for each address that moves and is not packed, one by which a loader stores the
 //! sum of base and value (gABI, "Relocation").
-ghost use Rattle.std.specs.Prelude.{◌≡◌, [], ◌∷◌, ◌++◌, true, OnOk};
+ghost use Rattle.std.specs.Prelude.{◌≡◌, [], ◌∷◌, ◌++◌, OnOk};
 ghost use Rattle.std.specs.List.{flat_map};
-ghost use Rattle.wild_plan.specs.Entries.{is_moved, listed_place, has_moved};
+ghost use Rattle.wild_plan.specs.Entries.{listed_place};
 ghost use Rattle.wild_tables.specs.Entries.{rela_bytes};
 ghost use Rattle.wild_layout.specs.Moved.{file_entries};
 ghost use Rattle.wild_image.specs.Own.{entry_bytes, section_entry_bytes};
@@ -12,30 +12,9 @@ use crate::part_bytes::PartBytes;
 use crate::resolve::moved_value;
 use crate::values::Resolved;
 use std::alloc::AllocError;
-use wild_plan::{File, InputRelocation, InputSection, Layout, Treatment, treatment_of};
+use wild_plan::{File, InputRelocation, InputSection, Layout, is_moved};
 use wild_records::Rela;
 use wild_tables::relative_entry;
-
-/// Whether a section may have addresses that move with the base.
-pub(crate) fn has_moved(layout: &Layout, section: &InputSection) -> bool
-    ensures { result ≡ has_moved layout.now section.now }
-{
-    layout.kind.is_position_independent() && section.is_read()
-}
-
-/// Whether the address that a relocation writes moves with the base.
-pub(crate) fn is_moved(
-    layout: &Layout,
-    section: &InputSection,
-    relocation: &InputRelocation,
-) -> bool
-    ensures { result ≡ is_moved layout.now section.now relocation.now }
-{
-    matches!(
-        treatment_of(layout, section, relocation),
-        Treatment::BaseRelative
-    )
-}
 
 /// The place of a relocation, where that has an entry.
 fn listed_place(
@@ -104,7 +83,7 @@ fn add_section_entries<A: Arch>(
 ) -> Result<(), AllocError>
     ensures { OnOk result (bytes.new ≡ bytes.old ++ section_entry_bytes resolved.now.layout.now section.now) }
 {
-    if has_moved(resolved.layout, section) {
+    if resolved.layout.has_moved(section) {
         add_all_listed(resolved, section, bytes)?;
     }
     Ok(())

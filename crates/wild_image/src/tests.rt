@@ -212,38 +212,14 @@ fn layout(alloc: Global, relocations: &[InputRelocation]) -> Result<Layout, Allo
 {
     Ok(Layout {
         machine: Machine::X86_64,
-        kind: OutputKind::StaticExecutable(RelocationModel::NonRelocatable),
-        options: Options::none(alloc),
         page_size: 4096,
         parts: parts(alloc)?,
         sections: sections(alloc)?,
         segments: segments(alloc)?,
-        tls: Tls {
-            start: 0,
-            end: 0,
-            align: 1,
-        },
-        got_base: 0,
-        got_header: 0,
-        tlsld: None,
-        primary_part: 0,
         symbols: symbols(alloc, 0x40_0086)?,
         groups: groups(alloc, relocations)?,
-        dynsyms: Items::new(alloc),
-        sysv_hash: None,
-        gnu_hash: None,
-        verdefs: Items::new(alloc),
-        thunk_blocks: Items::new(alloc),
-        sorted: Items::new(alloc),
-        merged: Items::new(alloc),
-        identity: Identity {
-            part: 0,
-            bytes: Bytes::new(alloc),
-        },
-        interp: Bytes::new(alloc),
-        properties: Items::new(alloc),
         entry: Some(Entry::Address(0x40_0080)),
-        build_id: None,
+        ..Layout::empty(alloc)
     })
 }
 

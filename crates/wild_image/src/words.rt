@@ -1,38 +1,19 @@
 //! The words of packed relocations of a file (gABI, "Relative Relocation Table"). Each input section's places are a run
 //! of their own.
-ghost use Rattle.std.specs.Prelude.{◌≡◌, ◌+◌, ◌*◌, ◌%◌, ◌≤◌, ◌++◌, length, IfOk, IfSome, OnOk};
+ghost use Rattle.std.specs.Prelude.{◌≡◌, ◌+◌, ◌*◌, ◌%◌, ◌≤◌, ◌++◌, length, IfOk, OnOk};
 ghost use Rattle.std.specs.List.{flat_map};
 ghost use Rattle.wild_records.specs.Relocations.{relr_size};
-ghost use Rattle.wild_plan.specs.Entries.{packed_place};
 ghost use Rattle.wild_relr.specs.Packing.{after};
 ghost use Rattle.wild_relr.specs.Packed.{packed, afters};
 ghost use Rattle.wild_relr.specs.Written.{word_bytes};
 ghost use Rattle.wild_layout.specs.Moved.{file_words};
 ghost use Rattle.wild_image.specs.Own.{packed_in, section_word_bytes};
 
-use crate::entries::{has_moved, is_moved};
 use crate::part_bytes::PartBytes;
 use std::alloc::{AllocError, Global};
-use wild_plan::{File, InputRelocation, InputSection, Layout};
+use wild_plan::{File, InputRelocation, InputSection, Layout, packed_place};
 use wild_records::Relr;
 use wild_tables::RelrTable;
-
-/// The place of a relocation, where that is packed.
-fn packed_place(
-    layout: &Layout,
-    section: &InputSection,
-    relocation: &InputRelocation,
-) -> Option<u64>
-    ensures is { result ≡ packed_place layout.now section.now relocation.now }
-    ensures even { IfSome result (λ place. place % 2 ≡ 0) }
-{
-    let place = section.place_of(relocation);
-    if is_moved(layout, section, relocation) && layout.packs(place) {
-        Some(place)
-    } else {
-        None
-    }
-}
 
 /// Records an even place, for which there is room.
 fn record_place(words: &mut RelrTable, place: u64)
@@ -93,7 +74,7 @@ fn add_section_words(
 ) -> Result<(), AllocError>
     ensures { OnOk result (bytes.new ≡ bytes.old ++ section_word_bytes layout.now section.now) }
 {
-    if has_moved(layout, section) {
+    if layout.has_moved(section) {
         let words = words_in(alloc, layout, section)?;
         add_table(&words, bytes)?;
     }

@@ -12,6 +12,7 @@ use Rattle.wild_records.specs.Abi.Section.{sht_null, sht_progbits, sht_strtab}
 use Rattle.wild_records.specs.Abi.Segment.{pt_load}
 use Rattle.wild_records.specs.Abi.Symbol.{stt_func}
 use Rattle.wild_plan.specs.Defaults.{no_options}
+use Rattle.wild_plan.specs.Empty.{empty_layout}
 use Rattle.wild_plan.specs.Flags.{non_interposable}
 use Rattle.wild_plan.specs.declared.kind.Machine.TheVariants as machine
 use Rattle.wild_plan.specs.declared.kind.OutputKind.TheVariants as kind
@@ -181,7 +182,7 @@ made_segment n = record {
 
 -- the layout of n groups
 unfoldable pub made : ℕ → Layout
-made n = record {
+made n = record empty_layout {
   machine = machine.X86_64;
   kind = kind.StaticExecutable NonRelocatable;
   options = record no_options { relax = true; strip_all = true };
@@ -189,23 +190,7 @@ made n = record {
   parts = made_parts n;
   sections = made_sections n;
   segments = made_segment n ∷ [];
-  tls = record { start = 0; end = 0; align = 1 };
-  got_base = 0;
-  got_header = 0;
-  tlsld = None;
-  primary_part = 0;
   symbols = map made_symbol (range_with_len 0 n);
   groups = map (made_group n) (range_with_len 0 n);
-  dynsyms = [];
-  sysv_hash = None;
-  gnu_hash = None;
-  verdefs = [];
-  thunk_blocks = [];
-  sorted = [];
-  merged = [];
-  identity = record { part = 0; bytes = [] };
-  interp = [];
-  properties = [];
   entry = Some (entry.Address 4194432);
-  build_id = None;
 }

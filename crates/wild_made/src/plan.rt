@@ -8,8 +8,8 @@ ghost use Rattle.wild_made.specs.Made.{made_parts, made_sections, made_segment, 
 use crate::group::{group, symbol};
 use std::alloc::{AllocError, Global};
 use wild_plan::{
-    Entry, Group, Identity, Layout, Machine, Options, OutputKind, Part, RelocationModel, Role,
-    Section, SectionIndex, Segment, Symbol, Tls,
+    Entry, Group, Layout, Machine, Options, OutputKind, Part, RelocationModel, Role, Section,
+    SectionIndex, Segment, Symbol,
 };
 use wild_records::abi::section::{SHT_NULL, SHT_PROGBITS, SHT_STRTAB};
 use wild_records::abi::segment::PT_LOAD;
@@ -154,31 +154,9 @@ pub fn make_plan(alloc: Global, count: u32) -> Result<Layout, AllocError>
         parts: parts(alloc, count)?,
         sections: sections(alloc, count)?,
         segments: segments(alloc, count)?,
-        tls: Tls {
-            start: 0,
-            end: 0,
-            align: 1,
-        },
-        got_base: 0,
-        got_header: 0,
-        tlsld: None,
-        primary_part: 0,
         symbols: symbols(alloc, count)?,
         groups: groups(alloc, count)?,
-        dynsyms: Items::new(alloc),
-        sysv_hash: None,
-        gnu_hash: None,
-        verdefs: Items::new(alloc),
-        thunk_blocks: Items::new(alloc),
-        sorted: Items::new(alloc),
-        merged: Items::new(alloc),
-        identity: Identity {
-            part: 0,
-            bytes: Bytes::new(alloc),
-        },
-        interp: Bytes::new(alloc),
-        properties: Items::new(alloc),
         entry: Some(Entry::Address(4194432)),
-        build_id: None,
+        ..Layout::empty(alloc)
     })
 }

@@ -1,5 +1,5 @@
 //! The addresses of a movable output that a loader adds its base to, counted.
-ghost use Rattle.std.specs.Prelude.{◌≡◌, ℕ, ◌+◌, ◌-◌, ◌^◌, ◌%◌, ◌≤◌, true, min, List, length, ◌++◌, is_some, option_to_list};
+ghost use Rattle.std.specs.Prelude.{◌≡◌, ℕ, ◌+◌, ◌-◌, ◌^◌, ◌%◌, ◌≤◌, true, min, List, length, ◌++◌, is_some, option_to_list, IfSome};
 ghost use Rattle.std.specs.List.{flat_map};
 ghost use Rattle.wild_relr.specs.Packed.{counted, packed};
 ghost use Rattle.wild_plan.specs.Entries.{place_of, packs, is_moved, listed_place, packed_place, has_moved, listed_places, words_of, entry_count, word_count};
@@ -30,7 +30,7 @@ impl Layout {
     }
 
     /// Whether a section may have addresses that move with the base.
-    fn has_moved(&self, section: &InputSection) -> bool
+    pub fn has_moved(&self, section: &InputSection) -> bool
         ensures { result ≡ has_moved self.now section.now }
     {
         self.kind.is_position_independent() && section.is_read()
@@ -38,7 +38,7 @@ impl Layout {
 }
 
 /// Whether the address that a relocation writes moves with the base.
-fn is_moved(layout: &Layout, section: &InputSection, relocation: &InputRelocation) -> bool
+pub fn is_moved(layout: &Layout, section: &InputSection, relocation: &InputRelocation) -> bool
     ensures { result ≡ is_moved layout.now section.now relocation.now }
 {
     matches!(
@@ -53,7 +53,8 @@ pub fn packed_place(
     section: &InputSection,
     relocation: &InputRelocation,
 ) -> Option<u64>
-    ensures { result ≡ packed_place layout.now section.now relocation.now }
+    ensures is { result ≡ packed_place layout.now section.now relocation.now }
+    ensures even { IfSome result (λ place. place % 2 ≡ 0) }
 {
     let place = section.place_of(relocation);
     if is_moved(layout, section, relocation) && layout.packs(place) {

@@ -67,39 +67,11 @@ fn group(
 fn layout(alloc: Global, groups: Items<Group>) -> Result<Layout, AllocError> {
     let parts = vec![in alloc; part(Role::Dynsym), part(Role::Dynstr)]?;
     Ok(Layout {
-        machine: Machine::X86_64,
         kind: OutputKind::SharedObject,
-        options: Options::none(alloc),
         page_size: 4096,
         parts: Items::from_vec(parts),
-        sections: Items::new(alloc),
-        segments: Items::new(alloc),
-        tls: Tls {
-            start: 0,
-            end: 0,
-            align: 1,
-        },
-        got_base: 0,
-        got_header: 0,
-        tlsld: None,
-        primary_part: 0,
-        symbols: Items::new(alloc),
         groups,
-        dynsyms: Items::new(alloc),
-        sysv_hash: None,
-        gnu_hash: None,
-        verdefs: Items::new(alloc),
-        thunk_blocks: Items::new(alloc),
-        sorted: Items::new(alloc),
-        merged: Items::new(alloc),
-        identity: Identity {
-            part: 0,
-            bytes: Bytes::new(alloc),
-        },
-        interp: Bytes::new(alloc),
-        properties: Items::new(alloc),
-        entry: None,
-        build_id: None,
+        ..Layout::empty(alloc)
     })
 }
 

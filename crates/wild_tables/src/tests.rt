@@ -115,39 +115,17 @@ fn layout_of(
     let mut options = Options::none(alloc);
     options.relr = relr;
     Ok(Layout {
-        machine: Machine::X86_64,
         kind,
         options,
         page_size: 4096,
         parts: Items::from_vec(parts),
-        sections: Items::new(alloc),
-        segments: Items::new(alloc),
         tls: Tls {
             start: 0x40_3000,
             end: 0x40_3010,
             align: 16,
         },
-        got_base: 0,
-        got_header: 0,
-        tlsld: None,
-        primary_part: 0,
-        symbols: Items::new(alloc),
         groups: groups(alloc, sizes)?,
-        dynsyms: Items::new(alloc),
-        sysv_hash: None,
-        gnu_hash: None,
-        verdefs: Items::new(alloc),
-        thunk_blocks: Items::new(alloc),
-        sorted: Items::new(alloc),
-        merged: Items::new(alloc),
-        identity: Identity {
-            part: 0,
-            bytes: Bytes::new(alloc),
-        },
-        interp: Bytes::new(alloc),
-        properties: Items::new(alloc),
-        entry: None,
-        build_id: None,
+        ..Layout::empty(alloc)
     })
 }
 
