@@ -1,8 +1,8 @@
 -- Lists joined end to end, item by item with their numbers, and two such lists interleaved.
 use Rattle.std.proofs.Common.{◌≡◌, ℕ, zero, suc, ◌+◌, ◌<◌, List, [], ◌∷◌, ◌++◌, length, get_or, All, AllPairs, Contains, flat_map, arith}
 use Rattle.std.proofs.lemmas.List.Elements.{All-nil, All-cons, All-append, Contains-append_left, Contains-append_right}
+use Rattle.wild_words.proofs.ListLemmas.{AllPairs-nil, AllPairs-cons, AllPairs-head, AllPairs-tail, AllPairs-append, All-append-left, All-append-right, AllPairs-left, AllPairs-right, AllPairs-cross}
 use Rattle.wild_layout.specs.Faults.{flat_map_from}
-use Rattle.wild_geometry.proofs.ListLemmas.{AllPairs-nil, AllPairs-cons, AllPairs-head, AllPairs-tail, AllPairs-append, All-append-left, All-append-right}
 
 pub All-flat_map_from : {X Y : Type 0} (P : Y → Type 0) (f : ℕ → X → List Y) (i : ℕ) (xs : List X) → ((n k : ℕ) (d : X) → n ≡ i + k → k < length xs → All P (f n (get_or xs k d))) → All P (flat_map_from f i xs)
 All-flat_map_from P f i [] h = All-nil P
@@ -25,20 +25,6 @@ Contains-flat_map_from f i (x ∷ xs) n zero d y e l c =
     let same : n ≡ i = omega arith in
     Contains-append_left (f i x) (flat_map_from f (i + 1) xs) y (rw same at c)
 Contains-flat_map_from f i (x ∷ xs) n (suc k) d y e l c = Contains-append_right (f i x) (flat_map_from f (i + 1) xs) y (Contains-flat_map_from f (i + 1) xs n k d y (omega arith) (omega arith) c)
-
--- ---- parts of a list whose items are apart
-
-AllPairs-left : {X : Type 0} (R : X → X → Type 0) (xs ys : List X) → AllPairs R (xs ++ ys) → AllPairs R xs
-AllPairs-left R [] ys p = AllPairs-nil R
-AllPairs-left R (x ∷ xs) ys p = AllPairs-cons R x xs (All-append-left (R x) xs ys (AllPairs-head R x (xs ++ ys) p)) (AllPairs-left R xs ys (AllPairs-tail R x (xs ++ ys) p))
-
-AllPairs-right : {X : Type 0} (R : X → X → Type 0) (xs ys : List X) → AllPairs R (xs ++ ys) → AllPairs R ys
-AllPairs-right R [] ys p = p
-AllPairs-right R (x ∷ xs) ys p = AllPairs-right R xs ys (AllPairs-tail R x (xs ++ ys) p)
-
-AllPairs-cross : {X : Type 0} (R : X → X → Type 0) (xs ys : List X) → AllPairs R (xs ++ ys) → All (λ x. All (R x) ys) xs
-AllPairs-cross R [] ys p = All-nil (λ x. All (R x) ys)
-AllPairs-cross R (x ∷ xs) ys p = All-cons (λ z. All (R z) ys) x xs (All-append-right (R x) xs ys (AllPairs-head R x (xs ++ ys) p)) (AllPairs-cross R xs ys (AllPairs-tail R x (xs ++ ys) p))
 
 -- ---- what f and g give, item by item
 

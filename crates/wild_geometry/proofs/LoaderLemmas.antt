@@ -3,6 +3,7 @@ use Rattle.std.proofs.Common.{◌≡◌, ℕ, ◌+◌, ◌≤◌, inl, inr, ◌=
 use Rattle.std.specs.List.{list_any}
 use Rattle.std.proofs.lemmas.Bool.{cases_Bool, and_parts, leb-true, eqb-true, eqb-false, eq-eqb, ne_eqb}
 use Rattle.std.proofs.lemmas.List.Elements.{All-nil, All-cons}
+use Rattle.wild_words.proofs.ListLemmas.{Found-from_list_any}
 use Rattle.wild_records.specs.Abi.Section.{sht_rela}
 use Rattle.wild_records.specs.Abi.Segment.{pt_load, pt_dynamic}
 use Rattle.wild_plan.specs.declared.part.Part.{Part}
@@ -29,7 +30,6 @@ use Rattle.wild_layout.specs.Moved.{section_entries}
 use Rattle.wild_tables.specs.Entries.{rela_bytes}
 use Rattle.wild_layout.specs.Geometry.{IsStatic, HasSegment, IsCarriedWhole, HasNoEntries, HasTable, table_bytes}
 use Rattle.wild_geometry.proofs.ClauseLemmas.{Laid, Both-from_first_error, None-from_fails}
-use Rattle.wild_geometry.proofs.ListLemmas.{Found-from_list_any}
 use Rattle.wild_geometry.proofs.RoleLemmas.{FoundAt-from_find, nil_from_length, no_count, nothing_shared, HasTable-from_laid}
 use Rattle.wild_records.specs.declared.dynamic.DynamicEntry.{DynamicEntry}
 use Rattle.wild_plan.specs.Dynamic.{dynamic_entries, dynamic_count}

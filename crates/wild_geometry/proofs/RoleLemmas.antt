@@ -5,6 +5,7 @@ use Rattle.std.proofs.lemmas.Bool.{cases_Bool, eqb-true, eqb-false, eq-eqb, ne_e
 use Rattle.std.proofs.lemmas.Option.{same_Some}
 use Rattle.std.proofs.lemmas.List.Elements.{Contains-append_left}
 use Rattle.wild_words.specs.Overlay.{Piece}
+use Rattle.wild_words.proofs.ListLemmas.{ItemAt-within, holds_at}
 use Rattle.wild_plan.specs.declared.part.Part.{Part}
 use Rattle.wild_plan.specs.declared.part.Role.{Role}
 use Rattle.wild_plan.specs.declared.part.Role.TheVariants as role
@@ -30,7 +31,6 @@ use Rattle.wild_geometry.proofs.InterleaveLemmas.{Contains-flat_map_from}
 use Rattle.wild_geometry.proofs.OrderLemmas.{EndsBy-image}
 use Rattle.wild_geometry.proofs.ShareLemmas.{total_same, total_within, content_is_given, size_from_shares}
 use Rattle.wild_geometry.proofs.ContentLemmas.{length_joined, length-content, length-dynamic_content, dynamic_share, group_last}
-use Rattle.wild_geometry.proofs.ListLemmas.{ItemAt-within, holds_at}
 use Rattle.wild_geometry.proofs.TableLemmas.{role_at, role_listed, same_role}
 use Rattle.wild_geometry.proofs.TablePieces.{not_raw_takes, Contains-some}
 

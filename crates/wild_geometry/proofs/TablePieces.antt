@@ -3,6 +3,8 @@ use Rattle.std.proofs.Common.{◌≡◌, ℕ, zero, suc, ◌+◌, ◌<◌, ◌�
 use Rattle.std.proofs.lemmas.Bool.{cases_Bool, cases_order, and_parts, or_cases, leb-true, eqb-true, eqb-false}
 use Rattle.std.proofs.lemmas.Option.{slice_get-get_or, same_Some}
 use Rattle.std.proofs.lemmas.List.Elements.{All-nil, All-cons, Contains-append_left}
+use Rattle.wild_words.proofs.ListLemmas.{All-flat_map, All-optional, ItemAt-within}
+use Rattle.wild_words.proofs.OrderLemmas.{Apart-flip}
 use Rattle.wild_records.specs.FileHeader.{file_header_size}
 use Rattle.wild_words.specs.Overlay.{Piece, Apart, AreApart}
 use Rattle.wild_plan.specs.declared.part.Part.{Part}
@@ -20,7 +22,6 @@ use Rattle.wild_layout.specs.Content.{whole_bytes, own_bytes, content}
 use Rattle.wild_layout.specs.Image.{some_piece, given_before, table_piece, table_pieces, owned_pieces, group_pieces, section_piece, pieces}
 use Rattle.wild_layout.specs.Faults.{flat_map_from}
 use Rattle.wild_layout.specs.Geometry.{PartLies, IsPiece, HasTables}
-use Rattle.wild_geometry.proofs.ListLemmas.{All-flat_map, All-optional, ItemAt-within}
 use Rattle.wild_geometry.proofs.InterleaveLemmas.{All-flat_map_from, AllPairs-flat_map_from, Contains-flat_map_from, All-both, AllPairs-both}
 use Rattle.wild_geometry.proofs.ClauseLemmas.{Laid}
 use Rattle.wild_geometry.proofs.OrderLemmas.{Takes, EndsBy-image, Follows, PartsFollow-from_order}
@@ -193,10 +194,6 @@ given_within l h =
     let in_image = EndsBy-image l i p li one.takes (omega arith) in
     omega arith))
 
-Apart-other : (p q : Piece) → Apart p q → Apart q p
-Apart-other p q (inl a) = inr a
-Apart-other p q (inr a) = inl a
-
 pub AreApart-from_laid : (l : Layout) → Laid l → Runs l → All (λ s. is_filled l s ≡ true → Stood l s) (all_sections l) → AreApart (image_size l) (pieces l)
 unfolding pieces
 AreApart-from_laid l laid runs stood =
@@ -204,7 +201,7 @@ AreApart-from_laid l laid runs stood =
     let same = section_pieces_by_group l in
     record {
       within = All-both (InImage l) (table_pieces l) (owned_pieces l) 0 l.groups (given_within l laid) (subst (All (InImage l)) same (section_pieces_within l h));
-      apart = AllPairs-both Apart (table_pieces l) (owned_pieces l) 0 l.groups Apart-other (given_apart l laid h.follow) (subst (AllPairs Apart) same (section_pieces_apart l h)) (subst (λ (ps : List Piece). All (λ a. All (Apart a) ps) (given_pieces l)) same (given_and_sections l laid h));
+      apart = AllPairs-both Apart (table_pieces l) (owned_pieces l) 0 l.groups Apart-flip (given_apart l laid h.follow) (subst (AllPairs Apart) same (section_pieces_apart l h)) (subst (λ (ps : List Piece). All (λ a. All (Apart a) ps) (given_pieces l)) same (given_and_sections l laid h));
     }
 
 -- ---- the tables

@@ -5,10 +5,12 @@ use Rattle.std.proofs.lemmas.List.{length-append, append_assoc, append-nil, take
 use Rattle.std.proofs.lemmas.Slice.{drop-append-drop}
 use Rattle.std.proofs.lemmas.Bool.Decides.{nat_tests}
 use Rattle.std.proofs.Math.Nat.{mul-le-mul_left}
+use Rattle.std.proofs.lemmas.List.Concat.{flat_map-append}
 use Rattle.wild_words.specs.Words.{word, place}
 use Rattle.wild_words.specs.Record.{spell}
 use Rattle.wild_words.proofs.WordLemmas.{front-place, word_1}
 use Rattle.wild_words.proofs.RecordLemmas.{length-spell}
+use Rattle.wild_words.proofs.ListLemmas.{flat_map-more}
 use Rattle.wild_records.specs.FileHeader.{file_header_fields, file_header_size}
 use Rattle.wild_records.specs.ProgramHeader.{program_header_fields, program_header_size}
 use Rattle.wild_records.specs.SectionHeader.{section_header_size, section_header_fields}
@@ -18,8 +20,8 @@ use Rattle.wild_records.specs.declared.section_header.SectionHeader.{SectionHead
 use Rattle.wild_plan.specs.declared.section.Section.{Section}
 use Rattle.wild_plan.specs.declared.layout.Layout.{Layout}
 use Rattle.wild_plan.specs.Lists.{total}
+use Rattle.wild_plan.proofs.ListLemmas.{total-prefix, total-more}
 use Rattle.wild_headers.specs.Headers.{symbol_table, info_at, null_header, section_header, headers_from, section_headers_of}
-use Rattle.wild_headers.proofs.ListLemmas.{flat_map-more, flat_map-append, total-prefix, total-more}
 
 pub length-file_header : (h : FileHeader) → length (spell (file_header_fields h)) ≡ file_header_size
 unfolding file_header_fields

@@ -1,4 +1,3 @@
-pub mod ListLemmas
 pub mod HeaderLemmas
 pub mod LengthLemmas
 pub mod ReadLemmas

@@ -4,6 +4,7 @@ use Rattle.std.specs.List.{flat_map}
 use Rattle.std.proofs.lemmas.List.{length-append, get_or-append_right, get_or_append_left}
 use Rattle.wild_words.specs.Words.{Stands}
 use Rattle.wild_words.specs.Record.{spell}
+use Rattle.wild_words.proofs.RecordLemmas.{Stands-left}
 use Rattle.wild_records.specs.ProgramHeader.{program_header_size, program_header_fields}
 use Rattle.wild_records.specs.SectionHeader.{section_header_size, section_header_fields}
 use Rattle.wild_records.specs.declared.section_header.SectionHeader.{SectionHeader}
@@ -14,9 +15,6 @@ use Rattle.wild_headers.specs.Headers.{program_header, symbol_table, section_hea
 use Rattle.wild_headers.specs.Laws.{ProgramHeadersStand, SectionHeadersStand, NamesStand}
 use Rattle.wild_headers.proofs.HeaderLemmas.{length-program_header, length-section_header, named}
 use Rattle.wild_headers.proofs.LengthLemmas.{length-section_headers_of}
-
-Stands-front : (xs ys : List ℕ) → Stands (xs ++ ys) 0 xs
-Stands-front xs ys = record { fits = let e = length-append xs ys in omega (arith, e); same = λ k l. let z : 0 + k ≡ k = omega arith in rw z (get_or_append_left xs ys 0 k l) }
 
 Stands-behind : (xs ys part : List ℕ) (n at whole : ℕ) → length xs ≡ n → whole ≡ n + at → Stands ys at part → Stands (xs ++ ys) whole part
 Stands-behind xs ys part n at whole len is s = record {
@@ -29,7 +27,7 @@ Stands-behind xs ys part n at whole len is s = record {
 -- entry k of a table whose entries have the same width
 Stands-table : {X : Type 0} (f : X → List ℕ) (n : ℕ) → ((x : X) → length (f x) ≡ n) → (xs : List X) (k : ℕ) (d : X) → k < length xs → Stands (flat_map f xs) (n * k) (f (get_or xs k d))
 Stands-table f n w [] k d l = absurd (omega (arith, l))
-Stands-table f n w (x ∷ xs) zero d l = let e : n * 0 ≡ 0 = omega arith in rw e (Stands-front (f x) (flat_map f xs))
+Stands-table f n w (x ∷ xs) zero d l = let e : n * 0 ≡ 0 = omega arith in rw e (Stands-left (f x) (flat_map f xs))
 Stands-table f n w (x ∷ xs) (suc k) d l =
     let e : n * suc k ≡ n + n * k = omega arith in
     Stands-behind (f x) (flat_map f xs) (f (get_or xs k d)) n (n * k) (n * (suc k)) (w x) e (Stands-table f n w xs k d (omega (arith, l)))
@@ -51,7 +49,7 @@ name_of_header d i name (s ∷ ss) (suc k) h l = let e = name_of_header d (i + 1
 
 Stands-name : (ss : List Section) (k : ℕ) (d : Section) → k < length ss → Stands (flat_map (λ (s : Section). s.name ++ 0 ∷ []) ss) (total named (take k ss)) ((get_or ss k d).name ++ 0 ∷ [])
 Stands-name [] k d l = absurd (omega (arith, l))
-Stands-name (s ∷ ss) zero d l = Stands-front (s.name ++ 0 ∷ []) (flat_map (λ (t : Section). t.name ++ 0 ∷ []) ss)
+Stands-name (s ∷ ss) zero d l = Stands-left (s.name ++ 0 ∷ []) (flat_map (λ (t : Section). t.name ++ 0 ∷ []) ss)
 Stands-name (s ∷ ss) (suc k) d l =
     Stands-behind (s.name ++ 0 ∷ []) (flat_map (λ (t : Section). t.name ++ 0 ∷ []) ss) ((get_or ss k d).name ++ 0 ∷ []) (length s.name + 1) (total named (take k ss)) (total named (take (suc k) (s ∷ ss)))
     (length-append s.name (0 ∷ [])) (omega arith) (Stands-name ss k d (omega (arith, l)))

@@ -9,6 +9,7 @@ use Rattle.wild_words.specs.Overlay.{Piece, overlay, Apart, AreApart}
 use Rattle.wild_words.specs.declared.extents.Extent.{Extent}
 use Rattle.wild_words.specs.Extents.{SharesNothing, least_extent}
 use Rattle.wild_words.proofs.ExtentLemmas.{none-shared, beside-nothing}
+use Rattle.wild_words.proofs.ListLemmas.{AllPairs-nil, AllPairs-cons, AllPairs-head, AllPairs-tail, AllPairs-append, flat_map-numbers}
 use Rattle.wild_plan.specs.declared.input.InputRelocation.{InputRelocation}
 use Rattle.wild_plan.specs.declared.input.InputSection.{InputSection}
 use Rattle.wild_plan.specs.declared.fault.Error.{Error}
@@ -26,9 +27,7 @@ use Rattle.wild_layout.specs.Faults.{relocation_errors, refusal_of, at_offset, a
 use Rattle.wild_layout.specs.Geometry.{FieldLies}
 use Rattle.wild_layout.proofs.DecideLemmas.{decided_field, decided_moved, field_has, moved_has, field_ends}
 use Rattle.wild_layout.proofs.SiteLemmas.{length-field_site, All-at}
-use Rattle.wild_geometry.proofs.ListLemmas.{AllPairs-nil, AllPairs-cons, AllPairs-head, AllPairs-tail, AllPairs-append}
 use Rattle.wild_image.specs.Decided.{put_decision, WrittenLies, DecisionLies, reach_of, reach_behind}
-use Rattle.wild_image.proofs.ListLemmas.{flat_map-numbers}
 use Rattle.wild_image.proofs.FaultLemmas.{Refuses-front}
 use Rattle.wild_image.proofs.DecidedLemmas.{listed_at, none_refused, refuses_decision, decision_site, put_next}
 

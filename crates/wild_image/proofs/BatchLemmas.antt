@@ -11,12 +11,12 @@ use Rattle.wild_plan.specs.declared.layout.Layout.{Layout}
 use Rattle.wild_plan.specs.Faults.{Refuses}
 use Rattle.wild_plan.specs.Lists.{total}
 use Rattle.wild_layout.specs.Faults.{flat_map_from}
-use Rattle.wild_geometry.proofs.ListLemmas.{holds_at}
+use Rattle.wild_words.proofs.ListLemmas.{holds_at}
 use Rattle.wild_image.specs.Append.{HasStarts}
 use Rattle.wild_image.specs.Batches.{firsts, AreBatches, IsWithin}
 use Rattle.wild_image.specs.declared.batch.Batch.{Batch}
 use Rattle.wild_image.proofs.FaultLemmas.{refuses_from_at}
-use Rattle.wild_image.proofs.ListLemmas.{total-append}
+use Rattle.wild_plan.proofs.ListLemmas.{total-append}
 use Rattle.wild_image.proofs.PieceLemmas.{overlay-append}
 
 -- ---- what is given for each item with its place, counted from n on

@@ -12,6 +12,7 @@ use Rattle.wild_words.specs.declared.extents.Extent.{Extent}
 use Rattle.wild_words.specs.Extents.{SharesNothing, least_extent}
 use Rattle.wild_words.proofs.ExtentLemmas.{none-shared, beside-nothing}
 use Rattle.wild_words.proofs.OrderLemmas.{own_range_next}
+use Rattle.wild_words.proofs.ListLemmas.{flat_map-numbers}
 use Rattle.wild_plan.specs.declared.input.InputRelocation.{InputRelocation}
 use Rattle.wild_plan.specs.declared.input.InputSection.{InputSection}
 use Rattle.wild_plan.specs.declared.fault.Error.{Error}
@@ -25,8 +26,8 @@ use Rattle.wild_plan.specs.Lookups.{is_read}
 use Rattle.wild_layout.specs.Faults.{relocation_errors, refusal_of, at_offset, at_section, overlap_errors, section_errors}
 use Rattle.wild_layout.specs.Geometry.{FieldLies}
 use Rattle.wild_layout.proofs.SiteLemmas.{length-field_site, decide_listed, sites_apart_in}
+use Rattle.wild_layout.proofs.FaultLemmas.{no_overlap}
 use Rattle.wild_image.specs.Decided.{decided_sites, written_extent, decided_extent, decided_extents, ascends, put_written, put_decision, WrittenLies, DecisionLies, AreDecided}
-use Rattle.wild_image.proofs.ListLemmas.{flat_map-numbers}
 use Rattle.wild_image.proofs.PieceLemmas.{overlay-append}
 use Rattle.wild_image.proofs.FaultLemmas.{refuses_number}
 
@@ -244,10 +245,6 @@ overlap_refused l g f k s ds e read dec none h =
     let h' : Refuses e (overlap_errors (at_section g f k) (shared_byte l s)) = subst (λ (o : Option ℕ). Refuses e (overlap_errors (at_section g f k) o)) (shared_is l s ds dec) h in
     rw (read, none) h'
 
-no_overlap : (g f k : ℕ) (o : Option ℕ) → overlap_errors (at_section g f k) o ≡ [] → o ≡ None
-no_overlap g f k None h = refl
-no_overlap g f k (Some b) h = cc
-
 pub section_passes : (l : Layout) (g f k : ℕ) (s : InputSection) (ds : List Decision) → is_read s ≡ true → AreDecided l s ds → flat_map (relocation_errors l g f k s) (range_with_len 0 (length s.relocations)) ≡ []
     → overlap_errors (at_section g f k) (least_extent (decided_extents s.relocations ds)) ≡ [] → section_errors l g f k s ≡ []
 unfolding section_errors
@@ -316,5 +313,5 @@ step_put s items ds i r d first room next same count h read whole apart before i
 -- the decided sites are apart, where no byte is of two of them
 pub decided_apart : (l : Layout) (s : InputSection) (ds : List Decision) (g f k n : ℕ) → AreDecided l s ds → n ≡ length s.bytes → All (FieldLies l.machine n) s.relocations → overlap_errors (at_section g f k) (least_extent (decided_extents s.relocations ds)) ≡ [] → AreApart n (decided_sites s s.relocations ds)
 decided_apart l s ds g f k n h len lies none =
-    let apart = sites_apart_in l s (subst (λ (m : ℕ). All (FieldLies l.machine m) s.relocations) len lies) (sym (shared_is l s ds h) ∙ no_overlap g f k _ none) in
+    let apart = sites_apart_in l s (subst (λ (m : ℕ). All (FieldLies l.machine m) s.relocations) len lies) (sym (shared_is l s ds h) ∙ no_overlap _ _ none) in
     subst (λ (m : ℕ). AreApart m (decided_sites s s.relocations ds)) (sym len) (subst (λ (ps : List Piece). AreApart (length s.bytes) ps) (sym h.same) apart)

@@ -4,6 +4,7 @@ use Rattle.std.specs.Prelude.{Option, Some, None, slice_get}
 use Rattle.std.specs.List.{flat_map}
 use Rattle.std.proofs.lemmas.List.Elements.{All-nil}
 use Rattle.std.proofs.lemmas.List.FromFn.{fill_by_all}
+use Rattle.wild_words.proofs.ListLemmas.{All-flat_map, All-optional, holds_at}
 use Rattle.wild_plan.specs.declared.part.Part.{Part}
 use Rattle.wild_plan.specs.declared.input.InputSection.{InputSection}
 use Rattle.wild_plan.specs.declared.file.Group.{Group}
@@ -13,7 +14,6 @@ use Rattle.wild_plan.specs.Lookups.{is_read, section_of, section_of_part}
 use Rattle.wild_plan.specs.Places.{relocation_count}
 use Rattle.wild_layout.specs.Image.{counted, count_of, counts}
 use Rattle.wild_layout.specs.Geometry.{IsLaidOut}
-use Rattle.wild_geometry.proofs.ListLemmas.{All-flat_map, All-optional, holds_at}
 use Rattle.wild_crew.specs.Sums.{between, n_if}
 use Rattle.wild_crew.specs.Sums.{counted as counted_in}
 use Rattle.wild_crew.specs.Ended.{sum_of, AreTotals}

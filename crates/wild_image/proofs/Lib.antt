@@ -1,4 +1,3 @@
-pub mod ListLemmas
 pub mod PaddingLemmas
 pub mod ValueLemmas
 pub mod DistanceLemmas

@@ -15,6 +15,7 @@ use Rattle.wild_headers.specs.Headers.{section_of_role}
 use Rattle.wild_layout.specs.Image.{group_pieces, pieces, padding, bytes}
 use Rattle.wild_layout.specs.Faults.{clause_errors, flat_map_from, part_errors, group_errors, errors}
 use Rattle.wild_layout.specs.Geometry.{IsLaidOut}
+use Rattle.wild_layout.proofs.FaultLemmas.{clause_holds}
 use Rattle.wild_image.specs.Steps.{FieldsFit}
 use Rattle.wild_plan.specs.declared.part.Role.{Role}
 use Rattle.wild_plan.specs.declared.part.Role.TheVariants as role
@@ -49,10 +50,6 @@ image_is (Err x) l one two a b = b
 pub errors_behind : (l : Layout) → clause_errors (first_clause l) ≡ [] → flat_map_from (part_errors l) 0 l.parts ≡ [] → flat_map_from (group_errors l) 0 l.groups ≡ errors l
 unfolding errors
 errors_behind l a b = rw (a, b) refl
-
-clause_holds : (r : Result (Unit {0}) Clause) → clause_errors r ≡ [] → r ≡ Ok tt
-clause_holds (Ok x) h = refl
-clause_holds (Err c) h = cc
 
 pub first_holds : (r s : Result (Unit {0}) Clause) → first_error r s ≡ Ok tt → r ≡ Ok tt
 first_holds (Ok x) s h = refl

@@ -4,6 +4,8 @@ use Rattle.std.specs.Prelude.{Option, Some, None, option_to_list, slice_get}
 use Rattle.std.specs.List.{flat_map}
 use Rattle.std.proofs.lemmas.Bool.{cases_Bool, and_parts, eqb-true}
 use Rattle.std.proofs.lemmas.List.{append-nil, append_assoc, length-append, take_all}
+use Rattle.std.proofs.lemmas.List.Concat.{flat_map-append}
+use Rattle.wild_words.proofs.ListLemmas.{flat_map-more}
 use Rattle.wild_records.specs.Dynamic.{dynamic_entry_size}
 use Rattle.wild_records.specs.Abi.Dynamic.{dt_soname}
 use Rattle.wild_records.specs.Relocations.{relr_size}
@@ -13,7 +15,7 @@ use Rattle.wild_relr.specs.declared.run.Choice.TheVariants.{Joins, Adds}
 use Rattle.wild_relr.specs.Packing.{State, joined, choice, chosen, after}
 use Rattle.wild_relr.specs.Packed.{packed, packed_on, afters, nothing}
 use Rattle.wild_relr.specs.Written.{word_bytes}
-use Rattle.wild_relr.proofs.PackedLemmas.{afters-packed}
+use Rattle.wild_relr.proofs.PackedLemmas.{afters-packed, length-joined}
 use Rattle.wild_plan.specs.declared.input.InputRelocation.{InputRelocation}
 use Rattle.wild_plan.specs.declared.input.InputSection.{InputSection}
 use Rattle.wild_plan.specs.declared.options.Options.{Options}
@@ -29,7 +31,6 @@ use Rattle.wild_layout.specs.Moved.{listed_entry, section_entries}
 use Rattle.wild_layout.specs.Content.{file_content, content}
 use Rattle.wild_image.specs.Pieces.{role_of, group_given}
 use Rattle.wild_image.specs.Own.{entry_bytes, section_entry_bytes, section_word_bytes, packed_in, zero_ended}
-use Rattle.wild_image.proofs.ListLemmas.{flat_map-append, flat_map-more}
 
 -- lists of lists, joined
 joined_by : {X Y Z : Type 0} (f : Y → List Z) (g : X → List Y) (xs : List X) → flat_map (λ x. flat_map f (g x)) xs ≡ flat_map f (flat_map g xs)
@@ -63,12 +64,6 @@ unfolding section_entry_bytes
 entries_joined l ss = sym (joined_by _ (section_entries l) ss)
 
 -- ---- words
-
-length-joined : (i : ℕ) (ws : List ℕ) → length (joined i ws) ≡ length ws
-unfolding joined
-length-joined i [] = refl
-length-joined i (w ∷ []) = refl
-length-joined i (w ∷ v ∷ ws) = let e = length-joined i (v ∷ ws) in omega (arith, e)
 
 by_choice_few : (c : Choice) (s : State) → length (chosen c s).words ≤ length s.words + 1
 by_choice_few (Joins i) s = let e = length-joined i s.words in omega (arith, e)

@@ -2,6 +2,7 @@
 use Rattle.std.proofs.Common.{◌≡◌, ℕ, ◌+◌, ◌<◌, inl, inr, true, List, [], ◌++◌, length, take, set, get_or, replicate, refl, sym, ap, ◌∙◌, arith, subst}
 use Rattle.std.specs.Prelude.{Result, Ok, Err, OnOk}
 use Rattle.std.specs.List.{flat_map}
+use Rattle.wild_words.proofs.ListLemmas.{flat_map-more}
 use Rattle.wild_plan.specs.declared.fault.Error.{Error}
 use Rattle.std.proofs.lemmas.Bool.{cases_eq, eq-eqb, ne_eqb}
 use Rattle.std.proofs.lemmas.List.{append-nil, append_assoc, get_or-set_same, get_or-set_other, get_or_default, get_or-replicate, length-replicate}
@@ -12,7 +13,6 @@ use Rattle.wild_plan.specs.declared.layout.Layout.{Layout}
 use Rattle.wild_plan.specs.Lookups.{is_filled}
 use Rattle.wild_layout.specs.Sites.{section_bytes}
 use Rattle.wild_image.specs.Pieces.{owned_in, group_owned, group_given, group_part, group_parts}
-use Rattle.wild_image.proofs.ListLemmas.{flat_map-more}
 
 -- bytes behind those of one part
 pub part_extended : (l : Layout) (s : InputSection) (parts : List (List ℕ)) (d new : List ℕ) → is_filled l s ≡ true → s.part < length parts → new ≡ get_or parts s.part d ++ section_bytes l s

@@ -1,3 +1,4 @@
+pub mod FaultLemmas
 pub mod DecideLemmas
 pub mod SitesApart
 pub mod SiteLemmas

@@ -3,8 +3,9 @@ use Rattle.std.proofs.Common.{◌≡◌, ℕ, zero, suc, ◌+◌, ◌<◌, ◌�
 use Rattle.std.specs.Prelude.{Option, Some, None, Result, Ok, Err, All, Contains, slice_get, if◌then◌else◌}
 use Rattle.std.specs.List.{flat_map, range_with_len}
 use Rattle.std.proofs.lemmas.Option.{get_or_from_slice_get, slice_get_within}
-use Rattle.std.proofs.lemmas.List.Elements.{All-append, Contains-append_left, Contains-append_right}
+use Rattle.std.proofs.lemmas.List.Elements.{Contains-append_left, Contains-append_right, All-nil}
 use Rattle.wild_words.specs.Overlay.{Piece, AreApart}
+use Rattle.wild_words.proofs.ListLemmas.{All-flat_map}
 use Rattle.wild_plan.specs.declared.fault.Fault.{Fault}
 use Rattle.wild_plan.specs.declared.input.InputRelocation.{InputRelocation}
 use Rattle.wild_plan.specs.declared.input.InputSection.{InputSection}
@@ -28,13 +29,6 @@ All-one P x h = λ k d l. one P x h k d l
     one : {X : Type 0} (P : X → Type 0) (x : X) → P x → (k : ℕ) (d : X) → k < length (x ∷ []) → P (get_or (x ∷ []) k d)
     one P x h zero d l = h
     one P x h (suc k) d l = absurd (omega arith)
-
-pub All-none : {X : Type 0} (P : X → Type 0) → All P []
-All-none P = λ k d l. absurd (omega arith)
-
-pub All-flat_map : {X Y : Type 0} (P : Y → Type 0) (f : X → List Y) (xs : List X) → ((x : X) → Contains xs x → All P (f x)) → All P (flat_map f xs)
-All-flat_map P f [] h = All-none P
-All-flat_map P f (x ∷ xs) h = All-append P (f x) (flat_map f xs) (h x (0, omega arith, refl)) (All-flat_map P f xs (λ y c. h y (suc c.0, omega (arith, c.1), c.2)))
 
 pub Contains-flat_map : {X Y : Type 0} (f : X → List Y) (xs : List X) (x : X) (y : Y) → Contains xs x → Contains (f x) y → Contains (flat_map f xs) y
 Contains-flat_map f [] x y c d = absurd (omega (arith, c.1))
@@ -102,7 +96,7 @@ field_lies l s r z f full lies = let e = field_ends l r z s.size f lies in omega
 site_is_field : (l : Layout) (s : InputSection) (i : ℕ) → All (FieldLies l.machine (length s.bytes)) s.relocations → All (IsFieldIn (length s.bytes)) (site l s i)
 site_is_field l s i lies =
     elim (site_cases l s i) [
-      | inl none ↦ All-of (IsFieldIn (length s.bytes)) _ [] none (All-none (IsFieldIn (length s.bytes)))
+      | inl none ↦ All-of (IsFieldIn (length s.bytes)) _ [] none (All-nil (IsFieldIn (length s.bytes)))
       | inr some ↦ All-of (IsFieldIn (length s.bytes)) _ _ some.is (All-one (IsFieldIn (length s.bytes)) (field_site s some.relocation.offset some.written.size some.written.value) (is_field l s some.relocation some.written.size some.written.value some.field (All-at (FieldLies l.machine (length s.bytes)) s.relocations i some.relocation lies some.listed)))
     ]
   where
@@ -116,7 +110,7 @@ site_is_field l s i lies =
 -- the sites of a section lie in its bytes, each apart from the others
 pub sites_apart_in : (l : Layout) (s : InputSection) → All (FieldLies l.machine (length s.bytes)) s.relocations → shared_byte l s ≡ None → AreApart (length s.bytes) (sites l s)
 sites_apart_in l s lies none =
-    fields_apart (sites l s) (length s.bytes) (All-flat_map (IsFieldIn (length s.bytes)) (site l s) (range_with_len 0 (length s.relocations)) (λ i c. site_is_field l s i lies)) none
+    fields_apart (sites l s) (length s.bytes) (All-flat_map (IsFieldIn (length s.bytes)) (site l s) (range_with_len 0 (length s.relocations)) (λ k d m. site_is_field l s (get_or (range_with_len 0 (length s.relocations)) k d) lies)) none
 
 pub sites_apart : (l : Layout) (s : InputSection) → length s.bytes ≡ s.size → All (FieldLies l.machine s.size) s.relocations → shared_byte l s ≡ None → AreApart (length s.bytes) (sites l s)
 sites_apart l s full lies none = sites_apart_in l s (subst (λ (n : ℕ). All (FieldLies l.machine n) s.relocations) (sym full) lies) none

@@ -1,23 +1,24 @@
 -- The numbers of the tables of the addresses that move: each entry and each word has its range, and each entry adds the base.
-use Rattle.std.proofs.Common.{◌≡◌, ℕ, ◌^◌, ◌<◌, Bool, true, false, not, [], arith, subst}
+use Rattle.std.proofs.Common.{◌≡◌, ℕ, ◌^◌, ◌<◌, Bool, true, false, not, [], get_or, arith, subst}
 use Rattle.std.specs.Prelude.{Some, None, All, option_to_list, option_map, if◌then◌else◌, ◌&&◌}
 use Rattle.std.specs.List.{flat_map}
 use Rattle.std.specs.Int.{w64, cast_signed}
 use Rattle.std.specs.Int.RustNames.{FitsSigned}
 use Rattle.std.proofs.lemmas.Int.{ints}
 use Rattle.std.proofs.lemmas.List.Elements.{All-nil, All-cons}
+use Rattle.wild_words.proofs.ListLemmas.{All-flat_map}
 use Rattle.wild_records.specs.Relocations.{RelaFits}
 use Rattle.wild_records.specs.declared.relocations.Rela.{Rela}
 use Rattle.wild_plan.specs.declared.kind.Machine.{Machine}
 use Rattle.wild_plan.specs.declared.kind.Machine.TheVariants as machine
 use Rattle.wild_plan.specs.declared.input.InputRelocation.{InputRelocation}
 use Rattle.wild_plan.specs.declared.input.InputSection.{InputSection}
+use Rattle.wild_plan.specs.declared.file.File.{File}
 use Rattle.wild_plan.specs.declared.file.Group.{Group}
 use Rattle.wild_plan.specs.declared.layout.Layout.{Layout}
 use Rattle.wild_plan.specs.Entries.{place_of, packs, is_moved, has_moved, packed_place, packed_places, words_of}
 use Rattle.wild_relr.specs.Laws.{IsWord, WordsFit}
 use Rattle.wild_layout.specs.Moved.{moved_value, listed_entry, section_entries, file_entries, file_words}
-use Rattle.wild_layout.proofs.SiteLemmas.{All-flat_map}
 use Rattle.wild_loader.specs.declared.kind.DynamicKind.TheVariants as kinds
 use Rattle.wild_loader.specs.declared.memory.Machine.TheVariants as machines
 use Rattle.wild_loader.specs.Changes.{kind_of}
@@ -45,12 +46,16 @@ of_section P l s h = by_test (has_moved l s)
   where
     by_test : (b : Bool) → All P (if b then flat_map (λ (r : InputRelocation). option_to_list (listed_entry l s r)) s.relocations else [])
     by_test false = All-nil P
-    by_test true = All-flat_map P (λ (r : InputRelocation). option_to_list (listed_entry l s r)) s.relocations (λ r c. of_relocation P l s r h)
+    by_test true = All-flat_map P (λ (r : InputRelocation). option_to_list (listed_entry l s r)) s.relocations (λ k d b. of_relocation P l s (get_or s.relocations k d) h)
+
+of_file : (P : Rela → Type 0) (l : Layout) (f : File) → OfEntries l P → All P (file_entries l f)
+of_file P l f h = All-flat_map P (section_entries l) f.sections (λ k d b. of_section P l (get_or f.sections k d) h)
+
+of_group : (P : Rela → Type 0) (l : Layout) (g : Group) → OfEntries l P → All P (flat_map (file_entries l) g.files)
+of_group P l g h = All-flat_map P (file_entries l) g.files (λ k d b. of_file P l (get_or g.files k d) h)
 
 of_entries : (P : Rela → Type 0) (l : Layout) → OfEntries l P → All P (tables_of l).entries
-of_entries P l h =
-    All-flat_map P (λ (g : Group). flat_map (file_entries l) g.files) l.groups
-    (λ g c. All-flat_map P (file_entries l) g.files (λ f d. All-flat_map P (section_entries l) f.sections (λ s e. of_section P l s h)))
+of_entries P l h = All-flat_map P (λ (g : Group). flat_map (file_entries l) g.files) l.groups (λ k d b. of_group P l (get_or l.groups k d) h)
 
 signed_fits : (n : ℕ) → n < 2 ^ 64 → FitsSigned w64 (cast_signed w64 n)
 signed_fits n h = grind (arith, ints)
@@ -76,11 +81,18 @@ places_fit l s = by_test (has_moved l s)
     one false r = All-nil IsWord
     one true r = All-cons IsWord (place_of s r) [] (omega arith) (All-nil IsWord)
 
+    one_of : (r : InputRelocation) → All IsWord (option_to_list (packed_place l s r))
+    one_of r = one (is_moved l s r && packs l (place_of s r)) r
+
     by_test : (b : Bool) → All IsWord (if b then flat_map (λ (r : InputRelocation). option_to_list (packed_place l s r)) s.relocations else [])
     by_test false = All-nil IsWord
-    by_test true = All-flat_map IsWord (λ (r : InputRelocation). option_to_list (packed_place l s r)) s.relocations (λ r c. one (is_moved l s r && packs l (place_of s r)) r)
+    by_test true = All-flat_map IsWord (λ (r : InputRelocation). option_to_list (packed_place l s r)) s.relocations (λ k d b. one_of (get_or s.relocations k d))
+
+words_of_file : (l : Layout) (f : File) → WordsFit → All IsWord (file_words l f)
+words_of_file l f law = All-flat_map IsWord (words_of l) f.sections (λ k d b. law (packed_places l (get_or f.sections k d)) (places_fit l (get_or f.sections k d)))
+
+words_of_group : (l : Layout) (g : Group) → WordsFit → All IsWord (flat_map (file_words l) g.files)
+words_of_group l g law = All-flat_map IsWord (file_words l) g.files (λ k d b. words_of_file l (get_or g.files k d) law)
 
 pub words_fit : (l : Layout) → WordsFit → All IsWord (tables_of l).words
-words_fit l law =
-    All-flat_map IsWord (λ (g : Group). flat_map (file_words l) g.files) l.groups
-    (λ g c. All-flat_map IsWord (file_words l) g.files (λ f d. All-flat_map IsWord (words_of l) f.sections (λ s e. law (packed_places l s) (places_fit l s))))
+words_fit l law = All-flat_map IsWord (λ (g : Group). flat_map (file_words l) g.files) l.groups (λ k d b. words_of_group l (get_or l.groups k d) law)

@@ -6,6 +6,7 @@ use Rattle.std.proofs.lemmas.List.Elements.{All-nil, All-cons, All-head, All-tai
 use Rattle.std.proofs.lemmas.List.Kept.{AllPairs-cons}
 use Rattle.std.proofs.lemmas.List.{append_assoc, append-nil, length-append}
 use Rattle.std.proofs.lemmas.Bool.{cases_Bool, eqb-true, eqb-false}
+use Rattle.wild_words.proofs.ListLemmas.{All-append-left}
 use Rattle.wild_relr.specs.Places.{places_from, places}
 use Rattle.wild_relr.specs.declared.run.Run.{Run}
 use Rattle.wild_relr.specs.declared.run.Run.TheVariants.{Closed, Address}
@@ -109,15 +110,11 @@ apart_right : (xs ys : List ℕ) → AllPairs (λ p q. p ≢ q) (xs ++ ys) → A
 apart_right [] ys h = h
 apart_right (x ∷ xs) ys h = apart_right xs ys (λ i j d l m. h (suc i) (suc j) d (omega arith) (omega arith))
 
-all_left : (P : ℕ → Type 0) (xs ys : List ℕ) → All P (xs ++ ys) → All P xs
-all_left P [] ys h = All-nil P
-all_left P (x ∷ xs) ys h = All-cons P x xs (All-head P x (xs ++ ys) h) (all_left P xs ys (All-tail P x (xs ++ ys) h))
-
 apart_left : (xs ys : List ℕ) → AllPairs (λ p q. p ≢ q) (xs ++ ys) → AllPairs (λ p q. p ≢ q) xs
 apart_left [] ys h = λ i j d l m. absurd (omega arith)
 apart_left (x ∷ xs) ys h =
     let first : All (λ q. x ≢ q) (xs ++ ys) = λ k d m. h 0 (suc k) d (omega arith) (omega arith) in
-    AllPairs-cons (λ p q. p ≢ q) x xs (all_left (λ q. x ≢ q) xs ys first) (apart_left xs ys (λ i j d l m. h (suc i) (suc j) d (omega arith) (omega arith)))
+    AllPairs-cons (λ p q. p ≢ q) x xs (All-append-left (λ q. x ≢ q) xs ys first) (apart_left xs ys (λ i j d l m. h (suc i) (suc j) d (omega arith) (omega arith)))
 
 apart_across : (xs ys : List ℕ) (q : ℕ) → AllPairs (λ p q. p ≢ q) (xs ++ ys) → Contains xs q → Contains ys q → ⊥
 apart_across [] ys q h a b = absurd (omega (arith, a.1))

@@ -7,6 +7,7 @@ use Rattle.std.proofs.Math.Nat.{div-div-eq-div-mul}
 use Rattle.std.proofs.lemmas.List.{append_assoc}
 use Rattle.std.proofs.lemmas.Bool.{cases_Bool, leb-true, eqb-true}
 use borrow.Author.Tests.{ltb-true}
+use Rattle.wild_words.proofs.ListLemmas.{All-append-right}
 use Rattle.wild_relr.specs.Places.{window, places_of, places, next_of}
 use Rattle.wild_relr.specs.declared.run.Run.{Run}
 use Rattle.wild_relr.specs.declared.run.Run.TheVariants.{Closed, Address, Bitmap}
@@ -79,10 +80,6 @@ Records-bitmap ws s p i n h =
 
 -- ---- one bit more
 
-all_right : (P : ℕ → Type 0) (xs ys : List ℕ) → All P (xs ++ ys) → All P ys
-all_right P [] ys h = h
-all_right P (x ∷ xs) ys h = all_right P xs ys (All-tail P x (xs ++ ys) h)
-
 with_bit-new : (i w : ℕ) → w / 2 / 2 ^ i % 2 ≡ 0 → with_bit i w / 2 ≡ w / 2 + 2 ^ i
 unfolding with_bit
 with_bit-new i w h =
@@ -103,7 +100,7 @@ Records-grown front s p i w n o h c =
     record {
       each = rw (before, now) (IsPermutation-trans _ _ _ (IsPermutation-sym _ _ (IsPermutation-middle (places front) p (window 63 s (w / 2)))) (IsPermutation-append_right (places front) (p ∷ window 63 s (w / 2)) (window 63 s (w / 2 + 2 ^ i)) (rw h.is (window-adds 63 i s (w / 2) h.below free))));
       last = λ a.
-          let right : All (λ q. q < p) (window 63 s (w / 2)) = all_right (λ q. q < p) (places front) (window 63 s (w / 2)) (rw before at a) in
+          let right : All (λ q. q < p) (window 63 s (w / 2)) = All-append-right (λ q. q < p) (places front) (window 63 s (w / 2)) (rw before at a) in
           let e : window 63 s (w / 2 + 2 ^ i) ≡ window 63 s (w / 2) ++ p ∷ [] = last_in s p i w h right in
           rw (before, now, e) (sym (append_assoc (places front) (window 63 s (w / 2)) (p ∷ [])));
     }

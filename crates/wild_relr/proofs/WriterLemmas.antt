@@ -11,6 +11,7 @@ use Rattle.wild_words.specs.Words.{word, number, place}
 use Rattle.wild_words.proofs.WordLemmas.{length-word}
 use Rattle.wild_words.proofs.OverlayLemmas.{length-place, place-below, place-above, Stands-place}
 use Rattle.wild_words.proofs.RecordLemmas.{number-stands}
+use Rattle.wild_words.proofs.OrderLemmas.{number_kept}
 use Rattle.wild_relr.specs.declared.run.Run.{Run}
 use Rattle.wild_relr.specs.declared.run.Run.TheVariants.{Closed, Address, Bitmap}
 use Rattle.wild_relr.specs.declared.run.Choice.{Choice}
@@ -55,25 +56,11 @@ bit_set i w =
 
 -- ---- words in bytes
 
-number_kept : (bs part : List ℕ) (at k : ℕ) → k + 8 ≤ at → at + length part ≤ length bs → number (slice_range (place at part bs) k (k + 8)) ≡ number (slice_range bs k (k + 8))
-number_kept bs part at k h l =
-    let e : k + 8 - k ≡ 8 = omega arith in
-    let n = length-place at bs part l in
-    let same : length (take 8 (drop k (place at part bs))) ≡ length (take 8 (drop k bs)) = simp (length-take, length-drop) (omega arith) in
-    let short : length (take 8 (drop k (place at part bs))) ≡ 8 = simp (length-take, length-drop) (omega arith) in
-    let x : take 8 (drop k (place at part bs)) ≡ take 8 (drop k bs) =
-    ext_get_or 0 _ _ same (λ i m.
-    let r : i < 8 = omega arith in
-    get_or-take 8 (drop k (place at part bs)) i 0 r ∙ get_or-drop k (place at part bs) i 0
-    ∙ place-below at (k + i) bs part l (omega arith)
-    ∙ sym (get_or-take 8 (drop k bs) i 0 r ∙ get_or-drop k bs i 0)) in
-    ap number (rw e x)
-
 pub words_in_kept : (n : ℕ) (bs part : List ℕ) (at : ℕ) → 8 * n ≤ at → at + length part ≤ length bs → words_in (place at part bs) n ≡ words_in bs n
 unfolding words_in
 words_in_kept zero bs part at h l = refl
 words_in_kept (suc n) bs part at h l =
-    let e = number_kept bs part at (8 * n) (omega arith) l in
+    let e = number_kept bs part at (8 * n) 8 (omega arith) l in
     let r = words_in_kept n bs part at (omega arith) l in
     rw (e, r) refl
 

@@ -8,6 +8,7 @@ use Rattle.wild_words.specs.Record.{spell}
 use Rattle.wild_words.proofs.WordLemmas.{front-place}
 use Rattle.wild_words.proofs.OverlayLemmas.{length-place, place-below, Stands-place, Stands-inner}
 use Rattle.wild_words.proofs.RecordLemmas.{length-spell, Stands-left, Stands-right}
+use Rattle.wild_words.proofs.OrderLemmas.{number_kept}
 use Rattle.wild_records.specs.declared.symtab_entry.SymtabEntry.{SymtabEntry}
 use Rattle.wild_records.specs.SymtabEntry.{symtab_entry_size, symtab_entry_fields, symtab_entry_at, SymtabEntryFits, SymtabEntryIsRead}
 use Rattle.wild_symbols.specs.Symbols.{symbol_bytes, symbols_in, IsSpelled}
@@ -34,21 +35,6 @@ unfolding IsSpelled
 symbols_stand bs n s = let e = length_symbols_in bs n in rw e s
 
 -- ---- one entry more
-
--- a number before what is put is kept
-number_kept : (bs part : List ℕ) (at k n : ℕ) → k + n ≤ at → at + length part ≤ length bs → number (slice_range (place at part bs) k (k + n)) ≡ number (slice_range bs k (k + n))
-number_kept bs part at k n h l =
-    let e : k + n - k ≡ n = omega arith in
-    let m = length-place at bs part l in
-    let same : length (take n (drop k (place at part bs))) ≡ length (take n (drop k bs)) = simp (length-take, length-drop) (omega arith) in
-    let short : length (take n (drop k (place at part bs))) ≡ n = simp (length-take, length-drop) (omega arith) in
-    let x : take n (drop k (place at part bs)) ≡ take n (drop k bs) =
-    ext_get_or 0 _ _ same (λ i m.
-    let r : i < n = omega arith in
-    get_or-take n (drop k (place at part bs)) i 0 r ∙ get_or-drop k (place at part bs) i 0
-    ∙ place-below at (k + i) bs part l (omega arith)
-    ∙ sym (get_or-take n (drop k bs) i 0 r ∙ get_or-drop k bs i 0)) in
-    ap number (rw e x)
 
 symbol_kept : (bs part : List ℕ) (at k : ℕ) → k + 24 ≤ at → at + length part ≤ length bs → symtab_entry_at (place at part bs) k ≡ symtab_entry_at bs k
 unfolding symtab_entry_at

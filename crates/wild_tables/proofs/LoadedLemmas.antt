@@ -3,6 +3,7 @@ use Rattle.std.proofs.Common.{◌≡◌, Some, ℕ, zero, suc, ◌+◌, ◌/◌,
 use Rattle.std.specs.Prelude.{All}
 use Rattle.std.proofs.lemmas.List.Elements.{All-nil, All-cons, All-head, All-tail}
 use Rattle.std.proofs.lemmas.List.Sorted.{All-permutation}
+use Rattle.wild_words.proofs.ListLemmas.{All-append-left, All-append-right}
 use Rattle.wild_relr.specs.Packed.{PiecesAreRecorded, places_of_pieces, words_of}
 use Rattle.std.specs.Int.{w64}
 use Rattle.std.proofs.lemmas.Int.{of_z-to_z}
@@ -15,14 +16,6 @@ use Rattle.wild_tables.specs.Laws.{LoadersAgree, PlacesAreLoaded, EntriesAddTheB
 use Rattle.wild_relr.specs.Places.{window, places_of, next_after, places_from, places}
 use Rattle.wild_loader.specs.Places as loader
 use Rattle.wild_relr.proofs.PlaceLemmas.{parity, window-even, window-odd, places_of-even, places_of-odd, next_after-even, next_after-odd}
-
-all_right : (P : ℕ → Type 0) (xs ys : List ℕ) → All P (xs ++ ys) → All P ys
-all_right P [] ys h = h
-all_right P (x ∷ xs) ys h = all_right P xs ys (All-tail P x (xs ++ ys) h)
-
-all_left : (P : ℕ → Type 0) (xs ys : List ℕ) → All P (xs ++ ys) → All P xs
-all_left P [] ys h = All-nil P
-all_left P (x ∷ xs) ys h = All-cons P x xs (All-head P x (xs ++ ys) h) (all_left P xs ys (All-tail P x (xs ++ ys) h))
 
 marked-even : (m w k : ℕ) → w % 2 ≡ 0 → loader.marked m w (suc k) ≡ loader.marked ((m + 8) % 2 ^ 64) (w / 2) k
 unfolding loader.marked
@@ -65,7 +58,7 @@ pub loaded-places : (ws : List ℕ) (next m : ℕ) → m ≡ next % 2 ^ 64 → A
 unfolding loader.places_from places_from
 loaded-places [] next m e h = refl
 loaded-places (w ∷ ws) next m e h =
-    let right = all_right (λ p. p < 2 ^ 64) (places_of next w) (places_from (next_after next w) ws) h in
+    let right = All-append-right (λ p. p < 2 ^ 64) (places_of next w) (places_from (next_after next w) ws) h in
     elim (parity w) [
       | inl even ↦
           (let n = next_after-even next w even in
@@ -77,7 +70,7 @@ loaded-places (w ∷ ws) next m e h =
           let step : (m + 504) % 2 ^ 64 ≡ (next + 504) % 2 ^ 64 = omega arith in
           let again = loaded-places ws (next + 504) ((m + 504) % 2 ^ 64) step (rw n at right) in
           let o = places_of-odd next w odd in
-          let left = all_left (λ p. p < 2 ^ 64) (places_of next w) (places_from (next_after next w) ws) h in
+          let left = All-append-left (λ p. p < 2 ^ 64) (places_of next w) (places_from (next_after next w) ws) h in
           let here = marked-window 63 next (w / 2) m e (rw o at left) in
           let s : places_from next (w ∷ ws) ≡ window 63 next (w / 2) ++ places_from (next + 504) ws = places-split next w ws ∙ rw (o, n) refl in
           loaded-odd m w ws odd ∙ rw (here, again) (sym s))

@@ -1,8 +1,10 @@
 -- A byte in no field of the reader's is in no site of the writer's.
-use Rattle.std.proofs.Common.{◌≡◌, ℕ, ◌+◌, ◌<◌, ◌≤◌, ◌⊎◌, inl, inr, [], length, ap, arith}
+use Rattle.std.proofs.Common.{◌≡◌, ℕ, ◌+◌, ◌<◌, ◌≤◌, ◌⊎◌, inl, inr, [], length, get_or, ap, arith}
 use Rattle.std.specs.Prelude.{Some, All}
 use Rattle.std.specs.List.{range_with_len}
+use Rattle.std.proofs.lemmas.List.Elements.{All-nil}
 use Rattle.wild_words.specs.Overlay.{Piece}
+use Rattle.wild_words.proofs.ListLemmas.{All-flat_map}
 use Rattle.wild_plan.specs.declared.kind.Machine.TheVariants as machine
 use Rattle.wild_plan.specs.declared.input.InputRelocation.{InputRelocation}
 use Rattle.wild_plan.specs.declared.input.InputSection.{InputSection}
@@ -14,7 +16,7 @@ use Rattle.wild_reloc.specs.Agreement.{X86_64Agrees, WidthsHold}
 use Rattle.wild_reloc.specs.declared.info.RelocationSize.{RelocationSize}
 use Rattle.wild_layout.specs.Sites.{field_site, site}
 use Rattle.wild_layout.proofs.DecideLemmas.{HasField}
-use Rattle.wild_layout.proofs.SiteLemmas.{All-one, All-none, All-of, All-at, All-flat_map, site_cases, length-field_site}
+use Rattle.wild_layout.proofs.SiteLemmas.{All-one, All-of, All-at, site_cases, length-field_site}
 use Rattle.wild_meaning.specs.Field.{form_width}
 use Rattle.wild_geometry.specs.Loaded.{InNoSite}
 use Rattle.wild_values.proofs.KnownRows.{row_fits}
@@ -33,7 +35,7 @@ OutOfFields s k = All (λ (r : InputRelocation). (f : Formula) → x86_64_formul
 site_outside : (l : Layout) (s : InputSection) (i k : ℕ) → Tables → l.machine ≡ machine.X86_64 → OutOfFields s k → All (λ (p : Piece). (k < p.at) ⊎ (p.at + length p.bytes ≤ k)) (site l s i)
 site_outside l s i k tables m out =
     elim (site_cases l s i) [
-      | inl none ↦ All-of (λ (p : Piece). (k < p.at) ⊎ (p.at + length p.bytes ≤ k)) _ [] none (All-none _)
+      | inl none ↦ All-of (λ (p : Piece). (k < p.at) ⊎ (p.at + length p.bytes ≤ k)) _ [] none (All-nil _)
       | inr some ↦ All-of (λ (p : Piece). (k < p.at) ⊎ (p.at + length p.bytes ≤ k)) _ _ some.is (All-one (λ (p : Piece). (k < p.at) ⊎ (p.at + length p.bytes ≤ k)) (field_site s some.relocation.offset some.written.size some.written.value) (field_outside l s some.relocation k some.written.size some.written.value some.field tables m (All-at (λ (r : InputRelocation). (f : Formula) → x86_64_formula r.number ≡ Some f → (k < r.offset) ⊎ (r.offset + form_width f.form ≤ k)) s.relocations i some.relocation out some.listed)))
     ]
   where
@@ -51,4 +53,4 @@ site_outside l s i k tables m out =
         behind k r.offset _ _ (omega (arith, written, size, width)) (out fits.formula fits.known)
 
 pub in_no_site : (l : Layout) (s : InputSection) (k : ℕ) → Tables → l.machine ≡ machine.X86_64 → OutOfFields s k → InNoSite l s k
-in_no_site l s k tables m out = All-flat_map (λ (p : Piece). (k < p.at) ⊎ (p.at + length p.bytes ≤ k)) (site l s) (range_with_len 0 (length s.relocations)) (λ i c. site_outside l s i k tables m out)
+in_no_site l s k tables m out = All-flat_map (λ (p : Piece). (k < p.at) ⊎ (p.at + length p.bytes ≤ k)) (site l s) (range_with_len 0 (length s.relocations)) (λ n d b. site_outside l s (get_or (range_with_len 0 (length s.relocations)) n d) k tables m out)
