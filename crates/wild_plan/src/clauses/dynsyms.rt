@@ -1,0 +1,388 @@
+//! Clause 13: positions in the dynamic symbol table. Since the files' ranges of symbols ascend, undefined entries are counted
+//! in one walk over files and symbols.
+ghost use Rattle.std.specs.Prelude.{◌≡◌, ◌+◌, ◌-◌, ◌^◌, ◌<◌, ◌≤◌, min, nat_lt, length, slice_get, Some, Ok};
+ghost use Rattle.std.specs.List.{list_all};
+ghost use Rattle.std.specs.Result.{IfOk};
+ghost use Rattle.wild_plan.specs.DynamicSymbols.{gives_entry, is_undefined_entry, dynsym_of, undefined_entries, dynamic_symbols, misplaced, symbol_sections, output_section, section_of_input, is_position, listed_fits, misfit, first_listed};
+ghost use Rattle.wild_plan.specs.Lookups.{files_of, file_of};
+ghost use Rattle.wild_plan.specs.Positions.{lists, is_at, fits_at, run_walk, file_walk, files_walk, groups_walk, whole_walk, count_in, undefined_of, undefined_of_group, undefined_count, found_in, section_in, part_is_below, symbol_is_below, all_below};
+ghost use Rattle.wild_plan.specs.WellFormed.{check_indexes, check_dynsyms};
+
+use crate::clauses::astray::some_from;
+use crate::clauses::fails;
+use crate::fault::Clause;
+use crate::file::{File, FileRole, Group};
+use crate::index::SectionIndex;
+use crate::layout::{DynamicSymbol, Layout};
+use crate::part::Part;
+use crate::symbol::{Place, Symbol, ValueFlags};
+
+/// Whether a file of that role gives an undefined entry for a resolution with these flags.
+fn gives_entry(role: FileRole, flags: ValueFlags) -> bool
+    ensures { result ≡ gives_entry role flags }
+{
+    match role {
+        FileRole::Object => flags.is_dynamic(),
+        FileRole::Dynamic => !flags.needs_copy_relocation() && !flags.needs_canonical_plt(),
+        _ => false,
+    }
+}
+
+fn is_undefined_entry(role: FileRole, symbol: &Symbol) -> bool
+    ensures { result ≡ is_undefined_entry role symbol.now }
+{
+    gives_entry(role, symbol.flags) && symbol.resolution.is_some()
+}
+
+/// The index in the dynamic symbol table that the symbol carries.
+fn dynsym_of(symbol: &Symbol) -> Option<u64>
+    ensures { result ≡ dynsym_of symbol.now }
+{
+    symbol.resolution?.dynamic_symbol_index
+}
+
+/// Whether the symbol of that number is the one listed at that place.
+fn lists(layout: &Layout, symbol: usize, place: usize) -> bool
+    ensures { result ≡ lists symbol (slice_get layout.now.dynsyms place) }
+{
+    match layout.dynsyms.as_slice().get(place) {
+        Some(found) => found.symbol.0 == symbol,
+        None => false,
+    }
+}
+
+/// Whether the position is that of the symbol: of the undefined entry behind `count`, where the symbol has one, or of a
+/// listed symbol behind all `undefined` ones.
+fn is_at(
+    layout: &Layout,
+    undefined: usize,
+    entry: bool,
+    count: usize,
+    symbol: usize,
+    position: u64,
+) -> bool
+    ensures { result ≡ is_at layout.now.dynsyms undefined entry count symbol position }
+{
+    let position = position as usize;
+    entry && position != 0 && position - 1 == count
+        || undefined < position && lists(layout, symbol, position - 1 - undefined)
+}
+
+fn fits_at(
+    layout: &Layout,
+    undefined: usize,
+    entry: bool,
+    count: usize,
+    number: usize,
+    symbol: &Symbol,
+) -> bool
+    ensures { result ≡ fits_at layout.now.dynsyms undefined entry count number (dynsym_of symbol.now) }
+{
+    match dynsym_of(symbol) {
+        Some(position) => is_at(layout, undefined, entry, count, number, position),
+        None => true,
+    }
+}
+
+/// The number of undefined entries behind the symbols, counted from `first` on, which a file of that role has behind `count`
+/// of them; else the first whose index is not its position.
+fn walk_run(
+    layout: &Layout,
+    undefined: usize,
+    role: FileRole,
+    first: usize,
+    count: usize,
+    symbols: &[Symbol],
+) -> Result<usize, usize>
+    requires few { count ≤ first }
+    requires room { first + length symbols.now < 2 ^ 64 }
+    ensures walk { result ≡ run_walk layout.now.dynsyms undefined role first count symbols.now }
+    ensures few { IfOk result (λ behind. behind ≤ count + length symbols.now) }
+{
+    let mut count = count;
+    for (i, symbol) in symbols.iter().enumerate() {
+        let entry = is_undefined_entry(role, symbol);
+        if !fits_at(layout, undefined, entry, count, first + i, symbol) {
+            return Err(first + i);
+        }
+        if entry {
+            count += 1;
+        }
+    }
+    Ok(count)
+}
+
+/// The next symbol behind the file's range, and the number of undefined entries ahead of it; else the first symbol whose index
+/// is not its position.
+fn walk_file(
+    layout: &Layout,
+    undefined: usize,
+    at: (usize, usize),
+    file: &File,
+) -> Result<(usize, usize), usize>
+    requires few { at.1 ≤ at.0 }
+    requires within { at.0 ≤ length layout.now.symbols }
+    ensures walk { result ≡ file_walk layout.now undefined at file.now }
+    ensures few { IfOk result (λ next. (next.1 ≤ next.0) × (next.0 ≤ length layout.now.symbols)) }
+{
+    if file.symbol_count == 0 {
+        return Ok(at);
+    }
+    let symbols = layout.symbols.as_slice();
+    let (next, count) = at;
+    let gap = some_from(symbols, next, file.first_symbol.0.saturating_sub(next));
+    let count = walk_run(layout, undefined, FileRole::NotLoaded, next, count, gap)?;
+    let first = next + gap.len();
+    let range = some_from(symbols, first, file.symbol_count);
+    let count = walk_run(layout, undefined, file.role, first, count, range)?;
+    Ok((first + range.len(), count))
+}
+
+fn walk_files(
+    layout: &Layout,
+    undefined: usize,
+    at: (usize, usize),
+    files: &[File],
+) -> Result<(usize, usize), usize>
+    requires few { at.1 ≤ at.0 }
+    requires within { at.0 ≤ length layout.now.symbols }
+    ensures walk { result ≡ files_walk layout.now undefined at files.now }
+    ensures few { IfOk result (λ next. (next.1 ≤ next.0) × (next.0 ≤ length layout.now.symbols)) }
+{
+    let mut at = at;
+    for file in files {
+        at = walk_file(layout, undefined, at, file)?;
+    }
+    Ok(at)
+}
+
+fn walk_groups(layout: &Layout, undefined: usize) -> Result<(usize, usize), usize>
+    ensures walk { result ≡ groups_walk layout.now undefined (0, 0) layout.now.groups }
+    ensures few { IfOk result (λ next. (next.1 ≤ next.0) × (next.0 ≤ length layout.now.symbols)) }
+{
+    let mut at = (0, 0);
+    for group in layout.groups.as_slice() {
+        at = walk_files(layout, undefined, at, group.files.as_slice())?;
+    }
+    Ok(at)
+}
+
+/// The first symbol whose index is not its position, where there are so many undefined entries.
+fn walk(layout: &Layout, undefined: usize) -> Option<usize>
+    ensures { result ≡ whole_walk layout.now undefined }
+{
+    match walk_groups(layout, undefined) {
+        Ok((next, count)) => {
+            let symbols = layout.symbols.as_slice();
+            let rest = some_from(symbols, next, symbols.len());
+            walk_run(layout, undefined, FileRole::NotLoaded, next, count, rest).err()
+        }
+        Err(symbol) => Some(symbol),
+    }
+}
+
+/// How many of a file's symbols have an undefined entry.
+fn count_in(role: FileRole, symbols: &[Symbol]) -> usize
+    ensures count { result ≡ count_in role symbols.now }
+    ensures few { result ≤ length symbols.now }
+{
+    let mut count = 0;
+    for symbol in symbols {
+        if is_undefined_entry(role, symbol) {
+            count += 1;
+        }
+    }
+    count
+}
+
+fn undefined_of(layout: &Layout, file: &File) -> usize
+    ensures { result ≡ undefined_of layout.now.symbols file.now }
+{
+    let symbols = layout.symbols.as_slice();
+    count_in(
+        file.role,
+        some_from(symbols, file.first_symbol.0, file.symbol_count),
+    )
+}
+
+/// At most 2^64 - 1.
+fn undefined_of_group(layout: &Layout, group: &Group) -> usize
+    ensures { result ≡ min (2 ^ 64 - 1) (undefined_of_group layout.now.symbols group.now) }
+{
+    let mut count: usize = 0;
+    for file in group.files.as_slice() {
+        count = count.saturating_add(undefined_of(layout, file));
+    }
+    count
+}
+
+/// At most 2^64 - 1.
+fn undefined_count(layout: &Layout) -> usize
+    ensures { result ≡ min (2 ^ 64 - 1) (undefined_count layout.now) }
+{
+    let mut count: usize = 0;
+    for group in layout.groups.as_slice() {
+        count = count.saturating_add(undefined_of_group(layout, group));
+    }
+    count
+}
+
+/// How many undefined entries all files give.
+#[tactic(auto, using(crate::proofs::DynsymLemmas::count_is_exact))]
+fn exact_count(layout: &Layout) -> usize
+    requires indexes { check_indexes layout.now ≡ Ok tt }
+    ensures { result ≡ length (undefined_entries layout.now.symbols (files_of layout.now.groups)) }
+{
+    let _number = layout.symbols.len();
+    undefined_count(layout)
+}
+
+/// The first symbol whose index is not its position.
+#[tactic(auto, using(crate::proofs::DynsymLemmas::walk_finds_misplaced))]
+fn misplaced(layout: &Layout, undefined: usize) -> Option<usize>
+    requires indexes { check_indexes layout.now ≡ Ok tt }
+    requires count { undefined ≡ length (undefined_entries layout.now.symbols (files_of layout.now.groups)) }
+    ensures { result ≡ misplaced (dynamic_symbols layout.now) 0 layout.now.symbols }
+{
+    walk(layout, undefined)
+}
+
+/// The header index of an input section's output section; 0 where there is none.
+fn section_of_input(layout: &Layout, file: &File, place: usize) -> SectionIndex
+    ensures { result ≡ section_of_input layout.now (slice_get file.now.sections place) }
+{
+    match file.sections.as_slice().get(place) {
+        Some(section) => layout.section_of(section.part),
+        None => SectionIndex(0),
+    }
+}
+
+/// That of the file whose range has the symbol of that number.
+fn found_in(layout: &Layout, files: &[File], symbol: usize, place: usize) -> Option<SectionIndex>
+    ensures { result ≡ found_in layout.now files.now symbol place }
+{
+    for file in files {
+        let end = file.first_symbol.0 as u128 + file.symbol_count as u128;
+        if file.first_symbol.0 <= symbol && (symbol as u128) < end {
+            return Some(section_of_input(layout, file, place));
+        }
+    }
+    None
+}
+
+fn section_in(layout: &Layout, symbol: usize, place: usize) -> SectionIndex
+    ensures { result ≡ section_in layout.now symbol place layout.now.groups }
+{
+    for group in layout.groups.as_slice() {
+        match found_in(layout, group.files.as_slice(), symbol, place) {
+            Some(section) => return section,
+            None => {}
+        }
+    }
+    SectionIndex(0)
+}
+
+/// The header index of the output section in which the symbol of that number stands; 0 where there is none.
+#[tactic(auto, using(crate::proofs::DynsymLemmas::section_is))]
+fn output_section(layout: &Layout, number: usize, place: Place) -> SectionIndex
+    ensures { result ≡ output_section layout.now (file_of (files_of layout.now.groups) number) place }
+{
+    match place {
+        Place::Output(section) => section,
+        Place::Section(section) => section_in(layout, number, section),
+        _ => SectionIndex(0),
+    }
+}
+
+/// Whether a symbol may have that header index (gABI, "Special Section Indexes").
+fn is_below(section: SectionIndex) -> bool
+    ensures { result ≡ nat_lt section symbol_sections }
+{
+    section.0 < 0xff00
+}
+
+fn parts_are_below(parts: &[Part]) -> bool
+    ensures { result ≡ list_all part_is_below parts.now }
+{
+    parts.iter().all(|part| is_below(part.section))
+}
+
+fn symbol_is_below(symbol: &Symbol) -> bool
+    ensures { result ≡ symbol_is_below symbol.now }
+{
+    match symbol.place {
+        Place::Output(section) => is_below(section),
+        _ => true,
+    }
+}
+
+fn symbols_are_below(symbols: &[Symbol]) -> bool
+    ensures { result ≡ list_all symbol_is_below symbols.now }
+{
+    symbols.iter().all(|symbol| symbol_is_below(symbol))
+}
+
+/// Whether no symbol can stand in a section whose header index it may not have. Files are looked for only where one can.
+fn all_below(layout: &Layout) -> bool
+    ensures { result ≡ all_below layout.now }
+{
+    parts_are_below(layout.parts.as_slice()) && symbols_are_below(layout.symbols.as_slice())
+}
+
+#[tactic(auto, using(crate::proofs::DynsymLemmas::all_are_below))]
+fn section_fits(layout: &Layout, below: bool, number: usize, symbol: &Symbol) -> bool
+    requires below { below ≡ all_below layout.now }
+    requires own { slice_get layout.now.symbols number ≡ Some symbol.now }
+    ensures { result ≡ nat_lt (output_section layout.now (file_of (files_of layout.now.groups) number) symbol.now.place) symbol_sections }
+{
+    below || is_below(output_section(layout, number, symbol.place))
+}
+
+/// Whether the symbol carries that position.
+fn is_position(position: u128, symbol: &Symbol) -> bool
+    ensures { result ≡ is_position position (dynsym_of symbol.now) }
+{
+    match dynsym_of(symbol) {
+        Some(index) => u128::from(index) == position,
+        None => false,
+    }
+}
+
+fn listed_fits(layout: &Layout, below: bool, position: u128, listed: &DynamicSymbol) -> bool
+    requires below { below ≡ all_below layout.now }
+    ensures { result ≡ listed_fits layout.now position listed.now }
+{
+    let number = listed.symbol.0;
+    match layout.symbols.as_slice().get(number) {
+        Some(symbol) => {
+            is_position(position, symbol) && section_fits(layout, below, number, symbol)
+        }
+        None => false,
+    }
+}
+
+/// The first listed symbol that has not the position that follows, or not a section that a symbol may have.
+fn misfit(layout: &Layout, undefined: usize) -> Option<usize>
+    requires count { undefined ≡ length (undefined_entries layout.now.symbols (files_of layout.now.groups)) }
+    ensures { result ≡ misfit layout.now (first_listed layout.now) 0 layout.now.dynsyms }
+{
+    let below = all_below(layout);
+    let first = undefined as u128 + 1;
+    for (i, listed) in layout.dynsyms.as_slice().iter().enumerate() {
+        if !listed_fits(layout, below, first + i as u128, listed) {
+            return Some(i);
+        }
+    }
+    None
+}
+
+/// It is asked where the indexes hold.
+#[tactic(auto, unfolding(crate::specs::WellFormed::check_dynsyms))]
+pub(crate) fn check_dynsyms(layout: &Layout) -> Result<(), Clause>
+    requires indexes { check_indexes layout.now ≡ Ok tt }
+    ensures { result ≡ check_dynsyms layout.now }
+{
+    let undefined = exact_count(layout);
+    fails(13, misplaced(layout, undefined))?;
+    fails(13, misfit(layout, undefined))
+}
