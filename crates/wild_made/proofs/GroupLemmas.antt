@@ -11,7 +11,10 @@ use Rattle.wild_plan.specs.Rows.{row_of}
 use Rattle.wild_reloc.specs.TableX86_64.{x86_64_row}
 use Rattle.wild_plan.specs.Contents.{each_section, given, share_mismatch, has_share_for_each_part, files_placed, file_misplaced, part_placed, file_placed_in, parts_placed, section_misplaced, length_fits, discarded_is_empty, part_is_raw, allocation_agrees, bytes_take_room, fields_lie, start_astray, input_name_fits, symbol_name_fits}
 use Rattle.wild_plan.specs.Indexes.{group_indexes_fit, file_indexes_fit, section_indexes_fit, relocation_index_fits, definition_is_own, range_follows, range_out_of_order, symbol_misfit}
-use Rattle.wild_plan.specs.WellFormed.{check_shares, check_inputs, check_indexes, check_fields, check_tls, check_starts, check_names, first_clause}
+use Rattle.wild_plan.specs.Flags.{has_flag}
+use Rattle.wild_plan.specs.DynamicSymbols.{dynamic_symbols, misplaced}
+use Rattle.wild_plan.specs.SlotFlags.{dynamic_is_interposable, stub_is_value, stub_has_slot, one_slot_for_address, thread_slot_alone, resolver_is_own, slot_agrees, resolver_moves, second_slot_fits}
+use Rattle.wild_plan.specs.WellFormed.{check_shares, check_inputs, check_indexes, check_fields, check_dynsyms, check_slot_flags, check_tls, check_starts, check_names, first_clause}
 use Rattle.wild_made.specs.Made.{made_section, made_object, plain_file, made_files, made_symbol, made_group, made_relocation, made_parts, made, callee}
 use Rattle.wild_made.specs.Laws.{IsCount}
 use Rattle.wild_made.proofs.ListLemmas.{made_from, none_fails, total_same, length_made, both_true, list_all_made}
@@ -263,8 +266,32 @@ pub names_hold : (n : ℕ) → check_names (made n) ≡ Ok tt
 unfolding check_names made
 names_hold n = rw (none_fails symbol_name_fits made_symbol 0 0 n (λ k low high. refl), input_names_fit n) refl
 
+-- ---- clauses 13 and 14
+
+-- no symbol has an index in the dynamic symbol table
+none_misplaced : (table : List ℕ) (i a m : ℕ) → misplaced table i (made_from made_symbol a m) ≡ None
+none_misplaced table i a zero = refl
+none_misplaced table i a (suc m) = none_misplaced table (i + 1) (a + 1) m
+
+pub dynsyms_hold : (n : ℕ) → check_dynsyms (made n) ≡ Ok tt
+unfolding check_dynsyms made
+dynsyms_hold n = rw (none_misplaced (dynamic_symbols (made n)) 0 0 n) refl
+
+pub slot_flags_hold : (n : ℕ) → check_slot_flags (made n) ≡ Ok tt
+unfolding check_slot_flags made has_flag
+slot_flags_hold n =
+    rw (none_fails dynamic_is_interposable made_symbol 0 0 n (λ k low high. refl),
+        none_fails stub_is_value made_symbol 0 0 n (λ k low high. refl),
+        none_fails stub_has_slot made_symbol 0 0 n (λ k low high. refl),
+        none_fails one_slot_for_address made_symbol 0 0 n (λ k low high. refl),
+        none_fails thread_slot_alone made_symbol 0 0 n (λ k low high. refl),
+        none_fails resolver_is_own made_symbol 0 0 n (λ k low high. refl),
+        none_fails slot_agrees made_symbol 0 0 n (λ k low high. refl),
+        none_fails resolver_moves made_symbol 0 0 n (λ k low high. refl),
+        none_fails (second_slot_fits (made n)) made_symbol 0 0 n (λ k low high. refl)) refl
+
 -- ---- all clauses
 
 pub clauses_hold : (n : ℕ) → IsCount n → first_clause (made n) ≡ Ok tt
 unfolding first_clause
-clauses_hold n c = rw (sizes_hold n c, counts_hold n c, order_holds n c, roles_hold n, sections_hold n, segments_hold n c, shares_hold n c, inputs_hold n, indexes_hold n c, fields_hold n, tls_holds n, starts_hold n, names_hold n) refl
+clauses_hold n c = rw (sizes_hold n c, counts_hold n c, order_holds n c, roles_hold n, sections_hold n, segments_hold n c, shares_hold n c, inputs_hold n, indexes_hold n c, fields_hold n, dynsyms_hold n, slot_flags_hold n, tls_holds n, starts_hold n, names_hold n) refl
