@@ -269,13 +269,13 @@ names_hold n = rw (none_fails symbol_name_fits made_symbol 0 0 n (λ k low high.
 -- ---- clauses 13 and 14
 
 -- no symbol has an index in the dynamic symbol table
-none_misplaced : (table : List ℕ) (i a m : ℕ) → misplaced table i (made_from made_symbol a m) ≡ None
-none_misplaced table i a zero = refl
-none_misplaced table i a (suc m) = none_misplaced table (i + 1) (a + 1) m
+no_dynsym_misplaced : (table : List ℕ) (i a m : ℕ) → misplaced table i (made_from made_symbol a m) ≡ None
+no_dynsym_misplaced table i a zero = refl
+no_dynsym_misplaced table i a (suc m) = no_dynsym_misplaced table (i + 1) (a + 1) m
 
 pub dynsyms_hold : (n : ℕ) → check_dynsyms (made n) ≡ Ok tt
 unfolding check_dynsyms made
-dynsyms_hold n = rw (none_misplaced (dynamic_symbols (made n)) 0 0 n) refl
+dynsyms_hold n = rw (no_dynsym_misplaced (dynamic_symbols (made n)) 0 0 n) refl
 
 pub slot_flags_hold : (n : ℕ) → check_slot_flags (made n) ≡ Ok tt
 unfolding check_slot_flags made has_flag
