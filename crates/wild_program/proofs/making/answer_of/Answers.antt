@@ -3,10 +3,10 @@ use Rattle.std.proofs.lemmas.Result.{IfOk-weaker}
 use Rattle.wild_layout.specs.Image.{bytes, counts}
 use Rattle.wild_made.specs.Made.{made}
 use Rattle.wild_program.specs.Program.{summary_text}
-use Rattle.wild_program.proofs.making.made_answer.Goals as goal
+use Rattle.wild_program.proofs.making.answer_of.Goals as goal
 
 pub returns-in-Ok : goal.returns-in-Ok
 returns-in-Ok g c =
-    let image = c.as_slice.ensures ∙ c.in-Ok.ensures.image ∙ ap bytes c.in_ok-layout.ensures.layout in
-    let all = c.as_slice-in-Ok.ensures ∙ c.in-Ok.ensures.counts ∙ ap counts c.in_ok-layout.ensures.layout in
+    let image = c.as_slice.ensures ∙ c.in-Ok.ensures.image ∙ ap bytes c.requires.layout in
+    let all = c.as_slice-in-Ok.ensures ∙ c.in-Ok.ensures.counts ∙ ap counts c.requires.layout in
     IfOk-weaker c.summary.result _ _ (λ v h. h ∙ ap (λ (xs : List ℕ). summary_text c.args.groups xs c.as_slice-in-Ok.result.now) image ∙ ap (λ (ns : List ℕ). summary_text c.args.groups (bytes (made c.args.groups)) ns) all) c.summary.ensures
