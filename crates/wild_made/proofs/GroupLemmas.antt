@@ -280,15 +280,17 @@ dynsyms_hold n = rw (no_dynsym_misplaced (dynamic_symbols (made n)) 0 0 n) refl
 pub slot_flags_hold : (n : ℕ) → check_slot_flags (made n) ≡ Ok tt
 unfolding check_slot_flags made has_flag
 slot_flags_hold n =
-    rw (none_fails dynamic_is_interposable made_symbol 0 0 n (λ k low high. refl),
-        none_fails stub_is_value made_symbol 0 0 n (λ k low high. refl),
-        none_fails stub_has_slot made_symbol 0 0 n (λ k low high. refl),
-        none_fails one_slot_for_address made_symbol 0 0 n (λ k low high. refl),
-        none_fails thread_slot_alone made_symbol 0 0 n (λ k low high. refl),
-        none_fails resolver_is_own made_symbol 0 0 n (λ k low high. refl),
-        none_fails slot_agrees made_symbol 0 0 n (λ k low high. refl),
-        none_fails resolver_moves made_symbol 0 0 n (λ k low high. refl),
-        none_fails (second_slot_fits (made n)) made_symbol 0 0 n (λ k low high. refl)) refl
+    rw (
+      none_fails dynamic_is_interposable made_symbol 0 0 n (λ k low high. refl),
+      none_fails stub_is_value made_symbol 0 0 n (λ k low high. refl),
+      none_fails stub_has_slot made_symbol 0 0 n (λ k low high. refl),
+      none_fails one_slot_for_address made_symbol 0 0 n (λ k low high. refl),
+      none_fails thread_slot_alone made_symbol 0 0 n (λ k low high. refl),
+      none_fails resolver_is_own made_symbol 0 0 n (λ k low high. refl),
+      none_fails slot_agrees made_symbol 0 0 n (λ k low high. refl),
+      none_fails resolver_moves made_symbol 0 0 n (λ k low high. refl),
+      none_fails (second_slot_fits (made n)) made_symbol 0 0 n (λ k low high. refl),
+    ) refl
 
 -- ---- all clauses
 
