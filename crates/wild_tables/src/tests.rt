@@ -1,4 +1,4 @@
-//! The tables of a group with 24 bytes of entries and 32 of words.
+//! Slots of thread-local symbols, the block of slots that are packed, and a dynamic section as GNU ld writes it.
 ghost use Rattle.std.specs.Prelude.{◌≡◌, length, IfOk};
 ghost use Rattle.wild_relr.specs.Packing.{Follows};
 ghost use Rattle.wild_relr.specs.Written.{state, Lies};
@@ -9,24 +9,6 @@ use std::test::Fail;
 use wild_plan::*;
 use wild_relr::{RelrWriter, block_words, count_words};
 use wild_words::{Bytes, Items, read_u64};
-
-/// The words of places in a window and the next, and of one in a further section (0x3000 with 0x3010, 0x31f8 and
-/// 0x3200, then 0x3208).
-#[rattlefmt::skip]
-const WORDS: [u8; 32] = [
-    0x00, 0x30, 0, 0, 0, 0, 0, 0,
-    0x05, 0, 0, 0, 0, 0, 0, 0x80,
-    0x03, 0, 0, 0, 0, 0, 0, 0,
-    0x08, 0x32, 0, 0, 0, 0, 0, 0,
-];
-
-/// R_X86_64_RELATIVE at 0x3001 with the addend 0x1040.
-#[rattlefmt::skip]
-const ENTRY: [u8; 24] = [
-    0x01, 0x30, 0, 0, 0, 0, 0, 0,
-    0x08, 0, 0, 0, 0, 0, 0, 0,
-    0x40, 0x10, 0, 0, 0, 0, 0, 0,
-];
 
 /// The entries of `.dynamic` that GNU ld 2.40 wrote, but for `DT_HASH`, of the file that gcc 12.2 made by
 /// `-static-pie -fPIE -nostdlib -O1 -Wl,--hash-style=sysv,-z,now,--build-id=none` of
@@ -62,11 +44,6 @@ fn part(role: Role, address: u64, size: u64) -> Part {
         size,
         align: 8,
     }
-}
-
-fn parts_of_tables(alloc: Global) -> Result<Vec<Part>, AllocError> {
-    let entries = part(Role::RelaDynRelative, 0, 24);
-    Ok(vec![in alloc; entries, part(Role::RelrDyn, 0, 32)]?)
 }
 
 /// The parts of ld's file that its dynamic section names.
@@ -129,57 +106,6 @@ fn layout_of(
     })
 }
 
-#[test]
-fn packs_places_as_they_come(rt: HostRuntime) -> Result<(), Fail> {
-    let layout = layout(rt.alloc(), true, parts_of_tables(rt.alloc())?)?;
-    let mut tables = TableWriter::new(rt.alloc(), &layout, 0)?;
-    let mut site = [0; 8];
-    for place in [0x3000, 0x3010, 0x31f8, 0x3200] {
-        tables.write_address_relocation(&layout, place, 0x1040, &mut site)?;
-        assert_eq!(rt; site, [0x40, 0x10, 0, 0, 0, 0, 0, 0]);
-    }
-    tables.reset_relr_run();
-    tables.write_address_relocation(&layout, 0x3208, 0x1040, &mut site)?;
-    assert_eq!(rt; tables.relr_words(), WORDS.as_slice());
-    tables.write_address_relocation(&layout, 0x3001, 0x1040, &mut site)?;
-    assert_eq!(rt; site, [0; 8]);
-    assert_eq!(rt; tables.relative_entries(), ENTRY.as_slice());
-    assert!(rt; tables.validate_empty(&layout).is_ok());
-    Ok(())
-}
-
-#[test]
-fn tells_the_room_that_lacks_or_is_left(rt: HostRuntime) -> Result<(), Fail> {
-    let layout = layout(rt.alloc(), false, parts_of_tables(rt.alloc())?)?;
-    let mut tables = TableWriter::new(rt.alloc(), &layout, 0)?;
-    tables.write_relr_entry_flat(&layout, 0x3001, 0x1040)?;
-    assert_eq!(rt; tables.relative_entries(), ENTRY.as_slice());
-    let error = tables
-        .write_relr_entry_flat(&layout, 0x3008, 0)
-        .err()
-        .ok_or("no fault")?;
-    assert_eq!(rt;
-        error.fault,
-        Fault::InsufficientAllocation {
-            part: 0,
-            group: 0,
-            given: 24,
-            needed: 48,
-        }
-    );
-    let error = tables.validate_empty(&layout).err().ok_or("no fault")?;
-    assert_eq!(rt;
-        error.fault,
-        Fault::ExcessiveAllocation {
-            part: 1,
-            group: 0,
-            given: 32,
-            needed: 0,
-        }
-    );
-    Ok(())
-}
-
 /// A writer of a part that has no words yet.
 fn started(out: &[u8]) -> RelrWriter
     ensures lies { Lies out.now result }
@@ -240,33 +166,6 @@ const FIXED: OutputKind = OutputKind::StaticExecutable(RelocationModel::NonReloc
 /// A slot with an offset (128), a module pair (256) and a descriptor (512) in a shared object: a symbol 8 bytes behind the
 /// start of the thread-local data.
 const ALL_SLOTS: u32 = 128 | 256 | 512;
-
-/// R_X86_64_TPOFF64, R_X86_64_DTPMOD64 and R_X86_64_TLSDESC at 0x4000, 0x4008 and 0x4018.
-#[rattlefmt::skip]
-const THREAD_ENTRIES: [u8; 72] = [
-    0x00, 0x40, 0, 0, 0, 0, 0, 0, 18, 0, 0, 0, 0, 0, 0, 0, 8, 0, 0, 0, 0, 0, 0, 0,
-    0x08, 0x40, 0, 0, 0, 0, 0, 0, 16, 0, 0, 0, 0, 0, 0, 0, 0, 0, 0, 0, 0, 0, 0, 0,
-    0x18, 0x40, 0, 0, 0, 0, 0, 0, 36, 0, 0, 0, 0, 0, 0, 0, 8, 0, 0, 0, 0, 0, 0, 0,
-];
-
-#[test]
-fn writes_thread_local_slots_of_a_shared_object(rt: HostRuntime) -> Result<(), Fail> {
-    let layout = layout_of_slots(rt.alloc(), OutputKind::SharedObject, 40, 72)?;
-    let mut tables = TableWriter::new(rt.alloc(), &layout, 0)?;
-    let resolution = thread_local(0x40_3008, ALL_SLOTS);
-    let written = tables.process_resolution(&layout, &resolution, Err(0));
-    assert!(rt; written.is_ok());
-    let got = tables.got_words();
-    assert_eq!(rt; got.len(), 40);
-    for (at, value) in [(0, 0), (8, 0), (16, 8), (24, 0), (32, 0)] {
-        if at + 8 <= got.len() {
-            assert_eq!(rt; read_u64(got, at), value);
-        }
-    }
-    assert_eq!(rt; tables.general_entries(), THREAD_ENTRIES.as_slice());
-    assert!(rt; tables.validate_empty(&layout).is_ok());
-    Ok(())
-}
 
 #[test]
 fn tells_sizes_that_a_resolution_does_not_need(rt: HostRuntime) -> Result<(), Fail> {
@@ -332,75 +231,6 @@ fn offsets_end_with_the_thread_local_data(rt: HostRuntime) -> Result<(), Fail> {
     assert_eq!(rt;
         refused,
         Some(Refused::Fault(SlotFault::TlsOutOfSegment { value: 4_206_609, }))
-    );
-    Ok(())
-}
-
-#[test]
-fn tells_the_room_that_a_slot_lacks(rt: HostRuntime) -> Result<(), Fail> {
-    let layout = layout_of_slots(rt.alloc(), FIXED, 8, 0)?;
-    let mut tables = TableWriter::new(rt.alloc(), &layout, 0)?;
-    let refused = tables
-        .process_resolution(&layout, &thread_local(0x40_3008, 256), Err(0))
-        .err()
-        .ok_or("no fault")?;
-    let Refused::Room(error) = refused else {
-        return Err("a fault of the slot".into());
-    };
-    assert_eq!(rt;
-        error.fault,
-        Fault::InsufficientAllocation {
-            part: 0,
-            group: 0,
-            given: 8,
-            needed: 16,
-        }
-    );
-    Ok(())
-}
-
-#[test]
-fn writes_the_pair_of_the_data_once(rt: HostRuntime) -> Result<(), Fail> {
-    let mut layout = layout_of_slots(rt.alloc(), FIXED, 40, 0)?;
-    layout.got_header = 3;
-    layout.tlsld = Some(0x4018);
-    let mut tables = TableWriter::new(rt.alloc(), &layout, 0)?;
-    tables.write_plt_got_entries(&layout)?;
-    let got = tables.got_words();
-    for (at, value) in [(0, 0), (8, 0), (16, 0), (24, 1), (32, 0x10)] {
-        if at + 8 <= got.len() {
-            assert_eq!(rt; read_u64(got, at), value);
-        }
-    }
-    assert!(rt; tables.validate_empty(&layout).is_ok());
-    Ok(())
-}
-
-#[test]
-fn packs_the_block_of_a_group(rt: HostRuntime) -> Result<(), Fail> {
-    let layout = layout(rt.alloc(), true, parts_of_tables(rt.alloc())?)?;
-    let mut tables = TableWriter::new(rt.alloc(), &layout, 0)?;
-    tables.write_got_relr_bitmap(0x3000, 3)?;
-    tables.write_got_relr_bitmap(0x4000, 0)?;
-    tables.write_got_relr_bitmap(0x5000, 1)?;
-    let words = tables.relr_words();
-    for (at, value) in [(0, 0x3000), (8, 7), (16, 0x5000), (24, 0)] {
-        if at + 8 <= words.len() {
-            assert_eq!(rt; read_u64(words, at), value);
-        }
-    }
-    let error = tables
-        .write_got_relr_bitmap(0x6000, 3)
-        .err()
-        .ok_or("no fault")?;
-    assert_eq!(rt;
-        error.fault,
-        Fault::InsufficientAllocation {
-            part: 1,
-            group: 0,
-            given: 32,
-            needed: 40,
-        }
     );
     Ok(())
 }
