@@ -1,9 +1,6 @@
 -- Clause 14: what is known of a symbol agrees with its slots and its stub (x86-64 psABI, "Global Offset Table (GOT)",
 -- "Procedure Linkage Table"; ELF Handling For Thread-Local Storage). A symbol's flags and resolution are those that the layout
 -- gives for it, also where another symbol defines it.
---   got_of s, plt_of s           the address of the first slot and of the stub, where they are there
---   has_dynamic_symbol f         a loader looks the symbol up
---   has_thread_slot f            a slot or pair for a thread-local symbol
 --   takes_block_word l s         the slot is one of a block of packed words
 use Rattle.std.specs.Prelude.{ℕ, ◌==◌, Bool, true, not, ◌&&◌, ◌||◌, Option, Some, None, is_some}
 use Rattle.wild_plan.specs.declared.symbol.ValueFlags.{ValueFlags}
@@ -11,34 +8,9 @@ use Rattle.wild_plan.specs.declared.symbol.Resolution.{Resolution}
 use Rattle.wild_plan.specs.declared.symbol.Symbol.{Symbol}
 use Rattle.wild_plan.specs.declared.layout.Layout.{Layout}
 use Rattle.wild_plan.specs.Contents.{bool_eq}
+use Rattle.wild_plan.specs.SymbolSlots.{got_of, plt_of, has_dynamic_symbol, has_thread_slot}
 use Rattle.wild_plan.specs.Flags.{has_flag, interposable, has_link_time_address, absolute, dynamic, ifunc, got_slot, got_tls_offset, got_tls_module, got_tls_descriptor, copy_relocation, export_dynamic, canonical_plt, ifunc_got_for_address, canonical_plt_got_for_address}
 use Rattle.wild_plan.specs.Kinds.{is_position_independent}
-
--- ---- what a symbol has
-
-abbrev pub resolved_got : Option Resolution → Option ℕ
-resolved_got None = None
-resolved_got (Some r) = r.got_address
-
--- the address of the first slot
-abbrev pub got_of : Symbol → Option ℕ
-got_of s = resolved_got s.resolution
-
-abbrev pub resolved_plt : Option Resolution → Option ℕ
-resolved_plt None = None
-resolved_plt (Some r) = r.plt_address
-
--- the address of the stub
-abbrev pub plt_of : Symbol → Option ℕ
-plt_of s = resolved_plt s.resolution
-
--- a loader finds the symbol in the dynamic symbol table, of this module or of another (gABI, "Symbol Visibility")
-abbrev pub has_dynamic_symbol : ValueFlags → Bool
-has_dynamic_symbol f = has_flag f dynamic || (has_flag f export_dynamic && interposable f)
-
--- a slot or pair for a thread-local symbol
-abbrev pub has_thread_slot : ValueFlags → Bool
-has_thread_slot f = has_flag f got_tls_offset || (has_flag f got_tls_module || has_flag f got_tls_descriptor)
 
 -- ---- the tests, in their order
 

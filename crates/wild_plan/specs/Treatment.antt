@@ -3,6 +3,7 @@
 --   is_left l s row i     the address of symbol i is left to a dynamic entry
 --   is_barred l s row i   the field is too narrow for an address that another module may define
 --   moves l i             the address of symbol i moves with the base
+--   is_chosen l s i       the address of symbol i is what a resolver answers, stored by a loader
 --   treatment l s r       what is done with relocation r of section s
 use Rattle.std.specs.Prelude.{ℕ, Bool, not, ◌&&◌, ◌||◌, ◌==◌, if◌then◌else◌, Option, Some, None, option_map, unwrap_or, slice_get}
 use Rattle.wild_plan.specs.declared.symbol.Symbol.{Symbol}
@@ -12,7 +13,7 @@ use Rattle.wild_plan.specs.declared.input.InputSection.{InputSection}
 use Rattle.wild_plan.specs.declared.layout.Layout.{Layout}
 use Rattle.wild_plan.specs.declared.treatment.Treatment.{Treatment}
 use Rattle.wild_plan.specs.declared.treatment.Treatment.TheVariants.{Nothing, Value, BaseRelative, Symbolic, Recompile, Unsupported}
-use Rattle.wild_plan.specs.Flags.{has_flag, interposable, absolute, dynamic, copy_relocation, plt_stub}
+use Rattle.wild_plan.specs.Flags.{has_flag, interposable, absolute, dynamic, copy_relocation, plt_stub, ifunc}
 use Rattle.wild_plan.specs.Kinds.{is_position_independent}
 use Rattle.wild_plan.specs.Lookups.{canonical, writable, allocated}
 use Rattle.wild_plan.specs.Rows.{row_of}
@@ -49,11 +50,17 @@ moves l i = is_position_independent l.kind && not (has_flag (flags_at l i) absol
 abbrev pub moved_treatment : RelocationKindInfo → Treatment
 moved_treatment row = if field_width row == 8 then BaseRelative else Recompile
 
+-- the function that a resolver chooses is stored by a loader, in data of an output that moves (x86-64 psABI, "Relocation
+-- Types", R_X86_64_IRELATIVE)
+abbrev pub is_chosen : Layout → InputSection → ℕ → Bool
+is_chosen l s i = allocated s.flags && writable s.flags && is_position_independent l.kind && has_flag (flags_at l i) ifunc
+
 -- S + A of symbol i
 abbrev pub address_treatment : Layout → InputSection → RelocationKindInfo → ℕ → Treatment
 address_treatment l s row i =
     if is_barred l s row i then Recompile
     else if is_left l s row i then Symbolic i
+    else if is_chosen l s i then Unsupported
     else if allocated s.flags && moves l i then moved_treatment row
     else Value row
 
@@ -67,7 +74,8 @@ abbrev pub distance_treatment : Layout → InputSection → RelocationKindInfo �
 distance_treatment l s row None = if allocated s.flags && is_position_independent l.kind then Recompile else Value row
 distance_treatment l s row (Some i) = if is_barred l s row i then Recompile else Value row
 
--- the kinds that are known: no value; S + A; S + A - P; GOT + A - P; S + A - GOT; offsets in thread storage; sizes
+-- the kinds that are known: no value; S + A; S + A - P; GOT + A - P; S + A - GOT; offsets in thread storage; sizes; L + A - P and
+-- L + A - GOT; G + A - P and G + A - GOT, of slots but descriptors
 abbrev pub kind_treatment : Layout → InputSection → Option ℕ → RelocationKindInfo → RelocationKind → Treatment
 kind_treatment l s symbol row kinds.None = Nothing
 kind_treatment l s symbol row kinds.Absolute = named symbol (address_treatment l s row)
@@ -77,6 +85,13 @@ kind_treatment l s symbol row kinds.SymRelGotBase = named symbol (λ i. Value ro
 kind_treatment l s symbol row kinds.DtpOff = named symbol (λ i. Value row)
 kind_treatment l s symbol row kinds.TpOff = named symbol (λ i. Value row)
 kind_treatment l s symbol row kinds.SymbolSize = named symbol (λ i. Value row)
+kind_treatment l s symbol row kinds.PltRelative = named symbol (λ i. Value row)
+kind_treatment l s symbol row kinds.PltRelGotBase = named symbol (λ i. Value row)
+kind_treatment l s symbol row kinds.GotRelative = named symbol (λ i. Value row)
+kind_treatment l s symbol row kinds.GotRelGotBase = named symbol (λ i. Value row)
+kind_treatment l s symbol row kinds.TlsGd = named symbol (λ i. Value row)
+kind_treatment l s symbol row kinds.TlsLd = named symbol (λ i. Value row)
+kind_treatment l s symbol row kinds.GotTpOff = named symbol (λ i. Value row)
 kind_treatment l s symbol row other = Unsupported
 
 unfoldable pub row_treatment : Layout → InputSection → Option ℕ → Option RelocationKindInfo → Treatment

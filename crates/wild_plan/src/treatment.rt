@@ -1,6 +1,6 @@
 //! What is done with a relocation, as far as the layout alone says it: no value is taken.
 ghost use Rattle.std.specs.Prelude.{◌≡◌};
-ghost use Rattle.wild_plan.specs.Treatment.{flags_at, is_left, is_elsewhere, is_barred, moves, moved_treatment, address_treatment, distance_treatment, row_treatment, treatment};
+ghost use Rattle.wild_plan.specs.Treatment.{flags_at, is_left, is_elsewhere, is_barred, is_chosen, moves, moved_treatment, address_treatment, distance_treatment, row_treatment, treatment};
 
 use crate::index::SymbolIndex;
 use crate::input::{InputRelocation, InputSection};
@@ -23,7 +23,7 @@ pub enum Treatment {
     Symbolic(SymbolIndex),
     /// The field cannot hold an address that is known only where the image is loaded.
     Recompile,
-    /// The type is not known, or needs a symbol and has none.
+    /// The type is not known, or needs a symbol and has none; or a loader stores what a resolver answers.
     Unsupported,
 }
 
@@ -97,6 +97,17 @@ fn moved_treatment(row: &RelocationKindInfo) -> Treatment
     }
 }
 
+/// Whether the address of the symbol is what a resolver answers, stored by a loader.
+#[inline]
+fn is_chosen(layout: &Layout, section: &InputSection, symbol: SymbolIndex) -> bool
+    ensures { result ≡ is_chosen layout.now section.now symbol }
+{
+    is_allocated(section.flags)
+        && is_writable(section.flags)
+        && layout.kind.is_position_independent()
+        && flags_at(layout, symbol).is_ifunc()
+}
+
 /// What is done with a relocation that writes S + A of that symbol.
 #[inline]
 fn address_treatment(
@@ -111,6 +122,8 @@ fn address_treatment(
         Treatment::Recompile
     } else if is_left(layout, section, &row, symbol) {
         Treatment::Symbolic(symbol)
+    } else if is_chosen(layout, section, symbol) {
+        Treatment::Unsupported
     } else if is_allocated(section.flags) && moves(layout, symbol) {
         moved_treatment(&row)
     } else {
@@ -161,7 +174,14 @@ pub fn row_treatment(
         | (RelocationKind::SymRelGotBase, Some(_))
         | (RelocationKind::DtpOff, Some(_))
         | (RelocationKind::TpOff, Some(_))
-        | (RelocationKind::SymbolSize, Some(_)) => Treatment::Value(row),
+        | (RelocationKind::SymbolSize, Some(_))
+        | (RelocationKind::PltRelative, Some(_))
+        | (RelocationKind::PltRelGotBase, Some(_))
+        | (RelocationKind::GotRelative, Some(_))
+        | (RelocationKind::GotRelGotBase, Some(_))
+        | (RelocationKind::TlsGd, Some(_))
+        | (RelocationKind::TlsLd, Some(_))
+        | (RelocationKind::GotTpOff, Some(_)) => Treatment::Value(row),
         _ => Treatment::Unsupported,
     }
 }

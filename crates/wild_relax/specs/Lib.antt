@@ -1,6 +1,5 @@
 pub mod Barred
 pub mod Thread
-pub mod Stub
 pub mod Question
 pub mod Pattern
 pub mod First

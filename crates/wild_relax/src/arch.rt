@@ -5,8 +5,7 @@ ghost use Rattle.std.specs.List.{list_any};
 
 use crate::reference::{RelocationInfo, UnknownSequence};
 use crate::relaxation::Relaxation;
-use crate::stub::PltTooFar;
-use wild_plan::{Layout, Machine, OutputKind, ValueFlags};
+use wild_plan::{Layout, Machine, OutputKind, PltTooFar, ValueFlags};
 use wild_reloc::{DynamicRelocationKind, RelName, RelocationKindInfo};
 
 /// A machine that images are written for.
@@ -21,7 +20,7 @@ pub trait Arch {
     ghost use Rattle.wild_relax.specs.declared.reference.UnknownSequence.{UnknownSequence};
     ghost use Rattle.wild_relax.specs.Question.{Question, entry_at};
     ghost use Rattle.wild_relax.specs.Rewrite.{HasRoom};
-    ghost use Rattle.wild_relax.specs.Stub.{Stub};
+    ghost use Rattle.wild_plan.specs.Stub.{Stub};
 
     /// A rewrite of instructions of the machine.
     type Relaxation: Relaxation;

@@ -8,7 +8,6 @@ mod reference;
 mod relaxation;
 mod rewrite;
 mod row;
-mod stub;
 #[cfg(test)]
 mod tests;
 mod thread;
@@ -22,5 +21,4 @@ pub use pattern::{GeneralForm, LocalForm, Operation, Prefix};
 pub use reference::{RelocationInfo, UnknownSequence};
 pub use relaxation::{Relaxation, RelaxationKind, RelocationModifier};
 pub use row::{DescriptorUse, Row};
-pub use stub::PltTooFar;
 pub use x86_64::{ElfX86_64, ElfX86_64Relaxation};

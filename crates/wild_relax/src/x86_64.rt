@@ -4,9 +4,10 @@ use crate::reference::{Reference, RelocationInfo, UnknownSequence};
 use crate::relaxation::{Relaxation, RelaxationKind, RelocationModifier};
 use crate::rewrite;
 use crate::row::{Row, choose, is_mandatory};
-use crate::stub::{PltTooFar, write_stub};
 use crate::thread::pointer_x86_64;
-use wild_plan::{Layout, Machine, OutputKind, ValueFlags, is_executable, row_of};
+use wild_plan::{
+    Layout, Machine, OutputKind, PltTooFar, ValueFlags, is_executable, row_of, write_stub,
+};
 use wild_records::abi::relocation::{
     R_X86_64_8, R_X86_64_16, R_X86_64_32, R_X86_64_32S, R_X86_64_PC8, R_X86_64_PC16, R_X86_64_PC32,
 };
@@ -21,7 +22,7 @@ impl Arch for ElfX86_64 {
     ghost use Rattle.wild_reloc.specs.Dynamic.{x86_64_type};
     ghost use Rattle.wild_reloc.specs.declared.names.RelName.TheVariants as names;
     ghost use Rattle.wild_relax.specs.Barred.{barred_x86_64, barred_in_shared_x86_64};
-    ghost use Rattle.wild_relax.specs.Stub.{stub_x86_64};
+    ghost use Rattle.wild_plan.specs.Stub.{stub_x86_64};
     ghost use Rattle.wild_relax.specs.Thread.{pointer_x86_64};
     ghost use Rattle.wild_relax.specs.Relaxation.{relaxation_x86_64};
 

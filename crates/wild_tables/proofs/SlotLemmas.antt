@@ -1,10 +1,8 @@
--- Items and words of slots, in order.
+-- Words of slots in order, and the room of tables.
 use Rattle.std.proofs.Common.{◌≡◌, ℕ, ◌+◌, ◌^◌, ◌<◌, ◌≤◌, nat_lt, inl, inr, List, [], ◌∷◌, ◌++◌, length, refl, sym, ◌∙◌, arith, Result, Ok, Err}
 use Rattle.std.proofs.lemmas.List.{length-append}
 use Rattle.std.proofs.lemmas.Bool.{cases_Bool, ltb-false}
 use Rattle.std.specs.Prelude.{OnOk}
-use Rattle.wild_tables.specs.declared.slot.SlotItem.{SlotItem}
-use Rattle.wild_tables.specs.Slots.{SlotContent, with_item, with_items}
 use Rattle.wild_plan.specs.declared.fault.Error.{Error}
 use Rattle.wild_plan.specs.declared.layout.Layout.{Layout}
 use Rattle.wild_plan.specs.Shares.{insufficient}
@@ -15,11 +13,6 @@ use Rattle.wild_tables.specs.declared.room.Room.{Room}
 use Rattle.wild_tables.specs.Tables.{Tables}
 use Rattle.wild_tables.specs.SlotTables.{after_flats}
 use Rattle.wild_tables.specs.Rooms.{Fit, HeaderFits, rooms, words_room, entries_room, capped, first_short, room_for_all, room_for_header}
-
--- items behind items
-pub items_joined : (c : SlotContent) (xs ys : List SlotItem) → with_items c (xs ++ ys) ≡ with_items (with_items c xs) ys
-items_joined c [] ys = refl
-items_joined c (x ∷ xs) ys = items_joined (with_item c x) xs ys
 
 -- how many words there are with flat places
 pub length_after_flats : (s : State) (ps : List ℕ) → length (after_flats s ps).words ≡ length s.words + length ps

@@ -1,9 +1,6 @@
 pub mod Entries
 pub mod Words
 pub mod GotWords
-pub mod Storage
-pub mod Slots
-pub mod SlotParts
 pub mod Tables
 pub mod SlotTables
 pub mod Rooms

@@ -16,10 +16,10 @@ use Rattle.wild_plan.specs.Shares.{insufficient, excessive}
 use Rattle.wild_tables.specs.Entries.{Entries}
 use Rattle.wild_tables.specs.Words.{Words}
 use Rattle.wild_tables.specs.GotWords.{GotWords, Stubs}
-use Rattle.wild_tables.specs.declared.slot.SlotFault.{SlotFault}
-use Rattle.wild_tables.specs.declared.slot.SlotFault.TheVariants.{NoDynamicSymbol}
-use Rattle.wild_tables.specs.declared.slot.Refused.{Refused}
-use Rattle.wild_tables.specs.declared.slot.Refused.TheVariants as refused
+use Rattle.wild_plan.specs.declared.slot.SlotFault.{SlotFault}
+use Rattle.wild_plan.specs.declared.slot.SlotFault.TheVariants.{NoDynamicSymbol}
+use Rattle.wild_tables.specs.declared.refused.Refused.{Refused}
+use Rattle.wild_tables.specs.declared.refused.Refused.TheVariants as refused
 use Rattle.wild_tables.specs.declared.room.Room.{Room}
 use Rattle.wild_tables.specs.Tables.{Tables, packed_used}
 

@@ -14,12 +14,12 @@ use Rattle.wild_plan.specs.declared.symbol.Resolution.{Resolution}
 use Rattle.wild_relr.specs.Packing.{State}
 use Rattle.wild_relr.specs.Packed.{after_flat, after_block}
 use Rattle.wild_tables.specs.Words.{Words}
-use Rattle.wild_tables.specs.declared.slot.Setting.{Setting}
-use Rattle.wild_tables.specs.declared.slot.SlotWord.{SlotWord}
-use Rattle.wild_tables.specs.declared.slot_parts.WordPart.TheVariants as words
-use Rattle.wild_tables.specs.declared.slot_parts.EntryPart.TheVariants as entries
-use Rattle.wild_tables.specs.Slots.{SlotContent, setting_of, slot, storage_pair}
-use Rattle.wild_tables.specs.SlotParts.{type_of, entry_at, slot_words, slot_entries, flat_places}
+use Rattle.wild_plan.specs.declared.slot.Setting.{Setting}
+use Rattle.wild_plan.specs.declared.slot.SlotWord.{SlotWord}
+use Rattle.wild_plan.specs.declared.slot_parts.WordPart.TheVariants as words
+use Rattle.wild_plan.specs.declared.slot_parts.EntryPart.TheVariants as entries
+use Rattle.wild_plan.specs.Slots.{SlotContent, setting_of, slot, storage_pair}
+use Rattle.wild_plan.specs.SlotParts.{type_of, entry_at, slot_words, slot_entries, flat_places}
 use Rattle.wild_tables.specs.Tables.{Tables, more_words, more_stubs, more_entries, with_words}
 
 -- places by words of their own

@@ -19,7 +19,7 @@ use Rattle.wild_relr.specs.Packed.{after_flat, nothing}
 use Rattle.wild_tables.specs.Entries.{Entries}
 use Rattle.wild_tables.specs.Words.{Words}
 use Rattle.wild_tables.specs.GotWords.{GotWords, Stubs}
-use Rattle.wild_tables.specs.SlotParts.{type_of, address_entry}
+use Rattle.wild_plan.specs.SlotParts.{type_of, address_entry}
 
 -- a group's tables, in the order of their roles, and the place of the part of the last one
 pub record Tables : Type 0 where

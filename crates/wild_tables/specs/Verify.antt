@@ -12,14 +12,14 @@ use Rattle.wild_plan.specs.declared.fault.Error.{Error}
 use Rattle.wild_plan.specs.declared.fault.Fault.{Fault}
 use Rattle.wild_plan.specs.declared.fault.Fault.TheVariants as faults
 use Rattle.wild_plan.specs.Faults.{nowhere}
-use Rattle.wild_tables.specs.declared.slot.Setting.{Setting}
-use Rattle.wild_tables.specs.declared.slot.SlotWord.{SlotWord}
-use Rattle.wild_tables.specs.declared.slot_parts.WordPart.{WordPart}
-use Rattle.wild_tables.specs.declared.slot_parts.WordPart.TheVariants as words
-use Rattle.wild_tables.specs.declared.slot_parts.EntryPart.{EntryPart}
-use Rattle.wild_tables.specs.declared.slot_parts.EntryPart.TheVariants as entries
-use Rattle.wild_tables.specs.Slots.{SlotContent, slot}
-use Rattle.wild_tables.specs.SlotParts.{slot_words, slot_entries, flat_places}
+use Rattle.wild_plan.specs.declared.slot.Setting.{Setting}
+use Rattle.wild_plan.specs.declared.slot.SlotWord.{SlotWord}
+use Rattle.wild_plan.specs.declared.slot_parts.WordPart.{WordPart}
+use Rattle.wild_plan.specs.declared.slot_parts.WordPart.TheVariants as words
+use Rattle.wild_plan.specs.declared.slot_parts.EntryPart.{EntryPart}
+use Rattle.wild_plan.specs.declared.slot_parts.EntryPart.TheVariants as entries
+use Rattle.wild_plan.specs.Slots.{SlotContent, slot}
+use Rattle.wild_plan.specs.SlotParts.{slot_words, slot_entries, flat_places}
 
 -- sizes do not hang on where the thread-local data are, as long as the symbol is in them
 abbrev pub open_setting : OutputKind → Options → Setting

@@ -1,15 +1,13 @@
 //! The tables of a group's dynamic entries: relative entries, with addends or packed.
 #![tactic(auto)]
 
-mod cases;
-mod content;
 mod dynamic;
 mod laws;
 mod rela;
+mod refused;
 mod relr;
 mod room;
-mod slot;
-mod slot_parts;
+mod slot_words;
 mod stub;
 #[cfg(test)]
 mod tests;
@@ -17,8 +15,6 @@ mod verify;
 mod word;
 mod writer;
 
-pub use cases::{slot_of, storage_pair};
-pub use content::Slot;
 pub use dynamic::{dynamic_sections_are_read, write_dynamic, write_unused};
 pub use laws::{
     entries_add_the_base, entries_are_read, loaders_agree, places_are_loaded, slots_are_filled,
@@ -26,11 +22,8 @@ pub use laws::{
 };
 pub use rela::RelaTable;
 pub use relr::RelrTable;
+pub use refused::Refused;
 pub use room::Room;
-pub use slot::{
-    MAX_WORDS, Refused, STUB_SIZE, Setting, SlotEntry, SlotFault, SlotItem, SlotWord, WORD_SIZE,
-};
-pub use slot_parts::{EntryPart, WordPart, count_entries, count_flat, count_words, type_of};
 pub use stub::StubTable;
 pub use verify::{ROLES, verify_resolution_allocation};
 pub use word::WordTable;

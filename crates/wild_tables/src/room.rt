@@ -7,10 +7,9 @@ ghost use Rattle.wild_tables.specs.Rooms.{words_room, stubs_room, entries_room, 
 
 use crate::rela::RelaTable;
 use crate::relr::RelrTable;
-use crate::slot::WORD_SIZE;
 use crate::stub::StubTable;
 use crate::word::WordTable;
-use wild_plan::{Error, Layout, Role, excessive, insufficient};
+use wild_plan::{Error, Layout, Role, WORD_SIZE, excessive, insufficient};
 use wild_records::{Rela, Relr};
 
 /// How many bytes a group's share of a part has, and how many of them are used or needed.

@@ -3,11 +3,10 @@ ghost use Rattle.std.specs.Prelude.{◌≡◌, ◌*◌, ◌≤◌, length};
 ghost use Rattle.wild_records.specs.Relocations.{rela_size};
 ghost use Rattle.wild_tables.specs.Verify.{open_setting, words_size, entries_size, content_sizes, needed_sizes, differs, first_difference};
 
-use crate::cases::slot_of;
-use crate::content::Slot;
-use crate::slot::{STUB_SIZE, Setting, SlotWord, WORD_SIZE};
-use crate::slot_parts::{EntryPart, WordPart, count_entries, count_flat, count_words};
-use wild_plan::{At, Error, Fault, Machine, Options, OutputKind, Resolution, Tls};
+use wild_plan::{
+    At, EntryPart, Error, Fault, Machine, Options, OutputKind, Resolution, STUB_SIZE, Setting, SlotWord,
+    SymbolSlots, Tls, WORD_SIZE, WordPart, count_entries, count_flat, count_words, slot_of,
+};
 use wild_records::{Rela, Relr};
 
 /// How many roles a part can have.
@@ -48,7 +47,7 @@ fn entries_size(part: EntryPart, options: &Options, place: u64, words: &[SlotWor
 
 /// The bytes of slots in the parts, in the order of roles.
 #[tactic(auto, unfolding(crate::specs::Verify::content_sizes))]
-fn content_sizes(options: &Options, place: u64, slot: &Slot) -> [u64; ROLES]
+fn content_sizes(options: &Options, place: u64, slot: &SymbolSlots) -> [u64; ROLES]
     ensures { result ≡ content_sizes options.now place slot.now }
 {
     let words = slot.words();

@@ -2,9 +2,9 @@
 ghost use Rattle.std.specs.Prelude.{◌≡◌, ◌+◌, ◌*◌, ◌^◌, ◌<◌, ◌≤◌, [], ◌∷◌, ◌++◌, length, take, IfOk};
 ghost use Rattle.wild_relr.specs.Written.{word_bytes, words_in, IsSpelled};
 
-use crate::slot::WORD_SIZE;
 use std::alloc::{AllocError, Global};
 use std::marker::Model;
+use wild_plan::WORD_SIZE;
 use wild_words::put_u64;
 
 /// Words behind each other, from the front of a part on.

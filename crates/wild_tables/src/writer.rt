@@ -18,12 +18,11 @@ mod slots;
 use crate::rela::RelaTable;
 use crate::relr::RelrTable;
 use crate::room::{Room, entries_room, first_left, words_room};
-use crate::slot_parts::address_entry;
 use crate::stub::StubTable;
 use crate::word::WordTable;
 use std::alloc::{AllocError, Global};
 use std::marker::Model;
-use wild_plan::{Error, Layout, Role, insufficient, part_of, share_of};
+use wild_plan::{Error, Layout, Role, address_entry, insufficient, part_of, share_of};
 use wild_records::{Rela, Relr};
 use wild_words::put_u64;
 

@@ -1,7 +1,8 @@
 //! Clause 14: what is known of a symbol agrees with its slots and its stub.
 ghost use Rattle.std.specs.Prelude.{◌≡◌};
 ghost use Rattle.wild_plan.specs.Lists.{first_failing};
-ghost use Rattle.wild_plan.specs.SlotFlags.{got_of, plt_of, has_dynamic_symbol, has_thread_slot, dynamic_is_interposable, is_value, stub_is_value, stub_has_slot, one_slot_for_address, thread_slot_alone, resolver_is_own, slot_agrees, resolver_moves, takes_block_word, second_slot_fits};
+ghost use Rattle.wild_plan.specs.SymbolSlots.{got_of, plt_of, has_dynamic_symbol, has_thread_slot};
+ghost use Rattle.wild_plan.specs.SlotFlags.{dynamic_is_interposable, is_value, stub_is_value, stub_has_slot, one_slot_for_address, thread_slot_alone, resolver_is_own, slot_agrees, resolver_moves, takes_block_word, second_slot_fits};
 ghost use Rattle.wild_plan.specs.WellFormed.{check_slot_flags};
 
 use crate::clauses::fails;
@@ -10,28 +11,28 @@ use crate::layout::Layout;
 use crate::symbol::{Resolution, Symbol, ValueFlags};
 
 /// The address of the symbol's first slot.
-fn got_of(symbol: &Symbol) -> Option<u64>
+pub(crate) fn got_of(symbol: &Symbol) -> Option<u64>
     ensures { result ≡ got_of symbol.now }
 {
     symbol.resolution?.got_address
 }
 
 /// The address of the symbol's stub.
-fn plt_of(symbol: &Symbol) -> Option<u64>
+pub(crate) fn plt_of(symbol: &Symbol) -> Option<u64>
     ensures { result ≡ plt_of symbol.now }
 {
     symbol.resolution?.plt_address
 }
 
 /// Whether a loader looks the symbol up.
-fn has_dynamic_symbol(flags: ValueFlags) -> bool
+pub(crate) fn has_dynamic_symbol(flags: ValueFlags) -> bool
     ensures { result ≡ has_dynamic_symbol flags }
 {
     flags.is_dynamic() || flags.needs_export_dynamic() && flags.is_interposable()
 }
 
 /// Whether there is a slot or pair for a thread-local symbol.
-fn has_thread_slot(flags: ValueFlags) -> bool
+pub(crate) fn has_thread_slot(flags: ValueFlags) -> bool
     ensures { result ≡ has_thread_slot flags }
 {
     flags.needs_got_tls_offset() || flags.needs_got_tls_module() || flags.needs_got_tls_descriptor()

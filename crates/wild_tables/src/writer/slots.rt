@@ -8,16 +8,16 @@ ghost use Rattle.wild_tables.specs.SlotTables.{with_content, with_slot, content_
 ghost use Rattle.wild_tables.specs.Rooms.{rooms, room_for_all, Fit, room_for_header, HeaderFits, room_for_block, room_for_general, slot_answer, copy_answer};
 
 use super::{TABLES, TableWriter};
-use crate::cases::{slot_of, storage_pair};
 use crate::room::{
     Room, entries_room_with, first_short, packed_room_with, stubs_room_with, words_room_with,
 };
-use crate::slot::{Refused, STUB_SIZE, Setting, SlotEntry, SlotFault, SlotWord, WORD_SIZE};
-use crate::slot_parts::{
-    EntryPart, WordPart, add_entries, add_flat, add_words, add_zeros, count_entries, count_flat,
-    count_words, entry_at, type_of,
+use crate::refused::Refused;
+use crate::slot_words::{add_entries, add_flat, add_words, add_zeros};
+use wild_plan::{
+    At, EntryPart, Error, Fault, Layout, Resolution, Role, STUB_SIZE, Setting, SlotEntry, SlotFault,
+    SlotWord, WORD_SIZE, WordPart, count_entries, count_flat, count_words, entry_at, insufficient,
+    slot_of, storage_pair, type_of,
 };
-use wild_plan::{At, Error, Fault, Layout, Resolution, Role, insufficient};
 use wild_records::Rela;
 use wild_reloc::DynamicRelocationKind;
 use wild_relr::block_words;

@@ -14,14 +14,15 @@ use Rattle.wild_plan.specs.declared.symbol.Resolution.{Resolution}
 use Rattle.wild_plan.specs.declared.layout.Layout.{Layout}
 use Rattle.wild_plan.specs.Flags.{has_flag, interposable, has_link_time_address, dynamic, ifunc, got_tls_offset, got_tls_module, got_tls_descriptor, copy_relocation, export_dynamic, canonical_plt, ifunc_got_for_address, canonical_plt_got_for_address}
 use Rattle.wild_plan.specs.Kinds.{is_executable, is_static_executable, is_shared_object, is_position_independent}
-use Rattle.wild_tables.specs.declared.slot.Setting.{Setting}
-use Rattle.wild_tables.specs.declared.slot.SlotWord.{SlotWord}
-use Rattle.wild_tables.specs.declared.slot.SlotWord.TheVariants.{Number, Address, InBlock, General, Plt}
-use Rattle.wild_tables.specs.declared.slot.SlotFault.{SlotFault}
-use Rattle.wild_tables.specs.declared.slot.SlotFault.TheVariants.{NoDynamicSymbol, NoStub, PltTooFar, TlsOutOfSegment, StaticTlsDesc}
-use Rattle.wild_tables.specs.declared.slot.SlotItem.{SlotItem}
-use Rattle.wild_tables.specs.declared.slot.SlotItem.TheVariants.{Word, Stub, Fault}
-use Rattle.wild_tables.specs.Storage.{less, thread_pointer, is_outside}
+use Rattle.wild_plan.specs.declared.slot.Setting.{Setting}
+use Rattle.wild_plan.specs.declared.slot.SlotWord.{SlotWord}
+use Rattle.wild_plan.specs.declared.slot.SlotWord.TheVariants.{Number, Address, InBlock, General, Plt}
+use Rattle.wild_plan.specs.declared.slot.SlotFault.{SlotFault}
+use Rattle.wild_plan.specs.declared.slot.SlotFault.TheVariants.{NoDynamicSymbol, NoStub, PltTooFar, TlsOutOfSegment, StaticTlsDesc}
+use Rattle.wild_plan.specs.declared.slot.SlotItem.{SlotItem}
+use Rattle.wild_plan.specs.declared.slot.SlotItem.TheVariants.{Word, Stub, Fault}
+use Rattle.wild_plan.specs.SymbolSlots.{has_dynamic_symbol, has_thread_slot}
+use Rattle.wild_plan.specs.Storage.{less, thread_pointer, is_outside}
 
 -- what slots ask of a layout
 abbrev pub setting_of : Layout → Setting
@@ -29,18 +30,10 @@ setting_of l = record { kind = l.kind; relr = l.options.relr; tls = l.tls; threa
 
 -- ---- what is asked of a symbol
 
--- a loader finds the symbol in the dynamic symbol table, of this module or of another (gABI, "Symbol Visibility")
-abbrev pub has_dynamic_symbol : ValueFlags → Bool
-has_dynamic_symbol f = has_flag f dynamic || (has_flag f export_dynamic && interposable f)
-
 -- another module's definition stands in this one's place where there is one: a symbol of another module that is not copied,
 -- or one of a shared object that other modules see (gABI, "Shared Object Dependencies")
 abbrev pub is_replaceable : OutputKind → ValueFlags → Bool
 is_replaceable kind f = (has_flag f dynamic && not (has_flag f copy_relocation)) || (is_shared_object kind && (has_flag f export_dynamic && interposable f))
-
--- a slot or pair for a thread-local symbol
-abbrev pub has_thread_slot : ValueFlags → Bool
-has_thread_slot f = has_flag f got_tls_offset || (has_flag f got_tls_module || has_flag f got_tls_descriptor)
 
 -- ---- words
 

@@ -1,6 +1,6 @@
 use Rattle.std.proofs.Common.{◌≡◌, ◌+◌, ◌*◌, ◌≤◌, ◌++◌, drop, length}
-use Rattle.wild_tables.specs.SlotParts.{slot_entries}
-use Rattle.wild_tables.proofs.slot_parts.add_entries.Given as goal
+use Rattle.wild_plan.specs.SlotParts.{slot_entries}
+use Rattle.wild_tables.proofs.slot_words.add_entries.Given as goal
 
 abbrev pub invariant-loop-word : goal.invariant-loop-word
 invariant-loop-word l = record {

@@ -10,13 +10,13 @@ use Rattle.wild_reloc.specs.declared.dynamic.DynamicRelocationKind.TheVariants.{
 use Rattle.wild_reloc.specs.Dynamic.{x86_64_type, aarch64_type}
 use Rattle.wild_plan.specs.declared.kind.Machine.{Machine}
 use Rattle.wild_plan.specs.declared.kind.Machine.TheVariants as machine
-use Rattle.wild_tables.specs.declared.slot.SlotEntry.{SlotEntry}
-use Rattle.wild_tables.specs.declared.slot.SlotWord.{SlotWord}
-use Rattle.wild_tables.specs.declared.slot.SlotWord.TheVariants.{Number, Address, InBlock, General, Plt}
-use Rattle.wild_tables.specs.declared.slot_parts.WordPart.{WordPart}
-use Rattle.wild_tables.specs.declared.slot_parts.WordPart.TheVariants as words
-use Rattle.wild_tables.specs.declared.slot_parts.EntryPart.{EntryPart}
-use Rattle.wild_tables.specs.declared.slot_parts.EntryPart.TheVariants as entries
+use Rattle.wild_plan.specs.declared.slot.SlotEntry.{SlotEntry}
+use Rattle.wild_plan.specs.declared.slot.SlotWord.{SlotWord}
+use Rattle.wild_plan.specs.declared.slot.SlotWord.TheVariants.{Number, Address, InBlock, General, Plt}
+use Rattle.wild_plan.specs.declared.slot_parts.WordPart.{WordPart}
+use Rattle.wild_plan.specs.declared.slot_parts.WordPart.TheVariants as words
+use Rattle.wild_plan.specs.declared.slot_parts.EntryPart.{EntryPart}
+use Rattle.wild_plan.specs.declared.slot_parts.EntryPart.TheVariants as entries
 
 -- the place of the next word
 abbrev pub next : ℕ → ℕ

@@ -1,13 +1,11 @@
 //! What stands in the slots of symbols (x86-64 psABI, "Global Offset Table (GOT)", "Procedure Linkage Table"; ELF
 //! Handling For Thread-Local Storage).
-use wild_plan::{Error, OutputKind, Tls};
+use crate::kind::OutputKind;
+use crate::layout::Tls;
 use wild_reloc::DynamicRelocationKind;
 
 /// The size of a word of a slot.
 pub const WORD_SIZE: usize = 8;
-
-/// The size of a stub.
-pub const STUB_SIZE: usize = 16;
 
 /// How many words the slots of a symbol have at most: an offset, a module pair and a descriptor.
 pub const MAX_WORDS: usize = 5;
@@ -73,24 +71,4 @@ pub enum SlotItem {
     Stub,
     /// Nothing more can be written.
     Fault(SlotFault),
-}
-
-/// Why the slots of a symbol were not written.
-#[derive(Clone, Copy, Debug, PartialEq, Eq)]
-pub enum Refused {
-    /// A part has too little room.
-    Room(Error),
-    /// A slot cannot be written.
-    Fault(SlotFault),
-}
-
-impl From<Error> for Refused {
-    ghost use Rattle.std.specs.Prelude.{◌≡◌};
-    ghost use Rattle.wild_tables.specs.declared.slot.Refused.TheVariants.{Room};
-
-    ghost from_gives = { λ e r. r ≡ Room e };
-
-    fn from(error: Error) -> Refused {
-        Refused::Room(error)
-    }
 }

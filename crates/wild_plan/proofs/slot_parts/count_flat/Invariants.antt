@@ -1,6 +1,6 @@
 use Rattle.std.proofs.Common.{◌≡◌, ◌+◌, ◌≤◌, drop, length}
-use Rattle.wild_tables.specs.SlotParts.{flat_places}
-use Rattle.wild_tables.proofs.slot_parts.count_flat.Given as goal
+use Rattle.wild_plan.specs.SlotParts.{flat_places}
+use Rattle.wild_plan.proofs.slot_parts.count_flat.Given as goal
 
 abbrev pub invariant-loop-word : goal.invariant-loop-word
 invariant-loop-word l = record {

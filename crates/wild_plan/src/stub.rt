@@ -1,7 +1,11 @@
 //! Stubs of x86-64: code that goes on to the address in a slot (x86-64 psABI, "Procedure Linkage Table").
 ghost use Rattle.std.specs.Prelude.{◌≡◌, length, is_ok, IfErr, OnOk, OnErr};
-ghost use Rattle.wild_relax.specs.Stub.{stub_x86_64};
+ghost use Rattle.wild_reloc.specs.Range.{of_bits, contains};
+ghost use Rattle.wild_reloc.specs.declared.range.Sign.TheVariants.{Signed};
+ghost use Rattle.wild_plan.specs.Stub.{displacement_x86_64, stub_x86_64, too_far, far_of};
 
+use crate::kind::Machine;
+use crate::symbol::Resolution;
 use wild_reloc::{AllowedRange, RelocationSize, Sign, Width};
 
 /// The slot is so far from the stub that its displacement does not fit.
@@ -24,8 +28,22 @@ const DISPLACEMENT: usize = 7;
 
 const JUMP_END: u64 = 11;
 
+/// From the end of the jump to the slot, modulo 2^64.
+fn displacement(got_address: u64, plt_address: u64) -> u64
+    ensures { result ≡ displacement_x86_64 got_address plt_address }
+{
+    got_address.wrapping_sub(plt_address.wrapping_add(JUMP_END))
+}
+
+/// Whether a stub can tell that displacement.
+fn reaches(value: u64) -> bool
+    ensures { result ≡ contains (of_bits 32 Signed) value }
+{
+    AllowedRange::from_bit_size(32, Sign::Signed).contains(value)
+}
+
 /// The stub at an address that goes on to the address in the slot. A refused call changes nothing.
-pub(crate) fn write_stub(
+pub fn write_stub(
     plt_entry: &mut [u8],
     got_address: u64,
     plt_address: u64,
@@ -36,11 +54,32 @@ pub(crate) fn write_stub(
     ensures written { OnOk result (plt_entry.new ≡ (stub_x86_64 got_address plt_address).bytes) }
     ensures unchanged { OnErr result (plt_entry.new ≡ plt_entry.old) }
 {
-    let value = got_address.wrapping_sub(plt_address.wrapping_add(JUMP_END));
-    if !AllowedRange::from_bit_size(32, Sign::Signed).contains(value) {
+    let value = displacement(got_address, plt_address);
+    if !reaches(value) {
         return Err(PltTooFar { value });
     }
     plt_entry.copy_from_slice(&STUB);
     RelocationSize::ByteSize(Width::Four).write_at(value, plt_entry, DISPLACEMENT);
     Ok(())
+}
+
+/// How far the slot is from a stub, where that is too far for it.
+fn too_far(machine: Machine, got_address: u64, plt_address: u64) -> Option<u64>
+    ensures { result ≡ too_far machine got_address plt_address }
+{
+    let value = displacement(got_address, plt_address);
+    match machine {
+        Machine::X86_64 if !reaches(value) => Some(value),
+        _ => None,
+    }
+}
+
+/// How far the slot of a resolution is from its stub, where that is too far; no stub of AArch64 is written yet.
+pub fn far_of(machine: Machine, resolution: &Resolution) -> Option<u64>
+    ensures { result ≡ far_of machine resolution.now }
+{
+    match (resolution.got_address, resolution.plt_address) {
+        (Some(slot), Some(stub)) => too_far(machine, slot, stub),
+        _ => None,
+    }
 }

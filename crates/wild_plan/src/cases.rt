@@ -1,11 +1,14 @@
 //! What stands in the slots of a symbol, by cases.
 ghost use Rattle.std.specs.Prelude.{◌≡◌, ◌+◌, ◌<◌, ◌≤◌, length};
-ghost use Rattle.wild_tables.specs.Storage.{less, rounded_up, thread_pointer, is_outside};
-ghost use Rattle.wild_tables.specs.Slots.{setting_of, has_dynamic_symbol, is_replaceable, has_thread_slot, number, general, plt, named, offset_item, module_item, module_offset_item, descriptor_item, offset_items, module_items, descriptor_items, plain_item, stub_item, stub_items, stub_address, ifunc_address_items, canonical_address_items, thread_items, address_items, with_item, with_items, no_slot, slot, storage_pair};
+ghost use Rattle.wild_plan.specs.Storage.{less, rounded_up, thread_pointer, is_outside};
+ghost use Rattle.wild_plan.specs.Slots.{setting_of, is_replaceable, number, general, plt, named, offset_item, module_item, module_offset_item, descriptor_item, offset_items, module_items, descriptor_items, plain_item, stub_item, stub_items, stub_address, ifunc_address_items, canonical_address_items, thread_items, address_items, with_item, with_items, no_slot, slot, storage_pair};
 
-use crate::content::Slot;
 use crate::slot::{Setting, SlotEntry, SlotFault, SlotItem, SlotWord};
-use wild_plan::{Layout, Machine, OutputKind, Resolution, Tls, ValueFlags};
+use crate::clauses::{has_dynamic_symbol, has_thread_slot};
+use crate::kind::{Machine, OutputKind};
+use crate::layout::{Layout, Tls};
+use crate::symbol::{Resolution, ValueFlags};
+use crate::symbol_slots::SymbolSlots;
 use wild_reloc::DynamicRelocationKind;
 
 /// One address less another.
@@ -58,27 +61,12 @@ impl Setting {
     }
 }
 
-/// Whether a loader finds the symbol in the dynamic symbol table, of this module or of another.
-fn has_dynamic_symbol(flags: ValueFlags) -> bool
-    ensures { result ≡ has_dynamic_symbol flags }
-{
-    flags.is_dynamic() || (flags.needs_export_dynamic() && flags.is_interposable())
-}
-
 /// Whether another module's definition stands in this one's place where there is one.
 fn is_replaceable(kind: OutputKind, flags: ValueFlags) -> bool
     ensures { result ≡ is_replaceable kind flags }
 {
     (flags.is_dynamic() && !flags.needs_copy_relocation())
         || (kind.is_shared_object() && (flags.needs_export_dynamic() && flags.is_interposable()))
-}
-
-/// Whether the symbol has a slot or pair for thread-local storage.
-fn has_thread_slot(flags: ValueFlags) -> bool
-    ensures { result ≡ has_thread_slot flags }
-{
-    flags.needs_got_tls_offset()
-        || (flags.needs_got_tls_module() || flags.needs_got_tls_descriptor())
 }
 
 /// A number that stands as it is.
@@ -248,7 +236,7 @@ fn stub_address(setting: &Setting, stub: Option<u64>) -> SlotItem
     }
 }
 
-fn add_offset(slot: &mut Slot, setting: &Setting, resolution: &Resolution)
+fn add_offset(slot: &mut SymbolSlots, setting: &Setting, resolution: &Resolution)
     requires { length slot.old.words < 5 }
     ensures added { slot.new ≡ with_items slot.old (offset_items setting.now resolution.now) }
     ensures few { length slot.new.words ≤ length slot.old.words + 1 }
@@ -258,7 +246,7 @@ fn add_offset(slot: &mut Slot, setting: &Setting, resolution: &Resolution)
     }
 }
 
-fn add_module(slot: &mut Slot, setting: &Setting, resolution: &Resolution)
+fn add_module(slot: &mut SymbolSlots, setting: &Setting, resolution: &Resolution)
     requires { length slot.old.words < 4 }
     ensures added { slot.new ≡ with_items slot.old (module_items setting.now resolution.now) }
     ensures few { length slot.new.words ≤ length slot.old.words + 2 }
@@ -269,7 +257,7 @@ fn add_module(slot: &mut Slot, setting: &Setting, resolution: &Resolution)
     }
 }
 
-fn add_descriptor(slot: &mut Slot, setting: &Setting, resolution: &Resolution)
+fn add_descriptor(slot: &mut SymbolSlots, setting: &Setting, resolution: &Resolution)
     requires { length slot.old.words < 4 }
     ensures added { slot.new ≡ with_items slot.old (descriptor_items setting.now resolution.now) }
 {
@@ -280,7 +268,7 @@ fn add_descriptor(slot: &mut Slot, setting: &Setting, resolution: &Resolution)
 }
 
 #[tactic(auto, using(crate::proofs::SlotLemmas::items_joined))]
-fn add_thread_slots(slot: &mut Slot, setting: &Setting, resolution: &Resolution)
+fn add_thread_slots(slot: &mut SymbolSlots, setting: &Setting, resolution: &Resolution)
     requires { length slot.old.words ≤ 0 }
     ensures { slot.new ≡ with_items slot.old (thread_items setting.now resolution.now) }
 {
@@ -289,7 +277,7 @@ fn add_thread_slots(slot: &mut Slot, setting: &Setting, resolution: &Resolution)
     add_descriptor(slot, setting, resolution);
 }
 
-fn add_stub(slot: &mut Slot, far: Option<u64>, stub: Option<u64>)
+fn add_stub(slot: &mut SymbolSlots, far: Option<u64>, stub: Option<u64>)
     requires { length slot.old.words < 5 }
     ensures added { slot.new ≡ with_items slot.old (stub_items far stub) }
     ensures few { length slot.new.words ≤ length slot.old.words + 1 }
@@ -299,7 +287,7 @@ fn add_stub(slot: &mut Slot, far: Option<u64>, stub: Option<u64>)
     }
 }
 
-fn add_ifunc_address(slot: &mut Slot, setting: &Setting, resolution: &Resolution)
+fn add_ifunc_address(slot: &mut SymbolSlots, setting: &Setting, resolution: &Resolution)
     requires { length slot.old.words < 5 }
     ensures added { slot.new ≡ with_items slot.old (ifunc_address_items setting.now resolution.now) }
     ensures few { length slot.new.words ≤ length slot.old.words + 1 }
@@ -309,7 +297,7 @@ fn add_ifunc_address(slot: &mut Slot, setting: &Setting, resolution: &Resolution
     }
 }
 
-fn add_canonical_address(slot: &mut Slot, setting: &Setting, resolution: &Resolution)
+fn add_canonical_address(slot: &mut SymbolSlots, setting: &Setting, resolution: &Resolution)
     requires { length slot.old.words < 5 }
     ensures { slot.new ≡ with_items slot.old (canonical_address_items setting.now resolution.now) }
 {
@@ -322,7 +310,7 @@ fn add_canonical_address(slot: &mut Slot, setting: &Setting, resolution: &Resolu
 }
 
 #[tactic(auto, using(crate::proofs::SlotLemmas::items_joined))]
-fn add_address_slots(slot: &mut Slot, setting: &Setting, far: Option<u64>, resolution: &Resolution)
+fn add_address_slots(slot: &mut SymbolSlots, setting: &Setting, far: Option<u64>, resolution: &Resolution)
     requires { length slot.old.words ≤ 0 }
     ensures { slot.new ≡ with_items slot.old (address_items setting.now far resolution.now) }
 {
@@ -335,10 +323,10 @@ fn add_address_slots(slot: &mut Slot, setting: &Setting, far: Option<u64>, resol
 /// What is written for a resolution, up to the first fault; `far` is the distance of its stub from its slot where that
 /// is too far.
 #[tactic(auto, unfolding(crate::specs::Slots::slot))]
-pub fn slot_of(setting: &Setting, far: Option<u64>, resolution: &Resolution) -> Slot
+pub fn slot_of(setting: &Setting, far: Option<u64>, resolution: &Resolution) -> SymbolSlots
     ensures { result ≡ slot setting.now far resolution.now }
 {
-    let mut slot = Slot::empty();
+    let mut slot = SymbolSlots::empty();
     if resolution.got_address.is_some() {
         if has_thread_slot(resolution.flags) {
             add_thread_slots(&mut slot, setting, resolution);

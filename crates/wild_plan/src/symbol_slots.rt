@@ -1,23 +1,23 @@
 //! The words of a symbol's slots, with its stub and what kept the rest from being written.
 ghost use Rattle.std.specs.Prelude.{◌≡◌, ◌+◌, ◌<◌, ◌≤◌, length};
-ghost use Rattle.wild_tables.specs.declared.slot.SlotItem.TheVariants.{Word};
-ghost use Rattle.wild_tables.specs.Slots.{no_slot, with_item};
+ghost use Rattle.wild_plan.specs.declared.slot.SlotItem.TheVariants.{Word};
+ghost use Rattle.wild_plan.specs.Slots.{no_slot, with_item};
 
 use crate::slot::{MAX_WORDS, SlotFault, SlotItem, SlotWord};
 use std::marker::Model;
 
 /// What is written for a resolution: its words, whether it has a stub, and why no more is written.
 #[derive(Drop)]
-pub struct Slot {
+pub struct SymbolSlots {
     words: [SlotWord; MAX_WORDS],
     count: usize,
     has_stub: bool,
     fault: Option<SlotFault>,
 }
 
-impl Model for Slot {
+impl Model for SymbolSlots {
     ghost use Rattle.std.specs.Prelude.{◌≤◌, take};
-    ghost use Rattle.wild_tables.specs.Slots.{SlotContent};
+    ghost use Rattle.wild_plan.specs.Slots.{SlotContent};
 
     ghost Value = { SlotContent };
 
@@ -26,12 +26,12 @@ impl Model for Slot {
     ghost invariant = { λ s. s.count ≤ 5 };
 }
 
-impl Slot {
+impl SymbolSlots {
     /// No word.
-    pub(crate) fn empty() -> Slot
+    pub(crate) fn empty() -> SymbolSlots
         ensures { result ≡ no_slot }
     {
-        Slot {
+        SymbolSlots {
             words: [SlotWord::Number(0); MAX_WORDS],
             count: 0,
             has_stub: false,

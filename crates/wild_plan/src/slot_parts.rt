@@ -1,13 +1,9 @@
 //! What the words of slots give to the parts of an image.
-ghost use Rattle.std.specs.Prelude.{◌≡◌, ◌+◌, ◌*◌, ◌%◌, ◌≤◌, ◌++◌, true, length, replicate, IfSome};
-ghost use Rattle.wild_tables.specs.SlotTables.{after_flats};
-ghost use Rattle.wild_tables.specs.SlotParts.{next, is_packed, word_of, slot_words, type_of, entry_at, address_entry, entry_of, slot_entries, flat_place, flat_places};
+ghost use Rattle.std.specs.Prelude.{◌≡◌, ◌%◌, ◌≤◌, true, length, IfSome};
+ghost use Rattle.wild_plan.specs.SlotParts.{next, is_packed, word_of, slot_words, type_of, entry_at, address_entry, entry_of, slot_entries, flat_place, flat_places};
 
-use crate::rela::RelaTable;
-use crate::relr::RelrTable;
+use crate::kind::Machine;
 use crate::slot::{SlotEntry, SlotWord};
-use crate::word::WordTable;
-use wild_plan::Machine;
 use wild_records::Rela;
 use wild_reloc::DynamicRelocationKind;
 
@@ -42,7 +38,7 @@ pub fn type_of(machine: Machine, kind: DynamicRelocationKind) -> u32
 }
 
 /// The place of the next word.
-fn next(place: u64) -> u64
+pub fn next_word(place: u64) -> u64
     ensures { result ≡ next place }
 {
     place.wrapping_add(8)
@@ -57,7 +53,7 @@ fn is_packed(relr: bool, place: u64) -> bool
 }
 
 /// The entry that fills the word at a place.
-pub(crate) fn entry_at(machine: Machine, place: u64, entry: SlotEntry) -> Rela
+pub fn entry_at(machine: Machine, place: u64, entry: SlotEntry) -> Rela
     ensures { result ≡ entry_at machine place entry }
 {
     Rela {
@@ -69,7 +65,7 @@ pub(crate) fn entry_at(machine: Machine, place: u64, entry: SlotEntry) -> Rela
 }
 
 /// The entry by which a loader stores base plus value.
-pub(crate) fn address_entry(machine: Machine, place: u64, value: u64) -> Rela
+pub fn address_entry(machine: Machine, place: u64, value: u64) -> Rela
     ensures { result ≡ address_entry machine place value }
 {
     Rela {
@@ -81,7 +77,7 @@ pub(crate) fn address_entry(machine: Machine, place: u64, value: u64) -> Rela
 }
 
 /// What a word has in the part, where it is one of the part.
-fn word_of(part: WordPart, relr: bool, place: u64, word: SlotWord) -> Option<u64>
+pub fn word_of(part: WordPart, relr: bool, place: u64, word: SlotWord) -> Option<u64>
     ensures { result ≡ word_of part relr place word }
 {
     match (part, word) {
@@ -98,7 +94,7 @@ fn word_of(part: WordPart, relr: bool, place: u64, word: SlotWord) -> Option<u64
 }
 
 /// The entry of a word in the part, where it has one there.
-fn entry_of(
+pub fn entry_of(
     part: EntryPart,
     machine: Machine,
     relr: bool,
@@ -118,7 +114,7 @@ fn entry_of(
 }
 
 /// The place, where the word has a RELR word of its own.
-fn flat_place(relr: bool, place: u64, word: SlotWord) -> Option<u64>
+pub fn flat_place(relr: bool, place: u64, word: SlotWord) -> Option<u64>
     ensures is { result ≡ flat_place relr place word }
     ensures even { IfSome result (λ p. p % 2 ≡ 0) }
 {
@@ -139,7 +135,7 @@ pub fn count_words(part: WordPart, relr: bool, place: u64, words: &[SlotWord]) -
         if word_of(part, relr, place, *word).is_some() {
             count += 1;
         }
-        place = next(place);
+        place = next_word(place);
     }
     count
 }
@@ -161,7 +157,7 @@ pub fn count_entries(
         if entry_of(part, machine, relr, place, *word).is_some() {
             count += 1;
         }
-        place = next(place);
+        place = next_word(place);
     }
     count
 }
@@ -177,76 +173,7 @@ pub fn count_flat(relr: bool, place: u64, words: &[SlotWord]) -> usize
         if flat_place(relr, place, *word).is_some() {
             count += 1;
         }
-        place = next(place);
+        place = next_word(place);
     }
     count
-}
-
-/// Adds zeros.
-pub(crate) fn add_zeros(table: &mut WordTable, n: usize)
-    requires { 8 * (length table.old.words + n) ≤ table.old.room }
-    ensures words { table.new.words ≡ table.old.words ++ replicate n 0 }
-    ensures room { table.new.room ≡ table.old.room }
-{
-    for _ in 0..n {
-        table.push(0);
-    }
-}
-
-/// Adds the words of a part.
-pub(crate) fn add_words(
-    table: &mut WordTable,
-    part: WordPart,
-    relr: bool,
-    place: u64,
-    words: &[SlotWord],
-)
-    requires { 8 * (length table.old.words + length (slot_words part relr place words.now)) ≤ table.old.room }
-    ensures words { table.new.words ≡ table.old.words ++ slot_words part relr place words.now }
-    ensures room { table.new.room ≡ table.old.room }
-{
-    let mut place = place;
-    for word in words {
-        if let Some(value) = word_of(part, relr, place, *word) {
-            table.push(value);
-        }
-        place = next(place);
-    }
-}
-
-/// Adds the entries of a part.
-pub(crate) fn add_entries(
-    table: &mut RelaTable,
-    part: EntryPart,
-    machine: Machine,
-    relr: bool,
-    place: u64,
-    words: &[SlotWord],
-)
-    requires { 24 * (length table.old.entries + length (slot_entries part machine relr place words.now)) ≤ table.old.room }
-    ensures entries { table.new.entries ≡ table.old.entries ++ slot_entries part machine relr place words.now }
-    ensures room { table.new.room ≡ table.old.room }
-{
-    let mut place = place;
-    for word in words {
-        if let Some(entry) = entry_of(part, machine, relr, place, *word) {
-            table.push(entry);
-        }
-        place = next(place);
-    }
-}
-
-/// Records the places of addresses that have a RELR word of their own.
-pub(crate) fn add_flat(table: &mut RelrTable, relr: bool, place: u64, words: &[SlotWord])
-    requires { 8 * (length table.old.state.words + length (flat_places relr place words.now)) ≤ table.old.room }
-    ensures state { table.new.state ≡ after_flats table.old.state (flat_places relr place words.now) }
-    ensures room { table.new.room ≡ table.old.room }
-{
-    let mut place = place;
-    for word in words {
-        if let Some(packed) = flat_place(relr, place, *word) {
-            table.push_flat(packed);
-        }
-        place = next(place);
-    }
 }

@@ -1,0 +1,251 @@
+//! Clause 11: where slots and stubs stand.
+ghost use Rattle.std.specs.Prelude.{◌≡◌, ◌+◌, ◌*◌, ◌^◌, ◌<◌, ◌≤◌, length, slice_range, IfOk};
+ghost use Rattle.wild_plan.specs.Lists.{first_failing};
+ghost use Rattle.wild_plan.specs.SlotPlaces.{start_of, IsBounded, first_free, begins_block, stands_at, stands_next, behind, walk, symbol_step, is_without, slot_before, file_step, group_step, slots_astray, is_even_slot, slot_is_even, block_is_asked, block_has_base, pair_follows};
+ghost use Rattle.wild_plan.specs.WellFormed.{check_slots};
+
+use crate::clauses::slot_flags::{got_of, plt_of};
+use crate::clauses::{fails, unless};
+use crate::fault::Clause;
+use crate::file::{File, Group};
+use crate::layout::Layout;
+use crate::part::{Part, Role, has_role, part_with};
+use crate::slot::{SlotWord, WORD_SIZE};
+use crate::slot_parts::WordPart;
+use crate::slot_shares::{stub_in, words_in};
+use crate::symbol::Symbol;
+
+/// The next free word of `got` and of `got_relr`, the next free stub of `plt_got`, and the symbol behind all that had their
+/// turn.
+#[derive(Clone, Copy)]
+struct Free {
+    got: u128,
+    block: u128,
+    stub: u128,
+    symbol: usize,
+}
+
+/// Where the part of a role begins; 0 where there is none.
+fn start_of(layout: &Layout, role: Role) -> u64
+    ensures { result ≡ start_of layout.now role }
+{
+    match part_with(role, layout.parts.as_slice()) {
+        Some(part) => part.address,
+        None => 0,
+    }
+}
+
+/// The places behind what stands once.
+fn first_free(layout: &Layout) -> Free
+    ensures { result ≡ first_free layout.now }
+{
+    let pair: u128 = if layout.tlsld.is_some() { 2 } else { 0 };
+    let header = WORD_SIZE as u128 * (u128::from(layout.got_header) + pair);
+    Free {
+        got: u128::from(start_of(layout, Role::Got)) + header,
+        block: u128::from(start_of(layout, Role::GotRelr)),
+        stub: u128::from(start_of(layout, Role::PltGot)),
+        symbol: 0,
+    }
+}
+
+/// Whether the first word is one of the block of packed words.
+fn begins_block(words: &[SlotWord]) -> bool
+    ensures { result ≡ begins_block words.now }
+{
+    matches!(words.first(), Some(SlotWord::InBlock(_)))
+}
+
+/// Whether an address, where there is one, is the free one.
+fn stands_at(free: u128, address: Option<u64>) -> bool
+    ensures { result ≡ stands_at free address }
+{
+    match address {
+        Some(address) => u128::from(address) == free,
+        None => true,
+    }
+}
+
+/// Whether the slots of a symbol are the next free words, and its stub is the next free stub.
+fn stands_next(layout: &Layout, next: Free, symbol: &Symbol) -> bool
+    ensures { result ≡ stands_next layout.now next symbol.now }
+{
+    let free = if begins_block(layout.slots_of(symbol).words()) {
+        next.block
+    } else {
+        next.got
+    };
+    stands_at(free, got_of(symbol)) && stands_at(next.stub, plt_of(symbol))
+}
+
+/// The places behind those of a symbol.
+fn behind(layout: &Layout, next: Free, symbol: &Symbol) -> Free
+    requires small { IsBounded next }
+    requires few { next.symbol < 2 ^ 63 }
+    ensures is { result ≡ behind layout.now next symbol.now }
+    ensures small { IsBounded result }
+{
+    let got = WORD_SIZE * words_in(WordPart::Got, layout, symbol);
+    let block = WORD_SIZE * words_in(WordPart::Block, layout, symbol);
+    Free {
+        got: next.got + got as u128,
+        block: next.block + block as u128,
+        stub: next.stub + stub_in(layout, symbol) as u128,
+        symbol: next.symbol + 1,
+    }
+}
+
+/// The places behind some symbols, or the first that does not stand next.
+fn walk_symbols(layout: &Layout, next: Free, symbols: &[Symbol]) -> Result<Free, usize>
+    requires small { IsBounded next }
+    requires few { next.symbol + length symbols.now < 2 ^ 63 }
+    ensures is { result ≡ walk (symbol_step layout.now) next symbols.now }
+    ensures small { IfOk result IsBounded }
+{
+    let mut next = next;
+    for symbol in symbols {
+        if !stands_next(layout, next, symbol) {
+            return Err(next.symbol);
+        }
+        next = behind(layout, next, symbol);
+    }
+    Ok(next)
+}
+
+/// Whether a symbol has no slot.
+pub(crate) fn is_without(symbol: &Symbol) -> bool
+    ensures { result ≡ is_without symbol.now }
+{
+    got_of(symbol).is_none()
+}
+
+/// The first symbol with a slot, of those from number `from` to number `to`.
+fn slot_before(layout: &Layout, next: Free, to: usize) -> Option<usize>
+    ensures { result ≡ slot_before layout.now next to }
+{
+    let symbols = layout.symbols.as_slice();
+    let start = next.symbol.min(symbols.len());
+    let end = to.clamp(start, symbols.len());
+    let found = symbols[start..end]
+        .iter()
+        .position(|symbol| !is_without(symbol))?;
+    Some(next.symbol + found)
+}
+
+/// The places behind the symbols of a file, or the first symbol that does not stand next, or has a slot that no file
+/// writes.
+fn file_step(layout: &Layout, next: Free, file: &File) -> Result<Free, usize>
+    requires small { IsBounded next }
+    ensures is { result ≡ file_step layout.now next file.now }
+    ensures small { IfOk result IsBounded }
+{
+    if !file.role.writes_slots() || file.symbol_count == 0 {
+        return Ok(next);
+    }
+    let first = file.first_symbol.0;
+    if first < next.symbol {
+        return Err(first);
+    }
+    if let Some(index) = slot_before(layout, next, first) {
+        return Err(index);
+    }
+    let next = Free {
+        symbol: first,
+        ..next
+    };
+    walk_symbols(layout, next, layout.own_symbols(file))
+}
+
+/// The same of the files of a group.
+fn group_step(layout: &Layout, next: Free, group: &Group) -> Result<Free, usize>
+    requires small { IsBounded next }
+    ensures is { result ≡ group_step layout.now next group.now }
+    ensures small { IfOk result IsBounded }
+{
+    let mut next = next;
+    for file in group.files.as_slice() {
+        next = file_step(layout, next, file)?;
+    }
+    Ok(next)
+}
+
+/// The same of all groups.
+fn walk_groups(layout: &Layout) -> Result<Free, usize>
+    ensures { result ≡ walk (group_step layout.now) (first_free layout.now) layout.now.groups }
+{
+    let mut next = first_free(layout);
+    for group in layout.groups.as_slice() {
+        next = group_step(layout, next, group)?;
+    }
+    Ok(next)
+}
+
+/// The first symbol that does not stand next, or has a slot that no file writes.
+fn slots_astray(layout: &Layout) -> Option<usize>
+    ensures { result ≡ slots_astray layout.now }
+{
+    match walk_groups(layout) {
+        Ok(last) => slot_before(layout, last, layout.symbols.len()),
+        Err(index) => Some(index),
+    }
+}
+
+fn slot_is_even(symbol: &Symbol) -> bool
+    ensures { result ≡ slot_is_even symbol.now }
+{
+    match got_of(symbol) {
+        Some(address) => address % WORD_SIZE as u64 == 0,
+        None => true,
+    }
+}
+
+fn odd_slot(symbols: &[Symbol]) -> Option<usize>
+    ensures { result ≡ first_failing slot_is_even 0 symbols.now }
+{
+    symbols.iter().position(|symbol| !slot_is_even(symbol))
+}
+
+fn block_is_asked(layout: &Layout, part: &Part) -> bool
+    ensures { result ≡ block_is_asked layout.now part.now }
+{
+    !has_role(Role::GotRelr, part) || layout.options.relr
+}
+
+fn block_unasked(layout: &Layout, parts: &[Part]) -> Option<usize>
+    ensures { result ≡ first_failing (block_is_asked layout.now) 0 parts.now }
+{
+    parts.iter().position(|part| !block_is_asked(layout, part))
+}
+
+fn pair_follows(layout: &Layout) -> bool
+    ensures { result ≡ pair_follows layout.now }
+{
+    let header = WORD_SIZE as u128 * u128::from(layout.got_header);
+    let free = u128::from(start_of(layout, Role::Got)) + header;
+    stands_at(free, layout.tlsld)
+}
+
+fn block_has_base(part: &Part) -> bool
+    ensures { result ≡ block_has_base part.now }
+{
+    !has_role(Role::GotRelr, part) || part.address != 0
+}
+
+fn block_at_zero(parts: &[Part]) -> Option<usize>
+    ensures { result ≡ first_failing block_has_base 0 parts.now }
+{
+    parts.iter().position(|part| !block_has_base(part))
+}
+
+#[tactic(auto, unfolding(crate::specs::WellFormed::check_slots))]
+pub(crate) fn check_slots(layout: &Layout) -> Result<(), Clause>
+    ensures { result ≡ check_slots layout.now }
+{
+    let symbols = layout.symbols.as_slice();
+    let parts = layout.parts.as_slice();
+    fails(11, slots_astray(layout))?;
+    fails(11, odd_slot(symbols))?;
+    fails(11, block_unasked(layout, parts))?;
+    fails(11, unless(pair_follows(layout)))?;
+    fails(11, block_at_zero(parts))
+}

@@ -1,0 +1,229 @@
+//! What the slots and stubs of symbols take of the parts (x86-64 psABI, "Global Offset Table (GOT)", "Procedure Linkage
+//! Table").
+ghost use Rattle.std.specs.Prelude.{◌≡◌, ◌+◌, ◌-◌, ◌*◌, ◌^◌, ◌≤◌, length, min};
+ghost use Rattle.wild_plan.specs.Lists.{total};
+ghost use Rattle.wild_plan.specs.SlotShares.{writes_slots, own_symbols, slots_of, slots_at, words_in, entries_in, storage_words, header_words, header_entries, symbol_share, is_of_slots, slot_share, header_share, block_count, block_length, block_share};
+ghost use Rattle.wild_plan.specs.SlotParts.{flat_places};
+ghost use Rattle.wild_plan.specs.declared.part.Role.TheVariants.{PltGot};
+ghost use Rattle.wild_plan.specs.declared.slot_parts.WordPart.TheVariants.{Block};
+
+use crate::cases::{slot_of, storage_pair};
+use crate::clauses::got_of;
+use crate::file::{File, FileRole, Group};
+use crate::layout::Layout;
+use crate::part::Role;
+use crate::slot::{Setting, WORD_SIZE};
+use crate::slot_parts::{EntryPart, WordPart, count_entries, count_flat, count_words};
+use crate::stub::{STUB_SIZE, far_of};
+use crate::symbol::Symbol;
+use crate::symbol_slots::SymbolSlots;
+use wild_records::{Rela, Relr};
+
+impl FileRole {
+    /// Whether a file of that role writes the slots of its symbols: it is loaded, and not the last one, which has none.
+    pub fn writes_slots(self) -> bool
+        ensures { result ≡ writes_slots self }
+    {
+        !matches!(self, FileRole::Epilogue | FileRole::NotLoaded)
+    }
+}
+
+impl Symbol {
+    /// Where the words of the symbol's slots begin; 0 where it has none.
+    pub fn slots_at(&self) -> u64
+        ensures { result ≡ slots_at self.now }
+    {
+        got_of(self).unwrap_or(0)
+    }
+}
+
+impl Layout {
+    /// The symbols whose slots a file writes.
+    pub fn own_symbols(&self, file: &File) -> &[Symbol]
+        ensures { result.now ≡ own_symbols self.now file.now }
+    {
+        if !file.role.writes_slots() {
+            return &[];
+        }
+        let symbols = self.symbols.as_slice();
+        let start = file.first_symbol.0.min(symbols.len());
+        let end = file.first_symbol.0.saturating_add(file.symbol_count);
+        &symbols[start..end.clamp(start, symbols.len())]
+    }
+
+    /// What is written for a symbol: the words of its slots, its stub, and what kept the rest from being written.
+    #[tactic(auto, unfolding(crate::specs::SlotShares::slots_of))]
+    pub fn slots_of(&self, symbol: &Symbol) -> SymbolSlots
+        ensures { result ≡ slots_of self.now symbol.now }
+    {
+        match &symbol.resolution {
+            Some(resolution) => {
+                let far = far_of(self.machine, resolution);
+                slot_of(&Setting::of(self), far, resolution)
+            }
+            None => SymbolSlots::empty(),
+        }
+    }
+}
+
+/// How many words a symbol has in a part.
+pub fn words_in(part: WordPart, layout: &Layout, symbol: &Symbol) -> usize
+    ensures is { result ≡ length (words_in part layout.now symbol.now) }
+    ensures few { result ≤ 5 }
+{
+    let slots = layout.slots_of(symbol);
+    count_words(part, layout.options.relr, symbol.slots_at(), slots.words())
+}
+
+/// How many entries a symbol has in a part.
+fn entries_in(part: EntryPart, layout: &Layout, symbol: &Symbol) -> usize
+    ensures is { result ≡ entries_in part layout.now symbol.now }
+    ensures few { result ≤ 5 }
+{
+    let slots = layout.slots_of(symbol);
+    let relr = layout.options.relr;
+    count_entries(part, layout.machine, relr, symbol.slots_at(), slots.words())
+}
+
+/// How many packed words a symbol's slots have of their own.
+fn flat_in(layout: &Layout, symbol: &Symbol) -> usize
+    ensures is { result ≡ length (flat_places layout.now.options.relr (slots_at symbol.now) (slots_of layout.now symbol.now).words) }
+    ensures few { result ≤ 5 }
+{
+    let slots = layout.slots_of(symbol);
+    count_flat(layout.options.relr, symbol.slots_at(), slots.words())
+}
+
+/// The bytes of a symbol's stub.
+pub(crate) fn stub_in(layout: &Layout, symbol: &Symbol) -> usize
+    ensures is { result ≡ symbol_share layout.now PltGot symbol.now }
+    ensures few { result ≤ 16 }
+{
+    if layout.slots_of(symbol).has_stub() {
+        STUB_SIZE
+    } else {
+        0
+    }
+}
+
+/// How many bytes a symbol takes of the part of a role.
+fn symbol_share(layout: &Layout, role: Role, symbol: &Symbol) -> u64
+    ensures is { result ≡ symbol_share layout.now role symbol.now }
+    ensures few { result ≤ 120 }
+{
+    let bytes = match role {
+        Role::Got => WORD_SIZE * words_in(WordPart::Got, layout, symbol),
+        Role::GotRelr => WORD_SIZE * words_in(WordPart::Block, layout, symbol),
+        Role::PltGot => stub_in(layout, symbol),
+        Role::RelaPlt => Rela::SIZE * entries_in(EntryPart::Plt, layout, symbol),
+        Role::RelaDynRelative => Rela::SIZE * entries_in(EntryPart::Relative, layout, symbol),
+        Role::RelaDynGeneral => Rela::SIZE * entries_in(EntryPart::General, layout, symbol),
+        Role::RelrDyn => Relr::SIZE * flat_in(layout, symbol),
+        _ => 0,
+    };
+    bytes as u64
+}
+
+/// Whether slots and stubs take something of parts of that role.
+fn is_of_slots(role: Role) -> bool
+    ensures { result ≡ is_of_slots role }
+{
+    matches!(
+        role,
+        Role::Got
+            | Role::GotRelr
+            | Role::PltGot
+            | Role::RelaPlt
+            | Role::RelaDynRelative
+            | Role::RelaDynGeneral
+            | Role::RelrDyn
+    )
+}
+
+/// How many bytes the slots of a file's symbols take of the part of a role, at most 2^64 - 1.
+#[tactic(auto, unfolding(crate::specs::SlotShares::slot_share))]
+pub(crate) fn slot_share(layout: &Layout, role: Role, file: &File) -> u64
+    ensures { result ≡ min (2 ^ 64 - 1) (slot_share layout.now role file.now) }
+{
+    let mut sum: u64 = 0;
+    if is_of_slots(role) {
+        for symbol in layout.own_symbols(file) {
+            sum = sum.saturating_add(symbol_share(layout, role, symbol));
+        }
+    }
+    sum
+}
+
+/// How many bytes the words that stand once have, at most 2^64 - 1.
+fn header_bytes(layout: &Layout) -> u64
+    ensures { result ≡ min (2 ^ 64 - 1) (8 * length (header_words layout.now)) }
+{
+    let pair = if layout.tlsld.is_some() { 2 } else { 0 };
+    layout
+        .got_header
+        .saturating_add(pair)
+        .saturating_mul(WORD_SIZE as u64)
+}
+
+/// How many entries the pair of the output's own thread-local data has.
+fn header_entries(layout: &Layout) -> usize
+    ensures is { result ≡ header_entries layout.now }
+    ensures few { result ≤ 2 }
+{
+    match layout.tlsld {
+        Some(place) => count_entries(
+            EntryPart::General,
+            layout.machine,
+            layout.options.relr,
+            place,
+            &storage_pair(&Setting::of(layout)),
+        ),
+        None => 0,
+    }
+}
+
+/// How many bytes what stands once takes of the part of a role, at most 2^64 - 1.
+pub(crate) fn header_share(layout: &Layout, role: Role) -> u64
+    ensures { result ≡ min (2 ^ 64 - 1) (header_share layout.now role) }
+{
+    match role {
+        Role::Got => header_bytes(layout),
+        Role::RelaDynGeneral => (Rela::SIZE * header_entries(layout)) as u64,
+        _ => 0,
+    }
+}
+
+/// How many slots of some symbols are in the group's block, at most 2^64 - 1.
+fn block_words(layout: &Layout, symbols: &[Symbol]) -> u64
+    ensures { result ≡ min (2 ^ 64 - 1) (total (λ s. length (words_in Block layout.now s)) symbols.now) }
+{
+    let mut count: u64 = 0;
+    for symbol in symbols {
+        count = count.saturating_add(words_in(WordPart::Block, layout, symbol) as u64);
+    }
+    count
+}
+
+/// How many slots of a group are in its block, at most 2^64 - 1.
+pub fn block_count(layout: &Layout, group: &Group) -> u64
+    ensures { result ≡ min (2 ^ 64 - 1) (block_count layout.now group.now) }
+{
+    let mut count: u64 = 0;
+    for file in group.files.as_slice() {
+        count = count.saturating_add(block_words(layout, layout.own_symbols(file)));
+    }
+    count
+}
+
+/// How many bytes the packed words of a group's block take of the part of a role, at most 2^64 - 1.
+pub(crate) fn block_share(layout: &Layout, role: Role, group: &Group) -> u64
+    ensures { result ≡ min (2 ^ 64 - 1) (block_share layout.now role group.now) }
+{
+    if !matches!(role, Role::RelrDyn) || !layout.options.relr {
+        return 0;
+    }
+    match block_count(layout, group) {
+        0 => 0,
+        count => ((count - 1).div_ceil(63) + 1).saturating_mul(Relr::SIZE as u64),
+    }
+}

@@ -1,0 +1,78 @@
+//! Words of slots, with their entries and packed places, in the tables of their parts.
+ghost use Rattle.std.specs.Prelude.{◌≡◌, ◌+◌, ◌*◌, ◌≤◌, ◌++◌, length, replicate};
+ghost use Rattle.wild_plan.specs.SlotParts.{slot_words, slot_entries, flat_places};
+ghost use Rattle.wild_tables.specs.SlotTables.{after_flats};
+
+use crate::rela::RelaTable;
+use crate::relr::RelrTable;
+use crate::word::WordTable;
+use wild_plan::{EntryPart, Machine, SlotWord, WordPart, entry_of, flat_place, next_word, word_of};
+
+/// Adds zeros.
+pub(crate) fn add_zeros(table: &mut WordTable, n: usize)
+    requires { 8 * (length table.old.words + n) ≤ table.old.room }
+    ensures words { table.new.words ≡ table.old.words ++ replicate n 0 }
+    ensures room { table.new.room ≡ table.old.room }
+{
+    for _ in 0..n {
+        table.push(0);
+    }
+}
+
+/// Adds the words of a part.
+pub(crate) fn add_words(
+    table: &mut WordTable,
+    part: WordPart,
+    relr: bool,
+    place: u64,
+    words: &[SlotWord],
+)
+    requires { 8 * (length table.old.words + length (slot_words part relr place words.now)) ≤ table.old.room }
+    ensures words { table.new.words ≡ table.old.words ++ slot_words part relr place words.now }
+    ensures room { table.new.room ≡ table.old.room }
+{
+    let mut place = place;
+    for word in words {
+        if let Some(value) = word_of(part, relr, place, *word) {
+            table.push(value);
+        }
+        place = next_word(place);
+    }
+}
+
+/// Adds the entries of a part.
+pub(crate) fn add_entries(
+    table: &mut RelaTable,
+    part: EntryPart,
+    machine: Machine,
+    relr: bool,
+    place: u64,
+    words: &[SlotWord],
+)
+    requires { 24 * (length table.old.entries + length (slot_entries part machine relr place words.now)) ≤ table.old.room }
+    ensures entries { table.new.entries ≡ table.old.entries ++ slot_entries part machine relr place words.now }
+    ensures room { table.new.room ≡ table.old.room }
+{
+    let mut place = place;
+    for word in words {
+        if let Some(entry) = entry_of(part, machine, relr, place, *word) {
+            table.push(entry);
+        }
+        place = next_word(place);
+    }
+}
+
+/// Records the places of addresses that have a RELR word of their own.
+pub(crate) fn add_flat(table: &mut RelrTable, relr: bool, place: u64, words: &[SlotWord])
+    requires { 8 * (length table.old.state.words + length (flat_places relr place words.now)) ≤ table.old.room }
+    ensures state { table.new.state ≡ after_flats table.old.state (flat_places relr place words.now) }
+    ensures room { table.new.room ≡ table.old.room }
+{
+    let mut place = place;
+    for word in words {
+        if let Some(packed) = flat_place(relr, place, *word) {
+            table.push_flat(packed);
+        }
+        place = next_word(place);
+    }
+}
