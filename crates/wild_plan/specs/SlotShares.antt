@@ -4,10 +4,11 @@
 --   slots_of l s         the words of a symbol's slots, its stub, and what kept the rest from being written
 --   header_words l       the words that stand once, at the start of the table
 --   slot_share l r f     what a file's symbols take of the part of a role
---   block_share l r g    what the packed words for a group's block of slots take
-use Rattle.std.specs.Prelude.{ℕ, ◌+◌, ◌-◌, ◌*◌, ◌==◌, Bool, true, false, if◌then◌else◌, List, [], ◌++◌, length, replicate, Option, Some, None, unwrap_or, slice_range}
+--   block_words l g      the packed words for a group's block of slots
+--   block_share l r g    what they take
+use Rattle.std.specs.Prelude.{ℕ, ◌+◌, ◌*◌, Bool, true, false, if◌then◌else◌, List, [], ◌∷◌, ◌++◌, min, ◌-◌, ◌^◌, length, replicate, Option, Some, None, unwrap_or, slice_range}
 use Rattle.wild_records.specs.Relocations.{rela_size, relr_size}
-use Rattle.wild_relr.specs.Packed.{bitmap_count}
+use Rattle.wild_relr.specs.Packed.{block}
 use Rattle.wild_plan.specs.declared.part.Role.{Role}
 use Rattle.wild_plan.specs.declared.part.Role.TheVariants as role
 use Rattle.wild_plan.specs.declared.file.FileRole.{FileRole}
@@ -17,16 +18,19 @@ use Rattle.wild_plan.specs.declared.file.Group.{Group}
 use Rattle.wild_plan.specs.declared.symbol.Resolution.{Resolution}
 use Rattle.wild_plan.specs.declared.symbol.Symbol.{Symbol}
 use Rattle.wild_plan.specs.declared.layout.Layout.{Layout}
+use Rattle.wild_plan.specs.declared.slot_shares.Block.{Block}
 use Rattle.wild_plan.specs.declared.slot.Setting.{Setting}
 use Rattle.wild_plan.specs.declared.slot.SlotWord.{SlotWord}
+use Rattle.wild_plan.specs.declared.slot.SlotWord.TheVariants.{InBlock}
 use Rattle.wild_plan.specs.declared.slot_parts.WordPart.{WordPart}
 use Rattle.wild_plan.specs.declared.slot_parts.WordPart.TheVariants as words
 use Rattle.wild_plan.specs.declared.slot_parts.EntryPart.{EntryPart}
 use Rattle.wild_plan.specs.declared.slot_parts.EntryPart.TheVariants as entries
+use Rattle.std.specs.List.{flat_map}
 use Rattle.wild_plan.specs.Lists.{total}
 use Rattle.wild_plan.specs.SymbolSlots.{got_of}
 use Rattle.wild_plan.specs.Slots.{SlotContent, setting_of, slot, no_slot, storage_pair}
-use Rattle.wild_plan.specs.SlotParts.{slot_words, slot_entries, flat_places}
+use Rattle.wild_plan.specs.SlotParts.{at_places, slot_words, slot_entries, flat_places}
 use Rattle.wild_plan.specs.Stub.{far_of}
 
 -- the size of a word of a slot
@@ -118,15 +122,35 @@ header_share l role.Got = word_size * length (header_words l)
 header_share l role.RelaDynGeneral = rela_size * header_entries l
 header_share l other = 0
 
--- how many slots of a group are in its block
-abbrev pub block_count : Layout → Group → ℕ
-block_count l g = total (λ (f : File). total (λ s. length (words_in words.Block l s)) (own_symbols l f)) g.files
+-- the place of a word, where it is one of the block
+abbrev pub block_place : ℕ → SlotWord → Option ℕ
+block_place at (InBlock a) = Some at
+block_place at other = None
 
--- how many words pack a block of n slots (gABI, "Relative Relocation Table")
-abbrev pub block_length : ℕ → ℕ
-block_length n = if n == 0 then 0 else 1 + bitmap_count (n - 1)
+-- the places of a group's words in its block
+abbrev pub block_places : Layout → Symbol → List ℕ
+block_places l s = at_places block_place (slots_at s) (slots_of l s).words
 
--- what the words of a group's block take
+unfoldable pub group_block : Layout → Group → List ℕ
+group_block l g = flat_map (λ f. flat_map (block_places l) (own_symbols l f)) g.files
+
+abbrev pub first_place : List ℕ → ℕ
+first_place [] = 0
+first_place (p ∷ ps) = p
+
+-- slots of eight bytes, one behind the other, by their places: where they begin, and how many there are, at most 2^64 - 1
+abbrev pub block_of : List ℕ → Block
+block_of ps = record { base = first_place ps; count = min (2 ^ 64 - 1) (length ps) }
+
+-- the words that pack a block (gABI, "Relative Relocation Table")
+abbrev pub words_of_block : Block → List ℕ
+words_of_block b = block b.base b.count
+
+-- those of a group's block
+abbrev pub block_words : Layout → Group → List ℕ
+block_words l g = words_of_block (block_of (group_block l g))
+
+-- what these words take
 abbrev pub block_share : Layout → Role → Group → ℕ
-block_share l role.RelrDyn g = relr_size * block_length (block_count l g)
+block_share l role.RelrDyn g = relr_size * length (block_words l g)
 block_share l other g = 0

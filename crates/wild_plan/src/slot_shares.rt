@@ -1,11 +1,10 @@
 //! What the slots and stubs of symbols take of the parts (x86-64 psABI, "Global Offset Table (GOT)", "Procedure Linkage
 //! Table").
-ghost use Rattle.std.specs.Prelude.{◌≡◌, ◌+◌, ◌-◌, ◌*◌, ◌^◌, ◌≤◌, length, min};
-ghost use Rattle.wild_plan.specs.Lists.{total};
-ghost use Rattle.wild_plan.specs.SlotShares.{writes_slots, own_symbols, slots_of, slots_at, words_in, entries_in, storage_words, header_words, header_entries, symbol_share, is_of_slots, slot_share, header_share, block_count, block_length, block_share};
+ghost use Rattle.std.specs.Prelude.{◌≡◌, ℕ, ◌+◌, ◌-◌, ◌*◌, ◌^◌, ◌≤◌, List, ◌++◌, length, min};
+ghost use Rattle.std.specs.List.{flat_map};
+ghost use Rattle.wild_plan.specs.SlotShares.{writes_slots, own_symbols, slots_of, slots_at, words_in, entries_in, storage_words, header_words, header_entries, symbol_share, is_of_slots, slot_share, header_share, block_places, group_block, block_of, block_share};
 ghost use Rattle.wild_plan.specs.SlotParts.{flat_places};
 ghost use Rattle.wild_plan.specs.declared.part.Role.TheVariants.{PltGot};
-ghost use Rattle.wild_plan.specs.declared.slot_parts.WordPart.TheVariants.{Block};
 
 use crate::cases::{slot_of, storage_pair};
 use crate::clauses::got_of;
@@ -18,6 +17,7 @@ use crate::stub::{STUB_SIZE, far_of};
 use crate::symbol::Symbol;
 use crate::symbol_slots::SymbolSlots;
 use wild_records::{Rela, Relr};
+use wild_relr::block_words;
 
 impl FileRole {
     /// Whether a file of that role writes the slots of its symbols: it is loaded, and not the last one, which has none.
@@ -193,37 +193,64 @@ pub(crate) fn header_share(layout: &Layout, role: Role) -> u64
     }
 }
 
-/// How many slots of some symbols are in the group's block, at most 2^64 - 1.
-fn block_words(layout: &Layout, symbols: &[Symbol]) -> u64
-    ensures { result ≡ min (2 ^ 64 - 1) (total (λ s. length (words_in Block layout.now s)) symbols.now) }
-{
-    let mut count: u64 = 0;
-    for symbol in symbols {
-        count = count.saturating_add(words_in(WordPart::Block, layout, symbol) as u64);
-    }
-    count
+/// Slots of eight bytes, one behind the other, whose places a group packs at once.
+#[derive(Clone, Copy, Debug, PartialEq, Eq)]
+pub struct Block {
+    /// Where they begin; 0 where there is none.
+    pub base: u64,
+    /// How many there are, at most 2^64 - 1.
+    pub count: u64,
 }
 
-/// How many slots of a group are in its block, at most 2^64 - 1.
-pub fn block_count(layout: &Layout, group: &Group) -> u64
-    ensures { result ≡ min (2 ^ 64 - 1) (block_count layout.now group.now) }
+/// The block with the word of a symbol behind the others, where it has one there.
+fn with_symbol(layout: &Layout, block: Block, symbol: &Symbol) -> Block
+    ensures { (ps : List ℕ) → block ≡ block_of ps → result ≡ block_of (ps ++ block_places layout.now symbol.now) }
 {
-    let mut count: u64 = 0;
-    for file in group.files.as_slice() {
-        count = count.saturating_add(block_words(layout, layout.own_symbols(file)));
+    match words_in(WordPart::Block, layout, symbol) {
+        0 => block,
+        count => Block {
+            base: if block.count == 0 {
+                symbol.slots_at()
+            } else {
+                block.base
+            },
+            count: block.count.saturating_add(count as u64),
+        },
     }
-    count
+}
+
+/// The block with the words of a file's symbols behind the others.
+fn with_file(layout: &Layout, block: Block, file: &File) -> Block
+    ensures { (ps : List ℕ) → block ≡ block_of ps → result ≡ block_of (ps ++ flat_map (block_places layout.now) (own_symbols layout.now file.now)) }
+{
+    let mut block = block;
+    for symbol in layout.own_symbols(file) {
+        block = with_symbol(layout, block, symbol);
+    }
+    block
+}
+
+/// The slots of a group that are in its block.
+#[tactic(auto, unfolding(crate::specs::SlotShares::group_block))]
+pub fn group_block(layout: &Layout, group: &Group) -> Block
+    ensures { result ≡ block_of (group_block layout.now group.now) }
+{
+    let mut block = Block { base: 0, count: 0 };
+    if layout.options.relr && layout.kind.is_position_independent() {
+        for file in group.files.as_slice() {
+            block = with_file(layout, block, file);
+        }
+    }
+    block
 }
 
 /// How many bytes the packed words of a group's block take of the part of a role, at most 2^64 - 1.
 pub(crate) fn block_share(layout: &Layout, role: Role, group: &Group) -> u64
     ensures { result ≡ min (2 ^ 64 - 1) (block_share layout.now role group.now) }
 {
-    if !matches!(role, Role::RelrDyn) || !layout.options.relr {
+    if !matches!(role, Role::RelrDyn) {
         return 0;
     }
-    match block_count(layout, group) {
-        0 => 0,
-        count => ((count - 1).div_ceil(63) + 1).saturating_mul(Relr::SIZE as u64),
-    }
+    let block = group_block(layout, group);
+    block_words(block.base, block.count).saturating_mul(Relr::SIZE as u64)
 }
