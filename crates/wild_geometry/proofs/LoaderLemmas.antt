@@ -23,7 +23,7 @@ use Rattle.wild_plan.specs.Lists.{total}
 use Rattle.wild_plan.specs.Lookups.{allocated}
 use Rattle.wild_plan.specs.Needs.{is_prelude}
 use Rattle.wild_plan.specs.Places.{role_place, has_role, is_fixed_static, within}
-use Rattle.wild_plan.specs.Segments.{is_segment_of, dynamic_astray, part_with, entry_parts, bytes_in, holds_entries, entries_astray, is_relative_role, carries_part, table_is_loaded}
+use Rattle.wild_plan.specs.Segments.{is_segment_of, dynamic_astray, part_with, entry_parts, bytes_in, holds_entries, entries_astray, is_table_role, carries_part, table_is_loaded}
 use Rattle.wild_plan.specs.WellFormed.{check_entries}
 use Rattle.wild_layout.specs.Content.{whole_bytes, own_bytes, file_content, content}
 use Rattle.wild_layout.specs.Moved.{section_entries}
@@ -192,11 +192,11 @@ HasNoEntries-from_laid l h fixed =
 
 -- ---- tables of relative entries
 
-carried : (l : Layout) (p : Part) → table_is_loaded l p ≡ true → needs_dynamic l.kind ≡ true → is_relative_role p.role ≡ true → 1 ≤ p.size → IsCarriedWhole l p
+carried : (l : Layout) (p : Part) → table_is_loaded l p ≡ true → needs_dynamic l.kind ≡ true → is_table_role p.role ≡ true → 1 ≤ p.size → IsCarriedWhole l p
 carried l p h needs relative some =
     let size = ne_eqb p.size 0 (λ e. omega arith) in
-    let none : (not (needs_dynamic l.kind) || not (is_relative_role p.role) || p.size == 0) ≡ false = rw (needs, relative, size) refl in
-    let found = Found-from_list_any (carries_part p) l.segments (other (not (needs_dynamic l.kind) || not (is_relative_role p.role) || p.size == 0) (list_any (carries_part p) l.segments) h none) in
+    let none : (not (needs_dynamic l.kind) || not (is_table_role p.role) || p.size == 0) ≡ false = rw (needs, relative, size) refl in
+    let found = Found-from_list_any (carries_part p) l.segments (other (not (needs_dynamic l.kind) || not (is_table_role p.role) || p.size == 0) (list_any (carries_part p) l.segments) h none) in
     let g = found.item in
     let a = and_parts (g.kind == pt_load && within g.offset g.file_size p.offset p.size) (p.offset + g.address == p.address + g.offset) found.passes in
     let b = and_parts (g.kind == pt_load) (within g.offset g.file_size p.offset p.size) a.0 in
@@ -206,9 +206,9 @@ carried l p h needs relative some =
     let level = eqb-true _ _ a.1 in
     record { segment = g; listed = found.listed; loaded = eqb-true _ _ b.0; from = omega arith; to = omega arith; distance = omega arith }
 
-pub IsCarriedWhole-from_laid : (l : Layout) → Laid l → needs_dynamic l.kind ≡ true → (r : Role) (p : Part) → is_relative_role r ≡ true → part_with r l.parts ≡ Some p → 1 ≤ p.size → IsCarriedWhole l p
+pub IsCarriedWhole-from_laid : (l : Layout) → Laid l → needs_dynamic l.kind ≡ true → (r : Role) (p : Part) → is_table_role r ≡ true → part_with r l.parts ≡ Some p → 1 ≤ p.size → IsCarriedWhole l p
 IsCarriedWhole-from_laid l h needs r p relative there some =
     let f = FoundAt-from_find (has_role r) l.parts p there in
     let P : Part → Type 0 = λ x. table_is_loaded l x ≡ true in
     let is = same_role p.role r (eqb-true _ _ f.passes) in
-    carried l p (subst P (f.is p) (h.segments.tables f.place p f.within)) needs (ap is_relative_role is ∙ relative) some
+    carried l p (subst P (f.is p) (h.segments.tables f.place p f.within)) needs (ap is_table_role is ∙ relative) some

@@ -18,7 +18,7 @@ use Rattle.wild_plan.specs.Kinds.{needs_dynamic}
 use Rattle.wild_plan.specs.Needs.{is_prelude}
 use Rattle.wild_plan.specs.Lookups.{image_size}
 use Rattle.wild_plan.specs.Places.{role_place}
-use Rattle.wild_plan.specs.Segments.{part_with, is_relative_role}
+use Rattle.wild_plan.specs.Segments.{part_with, is_table_role}
 use Rattle.wild_headers.specs.Headers.{program_header}
 use Rattle.wild_layout.specs.Moved.{file_entries, file_words}
 use Rattle.wild_layout.specs.Content.{file_content, content}
@@ -82,7 +82,7 @@ unfolding program_header
 segment_offset l g a = refl
 
 -- the bytes of a table stand in a loaded segment, at its address
-table_at : (l : Layout) (r : Role) (p : Part) → TablesStand → IsLaidOut l → (role_place r ≡ 0 → ⊥) → needs_dynamic l.kind ≡ true → is_relative_role r ≡ true → part_with r l.parts ≡ Some p → 1 ≤ p.size → length (table_bytes l r) ≡ p.size → StandsAt (bytes l) (map (program_header l) l.segments) p.address (table_bytes l r)
+table_at : (l : Layout) (r : Role) (p : Part) → TablesStand → IsLaidOut l → (role_place r ≡ 0 → ⊥) → needs_dynamic l.kind ≡ true → is_table_role r ≡ true → part_with r l.parts ≡ Some p → 1 ≤ p.size → length (table_bytes l r) ≡ p.size → StandsAt (bytes l) (map (program_header l) l.segments) p.address (table_bytes l r)
 table_at l r p stands laid place needs relative there some full =
     let c = laid.loadable.tables needs r p relative there some in
     let to = c.to in
@@ -99,7 +99,7 @@ table_at l r p stands laid place needs relative there some full =
     }
 
 -- a part that is there
-table_there : (l : Layout) (r : Role) → TablesStand → IsLaidOut l → (role_place r ≡ 0 → ⊥) → needs_dynamic l.kind ≡ true → is_relative_role r ≡ true → (o : Option Part) → part_with r l.parts ≡ o → IsTableOf (bytes l) (map (program_header l) l.segments) (dynamic.part_address o) (dynamic.part_size o) (table_bytes l r)
+table_there : (l : Layout) (r : Role) → TablesStand → IsLaidOut l → (role_place r ≡ 0 → ⊥) → needs_dynamic l.kind ≡ true → is_table_role r ≡ true → (o : Option Part) → part_with r l.parts ≡ o → IsTableOf (bytes l) (map (program_header l) l.segments) (dynamic.part_address o) (dynamic.part_size o) (table_bytes l r)
 table_there l r stands laid place needs relative None e = (laid.roles r place).missing e
 table_there l r stands laid place needs relative (Some p) e =
     let full = ((laid.roles r place).there p e).size in

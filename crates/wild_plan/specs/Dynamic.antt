@@ -9,7 +9,7 @@
 --   dynamic_count l           how many they are
 use Rattle.std.specs.Prelude.{ℕ, ◌+◌, ◌-◌, ◌/◌, ◌^◌, ◌==◌, Bool, not, ◌&&◌, if◌then◌else◌, min, List, [], ◌∷◌, ◌++◌, length, map, All, find, flat_map, bytes_eq, codes, bit_or, Option, Some, None, option_map}
 use Rattle.std.specs.Option.{option_or}
-use Rattle.wild_records.specs.Abi.Dynamic.{dt_null, dt_strtab, dt_symtab, dt_rela, dt_relasz, dt_relaent, dt_strsz, dt_syment, dt_init, dt_fini, dt_soname, dt_rpath, dt_debug, dt_textrel, dt_init_array, dt_fini_array, dt_init_arraysz, dt_fini_arraysz, dt_runpath, dt_flags, dt_preinit_array, dt_preinit_arraysz, dt_relrsz, dt_relr, dt_relrent, dt_relacount, dt_flags_1, dt_auxiliary, df_origin, df_textrel, df_bind_now, df_static_tls, df_1_now, df_1_nodelete, df_1_origin, df_1_interpose, df_1_pie}
+use Rattle.wild_records.specs.Abi.Dynamic.{dt_null, dt_pltrelsz, dt_pltgot, dt_pltrel, dt_jmprel, dt_strtab, dt_symtab, dt_rela, dt_relasz, dt_relaent, dt_strsz, dt_syment, dt_init, dt_fini, dt_soname, dt_rpath, dt_debug, dt_textrel, dt_init_array, dt_fini_array, dt_init_arraysz, dt_fini_arraysz, dt_runpath, dt_flags, dt_preinit_array, dt_preinit_arraysz, dt_relrsz, dt_relr, dt_relrent, dt_relacount, dt_flags_1, dt_auxiliary, df_origin, df_textrel, df_bind_now, df_static_tls, df_1_now, df_1_nodelete, df_1_origin, df_1_interpose, df_1_pie}
 use Rattle.wild_records.specs.Abi.Section.{sht_nobits}
 use Rattle.wild_records.specs.Dynamic.{DynamicEntryFits}
 use Rattle.wild_records.specs.Relocations.{rela_size, relr_size}
@@ -42,6 +42,10 @@ dynamic_number tags.StringTable = dt_strtab
 dynamic_number tags.StringSize = dt_strsz
 dynamic_number tags.SymbolTable = dt_symtab
 dynamic_number tags.SymbolSize = dt_syment
+dynamic_number tags.PltGot = dt_pltgot
+dynamic_number tags.PltRelSize = dt_pltrelsz
+dynamic_number tags.PltRel = dt_pltrel
+dynamic_number tags.JmpRel = dt_jmprel
 dynamic_number tags.Rela = dt_rela
 dynamic_number tags.RelaSize = dt_relasz
 dynamic_number tags.RelaEntry = dt_relaent
@@ -139,6 +143,10 @@ dynamic_entry l tags.StringTable = part_address (part_with role.Dynstr l.parts)
 dynamic_entry l tags.StringSize = part_size (part_with role.Dynstr l.parts)
 dynamic_entry l tags.SymbolTable = part_address (part_with role.Dynsym l.parts)
 dynamic_entry l tags.SymbolSize = beside symtab_entry_size (part_with role.Dynsym l.parts)
+dynamic_entry l tags.PltGot = beside l.got_base (filled_part l role.RelaPlt)
+dynamic_entry l tags.PltRelSize = part_size (filled_part l role.RelaPlt)
+dynamic_entry l tags.PltRel = beside dt_rela (filled_part l role.RelaPlt)
+dynamic_entry l tags.JmpRel = part_address (filled_part l role.RelaPlt)
 dynamic_entry l tags.Rela = part_address (first_entries l)
 dynamic_entry l tags.RelaSize = beside (entries_bytes l) (first_entries l)
 dynamic_entry l tags.RelaEntry = beside rela_size (first_entries l)
@@ -152,12 +160,12 @@ dynamic_entry l tags.Flags = Some (dynamic_flags l.kind l.options)
 dynamic_entry l tags.Flags1 = Some (dynamic_flags_1 l.kind l.options)
 dynamic_entry l tags.Null = Some 0
 
--- the entries in their order; those of the address table and of stubs stand before Rela, those of hash tables and of
--- versions before Debug, those of AArch64 before Null
+-- the entries in their order; those of hash tables and of versions stand before Debug, those of AArch64 before Null
 unfoldable pub all_tags : List DynamicTag
 all_tags =
     tags.Init ∷ tags.Fini ∷ tags.InitArray ∷ tags.InitArraySize ∷ tags.FiniArray ∷ tags.FiniArraySize ∷ tags.PreinitArray ∷ tags.PreinitArraySize
     ∷ tags.StringTable ∷ tags.StringSize ∷ tags.SymbolTable ∷ tags.SymbolSize
+    ∷ tags.PltGot ∷ tags.PltRelSize ∷ tags.PltRel ∷ tags.JmpRel
     ∷ tags.Rela ∷ tags.RelaSize ∷ tags.RelaEntry ∷ tags.RelaCount ∷ tags.Relr ∷ tags.RelrSize ∷ tags.RelrEntry
     ∷ tags.Debug ∷ tags.Textrel ∷ tags.Flags ∷ tags.Flags1 ∷ tags.Null ∷ []
 

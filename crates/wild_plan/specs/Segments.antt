@@ -141,12 +141,14 @@ entries_astray parts k (s ∷ ss) = if holds_entries parts k s then entries_astr
 abbrev pub stands_in_entries : Layout → Part → Bool
 stands_in_entries l p = not (is_entry_role p.role) || (is_allocated_section l p.section && kind_at l p.section == sht_rela)
 
--- ---- tables of relative entries, which a loader finds by the dynamic section and reads out of one segment
+-- ---- tables of entries, which a loader finds by the dynamic section and reads out of one segment
 
-abbrev pub is_relative_role : Role → Bool
-is_relative_role role.RelaDynRelative = true
-is_relative_role role.RelrDyn = true
-is_relative_role other = false
+abbrev pub is_table_role : Role → Bool
+is_table_role role.RelaPlt = true
+is_table_role role.RelaDynRelative = true
+is_table_role role.RelaDynGeneral = true
+is_table_role role.RelrDyn = true
+is_table_role other = false
 
 -- the file bytes of the segment have those of the part, at equal distance in file and memory
 abbrev pub carries_part : Part → Segment → Bool
@@ -155,4 +157,4 @@ carries_part p g = g.kind == pt_load && within g.offset g.file_size p.offset p.s
 -- one segment carries the whole table to its addresses
 abbrev pub table_is_loaded : Layout → Part → Bool
 table_is_loaded l p =
-    not (needs_dynamic l.kind) || not (is_relative_role p.role) || p.size == 0 || list_any (carries_part p) l.segments
+    not (needs_dynamic l.kind) || not (is_table_role p.role) || p.size == 0 || list_any (carries_part p) l.segments

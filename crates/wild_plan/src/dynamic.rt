@@ -13,8 +13,8 @@ use crate::section::Section;
 use wild_records::abi::dynamic::{
     DF_1_INTERPOSE, DF_1_NODELETE, DF_1_NOW, DF_1_ORIGIN, DF_1_PIE, DF_BIND_NOW, DF_ORIGIN,
     DF_STATIC_TLS, DF_TEXTREL, DT_DEBUG, DT_FINI, DT_FINI_ARRAY, DT_FINI_ARRAYSZ, DT_FLAGS,
-    DT_FLAGS_1, DT_INIT, DT_INIT_ARRAY, DT_INIT_ARRAYSZ, DT_NULL, DT_PREINIT_ARRAY,
-    DT_PREINIT_ARRAYSZ, DT_RELA, DT_RELACOUNT, DT_RELAENT, DT_RELASZ, DT_RELR, DT_RELRENT,
+    DT_FLAGS_1, DT_INIT, DT_INIT_ARRAY, DT_INIT_ARRAYSZ, DT_JMPREL, DT_NULL, DT_PLTGOT, DT_PLTREL,
+    DT_PLTRELSZ, DT_PREINIT_ARRAY, DT_PREINIT_ARRAYSZ, DT_RELA, DT_RELACOUNT, DT_RELAENT, DT_RELASZ, DT_RELR, DT_RELRENT,
     DT_RELRSZ, DT_STRSZ, DT_STRTAB, DT_SYMENT, DT_SYMTAB, DT_TEXTREL,
 };
 use wild_records::abi::section::SHT_NOBITS;
@@ -39,6 +39,13 @@ pub enum DynamicTag {
     SymbolTable,
     /// How many bytes one symbol has.
     SymbolSize,
+    /// The address of the global offset table, where stubs have entries.
+    PltGot,
+    /// How many bytes the entries of stubs have.
+    PltRelSize,
+    /// That these entries have addends: `DT_RELA`.
+    PltRel,
+    JmpRel,
     Rela,
     RelaSize,
     /// How many bytes one entry with an addend has.
@@ -64,7 +71,7 @@ pub const STRING_START: u64 = 1;
 impl DynamicTag {
     /// All of them, in their order.
     #[tactic(auto, unfolding(crate::specs::Dynamic::all_tags))]
-    pub fn all() -> [DynamicTag; 24]
+    pub fn all() -> [DynamicTag; 28]
         ensures { result ≡ all_tags }
     {
         [
@@ -80,6 +87,10 @@ impl DynamicTag {
             DynamicTag::StringSize,
             DynamicTag::SymbolTable,
             DynamicTag::SymbolSize,
+            DynamicTag::PltGot,
+            DynamicTag::PltRelSize,
+            DynamicTag::PltRel,
+            DynamicTag::JmpRel,
             DynamicTag::Rela,
             DynamicTag::RelaSize,
             DynamicTag::RelaEntry,
@@ -113,6 +124,10 @@ impl DynamicTag {
             DynamicTag::StringSize => DT_STRSZ,
             DynamicTag::SymbolTable => DT_SYMTAB,
             DynamicTag::SymbolSize => DT_SYMENT,
+            DynamicTag::PltGot => DT_PLTGOT,
+            DynamicTag::PltRelSize => DT_PLTRELSZ,
+            DynamicTag::PltRel => DT_PLTREL,
+            DynamicTag::JmpRel => DT_JMPREL,
             DynamicTag::Rela => DT_RELA,
             DynamicTag::RelaSize => DT_RELASZ,
             DynamicTag::RelaEntry => DT_RELAENT,
@@ -293,6 +308,10 @@ pub fn dynamic_entry(layout: &Layout, tag: DynamicTag) -> Option<u64>
                 part_with(Role::Dynsym, layout.parts.as_slice()),
             )
         }
+        DynamicTag::PltGot => beside(layout.got_base, filled_part(layout, Role::RelaPlt)),
+        DynamicTag::PltRelSize => part_size(filled_part(layout, Role::RelaPlt)),
+        DynamicTag::PltRel => beside(DT_RELA, filled_part(layout, Role::RelaPlt)),
+        DynamicTag::JmpRel => part_address(filled_part(layout, Role::RelaPlt)),
         DynamicTag::Rela => part_address(first_entries(layout)),
         DynamicTag::RelaSize => beside(entries_bytes(layout), first_entries(layout)),
         DynamicTag::RelaEntry => beside(Rela::SIZE as u64, first_entries(layout)),
@@ -315,7 +334,7 @@ pub fn dynamic_entry(layout: &Layout, tag: DynamicTag) -> Option<u64>
 #[tactic(auto, unfolding(crate::specs::Dynamic::tag_entries, crate::specs::Dynamic::all_tags), using(crate::proofs::DynamicLemmas::length_entry))]
 fn tag_count(layout: &Layout) -> usize
     ensures count { result ≡ length (tag_entries layout.now) }
-    ensures few { result < 25 }
+    ensures few { result < 29 }
 {
     if !layout.kind.needs_dynamic() {
         return 0;

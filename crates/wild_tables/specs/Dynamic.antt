@@ -7,7 +7,7 @@
 --   BehindNullIsNotRead       nothing behind DT_NULL is read
 --   EntriesAreFound           the value of a tag is its entry's
 --   TablesAreNamed            the tables that a loader finds by their tags
-use Rattle.std.specs.Prelude.{◌≡◌, ◌≢◌, ℕ, ◌-◌, ◌*◌, ◌/◌, ◌≤◌, true, List, [], ◌∷◌, ◌++◌, length, replicate, flat_map, All, None}
+use Rattle.std.specs.Prelude.{◌≡◌, ◌≢◌, ℕ, ◌-◌, ◌*◌, ◌/◌, ◌≤◌, true, List, [], ◌∷◌, ◌++◌, length, replicate, flat_map, All}
 use Rattle.wild_words.specs.Record.{spell}
 use Rattle.wild_words.specs.Words.{Stands}
 use Rattle.wild_records.specs.Abi.Dynamic.{dt_rela, dt_relasz, dt_jmprel, dt_pltrelsz, dt_relr, dt_relrsz}
@@ -67,14 +67,14 @@ abbrev pub EntriesAreFound : Type 0
 EntriesAreFound = (l : Layout) (rest : List DynamicEntry) (tag : DynamicTag) → needs_dynamic l.kind ≡ true → tag ≢ tags.Null
     → tagged (dynamic_number tag) (before_null (dynamic_entries l ++ rest)) ≡ dynamic_entry l tag
 
--- the tables that a loader finds by their tags: entries with addends, packed relocations, and no entries of stubs
+-- the tables that a loader finds by their tags: entries with addends, packed relocations, and the entries of stubs
 pub record NamesTables (l : Layout) (ds : List DynamicEntry) : Type 0 where
   pub entries : tagged dt_rela (before_null ds) ≡ dynamic_entry l tags.Rela
   pub entries_size : tagged dt_relasz (before_null ds) ≡ dynamic_entry l tags.RelaSize
   pub words : tagged dt_relr (before_null ds) ≡ dynamic_entry l tags.Relr
   pub words_size : tagged dt_relrsz (before_null ds) ≡ dynamic_entry l tags.RelrSize
-  pub jumps : tagged dt_jmprel (before_null ds) ≡ None
-  pub jumps_size : tagged dt_pltrelsz (before_null ds) ≡ None
+  pub jumps : tagged dt_jmprel (before_null ds) ≡ dynamic_entry l tags.JmpRel
+  pub jumps_size : tagged dt_pltrelsz (before_null ds) ≡ dynamic_entry l tags.PltRelSize
 
 abbrev pub TablesAreNamed : Type 0
 TablesAreNamed = (l : Layout) (room : ℕ) → needs_dynamic l.kind ≡ true → NamesTables l (dynamic_records l room)

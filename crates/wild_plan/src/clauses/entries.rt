@@ -2,7 +2,7 @@
 ghost use Rattle.std.specs.Prelude.{◌≡◌, drop};
 ghost use Rattle.std.specs.List.{list_any};
 ghost use Rattle.wild_plan.specs.Lists.{first_failing, total};
-ghost use Rattle.wild_plan.specs.Segments.{is_segment_of, segment_lacking, dynamic_astray, part_with, is_entry_role, entry_parts, bytes_in, holds_entries, entries_astray, stands_in_entries, is_relative_role, carries_part, table_is_loaded};
+ghost use Rattle.wild_plan.specs.Segments.{is_segment_of, segment_lacking, dynamic_astray, part_with, is_entry_role, entry_parts, bytes_in, holds_entries, entries_astray, stands_in_entries, is_table_role, carries_part, table_is_loaded};
 ghost use Rattle.wild_plan.specs.WellFormed.{check_entries};
 
 use crate::clauses::fails;
@@ -135,8 +135,8 @@ pub(crate) fn check_entries(layout: &Layout) -> Result<(), Clause>
     fails(6, part_outside_entries(layout, parts))
 }
 
-fn is_relative_role(role: Role) -> bool
-    ensures { result ≡ is_relative_role role }
+fn is_table_role(role: Role) -> bool
+    ensures { result ≡ is_table_role role }
 {
     matches!(role, Role::RelaDynRelative | Role::RelrDyn)
 }
@@ -161,7 +161,7 @@ fn table_is_loaded(layout: &Layout, part: &Part) -> bool
     ensures { result ≡ table_is_loaded layout.now part.now }
 {
     !layout.kind.needs_dynamic()
-        || !is_relative_role(part.role)
+        || !is_table_role(part.role)
         || part.size == 0
         || is_carried(layout.segments.as_slice(), part)
 }
