@@ -138,7 +138,10 @@ pub(crate) fn check_entries(layout: &Layout) -> Result<(), Clause>
 fn is_table_role(role: Role) -> bool
     ensures { result ≡ is_table_role role }
 {
-    matches!(role, Role::RelaDynRelative | Role::RelrDyn)
+    matches!(
+        role,
+        Role::RelaPlt | Role::RelaDynRelative | Role::RelaDynGeneral | Role::RelrDyn
+    )
 }
 
 /// Whether the file bytes of the segment have those of the part, at equal distance in file and memory.
@@ -156,7 +159,7 @@ fn is_carried(segments: &[Segment], part: &Part) -> bool
     segments.iter().any(|segment| carries_part(part, segment))
 }
 
-/// Whether one segment carries the part to its addresses, where it is a table of relative entries.
+/// Whether one segment carries the part to its addresses, where it is a table of entries.
 fn table_is_loaded(layout: &Layout, part: &Part) -> bool
     ensures { result ≡ table_is_loaded layout.now part.now }
 {
