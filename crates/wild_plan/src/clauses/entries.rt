@@ -138,7 +138,10 @@ pub(crate) fn check_entries(layout: &Layout) -> Result<(), Clause>
 fn is_table_role(role: Role) -> bool
     ensures { result ≡ is_table_role role }
 {
-    matches!(role, Role::RelaDynRelative | Role::RelrDyn)
+    matches!(
+        role,
+        Role::RelaPlt | Role::RelaDynRelative | Role::RelaDynGeneral | Role::RelrDyn
+    )
 }
 
 /// Whether the file bytes of the segment have those of the part, at equal distance in file and memory.
