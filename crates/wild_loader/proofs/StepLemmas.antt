@@ -14,7 +14,7 @@ use Rattle.wild_loader.specs.StepLaws.{stub_bytes, CallsAreRead, CallsOfValuesAr
 use Rattle.wild_loader.proofs.Held.{held-behind, number-front, number_4}
 use Rattle.wild_loader.proofs.Steps.{stands-held, differs-held, stands-field, skipped, taken}
 
-step-x86 : (m : Memory) (a : ℕ) → m.machine ≡ machines.X86_64 → step m a ≡ first_effect templates_x86_64 m a
+pub step-x86 : (m : Memory) (a : ℕ) → m.machine ≡ machines.X86_64 → step m a ≡ first_effect templates_x86_64 m a
 unfolding step_x86_64
 step-x86 m a e = ap (λ (k : Machine). step_of k m a) e
 

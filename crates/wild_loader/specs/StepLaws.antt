@@ -1,5 +1,5 @@
 -- What the definition of steps comes to: the effects of known instructions in memory of an x86-64 image.
---   CallsAreRead, JumpsAreRead          to an address
+--   CallsAreRead, JumpsAreRead          to an address; CallsAreNear: back to the bytes
 --   SlotCallsAreRead, SlotJumpsAreRead  to the address in a word
 --   StubsAreRead                        of a stub: a jump to the address in its slot
 use Rattle.std.specs.Prelude.{◌≡◌, ℕ, ◌+◌, ◌%◌, ◌^◌, List, [], ◌∷◌, ◌++◌, length, Some}
@@ -7,7 +7,7 @@ use Rattle.wild_words.specs.Words.{word, number}
 use Rattle.wild_loader.specs.declared.memory.Machine.TheVariants as machines
 use Rattle.wild_loader.specs.declared.memory.Memory.{Memory}
 use Rattle.wild_loader.specs.declared.effect.EffectKind.TheVariants as kinds
-use Rattle.wild_loader.specs.Memory.{number_in, Holds}
+use Rattle.wild_loader.specs.Memory.{byte_in, number_in, Holds}
 use Rattle.wild_loader.specs.Effect.{step, sign_extended_32}
 
 -- `e8 rel32` in memory of an x86-64 image is a call
@@ -19,6 +19,11 @@ CallsAreRead = (m : Memory) (a : ℕ) (field : List ℕ) → m.machine ≡ machi
 abbrev pub CallsOfValuesAreRead : Type 0
 CallsOfValuesAreRead = (m : Memory) (a v : ℕ) → m.machine ≡ machines.X86_64 → Holds m a (0xe8 ∷ word 4 v)
     → step m a ≡ Some (record { length = 5; width = 64; kind = kinds.Call ((a + 5 + sign_extended_32 (v % 2 ^ 32)) % 2 ^ 64) })
+
+-- and a call of five bytes is `e8 rel32`
+abbrev pub CallsAreNear : Type 0
+CallsAreNear = (m : Memory) (a target : ℕ) → m.machine ≡ machines.X86_64 → step m a ≡ Some (record { length = 5; width = 64; kind = kinds.Call target })
+    → (byte_in m a ≡ Some 0xe8) × (displacement : ℕ) × (number_in m (a + 1) 4 ≡ Some displacement) × ((a + 5 + sign_extended_32 displacement) % 2 ^ 64 ≡ target)
 
 -- `e9 rel32` is a jump
 abbrev pub JumpsAreRead : Type 0
