@@ -4,7 +4,7 @@ ghost use Rattle.wild_records.specs.FileHeader.{file_header_size};
 ghost use Rattle.wild_headers.specs.Headers.{file_type, machine_number, entry_address, file_header, file_header_bytes};
 
 use crate::numbers::{or_escape, section_headers_offset, section_of_role};
-use wild_plan::{Entry, Layout, Machine, OutputKind, RelocationModel};
+use wild_plan::{Entry, Layout, Machine, OutputKind, RelocationModel, Role};
 use wild_records::abi::header::{
     ELFCLASS64, ELFDATA2LSB, ELFMAG, ELFOSABI_NONE, EM_AARCH64, EM_X86_64, ET_DYN, ET_EXEC, ET_REL,
     EV_CURRENT,
