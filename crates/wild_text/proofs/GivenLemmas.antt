@@ -14,6 +14,10 @@ pub first_step : {A B : Type 0} (r : Result A (List ℕ)) (f : A → Result B (L
 first_step (Ok x) f y e = (x, refl, e)
 first_step (Err p) f y e = absurd cc
 
+-- what is given is given once
+pub given_same : {X : Type 0} (x y : X) → ◌≡◌ {A = Result X (List ℕ)} (Ok x) (Ok y) → x ≡ y
+given_same x y e = cc
+
 above : {X : Type 0} (name : List ℕ) (r : Result X (List ℕ)) (x : X) → under name r ≡ Ok x → r ≡ Ok x
 above name (Ok y) x e = e
 above name (Err p) x e = absurd cc
@@ -41,9 +45,7 @@ items_given P read each i no_items xs e =
 items_given P read each i (item d ds) xs e =
     let one = first_step (under (decimal i) (read d)) _ xs e in
     let rest = first_step (items_from read (i + 1) ds) _ xs one.2 in
-    let made : Ok (one.0 ∷ rest.0) ≡ Ok xs = rest.2 in
-    let same : one.0 ∷ rest.0 ≡ xs = cc in
-    subst (λ (ys : List _). All P ys) same (All-cons P one.0 rest.0 (each d one.0 (above (decimal i) (read d) one.0 one.1)) (items_given P read each (i + 1) ds rest.0 rest.1))
+    subst (λ (ys : List _). All P ys) (given_same (one.0 ∷ rest.0) xs rest.2) (All-cons P one.0 rest.0 (each d one.0 (above (decimal i) (read d) one.0 one.1)) (items_given P read each (i + 1) ds rest.0 rest.1))
 
 all_given : {X : Type 0} (P : X → Type 0) (read : Data → Result X (List ℕ)) → ((d : Data) (x : X) → read d ≡ Ok x → P x)
     → (ds : Option Items) (xs : List X) → all_items read ds ≡ Ok xs → All P xs

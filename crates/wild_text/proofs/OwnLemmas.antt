@@ -1,5 +1,5 @@
 -- The symbols of plans are the output's own.
-use Rattle.std.proofs.Common.{◌≡◌, ℕ, List, [], ◌∷◌, Ok, Option, Some, None, refl, ap, subst, ◌∙◌, Bool, true, false}
+use Rattle.std.proofs.Common.{◌≡◌, ℕ, List, [], ◌∷◌, Result, Ok, Option, Some, None, refl, subst, ◌∙◌, Bool, true, false}
 use Rattle.std.specs.Prelude.{◌==◌, All, codes, fold, bit_or, option_map}
 use Rattle.std.specs.Int.RustNames.{bit_and}
 use Rattle.std.specs.Int.Bits.{and_zero_l}
@@ -21,7 +21,7 @@ use Rattle.wild_text.specs.Values.{u64_in, u8_in, hex_in, list_in, nullable}
 use Rattle.wild_text.specs.Members.{field, an_object, known_only}
 use Rattle.wild_text.specs.Symbols.{place_in, flag_words, flag_in, flags_in, resolution_in, with_flags, flagged, symbol_members, symbol_in}
 use Rattle.wild_text.specs.declared.symbol.OneFlag.{OneFlag}
-use Rattle.wild_text.proofs.GivenLemmas.{first_step, field_given, list_given, nullable_given, word_given}
+use Rattle.wild_text.proofs.GivenLemmas.{first_step, given_same, field_given, list_given, nullable_given, word_given}
 
 -- ---- flags
 
@@ -40,11 +40,9 @@ IsUnnamed bit = list_all (λ (p : List ℕ × OneFlag). bit_and p.1.0 bit == 0) 
 unnamed_apart : (bit : ℕ) → IsUnnamed bit → (d : Data) (f : ValueFlags) → flags_in d ≡ Ok f → bit_and f.0 bit ≡ 0
 unnamed_apart bit unnamed d f e =
     let read = first_step (list_in flag_in d) _ f e in
-    let made : Ok (record { 0 = fold (λ all flag. bit_or all flag.0) 0 read.0 }) ≡ Ok f = read.2 in
-    let same : record { 0 = fold (λ all flag. bit_or all flag.0) 0 read.0 } ≡ f = cc in
-    let words = All-weaker _ (λ (p : List ℕ × OneFlag). bit_and p.1.0 bit ≡ 0) flag_words (λ p. eqb-true (bit_and p.1.0 bit) 0) (All-from_list_all (λ (p : List ℕ × OneFlag). bit_and p.1.0 bit == 0) flag_words unnamed) in
+    let words = All-weaker _ (λ (p : List ℕ × OneFlag). bit_and p.1.0 bit ≡ 0) (λ p. eqb-true (bit_and p.1.0 bit) 0) flag_words (All-from_list_all (λ (p : List ℕ × OneFlag). bit_and p.1.0 bit == 0) flag_words unnamed) in
     let each = list_given (λ (g : OneFlag). bit_and g.0 bit ≡ 0) flag_in (word_given (λ (g : OneFlag). bit_and g.0 bit ≡ 0) flag_words words) d read.0 read.1 in
-    subst (λ (g : ValueFlags). bit_and g.0 bit ≡ 0) same (joined_apart bit read.0 0 each ∙ and_zero_l bit)
+    subst (λ (g : ValueFlags). bit_and g.0 bit ≡ 0) (given_same _ f read.2) (joined_apart bit read.0 0 each ∙ and_zero_l bit)
 
 abbrev flags_of : Data → Result ValueFlags (List ℕ)
 flags_of d = field (codes "flags") flags_in (record { 0 = 0 }) d
@@ -68,10 +66,8 @@ no_dynsym d r e =
     let v = first_step (field (codes "raw_value") u64_in 0 d) _ r o.2 in
     let g = first_step (field (codes "got") (nullable u64_in) None d) _ r v.2 in
     let p = first_step (field (codes "plt") (nullable u64_in) None d) _ r g.2 in
-    let k = first_step (known_only (codes "raw_value" ∷ codes "got" ∷ codes "plt" ∷ []) d) (λ done. Ok (record { raw_value = v.0; flags = record { 0 = 0 }; dynamic_symbol_index = None; got_address = g.0; plt_address = p.0 })) r p.2 in
-    let made : Ok (record { raw_value = v.0; flags = record { 0 = 0 }; dynamic_symbol_index = None; got_address = g.0; plt_address = p.0 }) ≡ Ok r = k.2 in
-    let same : record { raw_value = v.0; flags = record { 0 = 0 }; dynamic_symbol_index = None; got_address = g.0; plt_address = p.0 } ≡ r = cc in
-    subst HasNoDynsym same refl
+    let k = first_step (known_only (codes "raw_value" ∷ codes "got" ∷ codes "plt" ∷ []) d) _ r p.2 in
+    subst HasNoDynsym (given_same _ r k.2) refl
 
 -- the resolution that the symbol has, if any, has its flags and no place in the dynamic symbol table
 resolved : (flags : ValueFlags) (found : Option Resolution) → ((r : Resolution) → found ≡ Some r → HasNoDynsym r)
@@ -101,9 +97,7 @@ members_read d s e =
     let flags = first_step (flags_of d) _ s j.2 in
     let resolution = first_step (resolution_of d) _ s flags.2 in
     let k = first_step (known_only (codes "name" ∷ codes "definition" ∷ codes "info" ∷ codes "other" ∷ codes "size" ∷ codes "value" ∷ codes "place" ∷ codes "flags" ∷ codes "resolution" ∷ []) d) _ s resolution.2 in
-    let is_flags : flags.0 ≡ s.flags = cc in
-    let is_resolution : resolution.0 ≡ s.resolution = cc in
-    (flags.1 ∙ ap (λ (x : ValueFlags). Ok x) is_flags, resolution.1 ∙ ap (λ (x : Option Resolution). Ok x) is_resolution)
+    subst (λ (x : Symbol). (flags_of d ≡ Ok x.flags) × (resolution_of d ≡ Ok x.resolution)) (given_same _ s k.2) (flags.1, resolution.1)
 
 made_own : (d : Data) (s : Symbol) → flags_of d ≡ Ok s.flags → resolution_of d ≡ Ok s.resolution → IsOwnSymbol (flagged s)
 made_own d s flags resolution =
@@ -122,7 +116,5 @@ pub own_symbol : (d : Data) (s : Symbol) → symbol_in d ≡ Ok s → IsOwnSymbo
 unfolding symbol_in
 own_symbol d s e =
     let m = first_step (symbol_members d) _ s e in
-    let made : Ok (flagged m.0) ≡ Ok s = m.2 in
-    let same : flagged m.0 ≡ s = cc in
     let read = members_read d m.0 m.1 in
-    subst IsOwnSymbol same (made_own d m.0 read.0 read.1)
+    subst IsOwnSymbol (given_same (flagged m.0) s m.2) (made_own d m.0 read.0 read.1)
