@@ -1,5 +1,5 @@
 -- The symbols of plans are the output's own.
-use Rattle.std.proofs.Common.{◌≡◌, ℕ, List, [], ◌∷◌, Result, Ok, Option, Some, None, refl, subst, ◌∙◌, Bool, true, false}
+use Rattle.std.proofs.Common.{◌≡◌, ℕ, List, [], ◌∷◌, Result, Ok, Option, Some, None, refl, subst, ◌∙◌, true, false}
 use Rattle.std.specs.Prelude.{◌==◌, All, codes, fold, bit_or, option_map}
 use Rattle.std.specs.Int.RustNames.{bit_and}
 use Rattle.std.specs.Int.Bits.{and_zero_l}
@@ -10,13 +10,11 @@ use Rattle.std.proofs.lemmas.Nat.{and_or_apart}
 use Rattle.serde_json.specs.Data.{Data}
 use Rattle.wild_words.proofs.ListLemmas.{All-from_list_all}
 use Rattle.wild_plan.specs.Flags.{has_flag, dynamic, export_dynamic, copy_relocation, canonical_plt, canonical_plt_got_for_address}
-use Rattle.wild_plan.specs.declared.symbol.Place.{Place}
 use Rattle.wild_plan.specs.declared.symbol.Place.TheVariants as place
 use Rattle.wild_plan.specs.declared.symbol.Resolution.{Resolution}
 use Rattle.wild_plan.specs.declared.symbol.Symbol.{Symbol}
 use Rattle.wild_plan.specs.declared.symbol.ValueFlags.{ValueFlags}
 use Rattle.wild_text.specs.OwnSymbols.{IsOwnSymbol}
-use Rattle.wild_text.specs.Reads.{◌>>=◌}
 use Rattle.wild_text.specs.Values.{u64_in, u8_in, hex_in, list_in, nullable}
 use Rattle.wild_text.specs.Members.{field, an_object, known_only}
 use Rattle.wild_text.specs.Symbols.{place_in, flag_words, flag_in, flags_in, resolution_in, with_flags, flagged, symbol_members, symbol_in}

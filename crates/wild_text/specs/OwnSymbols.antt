@@ -1,5 +1,5 @@
 -- Temporary: waits for wild_plan's
-use Rattle.std.specs.Prelude.{◌≡◌, All, Option, Some, None, false}
+use Rattle.std.specs.Prelude.{◌≡◌, All, Some, None, false}
 use Rattle.wild_plan.specs.Flags.{has_flag, dynamic, export_dynamic, copy_relocation, canonical_plt, canonical_plt_got_for_address}
 use Rattle.wild_plan.specs.declared.layout.Layout.{Layout}
 use Rattle.wild_plan.specs.declared.symbol.Resolution.{Resolution}
