@@ -10,11 +10,11 @@ use Rattle.std.proofs.lemmas.Nat.{and_or_apart}
 use Rattle.serde_json.specs.Data.{Data}
 use Rattle.wild_words.proofs.ListLemmas.{All-from_list_all}
 use Rattle.wild_plan.specs.Flags.{has_flag, dynamic, export_dynamic, copy_relocation, canonical_plt, canonical_plt_got_for_address}
+use Rattle.wild_plan.specs.OwnSymbols.{IsOwnResolution, IsOwnSymbol}
 use Rattle.wild_plan.specs.declared.symbol.Place.TheVariants as place
 use Rattle.wild_plan.specs.declared.symbol.Resolution.{Resolution}
 use Rattle.wild_plan.specs.declared.symbol.Symbol.{Symbol}
 use Rattle.wild_plan.specs.declared.symbol.ValueFlags.{ValueFlags}
-use Rattle.wild_text.specs.OwnSymbols.{IsOwnSymbol}
 use Rattle.wild_text.specs.Values.{u64_in, u8_in, hex_in, list_in, nullable}
 use Rattle.wild_text.specs.Members.{field, an_object, known_only}
 use Rattle.wild_text.specs.Symbols.{place_in, flag_words, flag_in, flags_in, resolution_in, with_flags, flagged, symbol_members, symbol_in}
@@ -67,13 +67,13 @@ no_dynsym d r e =
     let k = first_step (known_only (codes "raw_value" ∷ codes "got" ∷ codes "plt" ∷ []) d) _ r p.2 in
     subst HasNoDynsym (given_same _ r k.2) refl
 
--- the resolution that the symbol has, if any, has its flags and no place in the dynamic symbol table
-resolved : (flags : ValueFlags) (found : Option Resolution) → ((r : Resolution) → found ≡ Some r → HasNoDynsym r)
-    → (r : Resolution) → option_map (with_flags flags) found ≡ Some r → (r.flags ≡ flags) × (r.dynamic_symbol_index ≡ None)
-resolved flags None none r e = absurd cc
-resolved flags (Some s) none r e =
-    let same : with_flags flags s ≡ r = cc in
-    subst (λ (t : Resolution). (t.flags ≡ flags) × (t.dynamic_symbol_index ≡ None)) same (refl, none s refl)
+-- the resolution that a symbol with these flags has, if any, has its flags and no index
+resolved : (s : Symbol) (found : Option Resolution) → ((r : Resolution) → found ≡ Some r → HasNoDynsym r)
+    → (r : Resolution) → option_map (with_flags s.flags) found ≡ Some r → IsOwnResolution (flagged s) r
+resolved s None none r e = absurd cc
+resolved s (Some found) none r e =
+    let same : with_flags s.flags found ≡ r = cc in
+    subst (IsOwnResolution (flagged s)) same (record { flags = refl; index = none found refl })
 
 -- ---- symbols
 
@@ -101,7 +101,7 @@ made_own : (d : Data) (s : Symbol) → flags_of d ≡ Ok s.flags → resolution_
 made_own d s flags resolution =
     let none = field_given (λ (o : Option Resolution). (r : Resolution) → o ≡ Some r → HasNoDynsym r) (codes "resolution") (nullable resolution_in) None (λ r e. absurd cc) (nullable_given HasNoDynsym resolution_in no_dynsym) d s.resolution resolution in
     record {
-      resolved = resolved s.flags s.resolution none;
+      resolved = resolved s s.resolution none;
       dynamic = not_set dynamic refl refl d s.flags flags;
       exported = not_set export_dynamic refl refl d s.flags flags;
       copied = not_set copy_relocation refl refl d s.flags flags;

@@ -103,6 +103,39 @@ fn refusals(rt: HostRuntime) -> Result<(), Fail> {
             "refused MissingResolution what=dynsym symbol=7\n",
         ),
         (
+            Fault::MissingResolution {
+                what: Missing::Slot,
+                symbol: 0,
+            },
+            at(None, Some(3)),
+            "refused MissingResolution what=slot symbol=0 at group=0 offset=3\n",
+        ),
+        (
+            Fault::MissingResolution {
+                what: Missing::Stub,
+                symbol: 2,
+            },
+            At::NOWHERE,
+            "refused MissingResolution what=stub symbol=2\n",
+        ),
+        (
+            Fault::PltTooFar {
+                value: u64::MAX - (1 << 31),
+            },
+            at(Some(1), None),
+            "refused PltTooFar value=-2147483649 at group=0 file=1 section=1\n",
+        ),
+        (
+            Fault::TlsOutOfSegment { value: u64::MAX },
+            At::NOWHERE,
+            "refused TlsOutOfSegment value=18446744073709551615\n",
+        ),
+        (
+            Fault::StaticTlsDesc { symbol: 3 },
+            At::NOWHERE,
+            "refused StaticTlsDesc symbol=3\n",
+        ),
+        (
             Fault::OutOfRange {
                 value: u64::MAX - 4,
             },
