@@ -21,6 +21,7 @@ use Rattle.wild_relr.specs.Written.{word_bytes}
 use Rattle.wild_tables.specs.Entries.{rela_bytes}
 use Rattle.wild_tables.specs.Dynamic.{dynamic_bytes}
 use Rattle.wild_layout.specs.Moved.{file_entries, file_words}
+use Rattle.wild_layout.specs.SlotBytes.{slot_bytes, header_bytes, block_bytes}
 use Rattle.wild_headers.specs.Headers.{file_header_bytes, program_header_bytes, section_header_bytes, names_of}
 
 -- what stands once in an image, by role; nothing for the other roles
@@ -57,8 +58,8 @@ own_bytes l other f = []
 
 -- the bytes that a file gives to a part of that role
 abbrev pub file_content : Layout → Role → File → List ℕ
-file_content l r f = (if is_prelude f.role then whole_bytes l r else []) ++ own_bytes l r f
+file_content l r f = (if is_prelude f.role then whole_bytes l r ++ header_bytes l r else []) ++ own_bytes l r f ++ slot_bytes l r f
 
--- the bytes that a group gives to a part of that role
+-- the bytes that a group gives to a part of that role: those of its files, and then those of its block of slots
 abbrev pub content : Layout → Role → Group → List ℕ
-content l r g = flat_map (file_content l r) g.files
+content l r g = flat_map (file_content l r) g.files ++ block_bytes l r g

@@ -31,7 +31,7 @@ fn rounded_up(number: u64, align: u64) -> u64
 
 /// Where the thread pointer stands: behind the thread-local data on x86-64, before it and 16 bytes of the system's on
 /// AArch64.
-fn thread_pointer(machine: Machine, tls: Tls) -> u64
+pub fn thread_pointer(machine: Machine, tls: Tls) -> u64
     ensures { result ≡ thread_pointer machine tls }
 {
     match machine {
