@@ -46,8 +46,7 @@ entry-stored w before u r h = entry-changed w before r h.kind (changes.Word (u r
 
 -- ---- places beside each other
 
--- the bytes of a number
-
+-- a change of eight bytes
 abbrev IsWord : Patch → Type 0
 IsWord p = length p.run.bytes ≡ 8
 
