@@ -28,7 +28,10 @@ pub(super) const SLOTS: [Broken; 13] = [
     },
     Broken {
         plan: SLOTTED,
-        changes: &[(r#""symbol_count":3"#, r#""symbol_count":2"#)],
+        changes: &[
+            (r#""symbol_count":3"#, r#""symbol_count":2"#),
+            (r#""place":{"section":1}"#, r#""place":"absolute""#),
+        ],
         answer: "refused MalformedLayout clause=11 index=2",
     },
     // clause 14: flags
