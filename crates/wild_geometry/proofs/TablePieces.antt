@@ -18,7 +18,7 @@ use Rattle.wild_plan.specs.Lookups.{is_filled, takes_file_bytes, image_size}
 use Rattle.wild_plan.specs.Contents.{given}
 use Rattle.wild_plan.specs.Places.{role_place, has_role, takes_room, ends_low}
 use Rattle.wild_headers.specs.Headers.{offset_of_role}
-use Rattle.wild_layout.specs.Content.{whole_bytes, own_bytes, content}
+use Rattle.wild_layout.specs.Content.{whole_bytes, content}
 use Rattle.wild_layout.specs.Image.{some_piece, given_before, table_piece, table_pieces, owned_pieces, group_pieces, section_piece, pieces}
 use Rattle.wild_layout.specs.Faults.{flat_map_from}
 use Rattle.wild_layout.specs.Geometry.{PartLies, IsPiece, HasTables}
@@ -26,7 +26,8 @@ use Rattle.wild_geometry.proofs.InterleaveLemmas.{All-flat_map_from, AllPairs-fl
 use Rattle.wild_geometry.proofs.ClauseLemmas.{Laid}
 use Rattle.wild_geometry.proofs.OrderLemmas.{Takes, EndsBy-image, Follows, PartsFollow-from_order}
 use Rattle.wild_geometry.proofs.TableLemmas.{role_place-1, role_place-2, role_place-3, StandsAt, StandsAt-from_test, StandsAt-from_missing}
-use Rattle.wild_geometry.proofs.ShareLemmas.{total_to, total_within, size_from_shares, content_is_given, content_of_raw, content_of_first}
+use Rattle.wild_geometry.proofs.ShareLemmas.{total_to, total_within, size_from_shares, content_is_given, content_of_raw}
+use Rattle.wild_geometry.proofs.FirstFileLemmas.{StandsOnce, content_of_first}
 use Rattle.wild_geometry.proofs.ContentLemmas.{length-whole_bytes}
 use Rattle.wild_geometry.proofs.SectionLemmas.{all_sections, Stood, Runs}
 use Rattle.wild_geometry.proofs.PieceLemmas.{parts_apart, piece_of, place_is, section_pieces, section_pieces_by_group, Standing, section_pieces_apart, InImage, section_pieces_within}
@@ -214,14 +215,14 @@ Contains-some at bs some =
     ]
 
 -- what stands once in the image stands where its part does
-IsPiece-from_part : (l : Layout) → Laid l → (r : Role) (at : ℕ) (s : StandsAt r at l.parts) → s.item.role ≡ r → has_role role.Raw s.item ≡ false → (length (whole_bytes l r) ≡ 0 → at ≤ image_size l) → ((f : File) → own_bytes l r f ≡ []) → Group → IsPiece l at (whole_bytes l r)
+IsPiece-from_part : (l : Layout) → Laid l → (r : Role) (at : ℕ) (s : StandsAt r at l.parts) → s.item.role ≡ r → has_role role.Raw s.item ≡ false → (length (whole_bytes l r) ≡ 0 → at ≤ image_size l) → StandsOnce l r → Group → IsPiece l at (whole_bytes l r)
 unfolding pieces
-IsPiece-from_part l h r at s is raw empty own g = by s.listed.0 s.listed.1 s.listed.2
+IsPiece-from_part l h r at s is raw empty once g = by s.listed.0 s.listed.1 s.listed.2
   where
     by : (i : ℕ) → i < length l.parts → get_or l.parts i s.item ≡ s.item → IsPiece l at (whole_bytes l r)
     by i low read =
         let role_is : (get_or l.parts i s.item).role ≡ r = ap (λ (p : Part). p.role) read ∙ is in
-        let first : content_at l i s.item 0 g ≡ whole_bytes l r = ap (λ (q : Role). content l q (get_or l.groups 0 g)) role_is ∙ content_of_first l r g own h.counts.some_group h.shares in
+        let first : content_at l i s.item 0 g ≡ whole_bytes l r = ap (λ (q : Role). content l q (get_or l.groups 0 g)) role_is ∙ content_of_first l r g once h.counts.some_group h.shares in
         let offset : (get_or l.parts i s.item).offset ≡ at = ap (λ (p : Part). p.offset) read ∙ s.there in
         let long = ap length first in
         elim (cases_Bool (length (whole_bytes l r) == 0)) [
@@ -259,10 +260,10 @@ HasTables-from_laid l h = by (ItemAt-within l.groups 0 h.counts.some_group).item
         let header_length = length-whole_bytes l role.FileHeader in
         let sections_length = length-whole_bytes l role.SectionHeaders in
         let some = h.counts.some_section in
-        let header = IsPiece-from_part l h role.FileHeader 0 f (role_place-1 f.item.role f.has) (rw f.has refl) (λ e. absurd (omega arith)) (λ x. refl) g in
+        let header = IsPiece-from_part l h role.FileHeader 0 f (role_place-1 f.item.role f.has) (rw f.has refl) (λ e. absurd (omega arith)) (record { own = λ x. refl; slots = λ x. refl; header = refl; block = λ x. refl }) g in
         let within = header.within in
         record {
           file_header = header;
-          program_headers = IsPiece-from_part l h role.ProgramHeaders file_header_size p (role_place-2 p.item.role p.has) (rw p.has refl) (λ e. omega arith) (λ x. refl) g;
-          section_headers = IsPiece-from_part l h role.SectionHeaders (offset_of_role role.SectionHeaders l.parts) s (role_place-3 s.item.role s.has) (rw s.has refl) (λ e. absurd (omega arith)) (λ x. refl) g;
+          program_headers = IsPiece-from_part l h role.ProgramHeaders file_header_size p (role_place-2 p.item.role p.has) (rw p.has refl) (λ e. omega arith) (record { own = λ x. refl; slots = λ x. refl; header = refl; block = λ x. refl }) g;
+          section_headers = IsPiece-from_part l h role.SectionHeaders (offset_of_role role.SectionHeaders l.parts) s (role_place-3 s.item.role s.has) (rw s.has refl) (λ e. absurd (omega arith)) (record { own = λ x. refl; slots = λ x. refl; header = refl; block = λ x. refl }) g;
         }
