@@ -19,15 +19,15 @@ use Rattle.wild_plan.proofs.CoverLemmas.{all_below_each}
 use Rattle.wild_plan.specs.Contents.{bool_eq}
 use Rattle.wild_plan.specs.Indexes.{part_index_fits}
 use Rattle.wild_layout.specs.Geometry.{IsMapped, IsPartMapped}
-use Rattle.wild_geometry.proofs.ClauseLemmas.{Laid}
+use Rattle.wild_geometry.proofs.LaidLemmas.{Laid}
 use Rattle.wild_geometry.proofs.SectionLemmas.{Holds, Stood}
 use Rattle.wild_geometry.proofs.PieceLemmas.{place_is}
 
-implied : (b c : Bool) → (not b || c) ≡ true → b ≡ true → c ≡ true
+pub implied : (b c : Bool) → (not b || c) ≡ true → b ≡ true → c ≡ true
 implied true c h e = h
 implied false c h e = cc
 
-other : (b c : Bool) → (b || c) ≡ true → b ≡ false → c ≡ true
+pub other : (b c : Bool) → (b || c) ≡ true → b ≡ false → c ≡ true
 other true c h e = cc
 other false c h e = h
 

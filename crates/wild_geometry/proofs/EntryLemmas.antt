@@ -1,5 +1,5 @@
 -- The relocation entries of an executable that is loaded at its own addresses, which are found by their sections.
-use Rattle.std.proofs.Common.{◌≡◌, ℕ, zero, suc, ◌+◌, ◌-◌, ◌<◌, ◌≤◌, inl, inr, ◌==◌, Bool, true, false, not, ◌&&◌, ◌||◌, List, [], ◌∷◌, length, drop, Option, Some, None, slice_get, refl, sym, ap, ◌∙◌, arith, subst}
+use Rattle.std.proofs.Common.{◌≡◌, ℕ, zero, suc, ◌+◌, ◌-◌, ◌<◌, ◌≤◌, inl, inr, ◌==◌, true, not, ◌&&◌, List, [], ◌∷◌, length, drop, Option, Some, None, slice_get, refl, sym, ap, ◌∙◌, arith, subst}
 use Rattle.std.proofs.lemmas.Bool.{cases_Bool, and_parts, ltb-true, eqb-true, eq-eqb, ne_eqb}
 use Rattle.std.proofs.lemmas.Option.{same_Some}
 use Rattle.wild_records.specs.Abi.Section.{sht_nobits, sht_rela}
@@ -15,10 +15,11 @@ use Rattle.wild_plan.specs.Segments.{part_with, is_entry_role, entry_parts, byte
 use Rattle.wild_plan.specs.WellFormed.{check_entries}
 use Rattle.wild_plan.proofs.ListLemmas.{All-from_none_fails}
 use Rattle.wild_layout.specs.Geometry.{HasEntries, HasEntriesAlone, HasStubEntriesAlone, HasTable, table_bytes}
-use Rattle.wild_geometry.proofs.ClauseLemmas.{Laid, Both-from_first_error, None-from_fails}
+use Rattle.wild_geometry.proofs.ClauseLemmas.{Both-from_first_error, None-from_fails}
+use Rattle.wild_geometry.proofs.LaidLemmas.{Laid}
 use Rattle.wild_geometry.proofs.RoleLemmas.{FoundAt-from_find, HasTable-from_laid}
 use Rattle.wild_geometry.proofs.TableLemmas.{same_role}
-use Rattle.wild_geometry.proofs.CarriedLemmas.{Filled, Filled-from_tests, part_level}
+use Rattle.wild_geometry.proofs.CarriedLemmas.{implied, Filled, Filled-from_tests, part_level}
 
 -- ---- the bytes of entries in a section
 
@@ -65,10 +66,6 @@ held l h fixed k s later is =
     let asked = rw fixed at h.segments.entries in
     let i = k - 1 in
     each_holds (entry_parts l.parts) 1 (drop 1 l.sections) (None-from_fails 6 _ (Both-from_first_error _ _ asked).first) i k s (omega arith) (later_get l.sections k i s (omega arith) is)
-
-implied : (b c : Bool) → (not b || c) ≡ true → b ≡ true → c ≡ true
-implied true c h e = h
-implied false c h e = cc
 
 size_is : (l : Layout) (k : ℕ) (s : Section) → holds_entries (entry_parts l.parts) k s ≡ true → allocated s.flags ≡ true → s.kind ≡ sht_rela → total (bytes_in k) (entry_parts l.parts) ≡ s.size
 size_is l k s h a r = eqb-true _ _ (implied (allocated s.flags && s.kind == sht_rela) (total (bytes_in k) (entry_parts l.parts) == s.size) h (rw (a, eq-eqb s.kind sht_rela r) refl))

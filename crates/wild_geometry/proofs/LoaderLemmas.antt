@@ -14,17 +14,14 @@ use Rattle.wild_plan.specs.Kinds.{needs_dynamic}
 use Rattle.wild_plan.specs.Places.{role_place, has_role, is_fixed_static, within}
 use Rattle.wild_plan.specs.Segments.{is_segment_of, dynamic_astray, part_with, is_table_role, carries_part, table_is_loaded}
 use Rattle.wild_layout.specs.Geometry.{IsStatic, HasSegment, IsCarriedWhole}
-use Rattle.wild_geometry.proofs.ClauseLemmas.{Laid}
+use Rattle.wild_geometry.proofs.LaidLemmas.{Laid}
+use Rattle.wild_geometry.proofs.CarriedLemmas.{other}
 use Rattle.wild_geometry.proofs.RoleLemmas.{FoundAt-from_find, nil_from_length, no_count, nothing_shared}
 use Rattle.wild_records.specs.declared.dynamic.DynamicEntry.{DynamicEntry}
 use Rattle.wild_plan.specs.Dynamic.{dynamic_entries, dynamic_count}
 use Rattle.wild_loader.specs.Laws.{before_null}
 use Rattle.wild_tables.proofs.FoundLemmas.{behind_null}
 use Rattle.wild_geometry.proofs.TableLemmas.{same_role}
-
-other : (b c : Bool) → (b || c) ≡ true → b ≡ false → c ≡ true
-other true c h e = cc
-other false c h e = h
 
 -- ---- the segment of the dynamic section
 

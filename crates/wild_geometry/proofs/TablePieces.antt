@@ -22,7 +22,7 @@ use Rattle.wild_layout.specs.Image.{some_piece, given_before, table_piece, table
 use Rattle.wild_layout.specs.Faults.{flat_map_from}
 use Rattle.wild_layout.specs.Geometry.{PartLies, IsPiece, HasTables}
 use Rattle.wild_geometry.proofs.InterleaveLemmas.{All-flat_map_from, AllPairs-flat_map_from, Contains-flat_map_from, All-both, AllPairs-both}
-use Rattle.wild_geometry.proofs.ClauseLemmas.{Laid}
+use Rattle.wild_geometry.proofs.LaidLemmas.{Laid}
 use Rattle.wild_geometry.proofs.OrderLemmas.{Takes, EndsBy-image, Follows, PartsFollow-from_order}
 use Rattle.wild_geometry.proofs.TableLemmas.{role_place-1, role_place-2, role_place-3, StandsAt, StandsAt-from_test, StandsAt-from_missing}
 use Rattle.wild_geometry.proofs.ShareLemmas.{total_to, total_within, size_from_shares, content_is_given, content_of_raw}
