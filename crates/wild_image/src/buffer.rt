@@ -14,6 +14,7 @@ use crate::batch::Batch;
 use crate::part_bytes::PartBytes;
 use crate::piece::{check_data, zeros};
 use crate::place::InputPlace;
+use crate::slot_faults::check_slots;
 use crate::tables::add_content;
 use crate::values::Resolved;
 use std::alloc::{AllocError, Global};
@@ -63,7 +64,7 @@ fn add_section<A: Arch>(
     Ok(())
 }
 
-/// Adds the bytes of the sections of a file, or answers its first fault.
+/// Adds the bytes of the sections of a file, or answers its first fault: of its sections, or else of its slots.
 #[tactic(auto, using(crate::proofs::FaultLemmas::first_from), unfolding(wild_layout::specs::Faults::file_errors))]
 fn add_file_sections<A: Arch>(
     alloc: Global,
@@ -83,7 +84,7 @@ fn add_file_sections<A: Arch>(
         };
         add_section(alloc, resolved, here, section, bytes)?;
     }
-    Ok(())
+    check_slots(resolved.layout, place, file)
 }
 
 /// Adds the bytes of a group's input sections, or answers its first fault.

@@ -14,6 +14,7 @@ use crate::pairs::pairs_of_group;
 use crate::part_bytes::PartBytes;
 use crate::place::InputPlace;
 use crate::section::write_data;
+use crate::slot_faults::check_slots;
 use crate::tables::add_tables;
 use crate::values::Resolved;
 use std::alloc::{AllocError, Global};
@@ -72,7 +73,8 @@ fn take_section<A: Arch>(
     Ok(())
 }
 
-/// Adds the bytes of the sections of a file to those of their parts, or answers its first fault.
+/// Adds the bytes of the sections of a file to those of their parts, or answers its first fault: of its sections, or else of
+/// its slots.
 #[tactic(auto, using(crate::proofs::FaultLemmas::first_from), unfolding(wild_layout::specs::Faults::file_errors))]
 fn take_file<A: Arch>(
     alloc: Global,
@@ -93,7 +95,7 @@ fn take_file<A: Arch>(
         };
         take_section(alloc, resolved, here, section, parts)?;
     }
-    Ok(())
+    check_slots(resolved.layout, place, file)
 }
 
 /// Adds the bytes of a group to those of their parts, or answers its first fault.
