@@ -28,6 +28,7 @@ use Rattle.wild_plan.specs.declared.section.Segment.{Segment}
 use Rattle.wild_plan.specs.declared.layout.Entry.{Entry}
 use Rattle.wild_plan.specs.declared.layout.Entry.TheVariants as entry
 use Rattle.wild_plan.specs.declared.layout.Layout.{Layout}
+use Rattle.wild_headers.specs.declared.section_headers.Spoken.{Spoken}
 use Rattle.wild_plan.specs.Lookups.{bit}
 use Rattle.wild_plan.specs.Places.{has_role}
 
@@ -130,14 +131,15 @@ null_header l = record {
 abbrev pub uncompressed : ℕ → ℕ
 uncompressed flags = if bit flags shf_compressed then flags - shf_compressed else flags
 
--- the header index of the section of the dynamic symbols; 0 where there are none
-abbrev pub symbol_table : Layout → ℕ
-symbol_table l = section_of_role role.Dynsym l.parts
+-- the header indexes of the sections of the dynamic symbols, of the entries of stubs, and of the global offset table; 0 where
+-- there is none
+abbrev pub spoken_of : Layout → Spoken
+spoken_of l = record { symbols = section_of_role role.Dynsym l.parts; stubs = section_of_role role.RelaPlt l.parts; table = section_of_role role.Got l.parts }
 
--- sh_info of a section: of symbols, how many local ones stand in front, which is the entry of zeros alone; else as it is
--- given (gABI, "Sections", sh_link and sh_info)
-abbrev pub info_at : ℕ → ℕ → Section → ℕ
-info_at symbols i s = if i == symbols then 1 else s.info
+-- sh_info of a section: of symbols, how many local ones stand in front, which is the entry of zeros alone; of the entries of
+-- stubs, the section whose words they fill; else as it is given (gABI, "Sections", sh_link and sh_info)
+abbrev pub info_at : Spoken → ℕ → Section → ℕ
+info_at spoken i s = if i == spoken.symbols then 1 else (if i == spoken.stubs then spoken.table else s.info)
 
 -- the header of another section, whose name begins at that offset of the names
 unfoldable pub section_header : ℕ → ℕ → Section → SectionHeader
@@ -155,14 +157,14 @@ section_header info name s = record {
 }
 
 -- the headers of the sections from number i and a name offset on
-abbrev pub headers_from : ℕ → ℕ → ℕ → List Section → List SectionHeader
-headers_from symbols i name [] = []
-headers_from symbols i name (s ∷ ss) = section_header (info_at symbols i s) name s ∷ headers_from symbols (i + 1) (name + length s.name + 1) ss
+abbrev pub headers_from : Spoken → ℕ → ℕ → List Section → List SectionHeader
+headers_from spoken i name [] = []
+headers_from spoken i name (s ∷ ss) = section_header (info_at spoken i s) name s ∷ headers_from spoken (i + 1) (name + length s.name + 1) ss
 
 -- all section headers
 abbrev pub section_headers_of : Layout → List Section → List SectionHeader
 section_headers_of l [] = []
-section_headers_of l (s ∷ ss) = null_header l ∷ headers_from (symbol_table l) 1 (length s.name + 1) ss
+section_headers_of l (s ∷ ss) = null_header l ∷ headers_from (spoken_of l) 1 (length s.name + 1) ss
 
 abbrev pub file_header_bytes : Layout → List ℕ
 file_header_bytes l = spell (file_header_fields (file_header l))

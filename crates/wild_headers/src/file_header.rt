@@ -3,8 +3,8 @@ ghost use Rattle.std.specs.Prelude.{◌≡◌, ◌^◌, ◌<◌, length};
 ghost use Rattle.wild_records.specs.FileHeader.{file_header_size};
 ghost use Rattle.wild_headers.specs.Headers.{file_type, machine_number, entry_address, file_header, file_header_bytes};
 
-use crate::numbers::{name_table, or_escape, section_headers_offset};
-use wild_plan::{Entry, Layout, Machine, OutputKind, RelocationModel};
+use crate::numbers::{or_escape, section_headers_offset, section_of_role};
+use wild_plan::{Entry, Layout, Machine, OutputKind, RelocationModel, Role};
 use wild_records::abi::header::{
     ELFCLASS64, ELFDATA2LSB, ELFMAG, ELFOSABI_NONE, EM_AARCH64, EM_X86_64, ET_DYN, ET_EXEC, ET_REL,
     EV_CURRENT,
@@ -69,7 +69,10 @@ fn file_header(layout: &Layout) -> FileHeader
         program_count: layout.segments.len() as u16,
         section_entry_size: SectionHeader::SIZE as u16,
         section_count: or_escape(layout.sections.len(), SHN_UNDEF),
-        name_table: or_escape(name_table(layout.parts.as_slice()).0, SHN_XINDEX),
+        name_table: or_escape(
+            section_of_role(Role::Shstrtab, layout.parts.as_slice()).0,
+            SHN_XINDEX,
+        ),
     }
 }
 

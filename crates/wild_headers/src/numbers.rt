@@ -2,9 +2,9 @@
 ghost use Rattle.std.specs.Prelude.{◌≡◌};
 ghost use Rattle.wild_headers.specs.Headers.{offset_of_role, section_of_role, or_escape, or_none};
 ghost use Rattle.wild_plan.specs.Places.{has_role};
-ghost use Rattle.wild_plan.specs.declared.part.Role.TheVariants.{SectionHeaders, Shstrtab, Dynsym};
+ghost use Rattle.wild_plan.specs.declared.part.Role.TheVariants.{SectionHeaders};
 
-use wild_plan::{Part, Role, SectionIndex};
+use wild_plan::{Part, Role, SectionIndex, has_role};
 use wild_records::abi::section::{SHN_LORESERVE, SHN_UNDEF};
 
 /// A number of sections, or an index of one, as the file header has it.
@@ -31,12 +31,6 @@ fn has_section_headers(part: &Part) -> bool
     matches!(part.role, Role::SectionHeaders)
 }
 
-fn has_section_names(part: &Part) -> bool
-    ensures { result ≡ has_role Shstrtab part.now }
-{
-    matches!(part.role, Role::Shstrtab)
-}
-
 /// The offset of the section headers.
 pub(crate) fn section_headers_offset(parts: &[Part]) -> u64
     ensures { result ≡ offset_of_role SectionHeaders parts.now }
@@ -49,30 +43,12 @@ pub(crate) fn section_headers_offset(parts: &[Part]) -> u64
     0
 }
 
-/// The header index of the section of the names.
-pub(crate) fn name_table(parts: &[Part]) -> SectionIndex
-    ensures { result ≡ section_of_role Shstrtab parts.now }
+/// The header index of the section of the part of a role; 0 where there is none.
+pub(crate) fn section_of_role(role: Role, parts: &[Part]) -> SectionIndex
+    ensures { result ≡ section_of_role role parts.now }
 {
     for part in parts {
-        if has_section_names(part) {
-            return part.section;
-        }
-    }
-    SectionIndex(SHN_UNDEF as usize)
-}
-
-fn has_symbols(part: &Part) -> bool
-    ensures { result ≡ has_role Dynsym part.now }
-{
-    matches!(part.role, Role::Dynsym)
-}
-
-/// The header index of the section of the dynamic symbols; 0 where there are none.
-pub(crate) fn symbol_table(parts: &[Part]) -> SectionIndex
-    ensures { result ≡ section_of_role Dynsym parts.now }
-{
-    for part in parts {
-        if has_symbols(part) {
+        if has_role(role, part) {
             return part.section;
         }
     }

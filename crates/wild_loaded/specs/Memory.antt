@@ -3,7 +3,7 @@
 --   image_memory l w   its loaded segments in a world, before any entry is applied
 --   IsStored l s       the section's bytes stand in the file, and loaded segments carry each to its address
 --   EachDecided l      each section that is read is decided
---   HasMemory l w      the loader accepts the image, and memory has each kept section as it was decided
+--   HasMemory l w      the loader accepts the image, and memory has each kept section as it was decided, and the slots
 use Rattle.std.specs.Prelude.{◌≡◌, ℕ, ◌+◌, ◌<◌, true, List, length, map, Some, Ok}
 use Rattle.wild_records.specs.declared.program_header.ProgramHeader.{ProgramHeader}
 use Rattle.wild_plan.specs.declared.input.InputSection.{InputSection}
@@ -14,6 +14,7 @@ use Rattle.wild_headers.specs.Headers.{file_header, program_header}
 use Rattle.wild_layout.specs.Sites.{section_bytes}
 use Rattle.wild_layout.specs.Image.{bytes}
 use Rattle.wild_layout.specs.Geometry.{IsCarried}
+use Rattle.wild_geometry.specs.Slots.{HasSlots}
 use Rattle.wild_geometry.specs.Loaded.{IsDecided, HasSection, in_memory}
 use Rattle.wild_loader.specs.declared.memory.Machine.TheVariants as machines
 use Rattle.wild_loader.specs.declared.memory.Memory.{Memory}
@@ -43,11 +44,12 @@ image_memory l w = loaded_memory (machine_of (file_header l)) w.base (bytes l) (
 abbrev pub EachDecided : Layout → Type 0
 EachDecided l = (s : InputSection) → IsInput l s → is_read s ≡ true → IsDecided l s
 
--- the loader accepts the image; memory has each kept section as it was decided, addresses that move more by the base, and
--- zeros behind the file bytes of segments
+-- the loader accepts the image; memory has each kept section as it was decided, addresses that move more by the base, the
+-- slots and stubs, and zeros behind the file bytes of segments
 pub record HasMemory (l : Layout) (w : World) : Type 0 where
   pub memory : Memory
   pub accepted : load w (bytes l) ≡ Ok memory
   pub machine : memory.machine ≡ machines.X86_64
   pub sections : (s : InputSection) → IsKeptSection l s → HasSection l w memory s (in_memory w)
+  pub slots : HasSlots l w memory
   pub zeros : (a : ℕ) → IsBehind l a → byte_in memory (w.base + a) ≡ Some 0

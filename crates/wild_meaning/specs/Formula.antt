@@ -4,20 +4,27 @@
 --   table_at l w             GOT
 --   IsOffset l w symbol t    t is S's offset from the thread pointer
 --   IsExtent l symbol z      z is Z
+--   IsGoal l w m symbol a    a is L: code that goes there comes to S
+--   HasOffsetMode l item     a descriptor's reference in the item is the offset itself
 --   Gives value l w m item r x   x is the value of the expression
 --   IsPlaceRelative value    the expression takes a place from an address
-use Rattle.std.specs.Prelude.{◌≡◌, ℕ, ◌+◌, ◌-◌, ◌%◌, ◌^◌, ⊤, Option, Some, None}
+use Rattle.std.specs.Prelude.{◌≡◌, ℕ, ◌+◌, ◌-◌, ◌%◌, ◌^◌, true, ⊤, Option, Some, None}
 use Rattle.std.specs.Int.{w64, cast_unsigned}
-use Rattle.wild_reloc.specs.Formula.{Value, SymbolAddress, Distance, PageDistance, FromTable, StubDistance, StubFromTable, TableDistance, ModuleOffset, PointerOffset, Size}
+use Rattle.wild_records.specs.Abi.Section.{shf_execinstr}
+use Rattle.wild_reloc.specs.Formula.{Value, SymbolAddress, Distance, PageDistance, FromTable, StubDistance, StubFromTable, TableDistance, SlotDistance, SlotFromTable, AddressSlot, Descriptor, ModuleOffset, PointerOffset, Size}
+use Rattle.wild_plan.specs.declared.kind.OutputKind.{OutputKind}
+use Rattle.wild_plan.specs.declared.kind.OutputKind.TheVariants as output
 use Rattle.wild_plan.specs.declared.input.InputRelocation.{InputRelocation}
 use Rattle.wild_plan.specs.declared.layout.Layout.{Layout}
 use Rattle.wild_loader.specs.declared.memory.Memory.{Memory}
 use Rattle.wild_loader.specs.declared.world.World.{World}
-use Rattle.wild_meaning.specs.Value.{Denotes, HasSize}
+use Rattle.wild_meaning.specs.Section.{IsSet}
+use Rattle.wild_meaning.specs.Value.{HasValue, Denotes, Reaches, HasSize}
 use Rattle.wild_meaning.specs.Thread.{HasThreadOffset, IsOffsetBase}
+use Rattle.wild_meaning.specs.Slot.{IsSlot}
 use Rattle.wild_meaning.specs.Item.{Item, place_at}
 
--- a is what S is: the symbol's address, or 0 without a symbol
+-- a is what S is: it stands for the symbol, or is 0 without one
 abbrev pub IsTarget : Layout → World → Memory → Option ℕ → ℕ → Type 0
 IsTarget l w m None a = a ≡ 0
 IsTarget l w m (Some i) a = Denotes l w m i a
@@ -27,6 +34,11 @@ pub record IsSum (l : Layout) (w : World) (m : Memory) (r : InputRelocation) (x 
   pub symbol : ℕ
   pub denoted : IsTarget l w m r.symbol symbol
   pub sum : x ≡ (symbol + cast_unsigned w64 r.addend) % 2 ^ 64
+
+-- a is L: code that goes to a comes to what S is
+abbrev pub IsGoal : Layout → World → Memory → Option ℕ → ℕ → Type 0
+IsGoal l w m None a = a ≡ 0
+IsGoal l w m (Some i) a = (v : ℕ) × HasValue l w i v × Reaches m a v
 
 -- GOT: the loaded address of the global offset table
 abbrev pub table_at : Layout → World → ℕ
@@ -42,6 +54,18 @@ abbrev pub IsExtent : Layout → Option ℕ → ℕ → Type 0
 IsExtent l None z = ⊥
 IsExtent l (Some i) z = HasSize l i z
 
+-- a program whose descriptors' references in code are offsets: one without a loader that fills descriptors, or one that is
+-- rewritten so
+abbrev pub KnowsOffsets : OutputKind → Layout → Type 0
+KnowsOffsets (output.StaticExecutable any) l = ⊤
+KnowsOffsets (output.DynamicExecutable any) l = l.options.relax ≡ true
+KnowsOffsets other l = ⊥
+
+-- in the item's code the reference to a descriptor is the offset itself, and no descriptor's address ("ELF Handling For
+-- Thread-Local Storage", "Linker Relaxations")
+abbrev pub HasOffsetMode : Layout → Item → Type 0
+HasOffsetMode l item = KnowsOffsets l.kind l × IsSet item.flags shf_execinstr
+
 -- x is the value of the expression (x86-64 psABI, "Relocation Types"; aaelf64, "Relocation operations"; thread-local ones:
 -- "ELF Handling For Thread-Local Storage", "TLS Access Models"). An expression without a line gives no value: a layout with such a
 -- reference has no image yet
@@ -49,6 +73,11 @@ abbrev pub Gives : Value → Layout → World → Memory → Item → InputReloc
 Gives SymbolAddress l w m item r x = IsSum l w m r x
 Gives Distance l w m item r x = (t : ℕ) × IsSum l w m r t × (x ≡ (t + (2 ^ 64 - place_at w item r.offset)) % 2 ^ 64)
 Gives FromTable l w m item r x = (t : ℕ) × IsSum l w m r t × (x ≡ (t + (2 ^ 64 - table_at l w)) % 2 ^ 64)
+Gives StubDistance l w m item r x = (a : ℕ) × IsGoal l w m r.symbol a × (x ≡ (a + cast_unsigned w64 r.addend + (2 ^ 64 - place_at w item r.offset)) % 2 ^ 64)
+Gives StubFromTable l w m item r x = (a : ℕ) × IsGoal l w m r.symbol a × (x ≡ (a + cast_unsigned w64 r.addend + (2 ^ 64 - table_at l w)) % 2 ^ 64)
+Gives (SlotDistance Descriptor) l w m item r x = (g : ℕ) × IsSlot Descriptor l w m r.symbol g × (HasOffsetMode l item → ⊥) × (x ≡ (g + cast_unsigned w64 r.addend + (2 ^ 64 - place_at w item r.offset)) % 2 ^ 64)
+Gives (SlotDistance sort) l w m item r x = (g : ℕ) × IsSlot sort l w m r.symbol g × (x ≡ (g + cast_unsigned w64 r.addend + (2 ^ 64 - place_at w item r.offset)) % 2 ^ 64)
+Gives SlotFromTable l w m item r x = (g : ℕ) × IsSlot AddressSlot l w m r.symbol g × (x ≡ (g + cast_unsigned w64 r.addend + (2 ^ 64 - table_at l w)) % 2 ^ 64)
 Gives TableDistance l w m item r x = x ≡ (table_at l w + cast_unsigned w64 r.addend + (2 ^ 64 - place_at w item r.offset)) % 2 ^ 64
 Gives PointerOffset l w m item r x = (t : ℕ) × IsOffset l w r.symbol t × (x ≡ (t + cast_unsigned w64 r.addend) % 2 ^ 64)
 Gives ModuleOffset l w m item r x = (t b : ℕ) × IsOffset l w r.symbol t × IsOffsetBase l.machine l.kind w b × (x ≡ (t + cast_unsigned w64 r.addend + (2 ^ 64 - b)) % 2 ^ 64)

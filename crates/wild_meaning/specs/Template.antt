@@ -3,9 +3,9 @@
 --   IsTemplate ..        the operand's template stands in the input's bytes, with the relocation at its field
 --   Does m a e           the code in memory at an address does that
 --   DoesDemanded ..      the loaded code does what that template does with its operand read as the value
-use Rattle.std.specs.Prelude.{◌≡◌, ℕ, ◌+◌, ◌%◌, ◌^◌, ◌<◌, ◌≤◌, ◌⊎◌, true, List, [], ◌∷◌, length, slice_range, Option, Some, None, Contains}
+use Rattle.std.specs.Prelude.{◌≡◌, ℕ, ◌+◌, ◌%◌, ◌^◌, ◌<◌, ◌≤◌, ◌⊎◌, Bool, true, false, List, [], ◌∷◌, length, slice_range, Some, Contains}
 use Rattle.std.specs.Int.{w64, cast_unsigned}
-use Rattle.wild_records.specs.Abi.Relocation.{r_x86_64_pc32}
+use Rattle.wild_records.specs.Abi.Relocation.{r_x86_64_pc32, r_x86_64_plt32, r_x86_64_gotpcrel, r_x86_64_gotpcrelx}
 use Rattle.wild_records.specs.Abi.Section.{shf_execinstr}
 use Rattle.wild_plan.specs.declared.kind.Machine.{Machine}
 use Rattle.wild_plan.specs.declared.kind.Machine.TheVariants as machine
@@ -16,29 +16,49 @@ use Rattle.wild_loader.specs.declared.effect.EffectKind.{EffectKind}
 use Rattle.wild_loader.specs.declared.effect.EffectKind.TheVariants as kinds
 use Rattle.wild_loader.specs.declared.memory.Memory.{Memory}
 use Rattle.wild_loader.specs.declared.world.World.{World}
-use Rattle.wild_loader.specs.Effect.{Template, stands, call_near, step}
+use Rattle.wild_loader.specs.Effect.{Template, stands, call_near, jump_near, call_indirect, jump_indirect, step}
 use Rattle.wild_meaning.specs.Section.{IsSet}
-use Rattle.wild_meaning.specs.Value.{HasValue, Reaches}
 use Rattle.wild_meaning.specs.Item.{Item, place_at}
 use Rattle.wild_meaning.specs.Field.{InNoField}
+use Rattle.wild_meaning.specs.Formula.{IsGoal}
 
 -- a template, where its field begins and how many bytes that has, how far behind the field's beginning is what it counts
--- from, the relocation types that fill it, and what the template does where its operand reads as a value
+-- from, whether the field names a slot in whose word the address stands, the relocation types that fill it, and what the
+-- template does where its operand reads as a value
 pub record Operand : Type 0 where
   pub template : Template
   pub field : ℕ
   pub width : ℕ
   pub counts : ℕ
+  pub through : Bool
   pub numbers : List ℕ
   pub does : ℕ → EffectKind
 
--- `call`: the displacement, which counts from the instruction's end (Intel SDM, "CALL": e8)
-abbrev pub call_operand : Operand
-call_operand = record { template = call_near; field = 1; width = 4; counts = 4; numbers = r_x86_64_pc32 ∷ []; does = kinds.Call }
+-- a displacement of four bytes behind so many bytes of opcode, which counts from the instruction's end
+abbrev pub behind : ℕ → Template → (ℕ → EffectKind) → Operand
+behind n t does = record { template = t; field = n; width = 4; counts = 4; through = false; numbers = r_x86_64_pc32 ∷ r_x86_64_plt32 ∷ []; does = does }
 
--- the templates of a machine that a relocation may fill
+-- the same to the slot of an address; R_X86_64_GOTPCRELX is for instructions without a prefix, as these are (x86-64 psABI,
+-- "Relocation Types")
+abbrev pub through_slot : ℕ → Template → (ℕ → EffectKind) → Operand
+through_slot n t does = record { template = t; field = n; width = 4; counts = 4; through = true; numbers = r_x86_64_gotpcrel ∷ r_x86_64_gotpcrelx ∷ []; does = does }
+
+-- `call` and `jmp` (Intel SDM, "CALL": e8, ff /2; "JMP": e9, ff /4)
+abbrev pub call_operand : Operand
+call_operand = behind 1 call_near kinds.Call
+
+abbrev pub jump_operand : Operand
+jump_operand = behind 1 jump_near kinds.Jump
+
+abbrev pub slot_call_operand : Operand
+slot_call_operand = through_slot 2 call_indirect kinds.Call
+
+abbrev pub slot_jump_operand : Operand
+slot_jump_operand = through_slot 2 jump_indirect kinds.Jump
+
+-- the templates of a machine that a relocation may fill; no two have their bytes before one field
 abbrev pub operands_of : Machine → List Operand
-operands_of machine.X86_64 = call_operand ∷ []
+operands_of machine.X86_64 = call_operand ∷ jump_operand ∷ slot_call_operand ∷ slot_jump_operand ∷ []
 operands_of machine.AArch64 = []
 
 abbrev pub size_of : Operand → ℕ
@@ -47,6 +67,11 @@ size_of o = length o.template.cells
 -- byte k of the template is not of its field
 abbrev pub IsOwnByte : Operand → ℕ → Type 0
 IsOwnByte o k = (k < size_of o) × ((k < o.field) ⊎ (o.field + o.width ≤ k))
+
+-- an instruction through a slot takes the slot's own word: the addend takes back the bytes from the field to what it
+-- counts from
+abbrev pub TakesWord : Operand → InputRelocation → Type 0
+TakesWord o r = o.through ≡ true → (cast_unsigned w64 r.addend + o.counts) % 2 ^ 64 ≡ 0
 
 -- the template stands in the item's bytes at start, in code, with the relocation at its field; no relocation fills
 -- its other bytes, which would make another instruction of it
@@ -57,19 +82,16 @@ pub record IsTemplate (l : Layout) (item : Item) (r : InputRelocation) (start : 
   pub field : r.offset ≡ start + o.field
   pub inside : start + size_of o ≤ length item.bytes
   pub stands : stands o.template.cells (slice_range item.bytes start (start + size_of o)) ≡ true
+  pub word : TakesWord o r
   pub alone : (k : ℕ) → IsOwnByte o k → InNoField l item (start + k)
-
--- code that goes to a comes to what S is
-abbrev pub IsGoal : Layout → World → Memory → Option ℕ → ℕ → Type 0
-IsGoal l w m None a = a ≡ 0
-IsGoal l w m (Some i) a = (v : ℕ) × HasValue l w i v × Reaches m a v
 
 -- the code in memory at an address does that: one known instruction fills its bytes
 abbrev pub Does : Memory → ℕ → Effect → Type 0
 Does m a e = step m a ≡ Some e
 
--- the code in memory does what the template does where its operand reads as S + A and what it counts from: a call goes to
--- S where A takes back the bytes from its field to its end
+-- the code in memory does what the template does where its operand reads as S + A and what it counts from: a call or jump
+-- goes to S where A takes back the bytes from its field to its end. Through a slot it does, where the slot reads as S: it
+-- goes there itself
 pub record DoesDemanded (l : Layout) (w : World) (m : Memory) (item : Item) (r : InputRelocation) (start : ℕ) (o : Operand) : Type 0 where
   pub goal : ℕ
   pub reached : IsGoal l w m r.symbol goal

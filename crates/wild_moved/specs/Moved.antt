@@ -4,6 +4,7 @@
 use Rattle.std.specs.Prelude.{◌≡◌, ℕ, ◌+◌, Option, Some, None}
 use Rattle.wild_plan.specs.declared.input.InputSection.{InputSection}
 use Rattle.wild_plan.specs.declared.layout.Layout.{Layout}
+use Rattle.wild_geometry.specs.Slots.{HasSlots}
 use Rattle.wild_geometry.specs.Loaded.{HasSection, in_memory}
 use Rattle.wild_loader.specs.declared.memory.Memory.{Memory}
 use Rattle.wild_loader.specs.declared.world.World.{World}
@@ -20,7 +21,9 @@ number_or (Some n) = n
 abbrev pub value_at : World → Memory → ℕ → ℕ
 value_at w m x = number_or (number_in m (loaded_at w x) 8)
 
--- memory has each kept section with its addresses more by the base, and zeros behind the file bytes of segments
+-- memory has each kept section with its addresses more by the base, the slots and stubs, and zeros behind the file bytes of
+-- segments
 pub record HasMoved (l : Layout) (w : World) (m : Memory) : Type 0 where
   pub sections : (s : InputSection) → IsKeptSection l s → HasSection l w m s (in_memory w)
+  pub slots : HasSlots l w m
   pub zeros : (a : ℕ) → IsBehind l a → byte_in m (w.base + a) ≡ Some 0

@@ -22,4 +22,6 @@ pub use plan::read_plan;
 pub use refusal::refusal_answer;
 
 #[cfg(test)]
+mod answer_tests;
+#[cfg(test)]
 mod tests;

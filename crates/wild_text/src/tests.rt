@@ -1,8 +1,8 @@
-//! Values and their first wrong members; texts.
+//! Plans, and the first wrong members of values that are none.
 use super::*;
 use serde_json::Value;
 use std::test::*;
-use wild_plan::{At, EntryWarning, Error, Fault, Machine, Missing, Role, SymbolIndex, Tls};
+use wild_plan::{File, FileRole, Machine, Role, Symbol, Tls};
 
 /// The text that is answered for a plan that is refused, empty for one that is read.
 fn refused(rt: &HostRuntime, plan: &str) -> Result<String, Fail> {
@@ -15,7 +15,7 @@ fn refused(rt: &HostRuntime, plan: &str) -> Result<String, Fail> {
     }
 }
 
-const REFUSED: [(&str, &str); 43] = [
+const REFUSED: [(&str, &str); 46] = [
     ("[]", "not a plan: \n"),
     ("{}", "not a plan: /options/strip_all\n"),
     (r#"{"options":7}"#, "not a plan: /options\n"),
@@ -71,7 +71,7 @@ const REFUSED: [(&str, &str); 43] = [
         "not a plan: /parts/2/size\n",
     ),
     (
-        r#"{"options":{"strip_all":true},"parts":[{"role":"got"}]}"#,
+        r#"{"options":{"strip_all":true},"parts":[{"role":"rela_dyn_general"}]}"#,
         "not a plan: /parts/0/role\n",
     ),
     (
@@ -85,6 +85,14 @@ const REFUSED: [(&str, &str); 43] = [
     (
         r#"{"options":{"strip_all":true},"got_base":null,"symbols":0}"#,
         "not a plan: /got_base\n",
+    ),
+    (
+        r#"{"options":{"strip_all":true},"tlsld":"0","got_header":null}"#,
+        "not a plan: /got_header\n",
+    ),
+    (
+        r#"{"options":{"strip_all":true},"symbols":0,"tlsld":-8}"#,
+        "not a plan: /tlsld\n",
     ),
     (
         r#"{"options":{"strip_all":true},"groups":[{"dynstr_start":"1"}]}"#,
@@ -135,15 +143,19 @@ const REFUSED: [(&str, &str); 43] = [
         "not a plan: /symbols/0/place/output\n",
     ),
     (
-        r#"{"options":{"strip_all":true},"symbols":[{"flags":["ABSOLUTE","GOT"]}]}"#,
+        r#"{"options":{"strip_all":true},"symbols":[{"flags":["GOT","EXPORT_DYNAMIC"]}]}"#,
         "not a plan: /symbols/0/flags/1\n",
     ),
     (
-        r#"{"options":{"strip_all":true},"symbols":[{"resolution":{"got":0}}]}"#,
-        "not a plan: /symbols/0/resolution/got\n",
+        r#"{"options":{"strip_all":true},"symbols":[{"resolution":{"dynsym":1,"got":8,"plt":"0"}}]}"#,
+        "not a plan: /symbols/0/resolution/plt\n",
     ),
     (
-        r#"{"options":{"strip_all":true},"groups":[{"files":[{"role":"script"}]}]}"#,
+        r#"{"options":{"strip_all":true},"symbols":[{"resolution":{"dynsym":null,"got":8,"plt":null}}]}"#,
+        "not a plan: /symbols/0/resolution/dynsym\n",
+    ),
+    (
+        r#"{"options":{"strip_all":true},"groups":[{"files":[{"role":"dynamic"}]}]}"#,
         "not a plan: /groups/0/files/0/role\n",
     ),
     (
@@ -240,32 +252,34 @@ fn members_of_a_movable_plan(rt: HostRuntime) -> Result<(), Fail> {
     Ok(())
 }
 
+const SLOT_PLAN: &str =
+    r#"{"options":{"strip_all":true},"parts":[{"role":"got"},{"role":"got_relr"},{"role":"plt_got"},{"role":"rela_plt"}],"got_header":3,"tlsld":12312,"symbols":[{"flags":["IFUNC","GOT","PLT","DOWNGRADE_TO_LOCAL","IFUNC_GOT_FOR_ADDRESS"],"resolution":{"raw_value":4198400,"got":12328,"plt":null}},{"flags":["GOT_TLS_OFFSET","GOT_TLS_MODULE","GOT_TLS_DESCRIPTOR"],"resolution":{"plt":8192}}],"groups":[{"files":[{"role":"script"},{"role":"synthetic"}]}]}"#;
+
+/// Whether the symbol has these flags, in its resolution too, and these addresses of its slot and its stub.
+fn stands(symbol: &Symbol, flags: u32, got: Option<u64>, plt: Option<u64>) -> bool {
+    matches!(symbol.resolution, Some(found) if found.flags.0 == flags && found.got_address == got && found.plt_address == plt)
+        && symbol.flags.0 == flags
+}
+
+/// Whether the files are a linker script and one that the linker made.
+fn are_made(files: &[File]) -> bool {
+    matches!(files, [script, made] if script.role == FileRole::Script && made.role == FileRole::Synthetic)
+}
+
 #[test]
-fn an_image(rt: HostRuntime) -> Result<(), Fail> {
+fn members_of_slots(rt: HostRuntime) -> Result<(), Fail> {
     let alloc = rt.alloc();
-    let names =
-        r#"{"options":{"strip_all":true},"symbols":[{"name":"5f7374617274"},{"name":"ff"}]}"#;
-    let value = Value::from_str(alloc, names).ok().ok_or("json")?;
+    let value = Value::from_str(alloc, SLOT_PLAN).ok().ok_or("json")?;
     let layout = read_plan(alloc, &value).ok().ok_or("plan")?;
-    let warnings = [
-        EntryWarning::Defaulted {
-            symbol: SymbolIndex(0),
-            address: 0x40_00b0,
-        },
-        EntryWarning::EmptyText {
-            symbol: SymbolIndex(1),
-        },
-    ];
-    let text = image_answer(alloc, &layout, &[0xa5; 33], &warnings, &[0, 3, 0, 1])?;
-    let lines = "image 33
-warning cannot find entry symbol `_start`, defaulting to 0x4000b0
-warning cannot find entry symbol `ff` and .text is empty, not setting entry point
-count 1 3
-count 3 1
-a5a5a5a5a5a5a5a5a5a5a5a5a5a5a5a5a5a5a5a5a5a5a5a5a5a5a5a5a5a5a5a5
-a5
-";
-    assert_eq!(rt; text.as_slice(), lines.as_bytes());
+    let roles = [Role::Got, Role::GotRelr, Role::PltGot, Role::RelaPlt];
+    for (part, role) in layout.parts.as_slice().iter().zip(&roles) {
+        assert!(rt; part.role == *role);
+    }
+    assert!(rt; layout.got_header == 3 && layout.tlsld == Some(12312));
+    assert!(rt;
+        matches!(layout.symbols.as_slice(), [code, data] if stands(code, 20580, Some(12328), None) && stands(data, 896, None, Some(8192)))
+    );
+    assert!(rt; matches!(layout.groups.as_slice(), [group] if are_made(group.files.as_slice())));
     Ok(())
 }
 
@@ -276,100 +290,5 @@ fn a_plan_fault(rt: HostRuntime) -> Result<(), Fail> {
     assert_eq!(rt; format!(in alloc; "{fault}")?.as_str(), "not a plan: /kind");
     let refused = PlanFault::OutOfMemory;
     assert_eq!(rt; format!(in alloc; "{refused}")?.as_str(), "out of memory");
-    Ok(())
-}
-
-fn at(file: Option<usize>, offset: Option<u64>) -> At {
-    At {
-        group: Some(0),
-        file,
-        section: file,
-        offset,
-    }
-}
-
-#[test]
-fn refusals(rt: HostRuntime) -> Result<(), Fail> {
-    let alloc = rt.alloc();
-    let given = 8;
-    let needed = 16;
-    let lines = [
-        (
-            Fault::MalformedLayout {
-                clause: 2,
-                index: 0,
-            },
-            At::NOWHERE,
-            "refused MalformedLayout clause=2 index=0\n",
-        ),
-        (
-            Fault::InsufficientAllocation {
-                part: 3,
-                group: 0,
-                given,
-                needed,
-            },
-            At::NOWHERE,
-            "refused InsufficientAllocation part=3 group=0 given=8 needed=16\n",
-        ),
-        (
-            Fault::ExcessiveAllocation {
-                part: 3,
-                group: 1,
-                given: needed,
-                needed: given,
-            },
-            At::NOWHERE,
-            "refused ExcessiveAllocation part=3 group=1 given=16 needed=8\n",
-        ),
-        (
-            Fault::UnsupportedRelocation { number: 99 },
-            at(Some(1), Some(4)),
-            "refused UnsupportedRelocation number=99 at group=0 file=1 section=1 offset=4\n",
-        ),
-        (
-            Fault::RecompileWithPic { number: 10 },
-            at(Some(2), Some(26)),
-            "refused RecompileWithPic number=10 at group=0 file=2 section=2 offset=26\n",
-        ),
-        (
-            Fault::MissingResolution {
-                what: Missing::Address,
-                symbol: 7,
-            },
-            at(None, None),
-            "refused MissingResolution what=address symbol=7 at group=0\n",
-        ),
-        (
-            Fault::MissingResolution {
-                what: Missing::DynamicSymbol,
-                symbol: 7,
-            },
-            At::NOWHERE,
-            "refused MissingResolution what=dynsym symbol=7\n",
-        ),
-        (
-            Fault::OutOfRange {
-                value: u64::MAX - 4,
-            },
-            at(None, Some(9)),
-            "refused OutOfRange value=-5 at group=0 offset=9\n",
-        ),
-        (
-            Fault::OverlappingSites { byte: 4 },
-            at(Some(2), None),
-            "refused OverlappingSites byte=4 at group=0 file=2 section=2\n",
-        ),
-    ];
-    for (fault, at, line) in &lines {
-        let text = refusal_answer(
-            alloc,
-            Error {
-                fault: *fault,
-                at: *at,
-            },
-        )?;
-        assert_eq!(rt; text.as_str(), *line);
-    }
     Ok(())
 }

@@ -1,0 +1,48 @@
+-- Slots and stubs in memory: what the loading of an image comes to for them, and what references through them rest on.
+--   IsLoadedWord w word x   x is what a loader makes of a word of a slot
+--   HasWords ..             memory has these words from an address on
+--   HasSymbolSlots ..       memory has the slots of a symbol, and its stub
+--   HasSlots l w m          it has those of each symbol, and the pair of the output's own thread-local data
+use Rattle.std.specs.Prelude.{◌≡◌, ℕ, ◌+◌, ◌*◌, ◌%◌, ◌^◌, ◌<◌, ⊤, true, List, length, Option, Some, None, Ok, slice_get, slice_index_or}
+use Rattle.wild_reloc.specs.declared.dynamic.DynamicRelocationKind.{DynamicRelocationKind}
+use Rattle.wild_reloc.specs.declared.dynamic.DynamicRelocationKind.TheVariants as entry_kinds
+use Rattle.wild_plan.specs.declared.symbol.Symbol.{Symbol}
+use Rattle.wild_plan.specs.declared.layout.Layout.{Layout}
+use Rattle.wild_plan.specs.declared.slot.SlotWord.{SlotWord}
+use Rattle.wild_plan.specs.declared.slot.SlotWord.TheVariants.{Number, Address, InBlock, General, Plt}
+use Rattle.wild_plan.specs.SymbolSlots.{got_of, plt_of}
+use Rattle.wild_plan.specs.SlotShares.{slots_of, storage_words}
+use Rattle.wild_plan.specs.Stub.{stub_x86_64}
+use Rattle.wild_loader.specs.declared.memory.Memory.{Memory}
+use Rattle.wild_loader.specs.declared.world.World.{World}
+use Rattle.wild_loader.specs.Changes.{answer_at}
+use Rattle.wild_loader.specs.Memory.{Holds, number_in}
+
+-- what an entry leaves: what a resolver answers (x86-64 psABI, "Relocation Types": R_X86_64_IRELATIVE); of entries that name a
+-- symbol nothing is said yet
+abbrev pub IsFilled : World → DynamicRelocationKind → ℕ → ℕ → Type 0
+IsFilled w entry_kinds.Irelative addend x = answer_at w ((w.base + addend) % 2 ^ 64) ≡ Ok x
+IsFilled w other addend x = ⊤
+
+-- what a loader makes of a word: a number stays, an address is more by the base
+abbrev pub IsLoadedWord : World → SlotWord → ℕ → Type 0
+IsLoadedWord w (Number n) x = x ≡ n
+IsLoadedWord w (Address a) x = x ≡ (a + w.base) % 2 ^ 64
+IsLoadedWord w (InBlock a) x = x ≡ (a + w.base) % 2 ^ 64
+IsLoadedWord w (General e) x = IsFilled w e.kind e.addend x
+IsLoadedWord w (Plt e) x = IsFilled w e.kind e.addend x
+
+-- memory has such words from an address of the image on
+abbrev pub HasWords : World → Memory → ℕ → List SlotWord → Type 0
+HasWords w m at ws = (k : ℕ) (d : SlotWord) → k < length ws → (x : ℕ) × (number_in m (w.base + at + 8 * k) 8 ≡ Some x) × IsLoadedWord w (slice_index_or ws k d) x
+
+-- the slots of a symbol have no fault and stand from their address on, and its stub stands where the layout has it
+pub record HasSymbolSlots (l : Layout) (w : World) (m : Memory) (s : Symbol) (at : ℕ) : Type 0 where
+  pub whole : (slots_of l s).fault ≡ None
+  pub words : HasWords w m at (slots_of l s).words
+  pub stub : (p : ℕ) → plt_of s ≡ Some p → Holds m (w.base + p) (stub_x86_64 at p).bytes
+
+-- each symbol with slots has them, and the pair of the output's own thread-local data is there where it has a place
+pub record HasSlots (l : Layout) (w : World) (m : Memory) : Type 0 where
+  pub symbols : (i at : ℕ) (s : Symbol) → slice_get l.symbols i ≡ Some s → got_of s ≡ Some at → HasSymbolSlots l w m s at
+  pub pair : (at : ℕ) → l.tlsld ≡ Some at → HasWords w m at (storage_words l)

@@ -1,0 +1,6 @@
+use Rattle.std.proofs.Common.{◌≡◌, drop}
+use Rattle.wild_headers.specs.Headers.{section_of_role}
+use Rattle.wild_headers.proofs.numbers.section_of_role.Given as goal
+
+abbrev pub invariant-loop-part : goal.invariant-loop-part
+invariant-loop-part l = section_of_role l.role (drop l.part-index l.parts) ≡ section_of_role l.role l.parts
