@@ -1,9 +1,9 @@
 -- What files have to write where nothing is needed.
 use Rattle.std.proofs.Common.{◌≡◌, ℕ, ◌+◌, ◌-◌, ◌*◌, ◌^◌, min, inl, inr, Bool, true, false, List, [], ◌∷◌, length, refl, sym, ap, ◌∙◌, arith}
 use Rattle.std.specs.Prelude.{if◌then◌else◌, not, ◌&&◌, Option}
-use Rattle.std.specs.List.{list_all}
+use Rattle.std.specs.List.{list_all, flat_map}
 use Rattle.std.proofs.lemmas.Bool.{cases_Bool, and_parts}
-use Rattle.wild_relr.specs.Packed.{packed}
+use Rattle.wild_relr.specs.Packed.{packed, block}
 use Rattle.wild_plan.specs.declared.file.File.{File}
 use Rattle.wild_plan.specs.declared.file.Group.{Group}
 use Rattle.wild_plan.specs.declared.input.InputRelocation.{InputRelocation}
@@ -11,13 +11,17 @@ use Rattle.wild_plan.specs.declared.input.InputSection.{InputSection}
 use Rattle.wild_plan.specs.declared.layout.Layout.{Layout}
 use Rattle.wild_plan.specs.declared.part.Role.{Role}
 use Rattle.wild_plan.specs.declared.part.Role.TheVariants as role
-use Rattle.wild_plan.specs.Dynamic.{empty_string, named_strings, tag_entries, string_entries, string_start, dynamic_entries, dynamic_count, dynamic_strings, epilogue_string_bytes}
+use Rattle.wild_plan.specs.Dynamic.{empty_string, named_strings, tag_entries, string_entries, dynamic_entries, dynamic_count, epilogue_string_bytes}
 use Rattle.wild_plan.specs.Entries.{listed_place, packed_place, moved_of, listed_places, packed_places, words_of, entry_count, word_count}
 use Rattle.wild_plan.specs.Kinds.{is_position_independent, needs_dynamic, needs_dynsym}
 use Rattle.wild_plan.specs.Lists.{total}
-use Rattle.wild_plan.specs.Needs.{is_prelude, is_epilogue, whole_of, own_of, share, is_plain}
+use Rattle.wild_plan.specs.Needs.{is_prelude, is_epilogue, whole_of, own_of, share, has_plain_role, is_plain}
+use Rattle.wild_plan.specs.SlotPlaces.{is_without}
+use Rattle.wild_plan.specs.SlotShares.{own_symbols, is_of_slots, header_share, block_places, group_block, block_share}
 use Rattle.wild_plan.specs.Counts.{total_share}
 use Rattle.wild_plan.proofs.EntryLemmas.{packed_none}
+use Rattle.wild_plan.proofs.SlotBlockLemmas.{places_without}
+use Rattle.wild_plan.proofs.SlotShareLemmas.{slots_plain, others_share}
 
 total_none : {X : Type 0} (f : X → ℕ) (xs : List X) → ((x : X) → f x ≡ 0) → total f xs ≡ 0
 total_none f [] h = refl
@@ -48,35 +52,43 @@ no_dynamic l h = rw h refl
 
 -- ---- shares
 
-own_none : (l : Layout) (r : Role) (f : File) → is_position_independent l.kind ≡ false → needs_dynamic l.kind ≡ false → own_of l r f ≡ 0
-own_none l role.RelaDynRelative f h d = let e = no_entries l f h in rw e refl
-own_none l role.RelrDyn f h d = let e = no_words l f h in rw e refl
-own_none l role.Dynsym f h d = rw d refl
-own_none l role.Dynstr f h d = let e = no_strings l d in by_end (is_epilogue f.role) e
+own_nowhere : (l : Layout) (r : Role) (f : File) → is_position_independent l.kind ≡ false → needs_dynamic l.kind ≡ false → own_of l r f ≡ 0
+own_nowhere l role.RelaDynRelative f h d = let e = no_entries l f h in rw e refl
+own_nowhere l role.RelrDyn f h d = let e = no_words l f h in rw e refl
+own_nowhere l role.Dynsym f h d = rw d refl
+own_nowhere l role.Dynstr f h d = let e = no_strings l d in by_end (is_epilogue f.role) e
   where
     by_end : (b : Bool) → epilogue_string_bytes l ≡ 0 → (if needs_dynamic l.kind && is_prelude f.role then 1 else 0) + (if b then epilogue_string_bytes l else 0) ≡ 0
     by_end true e = rw (d, e) refl
     by_end false e = rw d refl
-own_none l role.Dynamic f h d = let e = no_dynamic l d in by_end (is_epilogue f.role) e
+own_nowhere l role.Dynamic f h d = let e = no_dynamic l d in by_end (is_epilogue f.role) e
   where
     by_end : (b : Bool) → dynamic_count l ≡ 0 → (if b then 16 * dynamic_count l else 0) ≡ 0
     by_end true e = rw e refl
     by_end false e = refl
-own_none l other f h d = refl
+own_nowhere l other f h d = refl
 
-share_none : (l : Layout) (r : Role) (f : File) → is_position_independent l.kind ≡ false → needs_dynamic l.kind ≡ false → whole_of l r ≡ 0 → share l r f ≡ 0
-share_none l r f h d w =
-    let own = own_none l r f h d in
+-- what stands once beside slots
+no_header : (l : Layout) (r : Role) → is_of_slots r ≡ false → header_share l r ≡ 0
+no_header l role.Got h = cc
+no_header l role.RelaDynGeneral h = cc
+no_header l other h = refl
+
+share_none : (l : Layout) (r : Role) (f : File) → is_position_independent l.kind ≡ false → needs_dynamic l.kind ≡ false → is_of_slots r ≡ false → whole_of l r ≡ 0 → share l r f ≡ 0
+share_none l r f h d s w =
+    let own = own_nowhere l r f h d in
+    let slots = others_share l r f s in
+    let header = no_header l r s in
     elim (cases_Bool (is_prelude f.role)) [
-      | inl t ↦ rw (t, w, own) refl
-      | inr n ↦ rw (n, own) refl
+      | inl t ↦ rw (t, w, own, slots, header) refl
+      | inr n ↦ rw (n, own, slots) refl
     ]
 
--- where nothing stands once in the image, a static output at its own addresses needs nothing
-pub no_share : (l : Layout) (r : Role) (n : ℕ) → n ≡ min (2 ^ 64 - 1) (whole_of l r) → is_position_independent l.kind ≡ false → needs_dynamic l.kind ≡ false → n ≡ 0 → total_share l r ≡ 0
-no_share l r n is h d none =
+-- where nothing stands once in the image, a static output at its own addresses needs nothing but for slots
+pub no_share : (l : Layout) (r : Role) (n : ℕ) → n ≡ min (2 ^ 64 - 1) (whole_of l r) → is_position_independent l.kind ≡ false → needs_dynamic l.kind ≡ false → is_of_slots r ≡ false → n ≡ 0 → total_share l r ≡ 0
+no_share l r n is h d s none =
     let w : whole_of l r ≡ 0 = least (whole_of l r) n is none in
-    total_none (λ (g : Group). total (share l r) g.files) l.groups (λ g. total_none (share l r) g.files (λ f. share_none l r f h d w))
+    total_none (λ (g : Group). total (share l r) g.files) l.groups (λ g. total_none (share l r) g.files (λ f. share_none l r f h d s w))
   where
     least : (k n : ℕ) → n ≡ min (2 ^ 64 - 1) k → n ≡ 0 → k ≡ 0
     least k n e z = omega (arith, e, z)
@@ -95,13 +107,13 @@ own_plain l role.Dynstr f h p e = let n = first_none (needs_dynsym l.kind) (is_p
 own_plain l role.Dynamic f h p e = rw e refl
 own_plain l other f h p e = refl
 
--- the tests of a plain file
+-- the tests of a plain file's role
 pub record Tests (l : Layout) (f : File) : Type 0 where
   pub fixed : is_position_independent l.kind ≡ false
   pub first : is_prelude f.role ≡ false
   pub last : is_epilogue f.role ≡ false
 
-tests_of : (l : Layout) (f : File) → is_plain l f ≡ true → Tests l f
+tests_of : (l : Layout) (f : File) → has_plain_role l f ≡ true → Tests l f
 tests_of l f h =
     let a = and_parts (not (is_position_independent l.kind) && not (is_prelude f.role)) (not (is_epilogue f.role)) h in
     let b = and_parts (not (is_position_independent l.kind)) (not (is_prelude f.role)) a.0 in
@@ -111,14 +123,22 @@ tests_of l f h =
     no true h = cc
     no false h = refl
 
-pub share_plain : (l : Layout) (r : Role) (f : File) → is_plain l f ≡ true → share l r f ≡ 0
-share_plain l r f h =
+-- its role gives it nothing to write
+pub own_none : (l : Layout) (r : Role) (f : File) → has_plain_role l f ≡ true → own_of l r f ≡ 0
+own_none l r f h =
     let t = tests_of l f h in
-    let own = own_plain l r f t.fixed t.first t.last in
-    rw (t.first, own) refl
+    own_plain l r f t.fixed t.first t.last
+
+share_plain : (l : Layout) (r : Role) (f : File) → is_plain l f ≡ true → share l r f ≡ 0
+share_plain l r f h =
+    let p = and_parts (has_plain_role l f) (list_all is_without (own_symbols l f)) h in
+    let t = tests_of l f p.0 in
+    let own = own_none l r f p.0 in
+    let slots = slots_plain l r f p.1 in
+    rw (t.first, own, slots) refl
 
 -- a list of such files
-pub total_plain : (l : Layout) (r : Role) (files : List File) → list_all (is_plain l) files ≡ true → total (share l r) files ≡ 0
+total_plain : (l : Layout) (r : Role) (files : List File) → list_all (is_plain l) files ≡ true → total (share l r) files ≡ 0
 total_plain l r [] h = refl
 total_plain l r (f ∷ files) h =
     let p = and_parts (is_plain l f) (list_all (is_plain l) files) h in
@@ -126,6 +146,22 @@ total_plain l r (f ∷ files) h =
     let b = total_plain l r files p.1 in
     omega (arith, a, b)
 
+-- none of their words is in the group's block
+places_plain : (l : Layout) (files : List File) → list_all (is_plain l) files ≡ true → flat_map (λ (f : File). flat_map (block_places l) (own_symbols l f)) files ≡ []
+places_plain l [] h = refl
+places_plain l (f ∷ files) h =
+    let p = and_parts (is_plain l f) (list_all (is_plain l) files) h in
+    let q = and_parts (has_plain_role l f) (list_all is_without (own_symbols l f)) p.0 in
+    rw (places_without l (own_symbols l f) q.1) (places_plain l files p.1)
+
+pub block_plain : (l : Layout) (r : Role) (g : Group) → list_all (is_plain l) g.files ≡ true → block_share l r g ≡ 0
+unfolding group_block block
+block_plain l role.RelrDyn g h = let e = places_plain l g.files h in rw e refl
+block_plain l other g h = refl
+
 -- a test that told it
 pub plain_needs : (l : Layout) (files : List File) (told : Bool) → told ≡ list_all (is_plain l) files → told ≡ true → (r : Role) → total (share l r) files ≡ 0
 plain_needs l files told is h = λ r. total_plain l r files (sym is ∙ h)
+
+pub plain_block : (l : Layout) (g : Group) (told : Bool) → told ≡ list_all (is_plain l) g.files → told ≡ true → (r : Role) → block_share l r g ≡ 0
+plain_block l g told is h = λ r. block_plain l r g (sym is ∙ h)

@@ -3,13 +3,12 @@
 -- gives for it, also where another symbol defines it.
 --   takes_block_word l s         the slot is one of a block of packed words
 use Rattle.std.specs.Prelude.{ℕ, ◌==◌, Bool, true, not, ◌&&◌, ◌||◌, Option, Some, None, is_some}
-use Rattle.wild_plan.specs.declared.symbol.ValueFlags.{ValueFlags}
 use Rattle.wild_plan.specs.declared.symbol.Resolution.{Resolution}
 use Rattle.wild_plan.specs.declared.symbol.Symbol.{Symbol}
 use Rattle.wild_plan.specs.declared.layout.Layout.{Layout}
 use Rattle.wild_plan.specs.Contents.{bool_eq}
 use Rattle.wild_plan.specs.SymbolSlots.{got_of, plt_of, has_dynamic_symbol, has_thread_slot}
-use Rattle.wild_plan.specs.Flags.{has_flag, interposable, has_link_time_address, absolute, dynamic, ifunc, got_slot, got_tls_offset, got_tls_module, got_tls_descriptor, copy_relocation, export_dynamic, canonical_plt, ifunc_got_for_address, canonical_plt_got_for_address}
+use Rattle.wild_plan.specs.Flags.{has_flag, interposable, has_link_time_address, absolute, dynamic, ifunc, got_slot, copy_relocation, canonical_plt, ifunc_got_for_address, canonical_plt_got_for_address}
 use Rattle.wild_plan.specs.Kinds.{is_position_independent}
 
 -- ---- the tests, in their order

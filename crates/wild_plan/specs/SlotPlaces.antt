@@ -81,6 +81,10 @@ walk step s (x ∷ xs) = and_then (step s x) (λ t. walk step t xs)
 abbrev pub symbol_step : Layout → Free → Symbol → Result Free ℕ
 symbol_step l n s = if stands_next l n s then Ok (behind l n s) else Err n.symbol
 
+-- what is left of that for a symbol without a slot
+abbrev pub passed_without : Free → Symbol → Result Free ℕ
+passed_without n s = if stands_at n.stub (plt_of s) then Ok (record n { symbol = n.symbol + 1 }) else Err n.symbol
+
 -- a symbol whose slots no file writes has none
 abbrev pub is_without : Symbol → Bool
 is_without s = not (is_some (got_of s))

@@ -3,10 +3,10 @@ ghost use Rattle.std.specs.Prelude.{◌≡◌, ◌+◌, ◌<◌, ◌≤◌, leng
 ghost use Rattle.wild_plan.specs.Storage.{less, rounded_up, thread_pointer, is_outside};
 ghost use Rattle.wild_plan.specs.Slots.{setting_of, is_replaceable, number, general, plt, named, offset_item, module_item, module_offset_item, descriptor_item, offset_items, module_items, descriptor_items, plain_item, stub_item, stub_items, stub_address, ifunc_address_items, canonical_address_items, thread_items, address_items, with_item, with_items, no_slot, slot, storage_pair};
 
-use crate::slot::{Setting, SlotEntry, SlotFault, SlotItem, SlotWord};
 use crate::clauses::{has_dynamic_symbol, has_thread_slot};
 use crate::kind::{Machine, OutputKind};
 use crate::layout::{Layout, Tls};
+use crate::slot::{Setting, SlotEntry, SlotFault, SlotItem, SlotWord};
 use crate::symbol::{Resolution, ValueFlags};
 use crate::symbol_slots::SymbolSlots;
 use wild_reloc::DynamicRelocationKind;
@@ -310,7 +310,12 @@ fn add_canonical_address(slot: &mut SymbolSlots, setting: &Setting, resolution: 
 }
 
 #[tactic(auto, using(crate::proofs::SlotLemmas::items_joined))]
-fn add_address_slots(slot: &mut SymbolSlots, setting: &Setting, far: Option<u64>, resolution: &Resolution)
+fn add_address_slots(
+    slot: &mut SymbolSlots,
+    setting: &Setting,
+    far: Option<u64>,
+    resolution: &Resolution,
+)
     requires { length slot.old.words ≤ 0 }
     ensures { slot.new ≡ with_items slot.old (address_items setting.now far resolution.now) }
 {

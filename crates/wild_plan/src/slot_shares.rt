@@ -1,13 +1,15 @@
 //! What the slots and stubs of symbols take of the parts (x86-64 psABI, "Global Offset Table (GOT)", "Procedure Linkage
 //! Table").
-ghost use Rattle.std.specs.Prelude.{◌≡◌, ℕ, ◌+◌, ◌-◌, ◌*◌, ◌^◌, ◌≤◌, List, ◌++◌, length, min};
+ghost use Rattle.std.specs.Prelude.{◌≡◌, ℕ, ◌+◌, ◌-◌, ◌*◌, ◌^◌, ◌<◌, ◌≤◌, List, [], ◌∷◌, ◌++◌, length, min, slice_range, ◌&&◌};
 ghost use Rattle.std.specs.List.{flat_map};
 ghost use Rattle.wild_plan.specs.SlotShares.{writes_slots, own_symbols, slots_of, slots_at, words_in, entries_in, storage_words, header_words, header_entries, symbol_share, is_of_slots, slot_share, header_share, block_places, group_block, block_of, block_share};
+ghost use Rattle.wild_plan.specs.Kinds.{is_position_independent};
 ghost use Rattle.wild_plan.specs.SlotParts.{flat_places};
+ghost use Rattle.wild_plan.specs.SlotPlaces.{begins_block};
 ghost use Rattle.wild_plan.specs.declared.part.Role.TheVariants.{PltGot};
 
 use crate::cases::{slot_of, storage_pair};
-use crate::clauses::got_of;
+use crate::clauses::{begins_block, got_of, is_without};
 use crate::file::{File, FileRole, Group};
 use crate::layout::Layout;
 use crate::part::Role;
@@ -38,17 +40,28 @@ impl Symbol {
 }
 
 impl Layout {
+    /// So many symbols from number `first` on, as far as they are there.
+    pub(crate) fn symbols_from(&self, first: usize, count: usize) -> &[Symbol]
+        ensures are { result.now ≡ slice_range self.now.symbols first (first + count) }
+        ensures few { first + length result.now < 2 ^ 64 }
+    {
+        let symbols = self.symbols.as_slice();
+        let start = first.min(symbols.len());
+        let end = start + count.min(symbols.len() - start);
+        &symbols[start..end]
+    }
+
     /// The symbols whose slots a file writes.
     pub fn own_symbols(&self, file: &File) -> &[Symbol]
-        ensures { result.now ≡ own_symbols self.now file.now }
+        ensures are { result.now ≡ own_symbols self.now file.now }
+        ensures few { file.now.first_symbol + length result.now < 2 ^ 64 }
     {
-        if !file.role.writes_slots() {
-            return &[];
+        let first = file.first_symbol.0;
+        if file.role.writes_slots() {
+            self.symbols_from(first, file.symbol_count)
+        } else {
+            &[]
         }
-        let symbols = self.symbols.as_slice();
-        let start = file.first_symbol.0.min(symbols.len());
-        let end = file.first_symbol.0.saturating_add(file.symbol_count);
-        &symbols[start..end.clamp(start, symbols.len())]
     }
 
     /// What is written for a symbol: the words of its slots, its stub, and what kept the rest from being written.
@@ -95,7 +108,7 @@ fn flat_in(layout: &Layout, symbol: &Symbol) -> usize
 }
 
 /// The bytes of a symbol's stub.
-pub(crate) fn stub_in(layout: &Layout, symbol: &Symbol) -> usize
+fn stub_in(layout: &Layout, symbol: &Symbol) -> usize
     ensures is { result ≡ symbol_share layout.now PltGot symbol.now }
     ensures few { result ≤ 16 }
 {
@@ -107,10 +120,14 @@ pub(crate) fn stub_in(layout: &Layout, symbol: &Symbol) -> usize
 }
 
 /// How many bytes a symbol takes of the part of a role.
+#[tactic(auto, using(crate::proofs::SlotShareLemmas::share_without))]
 fn symbol_share(layout: &Layout, role: Role, symbol: &Symbol) -> u64
     ensures is { result ≡ symbol_share layout.now role symbol.now }
     ensures few { result ≤ 120 }
 {
+    if is_without(symbol) {
+        return 0;
+    }
     let bytes = match role {
         Role::Got => WORD_SIZE * words_in(WordPart::Got, layout, symbol),
         Role::GotRelr => WORD_SIZE * words_in(WordPart::Block, layout, symbol),
@@ -125,7 +142,7 @@ fn symbol_share(layout: &Layout, role: Role, symbol: &Symbol) -> u64
 }
 
 /// Whether slots and stubs take something of parts of that role.
-fn is_of_slots(role: Role) -> bool
+pub(crate) fn is_of_slots(role: Role) -> bool
     ensures { result ≡ is_of_slots role }
 {
     matches!(
@@ -154,14 +171,22 @@ pub(crate) fn slot_share(layout: &Layout, role: Role, file: &File) -> u64
     sum
 }
 
+/// How many words the pair of the output's own thread-local data has.
+#[tactic(auto, using(crate::proofs::SlotShareLemmas::header_length))]
+pub(crate) fn pair_words(layout: &Layout) -> u64
+    ensures is { length (header_words layout.now) ≡ layout.now.got_header + result }
+    ensures few { result ≤ 2 }
+{
+    if layout.tlsld.is_some() { 2 } else { 0 }
+}
+
 /// How many bytes the words that stand once have, at most 2^64 - 1.
 fn header_bytes(layout: &Layout) -> u64
     ensures { result ≡ min (2 ^ 64 - 1) (8 * length (header_words layout.now)) }
 {
-    let pair = if layout.tlsld.is_some() { 2 } else { 0 };
     layout
         .got_header
-        .saturating_add(pair)
+        .saturating_add(pair_words(layout))
         .saturating_mul(WORD_SIZE as u64)
 }
 
@@ -202,20 +227,34 @@ pub struct Block {
     pub count: u64,
 }
 
+impl Block {
+    /// The block with a slot at `place` behind the others.
+    fn with(self, place: u64) -> Block
+        ensures { (ps : List ℕ) → self ≡ block_of ps → result ≡ block_of (ps ++ place ∷ []) }
+    {
+        Block {
+            base: if self.count == 0 { place } else { self.base },
+            count: self.count.saturating_add(1),
+        }
+    }
+}
+
+/// Whether the first slot of a symbol is one of the block.
+#[tactic(auto, using(crate::proofs::SlotShareLemmas::no_slots))]
+fn is_in_block(layout: &Layout, symbol: &Symbol) -> bool
+    ensures { result ≡ begins_block (slots_of layout.now symbol.now).words }
+{
+    !is_without(symbol) && begins_block(layout.slots_of(symbol).words())
+}
+
 /// The block with the word of a symbol behind the others, where it has one there.
 fn with_symbol(layout: &Layout, block: Block, symbol: &Symbol) -> Block
     ensures { (ps : List ℕ) → block ≡ block_of ps → result ≡ block_of (ps ++ block_places layout.now symbol.now) }
 {
-    match words_in(WordPart::Block, layout, symbol) {
-        0 => block,
-        count => Block {
-            base: if block.count == 0 {
-                symbol.slots_at()
-            } else {
-                block.base
-            },
-            count: block.count.saturating_add(count as u64),
-        },
+    if is_in_block(layout, symbol) {
+        block.with(symbol.slots_at())
+    } else {
+        block
     }
 }
 
@@ -230,13 +269,20 @@ fn with_file(layout: &Layout, block: Block, file: &File) -> Block
     block
 }
 
+/// Whether addresses that move are packed, so that slots may be in a block.
+fn packs_slots(layout: &Layout) -> bool
+    ensures { result ≡ (layout.now.options.relr && is_position_independent layout.now.kind) }
+{
+    layout.options.relr && layout.kind.is_position_independent()
+}
+
 /// The slots of a group that are in its block.
 #[tactic(auto, unfolding(crate::specs::SlotShares::group_block))]
 pub fn group_block(layout: &Layout, group: &Group) -> Block
     ensures { result ≡ block_of (group_block layout.now group.now) }
 {
     let mut block = Block { base: 0, count: 0 };
-    if layout.options.relr && layout.kind.is_position_independent() {
+    if packs_slots(layout) {
         for file in group.files.as_slice() {
             block = with_file(layout, block, file);
         }

@@ -53,11 +53,7 @@ pub fn put_stub(plt_entry: &mut [u8], got_address: u64, plt_address: u64)
 }
 
 /// The stub at an address that goes on to the address in the slot. A refused call changes nothing.
-pub fn write_stub(
-    plt_entry: &mut [u8],
-    got_address: u64,
-    plt_address: u64,
-) -> Result<(), PltTooFar>
+pub fn write_stub(plt_entry: &mut [u8], got_address: u64, plt_address: u64) -> Result<(), PltTooFar>
     requires room { length plt_entry.old ≡ 16 }
     ensures accepted { is_ok result ≡ (stub_x86_64 got_address plt_address).reaches }
     ensures value { IfErr result (λ far. far.value ≡ (stub_x86_64 got_address plt_address).distance) }

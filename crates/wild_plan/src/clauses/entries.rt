@@ -159,7 +159,7 @@ fn is_carried(segments: &[Segment], part: &Part) -> bool
     segments.iter().any(|segment| carries_part(part, segment))
 }
 
-/// Whether one segment carries the part to its addresses, where it is a table of relative entries.
+/// Whether one segment carries the part to its addresses, where it is a table of entries.
 fn table_is_loaded(layout: &Layout, part: &Part) -> bool
     ensures { result ≡ table_is_loaded layout.now part.now }
 {

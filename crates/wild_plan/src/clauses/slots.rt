@@ -1,7 +1,7 @@
 //! Clause 11: where slots and stubs stand.
-ghost use Rattle.std.specs.Prelude.{◌≡◌, ◌+◌, ◌*◌, ◌^◌, ◌<◌, ◌≤◌, length, slice_range, IfOk};
+ghost use Rattle.std.specs.Prelude.{◌≡◌, ◌+◌, ◌-◌, ◌*◌, ◌^◌, ◌<◌, ◌≤◌, length, slice_range, IfOk, IfSome};
 ghost use Rattle.wild_plan.specs.Lists.{first_failing};
-ghost use Rattle.wild_plan.specs.SlotPlaces.{start_of, IsBounded, first_free, begins_block, stands_at, stands_next, behind, walk, symbol_step, is_without, slot_before, file_step, group_step, slots_astray, is_even_slot, slot_is_even, block_is_asked, block_has_base, pair_follows};
+ghost use Rattle.wild_plan.specs.SlotPlaces.{start_of, IsBounded, first_free, begins_block, stands_at, stands_next, behind, walk, symbol_step, passed_without, is_without, slot_before, file_step, group_step, slots_astray, is_even_slot, slot_is_even, block_is_asked, block_has_base, pair_follows};
 ghost use Rattle.wild_plan.specs.WellFormed.{check_slots};
 
 use crate::clauses::slot_flags::{got_of, plt_of};
@@ -11,8 +11,9 @@ use crate::file::{File, Group};
 use crate::layout::Layout;
 use crate::part::{Part, Role, has_role, part_with};
 use crate::slot::{SlotWord, WORD_SIZE};
-use crate::slot_parts::WordPart;
-use crate::slot_shares::{stub_in, words_in};
+use crate::slot_parts::{WordPart, count_words};
+use crate::slot_shares::pair_words;
+use crate::stub::STUB_SIZE;
 use crate::symbol::Symbol;
 
 /// The next free word of `got` and of `got_relr`, the next free stub of `plt_got`, and the symbol behind all that had their
@@ -35,14 +36,22 @@ fn start_of(layout: &Layout, role: Role) -> u64
     }
 }
 
+/// The place behind so many words from an address on.
+fn behind_words(address: u64, count: u64) -> u128
+    ensures is { result ≡ address + 8 * count }
+    ensures few { result ≤ 2 ^ 68 }
+{
+    u128::from(address) + WORD_SIZE as u128 * u128::from(count)
+}
+
 /// The places behind what stands once.
 fn first_free(layout: &Layout) -> Free
-    ensures { result ≡ first_free layout.now }
+    ensures is { result ≡ first_free layout.now }
+    ensures small { IsBounded result }
 {
-    let pair: u128 = if layout.tlsld.is_some() { 2 } else { 0 };
-    let header = WORD_SIZE as u128 * (u128::from(layout.got_header) + pair);
+    let reserved = behind_words(start_of(layout, Role::Got), layout.got_header);
     Free {
-        got: u128::from(start_of(layout, Role::Got)) + header,
+        got: reserved + WORD_SIZE as u128 * u128::from(pair_words(layout)),
         block: u128::from(start_of(layout, Role::GotRelr)),
         stub: u128::from(start_of(layout, Role::PltGot)),
         symbol: 0,
@@ -50,7 +59,7 @@ fn first_free(layout: &Layout) -> Free
 }
 
 /// Whether the first word is one of the block of packed words.
-fn begins_block(words: &[SlotWord]) -> bool
+pub(crate) fn begins_block(words: &[SlotWord]) -> bool
     ensures { result ≡ begins_block words.now }
 {
     matches!(words.first(), Some(SlotWord::InBlock(_)))
@@ -81,35 +90,22 @@ fn stands_next(layout: &Layout, next: Free, symbol: &Symbol) -> bool
 /// The places behind those of a symbol.
 fn behind(layout: &Layout, next: Free, symbol: &Symbol) -> Free
     requires small { IsBounded next }
-    requires few { next.symbol < 2 ^ 63 }
+    requires few { next.symbol < 2 ^ 64 - 1 }
     ensures is { result ≡ behind layout.now next symbol.now }
     ensures small { IsBounded result }
 {
-    let got = WORD_SIZE * words_in(WordPart::Got, layout, symbol);
-    let block = WORD_SIZE * words_in(WordPart::Block, layout, symbol);
+    let slots = layout.slots_of(symbol);
+    let relr = layout.options.relr;
+    let place = symbol.slots_at();
+    let got = WORD_SIZE * count_words(WordPart::Got, relr, place, slots.words());
+    let block = WORD_SIZE * count_words(WordPart::Block, relr, place, slots.words());
+    let stub = if slots.has_stub() { STUB_SIZE } else { 0 };
     Free {
         got: next.got + got as u128,
         block: next.block + block as u128,
-        stub: next.stub + stub_in(layout, symbol) as u128,
+        stub: next.stub + stub as u128,
         symbol: next.symbol + 1,
     }
-}
-
-/// The places behind some symbols, or the first that does not stand next.
-fn walk_symbols(layout: &Layout, next: Free, symbols: &[Symbol]) -> Result<Free, usize>
-    requires small { IsBounded next }
-    requires few { next.symbol + length symbols.now < 2 ^ 63 }
-    ensures is { result ≡ walk (symbol_step layout.now) next symbols.now }
-    ensures small { IfOk result IsBounded }
-{
-    let mut next = next;
-    for symbol in symbols {
-        if !stands_next(layout, next, symbol) {
-            return Err(next.symbol);
-        }
-        next = behind(layout, next, symbol);
-    }
-    Ok(next)
 }
 
 /// Whether a symbol has no slot.
@@ -119,17 +115,67 @@ pub(crate) fn is_without(symbol: &Symbol) -> bool
     got_of(symbol).is_none()
 }
 
-/// The first symbol with a slot, of those from number `from` to number `to`.
-fn slot_before(layout: &Layout, next: Free, to: usize) -> Option<usize>
-    ensures { result ≡ slot_before layout.now next to }
+/// The places behind a symbol without a slot, or its number where it has a stub that does not stand next.
+fn pass_without(next: Free, symbol: &Symbol) -> Result<Free, usize>
+    requires { next.symbol < 2 ^ 64 - 1 }
+    ensures { result ≡ passed_without next symbol.now }
 {
-    let symbols = layout.symbols.as_slice();
-    let start = next.symbol.min(symbols.len());
-    let end = to.clamp(start, symbols.len());
-    let found = symbols[start..end]
-        .iter()
-        .position(|symbol| !is_without(symbol))?;
-    Some(next.symbol + found)
+    if !stands_at(next.stub, plt_of(symbol)) {
+        return Err(next.symbol);
+    }
+    Ok(Free {
+        symbol: next.symbol + 1,
+        ..next
+    })
+}
+
+/// The places behind a symbol, or its number where it does not stand next.
+#[tactic(auto, using(crate::proofs::SlotPlaceLemmas::step_without))]
+fn symbol_step(layout: &Layout, next: Free, symbol: &Symbol) -> Result<Free, usize>
+    requires small { IsBounded next }
+    requires few { next.symbol < 2 ^ 64 - 1 }
+    ensures is { result ≡ symbol_step layout.now next symbol.now }
+    ensures small { IfOk result IsBounded }
+    ensures next { IfOk result (λ n. n.symbol ≡ next.symbol + 1) }
+{
+    if is_without(symbol) {
+        pass_without(next, symbol)
+    } else if stands_next(layout, next, symbol) {
+        Ok(behind(layout, next, symbol))
+    } else {
+        Err(next.symbol)
+    }
+}
+
+/// The places behind some symbols, or the first that does not stand next.
+#[tactic(auto, unfolding(crate::specs::SlotPlaces::walk))]
+fn walk_symbols(layout: &Layout, next: Free, symbols: &[Symbol]) -> Result<Free, usize>
+    requires small { IsBounded next }
+    requires few { next.symbol + length symbols.now < 2 ^ 64 }
+    ensures is { result ≡ walk (symbol_step layout.now) next symbols.now }
+    ensures small { IfOk result IsBounded }
+{
+    let mut next = next;
+    for symbol in symbols {
+        next = symbol_step(layout, next, symbol)?;
+    }
+    Ok(next)
+}
+
+/// The first of some symbols that has a slot.
+fn with_slot(symbols: &[Symbol]) -> Option<usize>
+    ensures is { result ≡ first_failing is_without 0 symbols.now }
+    ensures within { IfSome result (λ i. i < length symbols.now) }
+{
+    symbols.iter().position(|symbol| !is_without(symbol))
+}
+
+/// The first symbol with a slot, of those from number `from` to number `to`.
+fn slot_before(layout: &Layout, from: usize, to: usize) -> Option<usize>
+    ensures { result ≡ first_failing is_without from (slice_range layout.now.symbols from to) }
+{
+    let found = with_slot(layout.symbols_from(from, to.saturating_sub(from)))?;
+    Some(from + found)
 }
 
 /// The places behind the symbols of a file, or the first symbol that does not stand next, or has a slot that no file
@@ -146,7 +192,7 @@ fn file_step(layout: &Layout, next: Free, file: &File) -> Result<Free, usize>
     if first < next.symbol {
         return Err(first);
     }
-    if let Some(index) = slot_before(layout, next, first) {
+    if let Some(index) = slot_before(layout, next.symbol, first) {
         return Err(index);
     }
     let next = Free {
@@ -157,6 +203,7 @@ fn file_step(layout: &Layout, next: Free, file: &File) -> Result<Free, usize>
 }
 
 /// The same of the files of a group.
+#[tactic(auto, unfolding(crate::specs::SlotPlaces::walk))]
 fn group_step(layout: &Layout, next: Free, group: &Group) -> Result<Free, usize>
     requires small { IsBounded next }
     ensures is { result ≡ group_step layout.now next group.now }
@@ -170,6 +217,7 @@ fn group_step(layout: &Layout, next: Free, group: &Group) -> Result<Free, usize>
 }
 
 /// The same of all groups.
+#[tactic(auto, unfolding(crate::specs::SlotPlaces::walk))]
 fn walk_groups(layout: &Layout) -> Result<Free, usize>
     ensures { result ≡ walk (group_step layout.now) (first_free layout.now) layout.now.groups }
 {
@@ -185,7 +233,7 @@ fn slots_astray(layout: &Layout) -> Option<usize>
     ensures { result ≡ slots_astray layout.now }
 {
     match walk_groups(layout) {
-        Ok(last) => slot_before(layout, last, layout.symbols.len()),
+        Ok(last) => slot_before(layout, last.symbol, layout.symbols.len()),
         Err(index) => Some(index),
     }
 }
@@ -220,8 +268,7 @@ fn block_unasked(layout: &Layout, parts: &[Part]) -> Option<usize>
 fn pair_follows(layout: &Layout) -> bool
     ensures { result ≡ pair_follows layout.now }
 {
-    let header = WORD_SIZE as u128 * u128::from(layout.got_header);
-    let free = u128::from(start_of(layout, Role::Got)) + header;
+    let free = behind_words(start_of(layout, Role::Got), layout.got_header);
     stands_at(free, layout.tlsld)
 }
 
