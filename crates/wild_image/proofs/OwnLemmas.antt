@@ -33,7 +33,7 @@ use Rattle.wild_image.specs.Pieces.{role_of, group_given}
 use Rattle.wild_image.specs.Own.{entry_bytes, section_entry_bytes, section_word_bytes, packed_in, zero_ended}
 
 -- lists of lists, joined
-joined_by : {X Y Z : Type 0} (f : Y → List Z) (g : X → List Y) (xs : List X) → flat_map (λ x. flat_map f (g x)) xs ≡ flat_map f (flat_map g xs)
+pub joined_by : {X Y Z : Type 0} (f : Y → List Z) (g : X → List Y) (xs : List X) → flat_map (λ x. flat_map f (g x)) xs ≡ flat_map f (flat_map g xs)
 joined_by f g [] = refl
 joined_by f g (x ∷ xs) = ap (λ ys. flat_map f (g x) ++ ys) (joined_by f g xs) ∙ sym (flat_map-append f (g x) (flat_map g xs))
 

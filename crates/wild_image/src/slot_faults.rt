@@ -61,7 +61,7 @@ fn check_symbol(
 }
 
 /// Refuses slots of a file's symbols that are not written: answers the first fault in the order of the symbols.
-#[tactic(auto, using(crate::proofs::FaultLemmas::first_from), unfolding(wild_layout::specs::Faults::slot_errors))]
+#[tactic(auto, using(crate::proofs::BatchLemmas::first_behind), unfolding(wild_layout::specs::Faults::slot_errors))]
 pub(crate) fn check_slots(layout: &Layout, place: InputPlace, file: &File) -> Result<(), Error>
     ensures { Answers result (slot_errors layout.now place.group place.file file.now) }
 {

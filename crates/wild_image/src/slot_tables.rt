@@ -1,5 +1,5 @@
 //! What stands once at the start of the global offset table, and the words that pack a group's block of slots.
-ghost use Rattle.std.specs.Prelude.{◌≡◌, ◌++◌, replicate, unwrap_or, OnOk};
+ghost use Rattle.std.specs.Prelude.{◌≡◌, ◌-◌, ◌*◌, ◌^◌, ◌++◌, min, replicate, unwrap_or, OnOk};
 ghost use Rattle.wild_relr.specs.Packed.{bitmaps, bitmap_count};
 ghost use Rattle.wild_relr.specs.Written.{word_bytes};
 ghost use Rattle.wild_plan.specs.SlotParts.{slot_words};
@@ -69,7 +69,9 @@ pub(crate) fn add_header(
 }
 
 /// The bitmap word of so many slots, all of whose bits are set, at most 63.
+#[tactic(auto, using(wild_relr::proofs::WriterLemmas::full_shift))]
 fn full_bitmap(slots: u64) -> u64
+    ensures { result ≡ 2 * 2 ^ min slots 63 - 1 }
 {
     u64::MAX >> (63 - slots.min(63))
 }

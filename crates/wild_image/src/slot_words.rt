@@ -10,6 +10,7 @@ use std::alloc::AllocError;
 use wild_plan::{EntryPart, Machine, SlotWord, WordPart, entry_of, flat_place, next_word, word_of};
 
 /// Adds a word.
+#[tactic(auto, using(wild_words::proofs::WordLemmas::word_8))]
 pub(crate) fn add_word(word: u64, bytes: &mut PartBytes) -> Result<(), AllocError>
     ensures { OnOk result (bytes.new ≡ bytes.old ++ word_bytes (word ∷ [])) }
 {
