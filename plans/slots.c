@@ -1,0 +1,108 @@
+/* Prints a line whose halves a function gives that a resolver chooses, and ends with the status that a thread-local variable has: 42
+   (Linux on x86-64). The code finds functions and data through slots of the global offset table, and the chosen function by a
+   stub. The program is loaded at a base that the system chooses, and nobody helps it there. So it does first what a loader does,
+   in code that uses no slot: it adds the base at each place that the dynamic section tells of, and stores what the resolvers
+   answer (gABI, "Relocation", "Relative Relocation Table"; x86-64 psABI, "Relocation Types", R_X86_64_IRELATIVE). Then it makes a
+   block of thread-local data for its one thread (ELF Handling For Thread-Local Storage, variant II). */
+#define HIDDEN __attribute__((visibility("hidden")))
+
+typedef unsigned long word;
+
+struct entry { word tag, value; };
+struct rela { word place, type, addend; };
+struct segment { unsigned kind, flags; word offset, address, physical, file_size, mem_size, align; };
+
+enum { DT_PLTRELSZ = 2, DT_JMPREL = 23, DT_RELRSZ = 35, DT_RELR = 36, PT_TLS = 7 };
+
+extern struct entry _DYNAMIC[] HIDDEN; /* the dynamic section */
+extern char __ehdr_start[] HIDDEN;     /* address 0 of the image, where the base is */
+
+static long call(long number, long first, const void *second, long third) {
+    long answer;
+    __asm__ volatile("syscall" : "=a"(answer) : "a"(number), "D"(first), "S"(second), "d"(third) : "rcx", "r11", "memory");
+    return answer;
+}
+
+/* ---- what the program says */
+
+/* a thread's own: its offset from the thread pointer is in a slot */
+__thread int status __attribute__((tls_model("initial-exec"))) = 2;
+
+/* its address is in a slot */
+int step = 20;
+
+static const char *plain(int half) { return half ? "found through slots.\n" : "Chosen by a resolver, "; }
+static const char *loud(int half) { return half ? "FOUND THROUGH SLOTS.\n" : "CHOSEN BY A RESOLVER, "; }
+
+/* the resolver: it chooses by a feature that every x86-64 processor has, SSE2 (Intel SDM, "CPUID", leaf 1) */
+static const char *(*chosen(void))(int) {
+    unsigned eax = 1, ebx, ecx = 0, edx;
+    __asm__("cpuid" : "+a"(eax), "=b"(ebx), "+c"(ecx), "=d"(edx));
+    return edx >> 26 & 1 ? plain : loud;
+}
+
+/* an indirect function: a call of it goes to its stub, and its address, in a second slot, is the stub's */
+const char *line(int half) __attribute__((ifunc("chosen")));
+
+/* called through a slot */
+__attribute__((noplt, noinline)) void say(const char *text) {
+    long length = 0;
+    while (text[length]) length++;
+    call(1, 1, text, length); /* write */
+    status += step;
+}
+
+/* ---- what a loader does */
+
+static word found(word tag) {
+    for (struct entry *e = _DYNAMIC; e->tag; e++)
+        if (e->tag == tag) return e->value;
+    return 0;
+}
+
+static void add_base(word base) {
+    word *words = (word *)(base + found(DT_RELR)), *next = 0;
+    for (word i = 0; i < found(DT_RELRSZ) / sizeof *words; i++) {
+        if (words[i] % 2 == 0) {
+            next = (word *)(base + words[i]);
+            *next++ += base;
+        } else {
+            for (int bit = 1; bit < 64; bit++)
+                if (words[i] >> bit & 1) next[bit - 1] += base;
+            next += 63;
+        }
+    }
+}
+
+static void ask_resolvers(word base) {
+    struct rela *entries = (struct rela *)(base + found(DT_JMPREL));
+    for (word i = 0; i < found(DT_PLTRELSZ) / sizeof *entries; i++)
+        *(word *)(base + entries[i].place) = ((word(*)(void))(base + entries[i].addend))();
+}
+
+/* fills a block that ends at the thread pointer, where a word points to itself; the pointer is a multiple of 8 */
+static void make_thread(char *base, word *pointer) {
+    struct segment *s = (struct segment *)(base + *(word *)(base + 32)); /* e_phoff */
+    while (s->kind != PT_TLS) s++;
+    char *block = (char *)pointer - (s->mem_size + s->align - 1) / s->align * s->align;
+    for (word i = 0; i < s->file_size; i++) block[i] = base[s->address + i];
+    *pointer = (word)pointer;
+    call(158, 0x1002, pointer, 0); /* arch_prctl, ARCH_SET_FS */
+}
+
+__attribute__((noreturn, noinline)) static void run(void) {
+    const char *(*volatile rule)(int) = line;
+    say(line(0));
+    say(rule(1));
+    call(60, status, 0, 0); /* exit */
+    __builtin_unreachable();
+}
+
+__attribute__((noreturn)) void _start(void) {
+    word room[4];
+    add_base((word)__ehdr_start);
+    ask_resolvers((word)__ehdr_start);
+    make_thread(__ehdr_start, &room[3]);
+    __asm__ volatile("" : : "r"(room) : "memory");
+    run();
+}
