@@ -6,7 +6,8 @@ executable with slots, a stub and a resolver. Run it as
 
 As a linker does, it goes by the relocations: which symbols need a slot for their address or for their offset from the
 thread pointer, and by the type of a symbol: an indirect function has a stub and the slot that this jumps to. The slots
-stand in the order of the symbols: those of addresses that move with the base in one block, the others ahead of it.
+stand in the order of the symbols: those of addresses that move with the base in one block, the others ahead of it, and
+ahead of all of them the pair of the program's own thread-local data.
 """
 import os
 
@@ -14,7 +15,7 @@ from make_hello import ALLOC, CODE, PAGE, PLT32, PROGBITS, placed, spelled, up
 from make_pie import DYNAMIC, DYNAMIC_SEGMENT, DYNSYM, FLAGS, LOAD, RELA, RELR, STACK, STRTAB, WRITE, compiled, packed, symbols_of
 
 TLS, TLS_SEGMENT = 0x400, 7
-ADDRESS_SLOT, OFFSET_SLOT = {9, 41, 42}, 22  # R_X86_64_GOTPCREL, GOTPCRELX, REX_GOTPCRELX; R_X86_64_GOTTPOFF
+ADDRESS_SLOT, OFFSET_SLOT, OWN_PAIR = {9, 41, 42}, 22, 20  # R_X86_64_GOTPCREL, GOTPCRELX, REX_GOTPCRELX; GOTTPOFF; TLSLD
 INDIRECT_FUNCTION = 10  # STT_GNU_IFUNC
 ENTRIES = 15  # of the dynamic section: four on strings and symbols, four on resolvers, three on words, and four more
 SEGMENTS = 6
@@ -75,6 +76,7 @@ def plan(source):
     order = strings + code + thread + data
     flags = list(flags_by_symbol(source, order))
     words, moved, stubs = (sum(each) for each in zip(*map(slots, flags)))
+    pair = any(number == OWN_PAIR for i in order for _, number, *_ in source.relocations(i))
 
     # the words that tell where the base is added: one for each address of a stub, and those of the block
     packed_words = sum("IFUNC_GOT_FOR_ADDRESS" in own for own in flags) + len(packed(range(0, 8 * moved, 8)))
@@ -92,7 +94,8 @@ def plan(source):
     thread_end -= 2 * PAGE
     dynamic_at = up(thread_end, 8)
     got_at = dynamic_at + 16 * ENTRIES
-    block_at = got_at + 8 * words
+    slots_at = got_at + 16 * pair
+    block_at = slots_at + 8 * words
     data_at = block_at + 8 * moved
     data_inputs, data_end = placed(source, data, 13, 2 * PAGE + data_at)
     data_end -= 2 * PAGE
@@ -160,7 +163,7 @@ def plan(source):
         {"kind": STACK, "flags": 6},
     ]
     defined = {"_DYNAMIC": 2 * PAGE + dynamic_at, "_GLOBAL_OFFSET_TABLE_": 2 * PAGE + got_at, "__ehdr_start": 0}
-    symbols = list(with_slots(symbols_of(source, order, inputs, defined), flags, 2 * PAGE + got_at, 2 * PAGE + block_at, PAGE + stubs_at))
+    symbols = list(with_slots(symbols_of(source, order, inputs, defined), flags, 2 * PAGE + slots_at, 2 * PAGE + block_at, PAGE + stubs_at))
     start = next(s for s in symbols if bytes.fromhex(s["name"]) == b"_start")
     return {
         "machine": "x86_64",
@@ -172,6 +175,7 @@ def plan(source):
         "segments": segments,
         "tls": {"start": 2 * PAGE + thread_at, "end": 2 * PAGE + thread_end, "align": thread_align},
         "got_base": 2 * PAGE + got_at,
+        "tlsld": 2 * PAGE + got_at if pair else None,
         "symbols": symbols,
         "groups": [{
             "files": [
