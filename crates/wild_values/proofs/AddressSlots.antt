@@ -20,12 +20,13 @@ use Rattle.wild_geometry.specs.Slots.{IsLoadedWord}
 use Rattle.wild_loader.specs.StepLaws.{StubsAreRead}
 use Rattle.wild_loader.specs.declared.memory.Memory.{Memory}
 use Rattle.wild_loader.specs.declared.world.World.{World}
-use Rattle.wild_meaning.specs.Slot.{HasWord, HoldsSlot}
+use Rattle.wild_meaning.specs.Slot.{HasWord}
 use Rattle.wild_meaning.specs.Value.{IsStub}
 use Rattle.wild_values.specs.Terms.{IsPlaced}
 use Rattle.wild_values.proofs.FirstSlots.{HasFirst, first_held, items_behind}
 use Rattle.wild_values.proofs.SlotContents.{ItemsHold}
 use Rattle.wild_values.proofs.SlotFlags.{SymbolFits, symbol_fits}
+use Rattle.wild_values.proofs.SlotTerms.{SlotStands, SlotsStand}
 use Rattle.wild_values.proofs.StubCode.{word_below}
 use Rattle.wild_values.proofs.SymbolStubs.{StubStands, stub_from, stub_is}
 use Rattle.wild_values.proofs.Symbols.{IsResolvedBy, resolved}
@@ -66,15 +67,10 @@ second_is w false stub x still low h = let z = still refl in omega (arith, h, z,
 
 -- ---- the slot of an address
 
--- a slot in memory, whose address does not wrap
-pub record SlotStands (l : Layout) (w : World) (m : Memory) (i at : ℕ) : Type 0 where
-  pub holds : HoldsSlot AddressSlot l w m i (w.base + at)
-  pub below : w.base + at < 2 ^ 64
-
-first_stands : (l : Layout) (w : World) (m : Memory) (i at : ℕ) (rest : List SlotItem) → HasFirst l w m i at rest → SlotStands l w m i at
+first_stands : (l : Layout) (w : World) (m : Memory) (i at : ℕ) (rest : List SlotItem) → HasFirst l w m i at rest → SlotStands AddressSlot l w m i at
 first_stands l w m i at rest h = record { holds = (h.value, h.there, inl h.is); below = word_below m (w.base + at) h.value h.there }
 
-second_stands : StubsAreRead → (l : Layout) (w : World) (m : Memory) (i at : ℕ) (r : Resolution) → IsPlaced l w m → IsResolvedBy l i r → HasSecond w m (is_position_independent l.kind) at r.plt_address → SlotStands l w m i at
+second_stands : StubsAreRead → (l : Layout) (w : World) (m : Memory) (i at : ℕ) (r : Resolution) → IsPlaced l w m → IsResolvedBy l i r → HasSecond w m (is_position_independent l.kind) at r.plt_address → SlotStands AddressSlot l w m i at
 second_stands law l w m i at r p d h =
     let stub = stub_from law l w m i h.stub r p d h.given in
     let same = second_is w (is_position_independent l.kind) h.stub h.value p.still stub.below h.is in
@@ -89,7 +85,7 @@ not_canonical true b e h = refl
 not_canonical false true e h = cc
 not_canonical false false e h = cc
 
-behind_by : StubsAreRead → (l : Layout) (w : World) (m : Memory) (i at : ℕ) (r : Resolution) (b : Bool) → IsPlaced l w m → IsResolvedBy l i r → has_second_slot r.flags ≡ b → HasFirst l w m i at (items_behind l r) → SlotStands l w m i (behind_word b at)
+behind_by : StubsAreRead → (l : Layout) (w : World) (m : Memory) (i at : ℕ) (r : Resolution) (b : Bool) → IsPlaced l w m → IsResolvedBy l i r → has_second_slot r.flags ≡ b → HasFirst l w m i at (items_behind l r) → SlotStands AddressSlot l w m i (behind_word b at)
 behind_by law l w m i at r false p d e first = first_stands l w m i at (items_behind l r) first
 behind_by law l w m i at r true p d e first =
     let fits = symbol_fits l (canonical l i) d.symbol p.symbols d.listed in
@@ -99,23 +95,26 @@ behind_by law l w m i at r true p d e first =
     let there = second_stands law l w m i (at + 8) r p d (second_asked l w m (at + 8) r asked first.behind) in
     let low = there.below in
     let same : (at + 8) % 2 ^ 64 ≡ at + 8 = omega (arith, low) in
-    subst (λ (n : ℕ). SlotStands l w m i n) (sym same) there
+    subst (λ (n : ℕ). SlotStands AddressSlot l w m i n) (sym same) there
 
 -- where the writer knows of a slot for an address, memory has it
-pub slot_stands : StubsAreRead → (l : Layout) (w : World) (m : Memory) (i slot : ℕ) → IsPlaced l w m → slot_of l kinds.GotRelative i ≡ Some slot → SlotStands l w m i slot
+slot_stands : StubsAreRead → (l : Layout) (w : World) (m : Memory) (i slot : ℕ) → IsPlaced l w m → slot_decided kinds.GotRelative (resolution_of l i) ≡ Some slot → SlotStands AddressSlot l w m i slot
 slot_stands law l w m i slot p h = by_resolution (resolution_of l i) refl h
   where
     among : (thread : Bool) (a : ℕ) (slot : ℕ) → (if thread then None else Some a) ≡ Some slot → (thread ≡ false) × (a ≡ slot)
     among true a slot h = cc
     among false a slot h = (refl, (let e : a ≡ slot = cc in e))
 
-    by_place : (r : Resolution) (o : Option ℕ) → resolution_of l i ≡ Some r → r.got_address ≡ o → option_and_then (slot_among kinds.GotRelative r.flags) o ≡ Some slot → SlotStands l w m i slot
+    by_place : (r : Resolution) (o : Option ℕ) → resolution_of l i ≡ Some r → r.got_address ≡ o → option_and_then (slot_among kinds.GotRelative r.flags) o ≡ Some slot → SlotStands AddressSlot l w m i slot
     by_place r None e f h = cc
     by_place r (Some at) e f h =
         let d = resolved l i r e in
         let a = among (has_thread_slot r.flags) (behind_word (has_second_slot r.flags) at) slot h in
-        subst (λ (n : ℕ). SlotStands l w m i n) a.1 (behind_by law l w m i at r (has_second_slot r.flags) p d refl (first_held l w m i at r p d f a.0))
+        subst (λ (n : ℕ). SlotStands AddressSlot l w m i n) a.1 (behind_by law l w m i at r (has_second_slot r.flags) p d refl (first_held l w m i at r p d f a.0))
 
-    by_resolution : (o : Option Resolution) → resolution_of l i ≡ o → slot_decided kinds.GotRelative o ≡ Some slot → SlotStands l w m i slot
+    by_resolution : (o : Option Resolution) → resolution_of l i ≡ o → slot_decided kinds.GotRelative o ≡ Some slot → SlotStands AddressSlot l w m i slot
     by_resolution None e h = cc
     by_resolution (Some r) e h = by_place r r.got_address e refl h
+
+pub slots_stand : StubsAreRead → (l : Layout) (w : World) (m : Memory) → IsPlaced l w m → SlotsStand kinds.GotRelative AddressSlot l w m
+slots_stand law l w m p = λ i slot h. slot_stands law l w m i slot p h

@@ -66,20 +66,19 @@ whole (Fault f ∷ xs) c none h =
 -- ---- words
 
 -- the first word, at its address
-word_first : (w : World) (m : Memory) (at : ℕ) (v : SlotWord) (vs : List SlotWord) → HasWords w m at (v ∷ vs) → (x : ℕ) × HasWord m (w.base + at) x × IsLoadedWord w v x
+pub word_first : (w : World) (m : Memory) (at : ℕ) (v : SlotWord) (vs : List SlotWord) → HasWords w m at (v ∷ vs) → (x : ℕ) × HasWord m (w.base + at) x × IsLoadedWord w v x
 word_first w m at v vs h =
     let x = h 0 v (omega arith) in
     let e : w.base + at + 8 * 0 ≡ w.base + at = omega arith in
     (x.0, subst (λ (a : ℕ). HasWord m a x.0) e x.1, x.2)
 
 -- the others, from 8 bytes behind it on
-words_behind : (w : World) (m : Memory) (at : ℕ) (v : SlotWord) (vs : List SlotWord) → HasWords w m at (v ∷ vs) → HasWords w m (at + 8) vs
+pub words_behind : (w : World) (m : Memory) (at : ℕ) (v : SlotWord) (vs : List SlotWord) → HasWords w m at (v ∷ vs) → HasWords w m (at + 8) vs
 words_behind w m at v vs h = λ k d l.
     let x = h (suc k) d (omega (arith, l)) in
     let e : w.base + at + 8 * suc k ≡ w.base + (at + 8) + 8 * k = omega arith in
     (x.0, subst (λ (a : ℕ). number_in m a 8 ≡ Some x.0) e x.1, x.2)
 
--- the words of two, as a pair of them
 items_from_words : (w : World) (m : Memory) (at : ℕ) (xs : List SlotItem) → NoFault xs → HasWords w m at (words_of xs) → ItemsHold w m at xs
 items_from_words w m at [] sound h = tt
 items_from_words w m at (Word v ∷ xs) sound h = (word_first w m at v (words_of xs) h, items_from_words w m (at + 8) xs sound (words_behind w m at v (words_of xs) h))

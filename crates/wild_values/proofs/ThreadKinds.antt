@@ -27,7 +27,7 @@ use Rattle.wild_values.proofs.Written.{address_given, slice_get_inside}
 use Rattle.wild_values.proofs.Values.{has_raw}
 use Rattle.wild_values.proofs.Symbols.{undefined}
 use Rattle.wild_values.proofs.Moves.{less_sum}
-use Rattle.wild_values.proofs.ThreadValues.{thread_place, thread_sum, pointer_same, own_base}
+use Rattle.wild_values.proofs.ThreadValues.{thread_place, thread_sum, pointer_same, own_base, executable_is}
 use Rattle.wild_values.proofs.Treated.{symbol_named}
 use Rattle.wild_values.specs.Terms.{IsPlaced, HasTerm}
 use Rattle.wild_values.proofs.ValueKinds.{more}
@@ -83,13 +83,7 @@ gives_pointer l w m s r x h =
 -- ---- in the own module
 
 storage_is : (l : Layout) (w : World) (m : Memory) → IsPlaced l w m → storage_start l ≡ thread_pointer l.machine l.tls
-storage_is l w m p = rw (p.x86, executable l.kind p.program) refl
-  where
-    executable : (k : OutputKind) → IsExecutable k → is_executable k ≡ true
-    executable (output.StaticExecutable any) h = refl
-    executable (output.DynamicExecutable any) h = refl
-    executable output.SharedObject h = absurd h
-    executable output.PartialObject h = absurd h
+storage_is l w m p = rw (p.x86, executable_is l.kind p.program) refl
 
 pub gives_offset : (l : Layout) (w : World) (m : Memory) (s : InputSection) (r : InputRelocation) (x : ℕ) → HasTerm l w m s r kinds.DtpOff x → Gives (plain_value kinds.DtpOff) l w m (item_of s) r x
 gives_offset l w m s r x h =

@@ -10,6 +10,7 @@ use Rattle.wild_plan.specs.declared.kind.Machine.TheVariants as machine
 use Rattle.wild_plan.specs.declared.kind.OutputKind.{OutputKind}
 use Rattle.wild_plan.specs.declared.kind.OutputKind.TheVariants as output
 use Rattle.wild_plan.specs.declared.layout.Layout.{Layout}
+use Rattle.wild_plan.specs.Kinds.{is_executable}
 use Rattle.wild_plan.specs.Storage as storage
 use Rattle.wild_loader.specs.declared.fault.LoadFault.TheVariants as faults
 use Rattle.wild_loader.specs.declared.world.World.{World}
@@ -77,3 +78,9 @@ own_base m k w x e = subst (λ (n : Machine). IsOffsetBase n k w 0) (sym x) (by_
     by_kind (output.DynamicExecutable any) h = refl
     by_kind output.SharedObject h = absurd h
     by_kind output.PartialObject h = absurd h
+
+pub executable_is : (k : OutputKind) → IsExecutable k → is_executable k ≡ true
+executable_is (output.StaticExecutable any) h = refl
+executable_is (output.DynamicExecutable any) h = refl
+executable_is output.SharedObject h = absurd h
+executable_is output.PartialObject h = absurd h
