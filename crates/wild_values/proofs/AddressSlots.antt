@@ -1,6 +1,6 @@
 -- The slot of an address: the first one has the symbol's value, a second one its stub's address.
 use Rattle.std.proofs.Common.{◌≡◌, ℕ, ◌+◌, ◌%◌, ◌^◌, ◌<◌, ◌⊎◌, inl, inr, Bool, true, false, List, [], ◌∷◌, ◌++◌, Option, Some, None, refl, sym, ap, ◌∙◌, arith, subst}
-use Rattle.std.specs.Prelude.{◌||◌, if◌then◌else◌, option_and_then}
+use Rattle.std.specs.Prelude.{◌||◌, if◌then◌else◌}
 use Rattle.wild_plan.specs.declared.slot.SlotItem.{SlotItem}
 use Rattle.wild_plan.specs.declared.slot.SlotItem.TheVariants.{Word}
 use Rattle.wild_plan.specs.declared.slot.SlotWord.TheVariants.{Number, Address}
@@ -15,7 +15,7 @@ use Rattle.wild_plan.specs.Stub.{far_of}
 use Rattle.wild_plan.specs.SymbolSlots.{has_thread_slot}
 use Rattle.wild_reloc.specs.Formula.{AddressSlot}
 use Rattle.wild_reloc.specs.declared.info.RelocationKind.TheVariants as kinds
-use Rattle.wild_layout.specs.Values.{has_second_slot, behind_word, slot_among, slot_decided, slot_of, resolution_of}
+use Rattle.wild_layout.specs.Values.{has_second_slot, behind_word}
 use Rattle.wild_geometry.specs.Slots.{IsLoadedWord}
 use Rattle.wild_loader.specs.StepLaws.{StubsAreRead}
 use Rattle.wild_loader.specs.declared.memory.Memory.{Memory}
@@ -26,10 +26,10 @@ use Rattle.wild_values.specs.Terms.{IsPlaced}
 use Rattle.wild_values.proofs.FirstSlots.{HasFirst, first_held, items_behind}
 use Rattle.wild_values.proofs.SlotContents.{ItemsHold}
 use Rattle.wild_values.proofs.SlotFlags.{SymbolFits, symbol_fits}
-use Rattle.wild_values.proofs.SlotTerms.{SlotStands, SlotsStand}
+use Rattle.wild_values.proofs.SlotTerms.{SlotStands, SlotsStand, by_slot}
 use Rattle.wild_values.proofs.StubCode.{word_below}
 use Rattle.wild_values.proofs.SymbolStubs.{StubStands, stub_from, stub_is}
-use Rattle.wild_values.proofs.Symbols.{IsResolvedBy, resolved}
+use Rattle.wild_values.proofs.Symbols.{IsResolvedBy}
 
 -- ---- the second slot
 
@@ -98,23 +98,11 @@ behind_by law l w m i at r true p d e first =
     subst (λ (n : ℕ). SlotStands AddressSlot l w m i n) (sym same) there
 
 -- where the writer knows of a slot for an address, memory has it
-slot_stands : StubsAreRead → (l : Layout) (w : World) (m : Memory) (i slot : ℕ) → IsPlaced l w m → slot_decided kinds.GotRelative (resolution_of l i) ≡ Some slot → SlotStands AddressSlot l w m i slot
-slot_stands law l w m i slot p h = by_resolution (resolution_of l i) refl h
-  where
-    among : (thread : Bool) (a : ℕ) (slot : ℕ) → (if thread then None else Some a) ≡ Some slot → (thread ≡ false) × (a ≡ slot)
-    among true a slot h = cc
-    among false a slot h = (refl, (let e : a ≡ slot = cc in e))
-
-    by_place : (r : Resolution) (o : Option ℕ) → resolution_of l i ≡ Some r → r.got_address ≡ o → option_and_then (slot_among kinds.GotRelative r.flags) o ≡ Some slot → SlotStands AddressSlot l w m i slot
-    by_place r None e f h = cc
-    by_place r (Some at) e f h =
-        let d = resolved l i r e in
-        let a = among (has_thread_slot r.flags) (behind_word (has_second_slot r.flags) at) slot h in
-        subst (λ (n : ℕ). SlotStands AddressSlot l w m i n) a.1 (behind_by law l w m i at r (has_second_slot r.flags) p d refl (first_held l w m i at r p d f a.0))
-
-    by_resolution : (o : Option Resolution) → resolution_of l i ≡ o → slot_decided kinds.GotRelative o ≡ Some slot → SlotStands AddressSlot l w m i slot
-    by_resolution None e h = cc
-    by_resolution (Some r) e h = by_place r r.got_address e refl h
-
 pub slots_stand : StubsAreRead → (l : Layout) (w : World) (m : Memory) → IsPlaced l w m → SlotsStand kinds.GotRelative AddressSlot l w m
-slots_stand law l w m p = λ i slot h. slot_stands law l w m i slot p h
+slots_stand law l w m p = λ i slot h. by_slot kinds.GotRelative l i slot (λ (n : ℕ). SlotStands AddressSlot l w m i n) h (λ r at d e among. by_flag i slot r at d e (has_thread_slot r.flags) refl among)
+  where
+    by_flag : (i slot : ℕ) (r : Resolution) (at : ℕ) → IsResolvedBy l i r → r.got_address ≡ Some at → (thread : Bool) → has_thread_slot r.flags ≡ thread → (if thread then None else Some (behind_word (has_second_slot r.flags) at)) ≡ Some slot → SlotStands AddressSlot l w m i slot
+    by_flag i slot r at d e true plain h = cc
+    by_flag i slot r at d e false plain h =
+        let same : behind_word (has_second_slot r.flags) at ≡ slot = cc in
+        subst (λ (n : ℕ). SlotStands AddressSlot l w m i n) same (behind_by law l w m i at r (has_second_slot r.flags) p d refl (first_held l w m i at r p d e plain))

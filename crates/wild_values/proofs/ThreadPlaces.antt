@@ -1,9 +1,9 @@
 -- The thread-local slots that the writer knows of have the offsets that the reader asks for.
 use Rattle.std.proofs.Common.{◌≡◌, ℕ, ◌+◌, ◌-◌, ◌%◌, ◌^◌, ◌<◌, ◌⊎◌, inl, inr, Bool, true, false, List, [], ◌∷◌, Option, Some, None, refl, sym, ap, ◌∙◌, arith, subst}
-use Rattle.std.specs.Prelude.{Ok, ◌||◌, if◌then◌else◌, option_and_then}
+use Rattle.std.specs.Prelude.{Ok, ◌||◌, if◌then◌else◌}
 use Rattle.std.specs.Int.{w64, cast_unsigned}
 use Rattle.wild_plan.specs.declared.slot.SlotWord.{SlotWord}
-use Rattle.wild_plan.specs.declared.slot.SlotWord.TheVariants.{Number, General}
+use Rattle.wild_plan.specs.declared.slot.SlotWord.TheVariants.{Number}
 use Rattle.wild_plan.specs.declared.symbol.Resolution.{Resolution}
 use Rattle.wild_plan.specs.declared.symbol.ValueFlags.{ValueFlags}
 use Rattle.wild_plan.specs.declared.layout.Layout.{Layout}
@@ -14,9 +14,8 @@ use Rattle.wild_plan.specs.SlotShares.{storage_at, storage_words}
 use Rattle.wild_plan.specs.Storage.{less, thread_pointer}
 use Rattle.wild_plan.specs.SymbolSlots.{has_dynamic_symbol, has_thread_slot}
 use Rattle.wild_reloc.specs.Formula.{ThreadOffset, ModulePair, OwnModulePair}
-use Rattle.wild_reloc.specs.declared.info.RelocationKind.{RelocationKind}
 use Rattle.wild_reloc.specs.declared.info.RelocationKind.TheVariants as kinds
-use Rattle.wild_layout.specs.Values.{behind_word, slot_among, slot_decided, slot_of, resolution_of}
+use Rattle.wild_layout.specs.Values.{behind_word}
 use Rattle.wild_geometry.specs.Slots.{HasWords}
 use Rattle.wild_loader.specs.Changes.{distance_of}
 use Rattle.wild_loader.specs.declared.memory.Memory.{Memory}
@@ -29,9 +28,9 @@ use Rattle.wild_values.specs.Terms.{IsPlaced}
 use Rattle.wild_values.proofs.FirstSlots.{thread_held, not_looked_up}
 use Rattle.wild_values.proofs.SlotContents.{ItemsHold, word_first, words_behind}
 use Rattle.wild_values.proofs.SlotFlags.{SymbolFits, symbol_fits}
-use Rattle.wild_values.proofs.SlotTerms.{SlotStands, SlotsStand}
+use Rattle.wild_values.proofs.SlotTerms.{SlotStands, SlotsStand, by_slot}
 use Rattle.wild_values.proofs.StubCode.{word_below}
-use Rattle.wild_values.proofs.Symbols.{IsResolvedBy, resolved, resolved_raw}
+use Rattle.wild_values.proofs.Symbols.{IsResolvedBy, resolved_raw}
 use Rattle.wild_values.proofs.ThreadSlots.{IsOwnThread, HasOffsetWord, HasPairWords, offset_first, pair_behind}
 use Rattle.wild_values.proofs.ThreadValues.{own_distance, thread_place, thread_sum, pointer_same, own_base, executable_is}
 
@@ -56,18 +55,6 @@ middle_of : (a b c : Bool) → b ≡ true → (a || (b || c)) ≡ true
 middle_of true b c h = refl
 middle_of false true c h = refl
 middle_of false false c h = cc
-
--- where the writer takes a slot that stands behind a symbol's first
-by_slot : (kind : RelocationKind) (l : Layout) (i slot : ℕ) (P : ℕ → Type 0) → slot_decided kind (resolution_of l i) ≡ Some slot → ((r : Resolution) (at : ℕ) → IsResolvedBy l i r → r.got_address ≡ Some at → slot_among kind r.flags at ≡ Some slot → P slot) → P slot
-by_slot kind l i slot P h by = by_resolution (resolution_of l i) refl h
-  where
-    by_place : (r : Resolution) (o : Option ℕ) → resolution_of l i ≡ Some r → r.got_address ≡ o → option_and_then (slot_among kind r.flags) o ≡ Some slot → P slot
-    by_place r None e f h = cc
-    by_place r (Some at) e f h = by r at (resolved l i r e) f h
-
-    by_resolution : (o : Option Resolution) → resolution_of l i ≡ o → slot_decided kind o ≡ Some slot → P slot
-    by_resolution None e h = cc
-    by_resolution (Some r) e h = by_place r r.got_address e refl h
 
 -- ---- the offset
 
@@ -146,16 +133,19 @@ pairs_stand l w m p = λ i slot h. by_slot kinds.TlsGd l i slot (λ (n : ℕ). S
 
 -- ---- the output's own pair
 
+pair_words : (w : World) (m : Memory) (at n : ℕ) → HasWords w m at (Number 1 ∷ Number n ∷ []) → HasPairWords w m at n
+pair_words w m at n h =
+    let a = word_first w m at (Number 1) (Number n ∷ []) h in
+    let b = word_first w m (at + 8) (Number n) [] (words_behind w m at (Number 1) (Number n ∷ []) h) in
+    let e : w.base + (at + 8) ≡ w.base + at + 8 = omega arith in
+    let second : HasWord m (w.base + (at + 8)) n = subst (λ (k : ℕ). HasWord m (w.base + (at + 8)) k) b.2 b.1 in
+    record { first = subst (λ (k : ℕ). HasWord m (w.base + at) k) a.2 a.1; second = subst (λ (a : ℕ). HasWord m a n) e second }
+
 own_words : (l : Layout) (w : World) (m : Memory) (at : ℕ) → IsPlaced l w m → l.tlsld ≡ Some at → HasPairWords w m at (less (thread_pointer l.machine l.tls) l.tls.start)
 own_words l w m at p e =
-    let start = less (thread_pointer l.machine l.tls) l.tls.start in
     let same : storage_words l ≡ storage_pair (setting_of l) = ap (storage_at (setting_of l)) e in
     let there = subst (λ (ws : List SlotWord). HasWords w m at ws) same (p.slots.pair at e) in
-    let words : HasWords w m at (Number 1 ∷ Number start ∷ []) = rw (executable_is l.kind p.program) at there in
-    let a = word_first w m at (Number 1) (Number start ∷ []) words in
-    let b = word_first w m (at + 8) (Number start) [] (words_behind w m at (Number 1) (Number start ∷ []) words) in
-    let f : w.base + (at + 8) ≡ w.base + at + 8 = omega arith in
-    record { first = subst (λ (n : ℕ). HasWord m (w.base + at) n) a.2 a.1; second = subst (λ (n : ℕ). HasWord m n start) f (subst (λ (n : ℕ). HasWord m (w.base + (at + 8)) n) b.2 b.1) }
+    pair_words w m at (less (thread_pointer l.machine l.tls) l.tls.start) (rw (executable_is l.kind p.program) at there)
 
 own_same : (d pointer tp start : ℕ) → (pointer + d) % 2 ^ 64 ≡ start → pointer % 2 ^ 64 ≡ tp → 0 ≡ (d + (tp + (2 ^ 64 - start)) % 2 ^ 64) % 2 ^ 64
 own_same d pointer tp start begins same = omega (arith, begins, same)
