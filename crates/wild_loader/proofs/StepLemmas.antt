@@ -1,6 +1,7 @@
 -- The effects of the known instructions of x86-64 in memory that has their bytes.
-use Rattle.std.proofs.Common.{◌≡◌, ℕ, ◌+◌, ◌%◌, ◌^◌, true, List, [], ◌∷◌, ◌++◌, length, refl, sym, ap, ◌∙◌, subst}
-use Rattle.std.specs.Prelude.{Option, Some, option_map}
+use Rattle.std.proofs.Common.{◌≡◌, ℕ, ◌+◌, ◌%◌, ◌^◌, inl, inr, true, List, [], ◌∷◌, ◌++◌, length, refl, sym, ap, ◌∙◌, arith, subst}
+use Rattle.std.specs.Prelude.{Option, Some, nat_lt, option_map}
+use Rattle.std.proofs.lemmas.Bool.{cases_Bool, ltb-true, ltb-false}
 use Rattle.std.proofs.lemmas.List.{append-nil}
 use Rattle.wild_words.specs.Words.{word, number}
 use Rattle.wild_words.proofs.WordLemmas.{length-word}
@@ -10,7 +11,7 @@ use Rattle.wild_loader.specs.declared.memory.Memory.{Memory}
 use Rattle.wild_loader.specs.declared.effect.EffectKind.TheVariants as kinds
 use Rattle.wild_loader.specs.Memory.{number_in, Holds}
 use Rattle.wild_loader.specs.Effect.{step, step_of, step_x86_64, first_effect, templates_x86_64, stands, field, exact, named_at, word_at, sign_extended_32, stub, call_indirect, jump_indirect, call_near, jump_near}
-use Rattle.wild_loader.specs.StepLaws.{stub_bytes, CallsAreRead, CallsOfValuesAreRead, JumpsAreRead, SlotCallsAreRead, SlotJumpsAreRead, StubsAreRead}
+use Rattle.wild_loader.specs.StepLaws.{stub_bytes, CallsAreRead, CallsOfValuesAreRead, JumpsAreRead, SlotCallsAreRead, SlotJumpsAreRead, StubsAreRead, IsSigned32, StubsOfValuesAreRead}
 use Rattle.wild_loader.proofs.Held.{held-behind, number-front, number_4}
 use Rattle.wild_loader.proofs.Steps.{stands-held, differs-held, stands-field, skipped, taken}
 
@@ -91,3 +92,23 @@ stub-held = λ m a v bs machine n h w.
     let whole : stands (field ++ exact stub_end) (bs ++ stub_end) ≡ true = stands-field bs stub_end (exact stub_end) n in
     step-x86 m a machine
     ∙ taken stub (call_indirect ∷ jump_indirect ∷ call_near ∷ jump_near ∷ []) m a (kinds.Jump v) (stands-held m a stub.cells (stub_bytes bs) whole h) (ap (λ (o : Option ℕ). option_map kinds.Jump o) (word_named m a 7 11 (number bs) v d w))
+
+-- four bytes of a signed number of 32 bits are read as it
+signed-value : (d : ℕ) → IsSigned32 d → sign_extended_32 (d % 2 ^ 32) ≡ d
+signed-value d (inl low) =
+    elim (cases_Bool (nat_lt (d % 2 ^ 32) (2 ^ 31))) [
+      | inl t ↦ rw t (omega (arith, low))
+      | inr f ↦ absurd (let l = ltb-false _ _ f in omega (arith, l, low))
+    ]
+signed-value d (inr high) =
+    let above = high.0 in
+    let below = high.1 in
+    elim (cases_Bool (nat_lt (d % 2 ^ 32) (2 ^ 31))) [
+      | inl t ↦ absurd (let l = ltb-true _ _ t in omega (arith, l, above, below))
+      | inr f ↦ rw f (omega (arith, above, below))
+    ]
+
+pub stub-of_value : StubsOfValuesAreRead
+stub-of_value = λ m a d v machine range h w.
+    let e : sign_extended_32 (number (word 4 d)) ≡ d = ap (λ (x : ℕ). sign_extended_32 x) (number_4 d) ∙ signed-value d range in
+    stub-held m a v (word 4 d) machine (length-word 4 d) h (subst (λ (x : ℕ). number_in m ((a + 11 + x) % 2 ^ 64) 8 ≡ Some v) (sym e) w)

@@ -2,7 +2,7 @@
 --   CallsAreRead, JumpsAreRead          to an address; CallsAreNear: back to the bytes
 --   SlotCallsAreRead, SlotJumpsAreRead  to the address in a word
 --   StubsAreRead                        of a stub: a jump to the address in its slot
-use Rattle.std.specs.Prelude.{◌≡◌, ℕ, ◌+◌, ◌%◌, ◌^◌, List, [], ◌∷◌, ◌++◌, length, Some}
+use Rattle.std.specs.Prelude.{◌≡◌, ℕ, ◌+◌, ◌-◌, ◌%◌, ◌^◌, ◌<◌, ◌≤◌, ◌⊎◌, List, [], ◌∷◌, ◌++◌, length, Some}
 use Rattle.wild_words.specs.Words.{word, number}
 use Rattle.wild_loader.specs.declared.memory.Machine.TheVariants as machines
 use Rattle.wild_loader.specs.declared.memory.Memory.{Memory}
@@ -50,4 +50,14 @@ stub_bytes field = 0xf3 ∷ 0x0f ∷ 0x1e ∷ 0xfa ∷ 0xf2 ∷ 0xff ∷ 0x25 �
 abbrev pub StubsAreRead : Type 0
 StubsAreRead = (m : Memory) (a v : ℕ) (field : List ℕ) → m.machine ≡ machines.X86_64 → length field ≡ 4 → Holds m a (stub_bytes field)
     → number_in m ((a + 11 + sign_extended_32 (number field)) % 2 ^ 64) 8 ≡ Some v
+    → step m a ≡ Some (record { length = 16; width = 64; kind = kinds.Jump v })
+
+-- a signed number of 32 bits, modulo 2^64
+abbrev pub IsSigned32 : ℕ → Type 0
+IsSigned32 d = (d < 2 ^ 31) ⊎ ((2 ^ 64 - 2 ^ 31 ≤ d) × (d < 2 ^ 64))
+
+-- the same, where the displacement is a value that four bytes can have
+abbrev pub StubsOfValuesAreRead : Type 0
+StubsOfValuesAreRead = (m : Memory) (a displacement v : ℕ) → m.machine ≡ machines.X86_64 → IsSigned32 displacement → Holds m a (stub_bytes (word 4 displacement))
+    → number_in m ((a + 11 + displacement) % 2 ^ 64) 8 ≡ Some v
     → step m a ≡ Some (record { length = 16; width = 64; kind = kinds.Jump v })

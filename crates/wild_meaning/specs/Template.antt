@@ -3,7 +3,7 @@
 --   IsTemplate ..        the operand's template stands in the input's bytes, with the relocation at its field
 --   Does m a e           the code in memory at an address does that
 --   DoesDemanded ..      the loaded code does what that template does with its operand read as the value
-use Rattle.std.specs.Prelude.{◌≡◌, ℕ, ◌+◌, ◌%◌, ◌^◌, ◌<◌, ◌≤◌, ◌⊎◌, Bool, true, false, List, [], ◌∷◌, length, slice_range, Some, Contains}
+use Rattle.std.specs.Prelude.{◌≡◌, ℕ, ◌+◌, ◌%◌, ◌^◌, ◌<◌, ◌≤◌, ◌⊎◌, Bool, true, false, if◌then◌else◌, List, [], ◌∷◌, length, slice_range, Some, Contains}
 use Rattle.std.specs.Int.{w64, cast_unsigned}
 use Rattle.wild_records.specs.Abi.Relocation.{r_x86_64_pc32, r_x86_64_plt32, r_x86_64_gotpcrel, r_x86_64_gotpcrelx}
 use Rattle.wild_records.specs.Abi.Section.{shf_execinstr}
@@ -89,10 +89,14 @@ pub record IsTemplate (l : Layout) (item : Item) (r : InputRelocation) (start : 
 abbrev pub Does : Memory → ℕ → Effect → Type 0
 Does m a e = step m a ≡ Some e
 
--- the code in memory does what the template does where its operand reads as S + A and what it counts from: a call or jump
--- goes to S where A takes back the bytes from its field to its end. Through a slot it does, where the slot reads as S: it
--- goes there itself
+-- where a template goes whose operand reads as a: past it by the addend and what the field counts from, which is nothing where
+-- the addend takes back the bytes from the field to the instruction's end; through a slot, to a itself
+abbrev pub target_of : Operand → InputRelocation → ℕ → ℕ
+target_of o r a = if o.through then a else (a + cast_unsigned w64 r.addend + o.counts) % 2 ^ 64
+
+-- the code in memory does what the template does where its operand, or the slot that it names, reads as what S is: it calls, or
+-- goes to, what comes to S
 pub record DoesDemanded (l : Layout) (w : World) (m : Memory) (item : Item) (r : InputRelocation) (start : ℕ) (o : Operand) : Type 0 where
   pub goal : ℕ
   pub reached : IsGoal l w m r.symbol goal
-  pub effect : Does m (place_at w item start) (record { length = size_of o; width = o.template.width; kind = o.does ((goal + cast_unsigned w64 r.addend + o.counts) % 2 ^ 64) })
+  pub effect : Does m (place_at w item start) (record { length = size_of o; width = o.template.width; kind = o.does (target_of o r goal) })

@@ -1,15 +1,16 @@
 //! Clause 11: where slots and stubs stand.
 ghost use Rattle.std.specs.Prelude.{◌≡◌, ◌+◌, ◌-◌, ◌*◌, ◌^◌, ◌<◌, ◌≤◌, length, slice_range, IfOk, IfSome};
 ghost use Rattle.wild_plan.specs.Lists.{first_failing};
-ghost use Rattle.wild_plan.specs.SlotPlaces.{start_of, IsBounded, first_free, begins_block, stands_at, stands_next, behind, walk, symbol_step, passed_without, is_without, slot_before, file_step, group_step, slots_astray, is_even_slot, slot_is_even, block_is_asked, block_has_base, pair_follows};
+ghost use Rattle.wild_plan.specs.SlotPlaces.{start_of, IsBounded, first_free, begins_block, stands_at, stands_next, behind, walk, symbol_step, passed_without, is_without, slot_before, file_step, group_step, slots_astray, pair_follows};
 ghost use Rattle.wild_plan.specs.WellFormed.{check_slots};
 
 use crate::clauses::slot_flags::{got_of, plt_of};
+use crate::clauses::slot_parts::{block_at_zero, block_unasked, odd_slot};
 use crate::clauses::{fails, unless};
 use crate::fault::Clause;
 use crate::file::{File, Group};
 use crate::layout::Layout;
-use crate::part::{Part, Role, has_role, part_with};
+use crate::part::{Role, part_with};
 use crate::slot::{SlotWord, WORD_SIZE};
 use crate::slot_parts::{WordPart, count_words};
 use crate::slot_shares::pair_words;
@@ -238,50 +239,11 @@ fn slots_astray(layout: &Layout) -> Option<usize>
     }
 }
 
-fn slot_is_even(symbol: &Symbol) -> bool
-    ensures { result ≡ slot_is_even symbol.now }
-{
-    match got_of(symbol) {
-        Some(address) => address % WORD_SIZE as u64 == 0,
-        None => true,
-    }
-}
-
-fn odd_slot(symbols: &[Symbol]) -> Option<usize>
-    ensures { result ≡ first_failing slot_is_even 0 symbols.now }
-{
-    symbols.iter().position(|symbol| !slot_is_even(symbol))
-}
-
-fn block_is_asked(layout: &Layout, part: &Part) -> bool
-    ensures { result ≡ block_is_asked layout.now part.now }
-{
-    !has_role(Role::GotRelr, part) || layout.options.relr
-}
-
-fn block_unasked(layout: &Layout, parts: &[Part]) -> Option<usize>
-    ensures { result ≡ first_failing (block_is_asked layout.now) 0 parts.now }
-{
-    parts.iter().position(|part| !block_is_asked(layout, part))
-}
-
 fn pair_follows(layout: &Layout) -> bool
     ensures { result ≡ pair_follows layout.now }
 {
     let free = behind_words(start_of(layout, Role::Got), layout.got_header);
     stands_at(free, layout.tlsld)
-}
-
-fn block_has_base(part: &Part) -> bool
-    ensures { result ≡ block_has_base part.now }
-{
-    !has_role(Role::GotRelr, part) || part.address != 0
-}
-
-fn block_at_zero(parts: &[Part]) -> Option<usize>
-    ensures { result ≡ first_failing block_has_base 0 parts.now }
-{
-    parts.iter().position(|part| !block_has_base(part))
 }
 
 #[tactic(auto, unfolding(crate::specs::WellFormed::check_slots))]
