@@ -10,7 +10,7 @@ use Rattle.wild_plan.specs.Treatment.{flags_at, moves}
 use Rattle.wild_layout.specs.declared.decision.Decision.TheVariants.{Moved}
 use Rattle.wild_layout.specs.Decide.{decided}
 use Rattle.wild_layout.proofs.DecideLemmas.{decided_moved}
-use Rattle.wild_loader.specs.StepLaws.{StubsAreRead}
+use Rattle.wild_loader.specs.StepLaws.{StubsOfValuesAreRead}
 use Rattle.wild_loader.specs.declared.world.World.{World}
 use Rattle.wild_loader.specs.declared.memory.Memory.{Memory}
 use Rattle.wild_meaning.specs.Value.{moved}
@@ -28,7 +28,7 @@ not_absolute l i h = by_tests (is_position_independent l.kind) (has_flag (flags_
     by_tests true true h = cc
     by_tests false b h = cc
 
-pub gives_moved : StubsAreRead → (l : Layout) (w : World) (m : Memory) (s : InputSection) (r : InputRelocation) (x : ℕ) (packed : Bool) → IsPlaced l w m → decided l s r ≡ Ok (Moved x packed) → IsSum l w m r ((x + w.base) % 2 ^ 64)
+pub gives_moved : StubsOfValuesAreRead → (l : Layout) (w : World) (m : Memory) (s : InputSection) (r : InputRelocation) (x : ℕ) (packed : Bool) → IsPlaced l w m → decided l s r ≡ Ok (Moved x packed) → IsSum l w m r ((x + w.base) % 2 ^ 64)
 gives_moved law l w m s r x packed p made =
     let v = decided_moved l s r x packed made in
     let t = addressed law l w m r.symbol v.address p v.given in

@@ -17,7 +17,7 @@ use Rattle.wild_reloc.specs.Formula.{AddressSlot}
 use Rattle.wild_reloc.specs.declared.info.RelocationKind.TheVariants as kinds
 use Rattle.wild_layout.specs.Values.{has_second_slot, behind_word}
 use Rattle.wild_geometry.specs.Slots.{IsLoadedWord}
-use Rattle.wild_loader.specs.StepLaws.{StubsAreRead}
+use Rattle.wild_loader.specs.StepLaws.{StubsOfValuesAreRead}
 use Rattle.wild_loader.specs.declared.memory.Memory.{Memory}
 use Rattle.wild_loader.specs.declared.world.World.{World}
 use Rattle.wild_meaning.specs.Slot.{HasWord}
@@ -70,7 +70,7 @@ second_is w false stub x still low h = let z = still refl in omega (arith, h, z,
 first_stands : (l : Layout) (w : World) (m : Memory) (i at : ℕ) (rest : List SlotItem) → HasFirst l w m i at rest → SlotStands AddressSlot l w m i at
 first_stands l w m i at rest h = record { holds = (h.value, h.there, inl h.is); below = word_below m (w.base + at) h.value h.there }
 
-second_stands : StubsAreRead → (l : Layout) (w : World) (m : Memory) (i at : ℕ) (r : Resolution) → IsPlaced l w m → IsResolvedBy l i r → HasSecond w m (is_position_independent l.kind) at r.plt_address → SlotStands AddressSlot l w m i at
+second_stands : StubsOfValuesAreRead → (l : Layout) (w : World) (m : Memory) (i at : ℕ) (r : Resolution) → IsPlaced l w m → IsResolvedBy l i r → HasSecond w m (is_position_independent l.kind) at r.plt_address → SlotStands AddressSlot l w m i at
 second_stands law l w m i at r p d h =
     let stub = stub_from law l w m i h.stub r p d h.given in
     let same = second_is w (is_position_independent l.kind) h.stub h.value p.still stub.below h.is in
@@ -85,7 +85,7 @@ not_canonical true b e h = refl
 not_canonical false true e h = cc
 not_canonical false false e h = cc
 
-behind_by : StubsAreRead → (l : Layout) (w : World) (m : Memory) (i at : ℕ) (r : Resolution) (b : Bool) → IsPlaced l w m → IsResolvedBy l i r → has_second_slot r.flags ≡ b → HasFirst l w m i at (items_behind l r) → SlotStands AddressSlot l w m i (behind_word b at)
+behind_by : StubsOfValuesAreRead → (l : Layout) (w : World) (m : Memory) (i at : ℕ) (r : Resolution) (b : Bool) → IsPlaced l w m → IsResolvedBy l i r → has_second_slot r.flags ≡ b → HasFirst l w m i at (items_behind l r) → SlotStands AddressSlot l w m i (behind_word b at)
 behind_by law l w m i at r false p d e first = first_stands l w m i at (items_behind l r) first
 behind_by law l w m i at r true p d e first =
     let fits = symbol_fits l (canonical l i) d.symbol p.symbols d.listed in
@@ -98,7 +98,7 @@ behind_by law l w m i at r true p d e first =
     subst (λ (n : ℕ). SlotStands AddressSlot l w m i n) (sym same) there
 
 -- where the writer knows of a slot for an address, memory has it
-pub slots_stand : StubsAreRead → (l : Layout) (w : World) (m : Memory) → IsPlaced l w m → SlotsStand kinds.GotRelative AddressSlot l w m
+pub slots_stand : StubsOfValuesAreRead → (l : Layout) (w : World) (m : Memory) → IsPlaced l w m → SlotsStand kinds.GotRelative AddressSlot l w m
 slots_stand law l w m p = λ i slot h. by_slot kinds.GotRelative l i slot (λ (n : ℕ). SlotStands AddressSlot l w m i n) h (λ r at d e among. by_flag i slot r at d e (has_thread_slot r.flags) refl among)
   where
     by_flag : (i slot : ℕ) (r : Resolution) (at : ℕ) → IsResolvedBy l i r → r.got_address ≡ Some at → (thread : Bool) → has_thread_slot r.flags ≡ thread → (if thread then None else Some (behind_word (has_second_slot r.flags) at)) ≡ Some slot → SlotStands AddressSlot l w m i slot

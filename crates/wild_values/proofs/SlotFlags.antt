@@ -52,7 +52,7 @@ symbol_fits l i s fit listed =
     let t = tests_pass l i s fit.flags listed in
     record {
       own = All-at IsOwnSymbol l.symbols i s fit.own.each listed;
-      number = (All-at SymbolNumbers l.symbols i s fit.numbers listed).raw;
+      number = λ r e. (All-at SymbolNumbers l.symbols i s fit.numbers listed r e).value;
       stub = t.stub;
       alone = t.alone;
       moves = t.moves;

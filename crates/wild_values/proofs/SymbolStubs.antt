@@ -12,7 +12,7 @@ use Rattle.wild_plan.specs.Slots.{setting_of, stub_item, stub_items, ifunc_addre
 use Rattle.wild_plan.specs.Stub.{stub_x86_64, far_between, far_of}
 use Rattle.wild_plan.specs.SymbolSlots.{resolved_got, resolved_plt, got_of, plt_of, has_thread_slot}
 use Rattle.wild_layout.specs.Values.{resolution_of, stub_of}
-use Rattle.wild_loader.specs.StepLaws.{StubsAreRead}
+use Rattle.wild_loader.specs.StepLaws.{StubsOfValuesAreRead}
 use Rattle.wild_loader.specs.declared.memory.Memory.{Memory}
 use Rattle.wild_loader.specs.declared.world.World.{World}
 use Rattle.wild_meaning.specs.Formula.{IsGoal}
@@ -61,7 +61,7 @@ resolved_stub l i stub h = by_resolution (resolution_of l i) refl h
     by_resolution None e h = cc
     by_resolution (Some r) e h = (r, resolved l i r e, h)
 
-pub stub_from : StubsAreRead → (l : Layout) (w : World) (m : Memory) (i stub : ℕ) (r : Resolution) → IsPlaced l w m → IsResolvedBy l i r → r.plt_address ≡ Some stub → StubStands l w m i stub
+pub stub_from : StubsOfValuesAreRead → (l : Layout) (w : World) (m : Memory) (i stub : ℕ) (r : Resolution) → IsPlaced l w m → IsResolvedBy l i r → r.plt_address ≡ Some stub → StubStands l w m i stub
 stub_from law l w m i stub r p d f =
     let s = d.symbol in
     let fits = symbol_fits l (canonical l i) s p.symbols d.listed in
@@ -82,7 +82,7 @@ stub_from law l w m i stub r p d f =
     }
 
 -- where the writer knows of a stub, memory has it
-pub stub_stands : StubsAreRead → (l : Layout) (w : World) (m : Memory) (i stub : ℕ) → IsPlaced l w m → stub_of l i ≡ Some stub → StubStands l w m i stub
+pub stub_stands : StubsOfValuesAreRead → (l : Layout) (w : World) (m : Memory) (i stub : ℕ) → IsPlaced l w m → stub_of l i ≡ Some stub → StubStands l w m i stub
 stub_stands law l w m i stub p h = let r = resolved_stub l i stub h in stub_from law l w m i stub r.0 p r.1 r.2
 
 -- ---- it reaches the value

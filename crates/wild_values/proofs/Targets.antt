@@ -9,7 +9,7 @@ use Rattle.wild_plan.specs.declared.layout.Layout.{Layout}
 use Rattle.wild_plan.specs.Flags.{has_flag, absolute, ifunc}
 use Rattle.wild_plan.specs.Treatment.{flags_at}
 use Rattle.wild_layout.specs.Values.{is_chosen, address_of, raw_address, stub_of}
-use Rattle.wild_loader.specs.StepLaws.{StubsAreRead}
+use Rattle.wild_loader.specs.StepLaws.{StubsOfValuesAreRead}
 use Rattle.wild_loader.specs.declared.memory.Memory.{Memory}
 use Rattle.wild_loader.specs.declared.world.World.{World}
 use Rattle.wild_meaning.specs.Formula.{IsTarget}
@@ -52,7 +52,7 @@ raw_addressed l w m i a p chosen h =
     }
 
 -- the stub's, where a resolver chooses the function: it moves with the base
-stub_addressed : StubsAreRead → (l : Layout) (w : World) (m : Memory) (i a : ℕ) → IsPlaced l w m → is_chosen l i ≡ true → stub_of l i ≡ Some a → IsAddressed l w m (Some i) a
+stub_addressed : StubsOfValuesAreRead → (l : Layout) (w : World) (m : Memory) (i a : ℕ) → IsPlaced l w m → is_chosen l i ≡ true → stub_of l i ≡ Some a → IsAddressed l w m (Some i) a
 stub_addressed law l w m i a p chosen h =
     let stub = stub_stands law l w m i a p h in
     let s = stub.given.symbol in
@@ -66,7 +66,7 @@ stub_addressed law l w m i a p chosen h =
       absolute = λ j e t. cc;
     }
 
-pub addressed : StubsAreRead → (l : Layout) (w : World) (m : Memory) (symbol : Option ℕ) (a : ℕ) → IsPlaced l w m → address_of l symbol ≡ Ok a → IsAddressed l w m symbol a
+pub addressed : StubsOfValuesAreRead → (l : Layout) (w : World) (m : Memory) (symbol : Option ℕ) (a : ℕ) → IsPlaced l w m → address_of l symbol ≡ Ok a → IsAddressed l w m symbol a
 addressed law l w m None a p h = record { still = true; denoted = address_given l None a h; flag = λ i e. cc; absolute = λ i e t. cc }
 addressed law l w m (Some i) a p h =
     elim (cases_Bool (is_chosen l i)) [

@@ -13,7 +13,7 @@ use Rattle.wild_reloc.specs.Agreement.{plain_value}
 use Rattle.wild_reloc.specs.declared.info.RelocationKind.{RelocationKind}
 use Rattle.wild_reloc.specs.declared.info.RelocationKind.TheVariants as kinds
 use Rattle.wild_layout.specs.Values.{address_of, symbol_size, term_of, place_of}
-use Rattle.wild_loader.specs.StepLaws.{StubsAreRead}
+use Rattle.wild_loader.specs.StepLaws.{StubsOfValuesAreRead}
 use Rattle.wild_loader.specs.declared.world.World.{World}
 use Rattle.wild_loader.specs.declared.memory.Memory.{Memory}
 use Rattle.wild_meaning.specs.Value.{moved}
@@ -30,7 +30,7 @@ use Rattle.wild_values.specs.Terms.{HasTerm}
 abbrev pub more : InputRelocation → ℕ
 more r = cast_unsigned w64 r.addend
 
-address_here : StubsAreRead → (l : Layout) (w : World) (m : Memory) (s : InputSection) (r : InputRelocation) (k : RelocationKind) (x : ℕ) → (h : HasTerm l w m s r k x) → term_of l r.symbol k ≡ address_of l r.symbol → IsAddressed l w m r.symbol h.term
+address_here : StubsOfValuesAreRead → (l : Layout) (w : World) (m : Memory) (s : InputSection) (r : InputRelocation) (k : RelocationKind) (x : ℕ) → (h : HasTerm l w m s r k x) → term_of l r.symbol k ≡ address_of l r.symbol → IsAddressed l w m r.symbol h.term
 address_here law l w m s r k x h same = addressed law l w m r.symbol h.term h.placed (sym same ∙ h.given)
 
 sum_of : (l : Layout) (w : World) (m : Memory) (s : InputSection) (r : InputRelocation) (a : ℕ) → (t : IsAddressed l w m r.symbol a) → IsSum l w m r ((moved t.still w.base a + more r) % 2 ^ 64)
@@ -46,7 +46,7 @@ right_sum l w m s r x h t =
       | inr flag ↦ inr (sym (t.flag i.0 i.1) ∙ flag)
     ]
 
-pub gives_sum : StubsAreRead → (l : Layout) (w : World) (m : Memory) (s : InputSection) (r : InputRelocation) (x : ℕ) → HasTerm l w m s r kinds.Absolute x → IsSum l w m r x
+pub gives_sum : StubsOfValuesAreRead → (l : Layout) (w : World) (m : Memory) (s : InputSection) (r : InputRelocation) (x : ℕ) → HasTerm l w m s r kinds.Absolute x → IsSum l w m r x
 gives_sum law l w m s r x h =
     let t = address_here law l w m s r kinds.Absolute x h refl in
     let e = sum_is t.still w.base h.term (more r) (right_sum l w m s r x h t) in
@@ -71,14 +71,14 @@ right_distance l w m s r x h t = by_symbol r.symbol refl
     by_symbol None e = inl (h.placed.still (distance_still l s h.row h.room (subst (λ (o : Option ℕ). kind_treatment l s o h.row kinds.Relative ≡ treatments.Value h.row) e h.treated)))
     by_symbol (Some i) e = right_relative l w m s r kinds.Relative x i h tt e t
 
-pub gives_distance : StubsAreRead → (l : Layout) (w : World) (m : Memory) (s : InputSection) (r : InputRelocation) (x : ℕ) → HasTerm l w m s r kinds.Relative x → Gives (plain_value kinds.Relative) l w m (item_of s) r x
+pub gives_distance : StubsOfValuesAreRead → (l : Layout) (w : World) (m : Memory) (s : InputSection) (r : InputRelocation) (x : ℕ) → HasTerm l w m s r kinds.Relative x → Gives (plain_value kinds.Relative) l w m (item_of s) r x
 gives_distance law l w m s r x h =
     let t = address_here law l w m s r kinds.Relative x h refl in
     let e = distance_is t.still w.base h.term (more r) (place_of s r) (right_distance l w m s r x h t) h.ends in
     let at = ap (λ (p : ℕ). ((moved t.still w.base h.term + more r) % 2 ^ 64 + (2 ^ 64 - p)) % 2 ^ 64) (sym h.place) in
     ((moved t.still w.base h.term + more r) % 2 ^ 64, sum_of l w m s r h.term t, sym h.value ∙ e ∙ at)
 
-pub gives_from_table : StubsAreRead → (l : Layout) (w : World) (m : Memory) (s : InputSection) (r : InputRelocation) (x : ℕ) → HasTerm l w m s r kinds.SymRelGotBase x → Gives (plain_value kinds.SymRelGotBase) l w m (item_of s) r x
+pub gives_from_table : StubsOfValuesAreRead → (l : Layout) (w : World) (m : Memory) (s : InputSection) (r : InputRelocation) (x : ℕ) → HasTerm l w m s r kinds.SymRelGotBase x → Gives (plain_value kinds.SymRelGotBase) l w m (item_of s) r x
 gives_from_table law l w m s r x h =
     let t = address_here law l w m s r kinds.SymRelGotBase x h refl in
     let i = symbol_named r.symbol (λ i. treatments.Value h.row) h.row h.treated in
