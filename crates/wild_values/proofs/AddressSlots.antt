@@ -1,5 +1,5 @@
 -- The slot of an address: the first one has the symbol's value, a second one its stub's address.
-use Rattle.std.proofs.Common.{◌≡◌, ℕ, ◌+◌, ◌%◌, ◌^◌, ◌<◌, ◌⊎◌, inl, inr, Bool, true, false, List, [], ◌∷◌, ◌++◌, Option, Some, None, refl, sym, ap, ◌∙◌, arith, subst}
+use Rattle.std.proofs.Common.{◌≡◌, ℕ, ◌+◌, ◌%◌, ◌^◌, ◌<◌, inl, inr, Bool, true, false, List, [], ◌∷◌, ◌++◌, Option, Some, None, refl, sym, ap, ◌∙◌, arith, subst}
 use Rattle.std.specs.Prelude.{◌||◌, if◌then◌else◌}
 use Rattle.wild_plan.specs.declared.slot.SlotItem.{SlotItem}
 use Rattle.wild_plan.specs.declared.slot.SlotItem.TheVariants.{Word}
@@ -10,7 +10,7 @@ use Rattle.wild_plan.specs.declared.layout.Layout.{Layout}
 use Rattle.wild_plan.specs.Flags.{has_flag, ifunc_got_for_address, canonical_plt_got_for_address}
 use Rattle.wild_plan.specs.Kinds.{is_position_independent}
 use Rattle.wild_plan.specs.Lookups.{canonical}
-use Rattle.wild_plan.specs.Slots.{setting_of, stub_item, stub_items, stub_address, where_so, number, canonical_address_items}
+use Rattle.wild_plan.specs.Slots.{setting_of, stub_items, stub_address, where_so, number, canonical_address_items}
 use Rattle.wild_plan.specs.Stub.{far_of}
 use Rattle.wild_plan.specs.SymbolSlots.{has_thread_slot}
 use Rattle.wild_reloc.specs.Formula.{AddressSlot}
@@ -25,10 +25,10 @@ use Rattle.wild_meaning.specs.Value.{IsStub}
 use Rattle.wild_values.specs.Terms.{IsPlaced}
 use Rattle.wild_values.proofs.FirstSlots.{HasFirst, first_held, items_behind}
 use Rattle.wild_values.proofs.SlotContents.{ItemsHold}
-use Rattle.wild_values.proofs.SlotFlags.{SymbolFits, symbol_fits}
+use Rattle.wild_values.proofs.SlotFlags.{symbol_fits}
 use Rattle.wild_values.proofs.SlotTerms.{SlotStands, SlotsStand, by_slot}
 use Rattle.wild_values.proofs.StubCode.{word_below}
-use Rattle.wild_values.proofs.SymbolStubs.{StubStands, stub_from, stub_is}
+use Rattle.wild_values.proofs.SymbolStubs.{stub_from, stub_is}
 use Rattle.wild_values.proofs.Symbols.{IsResolvedBy}
 
 -- ---- the second slot

@@ -1,5 +1,5 @@
 -- The first slot of an address has the symbol's value.
-use Rattle.std.proofs.Common.{◌≡◌, ℕ, ◌+◌, ◌%◌, ◌^◌, ◌<◌, ◌⊎◌, inl, inr, Bool, true, false, List, ◌∷◌, ◌++◌, Option, Some, None, refl, sym, ap, ◌∙◌, arith, subst}
+use Rattle.std.proofs.Common.{◌≡◌, ℕ, ◌+◌, ◌%◌, ◌^◌, ◌<◌, ◌⊎◌, inl, inr, Bool, true, false, List, ◌∷◌, ◌++◌, Option, Some, refl, sym, ap, ◌∙◌, arith, subst}
 use Rattle.std.specs.Prelude.{◌&&◌, ◌||◌, not, if◌then◌else◌}
 use Rattle.wild_reloc.specs.declared.dynamic.DynamicRelocationKind.TheVariants.{GotEntry, JumpSlot, Irelative}
 use Rattle.wild_plan.specs.declared.slot.Setting.{Setting}
@@ -18,15 +18,15 @@ use Rattle.wild_plan.specs.OwnSymbols.{IsOwnSymbol}
 use Rattle.wild_plan.specs.Slots.{setting_of, named, general, plt, number, plain_item, stub_items, ifunc_address_items, canonical_address_items, slot_items, items_at, thread_items, address_items, slot}
 use Rattle.wild_plan.specs.SlotShares.{resolved_slots, slots_of}
 use Rattle.wild_plan.specs.Stub.{far_of}
-use Rattle.wild_plan.specs.SymbolSlots.{resolved_got, got_of, has_dynamic_symbol, has_thread_slot}
-use Rattle.wild_geometry.specs.Slots.{IsLoadedWord, HasWords, HasSymbolSlots}
+use Rattle.wild_plan.specs.SymbolSlots.{resolved_got, has_dynamic_symbol, has_thread_slot}
+use Rattle.wild_geometry.specs.Slots.{IsLoadedWord, HasWords}
 use Rattle.wild_loader.specs.declared.memory.Memory.{Memory}
 use Rattle.wild_loader.specs.declared.world.World.{World}
 use Rattle.wild_meaning.specs.Slot.{HasWord}
 use Rattle.wild_meaning.specs.Value.{IsValue, HasValue, moved}
 use Rattle.wild_values.specs.Terms.{IsPlaced}
 use Rattle.wild_values.proofs.Symbols.{IsResolvedBy, resolved_raw, resolved_flag}
-use Rattle.wild_values.proofs.SlotFlags.{SymbolFits, symbol_fits}
+use Rattle.wild_values.proofs.SlotFlags.{symbol_fits}
 use Rattle.wild_values.proofs.SlotContents.{ItemsHold, items_hold}
 
 -- ---- the slots of a symbol in memory

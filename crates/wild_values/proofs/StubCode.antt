@@ -1,6 +1,6 @@
 -- A stub in memory: its bytes jump to the word of its slot.
-use Rattle.std.proofs.Common.{◌≡◌, ℕ, suc, ◌+◌, ◌*◌, ◌-◌, ◌%◌, ◌^◌, ◌<◌, ◌≤◌, ◌⊎◌, inl, inr, Bool, true, false, List, ◌∷◌, length, Option, Some, None, refl, sym, ap, ◌∙◌, arith, subst}
-use Rattle.std.specs.Prelude.{◌||◌, nat_lt, nat_le, if◌then◌else◌, option_and_then, option_map}
+use Rattle.std.proofs.Common.{◌≡◌, ℕ, ◌+◌, ◌*◌, ◌-◌, ◌%◌, ◌^◌, ◌<◌, inl, inr, true, List, Option, Some, None, refl, sym, arith, subst}
+use Rattle.std.specs.Prelude.{nat_lt, option_and_then, option_map}
 use Rattle.std.proofs.lemmas.Bool.{cases_Bool, ltb-true, leb-true}
 use Rattle.wild_words.specs.Words.{word, place}
 use Rattle.wild_reloc.specs.Range.{of_bits, contains}
@@ -8,7 +8,7 @@ use Rattle.wild_reloc.specs.declared.range.Sign.TheVariants.{Signed}
 use Rattle.wild_plan.specs.Stub.{stub_x86_64, displacement_x86_64}
 use Rattle.wild_loader.specs.declared.memory.Machine.TheVariants as machines
 use Rattle.wild_loader.specs.declared.memory.Memory.{Memory}
-use Rattle.wild_loader.specs.Memory.{byte_in, byte_of, number_in, Holds}
+use Rattle.wild_loader.specs.Memory.{byte_in, number_in, Holds}
 use Rattle.wild_loader.specs.StepLaws.{IsSigned32, StubsOfValuesAreRead, stub_bytes}
 use Rattle.wild_meaning.specs.Slot.{HasWord}
 use Rattle.wild_meaning.specs.Value.{JumpsTo}

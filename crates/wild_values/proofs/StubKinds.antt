@@ -1,5 +1,5 @@
 -- The distances of stubs that a relocation writes are what its expression gives: L + A - P and L + A - GOT.
-use Rattle.std.proofs.Common.{◌≡◌, ℕ, ◌+◌, ◌%◌, ◌^◌, refl, sym, subst}
+use Rattle.std.proofs.Common.{◌≡◌, ℕ, ◌+◌, ◌%◌, ◌^◌, sym, subst}
 use Rattle.std.specs.Prelude.{Option, Some, Ok}
 use Rattle.wild_plan.specs.declared.fault.Missing.TheVariants as missing
 use Rattle.wild_plan.specs.declared.input.InputRelocation.{InputRelocation}

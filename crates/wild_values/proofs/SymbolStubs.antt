@@ -4,13 +4,12 @@ use Rattle.std.specs.Prelude.{if◌then◌else◌, option_and_then}
 use Rattle.wild_plan.specs.declared.kind.Machine.TheVariants as machine
 use Rattle.wild_plan.specs.declared.slot.SlotItem.{SlotItem}
 use Rattle.wild_plan.specs.declared.symbol.Resolution.{Resolution}
-use Rattle.wild_plan.specs.declared.symbol.Symbol.{Symbol}
 use Rattle.wild_plan.specs.declared.symbol.ValueFlags.{ValueFlags}
 use Rattle.wild_plan.specs.declared.layout.Layout.{Layout}
 use Rattle.wild_plan.specs.Lookups.{canonical}
 use Rattle.wild_plan.specs.Slots.{setting_of, stub_item, stub_items, ifunc_address_items, canonical_address_items}
 use Rattle.wild_plan.specs.Stub.{stub_x86_64, far_between, far_of}
-use Rattle.wild_plan.specs.SymbolSlots.{resolved_got, resolved_plt, got_of, plt_of, has_thread_slot}
+use Rattle.wild_plan.specs.SymbolSlots.{resolved_got, resolved_plt, plt_of, has_thread_slot}
 use Rattle.wild_layout.specs.Values.{resolution_of, stub_of}
 use Rattle.wild_loader.specs.StepLaws.{StubsOfValuesAreRead}
 use Rattle.wild_loader.specs.declared.memory.Memory.{Memory}
@@ -20,7 +19,7 @@ use Rattle.wild_meaning.specs.Value.{HasValue, HasStub, IsStub, JumpsTo, Reaches
 use Rattle.wild_values.specs.Terms.{IsPlaced}
 use Rattle.wild_values.proofs.FirstSlots.{HasFirst, first_held, items_behind}
 use Rattle.wild_values.proofs.SlotContents.{ItemsHold}
-use Rattle.wild_values.proofs.SlotFlags.{SymbolFits, symbol_fits, slot_of_stub, plain_stub}
+use Rattle.wild_values.proofs.SlotFlags.{symbol_fits, slot_of_stub, plain_stub}
 use Rattle.wild_values.proofs.StubCode.{stub_jumps, stub_below}
 use Rattle.wild_values.proofs.Symbols.{IsResolvedBy, resolved}
 
@@ -87,12 +86,12 @@ stub_stands law l w m i stub p h = let r = resolved_stub l i stub h in stub_from
 
 -- ---- it reaches the value
 
-pub stub_address : (l : Layout) (w : World) (m : Memory) (i stub : ℕ) → StubStands l w m i stub → (w.base + stub) % 2 ^ 64 ≡ w.base + stub
-stub_address l w m i stub h = let low = h.below in omega (arith, low)
+stub_fits : (l : Layout) (w : World) (m : Memory) (i stub : ℕ) → StubStands l w m i stub → (w.base + stub) % 2 ^ 64 ≡ w.base + stub
+stub_fits l w m i stub h = let low = h.below in omega (arith, low)
 
 -- code that goes to the stub comes to the symbol's value
 pub stub_reaches : (l : Layout) (w : World) (m : Memory) (i stub : ℕ) → (h : StubStands l w m i stub) → Reaches m ((w.base + stub) % 2 ^ 64) h.value
-stub_reaches l w m i stub h = subst (λ (a : ℕ). Reaches m a h.value) (sym (stub_address l w m i stub h)) (inr (h.value, h.jumps, inl refl))
+stub_reaches l w m i stub h = subst (λ (a : ℕ). Reaches m a h.value) (sym (stub_fits l w m i stub h)) (inr (h.value, h.jumps, inl refl))
 
 -- so it is L
 pub stub_is_goal : (l : Layout) (w : World) (m : Memory) (i stub : ℕ) → StubStands l w m i stub → IsGoal l w m (Some i) ((w.base + stub) % 2 ^ 64)

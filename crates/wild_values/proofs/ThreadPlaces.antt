@@ -1,5 +1,5 @@
 -- The thread-local slots that the writer knows of have the offsets that the reader asks for.
-use Rattle.std.proofs.Common.{◌≡◌, ℕ, ◌+◌, ◌-◌, ◌%◌, ◌^◌, ◌<◌, ◌⊎◌, inl, inr, Bool, true, false, List, [], ◌∷◌, Option, Some, None, refl, sym, ap, ◌∙◌, arith, subst}
+use Rattle.std.proofs.Common.{◌≡◌, ℕ, ◌+◌, ◌-◌, ◌%◌, ◌^◌, ◌⊎◌, inl, inr, Bool, true, false, List, [], ◌∷◌, Some, None, refl, sym, ap, ◌∙◌, arith, subst}
 use Rattle.std.specs.Prelude.{Ok, ◌||◌, if◌then◌else◌}
 use Rattle.std.specs.Int.{w64, cast_unsigned}
 use Rattle.wild_plan.specs.declared.slot.SlotWord.{SlotWord}
@@ -20,18 +20,18 @@ use Rattle.wild_geometry.specs.Slots.{HasWords}
 use Rattle.wild_loader.specs.Changes.{distance_of}
 use Rattle.wild_loader.specs.declared.memory.Memory.{Memory}
 use Rattle.wild_loader.specs.declared.world.World.{World}
-use Rattle.wild_meaning.specs.Slot.{HasWord, IsPair, HoldsSlot}
+use Rattle.wild_meaning.specs.Slot.{HasWord, IsPair}
 use Rattle.wild_meaning.specs.Thread as judge
 use Rattle.wild_meaning.specs.Value.{HasRaw}
 use Rattle.wild_meaning.specs.World.{IsFirstModule}
 use Rattle.wild_values.specs.Terms.{IsPlaced}
 use Rattle.wild_values.proofs.FirstSlots.{thread_held, not_looked_up}
-use Rattle.wild_values.proofs.SlotContents.{ItemsHold, word_first, words_behind}
-use Rattle.wild_values.proofs.SlotFlags.{SymbolFits, symbol_fits}
+use Rattle.wild_values.proofs.SlotContents.{word_first, words_behind}
+use Rattle.wild_values.proofs.SlotFlags.{symbol_fits}
 use Rattle.wild_values.proofs.SlotTerms.{SlotStands, SlotsStand, by_slot}
 use Rattle.wild_values.proofs.StubCode.{word_below}
 use Rattle.wild_values.proofs.Symbols.{IsResolvedBy, resolved_raw}
-use Rattle.wild_values.proofs.ThreadSlots.{IsOwnThread, HasOffsetWord, HasPairWords, offset_first, pair_behind}
+use Rattle.wild_values.proofs.ThreadSlots.{IsOwnThread, HasPairWords, offset_first, pair_behind}
 use Rattle.wild_values.proofs.ThreadValues.{own_distance, thread_place, thread_sum, pointer_same, own_base, executable_is}
 
 -- ---- the symbol

@@ -1,5 +1,5 @@
 -- The slots of a thread-local symbol in memory of an executable: its offset from the thread pointer, and its pair.
-use Rattle.std.proofs.Common.{◌≡◌, ℕ, ℤ, ◌+◌, ◌-◌, ◌%◌, ◌^◌, ◌<◌, ◌⊎◌, inl, inr, Bool, true, false, List, [], ◌∷◌, ◌++◌, Option, Some, None, refl, sym, ap, ◌∙◌, arith, subst}
+use Rattle.std.proofs.Common.{◌≡◌, ℕ, ◌+◌, ◌⊎◌, inl, inr, Bool, true, false, List, [], ◌∷◌, ◌++◌, Option, None, refl, arith, subst}
 use Rattle.std.specs.Prelude.{◌==◌, ◌&&◌, not, if◌then◌else◌}
 use Rattle.std.proofs.lemmas.Bool.{eqb-true}
 use Rattle.wild_reloc.specs.declared.dynamic.DynamicRelocationKind.TheVariants.{DtpMod, TpOff}
@@ -8,10 +8,9 @@ use Rattle.wild_plan.specs.declared.slot.SlotFault.TheVariants.{TlsOutOfSegment}
 use Rattle.wild_plan.specs.declared.slot.SlotItem.{SlotItem}
 use Rattle.wild_plan.specs.declared.slot.SlotItem.TheVariants.{Fault}
 use Rattle.wild_plan.specs.declared.symbol.Resolution.{Resolution}
-use Rattle.wild_plan.specs.declared.layout.Layout.{Layout}
 use Rattle.wild_plan.specs.Flags.{has_flag, interposable, dynamic, got_tls_offset, got_tls_module}
 use Rattle.wild_plan.specs.Kinds.{is_executable}
-use Rattle.wild_plan.specs.Slots.{number, general, named, offset_item, module_item, module_offset, module_offset_item, where_so, offset_items, module_items, descriptor_items, thread_items}
+use Rattle.wild_plan.specs.Slots.{number, general, named, offset_item, module_item, module_offset, module_offset_item, where_so, module_items, descriptor_items, thread_items}
 use Rattle.wild_plan.specs.Storage.{less, is_outside}
 use Rattle.wild_plan.specs.SymbolSlots.{has_dynamic_symbol}
 use Rattle.wild_loader.specs.declared.memory.Memory.{Memory}
