@@ -11,7 +11,7 @@ use Rattle.wild_reloc.specs.declared.info.RelocationKind.{RelocationKind}
 use Rattle.wild_reloc.specs.declared.info.RelocationKind.TheVariants as kinds
 use Rattle.wild_layout.specs.declared.decision.Decision.TheVariants.{Field}
 use Rattle.wild_layout.specs.Geometry.{NamesSymbol}
-use Rattle.wild_layout.proofs.DecideLemmas.{HasValue}
+use Rattle.wild_layout.proofs.TreatmentLemmas.{HasValue}
 use Rattle.wild_loader.specs.declared.world.World.{World}
 use Rattle.wild_loader.specs.declared.memory.Memory.{Memory}
 use Rattle.wild_meaning.specs.Item.{item_of, IsReference}

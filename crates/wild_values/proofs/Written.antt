@@ -22,8 +22,9 @@ use Rattle.wild_layout.specs.Values.{raw_value, address_or, raw_address}
 use Rattle.wild_layout.specs.Decide.{decided}
 use Rattle.wild_layout.specs.Sites.{Written, written_by}
 use Rattle.wild_geometry.specs.Loaded.{IsDecided}
-use Rattle.wild_layout.proofs.DecideLemmas.{HasField, IsField, IsMoved, has_value, decided_field, decided_moved, decided_nothing, field_has, moved_has}
+use Rattle.wild_layout.proofs.DecideLemmas.{HasField, IsField, IsMoved, decided_field, decided_moved, decided_nothing, field_has, moved_has}
 use Rattle.wild_layout.proofs.SiteLemmas.{decide_listed}
+use Rattle.wild_layout.proofs.TreatmentLemmas.{has_value}
 use Rattle.wild_values.proofs.KnownRows.{RowFits, row_fits, none_is}
 
 pub slice_get_inside : {X : Type 0} (xs : List X) (i : ℕ) → i < length xs → (x : X) × (slice_get xs i ≡ Some x)
