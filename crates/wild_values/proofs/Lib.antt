@@ -17,13 +17,10 @@ mod ThreadValues
 mod Treated
 mod ValueKinds
 mod Relatives
-mod StubKinds
 mod SlotTerms
 mod AddressSlots
-mod SlotKinds
 mod ThreadSlots
 mod ThreadPlaces
-mod ThreadSlotKinds
 mod ThreadKinds
 mod AddressKinds
 mod References

@@ -1,6 +1,7 @@
 -- The stub of a symbol: code that goes there comes to the symbol's value.
 use Rattle.std.proofs.Common.{◌≡◌, ℕ, ◌+◌, ◌%◌, ◌^◌, ◌<◌, inl, inr, Bool, true, false, List, ◌∷◌, ◌++◌, Option, Some, None, refl, sym, ap, ◌∙◌, arith, subst}
-use Rattle.std.specs.Prelude.{if◌then◌else◌, option_and_then}
+use Rattle.std.specs.Prelude.{Ok, if◌then◌else◌, option_and_then}
+use Rattle.wild_plan.specs.declared.fault.Missing.TheVariants as missing
 use Rattle.wild_plan.specs.declared.kind.Machine.TheVariants as machine
 use Rattle.wild_plan.specs.declared.slot.SlotItem.{SlotItem}
 use Rattle.wild_plan.specs.declared.symbol.Resolution.{Resolution}
@@ -10,7 +11,7 @@ use Rattle.wild_plan.specs.Lookups.{canonical}
 use Rattle.wild_plan.specs.Slots.{setting_of, stub_item, stub_items, ifunc_address_items, canonical_address_items}
 use Rattle.wild_plan.specs.Stub.{stub_x86_64, far_between, far_of}
 use Rattle.wild_plan.specs.SymbolSlots.{resolved_got, resolved_plt, plt_of, has_thread_slot}
-use Rattle.wild_layout.specs.Values.{resolution_of, stub_of}
+use Rattle.wild_layout.specs.Values.{resolution_of, stub_of, stub_address}
 use Rattle.wild_loader.specs.StepLaws.{StubsOfValuesAreRead}
 use Rattle.wild_loader.specs.declared.memory.Memory.{Memory}
 use Rattle.wild_loader.specs.declared.world.World.{World}
@@ -22,6 +23,7 @@ use Rattle.wild_values.proofs.SlotContents.{ItemsHold}
 use Rattle.wild_values.proofs.SlotFlags.{symbol_fits, slot_of_stub, plain_stub}
 use Rattle.wild_values.proofs.StubCode.{stub_jumps, stub_below}
 use Rattle.wild_values.proofs.Symbols.{IsResolvedBy, resolved}
+use Rattle.wild_values.proofs.Written.{given_some}
 
 -- the stub of a symbol in memory
 pub record StubStands (l : Layout) (w : World) (m : Memory) (i stub : ℕ) : Type 0 where
@@ -100,3 +102,10 @@ stub_is_goal l w m i stub h = (h.value, h.is, stub_reaches l w m i stub h)
 -- and stands for the symbol
 pub stub_is : (l : Layout) (w : World) (m : Memory) (i stub : ℕ) → StubStands l w m i stub → IsStub l w m i ((w.base + stub) % 2 ^ 64)
 stub_is l w m i stub h = record { stub = stub; given = h.given; moves = refl; value = h.value; is = h.is; reaches = stub_reaches l w m i stub h }
+
+-- the writer's L is the reader's
+pub goal_given : StubsOfValuesAreRead → (l : Layout) (w : World) (m : Memory) (symbol : Option ℕ) (i term : ℕ) → IsPlaced l w m → symbol ≡ Some i → stub_address l symbol ≡ Ok term → IsGoal l w m symbol ((w.base + term) % 2 ^ 64)
+goal_given law l w m symbol i term p named given =
+    let here : stub_address l (Some i) ≡ Ok term = subst (λ (o : Option ℕ). stub_address l o ≡ Ok term) named given in
+    let goal = stub_is_goal l w m i term (stub_stands law l w m i term p (given_some missing.Stub i (stub_of l i) term here)) in
+    subst (λ (o : Option ℕ). IsGoal l w m o ((w.base + term) % 2 ^ 64)) (sym named) goal
