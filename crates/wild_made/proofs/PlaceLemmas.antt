@@ -15,7 +15,7 @@ use Rattle.wild_plan.specs.declared.part.Role.TheVariants as role
 use Rattle.wild_plan.specs.Counts.{total_share, role_given}
 use Rattle.wild_plan.specs.Dynamic.{named_strings, dynamic_entries, string_entries, tag_entries}
 use Rattle.wild_plan.specs.Entries.{listed_places, packed_places}
-use Rattle.wild_plan.specs.Needs.{share}
+use Rattle.wild_plan.specs.Needs.{share, group_share}
 use Rattle.wild_relr.specs.Packed.{packed, packed_on}
 use Rattle.wild_plan.specs.Places.{group_fits, relocations_of, relocations_in, relocation_count, roles}
 use Rattle.wild_plan.specs.Segments.{has_byte, is_asked, bytes_are_loaded}
@@ -29,6 +29,7 @@ use Rattle.wild_plan.specs.WellFormed.{check_sizes, check_counts, check_order, c
 use Rattle.wild_made.specs.Made.{made_section, made_object, plain_file, made_files, made_symbol, made_group, section_with, made_sections, made_segment, made}
 use Rattle.wild_made.specs.Laws.{IsCount}
 use Rattle.wild_made.proofs.ListLemmas.{made_from, none_fails, total_same, length_made}
+use Rattle.wild_made.proofs.SlotLemmas.{share_beside, share_made, group_share_made}
 
 -- ---- the files of a group
 
@@ -82,9 +83,12 @@ unfolding made
 relocations_made n = total_same relocations_of (made_group n) 8 0 n (λ k low high. group_relocations n k)
 
 -- nothing has to be written in a part of a role where none of the three kinds of files writes there
-nothing_shared : (n : ℕ) (r : Role) → share (made n) r (plain_file file_role.Prelude) ≡ 0 → ((i : ℕ) → share (made n) r (made_object n i) ≡ 0) → share (made n) r (plain_file file_role.Epilogue) ≡ 0 → total_share (made n) r ≡ 0
+nothing_shared : (n : ℕ) (r : Role) → share_beside (made n) r (plain_file file_role.Prelude) ≡ 0 → ((i : ℕ) → share_beside (made n) r (made_object n i) ≡ 0) → share_beside (made n) r (plain_file file_role.Epilogue) ≡ 0 → total_share (made n) r ≡ 0
 unfolding made
-nothing_shared n r first own last = let none = total_same (λ (g : Group). total (share (made n) r) g.files) (made_group n) 0 0 n (λ k low high. total_files (share (made n) r) n k first last ∙ own k) in omega arith
+nothing_shared n r first own last =
+    let each = λ (k : ℕ). group_share_made n r (made_group n k) ∙ total_files (share (made n) r) n k (share_made n r (plain_file file_role.Prelude) ∙ first) (share_made n r (plain_file file_role.Epilogue) ∙ last) ∙ share_made n r (made_object n k) ∙ own k in
+    let none = total_same (group_share (made n) r) (made_group n) 0 0 n (λ k low high. each k) in
+    omega arith
 
 pub counts_hold : (n : ℕ) → IsCount n → check_counts (made n) ≡ Ok tt
 unfolding check_counts made named_strings
