@@ -100,14 +100,18 @@ DirectIsRead opcode does = (m : Memory) (a : ℕ) (bs : List ℕ) → m.machine 
 direct_sum : (a p g c : ℕ) → p ≡ a + 1 → a < 2 ^ 64 → (a + 5 + (g + c + (2 ^ 64 - p)) % 2 ^ 64) % 2 ^ 64 ≡ (g + c + 4) % 2 ^ 64
 direct_sum a p g c e low = omega (arith, e, low)
 
--- the byte of the input before the field, in memory
+-- the byte of the input before the field
+pub opcode_input : (l : Layout) (item : Item) (r : InputRelocation) (start opcode : ℕ) (kind : Memory → ℕ → Option EffectKind) (does : ℕ → EffectKind) → IsTemplate l item r start (direct opcode kind does) → slice_index item.bytes start ≡ opcode
+opcode_input l item r start opcode kind does t =
+    let z : start + 0 ≡ start = omega arith in
+    subst (λ (k : ℕ). slice_index item.bytes k ≡ opcode) z (sym (range_byte item.bytes start 5 0 (omega arith)) ∙ stands_first opcode field (slice_range item.bytes start (start + 5)) t.stands)
+
+-- the same, in memory
 opcode_there : (l : Layout) (w : World) (m : Memory) (item : Item) (r : InputRelocation) (start opcode : ℕ) (kind : Memory → ℕ → Option EffectKind) (does : ℕ → EffectKind) → HoldsPlain l w m item r → IsTemplate l item r start (direct opcode kind does) → byte_in m (place_at w item start) ≡ Some opcode
 opcode_there l w m item r start opcode kind does p t =
     let z : start + 0 ≡ start = omega arith in
     let input = p.kept start (direct opcode kind does) t 0 (omega arith, inl (omega arith)) in
-    let here = subst (λ (k : ℕ). byte_in m (place_at w item k) ≡ Some (slice_index item.bytes k)) z input in
-    let first = subst (λ (k : ℕ). slice_index item.bytes k ≡ opcode) z (sym (range_byte item.bytes start 5 0 (omega arith)) ∙ stands_first opcode field (slice_range item.bytes start (start + 5)) t.stands) in
-    here ∙ ap (λ (b : ℕ). Some b) first
+    subst (λ (k : ℕ). byte_in m (place_at w item k) ≡ Some (slice_index item.bytes k)) z input ∙ ap (λ (b : ℕ). Some b) (opcode_input l item r start opcode kind does t)
 
 pub direct_does : (l : Layout) (w : World) (m : Memory) (item : Item) (r : InputRelocation) (start opcode : ℕ) (kind : Memory → ℕ → Option EffectKind) (does : ℕ → EffectKind) → DirectIsRead opcode does → l.machine ≡ machine.X86_64 → m.machine ≡ machines.X86_64 → HoldsPlain l w m item r
     → IsTemplate l item r start (direct opcode kind does) → DoesDemanded l w m item r start (direct opcode kind does)

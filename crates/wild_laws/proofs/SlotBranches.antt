@@ -72,21 +72,35 @@ IndirectIsRead c d does = (m : Memory) (a v : ℕ) (bs : List ℕ) → m.machine
 slot_sum : (a p g c : ℕ) → p ≡ a + 2 → a + 1 < 2 ^ 64 → g < 2 ^ 64 → (c + 4) % 2 ^ 64 ≡ 0 → (a + 6 + (g + c + (2 ^ 64 - p)) % 2 ^ 64) % 2 ^ 64 ≡ g
 slot_sum a p g c e low small z = omega (arith, e, low, small, z)
 
--- a byte of the opcode, in memory
+-- the bytes of the input before the field
+pub record OpcodeInput (item : Item) (start c d : ℕ) : Type 0 where
+  pub first : slice_index item.bytes start ≡ c
+  pub second : slice_index item.bytes (start + 1) ≡ d
+
+pub opcode_input : (l : Layout) (item : Item) (r : InputRelocation) (start c d : ℕ) (kind : Memory → ℕ → Option EffectKind) (does : ℕ → EffectKind) → IsTemplate l item r start (indirect c d kind does) → OpcodeInput item start c d
+opcode_input l item r start c d kind does t =
+    let z : start + 0 ≡ start = omega arith in
+    let bs = slice_range item.bytes start (start + 6) in
+    record {
+      first = subst (λ (k : ℕ). slice_index item.bytes k ≡ c) z (sym (range_byte item.bytes start 6 0 (omega arith)) ∙ stands_first c (Is d ∷ field) bs t.stands);
+      second = sym (range_byte item.bytes start 6 1 (omega arith)) ∙ stands_second c d field bs t.stands;
+    }
+
+-- the same, in memory
 record OpcodeThere (m : Memory) (a c d : ℕ) : Type 0 where
   first : byte_in m a ≡ Some c
   second : byte_in m (a + 1) ≡ Some d
 
 opcode_there : (l : Layout) (w : World) (m : Memory) (item : Item) (r : InputRelocation) (start c d : ℕ) (kind : Memory → ℕ → Option EffectKind) (does : ℕ → EffectKind) → HoldsPlain l w m item r → IsTemplate l item r start (indirect c d kind does) → OpcodeThere m (place_at w item start) c d
 opcode_there l w m item r start c d kind does p t =
+    let input = opcode_input l item r start c d kind does t in
     let z : start + 0 ≡ start = omega arith in
     let s : place_at w item (start + 1) ≡ place_at w item start + 1 = omega arith in
-    let bs = slice_range item.bytes start (start + 6) in
-    let one = p.kept start (indirect c d kind does) t 0 (omega arith, inl (omega arith)) ∙ ap (λ (b : ℕ). Some b) (sym (range_byte item.bytes start 6 0 (omega arith)) ∙ stands_first c (Is d ∷ field) bs t.stands) in
-    let two = p.kept start (indirect c d kind does) t 1 (omega arith, inl (omega arith)) ∙ ap (λ (b : ℕ). Some b) (sym (range_byte item.bytes start 6 1 (omega arith)) ∙ stands_second c d field bs t.stands) in
+    let one = subst (λ (k : ℕ). byte_in m (place_at w item k) ≡ Some (slice_index item.bytes k)) z (p.kept start (indirect c d kind does) t 0 (omega arith, inl (omega arith))) in
+    let two = p.kept start (indirect c d kind does) t 1 (omega arith, inl (omega arith)) in
     record {
-      first = subst (λ (k : ℕ). byte_in m (place_at w item k) ≡ Some c) z one;
-      second = subst (λ (a : ℕ). byte_in m a ≡ Some d) s two;
+      first = one ∙ ap (λ (b : ℕ). Some b) input.first;
+      second = subst (λ (a : ℕ). byte_in m a ≡ Some d) s (two ∙ ap (λ (b : ℕ). Some b) input.second);
     }
 
 pub indirect_does : (l : Layout) (w : World) (m : Memory) (item : Item) (r : InputRelocation) (start c d : ℕ) (kind : Memory → ℕ → Option EffectKind) (does : ℕ → EffectKind) → IndirectIsRead c d does → l.machine ≡ machine.X86_64 → m.machine ≡ machines.X86_64 → HoldsPlain l w m item r
