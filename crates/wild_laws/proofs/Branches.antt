@@ -7,7 +7,7 @@ use Rattle.wild_words.specs.Words.{number}
 use Rattle.wild_plan.specs.declared.kind.Machine.TheVariants as machine
 use Rattle.wild_plan.specs.declared.input.InputRelocation.{InputRelocation}
 use Rattle.wild_plan.specs.declared.layout.Layout.{Layout}
-use Rattle.wild_reloc.specs.Formula.{Value, Formula, Distance, StubDistance, Plain, Signed, Reads, sign_extended}
+use Rattle.wild_reloc.specs.Formula.{Value, Formula, Distance, StubDistance, Reads, sign_extended}
 use Rattle.wild_reloc.specs.FormulaX86_64.{x86_64_formula}
 use Rattle.wild_loader.specs.declared.world.World.{World}
 use Rattle.wild_loader.specs.declared.memory.Memory.{Memory}
@@ -15,7 +15,6 @@ use Rattle.wild_loader.specs.declared.memory.Machine.TheVariants as machines
 use Rattle.wild_loader.specs.declared.effect.EffectKind.{EffectKind}
 use Rattle.wild_loader.specs.Memory.{Holds, byte_in}
 use Rattle.wild_loader.specs.Effect.{exact, field, step, sign_extended_32}
-use Rattle.wild_meaning.specs.Value.{Denotes, Reaches}
 use Rattle.wild_meaning.specs.Item.{Item, place_at}
 use Rattle.wild_meaning.specs.Field.{formula_of, form_width}
 use Rattle.wild_meaning.specs.Formula.{IsTarget, IsGoal, Gives}
@@ -67,6 +66,7 @@ branch_field l w m item r x number p = each_of_two (λ (n : ℕ). r.number ≡ n
   where
     known : (l : Layout) (r : InputRelocation) (n : ℕ) (f g : Formula) → l.machine ≡ machine.X86_64 → x86_64_formula n ≡ Some g → formula_of l.machine r.number ≡ Some f → r.number ≡ n → f ≡ g
     known l r n f g x is h e = one_formula l.machine n f g x is (subst (λ (k : ℕ). formula_of l.machine k ≡ Some f) e h)
+
     by_distance : (l : Layout) (w : World) (m : Memory) (item : Item) (r : InputRelocation) → l.machine ≡ machine.X86_64 → HoldsPlain l w m item r → r.number ≡ r_x86_64_pc32 → HasBranch l w m item r
     by_distance l w m item r x p e =
         let f = known l r r_x86_64_pc32 p.formula (displaced Distance) x formula_pc32 p.known e in
@@ -77,6 +77,7 @@ branch_field l w m item r x number p = each_of_two (λ (n : ℕ). r.number ≡ n
           reached = target_reached l w m r.symbol gives.1.symbol gives.1.denoted;
           field = with_value w m item r p.value _ is (displacement l w m item r Distance p f);
         }
+
     by_stub : (l : Layout) (w : World) (m : Memory) (item : Item) (r : InputRelocation) → l.machine ≡ machine.X86_64 → HoldsPlain l w m item r → r.number ≡ r_x86_64_plt32 → HasBranch l w m item r
     by_stub l w m item r x p e =
         let f = known l r r_x86_64_plt32 p.formula (displaced StubDistance) x formula_plt32 p.known e in

@@ -1,5 +1,5 @@
 -- Code in memory that does what an operand's template does, read back into its bytes.
-use Rattle.std.proofs.Common.{◌≡◌, ℕ, zero, suc, ◌+◌, ◌%◌, ◌^◌, ◌<◌, inl, inr, Bool, true, false, List, [], ◌∷◌, length, get_or, refl, sym, ap, ◌∙◌, arith, subst, eq-eqb}
+use Rattle.std.proofs.Common.{◌≡◌, ℕ, zero, suc, ◌+◌, ◌<◌, inl, inr, Bool, true, false, List, [], ◌∷◌, length, get_or, refl, sym, ap, ◌∙◌, arith, subst, eq-eqb}
 use Rattle.std.specs.Prelude.{Option, Some, None, Contains, option_map, ◌&&◌, ◌==◌}
 use Rattle.std.proofs.lemmas.Bool.{cases_Bool, eqb-true}
 use Rattle.wild_loader.specs.declared.memory.Machine.{Machine}
@@ -104,42 +104,42 @@ not_same a b n e = let t : (a == b) ≡ true = eq-eqb a b e in let both : true �
 pub call_decodes : Decodes call_operand
 call_decodes = λ m a x same h.
     by_templates call_operand m a x same
-      (other_length call_operand m a x stub (not_same 5 16 refl))
-      (other_length call_operand m a x call_indirect (not_same 5 6 refl))
-      (other_length call_operand m a x jump_indirect (not_same 5 6 refl))
-      (itself call_operand m a x)
-      (other_kind call_operand m a x jump_near (no_call (named_at m a 1 5) x))
-      h
+    (other_length call_operand m a x stub (not_same 5 16 refl))
+    (other_length call_operand m a x call_indirect (not_same 5 6 refl))
+    (other_length call_operand m a x jump_indirect (not_same 5 6 refl))
+    (itself call_operand m a x)
+    (other_kind call_operand m a x jump_near (no_call (named_at m a 1 5) x))
+    h
 
 pub jump_decodes : Decodes jump_operand
 jump_decodes = λ m a x same h.
     by_templates jump_operand m a x same
-      (other_length jump_operand m a x stub (not_same 5 16 refl))
-      (other_length jump_operand m a x call_indirect (not_same 5 6 refl))
-      (other_length jump_operand m a x jump_indirect (not_same 5 6 refl))
-      (other_kind jump_operand m a x call_near (no_jump (named_at m a 1 5) x))
-      (itself jump_operand m a x)
-      h
+    (other_length jump_operand m a x stub (not_same 5 16 refl))
+    (other_length jump_operand m a x call_indirect (not_same 5 6 refl))
+    (other_length jump_operand m a x jump_indirect (not_same 5 6 refl))
+    (other_kind jump_operand m a x call_near (no_jump (named_at m a 1 5) x))
+    (itself jump_operand m a x)
+    h
 
 pub slot_call_decodes : Decodes slot_call_operand
 slot_call_decodes = λ m a x same h.
     by_templates slot_call_operand m a x same
-      (other_length slot_call_operand m a x stub (not_same 6 16 refl))
-      (itself slot_call_operand m a x)
-      (other_kind slot_call_operand m a x jump_indirect (no_call (word_at m a 2 6) x))
-      (other_length slot_call_operand m a x call_near (not_same 6 5 refl))
-      (other_length slot_call_operand m a x jump_near (not_same 6 5 refl))
-      h
+    (other_length slot_call_operand m a x stub (not_same 6 16 refl))
+    (itself slot_call_operand m a x)
+    (other_kind slot_call_operand m a x jump_indirect (no_call (word_at m a 2 6) x))
+    (other_length slot_call_operand m a x call_near (not_same 6 5 refl))
+    (other_length slot_call_operand m a x jump_near (not_same 6 5 refl))
+    h
 
 pub slot_jump_decodes : Decodes slot_jump_operand
 slot_jump_decodes = λ m a x same h.
     by_templates slot_jump_operand m a x same
-      (other_length slot_jump_operand m a x stub (not_same 6 16 refl))
-      (other_kind slot_jump_operand m a x call_indirect (no_jump (word_at m a 2 6) x))
-      (itself slot_jump_operand m a x)
-      (other_length slot_jump_operand m a x call_near (not_same 6 5 refl))
-      (other_length slot_jump_operand m a x jump_near (not_same 6 5 refl))
-      h
+    (other_length slot_jump_operand m a x stub (not_same 6 16 refl))
+    (other_kind slot_jump_operand m a x call_indirect (no_jump (word_at m a 2 6) x))
+    (itself slot_jump_operand m a x)
+    (other_length slot_jump_operand m a x call_near (not_same 6 5 refl))
+    (other_length slot_jump_operand m a x jump_near (not_same 6 5 refl))
+    h
 
 -- ---- bytes of opcodes
 

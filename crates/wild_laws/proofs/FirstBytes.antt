@@ -1,5 +1,5 @@
 -- Bytes in no field are the input's, those of instructions that belong to references too.
-use Rattle.std.proofs.Common.{◌≡◌, ℕ, ◌+◌, ◌<◌, ◌≤◌, ◌⊎◌, inl, inr, [], ◌∷◌, length, refl, sym, ap, ◌∙◌, arith, subst}
+use Rattle.std.proofs.Common.{◌≡◌, ℕ, ◌+◌, ◌<◌, ◌≤◌, ◌⊎◌, inl, inr, [], ◌∷◌, length, sym, ap, ◌∙◌, arith, subst}
 use Rattle.std.specs.Prelude.{Option, Some, None, Contains, All, slice_index, nat_lt, ◌==◌}
 use Rattle.std.proofs.lemmas.Bool.{cases_Bool, eqb-true, eqb-false, ltb-true, ltb-false}
 use Rattle.std.proofs.lemmas.List.Elements.{All-contains}
@@ -21,7 +21,7 @@ use Rattle.wild_loader.specs.Effect.{call_near, jump_near, call_indirect, jump_i
 use Rattle.wild_meaning.specs.Item.{item_of, place_at, IsReference}
 use Rattle.wild_meaning.specs.Field.{formula_of, form_width, InNoField, IsInputByte}
 use Rattle.wild_meaning.specs.Template.{Operand, operands_of, size_of, IsTemplate, DoesDemanded}
-use Rattle.wild_meaning.specs.Reference.{IsAsked, IsOther, ItemHolds}
+use Rattle.wild_meaning.specs.Reference.{IsAsked, ItemHolds}
 use Rattle.wild_laws.specs.FirstPath.{InNoField as NoField}
 use Rattle.wild_laws.proofs.Operands.{each_operand, each_of_two, displaced, formula_pc32, formula_plt32, formula_gotpcrel, formula_gotpcrelx}
 use Rattle.wild_laws.proofs.Branches.{direct, opcode_input}
@@ -89,15 +89,15 @@ by_indirect l w m s r start k c d kind does decodes same out ref = λ t done fro
 keeps_byte : (l : Layout) (w : World) (m : Memory) (s : InputSection) (r : InputRelocation) (start k : ℕ) (o : Operand) → l.machine ≡ machine.X86_64 → m.machine ≡ machines.X86_64 → NoField s k → IsReference (item_of s) r → Contains (operands_of l.machine) o → KeepsByte l w m s r start k o
 keeps_byte l w m s r start k o x same out ref known =
     each_operand
-      (KeepsByte l w m s r start k)
-      l.machine
-      o
-      (by_direct l w m s r start k 0xe8 call_near.kind kinds.Call call_decodes same out ref)
-      (by_direct l w m s r start k 0xe9 jump_near.kind kinds.Jump jump_decodes same out ref)
-      (by_indirect l w m s r start k 0xff 0x15 call_indirect.kind kinds.Call slot_call_decodes same out ref)
-      (by_indirect l w m s r start k 0xff 0x25 jump_indirect.kind kinds.Jump slot_jump_decodes same out ref)
-      x
-      known
+    (KeepsByte l w m s r start k)
+    l.machine
+    o
+    (by_direct l w m s r start k 0xe8 call_near.kind kinds.Call call_decodes same out ref)
+    (by_direct l w m s r start k 0xe9 jump_near.kind kinds.Jump jump_decodes same out ref)
+    (by_indirect l w m s r start k 0xff 0x15 call_indirect.kind kinds.Call slot_call_decodes same out ref)
+    (by_indirect l w m s r start k 0xff 0x25 jump_indirect.kind kinds.Jump slot_jump_decodes same out ref)
+    x
+    known
 
 -- ---- other bytes
 

@@ -1,6 +1,6 @@
 -- Fields of addresses and distances read as their formulas, whether the reference holds as it is or its code was rewritten.
-use Rattle.std.proofs.Common.{◌≡◌, ℕ, ◌+◌, ◌-◌, ◌%◌, ◌^◌, ◌⊎◌, inl, inr, [], ◌∷◌, refl, sym, ap, ◌∙◌, arith, subst}
-use Rattle.std.specs.Prelude.{Option, Some, None, Contains, option_map}
+use Rattle.std.proofs.Common.{◌≡◌, ℕ, ◌+◌, ◌-◌, ◌%◌, ◌^◌, inl, inr, refl, sym, ap, ◌∙◌, arith, subst}
+use Rattle.std.specs.Prelude.{Option, Some, None, option_map}
 use Rattle.std.specs.Int.{w64, cast_unsigned}
 use Rattle.wild_records.specs.Abi.Relocation.{r_x86_64_pc32, r_x86_64_plt32, r_x86_64_gotpcrel, r_x86_64_gotpcrelx}
 use Rattle.wild_words.specs.Words.{number}
@@ -16,7 +16,7 @@ use Rattle.wild_loader.specs.declared.memory.Memory.{Memory}
 use Rattle.wild_loader.specs.declared.world.World.{World}
 use Rattle.wild_loader.specs.declared.effect.EffectKind.{EffectKind}
 use Rattle.wild_loader.specs.declared.effect.EffectKind.TheVariants as kinds
-use Rattle.wild_loader.specs.Memory.{Holds, byte_in}
+use Rattle.wild_loader.specs.Memory.{Holds}
 use Rattle.wild_loader.specs.Effect.{named_at, call_near, jump_near, call_indirect, jump_indirect}
 use Rattle.wild_meaning.specs.Item.{item_of, place_at}
 use Rattle.wild_meaning.specs.Field.{formula_of}
@@ -121,14 +121,14 @@ pub has_formula : (l : Layout) (w : World) (m : Memory) (s : InputSection) (r : 
 has_formula l w m s r x same small address (inl p) = plain_formula l w m s r x address p
 has_formula l w m s r x same small address (inr q) =
     each_operand
-      (λ (o : Operand). IsTemplate l (item_of s) r q.start o → DoesDemanded l w m (item_of s) r q.start o → HasFormula l w m s r)
-      l.machine
-      q.operand
-      (λ t. by_direct l w m s r q.start 0xe8 call_near.kind kinds.Call call_decodes call_tells same small address (q.start, inl (is_branch l s r q.start 0xe8 call_near.kind kinds.Call t)) t)
-      (λ t. by_direct l w m s r q.start 0xe9 jump_near.kind kinds.Jump jump_decodes jump_tells same small address (q.start, inr (is_branch l s r q.start 0xe9 jump_near.kind kinds.Jump t)) t)
-      (by_indirect l w m s r q.start 0xff 0x15 call_indirect.kind kinds.Call address)
-      (by_indirect l w m s r q.start 0xff 0x25 jump_indirect.kind kinds.Jump address)
-      x
-      q.template.known
-      q.template
-      q.does
+    (λ (o : Operand). IsTemplate l (item_of s) r q.start o → DoesDemanded l w m (item_of s) r q.start o → HasFormula l w m s r)
+    l.machine
+    q.operand
+    (λ t. by_direct l w m s r q.start 0xe8 call_near.kind kinds.Call call_decodes call_tells same small address (q.start, inl (is_branch l s r q.start 0xe8 call_near.kind kinds.Call t)) t)
+    (λ t. by_direct l w m s r q.start 0xe9 jump_near.kind kinds.Jump jump_decodes jump_tells same small address (q.start, inr (is_branch l s r q.start 0xe9 jump_near.kind kinds.Jump t)) t)
+    (by_indirect l w m s r q.start 0xff 0x15 call_indirect.kind kinds.Call address)
+    (by_indirect l w m s r q.start 0xff 0x25 jump_indirect.kind kinds.Jump address)
+    x
+    q.template.known
+    q.template
+    q.does

@@ -1,5 +1,5 @@
 -- The meaning of all layouts gives the first path's: fields that read as formulas, calls and jumps, and other bytes.
-use Rattle.std.proofs.Common.{◌≡◌, ℕ, zero, suc, ◌+◌, ◌-◌, ◌<◌, ◌≤◌, ◌⊎◌, inl, inr, true, List, [], ◌∷◌, ◌++◌, length, get_or, slice_range, refl, sym, ap, ◌∙◌, arith, subst, eq-eqb}
+use Rattle.std.proofs.Common.{◌≡◌, ℕ, ◌+◌, ◌-◌, ◌<◌, ◌≤◌, ◌⊎◌, inl, inr, true, List, [], ◌∷◌, ◌++◌, length, get_or, slice_range, refl, sym, ap, ◌∙◌, arith, subst, eq-eqb}
 use Rattle.std.specs.Prelude.{Option, Contains, slice_index, ◌==◌}
 use Rattle.std.proofs.lemmas.List.{length-take, length-drop}
 use Rattle.wild_plan.specs.declared.kind.Machine.{Machine}
@@ -14,10 +14,10 @@ use Rattle.wild_loader.specs.declared.effect.EffectKind.TheVariants as kinds
 use Rattle.wild_loader.specs.Effect.{exact, field, stands, call_near, jump_near}
 use Rattle.wild_meaning.specs.Item.{item_of}
 use Rattle.wild_meaning.specs.Field.{InNoField}
-use Rattle.wild_meaning.specs.Template.{Operand, operands_of, IsOwnByte, IsTemplate, DoesDemanded}
-use Rattle.wild_meaning.specs.Reference.{IsAsked, ItemHolds}
+use Rattle.wild_meaning.specs.Template.{operands_of, IsOwnByte, IsTemplate, DoesDemanded}
+use Rattle.wild_meaning.specs.Reference.{IsAsked}
 use Rattle.wild_meaning.specs.Linked.{processor_of}
-use Rattle.wild_laws.specs.FirstPath.{IsRelocated, IsBranch, BranchReaches, InNoField as NoField, MeaningGivesFields}
+use Rattle.wild_laws.specs.FirstPath.{IsBranch, BranchReaches, InNoField as NoField, MeaningGivesFields}
 use Rattle.wild_laws.proofs.Bits.{bit_executable}
 use Rattle.wild_laws.proofs.Operands.{range_byte}
 use Rattle.wild_laws.proofs.Branches.{direct}

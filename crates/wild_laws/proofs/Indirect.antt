@@ -1,5 +1,5 @@
 -- The values of symbols whose resolvers answer.
-use Rattle.std.proofs.Common.{◌≡◌, ℕ, ◌+◌, ◌%◌, ◌^◌, ◌<◌, inl, true, sym, ap, ◌∙◌, subst}
+use Rattle.std.proofs.Common.{◌≡◌, ℕ, ◌+◌, ◌%◌, ◌^◌, inl, true, sym, ap, ◌∙◌, subst}
 use Rattle.std.specs.Prelude.{Ok}
 use Rattle.wild_plan.specs.declared.symbol.Symbol.{Symbol}
 use Rattle.wild_plan.specs.declared.layout.Layout.{Layout}

@@ -1,5 +1,5 @@
 -- A world that answers for each resolver of a layout once.
-use Rattle.std.proofs.Common.{◌≡◌, ℕ, ◌+◌, ◌%◌, ◌^◌, ◌<◌, inl, inr, Bool, true, false, List, [], ◌∷◌, refl, sym, ap, ◌∙◌, subst, eq-eqb}
+use Rattle.std.proofs.Common.{◌≡◌, ℕ, ◌+◌, ◌%◌, ◌^◌, inl, inr, Bool, true, false, List, [], ◌∷◌, refl, sym, ap, ◌∙◌, subst, eq-eqb}
 use Rattle.std.specs.Prelude.{◌==◌, not, if◌then◌else◌, Option, Some, None, Ok, All}
 use Rattle.std.specs.List.{filter}
 use Rattle.std.proofs.lemmas.Bool.{cases_Bool, eqb-true}
@@ -92,8 +92,8 @@ each_pair : (f : ℕ → ℕ) (base : ℕ) (ss : List Symbol) → All (HasPair f
 each_pair f base [] = All-nil (HasPair f base [])
 each_pair f base (s ∷ ss) =
     All-cons (HasPair f base (pairs_of f base (s ∷ ss))) s ss
-      (λ r e. own f base s.resolution (pairs_of f base ss) r e)
-      (All-weaker (HasPair f base (pairs_of f base ss)) (HasPair f base (pairs_of f base (s ∷ ss))) (λ (t : Symbol) h r e. more f base s.resolution (pairs_of f base ss) ((base + r.raw_value) % 2 ^ 64) (h r e)) ss (each_pair f base ss))
+    (λ r e. own f base s.resolution (pairs_of f base ss) r e)
+    (All-weaker (HasPair f base (pairs_of f base ss)) (HasPair f base (pairs_of f base (s ∷ ss))) (λ (t : Symbol) h r e. more f base s.resolution (pairs_of f base ss) ((base + r.raw_value) % 2 ^ 64) (h r e)) ss (each_pair f base ss))
 
 -- ---- the world
 

@@ -1,5 +1,5 @@
 -- A call or jump through a slot whose field reads as its formula goes to what stands for the symbol.
-use Rattle.std.proofs.Common.{◌≡◌, ℕ, ◌+◌, ◌-◌, ◌%◌, ◌^◌, ◌<◌, inl, inr, List, [], ◌∷◌, ◌++◌, length, refl, sym, ap, ◌∙◌, arith, subst}
+use Rattle.std.proofs.Common.{◌≡◌, ℕ, ◌+◌, ◌-◌, ◌%◌, ◌^◌, ◌<◌, inl, List, [], ◌∷◌, ◌++◌, length, refl, sym, ap, ◌∙◌, arith, subst}
 use Rattle.std.specs.Prelude.{Option, Some, None, Contains, slice_index, slice_range}
 use Rattle.std.specs.Int.{w64, cast_unsigned}
 use Rattle.wild_records.specs.Abi.Relocation.{r_x86_64_gotpcrel, r_x86_64_gotpcrelx}
@@ -18,7 +18,6 @@ use Rattle.wild_loader.specs.Memory.{Holds, byte_in, number_in}
 use Rattle.wild_loader.specs.Effect.{exact, field, step, sign_extended_32}
 use Rattle.wild_meaning.specs.Slot.{HasWord, IsSlot}
 use Rattle.wild_meaning.specs.Item.{Item, place_at}
-use Rattle.wild_meaning.specs.Field.{formula_of}
 use Rattle.wild_meaning.specs.Formula.{IsGoal, Gives}
 use Rattle.wild_meaning.specs.Template.{Operand, through_slot, IsTemplate, DoesDemanded}
 use Rattle.wild_meaning.specs.Reference.{HoldsPlain}

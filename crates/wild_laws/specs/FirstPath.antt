@@ -4,7 +4,7 @@
 --   WritesAddress r      the relocation's type is one of an address or a distance
 --   HoldsByFields ..     each such reference of an input section does
 --   NamesAreAddresses    what this says of symbols that no resolver answers for
-use Rattle.std.specs.Prelude.{◌≡◌, ◌≢◌, ℕ, ℤ, ◌+◌, ◌-◌, ◌%◌, ◌^◌, ◌<◌, ◌≤◌, ◌⊎◌, true, false, List, [], ◌∷◌, length, Option, Some, None, All, Contains, slice_index}
+use Rattle.std.specs.Prelude.{◌≡◌, ◌≢◌, ℕ, ℤ, ◌+◌, ◌-◌, ◌%◌, ◌^◌, ◌<◌, ◌≤◌, ◌⊎◌, true, false, List, [], ◌∷◌, length, Some, All, Contains, slice_index}
 use Rattle.std.specs.Int.{w64, cast_unsigned}
 use Rattle.wild_records.specs.Abi.Relocation.{r_x86_64_none, r_x86_64_pc32, r_x86_64_plt32}
 use Rattle.wild_plan.specs.declared.kind.Machine.TheVariants as machine
