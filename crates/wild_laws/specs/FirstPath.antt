@@ -6,7 +6,7 @@
 --   NamesAreAddresses    what this says of symbols that no resolver answers for
 use Rattle.std.specs.Prelude.{◌≡◌, ◌≢◌, ℕ, ℤ, ◌+◌, ◌-◌, ◌%◌, ◌^◌, ◌<◌, ◌≤◌, ◌⊎◌, true, false, List, [], ◌∷◌, length, Some, All, Contains, slice_index}
 use Rattle.std.specs.Int.{w64, cast_unsigned}
-use Rattle.wild_records.specs.Abi.Relocation.{r_x86_64_none, r_x86_64_pc32, r_x86_64_plt32}
+use Rattle.wild_records.specs.Abi.Relocation.{r_x86_64_none, r_x86_64_pc32, r_x86_64_plt32, r_x86_64_gotpcrel, r_x86_64_gotpcrelx}
 use Rattle.wild_plan.specs.declared.kind.Machine.TheVariants as machine
 use Rattle.wild_plan.specs.declared.input.Slot.TheVariants as slot
 use Rattle.wild_plan.specs.declared.input.InputRelocation.{InputRelocation}
@@ -70,12 +70,26 @@ pub record IsBranch (s : InputSection) (r : InputRelocation) (k opcode : ℕ) : 
 abbrev pub IsBranchField : InputSection → InputRelocation → Type 0
 IsBranchField s r = (k : ℕ) × (IsBranch s r k 0xe8 ⊎ IsBranch s r k 0xe9)
 
--- it goes to S + A + 4 or L + A + 4, that is, to S or L where A takes back the four bytes of the field: code there comes to
--- the symbol's value
-pub record BranchReaches (l : Layout) (w : World) (m : Memory) (s : InputSection) (r : InputRelocation) (k : ℕ) (does : ℕ → EffectKind) : Type 0 where
+-- the input's bytes at an offset are the opcode of a call or a jump through a slot (Intel SDM, "CALL": ff 15; "JMP": ff 25), and
+-- the field behind them is a relocation's of type R_X86_64_GOTPCREL or R_X86_64_GOTPCRELX, whose addend takes back its four bytes
+pub record IsSlotBranch (s : InputSection) (r : InputRelocation) (k opcode : ℕ) : Type 0 where
+  pub code : executable s.flags ≡ true
+  pub behind : r.offset ≡ k + 2
+  pub first : slice_index s.bytes k ≡ 0xff
+  pub second : slice_index s.bytes (k + 1) ≡ opcode
+  pub number : Contains (r_x86_64_gotpcrel ∷ r_x86_64_gotpcrelx ∷ []) r.number
+  pub inside : r.offset + 4 ≤ length s.bytes
+  pub addend : (cast_unsigned w64 r.addend + 4) % 2 ^ 64 ≡ 0
+
+-- the loaded code of n bytes goes to what comes to the symbol's value
+pub record BranchReaches (l : Layout) (w : World) (m : Memory) (s : InputSection) (r : InputRelocation) (k n : ℕ) (does : ℕ → EffectKind) : Type 0 where
   pub target : ℕ
   pub reached : IsGoal l w m r.symbol target
-  pub goes : step m (address_at w s k) ≡ Some (record { length = 5; width = 64; kind = does ((target + cast_unsigned w64 r.addend + 4) % 2 ^ 64) })
+  pub goes : step m (address_at w s k) ≡ Some (record { length = n; width = 64; kind = does target })
+
+-- a direct one goes to S + A + 4 or L + A + 4, that is, to S or L where A takes back the four bytes of the field
+abbrev pub past_field : InputRelocation → ℕ → ℕ
+past_field r a = (a + cast_unsigned w64 r.addend + 4) % 2 ^ 64
 
 -- ---- fields
 
@@ -111,12 +125,14 @@ pub record HasFormula (l : Layout) (w : World) (m : Memory) (s : InputSection) (
 abbrev pub InNoField : InputSection → ℕ → Type 0
 InNoField s k = All (λ (r : InputRelocation). (f : Formula) → x86_64_formula r.number ≡ Some f → (k < r.offset) ⊎ (r.offset + form_width f.form ≤ k)) s.relocations
 
--- each reference to an address or a distance holds, each direct call and jump reaches its symbol where no other field has its
--- opcode, and every byte in no field is the input's
+-- each reference to an address or a distance holds, each call and jump reaches its symbol where no field has its opcode, and every
+-- byte in no field is the input's
 pub record HoldsByFields (l : Layout) (w : World) (m : Memory) (s : InputSection) : Type 0 where
   pub references : (r : InputRelocation) → IsRelocated s r → WritesAddress r → HasFormula l w m s r
-  pub calls : (r : InputRelocation) (k : ℕ) → IsRelocated s r → IsBranch s r k 0xe8 → InNoField s k → BranchReaches l w m s r k kinds.Call
-  pub jumps : (r : InputRelocation) (k : ℕ) → IsRelocated s r → IsBranch s r k 0xe9 → InNoField s k → BranchReaches l w m s r k kinds.Jump
+  pub calls : (r : InputRelocation) (k : ℕ) → IsRelocated s r → IsBranch s r k 0xe8 → InNoField s k → BranchReaches l w m s r k 5 (λ a. kinds.Call (past_field r a))
+  pub jumps : (r : InputRelocation) (k : ℕ) → IsRelocated s r → IsBranch s r k 0xe9 → InNoField s k → BranchReaches l w m s r k 5 (λ a. kinds.Jump (past_field r a))
+  pub slot_calls : (r : InputRelocation) (k : ℕ) → IsRelocated s r → IsSlotBranch s r k 0x15 → InNoField s k → InNoField s (k + 1) → BranchReaches l w m s r k 6 kinds.Call
+  pub slot_jumps : (r : InputRelocation) (k : ℕ) → IsRelocated s r → IsSlotBranch s r k 0x25 → InNoField s k → InNoField s (k + 1) → BranchReaches l w m s r k 6 kinds.Jump
   pub others : (k : ℕ) → k < length s.bytes → InNoField s k → byte_in m (address_at w s k) ≡ Some (slice_index s.bytes k)
 
 -- each byte of memory is one
