@@ -45,7 +45,7 @@ pub record Ascend (n low high : ℕ) (ps : List ℕ) : Type 0 where
 
 -- words behind what stands once, those of blocks, and stubs
 pub record HasAscendingPlaces (l : Layout) : Type 0 where
-  pub words : Ascend word_size (first_free l).got (end_of l role.Got) (flat_map (word_places words.Got l) (written_symbols l))
+  pub table : Ascend word_size (first_free l).got (end_of l role.Got) (flat_map (word_places words.Got l) (written_symbols l))
   pub blocks : Ascend word_size (start_of l role.GotRelr) (end_of l role.GotRelr) (flat_map (word_places words.Block l) (written_symbols l))
   pub stubs : Ascend stub_size (start_of l role.PltGot) (end_of l role.PltGot) (flat_map (stub_places l) (written_symbols l))
 

@@ -1,0 +1,5 @@
+mod ItemLemmas
+mod SlotLemmas
+mod WalkLemmas
+mod CheckLemmas
+mod OrderLemmas
