@@ -20,17 +20,17 @@ use Rattle.wild_loader.specs.Memory.{Holds, number_in}
 
 -- what an entry leaves: what a resolver answers (x86-64 psABI, "Relocation Types": R_X86_64_IRELATIVE); of entries that name a
 -- symbol nothing is said yet
-abbrev pub IsFilled : World → DynamicRelocationKind → ℕ → ℕ → Type 0
-IsFilled w entry_kinds.Irelative addend x = answer_at w ((w.base + addend) % 2 ^ 64) ≡ Ok x
-IsFilled w other addend x = ⊤
+abbrev pub LeavesWord : World → DynamicRelocationKind → ℕ → ℕ → Type 0
+LeavesWord w entry_kinds.Irelative addend x = answer_at w ((w.base + addend) % 2 ^ 64) ≡ Ok x
+LeavesWord w other addend x = ⊤
 
 -- what a loader makes of a word: a number stays, an address is more by the base
 abbrev pub IsLoadedWord : World → SlotWord → ℕ → Type 0
 IsLoadedWord w (Number n) x = x ≡ n
 IsLoadedWord w (Address a) x = x ≡ (a + w.base) % 2 ^ 64
 IsLoadedWord w (InBlock a) x = x ≡ (a + w.base) % 2 ^ 64
-IsLoadedWord w (General e) x = IsFilled w e.kind e.addend x
-IsLoadedWord w (Plt e) x = IsFilled w e.kind e.addend x
+IsLoadedWord w (General e) x = LeavesWord w e.kind e.addend x
+IsLoadedWord w (Plt e) x = LeavesWord w e.kind e.addend x
 
 -- memory has such words from an address of the image on
 abbrev pub HasWords : World → Memory → ℕ → List SlotWord → Type 0

@@ -3,7 +3,7 @@
 --   ProgramHeadersStand  program header k stands at 56 k
 --   SectionHeadersStand  section header k stands at 64 k
 --   NamesStand           the name of section k stands where its header tells
-use Rattle.std.specs.Prelude.{◌≡◌, ℕ, ◌+◌, ◌*◌, ◌<◌, ◌≤◌, [], ◌∷◌, ◌++◌, length, take, slice_index_or}
+use Rattle.std.specs.Prelude.{◌≡◌, ℕ, ◌*◌, ◌<◌, ◌≤◌, [], ◌∷◌, ◌++◌, length, slice_index_or}
 use Rattle.wild_words.specs.Words.{Stands}
 use Rattle.wild_words.specs.Record.{spell}
 use Rattle.wild_records.specs.ProgramHeader.{program_header_size, program_header_fields}
@@ -13,7 +13,6 @@ use Rattle.wild_plan.specs.declared.part.Role.TheVariants as role
 use Rattle.wild_plan.specs.declared.section.Section.{Section}
 use Rattle.wild_plan.specs.declared.section.Segment.{Segment}
 use Rattle.wild_plan.specs.declared.layout.Layout.{Layout}
-use Rattle.wild_plan.specs.Lists.{total}
 use Rattle.wild_plan.specs.Needs.{whole_of}
 use Rattle.wild_headers.specs.Headers.{program_header, section_headers_of, file_header_bytes, program_header_bytes, section_header_bytes, names_of}
 

@@ -66,9 +66,9 @@ fn spoken_of(parts: &[Part]) -> Spoken
 }
 
 /// What `sh_info` of section i tells.
-fn info_at(spoken: Spoken, i: SectionIndex, section: &Section) -> u32
-    requires { spoken.table < 2 ^ 32 }
-    ensures { result ≡ info_at spoken i section.now }
+fn info_at(spoken: &Spoken, i: SectionIndex, section: &Section) -> u32
+    requires { spoken.now.table < 2 ^ 32 }
+    ensures { result ≡ info_at spoken.now i section.now }
 {
     if i == spoken.symbols {
         1
@@ -100,15 +100,15 @@ fn section_header(info: u32, name: u32, section: &Section) -> SectionHeader
 /// The header of the section with that index, whose name begins at `name`.
 fn header_of(
     layout: &Layout,
-    spoken: Spoken,
+    spoken: &Spoken,
     i: SectionIndex,
     name: u64,
     section: &Section,
 ) -> SectionHeader
     requires name { name < 2 ^ 32 }
     requires name_table { name_table layout.now < 2 ^ 32 }
-    requires table { spoken.table < 2 ^ 32 }
-    ensures { result ≡ (if i == 0 then null_header layout.now else section_header (info_at spoken i section.now) name section.now) }
+    requires table { spoken.now.table < 2 ^ 32 }
+    ensures { result ≡ (if i == 0 then null_header layout.now else section_header (info_at spoken.now i section.now) name section.now) }
 {
     if i.0 == 0 {
         null_header(layout)
@@ -119,15 +119,15 @@ fn header_of(
 
 fn put_section_header(
     layout: &Layout,
-    spoken: Spoken,
+    spoken: &Spoken,
     section: &Section,
     i: usize,
     name: u64,
     out: &mut [u8],
 )
     requires room { section_header_size * i + section_header_size ≤ length out.old }
-    requires spoken { spoken ≡ spoken_of layout.now }
-    requires table { spoken.table < 2 ^ 32 }
+    requires spoken { spoken.now ≡ spoken_of layout.now }
+    requires table { spoken.now.table < 2 ^ 32 }
     requires name { name < 2 ^ 32 }
     requires name_table { name_table layout.now < 2 ^ 32 }
     ensures { out.new ≡ place (section_header_size * i) (spell (section_header_fields (if i == 0 then null_header layout.now else section_header (info_at (spoken_of layout.now) i section.now) name section.now))) out.old }
@@ -148,7 +148,7 @@ pub fn write_section_headers(layout: &Layout, out: &mut [u8])
     let spoken = spoken_of(layout.parts.as_slice());
     let mut name = 0;
     for (i, section) in layout.sections.as_slice().iter().enumerate() {
-        put_section_header(layout, spoken, section, i, name, out);
+        put_section_header(layout, &spoken, section, i, name, out);
         name += section.name.len() as u64 + 1;
     }
 }

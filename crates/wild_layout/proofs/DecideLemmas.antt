@@ -1,5 +1,5 @@
 -- What a decision says of its relocation.
-use Rattle.std.proofs.Common.{◌≡◌, ℕ, ◌+◌, ◌<◌, ◌≤◌, ◌⊎◌, inl, inr, Bool, true, Option, Some, None, refl, ap, ◌∙◌, arith, subst}
+use Rattle.std.proofs.Common.{◌≡◌, ℕ, ◌+◌, ◌<◌, ◌≤◌, inl, inr, Bool, true, Option, Some, None, refl, ap, ◌∙◌, arith, subst}
 use Rattle.std.specs.Prelude.{Result, Ok, Err, nat_lt, false, if◌then◌else◌, ◌&&◌, ◌==◌}
 use Rattle.std.specs.List.{list_all}
 use Rattle.std.proofs.lemmas.Bool.{cases_Bool, ltb-true, eqb-true}
@@ -16,7 +16,7 @@ use Rattle.wild_plan.specs.Contents.{field_bytes}
 use Rattle.wild_plan.specs.Kinds.{is_position_independent}
 use Rattle.wild_plan.specs.Lookups.{allocated}
 use Rattle.wild_plan.specs.Entries.{packs}
-use Rattle.wild_plan.specs.Treatment.{is_left, is_barred, moves, moved_treatment, address_treatment, distance_treatment, named, kind_treatment, row_treatment, treatment}
+use Rattle.wild_plan.specs.Treatment.{is_left, is_barred, is_chosen, moves, moved_treatment, address_treatment, distance_treatment, named, kind_treatment, row_treatment, treatment}
 use Rattle.wild_reloc.specs.Field.{allows, field_width, size_width}
 use Rattle.wild_reloc.specs.TableX86_64.{x86_64_rows, x86_64_row}
 use Rattle.wild_reloc.proofs.TableLemmas.{entry_passes}
@@ -42,6 +42,13 @@ has_value kinds.SymRelGotBase = true
 has_value kinds.DtpOff = true
 has_value kinds.TpOff = true
 has_value kinds.SymbolSize = true
+has_value kinds.PltRelative = true
+has_value kinds.PltRelGotBase = true
+has_value kinds.GotRelative = true
+has_value kinds.GotRelGotBase = true
+has_value kinds.TlsGd = true
+has_value kinds.TlsLd = true
+has_value kinds.GotTpOff = true
 has_value other = false
 
 abbrev pub HasValue : RelocationKind → Type 0
@@ -68,7 +75,8 @@ own_address : (l : Layout) (s : InputSection) (row : RelocationKindInfo) (i : �
 own_address l s row i =
     own_if row (is_barred l s row i) _ _ (own_recompile row)
     (own_if row (is_left l s row i) _ _ (λ r h. cc)
-    (own_if row (allocated s.flags && moves l i) _ _ (own_moved row) (own_value row)))
+    (own_if row (is_chosen l s i) _ _ (λ r h. cc)
+    (own_if row (allocated s.flags && moves l i) _ _ (own_moved row) (own_value row))))
 
 own_distance : (l : Layout) (s : InputSection) (row : RelocationKindInfo) (symbol : Option ℕ) → IsOwnRow row (distance_treatment l s row symbol)
 own_distance l s row None = own_if row (allocated s.flags && is_position_independent l.kind) _ _ (own_recompile row) (own_value row)
@@ -87,6 +95,13 @@ kind_value l s symbol row r kinds.SymRelGotBase h = (own_named row symbol (λ i.
 kind_value l s symbol row r kinds.DtpOff h = (own_named row symbol (λ i. treatments.Value row) (λ i. own_value row) r h, refl)
 kind_value l s symbol row r kinds.TpOff h = (own_named row symbol (λ i. treatments.Value row) (λ i. own_value row) r h, refl)
 kind_value l s symbol row r kinds.SymbolSize h = (own_named row symbol (λ i. treatments.Value row) (λ i. own_value row) r h, refl)
+kind_value l s symbol row r kinds.PltRelative h = (own_named row symbol (λ i. treatments.Value row) (λ i. own_value row) r h, refl)
+kind_value l s symbol row r kinds.PltRelGotBase h = (own_named row symbol (λ i. treatments.Value row) (λ i. own_value row) r h, refl)
+kind_value l s symbol row r kinds.GotRelative h = (own_named row symbol (λ i. treatments.Value row) (λ i. own_value row) r h, refl)
+kind_value l s symbol row r kinds.GotRelGotBase h = (own_named row symbol (λ i. treatments.Value row) (λ i. own_value row) r h, refl)
+kind_value l s symbol row r kinds.TlsGd h = (own_named row symbol (λ i. treatments.Value row) (λ i. own_value row) r h, refl)
+kind_value l s symbol row r kinds.TlsLd h = (own_named row symbol (λ i. treatments.Value row) (λ i. own_value row) r h, refl)
+kind_value l s symbol row r kinds.GotTpOff h = (own_named row symbol (λ i. treatments.Value row) (λ i. own_value row) r h, refl)
 kind_value l s symbol row r other h = cc
 
 row_value : (l : Layout) (s : InputSection) (symbol : Option ℕ) (o : Option RelocationKindInfo) (r : RelocationKindInfo) → row_treatment l s symbol o ≡ treatments.Value r → (o ≡ Some r) × HasValue r.kind
@@ -114,7 +129,8 @@ some_address : (l : Layout) (s : InputSection) (row : RelocationKindInfo) (i : �
 some_address l s row i =
     some_if (is_barred l s row i) _ _ some_recompile
     (some_if (is_left l s row i) _ _ (λ h. cc)
-    (some_if (allocated s.flags && moves l i) _ _ (some_if (field_width row == 8) _ _ (λ h. cc) some_recompile) (some_value row)))
+    (some_if (is_chosen l s i) _ _ (λ h. cc)
+    (some_if (allocated s.flags && moves l i) _ _ (some_if (field_width row == 8) _ _ (λ h. cc) some_recompile) (some_value row))))
 
 some_distance : (l : Layout) (s : InputSection) (row : RelocationKindInfo) (symbol : Option ℕ) → IsSome (distance_treatment l s row symbol)
 some_distance l s row None = some_if (allocated s.flags && is_position_independent l.kind) _ _ some_recompile (some_value row)
@@ -133,6 +149,13 @@ kind_nothing l s symbol row kinds.SymRelGotBase h = absurd (some_named symbol (�
 kind_nothing l s symbol row kinds.DtpOff h = absurd (some_named symbol (λ i. treatments.Value row) (λ i. some_value row) h)
 kind_nothing l s symbol row kinds.TpOff h = absurd (some_named symbol (λ i. treatments.Value row) (λ i. some_value row) h)
 kind_nothing l s symbol row kinds.SymbolSize h = absurd (some_named symbol (λ i. treatments.Value row) (λ i. some_value row) h)
+kind_nothing l s symbol row kinds.PltRelative h = absurd (some_named symbol (λ i. treatments.Value row) (λ i. some_value row) h)
+kind_nothing l s symbol row kinds.PltRelGotBase h = absurd (some_named symbol (λ i. treatments.Value row) (λ i. some_value row) h)
+kind_nothing l s symbol row kinds.GotRelative h = absurd (some_named symbol (λ i. treatments.Value row) (λ i. some_value row) h)
+kind_nothing l s symbol row kinds.GotRelGotBase h = absurd (some_named symbol (λ i. treatments.Value row) (λ i. some_value row) h)
+kind_nothing l s symbol row kinds.TlsGd h = absurd (some_named symbol (λ i. treatments.Value row) (λ i. some_value row) h)
+kind_nothing l s symbol row kinds.TlsLd h = absurd (some_named symbol (λ i. treatments.Value row) (λ i. some_value row) h)
+kind_nothing l s symbol row kinds.GotTpOff h = absurd (some_named symbol (λ i. treatments.Value row) (λ i. some_value row) h)
 kind_nothing l s symbol row other h = cc
 
 row_nothing : (l : Layout) (s : InputSection) (symbol : Option ℕ) (o : Option RelocationKindInfo) → row_treatment l s symbol o ≡ treatments.Nothing → (row : RelocationKindInfo) × (o ≡ Some row) × (row.kind ≡ kinds.None)
@@ -170,7 +193,10 @@ address_moved l s i row k h =
       | inl t ↦ cc (rw t at h)
       | inr f ↦ elim (cases_Bool (is_left l s row i)) [
         | inl t ↦ cc (rw (f, t) at h)
-        | inr g ↦ (let e : (if allocated s.flags && moves l i then moved_treatment row else treatments.Value row) ≡ treatments.BaseRelative = rw (f, g) at h in moved_if l s i row (allocated s.flags && moves l i) k refl e)
+        | inr g ↦ elim (cases_Bool (is_chosen l s i)) [
+          | inl t ↦ cc (rw (f, g, t) at h)
+          | inr c ↦ (let e : (if allocated s.flags && moves l i then moved_treatment row else treatments.Value row) ≡ treatments.BaseRelative = rw (f, g, c) at h in moved_if l s i row (allocated s.flags && moves l i) k refl e)
+        ]
       ]
     ]
 
@@ -192,6 +218,13 @@ kind_moved l s symbol row kinds.SymRelGotBase e h = absurd (named_moved row symb
 kind_moved l s symbol row kinds.DtpOff e h = absurd (named_moved row symbol h)
 kind_moved l s symbol row kinds.TpOff e h = absurd (named_moved row symbol h)
 kind_moved l s symbol row kinds.SymbolSize e h = absurd (named_moved row symbol h)
+kind_moved l s symbol row kinds.PltRelative e h = absurd (named_moved row symbol h)
+kind_moved l s symbol row kinds.PltRelGotBase e h = absurd (named_moved row symbol h)
+kind_moved l s symbol row kinds.GotRelative e h = absurd (named_moved row symbol h)
+kind_moved l s symbol row kinds.GotRelGotBase e h = absurd (named_moved row symbol h)
+kind_moved l s symbol row kinds.TlsGd e h = absurd (named_moved row symbol h)
+kind_moved l s symbol row kinds.TlsLd e h = absurd (named_moved row symbol h)
+kind_moved l s symbol row kinds.GotTpOff e h = absurd (named_moved row symbol h)
 kind_moved l s symbol row other e h = cc
 
 row_moved : (l : Layout) (s : InputSection) (symbol : Option ℕ) (o : Option RelocationKindInfo) → row_treatment l s symbol o ≡ treatments.BaseRelative → (row : RelocationKindInfo) × (o ≡ Some row) × IsMovedBy l s symbol row

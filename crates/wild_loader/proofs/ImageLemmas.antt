@@ -1,8 +1,7 @@
 -- An image whose headers and tables stand in it is its segments with the tables applied.
-use Rattle.std.proofs.Common.{◌≡◌, ℕ, ◌<◌, inl, inr, true, false, List, [], ◌∷◌, length, refl, arith, ◌/◌, ◌%◌, get_or, ◌∙◌}
-use Rattle.std.specs.Prelude.{All, not, ◌&&◌, ◌==◌, nat_le, None, Ok}
+use Rattle.std.proofs.Common.{◌≡◌, ℕ, ◌<◌, inl, inr, true, false, List, [], ◌∷◌, length, refl, arith, ◌∙◌}
+use Rattle.std.specs.Prelude.{All, ◌==◌, nat_le, None, Ok}
 use Rattle.std.proofs.lemmas.List.Elements.{All-head, All-tail}
-use Rattle.wild_records.specs.Abi.Section.{sht_rela, shf_alloc}
 use Rattle.wild_records.specs.Abi.Segment.{pt_dynamic}
 use Rattle.wild_loader.specs.declared.memory.Machine.{Machine}
 use Rattle.wild_loader.specs.declared.memory.Run.{Run}
@@ -11,7 +10,7 @@ use Rattle.wild_loader.specs.Places.{places_from}
 use Rattle.wild_words.specs.Extents.{least_extent}
 use Rattle.wild_loader.specs.Runs.{overlaid}
 use Rattle.std.specs.List.{flat_map}
-use Rattle.std.proofs.lemmas.Bool.{cases_Bool, le-leb, ne_eqb, eqb-true, eqb-false, eq-eqb, and_parts, both_ways, not-true}
+use Rattle.std.proofs.lemmas.Bool.{cases_Bool, le-leb, ne_eqb, eqb-false}
 use Rattle.wild_words.specs.Words.{Stands}
 use Rattle.wild_words.specs.Record.{spell}
 use Rattle.wild_words.proofs.RecordLemmas.{length-spell}
@@ -28,13 +27,15 @@ use Rattle.wild_records.specs.declared.section_header.SectionHeader.{SectionHead
 use Rattle.wild_loader.specs.declared.tables.Tables.{Tables}
 use Rattle.wild_loader.specs.declared.world.World.{World}
 use Rattle.wild_loader.specs.Headers.{header, is_loadable_header, machine_of, program_headers, section_count, sections}
-use Rattle.wild_loader.specs.Tables.{tables, first_dynamic, section_tables, section_entries, has_entries}
+use Rattle.wild_loader.specs.Tables.{tables, first_dynamic, section_tables, section_entries}
 use Rattle.wild_loader.specs.Relocate.{relocate, add_all, apart, notes}
 use Rattle.wild_loader.specs.Load.{load, load_with}
-use Rattle.wild_loader.specs.Laws.{HasHeaders, AreLoadable, HasDynamic, HasTables, HasSectionTables, section_relas, loaded_runs, loaded_memory, first_size, program_bytes, section_bytes, DynamicImagesAreLoaded, StaticImagesAreLoaded, PlainImagesAreLoaded, IsStatic, HasNoEntries}
+use Rattle.wild_loader.specs.Laws.{HasHeaders, AreLoadable, HasDynamic, HasTables, HasSectionTables, section_relas, loaded_runs, loaded_memory, first_size, program_bytes, section_bytes, DynamicImagesAreLoaded, StaticImagesAreLoaded, PlainImagesAreLoaded, IsStatic}
+use Rattle.wild_loader.specs.EntryLaws.{HasSectionTable}
 use Rattle.wild_loader.proofs.RecordLists.{programs-read, sections-read, section-first, length-records, length-program, length-section}
 use Rattle.wild_loader.proofs.SegmentLemmas.{segments-loaded}
 use Rattle.wild_loader.proofs.TableLemmas.{lies-table, dynamic-found, sections-found}
+use Rattle.wild_loader.proofs.SectionLemmas.{section-table, one-section, no-table}
 
 -- ---- headers
 
@@ -118,7 +119,7 @@ dynamic-loaded file program dynamic rela relr w image e hs ss ds t laid loadable
 pub static-loaded : FileHeaderIsRead → ProgramHeaderIsRead → SectionHeaderIsRead → RelaIsRead → StaticImagesAreLoaded
 static-loaded file program section rela w image e hs ss of laid loadable can none some has = loaded_by file program w image e hs ss _ laid loadable can (static-tables section rela image e hs ss of laid none some has)
 
--- ---- no tables
+-- ---- the entries of one section
 
 -- no header is PT_DYNAMIC
 no-dynamic : (hs : List ProgramHeader) → All IsStatic hs → first_dynamic hs ≡ None
@@ -126,36 +127,29 @@ unfolding first_dynamic
 no-dynamic [] static = refl
 no-dynamic (h ∷ hs) static = rw (ne_eqb h.kind pt_dynamic (All-head IsStatic h hs static)) (no-dynamic hs (All-tail IsStatic h hs static))
 
--- a section without entries is not read
-not-read : (s : SectionHeader) → HasNoEntries s → has_entries s ≡ true → ⊥
-not-read s none h =
-    let one = and_parts (s.kind == sht_rela && s.flags / shf_alloc % 2 == 1) (not (s.size == 0)) h in
-    let two = and_parts (s.kind == sht_rela) (s.flags / shf_alloc % 2 == 1) one.0 in
-    let z : (s.size == 0) ≡ true = eq-eqb s.size 0 (none (eqb-true _ _ two.0) (eqb-true _ _ two.1)) in
-    both_ways (s.size == 0) (not-true (s.size == 0) one.1) z
+static-found : SectionHeaderIsRead → RelaIsRead → (image : List ℕ) (e : FileHeader) (hs : List ProgramHeader) (ss : List SectionHeader) (rs : List Rela) → HasHeaders image e hs ss → All IsStatic hs → HasSectionTable image ss rs → 0 < e.section_offset → tables image e hs ≡ Ok (record { words = []; entries = rs; jumps = [] })
+static-found section rela image e hs ss rs laid static has some =
+    let found = static-tables section rela image e hs ss (λ s. rs) laid (no-dynamic hs static) some (section-table image ss rs has) in
+    rw (one-section image ss rs has) at found
 
-no-entries : (ss : List SectionHeader) → section_relas ss (λ s. []) ≡ []
-no-entries [] = refl
-no-entries (s ∷ ss) =
-    elim (cases_Bool (has_entries s)) [
-      | inl t ↦ rw t (no-entries ss)
-      | inr f ↦ rw f (no-entries ss)
-    ]
-
-plain-tables : SectionHeaderIsRead → RelaIsRead → (image : List ℕ) (e : FileHeader) (hs : List ProgramHeader) (ss : List SectionHeader) → HasHeaders image e hs ss → All IsStatic hs → All HasNoEntries ss → tables image e hs ≡ Ok (record { words = []; entries = []; jumps = [] })
+listed-found : SectionHeaderIsRead → RelaIsRead → (image : List ℕ) (e : FileHeader) (hs : List ProgramHeader) (ss : List SectionHeader) (rs : List Rela) → HasHeaders image e hs ss → All IsStatic hs → HasSectionTable image ss rs → (0 < length rs → 0 < e.section_offset) → tables image e hs ≡ Ok (record { words = []; entries = rs; jumps = [] })
 unfolding tables section_tables sections section_entries
-plain-tables section rela image e hs ss laid static none =
+listed-found section rela image e hs ss (r ∷ rs) laid static has some = static-found section rela image e hs ss (r ∷ rs) laid static has (some (omega arith))
+listed-found section rela image e hs ss [] laid static has some =
     elim (cases_Bool (e.section_offset == 0)) [
       | inl t ↦ rw (no-dynamic hs static, t) refl
-      | inr f ↦
-          (let has : HasSectionTables image ss (λ s. []) = λ k d l read. absurd (not-read (get_or ss k d) (none k d l) read) in
-          let found = static-tables section rela image e hs ss (λ s. []) laid (no-dynamic hs static) (let ne = eqb-false e.section_offset 0 f in omega (arith, ne)) has in
-          rw (no-entries ss) at found)
+      | inr f ↦ static-found section rela image e hs ss [] laid static has (let ne = eqb-false e.section_offset 0 f in omega (arith, ne))
     ]
+
+pub listed-loaded : FileHeaderIsRead → ProgramHeaderIsRead → SectionHeaderIsRead → RelaIsRead → (w : World) (image : List ℕ) (e : FileHeader) (hs : List ProgramHeader) (ss : List SectionHeader) (rs : List Rela) → HasHeaders image e hs ss → is_loadable_header e ≡ true → AreLoadable w.base image hs → All IsStatic hs → HasSectionTable image ss rs → (0 < length rs → 0 < e.section_offset)
+    → load w image ≡ relocate w (loaded_memory (machine_of e) w.base image hs) (record { words = []; entries = rs; jumps = [] })
+listed-loaded file program section rela w image e hs ss rs laid loadable can static has some = loaded_by file program w image e hs ss _ laid loadable can (listed-found section rela image e hs ss rs laid static has some)
+
+-- ---- no tables
 
 nothing-relocated : (w : World) (machine : Machine) (runs : List Run) → relocate w (memory_of machine runs) (record { words = []; entries = []; jumps = [] }) ≡ Ok (memory_of machine runs)
 unfolding relocate places_from add_all apart least_extent overlaid notes
 nothing-relocated w machine runs = refl
 
 pub plain-loaded : FileHeaderIsRead → ProgramHeaderIsRead → SectionHeaderIsRead → RelaIsRead → PlainImagesAreLoaded
-plain-loaded file program section rela w image e hs ss laid loadable can static none = loaded_by file program w image e hs ss _ laid loadable can (plain-tables section rela image e hs ss laid static none) ∙ nothing-relocated w (machine_of e) (loaded_runs w.base image hs)
+plain-loaded file program section rela w image e hs ss laid loadable can static none = listed-loaded file program section rela w image e hs ss [] laid loadable can static (no-table image ss none) (λ l. absurd (omega arith)) ∙ nothing-relocated w (machine_of e) (loaded_runs w.base image hs)

@@ -1,18 +1,19 @@
--- An image whose tables make known changes is loaded.
-use Rattle.std.proofs.Common.{◌≡◌, ℕ, ◌+◌, ◌%◌, ◌^◌, sym, ◌∙◌, arith, subst, refl}
+-- An image whose tables make known changes, or store words, is loaded.
+use Rattle.std.proofs.Common.{◌≡◌, ℕ, ◌+◌, ◌%◌, ◌^◌, sym, ◌∙◌, arith, subst, refl, List, [], ◌++◌}
 use Rattle.wild_records.specs.Dynamic.{DynamicEntryIsRead}
 use Rattle.wild_records.specs.FileHeader.{FileHeaderIsRead}
 use Rattle.wild_records.specs.ProgramHeader.{ProgramHeaderIsRead}
 use Rattle.wild_records.specs.Relocations.{RelaIsRead, RelrIsRead}
+use Rattle.wild_records.specs.SectionHeader.{SectionHeaderIsRead}
 use Rattle.wild_loader.specs.Memory.{Holds}
 use Rattle.wild_loader.specs.Headers.{machine_of}
-use Rattle.wild_loader.specs.Relocate.{patched}
+use Rattle.wild_loader.specs.Relocate.{patched, relocate}
 use Rattle.wild_loader.specs.Laws.{loaded_memory}
-use Rattle.wild_loader.specs.EntryLaws.{PlacesAreLoaded, ImagesAreApplied, ImagesAreMoved, patches_of}
+use Rattle.wild_loader.specs.EntryLaws.{PlacesAreLoaded, ImagesAreApplied, ImagesAreFilled, StaticImagesAreFilled, patches_of}
 use Rattle.wild_loader.proofs.Mapped.{at-contained, bytes-loaded}
-use Rattle.wild_loader.proofs.ImageLemmas.{dynamic-loaded}
+use Rattle.wild_loader.proofs.ImageLemmas.{dynamic-loaded, listed-loaded}
 use Rattle.wild_loader.proofs.EntryLemmas.{tables-applied}
-use Rattle.wild_loader.proofs.RelativeLemmas.{relatives-applied}
+use Rattle.wild_loader.proofs.FilledLemmas.{tables-filled, joined-relocated}
 
 pub places-loaded : PlacesAreLoaded
 places-loaded machine w image hs a part can at =
@@ -31,8 +32,16 @@ images-applied file program dynamic rela relr w image e hs ss ds t g f has made 
     let applied = tables-applied w (loaded_memory (machine_of e) w.base image hs) t g f made pairs in
     (patched (loaded_memory (machine_of e) w.base image hs) (patches_of t g f), loaded ∙ applied.is, applied)
 
-pub images-moved : FileHeaderIsRead → ProgramHeaderIsRead → DynamicEntryIsRead → RelaIsRead → RelrIsRead → ImagesAreMoved
-images-moved file program dynamic rela relr w image e hs ss ds t v has are =
+pub images-filled : FileHeaderIsRead → ProgramHeaderIsRead → DynamicEntryIsRead → RelaIsRead → RelrIsRead → ImagesAreFilled
+images-filled file program dynamic rela relr w image e hs ss ds t v u has are =
     let loaded = dynamic-loaded file program dynamic rela relr w image e hs ss ds t has.headers has.loadable_header has.loadable has.dynamic has.tables in
-    let moved = relatives-applied w (loaded_memory (machine_of e) w.base image hs) t v are in
-    (moved.0, loaded ∙ moved.1.is, moved.1)
+    let filled = tables-filled w (loaded_memory (machine_of e) w.base image hs) t v u are in
+    (filled.0, loaded ∙ filled.1.is, filled.1)
+
+pub static-filled : FileHeaderIsRead → ProgramHeaderIsRead → SectionHeaderIsRead → RelaIsRead → StaticImagesAreFilled
+static-filled file program section rela w image e hs ss t v u has are =
+    let before = loaded_memory (machine_of e) w.base image hs in
+    let loaded = listed-loaded file program section rela w image e hs ss (t.entries ++ t.jumps) has.headers has.loadable_header has.loadable has.static has.entries has.sections in
+    let joined = subst (λ (ws : List ℕ). relocate w before (record { words = ws; entries = t.entries ++ t.jumps; jumps = [] }) ≡ relocate w before t) has.words (joined-relocated w before t v u are) in
+    let filled = tables-filled w before t v u are in
+    (filled.0, loaded ∙ joined ∙ filled.1.is, filled.1)

@@ -27,9 +27,9 @@ pub use image::load_image;
 pub use kind::DynamicKind;
 pub use laws::{
     bytes_are_loaded, calls_are_read, dynamic_images_are_loaded, entries_make_changes,
-    jumps_are_read, linked_images_are_loaded, numbers_are_read, parts_are_put,
-    relative_tables_are_applied, relocated_tables_are_applied, slot_calls_are_read,
-    slot_jumps_are_read, static_images_are_loaded, stubs_are_read, tables_are_applied,
+    entries_store_words, jumps_are_read, linked_images_are_loaded, numbers_are_read, parts_are_put,
+    relocated_tables_are_applied, slot_calls_are_read, slot_jumps_are_read,
+    static_images_are_loaded, stubs_are_read, tables_are_applied, tables_are_filled,
     words_are_places,
 };
 pub use memory::{Machine, Memory, Run};

@@ -591,7 +591,8 @@ fn laws_are_there() {
     dynamic_images_are_loaded();
     static_images_are_loaded();
     linked_images_are_loaded();
-    relative_tables_are_applied();
+    tables_are_filled();
+    entries_store_words();
     bytes_are_loaded();
     words_are_places();
     entries_make_changes();

@@ -15,7 +15,7 @@ use Rattle.wild_plan.specs.Dynamic.{empty_string, named_strings, tag_entries, st
 use Rattle.wild_plan.specs.Entries.{listed_place, packed_place, moved_of, listed_places, packed_places, words_of, entry_count, word_count}
 use Rattle.wild_plan.specs.Kinds.{is_position_independent, needs_dynamic, needs_dynsym}
 use Rattle.wild_plan.specs.Lists.{total}
-use Rattle.wild_plan.specs.Needs.{is_prelude, is_epilogue, whole_of, own_of, share, has_plain_role, is_plain}
+use Rattle.wild_plan.specs.Needs.{is_prelude, is_epilogue, whole_of, own_of, share, group_share, has_plain_role, is_plain}
 use Rattle.wild_plan.specs.SlotPlaces.{is_without}
 use Rattle.wild_plan.specs.SlotShares.{own_symbols, is_of_slots, header_share, block_places, group_block, block_share}
 use Rattle.wild_plan.specs.Counts.{total_share}
@@ -74,6 +74,10 @@ no_header l role.Got h = cc
 no_header l role.RelaDynGeneral h = cc
 no_header l other h = refl
 
+no_block : (l : Layout) (r : Role) (g : Group) → is_of_slots r ≡ false → block_share l r g ≡ 0
+no_block l role.RelrDyn g h = cc
+no_block l other g h = refl
+
 share_none : (l : Layout) (r : Role) (f : File) → is_position_independent l.kind ≡ false → needs_dynamic l.kind ≡ false → is_of_slots r ≡ false → whole_of l r ≡ 0 → share l r f ≡ 0
 share_none l r f h d s w =
     let own = own_nowhere l r f h d in
@@ -88,7 +92,7 @@ share_none l r f h d s w =
 pub no_share : (l : Layout) (r : Role) (n : ℕ) → n ≡ min (2 ^ 64 - 1) (whole_of l r) → is_position_independent l.kind ≡ false → needs_dynamic l.kind ≡ false → is_of_slots r ≡ false → n ≡ 0 → total_share l r ≡ 0
 no_share l r n is h d s none =
     let w : whole_of l r ≡ 0 = least (whole_of l r) n is none in
-    total_none (λ (g : Group). total (share l r) g.files) l.groups (λ g. total_none (share l r) g.files (λ f. share_none l r f h d s w))
+    total_none (group_share l r) l.groups (λ g. let files = total_none (share l r) g.files (λ f. share_none l r f h d s w) in let block = no_block l r g s in rw (files, block) refl)
   where
     least : (k n : ℕ) → n ≡ min (2 ^ 64 - 1) k → n ≡ 0 → k ≡ 0
     least k n e z = omega (arith, e, z)

@@ -1,20 +1,19 @@
 -- Clause 2: counts; and the roles of clause 4 that have to be there.
---   total_share l r   what all files have to write in a part of role r
+--   total_share l r   what all groups have to write in a part of role r
 --   counts_fit l      no list is too long, and no string table
 --   role_given l r    a part of role r is there, or nothing has to be written in one
 use Rattle.std.specs.Prelude.{ℕ, ◌-◌, ◌^◌, ◌==◌, Bool, ◌&&◌, ◌||◌, nat_lt, nat_le, length}
 use Rattle.std.specs.List.{list_any}
-use Rattle.wild_plan.specs.declared.file.Group.{Group}
 use Rattle.wild_plan.specs.declared.layout.Layout.{Layout}
 use Rattle.wild_plan.specs.declared.part.Role.{Role}
 use Rattle.wild_plan.specs.declared.part.Role.TheVariants as role
 use Rattle.wild_plan.specs.Lists.{total}
-use Rattle.wild_plan.specs.Needs.{name_bytes, share}
+use Rattle.wild_plan.specs.Needs.{name_bytes, group_share}
 use Rattle.wild_plan.specs.Places.{has_role, relocation_count}
 
--- what all files have to write in a part of that role
+-- what all groups have to write in a part of that role
 abbrev pub total_share : Layout → Role → ℕ
-total_share l r = total (λ (g : Group). total (share l r) g.files) l.groups
+total_share l r = total (group_share l r) l.groups
 
 -- no list is too long, and each string table ends below 2^32 (gABI, "Symbol Table": st_name)
 abbrev pub counts_fit : Layout → Bool

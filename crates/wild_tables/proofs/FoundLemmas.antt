@@ -5,7 +5,7 @@ use Rattle.std.specs.List.{list_all}
 use Rattle.std.proofs.lemmas.Bool.{and_parts, eq-eqb}
 use Rattle.std.proofs.lemmas.List.{append_assoc, append-nil}
 use Rattle.std.proofs.lemmas.Grind.{flat_map-append}
-use Rattle.wild_records.specs.Abi.Dynamic.{dt_null, dt_jmprel, dt_pltrelsz, dt_soname, dt_runpath, dt_rpath, dt_auxiliary}
+use Rattle.wild_records.specs.Abi.Dynamic.{dt_null, dt_soname, dt_runpath, dt_rpath, dt_auxiliary}
 use Rattle.wild_records.specs.declared.dynamic.DynamicEntry.{DynamicEntry}
 use Rattle.wild_plan.specs.declared.dynamic.DynamicTag.{DynamicTag}
 use Rattle.wild_plan.specs.declared.dynamic.DynamicTag.TheVariants as tags
@@ -126,6 +126,7 @@ abbrev front_tags : List DynamicTag
 front_tags =
     tags.Init ∷ tags.Fini ∷ tags.InitArray ∷ tags.InitArraySize ∷ tags.FiniArray ∷ tags.FiniArraySize ∷ tags.PreinitArray ∷ tags.PreinitArraySize
     ∷ tags.StringTable ∷ tags.StringSize ∷ tags.SymbolTable ∷ tags.SymbolSize
+    ∷ tags.PltGot ∷ tags.PltRelSize ∷ tags.PltRel ∷ tags.JmpRel
     ∷ tags.Rela ∷ tags.RelaSize ∷ tags.RelaEntry ∷ tags.RelaCount ∷ tags.Relr ∷ tags.RelrSize ∷ tags.RelrEntry
     ∷ tags.Debug ∷ tags.Textrel ∷ tags.Flags ∷ tags.Flags1 ∷ []
 
@@ -209,62 +210,30 @@ place_of tags.StringTable = 8
 place_of tags.StringSize = 9
 place_of tags.SymbolTable = 10
 place_of tags.SymbolSize = 11
-place_of tags.Rela = 12
-place_of tags.RelaSize = 13
-place_of tags.RelaEntry = 14
-place_of tags.RelaCount = 15
-place_of tags.Relr = 16
-place_of tags.RelrSize = 17
-place_of tags.RelrEntry = 18
-place_of tags.Debug = 19
-place_of tags.Textrel = 20
-place_of tags.Flags = 21
-place_of tags.Flags1 = 22
-place_of tags.Null = 23
+place_of tags.PltGot = 12
+place_of tags.PltRelSize = 13
+place_of tags.PltRel = 14
+place_of tags.JmpRel = 15
+place_of tags.Rela = 16
+place_of tags.RelaSize = 17
+place_of tags.RelaEntry = 18
+place_of tags.RelaCount = 19
+place_of tags.Relr = 20
+place_of tags.RelrSize = 21
+place_of tags.RelrEntry = 22
+place_of tags.Debug = 23
+place_of tags.Textrel = 24
+place_of tags.Flags = 25
+place_of tags.Flags1 = 26
+place_of tags.Null = 27
 
 among : (t : DynamicTag) → t ≢ tags.Null → IsAmong t (take (place_of t) front_tags) (drop (place_of t + 1) front_tags)
 unfolding dynamic_number
-among tags.Init h = record { whole = refl; strings = refl; ahead = refl; behind = refl }
-among tags.Fini h = record { whole = refl; strings = refl; ahead = refl; behind = refl }
-among tags.InitArray h = record { whole = refl; strings = refl; ahead = refl; behind = refl }
-among tags.InitArraySize h = record { whole = refl; strings = refl; ahead = refl; behind = refl }
-among tags.FiniArray h = record { whole = refl; strings = refl; ahead = refl; behind = refl }
-among tags.FiniArraySize h = record { whole = refl; strings = refl; ahead = refl; behind = refl }
-among tags.PreinitArray h = record { whole = refl; strings = refl; ahead = refl; behind = refl }
-among tags.PreinitArraySize h = record { whole = refl; strings = refl; ahead = refl; behind = refl }
-among tags.StringTable h = record { whole = refl; strings = refl; ahead = refl; behind = refl }
-among tags.StringSize h = record { whole = refl; strings = refl; ahead = refl; behind = refl }
-among tags.SymbolTable h = record { whole = refl; strings = refl; ahead = refl; behind = refl }
-among tags.SymbolSize h = record { whole = refl; strings = refl; ahead = refl; behind = refl }
-among tags.Rela h = record { whole = refl; strings = refl; ahead = refl; behind = refl }
-among tags.RelaSize h = record { whole = refl; strings = refl; ahead = refl; behind = refl }
-among tags.RelaEntry h = record { whole = refl; strings = refl; ahead = refl; behind = refl }
-among tags.RelaCount h = record { whole = refl; strings = refl; ahead = refl; behind = refl }
-among tags.Relr h = record { whole = refl; strings = refl; ahead = refl; behind = refl }
-among tags.RelrSize h = record { whole = refl; strings = refl; ahead = refl; behind = refl }
-among tags.RelrEntry h = record { whole = refl; strings = refl; ahead = refl; behind = refl }
-among tags.Debug h = record { whole = refl; strings = refl; ahead = refl; behind = refl }
-among tags.Textrel h = record { whole = refl; strings = refl; ahead = refl; behind = refl }
-among tags.Flags h = record { whole = refl; strings = refl; ahead = refl; behind = refl }
-among tags.Flags1 h = record { whole = refl; strings = refl; ahead = refl; behind = refl }
 among tags.Null h = absurd (h refl)
+among other h = record { whole = refl; strings = refl; ahead = refl; behind = refl }
 
 pub found : (l : Layout) (rest : List DynamicEntry) (t : DynamicTag) → needs_dynamic l.kind ≡ true → t ≢ tags.Null → tagged (dynamic_number t) (before_null (dynamic_entries l ++ rest)) ≡ dynamic_entry l t
 found l rest t n h = found_in l rest t (take (place_of t) front_tags) (drop (place_of t + 1) front_tags) n (among t h)
-
--- a number that no entry has is not found
-absent : (l : Layout) (rest : List DynamicEntry) (m : ℕ) → needs_dynamic l.kind ≡ true → no_string m ≡ true → list_all (tag_differs m) front_tags ≡ true → tagged m (before_null (dynamic_entries l ++ rest)) ≡ None
-unfolding tagged
-absent l rest m n s f =
-    let F = flat_map (entry_of l) front_tags in
-    ap (tagged m) (ahead_of_null l rest n)
-    ∙ strings_passed m (string_start l) (named_strings l) F (strings_differ m l n s)
-    ∙ ap (tagged m) (sym (append-nil F))
-    ∙ tags_passed m l front_tags [] f
-
-no_jumps : (list_all (tag_differs dt_jmprel) front_tags ≡ true) × (list_all (tag_differs dt_pltrelsz) front_tags ≡ true)
-unfolding dynamic_number
-no_jumps = (refl, refl)
 
 pub tables_named : (l : Layout) (room : ℕ) → needs_dynamic l.kind ≡ true → NamesTables l (dynamic_records l room)
 unfolding dynamic_number
@@ -275,6 +244,6 @@ tables_named l room n =
       entries_size = found l rest tags.RelaSize n (λ e. cc e);
       words = found l rest tags.Relr n (λ e. cc e);
       words_size = found l rest tags.RelrSize n (λ e. cc e);
-      jumps = absent l rest dt_jmprel n refl no_jumps.0;
-      jumps_size = absent l rest dt_pltrelsz n refl no_jumps.1;
+      jumps = found l rest tags.JmpRel n (λ e. cc e);
+      jumps_size = found l rest tags.PltRelSize n (λ e. cc e);
     }

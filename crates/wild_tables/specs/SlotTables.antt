@@ -5,7 +5,7 @@
 --   with_block base n t     with the places of the block, packed
 --   with_general e t        with an entry of `rela_dyn_general`
 --   with_copy l r t         with a copied symbol
-use Rattle.std.specs.Prelude.{ℕ, ℤ, if◌then◌else◌, List, [], ◌∷◌, ◌++◌, replicate, Option, Some, None, unwrap_or, Result, Ok, Err}
+use Rattle.std.specs.Prelude.{ℕ, ℤ, if◌then◌else◌, List, [], ◌∷◌, Option, Some, None, unwrap_or, Result, Ok, Err}
 use Rattle.wild_records.specs.declared.relocations.Rela.{Rela}
 use Rattle.wild_reloc.specs.declared.dynamic.DynamicRelocationKind.{DynamicRelocationKind}
 use Rattle.wild_reloc.specs.declared.dynamic.DynamicRelocationKind.TheVariants.{Copy}
@@ -14,11 +14,11 @@ use Rattle.wild_plan.specs.declared.symbol.Resolution.{Resolution}
 use Rattle.wild_relr.specs.Packing.{State}
 use Rattle.wild_relr.specs.Packed.{after_flat, after_block}
 use Rattle.wild_tables.specs.Words.{Words}
-use Rattle.wild_plan.specs.declared.slot.Setting.{Setting}
 use Rattle.wild_plan.specs.declared.slot.SlotWord.{SlotWord}
 use Rattle.wild_plan.specs.declared.slot_parts.WordPart.TheVariants as words
 use Rattle.wild_plan.specs.declared.slot_parts.EntryPart.TheVariants as entries
-use Rattle.wild_plan.specs.Slots.{SlotContent, setting_of, slot, storage_pair}
+use Rattle.wild_plan.specs.Slots.{SlotContent, setting_of, slot}
+use Rattle.wild_plan.specs.SlotShares.{storage_words, header_words}
 use Rattle.wild_plan.specs.SlotParts.{type_of, entry_at, slot_words, slot_entries, flat_places}
 use Rattle.wild_tables.specs.Tables.{Tables, more_words, more_stubs, more_entries, with_words}
 
@@ -67,19 +67,11 @@ with_slot l r stub t = with_content l (unwrap_or r.got_address 0) (content_of l 
 
 -- ---- what stands once
 
-abbrev pub pair_at : Setting → Option ℕ → List SlotWord
-pair_at s None = []
-pair_at s (Some at) = storage_pair s
-
--- the pair of the output's own thread-local data, where it has a place
-abbrev pub storage_words : Layout → List SlotWord
-storage_words l = pair_at (setting_of l) l.tlsld
-
 -- the reserved words at the start of the table, which are 0 in the file, and the pair of the output's own thread-local data
 -- with its entry
 abbrev pub with_header : Layout → Tables → Tables
 with_header l t = record t {
-  got = more_words (replicate l.got_header 0 ++ slot_words words.Got l.options.relr (unwrap_or l.tlsld 0) (storage_words l)) t.got;
+  got = more_words (header_words l) t.got;
   general = more_entries (slot_entries entries.General l.machine l.options.relr (unwrap_or l.tlsld 0) (storage_words l)) t.general;
 }
 

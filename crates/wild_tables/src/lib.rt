@@ -3,8 +3,8 @@
 
 mod dynamic;
 mod laws;
-mod rela;
 mod refused;
+mod rela;
 mod relr;
 mod room;
 mod slot_words;
@@ -20,9 +20,9 @@ pub use laws::{
     entries_add_the_base, entries_are_read, loaders_agree, places_are_loaded, slots_are_filled,
     types_are_known,
 };
+pub use refused::Refused;
 pub use rela::RelaTable;
 pub use relr::RelrTable;
-pub use refused::Refused;
 pub use room::Room;
 pub use stub::StubTable;
 pub use verify::{ROLES, verify_resolution_allocation};

@@ -12,7 +12,7 @@ pub enum Refused {
 
 impl From<Error> for Refused {
     ghost use Rattle.std.specs.Prelude.{◌≡◌};
-    ghost use Rattle.wild_plan.specs.declared.refused.Refused.TheVariants.{Room};
+    ghost use Rattle.wild_tables.specs.declared.refused.Refused.TheVariants.{Room};
 
     ghost from_gives = { λ e r. r ≡ Room e };
 

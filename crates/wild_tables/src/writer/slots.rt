@@ -4,19 +4,20 @@ ghost use Rattle.std.specs.Int.{cast_signed, w64};
 ghost use Rattle.wild_reloc.specs.declared.dynamic.DynamicRelocationKind.TheVariants.{Irelative};
 ghost use Rattle.wild_relr.specs.Places.{places};
 ghost use Rattle.wild_relr.specs.Packed.{slots};
-ghost use Rattle.wild_tables.specs.SlotTables.{with_content, with_slot, content_of, storage_words, with_header, with_block, with_general, symbol_entry, with_copy};
+ghost use Rattle.wild_plan.specs.SlotShares.{storage_words};
+ghost use Rattle.wild_tables.specs.SlotTables.{with_content, with_slot, content_of, with_header, with_block, with_general, symbol_entry, with_copy};
 ghost use Rattle.wild_tables.specs.Rooms.{rooms, room_for_all, Fit, room_for_header, HeaderFits, room_for_block, room_for_general, slot_answer, copy_answer};
 
 use super::{TABLES, TableWriter};
+use crate::refused::Refused;
 use crate::room::{
     Room, entries_room_with, first_short, packed_room_with, stubs_room_with, words_room_with,
 };
-use crate::refused::Refused;
 use crate::slot_words::{add_entries, add_flat, add_words, add_zeros};
 use wild_plan::{
-    At, EntryPart, Error, Fault, Layout, Resolution, Role, STUB_SIZE, Setting, SlotEntry, SlotFault,
-    SlotWord, WORD_SIZE, WordPart, count_entries, count_flat, count_words, entry_at, insufficient,
-    slot_of, storage_pair, type_of,
+    At, EntryPart, Error, Fault, Layout, Resolution, Role, STUB_SIZE, Setting, SlotEntry,
+    SlotFault, SlotWord, WORD_SIZE, WordPart, count_entries, count_flat, count_words, entry_at,
+    insufficient, slot_of, storage_pair, type_of,
 };
 use wild_records::Rela;
 use wild_reloc::DynamicRelocationKind;
