@@ -3,3 +3,4 @@ mod SlotLemmas
 mod WalkLemmas
 mod CheckLemmas
 mod OrderLemmas
+mod TableLemmas
