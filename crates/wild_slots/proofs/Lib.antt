@@ -4,3 +4,7 @@ mod WalkLemmas
 mod CheckLemmas
 mod OrderLemmas
 mod TableLemmas
+mod BlockWordLemmas
+mod PlaceLemmas
+mod StandLemmas
+mod EachLemmas

@@ -101,7 +101,7 @@ descriptor_other s r = by_index r.dynamic_symbol_index refl
         of_if (ItemHas (IsOther s r)) (is_outside s.tls r.raw_value) _ _ (λ t. tt) (λ g.
         of_if (ItemHas (IsOther s r)) (is_static_executable s.kind) _ _ (λ t. tt) (λ h own. let x = own.static in cc)))
 
-threads_other : (s : Setting) (r : Resolution) → All (ItemHas (IsOther s r)) (thread_items s r)
+pub threads_other : (s : Setting) (r : Resolution) → All (ItemHas (IsOther s r)) (thread_items s r)
 threads_other s r =
     let W = IsOther s r in
     All-append (ItemHas W) (offset_items s r) (module_items s r ++ descriptor_items s r)

@@ -38,7 +38,7 @@ WordsStand l s at false = StandsAt l role.Got at (word_bytes (words_in words.Got
 pub record SymbolStands (l : Layout) (s : Symbol) (at : ℕ) : Type 0 where
   pub written : IsWritten l s
   pub words : WordsStand l s at (begins_block (slots_of l s).words)
-  pub stub : (p : ℕ) → plt_of s ≡ Some p → (slots_of l s).has_stub ≡ true → StandsAt l role.PltGot p (stub_bytes l s)
+  pub stub : (p : ℕ) → plt_of s ≡ Some p → StandsAt l role.PltGot p (stub_bytes l s)
 
 -- each symbol with slots
 abbrev pub SlotsStand : Type 0
