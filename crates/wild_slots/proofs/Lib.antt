@@ -8,3 +8,7 @@ mod BlockWordLemmas
 mod PlaceLemmas
 mod StandLemmas
 mod EachLemmas
+mod StubLemmas
+mod AscendLemmas
+mod SymbolPlaces
+mod PlacesLemmas

@@ -1,5 +1,4 @@
-use Rattle.wild_slots.proofs.BlockWordLemmas.{first_alone}
-use Rattle.wild_slots.proofs.PlaceLemmas.{word_at}
+use Rattle.wild_slots.proofs.SymbolPlaces.{stub_place}
 use Rattle.wild_slots.proofs.fixed_outputs_move_nothing.Goals as goal
 
 pub returns : goal.returns
