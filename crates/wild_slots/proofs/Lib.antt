@@ -12,3 +12,5 @@ mod StubLemmas
 mod AscendLemmas
 mod SymbolPlaces
 mod PlacesLemmas
+mod BlockLemmas
+mod EntryLemmas

@@ -31,7 +31,7 @@ pub record IsOwn (s : Setting) (r : Resolution) : Type 0 where
   pub dynamic : has_flag r.flags dynamic ≡ false
   pub index : r.dynamic_symbol_index ≡ None
 
-executable : (k : OutputKind) → is_static_executable k ≡ true → is_executable k ≡ true
+pub executable : (k : OutputKind) → is_static_executable k ≡ true → is_executable k ≡ true
 executable (StaticExecutable model) h = refl
 executable (DynamicExecutable model) h = cc
 executable SharedObject h = cc

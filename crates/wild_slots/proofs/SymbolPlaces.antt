@@ -85,7 +85,7 @@ no_place at (InBlock a) h = absurd h
 no_place at (General e) h = refl
 no_place at (Plt e) h = refl
 
-no_places : (at : ℕ) (ws : List SlotWord) → All NotInBlock ws → at_places (place_in words.Block) at ws ≡ []
+pub no_places : (at : ℕ) (ws : List SlotWord) → All NotInBlock ws → at_places (place_in words.Block) at ws ≡ []
 no_places at ws h = nothing_given (place_in words.Block) NotInBlock (λ p w n. no_place p w n) at ws h
 
 -- they have one place, the first, where they begin with one

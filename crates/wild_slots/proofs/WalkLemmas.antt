@@ -55,17 +55,25 @@ cut_at R front (x ∷ ys) y (suc k) l e a =
 pub Cut-from_contains : {Y : Type 0} (R : List Y → Y → Type 0) (front ys : List Y) (y : Y) → Contains ys y → AllBehind R front ys → Cut R front ys y
 Cut-from_contains R front ys y c a = cut_at R front ys y c.0 c.1 c.2 a
 
--- the items of one of several lists, behind those of the lists before it
-pub record Piece {Y : Type 0} (R : List Y → Y → Type 0) (ys : List Y) : Type 0 where
+-- the items of one of several lists, between those of the lists before it and behind it
+pub record Piece {Y : Type 0} (R : List Y → Y → Type 0) (whole ys : List Y) : Type 0 where
   pub before : List Y
+  pub after : List Y
+  pub is : whole ≡ before ++ (ys ++ after)
   pub each : AllBehind R before ys
 
-pub Piece-at : {X Y : Type 0} (R : List Y → Y → Type 0) (f : X → List Y) (front : List Y) (xs : List X) (x : X) (k : ℕ) → k < length xs → get_or xs k x ≡ x → AllBehind R front (flat_map f xs) → Piece R (f x)
-Piece-at R f front [] x k l e a = absurd (omega arith)
-Piece-at R f front (z ∷ xs) x zero l e a =
+piece_at : {X Y : Type 0} (R : List Y → Y → Type 0) (f : X → List Y) (front : List Y) (xs : List X) (x : X) (k : ℕ) → k < length xs → get_or xs k x ≡ x → AllBehind R front (flat_map f xs) → Piece R (front ++ flat_map f xs) (f x)
+piece_at R f front [] x k l e a = absurd (omega arith)
+piece_at R f front (z ∷ xs) x zero l e a =
     let P : _ → Type 0 = λ w. AllBehind R front (f w) in
-    record { before = front; each = subst P e (AllBehind-left R front (f z) (flat_map f xs) a) }
-Piece-at R f front (z ∷ xs) x (suc k) l e a = Piece-at R f (front ++ f z) xs x k (omega arith) e (AllBehind-right R front (f z) (flat_map f xs) a)
+    let here = AllBehind-left R front (f z) (flat_map f xs) a in
+    record { before = front; after = flat_map f xs; is = ap (λ w. front ++ (f w ++ flat_map f xs)) e; each = subst P e here }
+piece_at R f front (z ∷ xs) x (suc k) l e a =
+    let rest = piece_at R f (front ++ f z) xs x k (omega arith) e (AllBehind-right R front (f z) (flat_map f xs) a) in
+    record { before = rest.before; after = rest.after; is = sym (append_assoc front (f z) (flat_map f xs)) ∙ rest.is; each = rest.each }
+
+pub Piece-from_contains : {X Y : Type 0} (R : List Y → Y → Type 0) (f : X → List Y) (xs : List X) (x : X) → Contains xs x → AllBehind R [] (flat_map f xs) → Piece R (flat_map f xs) (f x)
+Piece-from_contains R f xs x c a = piece_at R f [] xs x c.0 c.1 c.2 a
 
 -- ---- walks
 
