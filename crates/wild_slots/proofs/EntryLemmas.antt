@@ -119,7 +119,7 @@ moves_nothing l f = record {
 
 -- ---- the output's own symbols in a static executable
 
-own : (l : Layout) (s : Symbol) (r : Resolution) → is_static_executable l.kind ≡ true → IsOwnSymbol s → s.resolution ≡ Some r → IsOwn (setting_of l) r
+pub own : (l : Layout) (s : Symbol) (r : Resolution) → is_static_executable l.kind ≡ true → IsOwnSymbol s → s.resolution ≡ Some r → IsOwn (setting_of l) r
 own l s r static o e =
     let i = o.resolved r e in
     record { static = static; dynamic = ap (λ (f : ValueFlags). has_flag f dynamic) i.flags ∙ o.dynamic; index = i.index }
@@ -150,7 +150,7 @@ no_general m relr at (InBlock a) h = refl
 no_general m relr at (General e) h = absurd h
 no_general m relr at (Plt e) h = refl
 
-general_none : (l : Layout) → is_static_executable l.kind ≡ true → (s : Symbol) → IsOwnSymbol s → symbol_entries entries.General l s ≡ []
+pub general_none : (l : Layout) → is_static_executable l.kind ≡ true → (s : Symbol) → IsOwnSymbol s → symbol_entries entries.General l s ≡ []
 general_none l static s o =
     nothing_given (entry_of entries.General l.machine l.options.relr) NamesNone (λ p w h. no_general l.machine l.options.relr p w h) (slots_at s) (slots_of l s).words
     (of_words NamesNone l s (λ r e w h. names_other (setting_of l) r (own l s r static o e) w h) (λ r e w h. names_first (setting_of l) r (own l s r static o e) w h))

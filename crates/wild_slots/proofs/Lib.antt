@@ -14,3 +14,4 @@ mod SymbolPlaces
 mod PlacesLemmas
 mod BlockLemmas
 mod EntryLemmas
+mod IndirectLemmas
