@@ -1,6 +1,6 @@
 -- A group's block of slots has no gap.
-use Rattle.std.proofs.Common.{◌≡◌, ◌≢◌, ℕ, zero, suc, ◌+◌, ◌-◌, ◌*◌, ◌%◌, ◌^◌, ◌<◌, ◌≤◌, inl, inr, Bool, true, false, List, [], ◌∷◌, ◌++◌, length, get_or, min, Some, None, All, Contains, refl, sym, ap, ◌∙◌, subst, arith}
-use Rattle.std.specs.Prelude.{Option, not, ◌==◌, ◌||◌, if◌then◌else◌, find, unwrap_or}
+use Rattle.std.proofs.Common.{◌≡◌, ◌≢◌, ℕ, zero, suc, ◌+◌, ◌-◌, ◌*◌, ◌%◌, ◌^◌, ◌≤◌, inl, inr, true, List, [], ◌∷◌, ◌++◌, length, min, Some, None, All, Contains, refl, sym, ap, ◌∙◌, subst, arith}
+use Rattle.std.specs.Prelude.{Option, not, ◌==◌, unwrap_or}
 use Rattle.std.specs.List.{flat_map}
 use Rattle.std.proofs.lemmas.Bool.{cases_Bool, or_cases, not-true, eqb-true, eqb-false}
 use Rattle.std.proofs.lemmas.List.Elements.{All-nil, All-cons, All-head, All-tail, All-weaker}
@@ -25,10 +25,10 @@ use Rattle.wild_plan.specs.SlotShares.{own_symbols, slots_of, slots_at, words_in
 use Rattle.wild_plan.specs.SlotPlaces.{address_of_part, start_of, first_free, is_even_slot, slot_is_even, block_has_base}
 use Rattle.wild_plan.proofs.ListLemmas.{total-append}
 use Rattle.wild_layout.specs.Geometry.{table_bytes}
-use Rattle.wild_slots.specs.Order.{HasSlotsInOrder, written_symbols, end_of}
+use Rattle.wild_slots.specs.Order.{HasSlotsInOrder, end_of}
 use Rattle.wild_slots.specs.Ascend.{place_in, word_places}
 use Rattle.wild_slots.specs.Blocks.{IsWhole}
-use Rattle.wild_slots.proofs.WalkLemmas.{AllBehind, Piece, Piece-from_contains}
+use Rattle.wild_slots.proofs.WalkLemmas.{AllBehind, Piece-from_contains}
 use Rattle.wild_slots.proofs.CheckLemmas.{SlotChecks, SlotChecks-from_clause}
 use Rattle.wild_slots.proofs.OrderLemmas.{StandsBehind, total-push, AreInOrder-from_test}
 use Rattle.wild_slots.proofs.TableLemmas.{own_of_group, block_table}
@@ -68,6 +68,7 @@ even_at at ws a h = by_first ws a
   where
     behind : (vs : List SlotWord) → All NotInBlock vs → All (λ p. p % 2 ≡ 0) (at_places (place_in words.Block) (next at) vs)
     behind vs n = let e = no_places (next at) vs n in rw e (All-nil (λ (p : ℕ). p % 2 ≡ 0))
+
     by_first : (vs : List SlotWord) → FirstAlone vs → All (λ p. p % 2 ≡ 0) (at_places (place_in words.Block) at vs)
     by_first [] n = All-nil (λ (p : ℕ). p % 2 ≡ 0)
     by_first (InBlock v ∷ vs) n = All-cons (λ (p : ℕ). p % 2 ≡ 0) at (at_places (place_in words.Block) (next at) vs) h (behind vs n)

@@ -1,7 +1,7 @@
 -- Words of a block of slots: only the first word of a symbol is one, and it is the only one where flags and slots agree.
-use Rattle.std.proofs.Common.{◌≡◌, ℕ, inl, inr, ◌⊎◌, Bool, true, false, List, [], ◌∷◌, ◌++◌, ◌≤◌, length, Some, None, All, refl, sym, ap, ◌∙◌, subst, arith}
-use Rattle.std.specs.Prelude.{Option, not, ◌&&◌, ◌||◌, if◌then◌else◌, is_some}
-use Rattle.std.proofs.lemmas.Bool.{cases_Bool, and_parts, and_from, or_cases, not-true}
+use Rattle.std.proofs.Common.{◌≡◌, ℕ, inl, inr, ◌⊎◌, Bool, true, false, List, [], ◌∷◌, ◌≤◌, length, Some, None, All, refl, sym, ap, ◌∙◌, subst, arith}
+use Rattle.std.specs.Prelude.{Option, not, ◌&&◌, if◌then◌else◌, is_some}
+use Rattle.std.proofs.lemmas.Bool.{cases_Bool, and_parts, or_cases, not-true}
 use Rattle.std.proofs.lemmas.List.{nil_from_length}
 use Rattle.std.proofs.lemmas.List.Elements.{All-nil, All-cons, All-head, All-tail, All-append, All-weaker}
 use Rattle.wild_plan.specs.declared.symbol.Resolution.{Resolution}
@@ -16,14 +16,14 @@ use Rattle.wild_plan.specs.declared.slot.SlotItem.TheVariants.{Word, Stub, Fault
 use Rattle.wild_plan.specs.Kinds.{is_position_independent}
 use Rattle.wild_plan.specs.Flags.{has_flag, has_link_time_address, ifunc, canonical_plt, ifunc_got_for_address, canonical_plt_got_for_address}
 use Rattle.wild_plan.specs.SymbolSlots.{got_of, has_thread_slot, has_dynamic_symbol}
-use Rattle.wild_plan.specs.Slots.{setting_of, slot, items_at, with_items, no_slot, add_item, thread_items, plain_item, named, plt, general, number, where_so, stub_items, stub_address, ifunc_address_items, canonical_address_items, address_items}
+use Rattle.wild_plan.specs.Slots.{setting_of, slot, items_at, with_items, no_slot, add_item, thread_items, plain_item, named, stub_items, address_items}
 use Rattle.wild_plan.specs.SlotShares.{slots_of, resolved_slots}
 use Rattle.wild_plan.specs.SlotPlaces.{begins_block}
 use Rattle.wild_plan.specs.SlotFlags.{takes_block_word, second_slot_fits}
 use Rattle.wild_plan.specs.Stub.{far_of}
 use Rattle.wild_slots.specs.Order.{HasItsFlags}
 use Rattle.wild_slots.proofs.ItemLemmas.{ItemHas, More-items, All-words, none_more, of_stub}
-use Rattle.wild_slots.proofs.SlotLemmas.{IsOther, IsFirst, IsLed, Shape, shape, behind_items, threads_other}
+use Rattle.wild_slots.proofs.SlotLemmas.{IsOther, Shape, shape, behind_items, threads_other}
 
 -- the word is none of a block
 abbrev pub NotInBlock : SlotWord → Type 0
@@ -132,9 +132,11 @@ single s far r a = by_place r.got_address
     led (Word w) = let e = none_more (w ∷ []) _ (More-items (λ v. ⊥) (add_item no_slot (Word w)) (behind_items s far r) a) in rw e (omega arith)
     led Stub = let e = none_more [] _ (More-items (λ v. ⊥) (add_item no_slot Stub) (behind_items s far r) a) in rw e (omega arith)
     led (Fault f) = let e = none_more [] _ (More-items (λ v. ⊥) (add_item no_slot (Fault f)) (behind_items s far r) a) in rw e (omega arith)
+
     by_slot : (b : Bool) → has_thread_slot r.flags ≡ b → Single s r (with_items no_slot (if b then thread_items s r else address_items s far r)).words
     by_slot true t = inl (All-words (IsOther s r) (thread_items s r) (threads_other s r))
     by_slot false t = inr (led (plain_item s r))
+
     by_place : (o : Option ℕ) → Single s r (with_items no_slot (items_at s far r o)).words
     by_place None = inr (omega arith)
     by_place (Some got) = by_slot (has_thread_slot r.flags) refl
@@ -174,9 +176,11 @@ only_word l s at a rest f second g h = by_resolution s.resolution refl h
   where
     short : (ws : List SlotWord) → ws ≡ InBlock a ∷ rest → length ws ≤ 1 → rest ≡ []
     short ws e lt = let n = ap (λ (vs : List SlotWord). length vs) e in nil_from_length rest (omega (arith, n, lt))
+
     by_single : (r : Resolution) (ws : List SlotWord) → ws ≡ InBlock a ∷ rest → Single (setting_of l) r ws → rest ≡ []
     by_single r ws e (inl others) = absurd (not_other (setting_of l) r ws rest a e others)
     by_single r ws e (inr lt) = short ws e lt
+
     by_shape : (r : Resolution) → s.resolution ≡ Some r → (ws : List SlotWord) → ws ≡ InBlock a ∷ rest → Shape (setting_of l) (far_of l.machine r) r ws → Single (setting_of l) r (slot (setting_of l) (far_of l.machine r) r).words
     by_shape r is ws e (inl others) = absurd (not_other (setting_of l) r ws rest a e others)
     by_shape r is ws e (inr led) =
@@ -187,6 +191,7 @@ only_word l s at a rest f second g h = by_resolution s.resolution refl h
         let i = ap (λ (v : ValueFlags). has_flag v ifunc_got_for_address) (f r is) ∙ n.0 in
         let c = ap (λ (v : ValueFlags). has_flag v canonical_plt_got_for_address) (f r is) ∙ n.1 in
         single (setting_of l) (far_of l.machine r) r (no_seconds (setting_of l) (far_of l.machine r) r i c)
+
     by_resolution : (o : Option Resolution) → s.resolution ≡ o → (resolved_slots l o).words ≡ InBlock a ∷ rest → rest ≡ []
     by_resolution None is e = cc
     by_resolution (Some r) is e =

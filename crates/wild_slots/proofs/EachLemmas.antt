@@ -1,37 +1,25 @@
 -- Each word of a symbol stands at its own address.
-use Rattle.std.proofs.Common.{◌≡◌, ℕ, zero, suc, ◌+◌, ◌*◌, ◌<◌, ◌≤◌, inl, inr, Bool, true, false, List, [], ◌∷◌, ◌++◌, length, get_or, Some, None, All, refl, sym, ap, ◌∙◌, subst, arith, slice_get}
-use Rattle.std.specs.Prelude.{Option, not, ◌&&◌, ◌||◌, if◌then◌else◌, is_some, unwrap_or}
-use Rattle.std.proofs.lemmas.Bool.{cases_Bool, and_parts, or_cases, not-true}
+use Rattle.std.proofs.Common.{◌≡◌, ℕ, zero, suc, ◌+◌, ◌*◌, ◌<◌, Bool, true, false, List, [], ◌∷◌, length, get_or, Some, All, refl, ap, subst, arith, slice_get}
+use Rattle.std.specs.Prelude.{Option, unwrap_or}
 use Rattle.std.proofs.lemmas.Option.{same_Some}
 use Rattle.wild_words.specs.Words.{word, Stands}
 use Rattle.wild_words.proofs.ListLemmas.{holds_at}
 use Rattle.wild_words.proofs.WordLemmas.{length-word}
-use Rattle.wild_words.proofs.RecordLemmas.{Stands-left, Stands-right, Stands-whole}
+use Rattle.wild_words.proofs.RecordLemmas.{Stands-left, Stands-right}
 use Rattle.wild_relr.specs.Written.{word_bytes}
 use Rattle.wild_plan.specs.declared.part.Role.TheVariants as role
-use Rattle.wild_plan.specs.declared.symbol.Resolution.{Resolution}
 use Rattle.wild_plan.specs.declared.symbol.Symbol.{Symbol}
-use Rattle.wild_plan.specs.declared.symbol.ValueFlags.{ValueFlags}
 use Rattle.wild_plan.specs.declared.layout.Layout.{Layout}
-use Rattle.wild_plan.specs.declared.slot.Setting.{Setting}
 use Rattle.wild_plan.specs.declared.slot.SlotWord.{SlotWord}
 use Rattle.wild_plan.specs.declared.slot.SlotWord.TheVariants.{Number, Address, InBlock, General, Plt}
-use Rattle.wild_plan.specs.declared.slot.SlotItem.{SlotItem}
-use Rattle.wild_plan.specs.declared.slot.SlotItem.TheVariants.{Word, Stub, Fault}
 use Rattle.wild_plan.specs.declared.slot_parts.WordPart.TheVariants as words
-use Rattle.wild_plan.specs.Flags.{has_flag, ifunc}
-use Rattle.wild_plan.specs.SymbolSlots.{got_of, plt_of, has_thread_slot}
+use Rattle.wild_plan.specs.SymbolSlots.{got_of}
 use Rattle.wild_plan.specs.SlotParts.{word_of, slot_words}
-use Rattle.wild_plan.specs.Slots.{SlotContent, setting_of, slot, slot_items, items_at, no_slot, with_item, with_item_by, with_items, thread_items, address_items, plain_item, stub_item, stub_items, ifunc_address_items, canonical_address_items}
-use Rattle.wild_plan.specs.SlotFlags.{thread_slot_alone}
-use Rattle.wild_plan.specs.SlotShares.{slots_of, resolved_slots, slots_at, words_in}
+use Rattle.wild_plan.specs.SlotShares.{slots_of, slots_at, words_in}
 use Rattle.wild_plan.specs.SlotPlaces.{begins_block}
-use Rattle.wild_plan.specs.Stub.{far_of}
-use Rattle.wild_slots.specs.Order.{HasItsFlags, HasSlotsInOrder}
-use Rattle.wild_slots.specs.Stand.{StandsAt, WordsStand, part_of_word, WordStands}
-use Rattle.wild_slots.proofs.ItemLemmas.{fault_first, stub_stays}
-use Rattle.wild_slots.proofs.CheckLemmas.{FlagChecks-from_clause}
-use Rattle.wild_slots.proofs.BlockWordLemmas.{NotInBlock, first_alone, none_in_block, begins, only_word}
+use Rattle.wild_slots.specs.Order.{HasSlotsInOrder}
+use Rattle.wild_slots.specs.Stand.{StandsAt, WordsStand, WordStands}
+use Rattle.wild_slots.proofs.BlockWordLemmas.{NotInBlock, first_alone, none_in_block}
 use Rattle.wild_slots.proofs.PlaceLemmas.{word_at}
 use Rattle.wild_slots.proofs.StandLemmas.{StandsAt-inner, stands, only}
 

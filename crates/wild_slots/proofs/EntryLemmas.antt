@@ -1,38 +1,30 @@
 -- Which entries the slots of an output have.
-use Rattle.std.proofs.Common.{◌≡◌, ℕ, ◌+◌, ◌%◌, ◌^◌, ◌<◌, inl, inr, Bool, true, false, List, [], ◌∷◌, ◌++◌, length, get_or, Some, None, All, Contains, refl, sym, ap, ◌∙◌, subst, arith}
-use Rattle.std.specs.Prelude.{Option, if◌then◌else◌, ◌&&◌, ◌==◌, option_to_list, unwrap_or}
+use Rattle.std.proofs.Common.{◌≡◌, ℕ, inl, inr, Bool, true, false, List, [], ◌∷◌, get_or, Some, None, All, refl, sym, ap, ◌∙◌, subst}
+use Rattle.std.specs.Prelude.{Option}
 use Rattle.std.specs.List.{flat_map}
-use Rattle.std.proofs.lemmas.List.{append-nil}
-use Rattle.std.proofs.lemmas.List.Elements.{All-nil, All-cons, All-head, All-tail, All-weaker, All-contains_itself}
-use Rattle.wild_words.proofs.ListLemmas.{All-flat_map}
-use Rattle.wild_records.specs.declared.relocations.Rela.{Rela}
+use Rattle.std.proofs.lemmas.List.Elements.{All-nil, All-cons, All-head, All-tail, All-weaker}
 use Rattle.wild_plan.specs.declared.kind.Machine.{Machine}
-use Rattle.wild_plan.specs.declared.kind.OutputKind.{OutputKind}
 use Rattle.wild_plan.specs.declared.file.File.{File}
-use Rattle.wild_plan.specs.declared.file.Group.{Group}
 use Rattle.wild_plan.specs.declared.symbol.Resolution.{Resolution}
 use Rattle.wild_plan.specs.declared.symbol.Symbol.{Symbol}
 use Rattle.wild_plan.specs.declared.symbol.ValueFlags.{ValueFlags}
 use Rattle.wild_plan.specs.declared.layout.Layout.{Layout}
 use Rattle.wild_plan.specs.declared.slot.Setting.{Setting}
-use Rattle.wild_plan.specs.declared.slot.SlotEntry.{SlotEntry}
 use Rattle.wild_plan.specs.declared.slot.SlotWord.{SlotWord}
 use Rattle.wild_plan.specs.declared.slot.SlotWord.TheVariants.{Number, Address, InBlock, General, Plt}
 use Rattle.wild_plan.specs.declared.slot_parts.WordPart.TheVariants as words
 use Rattle.wild_plan.specs.declared.slot_parts.EntryPart.TheVariants as entries
-use Rattle.wild_plan.specs.Flags.{has_flag, dynamic, ifunc}
-use Rattle.wild_plan.specs.Kinds.{is_executable, is_static_executable, is_position_independent}
-use Rattle.wild_plan.specs.OwnSymbols.{IsOwnSymbol, HasOwnSymbols}
-use Rattle.wild_plan.specs.SlotParts.{next, at_places, word_of, slot_words, entry_at, entry_of, slot_entries, flat_place, flat_places}
-use Rattle.wild_plan.specs.SymbolSlots.{got_of}
-use Rattle.wild_plan.specs.Slots.{setting_of, slot, with_items, no_slot, items_at, storage_pair}
+use Rattle.wild_plan.specs.Flags.{has_flag, dynamic}
+use Rattle.wild_plan.specs.Kinds.{is_static_executable, is_position_independent}
+use Rattle.wild_plan.specs.OwnSymbols.{IsOwnSymbol}
+use Rattle.wild_plan.specs.SlotParts.{word_of, entry_of, flat_place}
+use Rattle.wild_plan.specs.Slots.{setting_of, slot}
 use Rattle.wild_plan.specs.Stub.{far_of}
-use Rattle.wild_plan.specs.SlotShares.{own_symbols, slots_of, resolved_slots, slots_at, words_in, storage_at, storage_words, block_place, block_places, group_block}
-use Rattle.wild_layout.specs.SlotBytes.{symbol_entries, flat_in, slot_words_of, slot_entries_of, flat_places_of, storage_entries}
-use Rattle.wild_slots.specs.Entries.{irelative_entry, IsIrelative, HasOwnEntries, OwnEntries, MovesNothing}
-use Rattle.wild_slots.proofs.SlotLemmas.{IsOwn, IsOther, IsFirst, IsIndirect, IsLed, Shape, shape, executable}
+use Rattle.wild_plan.specs.SlotShares.{own_symbols, slots_of, resolved_slots, slots_at, words_in, block_place, block_places, group_block}
+use Rattle.wild_layout.specs.SlotBytes.{symbol_entries, flat_in, slot_words_of, slot_entries_of, flat_places_of}
+use Rattle.wild_slots.specs.Entries.{MovesNothing}
+use Rattle.wild_slots.proofs.SlotLemmas.{IsOwn, IsOther, IsFirst, Shape, shape}
 use Rattle.wild_slots.proofs.PlaceLemmas.{nothing_given}
-use Rattle.wild_slots.proofs.SymbolPlaces.{All-own}
 
 -- what nothing gives, all give nothing
 pub none_of : {X Y : Type 0} (f : X → List Y) (xs : List X) → All (λ x. f x ≡ []) xs → flat_map f xs ≡ []

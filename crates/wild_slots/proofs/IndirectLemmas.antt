@@ -1,33 +1,30 @@
 -- The entries of the output's own symbols in a static executable: those of resolvers.
-use Rattle.std.proofs.Common.{◌≡◌, ℕ, ◌+◌, ◌%◌, ◌^◌, ◌<◌, inl, inr, Bool, true, false, List, [], ◌∷◌, ◌++◌, length, get_or, Some, None, All, Contains, refl, sym, ap, ◌∙◌, subst, arith}
-use Rattle.std.specs.Prelude.{Option, if◌then◌else◌, option_to_list, unwrap_or}
-use Rattle.std.specs.List.{flat_map}
+use Rattle.std.proofs.Common.{◌≡◌, ℕ, inl, inr, Bool, true, List, [], ◌++◌, get_or, Some, None, All, refl, sym, ap, ◌∙◌, subst}
+use Rattle.std.specs.Prelude.{Option, option_to_list, unwrap_or}
 use Rattle.std.proofs.lemmas.List.Elements.{All-nil, All-cons, All-append, All-weaker, All-contains_itself}
 use Rattle.wild_words.proofs.ListLemmas.{All-flat_map}
 use Rattle.wild_records.specs.declared.relocations.Rela.{Rela}
 use Rattle.wild_plan.specs.declared.kind.Machine.{Machine}
-use Rattle.wild_plan.specs.declared.kind.OutputKind.{OutputKind}
 use Rattle.wild_plan.specs.declared.file.File.{File}
 use Rattle.wild_plan.specs.declared.symbol.Resolution.{Resolution}
 use Rattle.wild_plan.specs.declared.symbol.Symbol.{Symbol}
 use Rattle.wild_plan.specs.declared.symbol.ValueFlags.{ValueFlags}
 use Rattle.wild_plan.specs.declared.layout.Layout.{Layout}
 use Rattle.wild_plan.specs.declared.slot.Setting.{Setting}
-use Rattle.wild_plan.specs.declared.slot.SlotEntry.{SlotEntry}
 use Rattle.wild_plan.specs.declared.slot.SlotWord.{SlotWord}
 use Rattle.wild_plan.specs.declared.slot.SlotWord.TheVariants.{Number, Address, InBlock, General, Plt}
 use Rattle.wild_plan.specs.declared.slot_parts.EntryPart.TheVariants as entries
 use Rattle.wild_plan.specs.Flags.{has_flag, ifunc}
 use Rattle.wild_plan.specs.Kinds.{is_executable, is_static_executable}
 use Rattle.wild_plan.specs.OwnSymbols.{IsOwnSymbol, HasOwnSymbols}
-use Rattle.wild_plan.specs.SlotParts.{next, at_places, entry_at, entry_of, slot_entries}
-use Rattle.wild_plan.specs.SymbolSlots.{got_of, resolved_got}
-use Rattle.wild_plan.specs.Slots.{setting_of, slot, with_items, no_slot, items_at, storage_pair}
+use Rattle.wild_plan.specs.SlotParts.{next, entry_at, entry_of, slot_entries}
+use Rattle.wild_plan.specs.SymbolSlots.{resolved_got}
+use Rattle.wild_plan.specs.Slots.{setting_of, slot, with_items, no_slot, items_at}
 use Rattle.wild_plan.specs.Stub.{far_of}
-use Rattle.wild_plan.specs.SlotShares.{own_symbols, slots_of, resolved_slots, slots_at, storage_at}
+use Rattle.wild_plan.specs.SlotShares.{own_symbols, slots_of, resolved_slots, storage_at}
 use Rattle.wild_layout.specs.SlotBytes.{symbol_entries, slot_entries_of, storage_entries}
 use Rattle.wild_slots.specs.Entries.{irelative_entry, IsIrelative, HasOwnEntries, OwnEntries}
-use Rattle.wild_slots.proofs.SlotLemmas.{IsOwn, IsOther, IsFirst, IsIndirect, IsLed, Shape, shape, executable}
+use Rattle.wild_slots.proofs.SlotLemmas.{IsOwn, IsOther, IsFirst, Shape, shape, executable}
 use Rattle.wild_slots.proofs.PlaceLemmas.{nothing_given}
 use Rattle.wild_slots.proofs.SymbolPlaces.{All-own}
 use Rattle.wild_slots.proofs.EntryLemmas.{none_of, own, general_none}
@@ -84,6 +81,7 @@ symbol_filled l s static o = by_resolution s.resolution refl
     by_place : (r : Resolution) → s.resolution ≡ Some r → (g : Option ℕ) → r.got_address ≡ g → Shape (setting_of l) (far_of l.machine r) r (with_items no_slot (items_at (setting_of l) (far_of l.machine r) r g)).words → All (Fills l s) (slot_entries entries.Plt l.machine l.options.relr (unwrap_or g 0) (with_items no_slot (items_at (setting_of l) (far_of l.machine r) r g)).words)
     by_place r is None g h = All-nil (Fills l s)
     by_place r is (Some at) g h = by_shape l s r at (with_items no_slot (items_at (setting_of l) (far_of l.machine r) r (Some at))).words is (o.resolved r is).flags g (own l s r static o is) h
+
     by_resolution : (q : Option Resolution) → s.resolution ≡ q → All (Fills l s) (slot_entries entries.Plt l.machine l.options.relr (unwrap_or (resolved_got q) 0) (resolved_slots l q).words)
     by_resolution None e = All-nil (Fills l s)
     by_resolution (Some r) e = by_place r e r.got_address refl (shape (setting_of l) (far_of l.machine r) r)
@@ -99,9 +97,9 @@ file_filled l h static f =
       general = none_of (symbol_entries entries.General l) (own_symbols l f) (λ k d lt. general_none l static _ (each k d lt));
       plt = All-flat_map (IsIrelative l f) (symbol_entries entries.Plt l) (own_symbols l f)
           (λ k d lt. All-weaker (Fills l (get_or (own_symbols l f) k d)) (IsIrelative l f)
-              (λ e x. record { symbol = get_or (own_symbols l f) k d; own = listed k d lt; resolution = x.0; resolved = x.2; indirect = x.3; at = x.1; slot = x.4; is = x.5 })
-              (symbol_entries entries.Plt l (get_or (own_symbols l f) k d))
-              (symbol_filled l (get_or (own_symbols l f) k d) static (each k d lt)));
+          (λ e x. record { symbol = get_or (own_symbols l f) k d; own = listed k d lt; resolution = x.0; resolved = x.2; indirect = x.3; at = x.1; slot = x.4; is = x.5 })
+          (symbol_entries entries.Plt l (get_or (own_symbols l f) k d))
+          (symbol_filled l (get_or (own_symbols l f) k d) static (each k d lt)));
     }
 
 pub own_entries : (l : Layout) → HasOwnSymbols l → is_static_executable l.kind ≡ true → OwnEntries l

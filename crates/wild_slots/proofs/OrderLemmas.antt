@@ -1,21 +1,20 @@
 -- The symbols that files write, each at the places behind those before it.
-use Rattle.std.proofs.Common.{◌≡◌, ℕ, zero, suc, ◌+◌, ◌-◌, ◌*◌, ◌<◌, ◌≤◌, inl, inr, Bool, true, false, List, [], ◌∷◌, ◌++◌, length, take, drop, get_or, Some, None, Ok, Err, All, Contains, refl, sym, ap, ◌∙◌, subst, arith, slice_get, slice_range}
-use Rattle.std.specs.Prelude.{Option, Result, not, ◌&&◌, ◌==◌, nat_lt, if◌then◌else◌, is_some}
+use Rattle.std.proofs.Common.{◌≡◌, ℕ, ◌+◌, ◌-◌, ◌<◌, ◌≤◌, inl, inr, Bool, true, false, List, [], ◌∷◌, ◌++◌, length, drop, get_or, Some, None, Ok, Err, Contains, refl, sym, ap, ◌∙◌, subst, arith, slice_get, slice_range}
+use Rattle.std.specs.Prelude.{Option, Result, not, ◌&&◌, ◌==◌, nat_lt, if◌then◌else◌}
 use Rattle.std.specs.List.{flat_map}
-use Rattle.std.proofs.lemmas.Bool.{cases_Bool, cases_lt, and_parts, and_cases, eqb-true, ltb-false, not-false, not-true}
+use Rattle.std.proofs.lemmas.Bool.{cases_Bool, cases_lt, and_parts, and_cases, eqb-true, ltb-false, not-false}
 use Rattle.std.proofs.lemmas.Option.{slice_get_within, get_or_from_slice_get}
 use Rattle.std.proofs.lemmas.List.{length-take, length-drop, get_or-take, get_or-drop}
 use Rattle.std.proofs.lemmas.List.Elements.{All-contains, Contains-append_left, Contains-append_right}
-use Rattle.wild_plan.specs.declared.part.Role.{Role}
 use Rattle.wild_plan.specs.declared.part.Role.TheVariants as role
 use Rattle.wild_plan.specs.declared.file.File.{File}
 use Rattle.wild_plan.specs.declared.file.Group.{Group}
 use Rattle.wild_plan.specs.declared.symbol.Symbol.{Symbol}
 use Rattle.wild_plan.specs.declared.layout.Layout.{Layout}
 use Rattle.wild_plan.specs.declared.clauses.slots.Free.{Free}
-use Rattle.wild_plan.specs.Lists.{total, first_failing}
+use Rattle.wild_plan.specs.Lists.{total}
 use Rattle.wild_plan.specs.SymbolSlots.{got_of}
-use Rattle.wild_plan.specs.SlotShares.{word_size, stub_size, writes_slots, own_symbols, slots_of, symbol_share}
+use Rattle.wild_plan.specs.SlotShares.{stub_size, writes_slots, own_symbols, slots_of, symbol_share}
 use Rattle.wild_plan.specs.SlotPlaces.{first_free, stands_next, behind, walk, symbol_step, is_without, slot_before, unless_some, range_step, file_step, group_step, last_astray, slots_astray}
 use Rattle.wild_plan.proofs.ListLemmas.{All-from_none_fails, total-append}
 use Rattle.wild_slots.specs.Order.{written_symbols}
@@ -137,6 +136,7 @@ ranged l n m f h = by_order (nat_lt f.first_symbol n.symbol) refl h
     unless_none : (o : Option ℕ) (r : Result Free ℕ) → unless_some o r ≡ Ok m → (o ≡ None) × (r ≡ Ok m)
     unless_none None r e = (refl, e)
     unless_none (Some i) r e = cc
+
     by_order : (b : Bool) → nat_lt f.first_symbol n.symbol ≡ b → (if b then Err f.first_symbol else unless_some (slot_before l n f.first_symbol) (walk (symbol_step l) (record n { symbol = f.first_symbol }) (own_symbols l f))) ≡ Ok m → Ranged l n m f
     by_order true t e = cc
     by_order false t e =
@@ -198,8 +198,8 @@ AreInOrder-from_test l h = by_end (walk (group_step l) (first_free l) l.groups) 
     by_end (Err i) e none = cc
     by_end (Ok m) e none =
         let w = walk_through (StandsBehind l) (Keeps l) (λ (g : Group). flat_map (own_symbols l) g.files) (group_step l)
-              (λ front s t g k i. walk_through (StandsBehind l) (Keeps l) (own_symbols l) (file_step l) (λ a b c f j o. file_walked l a b c f j o) g.files front s t k i)
-              l.groups [] (first_free l) m (keeps_first l) e in
+        (λ front s t g k i. walk_through (StandsBehind l) (Keeps l) (own_symbols l) (file_step l) (λ a b c f j o. file_walked l a b c f j o) g.files front s t k i)
+        l.groups [] (first_free l) m (keeps_first l) e in
         record {
           each = w.each;
           listed = λ i at s is g. elim (cases_lt i m.symbol) [

@@ -1,8 +1,8 @@
 -- The words of slots by their places and parts.
-use Rattle.std.proofs.Common.{◌≡◌, ℕ, zero, suc, ◌+◌, ◌*◌, ◌%◌, ◌^◌, ◌<◌, ◌≤◌, inl, inr, Bool, true, false, List, [], ◌∷◌, ◌++◌, length, get_or, Some, None, All, refl, sym, ap, ◌∙◌, subst, arith, slice_get}
-use Rattle.std.specs.Prelude.{Option, ◌&&◌, ◌==◌, if◌then◌else◌, option_to_list}
+use Rattle.std.proofs.Common.{◌≡◌, ℕ, zero, suc, ◌+◌, ◌*◌, ◌%◌, ◌^◌, ◌<◌, ◌≤◌, Bool, List, [], ◌∷◌, length, get_or, Some, None, All, refl, sym, ap, ◌∙◌, arith, slice_get}
+use Rattle.std.specs.Prelude.{Option, option_to_list}
 use Rattle.std.proofs.lemmas.List.{length-append}
-use Rattle.std.proofs.lemmas.List.Elements.{All-nil, All-cons, All-head, All-tail}
+use Rattle.std.proofs.lemmas.List.Elements.{All-head, All-tail}
 use Rattle.wild_relr.specs.Packed.{slots}
 use Rattle.wild_plan.specs.declared.slot.SlotWord.{SlotWord}
 use Rattle.wild_plan.specs.declared.slot.SlotWord.TheVariants.{Number, Address, InBlock, General, Plt}

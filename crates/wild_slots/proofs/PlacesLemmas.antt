@@ -1,5 +1,5 @@
 -- The places of all words and stubs ascend.
-use Rattle.std.proofs.Common.{◌≡◌, ℕ, zero, suc, ◌+◌, ◌*◌, ◌^◌, ◌<◌, ◌≤◌, inl, inr, true, List, [], ◌∷◌, ◌++◌, length, get_or, All, refl, sym, ap, ◌∙◌, subst, arith}
+use Rattle.std.proofs.Common.{◌≡◌, ℕ, ◌+◌, ◌*◌, ◌^◌, ◌≤◌, inl, inr, List, [], length, All, sym, ap, ◌∙◌, subst, arith}
 use Rattle.std.specs.List.{flat_map}
 use Rattle.std.proofs.lemmas.Bool.{cases_lt}
 use Rattle.std.proofs.lemmas.List.{length-append, nil_from_length}
@@ -13,15 +13,12 @@ use Rattle.wild_plan.specs.declared.symbol.Symbol.{Symbol}
 use Rattle.wild_plan.specs.declared.layout.Layout.{Layout}
 use Rattle.wild_plan.specs.declared.slot_parts.WordPart.TheVariants as words
 use Rattle.wild_plan.specs.Lists.{total}
-use Rattle.wild_plan.specs.SlotFlags.{second_slot_fits}
 use Rattle.wild_plan.specs.SlotShares.{stub_size, own_symbols, words_in, symbol_share, header_words}
 use Rattle.wild_plan.specs.SlotPlaces.{start_of, first_free}
-use Rattle.wild_layout.specs.Geometry.{table_bytes}
-use Rattle.wild_slots.specs.Order.{HasItsFlags, HasSlotsInOrder, written_symbols, end_of}
+use Rattle.wild_slots.specs.Order.{HasSlotsInOrder, written_symbols, end_of}
 use Rattle.wild_slots.specs.Ascend.{Ascend, word_places, stub_places, HasAscendingPlaces}
 use Rattle.wild_slots.proofs.CheckLemmas.{SlotChecks-from_clause, FlagChecks-from_clause}
-use Rattle.wild_slots.proofs.WalkLemmas.{AllBehind}
-use Rattle.wild_slots.proofs.OrderLemmas.{StandsBehind, AreInOrder-from_test}
+use Rattle.wild_slots.proofs.OrderLemmas.{AreInOrder-from_test}
 use Rattle.wild_slots.proofs.TableLemmas.{IsTable, symbol_bytes, got_table, block_table, stub_table, length-symbols, headless, headed}
 use Rattle.wild_slots.proofs.AscendLemmas.{Ascend-none, Ascend-wider, Ascend-slots, AscendAt, ascend_all}
 use Rattle.wild_slots.proofs.SymbolPlaces.{All-written, IsAt-from, IsFit, block_slots, other_slots, stub_place}

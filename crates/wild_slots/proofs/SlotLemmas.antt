@@ -1,15 +1,12 @@
 -- Which words the slots of a symbol have: those of thread-local data, or one for its address and what stands behind it.
-use Rattle.std.proofs.Common.{◌≡◌, ℕ, inl, inr, ◌⊎◌, Bool, true, false, List, [], ◌∷◌, ◌++◌, length, Some, None, All, refl, sym, ap, ◌∙◌, subst, arith}
+use Rattle.std.proofs.Common.{◌≡◌, ℕ, inl, inr, ◌⊎◌, Bool, true, false, List, [], ◌∷◌, ◌++◌, Some, None, All, refl, sym, subst}
 use Rattle.std.specs.Prelude.{Option, not, ◌&&◌, ◌==◌, if◌then◌else◌}
 use Rattle.std.proofs.lemmas.Bool.{and_parts}
 use Rattle.std.proofs.lemmas.List.Elements.{All-nil, All-cons, All-append}
 use Rattle.wild_reloc.specs.declared.dynamic.DynamicRelocationKind.TheVariants.{Irelative}
 use Rattle.wild_plan.specs.declared.kind.OutputKind.{OutputKind}
 use Rattle.wild_plan.specs.declared.kind.OutputKind.TheVariants.{StaticExecutable, DynamicExecutable, SharedObject, PartialObject}
-use Rattle.wild_plan.specs.declared.symbol.ValueFlags.{ValueFlags}
 use Rattle.wild_plan.specs.declared.symbol.Resolution.{Resolution}
-use Rattle.wild_plan.specs.declared.symbol.Symbol.{Symbol}
-use Rattle.wild_plan.specs.declared.layout.Layout.{Layout}
 use Rattle.wild_plan.specs.declared.slot.Setting.{Setting}
 use Rattle.wild_plan.specs.declared.slot.SlotEntry.{SlotEntry}
 use Rattle.wild_plan.specs.declared.slot.SlotWord.{SlotWord}
@@ -20,8 +17,8 @@ use Rattle.wild_plan.specs.Kinds.{is_executable, is_static_executable, is_positi
 use Rattle.wild_plan.specs.Flags.{has_flag, interposable, has_link_time_address, dynamic, ifunc, got_tls_offset, got_tls_module, got_tls_descriptor, canonical_plt, ifunc_got_for_address, canonical_plt_got_for_address}
 use Rattle.wild_plan.specs.SymbolSlots.{has_thread_slot, has_dynamic_symbol}
 use Rattle.wild_plan.specs.Storage.{is_outside}
-use Rattle.wild_plan.specs.Slots.{is_replaceable, slot, slot_items, items_at, with_items, no_slot, add_item, offset_item, module_item, module_offset, module_offset_item, described, descriptor_item, offset_items, module_items, descriptor_items, thread_items, plain_item, stub_items, stub_address, ifunc_address_items, canonical_address_items, address_items, number}
-use Rattle.wild_slots.proofs.ItemLemmas.{ItemHas, More, More-items, All-words, of_if, of_named, of_where, of_one, of_stub}
+use Rattle.wild_plan.specs.Slots.{is_replaceable, slot, items_at, with_items, no_slot, add_item, offset_item, module_item, module_offset, module_offset_item, described, descriptor_item, offset_items, module_items, descriptor_items, thread_items, plain_item, stub_items, stub_address, ifunc_address_items, canonical_address_items, address_items, number}
+use Rattle.wild_slots.proofs.ItemLemmas.{ItemHas, More-items, All-words, of_if, of_named, of_where, of_one, of_stub}
 
 -- ---- what a word may be
 
@@ -174,6 +171,7 @@ shape s far r = by_place r.got_address
     by_slot : (b : Bool) → has_thread_slot r.flags ≡ b → Shape s far r (with_items no_slot (if b then thread_items s r else address_items s far r)).words
     by_slot true t = inl (All-words (IsOther s r) (thread_items s r) (threads_other s r))
     by_slot false t = led s far r (plain_item s r) (behind_items s far r) t refl (first_item s r) (behind_other s far r)
+
     by_place : (o : Option ℕ) → Shape s far r (with_items no_slot (items_at s far r o)).words
     by_place None = inl (All-nil (IsOther s r))
     by_place (Some got) = by_slot (has_thread_slot r.flags) refl

@@ -1,12 +1,11 @@
 -- The words and the stub of each symbol stand at their addresses.
-use Rattle.std.proofs.Common.{◌≡◌, ℕ, ◌+◌, ◌-◌, ◌*◌, ◌<◌, ◌≤◌, inl, inr, Bool, true, false, List, [], ◌∷◌, ◌++◌, length, Some, None, All, Contains, refl, sym, ap, ◌∙◌, subst, arith, slice_get}
-use Rattle.std.specs.Prelude.{Option, ◌&&◌, ◌==◌, if◌then◌else◌, replicate, unwrap_or}
+use Rattle.std.proofs.Common.{◌≡◌, ℕ, ◌+◌, ◌-◌, ◌*◌, ◌≤◌, inl, inr, Bool, true, false, List, [], ◌∷◌, ◌++◌, length, Some, None, Contains, refl, sym, ap, ◌∙◌, subst, arith, slice_get}
+use Rattle.std.specs.Prelude.{Option, if◌then◌else◌, replicate, unwrap_or}
 use Rattle.std.specs.List.{flat_map}
 use Rattle.std.proofs.lemmas.Bool.{cases_Bool, and_parts, eqb-true}
-use Rattle.std.proofs.lemmas.List.{length-append, length-replicate, append_assoc}
+use Rattle.std.proofs.lemmas.List.{length-replicate, append_assoc}
 use Rattle.std.proofs.lemmas.List.Concat.{flat_map-append}
-use Rattle.std.proofs.lemmas.List.Elements.{All-get_or, Contains-append_cases}
-use Rattle.std.proofs.lemmas.Option.{slice_get_within, get_or_from_slice_get}
+use Rattle.std.proofs.lemmas.List.Elements.{Contains-append_cases}
 use Rattle.wild_words.specs.Words.{Stands}
 use Rattle.wild_words.proofs.ListLemmas.{Contains-here, Contains-there, holds_at}
 use Rattle.wild_words.proofs.OverlayLemmas.{Stands-inner}
@@ -17,7 +16,6 @@ use Rattle.wild_plan.specs.declared.part.Role.{Role}
 use Rattle.wild_plan.specs.declared.part.Role.TheVariants as role
 use Rattle.wild_plan.specs.declared.file.File.{File}
 use Rattle.wild_plan.specs.declared.file.Group.{Group}
-use Rattle.wild_plan.specs.declared.file.FileRole.{FileRole}
 use Rattle.wild_plan.specs.declared.symbol.Symbol.{Symbol}
 use Rattle.wild_plan.specs.declared.layout.Layout.{Layout}
 use Rattle.wild_plan.specs.declared.slot.SlotWord.{SlotWord}
@@ -26,16 +24,15 @@ use Rattle.wild_plan.specs.declared.slot_parts.WordPart.TheVariants as words
 use Rattle.wild_plan.specs.Lists.{total}
 use Rattle.wild_plan.specs.SlotParts.{slot_words}
 use Rattle.wild_plan.specs.SymbolSlots.{got_of, plt_of}
-use Rattle.wild_plan.specs.SlotShares.{writes_slots, own_symbols, slots_of, slots_at, words_in, symbol_share, header_words, storage_words}
-use Rattle.wild_plan.specs.SlotPlaces.{start_of, first_free, begins_block, stands_at, pair_follows_by, pair_follows}
+use Rattle.wild_plan.specs.SlotShares.{writes_slots, own_symbols, slots_of, slots_at, symbol_share, header_words, storage_words}
+use Rattle.wild_plan.specs.SlotPlaces.{start_of, begins_block, stands_at, pair_follows_by}
 use Rattle.wild_plan.specs.SlotFlags.{second_slot_fits}
-use Rattle.wild_layout.specs.SlotBytes.{stub_bytes}
 use Rattle.wild_layout.specs.Geometry.{table_bytes}
-use Rattle.wild_slots.specs.Order.{HasItsFlags, HasSlotsInOrder, written_symbols, IsWritten, end_of}
+use Rattle.wild_slots.specs.Order.{HasItsFlags, HasSlotsInOrder, written_symbols, IsWritten}
 use Rattle.wild_slots.specs.Stand.{StandsAt, WordsStand, SymbolStands}
 use Rattle.wild_slots.proofs.WalkLemmas.{Cut, Cut-from_contains}
-use Rattle.wild_slots.proofs.CheckLemmas.{SlotChecks, SlotChecks-from_clause, FlagChecks-from_clause}
-use Rattle.wild_slots.proofs.OrderLemmas.{IsBehind, StandsBehind, AreInOrder-from_test}
+use Rattle.wild_slots.proofs.CheckLemmas.{SlotChecks-from_clause, FlagChecks-from_clause}
+use Rattle.wild_slots.proofs.OrderLemmas.{StandsBehind, AreInOrder-from_test}
 use Rattle.wild_slots.proofs.TableLemmas.{symbol_bytes, IsTable, got_table, block_table, stub_table, length-symbols, headless, headed}
 use Rattle.wild_slots.proofs.BlockWordLemmas.{first_alone, none_in_block, begins, only_word}
 use Rattle.wild_slots.proofs.PlaceLemmas.{no_block_words}
@@ -149,18 +146,20 @@ only l h i at s e g t =
 block_stands : (l : Layout) → HasSlotsInOrder l → (i at : ℕ) (s : Symbol) → slice_get l.symbols i ≡ Some s → got_of s ≡ Some at → Found l s at → begins_block (slots_of l s).words ≡ true → WordsStand l s at true
 block_stands l h i at s e g f t =
     let w = rw t at f.words in
-    let p = f.cut.here.behind.block in
-    (stands_behind l role.GotRelr [] s f.cut.before f.cut.after at (block_table l) (headless l role.GotRelr (block_table l)) f.cut.is (omega (arith, w, p)),
-    ap (slot_words words.Got l.options.relr (slots_at s)) (only l h i at s e g t).is)
+    let p = f.cut.here.behind.block in (
+      stands_behind l role.GotRelr [] s f.cut.before f.cut.after at (block_table l) (headless l role.GotRelr (block_table l)) f.cut.is (omega (arith, w, p)),
+      ap (slot_words words.Got l.options.relr (slots_at s)) (only l h i at s e g t).is,
+    )
 
 -- words that are of no block
 others_stand : (l : Layout) → HasSlotsInOrder l → (at : ℕ) (s : Symbol) → Found l s at → begins_block (slots_of l s).words ≡ false → WordsStand l s at false
 others_stand l h at s f t =
     let w = rw t at f.words in
     let p = f.cut.here.behind.got in
-    let n = length-word_bytes (header_words l) in
-    (stands_behind l role.Got (word_bytes (header_words l)) s f.cut.before f.cut.after at (got_table l) (headed l role.Got (word_bytes (header_words l)) (got_table l) h.files f.some) f.cut.is (omega (arith, w, p, n)),
-    no_block_words l.options.relr (slots_at s) (slots_of l s).words (none_in_block (slots_of l s).words t (first_alone l s)))
+    let n = length-word_bytes (header_words l) in (
+      stands_behind l role.Got (word_bytes (header_words l)) s f.cut.before f.cut.after at (got_table l) (headed l role.Got (word_bytes (header_words l)) (got_table l) h.files f.some) f.cut.is (omega (arith, w, p, n)),
+      no_block_words l.options.relr (slots_at s) (slots_of l s).words (none_in_block (slots_of l s).words t (first_alone l s)),
+    )
 
 pub stands : (l : Layout) → HasSlotsInOrder l → (i at : ℕ) (s : Symbol) → slice_get l.symbols i ≡ Some s → got_of s ≡ Some at → SymbolStands l s at
 stands l h i at s e g =
@@ -169,9 +168,9 @@ stands l h i at s e g =
       written = f.written;
       words = by_start f (begins_block (slots_of l s).words) refl;
       stub = λ p k.
-        let q = f.stub p k in
-        let b = f.cut.here.behind.stub in
-        stands_behind l role.PltGot [] s f.cut.before f.cut.after p (stub_table l) (headless l role.PltGot (stub_table l)) f.cut.is (omega (arith, q, b));
+          let q = f.stub p k in
+          let b = f.cut.here.behind.stub in
+          stands_behind l role.PltGot [] s f.cut.before f.cut.after p (stub_table l) (headless l role.PltGot (stub_table l)) f.cut.is (omega (arith, q, b));
     }
   where
     by_start : Found l s at → (b : Bool) → begins_block (slots_of l s).words ≡ b → WordsStand l s at b

@@ -1,16 +1,15 @@
 -- A stub that has a place is there, where nothing failed.
-use Rattle.std.proofs.Common.{◌≡◌, ℕ, inl, inr, Bool, true, false, List, [], ◌∷◌, ◌++◌, Some, None, refl, sym, ap, ◌∙◌, subst, slice_get}
-use Rattle.std.specs.Prelude.{Option, not, ◌&&◌, ◌||◌, if◌then◌else◌, is_some}
+use Rattle.std.proofs.Common.{◌≡◌, ℕ, inl, inr, Bool, true, false, List, ◌∷◌, ◌++◌, Some, None, refl, ap, ◌∙◌, slice_get}
+use Rattle.std.specs.Prelude.{Option, not, ◌&&◌, if◌then◌else◌, is_some}
 use Rattle.std.proofs.lemmas.Bool.{and_parts, or_cases, not-true}
 use Rattle.wild_words.proofs.ListLemmas.{holds_at}
 use Rattle.wild_plan.specs.declared.symbol.Resolution.{Resolution}
 use Rattle.wild_plan.specs.declared.symbol.Symbol.{Symbol}
-use Rattle.wild_plan.specs.declared.symbol.ValueFlags.{ValueFlags}
 use Rattle.wild_plan.specs.declared.layout.Layout.{Layout}
 use Rattle.wild_plan.specs.declared.slot.Setting.{Setting}
 use Rattle.wild_plan.specs.declared.slot.SlotFault.{SlotFault}
 use Rattle.wild_plan.specs.declared.slot.SlotItem.{SlotItem}
-use Rattle.wild_plan.specs.declared.slot.SlotItem.TheVariants.{Stub, Fault}
+use Rattle.wild_plan.specs.declared.slot.SlotItem.TheVariants.{Stub}
 use Rattle.wild_plan.specs.Flags.{has_flag, ifunc}
 use Rattle.wild_plan.specs.SymbolSlots.{got_of, resolved_got, plt_of, resolved_plt, has_thread_slot}
 use Rattle.wild_plan.specs.Slots.{SlotContent, setting_of, slot, items_at, no_slot, add_item, with_item, with_item_by, with_items, thread_items, plain_item, stub_item, stub_items, ifunc_address_items, canonical_address_items, address_items}
@@ -53,9 +52,11 @@ made s far r at p g q t n = by_got r.got_address g n
     by_plt : (o : Option ℕ) → o ≡ Some p → (with_items no_slot (plain_item s r ∷ (stub_items far o ++ (ifunc_address_items s r ++ canonical_address_items s r)))).fault ≡ None → (with_items no_slot (plain_item s r ∷ (stub_items far o ++ (ifunc_address_items s r ++ canonical_address_items s r)))).has_stub ≡ true
     by_plt None e m = cc
     by_plt (Some stub) e m = second_made (plain_item s r) far (ifunc_address_items s r ++ canonical_address_items s r) m
+
     by_slot : (b : Bool) → b ≡ false → (with_items no_slot (if b then thread_items s r else address_items s far r)).fault ≡ None → (with_items no_slot (if b then thread_items s r else address_items s far r)).has_stub ≡ true
     by_slot true e m = cc
     by_slot false e m = by_plt r.plt_address q m
+
     by_got : (o : Option ℕ) → o ≡ Some at → (with_items no_slot (items_at s far r o)).fault ≡ None → (with_items no_slot (items_at s far r o)).has_stub ≡ true
     by_got None e m = cc
     by_got (Some got) e m = by_slot (has_thread_slot r.flags) t m

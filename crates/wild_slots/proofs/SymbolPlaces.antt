@@ -1,8 +1,8 @@
 -- Where the words and the stub of a symbol stand that stands behind others.
-use Rattle.std.proofs.Common.{◌≡◌, ℕ, ◌+◌, ◌*◌, ◌^◌, ◌<◌, ◌≤◌, inl, inr, Bool, true, false, List, [], ◌∷◌, ◌++◌, length, take, drop, get_or, Some, None, All, refl, sym, ap, ◌∙◌, subst, arith, slice_range}
-use Rattle.std.specs.Prelude.{Option, ◌&&◌, if◌then◌else◌, option_to_list, unwrap_or}
+use Rattle.std.proofs.Common.{◌≡◌, ℕ, ◌+◌, ◌*◌, ◌^◌, ◌≤◌, Bool, true, false, List, [], ◌∷◌, length, drop, get_or, Some, None, All, refl, sym, ap, ◌∙◌, subst, arith, slice_range}
+use Rattle.std.specs.Prelude.{Option, if◌then◌else◌, option_to_list, unwrap_or}
 use Rattle.std.specs.List.{flat_map}
-use Rattle.std.proofs.lemmas.Bool.{cases_Bool, and_parts, eqb-true}
+use Rattle.std.proofs.lemmas.Bool.{and_parts, eqb-true}
 use Rattle.std.proofs.lemmas.List.Elements.{All-nil, All-take, All-drop}
 use Rattle.wild_words.proofs.ListLemmas.{All-flat_map}
 use Rattle.wild_relr.specs.Packed.{slots}
@@ -16,20 +16,19 @@ use Rattle.wild_plan.specs.declared.clauses.slots.Free.{Free}
 use Rattle.wild_plan.specs.declared.slot.SlotWord.{SlotWord}
 use Rattle.wild_plan.specs.declared.slot.SlotWord.TheVariants.{Number, Address, InBlock, General, Plt}
 use Rattle.wild_plan.specs.declared.slot_parts.WordPart.TheVariants as words
-use Rattle.wild_plan.specs.Lists.{total}
 use Rattle.wild_plan.specs.SlotParts.{next, at_places, slot_words}
 use Rattle.wild_plan.specs.SymbolSlots.{got_of, resolved_got, plt_of}
 use Rattle.wild_plan.specs.Slots.{setting_of, slot, with_items, no_slot, items_at}
 use Rattle.wild_plan.specs.SlotFlags.{second_slot_fits}
-use Rattle.wild_plan.specs.SlotShares.{stub_size, writes_slots, own_symbols, slots_of, resolved_slots, slots_at, words_in, symbol_share, block_places}
-use Rattle.wild_plan.specs.SlotPlaces.{first_free, begins_block, stands_at}
+use Rattle.wild_plan.specs.SlotShares.{stub_size, writes_slots, own_symbols, slots_of, resolved_slots, slots_at, words_in, symbol_share}
+use Rattle.wild_plan.specs.SlotPlaces.{begins_block, stands_at}
 use Rattle.wild_plan.specs.Stub.{far_of}
 use Rattle.wild_slots.specs.Order.{HasItsFlags, written_symbols}
 use Rattle.wild_slots.specs.Ascend.{Ascend, place_in, word_places, stub_places}
 use Rattle.wild_slots.proofs.OrderLemmas.{StandsBehind}
-use Rattle.wild_slots.proofs.BlockWordLemmas.{NotInBlock, FirstAlone, first_alone, none_in_block, Begins, begins, only_word}
+use Rattle.wild_slots.proofs.BlockWordLemmas.{NotInBlock, FirstAlone, first_alone, none_in_block, begins, only_word}
 use Rattle.wild_slots.proofs.PlaceLemmas.{nothing_given, no_block_words, places_follow, all_words}
-use Rattle.wild_slots.proofs.AscendLemmas.{Ascend-none, Ascend-one, Ascend-wider, Ascend-slots}
+use Rattle.wild_slots.proofs.AscendLemmas.{Ascend-none, Ascend-one}
 
 -- ---- what holds of each symbol
 
@@ -54,6 +53,7 @@ no_words l s g = by_resolution s.resolution g
     by_place : (r : Resolution) (o : Option ℕ) → o ≡ None → (with_items no_slot (items_at (setting_of l) (far_of l.machine r) r o)).words ≡ []
     by_place r None e = refl
     by_place r (Some at) e = cc
+
     by_resolution : (o : Option Resolution) → resolved_got o ≡ None → (resolved_slots l o).words ≡ []
     by_resolution None e = refl
     by_resolution (Some r) e = by_place r r.got_address e
@@ -116,6 +116,7 @@ block_slots l s free h = by_place (got_of s) refl
     by_start : (at : ℕ) → got_of s ≡ Some at → (b : Bool) → begins_block (slots_of l s).words ≡ b → word_places words.Block l s ≡ slots free.block (length (words_in words.Block l s))
     by_start at g true t = block_begins l.options.relr (slots_at s) free.block (slots_of l s).words t (rw t at (h.words at g)) (first_alone l s)
     by_start at g false t = block_none l.options.relr (slots_at s) free.block (slots_of l s).words (none_in_block (slots_of l s).words t (first_alone l s))
+
     by_place : (o : Option ℕ) → got_of s ≡ o → word_places words.Block l s ≡ slots free.block (length (words_in words.Block l s))
     by_place None g = block_none l.options.relr (slots_at s) free.block (slots_of l s).words (none_nil (slots_of l s).words (no_words l s g))
     by_place (Some at) g = by_start at g (begins_block (slots_of l s).words) refl
@@ -153,6 +154,7 @@ other_slots l s free fit h low = by_place (got_of s) refl
         let rest = only_word l s at b.value b.rest fit.flags fit.second g b.is in
         other_none l s free.got b.value (slots_of l s).words (b.is ∙ ap (λ (ws : List SlotWord). InBlock b.value ∷ ws) rest)
     by_start at g false t = others_follow l.options.relr (slots_at s) free.got (slots_of l s).words (none_in_block (slots_of l s).words t (first_alone l s)) (λ some. rw t at (h.words at g)) low
+
     by_place : (o : Option ℕ) → got_of s ≡ o → word_places words.Got l s ≡ slots free.got (length (words_in words.Got l s))
     by_place None g =
         let none = no_words l s g in

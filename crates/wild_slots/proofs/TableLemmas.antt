@@ -1,6 +1,6 @@
 -- What the tables of slots and stubs hold: what stands once, and what each symbol gives.
-use Rattle.std.proofs.Common.{◌≡◌, ℕ, ◌+◌, ◌*◌, ◌<◌, ◌≤◌, inl, inr, Bool, true, false, List, [], ◌∷◌, ◌++◌, length, Some, None, All, refl, sym, ap, ◌∙◌, subst, arith}
-use Rattle.std.specs.Prelude.{Option, not, ◌&&◌, ◌==◌, if◌then◌else◌}
+use Rattle.std.proofs.Common.{◌≡◌, ℕ, ◌+◌, ◌≤◌, inl, inr, Bool, true, false, List, [], ◌∷◌, ◌++◌, length, None, All, refl, sym, ap, ◌∙◌, arith}
+use Rattle.std.specs.Prelude.{◌&&◌, ◌==◌, if◌then◌else◌}
 use Rattle.std.specs.List.{flat_map}
 use Rattle.std.proofs.lemmas.Bool.{cases_Bool, and_parts}
 use Rattle.std.proofs.lemmas.List.{append-nil, append_assoc, length-append}
@@ -22,10 +22,9 @@ use Rattle.wild_plan.specs.declared.slot_parts.WordPart.TheVariants as words
 use Rattle.wild_plan.specs.Lists.{total}
 use Rattle.wild_plan.specs.Needs.{is_prelude, is_epilogue}
 use Rattle.wild_plan.specs.Contents.{bool_eq, file_placed, later_placed, files_placed, file_misplaced}
-use Rattle.wild_plan.specs.SymbolSlots.{plt_of}
 use Rattle.wild_plan.specs.SlotShares.{stub_size, own_symbols, slots_of, slots_at, words_in, symbol_share, header_words}
 use Rattle.wild_plan.specs.Stub.{stub_x86_64, stub_template, displacement_x86_64}
-use Rattle.wild_layout.specs.SlotBytes.{stub_bytes, slot_words_of, stubs_of, slot_bytes, header_bytes, block_bytes}
+use Rattle.wild_layout.specs.SlotBytes.{stub_bytes, slot_words_of, stubs_of, slot_bytes, block_bytes}
 use Rattle.wild_layout.specs.Content.{file_content, content}
 use Rattle.wild_layout.specs.Geometry.{table_bytes}
 use Rattle.wild_slots.specs.Order.{written_symbols}

@@ -4,7 +4,7 @@
 --   Ascend n low high ps    items of n bytes at these places, one behind the other
 --   HasAscendingPlaces l    so are the words of each table, and the stubs
 --   PlacesAscend            the law
-use Rattle.std.specs.Prelude.{◌≡◌, ℕ, ◌+◌, ◌^◌, ◌≤◌, if◌then◌else◌, List, [], length, Option, Some, None, option_to_list, All, AllPairs}
+use Rattle.std.specs.Prelude.{ℕ, ◌+◌, ◌^◌, ◌≤◌, if◌then◌else◌, List, [], Option, Some, None, option_to_list, All, AllPairs}
 use Rattle.std.specs.List.{flat_map}
 use Rattle.wild_plan.specs.declared.part.Role.TheVariants as role
 use Rattle.wild_plan.specs.declared.symbol.Symbol.{Symbol}
