@@ -1,4 +1,4 @@
-mod ItemLemmas
+pub mod ItemLemmas
 mod SlotLemmas
 mod WalkLemmas
 mod CheckLemmas

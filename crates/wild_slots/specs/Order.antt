@@ -28,9 +28,12 @@ pub record HasSlotsInOrder (l : Layout) : Type 0 where
   pub resolved : All HasItsFlags l.symbols
   pub files : file_misplaced true 0 l.groups ≡ None
 
--- the symbols whose slots files write, in their order
+-- the symbols whose slots the files of a group write, in their order, and those of all groups
+abbrev pub group_symbols : Layout → Group → List Symbol
+group_symbols l g = flat_map (own_symbols l) g.files
+
 abbrev pub written_symbols : Layout → List Symbol
-written_symbols l = flat_map (λ (g : Group). flat_map (own_symbols l) g.files) l.groups
+written_symbols l = flat_map (group_symbols l) l.groups
 
 -- a file of a group writes the symbol's slots
 pub record IsWritten (l : Layout) (s : Symbol) : Type 0 where
