@@ -13,7 +13,7 @@ use Rattle.wild_plan.specs.declared.symbol.Symbol.{Symbol}
 use Rattle.wild_plan.specs.declared.layout.Layout.{Layout}
 use Rattle.wild_plan.specs.declared.slot_parts.WordPart.TheVariants as words
 use Rattle.wild_plan.specs.Lists.{total}
-use Rattle.wild_plan.specs.SlotShares.{stub_size, own_symbols, words_in, symbol_share, header_words}
+use Rattle.wild_plan.specs.SlotShares.{stub_size, words_in, symbol_share, header_words}
 use Rattle.wild_plan.specs.SlotPlaces.{start_of, first_free}
 use Rattle.wild_slots.specs.Order.{group_symbols, HasSlotsInOrder, written_symbols, end_of}
 use Rattle.wild_slots.specs.Ascend.{Ascend, word_places, stub_places, HasAscendingPlaces}

@@ -1,7 +1,6 @@
 -- Where the words and the stub of a symbol stand that stands behind others.
 use Rattle.std.proofs.Common.{◌≡◌, ℕ, ◌+◌, ◌*◌, ◌^◌, ◌≤◌, Bool, true, false, List, [], ◌∷◌, length, drop, get_or, Some, None, All, refl, sym, ap, ◌∙◌, subst, arith, slice_range}
 use Rattle.std.specs.Prelude.{Option, if◌then◌else◌, option_to_list, unwrap_or}
-use Rattle.std.specs.List.{flat_map}
 use Rattle.std.proofs.lemmas.Bool.{and_parts, eqb-true}
 use Rattle.std.proofs.lemmas.List.Elements.{All-nil, All-take, All-drop}
 use Rattle.wild_words.proofs.ListLemmas.{All-flat_map}
