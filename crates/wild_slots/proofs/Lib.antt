@@ -15,3 +15,4 @@ mod PlacesLemmas
 mod BlockLemmas
 mod EntryLemmas
 mod IndirectLemmas
+mod ClauseLemmas
