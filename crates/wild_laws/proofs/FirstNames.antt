@@ -1,5 +1,6 @@
 -- What a formula gives of an address or a distance, and what that is of a symbol that no resolver answers for.
 use Rattle.std.proofs.Common.{◌≡◌, ℕ, ◌+◌, ◌-◌, ◌%◌, ◌^◌, ◌⊎◌, inl, inr, Bool, false, sym, ap, ◌∙◌}
+use Rattle.std.specs.Prelude.{Some}
 use Rattle.wild_plan.specs.declared.input.InputRelocation.{InputRelocation}
 use Rattle.wild_plan.specs.declared.input.InputSection.{InputSection}
 use Rattle.wild_plan.specs.declared.layout.Layout.{Layout}
@@ -12,6 +13,7 @@ use Rattle.wild_meaning.specs.Item.{item_of, place_at}
 use Rattle.wild_meaning.specs.Formula.{IsTarget, Gives}
 use Rattle.wild_laws.specs.FirstPath.{IsAddress, Demands, NamesAreAddresses}
 use Rattle.wild_laws.proofs.Symbols.{plain_value}
+use Rattle.wild_laws.proofs.Branches.{target_reached}
 
 -- ---- symbols
 
@@ -32,6 +34,7 @@ alone l w m i a f none (inr s) = absurd (none s.stub s.given)
 
 pub names_addresses : NamesAreAddresses
 names_addresses = record {
+  stands = λ l w m i a h. target_reached l w m (Some i) a h;
   alone = alone;
   goals = λ l w m i a f h. (h.0, address l w i h.0 f h.1, h.2);
 }

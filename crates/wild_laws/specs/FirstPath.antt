@@ -155,8 +155,9 @@ pub record IsAddress (l : Layout) (w : World) (i a : ℕ) : Type 0 where
   pub listed : IsSymbol l definition symbol
   pub moves : a ≡ moved (has_flag symbol.flags absolute) w.base raw
 
--- of a symbol that is no IFUNC: without a stub nothing but its address stands for it, and what stands for it or code goes to
--- comes to that address
+-- what stands for a symbol comes to it; of one that is no IFUNC nothing but its address stands for it without a stub, and code
+-- that goes to it comes to that address
 pub record NamesAreAddresses : Type 0 where
+  pub stands : (l : Layout) (w : World) (m : Memory) (i a : ℕ) → Denotes l w m i a → IsGoal l w m (Some i) a
   pub alone : (l : Layout) (w : World) (m : Memory) (i a : ℕ) → HasFlag l i ifunc false → ((p : ℕ) → HasStub l i p → ⊥) → Denotes l w m i a → IsAddress l w i a
   pub goals : (l : Layout) (w : World) (m : Memory) (i a : ℕ) → HasFlag l i ifunc false → IsGoal l w m (Some i) a → (v : ℕ) × IsAddress l w i v × Reaches m a v

@@ -42,11 +42,11 @@ use Rattle.wild_laws.specs.FirstPath.{IsLoadedSection}
 abbrev pub KnowsModule : Layout → World → Type 0
 KnowsModule l w = IsExecutable l.kind → IsFirstModule l w
 
--- the world has one answer of the resolver of each symbol that has one
+-- the world has one answer of each symbol's resolver
 abbrev pub HasResolvers : Layout → World → Type 0
 HasResolvers l w = All (HasResolver w) l.symbols
 
--- which is nothing to ask where no symbol has one
+-- where no symbol is an IFUNC it needs none
 abbrev pub NoneHasNone : Type 0
 NoneHasNone = (l : Layout) (w : World) → All (λ (s : Symbol). has_flag s.flags ifunc ≡ false) l.symbols → HasResolvers l w
 
@@ -134,7 +134,7 @@ pub record BlanksAreAsked : Type 0 where
 -- ---- symbols
 
 -- of symbols that are no IFUNC: the address of one that is not absolute moves with the base, an absolute one's value does not;
--- without a stub no other address stands for the symbol, and what stands for it, or code goes to for it, comes to that
+-- without a stub no other address stands for the symbol, and code that goes to it comes to that
 pub record AddressesMove : Type 0 where
   pub moves : (l : Layout) (w : World) (m : Memory) (i raw : ℕ) → HasRaw l i raw → HasFlag l i ifunc false → HasFlag l i absolute false → Denotes l w m i ((w.base + raw) % 2 ^ 64)
   pub stays : (l : Layout) (w : World) (m : Memory) (i raw : ℕ) → HasRaw l i raw → HasFlag l i ifunc false → HasFlag l i absolute true → Denotes l w m i raw
