@@ -10,13 +10,12 @@ use Rattle.wild_plan.specs.declared.part.Role.{Role}
 use Rattle.wild_plan.specs.declared.part.Role.TheVariants as role
 use Rattle.wild_plan.specs.declared.file.File.{File}
 use Rattle.wild_plan.specs.declared.file.Group.{Group}
-use Rattle.wild_plan.specs.declared.file.FileRole.{FileRole}
 use Rattle.wild_plan.specs.declared.file.FileRole.TheVariants as file_role
 use Rattle.wild_plan.specs.Lists.{total}
 use Rattle.wild_plan.specs.Needs.{needs, needs_of, share, group_share}
+use Rattle.wild_plan.specs.Flags.{has_flag}
 use Rattle.wild_plan.specs.Rows.{row_of}
 use Rattle.wild_plan.specs.Contents.{given}
-use Rattle.wild_plan.specs.Flags.{has_flag}
 use Rattle.wild_plan.specs.Lookups.{bit, is_read}
 use Rattle.wild_reloc.specs.TableX86_64.{x86_64_row}
 use Rattle.wild_reloc.specs.declared.info.RelocationSize.TheVariants.{ByteSize}
@@ -26,13 +25,14 @@ use Rattle.wild_plan.specs.Treatment.{row_treatment, treatment}
 use Rattle.wild_layout.specs.declared.decision.Decision.TheVariants.{Field}
 use Rattle.wild_layout.specs.Decide.{decided, decide}
 use Rattle.wild_layout.specs.Sites.{field_site, site, extent_of}
-use Rattle.wild_layout.specs.Values.{raw_value, is_chosen, displacement, place_of}
+use Rattle.wild_layout.specs.Values.{raw_value, displacement, place_of}
 use Rattle.wild_layout.specs.Faults.{errors, flat_map_from, share_errors, has_spare, part_errors, relocation_errors, section_errors, file_errors, group_errors}
 use Rattle.wild_made.specs.Made.{made_section, made_object, plain_file, made_files, made_symbol, made_group, made_relocation, part_with, made_parts, made, callee, start_of}
 use Rattle.wild_made.specs.Laws.{IsCount}
 use Rattle.wild_made.proofs.ListLemmas.{made_from, nothing_from, item_at}
+use Rattle.wild_made.proofs.SlotLemmas.{block_made, slots_clean}
+use Rattle.wild_made.proofs.PlaceLemmas.{other_share, share_made}
 use Rattle.wild_made.proofs.GroupLemmas.{clauses_hold}
-use Rattle.wild_made.proofs.SlotLemmas.{share_beside, share_made, group_share_made, no_slot_errors}
 
 -- ---- shares
 
@@ -51,11 +51,21 @@ prelude_total t n i w first own last =
       | inr a ↦ elim (cases_Bool (i + 1 == n)) [ inl b ↦ rw (a, b, own, last) refl | inr b ↦ rw (a, b, own) refl ]
     ]
 
-own_needed : (n i j w : ℕ) (r : Role) (p : Part) → j < n → slice_get (made_parts n) i ≡ Some p → needs_of (made n) p.role i (made_group n j) ≡ min (2 ^ 64 - 1) (group_share (made n) r (made_group n j)) → share_beside (made n) r (plain_file file_role.Prelude) ≡ w
-    → share_beside (made n) r (made_object n j) ≡ 0 → share_beside (made n) r (plain_file file_role.Epilogue) ≡ 0 → w < 2 ^ 64 → given i (made_group n j) ≡ (if j == 0 then w else 0) → given i (made_group n j) ≡ needs (made n) i j
+-- what a group has to write, where none but the prelude does
+group_total : (n j w : ℕ) (r : Role) → other_share n r (plain_file file_role.Prelude) ≡ w → other_share n r (made_object n j) ≡ 0 → other_share n r (plain_file file_role.Epilogue) ≡ 0 → group_share (made n) r (made_group n j) ≡ (if j == 0 then w else 0)
+group_total n j w r whole own last =
+    let prelude = share_made n r (plain_file file_role.Prelude) ∙ whole in
+    let object = share_made n r (made_object n j) ∙ own in
+    let epilogue = share_made n r (plain_file file_role.Epilogue) ∙ last in
+    and_none _ _ _ (prelude_total (share (made n) r) n j w prelude object epilogue) (block_made n r (made_group n j))
+  where
+    and_none : (a b c : ℕ) → a ≡ c → b ≡ 0 → a + b ≡ c
+    and_none a b c g h = omega (arith, g, h)
+
+own_needed : (n i j w : ℕ) (r : Role) (p : Part) → j < n → slice_get (made_parts n) i ≡ Some p → needs_of (made n) p.role i (made_group n j) ≡ min (2 ^ 64 - 1) (group_share (made n) r (made_group n j)) → other_share n r (plain_file file_role.Prelude) ≡ w
+    → other_share n r (made_object n j) ≡ 0 → other_share n r (plain_file file_role.Epilogue) ≡ 0 → w < 2 ^ 64 → given i (made_group n j) ≡ (if j == 0 then w else 0) → given i (made_group n j) ≡ needs (made n) i j
 own_needed n i j w r p h at is whole own last small has =
-    let e = group_share_made n r (made_group n j) ∙ prelude_total (share (made n) r) n j w (share_made n r (plain_file file_role.Prelude) ∙ whole) (share_made n r (made_object n j) ∙ own) (share_made n r (plain_file file_role.Epilogue) ∙ last) in
-    has ∙ sym (needs_made n i j p h at ∙ is ∙ rw e (limit (j == 0) w small))
+    has ∙ sym (needs_made n i j p h at ∙ is ∙ ap (λ (k : ℕ). min (2 ^ 64 - 1) k) (group_total n j w r whole own last) ∙ limit (j == 0) w small)
   where
     limit : (b : Bool) (w : ℕ) → w < 2 ^ 64 → min (2 ^ 64 - 1) (if b then w else 0) ≡ (if b then w else 0)
     limit true w small = omega arith
@@ -100,11 +110,6 @@ raw_value_made : (n c : ℕ) → c < n → raw_value (made n) c ≡ Some (start_
 unfolding raw_value made
 raw_value_made n c h = let e = item_at made_symbol 0 n c c h (omega arith) in simp e refl
 
--- its code is at its own address, which no resolver chooses
-not_chosen : (n c : ℕ) → c < n → is_chosen (made n) c ≡ false
-unfolding made has_flag
-not_chosen n c h = let e = item_at made_symbol 0 n c c h (omega arith) in simp e refl
-
 -- a distance in the field's range
 in_range : (s p : ℕ) → 4194432 ≤ s → s < 8388736 → 4194432 ≤ p → p < 8388736 → (nat_lt (((s + 18446744073709551612) % 2 ^ 64 + (2 ^ 64 - p % 2 ^ 64)) % 2 ^ 64) (2 ^ 31) || nat_le (2 ^ 64 - 2 ^ 31) (((s + 18446744073709551612) % 2 ^ 64 + (2 ^ 64 - p % 2 ^ 64)) % 2 ^ 64)) ≡ true
 in_range s p a b c d =
@@ -131,11 +136,12 @@ abbrev call_value : ℕ → ℕ → ℕ → ℕ
 call_value n i j = displacement (start_of (callee n i j)) (negsuc 3) (place_of (made_section n i) (made_relocation n i j))
 
 decided_made : (n i j : ℕ) → IsCount n → i < n → j < 8 → decided (made n) (made_section n i) (made_relocation n i j) ≡ Ok (Field (ByteSize Four) (call_value n i j))
-unfolding decided treatment row_treatment row_of x86_64_row made_section made bit
+unfolding decided treatment row_treatment row_of x86_64_row made_section made bit has_flag
 decided_made n i j h low call =
     let some = h.some in
     let named : callee n i j < n = omega arith in
-    simp (not_chosen n (callee n i j) named, raw_value_made n (callee n i j) named, allowed n i j (callee n i j) h low call named) refl
+    let symbol = item_at made_symbol 0 n (callee n i j) (callee n i j) named (omega arith) in
+    simp (raw_value_made n (callee n i j) named, symbol, allowed n i j (callee n i j) h low call named) refl
 
 listed_made : (n i j : ℕ) → j < 8 → slice_get (made_section n i).relocations j ≡ Some (made_relocation n i j)
 unfolding made_section
@@ -180,21 +186,15 @@ section_clean : (n i g f k : ℕ) → IsCount n → i < n → section_errors (ma
 unfolding section_errors
 section_clean n i g f k h low = rw (is_read_made n i, relocations_made n i, relocations_clean n i k g f h low, none_shared n i h low) refl
 
-plain_clean : (n g k : ℕ) (r : FileRole) → file_errors (made n) g k (plain_file r) ≡ []
-unfolding file_errors
-plain_clean n g k r = no_slot_errors n g k (plain_file r)
-
-object_clean : (n i g k : ℕ) → IsCount n → i < n → file_errors (made n) g k (made_object n i) ≡ []
-unfolding file_errors
-object_clean n i g k h low = rw (section_clean n i g k 0 h low, no_slot_errors n g k (made_object n i)) refl
-
 files_clean : (n i g k : ℕ) → IsCount n → i < n → flat_map_from (file_errors (made n) g) k (made_files n i) ≡ []
+unfolding file_errors
 files_clean n i g k h low =
-    let one = object_clean n i g k h low in
-    let two = object_clean n i g (k + 1) h low in
+    let one = section_clean n i g k 0 h low in
+    let two = section_clean n i g (k + 1) 0 h low in
+    let slots = slots_clean n g in
     elim (cases_Bool (i == 0)) [
-      | inl a ↦ elim (cases_Bool (i + 1 == n)) [ inl b ↦ simp (a, b, two, plain_clean) refl | inr b ↦ simp (a, b, two, plain_clean) refl ]
-      | inr a ↦ elim (cases_Bool (i + 1 == n)) [ inl b ↦ simp (a, b, one, plain_clean) refl | inr b ↦ simp (a, b, one) refl ]
+      | inl a ↦ elim (cases_Bool (i + 1 == n)) [ inl b ↦ simp (a, b, two, slots) refl | inr b ↦ simp (a, b, two, slots) refl ]
+      | inr a ↦ elim (cases_Bool (i + 1 == n)) [ inl b ↦ simp (a, b, one, slots) refl | inr b ↦ simp (a, b, one, slots) refl ]
     ]
 
 pub no_group_errors : (n : ℕ) → IsCount n → flat_map_from (group_errors (made n)) 0 (made n).groups ≡ []

@@ -1,9 +1,7 @@
 -- Laws of tests over lists made from their places.
-use Rattle.std.proofs.Common.{◌≡◌, ℕ, zero, suc, ◌+◌, ◌-◌, ◌*◌, ◌<◌, ◌≤◌, Bool, true, ◌&&◌, List, [], ◌∷◌, map, length, take, drop, All, refl, arith}
-use Rattle.std.specs.Prelude.{Some, None, slice_get, slice_range}
+use Rattle.std.proofs.Common.{◌≡◌, ℕ, zero, suc, ◌+◌, ◌*◌, ◌<◌, ◌≤◌, Bool, true, ◌&&◌, List, [], map, length, refl, arith}
+use Rattle.std.specs.Prelude.{Some, None, slice_get}
 use Rattle.std.specs.List.{list_all, range_with_len}
-use Rattle.std.proofs.lemmas.Bool.{and_parts}
-use Rattle.std.proofs.lemmas.List.Elements.{All-nil, All-cons}
 use Rattle.wild_plan.specs.Lists.{first_failing, total}
 use Rattle.wild_layout.specs.Faults.{flat_map_from}
 
@@ -51,37 +49,3 @@ list_all_made t f a zero h = refl
 list_all_made t f a (suc m) h =
     let here : t (f a) ≡ true = h a (omega arith) (omega arith) in
     rw here (list_all_made t f (a + 1) m (λ k low high. h k (omega arith) (omega arith)))
-
-pub all_made : {X : Type 0} (P : X → Type 0) (f : ℕ → X) (a m : ℕ) → ((k : ℕ) → a ≤ k → k < a + m → P (f k)) → All P (made_from f a m)
-all_made P f a zero h = All-nil P
-all_made P f a (suc m) h = All-cons P (f a) (made_from f (a + 1) m) (h a (omega arith) (omega arith)) (all_made P f (a + 1) m (λ k low high. h k (omega arith) (omega arith)))
-
--- the item at a place, as a list
-pub one_at : {X : Type 0} (f : ℕ → X) (a m k j : ℕ) → k < m → j ≡ a + k → take 1 (drop k (made_from f a m)) ≡ f j ∷ []
-one_at f a zero k j h e = absurd (omega arith)
-one_at f a (suc m) zero j h e = let z : j ≡ a = omega arith in rw z refl
-one_at f a (suc m) (suc k) j h e = one_at f (a + 1) m k j (omega arith) (omega arith)
-
--- ---- a test that each item passes
-
-pub none_failing : {X : Type 0} (t : X → Bool) (i : ℕ) (xs : List X) → list_all t xs ≡ true → first_failing t i xs ≡ None
-none_failing t i [] h = refl
-none_failing t i (x ∷ xs) h =
-    let p = and_parts (t x) (list_all t xs) h in
-    rw p.0 (none_failing t (i + 1) xs p.1)
-
-kept_drop : {X : Type 0} (t : X → Bool) (k : ℕ) (xs : List X) → list_all t xs ≡ true → list_all t (drop k xs) ≡ true
-kept_drop t zero xs h = h
-kept_drop t (suc k) [] h = refl
-kept_drop t (suc k) (x ∷ xs) h = kept_drop t k xs (and_parts (t x) (list_all t xs) h).1
-
-kept_take : {X : Type 0} (t : X → Bool) (k : ℕ) (xs : List X) → list_all t xs ≡ true → list_all t (take k xs) ≡ true
-kept_take t zero xs h = refl
-kept_take t (suc k) [] h = refl
-kept_take t (suc k) (x ∷ xs) h =
-    let p = and_parts (t x) (list_all t xs) h in
-    both_true (t x) (list_all t (take k xs)) p.0 (kept_take t k xs p.1)
-
--- so does each of a range
-pub kept_range : {X : Type 0} (t : X → Bool) (xs : List X) (from to : ℕ) → list_all t xs ≡ true → list_all t (slice_range xs from to) ≡ true
-kept_range t xs from to h = kept_take t (to - from) (drop from xs) (kept_drop t from xs h)
