@@ -19,6 +19,7 @@ use Rattle.wild_made.specs.Made.{made_section, made_object, plain_file, made_fil
 use Rattle.wild_made.specs.Laws.{IsCount}
 use Rattle.wild_made.proofs.ListLemmas.{made_from, none_fails, total_same, length_made, both_true, list_all_made}
 use Rattle.wild_made.proofs.PlaceLemmas.{all_files, sections_pass, sizes_hold, counts_hold, order_holds, roles_hold, sections_hold, segments_hold}
+use Rattle.wild_made.proofs.SlotLemmas.{slots_hold}
 
 -- ---- clause 7
 
@@ -296,4 +297,4 @@ slot_flags_hold n =
 
 pub clauses_hold : (n : ℕ) → IsCount n → first_clause (made n) ≡ Ok tt
 unfolding first_clause
-clauses_hold n c = rw (sizes_hold n c, counts_hold n c, order_holds n c, roles_hold n, sections_hold n, segments_hold n c, shares_hold n c, inputs_hold n, indexes_hold n c, fields_hold n, dynsyms_hold n, slot_flags_hold n, tls_holds n, starts_hold n, names_hold n) refl
+clauses_hold n c = rw (sizes_hold n c, counts_hold n c, order_holds n c, roles_hold n, sections_hold n, segments_hold n c, shares_hold n c, inputs_hold n, indexes_hold n c, fields_hold n, slots_hold n, dynsyms_hold n, slot_flags_hold n, tls_holds n, starts_hold n, names_hold n) refl
