@@ -1,12 +1,11 @@
 -- Laws of fields that are written one behind the other.
-use Rattle.std.proofs.Common.{◌≡◌, ℕ, ◌+◌, ◌<◌, ◌≤◌, inl, inr, true, false, List, [], ◌∷◌, ◌++◌, length, get_or, map, nat_lt, if◌then◌else◌, refl, sym, ap, ◌∙◌, arith, subst}
-use Rattle.std.specs.Prelude.{Bool, All, AllPairs, Option, Some, None, Ok, slice_get, replicate}
+use Rattle.std.proofs.Common.{◌≡◌, ℕ, ◌+◌, ◌<◌, ◌≤◌, inl, inr, true, false, List, [], ◌∷◌, ◌++◌, length, get_or, map, if◌then◌else◌, refl, sym, ap, ◌∙◌, arith, subst}
+use Rattle.std.specs.Prelude.{Bool, All, AllPairs, Option, Some, None, Ok, replicate}
 use Rattle.std.specs.List.{flat_map, range_with_len}
 use Rattle.std.proofs.lemmas.Bool.{cases_lt, lt-ltb, le-ltb}
-use Rattle.std.proofs.lemmas.List.{append-nil, take_all}
-use Rattle.std.proofs.lemmas.List.Elements.{All-nil, All-cons, All-head, All-tail, All-append, All-push}
+use Rattle.std.proofs.lemmas.List.{append-nil}
+use Rattle.std.proofs.lemmas.List.Elements.{All-nil, All-cons, All-head, All-tail, All-push}
 use Rattle.wild_words.specs.Overlay.{Piece, overlay, Apart, AreApart}
-use Rattle.wild_words.specs.declared.extents.Extent.{Extent}
 use Rattle.wild_words.specs.Extents.{SharesNothing, least_extent}
 use Rattle.wild_words.proofs.ExtentLemmas.{none-shared, beside-nothing}
 use Rattle.wild_words.proofs.ListLemmas.{AllPairs-nil, AllPairs-cons, AllPairs-head, AllPairs-tail, AllPairs-append, flat_map-numbers}

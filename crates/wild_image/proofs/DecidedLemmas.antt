@@ -1,5 +1,5 @@
 -- Laws of what the decisions on a section's relocations make.
-use Rattle.std.proofs.Common.{◌≡◌, ℕ, zero, suc, ◌+◌, ◌<◌, ◌≤◌, inl, inr, Bool, true, false, List, [], ◌∷◌, ◌++◌, length, get_or, take, drop, map, max, nat_le, ◌&&◌, slice_get, slice_range, refl, sym, ap, ◌∙◌, arith, subst}
+use Rattle.std.proofs.Common.{◌≡◌, ℕ, zero, suc, ◌+◌, ◌<◌, ◌≤◌, inl, Bool, true, false, List, [], ◌∷◌, ◌++◌, length, get_or, take, drop, map, max, nat_le, ◌&&◌, slice_get, slice_range, refl, sym, ap, ◌∙◌, arith, subst}
 use Rattle.std.specs.Prelude.{All, AllPairs, Option, Some, None, Ok, Result, option_to_list}
 use Rattle.std.specs.List.{flat_map, range_with_len}
 use Rattle.std.proofs.lemmas.Bool.{and_parts, leb-true, le-leb, lt-leb}
@@ -19,8 +19,8 @@ use Rattle.wild_plan.specs.declared.fault.Error.{Error}
 use Rattle.wild_plan.specs.declared.layout.Layout.{Layout}
 use Rattle.wild_reloc.specs.Field.{size_width, size_written}
 use Rattle.wild_layout.specs.declared.decision.Decision.{Decision}
-use Rattle.wild_layout.specs.Decide.{decided, decide}
-use Rattle.wild_layout.specs.Sites.{Written, written_by, field_site, site_by, site_of, site, sites, extent_of, shared_byte}
+use Rattle.wild_layout.specs.Decide.{decided}
+use Rattle.wild_layout.specs.Sites.{Written, written_by, field_site, site_by, site_of, site, extent_of, shared_byte}
 use Rattle.wild_plan.specs.Faults.{Refuses}
 use Rattle.wild_plan.specs.Lookups.{is_read}
 use Rattle.wild_layout.specs.Faults.{relocation_errors, refusal_of, at_offset, at_section, overlap_errors, section_errors}

@@ -1,7 +1,6 @@
 -- Distances in an output that does not move.
-use Rattle.std.proofs.Common.{◌≡◌, ℕ, Bool, true, false, Option, Some, None, refl, ap, ◌∙◌, subst}
-use Rattle.std.specs.Prelude.{if◌then◌else◌, ◌&&◌, not, ◌==◌, Result}
-use Rattle.wild_plan.specs.declared.fault.Fault.{Fault}
+use Rattle.std.proofs.Common.{◌≡◌, ℕ, Bool, true, false, Option, Some, None, refl, ap, ◌∙◌}
+use Rattle.std.specs.Prelude.{if◌then◌else◌, ◌&&◌, not, ◌==◌}
 use Rattle.wild_plan.specs.declared.input.InputRelocation.{InputRelocation}
 use Rattle.wild_plan.specs.declared.input.InputSection.{InputSection}
 use Rattle.wild_plan.specs.declared.layout.Layout.{Layout}
@@ -12,12 +11,10 @@ use Rattle.wild_plan.specs.Lookups.{allocated}
 use Rattle.wild_plan.specs.Rows.{row_of}
 use Rattle.wild_reloc.specs.Field.{field_width}
 use Rattle.wild_plan.specs.Treatment.{flags_at, is_elsewhere, distance_treatment, kind_treatment, row_treatment, treatment}
-use Rattle.wild_reloc.specs.declared.info.RelocationKind.{RelocationKind}
 use Rattle.wild_reloc.specs.declared.info.RelocationKind.TheVariants.{Relative}
 use Rattle.wild_reloc.specs.declared.info.RelocationKindInfo.{RelocationKindInfo}
-use Rattle.wild_layout.specs.declared.decision.Decision.{Decision}
 use Rattle.wild_layout.specs.Values.{term_of}
-use Rattle.wild_layout.specs.Decide.{field_for, decide_by, decided}
+use Rattle.wild_layout.specs.Decide.{field_for, decided}
 
 -- a test that asks for a moving output is none in a fixed one
 no_test : (a m b c : Bool) (t u : Treatment) → m ≡ false → (if a && m && b && c then t else u) ≡ u

@@ -1,5 +1,5 @@
 -- Laws of the whole image, and of all faults.
-use Rattle.std.proofs.Common.{suc, if◌then◌else◌, ◌≡◌, ℕ, ◌^◌, ◌<◌, ◌≤◌, ◌-◌, nat_le, List, [], ◌∷◌, ◌++◌, length, Bool, true, false, Result, Ok, Err, refl, sym, ap, ◌∙◌, arith, nat_lt}
+use Rattle.std.proofs.Common.{suc, if◌then◌else◌, ◌≡◌, ℕ, ◌^◌, ◌<◌, ◌≤◌, ◌-◌, nat_le, List, [], ◌∷◌, ◌++◌, length, Bool, true, false, Result, Ok, Err, refl, ap, ◌∙◌, arith, nat_lt}
 use Rattle.std.specs.Prelude.{All, OnOk}
 use Rattle.std.proofs.lemmas.Bool.{and_parts, ltb-true}
 use Rattle.wild_words.specs.Overlay.{overlay}
@@ -31,13 +31,18 @@ section_below r n (p ∷ ps) h all = by (has_role r p) (all 0 p (omega arith)) (
     by true x y = x
     by false x y = y
 
+-- the section of a role has an index below 2^31
+index_below : (l : Layout) → IsLaidOut l → (r : Role) → section_of_role r l.parts < 2 ^ 31
+index_below l h r = let e = section_below r (length l.sections) l.parts h.some_section h.named in let f = h.sections in omega (arith, e, f)
+
 -- the numbers of a layout that is laid out have their fields
 pub FieldsFit-IsLaidOut : (l : Layout) → IsLaidOut l → FieldsFit l
 FieldsFit-IsLaidOut l h = record {
   segments = let e = h.segments in omega arith;
   sections = h.sections;
   names = h.names;
-  name_table = let e = section_below role.Shstrtab (length l.sections) l.parts h.some_section h.named in let f = h.sections in omega (arith, e, f);
+  name_table = let e = index_below l h role.Shstrtab in omega (arith, e);
+  table = let e = index_below l h role.Got in omega (arith, e);
 }
 
 -- the padding and the groups make the image

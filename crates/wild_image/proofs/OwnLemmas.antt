@@ -1,5 +1,5 @@
 -- Laws of what a file gives to the tables that a loader reads.
-use Rattle.std.proofs.Common.{◌≡◌, ℕ, zero, suc, ◌+◌, ◌-◌, ◌*◌, ◌%◌, ◌<◌, ◌≤◌, ◌==◌, ◌&&◌, inl, inr, Bool, true, false, not, if◌then◌else◌, max, List, [], ◌∷◌, ◌++◌, length, take, get_or, map, replicate, refl, sym, ap, ◌∙◌, arith}
+use Rattle.std.proofs.Common.{◌≡◌, ℕ, ◌+◌, ◌-◌, ◌*◌, ◌%◌, ◌<◌, ◌≤◌, ◌==◌, ◌&&◌, inl, inr, true, false, max, List, [], ◌∷◌, ◌++◌, length, take, get_or, map, refl, sym, ap, ◌∙◌, arith}
 use Rattle.std.specs.Prelude.{Option, Some, None, option_to_list, slice_get}
 use Rattle.std.specs.List.{flat_map}
 use Rattle.std.proofs.lemmas.Bool.{cases_Bool, and_parts, eqb-true}
@@ -9,10 +9,9 @@ use Rattle.wild_words.proofs.ListLemmas.{flat_map-more}
 use Rattle.wild_records.specs.Dynamic.{dynamic_entry_size}
 use Rattle.wild_records.specs.Abi.Dynamic.{dt_soname}
 use Rattle.wild_records.specs.Relocations.{relr_size}
-use Rattle.wild_records.specs.declared.relocations.Rela.{Rela}
 use Rattle.wild_relr.specs.declared.run.Choice.{Choice}
 use Rattle.wild_relr.specs.declared.run.Choice.TheVariants.{Joins, Adds}
-use Rattle.wild_relr.specs.Packing.{State, joined, choice, chosen, after}
+use Rattle.wild_relr.specs.Packing.{State, choice, chosen, after}
 use Rattle.wild_relr.specs.Packed.{packed, packed_on, afters, nothing}
 use Rattle.wild_relr.specs.Written.{word_bytes}
 use Rattle.wild_relr.proofs.PackedLemmas.{afters-packed, length-joined}
@@ -24,7 +23,7 @@ use Rattle.wild_plan.specs.declared.file.Group.{Group}
 use Rattle.wild_plan.specs.declared.layout.Layout.{Layout}
 use Rattle.wild_plan.specs.Kinds.{needs_dynamic}
 use Rattle.wild_plan.specs.Entries.{place_of, packs, is_moved, has_moved, packed_place, packed_places, words_of}
-use Rattle.wild_plan.specs.Dynamic.{NamedString, named, named_strings, texts_of, path_number, auxiliary_string, option_strings, dynamic_strings, epilogue_strings, dynamic_count}
+use Rattle.wild_plan.specs.Dynamic.{NamedString, named, named_strings, texts_of, path_number, auxiliary_string, option_strings, epilogue_strings, dynamic_count}
 use Rattle.wild_tables.specs.Entries.{rela_bytes}
 use Rattle.wild_tables.specs.Dynamic.{dynamic_bytes}
 use Rattle.wild_layout.specs.Moved.{listed_entry, section_entries}

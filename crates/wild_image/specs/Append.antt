@@ -2,7 +2,7 @@
 --   BeginsWith own bytes   the bytes begin with its own
 --   GoesOn own from to     what stands behind its own
 --   HasStarts l j starts   what the groups before group j are given of each part
-use Rattle.std.specs.Prelude.{◌≡◌, ℕ, ◌+◌, ◌<◌, List, ◌++◌, length, slice_index, slice_index_or}
+use Rattle.std.specs.Prelude.{◌≡◌, ℕ, ◌<◌, List, ◌++◌, length, slice_index, slice_index_or}
 use Rattle.wild_plan.specs.declared.part.Part.{Part}
 use Rattle.wild_plan.specs.declared.layout.Layout.{Layout}
 use Rattle.wild_layout.specs.Image.{given_before}

@@ -1,6 +1,6 @@
 -- What comes of a group.
 --   GivesPiece l i r   r is what group i has of each part, with what it counts, or its first fault
-use Rattle.std.specs.Prelude.{◌≡◌, ℕ, List, Some, slice_get, Result, IfOk}
+use Rattle.std.specs.Prelude.{◌≡◌, ℕ, Some, slice_get, Result, IfOk}
 use Rattle.wild_plan.specs.declared.fault.Error.{Error}
 use Rattle.wild_plan.specs.declared.file.Group.{Group}
 use Rattle.wild_plan.specs.declared.layout.Layout.{Layout}

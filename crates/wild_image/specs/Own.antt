@@ -6,7 +6,6 @@
 --                          the bytes of the words of a symbol's slots in a part, of their entries in one, and of their
 --                          places that have a RELR word of their own
 use Rattle.std.specs.Prelude.{ℕ, List, [], ◌∷◌, ◌++◌, option_to_list}
-use Rattle.std.specs.List.{flat_map}
 use Rattle.wild_plan.specs.declared.input.InputRelocation.{InputRelocation}
 use Rattle.wild_plan.specs.declared.input.InputSection.{InputSection}
 use Rattle.wild_plan.specs.declared.symbol.Symbol.{Symbol}

@@ -11,7 +11,9 @@ ghost use Rattle.wild_layout.specs.SlotBytes.{storage_entries, header_bytes, blo
 use crate::part_bytes::PartBytes;
 use crate::slot_words::{add_slot_entries, add_slot_words, add_word};
 use std::alloc::AllocError;
-use wild_plan::{Block, EntryPart, Group, Layout, Role, Setting, WordPart, group_block, storage_pair};
+use wild_plan::{
+    Block, EntryPart, Group, Layout, Role, Setting, WordPart, group_block, storage_pair,
+};
 
 /// Adds so many words that are 0.
 fn add_zeros(count: u64, bytes: &mut PartBytes) -> Result<(), AllocError>
@@ -44,7 +46,14 @@ fn add_pair_entries(layout: &Layout, bytes: &mut PartBytes) -> Result<(), AllocE
         Some(place) => {
             let pair = storage_pair(&Setting::of(layout));
             let relr = layout.options.relr;
-            add_slot_entries(EntryPart::General, layout.machine, relr, place, &pair, bytes)
+            add_slot_entries(
+                EntryPart::General,
+                layout.machine,
+                relr,
+                place,
+                &pair,
+                bytes,
+            )
         }
         None => Ok(()),
     }

@@ -75,7 +75,12 @@ fn object(alloc: Global, symbols: usize) -> File {
 /// What the file's slots give to a part.
 fn given(alloc: Global, layout: &Layout, role: Role) -> Result<PartBytes, AllocError> {
     let mut bytes = PartBytes::with_room(alloc, 0)?;
-    add_slots(layout, role, &object(alloc, layout.symbols.len()), &mut bytes)?;
+    add_slots(
+        layout,
+        role,
+        &object(alloc, layout.symbols.len()),
+        &mut bytes,
+    )?;
     Ok(bytes)
 }
 

@@ -1,21 +1,28 @@
--- The premises of the headline are met.
-use Rattle.std.proofs.Common.{◌≡◌, ℕ, zero, suc, ◌+◌, ◌<◌, ◌≤◌, ◌⊎◌, inl, inr, Bool, true, false, [], ◌∷◌, get_or, refl, sym, ap, ◌∙◌, arith, subst}
-use Rattle.std.specs.Prelude.{Option, Some, None, Contains, ◌≢◌}
-use Rattle.wild_plan.specs.declared.kind.Machine.{Machine}
+-- The premises of the headline are met: kinds, kept items, references and symbols.
+use Rattle.std.proofs.Common.{◌≡◌, ℕ, ◌+◌, ◌%◌, ◌^◌, ◌⊎◌, inl, inr, true, false, [], ◌∷◌, refl, sym, ◌∙◌, subst}
+use Rattle.std.specs.Prelude.{Some, None, Contains, ◌≢◌}
+use Rattle.wild_records.specs.Abi.Relocation.{r_x86_64_gotpcrel, r_x86_64_gotpcrelx}
 use Rattle.wild_plan.specs.declared.kind.RelocationModel.TheVariants as model
 use Rattle.wild_plan.specs.declared.kind.OutputKind.{OutputKind}
 use Rattle.wild_plan.specs.declared.kind.OutputKind.TheVariants as output
-use Rattle.wild_plan.specs.declared.symbol.Symbol.{Symbol}
+use Rattle.wild_plan.specs.declared.kind.Machine.TheVariants as machine
 use Rattle.wild_plan.specs.declared.input.InputRelocation.{InputRelocation}
 use Rattle.wild_plan.specs.declared.layout.Layout.{Layout}
-use Rattle.wild_plan.specs.Flags.{has_flag, absolute}
+use Rattle.wild_plan.specs.Flags.{absolute, ifunc}
 use Rattle.wild_reloc.specs.Formula.{Formula}
+use Rattle.wild_loader.specs.declared.memory.Memory.{Memory}
+use Rattle.wild_loader.specs.declared.world.World.{World}
 use Rattle.wild_meaning.specs.World.{IsFixed, IsMovable, IsLoadable}
-use Rattle.wild_meaning.specs.Value.{IsSymbol, IsDefinedBy, IsAbsolute, moved}
-use Rattle.wild_meaning.specs.Field.{form_width, InNoField}
-use Rattle.wild_meaning.specs.Template.{call_operand, operands_of, IsOwnByte}
-use Rattle.wild_laws.specs.Premises.{KindsAreLoaded, SectionsAreKept, RelocationsRefer, DefinitionHas, ReferencesAreAsked, BlanksAreAsked, AddressesMove, WorkedCallIsAsked, worked_relocation, worked_item}
+use Rattle.wild_meaning.specs.Value.{HasRaw, HasFlag, HasStub, Denotes, Reaches, IsAbsolute}
+use Rattle.wild_meaning.specs.Item.{Item}
+use Rattle.wild_meaning.specs.Field.{formula_of}
+use Rattle.wild_meaning.specs.Formula.{IsPlaceRelative}
+use Rattle.wild_meaning.specs.Template.{Operand}
+use Rattle.wild_meaning.specs.Reference.{HasPlace, GoesThroughSlot, IsExcepted, IsAsked}
+use Rattle.wild_laws.specs.Premises.{KindsAreLoaded, SectionsAreKept, RelocationsRefer, ReferencesAreAsked, SlotsAreAsked, BlanksAreAsked, AddressesMove, ResolversAreNotAbsolute}
 use Rattle.wild_laws.proofs.Bits.{bit_alloc, thread_local_bit}
+use Rattle.wild_laws.proofs.Operands.{each_operand}
+use Rattle.wild_laws.proofs.Symbols.{not_both, moved_value}
 
 -- ---- kinds
 
@@ -48,41 +55,42 @@ sections_kept = λ l s h. record {
 pub relocations_refer : RelocationsRefer
 relocations_refer = λ item r c n. record { listed = c; refers = n }
 
--- a symbol has one definition
-one_definition : (l : Layout) (i c d : ℕ) → IsDefinedBy l i c → IsDefinedBy l i d → c ≡ d
-one_definition l i c d h g = cases l i c d h.symbol g.symbol h.listed g.listed h.defined g.defined
-  where
-    cases : (l : Layout) (i c d : ℕ) (s t : Symbol) → IsSymbol l i s → IsSymbol l i t → (s.definition ≡ Some c) ⊎ ((s.definition ≡ None) × (c ≡ i)) → (t.definition ≡ Some d) ⊎ ((t.definition ≡ None) × (d ≡ i)) → c ≡ d
-    cases l i c d s t a b e f = by_definition i c d s.definition e (subst (λ (x : Symbol). (x.definition ≡ Some d) ⊎ ((x.definition ≡ None) × (d ≡ i))) (let same : Some t ≡ Some s = sym b ∙ a in let e : t ≡ s = cc in e) f)
-      where
-        by_definition : (i c d : ℕ) (o : Option ℕ) → (o ≡ Some c) ⊎ ((o ≡ None) × (c ≡ i)) → (o ≡ Some d) ⊎ ((o ≡ None) × (d ≡ i)) → c ≡ d
-        by_definition i c d o (inl e) (inl f) = cc
-        by_definition i c d o (inl e) (inr f) = absurd (let g : Some c ≡ None = sym e ∙ f.0 in cc)
-        by_definition i c d o (inr e) (inl f) = absurd (let g : Some d ≡ None = sym f ∙ e.0 in cc)
-        by_definition i c d o (inr e) (inr f) = e.1 ∙ sym f.1
+-- the symbol of an excepted reference is absolute
+named_absolute : (l : Layout) (item : Item) (r : InputRelocation) (i : ℕ) → r.symbol ≡ Some i → IsExcepted l item r → IsAbsolute l i
+named_absolute l item r i n e = subst (λ (j : ℕ). IsAbsolute l j) (let both : Some e.symbol ≡ Some i = sym e.named ∙ n in let same : e.symbol ≡ i = cc in same) e.absolute
 
--- whether a symbol's definition is absolute is one thing
-one_flag : (l : Layout) (i : ℕ) (s t : Symbol) → DefinitionHas l i s → DefinitionHas l i t → has_flag s.flags absolute ≡ has_flag t.flags absolute
-one_flag l i s t h g =
-    let e = one_definition l i h.0 g.0 h.1 g.1 in
-    let there = subst (λ (c : ℕ). IsSymbol l c s) e h.2 in
-    let both : Some s ≡ Some t = sym there ∙ g.2 in
-    let same : s ≡ t = cc in
-    ap (λ (x : Symbol). has_flag x.flags absolute) same
+neither : (l : Layout) (item : Item) (r : InputRelocation) → (HasPlace l r → ⊥) → (GoesThroughSlot l item r → ⊥) → HasPlace l r ⊎ GoesThroughSlot l item r → ⊥
+neither l item r p s (inl h) = p h
+neither l item r p s (inr h) = s h
 
-not_absolute : (l : Layout) (i : ℕ) (s : Symbol) → DefinitionHas l i s → has_flag s.flags absolute ≡ false → IsAbsolute l i → ⊥
-not_absolute l i s h f a =
-    let e = one_flag l i s a.symbol h (a.definition, a.defined, a.listed) in
-    let both : true ≡ false = sym a.flagged ∙ sym e ∙ f in
-    cc
+pub fixed_asked : (l : Layout) (w : World) (item : Item) (r : InputRelocation) → IsFixed l.kind → IsAsked l w item r
+fixed_asked l w item r f = λ e. absurd (apart_kinds l.kind f e.movable)
 
-pub references_asked : ReferencesAreAsked
-references_asked = record {
-  zero = λ l w r z e. z;
-  fixed = λ l w r f e. absurd (apart_kinds l.kind f e.movable);
-  placeless = λ l w r none e. absurd (none e.formula e.known e.relative);
-  unnamed = λ l w r n e. absurd (let both : Some e.symbol ≡ None = sym e.named ∙ n in cc);
-  moving = λ l w r i s n h f e. absurd (not_absolute l i s h f (subst (λ (j : ℕ). IsAbsolute l j) (let both : Some e.symbol ≡ Some i = sym e.named ∙ n in let same : e.symbol ≡ i = cc in same) e.absolute));
+placeless_asked : (l : Layout) (w : World) (item : Item) (r : InputRelocation) → (HasPlace l r → ⊥) → (GoesThroughSlot l item r → ⊥) → IsAsked l w item r
+placeless_asked l w item r p s = λ e. absurd (neither l item r p s e.relative)
+
+pub references_asked : ResolversAreNotAbsolute → ReferencesAreAsked
+references_asked law = record {
+  zero = λ l w item r z e. z;
+  fixed = fixed_asked;
+  unnamed = λ l w item r n e. absurd (let both : Some e.symbol ≡ None = sym e.named ∙ n in cc);
+  moving = λ l w item r i n f e. absurd (not_both l i absolute (named_absolute l item r i n e) f);
+  resolved = λ l w item r i none n f e. absurd (law l i none f (named_absolute l item r i n e));
+  placeless = placeless_asked;
+}
+
+-- ---- slots
+
+no_place : (l : Layout) (r : InputRelocation) (f : Formula) → formula_of l.machine r.number ≡ Some f → (IsPlaceRelative f.value → ⊥) → HasPlace l r → ⊥
+no_place l r f known none h = none (subst (λ (g : Formula). IsPlaceRelative g.value) (let both : Some h.formula ≡ Some f = sym h.known ∙ known in let same : h.formula ≡ f = cc in same) h.relative)
+
+slot_number : (l : Layout) (item : Item) (r : InputRelocation) → l.machine ≡ machine.X86_64 → GoesThroughSlot l item r → Contains (r_x86_64_gotpcrel ∷ r_x86_64_gotpcrelx ∷ []) r.number
+slot_number l item r x h = each_operand (λ (o : Operand). Contains o.numbers r.number → o.through ≡ true → Contains (r_x86_64_gotpcrel ∷ r_x86_64_gotpcrelx ∷ []) r.number) l.machine h.operand (λ n t. cc) (λ n t. cc) (λ n t. n) (λ n t. n) x h.template.known h.template.number h.through
+
+pub slots_asked : SlotsAreAsked
+slots_asked = record {
+  numbers = λ l w item r f x known none other. placeless_asked l w item r (no_place l r f known none) (λ h. other (slot_number l item r x h));
+  elsewhere = λ l w item r f known none code. placeless_asked l w item r (no_place l r f known none) (λ h. code h.template.code);
 }
 
 pub blanks_asked : BlanksAreAsked
@@ -93,42 +101,14 @@ blanks_asked = record {
 
 -- ---- symbols
 
+alone : (l : Layout) (w : World) (m : Memory) (i a : ℕ) → Denotes l w m i a → HasFlag l i ifunc false → HasFlag l i absolute false → ((p : ℕ) → HasStub l i p → ⊥) → (raw : ℕ) × HasRaw l i raw × (a ≡ (w.base + raw) % 2 ^ 64)
+alone l w m i a (inl h) f g none = (h.raw, h.given, moved_value l w i a h f g)
+alone l w m i a (inr s) f g none = absurd (none s.stub s.given)
+
 pub addresses_move : AddressesMove
 addresses_move = record {
-  moves = λ l w m i raw s h d f. record { raw = raw; given = h; still = false; absolute = record { definition = d.0; defined = d.1; symbol = s; listed = d.2; flagged = f }; moves = refl };
-  stays = λ l w m i raw s h d f. record { raw = raw; given = h; still = true; absolute = record { definition = d.0; defined = d.1; symbol = s; listed = d.2; flagged = f }; moves = refl };
-  alone = λ l w m i a s h d f.
-      (let e = one_flag l i s h.absolute.symbol d (h.absolute.definition, h.absolute.defined, h.absolute.listed) in
-      let still : h.still ≡ false = sym h.absolute.flagged ∙ sym e ∙ f in
-      (h.raw, h.given, h.moves ∙ ap (λ (b : Bool). moved b w.base h.raw) still));
+  moves = λ l w m i raw h f g. inl (record { raw = raw; given = h; indirect = false; resolved = f; still = false; absolute = g; is = refl });
+  stays = λ l w m i raw h f g. inl (record { raw = raw; given = h; indirect = false; resolved = f; still = true; absolute = g; is = refl });
+  alone = alone;
+  goals = λ l w m i a h f g. (h.1.raw, h.1.given, subst (λ (v : ℕ). Reaches m a v) (moved_value l w i h.0 h.1 f g) h.2);
 }
-
--- ---- calls
-
-pub only_first : (k : ℕ) → IsOwnByte call_operand k → k ≡ 0
-only_first k own = by_side k own.1 own.0
-  where
-    by_side : (k : ℕ) → (k < 1) ⊎ (5 ≤ k) → k < 5 → k ≡ 0
-    by_side k (inl a) b = omega arith
-    by_side k (inr a) b = absurd (omega (arith, a, b))
-
-worked_alone : (l : Layout) (address k : ℕ) → k ≡ 0 → InNoField l (worked_item address) k
-worked_alone l address k z = λ i d lt f known. at i k d f lt z
-  where
-    at : (i k : ℕ) (d : InputRelocation) (f : Formula) → i < 1 → k ≡ 0 → (k < (get_or (worked_relocation ∷ []) i d).offset) ⊎ ((get_or (worked_relocation ∷ []) i d).offset + form_width f.form ≤ k)
-    at zero k d f lt z = inl (omega (arith, z))
-    at (suc i) k d f lt z = absurd (omega (arith, lt))
-
-pub worked_asked : WorkedCallIsAsked
-worked_asked = λ l address m. (
-  record { listed = (0, omega arith, refl); refers = λ e. (let z : 2 ≡ 0 = e in absurd (omega (arith, z))) },
-  record {
-    code = refl;
-    known = subst (λ (x : Machine). Contains (operands_of x) call_operand) (sym m) (0, omega arith, refl);
-    number = (0, omega arith, refl);
-    field = refl;
-    inside = omega arith;
-    stands = refl;
-    alone = λ k own. worked_alone l address (0 + k) (let e = only_first k own in omega (arith, e));
-  },
-)

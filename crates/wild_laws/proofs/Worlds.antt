@@ -11,10 +11,11 @@ use Rattle.wild_loader.specs.declared.world.World.{World}
 use Rattle.wild_loader.specs.Changes.{distance_of}
 use Rattle.std.specs.Prelude.{Result, Ok}
 use Rattle.wild_meaning.specs.Thread.{thread_pointer, IsOwnDistance}
-use Rattle.wild_meaning.specs.World.{IsFirstModule, first_module}
-use Rattle.wild_laws.specs.Premises.{ZeroIsLegal, MovedIsLegal, WorldsAreThere, OffsetsCount}
+use Rattle.wild_meaning.specs.World.{IsFirstModule, IsLegal, first_module}
+use Rattle.wild_laws.specs.Premises.{ZeroIsLegal, MovedIsLegal, HasWorld, WorldsAreThere, OffsetsCount}
 use Rattle.wild_laws.proofs.Premises.{apart_kinds}
 use Rattle.wild_laws.proofs.NoErrors.{laid_out}
+use Rattle.wild_laws.proofs.Resolvers.{pairs_of, HasPairs, has_resolvers, are_answered}
 use Rattle.wild_values.specs.Laws.{ThreadPlacesAreKnown}
 
 -- ---- legal worlds
@@ -23,21 +24,23 @@ zero_divides : (base page : ℕ) → base ≡ 0 → base % page ≡ 0
 zero_divides base page z = ap (λ (b : ℕ). b % page) z ∙ zero-mod page
 
 pub zero_legal : LayoutsAreLaidOut → ZeroIsLegal
-zero_legal laws = λ l w none z first.
+zero_legal laws = λ l w none z first resolvers.
     let laid = laid_out laws l none in
     record {
       aligned = zero_divides w.base l.page_size z;
       ends = λ k d lt loads. (let low = (laid.loadable.each k d lt).low in omega (arith, z, low));
       fixed = λ f. z;
       first = first;
+      resolvers = resolvers;
     }
 
 pub moved_legal : MovedIsLegal
-moved_legal = λ l w movable roomy first. record {
+moved_legal = λ l w movable roomy first resolvers. record {
   aligned = roomy.aligned;
   ends = λ k d lt loads. roomy.ends k d lt;
   fixed = λ f. absurd (apart_kinds l.kind f movable);
   first = first;
+  resolvers = resolvers;
 }
 
 -- ---- the own module
@@ -63,33 +66,35 @@ distance l h =
     back : (tp start : ℕ) → start < 2 ^ 64 → (tp + less start tp) % 2 ^ 64 ≡ start
     back tp start h = omega (arith, h)
 
--- a world that has the module, and nothing else
-abbrev world_at : Layout → ℕ → World
-world_at l base = record {
+-- a world that has the module and the resolvers' answers, and nothing else
+abbrev world_at : Layout → ℕ → (ℕ → ℕ) → World
+world_at l base answers = record {
   base = base;
   symbols = [];
-  resolvers = [];
+  resolvers = pairs_of answers base l.symbols;
   modules = (first_module, cast_signed w64 (less l.tls.start (thread_pointer l))) ∷ [];
   own_module = first_module;
 }
 
-knows : (l : Layout) (base : ℕ) → l.tls.start < 2 ^ 64 → IsFirstModule l (world_at l base)
-knows l base h = record { own = refl; distance = cast_signed w64 (less l.tls.start (thread_pointer l)); pair = refl; is = distance l h }
+knows : (l : Layout) (base : ℕ) (answers : ℕ → ℕ) → l.tls.start < 2 ^ 64 → IsFirstModule l (world_at l base answers)
+knows l base answers h = record { own = refl; distance = cast_signed w64 (less l.tls.start (thread_pointer l)); pair = refl; is = distance l h }
+
+has_pairs : (l : Layout) (base : ℕ) (answers : ℕ → ℕ) → HasPairs l (world_at l base answers) answers
+has_pairs l base answers = record { pairs = refl }
+
+has_world : (l : Layout) (base : ℕ) (answers : ℕ → ℕ) → l.tls.start < 2 ^ 64 → IsLegal l (world_at l base answers) → HasWorld l base answers
+has_world l base answers h legal = record {
+  world = world_at l base answers;
+  at = refl;
+  legal = legal;
+  first = knows l base answers h;
+  answered = are_answered l (world_at l base answers) answers (has_pairs l base answers);
+}
 
 pub worlds_there : LayoutsAreLaidOut → WorldsAreThere
 worlds_there laws = record {
-  zero = λ l none h. record {
-    world = world_at l 0;
-    at = refl;
-    legal = zero_legal laws l (world_at l 0) none refl (λ e. knows l 0 h);
-    first = knows l 0 h;
-  };
-  elsewhere = λ l base movable roomy h. record {
-    world = world_at l base;
-    at = refl;
-    legal = moved_legal l (world_at l base) movable roomy (λ e. knows l base h);
-    first = knows l base h;
-  };
+  zero = λ l answers small none h. has_world l 0 answers h (zero_legal laws l (world_at l 0 answers) none refl (λ e. knows l 0 answers h) (has_resolvers l (world_at l 0 answers) answers small (has_pairs l 0 answers)));
+  elsewhere = λ l base answers small movable roomy h. has_world l base answers h (moved_legal l (world_at l base answers) movable roomy (λ e. knows l base answers h) (has_resolvers l (world_at l base answers) answers small (has_pairs l base answers)));
 }
 
 -- ---- offsets from the thread pointer

@@ -1,11 +1,12 @@
--- What an image owes a fixed x86-64 layout, told by fields and calls alone. It follows from the meaning of all layouts.
---   HasFormula ..      the field in memory is the formula's
---   CallReaches ..     a call goes to its target
---   WritesAddress r    the relocation's type is one of an address or a distance
---   HoldsByFields ..   each such reference of an input section does
-use Rattle.std.specs.Prelude.{◌≡◌, ◌≢◌, ℕ, ℤ, ◌+◌, ◌-◌, ◌%◌, ◌^◌, ◌<◌, ◌≤◌, ◌⊎◌, true, false, List, length, Option, Some, None, All, Contains, slice_index}
+-- What an image owes a fixed x86-64 layout, told by fields, calls and jumps alone. It follows from the meaning of all layouts.
+--   HasFormula ..        the field in memory is the formula's
+--   BranchReaches ..     a call or a jump goes to what comes to its symbol
+--   WritesAddress r      the relocation's type is one of an address or a distance
+--   HoldsByFields ..     each such reference of an input section does
+--   NamesAreAddresses    what this says of symbols that no resolver answers for
+use Rattle.std.specs.Prelude.{◌≡◌, ◌≢◌, ℕ, ℤ, ◌+◌, ◌-◌, ◌%◌, ◌^◌, ◌<◌, ◌≤◌, ◌⊎◌, true, false, List, [], ◌∷◌, length, Some, All, Contains, slice_index}
 use Rattle.std.specs.Int.{w64, cast_unsigned}
-use Rattle.wild_records.specs.Abi.Relocation.{r_x86_64_none, r_x86_64_pc32}
+use Rattle.wild_records.specs.Abi.Relocation.{r_x86_64_none, r_x86_64_pc32, r_x86_64_plt32, r_x86_64_gotpcrel, r_x86_64_gotpcrelx}
 use Rattle.wild_plan.specs.declared.kind.Machine.TheVariants as machine
 use Rattle.wild_plan.specs.declared.input.Slot.TheVariants as slot
 use Rattle.wild_plan.specs.declared.input.InputRelocation.{InputRelocation}
@@ -14,17 +15,19 @@ use Rattle.wild_plan.specs.declared.file.File.{File}
 use Rattle.wild_plan.specs.declared.file.Group.{Group}
 use Rattle.wild_plan.specs.declared.symbol.Symbol.{Symbol}
 use Rattle.wild_plan.specs.declared.layout.Layout.{Layout}
-use Rattle.wild_plan.specs.Flags.{has_flag, absolute}
+use Rattle.wild_plan.specs.Flags.{has_flag, absolute, ifunc}
 use Rattle.wild_plan.specs.Lookups.{allocated, executable}
 use Rattle.wild_reloc.specs.Formula.{Value, SymbolAddress, Distance, Form, Formula, Reads}
 use Rattle.wild_reloc.specs.FormulaX86_64.{x86_64_formula}
 use Rattle.wild_loader.specs.declared.world.World.{World}
 use Rattle.wild_loader.specs.declared.memory.Memory.{Memory}
+use Rattle.wild_loader.specs.declared.effect.EffectKind.{EffectKind}
 use Rattle.wild_loader.specs.declared.effect.EffectKind.TheVariants as kinds
 use Rattle.wild_loader.specs.Memory.{Holds, byte_in}
 use Rattle.wild_loader.specs.Effect.{step}
-use Rattle.wild_meaning.specs.Value.{IsSymbol, IsDefinedBy, HasRaw, moved}
+use Rattle.wild_meaning.specs.Value.{IsSymbol, IsDefinedBy, HasRaw, HasFlag, HasStub, Denotes, Reaches, moved}
 use Rattle.wild_meaning.specs.Field.{form_width}
+use Rattle.wild_meaning.specs.Formula.{IsTarget, IsGoal}
 use Rattle.wild_meaning.specs.World.{IsFixed}
 use Rattle.wild_meaning.specs.Linked.{IsLinked}
 
@@ -52,20 +55,48 @@ WritesAddress r = (f : Formula) → x86_64_formula r.number ≡ Some f → (f.va
 abbrev pub address_at : World → InputSection → ℕ → ℕ
 address_at w s offset = w.base + s.address + offset
 
--- a is symbol i's address in the world
-pub record IsAddress (l : Layout) (w : World) (i a : ℕ) : Type 0 where
-  pub raw : ℕ
-  pub given : HasRaw l i raw
-  pub definition : ℕ
-  pub defined : IsDefinedBy l i definition
-  pub symbol : Symbol
-  pub listed : IsSymbol l definition symbol
-  pub moves : a ≡ moved (has_flag symbol.flags absolute) w.base raw
+-- ---- calls and jumps
 
--- a is what the formula's S is: the symbol's address, or 0 without a symbol
-abbrev pub IsNamed : Layout → World → Option ℕ → ℕ → Type 0
-IsNamed l w None a = a ≡ 0
-IsNamed l w (Some i) a = IsAddress l w i a
+-- the input's byte at an offset is the opcode of a direct call or jump (Intel SDM, "CALL": e8; "JMP": e9), and the field behind
+-- it is a relocation's of type R_X86_64_PC32 or R_X86_64_PLT32
+pub record IsBranch (s : InputSection) (r : InputRelocation) (k opcode : ℕ) : Type 0 where
+  pub code : executable s.flags ≡ true
+  pub behind : r.offset ≡ k + 1
+  pub begins : slice_index s.bytes k ≡ opcode
+  pub number : Contains (r_x86_64_pc32 ∷ r_x86_64_plt32 ∷ []) r.number
+  pub inside : r.offset + 4 ≤ length s.bytes
+
+-- the relocation's field is such an instruction's
+abbrev pub IsBranchField : InputSection → InputRelocation → Type 0
+IsBranchField s r = (k : ℕ) × (IsBranch s r k 0xe8 ⊎ IsBranch s r k 0xe9)
+
+-- the input's bytes at an offset are the opcode of a call or a jump through a slot (Intel SDM, "CALL": ff 15; "JMP": ff 25), and
+-- the field behind them is a relocation's of type R_X86_64_GOTPCREL or R_X86_64_GOTPCRELX, whose addend takes back its four bytes
+pub record IsSlotBranch (s : InputSection) (r : InputRelocation) (k opcode : ℕ) : Type 0 where
+  pub code : executable s.flags ≡ true
+  pub behind : r.offset ≡ k + 2
+  pub first : slice_index s.bytes k ≡ 0xff
+  pub second : slice_index s.bytes (k + 1) ≡ opcode
+  pub number : Contains (r_x86_64_gotpcrel ∷ r_x86_64_gotpcrelx ∷ []) r.number
+  pub inside : r.offset + 4 ≤ length s.bytes
+  pub addend : (cast_unsigned w64 r.addend + 4) % 2 ^ 64 ≡ 0
+
+-- the loaded code of n bytes goes to what comes to the symbol's value
+pub record BranchReaches (l : Layout) (w : World) (m : Memory) (s : InputSection) (r : InputRelocation) (k n : ℕ) (does : ℕ → EffectKind) : Type 0 where
+  pub target : ℕ
+  pub reached : IsGoal l w m r.symbol target
+  pub goes : step m (address_at w s k) ≡ Some (record { length = n; width = 64; kind = does target })
+
+-- a direct one goes to S + A + 4 or L + A + 4, that is, to S or L where A takes back the four bytes of the field
+abbrev pub past_field : InputRelocation → ℕ → ℕ
+past_field r a = (a + cast_unsigned w64 r.addend + 4) % 2 ^ 64
+
+-- ---- fields
+
+-- a is what the formula's S is: it stands for the symbol, or is 0 without one; in the field of a call or a jump code that goes
+-- there comes to it
+abbrev pub IsNamed : Layout → World → Memory → InputSection → InputRelocation → ℕ → Type 0
+IsNamed l w m s r a = IsTarget l w m r.symbol a ⊎ (IsBranchField s r × IsGoal l w m r.symbol a)
 
 -- the formula gives x (x86-64 psABI, "Relocation Types"): S + A, or S + A - P
 abbrev pub Demands : Value → ℕ → ℤ → ℕ → ℕ → Type 0
@@ -85,49 +116,48 @@ pub record HasFormula (l : Layout) (w : World) (m : Memory) (s : InputSection) (
   pub formula : Formula
   pub known : x86_64_formula r.number ≡ Some formula
   pub target : ℕ
-  pub denoted : IsNamed l w r.symbol target
+  pub denoted : IsNamed l w m s r target
   pub value : ℕ
   pub demanded : Demands formula.value target r.addend (address_at w s r.offset) value
   pub field : HasField m formula.form (address_at w s r.offset) value
-
--- the input's byte at an offset is the opcode of a call (Intel SDM, "CALL": e8), and the field behind it is a
--- relocation's of type R_X86_64_PC32
-pub record IsCall (s : InputSection) (r : InputRelocation) (k : ℕ) : Type 0 where
-  pub code : executable s.flags ≡ true
-  pub behind : r.offset ≡ k + 1
-  pub opcode : slice_index s.bytes k ≡ 0xe8
-  pub number : r.number ≡ r_x86_64_pc32
-  pub inside : k < length s.bytes
-
--- the loaded code at an address calls a target
-abbrev pub Calls : Memory → ℕ → ℕ → Type 0
-Calls m a target = step m a ≡ Some (record { length = 5; width = 64; kind = kinds.Call target })
-
--- a call goes to S + A + 4, that is, to S where A takes back the four bytes of the field
-pub record CallReaches (l : Layout) (w : World) (m : Memory) (s : InputSection) (r : InputRelocation) (k : ℕ) : Type 0 where
-  pub target : ℕ
-  pub denoted : IsNamed l w r.symbol target
-  pub calls : Calls m (address_at w s k) ((target + cast_unsigned w64 r.addend + 4) % 2 ^ 64)
 
 -- the byte lies in no field of the section's relocations
 abbrev pub InNoField : InputSection → ℕ → Type 0
 InNoField s k = All (λ (r : InputRelocation). (f : Formula) → x86_64_formula r.number ≡ Some f → (k < r.offset) ⊎ (r.offset + form_width f.form ≤ k)) s.relocations
 
--- each reference to an address or a distance holds, each call reaches its target where no other field has its opcode, and every byte in no field is the
--- input's
+-- each reference to an address or a distance holds, each call and jump reaches its symbol where no field has its opcode, and every
+-- byte in no field is the input's
 pub record HoldsByFields (l : Layout) (w : World) (m : Memory) (s : InputSection) : Type 0 where
   pub references : (r : InputRelocation) → IsRelocated s r → WritesAddress r → HasFormula l w m s r
-  pub calls : (r : InputRelocation) (k : ℕ) → IsRelocated s r → IsCall s r k → InNoField s k → CallReaches l w m s r k
+  pub calls : (r : InputRelocation) (k : ℕ) → IsRelocated s r → IsBranch s r k 0xe8 → InNoField s k → BranchReaches l w m s r k 5 (λ a. kinds.Call (past_field r a))
+  pub jumps : (r : InputRelocation) (k : ℕ) → IsRelocated s r → IsBranch s r k 0xe9 → InNoField s k → BranchReaches l w m s r k 5 (λ a. kinds.Jump (past_field r a))
+  pub slot_calls : (r : InputRelocation) (k : ℕ) → IsRelocated s r → IsSlotBranch s r k 0x15 → InNoField s k → InNoField s (k + 1) → BranchReaches l w m s r k 6 kinds.Call
+  pub slot_jumps : (r : InputRelocation) (k : ℕ) → IsRelocated s r → IsSlotBranch s r k 0x25 → InNoField s k → InNoField s (k + 1) → BranchReaches l w m s r k 6 kinds.Jump
   pub others : (k : ℕ) → k < length s.bytes → InNoField s k → byte_in m (address_at w s k) ≡ Some (slice_index s.bytes k)
 
 -- each byte of memory is one
 abbrev pub AreBytes : Memory → Type 0
 AreBytes m = (a b : ℕ) → byte_in m a ≡ Some b → b < 256
 
--- the fields of type R_X86_64_PC32 lie in the section
-abbrev pub CallFieldsLie : InputSection → Type 0
-CallFieldsLie s = (r : InputRelocation) → Contains s.relocations r → r.number ≡ r_x86_64_pc32 → r.offset + 4 ≤ length s.bytes
-
 -- an image that meets the meaning of all layouts meets this one
 abbrev pub MeaningGivesFields : Type 0
-MeaningGivesFields = (l : Layout) (w : World) (image : List ℕ) → l.machine ≡ machine.X86_64 → IsFixed l.kind → (linked : IsLinked l w image) → AreBytes linked.memory → (s : InputSection) → IsLoadedSection l s → CallFieldsLie s → HoldsByFields l w linked.memory s
+MeaningGivesFields = (l : Layout) (w : World) (image : List ℕ) → l.machine ≡ machine.X86_64 → IsFixed l.kind → (linked : IsLinked l w image) → AreBytes linked.memory → (s : InputSection) → IsLoadedSection l s → HoldsByFields l w linked.memory s
+
+-- ---- symbols
+
+-- a is symbol i's address in the world
+pub record IsAddress (l : Layout) (w : World) (i a : ℕ) : Type 0 where
+  pub raw : ℕ
+  pub given : HasRaw l i raw
+  pub definition : ℕ
+  pub defined : IsDefinedBy l i definition
+  pub symbol : Symbol
+  pub listed : IsSymbol l definition symbol
+  pub moves : a ≡ moved (has_flag symbol.flags absolute) w.base raw
+
+-- what stands for a symbol comes to it; of one that is no IFUNC nothing but its address stands for it without a stub, and code
+-- that goes to it comes to that address
+pub record NamesAreAddresses : Type 0 where
+  pub stands : (l : Layout) (w : World) (m : Memory) (i a : ℕ) → Denotes l w m i a → IsGoal l w m (Some i) a
+  pub alone : (l : Layout) (w : World) (m : Memory) (i a : ℕ) → HasFlag l i ifunc false → ((p : ℕ) → HasStub l i p → ⊥) → Denotes l w m i a → IsAddress l w i a
+  pub goals : (l : Layout) (w : World) (m : Memory) (i a : ℕ) → HasFlag l i ifunc false → IsGoal l w m (Some i) a → (v : ℕ) × IsAddress l w i v × Reaches m a v

@@ -1,7 +1,8 @@
 -- The premises of the headline are met: there are legal worlds, kept items, references and calls.
-use Rattle.std.specs.Prelude.{◌≡◌, ◌≢◌, ℕ, ◌+◌, ◌-◌, ◌%◌, ◌^◌, ◌<◌, ◌≤◌, true, false, [], ◌∷◌, Some, None, All, Contains}
+use Rattle.std.specs.Prelude.{◌≡◌, ◌≢◌, ℕ, ◌+◌, ◌-◌, ◌%◌, ◌^◌, ◌<◌, ◌≤◌, true, false, List, [], ◌∷◌, Some, None, Ok, All, Contains}
 use lib.IntN.{negsuc}
-use Rattle.wild_records.specs.Abi.Relocation.{r_x86_64_none, r_x86_64_pc32}
+use Rattle.wild_records.specs.Abi.Relocation.{r_x86_64_none, r_x86_64_pc32, r_x86_64_plt32, r_x86_64_gotpcrel, r_x86_64_gotpcrelx}
+use Rattle.wild_records.specs.Abi.Section.{shf_execinstr}
 use Rattle.wild_records.specs.Abi.Segment.{pt_load}
 use Rattle.wild_plan.specs.declared.kind.Machine.TheVariants as machine
 use Rattle.wild_plan.specs.declared.kind.RelocationModel.{RelocationModel}
@@ -9,24 +10,27 @@ use Rattle.wild_plan.specs.declared.kind.RelocationModel.TheVariants as model
 use Rattle.wild_plan.specs.declared.kind.OutputKind.{OutputKind}
 use Rattle.wild_plan.specs.declared.kind.OutputKind.TheVariants as output
 use Rattle.wild_plan.specs.declared.section.Segment.{Segment}
+use Rattle.wild_plan.specs.declared.symbol.Resolution.{Resolution}
 use Rattle.wild_plan.specs.declared.symbol.Symbol.{Symbol}
 use Rattle.wild_plan.specs.declared.input.Slot.TheVariants as slot
 use Rattle.wild_plan.specs.declared.input.InputRelocation.{InputRelocation}
 use Rattle.wild_plan.specs.declared.input.InputSection.{InputSection}
 use Rattle.wild_plan.specs.declared.layout.Layout.{Layout}
-use Rattle.wild_plan.specs.Flags.{has_flag, absolute}
+use Rattle.wild_plan.specs.Flags.{has_flag, absolute, ifunc}
 use Rattle.wild_plan.specs.Lookups.{allocated, thread_local}
 use Rattle.wild_layout.specs.Faults.{errors}
 use Rattle.wild_loader.specs.declared.world.World.{World}
 use Rattle.wild_loader.specs.declared.memory.Memory.{Memory}
-use Rattle.wild_meaning.specs.World.{IsFixed, IsMovable, IsLoadable, IsExecutable, IsFirstModule, IsLegal}
+use Rattle.wild_loader.specs.Changes.{answer_at}
+use Rattle.wild_meaning.specs.Section.{IsSet}
+use Rattle.wild_meaning.specs.World.{IsFixed, IsMovable, IsLoadable, IsExecutable, IsFirstModule, HasResolver, IsLegal}
 use Rattle.wild_meaning.specs.Thread.{thread_pointer, IsThreadPlace}
-use Rattle.wild_meaning.specs.Value.{IsSymbol, IsDefinedBy, HasRaw, Denotes}
+use Rattle.wild_meaning.specs.Value.{IsDefinedBy, IsResolved, HasRaw, HasFlag, IsAbsolute, HasValue, HasStub, Reaches, Denotes}
 use Rattle.wild_meaning.specs.Field.{formula_of}
-use Rattle.wild_meaning.specs.Formula.{IsPlaceRelative}
+use Rattle.wild_meaning.specs.Formula.{IsGoal, IsPlaceRelative}
 use Rattle.wild_meaning.specs.Item.{Item, IsInput, IsKept, IsReference}
-use Rattle.wild_meaning.specs.Template.{call_operand, IsTemplate}
-use Rattle.wild_meaning.specs.Reference.{IsAsked}
+use Rattle.wild_meaning.specs.Template.{Operand, call_operand, jump_operand, slot_call_operand, slot_jump_operand, IsTemplate}
+use Rattle.wild_meaning.specs.Reference.{HasPlace, GoesThroughSlot, IsAsked}
 use Rattle.wild_meaning.specs.Linked.{IsBlank, IsBehind}
 use Rattle.wild_reloc.specs.Formula.{Formula}
 use Rattle.wild_laws.specs.Laws.{IsStatic}
@@ -38,6 +42,14 @@ use Rattle.wild_laws.specs.FirstPath.{IsLoadedSection}
 abbrev pub KnowsModule : Layout → World → Type 0
 KnowsModule l w = IsExecutable l.kind → IsFirstModule l w
 
+-- the world has one answer of each symbol's resolver
+abbrev pub HasResolvers : Layout → World → Type 0
+HasResolvers l w = All (HasResolver w) l.symbols
+
+-- where no symbol is an IFUNC it needs none
+abbrev pub NoneHasNone : Type 0
+NoneHasNone = (l : Layout) (w : World) → All (λ (s : Symbol). has_flag s.flags ifunc ≡ false) l.symbols → HasResolvers l w
+
 -- a page-aligned base at which no segment wraps
 pub record IsRoomy (l : Layout) (base : ℕ) : Type 0 where
   pub aligned : base % l.page_size ≡ 0
@@ -45,24 +57,33 @@ pub record IsRoomy (l : Layout) (base : ℕ) : Type 0 where
 
 -- whatever else a world has, base 0 is legal
 abbrev pub ZeroIsLegal : Type 0
-ZeroIsLegal = (l : Layout) (w : World) → errors l ≡ [] → w.base ≡ 0 → KnowsModule l w → IsLegal l w
+ZeroIsLegal = (l : Layout) (w : World) → errors l ≡ [] → w.base ≡ 0 → KnowsModule l w → HasResolvers l w → IsLegal l w
 
 -- where the output is movable, so is every roomy base
 abbrev pub MovedIsLegal : Type 0
-MovedIsLegal = (l : Layout) (w : World) → IsMovable l.kind → IsRoomy l w.base → KnowsModule l w → IsLegal l w
+MovedIsLegal = (l : Layout) (w : World) → IsMovable l.kind → IsRoomy l w.base → KnowsModule l w → HasResolvers l w → IsLegal l w
 
--- a legal world with that base
-pub record HasWorld (l : Layout) (base : ℕ) : Type 0 where
+-- the resolvers of a layout's symbols answer that, each at its own address
+abbrev pub AreAnswered : Layout → World → (ℕ → ℕ) → Type 0
+AreAnswered l w answers = All (λ (s : Symbol). (r : Resolution) → s.resolution ≡ Some r → answer_at w ((w.base + r.raw_value) % 2 ^ 64) ≡ Ok (answers ((w.base + r.raw_value) % 2 ^ 64))) l.symbols
+
+-- a legal world with that base and those answers
+pub record HasWorld (l : Layout) (base : ℕ) (answers : ℕ → ℕ) : Type 0 where
   pub world : World
   pub at : world.base ≡ base
   pub legal : IsLegal l world
   pub first : IsFirstModule l world
+  pub answered : AreAnswered l world answers
 
--- so legal worlds are there, each with a distance of the output's thread-local data: at base 0, and where the output is
--- movable at every roomy base
+-- each answer is an address of the machine
+abbrev pub AreAddresses : (ℕ → ℕ) → Type 0
+AreAddresses answers = (a : ℕ) → answers a < 2 ^ 64
+
+-- so legal worlds are there, whatever the resolvers answer, each with a distance of the output's thread-local data: at base 0,
+-- and where the output is movable at every roomy base
 pub record WorldsAreThere : Type 0 where
-  pub zero : (l : Layout) → errors l ≡ [] → l.tls.start < 2 ^ 64 → HasWorld l 0
-  pub elsewhere : (l : Layout) (base : ℕ) → IsMovable l.kind → IsRoomy l base → l.tls.start < 2 ^ 64 → HasWorld l base
+  pub zero : (l : Layout) (answers : ℕ → ℕ) → AreAddresses answers → errors l ≡ [] → l.tls.start < 2 ^ 64 → HasWorld l 0 answers
+  pub elsewhere : (l : Layout) (base : ℕ) (answers : ℕ → ℕ) → AreAddresses answers → IsMovable l.kind → IsRoomy l base → l.tls.start < 2 ^ 64 → HasWorld l base answers
 
 -- every kind but a partial object is loaded, at its own addresses or elsewhere; of the static ones soundness speaks
 pub record KindsAreLoaded : Type 0 where
@@ -84,18 +105,25 @@ SectionsAreKept = (l : Layout) (s : InputSection) → IsLoadedSection l s → Is
 abbrev pub RelocationsRefer : Type 0
 RelocationsRefer = (item : Item) (r : InputRelocation) → Contains item.relocations r → r.number ≢ r_x86_64_none → IsReference item r
 
--- a symbol's definition has the flag, or has it not
-abbrev pub DefinitionHas : Layout → ℕ → Symbol → Type 0
-DefinitionHas l i s = (c : ℕ) × IsDefinedBy l i c × IsSymbol l c s
+-- where a layout has no faults, no IFUNC is absolute
+abbrev pub ResolversAreNotAbsolute : Type 0
+ResolversAreNotAbsolute = (l : Layout) (i : ℕ) → errors l ≡ [] → HasFlag l i ifunc true → IsAbsolute l i → ⊥
 
--- a reference is asked at base 0, and at every base where its symbol is not absolute, or its value takes no place from an
--- address
+-- a reference is asked at base 0, and at every base where its symbol is not absolute, as no resolver is, or it takes no place
+-- from an address: neither its value does, nor is its instruction a call or a jump through a slot
 pub record ReferencesAreAsked : Type 0 where
-  pub zero : (l : Layout) (w : World) (r : InputRelocation) → w.base ≡ 0 → IsAsked l w r
-  pub fixed : (l : Layout) (w : World) (r : InputRelocation) → IsFixed l.kind → IsAsked l w r
-  pub unnamed : (l : Layout) (w : World) (r : InputRelocation) → r.symbol ≡ None → IsAsked l w r
-  pub placeless : (l : Layout) (w : World) (r : InputRelocation) → ((f : Formula) → formula_of l.machine r.number ≡ Some f → IsPlaceRelative f.value → ⊥) → IsAsked l w r
-  pub moving : (l : Layout) (w : World) (r : InputRelocation) (i : ℕ) (s : Symbol) → r.symbol ≡ Some i → DefinitionHas l i s → has_flag s.flags absolute ≡ false → IsAsked l w r
+  pub zero : (l : Layout) (w : World) (item : Item) (r : InputRelocation) → w.base ≡ 0 → IsAsked l w item r
+  pub fixed : (l : Layout) (w : World) (item : Item) (r : InputRelocation) → IsFixed l.kind → IsAsked l w item r
+  pub unnamed : (l : Layout) (w : World) (item : Item) (r : InputRelocation) → r.symbol ≡ None → IsAsked l w item r
+  pub moving : (l : Layout) (w : World) (item : Item) (r : InputRelocation) (i : ℕ) → r.symbol ≡ Some i → HasFlag l i absolute false → IsAsked l w item r
+  pub resolved : (l : Layout) (w : World) (item : Item) (r : InputRelocation) (i : ℕ) → errors l ≡ [] → r.symbol ≡ Some i → HasFlag l i ifunc true → IsAsked l w item r
+  pub placeless : (l : Layout) (w : World) (item : Item) (r : InputRelocation) → (HasPlace l r → ⊥) → (GoesThroughSlot l item r → ⊥) → IsAsked l w item r
+
+-- so a value that takes no place from an address, as a slot's distance, is asked unless the relocation's type is one that calls
+-- and jumps through slots have, and it stands in code
+pub record SlotsAreAsked : Type 0 where
+  pub numbers : (l : Layout) (w : World) (item : Item) (r : InputRelocation) (f : Formula) → l.machine ≡ machine.X86_64 → formula_of l.machine r.number ≡ Some f → (IsPlaceRelative f.value → ⊥) → (Contains (r_x86_64_gotpcrel ∷ r_x86_64_gotpcrelx ∷ []) r.number → ⊥) → IsAsked l w item r
+  pub elsewhere : (l : Layout) (w : World) (item : Item) (r : InputRelocation) (f : Formula) → formula_of l.machine r.number ≡ Some f → (IsPlaceRelative f.value → ⊥) → (IsSet item.flags shf_execinstr → ⊥) → IsAsked l w item r
 
 -- each loaded, allocated input section without data is asked for zeros, but those that each thread has a copy of, at every
 -- address behind the file bytes of a loaded segment
@@ -105,12 +133,19 @@ pub record BlanksAreAsked : Type 0 where
 
 -- ---- symbols
 
--- the address of a symbol that is not absolute moves with the base, an absolute symbol's value does not; no other address
--- stands for it
+-- of symbols that are no IFUNC: the address of one that is not absolute moves with the base, an absolute one's value does not;
+-- without a stub no other address stands for the symbol, and code that goes to it comes to that
 pub record AddressesMove : Type 0 where
-  pub moves : (l : Layout) (w : World) (m : Memory) (i raw : ℕ) (s : Symbol) → HasRaw l i raw → DefinitionHas l i s → has_flag s.flags absolute ≡ false → Denotes l w m i ((w.base + raw) % 2 ^ 64)
-  pub stays : (l : Layout) (w : World) (m : Memory) (i raw : ℕ) (s : Symbol) → HasRaw l i raw → DefinitionHas l i s → has_flag s.flags absolute ≡ true → Denotes l w m i raw
-  pub alone : (l : Layout) (w : World) (m : Memory) (i a : ℕ) (s : Symbol) → Denotes l w m i a → DefinitionHas l i s → has_flag s.flags absolute ≡ false → (raw : ℕ) × HasRaw l i raw × (a ≡ (w.base + raw) % 2 ^ 64)
+  pub moves : (l : Layout) (w : World) (m : Memory) (i raw : ℕ) → HasRaw l i raw → HasFlag l i ifunc false → HasFlag l i absolute false → Denotes l w m i ((w.base + raw) % 2 ^ 64)
+  pub stays : (l : Layout) (w : World) (m : Memory) (i raw : ℕ) → HasRaw l i raw → HasFlag l i ifunc false → HasFlag l i absolute true → Denotes l w m i raw
+  pub alone : (l : Layout) (w : World) (m : Memory) (i a : ℕ) → Denotes l w m i a → HasFlag l i ifunc false → HasFlag l i absolute false → ((p : ℕ) → HasStub l i p → ⊥) → (raw : ℕ) × HasRaw l i raw × (a ≡ (w.base + raw) % 2 ^ 64)
+  pub goals : (l : Layout) (w : World) (m : Memory) (i a : ℕ) → IsGoal l w m (Some i) a → HasFlag l i ifunc false → HasFlag l i absolute false → (raw : ℕ) × HasRaw l i raw × Reaches m a ((w.base + raw) % 2 ^ 64)
+
+-- an IFUNC's value is what its resolver answers, and nothing else; in a legal world it has one, an address
+pub record ResolversAnswer : Type 0 where
+  pub value : (l : Layout) (w : World) (i raw a : ℕ) → HasRaw l i raw → HasFlag l i ifunc true → answer_at w ((w.base + raw) % 2 ^ 64) ≡ Ok a → HasValue l w i a
+  pub alone : (l : Layout) (w : World) (i a : ℕ) → HasValue l w i a → HasFlag l i ifunc true → (raw : ℕ) × HasRaw l i raw × (answer_at w ((w.base + raw) % 2 ^ 64) ≡ Ok a)
+  pub there : (l : Layout) (w : World) (i c raw : ℕ) → IsLegal l w → IsDefinedBy l i c → IsResolved l c raw → HasFlag l i ifunc true → (a : ℕ) × HasValue l w i a × (a < 2 ^ 64)
 
 -- in a legal world each symbol of an executable with an address has a place in the thread's data, which is that address less
 -- the thread pointer, and no other
@@ -118,15 +153,28 @@ pub record OffsetsCount : Type 0 where
   pub there : (l : Layout) (w : World) (i raw : ℕ) → IsExecutable l.kind → IsLegal l w → HasRaw l i raw → (t : ℕ) × IsThreadPlace l w i t
   pub less : (l : Layout) (w : World) (i t : ℕ) → IsExecutable l.kind → IsLegal l w → IsThreadPlace l w i t → (raw : ℕ) × HasRaw l i raw × (t ≡ (raw + (2 ^ 64 - thread_pointer l % 2 ^ 64)) % 2 ^ 64)
 
--- ---- calls
+-- ---- calls and jumps
 
--- the worked example's code: a call whose four bytes a relocation fills, and two returns
-abbrev pub worked_relocation : InputRelocation
-worked_relocation = record { offset = 1; number = r_x86_64_pc32; symbol = Some 0; addend = negsuc 3; malformed = false }
+-- the worked example's code: an instruction whose four bytes behind the opcode a relocation fills, and two returns
+abbrev pub worked_relocation : ℕ → ℕ → InputRelocation
+worked_relocation offset number = record { offset = offset; number = number; symbol = Some 0; addend = negsuc 3; malformed = false }
 
-abbrev pub worked_item : ℕ → Item
-worked_item address = record { address = address; flags = 6; bytes = 0xe8 ∷ 0 ∷ 0 ∷ 0 ∷ 0 ∷ 0xc3 ∷ 0xc3 ∷ []; relocations = worked_relocation ∷ [] }
+abbrev pub worked_item : ℕ → List ℕ → InputRelocation → Item
+worked_item address bytes r = record { address = address; flags = 6; bytes = bytes; relocations = r ∷ [] }
 
--- it has a reference with a call's template
-abbrev pub WorkedCallIsAsked : Type 0
-WorkedCallIsAsked = (l : Layout) (address : ℕ) → l.machine ≡ machine.X86_64 → IsReference (worked_item address) worked_relocation × IsTemplate l (worked_item address) worked_relocation 0 call_operand
+-- `call` and `jmp`, and the same through a slot
+abbrev pub direct_code : ℕ → List ℕ
+direct_code opcode = opcode ∷ 0 ∷ 0 ∷ 0 ∷ 0 ∷ 0xc3 ∷ 0xc3 ∷ []
+
+abbrev pub indirect_code : ℕ → List ℕ
+indirect_code opcode = 0xff ∷ opcode ∷ 0 ∷ 0 ∷ 0 ∷ 0 ∷ 0xc3 ∷ 0xc3 ∷ []
+
+-- the code has a reference with that template
+abbrev pub IsWorked : Layout → ℕ → List ℕ → InputRelocation → Operand → Type 0
+IsWorked l address bytes r o = IsReference (worked_item address bytes r) r × IsTemplate l (worked_item address bytes r) r 0 o
+
+pub record WorkedBranchesAreAsked : Type 0 where
+  pub call : (l : Layout) (address : ℕ) → l.machine ≡ machine.X86_64 → IsWorked l address (direct_code 0xe8) (worked_relocation 1 r_x86_64_pc32) call_operand
+  pub jump : (l : Layout) (address : ℕ) → l.machine ≡ machine.X86_64 → IsWorked l address (direct_code 0xe9) (worked_relocation 1 r_x86_64_plt32) jump_operand
+  pub slot_call : (l : Layout) (address : ℕ) → l.machine ≡ machine.X86_64 → IsWorked l address (indirect_code 0x15) (worked_relocation 2 r_x86_64_gotpcrelx) slot_call_operand
+  pub slot_jump : (l : Layout) (address : ℕ) → l.machine ≡ machine.X86_64 → IsWorked l address (indirect_code 0x25) (worked_relocation 2 r_x86_64_gotpcrel) slot_jump_operand

@@ -12,7 +12,8 @@ use Rattle.wild_plan.specs.declared.file.File.{File}
 use Rattle.wild_plan.specs.declared.file.Group.{Group}
 use Rattle.wild_plan.specs.declared.file.FileRole.TheVariants as file_role
 use Rattle.wild_plan.specs.Lists.{total}
-use Rattle.wild_plan.specs.Needs.{needs, needs_of, share}
+use Rattle.wild_plan.specs.Needs.{needs, needs_of, share, group_share}
+use Rattle.wild_plan.specs.Flags.{has_flag}
 use Rattle.wild_plan.specs.Rows.{row_of}
 use Rattle.wild_plan.specs.Contents.{given}
 use Rattle.wild_plan.specs.Lookups.{bit, is_read}
@@ -29,6 +30,8 @@ use Rattle.wild_layout.specs.Faults.{errors, flat_map_from, share_errors, has_sp
 use Rattle.wild_made.specs.Made.{made_section, made_object, plain_file, made_files, made_symbol, made_group, made_relocation, part_with, made_parts, made, callee, start_of}
 use Rattle.wild_made.specs.Laws.{IsCount}
 use Rattle.wild_made.proofs.ListLemmas.{made_from, nothing_from, item_at}
+use Rattle.wild_made.proofs.SlotLemmas.{block_made, slots_clean}
+use Rattle.wild_made.proofs.PlaceLemmas.{other_share, share_made}
 use Rattle.wild_made.proofs.GroupLemmas.{clauses_hold}
 
 -- ---- shares
@@ -48,11 +51,21 @@ prelude_total t n i w first own last =
       | inr a ↦ elim (cases_Bool (i + 1 == n)) [ inl b ↦ rw (a, b, own, last) refl | inr b ↦ rw (a, b, own) refl ]
     ]
 
-own_needed : (n i j w : ℕ) (r : Role) (p : Part) → j < n → slice_get (made_parts n) i ≡ Some p → needs_of (made n) p.role i (made_group n j) ≡ min (2 ^ 64 - 1) (total (share (made n) r) (made_files n j)) → share (made n) r (plain_file file_role.Prelude) ≡ w
-    → share (made n) r (made_object n j) ≡ 0 → share (made n) r (plain_file file_role.Epilogue) ≡ 0 → w < 2 ^ 64 → given i (made_group n j) ≡ (if j == 0 then w else 0) → given i (made_group n j) ≡ needs (made n) i j
+-- what a group has to write, where none but the prelude does
+group_total : (n j w : ℕ) (r : Role) → other_share n r (plain_file file_role.Prelude) ≡ w → other_share n r (made_object n j) ≡ 0 → other_share n r (plain_file file_role.Epilogue) ≡ 0 → group_share (made n) r (made_group n j) ≡ (if j == 0 then w else 0)
+group_total n j w r whole own last =
+    let prelude = share_made n r (plain_file file_role.Prelude) ∙ whole in
+    let object = share_made n r (made_object n j) ∙ own in
+    let epilogue = share_made n r (plain_file file_role.Epilogue) ∙ last in
+    and_none _ _ _ (prelude_total (share (made n) r) n j w prelude object epilogue) (block_made n r (made_group n j))
+  where
+    and_none : (a b c : ℕ) → a ≡ c → b ≡ 0 → a + b ≡ c
+    and_none a b c g h = omega (arith, g, h)
+
+own_needed : (n i j w : ℕ) (r : Role) (p : Part) → j < n → slice_get (made_parts n) i ≡ Some p → needs_of (made n) p.role i (made_group n j) ≡ min (2 ^ 64 - 1) (group_share (made n) r (made_group n j)) → other_share n r (plain_file file_role.Prelude) ≡ w
+    → other_share n r (made_object n j) ≡ 0 → other_share n r (plain_file file_role.Epilogue) ≡ 0 → w < 2 ^ 64 → given i (made_group n j) ≡ (if j == 0 then w else 0) → given i (made_group n j) ≡ needs (made n) i j
 own_needed n i j w r p h at is whole own last small has =
-    let e = prelude_total (share (made n) r) n j w whole own last in
-    has ∙ sym (needs_made n i j p h at ∙ is ∙ rw e (limit (j == 0) w small))
+    has ∙ sym (needs_made n i j p h at ∙ is ∙ ap (λ (k : ℕ). min (2 ^ 64 - 1) k) (group_total n j w r whole own last) ∙ limit (j == 0) w small)
   where
     limit : (b : Bool) (w : ℕ) → w < 2 ^ 64 → min (2 ^ 64 - 1) (if b then w else 0) ≡ (if b then w else 0)
     limit true w small = omega arith
@@ -123,11 +136,12 @@ abbrev call_value : ℕ → ℕ → ℕ → ℕ
 call_value n i j = displacement (start_of (callee n i j)) (negsuc 3) (place_of (made_section n i) (made_relocation n i j))
 
 decided_made : (n i j : ℕ) → IsCount n → i < n → j < 8 → decided (made n) (made_section n i) (made_relocation n i j) ≡ Ok (Field (ByteSize Four) (call_value n i j))
-unfolding decided treatment row_treatment row_of x86_64_row made_section made bit
+unfolding decided treatment row_treatment row_of x86_64_row made_section made bit has_flag
 decided_made n i j h low call =
     let some = h.some in
     let named : callee n i j < n = omega arith in
-    simp (raw_value_made n (callee n i j) named, allowed n i j (callee n i j) h low call named) refl
+    let symbol = item_at made_symbol 0 n (callee n i j) (callee n i j) named (omega arith) in
+    simp (raw_value_made n (callee n i j) named, symbol, allowed n i j (callee n i j) h low call named) refl
 
 listed_made : (n i j : ℕ) → j < 8 → slice_get (made_section n i).relocations j ≡ Some (made_relocation n i j)
 unfolding made_section
@@ -177,9 +191,10 @@ unfolding file_errors
 files_clean n i g k h low =
     let one = section_clean n i g k 0 h low in
     let two = section_clean n i g (k + 1) 0 h low in
+    let slots = slots_clean n g in
     elim (cases_Bool (i == 0)) [
-      | inl a ↦ elim (cases_Bool (i + 1 == n)) [ inl b ↦ simp (a, b, two) refl | inr b ↦ simp (a, b, two) refl ]
-      | inr a ↦ elim (cases_Bool (i + 1 == n)) [ inl b ↦ simp (a, b, one) refl | inr b ↦ simp (a, b, one) refl ]
+      | inl a ↦ elim (cases_Bool (i + 1 == n)) [ inl b ↦ simp (a, b, two, slots) refl | inr b ↦ simp (a, b, two, slots) refl ]
+      | inr a ↦ elim (cases_Bool (i + 1 == n)) [ inl b ↦ simp (a, b, one, slots) refl | inr b ↦ simp (a, b, one, slots) refl ]
     ]
 
 pub no_group_errors : (n : ℕ) → IsCount n → flat_map_from (group_errors (made n)) 0 (made n).groups ≡ []

@@ -1,171 +1,25 @@
--- The clauses on shares, input sections, indexes, fields and names hold of the plan of n groups.
-use Rattle.std.proofs.Common.{◌≡◌, ℕ, zero, suc, ◌+◌, ◌*◌, ◌-◌, ◌<◌, ◌≤◌, ◌==◌, inl, inr, Bool, true, false, List, [], ◌∷◌, ◌++◌, refl, sym, ap, ◌∙◌, arith}
-use Rattle.std.specs.Prelude.{Option, Some, None, Ok, nat_lt, option_and_then}
+-- The clauses on indexes, fields, the dynamic symbol table, flags and names hold of the plan of n groups, and so do all.
+use Rattle.std.proofs.Common.{◌≡◌, ℕ, zero, suc, ◌+◌, ◌<◌, ◌≤◌, ◌==◌, inl, inr, true, false, List, ◌++◌, refl, sym, ap, ◌∙◌, arith}
+use Rattle.std.specs.Prelude.{Some, None, Ok, nat_lt}
 use Rattle.std.specs.List.{list_all}
-use Rattle.std.proofs.lemmas.Bool.{cases_Bool, cases_eq, le-leb, lt-ltb, le-ltb, ne_eqb, eq-eqb}
+use Rattle.std.proofs.lemmas.Bool.{cases_Bool, cases_eq, le-leb, lt-ltb, le-ltb}
 use Rattle.wild_plan.specs.declared.file.File.{File}
-use Rattle.wild_plan.specs.declared.file.FileRole.TheVariants as file_role
-use Rattle.wild_plan.specs.Lists.{first_failing, total, through}
-use Rattle.wild_plan.specs.Lookups.{bit, files_of, file_of}
+use Rattle.wild_plan.specs.Lists.{first_failing}
+use Rattle.wild_plan.specs.Lookups.{files_of, file_of}
 use Rattle.wild_plan.specs.Rows.{row_of}
 use Rattle.wild_reloc.specs.TableX86_64.{x86_64_row}
-use Rattle.wild_plan.specs.Contents.{each_section, given, share_mismatch, has_share_for_each_part, files_placed, file_misplaced, part_placed, file_placed_in, parts_placed, section_misplaced, length_fits, discarded_is_empty, part_is_raw, allocation_agrees, bytes_take_room, fields_lie, start_astray, input_name_fits, symbol_name_fits}
+use Rattle.wild_plan.specs.Contents.{each_section, fields_lie, start_astray, input_name_fits, symbol_name_fits}
 use Rattle.wild_plan.specs.Indexes.{group_indexes_fit, file_indexes_fit, section_indexes_fit, relocation_index_fits, definition_is_own, range_follows, range_out_of_order, symbol_misfit}
 use Rattle.wild_plan.specs.Flags.{has_flag}
 use Rattle.wild_plan.specs.DynamicSymbols.{dynamic_symbols, misplaced}
 use Rattle.wild_plan.specs.SlotFlags.{dynamic_is_interposable, stub_is_value, stub_has_slot, one_slot_for_address, thread_slot_alone, resolver_is_own, slot_agrees, resolver_moves, second_slot_fits}
-use Rattle.wild_plan.specs.WellFormed.{check_shares, check_inputs, check_indexes, check_fields, check_dynsyms, check_slot_flags, check_tls, check_starts, check_names, first_clause}
-use Rattle.wild_made.specs.Made.{made_section, made_object, plain_file, made_files, made_symbol, made_group, made_relocation, made_parts, made, callee}
+use Rattle.wild_plan.specs.WellFormed.{check_indexes, check_fields, check_dynsyms, check_slot_flags, check_tls, check_starts, check_names, first_clause}
+use Rattle.wild_made.specs.Made.{made_section, made_object, made_files, made_symbol, made_group, made_relocation, made, callee}
 use Rattle.wild_made.specs.Laws.{IsCount}
-use Rattle.wild_made.proofs.ListLemmas.{made_from, none_fails, total_same, length_made, both_true, list_all_made}
+use Rattle.wild_made.proofs.ListLemmas.{made_from, none_fails, length_made, both_true, list_all_made}
 use Rattle.wild_made.proofs.PlaceLemmas.{all_files, sections_pass, sizes_hold, counts_hold, order_holds, roles_hold, sections_hold, segments_hold}
-
--- ---- clause 7
-
--- a sum of one number and of equal ones behind it
-total_first : {X : Type 0} (t : X → ℕ) (f : ℕ → X) (c d m : ℕ) → t (f 0) ≡ c → ((k : ℕ) → 1 ≤ k → t (f k) ≡ d) → 1 ≤ m → total t (made_from f 0 m) ≡ c + d * (m - 1)
-total_first t f c d zero first later some = absurd (omega arith)
-total_first t f c d (suc m) first later some =
-    let rest = total_same t f d 1 m (λ k low high. later k low) in
-    let e : d * (suc m - 1) ≡ d * m = ap (λ (k : ℕ). d * k) (omega arith) in
-    omega arith
-
--- the bytes of a part that group i gives, by its place
-later_given : (n part d i : ℕ) → given part (made_group n 1) ≡ d → 1 ≤ i → given part (made_group n i) ≡ d
-later_given n part d i h low = let e = ne_eqb i 0 (λ z. omega arith) in rw e h
-
-pub given_total : (n part c d : ℕ) → IsCount n → given part (made_group n 0) ≡ c → given part (made_group n 1) ≡ d → total (given part) (made_from (made_group n) 0 n) ≡ c + d * (n - 1)
-given_total n part c d h first later = total_first (given part) (made_group n) c d n first (λ k low. later_given n part d k later low) h.some
-
-shares_add_up : (n : ℕ) → IsCount n → share_mismatch (made_from (made_group n) 0 n) 0 (made_parts n) ≡ None
-shares_add_up n h =
-    let some = h.some in
-    let a = given_total n 0 64 0 h refl refl in
-    let b = given_total n 1 56 0 h refl refl in
-    let c = given_total n 2 64 64 h refl refl in
-    let d = given_total n 3 17 0 h refl refl in
-    let e = given_total n 4 192 0 h refl refl in
-    let a' : total (given 0) (made_from (made_group n) 0 n) ≡ 64 = omega arith in
-    let b' : total (given 1) (made_from (made_group n) 0 n) ≡ 56 = omega arith in
-    let c' : total (given 2) (made_from (made_group n) 0 n) ≡ 64 * n = omega arith in
-    let d' : total (given 3) (made_from (made_group n) 0 n) ≡ 17 = omega arith in
-    let e' : total (given 4) (made_from (made_group n) 0 n) ≡ 192 = omega arith in
-    let f = eq-eqb (64 * n) (64 * n) refl in
-    simp (a', b', c', d', e', f) refl
-
-each_has_shares : (n i : ℕ) → has_share_for_each_part 5 (made_group n i) ≡ true
-each_has_shares n i = elim (cases_Bool (i == 0)) [ inl a ↦ rw a refl | inr a ↦ rw a refl ]
-
-files_fit : (n i : ℕ) → files_placed (i == 0) (i + 1 == n) (made_files n i) ≡ true
-files_fit n i =
-    elim (cases_Bool (i == 0)) [
-      | inl a ↦ elim (cases_Bool (i + 1 == n)) [ inl b ↦ simp (a, b) refl | inr b ↦ simp (a, b) refl ]
-      | inr a ↦ elim (cases_Bool (i + 1 == n)) [ inl b ↦ simp (a, b) refl | inr b ↦ simp (a, b) refl ]
-    ]
-
--- group a is the last where none follows
-same_end : (a m n : ℕ) → a + suc m ≡ n → (m == 0) ≡ (a + 1 == n)
-same_end a zero n e = sym (eq-eqb (a + 1) n (omega arith))
-same_end a (suc m) n e = ne_eqb (suc m) 0 (λ h. omega arith) ∙ sym (ne_eqb (a + 1) n (λ h. omega arith))
-
-none_misplaced : (n a m : ℕ) (first : Bool) → a + m ≡ n → first ≡ (a == 0) → file_misplaced first a (made_from (made_group n) a m) ≡ None
-none_misplaced n a zero first e f = refl
-none_misplaced n a (suc m) first e f =
-    let long = length_made (made_group n) (a + 1) m in
-    let last = same_end a m n e in
-    let next = sym (ne_eqb (a + 1) 0 (λ h. omega arith)) in
-    rw (f, long, last, files_fit n a) (none_misplaced n (a + 1) m false (omega arith) next)
-
-pub shares_hold : (n : ℕ) → IsCount n → check_shares (made n) ≡ Ok tt
-unfolding check_shares made
-shares_hold n c =
-    let a = shares_add_up n c in
-    let b = none_fails (has_share_for_each_part 5) (made_group n) 0 0 n (λ k low high. each_has_shares n k) in
-    let d = none_misplaced n 0 n true (omega arith) refl in
-    rw (a, b, d) refl
-
--- ---- clause 8
-
--- steps that the prelude and the epilogue leave out
-through_files : {S : Type 0} (step : S → File → Option S) (s : S) (n i : ℕ) → ((t : S) → step t (plain_file file_role.Prelude) ≡ Some t) → ((t : S) → step t (plain_file file_role.Epilogue) ≡ Some t)
-    → (o : Option S) → step s (made_object n i) ≡ o → through step s (made_files n i) ≡ o
-through_files step s n i first last o e =
-    elim (cases_Bool (i == 0)) [
-      | inl a ↦ elim (cases_Bool (i + 1 == n)) [ inl b ↦ rw (a, b, first, e) (ended step last o) | inr b ↦ rw (a, b, first, e) (stopped o) ]
-      | inr a ↦ elim (cases_Bool (i + 1 == n)) [ inl b ↦ rw (a, b, e) (ended step last o) | inr b ↦ rw (a, b, e) (stopped o) ]
-    ]
-  where
-    stopped : {S : Type 0} (o : Option S) → option_and_then (λ (t : S). Some t) o ≡ o
-    stopped None = refl
-    stopped (Some t) = refl
-
-    ended : {S : Type 0} (step : S → File → Option S) → ((t : S) → step t (plain_file file_role.Epilogue) ≡ Some t) → (o : Option S) → option_and_then (λ (t : S). option_and_then (λ (u : S). Some u) (step t (plain_file file_role.Epilogue))) o ≡ o
-    ended step last None = refl
-    ended step last (Some t) = rw (last t) refl
-
-other_placed : (n i part start end : ℕ) → (2 == part) ≡ false → part_placed (made n) part start end (made_group n i) ≡ true
-unfolding made_section
-other_placed n i part start end h = rw (through_files (file_placed_in (made n) part end) start n i (λ t. refl) (λ t. refl) (Some start) (rw h refl)) refl
-
-own_placed : (n i start end : ℕ) → start ≡ 4194432 + 64 * i → end ≡ start + 64 → part_placed (made n) 2 start end (made_group n i) ≡ true
-unfolding made_section
-own_placed n i start end e f =
-    let a = le-leb start (4194432 + 64 * i) (omega arith) in
-    let b = le-leb (4194432 + 64 * i + 64) end (omega arith) in
-    rw (through_files (file_placed_in (made n) 2 end) start n i (λ t. refl) (λ t. refl) (Some (4194432 + 64 * i + 64)) (rw (a, b) refl)) refl
-
-later_placed : (n a m : ℕ) → 1 ≤ a → section_misplaced (made n) (4194368 ∷ 4194424 ∷ (4194432 + 64 * a) ∷ 17 ∷ 192 ∷ []) a (made_from (made_group n) a m) ≡ None
-later_placed n a zero low = refl
-later_placed n a (suc m) low =
-    let z = ne_eqb a 0 (λ h. omega arith) in
-    let g2 : given 2 (made_group n a) ≡ 64 = rw z refl in
-    let g0 : given 0 (made_group n a) ≡ 0 = rw z refl in
-    let g1 : given 1 (made_group n a) ≡ 0 = rw z refl in
-    let g3 : given 3 (made_group n a) ≡ 0 = rw z refl in
-    let g4 : given 4 (made_group n a) ≡ 0 = rw z refl in
-    let p0 = other_placed n a 0 4194368 (4194368 + given 0 (made_group n a)) refl in
-    let p1 = other_placed n a 1 4194424 (4194424 + given 1 (made_group n a)) refl in
-    let p2 = own_placed n a (4194432 + 64 * a) (4194432 + 64 * a + given 2 (made_group n a)) refl (omega arith) in
-    let p3 = other_placed n a 3 17 (17 + given 3 (made_group n a)) refl in
-    let p4 = other_placed n a 4 192 (192 + given 4 (made_group n a)) refl in
-    let all : parts_placed (made n) (made_group n a) 0 (4194368 ∷ 4194424 ∷ (4194432 + 64 * a) ∷ 17 ∷ 192 ∷ []) ≡ true = rw (p0, p1, p2, p3, p4) refl in
-    let on : 4194432 + 64 * a + 64 ≡ 4194432 + 64 * (a + 1) = omega arith in
-    rw (all, g0, g1, g2, g3, g4, on) (later_placed n (a + 1) m (omega arith))
-
-first_placed : (n m : ℕ) → section_misplaced (made n) (4194304 ∷ 4194368 ∷ 4194432 ∷ 0 ∷ 0 ∷ []) 0 (made_from (made_group n) 0 m) ≡ None
-first_placed n zero = refl
-first_placed n (suc m) =
-    let p0 = other_placed n 0 0 4194304 4194368 refl in
-    let p1 = other_placed n 0 1 4194368 4194424 refl in
-    let p2 = own_placed n 0 4194432 4194496 refl refl in
-    let p3 = other_placed n 0 3 0 17 refl in
-    let p4 = other_placed n 0 4 0 192 refl in
-    let all : parts_placed (made n) (made_group n 0) 0 (4194304 ∷ 4194368 ∷ 4194432 ∷ 0 ∷ 0 ∷ []) ≡ true = rw (p0, p1, p2, p3, p4) refl in
-    rw all (later_placed n 1 m (omega arith))
-
-lengths_fit : (n : ℕ) → first_failing (each_section length_fits) 0 (made_from (made_group n) 0 n) ≡ None
-unfolding made_section
-lengths_fit n = sections_pass length_fits n (λ i h. refl)
-
-discarded_empty : (n : ℕ) → first_failing (each_section discarded_is_empty) 0 (made_from (made_group n) 0 n) ≡ None
-unfolding made_section
-discarded_empty n = sections_pass discarded_is_empty n (λ i h. refl)
-
-parts_raw : (n : ℕ) → first_failing (each_section (part_is_raw (made n))) 0 (made_from (made_group n) 0 n) ≡ None
-unfolding made_section made
-parts_raw n = sections_pass (part_is_raw (made n)) n (λ i h. refl)
-
-allocations_agree : (n : ℕ) → first_failing (each_section (allocation_agrees (made n))) 0 (made_from (made_group n) 0 n) ≡ None
-unfolding made_section made bit
-allocations_agree n = sections_pass (allocation_agrees (made n)) n (λ i h. refl)
-
-bytes_have_room : (n : ℕ) → first_failing (each_section (bytes_take_room (made n))) 0 (made_from (made_group n) 0 n) ≡ None
-unfolding made_section made
-bytes_have_room n = sections_pass (bytes_take_room (made n)) n (λ i h. refl)
-
-pub inputs_hold : (n : ℕ) → check_inputs (made n) ≡ Ok tt
-unfolding check_inputs made
-inputs_hold n = rw (first_placed n n, lengths_fit n, discarded_empty n, parts_raw n, allocations_agree n, bytes_have_room n) refl
+use Rattle.wild_made.proofs.SlotLemmas.{slots_hold}
+use Rattle.wild_made.proofs.ContentLemmas.{through_files, shares_hold, inputs_hold}
 
 -- ---- clause 9
 
@@ -210,7 +64,7 @@ file_skipped n k i rest e =
     let b : nat_lt i (k + 1) ≡ false = le-ltb i (k + 1) (omega arith) in
     elim (cases_Bool (k == 0)) [
       | inl f ↦ elim (cases_Bool (k + 1 == n)) [ inl g ↦ simp (f, g, y, z, a, b) refl | inr g ↦ simp (f, g, y, z, a, b) refl ]
-      | inr f ↦ elim (cases_Bool (k + 1 == n)) [ inl g ↦ simp (f, g, y, z, a, b) refl | inr g ↦ simp (f, g, y, z, a, b) refl ]
+      | inr f ↦ elim (cases_Bool (k + 1 == n)) [ inl g ↦ simp (f, g, y, z, a, b) refl | inr g ↦ simp (f, g, a, b) refl ]
     ]
 
 pub file_made : (n a m i : ℕ) → a ≤ i → i < a + m → file_of (files_of (made_from (made_group n) a m)) i ≡ Some (made_object n i)
@@ -296,4 +150,4 @@ slot_flags_hold n =
 
 pub clauses_hold : (n : ℕ) → IsCount n → first_clause (made n) ≡ Ok tt
 unfolding first_clause
-clauses_hold n c = rw (sizes_hold n c, counts_hold n c, order_holds n c, roles_hold n, sections_hold n, segments_hold n c, shares_hold n c, inputs_hold n, indexes_hold n c, fields_hold n, dynsyms_hold n, slot_flags_hold n, tls_holds n, starts_hold n, names_hold n) refl
+clauses_hold n c = rw (sizes_hold n c, counts_hold n c, order_holds n c, roles_hold n, sections_hold n, segments_hold n c, shares_hold n c, inputs_hold n, indexes_hold n c, fields_hold n, slots_hold n, dynsyms_hold n, slot_flags_hold n, tls_holds n, starts_hold n, names_hold n) refl

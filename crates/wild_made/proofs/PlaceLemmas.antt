@@ -1,12 +1,11 @@
 -- The clauses on sizes, counts, parts, sections and segments hold of the plan of n groups.
-use Rattle.std.proofs.Common.{◌≡◌, ℕ, ◌+◌, ◌*◌, ◌-◌, ◌^◌, ◌<◌, ◌==◌, ◌%◌, inl, inr, Bool, true, false, not, ◌||◌, List, [], ◌∷◌, drop, refl, ◌∙◌, arith}
+use Rattle.std.proofs.Common.{◌≡◌, ℕ, ◌+◌, ◌*◌, ◌-◌, ◌^◌, ◌<◌, ◌==◌, ◌%◌, inl, inr, Bool, true, false, not, if◌then◌else◌, ◌||◌, List, [], ◌∷◌, drop, refl, ◌∙◌, arith}
 use Rattle.std.specs.Prelude.{None, Ok, nat_le, codes}
 use Rattle.std.specs.List.{list_all, list_any}
 use lib.Count.{ones}
 use Rattle.std.proofs.lemmas.Bool.{cases_Bool, le-leb, lt-ltb, ne_eqb}
 use Rattle.wild_plan.specs.declared.file.File.{File}
 use Rattle.wild_plan.specs.declared.file.FileRole.TheVariants as file_role
-use Rattle.wild_plan.specs.declared.file.Group.{Group}
 use Rattle.wild_plan.specs.declared.input.InputSection.{InputSection}
 use Rattle.wild_plan.specs.Lists.{first_failing, total}
 use Rattle.wild_plan.specs.Lookups.{bit, image_size}
@@ -15,7 +14,8 @@ use Rattle.wild_plan.specs.declared.part.Role.TheVariants as role
 use Rattle.wild_plan.specs.Counts.{total_share, role_given}
 use Rattle.wild_plan.specs.Dynamic.{named_strings, dynamic_entries, string_entries, tag_entries}
 use Rattle.wild_plan.specs.Entries.{listed_places, packed_places}
-use Rattle.wild_plan.specs.Needs.{share}
+use Rattle.wild_plan.specs.Needs.{is_prelude, first_share, own_of, share, group_share}
+use Rattle.wild_plan.specs.SlotShares.{slot_share}
 use Rattle.wild_relr.specs.Packed.{packed, packed_on}
 use Rattle.wild_plan.specs.Places.{group_fits, relocations_of, relocations_in, relocation_count, roles}
 use Rattle.wild_plan.specs.Segments.{has_byte, is_asked, bytes_are_loaded}
@@ -29,6 +29,7 @@ use Rattle.wild_plan.specs.WellFormed.{check_sizes, check_counts, check_order, c
 use Rattle.wild_made.specs.Made.{made_section, made_object, plain_file, made_files, made_symbol, made_group, section_with, made_sections, made_segment, made}
 use Rattle.wild_made.specs.Laws.{IsCount}
 use Rattle.wild_made.proofs.ListLemmas.{made_from, none_fails, total_same, length_made}
+use Rattle.wild_made.proofs.SlotLemmas.{slots_made, block_made}
 
 -- ---- the files of a group
 
@@ -81,10 +82,29 @@ pub relocations_made : (n : ℕ) → relocation_count (made n) ≡ 8 * n
 unfolding made
 relocations_made n = total_same relocations_of (made_group n) 8 0 n (λ k low high. group_relocations n k)
 
+-- what a file has to write besides slots and stubs
+abbrev pub other_share : ℕ → Role → File → ℕ
+other_share n r f = (if is_prelude f.role then first_share (made n) r else 0) + own_of (made n) r f
+
+pub share_made : (n : ℕ) (r : Role) (f : File) → share (made n) r f ≡ other_share n r f
+share_made n r f = and_none (other_share n r f) (slot_share (made n) r f) (slots_made n r f)
+  where
+    and_none : (a b : ℕ) → b ≡ 0 → a + b ≡ a
+    and_none a b h = omega (arith, h)
+
 -- nothing has to be written in a part of a role where none of the three kinds of files writes there
-nothing_shared : (n : ℕ) (r : Role) → share (made n) r (plain_file file_role.Prelude) ≡ 0 → ((i : ℕ) → share (made n) r (made_object n i) ≡ 0) → share (made n) r (plain_file file_role.Epilogue) ≡ 0 → total_share (made n) r ≡ 0
+nothing_shared : (n : ℕ) (r : Role) → other_share n r (plain_file file_role.Prelude) ≡ 0 → ((i : ℕ) → other_share n r (made_object n i) ≡ 0) → other_share n r (plain_file file_role.Epilogue) ≡ 0 → total_share (made n) r ≡ 0
 unfolding made
-nothing_shared n r first own last = let none = total_same (λ (g : Group). total (share (made n) r) g.files) (made_group n) 0 0 n (λ k low high. total_files (share (made n) r) n k first last ∙ own k) in omega arith
+nothing_shared n r first own last =
+    let prelude = share_made n r (plain_file file_role.Prelude) ∙ first in
+    let epilogue = share_made n r (plain_file file_role.Epilogue) ∙ last in
+    let none = total_same (group_share (made n) r) (made_group n) 0 0 n (λ k low high.
+    (let files = total_files (share (made n) r) n k prelude epilogue ∙ share_made n r (made_object n k) ∙ own k in
+    both_none _ _ files (block_made n r (made_group n k)))) in
+    omega (arith, none)
+  where
+    both_none : (a b : ℕ) → a ≡ 0 → b ≡ 0 → a + b ≡ 0
+    both_none a b g h = omega (arith, g, h)
 
 pub counts_hold : (n : ℕ) → IsCount n → check_counts (made n) ≡ Ok tt
 unfolding check_counts made named_strings

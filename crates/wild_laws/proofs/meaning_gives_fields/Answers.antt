@@ -1,5 +1,9 @@
-use Rattle.wild_laws.proofs.OldMeaning.{meaning_gives_fields}
+use Rattle.wild_laws.proofs.FirstPath.{meaning_gives_fields}
+use Rattle.wild_laws.proofs.FirstNames.{names_addresses}
 use Rattle.wild_laws.proofs.meaning_gives_fields.Goals as goal
 
-pub returns : goal.returns
-returns c = meaning_gives_fields
+pub returns-clause-fields : goal.returns-clause-fields
+returns-clause-fields c = meaning_gives_fields
+
+pub returns-clause-names : goal.returns-clause-names
+returns-clause-names c = names_addresses

@@ -1,18 +1,25 @@
+use Rattle.wild_laws.proofs.NoErrors.{not_absolute}
 use Rattle.wild_laws.proofs.Worlds.{zero_legal, moved_legal, worlds_there, offsets_count}
-use Rattle.wild_laws.proofs.Premises.{kinds_loaded, sections_kept, relocations_refer, references_asked, blanks_asked, addresses_move, worked_asked}
+use Rattle.wild_laws.proofs.Resolvers.{none_needed}
+use Rattle.wild_laws.proofs.Premises.{kinds_loaded, sections_kept, relocations_refer, references_asked, slots_asked, blanks_asked, addresses_move}
+use Rattle.wild_laws.proofs.Indirect.{resolvers_answer}
+use Rattle.wild_laws.proofs.Worked.{worked_asked}
 use Rattle.wild_laws.proofs.premises_are_met.Goals as goal
 
 pub returns : goal.returns
 returns c = record {
   zero = zero_legal c.layouts_are_laid_out.ensures;
   elsewhere = moved_legal;
+  unresolved = none_needed;
   worlds = worlds_there c.layouts_are_laid_out.ensures;
   kinds = kinds_loaded;
   kept = sections_kept;
   references = relocations_refer;
-  asked = references_asked;
+  asked = references_asked (not_absolute c.layouts_are_laid_out.ensures);
+  slots = slots_asked;
   blanks = blanks_asked;
   addresses = addresses_move;
+  resolvers = resolvers_answer;
   offsets = offsets_count c.thread_places_are_known.ensures;
-  calls = worked_asked;
+  branches = worked_asked;
 }

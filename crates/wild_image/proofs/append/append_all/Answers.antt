@@ -5,7 +5,6 @@ use Rattle.wild_plan.specs.declared.file.File.{File}
 use Rattle.wild_plan.specs.declared.file.Group.{Group}
 use Rattle.wild_layout.specs.Geometry.{SectionLies}
 use Rattle.wild_image.specs.declared.job.Outcome.{Outcome}
-use Rattle.wild_image.specs.declared.batch.Batch.{Batch}
 use Rattle.wild_image.specs.Batches.{batch_errors, batch_pieces}
 use Rattle.wild_image.proofs.PieceLemmas.{overlay_read}
 use Rattle.wild_image.proofs.FaultLemmas.{none_more, refuses_read}

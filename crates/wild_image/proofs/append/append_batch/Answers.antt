@@ -1,4 +1,4 @@
-use Rattle.std.proofs.Common.{◌≡◌, ◌+◌, ◌∙◌, length, arith, rules, subst}
+use Rattle.std.proofs.Common.{◌≡◌, ◌+◌, length, arith, rules, subst}
 use Rattle.std.specs.Prelude.{slice_get, Some, ℕ}
 use Rattle.std.proofs.lemmas.Option.{slice_get_read}
 use Rattle.wild_layout.specs.Image.{group_pieces}

@@ -1,10 +1,7 @@
-use Rattle.std.proofs.Common.{◌≡◌, ℕ, ◌+◌, ◌≤◌, ◌<◌, ◌∙◌, length, ap, subst, arith}
-use Rattle.std.specs.Prelude.{slice_get}
-use Rattle.std.proofs.lemmas.Option.{slice_get_within, get_or_from_slice_get}
-use Rattle.wild_plan.specs.declared.part.Part.{Part}
+use Rattle.std.proofs.Common.{ℕ, ◌+◌, ◌≤◌, ◌∙◌, ap, arith}
 use Rattle.wild_layout.specs.Content.{content}
 use Rattle.wild_image.proofs.AppendLemmas.{cut_off}
-use Rattle.wild_image.proofs.TableLemmas.{in_part, start_fits, table_put, table_not_put, table_stays}
+use Rattle.wild_image.proofs.TableLemmas.{in_part, table_put, table_not_put, table_stays}
 use Rattle.wild_image.proofs.append.append_table.Goals as goal
 
 pub split_at-requires : goal.split_at-requires

@@ -1,4 +1,3 @@
-use Rattle.std.proofs.Common.{get_or}
 use Rattle.wild_plan.specs.declared.part.Part.{Part}
 use Rattle.wild_layout.specs.Content.{content}
 use Rattle.wild_layout.specs.Image.{table_piece}

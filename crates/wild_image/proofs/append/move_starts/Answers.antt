@@ -1,6 +1,5 @@
-use Rattle.std.proofs.Common.{◌≡◌, ◌<◌, get_or, length, ◌∙◌, arith}
+use Rattle.std.proofs.Common.{◌<◌, length, arith}
 use Rattle.wild_words.proofs.ListLemmas.{ItemAt-within}
-use Rattle.wild_layout.specs.Image.{given_before}
 use Rattle.wild_image.proofs.TableLemmas.{start_fits, start_moved, changed_more}
 use Rattle.wild_image.proofs.append.move_starts.Goals as goal
 

@@ -1,4 +1,4 @@
-use Rattle.std.proofs.Common.{◌≡◌, ℕ, List, sym, subst}
+use Rattle.std.proofs.Common.{◌≡◌, List, sym, subst}
 use Rattle.std.specs.Prelude.{OnOk}
 use Rattle.wild_words.specs.Overlay.{Piece, overlay}
 use Rattle.wild_plan.specs.declared.fault.Error.{Error}

@@ -1,7 +1,7 @@
-use Rattle.std.proofs.Common.{◌≡◌, ◌∙◌, ap, length, sym, All, subst, ℕ, arith}
+use Rattle.std.proofs.Common.{◌∙◌, ap, length, sym, All, subst, ℕ, arith}
 use Rattle.std.proofs.lemmas.Result.{err_from_is_err_and}
 use Rattle.wild_layout.specs.Geometry.{FieldLies}
-use Rattle.wild_image.proofs.AscendingLemmas.{not_begun, field_at, ascended_more, ascending_refused, ascending_passes, ascending_written}
+use Rattle.wild_image.proofs.AscendingLemmas.{field_at, ascended_more, ascending_refused, ascending_passes}
 use Rattle.wild_image.proofs.section.write_ascending.Goals as goal
 
 pub returns-in_err-end-clause-faults : goal.returns-in_err-end-clause-faults

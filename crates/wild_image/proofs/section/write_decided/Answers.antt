@@ -1,5 +1,3 @@
-use Rattle.std.proofs.Common.{refl}
-use Rattle.std.proofs.lemmas.Result.{err_from_is_err_and}
 use Rattle.wild_image.proofs.AscendingLemmas.{relocation_lies}
 use Rattle.wild_image.proofs.section.write_decided.Goals as goal
 

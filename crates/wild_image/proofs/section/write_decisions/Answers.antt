@@ -1,4 +1,4 @@
-use Rattle.std.proofs.Common.{refl, ◌∙◌, sym}
+use Rattle.std.proofs.Common.{refl}
 use Rattle.wild_image.specs.Decided.{decided_sites}
 use Rattle.wild_image.proofs.DecidedLemmas.{step_lies, step_put}
 use Rattle.wild_image.proofs.section.write_decisions.Goals as goal

@@ -1,0 +1,60 @@
+-- What a formula gives of an address or a distance, and what that is of a symbol that no resolver answers for.
+use Rattle.std.proofs.Common.{◌≡◌, ℕ, ◌+◌, ◌-◌, ◌%◌, ◌^◌, ◌⊎◌, inl, inr, Bool, false, sym, ap, ◌∙◌}
+use Rattle.std.specs.Prelude.{Some}
+use Rattle.wild_plan.specs.declared.input.InputRelocation.{InputRelocation}
+use Rattle.wild_plan.specs.declared.input.InputSection.{InputSection}
+use Rattle.wild_plan.specs.declared.layout.Layout.{Layout}
+use Rattle.wild_plan.specs.Flags.{ifunc}
+use Rattle.wild_reloc.specs.Formula.{Value, SymbolAddress, Distance}
+use Rattle.wild_loader.specs.declared.memory.Memory.{Memory}
+use Rattle.wild_loader.specs.declared.world.World.{World}
+use Rattle.wild_meaning.specs.Value.{HasFlag, HasValue, HasStub, Denotes, moved}
+use Rattle.wild_meaning.specs.Item.{item_of, place_at}
+use Rattle.wild_meaning.specs.Formula.{IsTarget, Gives}
+use Rattle.wild_laws.specs.FirstPath.{IsAddress, Demands, NamesAreAddresses}
+use Rattle.wild_laws.proofs.Symbols.{plain_value}
+use Rattle.wild_laws.proofs.Branches.{target_reached}
+
+-- ---- symbols
+
+address : (l : Layout) (w : World) (i a : ℕ) → HasFlag l i ifunc false → HasValue l w i a → IsAddress l w i a
+address l w i a f h = record {
+  raw = h.raw;
+  given = h.given;
+  definition = h.absolute.definition;
+  defined = h.absolute.defined;
+  symbol = h.absolute.symbol;
+  listed = h.absolute.listed;
+  moves = plain_value l w i a h f ∙ ap (λ (b : Bool). moved b w.base h.raw) (sym h.absolute.flagged);
+}
+
+alone : (l : Layout) (w : World) (m : Memory) (i a : ℕ) → HasFlag l i ifunc false → ((p : ℕ) → HasStub l i p → ⊥) → Denotes l w m i a → IsAddress l w i a
+alone l w m i a f none (inl h) = address l w i a f h
+alone l w m i a f none (inr s) = absurd (none s.stub s.given)
+
+pub names_addresses : NamesAreAddresses
+names_addresses = record {
+  stands = λ l w m i a h. target_reached l w m (Some i) a h;
+  alone = alone;
+  goals = λ l w m i a f h. (h.0, address l w i h.0 f h.1, h.2);
+}
+
+-- ---- formulas
+
+pub record IsDemanded (l : Layout) (w : World) (m : Memory) (s : InputSection) (r : InputRelocation) (v : Value) (x : ℕ) : Type 0 where
+  pub target : ℕ
+  pub denoted : IsTarget l w m r.symbol target
+  pub demanded : Demands v target r.addend (place_at w (item_of s) r.offset) x
+
+-- the value is an address or a distance
+abbrev IsKnown : Value → Type 0
+IsKnown v = (v ≡ SymbolAddress) ⊎ (v ≡ Distance)
+
+pub demanded_of : (l : Layout) (w : World) (m : Memory) (s : InputSection) (r : InputRelocation) (v : Value) (x : ℕ) → IsKnown v → Gives v l w m (item_of s) r x → IsDemanded l w m s r v x
+demanded_of l w m s r SymbolAddress x k g = record { target = g.symbol; denoted = g.denoted; demanded = g.sum }
+demanded_of l w m s r Distance x k g = record { target = g.1.symbol; denoted = g.1.denoted; demanded = g.2 ∙ ap (λ (n : ℕ). (n + (2 ^ 64 - place_at w (item_of s) r.offset)) % 2 ^ 64) g.1.sum }
+demanded_of l w m s r other x k g =
+    elim k [
+      | inl e ↦ cc
+      | inr e ↦ cc
+    ]

@@ -1,0 +1,53 @@
+-- What the layout says of a symbol is one thing.
+use Rattle.std.proofs.Common.{◌≡◌, ℕ, ◌+◌, ◌%◌, ◌^◌, ◌⊎◌, inl, inr, Bool, true, false, refl, sym, ap, ◌∙◌, subst}
+use Rattle.std.specs.Prelude.{Option, Some, None, Ok}
+use Rattle.wild_plan.specs.declared.symbol.Symbol.{Symbol}
+use Rattle.wild_plan.specs.declared.layout.Layout.{Layout}
+use Rattle.wild_plan.specs.Flags.{has_flag, absolute, ifunc}
+use Rattle.wild_loader.specs.declared.world.World.{World}
+use Rattle.wild_loader.specs.Changes.{answer_at}
+use Rattle.wild_meaning.specs.Value.{IsSymbol, IsDefinedBy, HasFlag, HasValue, IsValue, moved}
+
+-- a symbol has one definition
+pub one_definition : (l : Layout) (i c d : ℕ) → IsDefinedBy l i c → IsDefinedBy l i d → c ≡ d
+one_definition l i c d h g = cases l i c d h.symbol g.symbol h.listed g.listed h.defined g.defined
+  where
+    cases : (l : Layout) (i c d : ℕ) (s t : Symbol) → IsSymbol l i s → IsSymbol l i t → (s.definition ≡ Some c) ⊎ ((s.definition ≡ None) × (c ≡ i)) → (t.definition ≡ Some d) ⊎ ((t.definition ≡ None) × (d ≡ i)) → c ≡ d
+    cases l i c d s t a b e f = by_definition i c d s.definition e (subst (λ (x : Symbol). (x.definition ≡ Some d) ⊎ ((x.definition ≡ None) × (d ≡ i))) (let same : Some t ≡ Some s = sym b ∙ a in let e : t ≡ s = cc in e) f)
+      where
+        by_definition : (i c d : ℕ) (o : Option ℕ) → (o ≡ Some c) ⊎ ((o ≡ None) × (c ≡ i)) → (o ≡ Some d) ⊎ ((o ≡ None) × (d ≡ i)) → c ≡ d
+        by_definition i c d o (inl e) (inl f) = cc
+        by_definition i c d o (inl e) (inr f) = absurd (let g : Some c ≡ None = sym e ∙ f.0 in cc)
+        by_definition i c d o (inr e) (inl f) = absurd (let g : Some d ≡ None = sym f ∙ e.0 in cc)
+        by_definition i c d o (inr e) (inr f) = e.1 ∙ sym f.1
+
+pub one_symbol : (l : Layout) (i c d : ℕ) (s t : Symbol) → IsDefinedBy l i c → IsDefinedBy l i d → IsSymbol l c s → IsSymbol l d t → s ≡ t
+one_symbol l i c d s t h g a b =
+    let there = subst (λ (k : ℕ). IsSymbol l k s) (one_definition l i c d h g) a in
+    let both : Some s ≡ Some t = sym there ∙ b in
+    cc
+
+-- whether a symbol's definition has a flag is one thing
+pub one_flag : (l : Layout) (i flag : ℕ) (b c : Bool) → HasFlag l i flag b → HasFlag l i flag c → b ≡ c
+one_flag l i flag b c h g = sym h.flagged ∙ ap (λ (s : Symbol). has_flag s.flags flag) (one_symbol l i h.definition g.definition h.symbol g.symbol h.defined g.defined h.listed g.listed) ∙ g.flagged
+
+pub not_both : (l : Layout) (i flag : ℕ) → HasFlag l i flag true → HasFlag l i flag false → ⊥
+not_both l i flag h g = let both : true ≡ false = one_flag l i flag true false h g in cc
+
+-- each flag is there or not, where a definition is
+pub some_flag : (l : Layout) (i flag other : ℕ) (b : Bool) → HasFlag l i flag b → (c : Bool) × HasFlag l i other c
+some_flag l i flag other b h = (has_flag h.symbol.flags other, record { definition = h.definition; defined = h.defined; symbol = h.symbol; listed = h.listed; flagged = refl })
+
+-- ---- values
+
+-- the value of a symbol that is no IFUNC
+pub plain_value : (l : Layout) (w : World) (i a : ℕ) → (h : HasValue l w i a) → HasFlag l i ifunc false → a ≡ moved h.still w.base h.raw
+plain_value l w i a h f = subst (λ (b : Bool). IsValue w b h.still h.raw a) (one_flag l i ifunc h.indirect false h.resolved f) h.is
+
+-- where it moves
+pub moved_value : (l : Layout) (w : World) (i a : ℕ) → (h : HasValue l w i a) → HasFlag l i ifunc false → HasFlag l i absolute false → a ≡ (w.base + h.raw) % 2 ^ 64
+moved_value l w i a h f g = plain_value l w i a h f ∙ ap (λ (b : Bool). moved b w.base h.raw) (one_flag l i absolute h.still false h.absolute g)
+
+-- of an IFUNC it is the answer
+pub answered_value : (l : Layout) (w : World) (i a : ℕ) → (h : HasValue l w i a) → HasFlag l i ifunc true → answer_at w ((w.base + h.raw) % 2 ^ 64) ≡ Ok a
+answered_value l w i a h f = subst (λ (b : Bool). IsValue w b h.still h.raw a) (one_flag l i ifunc h.indirect true h.resolved f) h.is

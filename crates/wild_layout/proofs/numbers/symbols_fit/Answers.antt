@@ -1,0 +1,18 @@
+use Rattle.std.proofs.Common.{◌≡◌, take, arith, subst, List}
+use Rattle.std.specs.Prelude.{All}
+use Rattle.std.proofs.lemmas.List.{take_all}
+use Rattle.std.proofs.lemmas.List.Elements.{All-more}
+use Rattle.wild_plan.specs.declared.symbol.Symbol.{Symbol}
+use Rattle.wild_layout.specs.Numbers.{SymbolNumbers}
+use Rattle.wild_layout.proofs.numbers.symbols_fit.Goals as goal
+
+pub loop-symbol-preserved : goal.loop-symbol-preserved
+loop-symbol-preserved c =
+    let P : Symbol → Type 0 = λ s. SymbolNumbers s in
+    All-more SymbolNumbers _ _ c.symbol-item.result c.loop-symbol-test.true c.loop-symbol.invariant (subst P c.symbol-item.is c.symbol_fits.ensures)
+
+pub returns : goal.returns
+returns c =
+    let e : take c.loop-symbol.symbol-index c.args.symbols.now ≡ c.args.symbols.now = take_all _ _ (omega arith) in
+    let P : List Symbol → Type 0 = λ xs. All SymbolNumbers xs in
+    subst P e c.loop-symbol.invariant

@@ -1,0 +1,129 @@
+-- No symbol of the plan of n groups has a slot or a stub.
+use Rattle.std.proofs.Common.{◌≡◌, ℕ, zero, suc, ◌+◌, ◌-◌, ◌<◌, ◌==◌, inl, inr, Bool, true, List, [], ◌∷◌, take, drop, refl, arith}
+use Rattle.std.specs.Prelude.{None, Ok, slice_range, length}
+use Rattle.std.specs.List.{flat_map, list_all}
+use Rattle.std.proofs.lemmas.Bool.{cases_Bool, and_parts, le-ltb}
+use Rattle.wild_relr.specs.Packed.{block}
+use Rattle.wild_plan.specs.declared.part.Role.{Role}
+use Rattle.wild_plan.specs.declared.part.Role.TheVariants as role
+use Rattle.wild_plan.specs.declared.file.File.{File}
+use Rattle.wild_plan.specs.declared.file.Group.{Group}
+use Rattle.wild_plan.specs.declared.layout.Layout.{Layout}
+use Rattle.wild_plan.specs.declared.symbol.Symbol.{Symbol}
+use Rattle.wild_plan.specs.Lists.{first_failing}
+use Rattle.wild_plan.specs.SlotShares.{writes_slots, own_symbols, slot_share, block_places, group_block, block_share}
+use Rattle.wild_plan.specs.SlotPlaces.{first_free, walk, symbol_step, is_without, slot_before, range_step, group_step, slots_astray, slot_is_even}
+use Rattle.wild_plan.specs.WellFormed.{check_slots}
+use Rattle.wild_plan.proofs.SlotShareLemmas.{no_slots, slots_plain}
+use Rattle.wild_plan.proofs.SlotBlockLemmas.{places_without}
+use Rattle.wild_plan.proofs.SlotPlaceLemmas.{step_without}
+use Rattle.wild_layout.specs.Faults.{flat_map_from, symbol_errors, slot_errors}
+use Rattle.wild_made.specs.Made.{made_object, made_symbol, made_group, made}
+use Rattle.wild_made.proofs.ListLemmas.{made_from, none_fails, both_true, list_all_made}
+
+-- ---- parts of lists whose items all pass
+
+all_taken : {X : Type 0} (t : X → Bool) (k : ℕ) (xs : List X) → list_all t xs ≡ true → list_all t (take k xs) ≡ true
+all_taken t zero xs h = refl
+all_taken t (suc k) [] h = refl
+all_taken t (suc k) (x ∷ xs) h = let p = and_parts (t x) (list_all t xs) h in both_true (t x) (list_all t (take k xs)) p.0 (all_taken t k xs p.1)
+
+all_dropped : {X : Type 0} (t : X → Bool) (k : ℕ) (xs : List X) → list_all t xs ≡ true → list_all t (drop k xs) ≡ true
+all_dropped t zero xs h = h
+all_dropped t (suc k) [] h = refl
+all_dropped t (suc k) (x ∷ xs) h = let p = and_parts (t x) (list_all t xs) h in all_dropped t k xs p.1
+
+all_ranged : {X : Type 0} (t : X → Bool) (xs : List X) (a b : ℕ) → list_all t xs ≡ true → list_all t (slice_range xs a b) ≡ true
+all_ranged t xs a b h = all_taken t (b - a) (drop a xs) (all_dropped t a xs h)
+
+none_failing : {X : Type 0} (t : X → Bool) (i : ℕ) (xs : List X) → list_all t xs ≡ true → first_failing t i xs ≡ None
+none_failing t i [] h = refl
+none_failing t i (x ∷ xs) h = let p = and_parts (t x) (list_all t xs) h in rw p.0 (none_failing t (i + 1) xs p.1)
+
+-- ---- shares and faults
+
+without_symbols : (n : ℕ) → list_all is_without (made_from made_symbol 0 n) ≡ true
+without_symbols n = list_all_made is_without made_symbol 0 n (λ k low high. refl)
+
+without_made : (n : ℕ) (f : File) → list_all is_without (own_symbols (made n) f) ≡ true
+unfolding made
+without_made n f =
+    elim (cases_Bool (writes_slots f.role)) [
+      | inl t ↦ rw t (all_ranged is_without (made_from made_symbol 0 n) f.first_symbol (f.first_symbol + f.symbol_count) (without_symbols n))
+      | inr e ↦ rw e refl
+    ]
+
+pub slots_made : (n : ℕ) (r : Role) (f : File) → slot_share (made n) r f ≡ 0
+slots_made n r f = slots_plain (made n) r f (without_made n f)
+
+none_joined : {X Y : Type 0} (f : X → List Y) (xs : List X) → ((x : X) → f x ≡ []) → flat_map f xs ≡ []
+none_joined f [] h = refl
+none_joined f (x ∷ xs) h = rw (h x) (none_joined f xs h)
+
+no_block : (n : ℕ) (g : Group) → group_block (made n) g ≡ []
+unfolding group_block
+no_block n g = none_joined (λ f. flat_map (block_places (made n)) (own_symbols (made n) f)) g.files (λ f. places_without (made n) (own_symbols (made n) f) (without_made n f))
+
+pub block_made : (n : ℕ) (r : Role) (g : Group) → block_share (made n) r g ≡ 0
+unfolding block
+block_made n role.RelrDyn g = rw (no_block n g) refl
+block_made n other g = refl
+
+errors_without : (l : Layout) (g k i : ℕ) (ss : List Symbol) → list_all is_without ss ≡ true → flat_map_from (symbol_errors l g k) i ss ≡ []
+errors_without l g k i [] h = refl
+errors_without l g k i (s ∷ ss) h =
+    let p = and_parts (is_without s) (list_all is_without ss) h in
+    let none = no_slots l s p.0 in
+    rw none (errors_without l g k (i + 1) ss p.1)
+
+pub slots_clean : (n g k : ℕ) (f : File) → slot_errors (made n) g k f ≡ []
+unfolding slot_errors
+slots_clean n g k f = errors_without (made n) g k f.first_symbol (own_symbols (made n) f) (without_made n f)
+
+-- ---- clause 11
+
+symbol_passed : (n i : ℕ) → symbol_step (made n) (record (first_free (made n)) { symbol = i }) (made_symbol i) ≡ Ok (record (first_free (made n)) { symbol = i + 1 })
+symbol_passed n i = step_without (made n) (record (first_free (made n)) { symbol = i }) (made_symbol i) refl
+
+symbols_passed : (n i : ℕ) → walk (symbol_step (made n)) (record (first_free (made n)) { symbol = i }) (made_symbol i ∷ []) ≡ Ok (record (first_free (made n)) { symbol = i + 1 })
+unfolding walk
+symbols_passed n i = rw (symbol_passed n i) refl
+
+taken_one : {X : Type 0} (f : ℕ → X) (a m k j : ℕ) → k < m → j ≡ a + k → take 1 (drop k (made_from f a m)) ≡ f j ∷ []
+taken_one f a zero k j h e = absurd (omega arith)
+taken_one f a (suc m) zero j h e = let z : j ≡ a = omega arith in rw z refl
+taken_one f a (suc m) (suc k) j h e = taken_one f (a + 1) m k j (omega arith) (omega arith)
+
+own_made : (n i : ℕ) → i < n → own_symbols (made n) (made_object n i) ≡ made_symbol i ∷ []
+unfolding made
+own_made n i h = let e : i + 1 - i ≡ 1 = omega arith in rw e (taken_one made_symbol 0 n i i h (omega arith))
+
+none_before : (n i : ℕ) → slot_before (made n) (record (first_free (made n)) { symbol = i }) i ≡ None
+none_before n i = let e : i - i ≡ 0 = omega arith in rw e refl
+
+object_passed : (n i : ℕ) → i < n → range_step (made n) (record (first_free (made n)) { symbol = i }) (made_object n i) ≡ Ok (record (first_free (made n)) { symbol = i + 1 })
+object_passed n i h = let e = le-ltb i i (omega arith) in rw (e, none_before n i, own_made n i h) (symbols_passed n i)
+
+group_passed : (n i : ℕ) → i < n → group_step (made n) (record (first_free (made n)) { symbol = i }) (made_group n i) ≡ Ok (record (first_free (made n)) { symbol = i + 1 })
+unfolding walk
+group_passed n i h =
+    let object = object_passed n i h in
+    elim (cases_Bool (i == 0)) [
+      | inl a ↦ elim (cases_Bool (i + 1 == n)) [ inl b ↦ rw (a, b, object) refl | inr b ↦ rw (a, b, object) refl ]
+      | inr a ↦ elim (cases_Bool (i + 1 == n)) [ inl b ↦ rw (a, b, object) refl | inr b ↦ rw (a, b, object) refl ]
+    ]
+
+groups_passed : (n a m : ℕ) → a + m ≡ n → walk (group_step (made n)) (record (first_free (made n)) { symbol = a }) (made_from (made_group n) a m) ≡ Ok (record (first_free (made n)) { symbol = n })
+unfolding walk
+groups_passed n a zero e = let z : a ≡ n = omega arith in rw z refl
+groups_passed n a (suc m) e = rw (group_passed n a (omega arith)) (groups_passed n (a + 1) m (omega arith))
+
+none_astray : (n : ℕ) → slots_astray (made n) ≡ None
+unfolding made
+none_astray n =
+    let symbols = made_from made_symbol 0 n in
+    rw (groups_passed n 0 n (omega arith)) (none_failing is_without n (slice_range symbols n (length symbols)) (all_ranged is_without symbols n (length symbols) (without_symbols n)))
+
+pub slots_hold : (n : ℕ) → check_slots (made n) ≡ Ok tt
+unfolding check_slots made
+slots_hold n = rw (none_astray n, none_fails slot_is_even made_symbol 0 0 n (λ k low high. refl)) refl
