@@ -1,5 +1,5 @@
 -- How long it is what files give to the parts, and which file gives it.
-use Rattle.std.proofs.Common.{◌≡◌, ℕ, ◌+◌, ◌*◌, ◌<◌, inl, inr, ◌==◌, Bool, true, false, ◌&&◌, if◌then◌else◌, List, [], ◌∷◌, length, get_or, None, flat_map, refl, sym, ap, ◌∙◌, arith}
+use Rattle.std.proofs.Common.{◌≡◌, ℕ, ◌+◌, ◌*◌, ◌<◌, inl, inr, ◌==◌, Bool, true, false, ◌&&◌, if◌then◌else◌, List, [], ◌∷◌, ◌++◌, length, get_or, None, flat_map, refl, sym, ap, ◌∙◌, arith}
 use Rattle.std.specs.List.{list_any}
 use Rattle.std.specs.Prelude.{zero, suc, Option, Some, option_map, option_to_list, replicate}
 use Rattle.std.proofs.lemmas.Bool.{cases_Bool, and_parts, eq-eqb, ne_eqb, eqb-true, eqb-false}
@@ -23,11 +23,13 @@ use Rattle.wild_plan.specs.Dynamic.{empty_string, dynamic_strings, epilogue_stri
 use Rattle.wild_plan.specs.Entries.{has_moved, listed_place, listed_places, words_of, entry_count}
 use Rattle.wild_plan.specs.Kinds.{needs_dynsym}
 use Rattle.wild_plan.specs.Lists.{total}
-use Rattle.wild_plan.specs.Needs.{is_prelude, is_epilogue, whole_of, last_of, own_of, share}
+use Rattle.wild_plan.specs.Needs.{is_prelude, is_epilogue, whole_of, last_of, own_of, first_share, share, group_share}
 use Rattle.wild_plan.specs.Places.{role_place}
 use Rattle.wild_layout.specs.Content.{whole_bytes, own_bytes, dynamic_room, file_content, content}
 use Rattle.wild_tables.specs.Tables.{relative_entry}
 use Rattle.wild_layout.specs.Moved.{moved_value, listed_entry, section_entries, file_entries, file_words}
+use Rattle.wild_layout.specs.SlotBytes.{slot_bytes, header_bytes, block_bytes}
+use Rattle.wild_geometry.proofs.SlotLengths.{slot_length, header_length, block_length}
 
 -- ---- sums
 
@@ -110,16 +112,30 @@ length-whole_bytes l role.SectionHeaders = (lengths_of_headers l).section_header
 length-whole_bytes l role.Shstrtab = (lengths_of_headers l).names
 length-whole_bytes l other = refl
 
+first_length : (l : Layout) (r : Role) → length (whole_bytes l r ++ header_bytes l r) ≡ first_share l r
+first_length l r =
+    let a = length-append (whole_bytes l r) (header_bytes l r) in
+    let b = length-whole_bytes l r in
+    let c = header_length l r in
+    omega arith
+
 file_length : (l : Layout) (r : Role) (f : File) → (role_place r ≡ role_place role.Dynamic → ⊥) → length (file_content l r f) ≡ share l r f
 file_length l r f n =
-    let a = length-append (if is_prelude f.role then whole_bytes l r else []) (own_bytes l r f) in
-    let b = if_length (is_prelude f.role) (whole_bytes l r) (whole_of l r) (length-whole_bytes l r) in
-    let c = own_length l r f n in
+    let first = if is_prelude f.role then whole_bytes l r ++ header_bytes l r else [] in
+    let a = length-append first (own_bytes l r f) in
+    let b = if_length (is_prelude f.role) (whole_bytes l r ++ header_bytes l r) (first_share l r) (first_length l r) in
+    let c = length-append (first ++ own_bytes l r f) (slot_bytes l r f) in
+    let d = own_length l r f n in
+    let e = slot_length l r f in
     omega arith
 
 -- what a group gives to a part is as long as its share, for every role but that of the dynamic section
-pub length-content : (l : Layout) (r : Role) (g : Group) → (role_place r ≡ role_place role.Dynamic → ⊥) → length (content l r g) ≡ total (share l r) g.files
-length-content l r g n = joined_lengths (file_content l r) (share l r) g.files (λ f. file_length l r f n)
+pub length-content : (l : Layout) (r : Role) (g : Group) → (role_place r ≡ role_place role.Dynamic → ⊥) → length (content l r g) ≡ group_share l r g
+length-content l r g n =
+    let a = length-append (flat_map (file_content l r) g.files) (block_bytes l r g) in
+    let b = joined_lengths (file_content l r) (share l r) g.files (λ f. file_length l r f n) in
+    let c = block_length l r g in
+    omega arith
 
 -- ---- the last file of the last group
 
@@ -196,17 +212,25 @@ nil_if true = refl
 nil_if false = refl
 
 pub length-dynamic_content : (l : Layout) (g : Group) → length (content l role.Dynamic g) ≡ total (λ (f : File). last_of f.role (length (dynamic_bytes l (dynamic_room l)))) g.files
-length-dynamic_content l g = joined_lengths (file_content l role.Dynamic) (λ (f : File). last_of f.role (length (dynamic_bytes l (dynamic_room l)))) g.files (λ f. one f)
+length-dynamic_content l g =
+    let whole = length-append (flat_map (file_content l role.Dynamic) g.files) [] in
+    let files = joined_lengths (file_content l role.Dynamic) (λ (f : File). last_of f.role (length (dynamic_bytes l (dynamic_room l)))) g.files (λ f. one f) in
+    omega arith
   where
     one : (f : File) → length (file_content l role.Dynamic f) ≡ last_of f.role (length (dynamic_bytes l (dynamic_room l)))
     one f =
-        let a = length-append (if is_prelude f.role then no_bytes else no_bytes) (if is_epilogue f.role then dynamic_bytes l (dynamic_room l) else []) in
+        let last = if is_epilogue f.role then dynamic_bytes l (dynamic_room l) else [] in
+        let first = if is_prelude f.role then no_bytes else no_bytes in
+        let a = length-append first last in
         let b = nil_if (is_prelude f.role) in
-        let c = if_length (is_epilogue f.role) (dynamic_bytes l (dynamic_room l)) (length (dynamic_bytes l (dynamic_room l))) refl in
+        let c = length-append (first ++ last) [] in
+        let d = if_length (is_epilogue f.role) (dynamic_bytes l (dynamic_room l)) (length (dynamic_bytes l (dynamic_room l))) refl in
         omega arith
 
-pub dynamic_share : (l : Layout) (g : Group) → total (share l role.Dynamic) g.files ≡ total (λ (f : File). last_of f.role (dynamic_entry_size * dynamic_count l)) g.files
-dynamic_share l g = total_by (share l role.Dynamic) (λ (f : File). last_of f.role (dynamic_entry_size * dynamic_count l)) g.files (λ f. let a = zero_if (is_prelude f.role) in omega arith)
+pub dynamic_share : (l : Layout) (g : Group) → group_share l role.Dynamic g ≡ total (λ (f : File). last_of f.role (dynamic_entry_size * dynamic_count l)) g.files
+dynamic_share l g =
+    let files = total_by (share l role.Dynamic) (λ (f : File). last_of f.role (dynamic_entry_size * dynamic_count l)) g.files (λ f. let a = zero_if (is_prelude f.role) in let b = slot_length l role.Dynamic f in omega arith) in
+    omega arith
 
 -- where no file is the last one, none is found
 pub none_last : (fs : List File) → total (λ (f : File). last_of f.role 1) fs ≡ 0 → list_any (λ (f : File). is_epilogue f.role) fs ≡ false

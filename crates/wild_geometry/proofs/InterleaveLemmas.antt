@@ -1,7 +1,7 @@
 -- Lists joined end to end, item by item with their numbers, and two such lists interleaved.
 use Rattle.std.proofs.Common.{◌≡◌, ℕ, zero, suc, ◌+◌, ◌<◌, List, [], ◌∷◌, ◌++◌, length, get_or, All, AllPairs, Contains, flat_map, arith}
-use Rattle.std.proofs.lemmas.List.Elements.{All-nil, All-cons, All-append, Contains-append_left, Contains-append_right}
-use Rattle.wild_words.proofs.ListLemmas.{AllPairs-nil, AllPairs-cons, AllPairs-head, AllPairs-tail, AllPairs-append, All-append-left, All-append-right, AllPairs-left, AllPairs-right, AllPairs-cross}
+use Rattle.std.proofs.lemmas.List.Elements.{All-nil, All-append, Contains-append_left, Contains-append_right}
+use Rattle.wild_words.proofs.ListLemmas.{AllPairs-nil, AllPairs-append, All-append-left, All-append-right, AllPairs-left, AllPairs-right, AllPairs-cross}
 use Rattle.wild_layout.specs.Faults.{flat_map_from}
 
 pub All-flat_map_from : {X Y : Type 0} (P : Y → Type 0) (f : ℕ → X → List Y) (i : ℕ) (xs : List X) → ((n k : ℕ) (d : X) → n ≡ i + k → k < length xs → All P (f n (get_or xs k d))) → All P (flat_map_from f i xs)

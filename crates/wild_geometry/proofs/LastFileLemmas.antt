@@ -19,9 +19,9 @@ use Rattle.wild_geometry.proofs.ContentLemmas.{group_last}
 abbrev lasts : List File → ℕ
 lasts fs = total (λ (f : File). last_of f.role 1) fs
 
-front_nothing : (b : Bool) (xs : List ℕ) → (if b then [] else []) ++ xs ≡ xs
-front_nothing true xs = refl
-front_nothing false xs = refl
+front_nothing : (b : Bool) (xs : List ℕ) → (if b then [] else []) ++ xs ++ [] ≡ xs
+front_nothing true xs = append-nil xs
+front_nothing false xs = append-nil xs
 
 -- files of which none is the last give nothing
 files_none : (l : Layout) (fs : List File) → lasts fs ≡ 0 → flat_map (file_content l role.Dynamic) fs ≡ []
@@ -55,12 +55,12 @@ files_one l (f ∷ fs) h =
 -- so do groups of which the last alone has such a file
 groups_one : (l : Layout) (first : Bool) (i : ℕ) (g : Group) (gs : List Group) → ((k : ℕ) (d : Group) → k < length (g ∷ gs) → lasts (get_or (g ∷ gs) k d).files ≡ (if k + 1 == length (g ∷ gs) then 1 else 0)) → flat_map (content l role.Dynamic) (g ∷ gs) ≡ dynamic_bytes l (dynamic_room l)
 groups_one l first i g [] h =
-    let own = files_one l g.files (h 0 g (omega arith)) in
+    let own = append-nil (flat_map (file_content l role.Dynamic) g.files) ∙ files_one l g.files (h 0 g (omega arith)) in
     rw own (append-nil (dynamic_bytes l (dynamic_room l)))
 groups_one l first i g (x ∷ xs) h =
     let n = ne_eqb (0 + 1) (length (g ∷ x ∷ xs)) (λ z. omega arith) in
     let none : lasts g.files ≡ 0 = (let e = h 0 g (omega arith) in rw n at e) in
-    let own = files_none l g.files none in
+    let own = append-nil (flat_map (file_content l role.Dynamic) g.files) ∙ files_none l g.files none in
     rw own (groups_one l false (i + 1) x xs (λ k d m. h (suc k) d (omega arith) ∙ ap (λ (b : Bool). if b then 1 else 0) (same_end k (length (x ∷ xs)))))
   where
     same_end : (k n : ℕ) → (suc k + 1 == suc n) ≡ (k + 1 == n)

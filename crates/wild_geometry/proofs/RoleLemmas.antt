@@ -16,7 +16,7 @@ use Rattle.wild_plan.specs.Contents.{given, has_share_for_each_part}
 use Rattle.wild_plan.specs.Counts.{total_share, role_given}
 use Rattle.wild_plan.specs.Lists.{total}
 use Rattle.wild_plan.specs.Dynamic.{dynamic_count}
-use Rattle.wild_plan.specs.Needs.{is_epilogue, last_of, share}
+use Rattle.wild_plan.specs.Needs.{is_epilogue, last_of, group_share}
 use Rattle.wild_plan.specs.Shares.{part_of_role, part_of, given_by}
 use Rattle.wild_records.specs.Dynamic.{dynamic_entry_size}
 use Rattle.wild_tables.specs.Dynamic.{dynamic_bytes}
@@ -26,7 +26,7 @@ use Rattle.wild_plan.specs.Segments.{part_with}
 use Rattle.wild_layout.specs.Content.{dynamic_room, content}
 use Rattle.wild_layout.specs.Geometry.{table_bytes, bytes_before, TableLies, HasTable}
 use Rattle.wild_layout.specs.Image.{given_before, some_piece, table_piece, table_pieces, owned_pieces, group_pieces, pieces}
-use Rattle.wild_geometry.proofs.ClauseLemmas.{Laid}
+use Rattle.wild_geometry.proofs.LaidLemmas.{Laid}
 use Rattle.wild_geometry.proofs.InterleaveLemmas.{Contains-flat_map_from}
 use Rattle.wild_geometry.proofs.OrderLemmas.{EndsBy-image}
 use Rattle.wild_geometry.proofs.ShareLemmas.{total_same, total_within, content_is_given, size_from_shares}
@@ -72,7 +72,7 @@ nil_from_length [] h = refl
 nil_from_length (x ∷ xs) h = absurd (omega arith)
 
 -- where nothing has to be written, nothing is given
-plain_nothing : (l : Layout) (r : Role) → (role_place r ≡ role_place role.Dynamic → ⊥) → (gs : List Group) → total (λ (g : Group). total (share l r) g.files) gs ≡ 0 → flat_map (content l r) gs ≡ []
+plain_nothing : (l : Layout) (r : Role) → (role_place r ≡ role_place role.Dynamic → ⊥) → (gs : List Group) → total (group_share l r) gs ≡ 0 → flat_map (content l r) gs ≡ []
 plain_nothing l r n [] h = refl
 plain_nothing l r n (g ∷ gs) h =
     let a = length-content l r g n in
@@ -119,7 +119,7 @@ no_count l h shared =
     let last : length l.groups - 1 + 1 ≡ length l.groups = omega arith in
     let own = dynamic_share l (get_or l.groups (length l.groups - 1) item.item) ∙ group_last (dynamic_entry_size * dynamic_count l) true 0 l.groups h.shares.files (length l.groups - 1) item.item (omega arith) in
     let own' = rw (eq-eqb _ _ last) at own in
-    let whole = total_within (λ (g : Group). total (share l role.Dynamic) g.files) l.groups (length l.groups - 1) item.item (omega arith) in
+    let whole = total_within (group_share l role.Dynamic) l.groups (length l.groups - 1) item.item (omega arith) in
     omega arith
 
 -- and no group gives anything to the dynamic section

@@ -2,32 +2,26 @@
 use Rattle.std.proofs.Common.{◌≡◌, ℕ, zero, suc, ◌+◌, ◌<◌, ◌≤◌, inl, inr, ◌==◌, true, false, List, [], ◌∷◌, length, get_or, All, AllPairs, Contains, Some, slice_get, refl, sym, ap, ◌∙◌, arith, subst}
 use Rattle.std.proofs.lemmas.Bool.{cases_Bool, cases_order, and_parts, or_cases, leb-true, eqb-true, eqb-false}
 use Rattle.std.proofs.lemmas.Option.{slice_get-get_or, same_Some}
-use Rattle.std.proofs.lemmas.List.Elements.{All-nil, All-cons, Contains-append_left}
-use Rattle.wild_words.proofs.ListLemmas.{All-flat_map, All-optional, ItemAt-within}
+use Rattle.std.proofs.lemmas.List.Elements.{All-nil, All-cons}
+use Rattle.wild_words.proofs.ListLemmas.{All-flat_map, All-optional}
 use Rattle.wild_words.proofs.OrderLemmas.{Apart-flip}
-use Rattle.wild_records.specs.FileHeader.{file_header_size}
 use Rattle.wild_words.specs.Overlay.{Piece, Apart, AreApart}
 use Rattle.wild_plan.specs.declared.part.Part.{Part}
-use Rattle.wild_plan.specs.declared.part.Role.{Role}
 use Rattle.wild_plan.specs.declared.part.Role.TheVariants as role
 use Rattle.wild_plan.specs.declared.input.InputSection.{InputSection}
-use Rattle.wild_plan.specs.declared.file.File.{File}
 use Rattle.wild_plan.specs.declared.file.Group.{Group}
 use Rattle.wild_plan.specs.declared.layout.Layout.{Layout}
 use Rattle.wild_plan.specs.Lookups.{is_filled, takes_file_bytes, image_size}
 use Rattle.wild_plan.specs.Contents.{given}
 use Rattle.wild_plan.specs.Places.{role_place, has_role, takes_room, ends_low}
-use Rattle.wild_headers.specs.Headers.{offset_of_role}
-use Rattle.wild_layout.specs.Content.{whole_bytes, own_bytes, content}
-use Rattle.wild_layout.specs.Image.{some_piece, given_before, table_piece, table_pieces, owned_pieces, group_pieces, section_piece, pieces}
+use Rattle.wild_layout.specs.Content.{content}
+use Rattle.wild_layout.specs.Image.{some_piece, given_before, table_piece, table_pieces, owned_pieces, section_piece, pieces}
 use Rattle.wild_layout.specs.Faults.{flat_map_from}
-use Rattle.wild_layout.specs.Geometry.{PartLies, IsPiece, HasTables}
-use Rattle.wild_geometry.proofs.InterleaveLemmas.{All-flat_map_from, AllPairs-flat_map_from, Contains-flat_map_from, All-both, AllPairs-both}
-use Rattle.wild_geometry.proofs.ClauseLemmas.{Laid}
+use Rattle.wild_layout.specs.Geometry.{PartLies}
+use Rattle.wild_geometry.proofs.InterleaveLemmas.{All-flat_map_from, AllPairs-flat_map_from, All-both, AllPairs-both}
+use Rattle.wild_geometry.proofs.LaidLemmas.{Laid}
 use Rattle.wild_geometry.proofs.OrderLemmas.{Takes, EndsBy-image, Follows, PartsFollow-from_order}
-use Rattle.wild_geometry.proofs.TableLemmas.{role_place-1, role_place-2, role_place-3, StandsAt, StandsAt-from_test, StandsAt-from_missing}
-use Rattle.wild_geometry.proofs.ShareLemmas.{total_to, total_within, size_from_shares, content_is_given, content_of_raw, content_of_first}
-use Rattle.wild_geometry.proofs.ContentLemmas.{length-whole_bytes}
+use Rattle.wild_geometry.proofs.ShareLemmas.{total_to, total_within, size_from_shares, content_is_given, content_of_raw}
 use Rattle.wild_geometry.proofs.SectionLemmas.{all_sections, Stood, Runs}
 use Rattle.wild_geometry.proofs.PieceLemmas.{parts_apart, piece_of, place_is, section_pieces, section_pieces_by_group, Standing, section_pieces_apart, InImage, section_pieces_within}
 
@@ -47,14 +41,14 @@ PartLies-from_laid l h i p m = record {
 -- ---- what a group gives to a part
 
 -- group j's bytes of part i, where there are some
-record Given (l : Layout) (i : ℕ) (p : Part) (j : ℕ) (n : ℕ) : Type 0 where
-  raw : has_role role.Raw p ≡ false
-  takes : Takes l p
-  share : (g : Group) → given i (get_or l.groups j g) ≡ n
-  some : 1 ≤ n
-  ends : given_before l i j + n ≤ p.size
+pub record Given (l : Layout) (i : ℕ) (p : Part) (j : ℕ) (n : ℕ) : Type 0 where
+  pub raw : has_role role.Raw p ≡ false
+  pub takes : Takes l p
+  pub share : (g : Group) → given i (get_or l.groups j g) ≡ n
+  pub some : 1 ≤ n
+  pub ends : given_before l i j + n ≤ p.size
 
-given_from_content : (l : Layout) → Laid l → (i : ℕ) (p : Part) → i < length l.parts → (j : ℕ) (g : Group) → j < length l.groups → 1 ≤ length (content l (get_or l.parts i p).role (get_or l.groups j g)) → Given l i (get_or l.parts i p) j (length (content l (get_or l.parts i p).role (get_or l.groups j g)))
+pub given_from_content : (l : Layout) → Laid l → (i : ℕ) (p : Part) → i < length l.parts → (j : ℕ) (g : Group) → j < length l.groups → 1 ≤ length (content l (get_or l.parts i p).role (get_or l.groups j g)) → Given l i (get_or l.parts i p) j (length (content l (get_or l.parts i p).role (get_or l.groups j g)))
 given_from_content l h i p m j g n some =
     let q = get_or l.parts i p in
     elim (cases_Bool (has_role role.Raw q)) [
@@ -92,7 +86,7 @@ AllPairs-some R at bs =
       | inr f ↦ rw f (λ i j d l m. absurd (omega arith))
     ]
 
-abbrev piece_in : Layout → ℕ → Part → ℕ → List ℕ → Piece
+abbrev pub piece_in : Layout → ℕ → Part → ℕ → List ℕ → Piece
 piece_in l i p j bs = record { at = p.offset + given_before l i j; bytes = bs }
 
 -- ---- apart
@@ -131,10 +125,10 @@ section_apart l f i p j xs s is x st =
 abbrev given_pieces : Layout → List Piece
 given_pieces l = flat_map_from (table_pieces l) 0 l.groups
 
-abbrev content_at : Layout → ℕ → Part → ℕ → Group → List ℕ
+abbrev pub content_at : Layout → ℕ → Part → ℕ → Group → List ℕ
 content_at l i p j g = content l (get_or l.parts i p).role (get_or l.groups j g)
 
-abbrev piece_at : Layout → ℕ → Part → ℕ → Group → Piece
+abbrev pub piece_at : Layout → ℕ → Part → ℕ → Group → Piece
 piece_at l i p j g = piece_in l i (get_or l.parts i p) j (content_at l i p j g)
 
 -- what holds of each piece of a group
@@ -212,57 +206,3 @@ Contains-some at bs some =
       | inl t ↦ absurd (let e = eqb-true (length bs) 0 t in omega arith)
       | inr f ↦ rw f (0, omega arith, refl)
     ]
-
--- what stands once in the image stands where its part does
-IsPiece-from_part : (l : Layout) → Laid l → (r : Role) (at : ℕ) (s : StandsAt r at l.parts) → s.item.role ≡ r → has_role role.Raw s.item ≡ false → (length (whole_bytes l r) ≡ 0 → at ≤ image_size l) → ((f : File) → own_bytes l r f ≡ []) → Group → IsPiece l at (whole_bytes l r)
-unfolding pieces
-IsPiece-from_part l h r at s is raw empty own g = by s.listed.0 s.listed.1 s.listed.2
-  where
-    by : (i : ℕ) → i < length l.parts → get_or l.parts i s.item ≡ s.item → IsPiece l at (whole_bytes l r)
-    by i low read =
-        let role_is : (get_or l.parts i s.item).role ≡ r = ap (λ (p : Part). p.role) read ∙ is in
-        let first : content_at l i s.item 0 g ≡ whole_bytes l r = ap (λ (q : Role). content l q (get_or l.groups 0 g)) role_is ∙ content_of_first l r g own h.counts.some_group h.shares in
-        let offset : (get_or l.parts i s.item).offset ≡ at = ap (λ (p : Part). p.offset) read ∙ s.there in
-        let long = ap length first in
-        elim (cases_Bool (length (whole_bytes l r) == 0)) [
-          | inl t ↦
-              (let none = eqb-true (length (whole_bytes l r)) 0 t in
-              let low_enough = empty none in
-              record { within = omega arith; listed = λ some. absurd (omega arith) })
-          | inr f ↦
-              (let some : 1 ≤ length (whole_bytes l r) = (let e = eqb-false (length (whole_bytes l r)) 0 f in omega arith) in
-              let one = given_from_content l h i s.item low 0 g h.counts.some_group (omega arith) in
-              let ends = one.ends in
-              let in_image = EndsBy-image l i s.item low one.takes (omega arith) in
-              record { within = omega arith; listed = λ some. listed i low first offset some })
-        ]
-      where
-        listed : (i : ℕ) → i < length l.parts → content_at l i s.item 0 g ≡ whole_bytes l r → (get_or l.parts i s.item).offset ≡ at → 1 ≤ length (whole_bytes l r) → Contains (pieces l) (record { at = at; bytes = whole_bytes l r })
-        listed i low first offset some =
-            let long = ap length first in
-            let here : Contains (some_piece ((get_or l.parts i s.item).offset + given_before l i 0) (content_at l i s.item 0 g)) (piece_at l i s.item 0 g) = Contains-some ((get_or l.parts i s.item).offset + given_before l i 0) (content_at l i s.item 0 g) (omega arith) in
-            let in_tables = Contains-flat_map_from (table_piece l 0 (get_or l.groups 0 g)) 0 l.parts i i s.item (piece_at l i s.item 0 g) (omega arith) low here in
-            let in_group = Contains-append_left (table_pieces l 0 (get_or l.groups 0 g)) (owned_pieces l (get_or l.groups 0 g)) (piece_at l i s.item 0 g) in_tables in
-            let all = Contains-flat_map_from (group_pieces l) 0 l.groups 0 0 g (piece_at l i s.item 0 g) (omega arith) h.counts.some_group in_group in
-            let place : (get_or l.parts i s.item).offset + given_before l i 0 ≡ at = omega arith in
-            let P : ℕ → List ℕ → Type 0 = λ n bs. Contains (pieces l) (record { at = n; bytes = bs }) in
-            subst (λ (bs : List ℕ). P at bs) first (subst (λ (n : ℕ). P n (content_at l i s.item 0 g)) place all)
-
-pub HasTables-from_laid : (l : Layout) → Laid l → HasTables l
-HasTables-from_laid l h = by (ItemAt-within l.groups 0 h.counts.some_group).item
-  where
-    by : Group → HasTables l
-    by g =
-        let f = StandsAt-from_test role.FileHeader 0 0 l.parts h.roles.file_header in
-        let p = StandsAt-from_test role.ProgramHeaders file_header_size 0 l.parts h.roles.program_headers in
-        let s = StandsAt-from_missing role.SectionHeaders l.parts h.roles.section_headers in
-        let header_length = length-whole_bytes l role.FileHeader in
-        let sections_length = length-whole_bytes l role.SectionHeaders in
-        let some = h.counts.some_section in
-        let header = IsPiece-from_part l h role.FileHeader 0 f (role_place-1 f.item.role f.has) (rw f.has refl) (λ e. absurd (omega arith)) (λ x. refl) g in
-        let within = header.within in
-        record {
-          file_header = header;
-          program_headers = IsPiece-from_part l h role.ProgramHeaders file_header_size p (role_place-2 p.item.role p.has) (rw p.has refl) (λ e. omega arith) (λ x. refl) g;
-          section_headers = IsPiece-from_part l h role.SectionHeaders (offset_of_role role.SectionHeaders l.parts) s (role_place-3 s.item.role s.has) (rw s.has refl) (λ e. absurd (omega arith)) (λ x. refl) g;
-        }

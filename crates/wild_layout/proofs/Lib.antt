@@ -1,4 +1,5 @@
 pub mod FaultLemmas
+pub mod TreatmentLemmas
 pub mod DecideLemmas
 pub mod SitesApart
 pub mod SiteLemmas

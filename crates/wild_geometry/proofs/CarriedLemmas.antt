@@ -1,0 +1,176 @@
+-- The segments carry the bytes of parts and of input sections to their addresses.
+use Rattle.std.proofs.Common.{◌≡◌, ℕ, zero, suc, ◌+◌, ◌-◌, ◌<◌, ◌≤◌, ◌==◌, nat_lt, nat_le, Bool, true, false, not, ◌&&◌, ◌||◌, List, [], ◌∷◌, length, drop, get_or, All, Contains, Option, Some, slice_get, refl, arith, subst}
+use Rattle.std.specs.List.{list_any}
+use Rattle.std.proofs.lemmas.Bool.{and_parts, and_from, leb-true, ltb-true, eqb-true, eqb-false, ne_eqb, not-true, not_from_false}
+use Rattle.wild_words.proofs.ListLemmas.{Found, Found-from_list_any, ItemAt-within, holds_at}
+use Rattle.wild_records.specs.Abi.Section.{sht_nobits}
+use Rattle.wild_records.specs.Abi.Segment.{pt_load}
+use Rattle.wild_plan.specs.declared.part.Part.{Part}
+use Rattle.wild_plan.specs.declared.section.Section.{Section}
+use Rattle.wild_plan.specs.declared.section.Segment.{Segment}
+use Rattle.wild_plan.specs.declared.section.Side.TheVariants as side
+use Rattle.wild_plan.specs.declared.input.InputSection.{InputSection}
+use Rattle.wild_plan.specs.declared.layout.Layout.{Layout}
+use Rattle.wild_plan.specs.Kinds.{is_partial_link}
+use Rattle.wild_plan.specs.Lookups.{allocated, kind_of, flags_of, section_of_part, is_allocated_section, is_allocated_part, takes_file_bytes, is_loaded, is_filled}
+use Rattle.wild_plan.specs.Places.{within, is_level, lies_in, lies_by, part_lies, is_loaded_role}
+use Rattle.wild_plan.specs.Segments.{at_equal_distance, has_byte, has_file_bytes, all_below, bytes_are_loaded}
+use Rattle.wild_plan.proofs.CoverLemmas.{all_below_each}
+use Rattle.wild_plan.specs.Contents.{bool_eq}
+use Rattle.wild_plan.specs.Indexes.{part_index_fits}
+use Rattle.wild_layout.specs.Geometry.{IsMapped, IsPartMapped}
+use Rattle.wild_geometry.proofs.LaidLemmas.{Laid}
+use Rattle.wild_geometry.proofs.SectionLemmas.{Holds, Stood}
+use Rattle.wild_geometry.proofs.PieceLemmas.{place_is}
+
+pub implied : (b c : Bool) → (not b || c) ≡ true → b ≡ true → c ≡ true
+implied true c h e = h
+implied false c h e = cc
+
+pub other : (b c : Bool) → (b || c) ≡ true → b ≡ false → c ≡ true
+other true c h e = cc
+other false c h e = h
+
+-- ---- a section with data
+
+-- the section with that header index is allocated, and has file bytes
+pub record Filled (l : Layout) (k : ℕ) : Type 0 where
+  pub section : Section
+  pub is : slice_get l.sections k ≡ Some section
+  pub later : k ≡ 0 → ⊥
+  pub bits : (section.kind == sht_nobits) ≡ false
+  pub allocated : allocated section.flags ≡ true
+
+pub Filled-from_tests : (l : Layout) (k : ℕ) → k < length l.sections → is_allocated_section l k ≡ true → takes_file_bytes l k ≡ true → Filled l k
+Filled-from_tests l k named place takes =
+    let both = and_parts (not (k == 0)) (allocated (flags_of (slice_get l.sections k))) place in
+    let item = ItemAt-within l.sections k named in
+    record {
+      section = item.item;
+      is = item.is;
+      later = eqb-false _ _ (not-true _ both.0);
+      bits = not-true _ (subst (λ (o : Option Section). not (kind_of o == 8) ≡ true) item.is takes);
+      allocated = subst (λ (o : Option Section). allocated (flags_of o) ≡ true) item.is both.1;
+    }
+
+later_item : {X : Type 0} (P : X → Type 0) (xs : List X) (k : ℕ) (x : X) → slice_get xs k ≡ Some x → (k ≡ 0 → ⊥) → All P (drop 1 xs) → P x
+later_item P [] k x e n a = cc
+later_item P (y ∷ ys) zero x e n a = absurd (n refl)
+later_item P (y ∷ ys) (suc k) x e n a = holds_at P ys k x e a
+
+-- ---- a part in its section
+
+-- the section has the part, at equal distance in file and memory
+pub record Level (s : Section) (p : Part) : Type 0 where
+  pub low : s.offset ≤ p.offset
+  pub high : p.offset + p.size ≤ s.offset + s.size
+  pub address : s.address ≤ p.address
+  pub distance : p.address + s.offset ≡ p.offset + s.address
+
+level_by : (s : Section) (p : Part) → lies_in s p ≡ true → (s.kind == sht_nobits) ≡ false → allocated s.flags ≡ true → Level s p
+level_by s p h k a =
+    let b = and_parts (within s.offset s.size p.offset p.size) (not (allocated s.flags) || is_level s p) (rw k at h) in
+    let c = and_parts (nat_le s.offset p.offset) (nat_le (p.offset + p.size) (s.offset + s.size)) b.0 in
+    let d : is_level s p ≡ true = implied (allocated s.flags) (is_level s p) b.1 a in
+    let e = and_parts (nat_le s.address p.address) (p.address + s.offset == p.offset + s.address) d in
+    record { low = leb-true _ _ c.0; high = leb-true _ _ c.1; address = leb-true _ _ e.0; distance = eqb-true _ _ e.1 }
+
+pub part_level : (l : Layout) (p : Part) → part_lies l p ≡ true → (o : Filled l p.section) → Level o.section p
+part_level l p lies o =
+    let in' : lies_by (slice_get l.sections p.section) p ≡ true = other (p.section == 0) (lies_by (slice_get l.sections p.section) p) lies (ne_eqb _ _ o.later) in
+    level_by o.section p (subst (λ (x : Option Section). lies_by x p ≡ true) o.is in') o.bits o.allocated
+
+-- ---- the segment of a byte
+
+-- the segment has the section's byte with address a among its file bytes
+record Carries (s : Section) (a : ℕ) (g : Segment) : Type 0 where
+  loaded : g.kind ≡ pt_load
+  from : g.address ≤ a
+  to : a < g.address + g.file_size
+  distance : s.offset + g.address ≡ s.address + g.offset
+
+carries_by : (s : Section) (a : ℕ) (g : Segment) → has_byte side.File s a g ≡ true → (s.kind == sht_nobits) ≡ false → Carries s a g
+carries_by s a g h k =
+    let b = and_parts (g.kind == pt_load && (nat_le g.address a && nat_lt a (g.address + g.file_size))) (s.kind == sht_nobits || at_equal_distance s g) h in
+    let c = and_parts (g.kind == pt_load) (nat_le g.address a && nat_lt a (g.address + g.file_size)) b.0 in
+    let d = and_parts (nat_le g.address a) (nat_lt a (g.address + g.file_size)) c.1 in
+    let e : at_equal_distance s g ≡ true = other (s.kind == sht_nobits) (at_equal_distance s g) b.1 k in
+    record { loaded = eqb-true _ _ c.0; from = leb-true _ _ d.0; to = ltb-true _ _ d.1; distance = eqb-true _ _ e }
+
+segment_of : (segments : List Segment) (s : Section) → bytes_are_loaded side.File segments s ≡ true → allocated s.flags ≡ true → (s.kind == sht_nobits) ≡ false → (k : ℕ) → k < s.size → Found (has_byte side.File s (s.address + k)) segments
+segment_of segments s h a bits k lt =
+    let has : has_file_bytes s ≡ true = and_from (allocated s.flags) (not (s.kind == sht_nobits)) a (not_from_false _ bits) in
+    let each = implied (has_file_bytes s) (all_below (λ n. list_any (has_byte side.File s (s.address + n)) segments) s.size) h has in
+    Found-from_list_any (has_byte side.File s (s.address + k)) segments (all_below_each (λ n. list_any (has_byte side.File s (s.address + n)) segments) s.size each k lt)
+
+-- a segment carries the byte with that offset and that address
+record CarriesByte (l : Layout) (offset address : ℕ) : Type 0 where
+  segment : Segment
+  listed : Contains l.segments segment
+  loaded : segment.kind ≡ pt_load
+  from : segment.address ≤ address
+  to : address < segment.address + segment.file_size
+  distance : offset ≡ segment.offset + (address - segment.address)
+
+-- byte n of a section with data
+byte_of : (l : Layout) → Laid l → (k : ℕ) (o : Filled l k) (n : ℕ) → n < o.section.size → CarriesByte l (o.section.offset + n) (o.section.address + n)
+byte_of l h k o n lt =
+    let loaded = later_item (λ x. bytes_are_loaded side.File l.segments x ≡ true) l.sections k o.section o.is o.later h.segments.loaded in
+    let found = segment_of l.segments o.section loaded o.allocated o.bits n lt in
+    let c = carries_by o.section (o.section.address + n) found.item found.passes o.bits in
+    let a = c.from in
+    let b = c.to in
+    let d = c.distance in
+    record { segment = found.item; listed = found.listed; loaded = c.loaded; from = a; to = b; distance = omega arith }
+
+-- a byte of a part of such a section, that many behind the part's start
+byte_of_part : (l : Layout) → Laid l → (p : Part) → part_lies l p ≡ true → (o : Filled l p.section) → (k : ℕ) → k < p.size → CarriesByte l (p.offset + k) (p.address + k)
+byte_of_part l h p lies o k lt =
+    let level = part_level l p lies o in
+    let low = level.low in
+    let high = level.high in
+    let near = level.address in
+    let same = level.distance in
+    let n = p.offset - o.section.offset + k in
+    let c = byte_of l h p.section o n (omega arith) in
+    let offset : o.section.offset + n ≡ p.offset + k = omega arith in
+    let address : o.section.address + n ≡ p.address + k = omega arith in
+    subst (λ (a : ℕ). CarriesByte l (p.offset + k) a) address (subst (λ (b : ℕ). CarriesByte l b (o.section.address + n)) offset c)
+
+-- ---- parts
+
+pub IsPartMapped-from_laid : (l : Layout) → Laid l → (i : ℕ) (d : Part) → i < length l.parts → IsPartMapped l (get_or l.parts i d)
+IsPartMapped-from_laid l h i d low kind loaded k lt =
+    let p = get_or l.parts i d in
+    let asked : (is_partial_link l.kind || not (is_loaded_role p.role)) ≡ false = rw (kind, loaded) refl in
+    let both = and_parts (is_allocated_section l p.section) (takes_file_bytes l p.section) (other (is_partial_link l.kind || not (is_loaded_role p.role)) (is_allocated_section l p.section && takes_file_bytes l p.section) (h.parts.loaded i d low) asked) in
+    let o = Filled-from_tests l p.section (ltb-true _ _ (h.indexes.parts i d low)) both.0 both.1 in
+    let c = byte_of_part l h p (h.parts.lie i d low) o k lt in
+    (c.segment, record { listed = c.listed; loaded = c.loaded; from = c.from; to = c.to; distance = c.distance })
+
+-- ---- input sections
+
+-- the output section of an input section that is allocated
+output_of : (l : Layout) → Laid l → (s : InputSection) → Holds l s → is_loaded s.slot ≡ true → allocated s.flags ≡ true → (st : Stood l s) → Filled l st.part.section
+output_of l h s holds loaded alloc st =
+    let agrees = implied (is_loaded s.slot) (bool_eq (allocated s.flags) (is_allocated_part l s.part)) holds.allocation loaded in
+    let part : is_allocated_part l s.part ≡ true = rw alloc at agrees in
+    let place : is_allocated_section l st.part.section ≡ true = subst (λ (o : Option Part). is_allocated_section l (section_of_part o) ≡ true) st.is part in
+    let named = ltb-true _ _ (holds_at (λ p. part_index_fits l p ≡ true) l.parts s.part st.part st.is h.indexes.parts) in
+    Filled-from_tests l st.part.section named place st.takes
+
+pub IsMapped-from_stood : (l : Layout) → Laid l → (s : InputSection) → Holds l s → (is_filled l s ≡ true → Stood l s) → IsMapped l s
+IsMapped-from_stood l h s holds stood filled read alloc =
+    let st = stood filled in
+    let o = output_of l h s holds (and_parts (is_loaded s.slot) (not s.nobits) read).0 alloc st in
+    let lies = holds_at (λ p. part_lies l p ≡ true) l.parts s.part st.part st.is h.parts.lie in
+    let from = st.from in
+    let to = st.to in
+    let place = place_is l s st in
+    λ k lt. (
+    let c = byte_of_part l h st.part lies o (s.address - st.part.address + k) (omega arith) in
+    let a = c.from in
+    let b = c.to in
+    let d = c.distance in
+    (c.segment, record { listed = c.listed; loaded = c.loaded; from = omega arith; to = omega arith; distance = omega arith })
+    )

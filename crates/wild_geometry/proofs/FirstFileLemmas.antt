@@ -1,0 +1,49 @@
+-- What stands once in an image is the first file's.
+use Rattle.std.proofs.Common.{◌≡◌, ◌≤◌, inl, inr, ◌==◌, Bool, true, false, ◌&&◌, List, [], ◌∷◌, ◌++◌, length, get_or, None, flat_map, refl, ◌∙◌, arith}
+use Rattle.std.proofs.lemmas.Bool.{cases_Bool, and_parts}
+use Rattle.std.proofs.lemmas.List.{append-nil}
+use Rattle.wild_plan.specs.declared.part.Role.{Role}
+use Rattle.wild_plan.specs.declared.file.File.{File}
+use Rattle.wild_plan.specs.declared.file.Group.{Group}
+use Rattle.wild_plan.specs.declared.layout.Layout.{Layout}
+use Rattle.wild_plan.specs.Needs.{is_prelude, is_epilogue}
+use Rattle.wild_plan.specs.Contents.{bool_eq, file_placed, later_placed, files_placed, file_misplaced}
+use Rattle.wild_layout.specs.Content.{whole_bytes, own_bytes, file_content, content}
+use Rattle.wild_layout.specs.SlotBytes.{slot_bytes, header_bytes, block_bytes}
+use Rattle.wild_geometry.proofs.ClauseLemmas.{SharesHold}
+use Rattle.wild_geometry.proofs.ContentLemmas.{same_bool}
+
+-- no file and no slot gives anything to the part of the role
+pub record StandsOnce (l : Layout) (r : Role) : Type 0 where
+  pub own : (f : File) → own_bytes l r f ≡ []
+  pub slots : (f : File) → slot_bytes l r f ≡ []
+  pub header : header_bytes l r ≡ []
+  pub block : (g : Group) → block_bytes l r g ≡ []
+
+-- files behind the first one give nothing
+later_content : (l : Layout) (r : Role) → StandsOnce l r → (last : Bool) (fs : List File) → later_placed last fs ≡ true → flat_map (file_content l r) fs ≡ []
+later_content l r once last [] h = refl
+later_content l r once last (f ∷ fs) h =
+    let a = and_parts (file_placed false (last && length fs == 0) f) (later_placed last fs) h in
+    let b = same_bool (is_prelude f.role) false (and_parts (bool_eq (is_prelude f.role) false) (bool_eq (is_epilogue f.role) (last && length fs == 0)) a.0).0 in
+    rw (b, once.own f, once.slots f) (later_content l r once last fs a.1)
+
+first_content : (l : Layout) (r : Role) → StandsOnce l r → (last : Bool) (fs : List File) → files_placed true last fs ≡ true → flat_map (file_content l r) fs ≡ whole_bytes l r
+first_content l r once last [] h = cc
+first_content l r once last (f ∷ fs) h =
+    let a = and_parts (file_placed true (last && length fs == 0) f) (later_placed last fs) h in
+    let b = same_bool (is_prelude f.role) true (and_parts (bool_eq (is_prelude f.role) true) (bool_eq (is_epilogue f.role) (last && length fs == 0)) a.0).0 in
+    let later = later_content l r once last fs a.1 in
+    rw (b, once.own f, once.slots f, once.header, later) (append-nil (whole_bytes l r ++ [] ++ [] ++ []) ∙ append-nil (whole_bytes l r ++ [] ++ []) ∙ append-nil (whole_bytes l r ++ []) ∙ append-nil (whole_bytes l r))
+
+-- the first group gives the whole
+pub content_of_first : (l : Layout) (r : Role) (g : Group) → StandsOnce l r → 1 ≤ length l.groups → SharesHold l → content l r (get_or l.groups 0 g) ≡ whole_bytes l r
+content_of_first l r g once some s = by l.groups g some s.files
+  where
+    by : (gs : List Group) (g : Group) → 1 ≤ length gs → file_misplaced true 0 gs ≡ None → content l r (get_or gs 0 g) ≡ whole_bytes l r
+    by [] g some h = absurd (omega arith)
+    by (x ∷ gs) g some h =
+        elim (cases_Bool (files_placed true (length gs == 0) x.files)) [
+          | inl t ↦ rw (once.block x) (append-nil (flat_map (file_content l r) x.files) ∙ first_content l r once (length gs == 0) x.files t)
+          | inr f ↦ cc (rw f at h)
+        ]

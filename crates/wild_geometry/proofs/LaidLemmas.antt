@@ -1,0 +1,93 @@
+-- What it says that the clauses on input sections, indexes and fields hold; and all that a layout is laid out by.
+use Rattle.std.proofs.Common.{◌≡◌, true, [], All, None, Ok}
+use Rattle.wild_plan.specs.declared.layout.Layout.{Layout}
+use Rattle.wild_plan.specs.Lookups.{files_of}
+use Rattle.wild_plan.specs.Places.{part_out_of_order}
+use Rattle.wild_plan.specs.Contents.{addresses, each_section, section_misplaced, length_fits, part_is_raw, allocation_agrees, bytes_take_room, fields_lie}
+use Rattle.wild_plan.specs.Indexes.{part_index_fits, symbol_misfit, group_indexes_fit}
+use Rattle.wild_plan.specs.WellFormed.{check_inputs, check_indexes, check_fields, check_slots, check_slot_flags, first_clause}
+use Rattle.wild_plan.proofs.ListLemmas.{All-from_none_fails}
+use Rattle.wild_layout.specs.Faults.{flat_map_from, part_errors}
+use Rattle.wild_geometry.proofs.ClauseLemmas.{Both-from_first_error, None-from_fails, NoneFails-from_first_clause, SizesFit, SizesFit-from_check, CountsFit, CountsFit-from_check, OrderHolds-from_check, RolesHold, RolesHold-from_check, PartsLie, PartsLie-from_check, SegmentsHold, SegmentsHold-from_check, SharesHold, SharesHold-from_check}
+
+-- ---- clauses 8 to 10
+
+pub record InputsHold (l : Layout) : Type 0 where
+  pub order : section_misplaced l (addresses l.parts) 0 l.groups ≡ None
+  pub lengths : All (λ g. each_section length_fits g ≡ true) l.groups
+  pub raw : All (λ g. each_section (part_is_raw l) g ≡ true) l.groups
+  pub allocation : All (λ g. each_section (allocation_agrees l) g ≡ true) l.groups
+  pub room : All (λ g. each_section (bytes_take_room l) g ≡ true) l.groups
+
+pub InputsHold-from_check : (l : Layout) → check_inputs l ≡ Ok tt → InputsHold l
+unfolding check_inputs
+InputsHold-from_check l h =
+    let a = Both-from_first_error _ _ h in
+    let b = Both-from_first_error _ _ a.rest in
+    let c = Both-from_first_error _ _ b.rest in
+    let d = Both-from_first_error _ _ c.rest in
+    let e = Both-from_first_error _ _ d.rest in
+    record {
+      order = None-from_fails 8 _ a.first;
+      lengths = All-from_none_fails (each_section length_fits) 0 l.groups (None-from_fails 8 _ b.first);
+      raw = All-from_none_fails (each_section (part_is_raw l)) 0 l.groups (None-from_fails 8 _ d.first);
+      allocation = All-from_none_fails (each_section (allocation_agrees l)) 0 l.groups (None-from_fails 8 _ e.first);
+      room = All-from_none_fails (each_section (bytes_take_room l)) 0 l.groups (None-from_fails 8 _ e.rest);
+    }
+
+pub record IndexesHold (l : Layout) : Type 0 where
+  pub parts : All (λ p. part_index_fits l p ≡ true) l.parts
+  pub symbols : symbol_misfit l (files_of l.groups) 0 l.symbols ≡ None
+  pub groups : All (λ g. group_indexes_fit l g ≡ true) l.groups
+
+pub IndexesHold-from_check : (l : Layout) → check_indexes l ≡ Ok tt → IndexesHold l
+unfolding check_indexes
+IndexesHold-from_check l h =
+    let a = Both-from_first_error _ _ h in
+    let b = Both-from_first_error _ _ a.rest in
+    let c = Both-from_first_error _ _ b.rest in
+    record {
+      parts = All-from_none_fails (part_index_fits l) 0 l.parts (None-from_fails 9 _ a.first);
+      symbols = None-from_fails 9 _ b.first;
+      groups = All-from_none_fails (group_indexes_fit l) 0 l.groups (None-from_fails 9 _ c.first);
+    }
+
+pub FieldsLie-from_check : (l : Layout) → check_fields l ≡ Ok tt → All (λ g. each_section (fields_lie l.machine) g ≡ true) l.groups
+unfolding check_fields
+FieldsLie-from_check l h = All-from_none_fails (each_section (fields_lie l.machine)) 0 l.groups (None-from_fails 10 _ h)
+
+-- ---- all of them, and the shares
+
+pub record Laid (l : Layout) : Type 0 where
+  pub sizes : SizesFit l
+  pub counts : CountsFit l
+  pub order : part_out_of_order l 0 0 l.parts ≡ None
+  pub roles : RolesHold l
+  pub parts : PartsLie l
+  pub segments : SegmentsHold l
+  pub shares : SharesHold l
+  pub inputs : InputsHold l
+  pub indexes : IndexesHold l
+  pub fields : All (λ g. each_section (fields_lie l.machine) g ≡ true) l.groups
+  pub slots : check_slots l ≡ Ok tt
+  pub slot_flags : check_slot_flags l ≡ Ok tt
+  pub needed : flat_map_from (part_errors l) 0 l.parts ≡ []
+
+pub Laid-from_clauses : (l : Layout) → first_clause l ≡ Ok tt → flat_map_from (part_errors l) 0 l.parts ≡ [] → Laid l
+Laid-from_clauses l h n =
+    let c = NoneFails-from_first_clause l h in
+    record {
+      sizes = SizesFit-from_check l c.sizes;
+      counts = CountsFit-from_check l c.counts;
+      order = OrderHolds-from_check l c.order;
+      roles = RolesHold-from_check l c.roles;
+      parts = PartsLie-from_check l c.sections;
+      segments = SegmentsHold-from_check l c.segments;
+      shares = SharesHold-from_check l c.shares;
+      inputs = InputsHold-from_check l c.inputs;
+      indexes = IndexesHold-from_check l c.indexes;
+      fields = FieldsLie-from_check l c.fields;
+      slots = c.slots;
+      slot_flags = c.slot_flags;
+      needed = n;
+    }

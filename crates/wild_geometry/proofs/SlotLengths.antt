@@ -1,0 +1,107 @@
+-- How long it is what slots and stubs give to the parts.
+use Rattle.std.proofs.Common.{◌≡◌, ℕ, ◌+◌, ◌*◌, inl, inr, List, [], ◌∷◌, length, flat_map, refl, ◌∙◌, arith, if◌then◌else◌}
+use Rattle.std.proofs.lemmas.Bool.{cases_Bool}
+use Rattle.std.proofs.lemmas.List.{length-append}
+use Rattle.wild_words.specs.Words.{word}
+use Rattle.wild_words.proofs.WordLemmas.{length-word}
+use Rattle.wild_words.proofs.OverlayLemmas.{length-place}
+use Rattle.wild_records.specs.Relocations.{rela_size}
+use Rattle.wild_relr.specs.Written.{word_bytes}
+use Rattle.wild_relr.proofs.SpellLemmas.{length-word_bytes}
+use Rattle.wild_plan.specs.declared.part.Role.{Role}
+use Rattle.wild_plan.specs.declared.part.Role.TheVariants as role
+use Rattle.wild_plan.specs.declared.file.File.{File}
+use Rattle.wild_plan.specs.declared.file.Group.{Group}
+use Rattle.wild_plan.specs.declared.symbol.Symbol.{Symbol}
+use Rattle.wild_plan.specs.declared.layout.Layout.{Layout}
+use Rattle.wild_plan.specs.declared.slot_parts.WordPart.{WordPart}
+use Rattle.wild_plan.specs.declared.slot_parts.WordPart.TheVariants as words
+use Rattle.wild_plan.specs.declared.slot_parts.EntryPart.{EntryPart}
+use Rattle.wild_plan.specs.declared.slot_parts.EntryPart.TheVariants as entries
+use Rattle.wild_plan.specs.Lists.{total}
+use Rattle.wild_plan.specs.SlotShares.{word_size, stub_size, own_symbols, slots_of, words_in, entries_in, header_words, block_words, slot_share, header_share, block_share}
+use Rattle.wild_plan.specs.Stub.{stub_x86_64, stub_template, displacement_x86_64}
+use Rattle.wild_tables.specs.Entries.{rela_bytes}
+use Rattle.wild_tables.proofs.EntryLemmas.{length-rela_bytes}
+use Rattle.wild_layout.specs.SlotBytes.{symbol_entries, stub_bytes, flat_in, slot_words_of, slot_entries_of, stubs_of, flat_places_of, slot_bytes, storage_entries, header_bytes, block_bytes}
+
+-- a multiple of the length of lists joined end to end
+multiple_joined : {X Y : Type 0} (m : ℕ → ℕ) → m 0 ≡ 0 → ((a b : ℕ) → m (a + b) ≡ m a + m b) → (f : X → List Y) (xs : List X) → m (length (flat_map f xs)) ≡ total (λ (x : X). m (length (f x))) xs
+multiple_joined m zero sum f [] = zero
+multiple_joined m zero sum f (x ∷ xs) =
+    let a = length-append (f x) (flat_map f xs) in
+    let b = multiple_joined m zero sum f xs in
+    let c = sum (length (f x)) (length (flat_map f xs)) in
+    rw a (omega arith)
+
+nothing_of_each : {X : Type 0} (f : X → ℕ) (xs : List X) → ((x : X) → f x ≡ 0) → total f xs ≡ 0
+nothing_of_each f [] h = refl
+nothing_of_each f (x ∷ xs) h =
+    let a = h x in
+    let b = nothing_of_each f xs h in
+    omega arith
+
+-- ---- by file
+
+words_length : (part : WordPart) (l : Layout) (f : File) → length (word_bytes (slot_words_of part l f)) ≡ total (λ (s : Symbol). word_size * length (words_in part l s)) (own_symbols l f)
+unfolding slot_words_of
+words_length part l f = length-word_bytes (flat_map (words_in part l) (own_symbols l f)) ∙ multiple_joined (λ n. 8 * n) refl (λ a b. omega arith) (words_in part l) (own_symbols l f)
+
+entries_length : (part : EntryPart) (l : Layout) (f : File) → length (rela_bytes (slot_entries_of part l f)) ≡ total (λ (s : Symbol). rela_size * entries_in part l s) (own_symbols l f)
+unfolding slot_entries_of
+entries_length part l f = length-rela_bytes (flat_map (symbol_entries part l) (own_symbols l f)) ∙ multiple_joined (λ n. 24 * n) refl (λ a b. omega arith) (symbol_entries part l) (own_symbols l f)
+
+flat_length : (l : Layout) (f : File) → length (word_bytes (flat_places_of l f)) ≡ total (λ (s : Symbol). word_size * length (flat_in l s)) (own_symbols l f)
+unfolding flat_places_of
+flat_length l f = length-word_bytes (flat_map (flat_in l) (own_symbols l f)) ∙ multiple_joined (λ n. 8 * n) refl (λ a b. omega arith) (flat_in l) (own_symbols l f)
+
+pub length-stub : (slot stub : ℕ) → length (stub_x86_64 slot stub).bytes ≡ stub_size
+length-stub slot stub =
+    let d = displacement_x86_64 slot stub in
+    let w = length-word 4 d in
+    length-place 7 stub_template (word 4 d) (omega arith)
+
+stub_length : (l : Layout) (s : Symbol) → length (stub_bytes l s) ≡ (if (slots_of l s).has_stub then stub_size else 0)
+stub_length l s =
+    elim (cases_Bool (slots_of l s).has_stub) [
+      | inl t ↦ rw t (length-stub _ _)
+      | inr f ↦ rw f refl
+    ]
+
+stubs_length : (l : Layout) (f : File) → length (stubs_of l f) ≡ total (λ (s : Symbol). if (slots_of l s).has_stub then stub_size else 0) (own_symbols l f)
+unfolding stubs_of
+stubs_length l f = each (own_symbols l f)
+  where
+    each : (ss : List Symbol) → length (flat_map (stub_bytes l) ss) ≡ total (λ (s : Symbol). if (slots_of l s).has_stub then stub_size else 0) ss
+    each [] = refl
+    each (s ∷ ss) =
+        let a = length-append (stub_bytes l s) (flat_map (stub_bytes l) ss) in
+        let b = stub_length l s in
+        let c = each ss in
+        omega arith
+
+-- what a file's slots and stubs give to a part is as long as their share
+pub slot_length : (l : Layout) (r : Role) (f : File) → length (slot_bytes l r f) ≡ slot_share l r f
+unfolding slot_share
+slot_length l role.Got f = words_length words.Got l f
+slot_length l role.GotRelr f = words_length words.Block l f
+slot_length l role.PltGot f = stubs_length l f
+slot_length l role.RelaPlt f = entries_length entries.Plt l f
+slot_length l role.RelaDynRelative f = entries_length entries.Relative l f
+slot_length l role.RelaDynGeneral f = entries_length entries.General l f
+slot_length l role.RelrDyn f = flat_length l f
+slot_length l other f = nothing
+  where
+    nothing : 0 ≡ total (λ (s : Symbol). 0) (own_symbols l f)
+    nothing = let e = nothing_of_each (λ (s : Symbol). 0) (own_symbols l f) (λ s. refl) in omega arith
+
+-- ---- what stands once, and blocks
+
+pub header_length : (l : Layout) (r : Role) → length (header_bytes l r) ≡ header_share l r
+header_length l role.Got = length-word_bytes (header_words l)
+header_length l role.RelaDynGeneral = length-rela_bytes (storage_entries l)
+header_length l other = refl
+
+pub block_length : (l : Layout) (r : Role) (g : Group) → length (block_bytes l r g) ≡ block_share l r g
+block_length l role.RelrDyn g = length-word_bytes (block_words l g)
+block_length l other g = refl
