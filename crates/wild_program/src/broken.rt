@@ -2,12 +2,14 @@
 mod layouts;
 mod movable;
 mod references;
+mod slots;
 mod texts;
 
 use crate::tests::{CALM, answer};
 use layouts::LAYOUTS;
 use movable::MOVABLE;
 use references::REFERENCES;
+use slots::SLOTS;
 use std::alloc::Global;
 use std::process::Abort;
 use std::test::*;
@@ -62,6 +64,11 @@ fn first_fault_for_any_workers(rt: HostRuntime) -> Result<(), Fail> {
 #[test]
 fn movable_outputs(rt: HostRuntime) -> Result<(), Fail> {
     answers(&rt, rt.alloc(), &MOVABLE)
+}
+
+#[test]
+fn slots_and_stubs(rt: HostRuntime) -> Result<(), Fail> {
+    answers(&rt, rt.alloc(), &SLOTS)
 }
 
 #[test]

@@ -9,6 +9,8 @@ mod making;
 #[cfg(test)]
 mod moved;
 mod program;
+#[cfg(test)]
+mod slots;
 mod status;
 #[cfg(test)]
 mod tests;

@@ -83,13 +83,18 @@ fn moved_image(rt: HostRuntime) -> Result<(), Fail> {
     Ok(())
 }
 
-/// The image of an answer, loaded at a base.
-fn loaded_at(alloc: Global, text: &str, base: u64) -> Result<Memory, Fail> {
+/// The bytes of the image in an answer.
+pub(crate) fn image_of(alloc: Global, text: &str) -> Result<Vec<u8>, Fail> {
     let mut digits = String::new(alloc);
     for line in text.lines().skip(2) {
         digits.push_str(line)?;
     }
-    let image = hex::decode(alloc, digits.as_str()).ok().ok_or("no hex")?;
+    Ok(hex::decode(alloc, digits.as_str()).ok().ok_or("no hex")?)
+}
+
+/// The image of an answer, loaded at a base.
+fn loaded_at(alloc: Global, text: &str, base: u64) -> Result<Memory, Fail> {
+    let image = image_of(alloc, text)?;
     let world = World {
         base,
         symbols: Items::new(alloc),

@@ -1,7 +1,7 @@
 //! Stubs and rewrites as other tools write them.
 use super::*;
 use std::test::Fail;
-use wild_plan::{OutputKind, RelocationModel, ValueFlags};
+use wild_plan::{OutputKind, PltTooFar, RelocationModel, ValueFlags};
 use wild_reloc::RelocationKind;
 
 const CODE: u64 = 6;

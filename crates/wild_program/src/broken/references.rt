@@ -11,8 +11,8 @@ pub(super) const REFERENCES: [Broken; 35] = [
     // relocations
     Broken {
         plan: SMALLEST,
-        changes: &[(r#""number":2,"#, r#""number":3,"#)],
-        answer: "refused UnsupportedRelocation number=3 at group=0 file=1 section=0 offset=1",
+        changes: &[(r#""number":2,"#, r#""number":34,"#)],
+        answer: "refused UnsupportedRelocation number=34 at group=0 file=1 section=0 offset=1",
     },
     Broken {
         plan: SMALLEST,
