@@ -46,6 +46,8 @@ none_behind f n i xs x h read before here = one_from f n i xs x h read ∙ rw (b
 pub refuses_behind : {X : Type 0} (f : ℕ → X → List Error) (n i : ℕ) (xs : List X) (x : X) (e : Error) → i < length xs → x ≡ get_or xs i x → flat_map_from f n (take i xs) ≡ [] → Refuses e (f (n + i) x) → Refuses e (flat_map_from f n xs)
 refuses_behind {X} f n i xs x e h read none here = let P : X → Type 0 = λ y. Refuses e (f (n + i) y) in refuses_from_at f n (n + i) xs i x e refl h none (subst P read here)
 
+pub ruleset first_behind = (refuses_behind, none_behind)
+
 -- one more item's pieces
 pub overlay_behind : {X : Type 0} (f : ℕ → X → List Piece) (n i : ℕ) (xs : List X) (x : X) (base now next : List ℕ) → i < length xs → x ≡ get_or xs i x → now ≡ overlay (flat_map_from f n (take i xs)) base → next ≡ overlay (f (n + i) x) now → next ≡ overlay (flat_map_from f n (take (i + 1) xs)) base
 overlay_behind f n i xs x base now next h read e s =

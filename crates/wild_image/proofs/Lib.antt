@@ -15,3 +15,4 @@ pub mod AscendingLemmas
 pub mod OwnLemmas
 pub mod BatchLemmas
 pub mod PlainLemmas
+pub mod SlotLemmas

@@ -28,12 +28,12 @@ use Rattle.wild_plan.specs.Dynamic.{NamedString, named, named_strings, texts_of,
 use Rattle.wild_tables.specs.Entries.{rela_bytes}
 use Rattle.wild_tables.specs.Dynamic.{dynamic_bytes}
 use Rattle.wild_layout.specs.Moved.{listed_entry, section_entries}
-use Rattle.wild_layout.specs.Content.{file_content, content}
+use Rattle.wild_layout.specs.Content.{content}
 use Rattle.wild_image.specs.Pieces.{role_of, group_given}
 use Rattle.wild_image.specs.Own.{entry_bytes, section_entry_bytes, section_word_bytes, packed_in, zero_ended}
 
 -- lists of lists, joined
-joined_by : {X Y Z : Type 0} (f : Y → List Z) (g : X → List Y) (xs : List X) → flat_map (λ x. flat_map f (g x)) xs ≡ flat_map f (flat_map g xs)
+pub joined_by : {X Y Z : Type 0} (f : Y → List Z) (g : X → List Y) (xs : List X) → flat_map (λ x. flat_map f (g x)) xs ≡ flat_map f (flat_map g xs)
 joined_by f g [] = refl
 joined_by f g (x ∷ xs) = ap (λ ys. flat_map f (g x) ++ ys) (joined_by f g xs) ∙ sym (flat_map-append f (g x) (flat_map g xs))
 
@@ -47,7 +47,7 @@ none_added bytes own none = sym (append-nil bytes) ∙ ap (λ (ys : List ℕ). b
 
 -- what a group gives to a part, by the part's role
 pub given_is : (l : Layout) (i : ℕ) (p : Part) (g : Group) → slice_get l.parts i ≡ Some p → group_given l i g ≡ content l p.role g
-given_is l i p g e = ap (λ (o : Option Part). flat_map (file_content l (role_of o)) g.files) e
+given_is l i p g e = ap (λ (o : Option Part). content l (role_of o) g) e
 
 -- ---- entries
 

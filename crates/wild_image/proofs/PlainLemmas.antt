@@ -1,6 +1,6 @@
 -- Groups that write nothing but their input sections.
 use Rattle.std.proofs.Common.{◌≡◌, ℕ, zero, suc, ◌+◌, ◌<◌, ◌==◌, inl, inr, Bool, true, false, List, [], ◌∷◌, ◌++◌, length, take, get_or, refl, sym, ap, ◌∙◌, arith, subst}
-use Rattle.std.specs.Prelude.{not, ◌&&◌, if◌then◌else◌, Some, slice_get}
+use Rattle.std.specs.Prelude.{not, ◌&&◌, min, ◌-◌, ◌^◌, if◌then◌else◌, Some, slice_get}
 use Rattle.std.specs.List.{flat_map, list_all}
 use Rattle.std.proofs.lemmas.Bool.{cases_Bool, cases_order, and_parts, eqb-true, eqb-false}
 use Rattle.std.proofs.lemmas.List.{append-nil, nil_from_length}
@@ -15,7 +15,9 @@ use Rattle.wild_plan.specs.Contents.{given}
 use Rattle.wild_plan.specs.Kinds.{is_position_independent}
 use Rattle.wild_plan.specs.Lists.{total}
 use Rattle.wild_plan.specs.Places.{role_place}
-use Rattle.wild_plan.specs.Needs.{is_prelude, is_epilogue, is_plain, last_of, share, needs_of, needs}
+use Rattle.wild_plan.specs.Needs.{is_prelude, is_epilogue, has_plain_role, is_plain, last_of, share, group_share, needs_of, needs}
+use Rattle.wild_plan.specs.SlotPlaces.{is_without}
+use Rattle.wild_plan.specs.SlotShares.{own_symbols, block_share}
 use Rattle.wild_tables.specs.Dynamic.{dynamic_bytes}
 use Rattle.wild_layout.specs.Content.{dynamic_room, content}
 use Rattle.wild_layout.specs.Faults.{flat_map_from, has_spare, share_errors}
@@ -23,6 +25,10 @@ use Rattle.wild_geometry.proofs.ContentLemmas.{length-content, length-dynamic_co
 use Rattle.wild_geometry.proofs.TableLemmas.{same_role}
 use Rattle.wild_image.specs.Pieces.{group_tables}
 use Rattle.wild_image.specs.Steps.{share_faults, part_faults}
+
+-- neither their files nor their block of slots
+pub nothing_shared : (l : Layout) (g : Group) → ((q : Role) → total (share l q) g.files ≡ 0) → ((q : Role) → block_share l q g ≡ 0) → (q : Role) → group_share l q g ≡ 0
+nothing_shared l g files block q = let a = files q in let b = block q in omega (arith, a, b)
 
 -- ---- what they give to the tables
 
@@ -33,7 +39,8 @@ no_last : (l : Layout) (n : ℕ) (files : List File) → list_all (is_plain l) f
 no_last l n [] h = refl
 no_last l n (f ∷ files) h =
     let p = and_parts (is_plain l f) (list_all (is_plain l) files) h in
-    let q = and_parts (not (is_position_independent l.kind) && not (is_prelude f.role)) (not (is_epilogue f.role)) p.0 in
+    let r = and_parts (has_plain_role l f) (list_all is_without (own_symbols l f)) p.0 in
+    let q = and_parts (not (is_position_independent l.kind) && not (is_prelude f.role)) (not (is_epilogue f.role)) r.0 in
     let a = last_none (is_epilogue f.role) n (no (is_epilogue f.role) q.1) in
     let b = no_last l n files p.1 in
     omega (arith, a, b)
@@ -42,7 +49,7 @@ no_last l n (f ∷ files) h =
     no true h = cc
     no false h = refl
 
-content_plain : (l : Layout) (r : Role) (g : Group) → list_all (is_plain l) g.files ≡ true → ((q : Role) → total (share l q) g.files ≡ 0) → content l r g ≡ []
+content_plain : (l : Layout) (r : Role) (g : Group) → list_all (is_plain l) g.files ≡ true → ((q : Role) → group_share l q g ≡ 0) → content l r g ≡ []
 content_plain l r g plain none =
     elim (cases_Bool (role_place r == role_place role.Dynamic)) [
       | inl t ↦
@@ -56,16 +63,19 @@ flat_map-none : {X Y : Type 0} (f : X → List Y) (xs : List X) → ((x : X) →
 flat_map-none f [] h = refl
 flat_map-none f (x ∷ xs) h = let a = h x in let b = flat_map-none f xs h in rw (a, b) refl
 
-pub tables_plain : (l : Layout) (g : Group) (bytes : List ℕ) → list_all (is_plain l) g.files ≡ true → ((q : Role) → total (share l q) g.files ≡ 0) → bytes ≡ bytes ++ group_tables l g
+pub tables_plain : (l : Layout) (g : Group) (bytes : List ℕ) → list_all (is_plain l) g.files ≡ true → ((q : Role) → group_share l q g ≡ 0) → bytes ≡ bytes ++ group_tables l g
 tables_plain l g bytes plain none = let e = flat_map-none (λ (p : Part). content l p.role g) l.parts (λ p. content_plain l p.role g plain none) in rw e (sym (append-nil bytes))
 
 -- ---- what they need
 
-need_none : (l : Layout) (r : Role) (i : ℕ) (g : Group) → given i g ≡ 0 → ((q : Role) → total (share l q) g.files ≡ 0) → needs_of l r i g ≡ 0
-need_none l role.Raw i g zero_is none = zero_is
-need_none l other i g zero_is none = let e = none other in rw e refl
+zero_least : (n : ℕ) → n ≡ 0 → min (2 ^ 64 - 1) n ≡ 0
+zero_least n e = rw e refl
 
-needs_none : (l : Layout) (i j : ℕ) (p : Part) (g : Group) → slice_get l.parts i ≡ Some p → slice_get l.groups j ≡ Some g → given i g ≡ 0 → ((q : Role) → total (share l q) g.files ≡ 0) → needs l i j ≡ 0
+need_none : (l : Layout) (r : Role) (i : ℕ) (g : Group) → given i g ≡ 0 → ((q : Role) → group_share l q g ≡ 0) → needs_of l r i g ≡ 0
+need_none l role.Raw i g zero_is none = zero_is
+need_none l other i g zero_is none = zero_least (group_share l other g) (none other)
+
+needs_none : (l : Layout) (i j : ℕ) (p : Part) (g : Group) → slice_get l.parts i ≡ Some p → slice_get l.groups j ≡ Some g → given i g ≡ 0 → ((q : Role) → group_share l q g ≡ 0) → needs l i j ≡ 0
 unfolding needs
 needs_none l i j p g part group zero_is none = rw (part, group) (need_none l p.role i g zero_is none)
 
@@ -73,7 +83,7 @@ errors_none : (spare : Bool) (i j has needed : ℕ) → has ≡ 0 → needed ≡
 errors_none true i j has needed a b = rw (a, b) refl
 errors_none false i j has needed a b = rw (a, b) refl
 
-pub share_plain : (l : Layout) (i j : ℕ) (p : Part) (g : Group) → slice_get l.parts i ≡ Some p → slice_get l.groups j ≡ Some g → given i g ≡ 0 → ((q : Role) → total (share l q) g.files ≡ 0) → share_faults l i p j g ≡ []
+pub share_plain : (l : Layout) (i j : ℕ) (p : Part) (g : Group) → slice_get l.parts i ≡ Some p → slice_get l.groups j ≡ Some g → given i g ≡ 0 → ((q : Role) → group_share l q g ≡ 0) → share_faults l i p j g ≡ []
 unfolding share_faults
 share_plain l i j p g part group zero_is none = errors_none (has_spare p g) i j (given i g) (needs l i j) zero_is (needs_none l i j p g part group zero_is none)
 

@@ -1,17 +1,24 @@
--- What a file gives to the tables that a loader reads, relocation by relocation and section by section.
+-- What a file gives to the tables that a loader reads, relocation by relocation, section by section and symbol by symbol.
 --   entry_bytes l s r      the bytes of the entry of relocation r of an input section; none where it has none
 --   packed_in l s r        its place, where that is packed
 --   zero_ended text        a string of a string table
+--   symbol_word_bytes p l s, symbol_entry_bytes p l s, symbol_flat_bytes l s
+--                          the bytes of the words of a symbol's slots in a part, of their entries in one, and of their
+--                          places that have a RELR word of their own
 use Rattle.std.specs.Prelude.{ℕ, List, [], ◌∷◌, ◌++◌, option_to_list}
 use Rattle.std.specs.List.{flat_map}
 use Rattle.wild_plan.specs.declared.input.InputRelocation.{InputRelocation}
 use Rattle.wild_plan.specs.declared.input.InputSection.{InputSection}
-use Rattle.wild_plan.specs.declared.file.File.{File}
+use Rattle.wild_plan.specs.declared.symbol.Symbol.{Symbol}
 use Rattle.wild_plan.specs.declared.layout.Layout.{Layout}
+use Rattle.wild_plan.specs.declared.slot_parts.WordPart.{WordPart}
+use Rattle.wild_plan.specs.declared.slot_parts.EntryPart.{EntryPart}
 use Rattle.wild_plan.specs.Entries.{packed_place, words_of}
+use Rattle.wild_plan.specs.SlotShares.{words_in}
 use Rattle.wild_relr.specs.Written.{word_bytes}
 use Rattle.wild_tables.specs.Entries.{rela_bytes}
 use Rattle.wild_layout.specs.Moved.{listed_entry, section_entries}
+use Rattle.wild_layout.specs.SlotBytes.{symbol_entries, flat_in}
 
 -- the bytes of the entry of a relocation; none where it has none
 unfoldable pub entry_bytes : Layout → InputSection → InputRelocation → List ℕ
@@ -32,3 +39,15 @@ packed_in l s r = option_to_list (packed_place l s r)
 -- a string of a string table (gABI, "String Table")
 abbrev pub zero_ended : List ℕ → List ℕ
 zero_ended text = text ++ 0 ∷ []
+
+-- the words of a symbol's slots in a part
+unfoldable pub symbol_word_bytes : WordPart → Layout → Symbol → List ℕ
+symbol_word_bytes part l s = word_bytes (words_in part l s)
+
+-- their entries in one
+unfoldable pub symbol_entry_bytes : EntryPart → Layout → Symbol → List ℕ
+symbol_entry_bytes part l s = rela_bytes (symbol_entries part l s)
+
+-- their places that have a RELR word of their own
+unfoldable pub symbol_flat_bytes : Layout → Symbol → List ℕ
+symbol_flat_bytes l s = word_bytes (flat_in l s)

@@ -15,7 +15,7 @@ use Rattle.wild_plan.specs.declared.file.Group.{Group}
 use Rattle.wild_plan.specs.declared.layout.Layout.{Layout}
 use Rattle.wild_plan.specs.Lookups.{section_of, is_filled, is_read}
 use Rattle.wild_layout.specs.Sites.{section_bytes}
-use Rattle.wild_layout.specs.Content.{file_content, content}
+use Rattle.wild_layout.specs.Content.{content}
 
 -- the bytes of an input section, where it owns some of that part
 abbrev pub owned_in : Layout → ℕ → InputSection → List ℕ
@@ -32,13 +32,9 @@ abbrev pub role_of : Option Part → Role
 role_of None = role.Raw
 role_of (Some p) = p.role
 
--- what a file gives to a part
-abbrev pub file_given : Layout → ℕ → File → List ℕ
-file_given l part f = file_content l (role_of (slice_get l.parts part)) f
-
 -- what a group gives to a part
 abbrev pub group_given : Layout → ℕ → Group → List ℕ
-group_given l part g = flat_map (file_given l part) g.files
+group_given l part g = content l (role_of (slice_get l.parts part)) g
 
 -- all that a group has of a part
 abbrev pub group_part : Layout → Group → ℕ → List ℕ

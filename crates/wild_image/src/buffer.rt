@@ -4,7 +4,7 @@ ghost use Rattle.std.specs.Prelude.{◌≡◌, ◌+◌, ◌<◌, ◌^◌, ◌++�
 ghost use Rattle.wild_plan.specs.declared.file.File.{File};
 ghost use Rattle.wild_plan.specs.declared.file.Group.{Group};
 ghost use Rattle.wild_plan.specs.Faults.{Answers};
-ghost use Rattle.wild_layout.specs.Faults.{section_errors, file_errors, group_errors};
+ghost use Rattle.wild_layout.specs.Faults.{flat_map_from, section_errors, file_errors, group_errors};
 ghost use Rattle.wild_layout.specs.Geometry.{SectionLies};
 ghost use Rattle.wild_image.specs.Pieces.{section_owned, file_sections, group_sections, group_tables, group_bytes};
 ghost use Rattle.wild_image.specs.Batches.{batch_errors, batch_bytes};
@@ -14,6 +14,7 @@ use crate::batch::Batch;
 use crate::part_bytes::PartBytes;
 use crate::piece::{check_data, zeros};
 use crate::place::InputPlace;
+use crate::slot_faults::check_slots;
 use crate::tables::add_content;
 use crate::values::Resolved;
 use std::alloc::{AllocError, Global};
@@ -63,8 +64,8 @@ fn add_section<A: Arch>(
     Ok(())
 }
 
-/// Adds the bytes of the sections of a file, or answers its first fault.
-#[tactic(auto, using(crate::proofs::FaultLemmas::first_from), unfolding(wild_layout::specs::Faults::file_errors))]
+/// Adds the bytes of the sections of a file, or answers their first fault.
+#[tactic(auto, using(crate::proofs::FaultLemmas::first_from))]
 fn add_file_sections<A: Arch>(
     alloc: Global,
     resolved: &Resolved<A>,
@@ -73,7 +74,7 @@ fn add_file_sections<A: Arch>(
     bytes: &mut PartBytes,
 ) -> Result<(), Error>
     requires lies { All (SectionLies resolved.now.layout.now) file.now.sections }
-    ensures faults { Answers result (file_errors resolved.now.layout.now place.group place.file file.now) }
+    ensures faults { Answers result (flat_map_from (section_errors resolved.now.layout.now place.group place.file) 0 file.now.sections) }
     ensures bytes { OnOk result (bytes.new ≡ bytes.old ++ file_sections resolved.now.layout.now file.now) }
 {
     for (i, section) in file.sections.as_slice().iter().enumerate() {
@@ -84,6 +85,23 @@ fn add_file_sections<A: Arch>(
         add_section(alloc, resolved, here, section, bytes)?;
     }
     Ok(())
+}
+
+/// Adds the bytes of the sections of a file, or answers its first fault: that of its sections, or else of its slots.
+#[tactic(auto, using(crate::proofs::FaultLemmas::first_of_both), unfolding(wild_layout::specs::Faults::file_errors))]
+fn add_file<A: Arch>(
+    alloc: Global,
+    resolved: &Resolved<A>,
+    place: InputPlace,
+    file: &File,
+    bytes: &mut PartBytes,
+) -> Result<(), Error>
+    requires lies { All (SectionLies resolved.now.layout.now) file.now.sections }
+    ensures faults { Answers result (file_errors resolved.now.layout.now place.group place.file file.now) }
+    ensures bytes { OnOk result (bytes.new ≡ bytes.old ++ file_sections resolved.now.layout.now file.now) }
+{
+    add_file_sections(alloc, resolved, place, file, bytes)?;
+    check_slots(resolved.layout, place, file)
 }
 
 /// Adds the bytes of a group's input sections, or answers its first fault.
@@ -105,7 +123,7 @@ fn add_group_sections<A: Arch>(
             file: i,
             section: 0,
         };
-        add_file_sections(alloc, resolved, place, file, bytes)?;
+        add_file(alloc, resolved, place, file, bytes)?;
     }
     Ok(())
 }

@@ -33,7 +33,7 @@ fn listed_place(
 }
 
 /// Adds an entry.
-fn add_entry(entry: Rela, bytes: &mut PartBytes) -> Result<(), AllocError>
+pub(crate) fn add_entry(entry: Rela, bytes: &mut PartBytes) -> Result<(), AllocError>
     ensures { OnOk result (bytes.new ≡ bytes.old ++ rela_bytes (entry ∷ [])) }
 {
     let mut room = [0; Rela::SIZE];

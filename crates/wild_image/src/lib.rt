@@ -6,6 +6,7 @@ mod arch;
 mod batch;
 mod buffer;
 mod entries;
+mod indirect;
 mod job;
 mod output;
 mod overlap;
@@ -19,6 +20,12 @@ mod relocation;
 mod resolve;
 mod section;
 mod shares;
+mod slot_faults;
+mod slot_tables;
+#[cfg(test)]
+mod slot_tests;
+mod slot_words;
+mod slots;
 mod tables;
 #[cfg(test)]
 mod tests;

@@ -14,6 +14,7 @@ use crate::pairs::pairs_of_group;
 use crate::part_bytes::PartBytes;
 use crate::place::InputPlace;
 use crate::section::write_data;
+use crate::slot_faults::check_slots;
 use crate::tables::add_tables;
 use crate::values::Resolved;
 use std::alloc::{AllocError, Global};
@@ -72,8 +73,33 @@ fn take_section<A: Arch>(
     Ok(())
 }
 
-/// Adds the bytes of the sections of a file to those of their parts, or answers its first fault.
-#[tactic(auto, using(crate::proofs::FaultLemmas::first_from), unfolding(wild_layout::specs::Faults::file_errors))]
+/// Adds the bytes of the sections of a file to those of their parts, or answers their first fault.
+#[tactic(auto, using(crate::proofs::FaultLemmas::first_from))]
+fn take_sections<A: Arch>(
+    alloc: Global,
+    resolved: &Resolved<A>,
+    place: InputPlace,
+    file: &File,
+    parts: &mut [PartBytes],
+) -> Result<(), Error>
+    requires lies { All (SectionLies resolved.now.layout.now) file.now.sections }
+    requires room { length parts.old ≡ length resolved.now.layout.now.parts }
+    ensures faults { Answers result (flat_map_from (section_errors resolved.now.layout.now place.group place.file) 0 file.now.sections) }
+    ensures owned { OnOk result ((k : ℕ) → k < length parts.old → slice_index_or parts.new k [] ≡ slice_index_or parts.old k [] ++ file_owned resolved.now.layout.now k file.now) }
+{
+    for (i, section) in file.sections.as_slice().iter().enumerate() {
+        let here = InputPlace {
+            section: i,
+            ..place
+        };
+        take_section(alloc, resolved, here, section, parts)?;
+    }
+    Ok(())
+}
+
+/// Adds the bytes of the sections of a file to those of their parts, or answers its first fault: that of its sections,
+/// or else of its slots.
+#[tactic(auto, using(crate::proofs::FaultLemmas::first_of_both), unfolding(wild_layout::specs::Faults::file_errors))]
 fn take_file<A: Arch>(
     alloc: Global,
     resolved: &Resolved<A>,
@@ -86,14 +112,8 @@ fn take_file<A: Arch>(
     ensures faults { Answers result (file_errors resolved.now.layout.now place.group place.file file.now) }
     ensures owned { OnOk result ((k : ℕ) → k < length parts.old → slice_index_or parts.new k [] ≡ slice_index_or parts.old k [] ++ file_owned resolved.now.layout.now k file.now) }
 {
-    for (i, section) in file.sections.as_slice().iter().enumerate() {
-        let here = InputPlace {
-            section: i,
-            ..place
-        };
-        take_section(alloc, resolved, here, section, parts)?;
-    }
-    Ok(())
+    take_sections(alloc, resolved, place, file, parts)?;
+    check_slots(resolved.layout, place, file)
 }
 
 /// Adds the bytes of a group to those of their parts, or answers its first fault.

@@ -153,7 +153,7 @@ fn symbols(alloc: Global, address: u64) -> Result<Items<Symbol>, AllocError> {
     Ok(all)
 }
 
-fn file(alloc: Global, role: FileRole) -> File {
+pub(crate) fn file(alloc: Global, role: FileRole) -> File {
     File {
         role,
         first_symbol: SymbolIndex(0),
@@ -223,7 +223,7 @@ fn layout(alloc: Global, relocations: &[InputRelocation]) -> Result<Layout, Allo
     })
 }
 
-fn relocation(offset: u64, number: u32) -> InputRelocation {
+pub(crate) fn relocation(offset: u64, number: u32) -> InputRelocation {
     InputRelocation {
         offset,
         number,
@@ -454,7 +454,7 @@ fn two_workers_meet(rt: HostRuntime) -> Result<(), Fail> {
 
 /// A layout of a static position-independent executable with packed relocations, whose symbol 0 stands at 0x1040; it
 /// has no sections.
-fn movable(alloc: Global) -> Result<Layout, AllocError>
+pub(crate) fn movable(alloc: Global) -> Result<Layout, AllocError>
     ensures machine { IfOk result (λ l. l.machine ≡ machine.X86_64) }
     ensures fits { IfOk result (λ l. FieldsFit l) }
 {
@@ -482,7 +482,7 @@ fn address(offset: u64) -> InputRelocation {
 }
 
 /// Data at an address, with such relocations at these offsets.
-fn data(alloc: Global, start: u64, offsets: &[u64]) -> Result<InputSection, AllocError> {
+pub(crate) fn data(alloc: Global, start: u64, offsets: &[u64]) -> Result<InputSection, AllocError> {
     let mut relocations = Items::new(alloc);
     for offset in offsets {
         relocations.push(address(*offset))?;

@@ -42,6 +42,16 @@ fn reaches(value: u64) -> bool
     AllowedRange::from_bit_size(32, Sign::Signed).contains(value)
 }
 
+/// The stub at an address that goes on to the address in the slot, with as much of their distance as it can tell.
+pub fn put_stub(plt_entry: &mut [u8], got_address: u64, plt_address: u64)
+    requires { length plt_entry.old ≡ 16 }
+    ensures { plt_entry.new ≡ (stub_x86_64 got_address plt_address).bytes }
+{
+    let value = displacement(got_address, plt_address);
+    plt_entry.copy_from_slice(&STUB);
+    RelocationSize::ByteSize(Width::Four).write_at(value, plt_entry, DISPLACEMENT);
+}
+
 /// The stub at an address that goes on to the address in the slot. A refused call changes nothing.
 pub fn write_stub(plt_entry: &mut [u8], got_address: u64, plt_address: u64) -> Result<(), PltTooFar>
     requires room { length plt_entry.old ≡ 16 }
@@ -54,8 +64,7 @@ pub fn write_stub(plt_entry: &mut [u8], got_address: u64, plt_address: u64) -> R
     if !reaches(value) {
         return Err(PltTooFar { value });
     }
-    plt_entry.copy_from_slice(&STUB);
-    RelocationSize::ByteSize(Width::Four).write_at(value, plt_entry, DISPLACEMENT);
+    put_stub(plt_entry, got_address, plt_address);
     Ok(())
 }
 

@@ -28,7 +28,7 @@ pub enum Treatment {
 }
 
 /// What is known of the value of the symbol that defines a symbol.
-fn flags_at(layout: &Layout, symbol: SymbolIndex) -> ValueFlags
+pub fn flags_at(layout: &Layout, symbol: SymbolIndex) -> ValueFlags
     ensures { result ≡ flags_at layout.now symbol }
 {
     match layout.symbols.as_slice().get(layout.canonical(symbol).0) {

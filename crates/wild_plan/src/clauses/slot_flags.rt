@@ -32,7 +32,7 @@ pub(crate) fn has_dynamic_symbol(flags: ValueFlags) -> bool
 }
 
 /// Whether there is a slot or pair for a thread-local symbol.
-pub(crate) fn has_thread_slot(flags: ValueFlags) -> bool
+pub fn has_thread_slot(flags: ValueFlags) -> bool
     ensures { result ≡ has_thread_slot flags }
 {
     flags.needs_got_tls_offset() || flags.needs_got_tls_module() || flags.needs_got_tls_descriptor()

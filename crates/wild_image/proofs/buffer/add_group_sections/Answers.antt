@@ -6,6 +6,6 @@ use Rattle.wild_image.proofs.buffer.add_group_sections.Goals as goal
 
 pub loop-i-preserved : goal.loop-i-preserved
 loop-i-preserved g c = (
-  none_from (file_errors c.args.resolved.now.layout.now c.args.index) c.as_slice-file-items.result.now c.loop-i.i c.file-item.result c.loop-i-test.true c.file-item.is c.loop-i.invariant.0 c.in_ok-add_file_sections.ensures.faults,
-  bytes_read (file_sections c.args.resolved.now.layout.now) c.as_slice-file-items.result.now c.loop-i.i c.file-item.result c.args.bytes.now c.loop-i.bytes c.add_file_sections.new.bytes c.loop-i-test.true c.file-item.is c.loop-i.invariant.1 c.in_ok-add_file_sections.ensures.bytes,
+  none_from (file_errors c.args.resolved.now.layout.now c.args.index) c.as_slice-file-items.result.now c.loop-i.i c.file-item.result c.loop-i-test.true c.file-item.is c.loop-i.invariant.0 c.in_ok-add_file.ensures.faults,
+  bytes_read (file_sections c.args.resolved.now.layout.now) c.as_slice-file-items.result.now c.loop-i.i c.file-item.result c.args.bytes.now c.loop-i.bytes c.add_file.new.bytes c.loop-i-test.true c.file-item.is c.loop-i.invariant.1 c.in_ok-add_file.ensures.bytes,
 )
