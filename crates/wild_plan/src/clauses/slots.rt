@@ -20,11 +20,11 @@ use crate::symbol::Symbol;
 /// The next free word of `got` and of `got_relr`, the next free stub of `plt_got`, and the symbol behind all that had their
 /// turn.
 #[derive(Clone, Copy)]
-struct Free {
-    got: u128,
-    block: u128,
-    stub: u128,
-    symbol: usize,
+pub struct Free {
+    pub got: u128,
+    pub block: u128,
+    pub stub: u128,
+    pub symbol: usize,
 }
 
 /// Where the part of a role begins; 0 where there is none.

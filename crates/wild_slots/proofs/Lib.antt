@@ -1,0 +1,17 @@
+mod ItemLemmas
+mod SlotLemmas
+mod WalkLemmas
+mod CheckLemmas
+mod OrderLemmas
+mod TableLemmas
+mod BlockWordLemmas
+mod PlaceLemmas
+mod StandLemmas
+mod EachLemmas
+mod StubLemmas
+mod AscendLemmas
+mod SymbolPlaces
+mod PlacesLemmas
+mod BlockLemmas
+mod EntryLemmas
+mod IndirectLemmas

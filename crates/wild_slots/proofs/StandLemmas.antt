@@ -1,0 +1,193 @@
+-- The words and the stub of each symbol stand at their addresses.
+use Rattle.std.proofs.Common.{◌≡◌, ℕ, ◌+◌, ◌-◌, ◌*◌, ◌≤◌, inl, inr, Bool, true, false, List, [], ◌∷◌, ◌++◌, length, Some, None, Contains, refl, sym, ap, ◌∙◌, subst, arith, slice_get}
+use Rattle.std.specs.Prelude.{Option, if◌then◌else◌, replicate, unwrap_or}
+use Rattle.std.specs.List.{flat_map}
+use Rattle.std.proofs.lemmas.Bool.{cases_Bool, and_parts, eqb-true}
+use Rattle.std.proofs.lemmas.List.{length-replicate, append_assoc}
+use Rattle.std.proofs.lemmas.List.Concat.{flat_map-append}
+use Rattle.std.proofs.lemmas.List.Elements.{Contains-append_cases}
+use Rattle.wild_words.specs.Words.{Stands}
+use Rattle.wild_words.proofs.ListLemmas.{Contains-here, Contains-there, holds_at}
+use Rattle.wild_words.proofs.OverlayLemmas.{Stands-inner}
+use Rattle.wild_words.proofs.RecordLemmas.{Stands-left, Stands-right}
+use Rattle.wild_relr.specs.Written.{word_bytes}
+use Rattle.wild_relr.proofs.SpellLemmas.{word_bytes-append, length-word_bytes}
+use Rattle.wild_plan.specs.declared.part.Role.{Role}
+use Rattle.wild_plan.specs.declared.part.Role.TheVariants as role
+use Rattle.wild_plan.specs.declared.file.File.{File}
+use Rattle.wild_plan.specs.declared.file.Group.{Group}
+use Rattle.wild_plan.specs.declared.symbol.Symbol.{Symbol}
+use Rattle.wild_plan.specs.declared.layout.Layout.{Layout}
+use Rattle.wild_plan.specs.declared.slot.SlotWord.{SlotWord}
+use Rattle.wild_plan.specs.declared.slot.SlotWord.TheVariants.{InBlock}
+use Rattle.wild_plan.specs.declared.slot_parts.WordPart.TheVariants as words
+use Rattle.wild_plan.specs.Lists.{total}
+use Rattle.wild_plan.specs.SlotParts.{slot_words}
+use Rattle.wild_plan.specs.SymbolSlots.{got_of, plt_of}
+use Rattle.wild_plan.specs.SlotShares.{writes_slots, own_symbols, slots_of, slots_at, symbol_share, header_words, storage_words}
+use Rattle.wild_plan.specs.SlotPlaces.{start_of, begins_block, stands_at, pair_follows_by}
+use Rattle.wild_plan.specs.SlotFlags.{second_slot_fits}
+use Rattle.wild_layout.specs.Geometry.{table_bytes}
+use Rattle.wild_slots.specs.Order.{HasItsFlags, HasSlotsInOrder, written_symbols, IsWritten}
+use Rattle.wild_slots.specs.Stand.{StandsAt, WordsStand, SymbolStands}
+use Rattle.wild_slots.proofs.WalkLemmas.{Cut, Cut-from_contains}
+use Rattle.wild_slots.proofs.CheckLemmas.{SlotChecks-from_clause, FlagChecks-from_clause}
+use Rattle.wild_slots.proofs.OrderLemmas.{StandsBehind, AreInOrder-from_test}
+use Rattle.wild_slots.proofs.TableLemmas.{symbol_bytes, IsTable, got_table, block_table, stub_table, length-symbols, headless, headed}
+use Rattle.wild_slots.proofs.BlockWordLemmas.{first_alone, none_in_block, begins, only_word}
+use Rattle.wild_slots.proofs.PlaceLemmas.{no_block_words}
+
+-- ---- which file writes a symbol
+
+record From {X Y : Type 0} (f : X → List Y) (xs : List X) (y : Y) : Type 0 where
+  item : X
+  listed : Contains xs item
+  gives : Contains (f item) y
+
+from : {X Y : Type 0} (f : X → List Y) (xs : List X) (y : Y) → Contains (flat_map f xs) y → From f xs y
+from f [] y c = let l = c.1 in absurd (omega arith)
+from f (x ∷ xs) y c =
+    elim (Contains-append_cases (f x) (flat_map f xs) y c) [
+      | inl here ↦ record { item = x; listed = Contains-here x xs; gives = here }
+      | inr there ↦
+          (let rest = from f xs y there in
+          record { item = rest.item; listed = Contains-there rest.item x xs rest.listed; gives = rest.gives })
+    ]
+
+written : (l : Layout) (s : Symbol) → Contains (written_symbols l) s → IsWritten l s
+written l s c =
+    let g = from (λ (h : Group). flat_map (own_symbols l) h.files) l.groups s c in
+    let f = from (own_symbols l) g.item.files s g.gives in
+    record { group = g.item; file = f.item; listed = g.listed; holds = f.listed; writes = writes f.item f.gives; own = f.gives }
+  where
+    writes : (f : File) → Contains (own_symbols l f) s → writes_slots f.role ≡ true
+    writes f c =
+        elim (cases_Bool (writes_slots f.role)) [
+          | inl t ↦ t
+          | inr n ↦ (let k = rw n at c in let lt = k.1 in absurd (omega arith))
+        ]
+
+-- ---- where bytes stand
+
+pub StandsAt-from : (l : Layout) (r : Role) (at k : ℕ) (bs : List ℕ) → at ≡ start_of l r + k → Stands (table_bytes l r) k bs → StandsAt l r at bs
+StandsAt-from l r at k bs e s =
+    let f = s.fits in
+    let n : at - start_of l r ≡ k = omega (arith, e) in
+    record {
+      from = omega (arith, e);
+      to = omega (arith, e, f);
+      stands = let P : ℕ → Type 0 = λ (j : ℕ). Stands (table_bytes l r) j bs in subst P (sym n) s;
+    }
+
+-- bytes in bytes that stand
+pub StandsAt-inner : (l : Layout) (r : Role) (at p k : ℕ) (bs part : List ℕ) → StandsAt l r at bs → p ≡ at + k → Stands bs k part → StandsAt l r p part
+StandsAt-inner l r at p k bs part s e i =
+    let a = s.from in
+    StandsAt-from l r p (at - start_of l r + k) part (omega (arith, a, e)) (Stands-inner (table_bytes l r) bs part (at - start_of l r) k s.stands i)
+
+-- what a symbol gives stands behind what those before it give
+stands_behind : (l : Layout) (r : Role) (head : List ℕ) (s : Symbol) (front back : List Symbol) (at : ℕ) → IsTable l r head → table_bytes l r ≡ head ++ flat_map (symbol_bytes l r) (written_symbols l) → written_symbols l ≡ front ++ s ∷ back → at ≡ start_of l r + length head + total (symbol_share l r) front → StandsAt l r at (symbol_bytes l r s)
+stands_behind l r head s front back at t e w a =
+    let own = symbol_bytes l r s in
+    let before = flat_map (symbol_bytes l r) front in
+    let behind = flat_map (symbol_bytes l r) back in
+    let n = length-symbols l r head front t in
+    let cut : table_bytes l r ≡ head ++ (before ++ (own ++ behind)) = e ∙ ap (λ (ss : List Symbol). head ++ flat_map (symbol_bytes l r) ss) w ∙ ap (λ (bs : List ℕ). head ++ bs) (flat_map-append (symbol_bytes l r) front (s ∷ back)) in
+    let there = Stands-right head (before ++ (own ++ behind)) own (length before + 0) (Stands-right before (own ++ behind) own 0 (Stands-left own behind)) in
+    let P : List ℕ → Type 0 = λ (bs : List ℕ). Stands bs (length head + (length before + 0)) own in
+    StandsAt-from l r at (length head + (length before + 0)) own (omega (arith, a, n)) (subst P (sym cut) there)
+
+-- ---- symbols
+
+-- a symbol with slots: the symbols before it and behind it, and its places
+pub record Found (l : Layout) (s : Symbol) (at : ℕ) : Type 0 where
+  pub written : IsWritten l s
+  pub some : 1 ≤ length l.groups
+  pub cut : Cut (StandsBehind l) [] (written_symbols l) s
+  pub words : at ≡ (if begins_block (slots_of l s).words then cut.here.free.block else cut.here.free.got)
+  pub stub : (p : ℕ) → plt_of s ≡ Some p → p ≡ cut.here.free.stub
+
+stood : (free at : ℕ) (o : Option ℕ) → stands_at free o ≡ true → o ≡ Some at → at ≡ free
+stood free at None h e = cc
+stood free at (Some a) h e = let i : a ≡ at = cc in sym i ∙ eqb-true a free h
+
+groups_there : {X Y : Type 0} (f : X → List Y) (xs : List X) (y : Y) → Contains (flat_map f xs) y → 1 ≤ length xs
+groups_there f [] y c = let l = c.1 in absurd (omega arith)
+groups_there f (x ∷ xs) y c = omega arith
+
+pub found : (l : Layout) → HasSlotsInOrder l → (i at : ℕ) (s : Symbol) → slice_get l.symbols i ≡ Some s → got_of s ≡ Some at → Found l s at
+found l h i at s e g =
+    let order = AreInOrder-from_test l (SlotChecks-from_clause l h.slots).placed in
+    let c = order.listed i at s e g in
+    let cut = Cut-from_contains (StandsBehind l) [] (written_symbols l) s c order.each in
+    let free = cut.here.free in
+    let p = and_parts (stands_at (if begins_block (slots_of l s).words then free.block else free.got) (got_of s)) (stands_at free.stub (plt_of s)) cut.here.next in
+    record {
+      written = written l s c;
+      some = groups_there (λ (d : Group). flat_map (own_symbols l) d.files) l.groups s c;
+      cut = cut;
+      words = stood _ at (got_of s) p.0 g;
+      stub = λ q k. stood free.stub q (plt_of s) p.1 k;
+    }
+
+-- the only word of a symbol, one of the block
+pub record Only (l : Layout) (s : Symbol) : Type 0 where
+  pub value : ℕ
+  pub is : (slots_of l s).words ≡ InBlock value ∷ []
+
+pub only : (l : Layout) → HasSlotsInOrder l → (i at : ℕ) (s : Symbol) → slice_get l.symbols i ≡ Some s → got_of s ≡ Some at → begins_block (slots_of l s).words ≡ true → Only l s
+only l h i at s e g t =
+    let b = begins (slots_of l s).words t in
+    let own = holds_at HasItsFlags l.symbols i s e h.resolved in
+    let second = holds_at (λ (x : Symbol). second_slot_fits l x ≡ true) l.symbols i s e (FlagChecks-from_clause l h.flags).second in
+    let rest = only_word l s at b.value b.rest own second g b.is in
+    record { value = b.value; is = b.is ∙ ap (λ (ws : List SlotWord). InBlock b.value ∷ ws) rest }
+
+block_stands : (l : Layout) → HasSlotsInOrder l → (i at : ℕ) (s : Symbol) → slice_get l.symbols i ≡ Some s → got_of s ≡ Some at → Found l s at → begins_block (slots_of l s).words ≡ true → WordsStand l s at true
+block_stands l h i at s e g f t =
+    let w = rw t at f.words in
+    let p = f.cut.here.behind.block in (
+      stands_behind l role.GotRelr [] s f.cut.before f.cut.after at (block_table l) (headless l role.GotRelr (block_table l)) f.cut.is (omega (arith, w, p)),
+      ap (slot_words words.Got l.options.relr (slots_at s)) (only l h i at s e g t).is,
+    )
+
+-- words that are of no block
+others_stand : (l : Layout) → HasSlotsInOrder l → (at : ℕ) (s : Symbol) → Found l s at → begins_block (slots_of l s).words ≡ false → WordsStand l s at false
+others_stand l h at s f t =
+    let w = rw t at f.words in
+    let p = f.cut.here.behind.got in
+    let n = length-word_bytes (header_words l) in (
+      stands_behind l role.Got (word_bytes (header_words l)) s f.cut.before f.cut.after at (got_table l) (headed l role.Got (word_bytes (header_words l)) (got_table l) h.files f.some) f.cut.is (omega (arith, w, p, n)),
+      no_block_words l.options.relr (slots_at s) (slots_of l s).words (none_in_block (slots_of l s).words t (first_alone l s)),
+    )
+
+pub stands : (l : Layout) → HasSlotsInOrder l → (i at : ℕ) (s : Symbol) → slice_get l.symbols i ≡ Some s → got_of s ≡ Some at → SymbolStands l s at
+stands l h i at s e g =
+    let f = found l h i at s e g in
+    record {
+      written = f.written;
+      words = by_start f (begins_block (slots_of l s).words) refl;
+      stub = λ p k.
+          let q = f.stub p k in
+          let b = f.cut.here.behind.stub in
+          stands_behind l role.PltGot [] s f.cut.before f.cut.after p (stub_table l) (headless l role.PltGot (stub_table l)) f.cut.is (omega (arith, q, b));
+    }
+  where
+    by_start : Found l s at → (b : Bool) → begins_block (slots_of l s).words ≡ b → WordsStand l s at b
+    by_start f true t = block_stands l h i at s e g f t
+    by_start f false t = others_stand l h at s f t
+
+-- ---- the pair that stands once
+
+pub pair : (l : Layout) → HasSlotsInOrder l → 1 ≤ length l.groups → (at : ℕ) → l.tlsld ≡ Some at → StandsAt l role.Got at (word_bytes (slot_words words.Got l.options.relr at (storage_words l)))
+pair l h some at e =
+    let P : Option ℕ → Type 0 = λ o. pair_follows_by l o ≡ true in
+    let place : at ≡ start_of l role.Got + 8 * l.got_header = eqb-true _ _ (subst P e (SlotChecks-from_clause l h.slots).pair) in
+    let zeros = word_bytes (replicate l.got_header 0) in
+    let own = word_bytes (slot_words words.Got l.options.relr at (storage_words l)) in
+    let rest = flat_map (symbol_bytes l role.Got) (written_symbols l) in
+    let head : word_bytes (header_words l) ≡ zeros ++ own = word_bytes-append (replicate l.got_header 0) _ ∙ ap (λ (o : Option ℕ). zeros ++ word_bytes (slot_words words.Got l.options.relr (unwrap_or o 0) (storage_words l))) e in
+    let cut : table_bytes l role.Got ≡ zeros ++ (own ++ rest) = headed l role.Got (word_bytes (header_words l)) (got_table l) h.files some ∙ ap (λ (bs : List ℕ). bs ++ rest) head ∙ append_assoc zeros own rest in
+    let n : length zeros ≡ 8 * l.got_header = length-word_bytes (replicate l.got_header 0) ∙ ap (λ (k : ℕ). 8 * k) (length-replicate l.got_header 0) in
+    let Q : List ℕ → Type 0 = λ (bs : List ℕ). Stands bs (length zeros + 0) own in
+    StandsAt-from l role.Got at (length zeros + 0) own (omega (arith, place, n)) (subst Q (sym cut) (Stands-right zeros (own ++ rest) own 0 (Stands-left own rest)))

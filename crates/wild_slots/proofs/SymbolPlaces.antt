@@ -1,0 +1,174 @@
+-- Where the words and the stub of a symbol stand that stands behind others.
+use Rattle.std.proofs.Common.{◌≡◌, ℕ, ◌+◌, ◌*◌, ◌^◌, ◌≤◌, Bool, true, false, List, [], ◌∷◌, length, drop, get_or, Some, None, All, refl, sym, ap, ◌∙◌, subst, arith, slice_range}
+use Rattle.std.specs.Prelude.{Option, if◌then◌else◌, option_to_list, unwrap_or}
+use Rattle.std.specs.List.{flat_map}
+use Rattle.std.proofs.lemmas.Bool.{and_parts, eqb-true}
+use Rattle.std.proofs.lemmas.List.Elements.{All-nil, All-take, All-drop}
+use Rattle.wild_words.proofs.ListLemmas.{All-flat_map}
+use Rattle.wild_relr.specs.Packed.{slots}
+use Rattle.wild_plan.specs.declared.part.Role.TheVariants as role
+use Rattle.wild_plan.specs.declared.file.File.{File}
+use Rattle.wild_plan.specs.declared.file.Group.{Group}
+use Rattle.wild_plan.specs.declared.symbol.Resolution.{Resolution}
+use Rattle.wild_plan.specs.declared.symbol.Symbol.{Symbol}
+use Rattle.wild_plan.specs.declared.layout.Layout.{Layout}
+use Rattle.wild_plan.specs.declared.clauses.slots.Free.{Free}
+use Rattle.wild_plan.specs.declared.slot.SlotWord.{SlotWord}
+use Rattle.wild_plan.specs.declared.slot.SlotWord.TheVariants.{Number, Address, InBlock, General, Plt}
+use Rattle.wild_plan.specs.declared.slot_parts.WordPart.TheVariants as words
+use Rattle.wild_plan.specs.SlotParts.{next, at_places, slot_words}
+use Rattle.wild_plan.specs.SymbolSlots.{got_of, resolved_got, plt_of}
+use Rattle.wild_plan.specs.Slots.{setting_of, slot, with_items, no_slot, items_at}
+use Rattle.wild_plan.specs.SlotFlags.{second_slot_fits}
+use Rattle.wild_plan.specs.SlotShares.{stub_size, writes_slots, own_symbols, slots_of, resolved_slots, slots_at, words_in, symbol_share}
+use Rattle.wild_plan.specs.SlotPlaces.{begins_block, stands_at}
+use Rattle.wild_plan.specs.Stub.{far_of}
+use Rattle.wild_slots.specs.Order.{HasItsFlags, written_symbols}
+use Rattle.wild_slots.specs.Ascend.{Ascend, place_in, word_places, stub_places}
+use Rattle.wild_slots.proofs.OrderLemmas.{StandsBehind}
+use Rattle.wild_slots.proofs.BlockWordLemmas.{NotInBlock, FirstAlone, first_alone, none_in_block, begins, only_word}
+use Rattle.wild_slots.proofs.PlaceLemmas.{nothing_given, no_block_words, places_follow, all_words}
+use Rattle.wild_slots.proofs.AscendLemmas.{Ascend-none, Ascend-one}
+
+-- ---- what holds of each symbol
+
+pub All-own : (l : Layout) (P : Symbol → Type 0) → All P l.symbols → (f : File) → All P (own_symbols l f)
+All-own l P a f = by_role (writes_slots f.role)
+  where
+    by_role : (b : Bool) → All P (if b then slice_range l.symbols f.first_symbol (f.first_symbol + f.symbol_count) else [])
+    by_role true = All-take P _ (drop f.first_symbol l.symbols) (All-drop P f.first_symbol l.symbols a)
+    by_role false = All-nil P
+
+pub All-group : (l : Layout) (P : Symbol → Type 0) → All P l.symbols → (g : Group) → All P (flat_map (own_symbols l) g.files)
+All-group l P a g = All-flat_map P (own_symbols l) g.files (λ k d lt. All-own l P a (get_or g.files k d))
+
+pub All-written : (l : Layout) (P : Symbol → Type 0) → All P l.symbols → All P (written_symbols l)
+All-written l P a = All-flat_map P (λ (g : Group). flat_map (own_symbols l) g.files) l.groups (λ k d lt. All-group l P a (get_or l.groups k d))
+
+-- what a symbol without a place has
+no_words : (l : Layout) (s : Symbol) → got_of s ≡ None → (slots_of l s).words ≡ []
+unfolding slots_of slot
+no_words l s g = by_resolution s.resolution g
+  where
+    by_place : (r : Resolution) (o : Option ℕ) → o ≡ None → (with_items no_slot (items_at (setting_of l) (far_of l.machine r) r o)).words ≡ []
+    by_place r None e = refl
+    by_place r (Some at) e = cc
+
+    by_resolution : (o : Option Resolution) → resolved_got o ≡ None → (resolved_slots l o).words ≡ []
+    by_resolution None e = refl
+    by_resolution (Some r) e = by_place r r.got_address e
+
+-- ---- its place
+
+pub record IsAt (l : Layout) (s : Symbol) (free : Free) : Type 0 where
+  pub words : (at : ℕ) → got_of s ≡ Some at → slots_at s ≡ (if begins_block (slots_of l s).words then free.block else free.got)
+  pub stub : (p : ℕ) → plt_of s ≡ Some p → p ≡ free.stub
+
+stood : (free at : ℕ) (o : Option ℕ) → stands_at free o ≡ true → o ≡ Some at → at ≡ free
+stood free at None h e = cc
+stood free at (Some a) h e = let i : a ≡ at = cc in sym i ∙ eqb-true a free h
+
+pub IsAt-from : (l : Layout) (front : List Symbol) (s : Symbol) (h : StandsBehind l front s) → IsAt l s h.free
+IsAt-from l front s h =
+    let p = and_parts (stands_at (if begins_block (slots_of l s).words then h.free.block else h.free.got) (got_of s)) (stands_at h.free.stub (plt_of s)) h.next in
+    record {
+      words = λ at g. ap (λ (o : Option ℕ). unwrap_or o 0) g ∙ stood _ at (got_of s) p.0 g;
+      stub = λ q e. stood h.free.stub q (plt_of s) p.1 e;
+    }
+
+-- ---- the words of blocks
+
+no_place : (at : ℕ) (w : SlotWord) → NotInBlock w → place_in words.Block at w ≡ None
+no_place at (Number n) h = refl
+no_place at (Address a) h = refl
+no_place at (InBlock a) h = absurd h
+no_place at (General e) h = refl
+no_place at (Plt e) h = refl
+
+pub no_places : (at : ℕ) (ws : List SlotWord) → All NotInBlock ws → at_places (place_in words.Block) at ws ≡ []
+no_places at ws h = nothing_given (place_in words.Block) NotInBlock (λ p w n. no_place p w n) at ws h
+
+-- they have one place, the first, where they begin with one
+block_begins : (relr : Bool) (at free : ℕ) (ws : List SlotWord) → begins_block ws ≡ true → at ≡ free → FirstAlone ws → at_places (place_in words.Block) at ws ≡ slots free (length (slot_words words.Block relr at ws))
+unfolding slots
+block_begins relr at free ws t e a =
+    let b = begins ws t in
+    let P : List SlotWord → Type 0 = λ vs. at_places (place_in words.Block) at vs ≡ slots free (length (slot_words words.Block relr at vs)) in
+    let rest = subst FirstAlone b.is a in
+    let n = no_places (next at) b.rest rest in
+    let m = no_block_words relr (next at) b.rest rest in
+    subst P (sym b.is) (rw (n, m, e) refl)
+
+block_none : (relr : Bool) (at free : ℕ) (ws : List SlotWord) → All NotInBlock ws → at_places (place_in words.Block) at ws ≡ slots free (length (slot_words words.Block relr at ws))
+unfolding slots
+block_none relr at free ws a =
+    let n = no_places at ws a in
+    let m = no_block_words relr at ws a in
+    rw (n, m) refl
+
+none_nil : (ws : List SlotWord) → ws ≡ [] → All NotInBlock ws
+none_nil ws e = subst (All NotInBlock) (sym e) (All-nil NotInBlock)
+
+-- the places of a symbol's words of the block: the free ones
+pub block_slots : (l : Layout) (s : Symbol) (free : Free) → IsAt l s free → word_places words.Block l s ≡ slots free.block (length (words_in words.Block l s))
+block_slots l s free h = by_place (got_of s) refl
+  where
+    by_start : (at : ℕ) → got_of s ≡ Some at → (b : Bool) → begins_block (slots_of l s).words ≡ b → word_places words.Block l s ≡ slots free.block (length (words_in words.Block l s))
+    by_start at g true t = block_begins l.options.relr (slots_at s) free.block (slots_of l s).words t (rw t at (h.words at g)) (first_alone l s)
+    by_start at g false t = block_none l.options.relr (slots_at s) free.block (slots_of l s).words (none_in_block (slots_of l s).words t (first_alone l s))
+
+    by_place : (o : Option ℕ) → got_of s ≡ o → word_places words.Block l s ≡ slots free.block (length (words_in words.Block l s))
+    by_place None g = block_none l.options.relr (slots_at s) free.block (slots_of l s).words (none_nil (slots_of l s).words (no_words l s g))
+    by_place (Some at) g = by_start at g (begins_block (slots_of l s).words) refl
+
+-- ---- the words of no block
+
+-- what is known of each symbol
+pub record IsFit (l : Layout) (s : Symbol) : Type 0 where
+  pub flags : HasItsFlags s
+  pub second : second_slot_fits l s ≡ true
+
+other_none : (l : Layout) (s : Symbol) (free a : ℕ) (ws : List SlotWord) → ws ≡ InBlock a ∷ [] → at_places (place_in words.Got) (slots_at s) ws ≡ slots free (length (slot_words words.Got l.options.relr (slots_at s) ws))
+unfolding slots
+other_none l s free a ws e =
+    let P : List SlotWord → Type 0 = λ vs. at_places (place_in words.Got) (slots_at s) vs ≡ slots free (length (slot_words words.Got l.options.relr (slots_at s) vs)) in
+    subst P (sym e) refl
+
+others_follow : (relr : Bool) (at free : ℕ) (ws : List SlotWord) → All NotInBlock ws → (1 ≤ length ws → at ≡ free) → free + 8 * length (slot_words words.Got relr at ws) ≤ 2 ^ 64 → at_places (place_in words.Got) at ws ≡ slots free (length (slot_words words.Got relr at ws))
+unfolding slots
+others_follow relr at free [] a e h = refl
+others_follow relr at free (w ∷ ws) a e h =
+    let n = all_words relr at (w ∷ ws) a in
+    let i = e (omega arith) in
+    let P : ℕ → Type 0 = λ (k : ℕ). at_places (place_in words.Got) at (w ∷ ws) ≡ slots free k in
+    let Q : ℕ → Type 0 = λ (p : ℕ). at_places (place_in words.Got) at (w ∷ ws) ≡ slots p (length (w ∷ ws)) in
+    subst P (sym n) (subst Q i (places_follow at (w ∷ ws) a (omega (arith, n, i, h))))
+
+-- the places of a symbol's other words: the free ones
+pub other_slots : (l : Layout) (s : Symbol) (free : Free) → IsFit l s → IsAt l s free → free.got + 8 * length (words_in words.Got l s) ≤ 2 ^ 64 → word_places words.Got l s ≡ slots free.got (length (words_in words.Got l s))
+other_slots l s free fit h low = by_place (got_of s) refl
+  where
+    by_start : (at : ℕ) → got_of s ≡ Some at → (b : Bool) → begins_block (slots_of l s).words ≡ b → word_places words.Got l s ≡ slots free.got (length (words_in words.Got l s))
+    by_start at g true t =
+        let b = begins (slots_of l s).words t in
+        let rest = only_word l s at b.value b.rest fit.flags fit.second g b.is in
+        other_none l s free.got b.value (slots_of l s).words (b.is ∙ ap (λ (ws : List SlotWord). InBlock b.value ∷ ws) rest)
+    by_start at g false t = others_follow l.options.relr (slots_at s) free.got (slots_of l s).words (none_in_block (slots_of l s).words t (first_alone l s)) (λ some. rw t at (h.words at g)) low
+
+    by_place : (o : Option ℕ) → got_of s ≡ o → word_places words.Got l s ≡ slots free.got (length (words_in words.Got l s))
+    by_place None g =
+        let none = no_words l s g in
+        others_follow l.options.relr (slots_at s) free.got (slots_of l s).words (none_nil (slots_of l s).words none) (λ some. let n = ap (λ (ws : List SlotWord). length ws) none in absurd (omega (arith, n, some))) low
+    by_place (Some at) g = by_start at g (begins_block (slots_of l s).words) refl
+
+-- ---- stubs
+
+stub_ascends : (b : Bool) (o : Option ℕ) (free : ℕ) → ((p : ℕ) → o ≡ Some p → p ≡ free) → Ascend stub_size free (free + (if b then stub_size else 0)) (if b then option_to_list o else [])
+stub_ascends false o free h = Ascend-none stub_size free (free + 0)
+stub_ascends true None free h = Ascend-none stub_size free (free + stub_size)
+stub_ascends true (Some p) free h =
+    let P : ℕ → Type 0 = λ (q : ℕ). Ascend stub_size free (free + stub_size) (q ∷ []) in
+    subst P (sym (h p refl)) (Ascend-one stub_size free (free + stub_size) (omega arith))
+
+pub stub_place : (l : Layout) (s : Symbol) (free : Free) → IsAt l s free → Ascend stub_size free.stub (free.stub + symbol_share l role.PltGot s) (stub_places l s)
+stub_place l s free h = stub_ascends (slots_of l s).has_stub (plt_of s) free.stub h.stub

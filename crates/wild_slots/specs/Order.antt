@@ -1,0 +1,46 @@
+-- The order in which slots and stubs are written (x86-64 psABI, "Global Offset Table (GOT)", "Procedure Linkage Table").
+--   HasSlotsInOrder l    the symbols' slots and stubs follow each other, and so do the files
+--   written_symbols l    the symbols whose slots files write, in their order
+--   IsWritten l s        a file of a group writes the symbol's slots
+--   end_of l r           where the table of a role ends
+use Rattle.std.specs.Prelude.{◌≡◌, ℕ, ◌+◌, List, true, length, Some, None, Ok, All, Contains}
+use Rattle.std.specs.List.{flat_map}
+use Rattle.wild_plan.specs.declared.part.Role.{Role}
+use Rattle.wild_plan.specs.declared.file.File.{File}
+use Rattle.wild_plan.specs.declared.file.Group.{Group}
+use Rattle.wild_plan.specs.declared.symbol.Resolution.{Resolution}
+use Rattle.wild_plan.specs.declared.symbol.Symbol.{Symbol}
+use Rattle.wild_plan.specs.declared.layout.Layout.{Layout}
+use Rattle.wild_plan.specs.Contents.{file_misplaced}
+use Rattle.wild_plan.specs.SlotShares.{writes_slots, own_symbols}
+use Rattle.wild_plan.specs.SlotPlaces.{start_of}
+use Rattle.wild_plan.specs.WellFormed.{check_slots, check_slot_flags}
+use Rattle.wild_layout.specs.Geometry.{table_bytes}
+
+-- what was decided of the symbol has its flags
+abbrev pub HasItsFlags : Symbol → Type 0
+HasItsFlags s = (r : Resolution) → s.resolution ≡ Some r → r.flags ≡ s.flags
+
+-- slots and stubs follow each other, flags and slots agree, and the first file is the only one that writes what stands once
+pub record HasSlotsInOrder (l : Layout) : Type 0 where
+  pub slots : check_slots l ≡ Ok tt
+  pub flags : check_slot_flags l ≡ Ok tt
+  pub resolved : All HasItsFlags l.symbols
+  pub files : file_misplaced true 0 l.groups ≡ None
+
+-- the symbols whose slots files write, in their order
+abbrev pub written_symbols : Layout → List Symbol
+written_symbols l = flat_map (λ (g : Group). flat_map (own_symbols l) g.files) l.groups
+
+-- a file of a group writes the symbol's slots
+pub record IsWritten (l : Layout) (s : Symbol) : Type 0 where
+  pub group : Group
+  pub file : File
+  pub listed : Contains l.groups group
+  pub holds : Contains group.files file
+  pub writes : writes_slots file.role ≡ true
+  pub own : Contains (own_symbols l file) s
+
+-- where the table of a role ends
+abbrev pub end_of : Layout → Role → ℕ
+end_of l r = start_of l r + length (table_bytes l r)

@@ -1,0 +1,47 @@
+//! Where the words of slots stand in their tables, and which entries they have. All functions are laws without work.
+#![tactic(auto)]
+
+ghost use Rattle.wild_slots.specs.Stand.{SlotsStand, EachWordStands, StubsAreThere, PairStands};
+ghost use Rattle.wild_slots.specs.Ascend.{PlacesAscend};
+ghost use Rattle.wild_slots.specs.Blocks.{BlocksAreWhole};
+ghost use Rattle.wild_slots.specs.Entries.{OwnSymbolsAreFilled, FixedOutputsMoveNothing};
+
+/// A file writes the words and the stub of each symbol with slots, and they stand at their addresses in the tables.
+pub fn slots_stand()
+    ensures { SlotsStand }
+{}
+
+/// Each word stands 8 bytes behind the one before it.
+pub fn each_word_stands()
+    ensures { EachWordStands }
+{}
+
+/// A symbol with slots whose stub has a place has a stub, where nothing failed.
+pub fn stubs_are_there()
+    ensures { StubsAreThere }
+{}
+
+/// The pair of the output's own thread-local data stands at its address.
+pub fn pair_stands()
+    ensures { PairStands }
+{}
+
+/// The places of words and of stubs ascend.
+pub fn places_ascend()
+    ensures { PlacesAscend }
+{}
+
+/// A group's block of slots has no gap.
+pub fn blocks_are_whole()
+    ensures { BlocksAreWhole }
+{}
+
+/// In a static executable whose symbols are its own, what resolvers answer is all that entries for symbols fill in.
+pub fn own_symbols_are_filled()
+    ensures { OwnSymbolsAreFilled }
+{}
+
+/// In an output at its own addresses no slot has an address that moves.
+pub fn fixed_outputs_move_nothing()
+    ensures { FixedOutputsMoveNothing }
+{}
