@@ -32,14 +32,3 @@ header_told = λ l m k numbers laid.
       address = λ a e. entry_is l ∙ ap entry_address e;
       none = λ e. entry_is l ∙ ap entry_address e;
     }
-
--- ---- the image
-
-pub fixed_loaded : PlainImagesAreLoaded → SectionsAreStored → ZerosAreStored → FixedImagesAreLoaded
-fixed_loaded law stored zeros = λ l w m k plain numbers legal laid decisions. record {
-  memory = image_memory l w;
-  accepted = image_loads l w law m k (plain_fixed l.kind k plain) numbers legal laid;
-  machine = image_machine l w m;
-  sections = λ s kept. still_section l w (image_memory l w) s (plain_still l.kind plain) (stored l w s legal laid kept (decisions s kept.input (kept_is_read l s kept)));
-  zeros = λ a b. zeros l w a legal laid b;
-}
