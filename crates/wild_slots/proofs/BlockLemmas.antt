@@ -25,13 +25,13 @@ use Rattle.wild_plan.specs.SlotShares.{own_symbols, slots_of, slots_at, words_in
 use Rattle.wild_plan.specs.SlotPlaces.{address_of_part, start_of, first_free, is_even_slot, slot_is_even, block_has_base}
 use Rattle.wild_plan.proofs.ListLemmas.{total-append}
 use Rattle.wild_layout.specs.Geometry.{table_bytes}
-use Rattle.wild_slots.specs.Order.{HasSlotsInOrder, end_of}
+use Rattle.wild_slots.specs.Order.{group_symbols, HasSlotsInOrder, end_of}
 use Rattle.wild_slots.specs.Ascend.{place_in, word_places}
 use Rattle.wild_slots.specs.Blocks.{IsWhole}
 use Rattle.wild_slots.proofs.WalkLemmas.{AllBehind, Piece-from_contains}
 use Rattle.wild_slots.proofs.CheckLemmas.{SlotChecks, SlotChecks-from_clause}
 use Rattle.wild_slots.proofs.OrderLemmas.{StandsBehind, total-push, AreInOrder-from_test}
-use Rattle.wild_slots.proofs.TableLemmas.{own_of_group, block_table}
+use Rattle.wild_slots.proofs.TableLemmas.{block_table}
 use Rattle.wild_slots.proofs.BlockWordLemmas.{NotInBlock, FirstAlone, first_alone}
 use Rattle.wild_slots.proofs.SymbolPlaces.{All-group, IsAt-from, no_places, block_slots}
 use Rattle.wild_slots.proofs.PlacesLemmas.{headless_end}
@@ -129,7 +129,7 @@ whole_slots base (suc n) h even nonzero =
       based = λ some. nonzero (omega arith);
     }
 
-group_places : (l : Layout) (g : Group) → group_block l g ≡ flat_map (word_places words.Block l) (own_of_group l g)
+group_places : (l : Layout) (g : Group) → group_block l g ≡ flat_map (word_places words.Block l) (group_symbols l g)
 unfolding group_block
 group_places l g = sym (flat_map-flat_map (block_places l) (own_symbols l) g.files)
 
@@ -137,8 +137,8 @@ pub whole : (l : Layout) → HasSlotsInOrder l → end_of l role.GotRelr ≤ 2 ^
 whole l h small missing g c =
     let checks = SlotChecks-from_clause l h.slots in
     let order = AreInOrder-from_test l checks.placed in
-    let piece = Piece-from_contains (StandsBehind l) (own_of_group l) l.groups g c order.each in
-    let own = own_of_group l g in
+    let piece = Piece-from_contains (StandsBehind l) (group_symbols l) l.groups g c order.each in
+    let own = group_symbols l g in
     let share = symbol_share l role.GotRelr in
     let base = (first_free l).block + total share piece.before in
     let n = total (block_count l) own in

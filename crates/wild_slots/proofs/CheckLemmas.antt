@@ -16,11 +16,11 @@ pub record Both (a b : Result (Unit {0}) Clause) : Type 0 where
   pub first : a ≡ Ok tt
   pub rest : b ≡ Ok tt
 
-both : (a b : Result (Unit {0}) Clause) → first_error a b ≡ Ok tt → Both a b
+pub both : (a b : Result (Unit {0}) Clause) → first_error a b ≡ Ok tt → Both a b
 both (Err e) b h = cc
 both (Ok tt) b h = record { first = refl; rest = h }
 
-none : (n : ℕ) (o : Option ℕ) → fails n o ≡ Ok tt → o ≡ None
+pub none : (n : ℕ) (o : Option ℕ) → fails n o ≡ Ok tt → o ≡ None
 none n None h = refl
 none n (Some i) h = cc
 

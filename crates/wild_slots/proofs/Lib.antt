@@ -1,4 +1,4 @@
-mod ItemLemmas
+pub mod ItemLemmas
 mod SlotLemmas
 mod WalkLemmas
 mod CheckLemmas
@@ -15,3 +15,4 @@ mod PlacesLemmas
 mod BlockLemmas
 mod EntryLemmas
 mod IndirectLemmas
+mod ClauseLemmas

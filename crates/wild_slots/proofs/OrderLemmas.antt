@@ -1,14 +1,12 @@
 -- The symbols that files write, each at the places behind those before it.
 use Rattle.std.proofs.Common.{◌≡◌, ℕ, ◌+◌, ◌-◌, ◌<◌, ◌≤◌, inl, inr, Bool, true, false, List, [], ◌∷◌, ◌++◌, length, drop, get_or, Some, None, Ok, Err, Contains, refl, sym, ap, ◌∙◌, subst, arith, slice_get, slice_range}
 use Rattle.std.specs.Prelude.{Option, Result, not, ◌&&◌, ◌==◌, nat_lt, if◌then◌else◌}
-use Rattle.std.specs.List.{flat_map}
 use Rattle.std.proofs.lemmas.Bool.{cases_Bool, cases_lt, and_parts, and_cases, eqb-true, ltb-false, not-false}
 use Rattle.std.proofs.lemmas.Option.{slice_get_within, get_or_from_slice_get}
 use Rattle.std.proofs.lemmas.List.{length-take, length-drop, get_or-take, get_or-drop}
 use Rattle.std.proofs.lemmas.List.Elements.{All-contains, Contains-append_left, Contains-append_right}
 use Rattle.wild_plan.specs.declared.part.Role.TheVariants as role
 use Rattle.wild_plan.specs.declared.file.File.{File}
-use Rattle.wild_plan.specs.declared.file.Group.{Group}
 use Rattle.wild_plan.specs.declared.symbol.Symbol.{Symbol}
 use Rattle.wild_plan.specs.declared.layout.Layout.{Layout}
 use Rattle.wild_plan.specs.declared.clauses.slots.Free.{Free}
@@ -17,7 +15,7 @@ use Rattle.wild_plan.specs.SymbolSlots.{got_of}
 use Rattle.wild_plan.specs.SlotShares.{stub_size, writes_slots, own_symbols, slots_of, symbol_share}
 use Rattle.wild_plan.specs.SlotPlaces.{first_free, stands_next, behind, walk, symbol_step, is_without, slot_before, unless_some, range_step, file_step, group_step, last_astray, slots_astray}
 use Rattle.wild_plan.proofs.ListLemmas.{All-from_none_fails, total-append}
-use Rattle.wild_slots.specs.Order.{written_symbols}
+use Rattle.wild_slots.specs.Order.{group_symbols, written_symbols}
 use Rattle.wild_slots.proofs.WalkLemmas.{AllBehind, Walked, Walked-none, Walked-more, through_both, same_Ok, walk_through}
 
 -- the free places behind those of the symbols so far
@@ -197,7 +195,7 @@ AreInOrder-from_test l h = by_end (walk (group_step l) (first_free l) l.groups) 
     by_end : (r : Result Free ℕ) → walk (group_step l) (first_free l) l.groups ≡ r → last_astray l r ≡ None → AreInOrder l
     by_end (Err i) e none = cc
     by_end (Ok m) e none =
-        let w = walk_through (StandsBehind l) (Keeps l) (λ (g : Group). flat_map (own_symbols l) g.files) (group_step l)
+        let w = walk_through (StandsBehind l) (Keeps l) (group_symbols l) (group_step l)
         (λ front s t g k i. walk_through (StandsBehind l) (Keeps l) (own_symbols l) (file_step l) (λ a b c f j o. file_walked l a b c f j o) g.files front s t k i)
         l.groups [] (first_free l) m (keeps_first l) e in
         record {

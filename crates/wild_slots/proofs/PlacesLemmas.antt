@@ -13,9 +13,9 @@ use Rattle.wild_plan.specs.declared.symbol.Symbol.{Symbol}
 use Rattle.wild_plan.specs.declared.layout.Layout.{Layout}
 use Rattle.wild_plan.specs.declared.slot_parts.WordPart.TheVariants as words
 use Rattle.wild_plan.specs.Lists.{total}
-use Rattle.wild_plan.specs.SlotShares.{stub_size, own_symbols, words_in, symbol_share, header_words}
+use Rattle.wild_plan.specs.SlotShares.{stub_size, words_in, symbol_share, header_words}
 use Rattle.wild_plan.specs.SlotPlaces.{start_of, first_free}
-use Rattle.wild_slots.specs.Order.{HasSlotsInOrder, written_symbols, end_of}
+use Rattle.wild_slots.specs.Order.{group_symbols, HasSlotsInOrder, written_symbols, end_of}
 use Rattle.wild_slots.specs.Ascend.{Ascend, word_places, stub_places, HasAscendingPlaces}
 use Rattle.wild_slots.proofs.CheckLemmas.{SlotChecks-from_clause, FlagChecks-from_clause}
 use Rattle.wild_slots.proofs.OrderLemmas.{AreInOrder-from_test}
@@ -38,7 +38,7 @@ got_end l h some =
     omega (arith, e, n, a, b)
 
 pub none_written : (l : Layout) → length l.groups ≡ 0 → written_symbols l ≡ []
-none_written l e = ap (λ (gs : List Group). flat_map (λ (g : Group). flat_map (own_symbols l) g.files) gs) (nil_from_length l.groups e)
+none_written l e = ap (λ (gs : List Group). flat_map (group_symbols l) gs) (nil_from_length l.groups e)
 
 -- ---- what each symbol shows
 

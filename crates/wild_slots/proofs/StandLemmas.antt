@@ -1,5 +1,5 @@
 -- The words and the stub of each symbol stand at their addresses.
-use Rattle.std.proofs.Common.{◌≡◌, ℕ, ◌+◌, ◌-◌, ◌*◌, ◌≤◌, inl, inr, Bool, true, false, List, [], ◌∷◌, ◌++◌, length, Some, None, Contains, refl, sym, ap, ◌∙◌, subst, arith, slice_get}
+use Rattle.std.proofs.Common.{◌≡◌, ℕ, ◌+◌, ◌-◌, ◌*◌, ◌≤◌, inl, inr, Bool, true, false, List, [], ◌∷◌, ◌++◌, length, Some, Contains, refl, sym, ap, ◌∙◌, subst, arith, slice_get}
 use Rattle.std.specs.Prelude.{Option, if◌then◌else◌, replicate, unwrap_or}
 use Rattle.std.specs.List.{flat_map}
 use Rattle.std.proofs.lemmas.Bool.{cases_Bool, and_parts, eqb-true}
@@ -15,7 +15,6 @@ use Rattle.wild_relr.proofs.SpellLemmas.{word_bytes-append, length-word_bytes}
 use Rattle.wild_plan.specs.declared.part.Role.{Role}
 use Rattle.wild_plan.specs.declared.part.Role.TheVariants as role
 use Rattle.wild_plan.specs.declared.file.File.{File}
-use Rattle.wild_plan.specs.declared.file.Group.{Group}
 use Rattle.wild_plan.specs.declared.symbol.Symbol.{Symbol}
 use Rattle.wild_plan.specs.declared.layout.Layout.{Layout}
 use Rattle.wild_plan.specs.declared.slot.SlotWord.{SlotWord}
@@ -28,7 +27,7 @@ use Rattle.wild_plan.specs.SlotShares.{writes_slots, own_symbols, slots_of, slot
 use Rattle.wild_plan.specs.SlotPlaces.{start_of, begins_block, stands_at, pair_follows_by}
 use Rattle.wild_plan.specs.SlotFlags.{second_slot_fits}
 use Rattle.wild_layout.specs.Geometry.{table_bytes}
-use Rattle.wild_slots.specs.Order.{HasItsFlags, HasSlotsInOrder, written_symbols, IsWritten}
+use Rattle.wild_slots.specs.Order.{group_symbols, HasItsFlags, HasSlotsInOrder, written_symbols, IsWritten}
 use Rattle.wild_slots.specs.Stand.{StandsAt, WordsStand, SymbolStands}
 use Rattle.wild_slots.proofs.WalkLemmas.{Cut, Cut-from_contains}
 use Rattle.wild_slots.proofs.CheckLemmas.{SlotChecks-from_clause, FlagChecks-from_clause}
@@ -36,6 +35,7 @@ use Rattle.wild_slots.proofs.OrderLemmas.{StandsBehind, AreInOrder-from_test}
 use Rattle.wild_slots.proofs.TableLemmas.{symbol_bytes, IsTable, got_table, block_table, stub_table, length-symbols, headless, headed}
 use Rattle.wild_slots.proofs.BlockWordLemmas.{first_alone, none_in_block, begins, only_word}
 use Rattle.wild_slots.proofs.PlaceLemmas.{no_block_words}
+use Rattle.wild_slots.proofs.SymbolPlaces.{stood}
 
 -- ---- which file writes a symbol
 
@@ -56,7 +56,7 @@ from f (x ∷ xs) y c =
 
 written : (l : Layout) (s : Symbol) → Contains (written_symbols l) s → IsWritten l s
 written l s c =
-    let g = from (λ (h : Group). flat_map (own_symbols l) h.files) l.groups s c in
+    let g = from (group_symbols l) l.groups s c in
     let f = from (own_symbols l) g.item.files s g.gives in
     record { group = g.item; file = f.item; listed = g.listed; holds = f.listed; writes = writes f.item f.gives; own = f.gives }
   where
@@ -107,10 +107,6 @@ pub record Found (l : Layout) (s : Symbol) (at : ℕ) : Type 0 where
   pub words : at ≡ (if begins_block (slots_of l s).words then cut.here.free.block else cut.here.free.got)
   pub stub : (p : ℕ) → plt_of s ≡ Some p → p ≡ cut.here.free.stub
 
-stood : (free at : ℕ) (o : Option ℕ) → stands_at free o ≡ true → o ≡ Some at → at ≡ free
-stood free at None h e = cc
-stood free at (Some a) h e = let i : a ≡ at = cc in sym i ∙ eqb-true a free h
-
 groups_there : {X Y : Type 0} (f : X → List Y) (xs : List X) (y : Y) → Contains (flat_map f xs) y → 1 ≤ length xs
 groups_there f [] y c = let l = c.1 in absurd (omega arith)
 groups_there f (x ∷ xs) y c = omega arith
@@ -124,7 +120,7 @@ found l h i at s e g =
     let p = and_parts (stands_at (if begins_block (slots_of l s).words then free.block else free.got) (got_of s)) (stands_at free.stub (plt_of s)) cut.here.next in
     record {
       written = written l s c;
-      some = groups_there (λ (d : Group). flat_map (own_symbols l) d.files) l.groups s c;
+      some = groups_there (group_symbols l) l.groups s c;
       cut = cut;
       words = stood _ at (got_of s) p.0 g;
       stub = λ q k. stood free.stub q (plt_of s) p.1 k;

@@ -1,7 +1,6 @@
 -- Where the words and the stub of a symbol stand that stands behind others.
 use Rattle.std.proofs.Common.{◌≡◌, ℕ, ◌+◌, ◌*◌, ◌^◌, ◌≤◌, Bool, true, false, List, [], ◌∷◌, length, drop, get_or, Some, None, All, refl, sym, ap, ◌∙◌, subst, arith, slice_range}
 use Rattle.std.specs.Prelude.{Option, if◌then◌else◌, option_to_list, unwrap_or}
-use Rattle.std.specs.List.{flat_map}
 use Rattle.std.proofs.lemmas.Bool.{and_parts, eqb-true}
 use Rattle.std.proofs.lemmas.List.Elements.{All-nil, All-take, All-drop}
 use Rattle.wild_words.proofs.ListLemmas.{All-flat_map}
@@ -23,7 +22,7 @@ use Rattle.wild_plan.specs.SlotFlags.{second_slot_fits}
 use Rattle.wild_plan.specs.SlotShares.{stub_size, writes_slots, own_symbols, slots_of, resolved_slots, slots_at, words_in, symbol_share}
 use Rattle.wild_plan.specs.SlotPlaces.{begins_block, stands_at}
 use Rattle.wild_plan.specs.Stub.{far_of}
-use Rattle.wild_slots.specs.Order.{HasItsFlags, written_symbols}
+use Rattle.wild_slots.specs.Order.{group_symbols, HasItsFlags, written_symbols}
 use Rattle.wild_slots.specs.Ascend.{Ascend, place_in, word_places, stub_places}
 use Rattle.wild_slots.proofs.OrderLemmas.{StandsBehind}
 use Rattle.wild_slots.proofs.BlockWordLemmas.{NotInBlock, FirstAlone, first_alone, none_in_block, begins, only_word}
@@ -39,11 +38,11 @@ All-own l P a f = by_role (writes_slots f.role)
     by_role true = All-take P _ (drop f.first_symbol l.symbols) (All-drop P f.first_symbol l.symbols a)
     by_role false = All-nil P
 
-pub All-group : (l : Layout) (P : Symbol → Type 0) → All P l.symbols → (g : Group) → All P (flat_map (own_symbols l) g.files)
+pub All-group : (l : Layout) (P : Symbol → Type 0) → All P l.symbols → (g : Group) → All P (group_symbols l g)
 All-group l P a g = All-flat_map P (own_symbols l) g.files (λ k d lt. All-own l P a (get_or g.files k d))
 
 pub All-written : (l : Layout) (P : Symbol → Type 0) → All P l.symbols → All P (written_symbols l)
-All-written l P a = All-flat_map P (λ (g : Group). flat_map (own_symbols l) g.files) l.groups (λ k d lt. All-group l P a (get_or l.groups k d))
+All-written l P a = All-flat_map P (group_symbols l) l.groups (λ k d lt. All-group l P a (get_or l.groups k d))
 
 -- what a symbol without a place has
 no_words : (l : Layout) (s : Symbol) → got_of s ≡ None → (slots_of l s).words ≡ []
@@ -64,7 +63,7 @@ pub record IsAt (l : Layout) (s : Symbol) (free : Free) : Type 0 where
   pub words : (at : ℕ) → got_of s ≡ Some at → slots_at s ≡ (if begins_block (slots_of l s).words then free.block else free.got)
   pub stub : (p : ℕ) → plt_of s ≡ Some p → p ≡ free.stub
 
-stood : (free at : ℕ) (o : Option ℕ) → stands_at free o ≡ true → o ≡ Some at → at ≡ free
+pub stood : (free at : ℕ) (o : Option ℕ) → stands_at free o ≡ true → o ≡ Some at → at ≡ free
 stood free at None h e = cc
 stood free at (Some a) h e = let i : a ≡ at = cc in sym i ∙ eqb-true a free h
 

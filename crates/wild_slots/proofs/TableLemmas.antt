@@ -27,7 +27,7 @@ use Rattle.wild_plan.specs.Stub.{stub_x86_64, stub_template, displacement_x86_64
 use Rattle.wild_layout.specs.SlotBytes.{stub_bytes, slot_words_of, stubs_of, slot_bytes, block_bytes}
 use Rattle.wild_layout.specs.Content.{file_content, content}
 use Rattle.wild_layout.specs.Geometry.{table_bytes}
-use Rattle.wild_slots.specs.Order.{written_symbols}
+use Rattle.wild_slots.specs.Order.{group_symbols, written_symbols}
 
 -- what a symbol gives to the table of a role
 abbrev pub symbol_bytes : Layout → Role → Symbol → List ℕ
@@ -102,24 +102,21 @@ files_given l r head (f ∷ fs) t a =
     ∙ ap (λ (bs : List ℕ). flat_map (symbol_bytes l r) (own_symbols l f) ++ bs) rest
     ∙ sym (flat_map-append (symbol_bytes l r) (own_symbols l f) (flat_map (own_symbols l) fs))
 
-abbrev pub own_of_group : Layout → Group → List Symbol
-own_of_group l g = flat_map (own_symbols l) g.files
-
-group_given : (l : Layout) (r : Role) (head : List ℕ) (g : Group) (front : List ℕ) → IsTable l r head → flat_map (file_content l r) g.files ≡ front ++ flat_map (symbol_bytes l r) (own_of_group l g) → content l r g ≡ front ++ flat_map (symbol_bytes l r) (own_of_group l g)
+group_given : (l : Layout) (r : Role) (head : List ℕ) (g : Group) (front : List ℕ) → IsTable l r head → flat_map (file_content l r) g.files ≡ front ++ flat_map (symbol_bytes l r) (group_symbols l g) → content l r g ≡ front ++ flat_map (symbol_bytes l r) (group_symbols l g)
 group_given l r head g front t e =
     ap (λ (bs : List ℕ). flat_map (file_content l r) g.files ++ bs) (t.block g) ∙ append-nil (flat_map (file_content l r) g.files) ∙ e
 
 abbrev pub FilesGiveNoHead : List ℕ → Group → Type 0
 FilesGiveNoHead head g = All (GivesNoHead head) g.files
 
-groups_given : (l : Layout) (r : Role) (head : List ℕ) (gs : List Group) → IsTable l r head → All (FilesGiveNoHead head) gs → flat_map (content l r) gs ≡ flat_map (symbol_bytes l r) (flat_map (own_of_group l) gs)
+groups_given : (l : Layout) (r : Role) (head : List ℕ) (gs : List Group) → IsTable l r head → All (FilesGiveNoHead head) gs → flat_map (content l r) gs ≡ flat_map (symbol_bytes l r) (flat_map (group_symbols l) gs)
 groups_given l r head [] t a = refl
 groups_given l r head (g ∷ gs) t a =
     let here = group_given l r head g [] t (files_given l r head g.files t (All-head (FilesGiveNoHead head) g gs a)) in
     let rest = groups_given l r head gs t (All-tail (FilesGiveNoHead head) g gs a) in
     ap (λ (bs : List ℕ). bs ++ flat_map (content l r) gs) here
-    ∙ ap (λ (bs : List ℕ). flat_map (symbol_bytes l r) (own_of_group l g) ++ bs) rest
-    ∙ sym (flat_map-append (symbol_bytes l r) (own_of_group l g) (flat_map (own_of_group l) gs))
+    ∙ ap (λ (bs : List ℕ). flat_map (symbol_bytes l r) (group_symbols l g) ++ bs) rest
+    ∙ sym (flat_map-append (symbol_bytes l r) (group_symbols l g) (flat_map (group_symbols l) gs))
 
 -- a table at whose front nothing stands
 pub headless : (l : Layout) (r : Role) → IsTable l r [] → table_bytes l r ≡ flat_map (symbol_bytes l r) (written_symbols l)
@@ -186,17 +183,17 @@ later_groups head i (g ∷ gs) h =
     All-cons (FilesGiveNoHead head) g gs (later_group head (length gs == 0) g.files p.here) (later_groups head (i + 1) gs p.rest)
 
 -- a table of several groups, whose front the first file gives
-headed_groups : (l : Layout) (r : Role) (head : List ℕ) (gs : List Group) → IsTable l r head → file_misplaced true 0 gs ≡ None → 1 ≤ length gs → flat_map (content l r) gs ≡ head ++ flat_map (symbol_bytes l r) (flat_map (own_of_group l) gs)
+headed_groups : (l : Layout) (r : Role) (head : List ℕ) (gs : List Group) → IsTable l r head → file_misplaced true 0 gs ≡ None → 1 ≤ length gs → flat_map (content l r) gs ≡ head ++ flat_map (symbol_bytes l r) (flat_map (group_symbols l) gs)
 headed_groups l r head [] t h some = absurd (omega arith)
 headed_groups l r head (g ∷ gs) t h some =
-    let own = flat_map (symbol_bytes l r) (own_of_group l g) in
+    let own = flat_map (symbol_bytes l r) (group_symbols l g) in
     let p = placed true 0 g gs h in
     let here = group_given l r head g head t (first_group l r head (length gs == 0) g.files t p.here) in
     let rest = groups_given l r head gs t (later_groups head 1 gs p.rest) in
     ap (λ (bs : List ℕ). bs ++ flat_map (content l r) gs) here
     ∙ ap (λ (bs : List ℕ). (head ++ own) ++ bs) rest
-    ∙ append_assoc head own (flat_map (symbol_bytes l r) (flat_map (own_of_group l) gs))
-    ∙ ap (λ (bs : List ℕ). head ++ bs) (sym (flat_map-append (symbol_bytes l r) (own_of_group l g) (flat_map (own_of_group l) gs)))
+    ∙ append_assoc head own (flat_map (symbol_bytes l r) (flat_map (group_symbols l) gs))
+    ∙ ap (λ (bs : List ℕ). head ++ bs) (sym (flat_map-append (symbol_bytes l r) (group_symbols l g) (flat_map (group_symbols l) gs)))
 
 pub headed : (l : Layout) (r : Role) (head : List ℕ) → IsTable l r head → file_misplaced true 0 l.groups ≡ None → 1 ≤ length l.groups → table_bytes l r ≡ head ++ flat_map (symbol_bytes l r) (written_symbols l)
 headed l r head t h some = headed_groups l r head l.groups t h some

@@ -3,6 +3,7 @@
 --   written_symbols l    the symbols whose slots files write, in their order
 --   IsWritten l s        a file of a group writes the symbol's slots
 --   end_of l r           where the table of a role ends
+--   SlotsAreInOrder      the law
 use Rattle.std.specs.Prelude.{◌≡◌, ℕ, ◌+◌, List, true, length, Some, None, Ok, All, Contains}
 use Rattle.std.specs.List.{flat_map}
 use Rattle.wild_plan.specs.declared.part.Role.{Role}
@@ -14,7 +15,8 @@ use Rattle.wild_plan.specs.declared.layout.Layout.{Layout}
 use Rattle.wild_plan.specs.Contents.{file_misplaced}
 use Rattle.wild_plan.specs.SlotShares.{writes_slots, own_symbols}
 use Rattle.wild_plan.specs.SlotPlaces.{start_of}
-use Rattle.wild_plan.specs.WellFormed.{check_slots, check_slot_flags}
+use Rattle.wild_plan.specs.OwnSymbols.{HasOwnSymbols}
+use Rattle.wild_plan.specs.WellFormed.{check_slots, check_slot_flags, first_clause}
 use Rattle.wild_layout.specs.Geometry.{table_bytes}
 
 -- what was decided of the symbol has its flags
@@ -28,9 +30,12 @@ pub record HasSlotsInOrder (l : Layout) : Type 0 where
   pub resolved : All HasItsFlags l.symbols
   pub files : file_misplaced true 0 l.groups ≡ None
 
--- the symbols whose slots files write, in their order
+-- the symbols whose slots the files of a group write, in their order, and those of all groups
+abbrev pub group_symbols : Layout → Group → List Symbol
+group_symbols l g = flat_map (own_symbols l) g.files
+
 abbrev pub written_symbols : Layout → List Symbol
-written_symbols l = flat_map (λ (g : Group). flat_map (own_symbols l) g.files) l.groups
+written_symbols l = flat_map (group_symbols l) l.groups
 
 -- a file of a group writes the symbol's slots
 pub record IsWritten (l : Layout) (s : Symbol) : Type 0 where
@@ -44,3 +49,9 @@ pub record IsWritten (l : Layout) (s : Symbol) : Type 0 where
 -- where the table of a role ends
 abbrev pub end_of : Layout → Role → ℕ
 end_of l r = start_of l r + length (table_bytes l r)
+
+-- ---- law
+
+-- so it is in a layout whose clauses hold, and whose symbols are its own
+abbrev pub SlotsAreInOrder : Type 0
+SlotsAreInOrder = (l : Layout) → first_clause l ≡ Ok tt → HasOwnSymbols l → HasSlotsInOrder l

@@ -10,13 +10,13 @@ use Rattle.wild_plan.specs.Treatment.{flags_at, moves}
 use Rattle.wild_layout.specs.declared.decision.Decision.TheVariants.{Moved}
 use Rattle.wild_layout.specs.Decide.{decided}
 use Rattle.wild_layout.proofs.DecideLemmas.{decided_moved}
+use Rattle.wild_loader.specs.StepLaws.{StubsOfValuesAreRead}
 use Rattle.wild_loader.specs.declared.world.World.{World}
 use Rattle.wild_loader.specs.declared.memory.Memory.{Memory}
 use Rattle.wild_meaning.specs.Value.{moved}
 use Rattle.wild_meaning.specs.Formula.{IsSum}
 use Rattle.wild_values.specs.Terms.{IsPlaced}
-use Rattle.wild_values.proofs.Written.{address_given}
-use Rattle.wild_values.proofs.Symbols.{addressed}
+use Rattle.wild_values.proofs.Targets.{addressed}
 use Rattle.wild_values.proofs.Moves.{moved_sum}
 use Rattle.wild_values.proofs.ValueKinds.{more}
 
@@ -28,10 +28,10 @@ not_absolute l i h = by_tests (is_position_independent l.kind) (has_flag (flags_
     by_tests true true h = cc
     by_tests false b h = cc
 
-pub gives_moved : (l : Layout) (w : World) (m : Memory) (s : InputSection) (r : InputRelocation) (x : ℕ) (packed : Bool) → IsPlaced l w → decided l s r ≡ Ok (Moved x packed) → IsSum l w m r ((x + w.base) % 2 ^ 64)
-gives_moved l w m s r x packed p made =
+pub gives_moved : StubsOfValuesAreRead → (l : Layout) (w : World) (m : Memory) (s : InputSection) (r : InputRelocation) (x : ℕ) (packed : Bool) → IsPlaced l w m → decided l s r ≡ Ok (Moved x packed) → IsSum l w m r ((x + w.base) % 2 ^ 64)
+gives_moved law l w m s r x packed p made =
     let v = decided_moved l s r x packed made in
-    let t = addressed l w m r.symbol v.address p.named (address_given l r.symbol v.address v.given) in
+    let t = addressed law l w m r.symbol v.address p v.given in
     let still : t.still ≡ false = sym (t.flag v.by.number v.by.named) ∙ not_absolute l v.by.number v.by.moves in
     let target : moved t.still w.base v.address ≡ (w.base + v.address) % 2 ^ 64 = ap (λ (b : Bool). moved b w.base v.address) still in
     let e = moved_sum w.base v.address (more r) in

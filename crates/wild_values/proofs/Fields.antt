@@ -79,13 +79,20 @@ pub record KindLaws : Type 0 where
   pub size : KindGives kinds.SymbolSize
   pub pointer : KindGives kinds.TpOff
   pub own : KindGives kinds.DtpOff
+  pub stub_distance : KindGives kinds.PltRelative
+  pub stub_offset : KindGives kinds.PltRelGotBase
+  pub slot_distance : KindGives kinds.GotRelative
+  pub slot_offset : KindGives kinds.GotRelGotBase
+  pub thread_slot : KindGives kinds.GotTpOff
+  pub pair : KindGives kinds.TlsGd
+  pub own_pair : KindGives kinds.TlsLd
   pub address : AddressesGive
 
 -- a kept section in a legal world, whose bytes are loaded: each value, each address and each other byte is there
 pub record IsSectionLoaded (l : Layout) (w : World) (m : Memory) (s : InputSection) : Type 0 where
   pub tables : Tables
   pub kinds : KindLaws
-  pub placed : IsPlaced l w
+  pub placed : IsPlaced l w m
   pub room : allocated s.flags ≡ true
   pub clean : IsDecided l s
   pub symbols : All (NamesSymbol l) s.relocations
@@ -130,6 +137,13 @@ value_below : (l : Layout) (kind : RelocationKind) (s p : ℕ) (a : ℤ) → val
 value_below l kinds.Relative s p a = omega arith
 value_below l kinds.GotBaseRelative s p a = omega arith
 value_below l kinds.SymRelGotBase s p a = omega arith
+value_below l kinds.PltRelative s p a = omega arith
+value_below l kinds.PltRelGotBase s p a = omega arith
+value_below l kinds.GotRelative s p a = omega arith
+value_below l kinds.GotRelGotBase s p a = omega arith
+value_below l kinds.TlsGd s p a = omega arith
+value_below l kinds.TlsLd s p a = omega arith
+value_below l kinds.GotTpOff s p a = omega arith
 value_below l other s p a = omega arith
 
 field_below : (l : Layout) (s : InputSection) (r : InputRelocation) (z : RelocationSize) (v : ℕ) → IsField l s r z v → v < 2 ^ 64

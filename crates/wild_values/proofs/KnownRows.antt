@@ -16,7 +16,8 @@ use Rattle.wild_reloc.specs.declared.info.RelocationKind.TheVariants as kinds
 use Rattle.wild_reloc.specs.declared.info.RelocationKindInfo.{RelocationKindInfo}
 use Rattle.wild_reloc.proofs.TableLemmas.{entry_passes}
 use Rattle.wild_plan.specs.Rows.{row_of}
-use Rattle.wild_layout.proofs.DecideLemmas.{HasValue, value_has_field}
+use Rattle.wild_layout.proofs.DecideLemmas.{value_has_field}
+use Rattle.wild_layout.proofs.TreatmentLemmas.{HasValue}
 use Rattle.wild_meaning.specs.Field.{form_width}
 use Rattle.wild_values.proofs.Tests.{both_of}
 

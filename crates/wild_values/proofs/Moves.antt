@@ -22,9 +22,13 @@ table_is false base a c g (inl z) low = omega (arith, z, low)
 table_is true base a c g (inr f) low = cc
 table_is false base a c g (inr f) low = omega (arith, low)
 
--- GOT + A - P is the same at every base
-pub between : (base g c p : ℕ) → base + p ≤ 2 ^ 64 → ((g + c) % 2 ^ 64 + (2 ^ 64 - p)) % 2 ^ 64 ≡ ((base + g) % 2 ^ 64 + c + (2 ^ 64 - (base + p))) % 2 ^ 64
-between base g c p ends = omega (arith, ends)
+-- an address that moves less a place: GOT + A - P, L + A - P and G + A - P are the same at every base
+pub moved_distance : (base a c p : ℕ) → base + p ≤ 2 ^ 64 → ((a + c) % 2 ^ 64 + (2 ^ 64 - p)) % 2 ^ 64 ≡ ((base + a) % 2 ^ 64 + c + (2 ^ 64 - (base + p))) % 2 ^ 64
+moved_distance base a c p ends = omega (arith, ends)
+
+-- and less the table
+pub moved_offset : (base a c g : ℕ) → g < 2 ^ 64 → ((a + c) % 2 ^ 64 + (2 ^ 64 - g)) % 2 ^ 64 ≡ ((base + a) % 2 ^ 64 + c + (2 ^ 64 - (base + g) % 2 ^ 64)) % 2 ^ 64
+moved_offset base a c g low = omega (arith, low)
 
 -- an address that a loader moves
 pub moved_sum : (base a c : ℕ) → ((a + c) % 2 ^ 64 + base) % 2 ^ 64 ≡ ((base + a) % 2 ^ 64 + c) % 2 ^ 64

@@ -1,27 +1,22 @@
 -- What the writer knows of a symbol, and what the reader does.
-use Rattle.std.proofs.Common.{◌≡◌, ℕ, ◌<◌, ◌⊎◌, inl, inr, Bool, true, false, length, get_or, refl, sym, ap, ◌∙◌, subst}
-use Rattle.std.specs.Prelude.{Option, Some, None, All, option_map, unwrap_or, slice_get}
+use Rattle.std.proofs.Common.{◌≡◌, ℕ, ◌<◌, ◌⊎◌, inl, inr, true, false, length, get_or, refl, sym, ap, ◌∙◌, subst}
+use Rattle.std.specs.Prelude.{Option, Some, None, All, option_and_then, option_map, unwrap_or, slice_get}
 use Rattle.std.proofs.lemmas.Option.{slice_get-get_or, slice_get_within, get_or_from_slice_get}
 use Rattle.wild_plan.specs.declared.symbol.Place.{Place}
 use Rattle.wild_plan.specs.declared.symbol.Place.TheVariants as at
+use Rattle.wild_plan.specs.declared.symbol.Resolution.{Resolution}
 use Rattle.wild_plan.specs.declared.symbol.Symbol.{Symbol}
-use Rattle.wild_plan.specs.declared.symbol.ValueFlags.{ValueFlags}
 use Rattle.wild_plan.specs.declared.layout.Layout.{Layout}
-use Rattle.wild_plan.specs.Flags.{has_flag, absolute}
+use Rattle.wild_plan.specs.Flags.{has_flag}
 use Rattle.wild_plan.specs.Lookups.{canonical}
 use Rattle.wild_plan.specs.Treatment.{flags_at}
-use Rattle.wild_layout.specs.Values.{definition_of, is_nowhere, is_undefined, symbol_size}
+use Rattle.wild_layout.specs.Values.{definition_of, resolution_of, is_nowhere, is_undefined, symbol_size}
 use Rattle.wild_layout.specs.Geometry.{DefinitionNames}
-use Rattle.wild_loader.specs.declared.world.World.{World}
-use Rattle.wild_loader.specs.declared.memory.Memory.{Memory}
-use Rattle.wild_meaning.specs.Value.{IsSymbol, IsDefinedBy, IsAbsolute, IsUndefined, HasSize, moved}
-use Rattle.wild_meaning.specs.Formula.{IsTarget}
-use Rattle.wild_values.proofs.Values.{has_raw}
-use Rattle.wild_values.proofs.Written.{HasAddress}
+use Rattle.wild_meaning.specs.Value.{IsSymbol, IsDefinedBy, IsUndefined, HasRaw, HasFlag, HasSize}
 
 -- ---- definitions
 
-definition_listed : (l : Layout) (i c : ℕ) → All (DefinitionNames l) l.symbols → IsDefinedBy l i c → (s : Symbol) × IsSymbol l c s
+pub definition_listed : (l : Layout) (i c : ℕ) → All (DefinitionNames l) l.symbols → IsDefinedBy l i c → (s : Symbol) × IsSymbol l c s
 definition_listed l i c named d = by_case l i c d.symbol named d.listed d.defined
   where
     by_case : (l : Layout) (i c : ℕ) (symbol : Symbol) → All (DefinitionNames l) l.symbols → IsSymbol l i symbol → (symbol.definition ≡ Some c) ⊎ ((symbol.definition ≡ None) × (c ≡ i)) → (s : Symbol) × IsSymbol l c s
@@ -49,31 +44,44 @@ defined_by l i symbol listed = by_definition symbol.definition refl
     by_definition None e = record { symbol = symbol; listed = listed; defined = inr (e, rw (listed, e) refl) }
     by_definition (Some c) e = record { symbol = symbol; listed = listed; defined = inl (let same : canonical l i ≡ c = rw (listed, e) refl in e ∙ ap Some (sym same)) }
 
--- ---- addresses
-
--- an address in the world: the layout's own, or that moved with the base
-pub record IsAddressed (l : Layout) (w : World) (m : Memory) (symbol : Option ℕ) (a : ℕ) : Type 0 where
-  pub still : Bool
-  pub denoted : IsTarget l w m symbol (moved still w.base a)
-  pub flag : (i : ℕ) → symbol ≡ Some i → has_flag (flags_at l i) absolute ≡ still
-  pub absolute : (i : ℕ) → symbol ≡ Some i → still ≡ true → IsAbsolute l i
-
-flags_are : (l : Layout) (i c : ℕ) (s : Symbol) → IsDefinedBy l i c → IsSymbol l c s → flags_at l i ≡ s.flags
+-- what the writer knows of its flags
+pub flags_are : (l : Layout) (i c : ℕ) (s : Symbol) → IsDefinedBy l i c → IsSymbol l c s → flags_at l i ≡ s.flags
 flags_are l i c s d listed = let e = canonical_is l i c d in rw (e, listed) refl
 
-pub addressed : (l : Layout) (w : World) (m : Memory) (symbol : Option ℕ) (a : ℕ) → All (DefinitionNames l) l.symbols → HasAddress l symbol a → IsAddressed l w m symbol a
-addressed l w m None a named h = record { still = true; denoted = h; flag = λ i e. cc; absolute = λ i e t. cc }
-addressed l w m (Some i) a named h =
-    let raw = has_raw l i a h in
-    let d = definition_listed l i raw.definition named raw.defined in
-    let still = has_flag d.0.flags absolute in
-    let flags = flags_are l i raw.definition d.0 raw.defined d.1 in
-    record {
-      still = still;
-      denoted = record { raw = a; given = raw; still = still; absolute = record { definition = raw.definition; defined = raw.defined; symbol = d.0; listed = d.1; flagged = refl }; moves = refl };
-      flag = λ j e. (let same : i ≡ j = cc in subst (λ (k : ℕ). has_flag (flags_at l k) absolute ≡ still) same (ap (λ (f : ValueFlags). has_flag f absolute) flags));
-      absolute = λ j e t. (let same : i ≡ j = cc in subst (λ (k : ℕ). IsAbsolute l k) same (record { definition = raw.definition; defined = raw.defined; symbol = d.0; listed = d.1; flagged = t }));
-    }
+-- ---- what was decided
+
+-- something was decided of symbol i's definition
+pub record IsResolvedBy (l : Layout) (i : ℕ) (r : Resolution) : Type 0 where
+  pub symbol : Symbol
+  pub listed : IsSymbol l (canonical l i) symbol
+  pub defined : IsDefinedBy l i (canonical l i)
+  pub decided : symbol.resolution ≡ Some r
+
+-- a symbol whose definition is listed is listed itself
+own_definition : (l : Layout) (i : ℕ) (s : Symbol) → slice_get l.symbols (canonical l i) ≡ Some s → IsDefinedBy l i (canonical l i)
+own_definition l i s e = by_symbol (slice_get l.symbols i) refl
+  where
+    by_symbol : (o : Option Symbol) → slice_get l.symbols i ≡ o → IsDefinedBy l i (canonical l i)
+    by_symbol (Some t) is = defined_by l i t is
+    by_symbol None is =
+        let same : canonical l i ≡ i = rw is refl in
+        let there : slice_get l.symbols i ≡ Some s = subst (λ (k : ℕ). slice_get l.symbols k ≡ Some s) same e in
+        cc
+
+pub resolved : (l : Layout) (i : ℕ) (r : Resolution) → resolution_of l i ≡ Some r → IsResolvedBy l i r
+resolved l i r h = by_definition (definition_of l i) refl h
+  where
+    by_definition : (o : Option Symbol) → slice_get l.symbols (canonical l i) ≡ o → option_and_then (λ (s : Symbol). s.resolution) o ≡ Some r → IsResolvedBy l i r
+    by_definition None e h = cc
+    by_definition (Some s) e h = record { symbol = s; listed = e; defined = own_definition l i s e; decided = h }
+
+-- its address is the symbol's
+pub resolved_raw : (l : Layout) (i : ℕ) (r : Resolution) → IsResolvedBy l i r → HasRaw l i r.raw_value
+resolved_raw l i r d = record { definition = canonical l i; defined = d.defined; given = inl (record { symbol = d.symbol; listed = d.listed; resolution = r; decided = d.decided; value = refl }) }
+
+-- what is known of its flags
+pub resolved_flag : (l : Layout) (i flag : ℕ) (r : Resolution) → (d : IsResolvedBy l i r) → HasFlag l i flag (has_flag d.symbol.flags flag)
+resolved_flag l i flag r d = record { definition = canonical l i; defined = d.defined; symbol = d.symbol; listed = d.listed; flagged = refl }
 
 -- ---- undefined symbols, and sizes
 

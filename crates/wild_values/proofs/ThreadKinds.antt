@@ -1,56 +1,28 @@
 -- The offsets in thread-local storage that a relocation writes are what its expression gives.
-use Rattle.std.proofs.Common.{◌≡◌, ℕ, ◌+◌, ◌-◌, ◌%◌, ◌^◌, ◌<◌, inl, inr, true, length, refl, sym, ap, ◌∙◌, arith, subst}
-use Rattle.std.specs.Prelude.{Option, Some, Result, Ok, Err, ◌==◌}
+use Rattle.std.proofs.Common.{◌≡◌, ℕ, ◌+◌, ◌-◌, ◌%◌, ◌^◌, ◌<◌, inl, inr, length, refl, sym, ap, ◌∙◌, arith, subst}
+use Rattle.std.specs.Prelude.{Option, Some, Result, Ok, Err}
 use Rattle.std.specs.Int.{w64, cast_unsigned}
-use Rattle.std.proofs.Math.Nat.{zero-mod}
-use Rattle.std.proofs.lemmas.Bool.{cases_Bool, eqb-true}
-use Rattle.wild_plan.specs.declared.kind.Machine.{Machine}
-use Rattle.wild_plan.specs.declared.kind.Machine.TheVariants as machine
-use Rattle.wild_plan.specs.declared.kind.OutputKind.{OutputKind}
-use Rattle.wild_plan.specs.declared.kind.OutputKind.TheVariants as output
+use Rattle.std.proofs.lemmas.Bool.{cases_Bool}
 use Rattle.wild_plan.specs.declared.fault.Fault.{Fault}
 use Rattle.wild_plan.specs.declared.input.InputRelocation.{InputRelocation}
 use Rattle.wild_plan.specs.declared.input.InputSection.{InputSection}
 use Rattle.wild_plan.specs.declared.layout.Layout.{Layout}
 use Rattle.wild_plan.specs.declared.treatment.Treatment.TheVariants as treatments
-use Rattle.wild_plan.specs.Kinds.{is_executable}
 use Rattle.wild_reloc.specs.Agreement.{plain_value}
 use Rattle.wild_reloc.specs.declared.info.RelocationKind.TheVariants as kinds
-use Rattle.wild_layout.specs.Values.{less, rounded_up, thread_pointer, storage_start, address_of, behind, pointer_offset, is_undefined}
+use Rattle.wild_layout.specs.Values.{less, thread_pointer, storage_start, raw_address, behind, pointer_offset, is_undefined}
 use Rattle.wild_loader.specs.declared.world.World.{World}
 use Rattle.wild_loader.specs.declared.memory.Memory.{Memory}
-use Rattle.wild_meaning.specs.Thread as judge
-use Rattle.wild_meaning.specs.World.{IsExecutable}
 use Rattle.wild_meaning.specs.Item.{item_of}
 use Rattle.wild_meaning.specs.Formula.{IsOffset, Gives}
 use Rattle.wild_values.proofs.Written.{address_given, slice_get_inside}
 use Rattle.wild_values.proofs.Values.{has_raw}
 use Rattle.wild_values.proofs.Symbols.{undefined}
 use Rattle.wild_values.proofs.Moves.{less_sum}
-use Rattle.wild_values.proofs.ThreadValues.{thread_place, thread_sum}
+use Rattle.wild_values.proofs.ThreadValues.{thread_place, thread_sum, pointer_same, own_base, executable_is}
 use Rattle.wild_values.proofs.Treated.{symbol_named}
 use Rattle.wild_values.specs.Terms.{IsPlaced, HasTerm}
 use Rattle.wild_values.proofs.ValueKinds.{more}
-
--- ---- the thread pointer
-
--- the writer's number is the reader's, modulo 2^64
-rounded_same : (n align : ℕ) → n < 2 ^ 64 → judge.rounded_up n align % 2 ^ 64 ≡ rounded_up n align
-rounded_same n align low =
-    elim (cases_Bool (align == 0)) [
-      | inr f ↦ rw f refl
-      | inl t ↦
-          (let z = eqb-true align 0 t in
-          let none : align - n % align ≡ 0 = omega (arith, z) in
-          let e : (align - n % align) % align ≡ 0 = ap (λ (k : ℕ). k % align) none ∙ zero-mod align in
-          rw t (ap (λ (k : ℕ). (n + k) % 2 ^ 64) e ∙ same n low))
-    ]
-  where
-    same : (n : ℕ) → n < 2 ^ 64 → (n + 0) % 2 ^ 64 ≡ n
-    same n low = omega (arith, low)
-
-pointer_same : (l : Layout) (w : World) → IsPlaced l w → judge.thread_pointer l % 2 ^ 64 ≡ thread_pointer l.machine l.tls
-pointer_same l w p = subst (λ (m : Machine). judge.thread_pointer_of m l.tls % 2 ^ 64 ≡ thread_pointer m l.tls) (sym p.x86) (rounded_same l.tls.end l.tls.align p.tls_end)
 
 -- ---- an address less a number
 
@@ -64,9 +36,9 @@ pub record HasPlace (l : Layout) (w : World) (i term : ℕ) : Type 0 where
   pub is : IsOffset l w (Some i) offset
   pub sum : (a : ℕ) → (offset + a) % 2 ^ 64 ≡ (term + a) % 2 ^ 64
 
-placed_offset : (l : Layout) (w : World) (i term : ℕ) → IsPlaced l w → behind (thread_pointer l.machine l.tls) (address_of l (Some i)) ≡ Ok term → HasPlace l w i term
-placed_offset l w i term p h =
-    let a = behind_given (thread_pointer l.machine l.tls) term (address_of l (Some i)) h in
+placed_offset : (l : Layout) (w : World) (m : Memory) (i term : ℕ) → IsPlaced l w m → behind (thread_pointer l.machine l.tls) (raw_address l (Some i)) ≡ Ok term → HasPlace l w i term
+placed_offset l w m i term p h =
+    let a = behind_given (thread_pointer l.machine l.tls) term (raw_address l (Some i)) h in
     let raw = has_raw l i a.0 (address_given l (Some i) a.0 a.1) in
     let d = cast_unsigned w64 p.module_one.distance in
     record {
@@ -74,7 +46,7 @@ placed_offset l w i term p h =
       is = inl (thread_place l w i a.0 p.module_one raw);
       sum = λ c.
           (let there = thread_sum l w a.0 c p.module_one in
-          let same = ap (λ (n : ℕ). (a.0 + c + (2 ^ 64 - n)) % 2 ^ 64) (pointer_same l w p) in
+          let same = ap (λ (n : ℕ). (a.0 + c + (2 ^ 64 - n)) % 2 ^ 64) (pointer_same l p.x86 p.tls_end) in
           let back = sym (less_sum a.0 c (thread_pointer l.machine l.tls)) in
           there ∙ same ∙ back ∙ ap (λ (n : ℕ). (n + c) % 2 ^ 64) a.2);
     }
@@ -82,51 +54,36 @@ placed_offset l w i term p h =
 -- ---- from the thread pointer
 
 -- of a symbol that nothing defines the offset is 0
-pointer_place : (l : Layout) (w : World) (i term : ℕ) → IsPlaced l w → i < length l.symbols → pointer_offset l (Some i) ≡ Ok term → HasPlace l w i term
-pointer_place l w i term p listed given =
+pointer_place : (l : Layout) (w : World) (m : Memory) (i term : ℕ) → IsPlaced l w m → i < length l.symbols → pointer_offset l (Some i) ≡ Ok term → HasPlace l w i term
+pointer_place l w m i term p listed given =
     let z = slice_get_inside l.symbols i listed in
     elim (cases_Bool (is_undefined l i)) [
       | inl t ↦
           (let e : Ok 0 ≡ Ok term = rw t at given in
           let none : 0 ≡ term = cc in
           record { offset = 0; is = inr (inl (undefined l i z.0 z.1 t), refl); sum = λ c. ap (λ (n : ℕ). (n + c) % 2 ^ 64) none })
-      | inr f ↦ placed_offset l w i term p (rw f at given)
+      | inr f ↦ placed_offset l w m i term p (rw f at given)
     ]
 
-pub gives_pointer : (l : Layout) (w : World) (m : Memory) (s : InputSection) (r : InputRelocation) (x : ℕ) → HasTerm l w s r kinds.TpOff x → Gives (plain_value kinds.TpOff) l w m (item_of s) r x
+pub gives_pointer : (l : Layout) (w : World) (m : Memory) (s : InputSection) (r : InputRelocation) (x : ℕ) → HasTerm l w m s r kinds.TpOff x → Gives (plain_value kinds.TpOff) l w m (item_of s) r x
 gives_pointer l w m s r x h =
     let i = symbol_named r.symbol (λ i. treatments.Value h.row) h.row h.treated in
     let given : pointer_offset l (Some i.0) ≡ Ok h.term = subst (λ (o : Option ℕ). pointer_offset l o ≡ Ok h.term) i.1 h.given in
-    let p = pointer_place l w i.0 h.term h.placed (h.listed i.0 i.1) given in
+    let p = pointer_place l w m i.0 h.term h.placed (h.listed i.0 i.1) given in
     (p.offset, subst (λ (o : Option ℕ). IsOffset l w o p.offset) (sym i.1) p.is, sym h.value ∙ sym (p.sum (more r)))
 
 -- ---- in the own module
 
-storage_is : (l : Layout) (w : World) → IsPlaced l w → storage_start l ≡ thread_pointer l.machine l.tls
-storage_is l w p = rw (p.x86, executable l.kind p.program) refl
-  where
-    executable : (k : OutputKind) → IsExecutable k → is_executable k ≡ true
-    executable (output.StaticExecutable any) h = refl
-    executable (output.DynamicExecutable any) h = refl
-    executable output.SharedObject h = absurd h
-    executable output.PartialObject h = absurd h
+storage_is : (l : Layout) (w : World) (m : Memory) → IsPlaced l w m → storage_start l ≡ thread_pointer l.machine l.tls
+storage_is l w m p = rw (p.x86, executable_is l.kind p.program) refl
 
-base_is : (m : Machine) (k : OutputKind) (w : World) → m ≡ machine.X86_64 → IsExecutable k → judge.IsOffsetBase m k w 0
-base_is m k w x e = subst (λ (n : Machine). judge.IsOffsetBase n k w 0) (sym x) (by_kind k e)
-  where
-    by_kind : (k : OutputKind) → IsExecutable k → judge.IsOffsetBase machine.X86_64 k w 0
-    by_kind (output.StaticExecutable any) h = refl
-    by_kind (output.DynamicExecutable any) h = refl
-    by_kind output.SharedObject h = absurd h
-    by_kind output.PartialObject h = absurd h
-
-pub gives_offset : (l : Layout) (w : World) (m : Memory) (s : InputSection) (r : InputRelocation) (x : ℕ) → HasTerm l w s r kinds.DtpOff x → Gives (plain_value kinds.DtpOff) l w m (item_of s) r x
+pub gives_offset : (l : Layout) (w : World) (m : Memory) (s : InputSection) (r : InputRelocation) (x : ℕ) → HasTerm l w m s r kinds.DtpOff x → Gives (plain_value kinds.DtpOff) l w m (item_of s) r x
 gives_offset l w m s r x h =
     let i = symbol_named r.symbol (λ i. treatments.Value h.row) h.row h.treated in
-    let given : behind (storage_start l) (address_of l (Some i.0)) ≡ Ok h.term = subst (λ (o : Option ℕ). behind (storage_start l) (address_of l o) ≡ Ok h.term) i.1 h.given in
-    let given' = subst (λ (n : ℕ). behind n (address_of l (Some i.0)) ≡ Ok h.term) (storage_is l w h.placed) given in
-    let p = placed_offset l w i.0 h.term h.placed given' in
-    (p.offset, 0, subst (λ (o : Option ℕ). IsOffset l w o p.offset) (sym i.1) p.is, base_is l.machine l.kind w h.placed.x86 h.placed.program, sym h.value ∙ sym (p.sum (more r)) ∙ whole (p.offset + more r))
+    let given : behind (storage_start l) (raw_address l (Some i.0)) ≡ Ok h.term = subst (λ (o : Option ℕ). behind (storage_start l) (raw_address l o) ≡ Ok h.term) i.1 h.given in
+    let given' = subst (λ (n : ℕ). behind n (raw_address l (Some i.0)) ≡ Ok h.term) (storage_is l w m h.placed) given in
+    let p = placed_offset l w m i.0 h.term h.placed given' in
+    (p.offset, 0, subst (λ (o : Option ℕ). IsOffset l w o p.offset) (sym i.1) p.is, own_base l.machine l.kind w h.placed.x86 h.placed.program, sym h.value ∙ sym (p.sum (more r)) ∙ whole (p.offset + more r))
   where
     whole : (n : ℕ) → n % 2 ^ 64 ≡ (n + (2 ^ 64 - 0)) % 2 ^ 64
     whole n = omega arith

@@ -1,16 +1,24 @@
 -- The offset of a symbol from the thread pointer in a legal world.
-use Rattle.std.proofs.Common.{◌≡◌, ℕ, ℤ, ◌+◌, ◌-◌, ◌%◌, ◌^◌, Bool, true, false, List, [], ◌∷◌, refl, sym, ap, arith, subst}
+use Rattle.std.proofs.Common.{◌≡◌, ℕ, ℤ, ◌+◌, ◌-◌, ◌%◌, ◌^◌, ◌<◌, inl, inr, Bool, true, false, List, [], ◌∷◌, refl, sym, ap, ◌∙◌, arith, subst}
 use Rattle.std.specs.Prelude.{◌==◌, if◌then◌else◌, Option, Some, Ok}
 use Rattle.std.specs.List.{filter}
 use Rattle.std.specs.Int.{w64, cast_unsigned}
+use Rattle.std.proofs.Math.Nat.{zero-mod}
+use Rattle.std.proofs.lemmas.Bool.{cases_Bool, eqb-true}
+use Rattle.wild_plan.specs.declared.kind.Machine.{Machine}
+use Rattle.wild_plan.specs.declared.kind.Machine.TheVariants as machine
+use Rattle.wild_plan.specs.declared.kind.OutputKind.{OutputKind}
+use Rattle.wild_plan.specs.declared.kind.OutputKind.TheVariants as output
 use Rattle.wild_plan.specs.declared.layout.Layout.{Layout}
+use Rattle.wild_plan.specs.Kinds.{is_executable}
+use Rattle.wild_plan.specs.Storage as storage
 use Rattle.wild_loader.specs.declared.fault.LoadFault.TheVariants as faults
 use Rattle.wild_loader.specs.declared.world.World.{World}
 use Rattle.wild_loader.specs.Given.{◌>>=◌, known}
 use Rattle.wild_loader.specs.Changes.{first_value, distance_of}
 use Rattle.wild_meaning.specs.Value.{HasRaw}
-use Rattle.wild_meaning.specs.Thread.{thread_pointer, HasDistance, IsThreadPlace}
-use Rattle.wild_meaning.specs.World.{first_module, IsFirstModule}
+use Rattle.wild_meaning.specs.Thread.{rounded_up, thread_pointer_of, thread_pointer, HasDistance, IsThreadPlace, IsOffsetBase}
+use Rattle.wild_meaning.specs.World.{first_module, IsExecutable, IsFirstModule}
 
 -- the only pair for a key is the first one
 only_pair : (ms : List (ℕ × ℤ)) (k : ℕ) (d : ℤ) → filter (λ (m : ℕ × ℤ). m.0 == k) ms ≡ (k, d) ∷ [] → first_value ms k ≡ Some d
@@ -40,3 +48,39 @@ thread_sum l w raw a f = by_numbers (cast_unsigned w64 f.distance) (thread_point
   where
     by_numbers : (d tp start raw a : ℕ) → (tp + d) % 2 ^ 64 ≡ start → ((d + raw + (2 ^ 64 - start)) % 2 ^ 64 + a) % 2 ^ 64 ≡ (raw + a + (2 ^ 64 - tp % 2 ^ 64)) % 2 ^ 64
     by_numbers d tp start raw a e = omega (arith, e)
+
+-- ---- the thread pointer
+
+-- the writer's number is the reader's, modulo 2^64
+rounded_same : (n align : ℕ) → n < 2 ^ 64 → rounded_up n align % 2 ^ 64 ≡ storage.rounded_up n align
+rounded_same n align low =
+    elim (cases_Bool (align == 0)) [
+      | inr f ↦ rw f refl
+      | inl t ↦
+          (let z = eqb-true align 0 t in
+          let none : align - n % align ≡ 0 = omega (arith, z) in
+          let e : (align - n % align) % align ≡ 0 = ap (λ (k : ℕ). k % align) none ∙ zero-mod align in
+          rw t (ap (λ (k : ℕ). (n + k) % 2 ^ 64) e ∙ same n low))
+    ]
+  where
+    same : (n : ℕ) → n < 2 ^ 64 → (n + 0) % 2 ^ 64 ≡ n
+    same n low = omega (arith, low)
+
+pub pointer_same : (l : Layout) → l.machine ≡ machine.X86_64 → l.tls.end < 2 ^ 64 → thread_pointer l % 2 ^ 64 ≡ storage.thread_pointer l.machine l.tls
+pointer_same l x86 low = subst (λ (m : Machine). thread_pointer_of m l.tls % 2 ^ 64 ≡ storage.thread_pointer m l.tls) (sym x86) (rounded_same l.tls.end l.tls.align low)
+
+-- offsets in an x86-64 executable's data count from the thread pointer
+pub own_base : (m : Machine) (k : OutputKind) (w : World) → m ≡ machine.X86_64 → IsExecutable k → IsOffsetBase m k w 0
+own_base m k w x e = subst (λ (n : Machine). IsOffsetBase n k w 0) (sym x) (by_kind k e)
+  where
+    by_kind : (k : OutputKind) → IsExecutable k → IsOffsetBase machine.X86_64 k w 0
+    by_kind (output.StaticExecutable any) h = refl
+    by_kind (output.DynamicExecutable any) h = refl
+    by_kind output.SharedObject h = absurd h
+    by_kind output.PartialObject h = absurd h
+
+pub executable_is : (k : OutputKind) → IsExecutable k → is_executable k ≡ true
+executable_is (output.StaticExecutable any) h = refl
+executable_is (output.DynamicExecutable any) h = refl
+executable_is output.SharedObject h = absurd h
+executable_is output.PartialObject h = absurd h

@@ -11,7 +11,7 @@ use Rattle.wild_plan.specs.Flags.{has_flag, absolute}
 use Rattle.wild_plan.specs.Kinds.{is_position_independent}
 use Rattle.wild_plan.specs.Lookups.{allocated}
 use Rattle.wild_plan.specs.Rows.{row_of}
-use Rattle.wild_plan.specs.Treatment.{is_left, is_barred, flags_at, moves, moved_treatment, address_treatment, distance_treatment, named, kind_treatment, row_treatment, treatment}
+use Rattle.wild_plan.specs.Treatment.{is_left, is_barred, is_chosen, flags_at, moves, moved_treatment, address_treatment, distance_treatment, named, kind_treatment, row_treatment, treatment}
 use Rattle.wild_reloc.specs.Field.{field_width}
 use Rattle.wild_reloc.specs.declared.info.RelocationKindInfo.{RelocationKindInfo}
 
@@ -45,14 +45,15 @@ is_no_value row h =
 
 -- the value of an address that is written in memory does not move
 pub address_still : (l : Layout) (s : InputSection) (row : RelocationKindInfo) (i : ℕ) → allocated s.flags ≡ true → address_treatment l s row i ≡ treatments.Value row → (is_position_independent l.kind ≡ false) ⊎ (has_flag (flags_at l i) absolute ≡ true)
-address_still l s row i room h = still_cases l i (by_tests (is_barred l s row i) (is_left l s row i) (allocated s.flags) (moves l i) room h)
+address_still l s row i room h = still_cases l i (by_tests (is_barred l s row i) (is_left l s row i) (is_chosen l s i) (allocated s.flags) (moves l i) room h)
   where
-    by_tests : (barred left room moving : Bool) → room ≡ true → (if barred then treatments.Recompile else (if left then treatments.Symbolic i else (if room && moving then moved_treatment row else treatments.Value row))) ≡ treatments.Value row → moving ≡ false
-    by_tests barred left room false e h = refl
-    by_tests true left room true e h = cc
-    by_tests false true room true e h = cc
-    by_tests false false false true e h = cc
-    by_tests false false true true e h = absurd (is_no_value row h)
+    by_tests : (barred left chosen room moving : Bool) → room ≡ true → (if barred then treatments.Recompile else (if left then treatments.Symbolic i else (if chosen then treatments.Unsupported else (if room && moving then moved_treatment row else treatments.Value row)))) ≡ treatments.Value row → moving ≡ false
+    by_tests barred left chosen room false e h = refl
+    by_tests true left chosen room true e h = cc
+    by_tests false true chosen room true e h = cc
+    by_tests false false true room true e h = cc
+    by_tests false false false false true e h = cc
+    by_tests false false false true true e h = absurd (is_no_value row h)
 
 -- a distance without a symbol is in an output that does not move
 pub distance_still : (l : Layout) (s : InputSection) (row : RelocationKindInfo) → allocated s.flags ≡ true → distance_treatment l s row None ≡ treatments.Value row → is_position_independent l.kind ≡ false

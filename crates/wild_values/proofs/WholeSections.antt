@@ -15,14 +15,17 @@ use Rattle.wild_plan.specs.declared.file.Group.{Group}
 use Rattle.wild_plan.specs.declared.layout.Layout.{Layout}
 use Rattle.wild_plan.specs.Kinds.{is_position_independent}
 use Rattle.wild_plan.specs.Lookups.{is_loaded, is_read}
+use Rattle.wild_plan.specs.OwnSymbols.{HasOwnSymbols}
 use Rattle.wild_layout.specs.Numbers.{NumbersFit}
 use Rattle.wild_layout.specs.Geometry.{IsLaidOut, SectionLies, NamesSymbol, EachSection}
 use Rattle.wild_geometry.specs.Loaded.{IsDecided, HasSection, in_memory}
+use Rattle.wild_geometry.specs.Slots.{HasSlots}
+use Rattle.wild_loader.specs.declared.memory.Machine.TheVariants as machines
 use Rattle.wild_loader.specs.declared.memory.Memory.{Memory}
 use Rattle.wild_loader.specs.declared.world.World.{World}
 use Rattle.wild_meaning.specs.World.{IsFixed, IsMovable, IsExecutable, IsLegal}
 use Rattle.wild_meaning.specs.Item.{IsInput, IsKeptSection}
-use Rattle.wild_values.specs.Terms.{IsPlaced}
+use Rattle.wild_values.specs.Terms.{SymbolsFit, IsPlaced}
 use Rattle.wild_values.specs.Laws.{SectionsHold}
 use Rattle.wild_values.proofs.Bits.{alloc_bit}
 use Rattle.wild_values.proofs.Sections.{Tables, in_no_site}
@@ -49,16 +52,21 @@ moving_movable output.PartialObject e = cc
 
 -- ---- a layout in a legal world
 
-placed : (l : Layout) (w : World) → l.machine ≡ machine.X86_64 → IsExecutable l.kind → NumbersFit l → IsLegal l w → IsLaidOut l → IsPlaced l w
-placed l w m program numbers legal laid = record {
-  x86 = m;
+symbols_fit : (l : Layout) → HasOwnSymbols l → NumbersFit l → IsLaidOut l → SymbolsFit l
+symbols_fit l own numbers laid = record { named = laid.definitions; own = own; flags = laid.slot_flags; numbers = numbers.symbols }
+
+placed : (l : Layout) (w : World) (m : Memory) → l.machine ≡ machine.X86_64 → IsExecutable l.kind → NumbersFit l → IsLegal l w → SymbolsFit l → m.machine ≡ machines.X86_64 → HasSlots l w m → IsPlaced l w m
+placed l w m x86 program numbers legal symbols loaded slots = record {
+  x86 = x86;
   still = λ e. legal.fixed (still_fixed l.kind program e);
   movable = moving_movable l.kind;
   program = program;
   module_one = legal.first program;
   got = numbers.got;
   tls_end = numbers.tls.end;
-  named = laid.definitions;
+  symbols = symbols;
+  loaded = loaded;
+  slots = slots;
 }
 
 -- ---- a kept section
@@ -73,7 +81,7 @@ each_at P l s h k =
 listed_at : (xs : List InputRelocation) (i : ℕ) (r : InputRelocation) → slice_get xs i ≡ Some r → Contains xs r
 listed_at xs i r e = (i, slice_get_within xs i r e, get_or_from_slice_get xs i r r e)
 
-section_loaded : (l : Layout) (w : World) (m : Memory) (s : InputSection) → Tables → KindLaws → IsPlaced l w → IsLaidOut l → IsKeptSection l s → IsDecided l s → HasSection l w m s (in_memory w) → IsSectionLoaded l w m s
+section_loaded : (l : Layout) (w : World) (m : Memory) (s : InputSection) → Tables → KindLaws → IsPlaced l w m → IsLaidOut l → IsKeptSection l s → IsDecided l s → HasSection l w m s (in_memory w) → IsSectionLoaded l w m s
 section_loaded l w m s tables kinds p laid k decided h =
     let lies = each_at (SectionLies l) l s laid.inputs k.input in
     record {
@@ -93,6 +101,7 @@ section_loaded l w m s tables kinds p laid k decided h =
     }
 
 pub sections_hold : Tables → KindLaws → SectionsHold
-sections_hold tables kinds = λ l w m s x program numbers legal laid k decided h.
-    let there = section_loaded l w m s tables kinds (placed l w x program numbers legal laid) laid k decided h in
+sections_hold tables kinds = λ l w m s x program own numbers legal laid loaded slots k decided h.
+    let p = placed l w m x program numbers legal (symbols_fit l own numbers laid) loaded slots in
+    let there = section_loaded l w m s tables kinds p laid k decided h in
     record { references = λ r ref asked. holds_plain l w m s r there ref asked; others = λ i lt out. other_byte l w m s i there lt out }

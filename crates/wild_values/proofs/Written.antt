@@ -5,6 +5,8 @@ use Rattle.std.proofs.lemmas.Option.{slice_get-get_or}
 use Rattle.wild_records.specs.Abi.Relocation.{r_x86_64_none}
 use Rattle.wild_plan.specs.declared.kind.Machine.{Machine}
 use Rattle.wild_plan.specs.declared.kind.Machine.TheVariants as machine
+use Rattle.wild_plan.specs.declared.fault.Missing.{Missing}
+use Rattle.wild_plan.specs.declared.fault.Missing.TheVariants as missing
 use Rattle.wild_plan.specs.declared.input.InputRelocation.{InputRelocation}
 use Rattle.wild_plan.specs.declared.input.InputSection.{InputSection}
 use Rattle.wild_plan.specs.declared.layout.Layout.{Layout}
@@ -16,12 +18,13 @@ use Rattle.wild_reloc.specs.declared.info.Width.TheVariants.{Eight}
 use Rattle.wild_plan.specs.Rows.{row_of}
 use Rattle.wild_layout.specs.declared.decision.Decision.{Decision}
 use Rattle.wild_layout.specs.declared.decision.Decision.TheVariants.{Nothing, Field, Moved}
-use Rattle.wild_layout.specs.Values.{raw_value, address_or, address_of}
+use Rattle.wild_layout.specs.Values.{raw_value, address_or, raw_address}
 use Rattle.wild_layout.specs.Decide.{decided}
 use Rattle.wild_layout.specs.Sites.{Written, written_by}
 use Rattle.wild_geometry.specs.Loaded.{IsDecided}
-use Rattle.wild_layout.proofs.DecideLemmas.{HasField, IsField, IsMoved, has_value, decided_field, decided_moved, decided_nothing, field_has, moved_has}
+use Rattle.wild_layout.proofs.DecideLemmas.{HasField, IsField, IsMoved, decided_field, decided_moved, decided_nothing, field_has, moved_has}
 use Rattle.wild_layout.proofs.SiteLemmas.{decide_listed}
+use Rattle.wild_layout.proofs.TreatmentLemmas.{has_value}
 use Rattle.wild_values.proofs.KnownRows.{RowFits, row_fits, none_is}
 
 pub slice_get_inside : {X : Type 0} (xs : List X) (i : ℕ) → i < length xs → (x : X) × (slice_get xs i ≡ Some x)
@@ -36,13 +39,14 @@ abbrev pub HasAddress : Layout → Option ℕ → ℕ → Type 0
 HasAddress l None a = a ≡ 0
 HasAddress l (Some i) a = raw_value l i ≡ Some a
 
-pub address_given : (l : Layout) (symbol : Option ℕ) (a : ℕ) → address_of l symbol ≡ Ok a → HasAddress l symbol a
+-- what a symbol does not lack is there
+pub given_some : (what : Missing) (i : ℕ) (o : Option ℕ) (a : ℕ) → address_or what i o ≡ Ok a → o ≡ Some a
+given_some what i None a h = cc
+given_some what i (Some b) a h = let e : b ≡ a = cc in ap Some e
+
+pub address_given : (l : Layout) (symbol : Option ℕ) (a : ℕ) → raw_address l symbol ≡ Ok a → HasAddress l symbol a
 address_given l None a h = let z : Ok 0 ≡ Ok a = h in let e : a ≡ 0 = cc in e
-address_given l (Some i) a h = by_value i (raw_value l i) a h
-  where
-    by_value : (i : ℕ) (o : Option ℕ) (a : ℕ) → address_or i o ≡ Ok a → o ≡ Some a
-    by_value i None a h = cc
-    by_value i (Some b) a h = let e : b ≡ a = cc in ap Some e
+address_given l (Some i) a h = given_some missing.Address i (raw_value l i) a h
 
 -- a relocation whose decision writes something, with what stands there in the file
 pub record IsWritten (l : Layout) (s : InputSection) (r : InputRelocation) (d : Decision) : Type 0 where

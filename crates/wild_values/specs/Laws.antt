@@ -10,6 +10,7 @@ use Rattle.wild_plan.specs.declared.kind.Machine.TheVariants as machine
 use Rattle.wild_plan.specs.declared.input.InputRelocation.{InputRelocation}
 use Rattle.wild_plan.specs.declared.input.InputSection.{InputSection}
 use Rattle.wild_plan.specs.declared.layout.Layout.{Layout}
+use Rattle.wild_plan.specs.OwnSymbols.{HasOwnSymbols}
 use Rattle.wild_reloc.specs.Agreement.{plain_value}
 use Rattle.wild_reloc.specs.declared.info.RelocationKind.{RelocationKind}
 use Rattle.wild_layout.specs.declared.decision.Decision.TheVariants.{Moved}
@@ -17,6 +18,8 @@ use Rattle.wild_layout.specs.Decide.{decided}
 use Rattle.wild_layout.specs.Numbers.{NumbersFit}
 use Rattle.wild_layout.specs.Geometry.{IsLaidOut}
 use Rattle.wild_geometry.specs.Loaded.{IsDecided, in_memory, HasSection}
+use Rattle.wild_geometry.specs.Slots.{HasSlots}
+use Rattle.wild_loader.specs.declared.memory.Machine.TheVariants as machines
 use Rattle.wild_loader.specs.declared.memory.Memory.{Memory}
 use Rattle.wild_loader.specs.declared.world.World.{World}
 use Rattle.wild_meaning.specs.World.{IsExecutable, IsFirstModule, IsLegal}
@@ -30,11 +33,11 @@ use Rattle.wild_values.specs.Terms.{IsPlaced, HasTerm}
 
 -- the value that the writer computes for a kind is what the expression of that kind gives (x86-64 psABI, "Relocation Types")
 abbrev pub KindGives : RelocationKind → Type 0
-KindGives k = (l : Layout) (w : World) (m : Memory) (s : InputSection) (r : InputRelocation) (x : ℕ) → HasTerm l w s r k x → Gives (plain_value k) l w m (item_of s) r x
+KindGives k = (l : Layout) (w : World) (m : Memory) (s : InputSection) (r : InputRelocation) (x : ℕ) → HasTerm l w m s r k x → Gives (plain_value k) l w m (item_of s) r x
 
 -- an address that is decided to move is S + A of the world, once it is more by the base
 abbrev pub AddressesGive : Type 0
-AddressesGive = (l : Layout) (w : World) (m : Memory) (s : InputSection) (r : InputRelocation) (v : ℕ) (packed : Bool) → IsPlaced l w → decided l s r ≡ Ok (Moved v packed) → IsSum l w m r (in_memory w v packed)
+AddressesGive = (l : Layout) (w : World) (m : Memory) (s : InputSection) (r : InputRelocation) (v : ℕ) (packed : Bool) → IsPlaced l w m → decided l s r ≡ Ok (Moved v packed) → IsSum l w m r (in_memory w v packed)
 
 -- in a world with the executable as its first module: the distance of its thread-local data, where a symbol of these lies, and
 -- that this is its address less the thread pointer ("ELF Handling For Thread-Local Storage", "Run-Time Handling of TLS")
@@ -46,9 +49,10 @@ pub record ThreadPlacesAreKnown : Type 0 where
 -- what memory has of an item by its fields: each reference that is asked reads as its formula, within a template that is the
 -- input's, and every byte in no field is the input's
 pub record FieldsHold (l : Layout) (w : World) (m : Memory) (item : Item) : Type 0 where
-  pub references : (r : InputRelocation) → IsReference item r → IsAsked l w r → HoldsPlain l w m item r
+  pub references : (r : InputRelocation) → IsReference item r → IsAsked l w item r → HoldsPlain l w m item r
   pub others : (k : ℕ) → k < length item.bytes → InNoField l item k → IsInputByte w m item k
 
--- so it is of a kept section of an x86-64 executable, where memory has the section as it was decided
+-- so it is of a kept section of an x86-64 executable whose symbols are its own, where memory has their slots and stubs, and the
+-- section as it was decided
 abbrev pub SectionsHold : Type 0
-SectionsHold = (l : Layout) (w : World) (m : Memory) (s : InputSection) → l.machine ≡ machine.X86_64 → IsExecutable l.kind → NumbersFit l → IsLegal l w → IsLaidOut l → IsKeptSection l s → IsDecided l s → HasSection l w m s (in_memory w) → FieldsHold l w m (item_of s)
+SectionsHold = (l : Layout) (w : World) (m : Memory) (s : InputSection) → l.machine ≡ machine.X86_64 → IsExecutable l.kind → HasOwnSymbols l → NumbersFit l → IsLegal l w → IsLaidOut l → m.machine ≡ machines.X86_64 → HasSlots l w m → IsKeptSection l s → IsDecided l s → HasSection l w m s (in_memory w) → FieldsHold l w m (item_of s)

@@ -4,22 +4,29 @@
 ghost use Rattle.wild_reloc.specs.declared.info.RelocationKind.TheVariants as kinds;
 ghost use Rattle.wild_values.specs.Laws.{AddressesGive, KindGives, SectionsHold, ThreadPlacesAreKnown};
 
+use wild_loader::stubs_are_read;
 use wild_reloc::{fields_of_x86_64, widths_of_fields};
 
 /// S + A, of a symbol that does not move, or in an output that does not.
 pub fn sums_are_given()
     ensures { KindGives kinds.Absolute }
-{}
+{
+    stubs_are_read();
+}
 
 /// S + A - P.
 pub fn distances_are_given()
     ensures { KindGives kinds.Relative }
-{}
+{
+    stubs_are_read();
+}
 
 /// S + A - GOT.
 pub fn offsets_from_the_table_are_given()
     ensures { KindGives kinds.SymRelGotBase }
-{}
+{
+    stubs_are_read();
+}
 
 /// GOT + A - P.
 pub fn distances_of_the_table_are_given()
@@ -41,10 +48,55 @@ pub fn offsets_in_the_module_are_given()
     ensures { KindGives kinds.DtpOff }
 {}
 
+/// L + A - P.
+pub fn distances_of_stubs_are_given()
+    ensures { KindGives kinds.PltRelative }
+{
+    stubs_are_read();
+}
+
+/// L + A - GOT.
+pub fn offsets_of_stubs_are_given()
+    ensures { KindGives kinds.PltRelGotBase }
+{
+    stubs_are_read();
+}
+
+/// G + A - P, of the slot of an address.
+pub fn distances_of_slots_are_given()
+    ensures { KindGives kinds.GotRelative }
+{
+    stubs_are_read();
+}
+
+/// G + A - GOT.
+pub fn offsets_of_slots_are_given()
+    ensures { KindGives kinds.GotRelGotBase }
+{
+    stubs_are_read();
+}
+
+/// G + A - P, of the slot of an offset from the thread pointer.
+pub fn distances_of_thread_slots_are_given()
+    ensures { KindGives kinds.GotTpOff }
+{}
+
+/// G + A - P, of the pair of a symbol's module and its offset there.
+pub fn distances_of_pairs_are_given()
+    ensures { KindGives kinds.TlsGd }
+{}
+
+/// G + A - P, of the pair of the output's own thread-local data.
+pub fn distances_of_the_own_pair_are_given()
+    ensures { KindGives kinds.TlsLd }
+{}
+
 /// S + A of a symbol that moves with the base: what a loader makes of an address that moves.
 pub fn addresses_are_given()
     ensures { AddressesGive }
-{}
+{
+    stubs_are_read();
+}
 
 /// Where a symbol lies in the thread's data, and that this is its address less the thread pointer.
 pub fn thread_places_are_known()
@@ -65,5 +117,12 @@ pub fn sections_hold()
     sizes_are_given();
     offsets_from_the_thread_pointer_are_given();
     offsets_in_the_module_are_given();
+    distances_of_stubs_are_given();
+    offsets_of_stubs_are_given();
+    distances_of_slots_are_given();
+    offsets_of_slots_are_given();
+    distances_of_thread_slots_are_given();
+    distances_of_pairs_are_given();
+    distances_of_the_own_pair_are_given();
     addresses_are_given();
 }

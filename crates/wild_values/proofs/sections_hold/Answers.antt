@@ -13,5 +13,12 @@ returns c =
       size = c.sizes_are_given.ensures;
       pointer = c.offsets_from_the_thread_pointer_are_given.ensures;
       own = c.offsets_in_the_module_are_given.ensures;
+      stub_distance = c.distances_of_stubs_are_given.ensures;
+      stub_offset = c.offsets_of_stubs_are_given.ensures;
+      slot_distance = c.distances_of_slots_are_given.ensures;
+      slot_offset = c.offsets_of_slots_are_given.ensures;
+      thread_slot = c.distances_of_thread_slots_are_given.ensures;
+      pair = c.distances_of_pairs_are_given.ensures;
+      own_pair = c.distances_of_the_own_pair_are_given.ensures;
       address = c.addresses_are_given.ensures;
     })
