@@ -53,7 +53,7 @@ image_of t l plan_bytes text sound static fits left meant none is =
     let means = subst (λ (b : List ℕ). Means b (plan l)) (sym same) meant.2 in
     let target = static means.0 l means.2 in
     let shown : text ≡ image_text l (bytes l) (warnings l) (counts l) = is ∙ ap (errors_text l) none in
-    (l, means, bytes l, warnings l, counts l, shown, loaded_kind l target.kind, sound l target.machine (static_kind l target.kind) fits none)
+    (l, means, bytes l, warnings l, counts l, shown, loaded_kind l target.kind, sound l target.machine (static_kind l target.kind) fits target.own none)
 
 said_image : (t : Turn) (u : Told) (said : ℕ) (a : Answer) (words : List (String Global)) → ImagesAreSound → PlansAreStatic → AnswerFits a → IsDue words t a
     → said ≡ status a → Appends u.taken_before u.taken_after (text_of a) → IsHeadline words t u said
