@@ -1,5 +1,5 @@
 -- The bytes of kept sections in the memory of an image that no entry has changed.
-use Rattle.std.proofs.Common.{◌≡◌, ℕ, zero, suc, ◌+◌, ◌-◌, ◌^◌, ◌<◌, ◌≤◌, inl, inr, Bool, true, false, List, [], ◌∷◌, length, get_or, map, replicate, refl, sym, ap, ◌∙◌, arith, subst}
+use Rattle.std.proofs.Common.{◌≡◌, ℕ, zero, suc, ◌+◌, ◌-◌, ◌^◌, ◌<◌, ◌≤◌, inl, inr, Bool, true, false, List, [], ◌∷◌, length, get_or, replicate, refl, sym, ap, ◌∙◌, arith, subst}
 use Rattle.std.specs.Prelude.{All, Contains, Some, slice_get, slice_index, if◌then◌else◌, ◌==◌, ◌&&◌, not}
 use Rattle.std.proofs.lemmas.Bool.{cases_Bool, eqb-true}
 use Rattle.std.proofs.lemmas.List.Elements.{All-contains, Contains-append_left, Contains-append_right}
@@ -15,7 +15,6 @@ use Rattle.wild_plan.specs.declared.file.Group.{Group}
 use Rattle.wild_plan.specs.declared.layout.Layout.{Layout}
 use Rattle.wild_plan.specs.Lookups.{image_size, is_filled, is_loaded, is_read}
 use Rattle.wild_layout.specs.Sites.{sites, section_bytes}
-use Rattle.wild_headers.specs.Headers.{file_header, program_header}
 use Rattle.wild_layout.specs.Image.{bytes, pieces, section_piece, file_pieces, table_pieces, owned_pieces, group_pieces, offset_in}
 use Rattle.wild_layout.specs.Geometry.{IsLaidOut, SectionLies, SegmentLoads, IsMapped, IsCarried}
 use Rattle.wild_layout.specs.Faults.{flat_map_from}
@@ -23,7 +22,6 @@ use Rattle.wild_meaning.specs.World.{IsLegal}
 use Rattle.wild_meaning.specs.Item.{IsKeptSection, IsInput}
 use Rattle.wild_loader.specs.declared.world.World.{World}
 use Rattle.wild_loader.specs.declared.memory.Memory.{Memory}
-use Rattle.wild_loader.specs.Headers.{machine_of}
 use Rattle.wild_loader.specs.Memory.{Holds, byte_in}
 use Rattle.wild_loader.specs.Laws.{BytesAreLoaded}
 use Rattle.wild_geometry.specs.Loaded.{IsDecided}
@@ -31,7 +29,7 @@ use Rattle.wild_loaded.specs.Memory.{IsStored, image_memory}
 use Rattle.wild_layout.proofs.SiteLemmas.{Contains-flat_map}
 use Rattle.wild_loaded.proofs.Bits.{alloc_bit}
 use Rattle.wild_loaded.proofs.PartsHeld.{byte_stands, carries_section, byte_carried}
-use Rattle.wild_loaded.proofs.Loads.{are_loadable, kind_is, header_from, header_to, header_distance, Contains-map, piece_stands}
+use Rattle.wild_loaded.proofs.Loads.{piece_stands}
 
 -- ---- sections
 

@@ -1,6 +1,6 @@
 -- The headers of an image have their fields' ranges, and the loader takes them.
 use Rattle.std.proofs.Common.{◌≡◌, ℕ, zero, suc, ◌+◌, ◌-◌, ◌*◌, ◌/◌, ◌%◌, ◌^◌, ◌<◌, ◌≤◌, inl, inr, Bool, true, false, List, [], ◌∷◌, length, get_or, max, refl, sym, ap, ◌∙◌, arith}
-use Rattle.std.specs.Prelude.{All, drop, if◌then◌else◌, ◌==◌, nat_lt}
+use Rattle.std.specs.Prelude.{All, if◌then◌else◌, ◌==◌, nat_lt}
 use Rattle.std.specs.Int.RustNames.{bit_and}
 use Rattle.std.proofs.lemmas.Bool.{cases_Bool, eqb-true, ltb-true}
 use Rattle.std.proofs.lemmas.Nat.Bits.{and_pow}
@@ -21,11 +21,9 @@ use Rattle.wild_plan.specs.declared.layout.Layout.{Layout}
 use Rattle.wild_plan.specs.Lists.{total}
 use Rattle.wild_plan.specs.Lookups.{bit}
 use Rattle.wild_plan.specs.Places.{has_role}
-use Rattle.wild_headers.specs.declared.section_headers.Spoken.{Spoken}
 use Rattle.wild_headers.specs.Headers.{machine_number, or_escape, or_none, name_table, section_of_role, file_header, with_execute, program_header, null_header, uncompressed, spoken_of, info_at, section_header, headers_from, section_headers_of}
 use Rattle.wild_layout.specs.Numbers.{NumbersFit, SegmentNumbers, SectionNumbers}
 use Rattle.wild_meaning.specs.World.{IsLoadable}
-use Rattle.wild_loaded.proofs.Bits.{alloc_bit}
 use Rattle.wild_loaded.proofs.FileType.{type_known, type_fits}
 use Rattle.wild_loader.specs.Headers.{is_loadable_header}
 use Rattle.wild_loader.specs.Laws.{told_sections, first_size}
@@ -161,11 +159,11 @@ program_header_fits l g page n = record {
 
 -- ---- section headers
 
-info_fits : (e : Spoken) (i : ℕ) (s : Section) → e.table < 2 ^ 32 → SectionNumbers s → info_at e i s < 2 ^ 32
-info_fits e i s low n =
-    elim (cases_Bool (i == e.symbols)) [
+info_fits : (l : Layout) (i : ℕ) (s : Section) → (spoken_of l).table < 2 ^ 32 → SectionNumbers s → info_at (spoken_of l) i s < 2 ^ 32
+info_fits l i s low n =
+    elim (cases_Bool (i == (spoken_of l).symbols)) [
       | inl t ↦ rw t (omega arith)
-      | inr f ↦ elim (cases_Bool (i == e.stubs)) [
+      | inr f ↦ elim (cases_Bool (i == (spoken_of l).stubs)) [
         | inl t ↦ rw (f, t) low
         | inr g ↦ rw (f, g) n.links.info
       ]
@@ -198,27 +196,27 @@ All-cons' P x xs h t = λ k d l. at P x xs h t k d l
     at P x xs h t zero d l = h
     at P x xs h t (suc k) d l = t k d (omega arith)
 
-headers_fit : (e : Spoken) (i name : ℕ) (ss : List Section) → e.table < 2 ^ 32 → name + total (λ (s : Section). length s.name + 1) ss < 2 ^ 32 → All SectionNumbers ss → All SectionHeaderFits (headers_from e i name ss)
-headers_fit e i name [] low h n = λ k d l. absurd (omega arith)
-headers_fit e i name (s ∷ ss) low h n =
-    All-cons' SectionHeaderFits (section_header (info_at e i s) name s) (headers_from e (i + 1) (name + length s.name + 1) ss)
-    (section_header_fits (info_at e i s) name s (info_fits e i s low (n 0 s (omega arith))) (omega (arith, h)) (n 0 s (omega arith)))
-    (headers_fit e (i + 1) (name + length s.name + 1) ss low (omega (arith, h)) (λ k d l. n (suc k) d (omega arith)))
+headers_fit : (l : Layout) (i name : ℕ) (ss : List Section) → (spoken_of l).table < 2 ^ 32 → name + total (λ (s : Section). length s.name + 1) ss < 2 ^ 32 → All SectionNumbers ss → All SectionHeaderFits (headers_from (spoken_of l) i name ss)
+headers_fit l i name [] low h n = λ k d m. absurd (omega arith)
+headers_fit l i name (s ∷ ss) low h n =
+    All-cons' SectionHeaderFits (section_header (info_at (spoken_of l) i s) name s) (headers_from (spoken_of l) (i + 1) (name + length s.name + 1) ss)
+    (section_header_fits (info_at (spoken_of l) i s) name s (info_fits l i s low (n 0 s (omega arith))) (omega (arith, h)) (n 0 s (omega arith)))
+    (headers_fit l (i + 1) (name + length s.name + 1) ss low (omega (arith, h)) (λ k d m. n (suc k) d (omega arith)))
 
 pub section_headers_fit : (l : Layout) (ss : List Section) → length l.sections < 2 ^ 31 → name_table l < 2 ^ 32 → (spoken_of l).table < 2 ^ 32 → total (λ (s : Section). length s.name + 1) ss < 2 ^ 32 → All SectionNumbers ss → All SectionHeaderFits (section_headers_of l ss)
 section_headers_fit l [] few named low h n = λ k d m. absurd (omega arith)
 section_headers_fit l (s ∷ ss) few named low h n =
     All-cons' SectionHeaderFits (null_header l) (headers_from (spoken_of l) 1 (length s.name + 1) ss)
     (null_header_fits l few named)
-    (headers_fit (spoken_of l) 1 (length s.name + 1) ss low (omega (arith, h)) (λ k d m. n (suc k) d (omega arith)))
+    (headers_fit l 1 (length s.name + 1) ss low (omega (arith, h)) (λ k d m. n (suc k) d (omega arith)))
 
-length-headers : (e : Spoken) (i name : ℕ) (ss : List Section) → length (headers_from e i name ss) ≡ length ss
-length-headers e i name [] = refl
-length-headers e i name (s ∷ ss) = ap suc (length-headers e (i + 1) (name + length s.name + 1) ss)
+length-headers : (l : Layout) (i name : ℕ) (ss : List Section) → length (headers_from (spoken_of l) i name ss) ≡ length ss
+length-headers l i name [] = refl
+length-headers l i name (s ∷ ss) = ap suc (length-headers l (i + 1) (name + length s.name + 1) ss)
 
 pub length-section_headers : (l : Layout) (ss : List Section) → length (section_headers_of l ss) ≡ length ss
 length-section_headers l [] = refl
-length-section_headers l (s ∷ ss) = ap suc (length-headers (spoken_of l) 1 (length s.name + 1) ss)
+length-section_headers l (s ∷ ss) = ap suc (length-headers l 1 (length s.name + 1) ss)
 
 first_size_is : (l : Layout) (ss : List Section) → 1 ≤ length ss → first_size (section_headers_of l ss) ≡ or_none (length l.sections)
 unfolding null_header

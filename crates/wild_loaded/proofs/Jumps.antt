@@ -1,8 +1,8 @@
 -- The entries that stubs go through: each is one of a resolver, which answers.
-use Rattle.std.proofs.Common.{◌≡◌, ℕ, ◌+◌, ◌%◌, ◌^◌, ◌<◌, inl, inr, Bool, true, false, List, [], ◌∷◌, get_or, refl, sym, ap, ◌∙◌, arith, subst}
-use Rattle.std.specs.Prelude.{Some, Ok, All, if◌then◌else◌, ◌==◌}
+use Rattle.std.proofs.Common.{◌≡◌, ℕ, ◌+◌, ◌%◌, ◌^◌, ◌<◌, inl, inr, List, [], ◌∷◌, get_or, refl, sym, ap, ◌∙◌, arith, subst}
+use Rattle.std.specs.Prelude.{Some, Ok, All, ◌==◌}
 use Rattle.std.specs.List.{flat_map, filter}
-use Rattle.std.specs.Int.{w64, cast_signed, cast_unsigned}
+use Rattle.std.specs.Int.{w64}
 use Rattle.std.proofs.lemmas.Bool.{cases_Bool}
 use Rattle.std.proofs.lemmas.Int.{of_z-to_z}
 use Rattle.std.proofs.lemmas.List.Elements.{All-contains}
@@ -15,17 +15,14 @@ use Rattle.wild_plan.specs.declared.kind.Machine.TheVariants as machine
 use Rattle.wild_plan.specs.declared.slot_parts.EntryPart.TheVariants as entries
 use Rattle.wild_plan.specs.declared.file.File.{File}
 use Rattle.wild_plan.specs.declared.file.Group.{Group}
-use Rattle.wild_plan.specs.declared.symbol.Symbol.{Symbol}
 use Rattle.wild_plan.specs.declared.layout.Layout.{Layout}
 use Rattle.wild_plan.specs.SlotParts.{type_of}
 use Rattle.wild_plan.specs.SlotShares.{own_symbols}
-use Rattle.wild_layout.specs.Numbers.{ResolutionNumbers, SymbolNumbers}
+use Rattle.wild_layout.specs.Numbers.{SymbolNumbers}
 use Rattle.wild_layout.specs.SlotBytes.{slot_entries_of}
-use Rattle.wild_loader.specs.declared.kind.DynamicKind.TheVariants as kinds
 use Rattle.wild_loader.specs.declared.world.World.{World}
 use Rattle.wild_loader.specs.Changes.{kind_of, first_value, plus, answer_at}
 use Rattle.wild_loader.specs.declared.memory.Machine.TheVariants as machines
-use Rattle.wild_tables.specs.Laws.{loader_machine}
 use Rattle.wild_tables.specs.SlotLaws.{TypesAreKnown}
 use Rattle.wild_meaning.specs.World.{IsAnsweredOnce, HasResolver}
 use Rattle.wild_slots.specs.Entries.{irelative_entry, IsIrelative, OwnEntries}
@@ -77,10 +74,10 @@ jump_fits l e h =
 
 jump_answered : (l : Layout) (w : World) (f : File) (e : Rela) → TypesAreKnown → l.machine ≡ machine.X86_64 → All SymbolNumbers l.symbols → All (HasResolver w) l.symbols → IsIrelative l f e → IsAnswered w e
 jump_answered l w f e law x numbers resolvers h =
-    let n = of_resolver l f e numbers h in
+    let small = (All-contains SymbolNumbers (own_symbols l f) h.symbol (All-own SymbolNumbers l f numbers) h.own h.resolution h.resolved).value in
     let a = All-contains (HasResolver w) (own_symbols l f) h.symbol (All-own (HasResolver w) l f resolvers) h.own h.indirect h.resolution h.resolved in
     let number : e.number ≡ type_of machine.X86_64 Irelative = ap (λ (r : Rela). r.number) h.is ∙ ap (λ (m : Machine). type_of m Irelative) x in
-    let addend : plus w.base e ≡ (w.base + h.resolution.raw_value) % 2 ^ 64 = ap (λ (r : Rela). plus w.base r) h.is ∙ ap (λ (v : ℕ). (w.base + v) % 2 ^ 64) (of_z-to_z w64 h.resolution.raw_value n.small) in
+    let addend : plus w.base e ≡ (w.base + h.resolution.raw_value) % 2 ^ 64 = ap (λ (r : Rela). plus w.base r) h.is ∙ ap (λ (v : ℕ). (w.base + v) % 2 ^ 64) (of_z-to_z w64 h.resolution.raw_value small) in
     record {
       kind = ap (λ (k : ℕ). kind_of machines.X86_64 k) number ∙ law machine.X86_64 Irelative;
       answer = a.answer;

@@ -16,4 +16,4 @@ pub mod TableBytes
 pub mod DynamicSections
 pub mod SectionTable
 pub mod StaticTables
-pub mod Fixed
+pub mod FileHeader

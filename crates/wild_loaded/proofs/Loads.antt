@@ -1,6 +1,6 @@
 -- The image of a laid out layout is loaded.
-use Rattle.std.proofs.Common.{◌≡◌, ℕ, zero, suc, ◌+◌, ◌-◌, ◌^◌, ◌<◌, ◌≤◌, inl, inr, true, List, [], ◌∷◌, length, get_or, map, refl, sym, ap, ◌∙◌, arith, subst}
-use Rattle.std.specs.Prelude.{AllPairs, Contains, drop, Ok}
+use Rattle.std.proofs.Common.{◌≡◌, ℕ, zero, suc, ◌+◌, ◌-◌, ◌^◌, ◌<◌, ◌≤◌, inl, inr, List, [], ◌∷◌, length, get_or, map, refl, sym, ap, ◌∙◌, arith, subst}
+use Rattle.std.specs.Prelude.{AllPairs, Contains, drop}
 use Rattle.std.specs.List.{flat_map}
 use Rattle.std.proofs.lemmas.Bool.{cases_lt}
 use Rattle.std.proofs.lemmas.List.{length-map}
@@ -20,7 +20,6 @@ use Rattle.wild_plan.specs.declared.part.Role.TheVariants as role
 use Rattle.wild_plan.specs.declared.section.Segment.{Segment}
 use Rattle.wild_plan.specs.declared.layout.Layout.{Layout}
 use Rattle.wild_plan.specs.Lookups.{image_size}
-use Rattle.wild_plan.specs.Places.{is_fixed_static}
 use Rattle.wild_headers.specs.Headers.{file_header, program_header, section_headers_of, name_table, offset_of_role, file_header_bytes, program_header_bytes, section_header_bytes, spoken_of}
 use Rattle.wild_layout.specs.Image.{bytes, pieces, padding, padding_byte}
 use Rattle.wild_layout.specs.Numbers.{NumbersFit}
@@ -31,7 +30,7 @@ use Rattle.wild_loader.specs.declared.memory.Machine.TheVariants as machines
 use Rattle.wild_loader.specs.Laws.{HasHeaders, IsLoadable, AreLoadable, Ascends as HeadersAscend, IsStatic}
 use Rattle.wild_loaded.specs.Owners.{HasOneOwnerEach}
 use Rattle.wild_loaded.specs.Memory.{image_memory}
-use Rattle.wild_loaded.proofs.HeadersFit.{file_header_fits, file_header_loads, name_table_below, table_below, program_header_fits, section_headers_fit, length-section_headers, headers_told}
+use Rattle.wild_loaded.proofs.HeadersFit.{file_header_fits, name_table_below, table_below, program_header_fits, section_headers_fit, length-section_headers, headers_told}
 
 -- ---- owners
 

@@ -1,5 +1,4 @@
 -- The slots of a static executable whose symbols are its own.
-use Rattle.std.proofs.Common.{◌≡◌}
 use Rattle.wild_layout.proofs.FaultLemmas.{slots_of_groups}
 use Rattle.wild_slots.specs.Entries.{OwnSymbolsAreFilled}
 use Rattle.wild_loaded.specs.Laws.{SlotsAreOwn}

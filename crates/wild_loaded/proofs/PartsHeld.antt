@@ -1,11 +1,10 @@
 -- The tables of slots and stubs in the memory of an image that no entry has changed.
-use Rattle.std.proofs.Common.{◌≡◌, ℕ, zero, suc, ◌+◌, ◌-◌, ◌^◌, ◌<◌, ◌≤◌, inl, inr, true, false, List, [], ◌∷◌, ◌++◌, length, map, refl, sym, ap, ◌∙◌, arith, subst}
-use Rattle.std.specs.Prelude.{Option, All, Contains, Some, None, nat_le, ◌&&◌, slice_get, slice_index}
+use Rattle.std.proofs.Common.{◌≡◌, ℕ, zero, suc, ◌+◌, ◌-◌, ◌^◌, ◌<◌, ◌≤◌, inl, inr, true, false, List, [], ◌∷◌, length, map, refl, sym, ap, ◌∙◌, arith, subst}
+use Rattle.std.specs.Prelude.{Option, Some, None, nat_le, ◌&&◌, slice_get, slice_index}
 use Rattle.std.proofs.lemmas.List.Elements.{All-contains}
 use Rattle.wild_records.specs.Abi.Segment.{pt_load}
 use Rattle.wild_words.specs.Words.{Stands}
 use Rattle.wild_words.proofs.OverlayLemmas.{Stands-inner}
-use Rattle.wild_plan.specs.declared.kind.RelocationModel.TheVariants as model
 use Rattle.wild_plan.specs.declared.kind.OutputKind.{OutputKind}
 use Rattle.wild_plan.specs.declared.kind.OutputKind.TheVariants as output
 use Rattle.wild_plan.specs.declared.part.Part.{Part}
@@ -28,10 +27,9 @@ use Rattle.wild_loader.specs.Headers.{machine_of}
 use Rattle.wild_loader.specs.Memory.{Holds, byte_in}
 use Rattle.wild_loader.specs.Laws.{BytesAreLoaded}
 use Rattle.wild_meaning.specs.World.{IsLoadable, IsLegal}
-use Rattle.wild_slots.specs.Order.{end_of}
 use Rattle.wild_slots.specs.Stand.{StandsAt}
 use Rattle.wild_loaded.specs.Memory.{image_memory}
-use Rattle.wild_loaded.specs.Stored.{CarriesByte, IsPartStored}
+use Rattle.wild_loaded.specs.Stored.{CarriesByte}
 use Rattle.wild_loaded.specs.Laws.{PartsAreStored}
 use Rattle.wild_loaded.proofs.Loads.{are_loadable, kind_is, header_from, header_to, header_distance, Contains-map}
 

@@ -1,17 +1,12 @@
 -- The entries of an image without a dynamic section, by the section that has them.
-use Rattle.std.proofs.Common.{◌≡◌, ℕ, zero, suc, ◌+◌, ◌*◌, ◌/◌, ◌%◌, ◌<◌, ◌≤◌, ◌⊎◌, inl, inr, Bool, true, false, not, List, [], ◌∷◌, ◌++◌, length, get_or, map, refl, sym, ap, ◌∙◌, arith, subst}
-use Rattle.std.specs.Prelude.{Option, Some, None, All, Contains, ◌&&◌, ◌==◌, if◌then◌else◌, slice_get}
+use Rattle.std.proofs.Common.{◌≡◌, ℕ, zero, suc, ◌+◌, ◌*◌, ◌/◌, ◌%◌, ◌<◌, ◌≤◌, ◌⊎◌, inl, inr, Bool, true, false, not, List, [], ◌∷◌, length, refl, sym, ap, ◌∙◌, arith, subst}
+use Rattle.std.specs.Prelude.{Option, Some, None, All, ◌&&◌, ◌==◌, slice_get}
 use Rattle.std.specs.List.{flat_map}
 use Rattle.std.proofs.lemmas.Bool.{cases_Bool, cases_lt, eqb-true}
-use Rattle.std.proofs.lemmas.List.{length-append}
-use Rattle.std.proofs.lemmas.List.Elements.{All-map, All-contains}
-use Rattle.std.proofs.lemmas.Option.{slice_get-get_or}
+use Rattle.std.proofs.lemmas.List.Elements.{All-contains}
 use Rattle.wild_words.specs.Words.{Stands}
-use Rattle.wild_words.specs.Record.{spell}
-use Rattle.wild_words.specs.Overlay.{Piece, Apart}
 use Rattle.wild_records.specs.Abi.Section.{sht_rela, shf_alloc}
 use Rattle.wild_records.specs.Relocations.{rela_size, RelaFits}
-use Rattle.wild_records.specs.SectionHeader.{section_header_fields}
 use Rattle.wild_records.specs.declared.relocations.Rela.{Rela}
 use Rattle.wild_records.specs.declared.section_header.SectionHeader.{SectionHeader}
 use Rattle.wild_plan.specs.declared.part.Part.{Part}
@@ -21,14 +16,12 @@ use Rattle.wild_plan.specs.declared.layout.Layout.{Layout}
 use Rattle.wild_plan.specs.Lookups.{allocated}
 use Rattle.wild_plan.specs.Places.{is_fixed_static}
 use Rattle.wild_plan.specs.Segments.{part_with}
-use Rattle.wild_headers.specs.declared.section_headers.Spoken.{Spoken}
 use Rattle.wild_headers.specs.Headers.{null_header, info_at, section_header, headers_from, section_headers_of, spoken_of}
 use Rattle.wild_layout.specs.Image.{bytes}
 use Rattle.wild_layout.specs.Geometry.{IsLaidOut, HasNoEntries, HasEntries, HasEntriesAlone, HasStubEntriesAlone, table_bytes, TablesStand}
 use Rattle.wild_loader.specs.Tables.{has_entries}
 use Rattle.wild_loader.specs.Laws.{HoldsEntries, rela_bytes}
 use Rattle.wild_loader.specs.EntryLaws.{HasSectionTable}
-use Rattle.wild_tables.specs.Laws.{LengthsOfEntries}
 use Rattle.wild_loaded.proofs.Bits.{alloc_bit, bit_alloc}
 use Rattle.wild_loaded.proofs.HeadersFit.{uncompressed-alloc}
 
@@ -42,17 +35,17 @@ record IsHeaderOf (ss : List Section) (k : ℕ) (h : SectionHeader) : Type 0 whe
   name : ℕ
   is : h ≡ section_header info name section
 
-header_of : (e : Spoken) (i name : ℕ) (ss : List Section) (k : ℕ) (h : SectionHeader) → slice_get (headers_from e i name ss) k ≡ Some h → IsHeaderOf ss k h
-header_of e i name [] k h there = cc
-header_of e i name (s ∷ ss) zero h there = record { section = s; listed = refl; info = info_at e i s; name = name; is = (let same : section_header (info_at e i s) name s ≡ h = cc in sym same) }
-header_of e i name (s ∷ ss) (suc k) h there =
-    let r = header_of e (i + 1) (name + length s.name + 1) ss k h there in
+header_of : (l : Layout) (i name : ℕ) (ss : List Section) (k : ℕ) (h : SectionHeader) → slice_get (headers_from (spoken_of l) i name ss) k ≡ Some h → IsHeaderOf ss k h
+header_of l i name [] k h there = cc
+header_of l i name (s ∷ ss) zero h there = record { section = s; listed = refl; info = info_at (spoken_of l) i s; name = name; is = (let same : section_header (info_at (spoken_of l) i s) name s ≡ h = cc in sym same) }
+header_of l i name (s ∷ ss) (suc k) h there =
+    let r = header_of l (i + 1) (name + length s.name + 1) ss k h there in
     record { section = r.section; listed = r.listed; info = r.info; name = r.name; is = r.is }
 
-header_there : (e : Spoken) (i name : ℕ) (ss : List Section) (k : ℕ) (s : Section) → slice_get ss k ≡ Some s → (h : SectionHeader) × (slice_get (headers_from e i name ss) k ≡ Some h)
-header_there e i name [] k s there = cc
-header_there e i name (x ∷ ss) zero s there = (section_header (info_at e i x) name x, refl)
-header_there e i name (x ∷ ss) (suc k) s there = header_there e (i + 1) (name + length x.name + 1) ss k s there
+header_there : (l : Layout) (i name : ℕ) (ss : List Section) (k : ℕ) (s : Section) → slice_get ss k ≡ Some s → (h : SectionHeader) × (slice_get (headers_from (spoken_of l) i name ss) k ≡ Some h)
+header_there l i name [] k s there = cc
+header_there l i name (x ∷ ss) zero s there = (section_header (info_at (spoken_of l) i x) name x, refl)
+header_there l i name (x ∷ ss) (suc k) s there = header_there l (i + 1) (name + length x.name + 1) ss k s there
 
 null_none : (l : Layout) → has_entries (null_header l) ≡ true → ⊥
 unfolding null_header
@@ -63,7 +56,7 @@ behind_first : (l : Layout) (ss : List Section) (k : ℕ) (h : SectionHeader) �
 behind_first l [] k h there has = cc
 behind_first l (s ∷ ss) zero h there has = (let same : null_header l ≡ h = cc in absurd (null_none l (subst (λ (x : SectionHeader). has_entries x ≡ true) (sym same) has)))
 behind_first l (s ∷ ss) (suc k) h there has =
-    let r = header_of (spoken_of l) 1 (length s.name + 1) ss k h there in
+    let r = header_of l 1 (length s.name + 1) ss k h there in
     (omega arith, record { section = r.section; listed = r.listed; info = r.info; name = r.name; is = r.is })
 
 -- what a header with entries tells of its section
@@ -177,7 +170,7 @@ slice_there (s ∷ ss) (suc k) h = slice_there ss k (omega arith)
 header_behind : (l : Layout) (ss : List Section) (k : ℕ) (s : Section) → 1 ≤ k → slice_get ss k ≡ Some s → (h : SectionHeader) × (slice_get (section_headers_of l ss) k ≡ Some h)
 header_behind l [] k s some there = cc
 header_behind l (x ∷ ss) zero s some there = absurd (omega arith)
-header_behind l (x ∷ ss) (suc k) s some there = header_there (spoken_of l) 1 (length x.name + 1) ss k s there
+header_behind l (x ∷ ss) (suc k) s some there = header_there l 1 (length x.name + 1) ss k s there
 
 -- and its header is there
 some_there : (l : Layout) (js : List Rela) (p : Part) → IsOwnTable l js → part_with role.RelaPlt l.parts ≡ Some p → 0 < length js → (h : SectionHeader) × (slice_get (section_headers_of l l.sections) p.section ≡ Some h) × (has_entries h ≡ true)
@@ -195,7 +188,7 @@ some_there l js p t e some =
     header_is l [] k h some there = cc
     header_is l (s ∷ ss) zero h some there = absurd (omega arith)
     header_is l (s ∷ ss) (suc k) h some there =
-        let r = header_of (spoken_of l) 1 (length s.name + 1) ss k h there in
+        let r = header_of l 1 (length s.name + 1) ss k h there in
         record { section = r.section; listed = r.listed; info = r.info; name = r.name; is = r.is }
 
     by_header : {h : SectionHeader} → (x : IsHeaderOf l.sections p.section h) → (s : (s : Section) × (slice_get l.sections p.section ≡ Some s)) → HasEntries p s.0 → 1 ≤ p.size → has_entries h ≡ true

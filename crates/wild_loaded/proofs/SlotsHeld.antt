@@ -1,19 +1,18 @@
 -- The words and stubs of symbols in the memory of an image that no entry has changed.
-use Rattle.std.proofs.Common.{◌≡◌, ℕ, zero, suc, ◌+◌, ◌*◌, ◌^◌, ◌<◌, ◌≤◌, Bool, true, false, List, [], ◌∷◌, ◌++◌, length, refl, sym, ap, ◌∙◌, arith, subst}
+use Rattle.std.proofs.Common.{◌≡◌, ℕ, zero, suc, ◌+◌, ◌*◌, ◌^◌, ◌<◌, ◌≤◌, Bool, true, false, List, [], ◌∷◌, length, refl, ap, ◌∙◌, arith, subst}
 use Rattle.std.specs.Prelude.{Option, All, Contains, Some, None, unwrap_or, if◌then◌else◌, slice_get}
 use Rattle.std.proofs.lemmas.List.Elements.{All-contains}
 use Rattle.std.proofs.lemmas.Option.{slice_get_within, get_or_from_slice_get}
-use Rattle.wild_words.specs.Words.{word, Stands}
+use Rattle.wild_words.specs.Words.{word}
+use Rattle.wild_words.proofs.OverlayLemmas.{length-place}
 use Rattle.wild_words.proofs.WordLemmas.{length-word}
-use Rattle.wild_words.proofs.RecordLemmas.{Stands-left, Stands-right, Stands-whole}
+use Rattle.wild_words.proofs.RecordLemmas.{Stands-left, Stands-right}
 use Rattle.wild_relr.specs.Written.{word_bytes}
-use Rattle.wild_plan.specs.declared.slot.Setting.{Setting}
 use Rattle.wild_plan.specs.declared.slot.SlotWord.{SlotWord}
 use Rattle.wild_plan.specs.declared.slot.SlotWord.TheVariants.{Number, Address, InBlock, General, Plt}
 use Rattle.wild_plan.specs.declared.slot_parts.WordPart.{WordPart}
 use Rattle.wild_plan.specs.declared.slot_parts.WordPart.TheVariants as words
 use Rattle.wild_plan.specs.declared.slot_parts.EntryPart.TheVariants as entries
-use Rattle.wild_plan.specs.declared.part.Role.{Role}
 use Rattle.wild_plan.specs.declared.part.Role.TheVariants as role
 use Rattle.wild_plan.specs.declared.file.File.{File}
 use Rattle.wild_plan.specs.declared.file.Group.{Group}
@@ -26,13 +25,12 @@ use Rattle.wild_plan.specs.Slots.{setting_of, storage_pair}
 use Rattle.wild_plan.specs.SlotParts.{is_packed, word_of, slot_words, slot_entries}
 use Rattle.wild_plan.specs.SymbolSlots.{got_of, plt_of}
 use Rattle.wild_plan.specs.SlotShares.{word_size, own_symbols, slots_of, slots_at, storage_at, storage_words}
-use Rattle.wild_plan.specs.Stub.{stub_x86_64}
+use Rattle.wild_plan.specs.Stub.{stub_x86_64, stub_template}
 use Rattle.wild_layout.specs.Numbers.{NumbersFit, SymbolNumbers}
 use Rattle.wild_layout.specs.Geometry.{IsLaidOut}
 use Rattle.wild_layout.specs.SlotBytes.{stub_bytes}
 use Rattle.wild_loader.specs.declared.world.World.{World}
 use Rattle.wild_meaning.specs.World.{IsLoadable, IsLegal}
-use Rattle.wild_slots.specs.Order.{IsWritten}
 use Rattle.wild_slots.specs.Stand.{part_of_word, role_of_words, StandsAt, WordStands, SlotsStand, EachWordStands, StubsAreThere, PairStands}
 use Rattle.wild_loaded.specs.OwnSlots.{HasOwnSlots}
 use Rattle.wild_loaded.specs.Stored.{IsWordStored, IsStubStored}
@@ -98,7 +96,7 @@ stub_is l s at stub got plt has =
     ∙ ap (λ (o : Option ℕ). (stub_x86_64 at (unwrap_or o 0)).bytes) plt
 
 some_stub : (at stub : ℕ) → 1 ≤ length (stub_x86_64 at stub).bytes
-some_stub at stub = omega arith
+some_stub at stub = (let d = (stub_x86_64 at stub).distance in let n = length-word 4 d in let e = length-place 7 stub_template (word 4 d) (omega (arith, n)) in omega (arith, e))
 
 stub_held : (l : Layout) (w : World) (i at stub : ℕ) (s : Symbol) → SlotLaws → PartsAreStored → IsLoadable l.kind → IsLegal l w → IsLaidOut l → HasOwnSlots l → slice_get l.symbols i ≡ Some s → got_of s ≡ Some at → plt_of s ≡ Some stub → IsStubStored l w at stub
 stub_held l w i at stub s laws law kind legal laid own there got plt =

@@ -1,43 +1,39 @@
 -- The tables of an output at its own addresses: nothing moves, and what resolvers answer is filled in by the entries of a section.
-use Rattle.std.proofs.Common.{◌≡◌, ℕ, zero, suc, ◌+◌, ◌*◌, ◌<◌, ◌≤◌, inl, inr, Bool, true, false, List, [], ◌∷◌, ◌++◌, length, get_or, refl, sym, ap, ◌∙◌, arith, subst}
-use Rattle.std.specs.Prelude.{Option, Some, None, All, AllPairs, Contains, ◌&&◌, if◌then◌else◌, option_to_list}
+use Rattle.std.proofs.Common.{◌≡◌, ℕ, zero, suc, ◌<◌, ◌≤◌, inl, inr, false, List, [], ◌∷◌, ◌++◌, length, get_or, refl, sym, ap, ◌∙◌, arith, subst}
+use Rattle.std.specs.Prelude.{Option, AllPairs}
 use Rattle.std.specs.List.{flat_map}
 use Rattle.std.proofs.lemmas.Bool.{cases_lt}
 use Rattle.std.proofs.lemmas.List.{length-append}
-use Rattle.std.proofs.lemmas.List.Elements.{All-map, All-contains}
+use Rattle.std.proofs.lemmas.List.Elements.{All-map}
 use Rattle.wild_words.specs.Record.{spell}
 use Rattle.wild_words.specs.Overlay.{Piece, Apart}
 use Rattle.wild_records.specs.SectionHeader.{section_header_fields}
 use Rattle.wild_records.specs.declared.relocations.Rela.{Rela}
 use Rattle.wild_records.specs.declared.section_header.SectionHeader.{SectionHeader}
 use Rattle.wild_relr.specs.Packed.{packed_on, packed, block}
-use Rattle.wild_plan.specs.declared.part.Part.{Part}
 use Rattle.wild_plan.specs.declared.part.Role.TheVariants as role
 use Rattle.wild_plan.specs.declared.input.InputRelocation.{InputRelocation}
 use Rattle.wild_plan.specs.declared.input.InputSection.{InputSection}
-use Rattle.wild_plan.specs.declared.section.Section.{Section}
 use Rattle.wild_plan.specs.declared.slot_parts.EntryPart.TheVariants as entries
-use Rattle.wild_plan.specs.declared.file.File.{File}
 use Rattle.wild_plan.specs.declared.file.Group.{Group}
 use Rattle.wild_plan.specs.declared.layout.Layout.{Layout}
 use Rattle.wild_plan.specs.Entries.{moved_of, packed_place, packed_places, words_of}
-use Rattle.wild_plan.specs.Kinds.{is_position_independent, needs_dynamic}
-use Rattle.wild_plan.specs.Lookups.{is_read}
-use Rattle.wild_plan.specs.Places.{is_fixed_static}
-use Rattle.wild_plan.specs.Segments.{part_with}
+use Rattle.wild_plan.specs.Kinds.{is_position_independent}
 use Rattle.wild_plan.specs.SlotShares.{group_block, block_of, words_of_block, block_words}
+use Rattle.wild_headers.proofs.HeaderLemmas.{length-file_header, length-section_header}
 use Rattle.wild_headers.specs.Headers.{file_header, program_header, section_headers_of, offset_of_role, file_header_bytes, section_header_bytes}
 use Rattle.wild_layout.specs.Image.{bytes, pieces}
-use Rattle.wild_layout.specs.Moved.{file_words, listed_entry, section_entries, file_entries}
+use Rattle.wild_layout.specs.Moved.{listed_entry, section_entries}
 use Rattle.wild_layout.specs.SlotBytes.{slot_entries_of, flat_places_of}
-use Rattle.wild_layout.specs.Geometry.{IsLaidOut, HasStubEntriesAlone, table_bytes, TablesStand}
+use Rattle.wild_layout.specs.Geometry.{IsLaidOut, TablesStand}
 use Rattle.wild_loader.specs.Laws.{IsStatic, rela_bytes}
 use Rattle.wild_loader.specs.EntryLaws.{HasSectionTable}
 use Rattle.wild_tables.specs.Laws.{LengthsOfEntries}
-use Rattle.wild_slots.specs.Entries.{MovesNothing, FixedOutputsMoveNothing, OwnEntries}
-use Rattle.wild_loaded.specs.Tables.{file_packed, group_words, relatives, tables_of, HasSectionsIn}
+use Rattle.wild_slots.specs.Entries.{MovesNothing, FixedOutputsMoveNothing}
+use Rattle.wild_loaded.specs.Tables.{file_packed, group_words, relatives, tables_of}
 use Rattle.wild_loaded.specs.Laws.{SectionTablesAreFound}
 use Rattle.wild_loaded.proofs.FileType.{plain_fixed, plain_still}
+use Rattle.wild_loaded.proofs.HeadersFit.{length-section_headers}
 use Rattle.wild_loaded.proofs.Loads.{segment_static}
 use Rattle.wild_loaded.proofs.TableBytes.{entries_are, jumps_are, general_none}
 use Rattle.wild_loaded.proofs.Jumps.{jumps_fit}
@@ -85,15 +81,21 @@ table_offset l laid two =
       | inr le ↦ absurd (at_front l laid two (omega (arith, le)))
     ]
   where
-    long : (l : Layout) (ss : List Section) → 2 ≤ length ss → 128 ≤ length (flat_map (λ (h : SectionHeader). spell (section_header_fields h)) (section_headers_of l ss))
+    long : (l : Layout) (hs : List SectionHeader) → 2 ≤ length hs → 128 ≤ length (flat_map (λ (h : SectionHeader). spell (section_header_fields h)) hs)
     long l [] h = absurd (omega arith)
-    long l (s ∷ []) h = absurd (omega arith)
-    long l (s ∷ t ∷ ss) h = omega arith
+    long l (x ∷ []) h = absurd (omega arith)
+    long l (x ∷ y ∷ hs) h =
+        let rest = flat_map (λ (h : SectionHeader). spell (section_header_fields h)) hs in
+        let a = length-append (spell (section_header_fields x)) (spell (section_header_fields y) ++ rest) in
+        let b = length-append (spell (section_header_fields y)) rest in
+        let c = length-section_header x in
+        let d = length-section_header y in
+        omega (arith, a, b, c, d)
 
     whole : (p q : Piece) (i j : ℕ) (ps : List Piece) → AllPairs Apart ps → i < length ps → j < length ps → get_or ps i p ≡ p → get_or ps j q ≡ q → p.at ≡ 0 → q.at ≡ 0 → 1 ≤ length p.bytes → length p.bytes < length q.bytes → ⊥
     whole p q i j ps apart m n x y zp zq some more =
         elim (cases_lt i j) [
-          | inl lt ↦ overlap p q (two_at ps i j p q apart lt n x y) zp zq some more
+          | inl lt ↦ overlap p q (two_at ps i j p q apart lt n x y) zp zq some (omega (arith, some, more))
           | inr ge ↦ elim (cases_lt j i) [
             | inl lt ↦ overlap q p (two_at ps j i q p apart lt m y x) zq zp (omega (arith, some, more)) (omega (arith, some, more))
             | inr le ↦ (let same : i ≡ j = omega (arith, ge, le) in let e : p ≡ q = sym x ∙ ap (λ (k : ℕ). get_or ps k p) same ∙ within_any ps j p q n ∙ y in let lengths = ap (λ (r : Piece). length r.bytes) e in absurd (omega (arith, lengths, more)))
@@ -113,11 +115,13 @@ table_offset l laid two =
         overlap p q (inr h) zp zq some more = omega (arith, h, zp, zq, more)
 
     at_front : (l : Layout) → IsLaidOut l → 2 ≤ length l.sections → offset_of_role role.SectionHeaders l.parts ≡ 0 → ⊥
-    at_front l laid two zero =
-        let front = laid.tables.file_header.listed (omega arith) in
-        let n = long l l.sections two in
+    at_front l laid two first =
+        let m = length-file_header (file_header l) in
+        let count = length-section_headers l l.sections in
+        let front = laid.tables.file_header.listed (omega (arith, m)) in
+        let n = long l (section_headers_of l l.sections) (omega (arith, count, two)) in
         let back = laid.tables.section_headers.listed (omega (arith, n)) in
-        whole (record { at = 0; bytes = file_header_bytes l }) (record { at = offset_of_role role.SectionHeaders l.parts; bytes = section_header_bytes l }) front.0 back.0 (pieces l) laid.owners.apart front.1 back.1 front.2 back.2 refl zero (omega arith) (omega (arith, n))
+        whole (record { at = 0; bytes = file_header_bytes l }) (record { at = offset_of_role role.SectionHeaders l.parts; bytes = section_header_bytes l }) front.0 back.0 (pieces l) laid.owners.apart front.1 back.1 front.2 back.2 refl first (omega (arith, m)) (omega (arith, m, n))
 
 header_offset : (l : Layout) → (file_header l).section_offset ≡ offset_of_role role.SectionHeaders l.parts
 unfolding file_header

@@ -1,6 +1,6 @@
 -- Kept sections in the memory of an image that no entry has changed: their fields, their other bytes, and zeros.
-use Rattle.std.proofs.Common.{◌≡◌, ℕ, ◌+◌, ◌<◌, ◌≤◌, Bool, true, false, not, List, [], ◌∷◌, length, refl, sym, ap, ◌∙◌, arith, subst}
-use Rattle.std.specs.Prelude.{◌&&◌, Some, Ok, Contains, slice_get}
+use Rattle.std.proofs.Common.{◌≡◌, ℕ, ◌+◌, ◌<◌, ◌≤◌, List, [], ◌∷◌, length, refl, sym, ap, ◌∙◌, arith, subst}
+use Rattle.std.specs.Prelude.{Some, Ok, Contains, slice_get}
 use Rattle.std.specs.List.{range_with_len}
 use Rattle.std.proofs.lemmas.Option.{slice_get-get_or}
 use Rattle.std.proofs.lemmas.List.FromFn.{get_or-range_with_len, length-range_with_len}
@@ -11,9 +11,6 @@ use Rattle.wild_plan.specs.declared.section.Segment.{Segment}
 use Rattle.wild_plan.specs.declared.input.InputRelocation.{InputRelocation}
 use Rattle.wild_plan.specs.declared.input.InputSection.{InputSection}
 use Rattle.wild_plan.specs.declared.layout.Layout.{Layout}
-use Rattle.wild_plan.specs.Flags.{has_flag, absolute}
-use Rattle.wild_plan.specs.Kinds.{is_position_independent}
-use Rattle.wild_plan.specs.Treatment.{flags_at}
 use Rattle.wild_reloc.specs.declared.info.RelocationSize.TheVariants.{ByteSize}
 use Rattle.wild_reloc.specs.declared.info.Width.TheVariants.{Eight}
 use Rattle.wild_headers.specs.Headers.{file_header, program_header}
@@ -23,13 +20,10 @@ use Rattle.wild_layout.specs.Decide.{decided}
 use Rattle.wild_layout.specs.Sites.{Written, written_by, field_site, site, sites}
 use Rattle.wild_layout.specs.Image.{bytes}
 use Rattle.wild_layout.specs.Geometry.{SectionLies}
-use Rattle.wild_layout.proofs.DecideLemmas.{decided_moved}
 use Rattle.wild_layout.proofs.SiteLemmas.{Contains-flat_map, site_written}
-use Rattle.wild_geometry.specs.Loaded.{HasSection, in_file, in_memory}
-use Rattle.wild_loader.specs.declared.memory.Memory.{Memory}
-use Rattle.wild_loader.specs.declared.world.World.{World}
+use Rattle.wild_geometry.specs.Loaded.{in_file}
 use Rattle.wild_loader.specs.Headers.{machine_of}
-use Rattle.wild_loader.specs.Memory.{Holds, byte_in}
+use Rattle.wild_loader.specs.Memory.{byte_in}
 use Rattle.wild_loader.specs.Laws.{BytesAreLoaded, ZerosAreLoaded}
 use Rattle.wild_loaded.specs.Memory.{image_memory, headers_of}
 use Rattle.wild_loaded.specs.Laws.{SectionsAreStored, ZerosAreStored}

@@ -54,18 +54,18 @@ no_front false xs = refl
 
 pub words_are : (l : Layout) → table_bytes l role.RelrDyn ≡ flat_map word_bytes (tables_of l).words
 words_are l = by_group word_bytes (group_words l) role.RelrDyn l (λ g.
-    ap (λ (bs : List ℕ). bs ++ flat_map word_bytes (block_words l g)) (by_files word_bytes (file_packed l) role.RelrDyn l g (λ f. no_front (is_prelude f.role) (flat_map word_bytes (file_words l f) ++ flat_map word_bytes (flat_places_of l f)) ∙ sym (flat_map-append word_bytes (file_words l f) (flat_places_of l f))))
+    ap (λ (bs : List ℕ). bs ++ flat_map word_bytes (block_words l g)) (by_files word_bytes (file_packed l) role.RelrDyn l g (λ f. ap (λ (bs : List ℕ). bs ++ flat_map word_bytes (flat_places_of l f)) (no_front (is_prelude f.role) (flat_map word_bytes (file_words l f))) ∙ sym (flat_map-append word_bytes (file_words l f) (flat_places_of l f))))
     ∙ sym (flat_map-append word_bytes (flat_map (file_packed l) g.files) (block_words l g)))
 
 pub entries_are : (l : Layout) → table_bytes l role.RelaDynRelative ≡ flat_map rela_bytes (tables_of l).entries
 entries_are l = by_group rela_bytes (λ (g : Group). flat_map (relatives l) g.files) role.RelaDynRelative l (λ g.
     append-nil (flat_map (file_content l role.RelaDynRelative) g.files)
-    ∙ by_files rela_bytes (relatives l) role.RelaDynRelative l g (λ f. no_front (is_prelude f.role) (flat_map rela_bytes (file_entries l f) ++ flat_map rela_bytes (slot_entries_of entries.Relative l f)) ∙ sym (flat_map-append rela_bytes (file_entries l f) (slot_entries_of entries.Relative l f))))
+    ∙ by_files rela_bytes (relatives l) role.RelaDynRelative l g (λ f. ap (λ (bs : List ℕ). bs ++ flat_map rela_bytes (slot_entries_of entries.Relative l f)) (no_front (is_prelude f.role) (flat_map rela_bytes (file_entries l f))) ∙ sym (flat_map-append rela_bytes (file_entries l f) (slot_entries_of entries.Relative l f))))
 
 pub jumps_are : (l : Layout) → table_bytes l role.RelaPlt ≡ flat_map rela_bytes (tables_of l).jumps
 jumps_are l = by_group rela_bytes (λ (g : Group). flat_map (slot_entries_of entries.Plt l) g.files) role.RelaPlt l (λ g.
     append-nil (flat_map (file_content l role.RelaPlt) g.files)
-    ∙ by_files rela_bytes (slot_entries_of entries.Plt l) role.RelaPlt l g (λ f. no_front (is_prelude f.role) (flat_map rela_bytes (slot_entries_of entries.Plt l f))))
+    ∙ by_files rela_bytes (slot_entries_of entries.Plt l) role.RelaPlt l g (λ f. ap (λ (bs : List ℕ). bs ++ flat_map rela_bytes (slot_entries_of entries.Plt l f)) (no_front (is_prelude f.role) [])))
 
 -- no other entries are there
 pub general_none : (l : Layout) → OwnEntries l → table_bytes l role.RelaDynGeneral ≡ []
@@ -82,7 +82,7 @@ general_none l own =
     nothing_joined [] = refl
     nothing_joined (x ∷ xs) = nothing_joined xs
 
-    of_file : (b : Bool) (xs ys : List Rela) → xs ≡ [] → ys ≡ [] → (if b then flat_map rela_bytes xs else []) ++ flat_map rela_bytes ys ≡ []
+    of_file : (b : Bool) (xs ys : List Rela) → xs ≡ [] → ys ≡ [] → (if b then flat_map rela_bytes xs else []) ++ [] ++ flat_map rela_bytes ys ≡ []
     of_file true xs ys e f = rw (e, f) refl
     of_file false xs ys e f = rw f refl
 

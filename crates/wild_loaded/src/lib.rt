@@ -7,8 +7,8 @@ use wild_geometry::tables_stand;
 use wild_loader::bytes_are_loaded;
 use wild_relr::words_fit;
 use wild_slots::{
-    each_word_stands, fixed_outputs_move_nothing, own_symbols_are_filled, pair_stands,
-    slots_stand, stubs_are_there,
+    each_word_stands, fixed_outputs_move_nothing, own_symbols_are_filled, pair_stands, slots_stand,
+    stubs_are_there,
 };
 use wild_tables::{
     dynamic_sections_are_read, entries_add_the_base, entries_are_read, types_are_known,

@@ -1,16 +1,10 @@
--- An image without a dynamic section is loaded; what the file header tells.
+-- What the file header tells.
 use Rattle.std.proofs.Common.{◌≡◌, refl, ap, ◌∙◌}
 use Rattle.wild_plan.specs.declared.layout.Layout.{Layout}
 use Rattle.wild_headers.specs.Headers.{entry_address, file_type, file_header}
-use Rattle.wild_loader.specs.Laws.{PlainImagesAreLoaded}
-use Rattle.wild_loaded.specs.Memory.{image_memory}
-use Rattle.wild_loaded.specs.Laws.{HeadersTell, SectionsAreStored, ZerosAreStored, FixedImagesAreLoaded}
-use Rattle.wild_loaded.proofs.FileType.{kind_fits, movable_type, plain_fixed, plain_still}
-use Rattle.wild_loaded.proofs.Carried.{kept_is_read}
-use Rattle.wild_loaded.proofs.Loads.{image_machine, image_loads, has_headers}
-use Rattle.wild_loaded.proofs.Stored.{still_section}
-
--- ---- the file header
+use Rattle.wild_loaded.specs.Laws.{HeadersTell}
+use Rattle.wild_loaded.proofs.FileType.{kind_fits, movable_type}
+use Rattle.wild_loaded.proofs.Loads.{has_headers}
 
 entry_is : (l : Layout) → (file_header l).entry ≡ entry_address l.entry
 unfolding file_header
