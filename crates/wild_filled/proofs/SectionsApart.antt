@@ -17,7 +17,7 @@ use Rattle.wild_layout.specs.Sites.{section_bytes}
 use Rattle.wild_layout.specs.Image.{pieces, section_piece, table_pieces, owned_pieces, offset_in}
 use Rattle.wild_layout.specs.Geometry.{IsLaidOut, SegmentLoads, Ascends}
 use Rattle.wild_loaded.specs.Memory.{IsStored}
-use Rattle.wild_moved.proofs.PairLemmas.{AllPairs-behind, AllPairs-joined, Across}
+use Rattle.wild_filled.proofs.PairLemmas.{AllPairs-behind, AllPairs-joined, Across}
 
 -- ---- all sections
 

@@ -25,11 +25,11 @@ use Rattle.wild_loader.specs.EntryLaws.{AreBeside}
 use Rattle.wild_geometry.specs.Loaded.{in_file}
 use Rattle.wild_loaded.specs.Memory.{IsStored, EachDecided}
 use Rattle.wild_loaded.specs.Laws.{SectionsAreCarried}
-use Rattle.wild_moved.proofs.PairLemmas.{AllPairs-joined, AllPairs-joining, AllPairs-none, Across, Contains-from_flat_map}
-use Rattle.wild_moved.proofs.KeptSections.{IsKeptWell, bit_alloc, kept_well}
-use Rattle.wild_moved.proofs.SectionsApart.{all_sections, sections_of}
-use Rattle.wild_moved.proofs.PlacesApart.{LiesIn, HavePlaces, get_or-any}
-use Rattle.wild_moved.proofs.MovedPlaces.{moved_place, moved_places, IsAddress, address_there}
+use Rattle.wild_filled.proofs.PairLemmas.{AllPairs-joined, AllPairs-joining, AllPairs-none, Across, Contains-from_flat_map}
+use Rattle.wild_filled.proofs.KeptSections.{IsKeptWell, bit_alloc, kept_well}
+use Rattle.wild_filled.proofs.SectionsApart.{all_sections, sections_of}
+use Rattle.wild_filled.proofs.PlacesApart.{LiesIn, HavePlaces, get_or-any}
+use Rattle.wild_filled.proofs.MovedPlaces.{moved_place, moved_places, IsAddress, address_there}
 
 -- ---- the section of a place
 

@@ -9,13 +9,10 @@ use Rattle.wild_plan.specs.declared.layout.Layout.{Layout}
 use Rattle.wild_layout.specs.Image.{section_piece}
 use Rattle.wild_layout.specs.Geometry.{IsLaidOut}
 use Rattle.wild_loader.specs.EntryLaws.{AreBeside}
-use Rattle.wild_moved.proofs.PairLemmas.{All-join, AllPairs-joining, Across, at_places}
+use Rattle.wild_filled.proofs.SortedTables.{IsOutside}
+use Rattle.wild_filled.proofs.PairLemmas.{All-join, AllPairs-joining, Across, at_places}
 use Rattle.wild_loaded.specs.Memory.{IsStored}
-use Rattle.wild_moved.proofs.SectionsApart.{all_sections, section_pieces_apart, addresses_differ}
-
--- the address lies outside the eight bytes at a place
-abbrev pub IsOutside : ℕ → ℕ → Type 0
-IsOutside a b = (a < b) ⊎ (b + 8 ≤ a)
+use Rattle.wild_filled.proofs.SectionsApart.{all_sections, section_pieces_apart, addresses_differ}
 
 -- the eight bytes at a place lie in the section
 pub record LiesIn (s : InputSection) (a : ℕ) : Type 0 where

@@ -1,0 +1,7 @@
+pub mod PairLemmas
+pub mod SortedTables
+pub mod KeptSections
+pub mod SectionsApart
+pub mod PlacesApart
+pub mod MovedPlaces
+pub mod MovedSections

@@ -1,0 +1,5 @@
+//! Which words of an image its tables fill.
+#![tactic(auto)]
+
+/// Nothing.
+pub fn nothing() {}
