@@ -1,5 +1,6 @@
 pub mod PairLemmas
 pub mod SortedTables
+pub mod Homes
 pub mod KeptSections
 pub mod SectionsApart
 pub mod PlacesApart
