@@ -6,3 +6,5 @@ pub mod SectionsApart
 pub mod PlacesApart
 pub mod MovedPlaces
 pub mod MovedSections
+pub mod Permuted
+pub mod SlotLists

@@ -18,6 +18,7 @@ use Rattle.wild_loader.specs.Places.{places}
 use Rattle.wild_loader.specs.Relocate.{loaded_at}
 use Rattle.wild_loader.specs.Laws.{NumbersAreRead}
 use Rattle.wild_loader.specs.EntryLaws.{StoresWord, AreBeside, loaded_places, AreWords, IsFilled}
+use Rattle.wild_filled.proofs.PairLemmas.{All-left, All-right}
 use Rattle.wild_filled.specs.Words.{number_or, value_at, stored_by, stored_as, stored}
 
 -- ---- places
@@ -131,14 +132,6 @@ All-unmap P f (x ∷ xs) a = All-cons (λ x. P (f x)) x xs (All-head P (f x) (ma
 listed_known : (w : World) (before : Memory) (t : Tables) (ps : SortedPlaces) → AreSorted w before t ps → All (IsPlace w before) (ps.packed ++ (ps.listed ++ ps.jumped))
 listed_known w before t ps h = All-permutation (IsPlace w before) ps.all (ps.packed ++ (ps.listed ++ ps.jumped)) h.all h.known
 
-All-front : {X : Type 0} (P : X → Type 0) (xs ys : List X) → All P (xs ++ ys) → All P xs
-All-front P [] ys a = All-nil P
-All-front P (x ∷ xs) ys a = All-cons P x xs (All-head P x (xs ++ ys) a) (All-front P xs ys (All-tail P x (xs ++ ys) a))
-
-All-back : {X : Type 0} (P : X → Type 0) (xs ys : List X) → All P (xs ++ ys) → All P ys
-All-back P [] ys a = a
-All-back P (x ∷ xs) ys a = All-back P xs ys (All-tail P x (xs ++ ys) a)
-
 stores : (w : World) (before : Memory) (r : Rela) → HasChange w before r → IsPlace w before r.offset → StoresWord w before (stored w before) r
 stores w before r c p = record {
   kind = c.kind;
@@ -152,10 +145,10 @@ stores w before r c p = record {
 pub are_words : (w : World) (before : Memory) (t : Tables) (ps : SortedPlaces) → NumbersAreRead → AreSorted w before t ps → All (HasChange w before) t.entries → All (HasChange w before) t.jumps → AreWords w before t (value_at w before) (stored w before)
 are_words w before t ps read h entries jumps =
     let known = listed_known w before t ps h in
-    let packed = All-permutation (IsPlace w before) ps.packed (places t.words) h.packed (All-front (IsPlace w before) ps.packed (ps.listed ++ ps.jumped) known) in
-    let back = All-back (IsPlace w before) ps.packed (ps.listed ++ ps.jumped) known in
-    let listed = All-unmap (IsPlace w before) offset_of t.entries (All-permutation (IsPlace w before) ps.listed (map offset_of t.entries) h.listed (All-front (IsPlace w before) ps.listed ps.jumped back)) in
-    let jumped = All-unmap (IsPlace w before) offset_of t.jumps (All-permutation (IsPlace w before) ps.jumped (map offset_of t.jumps) h.jumped (All-back (IsPlace w before) ps.listed ps.jumped back)) in
+    let packed = All-permutation (IsPlace w before) ps.packed (places t.words) h.packed (All-left (IsPlace w before) ps.packed (ps.listed ++ ps.jumped) known) in
+    let back = All-right (IsPlace w before) ps.packed (ps.listed ++ ps.jumped) known in
+    let listed = All-unmap (IsPlace w before) offset_of t.entries (All-permutation (IsPlace w before) ps.listed (map offset_of t.entries) h.listed (All-left (IsPlace w before) ps.listed ps.jumped back)) in
+    let jumped = All-unmap (IsPlace w before) offset_of t.jumps (All-permutation (IsPlace w before) ps.jumped (map offset_of t.jumps) h.jumped (All-right (IsPlace w before) ps.listed ps.jumped back)) in
     record {
       numbers = λ k d m. number_there (get_or (places t.words) k d) (packed k d m);
       entries = λ k d m. stores w before (get_or t.entries k d) (entries k d m) (listed k d m);
