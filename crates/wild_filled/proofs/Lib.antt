@@ -8,3 +8,5 @@ pub mod MovedPlaces
 pub mod MovedSections
 pub mod Permuted
 pub mod SlotLists
+pub mod TableHomes
+pub mod SlotsKnown
