@@ -10,3 +10,5 @@ pub mod Permuted
 pub mod SlotLists
 pub mod TableHomes
 pub mod SlotsKnown
+pub mod SectionWords
+pub mod TableLists

@@ -30,6 +30,10 @@ across_back l s t a = λ k d m i e n. back (get_or (section_piece l s) i e) (get
 
 -- ---- all sections
 
+-- all places, in the order of the sections
+abbrev pub all_places : Layout → (InputSection → List ℕ) → List ℕ
+all_places l of = flat_map of (all_sections l)
+
 some_place : (xs : List ℕ) (i : ℕ) → i < length xs → 1 ≤ length xs
 some_place xs i h = omega (arith, h)
 
