@@ -12,3 +12,4 @@ pub mod TableHomes
 pub mod SlotsKnown
 pub mod SectionWords
 pub mod TableLists
+pub mod PackedTables
