@@ -13,3 +13,4 @@ pub mod SlotsKnown
 pub mod SectionWords
 pub mod TableLists
 pub mod PackedTables
+pub mod AllTables
