@@ -39,6 +39,7 @@ use Rattle.wild_loaded.specs.Tables.{tables_of}
 use Rattle.wild_loaded.specs.Laws.{SectionsAreCarried, SectionsAreStored, SegmentsAreLoadable, SlotsAreStored, EntriesAreRelative, JumpsAreAnswered}
 use Rattle.wild_loaded.proofs.PartsHeld.{placed}
 use Rattle.wild_loaded.proofs.SlotSites.{of_site, all_sites}
+use Rattle.wild_filled.specs.Words.{stored}
 use Rattle.wild_filled.specs.Laws.{TablesAreWords}
 use Rattle.wild_filled.proofs.PairLemmas.{All-join, AllPairs-join, AllPairs-left, All-left}
 use Rattle.wild_filled.proofs.Homes.{HomesApart, LiesIn, homes_back, beside_across}
@@ -48,7 +49,7 @@ use Rattle.wild_filled.proofs.PlacesApart.{HavePlaces, places_beside, get_or-any
 use Rattle.wild_filled.proofs.MovedPlaces.{moved_places}
 use Rattle.wild_filled.proofs.MovedSections.{input_of, have_places}
 use Rattle.wild_filled.proofs.SectionWords.{sections_known}
-use Rattle.wild_filled.proofs.SortedTables.{IsPlace, AreSorted, HasChange, are_words}
+use Rattle.wild_filled.proofs.SortedTables.{IsPlace, AreSorted, HasChange, stored_is, are_words}
 use Rattle.wild_filled.proofs.SlotLists.{filled_place, places_of, words_by_sites, All-fewer, AllPairs-fewer, filled_fewer}
 use Rattle.wild_filled.proofs.SlotsKnown.{GivesPlaces, sites_stored, places_known}
 use Rattle.wild_filled.proofs.TableHomes.{role_home, role_there, roles_apart, section_apart, table_ends, InTable, in_table}
@@ -77,8 +78,10 @@ pub record IsFilledWell (l : Layout) (w : World) : Type 0 where
 
 -- ---- slots
 
--- the words that a loader changes lie in their tables, beside each other
+-- the words of slots lie in their tables, beside each other, behind what stands once; and so do those that a loader changes
 pub record SlotTables (l : Layout) : Type 0 where
+  pub words : InTable l role.Got (places_of (place_in words.Got) l)
+  pub behind : All (λ (a : ℕ). (first_free l).got ≤ a) (places_of filled_place l)
   pub got : InTable l role.Got (places_of filled_place l)
   pub block : InTable l role.GotRelr (places_of block_place l)
 
@@ -92,6 +95,8 @@ slot_tables l law laid own =
     let block = subst (λ (xs : List ℕ). Ascend word_size (start_of l role.GotRelr) (end_of l role.GotRelr) xs) (words_by_sites words.Block l) a.blocks in
     let whole = in_table l role.Got (first_free l).got (places_of (place_in words.Got) l) refl laid (omega arith) got in
     record {
+      words = whole;
+      behind = All-fewer (λ (a : ℕ). (first_free l).got ≤ a) (of_site (place_in words.Got)) (of_site filled_place) (all_sites l) filled_fewer (λ k d m. (got.within k d m).from);
       got = record {
         within = All-fewer (LiesIn (role_home l role.Got)) (of_site (place_in words.Got)) (of_site filled_place) (all_sites l) filled_fewer whole.within;
         beside = AllPairs-fewer AreBeside (of_site (place_in words.Got)) (of_site filled_place) (all_sites l) filled_fewer whole.beside;
@@ -99,7 +104,7 @@ slot_tables l law laid own =
       block = in_table l role.GotRelr (start_of l role.GotRelr) (places_of block_place l) refl laid (omega arith) block;
     }
 
-got_apart : (l : Layout) → IsLaidOut l → HomesApart (role_home l role.Got) (role_home l role.GotRelr)
+pub got_apart : (l : Layout) → IsLaidOut l → HomesApart (role_home l role.Got) (role_home l role.GotRelr)
 got_apart l laid = roles_apart l role.Got role.GotRelr refl refl (λ e. cc) laid
 
 tables_beside : (l : Layout) → IsLoadable l.kind → IsLaidOut l → SlotTables l → AllPairs AreBeside (places_of filled_place l ++ places_of block_place l)
@@ -192,6 +197,11 @@ pub relative_change : (l : Layout) (w : World) (r : Rela) → EntryLaws → l.ma
 relative_change l w r laws x numbers c =
     let known = All-contains (λ (e : Rela). kind_of machines.X86_64 e.number ≡ Some kinds.Relative) (tables_of l).entries r (laws.relative l x numbers) c in
     record { kind = kinds.Relative; known = subst (λ (m : Machine). kind_of m r.number ≡ Some kinds.Relative) (sym (laws.segments.machine l w x)) known; value = plus w.base r; change = laws.relatives w r }
+
+-- what the entry of an address stores
+pub relative_stored : (l : Layout) (w : World) (r : Rela) → EntryLaws → l.machine ≡ machine.X86_64 → NumbersFit l → Contains (tables_of l).entries r → stored w (image_memory l w) r ≡ plus w.base r
+unfolding relative_change
+relative_stored l w r laws x numbers c = stored_is w (image_memory l w) r (relative_change l w r laws x numbers c)
 
 pub jump_change : (l : Layout) (w : World) (r : Rela) → EntryLaws → l.machine ≡ machine.X86_64 → IsFilledWell l w → Contains (tables_of l).jumps r → HasChange w (image_memory l w) r
 jump_change l w r laws x h c =

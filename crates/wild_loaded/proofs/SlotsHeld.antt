@@ -82,9 +82,9 @@ symbol_word l w i at k s d laws law kind numbers legal laid own there got here =
 -- ---- stubs
 
 -- no symbol with slots has a fault
-pub whole_slots : (l : Layout) (i at : ℕ) (s : Symbol) → SlotLaws → HasOwnSlots l → slice_get l.symbols i ≡ Some s → got_of s ≡ Some at → (slots_of l s).fault ≡ None
-whole_slots l i at s laws own there got =
-    let h = (laws.stand l own.order i at s there got).written in
+pub whole_slots : (l : Layout) (i at : ℕ) (s : Symbol) → SlotsStand → HasOwnSlots l → slice_get l.symbols i ≡ Some s → got_of s ≡ Some at → (slots_of l s).fault ≡ None
+whole_slots l i at s law own there got =
+    let h = (law l own.order i at s there got).written in
     let groups = All-contains (λ (g : Group). All (λ (f : File). All (λ (s : Symbol). (slots_of l s).fault ≡ None) (own_symbols l f)) g.files) l.groups h.group own.whole h.listed in
     let files = All-contains (λ (f : File). All (λ (s : Symbol). (slots_of l s).fault ≡ None) (own_symbols l f)) h.group.files h.file groups h.holds in
     All-contains (λ (s : Symbol). (slots_of l s).fault ≡ None) (own_symbols l h.file) s files h.own
@@ -100,7 +100,7 @@ some_stub at stub = (let d = (stub_x86_64 at stub).distance in let n = length-wo
 
 stub_held : (l : Layout) (w : World) (i at stub : ℕ) (s : Symbol) → SlotLaws → PartsAreStored → IsLoadable l.kind → IsLegal l w → IsLaidOut l → HasOwnSlots l → slice_get l.symbols i ≡ Some s → got_of s ≡ Some at → plt_of s ≡ Some stub → IsStubStored l w at stub
 stub_held l w i at stub s laws law kind legal laid own there got plt =
-    let has = laws.stubs l own.order i at stub s there got plt (whole_slots l i at s laws own there got) in
+    let has = laws.stubs l own.order i at stub s there got plt (whole_slots l i at s laws.stand own there got) in
     let stands = subst (λ (bs : List ℕ). StandsAt l role.PltGot stub bs) (stub_is l s at stub got plt has) ((laws.stand l own.order i at s there got).stub stub plt) in
     record { stands = stands; held = (stands_held l w role.PltGot stub (stub_x86_64 at stub).bytes law refl kind legal laid (some_stub at stub) stands).held }
 
