@@ -1,6 +1,6 @@
 -- The places of all tables lie beside each other, and the tables are of words.
 use Rattle.std.proofs.Common.{◌≡◌, ℕ, ◌+◌, ◌^◌, ◌<◌, ◌≤◌, ◌⊎◌, inl, inr, true, List, [], ◌∷◌, ◌++◌, length, get_or, refl, sym, ap, ◌∙◌, arith, subst}
-use Rattle.std.specs.Prelude.{Option, Some, None, All, AllPairs, Contains, IsPermutation}
+use Rattle.std.specs.Prelude.{Option, Some, None, Ok, All, AllPairs, Contains, IsPermutation}
 use Rattle.std.specs.List.{flat_map}
 use Rattle.std.proofs.lemmas.List.Elements.{All-append, All-contains}
 use Rattle.std.proofs.lemmas.List.Sorted.{All-permutation}
@@ -23,7 +23,7 @@ use Rattle.wild_loader.specs.declared.kind.DynamicKind.TheVariants as kinds
 use Rattle.wild_loader.specs.declared.memory.Machine.{Machine}
 use Rattle.wild_loader.specs.declared.memory.Machine.TheVariants as machines
 use Rattle.wild_loader.specs.declared.world.World.{World}
-use Rattle.wild_loader.specs.Changes.{kind_of, plus}
+use Rattle.wild_loader.specs.Changes.{kind_of, plus, answer_at}
 use Rattle.wild_loader.specs.Laws.{NumbersAreRead}
 use Rattle.wild_loader.specs.EntryLaws.{RelativesStoreWords, ResolvedStoreWords, AreBeside}
 use Rattle.wild_loader.proofs.FilledLemmas.{beside-order}
@@ -207,6 +207,23 @@ pub jump_change : (l : Layout) (w : World) (r : Rela) → EntryLaws → l.machin
 jump_change l w r laws x h c =
     let a = All-contains (IsAnswered w) (tables_of l).jumps r (laws.answered l w x h.numbers h.legal h.own) c in
     record { kind = kinds.Resolved; known = subst (λ (m : Machine). kind_of m r.number ≡ Some kinds.Resolved) (sym (laws.segments.machine l w x)) a.kind; value = a.answer; change = laws.resolved w r a.answer a.given }
+
+-- what the entry of a resolver stores
+pub record StoresAnswer (l : Layout) (w : World) (r : Rela) : Type 0 where
+  pub answer : ℕ
+  pub fits : answer < 2 ^ 64
+  pub given : answer_at w (plus w.base r) ≡ Ok answer
+  pub is : stored w (image_memory l w) r ≡ answer
+
+pub jump_stored : (l : Layout) (w : World) (r : Rela) → EntryLaws → l.machine ≡ machine.X86_64 → IsFilledWell l w → Contains (tables_of l).jumps r → StoresAnswer l w r
+jump_stored l w r laws x h c =
+    let a = All-contains (IsAnswered w) (tables_of l).jumps r (laws.answered l w x h.numbers h.legal h.own) c in
+    record {
+      answer = a.answer;
+      fits = a.fits;
+      given = a.given;
+      is = stored_is w (image_memory l w) r (record { kind = kinds.Resolved; known = subst (λ (m : Machine). kind_of m r.number ≡ Some kinds.Resolved) (sym (laws.segments.machine l w x)) a.kind; value = a.answer; change = laws.resolved w r a.answer a.given });
+    }
 
 each_listed : (P : Rela → Type 0) (xs : List Rela) → ((r : Rela) → Contains xs r → P r) → All P xs
 each_listed P xs h = λ k d m. h (get_or xs k d) (k, m, get_or-any xs k (get_or xs k d) d m)

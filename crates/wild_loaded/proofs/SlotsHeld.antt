@@ -31,6 +31,7 @@ use Rattle.wild_layout.specs.Geometry.{IsLaidOut}
 use Rattle.wild_layout.specs.SlotBytes.{stub_bytes}
 use Rattle.wild_loader.specs.declared.world.World.{World}
 use Rattle.wild_meaning.specs.World.{IsLoadable, IsLegal}
+use Rattle.wild_slots.specs.Entries.{OwnEntries}
 use Rattle.wild_slots.specs.Stand.{part_of_word, role_of_words, StandsAt, WordStands, SlotsStand, EachWordStands, StubsAreThere, PairStands}
 use Rattle.wild_loaded.specs.OwnSlots.{HasOwnSlots}
 use Rattle.wild_loaded.specs.Stored.{IsWordStored, IsStubStored}
@@ -123,27 +124,27 @@ pair_stands l at a b (suc zero) d h e =
     subst P same (record { value = b; is = refl; stands = back })
 pair_stands l at a b (suc (suc k)) d h e = cc
 
-pair_held : (l : Layout) (w : World) (at k : ℕ) (d : SlotWord) → SlotLaws → PartsAreStored → IsLoadable l.kind → IsLegal l w → IsLaidOut l → HasOwnSlots l → l.tlsld ≡ Some at → slice_get (storage_words l) k ≡ Some d → IsWordStored l w (at + word_size * k) d
-pair_held l w at k d laws law kind legal laid own e here =
-    let fits = All-contains WordFits (storage_words l) d (storage_fits l) (listed_at (storage_words l) k d here) in
-    word_held l w (at + word_size * k) d law kind legal laid fits (by_kind (is_executable l.kind) refl)
+-- the pair of an output whose entries are its own is of two numbers
+pub storage_numbers : (l : Layout) (at : ℕ) → OwnEntries l → l.tlsld ≡ Some at → (a : ℕ) × (b : ℕ) × (storage_words l ≡ Number a ∷ Number b ∷ [])
+storage_numbers l at own e = by_kind (is_executable l.kind) refl
   where
     are : storage_words l ≡ storage_pair (setting_of l)
     are = ap (λ (o : Option ℕ). storage_at (setting_of l) o) e
 
-    by_kind : (b : Bool) → is_executable l.kind ≡ b → WordStands l (at + word_size * k) d
-    by_kind true t =
-        let s = setting_of l in
-        let own_pair : storage_words l ≡ Number 1 ∷ Number (less s.thread_pointer s.tls.start) ∷ [] = are ∙ rw t refl in
-        let stands = subst (λ (ws : List SlotWord). StandsAt l role.Got at (word_bytes (slot_words words.Got l.options.relr at ws))) own_pair (laws.pair l own.order laid.some_group at e) in
-        let there = subst (λ (ws : List SlotWord). slice_get ws k ≡ Some d) own_pair here in
-        pair_stands l at 1 (less s.thread_pointer s.tls.start) k d stands there
+    by_kind : (b : Bool) → is_executable l.kind ≡ b → (a : ℕ) × (b : ℕ) × (storage_words l ≡ Number a ∷ Number b ∷ [])
+    by_kind true t = (let s = setting_of l in (1, less s.thread_pointer s.tls.start, are ∙ rw t refl))
     by_kind false f =
-        let none = own.entries.pair in
-        let s = setting_of l in
-        let one = subst (λ (ws : List SlotWord). slot_entries entries.General l.machine l.options.relr (unwrap_or l.tlsld 0) ws ≡ []) are none in
+        let one = subst (λ (ws : List SlotWord). slot_entries entries.General l.machine l.options.relr (unwrap_or l.tlsld 0) ws ≡ []) are own.pair in
         let two = rw f at one in
         cc
+
+pair_held : (l : Layout) (w : World) (at k : ℕ) (d : SlotWord) → SlotLaws → PartsAreStored → IsLoadable l.kind → IsLegal l w → IsLaidOut l → HasOwnSlots l → l.tlsld ≡ Some at → slice_get (storage_words l) k ≡ Some d → IsWordStored l w (at + word_size * k) d
+pair_held l w at k d laws law kind legal laid own e here =
+    let fits = All-contains WordFits (storage_words l) d (storage_fits l) (listed_at (storage_words l) k d here) in
+    let n = storage_numbers l at own.entries e in
+    let stands = subst (λ (ws : List SlotWord). StandsAt l role.Got at (word_bytes (slot_words words.Got l.options.relr at ws))) n.2 (laws.pair l own.order laid.some_group at e) in
+    let there = subst (λ (ws : List SlotWord). slice_get ws k ≡ Some d) n.2 here in
+    word_held l w (at + word_size * k) d law kind legal laid fits (pair_stands l at n.0 n.1 k d stands there)
 
 pub slots_held : SlotLaws → PartsAreStored → SlotsAreStored
 slots_held laws law = record {

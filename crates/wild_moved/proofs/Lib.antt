@@ -1,3 +1,5 @@
 pub mod OutsideTables
 pub mod MovedMemory
 pub mod MovedLoaded
+pub mod SitesLoaded
+pub mod SlotsLoaded
