@@ -3,3 +3,4 @@ pub mod MovedMemory
 pub mod MovedLoaded
 pub mod SitesLoaded
 pub mod SlotsLoaded
+pub mod Moving
