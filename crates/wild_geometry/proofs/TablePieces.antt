@@ -33,6 +33,7 @@ not_raw_takes l p h raw = elim (or_cases (has_role role.Raw p) (takes_file_bytes
 pub PartLies-from_laid : (l : Layout) → Laid l → (i : ℕ) (p : Part) → i < length l.parts → PartLies l i (get_or l.parts i p)
 PartLies-from_laid l h i p m = record {
   low = leb-true _ _ (and_parts _ (ends_low (get_or l.parts i p).offset (get_or l.parts i p).size) (h.sizes.parts i p m)).1;
+  address = leb-true _ _ (and_parts _ (ends_low (get_or l.parts i p).address (get_or l.parts i p).size) (and_parts _ (ends_low (get_or l.parts i p).offset (get_or l.parts i p).size) (h.sizes.parts i p m)).0).1;
   shares = size_from_shares l.groups 0 l.parts h.shares.sums i i p (omega arith) m;
   tables = λ raw j g n. content_is_given l h.sizes.parts h.shares h.roles.again h.needed i p m raw j g n;
   ends = λ raw some. EndsBy-image l i p m (not_raw_takes l (get_or l.parts i p) (h.parts.room i p m) raw) some;

@@ -1,5 +1,5 @@
 -- The bytes of kept sections in the memory of an image that no entry has changed.
-use Rattle.std.proofs.Common.{◌≡◌, ℕ, zero, suc, ◌+◌, ◌-◌, ◌^◌, ◌<◌, ◌≤◌, inl, inr, Bool, true, false, List, [], ◌∷◌, length, get_or, map, replicate, refl, sym, ap, ◌∙◌, arith, subst}
+use Rattle.std.proofs.Common.{◌≡◌, ℕ, zero, suc, ◌+◌, ◌-◌, ◌^◌, ◌<◌, ◌≤◌, inl, inr, Bool, true, false, List, [], ◌∷◌, length, get_or, replicate, refl, sym, ap, ◌∙◌, arith, subst}
 use Rattle.std.specs.Prelude.{All, Contains, Some, slice_get, slice_index, if◌then◌else◌, ◌==◌, ◌&&◌, not}
 use Rattle.std.proofs.lemmas.Bool.{cases_Bool, eqb-true}
 use Rattle.std.proofs.lemmas.List.Elements.{All-contains, Contains-append_left, Contains-append_right}
@@ -15,7 +15,6 @@ use Rattle.wild_plan.specs.declared.file.Group.{Group}
 use Rattle.wild_plan.specs.declared.layout.Layout.{Layout}
 use Rattle.wild_plan.specs.Lookups.{image_size, is_filled, is_loaded, is_read}
 use Rattle.wild_layout.specs.Sites.{sites, section_bytes}
-use Rattle.wild_headers.specs.Headers.{file_header, program_header}
 use Rattle.wild_layout.specs.Image.{bytes, pieces, section_piece, file_pieces, table_pieces, owned_pieces, group_pieces, offset_in}
 use Rattle.wild_layout.specs.Geometry.{IsLaidOut, SectionLies, SegmentLoads, IsMapped, IsCarried}
 use Rattle.wild_layout.specs.Faults.{flat_map_from}
@@ -23,14 +22,14 @@ use Rattle.wild_meaning.specs.World.{IsLegal}
 use Rattle.wild_meaning.specs.Item.{IsKeptSection, IsInput}
 use Rattle.wild_loader.specs.declared.world.World.{World}
 use Rattle.wild_loader.specs.declared.memory.Memory.{Memory}
-use Rattle.wild_loader.specs.Headers.{machine_of}
 use Rattle.wild_loader.specs.Memory.{Holds, byte_in}
 use Rattle.wild_loader.specs.Laws.{BytesAreLoaded}
 use Rattle.wild_geometry.specs.Loaded.{IsDecided}
 use Rattle.wild_loaded.specs.Memory.{IsStored, image_memory}
 use Rattle.wild_layout.proofs.SiteLemmas.{Contains-flat_map}
 use Rattle.wild_loaded.proofs.Bits.{alloc_bit}
-use Rattle.wild_loaded.proofs.Loads.{are_loadable, kind_is, header_from, header_to, header_distance, Contains-map, piece_stands}
+use Rattle.wild_loaded.proofs.PartsHeld.{byte_stands, carries_section, byte_carried}
+use Rattle.wild_loaded.proofs.Loads.{piece_stands}
 
 -- ---- sections
 
@@ -88,29 +87,11 @@ not_filled l s read n f =
 Holds-empty : (m : Memory) (a : ℕ) (bs : List ℕ) → length bs ≡ 0 → Holds m a bs
 Holds-empty m a bs h = λ k lt. absurd (omega (arith, h, lt))
 
--- one byte of what stands in the image
-byte_stands : (whole : List ℕ) (at k : ℕ) (part : List ℕ) → k < length part → Stands whole at part → Stands whole (at + k) (slice_index part k ∷ [])
-byte_stands whole at k part lt st = record { fits = (let f = st.fits in omega (arith, f, lt)); same = same whole at k part (st.same k lt) }
-  where
-    same : (whole : List ℕ) (at k : ℕ) (part : List ℕ) → slice_index whole (at + k) ≡ slice_index part k → (i : ℕ) → i < 1 → slice_index whole (at + k + i) ≡ slice_index (slice_index part k ∷ []) i
-    same whole at k part e zero m = (let n : at + k ≡ at + k + 0 = omega arith in subst (λ (a : ℕ). slice_index whole a ≡ slice_index part k) n e)
-    same whole at k part e (suc i) m = absurd (omega arith)
-
 -- a byte of a section that a segment carries
 byte_held : (l : Layout) (w : World) (s : InputSection) (k : ℕ) (h : Segment) (part : List ℕ) → BytesAreLoaded → IsLegal l w → IsLaidOut l → IsCarried l s k h → Stands (bytes l) (offset_in (slice_get l.parts s.part) s.address + k) (slice_index part k ∷ []) → byte_in (image_memory l w) (w.base + s.address + k) ≡ Some (slice_index part k)
 byte_held l w s k h part law legal laid c st =
-    let to = c.to in
-    let held = law (machine_of (file_header l)) w.base (bytes l) (map (program_header l) l.segments) (program_header l h) (slice_index part k ∷ []) (offset_in (slice_get l.parts s.part) s.address + k) (s.address + k)
-    (are_loadable l w legal laid)
-    (Contains-map (program_header l) l.segments h c.listed)
-    (kind_is l h ∙ c.loaded)
-    (header_from l h (s.address + k) c.from)
-    (header_to l h (s.address + k + 1) (omega (arith, to)))
-    (header_distance l h (s.address + k) (offset_in (slice_get l.parts s.part) s.address + k) c.distance)
-    st
-    in
-    let e : w.base + (s.address + k) + 0 ≡ w.base + s.address + k = omega arith in
-    subst (λ (a : ℕ). byte_in (image_memory l w) a ≡ Some (slice_index part k)) e (held 0 (omega arith))
+    let e : w.base + (s.address + k) ≡ w.base + s.address + k = omega arith in
+    subst (λ (a : ℕ). byte_in (image_memory l w) a ≡ Some (slice_index part k)) e (byte_carried l w h (offset_in (slice_get l.parts s.part) s.address + k) (s.address + k) (slice_index part k) law legal laid (carries_section l s k h c) st)
 
 -- a kept section that owns bytes has each of them carried
 pub kept_carried : (l : Layout) (s : InputSection) → IsLaidOut l → IsKeptSection l s → is_filled l s ≡ true → (k : ℕ) → k < s.size → (h : Segment) × IsCarried l s k h

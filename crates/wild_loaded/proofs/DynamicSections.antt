@@ -29,11 +29,13 @@ use Rattle.wild_loader.specs.Tables.{first_dynamic as found_dynamic, tagged}
 use Rattle.wild_loader.specs.Laws.{HasDynamic, HasTables, IsTableOf, word_bytes, rela_bytes, before_null}
 use Rattle.wild_tables.specs.Dynamic.{dynamic_records, dynamic_bytes, entries_bytes, LengthsOfDynamic, RecordsStand, RecordsFit, EntriesAreFound, TablesAreNamed}
 use Rattle.wild_relr.specs.Laws.{WordsFit}
+use Rattle.wild_slots.specs.Entries.{OwnEntries}
 use Rattle.wild_loaded.specs.Laws.{TablesAreFound}
 use Rattle.wild_loaded.specs.Tables.{tables_of}
 use Rattle.wild_loaded.proofs.Loads.{length-bytes}
 use Rattle.wild_loaded.proofs.TablesFit.{entries_fit, words_fit}
-use Rattle.wild_loaded.proofs.TableBytes.{words_are, entries_are, words_named, entries_named}
+use Rattle.wild_loaded.proofs.TableBytes.{words_are, entries_are, jumps_are, words_named, entries_named, jumps_named}
+use Rattle.wild_loaded.proofs.Jumps.{jumps_fit}
 
 -- what the crates below owe of a dynamic section
 pub record DynamicLaws : Type 0 where
@@ -161,20 +163,20 @@ table_of : (image : List ℕ) (hs : List ProgramHeader) (a b c d : Option ℕ) (
 table_of image hs a b c d xs ys e f g h =
     subst (λ (o : Option ℕ). IsTableOf image hs o d ys) (sym e) (subst (λ (o : Option ℕ). IsTableOf image hs a o ys) (sym f) (subst (λ (bs : List ℕ). IsTableOf image hs a b bs) g h))
 
-has_tables : (l : Layout) (room : ℕ) → DynamicLaws → IsLaidOut l → needs_dynamic l.kind ≡ true → HasTables (bytes l) (map (program_header l) l.segments) (dynamic_records l room) (tables_of l)
-has_tables l room laws laid needs =
+has_tables : (l : Layout) (room : ℕ) → DynamicLaws → NumbersFit l → IsLaidOut l → OwnEntries l → needs_dynamic l.kind ≡ true → HasTables (bytes l) (map (program_header l) l.segments) (dynamic_records l room) (tables_of l)
+has_tables l room laws numbers laid own needs =
     let hs = map (program_header l) l.segments in
     let n = laws.named l room needs in
     record {
-      words_fit = words_fit l laws.words;
+      words_fit = words_fit l laws.words numbers.symbols;
       words = table_of (bytes l) hs (dynamic_entry l tags.Relr) (dynamic_entry l tags.RelrSize) _ _ (table_bytes l role.RelrDyn) (flat_map word_bytes (tables_of l).words) n.words n.words_size (words_are l) (words_named l laws.stand laid needs);
-      entries_fit = entries_fit l;
-      entries = table_of (bytes l) hs (dynamic_entry l tags.Rela) (dynamic_entry l tags.RelaSize) _ _ (table_bytes l role.RelaDynRelative) (flat_map rela_bytes (tables_of l).entries) n.entries n.entries_size (entries_are l) (entries_named l laws.stand laid needs);
-      jumps_fit = λ k e m. absurd (omega (arith, m));
-      jumps = table_of (bytes l) hs None None _ _ [] [] n.jumps n.jumps_size refl refl;
+      entries_fit = entries_fit l numbers.symbols;
+      entries = table_of (bytes l) hs (dynamic_entry l tags.Rela) (dynamic_entry l tags.RelaSize) _ _ (table_bytes l role.RelaDynRelative) (flat_map rela_bytes (tables_of l).entries) n.entries n.entries_size (entries_are l) (entries_named l laws.stand laid own needs);
+      jumps_fit = jumps_fit l own numbers.symbols;
+      jumps = table_of (bytes l) hs (dynamic_entry l tags.JmpRel) (dynamic_entry l tags.PltRelSize) _ _ (table_bytes l role.RelaPlt) (flat_map rela_bytes (tables_of l).jumps) n.jumps n.jumps_size (jumps_are l) (jumps_named l laws.stand laid needs);
     }
 
 pub tables_found : DynamicLaws → TablesAreFound
-tables_found laws = λ l needs numbers laid.
+tables_found laws = λ l needs numbers laid own.
     let d = dynamic_part l laws.lengths laws.found laid needs in
-    record { entries = dynamic_records l d.part.size; dynamic = has_dynamic l laws numbers laid d; tables = has_tables l d.part.size laws laid needs }
+    record { entries = dynamic_records l d.part.size; dynamic = has_dynamic l laws numbers laid d; tables = has_tables l d.part.size laws numbers laid own.entries needs }

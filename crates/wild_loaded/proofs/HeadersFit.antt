@@ -1,6 +1,6 @@
 -- The headers of an image have their fields' ranges, and the loader takes them.
 use Rattle.std.proofs.Common.{◌≡◌, ℕ, zero, suc, ◌+◌, ◌-◌, ◌*◌, ◌/◌, ◌%◌, ◌^◌, ◌<◌, ◌≤◌, inl, inr, Bool, true, false, List, [], ◌∷◌, length, get_or, max, refl, sym, ap, ◌∙◌, arith}
-use Rattle.std.specs.Prelude.{All, drop, if◌then◌else◌, ◌==◌, nat_lt}
+use Rattle.std.specs.Prelude.{All, if◌then◌else◌, ◌==◌, nat_lt}
 use Rattle.std.specs.Int.RustNames.{bit_and}
 use Rattle.std.proofs.lemmas.Bool.{cases_Bool, eqb-true, ltb-true}
 use Rattle.std.proofs.lemmas.Nat.Bits.{and_pow}
@@ -21,14 +21,12 @@ use Rattle.wild_plan.specs.declared.layout.Layout.{Layout}
 use Rattle.wild_plan.specs.Lists.{total}
 use Rattle.wild_plan.specs.Lookups.{bit}
 use Rattle.wild_plan.specs.Places.{has_role}
-use Rattle.wild_headers.specs.Headers.{machine_number, or_escape, or_none, name_table, section_of_role, file_header, with_execute, program_header, null_header, uncompressed, symbol_table, info_at, section_header, headers_from, section_headers_of}
+use Rattle.wild_headers.specs.Headers.{machine_number, or_escape, or_none, name_table, section_of_role, file_header, with_execute, program_header, null_header, uncompressed, spoken_of, info_at, section_header, headers_from, section_headers_of}
 use Rattle.wild_layout.specs.Numbers.{NumbersFit, SegmentNumbers, SectionNumbers}
-use Rattle.wild_layout.specs.Geometry.{HasNoEntries}
 use Rattle.wild_meaning.specs.World.{IsLoadable}
-use Rattle.wild_loaded.proofs.Bits.{alloc_bit}
 use Rattle.wild_loaded.proofs.FileType.{type_known, type_fits}
 use Rattle.wild_loader.specs.Headers.{is_loadable_header}
-use Rattle.wild_loader.specs.Laws.{HasNoEntries as NoEntries, told_sections, first_size}
+use Rattle.wild_loader.specs.Laws.{told_sections, first_size}
 
 -- ---- bits
 
@@ -40,7 +38,7 @@ compressed_bit f h =
     omega (arith, a, e)
 
 -- clearing SHF_COMPRESSED leaves SHF_ALLOC
-uncompressed-alloc : (f : ℕ) → uncompressed f / shf_alloc % 2 ≡ f / shf_alloc % 2
+pub uncompressed-alloc : (f : ℕ) → uncompressed f / shf_alloc % 2 ≡ f / shf_alloc % 2
 uncompressed-alloc f =
     elim (cases_Bool (bit f shf_compressed)) [
       | inl t ↦ (let b : f / 2048 % 2 ≡ 1 = compressed_bit f t in let e : (f - 2048) / 2 % 2 ≡ f / 2 % 2 = omega (arith, b) in rw t e)
@@ -70,17 +68,21 @@ none_fits n m h =
       | inr f ↦ rw f h
     ]
 
--- the section of the names is one of n
+-- the section of a role is one of n
+role_below : (r : Role) (ps : List Part) (n : ℕ) → 1 ≤ n → All (λ (p : Part). p.section < n) ps → section_of_role r ps < n
+role_below r [] n some h = some
+role_below r (p ∷ ps) n some h =
+    elim (cases_Bool (has_role r p)) [
+      | inl t ↦ rw t (h 0 p (omega arith))
+      | inr f ↦ rw f (role_below r ps n some (λ k d l. h (suc k) d (omega arith)))
+    ]
+
 pub name_table_below : (l : Layout) (n : ℕ) → 1 ≤ n → All (λ (p : Part). p.section < n) l.parts → name_table l < n
 name_table_below l n some h = role_below role.Shstrtab l.parts n some h
-  where
-    role_below : (r : Role) (ps : List Part) (n : ℕ) → 1 ≤ n → All (λ (p : Part). p.section < n) ps → section_of_role r ps < n
-    role_below r [] n some h = some
-    role_below r (p ∷ ps) n some h =
-        elim (cases_Bool (has_role r p)) [
-          | inl t ↦ rw t (h 0 p (omega arith))
-          | inr f ↦ rw f (role_below r ps n some (λ k d l. h (suc k) d (omega arith)))
-        ]
+
+-- and so is that of the global offset table
+pub table_below : (l : Layout) (n : ℕ) → 1 ≤ n → All (λ (p : Part). p.section < n) l.parts → (spoken_of l).table < n
+table_below l n some h = role_below role.Got l.parts n some h
 
 -- the number of sections is told
 pub sections_told : (n : ℕ) → 1 ≤ n → (if or_escape n 0 == 0 then or_none n else or_escape n 0) ≡ n
@@ -157,11 +159,14 @@ program_header_fits l g page n = record {
 
 -- ---- section headers
 
-info_fits : (d i : ℕ) (s : Section) → SectionNumbers s → info_at d i s < 2 ^ 32
-info_fits d i s n =
-    elim (cases_Bool (i == d)) [
+info_fits : (l : Layout) (i : ℕ) (s : Section) → (spoken_of l).table < 2 ^ 32 → SectionNumbers s → info_at (spoken_of l) i s < 2 ^ 32
+info_fits l i s low n =
+    elim (cases_Bool (i == (spoken_of l).symbols)) [
       | inl t ↦ rw t (omega arith)
-      | inr f ↦ rw f n.links.info
+      | inr f ↦ elim (cases_Bool (i == (spoken_of l).stubs)) [
+        | inl t ↦ rw (f, t) low
+        | inr g ↦ rw (f, g) n.links.info
+      ]
     ]
 
 section_header_fits : (info name : ℕ) (s : Section) → info < 2 ^ 32 → name < 2 ^ 32 → SectionNumbers s → SectionHeaderFits (section_header info name s)
@@ -191,44 +196,27 @@ All-cons' P x xs h t = λ k d l. at P x xs h t k d l
     at P x xs h t zero d l = h
     at P x xs h t (suc k) d l = t k d (omega arith)
 
-headers_fit : (e i name : ℕ) (ss : List Section) → name + total (λ (s : Section). length s.name + 1) ss < 2 ^ 32 → All SectionNumbers ss → All SectionHeaderFits (headers_from e i name ss)
-headers_fit e i name [] h n = λ k d l. absurd (omega arith)
-headers_fit e i name (s ∷ ss) h n =
-    All-cons' SectionHeaderFits (section_header (info_at e i s) name s) (headers_from e (i + 1) (name + length s.name + 1) ss)
-    (section_header_fits (info_at e i s) name s (info_fits e i s (n 0 s (omega arith))) (omega (arith, h)) (n 0 s (omega arith)))
-    (headers_fit e (i + 1) (name + length s.name + 1) ss (omega (arith, h)) (λ k d l. n (suc k) d (omega arith)))
+headers_fit : (l : Layout) (i name : ℕ) (ss : List Section) → (spoken_of l).table < 2 ^ 32 → name + total (λ (s : Section). length s.name + 1) ss < 2 ^ 32 → All SectionNumbers ss → All SectionHeaderFits (headers_from (spoken_of l) i name ss)
+headers_fit l i name [] low h n = λ k d m. absurd (omega arith)
+headers_fit l i name (s ∷ ss) low h n =
+    All-cons' SectionHeaderFits (section_header (info_at (spoken_of l) i s) name s) (headers_from (spoken_of l) (i + 1) (name + length s.name + 1) ss)
+    (section_header_fits (info_at (spoken_of l) i s) name s (info_fits l i s low (n 0 s (omega arith))) (omega (arith, h)) (n 0 s (omega arith)))
+    (headers_fit l (i + 1) (name + length s.name + 1) ss low (omega (arith, h)) (λ k d m. n (suc k) d (omega arith)))
 
-pub section_headers_fit : (l : Layout) (ss : List Section) → length l.sections < 2 ^ 31 → name_table l < 2 ^ 32 → total (λ (s : Section). length s.name + 1) ss < 2 ^ 32 → All SectionNumbers ss → All SectionHeaderFits (section_headers_of l ss)
-section_headers_fit l [] few named h n = λ k d m. absurd (omega arith)
-section_headers_fit l (s ∷ ss) few named h n =
-    All-cons' SectionHeaderFits (null_header l) (headers_from (symbol_table l) 1 (length s.name + 1) ss)
+pub section_headers_fit : (l : Layout) (ss : List Section) → length l.sections < 2 ^ 31 → name_table l < 2 ^ 32 → (spoken_of l).table < 2 ^ 32 → total (λ (s : Section). length s.name + 1) ss < 2 ^ 32 → All SectionNumbers ss → All SectionHeaderFits (section_headers_of l ss)
+section_headers_fit l [] few named low h n = λ k d m. absurd (omega arith)
+section_headers_fit l (s ∷ ss) few named low h n =
+    All-cons' SectionHeaderFits (null_header l) (headers_from (spoken_of l) 1 (length s.name + 1) ss)
     (null_header_fits l few named)
-    (headers_fit (symbol_table l) 1 (length s.name + 1) ss (omega (arith, h)) (λ k d m. n (suc k) d (omega arith)))
+    (headers_fit l 1 (length s.name + 1) ss low (omega (arith, h)) (λ k d m. n (suc k) d (omega arith)))
 
--- no section header tells entries
-section_static : (info name : ℕ) (s : Section) → HasNoEntries s → NoEntries (section_header info name s)
-unfolding section_header
-section_static info name s h = λ kind flags. h (alloc_bit s.flags (sym (uncompressed-alloc s.flags) ∙ flags)) kind
-
-null_static : (l : Layout) → NoEntries (null_header l)
-unfolding null_header
-null_static l = λ kind flags. absurd (omega (arith, kind))
-
-headers_static : (e i name : ℕ) (ss : List Section) → All HasNoEntries ss → All NoEntries (headers_from e i name ss)
-headers_static e i name [] h = λ k d l. absurd (omega arith)
-headers_static e i name (s ∷ ss) h = All-cons' NoEntries (section_header (info_at e i s) name s) (headers_from e (i + 1) (name + length s.name + 1) ss) (section_static (info_at e i s) name s (h 0 s (omega arith))) (headers_static e (i + 1) (name + length s.name + 1) ss (λ k d l. h (suc k) d (omega arith)))
-
-pub section_headers_static : (l : Layout) (ss : List Section) → All HasNoEntries (drop 1 ss) → All NoEntries (section_headers_of l ss)
-section_headers_static l [] h = λ k d m. absurd (omega arith)
-section_headers_static l (s ∷ ss) h = All-cons' NoEntries (null_header l) (headers_from (symbol_table l) 1 (length s.name + 1) ss) (null_static l) (headers_static (symbol_table l) 1 (length s.name + 1) ss h)
-
-length-headers : (e i name : ℕ) (ss : List Section) → length (headers_from e i name ss) ≡ length ss
-length-headers e i name [] = refl
-length-headers e i name (s ∷ ss) = ap suc (length-headers e (i + 1) (name + length s.name + 1) ss)
+length-headers : (l : Layout) (i name : ℕ) (ss : List Section) → length (headers_from (spoken_of l) i name ss) ≡ length ss
+length-headers l i name [] = refl
+length-headers l i name (s ∷ ss) = ap suc (length-headers l (i + 1) (name + length s.name + 1) ss)
 
 pub length-section_headers : (l : Layout) (ss : List Section) → length (section_headers_of l ss) ≡ length ss
 length-section_headers l [] = refl
-length-section_headers l (s ∷ ss) = ap suc (length-headers (symbol_table l) 1 (length s.name + 1) ss)
+length-section_headers l (s ∷ ss) = ap suc (length-headers l 1 (length s.name + 1) ss)
 
 first_size_is : (l : Layout) (ss : List Section) → 1 ≤ length ss → first_size (section_headers_of l ss) ≡ or_none (length l.sections)
 unfolding null_header

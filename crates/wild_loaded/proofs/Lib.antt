@@ -1,10 +1,19 @@
-mod Bits
-mod FileType
-mod HeadersFit
-mod Loads
-mod Carried
-mod Stored
-mod Fixed
-mod TablesFit
-mod TableBytes
-mod DynamicSections
+pub mod Bits
+pub mod FileType
+pub mod HeadersFit
+pub mod Loads
+pub mod PartsHeld
+pub mod Carried
+pub mod Stored
+pub mod SlotNumbers
+pub mod SlotSites
+pub mod SitesFit
+pub mod SlotsHeld
+pub mod OwnSlots
+pub mod TablesFit
+pub mod Jumps
+pub mod TableBytes
+pub mod DynamicSections
+pub mod SectionTable
+pub mod StaticTables
+pub mod FileHeader

@@ -1,6 +1,6 @@
 -- The image of a laid out layout is loaded.
-use Rattle.std.proofs.Common.{◌≡◌, ℕ, zero, suc, ◌+◌, ◌-◌, ◌^◌, ◌<◌, ◌≤◌, inl, inr, true, List, [], ◌∷◌, length, get_or, map, refl, sym, ap, ◌∙◌, arith, subst}
-use Rattle.std.specs.Prelude.{AllPairs, Contains, drop, Ok}
+use Rattle.std.proofs.Common.{◌≡◌, ℕ, zero, suc, ◌+◌, ◌-◌, ◌^◌, ◌<◌, ◌≤◌, inl, inr, List, [], ◌∷◌, length, get_or, map, refl, sym, ap, ◌∙◌, arith, subst}
+use Rattle.std.specs.Prelude.{AllPairs, Contains, drop}
 use Rattle.std.specs.List.{flat_map}
 use Rattle.std.proofs.lemmas.Bool.{cases_lt}
 use Rattle.std.proofs.lemmas.List.{length-map}
@@ -20,19 +20,17 @@ use Rattle.wild_plan.specs.declared.part.Role.TheVariants as role
 use Rattle.wild_plan.specs.declared.section.Segment.{Segment}
 use Rattle.wild_plan.specs.declared.layout.Layout.{Layout}
 use Rattle.wild_plan.specs.Lookups.{image_size}
-use Rattle.wild_plan.specs.Places.{is_fixed_static}
-use Rattle.wild_headers.specs.Headers.{file_header, program_header, section_headers_of, name_table, offset_of_role, file_header_bytes, program_header_bytes, section_header_bytes}
+use Rattle.wild_headers.specs.Headers.{file_header, program_header, section_headers_of, name_table, offset_of_role, file_header_bytes, program_header_bytes, section_header_bytes, spoken_of}
 use Rattle.wild_layout.specs.Image.{bytes, pieces, padding, padding_byte}
 use Rattle.wild_layout.specs.Numbers.{NumbersFit}
 use Rattle.wild_layout.specs.Geometry.{IsLaidOut, SegmentLoads, IsStatic as StaticSegment, Ascends, IsPiece}
 use Rattle.wild_meaning.specs.World.{IsLoadable as IsLoadableKind, IsLegal}
 use Rattle.wild_loader.specs.declared.world.World.{World}
 use Rattle.wild_loader.specs.declared.memory.Machine.TheVariants as machines
-use Rattle.wild_loader.specs.Load.{load}
-use Rattle.wild_loader.specs.Laws.{HasHeaders, IsLoadable, AreLoadable, Ascends as HeadersAscend, IsStatic, PlainImagesAreLoaded}
+use Rattle.wild_loader.specs.Laws.{HasHeaders, IsLoadable, AreLoadable, Ascends as HeadersAscend, IsStatic}
 use Rattle.wild_loaded.specs.Owners.{HasOneOwnerEach}
 use Rattle.wild_loaded.specs.Memory.{image_memory}
-use Rattle.wild_loaded.proofs.HeadersFit.{file_header_fits, file_header_loads, name_table_below, program_header_fits, section_headers_fit, section_headers_static, length-section_headers, headers_told}
+use Rattle.wild_loaded.proofs.HeadersFit.{file_header_fits, name_table_below, table_below, program_header_fits, section_headers_fit, length-section_headers, headers_told}
 
 -- ---- owners
 
@@ -90,6 +88,12 @@ names_low l laid =
     let few = laid.sections in
     omega (arith, below, few)
 
+table_low : (l : Layout) → IsLaidOut l → (spoken_of l).table < 2 ^ 32
+table_low l laid =
+    let below = table_below l (length l.sections) laid.some_section laid.named in
+    let few = laid.sections in
+    omega (arith, below, few)
+
 pub has_headers : (l : Layout) → l.machine ≡ machine.X86_64 → IsLoadableKind l.kind → NumbersFit l → IsLaidOut l → HasHeaders (bytes l) (file_header l) (map (program_header l) l.segments) (section_headers_of l l.sections)
 unfolding file_header
 has_headers l m k numbers laid =
@@ -99,7 +103,7 @@ has_headers l m k numbers laid =
       programs_fit = All-map ProgramHeaderFits (program_header l) l.segments (λ i d lt. program_header_fits l (get_or l.segments i d) numbers.page (numbers.segments i d lt));
       programs = programs_stand l laid;
       program_count = sym (length-map l.segments (program_header l));
-      sections_fit = section_headers_fit l l.sections laid.sections (names_low l laid) laid.names numbers.sections;
+      sections_fit = section_headers_fit l l.sections laid.sections (names_low l laid) (table_low l laid) laid.names numbers.sections;
       sections = table_stands l (offset_of_role role.SectionHeaders l.parts) (section_header_bytes l) laid laid.tables.section_headers;
       section_count = headers_told l laid.some_section;
       some_section = let n = length-section_headers l l.sections in let some = laid.some_section in omega (arith, n, some);
@@ -158,20 +162,10 @@ Contains-map f (z ∷ zs) x c = cases f z zs x c.0 c.1 c.2 (λ c'. Contains-map 
     cases f z zs x zero l e again = (0, omega arith, ap f e)
     cases f z zs x (suc k) l e again = let c = again (k, omega arith, e) in (suc c.0, omega (arith, c.1), c.2)
 
-segment_static : (l : Layout) (g : Segment) → StaticSegment g → IsStatic (program_header l g)
+pub segment_static : (l : Layout) (g : Segment) → StaticSegment g → IsStatic (program_header l g)
 unfolding program_header
 segment_static l g h = h
 
 pub image_machine : (l : Layout) (w : World) → l.machine ≡ machine.X86_64 → (image_memory l w).machine ≡ machines.X86_64
 unfolding file_header
 image_machine l w m = rw m refl
-
--- an image without a dynamic section is its segments
-pub image_loads : (l : Layout) (w : World) → PlainImagesAreLoaded → l.machine ≡ machine.X86_64 → IsLoadableKind l.kind → is_fixed_static l.kind ≡ true → NumbersFit l → IsLegal l w → IsLaidOut l → load w (bytes l) ≡ Ok (image_memory l w)
-image_loads l w law m k f numbers legal laid =
-    law w (bytes l) (file_header l) (map (program_header l) l.segments) (section_headers_of l l.sections)
-    (has_headers l m k numbers laid)
-    (file_header_loads l m k)
-    (are_loadable l w legal laid)
-    (All-map IsStatic (program_header l) l.segments (λ i d lt. segment_static l (get_or l.segments i d) (laid.loadable.static (laid.loadable.fixed f) i d lt)))
-    (section_headers_static l l.sections (laid.loadable.entries f))

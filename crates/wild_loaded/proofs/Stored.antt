@@ -1,6 +1,6 @@
 -- Kept sections in the memory of an image that no entry has changed: their fields, their other bytes, and zeros.
-use Rattle.std.proofs.Common.{◌≡◌, ℕ, ◌+◌, ◌<◌, ◌≤◌, Bool, true, false, not, List, [], ◌∷◌, length, refl, sym, ap, ◌∙◌, arith, subst}
-use Rattle.std.specs.Prelude.{◌&&◌, Some, Ok, Contains, slice_get}
+use Rattle.std.proofs.Common.{◌≡◌, ℕ, ◌+◌, ◌<◌, ◌≤◌, List, [], ◌∷◌, length, refl, sym, ap, ◌∙◌, arith, subst}
+use Rattle.std.specs.Prelude.{Some, Ok, Contains, slice_get}
 use Rattle.std.specs.List.{range_with_len}
 use Rattle.std.proofs.lemmas.Option.{slice_get-get_or}
 use Rattle.std.proofs.lemmas.List.FromFn.{get_or-range_with_len, length-range_with_len}
@@ -11,9 +11,6 @@ use Rattle.wild_plan.specs.declared.section.Segment.{Segment}
 use Rattle.wild_plan.specs.declared.input.InputRelocation.{InputRelocation}
 use Rattle.wild_plan.specs.declared.input.InputSection.{InputSection}
 use Rattle.wild_plan.specs.declared.layout.Layout.{Layout}
-use Rattle.wild_plan.specs.Flags.{has_flag, absolute}
-use Rattle.wild_plan.specs.Kinds.{is_position_independent}
-use Rattle.wild_plan.specs.Treatment.{flags_at}
 use Rattle.wild_reloc.specs.declared.info.RelocationSize.TheVariants.{ByteSize}
 use Rattle.wild_reloc.specs.declared.info.Width.TheVariants.{Eight}
 use Rattle.wild_headers.specs.Headers.{file_header, program_header}
@@ -23,27 +20,18 @@ use Rattle.wild_layout.specs.Decide.{decided}
 use Rattle.wild_layout.specs.Sites.{Written, written_by, field_site, site, sites}
 use Rattle.wild_layout.specs.Image.{bytes}
 use Rattle.wild_layout.specs.Geometry.{SectionLies}
-use Rattle.wild_layout.proofs.DecideLemmas.{decided_moved}
 use Rattle.wild_layout.proofs.SiteLemmas.{Contains-flat_map, site_written}
-use Rattle.wild_geometry.specs.Loaded.{HasSection, in_file, in_memory}
-use Rattle.wild_loader.specs.declared.memory.Memory.{Memory}
-use Rattle.wild_loader.specs.declared.world.World.{World}
+use Rattle.wild_geometry.specs.Loaded.{in_file}
 use Rattle.wild_loader.specs.Headers.{machine_of}
-use Rattle.wild_loader.specs.Memory.{Holds, byte_in}
+use Rattle.wild_loader.specs.Memory.{byte_in}
 use Rattle.wild_loader.specs.Laws.{BytesAreLoaded, ZerosAreLoaded}
 use Rattle.wild_loaded.specs.Memory.{image_memory, headers_of}
 use Rattle.wild_loaded.specs.Laws.{SectionsAreStored, ZerosAreStored}
+use Rattle.wild_loaded.proofs.PartsHeld.{Holds-inner}
 use Rattle.wild_loaded.proofs.Carried.{each_at, section_held, section_ends}
 use Rattle.wild_loaded.proofs.Loads.{are_loadable, kind_is, Contains-map}
 
 -- ---- fields
-
--- what stands in bytes that memory has
-Holds-inner : (m : Memory) (a off : ℕ) (whole part : List ℕ) → Holds m a whole → Stands whole off part → Holds m (a + off) part
-Holds-inner m a off whole part h st = λ k l.
-    let f = st.fits in
-    let e : a + off + k ≡ a + (off + k) = omega arith in
-    rw e (h (off + k) (omega arith) ∙ ap Some (st.same k l))
 
 range-Contains : (n i : ℕ) → i < n → Contains (range_with_len 0 n) i
 range-Contains n i h = let e = length-range_with_len 0 n in let g = get_or-range_with_len 0 n i i h in (i, omega (arith, e, h), omega (arith, g))
@@ -93,18 +81,3 @@ zeros_stored law = λ l w a legal laid b.
     in
     let e : w.base + a + 0 ≡ w.base + a = omega arith in
     subst (λ (x : ℕ). byte_in (image_memory l w) x ≡ Some 0) e (zeros 0 (omega arith))
-
--- ---- outputs that do not move
-
-no_address : (l : Layout) (s : InputSection) (r : InputRelocation) (v : ℕ) (packed : Bool) → is_position_independent l.kind ≡ false → decided l s r ≡ Ok (Moved v packed) → ⊥
-no_address l s r v packed still made =
-    let a = decided_moved l s r v packed made in
-    by_tests (is_position_independent l.kind) (not (has_flag (flags_at l a.by.number) absolute)) still a.by.moves
-  where
-    by_tests : (a b : Bool) → a ≡ false → (a && b) ≡ true → ⊥
-    by_tests true b e h = cc
-    by_tests false b e h = cc
-
--- a section of such an output is in memory as in the file
-pub still_section : (l : Layout) (w : World) (m : Memory) (s : InputSection) → is_position_independent l.kind ≡ false → HasSection l w m s in_file → HasSection l w m s (in_memory w)
-still_section l w m s still h = record { ends = h.ends; values = h.values; addresses = λ r v packed c made. absurd (no_address l s r v packed still made); others = h.others }

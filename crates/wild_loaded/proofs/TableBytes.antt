@@ -1,4 +1,4 @@
--- The bytes of the tables of addresses that move, and where a loader finds them.
+-- The bytes of the tables that fill addresses and slots, and where a loader finds them.
 use Rattle.std.proofs.Common.{◌≡◌, ℕ, ◌+◌, ◌-◌, ◌^◌, ◌<◌, ◌≤◌, inl, inr, Bool, true, false, List, [], ◌∷◌, ◌++◌, length, map, min, refl, sym, ap, ◌∙◌, arith, subst}
 use Rattle.std.specs.Prelude.{Option, Some, None, Contains, if◌then◌else◌, ◌==◌}
 use Rattle.std.specs.List.{flat_map}
@@ -20,56 +20,71 @@ use Rattle.wild_plan.specs.Lookups.{image_size}
 use Rattle.wild_plan.specs.Places.{role_place}
 use Rattle.wild_plan.specs.Segments.{part_with, is_table_role}
 use Rattle.wild_headers.specs.Headers.{program_header}
+use Rattle.wild_plan.specs.declared.slot_parts.EntryPart.TheVariants as entries
+use Rattle.wild_plan.specs.SlotShares.{block_words}
+use Rattle.wild_records.specs.declared.relocations.Rela.{Rela}
 use Rattle.wild_layout.specs.Moved.{file_entries, file_words}
+use Rattle.wild_layout.specs.SlotBytes.{slot_entries_of, flat_places_of, storage_entries}
 use Rattle.wild_layout.specs.Content.{file_content, content}
 use Rattle.wild_layout.specs.Image.{bytes}
 use Rattle.wild_layout.specs.Geometry.{IsLaidOut, SegmentLoads, table_bytes, TablesStand}
 use Rattle.wild_loader.specs.Laws.{StandsAt, IsTableOf, word_bytes, rela_bytes}
 use Rattle.wild_loader.specs.Tables.{offset_in}
 use Rattle.std.proofs.lemmas.List.Elements.{All-contains}
+use Rattle.std.proofs.lemmas.List.{append-nil}
 use Rattle.std.proofs.lemmas.List.Concat.{flat_map-append}
-use Rattle.wild_loaded.specs.Tables.{tables_of}
+use Rattle.wild_slots.specs.Entries.{OwnEntries}
+use Rattle.wild_loaded.specs.Tables.{file_packed, group_words, relatives, tables_of}
+use Rattle.wild_loaded.proofs.SlotSites.{flat_map-flat_map, flat_map-same}
 use Rattle.wild_loaded.proofs.Loads.{Contains-map, kind_is, header_from, header_to}
 
 -- ---- bytes
 
-flat_map-flat_map : {X Y Z : Type 0} (g : Y → List Z) (f : X → List Y) (xs : List X) → flat_map g (flat_map f xs) ≡ flat_map (λ x. flat_map g (f x)) xs
-flat_map-flat_map g f [] = refl
-flat_map-flat_map g f (x ∷ xs) = flat_map-append g (f x) (flat_map f xs) ∙ ap (λ ys. flat_map g (f x) ++ ys) (flat_map-flat_map g f xs)
+-- records of groups, spelled
+by_group : {X : Type 0} (h : X → List ℕ) (of : Group → List X) (r : Role) (l : Layout) → ((g : Group) → content l r g ≡ flat_map h (of g)) → table_bytes l r ≡ flat_map h (flat_map of l.groups)
+by_group h of r l each = flat_map-same (content l r) (λ (g : Group). flat_map h (of g)) l.groups each ∙ sym (flat_map-flat_map h of l.groups)
 
-flat_map-same : {X Y : Type 0} (f g : X → List Y) (xs : List X) → ((x : X) → f x ≡ g x) → flat_map f xs ≡ flat_map g xs
-flat_map-same f g [] h = refl
-flat_map-same f g (x ∷ xs) h = rw (h x) (ap (λ ys. g x ++ ys) (flat_map-same f g xs h))
-
--- records of files, spelled
-by_group : {X : Type 0} (h : X → List ℕ) (of : File → List X) (r : Role) (l : Layout) → ((f : File) → file_content l r f ≡ flat_map h (of f)) → table_bytes l r ≡ flat_map h (flat_map (λ (g : Group). flat_map of g.files) l.groups)
-by_group h of r l each =
-    flat_map-same (content l r) (λ (g : Group). flat_map h (flat_map of g.files)) l.groups
-    (λ g. flat_map-same (file_content l r) (λ (f : File). flat_map h (of f)) g.files each ∙ sym (flat_map-flat_map h of g.files))
-    ∙ sym (flat_map-flat_map h (λ (g : Group). flat_map of g.files) l.groups)
+-- of their files
+by_files : {X : Type 0} (h : X → List ℕ) (of : File → List X) (r : Role) (l : Layout) (g : Group) → ((f : File) → file_content l r f ≡ flat_map h (of f)) → flat_map (file_content l r) g.files ≡ flat_map h (flat_map of g.files)
+by_files h of r l g each = flat_map-same (file_content l r) (λ (f : File). flat_map h (of f)) g.files each ∙ sym (flat_map-flat_map h of g.files)
 
 no_front : (b : Bool) (xs : List ℕ) → (if b then [] else []) ++ xs ≡ xs
 no_front true xs = refl
 no_front false xs = refl
 
 pub words_are : (l : Layout) → table_bytes l role.RelrDyn ≡ flat_map word_bytes (tables_of l).words
-words_are l = by_group word_bytes (file_words l) role.RelrDyn l (λ f. no_front (is_prelude f.role) (flat_map word_bytes (file_words l f)))
+words_are l = by_group word_bytes (group_words l) role.RelrDyn l (λ g.
+    ap (λ (bs : List ℕ). bs ++ flat_map word_bytes (block_words l g)) (by_files word_bytes (file_packed l) role.RelrDyn l g (λ f. ap (λ (bs : List ℕ). bs ++ flat_map word_bytes (flat_places_of l f)) (no_front (is_prelude f.role) (flat_map word_bytes (file_words l f))) ∙ sym (flat_map-append word_bytes (file_words l f) (flat_places_of l f))))
+    ∙ sym (flat_map-append word_bytes (flat_map (file_packed l) g.files) (block_words l g)))
 
 pub entries_are : (l : Layout) → table_bytes l role.RelaDynRelative ≡ flat_map rela_bytes (tables_of l).entries
-entries_are l = by_group rela_bytes (file_entries l) role.RelaDynRelative l (λ f. no_front (is_prelude f.role) (flat_map rela_bytes (file_entries l f)))
+entries_are l = by_group rela_bytes (λ (g : Group). flat_map (relatives l) g.files) role.RelaDynRelative l (λ g.
+    append-nil (flat_map (file_content l role.RelaDynRelative) g.files)
+    ∙ by_files rela_bytes (relatives l) role.RelaDynRelative l g (λ f. ap (λ (bs : List ℕ). bs ++ flat_map rela_bytes (slot_entries_of entries.Relative l f)) (no_front (is_prelude f.role) (flat_map rela_bytes (file_entries l f))) ∙ sym (flat_map-append rela_bytes (file_entries l f) (slot_entries_of entries.Relative l f))))
 
-abbrev nothing : {X : Type 0} → X → List ℕ
-nothing x = []
+pub jumps_are : (l : Layout) → table_bytes l role.RelaPlt ≡ flat_map rela_bytes (tables_of l).jumps
+jumps_are l = by_group rela_bytes (λ (g : Group). flat_map (slot_entries_of entries.Plt l) g.files) role.RelaPlt l (λ g.
+    append-nil (flat_map (file_content l role.RelaPlt) g.files)
+    ∙ by_files rela_bytes (slot_entries_of entries.Plt l) role.RelaPlt l g (λ f. ap (λ (bs : List ℕ). bs ++ flat_map rela_bytes (slot_entries_of entries.Plt l f)) (no_front (is_prelude f.role) [])))
 
-nothing_joined : {X : Type 0} (xs : List X) → flat_map nothing xs ≡ []
-nothing_joined [] = refl
-nothing_joined (x ∷ xs) = nothing_joined xs
+-- no other entries are there
+pub general_none : (l : Layout) → OwnEntries l → table_bytes l role.RelaDynGeneral ≡ []
+general_none l own =
+    by_group nothing (λ (g : Group). g.files) role.RelaDynGeneral l (λ g.
+    append-nil (flat_map (file_content l role.RelaDynGeneral) g.files)
+    ∙ flat_map-same (file_content l role.RelaDynGeneral) nothing g.files (λ f. of_file (is_prelude f.role) (storage_entries l) (slot_entries_of entries.General l f) own.pair (own.files f).general))
+    ∙ nothing_joined (flat_map (λ (g : Group). g.files) l.groups)
+  where
+    nothing : {X : Type 0} → X → List ℕ
+    nothing x = []
 
--- no other entries with addends are there
-pub general_none : (l : Layout) → table_bytes l role.RelaDynGeneral ≡ []
-general_none l =
-    flat_map-same (content l role.RelaDynGeneral) nothing l.groups (λ g. flat_map-same (file_content l role.RelaDynGeneral) nothing g.files (λ f. no_front (is_prelude f.role) []) ∙ nothing_joined g.files)
-    ∙ nothing_joined l.groups
+    nothing_joined : {X : Type 0} (xs : List X) → flat_map nothing xs ≡ []
+    nothing_joined [] = refl
+    nothing_joined (x ∷ xs) = nothing_joined xs
+
+    of_file : (b : Bool) (xs ys : List Rela) → xs ≡ [] → ys ≡ [] → (if b then flat_map rela_bytes xs else []) ++ [] ++ flat_map rela_bytes ys ≡ []
+    of_file true xs ys e f = rw (e, f) refl
+    of_file false xs ys e f = rw f refl
 
 -- ---- where they stand
 
@@ -111,11 +126,11 @@ unfolding dynamic.dynamic_entry
 words_named l stands laid needs = table_there l role.RelrDyn stands laid (λ e. cc) needs refl (part_with role.RelrDyn l.parts) refl
 
 -- the part of other entries with addends has no bytes
-general_size : (l : Layout) (o : Option Part) → IsLaidOut l → part_with role.RelaDynGeneral l.parts ≡ o → dynamic.bytes_of o ≡ 0
-general_size l None laid e = refl
-general_size l (Some p) laid e =
+general_size : (l : Layout) (o : Option Part) → IsLaidOut l → OwnEntries l → part_with role.RelaDynGeneral l.parts ≡ o → dynamic.bytes_of o ≡ 0
+general_size l None laid own e = refl
+general_size l (Some p) laid own e =
     let size = ((laid.roles role.RelaDynGeneral (λ z. cc)).there p e).size in
-    let none = ap (λ (bs : List ℕ). length bs) (general_none l) in
+    let none = ap (λ (bs : List ℕ). length bs) (general_none l own) in
     omega (arith, size, none)
 
 unfilled : (o : Option Part) → dynamic.bytes_of o ≡ 0 → dynamic.unless_empty o ≡ None
@@ -141,12 +156,31 @@ entries_by l (Some p) stands laid needs e =
     part_low : (l : Layout) (p : Part) → IsLaidOut l → Contains l.parts p → p.offset + p.size ≤ 2 ^ 62
     part_low l p laid c = subst (λ (q : Part). q.offset + q.size ≤ 2 ^ 62) c.2 (laid.parts c.0 p c.1).low
 
-pub entries_named : (l : Layout) → TablesStand → IsLaidOut l → needs_dynamic l.kind ≡ true → IsTableOf (bytes l) (map (program_header l) l.segments) (dynamic.dynamic_entry l tags.Rela) (dynamic.dynamic_entry l tags.RelaSize) (table_bytes l role.RelaDynRelative)
+pub entries_named : (l : Layout) → TablesStand → IsLaidOut l → OwnEntries l → needs_dynamic l.kind ≡ true → IsTableOf (bytes l) (map (program_header l) l.segments) (dynamic.dynamic_entry l tags.Rela) (dynamic.dynamic_entry l tags.RelaSize) (table_bytes l role.RelaDynRelative)
 unfolding dynamic.dynamic_entry dynamic.first_entries dynamic.entries_bytes
-entries_named l stands laid needs =
-    let general = general_size l (part_with role.RelaDynGeneral l.parts) laid refl in
+entries_named l stands laid own needs =
+    let general = general_size l (part_with role.RelaDynGeneral l.parts) laid own refl in
     let none = unfilled (part_with role.RelaDynGeneral l.parts) general in
     let P : Option Part → Option Part → Option Part → ℕ → Type 0 = λ o q b n. IsTableOf (bytes l) (map (program_header l) l.segments) (dynamic.part_address (option_or (dynamic.unless_empty o) q)) (dynamic.beside (min (2 ^ 64 - 1) (dynamic.bytes_of o + n)) (option_or (dynamic.unless_empty o) q)) (table_bytes l role.RelaDynRelative) in
     let start = entries_by l (part_with role.RelaDynRelative l.parts) stands laid needs refl in
     let a = subst (λ (n : ℕ). P (part_with role.RelaDynRelative l.parts) None None n) (sym general) start in
     subst (λ (q : Option Part). P (part_with role.RelaDynRelative l.parts) q None (dynamic.bytes_of (part_with role.RelaDynGeneral l.parts))) (sym none) a
+
+-- the entries that stubs go through, by their tags
+pub jumps_named : (l : Layout) → TablesStand → IsLaidOut l → needs_dynamic l.kind ≡ true → IsTableOf (bytes l) (map (program_header l) l.segments) (dynamic.dynamic_entry l tags.JmpRel) (dynamic.dynamic_entry l tags.PltRelSize) (table_bytes l role.RelaPlt)
+unfolding dynamic.dynamic_entry
+jumps_named l stands laid needs = by_part (part_with role.RelaPlt l.parts) refl
+  where
+    empty : (bs : List ℕ) → length bs ≡ 0 → bs ≡ []
+    empty [] h = refl
+    empty (b ∷ bs) h = absurd (omega (arith, h))
+
+    by_size : (p : Part) (b : Bool) → part_with role.RelaPlt l.parts ≡ Some p → (p.size == 0) ≡ b → IsTableOf (bytes l) (map (program_header l) l.segments) (dynamic.part_address (if b then None else Some p)) (dynamic.part_size (if b then None else Some p)) (table_bytes l role.RelaPlt)
+    by_size p true e z = (let full = ((laid.roles role.RelaPlt (λ z. cc)).there p e).size in let none = eqb-true p.size 0 z in empty (table_bytes l role.RelaPlt) (omega (arith, full, none)))
+    by_size p false e z =
+        let full = ((laid.roles role.RelaPlt (λ z. cc)).there p e).size in
+        (sym full, λ some. table_at l role.RelaPlt p stands laid (λ z. cc) needs refl e (omega (arith, some, full)) full)
+
+    by_part : (o : Option Part) → part_with role.RelaPlt l.parts ≡ o → IsTableOf (bytes l) (map (program_header l) l.segments) (dynamic.part_address (dynamic.unless_empty o)) (dynamic.part_size (dynamic.unless_empty o)) (table_bytes l role.RelaPlt)
+    by_part None e = (laid.roles role.RelaPlt (λ z. cc)).missing e
+    by_part (Some p) e = by_size p (p.size == 0) e refl

@@ -6,18 +6,32 @@
 --   SectionsAreCarried     a kept section that has bytes has them in the file, and each is carried to its address
 --   SectionsAreStored      their memory has each kept section as the file has it
 --   ZerosAreStored         and zeros behind the file bytes
---   TablesAreFound         a loader finds the tables of the addresses that move
+--   SlotsAreOwn            a static executable whose symbols are its own has slots that are
+--   PartsAreStored         memory has the tables of slots and stubs
+--   SlotsAreStored         and each word, each stub and the pair of the output's own thread-local data
+--   TablesAreFound         a loader finds the tables that fill addresses and slots by the dynamic section
+--   SectionTablesAreFound  or, without one, by their section
 --   EntriesAreRelative     whose entries add the base
---   FixedImagesAreLoaded   the loader accepts an image without a dynamic section, and its memory is that
-use Rattle.std.specs.Prelude.{◌≡◌, ℕ, ◌+◌, ◌≤◌, true, false, length, Some, All}
+--   JumpsAreAnswered       or store what a resolver answers
+use Rattle.std.specs.Prelude.{◌≡◌, ℕ, ◌+◌, ◌*◌, ◌≤◌, true, false, [], length, Some, All, slice_get}
 use Rattle.wild_records.specs.declared.relocations.Rela.{Rela}
 use Rattle.wild_plan.specs.declared.kind.Machine.TheVariants as machine
 use Rattle.wild_plan.specs.declared.input.InputSection.{InputSection}
+use Rattle.wild_plan.specs.declared.part.Part.{Part}
+use Rattle.wild_plan.specs.declared.part.Role.{Role}
+use Rattle.wild_plan.specs.declared.slot.SlotWord.{SlotWord}
+use Rattle.wild_plan.specs.declared.symbol.Symbol.{Symbol}
 use Rattle.wild_plan.specs.declared.layout.Layout.{Layout}
-use Rattle.wild_plan.specs.Kinds.{needs_dynamic}
+use Rattle.wild_plan.specs.Kinds.{needs_dynamic, is_static_executable}
+use Rattle.wild_plan.specs.OwnSymbols.{HasOwnSymbols}
+use Rattle.wild_plan.specs.Places.{is_loaded_role}
+use Rattle.wild_plan.specs.Segments.{part_with}
+use Rattle.wild_plan.specs.SlotShares.{word_size, slots_of, storage_words}
+use Rattle.wild_plan.specs.SymbolSlots.{got_of, plt_of}
 use Rattle.wild_headers.specs.Headers.{file_header, section_headers_of}
 use Rattle.wild_layout.specs.Image.{bytes}
 use Rattle.wild_layout.specs.Numbers.{NumbersFit}
+use Rattle.wild_layout.specs.Faults.{flat_map_from, group_errors}
 use Rattle.wild_layout.specs.Geometry.{IsLaidOut}
 use Rattle.wild_geometry.specs.Loaded.{IsDecided, HasSection, in_file}
 use Rattle.wild_loader.specs.declared.kind.DynamicKind.TheVariants as kinds
@@ -31,8 +45,10 @@ use Rattle.wild_meaning.specs.World.{IsLoadable, IsLegal}
 use Rattle.wild_meaning.specs.Item.{IsKeptSection}
 use Rattle.wild_meaning.specs.Linked.{HasHeader, IsBehind}
 use Rattle.wild_loaded.specs.Owners.{HasOneOwnerEach}
-use Rattle.wild_loaded.specs.Memory.{IsStored, headers_of, image_memory, EachDecided, HasMemory}
-use Rattle.wild_loaded.specs.Tables.{tables_of, HasTablesIn}
+use Rattle.wild_loaded.specs.Memory.{IsStored, headers_of, image_memory}
+use Rattle.wild_loaded.specs.OwnSlots.{HasOwnSlots}
+use Rattle.wild_loaded.specs.Stored.{IsPartStored, IsWordStored, IsStubStored, IsAnswered}
+use Rattle.wild_loaded.specs.Tables.{tables_of, HasTablesIn, HasSectionsIn}
 
 -- no byte of the image is of two pieces, each piece stands in it, and every other byte is padding
 abbrev pub OwnersAreKnown : Type 0
@@ -64,14 +80,33 @@ SectionsAreStored = (l : Layout) (w : World) (s : InputSection) → IsLegal l w 
 abbrev pub ZerosAreStored : Type 0
 ZerosAreStored = (l : Layout) (w : World) (a : ℕ) → IsLegal l w → IsLaidOut l → IsBehind l a → byte_in (image_memory l w) (w.base + a) ≡ Some 0
 
+-- the slots of a static executable whose symbols are its own, where no group has a fault
+abbrev pub SlotsAreOwn : Type 0
+SlotsAreOwn = (l : Layout) → HasOwnSymbols l → is_static_executable l.kind ≡ true → IsLaidOut l → flat_map_from (group_errors l) 0 l.groups ≡ [] → HasOwnSlots l
+
+-- memory has the table of each role that a program reads
+abbrev pub PartsAreStored : Type 0
+PartsAreStored = (l : Layout) (w : World) (r : Role) (p : Part) → is_loaded_role r ≡ true → IsLoadable l.kind → IsLegal l w → IsLaidOut l → part_with r l.parts ≡ Some p → IsPartStored l w r p
+
+-- each word of the slots of symbols, 8 bytes behind the one before it, their stubs, and the pair
+pub record SlotsAreStored : Type 0 where
+  pub words : (l : Layout) (w : World) (i at k : ℕ) (s : Symbol) (d : SlotWord) → IsLoadable l.kind → NumbersFit l → IsLegal l w → IsLaidOut l → HasOwnSlots l → slice_get l.symbols i ≡ Some s → got_of s ≡ Some at
+      → slice_get (slots_of l s).words k ≡ Some d → IsWordStored l w (at + word_size * k) d
+  pub stubs : (l : Layout) (w : World) (i at stub : ℕ) (s : Symbol) → IsLoadable l.kind → IsLegal l w → IsLaidOut l → HasOwnSlots l → slice_get l.symbols i ≡ Some s → got_of s ≡ Some at → plt_of s ≡ Some stub → IsStubStored l w at stub
+  pub pair : (l : Layout) (w : World) (at k : ℕ) (d : SlotWord) → IsLoadable l.kind → IsLegal l w → IsLaidOut l → HasOwnSlots l → l.tlsld ≡ Some at → slice_get (storage_words l) k ≡ Some d → IsWordStored l w (at + word_size * k) d
+
 -- the image of an output that needs a dynamic section has one, by which a loader finds the tables that the groups give
 abbrev pub TablesAreFound : Type 0
-TablesAreFound = (l : Layout) → needs_dynamic l.kind ≡ true → NumbersFit l → IsLaidOut l → HasTablesIn l
+TablesAreFound = (l : Layout) → needs_dynamic l.kind ≡ true → NumbersFit l → IsLaidOut l → HasOwnSlots l → HasTablesIn l
+
+-- any other has none, and a loader finds them by a section
+abbrev pub SectionTablesAreFound : Type 0
+SectionTablesAreFound = (l : Layout) → IsLoadable l.kind → needs_dynamic l.kind ≡ false → NumbersFit l → IsLaidOut l → HasOwnSlots l → HasSectionsIn l
 
 -- each entry of these tables is one that adds the base
 abbrev pub EntriesAreRelative : Type 0
-EntriesAreRelative = (l : Layout) → l.machine ≡ machine.X86_64 → All (λ (e : Rela). kind_of machines.X86_64 e.number ≡ Some kinds.Relative) (tables_of l).entries
+EntriesAreRelative = (l : Layout) → l.machine ≡ machine.X86_64 → NumbersFit l → All (λ (e : Rela). kind_of machines.X86_64 e.number ≡ Some kinds.Relative) (tables_of l).entries
 
--- an image without a dynamic section is loaded, and needs no entry: no address in it moves
-abbrev pub FixedImagesAreLoaded : Type 0
-FixedImagesAreLoaded = (l : Layout) (w : World) → l.machine ≡ machine.X86_64 → IsLoadable l.kind → needs_dynamic l.kind ≡ false → NumbersFit l → IsLegal l w → IsLaidOut l → EachDecided l → HasMemory l w
+-- and each of those that stubs go through is one that a resolver answers
+abbrev pub JumpsAreAnswered : Type 0
+JumpsAreAnswered = (l : Layout) (w : World) → l.machine ≡ machine.X86_64 → NumbersFit l → IsLegal l w → HasOwnSlots l → All (IsAnswered w) (tables_of l).jumps

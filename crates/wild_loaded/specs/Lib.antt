@@ -1,4 +1,6 @@
 pub mod Owners
 pub mod Memory
+pub mod OwnSlots
 pub mod Tables
+pub mod Stored
 pub mod Laws

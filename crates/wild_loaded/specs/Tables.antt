@@ -1,23 +1,45 @@
--- The tables of the addresses that move, in the image.
---   tables_of l     the words and entries that the groups of a layout give
---   HasTablesIn l   the image has a dynamic section, and it names these tables
-use Rattle.std.specs.Prelude.{List, []}
+-- The tables that fill addresses and slots, in the image.
+--   group_words l g   the words of packed places of a group
+--   relatives l f     the relative entries of a file
+--   tables_of l       the words and entries that the groups of a layout give
+--   HasTablesIn l     the image has a dynamic section, and it names these tables
+--   HasSectionsIn l   the image has no dynamic section, and one section at most has entries: these
+use Rattle.std.specs.Prelude.{◌≡◌, ℕ, ◌<◌, List, [], ◌++◌, length, All}
 use Rattle.std.specs.List.{flat_map}
 use Rattle.wild_records.specs.declared.dynamic.DynamicEntry.{DynamicEntry}
+use Rattle.wild_records.specs.declared.relocations.Rela.{Rela}
+use Rattle.wild_plan.specs.declared.slot_parts.EntryPart.TheVariants as entries
+use Rattle.wild_plan.specs.declared.file.File.{File}
 use Rattle.wild_plan.specs.declared.file.Group.{Group}
 use Rattle.wild_plan.specs.declared.layout.Layout.{Layout}
+use Rattle.wild_plan.specs.SlotShares.{block_words}
+use Rattle.wild_headers.specs.Headers.{file_header, section_headers_of}
 use Rattle.wild_layout.specs.Image.{bytes}
 use Rattle.wild_layout.specs.Moved.{file_entries, file_words}
+use Rattle.wild_layout.specs.SlotBytes.{slot_entries_of, flat_places_of}
 use Rattle.wild_loader.specs.declared.tables.Tables.{Tables}
-use Rattle.wild_loader.specs.Laws.{HasDynamic, HasTables}
+use Rattle.wild_loader.specs.Laws.{HasDynamic, HasTables, IsStatic}
+use Rattle.wild_loader.specs.EntryLaws.{HasSectionTable}
 use Rattle.wild_loaded.specs.Memory.{headers_of}
 
--- what the groups give, file by file: words of packed places, and entries with addends; stubs have no entries yet
+-- the words of packed places: file by file those of input sections and those of slots, and then those of the block
+abbrev pub file_packed : Layout → File → List ℕ
+file_packed l f = file_words l f ++ flat_places_of l f
+
+abbrev pub group_words : Layout → Group → List ℕ
+group_words l g = flat_map (file_packed l) g.files ++ block_words l g
+
+-- the relative entries of a file: those of input sections, and those of slots
+abbrev pub relatives : Layout → File → List Rela
+relatives l f = file_entries l f ++ slot_entries_of entries.Relative l f
+
+-- what the groups give, file by file: words of packed places, relative entries, and those of the slots that stubs go
+-- through; where no other entry is there
 abbrev pub tables_of : Layout → Tables
 tables_of l = record {
-  words = flat_map (λ (g : Group). flat_map (file_words l) g.files) l.groups;
-  entries = flat_map (λ (g : Group). flat_map (file_entries l) g.files) l.groups;
-  jumps = [];
+  words = flat_map (group_words l) l.groups;
+  entries = flat_map (λ (g : Group). flat_map (relatives l) g.files) l.groups;
+  jumps = flat_map (λ (g : Group). flat_map (slot_entries_of entries.Plt l) g.files) l.groups;
 }
 
 -- the image has a dynamic section, and these tables stand in it by its entries
@@ -25,3 +47,10 @@ pub record HasTablesIn (l : Layout) : Type 0 where
   pub entries : List DynamicEntry
   pub dynamic : HasDynamic (bytes l) (headers_of l) entries
   pub tables : HasTables (bytes l) (headers_of l) entries (tables_of l)
+
+-- the image has no dynamic section and no packed place, and the entries stand in one section
+pub record HasSectionsIn (l : Layout) : Type 0 where
+  pub static : All IsStatic (headers_of l)
+  pub words : (tables_of l).words ≡ []
+  pub entries : HasSectionTable (bytes l) (section_headers_of l l.sections) ((tables_of l).entries ++ (tables_of l).jumps)
+  pub sections : 0 < length ((tables_of l).entries ++ (tables_of l).jumps) → 0 < (file_header l).section_offset

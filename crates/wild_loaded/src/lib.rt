@@ -1,12 +1,18 @@
 //! What a loader makes of the image of a laid out layout before any entry is applied.
 #![tactic(auto)]
 
-ghost use Rattle.wild_loaded.specs.Laws.{EntriesAreRelative, FixedImagesAreLoaded, HeadersStand, HeadersTell, OwnersAreKnown, SectionsAreCarried, SectionsAreStored, SegmentsAreLoadable, TablesAreFound, ZerosAreStored};
+ghost use Rattle.wild_loaded.specs.Laws.{EntriesAreRelative, HeadersStand, HeadersTell, JumpsAreAnswered, OwnersAreKnown, PartsAreStored, SectionTablesAreFound, SectionsAreCarried, SectionsAreStored, SegmentsAreLoadable, SlotsAreOwn, SlotsAreStored, TablesAreFound, ZerosAreStored};
 
 use wild_geometry::tables_stand;
-use wild_loader::{bytes_are_loaded, static_images_are_loaded};
+use wild_loader::bytes_are_loaded;
 use wild_relr::words_fit;
-use wild_tables::{dynamic_sections_are_read, entries_add_the_base};
+use wild_slots::{
+    each_word_stands, fixed_outputs_move_nothing, own_symbols_are_filled, pair_stands, slots_stand,
+    stubs_are_there,
+};
+use wild_tables::{
+    dynamic_sections_are_read, entries_add_the_base, entries_are_read, types_are_known,
+};
 
 /// Each piece stands in the image, no byte is of two pieces, and a byte that no piece holds is padding.
 pub fn owners_are_known()
@@ -38,21 +44,45 @@ pub fn sections_are_stored()
     bytes_are_loaded();
 }
 
-/// A loader finds the tables of the addresses that move by the dynamic section; each entry adds the base.
+/// The slots of a static executable whose symbols are its own hold what is its own.
+pub fn slots_are_own()
+    ensures { SlotsAreOwn }
+{
+    own_symbols_are_filled();
+}
+
+/// The memory of the loaded segments has the tables that a program reads.
+pub fn parts_are_stored()
+    ensures { PartsAreStored }
+{
+    bytes_are_loaded();
+    tables_stand();
+}
+
+/// It has each word of a slot as the file has it, and each stub.
+pub fn slots_are_stored()
+    ensures { SlotsAreStored }
+{
+    parts_are_stored();
+    slots_stand();
+    each_word_stands();
+    stubs_are_there();
+    pair_stands();
+}
+
+/// A loader finds the tables that fill addresses and slots, by the dynamic section or by a section of theirs; each entry
+/// adds the base, or stores what a resolver answers.
 pub fn tables_are_found()
     ensures found { TablesAreFound }
+    ensures sections { SectionTablesAreFound }
     ensures relative { EntriesAreRelative }
+    ensures answered { JumpsAreAnswered }
 {
     tables_stand();
     dynamic_sections_are_read();
+    entries_are_read();
     entries_add_the_base();
+    types_are_known();
     words_fit();
-}
-
-/// The loader accepts an image without a dynamic section, and memory has each kept section as it was decided.
-pub fn fixed_images_are_loaded()
-    ensures { FixedImagesAreLoaded }
-{
-    static_images_are_loaded();
-    sections_are_stored();
+    fixed_outputs_move_nothing();
 }

@@ -1,12 +1,6 @@
-mod PairLemmas
-mod SectionsApart
-mod PlacesApart
-mod MovedPlaces
-mod KeptSections
-mod MovedSections
-mod MovedMemory
-mod RelativeOrder
-mod RelativeMemory
-mod MovedLoaded
-mod MovedTables
-mod Moving
+pub mod OutsideTables
+pub mod MovedMemory
+pub mod MovedLoaded
+pub mod SitesLoaded
+pub mod SlotsLoaded
+pub mod Moving

@@ -28,17 +28,15 @@ use Rattle.wild_reloc.specs.declared.info.RelocationSize.{RelocationSize}
 use Rattle.wild_reloc.specs.declared.info.RelocationSize.TheVariants.{ByteSize}
 use Rattle.wild_reloc.specs.declared.info.Width.TheVariants.{Eight}
 use Rattle.wild_geometry.specs.Loaded.{InNoSite}
-use Rattle.wild_moved.proofs.SectionsApart.{all_sections, sections_of}
-use Rattle.wild_moved.proofs.PlacesApart.{IsOutside}
-use Rattle.wild_moved.proofs.MovedPlaces.{moved_place, moved_places, IsAddress, address_moves}
-use Rattle.wild_moved.proofs.KeptSections.{IsKeptWell, kept_is_read}
-use Rattle.wild_moved.proofs.MovedSections.{IsMovedThere, address_site, site_width, sites_apart_at, site_there}
-use Rattle.wild_moved.proofs.PairLemmas.{All-joined}
+use Rattle.wild_filled.proofs.SectionsApart.{all_sections, sections_of}
+use Rattle.wild_filled.proofs.SortedTables.{IsOutside}
+use Rattle.wild_filled.proofs.SectionWords.{listed_at}
+use Rattle.wild_filled.proofs.MovedPlaces.{moved_place, moved_places, IsAddress, address_moves}
+use Rattle.wild_filled.proofs.KeptSections.{IsKeptWell, kept_is_read}
+use Rattle.wild_filled.proofs.MovedSections.{IsMovedThere, address_site, site_width, sites_apart_at, site_there}
+use Rattle.wild_filled.proofs.PairLemmas.{All-joined}
 
 -- ---- the word of an address before it is moved
-
-pub address_low : (l : Layout) (s : InputSection) (r : InputRelocation) → (a : IsAddress l s r) → a.value < 2 ^ 64
-address_low l s r a = subst (λ (n : ℕ). n < 2 ^ 64) a.moved.value (omega arith)
 
 pub address_ends : (l : Layout) (s : InputSection) (r : InputRelocation) → IsKeptWell l s → (a : IsAddress l s r) → r.offset + 8 ≤ length s.bytes
 address_ends l s r well a = field_lies l s r (ByteSize Eight) a.field well.full (All-at (FieldLies l.machine s.size) s.relocations a.index r well.lies.fields a.listed)
@@ -48,13 +46,6 @@ value_ends l s r z v well c made =
     let ends = field_lies l s r z (field_has l s r z v (decided_field l s r z v made)) well.full (All-contains (FieldLies l.machine s.size) s.relocations r well.lies.fields c) in
     let width = length-field_site s r.offset z v in
     omega (arith, ends, width)
-
--- the field lies where its place is
-pub place_there : (l : Layout) (w : World) (s : InputSection) (r : InputRelocation) → IsKeptWell l s → r.offset + 8 ≤ length s.bytes → w.base + s.address + r.offset ≡ w.base + place_of s r
-place_there l w s r well ends =
-    let full = well.full in
-    let small = well.lies.small in
-    omega (arith, ends, full, small)
 
 -- ---- what no address touches
 
@@ -135,9 +126,6 @@ first_true false b h = cc
 
 both_true : (a b : Bool) → a ≡ true → b ≡ true → (a && b) ≡ true
 both_true a b e f = rw (e, f) refl
-
-pub listed_at : (xs : List InputRelocation) (i : ℕ) (r : InputRelocation) → slice_get xs i ≡ Some r → Contains xs r
-listed_at xs i r e = (i, slice_get_within xs i r e, get_or_from_slice_get xs i r r e)
 
 -- the section of an address that moves is one of those that are looked at
 pub moving_section : (l : Layout) (s : InputSection) (r : InputRelocation) → IsKeptWell l s → IsAddress l s r → has_moved l s ≡ true

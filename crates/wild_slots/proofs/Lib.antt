@@ -1,7 +1,7 @@
 pub mod ItemLemmas
 mod SlotLemmas
 mod WalkLemmas
-mod CheckLemmas
+pub mod CheckLemmas
 mod OrderLemmas
 mod TableLemmas
 mod BlockWordLemmas

@@ -1,6 +1,6 @@
 use Rattle.wild_loaded.proofs.HeadersFit.{file_header_loads}
 use Rattle.wild_loaded.proofs.Loads.{has_headers}
-use Rattle.wild_loaded.proofs.Fixed.{header_told}
+use Rattle.wild_loaded.proofs.FileHeader.{header_told}
 use Rattle.wild_loaded.proofs.headers_stand.Goals as goal
 
 pub returns-clause-stand : goal.returns-clause-stand

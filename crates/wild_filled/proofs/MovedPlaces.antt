@@ -20,8 +20,8 @@ use Rattle.wild_layout.specs.Decide.{moved_to, decide_by, decided}
 use Rattle.wild_layout.proofs.DecideLemmas.{HasField, IsMoved, decided_moved, moved_has}
 use Rattle.wild_layout.proofs.SiteLemmas.{decide_listed}
 use Rattle.wild_geometry.specs.Loaded.{IsDecided}
-use Rattle.wild_moved.proofs.SectionsApart.{flat_map-same}
-use Rattle.wild_moved.proofs.PairLemmas.{filter-flat_map}
+use Rattle.wild_loaded.proofs.SlotSites.{flat_map-same}
+use Rattle.wild_filled.proofs.PairLemmas.{filter-flat_map}
 
 -- the place of an address that moves
 abbrev pub moved_place : Layout → InputSection → InputRelocation → Option ℕ

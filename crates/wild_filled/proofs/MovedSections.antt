@@ -25,11 +25,12 @@ use Rattle.wild_loader.specs.EntryLaws.{AreBeside}
 use Rattle.wild_geometry.specs.Loaded.{in_file}
 use Rattle.wild_loaded.specs.Memory.{IsStored, EachDecided}
 use Rattle.wild_loaded.specs.Laws.{SectionsAreCarried}
-use Rattle.wild_moved.proofs.PairLemmas.{AllPairs-joined, AllPairs-joining, AllPairs-none, Across, Contains-from_flat_map}
-use Rattle.wild_moved.proofs.KeptSections.{IsKeptWell, bit_alloc, kept_well}
-use Rattle.wild_moved.proofs.SectionsApart.{all_sections, sections_of}
-use Rattle.wild_moved.proofs.PlacesApart.{LiesIn, HavePlaces, get_or-any}
-use Rattle.wild_moved.proofs.MovedPlaces.{moved_place, moved_places, IsAddress, address_there}
+use Rattle.wild_filled.proofs.PairLemmas.{AllPairs-joined, AllPairs-joining, AllPairs-none, Across, Contains-from_flat_map}
+use Rattle.wild_filled.proofs.KeptSections.{IsKeptWell, bit_alloc, kept_well}
+use Rattle.wild_filled.proofs.SectionsApart.{all_sections, sections_of, section_home}
+use Rattle.wild_filled.proofs.Homes.{LiesIn}
+use Rattle.wild_filled.proofs.PlacesApart.{HavePlaces, get_or-any}
+use Rattle.wild_filled.proofs.MovedPlaces.{moved_place, moved_places, IsAddress, address_there}
 
 -- ---- the section of a place
 
@@ -115,7 +116,7 @@ moved_there l s a laid decided c k =
 stored_there : (l : Layout) (s : InputSection) (a : ℕ) → SectionsAreCarried → IsLaidOut l → IsMovedThere l s a → IsStored l s
 stored_there l s a law laid h = let ends = h.ends in law l s laid h.well.kept h.well.decisions (omega (arith, ends))
 
-pub lies_there : (l : Layout) (s : InputSection) (a : ℕ) → IsMovedThere l s a → LiesIn s a
+pub lies_there : (l : Layout) (s : InputSection) (a : ℕ) → IsMovedThere l s a → LiesIn (section_home l s) a
 lies_there l s a h =
     let is = h.place.is in
     let ends = h.ends in
@@ -203,6 +204,6 @@ first_place (x ∷ xs) h = (x, (0, omega arith, refl))
 pub have_places : (l : Layout) → SectionsAreCarried → IsLaidOut l → EachDecided l → HavePlaces l (moved_places l)
 have_places l law laid decided = record {
   stored = All-each (λ (s : InputSection). 1 ≤ length (moved_places l s) → IsStored l s) (all_sections l) (λ s c some. (let a = first_place (moved_places l s) some in stored_there l s a.0 law laid (moved_there l s a.0 laid decided c (place_known l s a.0 a.1))));
-  within = All-each (λ (s : InputSection). All (LiesIn s) (moved_places l s)) (all_sections l) (λ s c. All-each (LiesIn s) (moved_places l s) (λ a k. lies_there l s a (moved_there l s a laid decided c (place_known l s a k))));
+  within = All-each (λ (s : InputSection). All (LiesIn (section_home l s)) (moved_places l s)) (all_sections l) (λ s c. All-each (LiesIn (section_home l s)) (moved_places l s) (λ a k. lies_there l s a (moved_there l s a laid decided c (place_known l s a k))));
   beside = All-each (λ (s : InputSection). AllPairs AreBeside (moved_places l s)) (all_sections l) (λ s c. places_beside_in l s laid decided c);
 }

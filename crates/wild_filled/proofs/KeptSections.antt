@@ -32,7 +32,7 @@ read_if s at e t n = rw (e, t, n) refl
 pub kept_is_read : (l : Layout) (s : InputSection) → IsKeptSection l s → is_read s ≡ true
 kept_is_read l s k = read_if s _ k.loaded refl k.has_data
 
-each_at : (P : InputSection → Type 0) (l : Layout) (s : InputSection) → EachSection l P → IsInput l s → P s
+pub each_at : (P : InputSection → Type 0) (l : Layout) (s : InputSection) → EachSection l P → IsInput l s → P s
 each_at P l s h k =
     All-contains P k.file.sections s (All-contains (λ (f : File). All P f.sections) k.group.files k.file (All-contains (λ (g : Group). All (λ (f : File). All P f.sections) g.files) l.groups k.group h k.grouped) k.filed) k.listed
 

@@ -9,57 +9,17 @@ use Rattle.wild_plan.specs.declared.layout.Layout.{Layout}
 use Rattle.wild_layout.specs.Image.{section_piece}
 use Rattle.wild_layout.specs.Geometry.{IsLaidOut}
 use Rattle.wild_loader.specs.EntryLaws.{AreBeside}
-use Rattle.wild_moved.proofs.PairLemmas.{All-join, AllPairs-joining, Across, at_places}
+use Rattle.wild_filled.proofs.SortedTables.{IsOutside}
+use Rattle.wild_filled.proofs.PairLemmas.{All-join, AllPairs-joining, Across, at_places}
 use Rattle.wild_loaded.specs.Memory.{IsStored}
-use Rattle.wild_moved.proofs.SectionsApart.{all_sections, section_pieces_apart, addresses_differ}
-
--- the address lies outside the eight bytes at a place
-abbrev pub IsOutside : ℕ → ℕ → Type 0
-IsOutside a b = (a < b) ⊎ (b + 8 ≤ a)
-
--- the eight bytes at a place lie in the section
-pub record LiesIn (s : InputSection) (a : ℕ) : Type 0 where
-  pub from : s.address ≤ a
-  pub to : a + 8 ≤ s.address + s.size
+use Rattle.wild_filled.proofs.Homes.{LiesIn, beside_across, outside_across}
+use Rattle.wild_filled.proofs.SectionsApart.{all_sections, section_home, stored_home, sections_apart, section_pieces_apart}
 
 -- places in sections that are stored, beside each other in each
 pub record HavePlaces (l : Layout) (of : InputSection → List ℕ) : Type 0 where
   pub stored : All (λ (s : InputSection). 1 ≤ length (of s) → IsStored l s) (all_sections l)
-  pub within : All (λ (s : InputSection). All (LiesIn s) (of s)) (all_sections l)
+  pub within : All (λ (s : InputSection). All (LiesIn (section_home l s)) (of s)) (all_sections l)
   pub beside : All (λ (s : InputSection). AllPairs AreBeside (of s)) (all_sections l)
-
--- ---- two sections
-
--- the places of two sections whose pieces are apart
-beside_across : (l : Layout) (s t : InputSection) (a b : ℕ) → IsLaidOut l → IsStored l s → IsStored l t → Across Apart (section_piece l) s t → LiesIn s a → LiesIn t b → AreBeside a b
-beside_across l s t a b laid ss st across la lb =
-    let af = la.from in
-    let ae = la.to in
-    let bf = lb.from in
-    let be = lb.to in
-    elim (cases_lt b (a + 8)) [
-      | inr ge ↦ inl ge
-      | inl lt ↦ elim (cases_lt a (b + 8)) [
-        | inr ge ↦ inr ge
-        | inl gt ↦ elim (cases_lt a b) [
-          | inl up ↦ absurd (addresses_differ l s t (b - s.address) (b - t.address) laid ss st across (omega (arith, af, ae, lt, up)) (omega (arith, bf, be)) (omega (arith, af, bf, up)))
-          | inr down ↦ absurd (addresses_differ l s t (a - s.address) (a - t.address) laid ss st across (omega (arith, af, ae)) (omega (arith, bf, be, gt, down)) (omega (arith, af, bf, down)))
-        ]
-      ]
-    ]
-
--- a byte of one section and a place of the other
-outside_across : (l : Layout) (s t : InputSection) (k b : ℕ) → IsLaidOut l → IsStored l s → IsStored l t → Across Apart (section_piece l) s t → k < s.size → LiesIn t b → IsOutside (s.address + k) b
-outside_across l s t k b laid ss st across below lb =
-    let bf = lb.from in
-    let be = lb.to in
-    elim (cases_lt (s.address + k) b) [
-      | inl lt ↦ inl lt
-      | inr ge ↦ elim (cases_lt (s.address + k) (b + 8)) [
-        | inr le ↦ inr le
-        | inl lt ↦ absurd (addresses_differ l s t k (s.address + k - t.address) laid ss st across below (omega (arith, bf, be, ge, lt)) (omega (arith, bf, ge)))
-      ]
-    ]
 
 across_back : (l : Layout) (s t : InputSection) → Across Apart (section_piece l) s t → Across Apart (section_piece l) t s
 across_back l s t a = λ k d m i e n. back (get_or (section_piece l s) i e) (get_or (section_piece l t) k d) (a i e n k d m)
@@ -70,6 +30,10 @@ across_back l s t a = λ k d m i e n. back (get_or (section_piece l s) i e) (get
 
 -- ---- all sections
 
+-- all places, in the order of the sections
+abbrev pub all_places : Layout → (InputSection → List ℕ) → List ℕ
+all_places l of = flat_map of (all_sections l)
+
 some_place : (xs : List ℕ) (i : ℕ) → i < length xs → 1 ≤ length xs
 some_place xs i h = omega (arith, h)
 
@@ -79,12 +43,15 @@ places_beside l of laid h =
     let apart = section_pieces_apart l laid.owners.apart in
     AllPairs-joining AreBeside of (all_sections l) h.beside
     (λ i j d lt m. (λ k e n p f q.
-    beside_across l (get_or (all_sections l) i d) (get_or (all_sections l) j d) (get_or (of (get_or (all_sections l) i d)) k e) (get_or (of (get_or (all_sections l) j d)) p f) laid
+    both (get_or (all_sections l) i d) (get_or (all_sections l) j d) (get_or (of (get_or (all_sections l) i d)) k e) (get_or (of (get_or (all_sections l) j d)) p f)
     (h.stored i d (omega (arith, lt, m)) (some_place _ k n))
     (h.stored j d m (some_place _ p q))
     (apart i j d lt m)
     (h.within i d (omega (arith, lt, m)) k e n)
     (h.within j d m p f q)))
+  where
+    both : (s t : InputSection) (a b : ℕ) → IsStored l s → IsStored l t → Across Apart (section_piece l) s t → LiesIn (section_home l s) a → LiesIn (section_home l t) b → AreBeside a b
+    both s t a b x y across la lb = beside_across l (section_home l s) (section_home l t) a b laid (stored_home l s x) (stored_home l t y) (sections_apart l s t x y across) la lb
 
 pub get_or-any : {X : Type 0} (xs : List X) (k : ℕ) (d e : X) → k < length xs → get_or xs k d ≡ get_or xs k e
 get_or-any [] k d e h = absurd (omega arith)
@@ -115,4 +82,4 @@ outside_all l of s k laid h c stored below own =
         let pair = at_places (Across Apart (section_piece l)) (all_sections l) (across_back l) (section_pieces_apart l laid.owners.apart) c.0 j d (λ e. other (sym e)) c.1 m in
         let here : get_or (all_sections l) c.0 d ≡ s = get_or-any (all_sections l) c.0 d s c.1 ∙ c.2 in
         let across = subst (λ (t : InputSection). Across Apart (section_piece l) t (get_or (all_sections l) j d)) here pair in
-        λ p f q. outside_across l s (get_or (all_sections l) j d) k (get_or (of (get_or (all_sections l) j d)) p f) laid stored (h.stored j d m (some_place _ p q)) across below (h.within j d m p f q)
+        λ p f q. (let other = h.stored j d m (some_place _ p q) in outside_across l (section_home l s) (section_home l (get_or (all_sections l) j d)) k (get_or (of (get_or (all_sections l) j d)) p f) laid (stored_home l s stored) (stored_home l (get_or (all_sections l) j d) other) (sections_apart l s (get_or (all_sections l) j d) stored other across) below (h.within j d m p f q))

@@ -1,0 +1,139 @@
+-- Runs of bytes of the image that segments carry to their addresses: where the file shares no byte, memory shares none.
+use Rattle.std.proofs.Common.{◌≡◌, ℕ, zero, suc, ◌+◌, ◌-◌, ◌<◌, ◌≤◌, ◌⊎◌, inl, inr, List, [], ◌∷◌, length, get_or, refl, sym, ap, ◌∙◌, arith, subst}
+use Rattle.std.specs.Prelude.{Contains}
+use Rattle.std.proofs.lemmas.Bool.{cases_lt}
+use Rattle.std.proofs.lemmas.List.Elements.{All-contains}
+use Rattle.wild_records.specs.Abi.Segment.{pt_load}
+use Rattle.wild_plan.specs.declared.section.Segment.{Segment}
+use Rattle.wild_plan.specs.declared.layout.Layout.{Layout}
+use Rattle.wild_plan.specs.Lookups.{image_size}
+use Rattle.wild_layout.specs.Geometry.{IsLaidOut, SegmentLoads, Ascends}
+use Rattle.wild_loader.specs.EntryLaws.{AreBeside}
+use Rattle.wild_meaning.specs.Linked.{IsBehind}
+use Rattle.wild_loaded.specs.Stored.{CarriesByte}
+use Rattle.wild_filled.proofs.SortedTables.{IsOutside}
+
+-- ---- homes
+
+-- where a run of bytes stands in memory and in the file
+pub record Home : Type 0 where
+  pub address : ℕ
+  pub offset : ℕ
+  pub size : ℕ
+
+-- each of its bytes is carried
+abbrev pub HasHome : Layout → Home → Type 0
+HasHome l h = (k : ℕ) → k < h.size → (g : Segment) × CarriesByte l g (h.offset + k) (h.address + k)
+
+-- the runs share no byte of the file
+abbrev pub HomesApart : Home → Home → Type 0
+HomesApart h i = (h.offset + h.size ≤ i.offset) ⊎ (i.offset + i.size ≤ h.offset)
+
+pub homes_back : (h i : Home) → HomesApart h i → HomesApart i h
+homes_back h i (inl le) = inr le
+homes_back h i (inr le) = inl le
+
+-- the eight bytes at a place lie in the run
+pub record LiesIn (h : Home) (a : ℕ) : Type 0 where
+  pub from : h.address ≤ a
+  pub to : a + 8 ≤ h.address + h.size
+
+-- ---- segments
+
+within_any : (xs : List Segment) (k : ℕ) (d e : Segment) → k < length xs → get_or xs k d ≡ get_or xs k e
+within_any [] k d e h = absurd (omega arith)
+within_any (x ∷ xs) zero d e h = refl
+within_any (x ∷ xs) (suc k) d e h = within_any xs k d e (omega arith)
+
+-- an address lies in one loaded segment at most
+one_loaded : (l : Layout) (g h : Segment) (a : ℕ) → IsLaidOut l → Contains l.segments g → Contains l.segments h → g.kind ≡ pt_load → h.kind ≡ pt_load → g.address ≤ a → a < g.address + g.mem_size → h.address ≤ a → a < h.address + h.mem_size → g ≡ h
+one_loaded l g h a laid cg ch kg kh fg tg fh th =
+    elim (cases_lt cg.0 ch.0) [
+      | inl lt ↦ absurd (let e = ascending g h cg.0 ch.0 cg.2 ch.2 lt ch.1 kg kh in omega (arith, e, tg, fh))
+      | inr ge ↦ elim (cases_lt ch.0 cg.0) [
+        | inl lt ↦ absurd (let e = ascending h g ch.0 cg.0 ch.2 cg.2 lt cg.1 kh kg in omega (arith, e, th, fg))
+        | inr le ↦ sym cg.2 ∙ within_any l.segments cg.0 g h cg.1 ∙ ap (λ (k : ℕ). get_or l.segments k h) (omega (arith, ge, le)) ∙ ch.2
+      ]
+    ]
+  where
+    ascending : (g h : Segment) (i j : ℕ) → get_or l.segments i g ≡ g → get_or l.segments j h ≡ h → i < j → j < length l.segments → g.kind ≡ pt_load → h.kind ≡ pt_load → g.address + g.mem_size ≤ h.address
+    ascending g h i j eg eh lt within kg kh =
+        let a = laid.loadable.ascend i j g lt within in
+        let eh' : get_or l.segments j g ≡ h = within_any l.segments j g h within ∙ eh in
+        subst (λ (x : Segment). Ascends x h) eg (subst (λ (y : Segment). Ascends (get_or l.segments i g) y) eh' a) kg kh
+
+-- the memory of a loaded segment has its file bytes
+file_loaded : (l : Layout) (g : Segment) (a : ℕ) → IsLaidOut l → Contains l.segments g → g.kind ≡ pt_load → a < g.address + g.file_size → a < g.address + g.mem_size
+file_loaded l g a laid c k lt = let sizes = (All-contains (SegmentLoads (image_size l)) l.segments g laid.loadable.each c).sizes k in omega (arith, sizes, lt)
+
+-- a byte in memory is one of the file
+one_offset : (l : Layout) (g h : Segment) (o p a : ℕ) → IsLaidOut l → CarriesByte l g o a → CarriesByte l h p a → o ≡ p
+one_offset l g h o p a laid x y =
+    let same = one_loaded l g h a laid x.listed y.listed x.loaded y.loaded x.from (file_loaded l g a laid x.listed x.loaded x.to) y.from (file_loaded l h a laid y.listed y.loaded y.to) in
+    x.distance ∙ ap (λ (s : Segment). s.offset + (a - s.address)) same ∙ sym y.distance
+
+-- bytes of two runs have different addresses
+pub addresses_differ : (l : Layout) (h i : Home) (k j : ℕ) → IsLaidOut l → HasHome l h → HasHome l i → HomesApart h i → k < h.size → j < i.size → h.address + k ≡ i.address + j → ⊥
+addresses_differ l h i k j laid a b apart below under e =
+    let g = a k below in
+    let f = b j under in
+    let there = subst (λ (x : ℕ). CarriesByte l f.0 (i.offset + j) x) (sym e) f.1 in
+    no_byte apart (one_offset l g.0 f.0 (h.offset + k) (i.offset + j) (h.address + k) laid g.1 there)
+  where
+    no_byte : HomesApart h i → h.offset + k ≡ i.offset + j → ⊥
+    no_byte (inl le) e = omega (arith, below, under, e, le)
+    no_byte (inr le) e = omega (arith, below, under, e, le)
+
+-- ---- places
+
+-- the places of two runs lie beside each other
+pub beside_across : (l : Layout) (h i : Home) (a b : ℕ) → IsLaidOut l → HasHome l h → HasHome l i → HomesApart h i → LiesIn h a → LiesIn i b → AreBeside a b
+beside_across l h i a b laid sh si apart la lb =
+    let af = la.from in
+    let ae = la.to in
+    let bf = lb.from in
+    let be = lb.to in
+    elim (cases_lt b (a + 8)) [
+      | inr ge ↦ inl ge
+      | inl lt ↦ elim (cases_lt a (b + 8)) [
+        | inr ge ↦ inr ge
+        | inl gt ↦ elim (cases_lt a b) [
+          | inl up ↦ absurd (addresses_differ l h i (b - h.address) (b - i.address) laid sh si apart (omega (arith, af, ae, lt, up)) (omega (arith, bf, be)) (omega (arith, af, bf, up)))
+          | inr down ↦ absurd (addresses_differ l h i (a - h.address) (a - i.address) laid sh si apart (omega (arith, af, ae)) (omega (arith, bf, be, gt, down)) (omega (arith, af, bf, down)))
+        ]
+      ]
+    ]
+
+-- a byte of one run and a place of the other
+pub outside_across : (l : Layout) (h i : Home) (k b : ℕ) → IsLaidOut l → HasHome l h → HasHome l i → HomesApart h i → k < h.size → LiesIn i b → IsOutside (h.address + k) b
+outside_across l h i k b laid sh si apart below lb =
+    let bf = lb.from in
+    let be = lb.to in
+    elim (cases_lt (h.address + k) b) [
+      | inl lt ↦ inl lt
+      | inr ge ↦ elim (cases_lt (h.address + k) (b + 8)) [
+        | inr le ↦ inr le
+        | inl lt ↦ absurd (addresses_differ l h i k (h.address + k - i.address) laid sh si apart below (omega (arith, bf, be, ge, lt)) (omega (arith, bf, ge)))
+      ]
+    ]
+
+-- an address behind the file bytes of a segment is outside the places of a run
+pub behind_outside : (l : Layout) (h : Home) (x a : ℕ) → IsLaidOut l → HasHome l h → LiesIn h a → IsBehind l x → IsOutside x a
+behind_outside l h x a laid there lies b =
+    let from = lies.from in
+    let to = lies.to in
+    elim (cases_lt x a) [
+      | inl lt ↦ inl lt
+      | inr ge ↦ elim (cases_lt x (a + 8)) [
+        | inr le ↦ inr le
+        | inl lt ↦ absurd (shared (there (x - h.address) (omega (arith, from, to, ge, lt))) (omega (arith, from, ge)))
+      ]
+    ]
+  where
+    shared : (g : Segment) × CarriesByte l g (h.offset + (x - h.address)) (h.address + (x - h.address)) → h.address + (x - h.address) ≡ x → ⊥
+    shared g e =
+        let c = subst (λ (y : ℕ). CarriesByte l g.0 (h.offset + (x - h.address)) y) e g.1 in
+        let behind = b.from in
+        let same = one_loaded l g.0 b.segment x laid c.listed b.listed c.loaded b.loads c.from (file_loaded l g.0 x laid c.listed c.loaded c.to) (omega (arith, behind)) b.to in
+        let there = subst (λ (s : Segment). x < s.address + s.file_size) same c.to in
+        omega (arith, there, behind)

@@ -1,0 +1,60 @@
+-- Parts and slots in the memory of an image before any entry is applied.
+--   CarriesByte l g o a   a loaded segment carries the byte at an offset of the file to an address
+--   IsPartStored l w r p  memory has the table of a role where its part is
+--   IsWordStored l w a d  memory has a word of a slot as the file has it
+--   IsStubStored l w ..   memory has a stub
+--   IsAnswered w e        the entry is one of a resolver, which answers
+use Rattle.std.specs.Prelude.{◌≡◌, ℕ, ◌+◌, ◌-◌, ◌^◌, ◌<◌, ◌≤◌, Some, Ok, Contains}
+use Rattle.wild_words.specs.Words.{word}
+use Rattle.wild_records.specs.Abi.Segment.{pt_load}
+use Rattle.wild_records.specs.declared.relocations.Rela.{Rela}
+use Rattle.wild_plan.specs.declared.part.Part.{Part}
+use Rattle.wild_plan.specs.declared.part.Role.{Role}
+use Rattle.wild_plan.specs.declared.part.Role.TheVariants as role
+use Rattle.wild_plan.specs.declared.section.Segment.{Segment}
+use Rattle.wild_plan.specs.declared.slot.SlotWord.{SlotWord}
+use Rattle.wild_plan.specs.declared.layout.Layout.{Layout}
+use Rattle.wild_plan.specs.SlotParts.{word_of}
+use Rattle.wild_plan.specs.Stub.{stub_x86_64}
+use Rattle.wild_layout.specs.Geometry.{table_bytes}
+use Rattle.wild_loader.specs.declared.kind.DynamicKind.TheVariants as kinds
+use Rattle.wild_loader.specs.declared.memory.Machine.TheVariants as machines
+use Rattle.wild_loader.specs.declared.world.World.{World}
+use Rattle.wild_loader.specs.Changes.{kind_of, plus, answer_at}
+use Rattle.wild_loader.specs.Memory.{Holds}
+use Rattle.wild_slots.specs.Stand.{part_of_word, role_of_words, StandsAt}
+use Rattle.wild_loaded.specs.Memory.{image_memory}
+
+-- the segment carries the byte at that offset of the file to that address
+pub record CarriesByte (l : Layout) (g : Segment) (offset address : ℕ) : Type 0 where
+  pub listed : Contains l.segments g
+  pub loaded : g.kind ≡ pt_load
+  pub from : g.address ≤ address
+  pub to : address < g.address + g.file_size
+  pub distance : offset ≡ g.offset + (address - g.address)
+
+-- memory has the bytes of the table at the part's addresses, which do not wrap
+pub record IsPartStored (l : Layout) (w : World) (r : Role) (p : Part) : Type 0 where
+  pub ends : 1 ≤ p.size → w.base + p.address + p.size ≤ 2 ^ 64
+  pub held : Holds (image_memory l w) (w.base + p.address) (table_bytes l r)
+
+-- memory has a word of a slot as the file has it, in the table of the word
+pub record IsWordStored (l : Layout) (w : World) (at : ℕ) (d : SlotWord) : Type 0 where
+  pub value : ℕ
+  pub is : word_of (part_of_word d) l.options.relr at d ≡ Some value
+  pub fits : value < 2 ^ 64
+  pub stands : StandsAt l (role_of_words (part_of_word d)) at (word 8 value)
+  pub ends : w.base + at + 8 ≤ 2 ^ 64
+  pub held : Holds (image_memory l w) (w.base + at) (word 8 value)
+
+-- memory has the stub, which stands in its table
+pub record IsStubStored (l : Layout) (w : World) (at stub : ℕ) : Type 0 where
+  pub stands : StandsAt l role.PltGot stub (stub_x86_64 at stub).bytes
+  pub held : Holds (image_memory l w) (w.base + stub) (stub_x86_64 at stub).bytes
+
+-- a loader asks a resolver what to store, which answers with an address
+pub record IsAnswered (w : World) (e : Rela) : Type 0 where
+  pub kind : kind_of machines.X86_64 e.number ≡ Some kinds.Resolved
+  pub answer : ℕ
+  pub fits : answer < 2 ^ 64
+  pub given : answer_at w (plus w.base e) ≡ Ok answer
