@@ -26,7 +26,7 @@ use Rattle.wild_loader.specs.declared.world.World.{World}
 use Rattle.wild_loader.specs.Changes.{kind_of, plus, answer_at}
 use Rattle.wild_loader.specs.Laws.{NumbersAreRead}
 use Rattle.wild_loader.specs.EntryLaws.{RelativesStoreWords, ResolvedStoreWords, AreBeside}
-use Rattle.wild_loader.proofs.FilledLemmas.{beside-order}
+use Rattle.wild_filled.proofs.BesideLemmas.{beside-order}
 use Rattle.wild_tables.specs.Laws.{PlacesAreLoaded}
 use Rattle.wild_meaning.specs.World.{IsLoadable, IsLegal}
 use Rattle.wild_slots.specs.Order.{end_of, written_symbols}

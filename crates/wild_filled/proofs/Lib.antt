@@ -1,3 +1,4 @@
+mod BesideLemmas
 pub mod PairLemmas
 pub mod SortedTables
 pub mod Homes

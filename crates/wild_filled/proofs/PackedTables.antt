@@ -29,7 +29,7 @@ use Rattle.wild_layout.specs.Moved.{file_words}
 use Rattle.wild_layout.specs.SlotBytes.{flat_places_of}
 use Rattle.wild_loader.specs.Places.{places}
 use Rattle.wild_loader.specs.EntryLaws.{AreBeside}
-use Rattle.wild_loader.proofs.FilledLemmas.{beside-order}
+use Rattle.wild_filled.proofs.BesideLemmas.{beside-order}
 use Rattle.wild_tables.specs.Laws.{PlacesAreLoaded}
 use Rattle.wild_slots.specs.Order.{HasSlotsInOrder}
 use Rattle.wild_slots.specs.Blocks.{IsWhole, BlocksAreWhole}

@@ -104,11 +104,11 @@ listed_sorted l =
     let a : File → List ℕ = λ f. map offset_of (file_entries l f) in
     let b : File → List ℕ = λ f. map offset_of (slot_entries_of entries.Relative l f) in
     let whole : map offset_of (tables_of l).entries ≡ flat_map (λ (g : Group). flat_map (λ (f : File). a f ++ b f) g.files) l.groups =
-        table_offsets l (relatives l)
-        ∙ flat_map-same (λ (g : Group). flat_map (λ (f : File). map offset_of (relatives l f)) g.files) (λ (g : Group). flat_map (λ (f : File). a f ++ b f) g.files) l.groups (λ g. flat_map-same (λ (f : File). map offset_of (relatives l f)) (λ (f : File). a f ++ b f) g.files (λ f. map-append offset_of (file_entries l f) (slot_entries_of entries.Relative l f))) in
+    table_offsets l (relatives l)
+    ∙ flat_map-same (λ (g : Group). flat_map (λ (f : File). map offset_of (relatives l f)) g.files) (λ (g : Group). flat_map (λ (f : File). a f ++ b f) g.files) l.groups (λ g. flat_map-same (λ (f : File). map offset_of (relatives l f)) (λ (f : File). a f ++ b f) g.files (λ f. map-append offset_of (file_entries l f) (slot_entries_of entries.Relative l f))) in
     let parts = nested-parts (λ (g : Group). g.files) a b l.groups in
     let slots : flat_map (λ (g : Group). flat_map b g.files) l.groups ≡ places_of (entry_place l.options.relr) l =
-        all_by_sites (of_site (entry_place l.options.relr)) b l (λ f. ap (λ (es : List Rela). map offset_of es) (entries_by_sites entries.Relative l f) ∙ relative_offsets l.machine l.options.relr (file_sites l f)) in
+    all_by_sites (of_site (entry_place l.options.relr)) b l (λ f. ap (λ (es : List Rela). map offset_of es) (entries_by_sites entries.Relative l f) ∙ relative_offsets l.machine l.options.relr (file_sites l f)) in
     let both : flat_map (λ (g : Group). flat_map a g.files) l.groups ++ flat_map (λ (g : Group). flat_map b g.files) l.groups ≡ (sorted_places l).listed = ap (λ (xs : List ℕ). xs ++ flat_map (λ (g : Group). flat_map b g.files) l.groups) (files_offsets l) ∙ ap (λ (xs : List ℕ). listed_sections l ++ xs) slots in
     IsPermutation-sym (map offset_of (tables_of l).entries) (sorted_places l).listed
     (subst (λ (xs : List ℕ). IsPermutation xs (sorted_places l).listed) (sym whole) (subst (λ (xs : List ℕ). IsPermutation (flat_map (λ (g : Group). flat_map (λ (f : File). a f ++ b f) g.files) l.groups) xs) both parts))
@@ -116,6 +116,6 @@ listed_sorted l =
 pub jumped_sorted : (l : Layout) → IsPermutation (sorted_places l).jumped (map offset_of (tables_of l).jumps)
 jumped_sorted l =
     let same : map offset_of (tables_of l).jumps ≡ places_of plt_place l =
-        table_offsets l (slot_entries_of entries.Plt l)
-        ∙ all_by_sites (of_site plt_place) (λ (f : File). map offset_of (slot_entries_of entries.Plt l f)) l (λ f. ap (λ (es : List Rela). map offset_of es) (entries_by_sites entries.Plt l f) ∙ plt_offsets l.machine l.options.relr (file_sites l f)) in
+    table_offsets l (slot_entries_of entries.Plt l)
+    ∙ all_by_sites (of_site plt_place) (λ (f : File). map offset_of (slot_entries_of entries.Plt l f)) l (λ f. ap (λ (es : List Rela). map offset_of es) (entries_by_sites entries.Plt l f) ∙ plt_offsets l.machine l.options.relr (file_sites l f)) in
     subst (λ (xs : List ℕ). IsPermutation (places_of plt_place l) xs) (sym same) (IsPermutation-refl (places_of plt_place l))

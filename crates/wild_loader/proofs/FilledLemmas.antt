@@ -93,7 +93,7 @@ words-beside a b h =
     by_sides a b n e (inl h) (inr k) = absurd (omega (arith, e, h, k))
 
 -- whether places are beside each other does not go by their order
-pub beside-order : (xs ys : List ℕ) → IsPermutation xs ys → AllPairs AreBeside xs → AllPairs AreBeside ys
+beside-order : (xs ys : List ℕ) → IsPermutation xs ys → AllPairs AreBeside xs → AllPairs AreBeside ys
 beside-order xs ys moved h = back ys (order-free (map word_run xs) (map word_run ys) (IsPermutation-map word_run xs ys moved) (there xs h))
   where
     there : (xs : List ℕ) → AllPairs AreBeside xs → AllPairs IsApart (map word_run xs)
