@@ -19,11 +19,13 @@ use Rattle.wild_plan.specs.declared.file.File.{File}
 use Rattle.wild_plan.specs.declared.file.Group.{Group}
 use Rattle.wild_plan.specs.declared.layout.Layout.{Layout}
 use Rattle.wild_plan.specs.Contents.{bool_eq, file_placed, later_placed, files_placed, file_misplaced}
-use Rattle.wild_plan.specs.Dynamic.{empty_string, dynamic_strings, epilogue_strings, epilogue_string_bytes, dynamic_count}
+use Rattle.wild_plan.specs.Dynamic.{dynamic_count}
+use Rattle.wild_plan.specs.DynamicStrings.{dynamic_strings, epilogue_strings, epilogue_string_bytes}
 use Rattle.wild_plan.specs.Entries.{has_moved, listed_place, listed_places, words_of, entry_count}
 use Rattle.wild_plan.specs.Kinds.{needs_dynsym}
 use Rattle.wild_plan.specs.Lists.{total}
-use Rattle.wild_plan.specs.Needs.{is_prelude, is_epilogue, whole_of, last_of, own_of, first_share, share, group_share}
+use Rattle.wild_plan.specs.Needs.{whole_of, last_of, own_of, first_share, share, group_share}
+use Rattle.wild_plan.specs.FileRoles.{is_prelude, is_epilogue}
 use Rattle.wild_plan.specs.Places.{role_place}
 use Rattle.wild_layout.specs.Content.{whole_bytes, own_bytes, dynamic_room, file_content, content}
 use Rattle.wild_tables.specs.Tables.{relative_entry}

@@ -16,7 +16,8 @@ use Rattle.wild_plan.specs.Contents.{given, has_share_for_each_part}
 use Rattle.wild_plan.specs.Counts.{total_share, role_given}
 use Rattle.wild_plan.specs.Lists.{total}
 use Rattle.wild_plan.specs.Dynamic.{dynamic_count}
-use Rattle.wild_plan.specs.Needs.{is_epilogue, last_of, group_share}
+use Rattle.wild_plan.specs.Needs.{last_of, group_share}
+use Rattle.wild_plan.specs.FileRoles.{is_epilogue}
 use Rattle.wild_plan.specs.Shares.{part_of_role, part_of, given_by}
 use Rattle.wild_records.specs.Dynamic.{dynamic_entry_size}
 use Rattle.wild_tables.specs.Dynamic.{dynamic_bytes}

@@ -23,7 +23,8 @@ use Rattle.wild_plan.specs.declared.file.Group.{Group}
 use Rattle.wild_plan.specs.declared.layout.Layout.{Layout}
 use Rattle.wild_plan.specs.Kinds.{needs_dynamic}
 use Rattle.wild_plan.specs.Entries.{place_of, packs, is_moved, has_moved, packed_place, packed_places, words_of}
-use Rattle.wild_plan.specs.Dynamic.{NamedString, named, named_strings, texts_of, path_number, auxiliary_string, option_strings, epilogue_strings, dynamic_count}
+use Rattle.wild_plan.specs.Dynamic.{dynamic_count}
+use Rattle.wild_plan.specs.DynamicStrings.{NamedString, named, named_strings, texts_of, path_number, auxiliary_string, option_strings, epilogue_strings}
 use Rattle.wild_tables.specs.Entries.{rela_bytes}
 use Rattle.wild_tables.specs.Dynamic.{dynamic_bytes}
 use Rattle.wild_layout.specs.Moved.{listed_entry, section_entries}

@@ -15,7 +15,8 @@ use Rattle.wild_plan.specs.Contents.{given}
 use Rattle.wild_plan.specs.Kinds.{is_position_independent}
 use Rattle.wild_plan.specs.Lists.{total}
 use Rattle.wild_plan.specs.Places.{role_place}
-use Rattle.wild_plan.specs.Needs.{is_prelude, is_epilogue, has_plain_role, is_plain, last_of, share, group_share, needs_of, needs}
+use Rattle.wild_plan.specs.Needs.{has_plain_role, is_plain, last_of, share, group_share, needs_of, needs}
+use Rattle.wild_plan.specs.FileRoles.{is_prelude, is_epilogue}
 use Rattle.wild_plan.specs.SlotPlaces.{is_without}
 use Rattle.wild_plan.specs.SlotShares.{own_symbols, block_share}
 use Rattle.wild_tables.specs.Dynamic.{dynamic_bytes}

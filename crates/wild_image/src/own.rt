@@ -1,7 +1,7 @@
 //! What a file gives to the parts that a loader reads.
 ghost use Rattle.std.specs.Prelude.{◌≡◌, ◌++◌, [], option_to_list, OnOk};
 ghost use Rattle.std.specs.List.{flat_map};
-ghost use Rattle.wild_plan.specs.Dynamic.{epilogue_strings};
+ghost use Rattle.wild_plan.specs.DynamicStrings.{epilogue_strings};
 ghost use Rattle.wild_tables.specs.Dynamic.{dynamic_bytes};
 ghost use Rattle.wild_layout.specs.Content.{first_bytes, last_bytes, dynamic_room, own_bytes};
 ghost use Rattle.wild_image.specs.Own.{zero_ended};

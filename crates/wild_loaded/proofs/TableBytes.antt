@@ -15,7 +15,7 @@ use Rattle.wild_plan.specs.declared.file.Group.{Group}
 use Rattle.wild_plan.specs.declared.layout.Layout.{Layout}
 use Rattle.wild_plan.specs.Dynamic as dynamic
 use Rattle.wild_plan.specs.Kinds.{needs_dynamic}
-use Rattle.wild_plan.specs.Needs.{is_prelude}
+use Rattle.wild_plan.specs.FileRoles.{is_prelude}
 use Rattle.wild_plan.specs.Lookups.{image_size}
 use Rattle.wild_plan.specs.Places.{role_place}
 use Rattle.wild_plan.specs.Segments.{part_with, is_table_role}

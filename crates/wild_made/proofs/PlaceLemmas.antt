@@ -12,9 +12,11 @@ use Rattle.wild_plan.specs.Lookups.{bit, image_size}
 use Rattle.wild_plan.specs.declared.part.Role.{Role}
 use Rattle.wild_plan.specs.declared.part.Role.TheVariants as role
 use Rattle.wild_plan.specs.Counts.{total_share, role_given}
-use Rattle.wild_plan.specs.Dynamic.{named_strings, dynamic_entries, string_entries, tag_entries}
+use Rattle.wild_plan.specs.Dynamic.{dynamic_entries, tag_entries}
+use Rattle.wild_plan.specs.DynamicStrings.{named_strings, string_entries}
 use Rattle.wild_plan.specs.Entries.{listed_places, packed_places}
-use Rattle.wild_plan.specs.Needs.{is_prelude, first_share, own_of, share, group_share}
+use Rattle.wild_plan.specs.Needs.{first_share, own_of, share, group_share}
+use Rattle.wild_plan.specs.FileRoles.{is_prelude}
 use Rattle.wild_plan.specs.SlotShares.{slot_share}
 use Rattle.wild_relr.specs.Packed.{packed, packed_on}
 use Rattle.wild_plan.specs.Places.{group_fits, relocations_of, relocations_in, relocation_count, roles}

@@ -3,11 +3,12 @@
 --   IsSum l w m r x          x is S + A
 --   table_at l w             GOT
 --   IsOffset l w symbol t    t is S's offset from the thread pointer
---   IsExtent l symbol z      z is Z
+--   IsExtent l w symbol z    z is Z
 --   IsGoal l w m symbol a    a is L: code that goes there comes to S
 --   HasOffsetMode l item     a descriptor's reference in the item is the offset itself
 --   Gives value l w m item r x   x is the value of the expression
 --   IsPlaceRelative value    the expression takes a place from an address
+--   GivesLinked value ..     the same with the output's own S, whatever another module has for it
 use Rattle.std.specs.Prelude.{◌≡◌, ℕ, ◌+◌, ◌-◌, ◌%◌, ◌^◌, true, ⊤, Option, Some, None}
 use Rattle.std.specs.Int.{w64, cast_unsigned}
 use Rattle.wild_records.specs.Abi.Section.{shf_execinstr}
@@ -19,8 +20,8 @@ use Rattle.wild_plan.specs.declared.layout.Layout.{Layout}
 use Rattle.wild_loader.specs.declared.memory.Memory.{Memory}
 use Rattle.wild_loader.specs.declared.world.World.{World}
 use Rattle.wild_meaning.specs.Section.{IsSet}
-use Rattle.wild_meaning.specs.Value.{HasValue, Denotes, Reaches, HasSize}
-use Rattle.wild_meaning.specs.Thread.{HasThreadOffset, IsOffsetBase}
+use Rattle.wild_meaning.specs.Value.{HasValue, HasOwnValue, Denotes, Reaches, HasSize}
+use Rattle.wild_meaning.specs.Thread.{HasThreadOffset, HasOwnOffset, IsOffsetBase}
 use Rattle.wild_meaning.specs.Slot.{IsSlot}
 use Rattle.wild_meaning.specs.Item.{Item, place_at}
 
@@ -50,9 +51,9 @@ IsOffset l w None t = ⊥
 IsOffset l w (Some i) t = HasThreadOffset l w i t
 
 -- z is Z, the symbol's size; without a symbol there is none
-abbrev pub IsExtent : Layout → Option ℕ → ℕ → Type 0
-IsExtent l None z = ⊥
-IsExtent l (Some i) z = HasSize l i z
+abbrev pub IsExtent : Layout → World → Option ℕ → ℕ → Type 0
+IsExtent l w None z = ⊥
+IsExtent l w (Some i) z = HasSize l w i z
 
 -- a program whose descriptors' references in code are offsets: one without a loader that fills descriptors, or one that is
 -- rewritten so
@@ -81,7 +82,7 @@ Gives SlotFromTable l w m item r x = (g : ℕ) × IsSlot AddressSlot l w m r.sym
 Gives TableDistance l w m item r x = x ≡ (table_at l w + cast_unsigned w64 r.addend + (2 ^ 64 - place_at w item r.offset)) % 2 ^ 64
 Gives PointerOffset l w m item r x = (t : ℕ) × IsOffset l w r.symbol t × (x ≡ (t + cast_unsigned w64 r.addend) % 2 ^ 64)
 Gives ModuleOffset l w m item r x = (t b : ℕ) × IsOffset l w r.symbol t × IsOffsetBase l.machine l.kind w b × (x ≡ (t + cast_unsigned w64 r.addend + (2 ^ 64 - b)) % 2 ^ 64)
-Gives Size l w m item r x = (z : ℕ) × IsExtent l r.symbol z × (x ≡ (z + cast_unsigned w64 r.addend) % 2 ^ 64)
+Gives Size l w m item r x = (z : ℕ) × IsExtent l w r.symbol z × (x ≡ (z + cast_unsigned w64 r.addend) % 2 ^ 64)
 Gives other l w m item r x = ⊥
 
 -- the expression takes P, Page(P) or GOT from S or L, also where it gives no value yet; GOT + A - P does not, since both
@@ -93,3 +94,44 @@ IsPlaceRelative FromTable = ⊤
 IsPlaceRelative StubDistance = ⊤
 IsPlaceRelative StubFromTable = ⊤
 IsPlaceRelative other = ⊥
+
+-- ---- a symbol as the output itself has it
+
+-- a is the value of the output's own symbol; without one there is none
+abbrev pub IsOwnTarget : Layout → World → Option ℕ → ℕ → Type 0
+IsOwnTarget l w None a = ⊥
+IsOwnTarget l w (Some i) a = HasOwnValue l w i a
+
+-- x is S + A
+pub record IsOwnSum (l : Layout) (w : World) (r : InputRelocation) (x : ℕ) : Type 0 where
+  pub symbol : ℕ
+  pub denoted : IsOwnTarget l w r.symbol symbol
+  pub sum : x ≡ (symbol + cast_unsigned w64 r.addend) % 2 ^ 64
+
+-- t is the own symbol's offset from the thread pointer
+abbrev pub IsOwnOffset : Layout → World → Option ℕ → ℕ → Type 0
+IsOwnOffset l w None t = ⊥
+IsOwnOffset l w (Some i) t = HasOwnOffset l w i t
+
+-- x is the value of the expression where S is the output's own: the expressions that take S, or its offset
+abbrev pub GivesLinked : Value → Layout → World → Item → InputRelocation → ℕ → Type 0
+GivesLinked SymbolAddress l w item r x = IsOwnSum l w r x
+GivesLinked Distance l w item r x = (t : ℕ) × IsOwnSum l w r t × (x ≡ (t + (2 ^ 64 - place_at w item r.offset)) % 2 ^ 64)
+GivesLinked FromTable l w item r x = (t : ℕ) × IsOwnSum l w r t × (x ≡ (t + (2 ^ 64 - table_at l w)) % 2 ^ 64)
+GivesLinked PointerOffset l w item r x = (t : ℕ) × IsOwnOffset l w r.symbol t × (x ≡ (t + cast_unsigned w64 r.addend) % 2 ^ 64)
+GivesLinked ModuleOffset l w item r x = (t b : ℕ) × IsOwnOffset l w r.symbol t × IsOffsetBase l.machine l.kind w b × (x ≡ (t + cast_unsigned w64 r.addend + (2 ^ 64 - b)) % 2 ^ 64)
+GivesLinked other l w item r x = ⊥
+
+-- the expression has the symbol's address, of itself or on a page
+abbrev pub TakesAddress : Value → Type 0
+TakesAddress SymbolAddress = ⊤
+TakesAddress Distance = ⊤
+TakesAddress PageDistance = ⊤
+TakesAddress FromTable = ⊤
+TakesAddress other = ⊥
+
+-- the expression has the symbol's offset from the thread pointer
+abbrev pub TakesOffset : Value → Type 0
+TakesOffset PointerOffset = ⊤
+TakesOffset ModuleOffset = ⊤
+TakesOffset other = ⊥

@@ -3,9 +3,10 @@
 --   thread_pointer l          the address that the thread pointer has where the initial data stand for a thread's own
 --   IsOwnDistance l d         d is the signed distance of the output's own data from the thread pointer
 --   HasDistance w d           d is the distance of the image's own module in the world, modulo 2^64
---   HasThreadOffset l w i t   t is symbol i's offset from the thread pointer
+--   HasOwnOffset l w i t      t is the offset from the thread pointer of the output's own symbol i
+--   HasThreadOffset l w i t   t is symbol i's offset there, whichever module has it
 --   IsOffsetBase ..           offsets in the own module count from b
-use Rattle.std.specs.Prelude.{◌≡◌, ℕ, ℤ, ◌+◌, ◌-◌, ◌%◌, ◌^◌, ◌⊎◌, Ok}
+use Rattle.std.specs.Prelude.{◌≡◌, ℕ, ℤ, ◌+◌, ◌-◌, ◌%◌, ◌^◌, ◌⊎◌, true, false, Ok}
 use Rattle.std.specs.Int.{w64, cast_unsigned}
 use Rattle.std.specs.Int.RustNames.{FitsSigned}
 use Rattle.wild_plan.specs.declared.kind.Machine.{Machine}
@@ -15,8 +16,9 @@ use Rattle.wild_plan.specs.declared.kind.OutputKind.TheVariants as output
 use Rattle.wild_plan.specs.declared.layout.Tls.{Tls}
 use Rattle.wild_plan.specs.declared.layout.Layout.{Layout}
 use Rattle.wild_loader.specs.declared.world.World.{World}
+use Rattle.wild_loader.specs.declared.world.Answer.{Answer}
 use Rattle.wild_loader.specs.Changes.{distance_of}
-use Rattle.wild_meaning.specs.Value.{HasRaw, IsUndefined}
+use Rattle.wild_meaning.specs.Value.{HasRaw, IsUndefined, IsReplaceable, HasAnswer}
 
 -- the least multiple of an alignment that is not below n; 0 is no alignment (gABI, "Program Header", p_align)
 abbrev pub rounded_up : ℕ → ℕ → ℕ
@@ -44,7 +46,7 @@ abbrev pub HasDistance : World → ℕ → Type 0
 HasDistance w d = distance_of w w.own_module ≡ Ok d
 
 -- t is the own module's distance and symbol i's place in the initial data; the address of a thread-local symbol does not
--- move with the base (no symbol is another module's yet)
+-- move with the base
 pub record IsThreadPlace (l : Layout) (w : World) (i t : ℕ) : Type 0 where
   pub raw : ℕ
   pub given : HasRaw l i raw
@@ -52,9 +54,21 @@ pub record IsThreadPlace (l : Layout) (w : World) (i t : ℕ) : Type 0 where
   pub own : HasDistance w distance
   pub sum : t ≡ (distance + raw + (2 ^ 64 - l.tls.start)) % 2 ^ 64
 
--- t is symbol i's offset from the thread pointer; for one that nothing defines, or at address 0, also 0
+-- t is the offset from the thread pointer of the output's own symbol i; for one that nothing defines, or at address 0, also 0
+abbrev pub HasOwnOffset : Layout → World → ℕ → ℕ → Type 0
+HasOwnOffset l w i t = IsThreadPlace l w i t ⊎ ((IsUndefined l i ⊎ HasRaw l i 0) × (t ≡ 0))
+
+-- t is the distance of the module that the world answers for symbol i, and the symbol's place there
+pub record IsAnsweredPlace (l : Layout) (w : World) (i t : ℕ) : Type 0 where
+  pub answer : Answer
+  pub given : HasAnswer l w i answer
+  pub distance : ℕ
+  pub known : distance_of w answer.module ≡ Ok distance
+  pub sum : t ≡ (distance + answer.offset) % 2 ^ 64
+
+-- t is symbol i's offset from the thread pointer: as the world answers, or the output's own
 abbrev pub HasThreadOffset : Layout → World → ℕ → ℕ → Type 0
-HasThreadOffset l w i t = IsThreadPlace l w i t ⊎ ((IsUndefined l i ⊎ HasRaw l i 0) × (t ≡ 0))
+HasThreadOffset l w i t = (IsReplaceable l i true × IsAnsweredPlace l w i t) ⊎ (IsReplaceable l i false × HasOwnOffset l w i t)
 
 -- offsets in the own module count from b: from its data, but in an x86-64 executable, whose code has the thread pointer
 -- for their beginning, from there ("Linker Relaxations", from Local Dynamic to Local Exec)

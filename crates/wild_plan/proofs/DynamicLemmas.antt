@@ -10,7 +10,8 @@ use Rattle.wild_plan.specs.declared.dynamic.DynamicTag.{DynamicTag}
 use Rattle.wild_plan.specs.declared.options.Options.{Options}
 use Rattle.wild_plan.specs.declared.layout.Layout.{Layout}
 use Rattle.wild_plan.specs.Kinds.{needs_dynamic}
-use Rattle.wild_plan.specs.Dynamic.{TagFits, all_tags, entry_of, entry_with, NamedString, string_start, behind_text, string_entries, named_strings, tag_entries, dynamic_entries, dynamic_count, named, texts_of, text_room, room_of, auxiliary_string, path_number, option_strings}
+use Rattle.wild_plan.specs.Dynamic.{TagFits, all_tags, entry_of, entry_with, tag_entries, dynamic_entries, dynamic_count}
+use Rattle.wild_plan.specs.DynamicStrings.{NamedString, string_start, behind_text, string_entries, named_strings, named, texts_of, text_room, room_of, auxiliary_string, path_number, option_strings}
 use Rattle.wild_plan.specs.Lists.{total}
 
 total-texts : (xs ys : List NamedString) → total text_room (texts_of (xs ++ ys)) ≡ total text_room (texts_of xs) + total text_room (texts_of ys)

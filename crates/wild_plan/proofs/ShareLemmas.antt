@@ -11,11 +11,13 @@ use Rattle.wild_plan.specs.declared.input.InputSection.{InputSection}
 use Rattle.wild_plan.specs.declared.layout.Layout.{Layout}
 use Rattle.wild_plan.specs.declared.part.Role.{Role}
 use Rattle.wild_plan.specs.declared.part.Role.TheVariants as role
-use Rattle.wild_plan.specs.Dynamic.{empty_string, named_strings, tag_entries, string_entries, dynamic_entries, dynamic_count, epilogue_string_bytes}
+use Rattle.wild_plan.specs.Dynamic.{tag_entries, dynamic_entries, dynamic_count}
+use Rattle.wild_plan.specs.DynamicStrings.{named_strings, string_entries, epilogue_string_bytes}
 use Rattle.wild_plan.specs.Entries.{listed_place, packed_place, moved_of, listed_places, packed_places, words_of, entry_count, word_count}
 use Rattle.wild_plan.specs.Kinds.{is_position_independent, needs_dynamic, needs_dynsym}
 use Rattle.wild_plan.specs.Lists.{total}
-use Rattle.wild_plan.specs.Needs.{is_prelude, is_epilogue, whole_of, own_of, share, group_share, has_plain_role, is_plain}
+use Rattle.wild_plan.specs.Needs.{whole_of, own_of, share, group_share, has_plain_role, is_plain}
+use Rattle.wild_plan.specs.FileRoles.{is_prelude, is_epilogue}
 use Rattle.wild_plan.specs.SlotPlaces.{is_without}
 use Rattle.wild_plan.specs.SlotShares.{own_symbols, is_of_slots, header_share, block_places, group_block, block_share}
 use Rattle.wild_plan.specs.Counts.{total_share}

@@ -7,6 +7,7 @@ use Rattle.std.specs.List.{list_any}
 use Rattle.wild_plan.specs.declared.layout.Layout.{Layout}
 use Rattle.wild_plan.specs.declared.part.Role.{Role}
 use Rattle.wild_plan.specs.declared.part.Role.TheVariants as role
+use Rattle.wild_plan.specs.DynamicSymbols.{dynamic_symbols}
 use Rattle.wild_plan.specs.Lists.{total}
 use Rattle.wild_plan.specs.Needs.{name_bytes, group_share}
 use Rattle.wild_plan.specs.Places.{has_role, relocation_count}
@@ -19,7 +20,7 @@ total_share l r = total (group_share l r) l.groups
 abbrev pub counts_fit : Layout → Bool
 counts_fit l =
     nat_le 1 (length l.sections) && nat_lt (length l.sections) (2 ^ 31) && nat_le (length l.segments) 65534
-    && nat_lt (length l.symbols) (2 ^ 32 - 1) && nat_lt (relocation_count l) (2 ^ 32 - 1)
+    && nat_lt (length l.symbols) (2 ^ 32 - 1) && nat_lt (length (dynamic_symbols l)) (2 ^ 32 - 1) && nat_lt (relocation_count l) (2 ^ 32 - 1)
     && nat_le 1 (length l.groups) && nat_lt (length l.groups) (2 ^ 32 - 1) && nat_lt (name_bytes l) (2 ^ 32)
     && nat_lt (total_share l role.Dynstr) (2 ^ 32)
 

@@ -1,15 +1,11 @@
 -- The entries of the dynamic section that the last file writes (gABI, "Dynamic Section").
 --   dynamic_number tag        the number of an entry
 --   dynamic_entry l tag       its value; none where the entry is left out
---   named_strings l           the strings that entries name, each with the number of its entry
---   dynamic_strings l         these strings alone
---   epilogue_strings l        their bytes in the string table, each with a zero behind it
---   string_start l            how many bytes of the string table stand before them
 --   dynamic_entries l         all these entries, in order
 --   dynamic_count l           how many they are
 use Rattle.std.specs.Prelude.{ℕ, ◌+◌, ◌-◌, ◌/◌, ◌^◌, ◌==◌, Bool, not, ◌&&◌, if◌then◌else◌, min, List, [], ◌∷◌, ◌++◌, length, map, All, find, flat_map, bytes_eq, codes, bit_or, Option, Some, None, option_map}
 use Rattle.std.specs.Option.{option_or}
-use Rattle.wild_records.specs.Abi.Dynamic.{dt_null, dt_pltrelsz, dt_pltgot, dt_pltrel, dt_jmprel, dt_strtab, dt_symtab, dt_rela, dt_relasz, dt_relaent, dt_strsz, dt_syment, dt_init, dt_fini, dt_soname, dt_rpath, dt_debug, dt_textrel, dt_init_array, dt_fini_array, dt_init_arraysz, dt_fini_arraysz, dt_runpath, dt_flags, dt_preinit_array, dt_preinit_arraysz, dt_relrsz, dt_relr, dt_relrent, dt_relacount, dt_flags_1, dt_auxiliary, df_origin, df_textrel, df_bind_now, df_static_tls, df_1_now, df_1_nodelete, df_1_origin, df_1_interpose, df_1_pie}
+use Rattle.wild_records.specs.Abi.Dynamic.{dt_null, dt_pltrelsz, dt_pltgot, dt_pltrel, dt_jmprel, dt_strtab, dt_symtab, dt_rela, dt_relasz, dt_relaent, dt_strsz, dt_syment, dt_init, dt_fini, dt_debug, dt_textrel, dt_init_array, dt_fini_array, dt_init_arraysz, dt_fini_arraysz, dt_flags, dt_preinit_array, dt_preinit_arraysz, dt_relrsz, dt_relr, dt_relrent, dt_relacount, dt_flags_1, df_origin, df_textrel, df_bind_now, df_static_tls, df_1_now, df_1_nodelete, df_1_origin, df_1_interpose, df_1_pie}
 use Rattle.wild_records.specs.Abi.Section.{sht_nobits}
 use Rattle.wild_records.specs.Dynamic.{DynamicEntryFits}
 use Rattle.wild_records.specs.Relocations.{rela_size, relr_size}
@@ -25,7 +21,7 @@ use Rattle.wild_plan.specs.declared.part.Role.TheVariants as role
 use Rattle.wild_plan.specs.declared.section.Section.{Section}
 use Rattle.wild_plan.specs.declared.layout.Layout.{Layout}
 use Rattle.wild_plan.specs.Kinds.{is_executable, is_shared_object, is_position_independent, needs_dynamic}
-use Rattle.wild_plan.specs.Lists.{total}
+use Rattle.wild_plan.specs.DynamicStrings.{named_strings, string_entries, string_start}
 use Rattle.wild_plan.specs.Segments.{part_with}
 
 -- the number of an entry
@@ -176,74 +172,6 @@ entry_with number (Some value) = record { tag = number; value = value } ∷ []
 
 abbrev pub entry_of : Layout → DynamicTag → List DynamicEntry
 entry_of l tag = entry_with (dynamic_number tag) (dynamic_entry l tag)
-
--- ---- strings
-
--- the entry of a search path (gABI, "Dynamic Section": DT_RUNPATH in place of DT_RPATH)
-abbrev pub path_number : Options → ℕ
-path_number o = if o.new_dtags then dt_runpath else dt_rpath
-
--- a string and the number of the entry that names it
-pub record NamedString : Type 0 where
-  pub number : ℕ
-  pub text : List ℕ
-
-abbrev pub named : ℕ → Option (List ℕ) → List NamedString
-named number None = []
-named number (Some text) = record { number = number; text = text } ∷ []
-
-abbrev pub auxiliary_string : List ℕ → NamedString
-auxiliary_string text = record { number = dt_auxiliary; text = text }
-
-abbrev pub auxiliary_strings : List (List ℕ) → List NamedString
-auxiliary_strings texts = map auxiliary_string texts
-
-abbrev pub option_strings : Options → List NamedString
-option_strings o = named (path_number o) o.rpath ++ (named dt_soname o.soname ++ auxiliary_strings o.auxiliary)
-
--- the strings that entries name
-unfoldable pub named_strings : Layout → List NamedString
-named_strings l = if needs_dynamic l.kind then option_strings l.options else []
-
-abbrev pub texts_of : List NamedString → List (List ℕ)
-texts_of ss = map (λ (s : NamedString). s.text) ss
-
--- these strings alone
-abbrev pub dynamic_strings : Layout → List (List ℕ)
-dynamic_strings l = texts_of (named_strings l)
-
--- their bytes, each string with a zero behind it (gABI, "String Table")
-abbrev pub epilogue_strings : Layout → List ℕ
-epilogue_strings l = flat_map (λ text. text ++ 0 ∷ []) (dynamic_strings l)
-
-abbrev pub text_room : List ℕ → ℕ
-text_room text = length text + 1
-
-abbrev pub room_of : Option (List ℕ) → ℕ
-room_of None = 0
-room_of (Some text) = text_room text
-
--- how many bytes that are
-abbrev pub epilogue_string_bytes : Layout → ℕ
-epilogue_string_bytes l = total text_room (dynamic_strings l)
-
--- the string table begins with the empty string (gABI, "String Table"), which is the first file's
-abbrev pub empty_string : List ℕ
-empty_string = 0 ∷ []
-
--- how many bytes of the string table stand before the last file's strings: those of the empty string, as no other file
--- has strings there
-abbrev pub string_start : Layout → ℕ
-string_start l = length empty_string
-
--- the offset behind a string and its zero, at most 2^64 - 1
-abbrev pub behind_text : ℕ → List ℕ → ℕ
-behind_text at text = min (2 ^ 64 - 1) (at + text_room text)
-
--- the entries of strings that stand one behind the other from an offset on, each with a zero
-unfoldable pub string_entries : ℕ → List NamedString → List DynamicEntry
-string_entries at [] = []
-string_entries at (s ∷ ss) = record { tag = s.number; value = at } ∷ string_entries (behind_text at s.text) ss
 
 -- ---- the whole
 

@@ -5,15 +5,18 @@
 --   listed_places, packed_places    the places of a section's addresses that move: those that have an entry, and those
 --                                   that are packed
 --   entry_count l f, word_count l f   how many entries, and how many words, a file has
+--   left_relocations l s            the relocations of a section whose fields are left to entries that name a symbol or a resolver
+--   general_count l f               how many entries a file has for these, and for the symbols that it has copied
 use Rattle.std.specs.Prelude.{ℕ, ◌+◌, ◌%◌, ◌^◌, ◌==◌, ◌&&◌, Bool, true, false, not, if◌then◌else◌, List, [], length, Option, Some, None, option_to_list}
-use Rattle.std.specs.List.{flat_map}
+use Rattle.std.specs.List.{flat_map, filter}
 use Rattle.wild_relr.specs.Packed.{packed}
 use Rattle.wild_plan.specs.declared.input.InputRelocation.{InputRelocation}
 use Rattle.wild_plan.specs.declared.input.InputSection.{InputSection}
 use Rattle.wild_plan.specs.declared.file.File.{File}
 use Rattle.wild_plan.specs.declared.layout.Layout.{Layout}
 use Rattle.wild_plan.specs.declared.treatment.Treatment.{Treatment}
-use Rattle.wild_plan.specs.declared.treatment.Treatment.TheVariants.{BaseRelative}
+use Rattle.wild_plan.specs.declared.treatment.Treatment.TheVariants.{BaseRelative, Symbolic, Indirect, Extent}
+use Rattle.wild_plan.specs.FileRoles.{is_library}
 use Rattle.wild_plan.specs.Kinds.{is_position_independent}
 use Rattle.wild_plan.specs.Lists.{total}
 use Rattle.wild_plan.specs.Lookups.{is_read}
@@ -70,3 +73,24 @@ entry_count l f = total (λ s. length (listed_places l s)) f.sections
 -- how many words
 abbrev pub word_count : Layout → File → ℕ
 word_count l f = total (λ s. length (words_of l s)) f.sections
+
+-- ---- entries that name a symbol or a resolver
+
+-- the field is left to such an entry
+abbrev pub is_left_to_entry : Treatment → Bool
+is_left_to_entry (Symbolic i) = true
+is_left_to_entry (Indirect i) = true
+is_left_to_entry (Extent row i) = true
+is_left_to_entry other = false
+
+-- the relocations of an input section whose fields are left to entries, in order
+unfoldable pub left_relocations : Layout → InputSection → List InputRelocation
+left_relocations l s = if is_read s then filter (λ r. is_left_to_entry (treatment l s r)) s.relocations else []
+
+-- the symbols that a library has copied into the output
+abbrev pub copies_of : File → List ℕ
+copies_of f = if is_library f.role then f.copies else []
+
+-- how many entries a file has for copies and for fields
+unfoldable pub general_count : Layout → File → ℕ
+general_count l f = length (copies_of f) + total (λ s. length (left_relocations l s)) f.sections

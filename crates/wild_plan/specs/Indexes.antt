@@ -1,9 +1,11 @@
 -- Clause 9: each index names something, and each symbol belongs to one file at most.
 --   index_fits count i         the index, where it is there, names one of count items
 --   symbol_misfit l fs i ss    the first symbol whose definition, or whose place, is not there
+--   listed_misfit l            the first listed symbol that is not there
+--   copied_again l ..          the first group with a copy of a symbol whose definition is copied before
 --   range_out_of_order n i gs  the first group with a range of symbols that begins before the end of the one before
-use Rattle.std.specs.Prelude.{ℕ, ◌+◌, ◌==◌, Bool, true, ◌&&◌, ◌||◌, if◌then◌else◌, nat_lt, nat_le, List, [], ◌∷◌, length, Option, Some, None, slice_get}
-use Rattle.std.specs.List.{list_all}
+use Rattle.std.specs.Prelude.{ℕ, ◌+◌, ◌==◌, Bool, true, not, ◌&&◌, ◌||◌, if◌then◌else◌, nat_lt, nat_le, List, [], ◌∷◌, ◌++◌, length, map, flat_map, Option, Some, None, slice_get}
+use Rattle.std.specs.List.{list_all, list_any}
 use Rattle.wild_plan.specs.declared.part.Part.{Part}
 use Rattle.wild_plan.specs.declared.symbol.Place.{Place}
 use Rattle.wild_plan.specs.declared.symbol.Place.TheVariants as at
@@ -13,8 +15,9 @@ use Rattle.wild_plan.specs.declared.input.InputSection.{InputSection}
 use Rattle.wild_plan.specs.declared.file.File.{File}
 use Rattle.wild_plan.specs.declared.file.Group.{Group}
 use Rattle.wild_plan.specs.declared.layout.Layout.{Layout}
-use Rattle.wild_plan.specs.Lists.{through}
-use Rattle.wild_plan.specs.Lookups.{file_of}
+use Rattle.wild_plan.specs.declared.layout.DynamicSymbol.{DynamicSymbol}
+use Rattle.wild_plan.specs.Lists.{first_failing, through}
+use Rattle.wild_plan.specs.Lookups.{canonical, file_of}
 
 -- the index, where it is there, names one of count items
 abbrev pub index_fits : ℕ → Option ℕ → Bool
@@ -49,14 +52,41 @@ symbol_misfit l files i (s ∷ ss) = if symbol_indexes_fit l (section_count (fil
 abbrev pub relocation_index_fits : Layout → InputRelocation → Bool
 relocation_index_fits l r = index_fits (length l.symbols) r.symbol
 
+abbrev pub symbol_is_there : Layout → ℕ → Bool
+symbol_is_there l i = nat_lt i (length l.symbols)
+
 abbrev pub section_indexes_fit : Layout → InputSection → Bool
 section_indexes_fit l s = nat_lt s.part (length l.parts) && list_all (relocation_index_fits l) s.relocations
 
 abbrev pub file_indexes_fit : Layout → File → Bool
-file_indexes_fit l f = (f.symbol_count == 0 || nat_le (f.first_symbol + f.symbol_count) (length l.symbols)) && list_all (section_indexes_fit l) f.sections
+file_indexes_fit l f = (f.symbol_count == 0 || nat_le (f.first_symbol + f.symbol_count) (length l.symbols)) && (list_all (section_indexes_fit l) f.sections && list_all (symbol_is_there l) f.copies)
 
 abbrev pub group_indexes_fit : Layout → Group → Bool
 group_indexes_fit l g = list_all (file_indexes_fit l) g.files
+
+-- ---- listed symbols
+
+abbrev pub listed_is_there : Layout → DynamicSymbol → Bool
+listed_is_there l d = symbol_is_there l d.symbol
+
+abbrev pub listed_misfit : Layout → Option ℕ
+listed_misfit l = first_failing (listed_is_there l) 0 l.dynsyms
+
+-- ---- copies
+
+-- the definitions of the symbols that files have copied
+abbrev pub copied_in : Layout → Group → List ℕ
+copied_in l g = flat_map (λ (f : File). map (canonical l) f.copies) g.files
+
+-- no two are one, nor is one among those of before
+abbrev pub are_new : List ℕ → List ℕ → Bool
+are_new earlier [] = true
+are_new earlier (c ∷ cs) = not (list_any (λ d. d == c) earlier) && are_new (earlier ++ c ∷ []) cs
+
+-- the first group that has a definition copied which it, or one before it, has copied
+abbrev pub copied_again : Layout → List ℕ → ℕ → List Group → Option ℕ
+copied_again l earlier i [] = None
+copied_again l earlier i (g ∷ gs) = if are_new earlier (copied_in l g) then copied_again l (earlier ++ copied_in l g) (i + 1) gs else Some i
 
 -- ---- definitions
 

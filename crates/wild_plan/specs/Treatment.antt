@@ -4,6 +4,8 @@
 --   is_barred l s row i   the field is too narrow for an address that another module may define
 --   moves l i             the address of symbol i moves with the base
 --   is_chosen l s i       the address of symbol i is what a resolver answers, stored by a loader
+--   is_narrow l s row     the field is too narrow for an address of a library
+--   is_sized l s i        the size of symbol i is left to a dynamic entry
 --   treatment l s r       what is done with relocation r of section s
 use Rattle.std.specs.Prelude.{ℕ, Bool, not, ◌&&◌, ◌||◌, ◌==◌, if◌then◌else◌, Option, Some, None, option_map, unwrap_or, slice_get}
 use Rattle.wild_plan.specs.declared.symbol.Symbol.{Symbol}
@@ -12,9 +14,9 @@ use Rattle.wild_plan.specs.declared.input.InputRelocation.{InputRelocation}
 use Rattle.wild_plan.specs.declared.input.InputSection.{InputSection}
 use Rattle.wild_plan.specs.declared.layout.Layout.{Layout}
 use Rattle.wild_plan.specs.declared.treatment.Treatment.{Treatment}
-use Rattle.wild_plan.specs.declared.treatment.Treatment.TheVariants.{Nothing, Value, BaseRelative, Symbolic, Recompile, Unsupported}
+use Rattle.wild_plan.specs.declared.treatment.Treatment.TheVariants.{Nothing, Value, BaseRelative, Symbolic, Indirect, Extent, Recompile, Unsupported}
 use Rattle.wild_plan.specs.Flags.{has_flag, interposable, absolute, dynamic, copy_relocation, plt_stub, ifunc}
-use Rattle.wild_plan.specs.Kinds.{is_position_independent}
+use Rattle.wild_plan.specs.Kinds.{is_position_independent, is_shared_object}
 use Rattle.wild_plan.specs.Lookups.{canonical, writable, allocated}
 use Rattle.wild_plan.specs.Rows.{row_of}
 use Rattle.wild_reloc.specs.Field.{field_width}
@@ -41,6 +43,11 @@ is_elsewhere f = (interposable f || has_flag f dynamic) && not (has_flag f copy_
 abbrev pub is_barred : Layout → InputSection → RelocationKindInfo → ℕ → Bool
 is_barred l s row i = allocated s.flags && is_position_independent l.kind && not (field_width row == 8) && is_elsewhere (flags_at l i)
 
+-- an address in a library is known only where it is loaded, and only a field of 8 bytes has room for it (x86-64 psABI,
+-- "Position-Independent Code")
+abbrev pub is_narrow : Layout → InputSection → RelocationKindInfo → Bool
+is_narrow l s row = allocated s.flags && is_shared_object l.kind && not (field_width row == 8)
+
 -- the address moves with the base: the output does, and the value is not absolute (gABI, "Symbol Table", SHN_ABS)
 abbrev pub moves : Layout → ℕ → Bool
 moves l i = is_position_independent l.kind && not (has_flag (flags_at l i) absolute)
@@ -55,12 +62,16 @@ moved_treatment row = if field_width row == 8 then BaseRelative else Recompile
 abbrev pub is_chosen : Layout → InputSection → ℕ → Bool
 is_chosen l s i = allocated s.flags && writable s.flags && is_position_independent l.kind && has_flag (flags_at l i) ifunc
 
+-- that fills a field of 8 bytes
+abbrev pub chosen_treatment : RelocationKindInfo → ℕ → Treatment
+chosen_treatment row i = if field_width row == 8 then Indirect i else Recompile
+
 -- S + A of symbol i
 abbrev pub address_treatment : Layout → InputSection → RelocationKindInfo → ℕ → Treatment
 address_treatment l s row i =
-    if is_barred l s row i then Recompile
+    if is_barred l s row i || is_narrow l s row then Recompile
     else if is_left l s row i then Symbolic i
-    else if is_chosen l s i then Unsupported
+    else if is_chosen l s i then chosen_treatment row i
     else if allocated s.flags && moves l i then moved_treatment row
     else Value row
 
@@ -74,6 +85,17 @@ abbrev pub distance_treatment : Layout → InputSection → RelocationKindInfo �
 distance_treatment l s row None = if allocated s.flags && is_position_independent l.kind then Recompile else Value row
 distance_treatment l s row (Some i) = if is_barred l s row i then Recompile else Value row
 
+-- an offset from the thread pointer is known in an executable alone (ELF Handling For Thread-Local Storage, "Local Exec")
+abbrev pub pointer_treatment : Layout → InputSection → RelocationKindInfo → Treatment
+pointer_treatment l s row = if allocated s.flags && is_shared_object l.kind then Recompile else Value row
+
+-- the size of a symbol that another module may define is that module's (x86-64 psABI, "Relocation Types", R_X86_64_SIZE64)
+abbrev pub is_sized : Layout → InputSection → ℕ → Bool
+is_sized l s i = allocated s.flags && interposable (flags_at l i) && (has_flag (flags_at l i) dynamic || is_shared_object l.kind)
+
+abbrev pub size_treatment : Layout → InputSection → RelocationKindInfo → ℕ → Treatment
+size_treatment l s row i = if is_sized l s i then Extent row i else Value row
+
 -- the kinds that are known: no value; S + A; S + A - P; GOT + A - P; S + A - GOT; offsets in thread storage; sizes; L + A - P and
 -- L + A - GOT; G + A - P and G + A - GOT, of slots but descriptors
 abbrev pub kind_treatment : Layout → InputSection → Option ℕ → RelocationKindInfo → RelocationKind → Treatment
@@ -83,8 +105,8 @@ kind_treatment l s symbol row kinds.Relative = distance_treatment l s row symbol
 kind_treatment l s symbol row kinds.GotBaseRelative = Value row
 kind_treatment l s symbol row kinds.SymRelGotBase = named symbol (λ i. Value row)
 kind_treatment l s symbol row kinds.DtpOff = named symbol (λ i. Value row)
-kind_treatment l s symbol row kinds.TpOff = named symbol (λ i. Value row)
-kind_treatment l s symbol row kinds.SymbolSize = named symbol (λ i. Value row)
+kind_treatment l s symbol row kinds.TpOff = named symbol (λ i. pointer_treatment l s row)
+kind_treatment l s symbol row kinds.SymbolSize = named symbol (size_treatment l s row)
 kind_treatment l s symbol row kinds.PltRelative = named symbol (λ i. Value row)
 kind_treatment l s symbol row kinds.PltRelGotBase = named symbol (λ i. Value row)
 kind_treatment l s symbol row kinds.GotRelative = named symbol (λ i. Value row)

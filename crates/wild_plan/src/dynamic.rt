@@ -2,7 +2,8 @@
 ghost use Rattle.std.specs.Prelude.{◌≡◌, ◌+◌, ◌^◌, ◌<◌, ◌≤◌, length, option_map, All};
 ghost use Rattle.wild_records.specs.Dynamic.{DynamicEntryFits};
 ghost use Rattle.wild_plan.specs.declared.layout.Layout.{Layout};
-ghost use Rattle.wild_plan.specs.Dynamic.{dynamic_number, has_bytes, section_named, section_address, section_size, part_address, part_size, beside, filled_part, first_entries, bytes_of, entries_bytes, relative_count, only, flag, dynamic_flags, dynamic_flags_1, dynamic_entry, all_tags, TagFits, named_strings, text_room, room_of, epilogue_strings, epilogue_string_bytes, tag_entries, dynamic_entries, dynamic_count};
+ghost use Rattle.wild_plan.specs.Dynamic.{dynamic_number, has_bytes, section_named, section_address, section_size, part_address, part_size, beside, filled_part, first_entries, bytes_of, entries_bytes, relative_count, only, flag, dynamic_flags, dynamic_flags_1, dynamic_entry, all_tags, TagFits, tag_entries, dynamic_entries, dynamic_count};
+ghost use Rattle.wild_plan.specs.DynamicStrings.{named_strings, text_room, room_of, epilogue_strings, epilogue_string_bytes};
 ghost use Rattle.wild_plan.specs.Lists.{total};
 
 use crate::kind::OutputKind;

@@ -21,9 +21,13 @@ pub enum Treatment {
     BaseRelative,
     /// The address of this symbol, which another module may define, is left to a dynamic entry.
     Symbolic(SymbolIndex),
+    /// A loader stores what the resolver of this symbol answers, by a dynamic entry.
+    Indirect(SymbolIndex),
+    /// The size of this symbol, which another module may define, is left to a dynamic entry, in the field of this row.
+    Extent(RelocationKindInfo, SymbolIndex),
     /// The field cannot hold an address that is known only where the image is loaded.
     Recompile,
-    /// The type is not known, or needs a symbol and has none; or a loader stores what a resolver answers.
+    /// The type is not known, or needs a symbol and has none.
     Unsupported,
 }
 

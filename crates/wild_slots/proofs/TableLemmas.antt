@@ -20,7 +20,7 @@ use Rattle.wild_plan.specs.declared.symbol.Symbol.{Symbol}
 use Rattle.wild_plan.specs.declared.layout.Layout.{Layout}
 use Rattle.wild_plan.specs.declared.slot_parts.WordPart.TheVariants as words
 use Rattle.wild_plan.specs.Lists.{total}
-use Rattle.wild_plan.specs.Needs.{is_prelude, is_epilogue}
+use Rattle.wild_plan.specs.FileRoles.{is_prelude, is_epilogue}
 use Rattle.wild_plan.specs.Contents.{bool_eq, file_placed, later_placed, files_placed, file_misplaced}
 use Rattle.wild_plan.specs.SlotShares.{stub_size, own_symbols, slots_of, slots_at, words_in, symbol_share, header_words}
 use Rattle.wild_plan.specs.Stub.{stub_x86_64, stub_template, displacement_x86_64}

@@ -16,7 +16,8 @@ use Rattle.wild_plan.specs.declared.dynamic.DynamicTag.{DynamicTag}
 use Rattle.wild_plan.specs.declared.options.Options.{Options}
 use Rattle.wild_plan.proofs.DynamicLemmas.{length_dynamic_entries}
 use Rattle.wild_plan.specs.declared.layout.Layout.{Layout}
-use Rattle.wild_plan.specs.Dynamic.{NamedString, named, path_number, option_strings, named_strings, auxiliary_string, auxiliary_strings, behind_text, string_start, string_entries, entry_of, tag_entries, dynamic_entries, dynamic_count}
+use Rattle.wild_plan.specs.Dynamic.{entry_of, tag_entries, dynamic_entries, dynamic_count}
+use Rattle.wild_plan.specs.DynamicStrings.{NamedString, named, path_number, option_strings, named_strings, auxiliary_string, auxiliary_strings, behind_text, string_start, string_entries}
 use Rattle.wild_plan.specs.Kinds.{needs_dynamic}
 use Rattle.wild_tables.specs.Dynamic.{behind_strings, entries_bytes, dynamic_bytes, null_entry, dynamic_records, RecordsAt}
 

@@ -11,7 +11,8 @@ use Rattle.wild_plan.specs.declared.dynamic.DynamicTag.{DynamicTag}
 use Rattle.wild_plan.specs.declared.dynamic.DynamicTag.TheVariants as tags
 use Rattle.wild_plan.specs.declared.options.Options.{Options}
 use Rattle.wild_plan.specs.declared.layout.Layout.{Layout}
-use Rattle.wild_plan.specs.Dynamic.{dynamic_number, dynamic_entry, entry_with, entry_of, all_tags, NamedString, named, auxiliary_string, path_number, option_strings, named_strings, behind_text, string_start, string_entries, tag_entries, dynamic_entries, dynamic_count}
+use Rattle.wild_plan.specs.Dynamic.{dynamic_number, dynamic_entry, entry_with, entry_of, all_tags, tag_entries, dynamic_entries, dynamic_count}
+use Rattle.wild_plan.specs.DynamicStrings.{NamedString, named, auxiliary_string, path_number, option_strings, named_strings, behind_text, string_start, string_entries}
 use Rattle.wild_plan.specs.Kinds.{needs_dynamic}
 use Rattle.wild_loader.specs.Laws.{before_null}
 use Rattle.wild_loader.specs.Tables.{tagged}

@@ -16,7 +16,8 @@ use Rattle.wild_records.specs.declared.dynamic.DynamicEntry.{DynamicEntry}
 use Rattle.wild_plan.specs.declared.dynamic.DynamicTag.{DynamicTag}
 use Rattle.wild_plan.specs.declared.dynamic.DynamicTag.TheVariants as tags
 use Rattle.wild_plan.specs.declared.layout.Layout.{Layout}
-use Rattle.wild_plan.specs.Dynamic.{NamedString, behind_text, dynamic_number, dynamic_entry, dynamic_entries, dynamic_count}
+use Rattle.wild_plan.specs.Dynamic.{dynamic_number, dynamic_entry, dynamic_entries, dynamic_count}
+use Rattle.wild_plan.specs.DynamicStrings.{NamedString, behind_text}
 use Rattle.wild_plan.specs.Kinds.{needs_dynamic}
 use Rattle.wild_loader.specs.Laws.{before_null}
 use Rattle.wild_loader.specs.Tables.{tagged}

@@ -1,7 +1,8 @@
 //! The dynamic section of the last file (gABI, "Dynamic Section").
 ghost use Rattle.std.specs.Prelude.{◌≡◌, ◌+◌, ◌*◌, ◌≤◌, ◌++◌, [], ◌∷◌, length, take, replicate};
 ghost use Rattle.wild_records.specs.Dynamic.{dynamic_entry_size};
-ghost use Rattle.wild_plan.specs.Dynamic.{named, behind_text, string_entries, entry_of, tag_entries, auxiliary_strings, named_strings, string_start, dynamic_count};
+ghost use Rattle.wild_plan.specs.Dynamic.{entry_of, tag_entries, dynamic_count};
+ghost use Rattle.wild_plan.specs.DynamicStrings.{named, behind_text, string_entries, auxiliary_strings, named_strings, string_start};
 ghost use Rattle.wild_tables.specs.Dynamic.{dynamic_bytes, entries_bytes, behind_strings, LengthsOfDynamic, RecordsStand, RecordsFit, BehindNullIsNotRead, EntriesAreFound, TablesAreNamed};
 
 use wild_plan::{DynamicTag, Layout, STRING_START, dynamic_entry};

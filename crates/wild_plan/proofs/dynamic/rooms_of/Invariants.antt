@@ -1,5 +1,5 @@
 use Rattle.std.proofs.Common.{◌≡◌, ◌+◌, ◌*◌, ◌^◌, ◌≤◌, drop}
-use Rattle.wild_plan.specs.Dynamic.{text_room}
+use Rattle.wild_plan.specs.DynamicStrings.{text_room}
 use Rattle.wild_plan.specs.Lists.{total}
 use Rattle.wild_plan.proofs.dynamic.rooms_of.Given as goal
 

@@ -1,0 +1,21 @@
+-- What a file is, by its role.
+--   is_prelude, is_epilogue   the first file, and the last one
+--   is_library                a shared library
+use Rattle.std.specs.Prelude.{Bool, true, false}
+use Rattle.wild_plan.specs.declared.file.FileRole.{FileRole}
+use Rattle.wild_plan.specs.declared.file.FileRole.TheVariants as file_role
+
+-- the first file, which writes what stands once in an image
+abbrev pub is_prelude : FileRole → Bool
+is_prelude file_role.Prelude = true
+is_prelude other = false
+
+-- the last file
+abbrev pub is_epilogue : FileRole → Bool
+is_epilogue file_role.Epilogue = true
+is_epilogue other = false
+
+-- a shared library
+abbrev pub is_library : FileRole → Bool
+is_library file_role.Dynamic = true
+is_library other = false
