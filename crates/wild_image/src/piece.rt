@@ -10,11 +10,12 @@ ghost use Rattle.wild_image.specs.Pieces.{owned_in, file_owned, group_owned, gro
 ghost use Rattle.wild_image.specs.Jobs.{GivesPiece};
 
 use crate::arch::Arch;
+use crate::copies::check_entries;
+use crate::listed::check_listed;
 use crate::pairs::pairs_of_group;
 use crate::part_bytes::PartBytes;
 use crate::place::InputPlace;
 use crate::section::write_data;
-use crate::slot_faults::check_slots;
 use crate::tables::add_tables;
 use crate::values::Resolved;
 use std::alloc::{AllocError, Global};
@@ -98,7 +99,7 @@ fn take_sections<A: Arch>(
 }
 
 /// Adds the bytes of the sections of a file to those of their parts, or answers its first fault: that of its sections,
-/// or else of its slots.
+/// or else of its copies and slots.
 #[tactic(auto, using(crate::proofs::FaultLemmas::first_of_both), unfolding(wild_layout::specs::Faults::file_errors))]
 fn take_file<A: Arch>(
     alloc: Global,
@@ -113,11 +114,37 @@ fn take_file<A: Arch>(
     ensures owned { OnOk result ((k : ℕ) → k < length parts.old → slice_index_or parts.new k [] ≡ slice_index_or parts.old k [] ++ file_owned resolved.now.layout.now k file.now) }
 {
     take_sections(alloc, resolved, place, file, parts)?;
-    check_slots(resolved.layout, place, file)
+    check_entries(resolved, place, file)
 }
 
-/// Adds the bytes of a group to those of their parts, or answers its first fault.
-#[tactic(auto, using(crate::proofs::FaultLemmas::first_from), unfolding(wild_layout::specs::Faults::group_errors))]
+/// Adds the bytes of the files of a group to those of their parts, or answers their first fault.
+#[tactic(auto, using(crate::proofs::FaultLemmas::first_from))]
+fn take_files<A: Arch>(
+    alloc: Global,
+    resolved: &Resolved<A>,
+    index: usize,
+    group: &Group,
+    parts: &mut [PartBytes],
+) -> Result<(), Error>
+    requires lies { All (λ (f : File). All (SectionLies resolved.now.layout.now) f.sections) group.now.files }
+    requires room { length parts.old ≡ length resolved.now.layout.now.parts }
+    ensures faults { Answers result (flat_map_from (file_errors resolved.now.layout.now index) 0 group.now.files) }
+    ensures owned { OnOk result ((k : ℕ) → k < length parts.old → slice_index_or parts.new k [] ≡ slice_index_or parts.old k [] ++ group_owned resolved.now.layout.now k group.now) }
+{
+    for (i, file) in group.files.as_slice().iter().enumerate() {
+        let place = InputPlace {
+            group: index,
+            file: i,
+            section: 0,
+        };
+        take_file(alloc, resolved, place, file, parts)?;
+    }
+    Ok(())
+}
+
+/// Adds the bytes of a group to those of their parts, or answers its first fault: that of its files, or else of the symbols
+/// that other modules see.
+#[tactic(auto, using(crate::proofs::FaultLemmas::first_of_both), unfolding(wild_layout::specs::Faults::group_errors))]
 fn take_group<A: Arch>(
     alloc: Global,
     resolved: &Resolved<A>,
@@ -130,15 +157,8 @@ fn take_group<A: Arch>(
     ensures faults { Answers result (group_errors resolved.now.layout.now index group.now) }
     ensures owned { OnOk result ((k : ℕ) → k < length parts.old → slice_index_or parts.new k [] ≡ slice_index_or parts.old k [] ++ group_owned resolved.now.layout.now k group.now) }
 {
-    for (i, file) in group.files.as_slice().iter().enumerate() {
-        let place = InputPlace {
-            group: index,
-            file: i,
-            section: 0,
-        };
-        take_file(alloc, resolved, place, file, parts)?;
-    }
-    Ok(())
+    take_files(alloc, resolved, index, group, parts)?;
+    check_listed(resolved, index, group.files.as_slice())
 }
 
 /// How many bytes a group has of a part that stands in the file.

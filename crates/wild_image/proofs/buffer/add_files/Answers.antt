@@ -2,7 +2,7 @@ use Rattle.wild_layout.specs.Faults.{file_errors}
 use Rattle.wild_image.specs.Pieces.{file_sections}
 use Rattle.wild_image.proofs.FaultLemmas.{none_from}
 use Rattle.wild_image.proofs.OwnedLemmas.{bytes_read}
-use Rattle.wild_image.proofs.buffer.add_group_sections.Goals as goal
+use Rattle.wild_image.proofs.buffer.add_files.Goals as goal
 
 pub loop-i-preserved : goal.loop-i-preserved
 loop-i-preserved g c = (

@@ -2,7 +2,7 @@ use Rattle.std.proofs.Common.{◌≡◌, [], ◌++◌, take}
 use Rattle.std.specs.List.{flat_map}
 use Rattle.wild_layout.specs.Faults.{flat_map_from, file_errors}
 use Rattle.wild_image.specs.Pieces.{file_sections}
-use Rattle.wild_image.proofs.buffer.add_group_sections.Given as goal
+use Rattle.wild_image.proofs.buffer.add_files.Given as goal
 
 abbrev pub invariant-loop-i : goal.invariant-loop-i
 invariant-loop-i g l =
