@@ -1,17 +1,18 @@
--- The numbers that tables are about: what memory has at a place, and what an entry stores.
---   value_at w m x   the number that memory has at a place
---   stored w m r     the number that an entry stores
-use Rattle.std.specs.Prelude.{ℕ, Option, Some, None, Result, Ok}
+-- What the tables of an image change in the memory of its loaded segments.
+--   value_at w m x        the number that memory has at a place
+--   place_change w m x    the change at a packed place
+--   entry_change w m e    the change of an entry
+use Rattle.std.specs.Prelude.{ℕ, Option, Some, None, [], Result, Ok, Err}
+use Rattle.wild_words.specs.Words.{word}
 use Rattle.wild_records.specs.declared.relocations.Rela.{Rela}
-use Rattle.wild_loader.specs.declared.change.Change.{Change}
 use Rattle.wild_loader.specs.declared.change.Change.TheVariants as changes
+use Rattle.wild_loader.specs.declared.change.Patch.{Patch}
 use Rattle.wild_loader.specs.declared.fault.LoadFault.{LoadFault}
-use Rattle.wild_loader.specs.declared.kind.DynamicKind.{DynamicKind}
 use Rattle.wild_loader.specs.declared.memory.Memory.{Memory}
 use Rattle.wild_loader.specs.declared.world.World.{World}
-use Rattle.wild_loader.specs.Changes.{kind_of, change_of}
+use Rattle.wild_loader.specs.Changes.{patch_over}
 use Rattle.wild_loader.specs.Memory.{number_in}
-use Rattle.wild_loader.specs.Relocate.{loaded_at}
+use Rattle.wild_loader.specs.Relocate.{loaded_at, rela_patch}
 
 abbrev pub number_or : Option ℕ → ℕ
 number_or None = 0
@@ -21,15 +22,14 @@ number_or (Some n) = n
 abbrev pub value_at : World → Memory → ℕ → ℕ
 value_at w m x = number_or (number_in m (loaded_at w x) 8)
 
--- the number of a change that stores one; else 0
-abbrev pub stored_by : Result Change LoadFault → ℕ
-stored_by (Ok (changes.Word v)) = v
-stored_by other = 0
+-- the base is added to that number
+abbrev pub place_change : World → Memory → ℕ → Patch
+place_change w m x = patch_over (loaded_at w x) (changes.Add w.base) (word 8 (value_at w m x))
 
-abbrev pub stored_as : World → Rela → Option DynamicKind → ℕ
-stored_as w r None = 0
-stored_as w r (Some kind) = stored_by (change_of w kind r)
+abbrev pub patch_or : Result Patch LoadFault → Patch
+patch_or (Ok p) = p
+patch_or (Err f) = patch_over 0 (changes.Fill []) []
 
--- the number that an entry stores
-abbrev pub stored : World → Memory → Rela → ℕ
-stored w m r = stored_as w r (kind_of m.machine r.number)
+-- what an entry changes; nothing where it has a fault
+abbrev pub entry_change : World → Memory → Rela → Patch
+entry_change w m e = patch_or (rela_patch w m e)

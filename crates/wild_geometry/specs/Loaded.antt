@@ -1,21 +1,32 @@
 -- An input section in memory, as it was decided: what the loading of an image comes to, and what its references rest on.
 --   IsDecided l s         each relocation of the section has a decision, and what they write lies apart
 --   InNoSite l s k        no relocation writes byte k of the section
---   in_file, in_memory w  the number at the place of an address that moves, before and after it is moved
---   HasSection ..         memory has the section's values, its addresses and its other bytes
-use Rattle.std.specs.Prelude.{◌≡◌, ℕ, ◌+◌, ◌%◌, ◌^◌, ◌<◌, ◌≤◌, ◌⊎◌, Bool, if◌then◌else◌, length, Some, Ok, All, Contains, slice_index}
+--   Stage                 before the entries of the image are applied, or behind that
+--   number_at stage w     the number at the place of an address that moves
+--   MakesChange w ..      what an entry makes a loader do
+--   ReadsLeft stage w ..  the bytes of a field that is left to an entry
+--   HasSection ..         memory has the section's values, its addresses, what is left to entries, and its other bytes
+use Rattle.std.specs.Prelude.{◌≡◌, ℕ, ◌+◌, ◌%◌, ◌^◌, ◌<◌, ◌≤◌, ◌⊎◌, Bool, if◌then◌else◌, List, [], length, replicate, Some, Ok, All, Contains, slice_index}
+use Rattle.std.specs.Int.{w64, cast_signed}
 use Rattle.wild_words.specs.Words.{word}
 use Rattle.wild_words.specs.Overlay.{Piece, AreApart}
+use Rattle.wild_records.specs.declared.relocations.Rela.{Rela}
+use Rattle.wild_reloc.specs.Field.{size_width}
 use Rattle.wild_plan.specs.declared.input.InputRelocation.{InputRelocation}
 use Rattle.wild_plan.specs.declared.input.InputSection.{InputSection}
 use Rattle.wild_plan.specs.declared.layout.Layout.{Layout}
 use Rattle.wild_reloc.specs.declared.info.RelocationSize.{RelocationSize}
 use Rattle.wild_layout.specs.declared.decision.Decision.{Decision}
-use Rattle.wild_layout.specs.declared.decision.Decision.TheVariants.{Field, Moved}
+use Rattle.wild_layout.specs.declared.decision.Decision.TheVariants.{Field, Moved, Left}
 use Rattle.wild_layout.specs.Decide.{decide, decided}
 use Rattle.wild_layout.specs.Sites.{field_site, sites}
 use Rattle.wild_loader.specs.declared.memory.Memory.{Memory}
 use Rattle.wild_loader.specs.declared.world.World.{World}
+use Rattle.wild_loader.specs.declared.memory.Machine.TheVariants as processors
+use Rattle.wild_loader.specs.declared.change.Change.{Change}
+use Rattle.wild_loader.specs.declared.change.Change.TheVariants as changes
+use Rattle.wild_loader.specs.declared.kind.DynamicKind.{DynamicKind}
+use Rattle.wild_loader.specs.Changes.{kind_of, change_of}
 use Rattle.wild_loader.specs.Memory.{Holds, byte_in}
 
 -- each relocation of the section has a decision, no fault, and no byte is written by two
@@ -27,18 +38,45 @@ pub record IsDecided (l : Layout) (s : InputSection) : Type 0 where
 abbrev pub InNoSite : Layout → InputSection → ℕ → Type 0
 InNoSite l s k = All (λ (p : Piece). (k < p.at) ⊎ (p.at + length p.bytes ≤ k)) (sites l s)
 
--- the number at the place of an address v that moves: in the file v where it is packed, and 0 beside an entry
-abbrev pub in_file : ℕ → Bool → ℕ
-in_file v packed = if packed then v else 0
+-- memory before the entries of the image are applied, and behind that
+pub data Stage : Type 0 where
+  InFile : Stage
+  InMemory : Stage
 
--- and in memory v more by the base (gABI, "Relative Relocation Table"; x86-64 psABI, R_X86_64_RELATIVE)
-abbrev pub in_memory : World → ℕ → Bool → ℕ
-in_memory w v packed = (v + w.base) % 2 ^ 64
+-- the number at the place of an address v that moves: in the file v where it is packed, and 0 beside an entry; in memory v more by
+-- the base (gABI, "Relative Relocation Table"; x86-64 psABI, R_X86_64_RELATIVE)
+abbrev pub number_at : Stage → World → ℕ → Bool → ℕ
+number_at InFile w v packed = if packed then v else 0
+number_at InMemory w v packed = (v + w.base) % 2 ^ 64
+
+-- an entry of that number, with an index in the dynamic symbol table and an addend modulo 2^64; where it stands does not change
+-- what it stores
+abbrev pub entry_with : ℕ → ℕ → ℕ → Rela
+entry_with number symbol addend = record { offset = 0; number = number; symbol = symbol; addend = cast_signed w64 addend }
+
+-- such an entry makes a loader do that
+pub record MakesChange (w : World) (number symbol addend : ℕ) (c : Change) : Type 0 where
+  pub kind : DynamicKind
+  pub known : kind_of processors.X86_64 number ≡ Some kind
+  pub makes : change_of w kind (entry_with number symbol addend) ≡ Ok c
+
+-- the bytes of a change that stores a number
+abbrev pub stored_bytes : Change → List ℕ
+stored_bytes (changes.Word v) = word 8 v
+stored_bytes (changes.Half v) = word 4 v
+stored_bytes other = []
+
+-- the bytes of a field of that size that is left to such an entry: 0 in the file, and in memory what the entry stores
+abbrev pub ReadsLeft : Stage → World → RelocationSize → (number symbol addend : ℕ) → List ℕ → Type 0
+ReadsLeft InFile w z number symbol addend bs = bs ≡ replicate (size_width z) 0
+ReadsLeft InMemory w z number symbol addend bs = (c : Change) × MakesChange w number symbol addend c × (bs ≡ stored_bytes c) × (length bs ≡ size_width z)
 
 -- memory has an input section as it was decided, at its address and the base: each value in its field, each address that
--- moves as eight bytes, with the number that is said of it, and every byte that no relocation writes as the input has it
-pub record HasSection (l : Layout) (w : World) (m : Memory) (s : InputSection) (number : ℕ → Bool → ℕ) : Type 0 where
+-- moves as eight bytes, each field that is left to an entry, and every byte that no relocation writes as the input has it
+pub record HasSection (l : Layout) (w : World) (m : Memory) (s : InputSection) (stage : Stage) : Type 0 where
   pub ends : 1 ≤ length s.bytes → w.base + s.address + s.size ≤ 2 ^ 64
   pub values : (r : InputRelocation) (z : RelocationSize) (v : ℕ) → Contains s.relocations r → decided l s r ≡ Ok (Field z v) → Holds m (w.base + s.address + r.offset) (field_site s r.offset z v).bytes
-  pub addresses : (r : InputRelocation) (v : ℕ) (packed : Bool) → Contains s.relocations r → decided l s r ≡ Ok (Moved v packed) → Holds m (w.base + s.address + r.offset) (word 8 (number v packed))
+  pub addresses : (r : InputRelocation) (v : ℕ) (packed : Bool) → Contains s.relocations r → decided l s r ≡ Ok (Moved v packed) → Holds m (w.base + s.address + r.offset) (word 8 (number_at stage w v packed))
+  pub left : (r : InputRelocation) (z : RelocationSize) (number symbol addend : ℕ) → Contains s.relocations r → decided l s r ≡ Ok (Left z number symbol addend)
+      → (bs : List ℕ) × Holds m (w.base + s.address + r.offset) bs × ReadsLeft stage w z number symbol addend bs
   pub others : (k : ℕ) → k < length s.bytes → InNoSite l s k → byte_in m (w.base + s.address + k) ≡ Some (slice_index s.bytes k)

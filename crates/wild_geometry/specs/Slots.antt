@@ -1,13 +1,13 @@
 -- Slots and stubs in memory: what the loading of an image comes to for them, and what references through them rest on.
---   IsLoadedWord w word x   x is what a loader makes of a word of a slot
+--   IsLoadedWord ..         x is what a loader makes of a word of a slot at a place
 --   HasWords ..             memory has these words from an address on
 --   HasSymbolSlots ..       memory has the slots of a symbol, and its stub
 --   HasSlots l w m          it has those of each symbol, and the pair of the output's own thread-local data
-use Rattle.std.specs.Prelude.{◌≡◌, ℕ, ◌+◌, ◌*◌, ◌%◌, ◌^◌, ◌<◌, ⊤, List, length, Some, None, Ok, slice_get, slice_index_or}
-use Rattle.wild_reloc.specs.declared.dynamic.DynamicRelocationKind.{DynamicRelocationKind}
-use Rattle.wild_reloc.specs.declared.dynamic.DynamicRelocationKind.TheVariants as entry_kinds
+use Rattle.std.specs.Prelude.{◌≡◌, ℕ, ◌+◌, ◌*◌, ◌%◌, ◌^◌, ◌<◌, List, length, Some, None, Ok, slice_get, slice_index_or}
+use Rattle.wild_reloc.specs.Dynamic.{x86_64_type}
 use Rattle.wild_plan.specs.declared.symbol.Symbol.{Symbol}
 use Rattle.wild_plan.specs.declared.layout.Layout.{Layout}
+use Rattle.wild_plan.specs.declared.slot.SlotEntry.{SlotEntry}
 use Rattle.wild_plan.specs.declared.slot.SlotWord.{SlotWord}
 use Rattle.wild_plan.specs.declared.slot.SlotWord.TheVariants.{Number, Address, InBlock, General, Plt}
 use Rattle.wild_plan.specs.SymbolSlots.{got_of, plt_of}
@@ -15,26 +15,35 @@ use Rattle.wild_plan.specs.SlotShares.{slots_of, storage_words}
 use Rattle.wild_plan.specs.Stub.{stub_x86_64}
 use Rattle.wild_loader.specs.declared.memory.Memory.{Memory}
 use Rattle.wild_loader.specs.declared.world.World.{World}
-use Rattle.wild_loader.specs.Changes.{answer_at}
+use Rattle.wild_loader.specs.declared.change.Change.{Change}
+use Rattle.wild_loader.specs.declared.change.Change.TheVariants as changes
+use Rattle.wild_loader.specs.Changes.{first_value}
 use Rattle.wild_loader.specs.Memory.{Holds, number_in}
+use Rattle.wild_geometry.specs.Loaded.{MakesChange}
 
--- what an entry leaves: what a resolver answers (x86-64 psABI, "Relocation Types": R_X86_64_IRELATIVE); of entries that name a
--- symbol nothing is said yet
-abbrev pub LeavesWord : World → DynamicRelocationKind → ℕ → ℕ → Type 0
-LeavesWord w entry_kinds.Irelative addend x = answer_at w ((w.base + addend) % 2 ^ 64) ≡ Ok x
-LeavesWord w other addend x = ⊤
+-- what a change leaves of a word at a place: the number that it stores; of a descriptor, which is two words, the offset is noted
+abbrev pub IsLeft : Memory → ℕ → Change → ℕ → Type 0
+IsLeft m place (changes.Word v) x = x ≡ v
+IsLeft m place (changes.Descriptor o) x = first_value m.descriptors place ≡ Some o
+IsLeft m place other x = ⊥
 
--- what a loader makes of a word: a number stays, an address is more by the base
-abbrev pub IsLoadedWord : World → SlotWord → ℕ → Type 0
-IsLoadedWord w (Number n) x = x ≡ n
-IsLoadedWord w (Address a) x = x ≡ (a + w.base) % 2 ^ 64
-IsLoadedWord w (InBlock a) x = x ≡ (a + w.base) % 2 ^ 64
-IsLoadedWord w (General e) x = LeavesWord w e.kind e.addend x
-IsLoadedWord w (Plt e) x = LeavesWord w e.kind e.addend x
+-- an entry of x86-64 fills the word
+pub record IsFilledBy (w : World) (m : Memory) (place : ℕ) (e : SlotEntry) (x : ℕ) : Type 0 where
+  pub change : Change
+  pub makes : MakesChange w (x86_64_type e.kind) e.symbol e.addend change
+  pub leaves : IsLeft m place change x
+
+-- what a loader makes of a word: a number stays, an address is more by the base, an entry fills it
+abbrev pub IsLoadedWord : World → Memory → ℕ → SlotWord → ℕ → Type 0
+IsLoadedWord w m place (Number n) x = x ≡ n
+IsLoadedWord w m place (Address a) x = x ≡ (a + w.base) % 2 ^ 64
+IsLoadedWord w m place (InBlock a) x = x ≡ (a + w.base) % 2 ^ 64
+IsLoadedWord w m place (General e) x = IsFilledBy w m place e x
+IsLoadedWord w m place (Plt e) x = IsFilledBy w m place e x
 
 -- memory has such words from an address of the image on
 abbrev pub HasWords : World → Memory → ℕ → List SlotWord → Type 0
-HasWords w m at ws = (k : ℕ) (d : SlotWord) → k < length ws → (x : ℕ) × (number_in m (w.base + at + 8 * k) 8 ≡ Some x) × IsLoadedWord w (slice_index_or ws k d) x
+HasWords w m at ws = (k : ℕ) (d : SlotWord) → k < length ws → (x : ℕ) × (number_in m (w.base + at + 8 * k) 8 ≡ Some x) × IsLoadedWord w m (w.base + at + 8 * k) (slice_index_or ws k d) x
 
 -- the slots of a symbol have no fault and stand from their address on, and its stub stands where the layout has it
 pub record HasSymbolSlots (l : Layout) (w : World) (m : Memory) (s : Symbol) (at : ℕ) : Type 0 where

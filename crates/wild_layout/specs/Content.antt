@@ -3,24 +3,25 @@
 --   own_bytes l r f   what a file gives to a part that a loader reads
 --   content l r g     the bytes that a group gives to a part of that role: the headers and the names are the
 --                     prelude's; the input sections of a raw part stand by themselves
-use Rattle.std.specs.Prelude.{ℕ, ◌-◌, ◌&&◌, List, [], ◌++◌, length, replicate, if◌then◌else◌}
-use Rattle.std.specs.List.{flat_map}
+use Rattle.std.specs.Prelude.{ℕ, ◌-◌, ◌*◌, List, [], ◌++◌, length, if◌then◌else◌, Option, Some, None, slice_get}
+use Rattle.std.specs.List.{flat_map, list_any}
 use Rattle.wild_plan.specs.declared.part.Role.{Role}
 use Rattle.wild_plan.specs.declared.part.Role.TheVariants as role
 use Rattle.wild_plan.specs.declared.file.File.{File}
 use Rattle.wild_plan.specs.declared.file.Group.{Group}
 use Rattle.wild_plan.specs.declared.layout.Layout.{Layout}
-use Rattle.wild_records.specs.SymtabEntry.{symtab_entry_size}
-use Rattle.wild_plan.specs.declared.kind.OutputKind.{OutputKind}
-use Rattle.wild_plan.specs.declared.file.FileRole.{FileRole}
-use Rattle.wild_plan.specs.DynamicStrings.{epilogue_strings}
-use Rattle.wild_plan.specs.Kinds.{needs_dynsym}
+use Rattle.wild_records.specs.Dynamic.{dynamic_entry_size}
+use Rattle.wild_plan.specs.DynamicStrings.{file_strings, needed_entries}
+use Rattle.wild_symbols.specs.Strings.{string_bytes}
+use Rattle.wild_symbols.specs.Symbols.{symbol_bytes}
+use Rattle.wild_symbols.specs.DynamicEntries.{group_symbols}
 use Rattle.wild_plan.specs.FileRoles.{is_prelude, is_epilogue}
 use Rattle.wild_plan.specs.Shares.{share_of}
 use Rattle.wild_relr.specs.Written.{word_bytes}
 use Rattle.wild_tables.specs.Entries.{rela_bytes}
-use Rattle.wild_tables.specs.Dynamic.{dynamic_bytes}
+use Rattle.wild_tables.specs.Dynamic.{entries_bytes, dynamic_bytes}
 use Rattle.wild_layout.specs.Moved.{file_entries, file_words}
+use Rattle.wild_layout.specs.Left.{file_generals}
 use Rattle.wild_layout.specs.SlotBytes.{slot_bytes, header_bytes, block_bytes}
 use Rattle.wild_headers.specs.Headers.{file_header_bytes, program_header_bytes, section_header_bytes, names_of}
 
@@ -34,32 +35,39 @@ whole_bytes l other = []
 
 -- ---- what a loader reads
 
--- at the front of a table for dynamic linking
-abbrev pub first_bytes : OutputKind → FileRole → List ℕ → List ℕ
-first_bytes kind f bs = if needs_dynsym kind && is_prelude f then bs else []
+-- the room of the last file in the dynamic section: what is left of the last group's share behind the entries of its libraries
+abbrev pub room_behind : Layout → Option Group → ℕ
+room_behind l None = 0
+room_behind l (Some g) = share_of l (length l.groups - 1) role.Dynamic - dynamic_entry_size * length (needed_entries l g)
 
--- behind all else
-abbrev pub last_bytes : FileRole → List ℕ → List ℕ
-last_bytes f bs = if is_epilogue f then bs else []
-
--- the room of the dynamic section: the last group's share
 abbrev pub dynamic_room : Layout → ℕ
-dynamic_room l = share_of l (length l.groups - 1) role.Dynamic
+dynamic_room l = room_behind l (slice_get l.groups (length l.groups - 1))
 
--- entries with addends and words of packed relocations, the dynamic symbol table (an entry of zeros), its strings, the
--- dynamic section (gABI, "Relocation", "Relative Relocation Table", "Symbol Table", "String Table", "Dynamic Section")
+-- entries with addends and words of packed relocations; strings, each with a zero behind it (gABI, "Relocation", "Relative
+-- Relocation Table", "String Table")
 abbrev pub own_bytes : Layout → Role → File → List ℕ
 own_bytes l role.RelaDynRelative f = rela_bytes (file_entries l f)
+own_bytes l role.RelaDynGeneral f = rela_bytes (file_generals l f)
 own_bytes l role.RelrDyn f = word_bytes (file_words l f)
-own_bytes l role.Dynsym f = first_bytes l.kind f.role (replicate symtab_entry_size 0)
-own_bytes l role.Dynstr f = first_bytes l.kind f.role empty_string ++ last_bytes f.role (epilogue_strings l)
-own_bytes l role.Dynamic f = last_bytes f.role (dynamic_bytes l (dynamic_room l))
+own_bytes l role.Dynstr f = string_bytes (file_strings l f)
 own_bytes l other f = []
 
 -- the bytes that a file gives to a part of that role
 abbrev pub file_content : Layout → Role → File → List ℕ
 file_content l r f = (if is_prelude f.role then whole_bytes l r ++ header_bytes l r else []) ++ own_bytes l r f ++ slot_bytes l r f
 
--- the bytes that a group gives to a part of that role: those of its files, and then those of its block of slots
+-- the entries of a group in the dynamic section: those of its libraries, and all others where it has the last file (gABI,
+-- "Dynamic Section")
+abbrev pub dynamic_of : Layout → Group → List ℕ
+dynamic_of l g = entries_bytes (needed_entries l g) ++ (if list_any (λ (f : File). is_epilogue f.role) g.files then dynamic_bytes l (dynamic_room l) else [])
+
+-- what is told of the files of a group together: the words that pack its block of slots, its symbols of the dynamic symbol table
+-- and its entries of the dynamic section
+abbrev pub group_bytes : Layout → Role → Group → List ℕ
+group_bytes l role.Dynsym g = symbol_bytes (group_symbols l g)
+group_bytes l role.Dynamic g = dynamic_of l g
+group_bytes l r g = block_bytes l r g
+
+-- the bytes that a group gives to a part of that role: those of its files, and then those of all together
 abbrev pub content : Layout → Role → Group → List ℕ
-content l r g = flat_map (file_content l r) g.files ++ block_bytes l r g
+content l r g = flat_map (file_content l r) g.files ++ group_bytes l r g

@@ -1,9 +1,12 @@
 -- What is decided of each relocation of a section: what it writes, or why it is refused.
 --   field row v            the value v in the row's field, where that takes it
 --   moved_to l s r a       the address a plus A, which moves, at the place
+--   left_to ..             the field is left to an entry with an index in the dynamic symbol table
+--   chosen_to ..           or to one with a resolver
 --   decide_by l s r t      what is decided of a relocation with that treatment
 --   decide l s i           what is decided of relocation i of section s
-use Rattle.std.specs.Prelude.{ℕ, Option, Some, None, Result, Ok, Err, if◌then◌else◌, slice_get}
+use Rattle.std.specs.Prelude.{ℕ, ◌==◌, Option, Some, None, Result, Ok, Err, if◌then◌else◌, slice_get}
+use Rattle.std.specs.Int.{w64, cast_unsigned}
 use Rattle.wild_plan.specs.declared.fault.Fault.{Fault}
 use Rattle.wild_plan.specs.declared.fault.Fault.TheVariants as faults
 use Rattle.wild_plan.specs.declared.fault.Missing.TheVariants as missing
@@ -17,8 +20,13 @@ use Rattle.wild_plan.specs.Treatment.{treatment}
 use Rattle.wild_reloc.specs.Field.{allows}
 use Rattle.wild_reloc.specs.declared.info.RelocationKindInfo.{RelocationKindInfo}
 use Rattle.wild_layout.specs.declared.decision.Decision.{Decision}
-use Rattle.wild_layout.specs.declared.decision.Decision.TheVariants.{Nothing, Field, Moved}
-use Rattle.wild_layout.specs.Values.{place_of, sum, address_of, term_of, value_by}
+use Rattle.wild_layout.specs.declared.decision.Decision.TheVariants.{Nothing, Field, Moved, Left}
+use Rattle.wild_reloc.specs.declared.info.RelocationSize.{RelocationSize}
+use Rattle.wild_reloc.specs.declared.info.RelocationSize.TheVariants.{ByteSize}
+use Rattle.wild_reloc.specs.declared.info.Width.TheVariants.{Eight}
+use Rattle.wild_reloc.specs.declared.dynamic.DynamicRelocationKind.TheVariants.{Absolute, Irelative}
+use Rattle.wild_plan.specs.SlotParts.{type_of}
+use Rattle.wild_layout.specs.Values.{place_of, sum, raw_address, address_of, index_of, term_of, value_by}
 
 -- a value in the row's field, where it is in range
 abbrev pub field : RelocationKindInfo → ℕ → Result Decision Fault
@@ -34,12 +42,29 @@ abbrev pub moved_to : Layout → InputSection → InputRelocation → Result ℕ
 moved_to l s r (Err f) = Err f
 moved_to l s r (Ok a) = Ok (Moved (sum a r.addend) (packs l (place_of s r)))
 
+-- the addend as an entry has it, modulo 2^64
+abbrev pub added : InputRelocation → ℕ
+added r = cast_unsigned w64 r.addend
+
+-- the field is left to an entry of that number, which names symbol i by its index in the dynamic symbol table
+abbrev pub left_to : RelocationSize → ℕ → InputRelocation → ℕ → Option ℕ → Result Decision Fault
+left_to size number r i None = Err (faults.MissingResolution missing.DynamicSymbol i)
+left_to size number r i (Some index) = Ok (Left size number index (added r))
+
+-- to one with the address of a resolver, to whose answer nothing can be added (x86-64 psABI, "Relocation Types",
+-- R_X86_64_IRELATIVE)
+abbrev pub chosen_to : Layout → InputRelocation → Result ℕ Fault → Result Decision Fault
+chosen_to l r (Err f) = Err f
+chosen_to l r (Ok resolver) = if added r == 0 then Ok (Left (ByteSize Eight) (type_of l.machine Irelative) 0 resolver) else Err (faults.IfuncAddend r.addend)
+
 -- what is decided of a relocation, by its treatment
 abbrev pub decide_by : Layout → InputSection → InputRelocation → Treatment → Result Decision Fault
 decide_by l s r treatments.Nothing = Ok Nothing
 decide_by l s r (treatments.Value row) = field_for l s r row (term_of l r.symbol row.kind)
 decide_by l s r treatments.BaseRelative = moved_to l s r (address_of l r.symbol)
-decide_by l s r (treatments.Symbolic i) = Err (faults.MissingResolution missing.DynamicSymbol i)
+decide_by l s r (treatments.Symbolic i) = left_to (ByteSize Eight) (type_of l.machine Absolute) r i (index_of l i)
+decide_by l s r (treatments.Indirect i) = chosen_to l r (raw_address l (Some i))
+decide_by l s r (treatments.Extent row i) = left_to row.size r.number r i (index_of l i)
 decide_by l s r treatments.Recompile = Err (faults.RecompileWithPic r.number)
 decide_by l s r treatments.Unsupported = Err (faults.UnsupportedRelocation r.number)
 

@@ -11,4 +11,13 @@ pub enum Decision {
     /// The address `value`, which moves with the base, in 8 bytes: where it is packed it stands there and a loader adds the
     /// base to it; else 0 does, and a loader stores the sum of base and value by an entry.
     Moved { value: u64, packed: bool },
+    /// 0 into a field of that size, which a loader fills by an entry of that number, with an index in the dynamic symbol
+    /// table (0: none) and an addend.
+    Left {
+        size: RelocationSize,
+        number: u32,
+        symbol: u64,
+        /// Modulo 2^64.
+        addend: u64,
+    },
 }

@@ -6,14 +6,14 @@
 --   SectionsAreCarried     a kept section that has bytes has them in the file, and each is carried to its address
 --   SectionsAreStored      their memory has each kept section as the file has it
 --   ZerosAreStored         and zeros behind the file bytes
---   SlotsAreOwn            a static executable whose symbols are its own has slots that are
+--   SlotsAreThere          the slots of a layout without faults are whole
 --   PartsAreStored         memory has the tables of slots and stubs
 --   SlotsAreStored         and each word, each stub and the pair of the output's own thread-local data
 --   TablesAreFound         a loader finds the tables that fill addresses and slots by the dynamic section
---   SectionTablesAreFound  or, without one, by their section
---   EntriesAreRelative     whose entries add the base
---   JumpsAreAnswered       or store what a resolver answers
-use Rattle.std.specs.Prelude.{◌≡◌, ℕ, ◌+◌, ◌*◌, ◌≤◌, true, false, [], length, Some, All, slice_get}
+--   SectionTablesAreFound  or, without one, by their sections
+--   EntriesHaveChanges     each entry makes a known change in a legal world
+--   CopiesAreThere         and each symbol that is copied has an answer
+use Rattle.std.specs.Prelude.{◌≡◌, ℕ, ◌+◌, ◌*◌, ◌≤◌, true, false, [], length, Some, Ok, All, Contains, slice_get}
 use Rattle.wild_records.specs.declared.relocations.Rela.{Rela}
 use Rattle.wild_plan.specs.declared.kind.Machine.TheVariants as machine
 use Rattle.wild_plan.specs.declared.input.InputSection.{InputSection}
@@ -22,8 +22,13 @@ use Rattle.wild_plan.specs.declared.part.Role.{Role}
 use Rattle.wild_plan.specs.declared.slot.SlotWord.{SlotWord}
 use Rattle.wild_plan.specs.declared.symbol.Symbol.{Symbol}
 use Rattle.wild_plan.specs.declared.layout.Layout.{Layout}
-use Rattle.wild_plan.specs.Kinds.{needs_dynamic, is_static_executable}
-use Rattle.wild_plan.specs.OwnSymbols.{HasOwnSymbols}
+use Rattle.wild_plan.specs.declared.file.File.{File}
+use Rattle.wild_plan.specs.declared.file.Group.{Group}
+use Rattle.wild_plan.specs.declared.input.InputRelocation.{InputRelocation}
+use Rattle.wild_plan.specs.declared.slot.SlotEntry.{SlotEntry}
+use Rattle.wild_plan.specs.Kinds.{needs_dynamic}
+use Rattle.wild_plan.specs.ResolvedFlags.{HaveTheirFlags}
+use Rattle.wild_plan.specs.SlotParts.{entry_at}
 use Rattle.wild_plan.specs.Places.{is_loaded_role}
 use Rattle.wild_plan.specs.Segments.{part_with}
 use Rattle.wild_plan.specs.SlotShares.{word_size, slots_of, storage_words}
@@ -33,22 +38,27 @@ use Rattle.wild_layout.specs.Image.{bytes}
 use Rattle.wild_layout.specs.Numbers.{NumbersFit}
 use Rattle.wild_layout.specs.Faults.{flat_map_from, group_errors}
 use Rattle.wild_layout.specs.Geometry.{IsLaidOut}
-use Rattle.wild_geometry.specs.Loaded.{IsDecided, HasSection, in_file}
-use Rattle.wild_loader.specs.declared.kind.DynamicKind.TheVariants as kinds
+use Rattle.wild_geometry.specs.Loaded.{IsDecided, HasSection, InFile}
+use Rattle.wild_reloc.specs.Field.{size_width}
+use Rattle.wild_reloc.specs.declared.info.RelocationSize.{RelocationSize}
+use Rattle.wild_layout.specs.declared.decision.Decision.TheVariants.{Left}
+use Rattle.wild_layout.specs.Decide.{decided}
+use Rattle.wild_layout.specs.Left.{entry_for, copy_entry}
+use Rattle.wild_slots.specs.Entries.{entry_in}
+use Rattle.wild_loader.specs.declared.world.Answer.{Answer}
 use Rattle.wild_loader.specs.declared.memory.Machine.TheVariants as machines
 use Rattle.wild_loader.specs.declared.world.World.{World}
-use Rattle.wild_loader.specs.Changes.{kind_of}
 use Rattle.wild_loader.specs.Headers.{is_loadable_header}
 use Rattle.wild_loader.specs.Memory.{byte_in}
 use Rattle.wild_loader.specs.Laws.{HasHeaders, AreLoadable}
-use Rattle.wild_meaning.specs.World.{IsLoadable, IsLegal}
-use Rattle.wild_meaning.specs.Item.{IsKeptSection}
-use Rattle.wild_meaning.specs.Linked.{HasHeader, IsBehind}
+use Rattle.wild_meaning.specs.World.{IsLoadable, IsLegal, IsBehind, IsCopied, HasCopy}
+use Rattle.wild_meaning.specs.Item.{IsInput, IsKeptSection}
+use Rattle.wild_meaning.specs.Linked.{HasHeader}
 use Rattle.wild_loaded.specs.Owners.{HasOneOwnerEach}
 use Rattle.wild_loaded.specs.Memory.{IsStored, headers_of, image_memory}
-use Rattle.wild_loaded.specs.OwnSlots.{HasOwnSlots}
-use Rattle.wild_loaded.specs.Stored.{IsPartStored, IsWordStored, IsStubStored, IsAnswered}
-use Rattle.wild_loaded.specs.Tables.{tables_of, HasTablesIn, HasSectionsIn}
+use Rattle.wild_loaded.specs.WholeSlots.{HasWholeSlots}
+use Rattle.wild_loaded.specs.Stored.{IsPartStored, IsWordStored, IsStubStored, HasChange, filled_width}
+use Rattle.wild_loaded.specs.Tables.{relatives, HasTablesIn, HasSectionsIn}
 
 -- no byte of the image is of two pieces, each piece stands in it, and every other byte is padding
 abbrev pub OwnersAreKnown : Type 0
@@ -74,15 +84,15 @@ SectionsAreCarried = (l : Layout) (s : InputSection) → IsLaidOut l → IsKeptS
 
 -- a kept section is there as the file has it: of an address that moves what stands at its place in the file
 abbrev pub SectionsAreStored : Type 0
-SectionsAreStored = (l : Layout) (w : World) (s : InputSection) → IsLegal l w → IsLaidOut l → IsKeptSection l s → IsDecided l s → HasSection l w (image_memory l w) s in_file
+SectionsAreStored = (l : Layout) (w : World) (s : InputSection) → IsLegal l w → IsLaidOut l → IsKeptSection l s → IsDecided l s → HasSection l w (image_memory l w) s InFile
 
 -- behind the file bytes of a loaded segment are zeros
 abbrev pub ZerosAreStored : Type 0
 ZerosAreStored = (l : Layout) (w : World) (a : ℕ) → IsLegal l w → IsLaidOut l → IsBehind l a → byte_in (image_memory l w) (w.base + a) ≡ Some 0
 
--- the slots of a static executable whose symbols are its own, where no group has a fault
-abbrev pub SlotsAreOwn : Type 0
-SlotsAreOwn = (l : Layout) → HasOwnSymbols l → is_static_executable l.kind ≡ true → IsLaidOut l → flat_map_from (group_errors l) 0 l.groups ≡ [] → HasOwnSlots l
+-- slots are whole where no group has a fault
+abbrev pub SlotsAreThere : Type 0
+SlotsAreThere = (l : Layout) → HaveTheirFlags l → IsLaidOut l → flat_map_from (group_errors l) 0 l.groups ≡ [] → HasWholeSlots l
 
 -- memory has the table of each role that a program reads
 abbrev pub PartsAreStored : Type 0
@@ -90,23 +100,30 @@ PartsAreStored = (l : Layout) (w : World) (r : Role) (p : Part) → is_loaded_ro
 
 -- each word of the slots of symbols, 8 bytes behind the one before it, their stubs, and the pair
 pub record SlotsAreStored : Type 0 where
-  pub words : (l : Layout) (w : World) (i at k : ℕ) (s : Symbol) (d : SlotWord) → IsLoadable l.kind → NumbersFit l → IsLegal l w → IsLaidOut l → HasOwnSlots l → slice_get l.symbols i ≡ Some s → got_of s ≡ Some at
+  pub words : (l : Layout) (w : World) (i at k : ℕ) (s : Symbol) (d : SlotWord) → IsLoadable l.kind → NumbersFit l → IsLegal l w → IsLaidOut l → HasWholeSlots l → slice_get l.symbols i ≡ Some s → got_of s ≡ Some at
       → slice_get (slots_of l s).words k ≡ Some d → IsWordStored l w (at + word_size * k) d
-  pub stubs : (l : Layout) (w : World) (i at stub : ℕ) (s : Symbol) → IsLoadable l.kind → IsLegal l w → IsLaidOut l → HasOwnSlots l → slice_get l.symbols i ≡ Some s → got_of s ≡ Some at → plt_of s ≡ Some stub → IsStubStored l w at stub
-  pub pair : (l : Layout) (w : World) (at k : ℕ) (d : SlotWord) → IsLoadable l.kind → IsLegal l w → IsLaidOut l → HasOwnSlots l → l.tlsld ≡ Some at → slice_get (storage_words l) k ≡ Some d → IsWordStored l w (at + word_size * k) d
+  pub stubs : (l : Layout) (w : World) (i at stub : ℕ) (s : Symbol) → IsLoadable l.kind → IsLegal l w → IsLaidOut l → HasWholeSlots l → slice_get l.symbols i ≡ Some s → got_of s ≡ Some at → plt_of s ≡ Some stub → IsStubStored l w at stub
+  pub pair : (l : Layout) (w : World) (at k : ℕ) (d : SlotWord) → IsLoadable l.kind → IsLegal l w → IsLaidOut l → HasWholeSlots l → l.tlsld ≡ Some at → slice_get (storage_words l) k ≡ Some d → IsWordStored l w (at + word_size * k) d
 
 -- the image of an output that needs a dynamic section has one, by which a loader finds the tables that the groups give
 abbrev pub TablesAreFound : Type 0
-TablesAreFound = (l : Layout) → needs_dynamic l.kind ≡ true → NumbersFit l → IsLaidOut l → HasOwnSlots l → HasTablesIn l
+TablesAreFound = (l : Layout) → needs_dynamic l.kind ≡ true → NumbersFit l → IsLaidOut l → HasWholeSlots l → HasTablesIn l
 
 -- any other has none, and a loader finds them by a section
 abbrev pub SectionTablesAreFound : Type 0
-SectionTablesAreFound = (l : Layout) → IsLoadable l.kind → needs_dynamic l.kind ≡ false → NumbersFit l → IsLaidOut l → HasOwnSlots l → HasSectionsIn l
+SectionTablesAreFound = (l : Layout) → IsLoadable l.kind → needs_dynamic l.kind ≡ false → NumbersFit l → IsLaidOut l → HasWholeSlots l → HasSectionsIn l
 
--- each entry of these tables is one that adds the base
-abbrev pub EntriesAreRelative : Type 0
-EntriesAreRelative = (l : Layout) → l.machine ≡ machine.X86_64 → NumbersFit l → All (λ (e : Rela). kind_of machines.X86_64 e.number ≡ Some kinds.Relative) (tables_of l).entries
+-- each entry makes a known change in a legal world: a relative one of eight bytes; those of a symbol's slots, by its answer or its
+-- resolver's, and that of the pair; that of a field that is left to it of the field's; that of a copy of the answer's bytes
+pub record EntriesHaveChanges : Type 0 where
+  pub relative : (l : Layout) (w : World) (g : Group) (f : File) → l.machine ≡ machine.X86_64 → NumbersFit l → Contains l.groups g → Contains g.files f → All (λ (e : Rela). HasChange w e 8) (relatives l f)
+  pub slots : (l : Layout) (w : World) (i at k : ℕ) (s : Symbol) (d : SlotWord) (e : SlotEntry) → l.machine ≡ machine.X86_64 → NumbersFit l → IsLegal l w → IsLaidOut l → HasWholeSlots l
+      → slice_get l.symbols i ≡ Some s → slice_get (slots_of l s).words k ≡ Some d → entry_in d ≡ Some e → HasChange w (entry_at l.machine at e) (filled_width e)
+  pub pair : (l : Layout) (w : World) (at : ℕ) (d : SlotWord) (e : SlotEntry) → l.machine ≡ machine.X86_64 → IsLegal l w → Contains (storage_words l) d → entry_in d ≡ Some e → HasChange w (entry_at l.machine at e) 8
+  pub left : (l : Layout) (w : World) (s : InputSection) (r : InputRelocation) (z : RelocationSize) (number symbol addend at : ℕ) → l.machine ≡ machine.X86_64 → NumbersFit l → IsLegal l w → IsLaidOut l → Contains s.relocations r
+      → IsInput l s → decided l s r ≡ Ok (Left z number symbol addend) → HasChange w (entry_for at number symbol addend) (size_width z)
+  pub copies : (l : Layout) (w : World) (i raw : ℕ) (x : Answer) → l.machine ≡ machine.X86_64 → NumbersFit l → IsLegal l w → IsLaidOut l → HasCopy l w i raw x → HasChange w (copy_entry l i) (length x.bytes)
 
--- and each of those that stubs go through is one that a resolver answers
-abbrev pub JumpsAreAnswered : Type 0
-JumpsAreAnswered = (l : Layout) (w : World) → l.machine ≡ machine.X86_64 → NumbersFit l → IsLegal l w → HasOwnSlots l → All (IsAnswered w) (tables_of l).jumps
+-- where no group has a fault, each symbol that is copied has an address and an answer
+abbrev pub CopiesAreThere : Type 0
+CopiesAreThere = (l : Layout) (w : World) (i : ℕ) → IsLegal l w → IsLaidOut l → flat_map_from (group_errors l) 0 l.groups ≡ [] → IsCopied l i → (raw : ℕ) (x : Answer) × HasCopy l w i raw x × ((copy_entry l i).offset ≡ raw)

@@ -1,6 +1,6 @@
 pub mod Owners
 pub mod Memory
-pub mod OwnSlots
+pub mod WholeSlots
 pub mod Tables
 pub mod Stored
 pub mod Laws

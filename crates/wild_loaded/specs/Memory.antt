@@ -15,16 +15,18 @@ use Rattle.wild_layout.specs.Sites.{section_bytes}
 use Rattle.wild_layout.specs.Image.{bytes}
 use Rattle.wild_layout.specs.Geometry.{IsCarried}
 use Rattle.wild_geometry.specs.Slots.{HasSlots}
-use Rattle.wild_geometry.specs.Loaded.{IsDecided, HasSection, in_memory}
+use Rattle.wild_geometry.specs.Loaded.{IsDecided, HasSection, InMemory}
 use Rattle.wild_loader.specs.declared.memory.Machine.TheVariants as machines
 use Rattle.wild_loader.specs.declared.memory.Memory.{Memory}
 use Rattle.wild_loader.specs.declared.world.World.{World}
+use Rattle.wild_loader.specs.declared.world.Answer.{Answer}
 use Rattle.wild_loader.specs.Headers.{machine_of}
 use Rattle.wild_loader.specs.Load.{load}
-use Rattle.wild_loader.specs.Memory.{byte_in}
+use Rattle.wild_loader.specs.Memory.{byte_in, Holds}
 use Rattle.wild_loader.specs.Laws.{loaded_memory}
 use Rattle.wild_meaning.specs.Item.{IsInput, IsKeptSection}
-use Rattle.wild_meaning.specs.Linked.{IsBehind}
+use Rattle.wild_meaning.specs.World.{IsBehind, HasCopy}
+use Rattle.wild_meaning.specs.Linked.{IsNotCopied}
 
 -- the section has bytes in the file, as many as it has room for, and each is carried to its address
 pub record IsStored (l : Layout) (s : InputSection) : Type 0 where
@@ -45,11 +47,12 @@ abbrev pub EachDecided : Layout → Type 0
 EachDecided l = (s : InputSection) → IsInput l s → is_read s ≡ true → IsDecided l s
 
 -- the loader accepts the image; memory has each kept section as it was decided, addresses that move more by the base, the
--- slots and stubs, and zeros behind the file bytes of segments
+-- slots and stubs, copies of symbols, and else zeros behind the file bytes of segments
 pub record HasMemory (l : Layout) (w : World) : Type 0 where
   pub memory : Memory
   pub accepted : load w (bytes l) ≡ Ok memory
   pub machine : memory.machine ≡ machines.X86_64
-  pub sections : (s : InputSection) → IsKeptSection l s → HasSection l w memory s (in_memory w)
+  pub sections : (s : InputSection) → IsKeptSection l s → HasSection l w memory s InMemory
   pub slots : HasSlots l w memory
-  pub zeros : (a : ℕ) → IsBehind l a → byte_in memory (w.base + a) ≡ Some 0
+  pub zeros : (a : ℕ) → IsBehind l a → IsNotCopied l w a → byte_in memory (w.base + a) ≡ Some 0
+  pub copies : (i raw : ℕ) (x : Answer) → HasCopy l w i raw x → Holds memory (w.base + raw) x.bytes

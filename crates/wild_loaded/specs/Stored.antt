@@ -3,7 +3,7 @@
 --   IsPartStored l w r p  memory has the table of a role where its part is
 --   IsWordStored l w a d  memory has a word of a slot as the file has it
 --   IsStubStored l w ..   memory has a stub
---   IsAnswered w e        the entry is one of a resolver, which answers
+--   HasChange w e n       the entry makes a loader change n bytes
 use Rattle.std.specs.Prelude.{◌≡◌, ℕ, ◌+◌, ◌-◌, ◌^◌, ◌<◌, ◌≤◌, Some, Ok, Contains}
 use Rattle.wild_words.specs.Words.{word}
 use Rattle.wild_records.specs.Abi.Segment.{pt_load}
@@ -12,15 +12,19 @@ use Rattle.wild_plan.specs.declared.part.Part.{Part}
 use Rattle.wild_plan.specs.declared.part.Role.{Role}
 use Rattle.wild_plan.specs.declared.part.Role.TheVariants as role
 use Rattle.wild_plan.specs.declared.section.Segment.{Segment}
+use Rattle.wild_reloc.specs.declared.dynamic.DynamicRelocationKind.{DynamicRelocationKind}
+use Rattle.wild_reloc.specs.declared.dynamic.DynamicRelocationKind.TheVariants as entry_kinds
+use Rattle.wild_plan.specs.declared.slot.SlotEntry.{SlotEntry}
 use Rattle.wild_plan.specs.declared.slot.SlotWord.{SlotWord}
 use Rattle.wild_plan.specs.declared.layout.Layout.{Layout}
 use Rattle.wild_plan.specs.SlotParts.{word_of}
 use Rattle.wild_plan.specs.Stub.{stub_x86_64}
 use Rattle.wild_layout.specs.Geometry.{table_bytes}
-use Rattle.wild_loader.specs.declared.kind.DynamicKind.TheVariants as kinds
+use Rattle.wild_loader.specs.declared.kind.DynamicKind.{DynamicKind}
+use Rattle.wild_loader.specs.declared.change.Change.{Change}
 use Rattle.wild_loader.specs.declared.memory.Machine.TheVariants as machines
 use Rattle.wild_loader.specs.declared.world.World.{World}
-use Rattle.wild_loader.specs.Changes.{kind_of, plus, answer_at}
+use Rattle.wild_loader.specs.Changes.{kind_of, change_of, size_of}
 use Rattle.wild_loader.specs.Memory.{Holds}
 use Rattle.wild_slots.specs.Stand.{part_of_word, role_of_words, StandsAt}
 use Rattle.wild_loaded.specs.Memory.{image_memory}
@@ -52,9 +56,18 @@ pub record IsStubStored (l : Layout) (w : World) (at stub : ℕ) : Type 0 where
   pub stands : StandsAt l role.PltGot stub (stub_x86_64 at stub).bytes
   pub held : Holds (image_memory l w) (w.base + stub) (stub_x86_64 at stub).bytes
 
--- a loader asks a resolver what to store, which answers with an address
-pub record IsAnswered (w : World) (e : Rela) : Type 0 where
-  pub kind : kind_of machines.X86_64 e.number ≡ Some kinds.Resolved
-  pub answer : ℕ
-  pub fits : answer < 2 ^ 64
-  pub given : answer_at w (plus w.base e) ≡ Ok answer
+-- the entry makes a loader change n bytes
+pub record HasChange (w : World) (e : Rela) (n : ℕ) : Type 0 where
+  pub kind : DynamicKind
+  pub known : kind_of machines.X86_64 e.number ≡ Some kind
+  pub change : Change
+  pub made : change_of w kind e ≡ Ok change
+  pub size : size_of change ≡ n
+
+-- the bytes that the entry of a slot fills: a descriptor's two words, else one
+abbrev pub filled_width : SlotEntry → ℕ
+filled_width e = width_by e.kind
+  where
+    width_by : DynamicRelocationKind → ℕ
+    width_by entry_kinds.TlsDesc = 16
+    width_by other = 8

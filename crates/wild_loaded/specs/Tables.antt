@@ -1,25 +1,28 @@
 -- The tables that fill addresses and slots, in the image.
 --   group_words l g   the words of packed places of a group
 --   relatives l f     the relative entries of a file
+--   generals l f      its entries that name symbols and resolvers
 --   tables_of l       the words and entries that the groups of a layout give
 --   HasTablesIn l     the image has a dynamic section, and it names these tables
---   HasSectionsIn l   the image has no dynamic section, and one section at most has entries: these
-use Rattle.std.specs.Prelude.{◌≡◌, ℕ, ◌<◌, List, [], ◌++◌, length, All}
+--   HasSectionsIn l   the image has no dynamic section, and these entries stand in its sections
+use Rattle.std.specs.Prelude.{◌≡◌, ℕ, ◌<◌, if◌then◌else◌, List, [], ◌++◌, All, IsPermutation}
 use Rattle.std.specs.List.{flat_map}
 use Rattle.wild_records.specs.declared.dynamic.DynamicEntry.{DynamicEntry}
 use Rattle.wild_records.specs.declared.relocations.Rela.{Rela}
+use Rattle.wild_records.specs.declared.section_header.SectionHeader.{SectionHeader}
 use Rattle.wild_plan.specs.declared.slot_parts.EntryPart.TheVariants as entries
 use Rattle.wild_plan.specs.declared.file.File.{File}
 use Rattle.wild_plan.specs.declared.file.Group.{Group}
 use Rattle.wild_plan.specs.declared.layout.Layout.{Layout}
+use Rattle.wild_plan.specs.FileRoles.{is_prelude}
 use Rattle.wild_plan.specs.SlotShares.{block_words}
 use Rattle.wild_headers.specs.Headers.{file_header, section_headers_of}
 use Rattle.wild_layout.specs.Image.{bytes}
 use Rattle.wild_layout.specs.Moved.{file_entries, file_words}
-use Rattle.wild_layout.specs.SlotBytes.{slot_entries_of, flat_places_of}
+use Rattle.wild_layout.specs.Left.{file_generals}
+use Rattle.wild_layout.specs.SlotBytes.{slot_entries_of, flat_places_of, storage_entries}
 use Rattle.wild_loader.specs.declared.tables.Tables.{Tables}
-use Rattle.wild_loader.specs.Laws.{HasDynamic, HasTables, IsStatic}
-use Rattle.wild_loader.specs.EntryLaws.{HasSectionTable}
+use Rattle.wild_loader.specs.Laws.{HasDynamic, HasTables, HasSectionTables, section_relas, IsStatic}
 use Rattle.wild_loaded.specs.Memory.{headers_of}
 
 -- the words of packed places: file by file those of input sections and those of slots, and then those of the block
@@ -33,12 +36,19 @@ group_words l g = flat_map (file_packed l) g.files ++ block_words l g
 abbrev pub relatives : Layout → File → List Rela
 relatives l f = file_entries l f ++ slot_entries_of entries.Relative l f
 
--- what the groups give, file by file: words of packed places, relative entries, and those of the slots that stubs go
--- through; where no other entry is there
+-- its other entries: of the first file that of the pair that stands once; those of copies and of fields; and those of slots
+abbrev pub first_generals : Layout → File → List Rela
+first_generals l f = if is_prelude f.role then storage_entries l else []
+
+abbrev pub generals : Layout → File → List Rela
+generals l f = first_generals l f ++ (file_generals l f ++ slot_entries_of entries.General l f)
+
+-- what the groups give, file by file: words of packed places, relative entries and then the others, and those of the slots that
+-- stubs go through
 abbrev pub tables_of : Layout → Tables
 tables_of l = record {
   words = flat_map (group_words l) l.groups;
-  entries = flat_map (λ (g : Group). flat_map (relatives l) g.files) l.groups;
+  entries = flat_map (λ (g : Group). flat_map (relatives l) g.files) l.groups ++ flat_map (λ (g : Group). flat_map (generals l) g.files) l.groups;
   jumps = flat_map (λ (g : Group). flat_map (slot_entries_of entries.Plt l) g.files) l.groups;
 }
 
@@ -48,9 +58,11 @@ pub record HasTablesIn (l : Layout) : Type 0 where
   pub dynamic : HasDynamic (bytes l) (headers_of l) entries
   pub tables : HasTables (bytes l) (headers_of l) entries (tables_of l)
 
--- the image has no dynamic section and no packed place, and the entries stand in one section
+-- the image has no dynamic section and no packed place, and its sections have the entries, in their own order
 pub record HasSectionsIn (l : Layout) : Type 0 where
   pub static : All IsStatic (headers_of l)
   pub words : (tables_of l).words ≡ []
-  pub entries : HasSectionTable (bytes l) (section_headers_of l l.sections) ((tables_of l).entries ++ (tables_of l).jumps)
-  pub sections : 0 < length ((tables_of l).entries ++ (tables_of l).jumps) → 0 < (file_header l).section_offset
+  pub of : SectionHeader → List Rela
+  pub sections : HasSectionTables (bytes l) (section_headers_of l l.sections) of
+  pub all : IsPermutation (section_relas (section_headers_of l l.sections) of) ((tables_of l).entries ++ (tables_of l).jumps)
+  pub told : 0 < (file_header l).section_offset

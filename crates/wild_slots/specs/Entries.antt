@@ -1,52 +1,96 @@
 -- Which entries slots have (x86-64 psABI, "Relocation Types"; ELF Handling For Thread-Local Storage).
---   IsIrelative l f e       the entry fills the first slot of an IFUNC symbol of the file
---   OwnSymbolsAreFilled     in a static executable whose symbols are its own there are no others, but for addresses that move
+--   IsKnownEntry s e        the entry names the symbol, its resolver, or the output's own module
+--   EntriesAreKnown         each entry of a symbol's words does
+--   IsOfWord l f part e     the entry is that of a word of a symbol of the file
+--   EntriesAreOfWords       each entry of a file's slots is
 --   FixedOutputsMoveNothing in an output at its own addresses none move
-use Rattle.std.specs.Prelude.{◌≡◌, ℕ, true, false, [], Some, All, Contains}
-use Rattle.std.specs.Int.{cast_signed, w64}
+use Rattle.std.specs.Prelude.{◌≡◌, ℕ, ◌+◌, ◌*◌, ◌%◌, ◌^◌, ◌<◌, ◌⊎◌, ⊤, true, false, [], Option, Some, None, All, Contains, slice_get}
 use Rattle.wild_records.specs.declared.relocations.Rela.{Rela}
-use Rattle.wild_reloc.specs.declared.dynamic.DynamicRelocationKind.TheVariants.{Irelative}
+use Rattle.wild_reloc.specs.declared.dynamic.DynamicRelocationKind.{DynamicRelocationKind}
+use Rattle.wild_reloc.specs.declared.dynamic.DynamicRelocationKind.TheVariants as kinds
 use Rattle.wild_plan.specs.declared.file.File.{File}
 use Rattle.wild_plan.specs.declared.file.Group.{Group}
 use Rattle.wild_plan.specs.declared.symbol.Resolution.{Resolution}
 use Rattle.wild_plan.specs.declared.symbol.Symbol.{Symbol}
 use Rattle.wild_plan.specs.declared.layout.Layout.{Layout}
+use Rattle.wild_plan.specs.declared.slot.SlotEntry.{SlotEntry}
+use Rattle.wild_plan.specs.declared.slot.SlotWord.{SlotWord}
+use Rattle.wild_plan.specs.declared.slot.SlotWord.TheVariants.{General, Plt}
+use Rattle.wild_plan.specs.declared.slot_parts.EntryPart.{EntryPart}
 use Rattle.wild_plan.specs.declared.slot_parts.WordPart.TheVariants as words
 use Rattle.wild_plan.specs.declared.slot_parts.EntryPart.TheVariants as entries
 use Rattle.wild_plan.specs.Flags.{has_flag, ifunc}
-use Rattle.wild_plan.specs.Kinds.{is_static_executable, is_position_independent}
-use Rattle.wild_plan.specs.OwnSymbols.{HasOwnSymbols}
-use Rattle.wild_plan.specs.SlotParts.{type_of}
-use Rattle.wild_plan.specs.SlotShares.{own_symbols, group_block}
-use Rattle.wild_layout.specs.SlotBytes.{slot_words_of, slot_entries_of, flat_places_of, storage_entries}
+use Rattle.wild_plan.specs.Kinds.{is_position_independent}
+use Rattle.wild_plan.specs.ResolvedFlags.{HasItsFlags}
+use Rattle.wild_plan.specs.SymbolSlots.{got_of}
+use Rattle.wild_plan.specs.SlotParts.{entry_of}
+use Rattle.wild_plan.specs.SlotShares.{word_size, own_symbols, slots_of, slots_at, storage_words, group_block}
+use Rattle.wild_layout.specs.SlotBytes.{slot_words_of, slot_entries_of, flat_places_of}
 
--- the entry by which a loader stores what the resolver at the symbol's value answers (R_X86_64_IRELATIVE: indirect (B + A))
-abbrev pub irelative_entry : Layout → ℕ → ℕ → Rela
-irelative_entry l at value = record { offset = at; number = type_of l.machine Irelative; symbol = 0; addend = cast_signed w64 value }
+-- ---- what entries name
 
--- the entry fills the first slot of an IFUNC symbol of the file
-pub record IsIrelative (l : Layout) (f : File) (e : Rela) : Type 0 where
+-- entries of these kinds may name a symbol
+abbrev pub NamesSymbols : DynamicRelocationKind → Type 0
+NamesSymbols kinds.GotEntry = ⊤
+NamesSymbols kinds.JumpSlot = ⊤
+NamesSymbols kinds.DtpMod = ⊤
+NamesSymbols kinds.DtpOff = ⊤
+NamesSymbols kinds.TpOff = ⊤
+NamesSymbols kinds.TlsDesc = ⊤
+NamesSymbols other = ⊥
+
+-- and of these none, for the output's own module
+abbrev pub NamesModules : DynamicRelocationKind → Type 0
+NamesModules kinds.DtpMod = ⊤
+NamesModules kinds.TpOff = ⊤
+NamesModules kinds.TlsDesc = ⊤
+NamesModules other = ⊥
+
+-- the entry names the symbol by its index in the dynamic symbol table, and adds nothing
+pub record NamesItself (s : Symbol) (e : SlotEntry) : Type 0 where
+  pub resolution : Resolution
+  pub resolved : s.resolution ≡ Some resolution
+  pub index : resolution.dynamic_symbol_index ≡ Some e.symbol
+  pub kind : NamesSymbols e.kind
+  pub nothing : e.addend ≡ 0
+
+-- the entry has the address of the symbol's resolver
+pub record NamesResolver (s : Symbol) (e : SlotEntry) : Type 0 where
+  pub resolution : Resolution
+  pub resolved : s.resolution ≡ Some resolution
+  pub indirect : has_flag s.flags ifunc ≡ true
+  pub kind : e.kind ≡ kinds.Irelative
+  pub none : e.symbol ≡ 0
+  pub is : e.addend ≡ resolution.raw_value
+
+abbrev pub IsKnownEntry : Symbol → SlotEntry → Type 0
+IsKnownEntry s e = NamesItself s e ⊎ (NamesResolver s e ⊎ (NamesModules e.kind × (e.symbol ≡ 0)))
+
+-- the entry of a word
+abbrev pub entry_in : SlotWord → Option SlotEntry
+entry_in (General e) = Some e
+entry_in (Plt e) = Some e
+entry_in other = None
+
+-- each entry of a symbol's words, where what was decided of the symbol has its flags, and of the pair that stands once
+pub record EntriesAreKnown : Type 0 where
+  pub words : (l : Layout) (s : Symbol) (d : SlotWord) (e : SlotEntry) → HasItsFlags s → Contains (slots_of l s).words d → entry_in d ≡ Some e → IsKnownEntry s e
+  pub pair : (l : Layout) (d : SlotWord) (e : SlotEntry) → Contains (storage_words l) d → entry_in d ≡ Some e → (e.kind ≡ kinds.DtpMod) × (e.symbol ≡ 0) × (e.addend ≡ 0)
+
+-- ---- where they come from
+
+-- the entry is that of a word of a symbol of the file, at the word's place
+pub record IsOfWord (l : Layout) (f : File) (part : EntryPart) (e : Rela) : Type 0 where
   pub symbol : Symbol
   pub own : Contains (own_symbols l f) symbol
-  pub resolution : Resolution
-  pub resolved : symbol.resolution ≡ Some resolution
-  pub indirect : has_flag symbol.flags ifunc ≡ true
-  pub at : ℕ
-  pub slot : resolution.got_address ≡ Some at
-  pub is : e ≡ irelative_entry l at resolution.raw_value
+  pub number : ℕ
+  pub word : SlotWord
+  pub there : slice_get (slots_of l symbol).words number ≡ Some word
+  pub is : entry_of part l.machine l.options.relr ((slots_at symbol + word_size * number) % 2 ^ 64) word ≡ Some e
 
--- the entries of a file's slots, other than those for addresses that move with the base
-pub record HasOwnEntries (l : Layout) (f : File) : Type 0 where
-  pub general : slot_entries_of entries.General l f ≡ []
-  pub plt : All (IsIrelative l f) (slot_entries_of entries.Plt l f)
-
--- in a static executable whose symbols are its own, whatever is in its slots
-pub record OwnEntries (l : Layout) : Type 0 where
-  pub pair : storage_entries l ≡ []
-  pub files : (f : File) → HasOwnEntries l f
-
-abbrev pub OwnSymbolsAreFilled : Type 0
-OwnSymbolsAreFilled = (l : Layout) → HasOwnSymbols l → is_static_executable l.kind ≡ true → OwnEntries l
+-- where the slots' places are numbers of 64 bits
+abbrev pub EntriesAreOfWords : Type 0
+EntriesAreOfWords = (l : Layout) (f : File) (part : EntryPart) → All (λ (s : Symbol). (at : ℕ) → got_of s ≡ Some at → at < 2 ^ 64) l.symbols → All (IsOfWord l f part) (slot_entries_of part l f)
 
 -- no slot has an address that moves with the base
 pub record MovesNothing (l : Layout) : Type 0 where

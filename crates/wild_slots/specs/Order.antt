@@ -15,19 +15,15 @@ use Rattle.wild_plan.specs.declared.layout.Layout.{Layout}
 use Rattle.wild_plan.specs.Contents.{file_misplaced}
 use Rattle.wild_plan.specs.SlotShares.{writes_slots, own_symbols}
 use Rattle.wild_plan.specs.SlotPlaces.{start_of}
-use Rattle.wild_plan.specs.OwnSymbols.{HasOwnSymbols}
+use Rattle.wild_plan.specs.ResolvedFlags.{HasItsFlags, HaveTheirFlags}
 use Rattle.wild_plan.specs.WellFormed.{check_slots, check_slot_flags, first_clause}
 use Rattle.wild_layout.specs.Geometry.{table_bytes}
-
--- what was decided of the symbol has its flags
-abbrev pub HasItsFlags : Symbol → Type 0
-HasItsFlags s = (r : Resolution) → s.resolution ≡ Some r → r.flags ≡ s.flags
 
 -- slots and stubs follow each other, flags and slots agree, and the first file is the only one that writes what stands once
 pub record HasSlotsInOrder (l : Layout) : Type 0 where
   pub slots : check_slots l ≡ Ok tt
   pub flags : check_slot_flags l ≡ Ok tt
-  pub resolved : All HasItsFlags l.symbols
+  pub resolved : HaveTheirFlags l
   pub files : file_misplaced true 0 l.groups ≡ None
 
 -- the symbols whose slots the files of a group write, in their order, and those of all groups
@@ -52,6 +48,6 @@ end_of l r = start_of l r + length (table_bytes l r)
 
 -- ---- law
 
--- so it is in a layout whose clauses hold, and whose symbols are its own
+-- so it is in a layout whose clauses hold, and whose resolutions have their symbols' flags
 abbrev pub SlotsAreInOrder : Type 0
-SlotsAreInOrder = (l : Layout) → first_clause l ≡ Ok tt → HasOwnSymbols l → HasSlotsInOrder l
+SlotsAreInOrder = (l : Layout) → first_clause l ≡ Ok tt → HaveTheirFlags l → HasSlotsInOrder l

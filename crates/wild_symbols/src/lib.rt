@@ -1,6 +1,7 @@
 //! The symbols of a group and their names.
 #![tactic(auto)]
 
+mod dynamic;
 mod faults;
 mod laws;
 mod prefix;
@@ -10,6 +11,7 @@ mod symbol_table;
 mod tests;
 mod writer;
 
+pub use dynamic::SymbolFields;
 pub use laws::{strings_stand, symbols_are_read};
 pub use prefix::{KeptBehind, SymbolTablePrefix};
 pub use strtab::StrTabWriter;

@@ -1,6 +1,8 @@
 -- What the writer's decisions write is what the judge's formulas give.
 --   KindGives k           the value of a kind is what the kind's expression gives
---   AddressesGive         an address that moves is S + A, once it is moved
+--   KindGivesLinked k     or what it gives with the output's own symbol
+--   AddressesGive, AddressesGiveLinked   an address that moves is S + A, once it is moved
+--   EntriesGive           so is what an entry stores in a field that is left to it
 --   ThreadPlacesAreKnown  a symbol's place in the thread's data, and its distance from the thread pointer
 --   FieldsHold ..         memory has an item's fields as the formulas have them, and its other bytes
 --   SectionsHold          so it has each kept section that is there as it was decided
@@ -10,19 +12,19 @@ use Rattle.wild_plan.specs.declared.kind.Machine.TheVariants as machine
 use Rattle.wild_plan.specs.declared.input.InputRelocation.{InputRelocation}
 use Rattle.wild_plan.specs.declared.input.InputSection.{InputSection}
 use Rattle.wild_plan.specs.declared.layout.Layout.{Layout}
-use Rattle.wild_plan.specs.OwnSymbols.{HasOwnSymbols}
+use Rattle.wild_plan.specs.ResolvedFlags.{HaveTheirFlags}
 use Rattle.wild_reloc.specs.Agreement.{plain_value}
 use Rattle.wild_reloc.specs.declared.info.RelocationKind.{RelocationKind}
-use Rattle.wild_layout.specs.declared.decision.Decision.TheVariants.{Moved}
+use Rattle.wild_layout.specs.declared.decision.Decision.TheVariants.{Moved, Left}
 use Rattle.wild_layout.specs.Decide.{decided}
 use Rattle.wild_layout.specs.Numbers.{NumbersFit}
 use Rattle.wild_layout.specs.Geometry.{IsLaidOut}
-use Rattle.wild_geometry.specs.Loaded.{IsDecided, in_memory, HasSection}
+use Rattle.wild_geometry.specs.Loaded.{IsDecided, InMemory, number_at, ReadsLeft, HasSection}
 use Rattle.wild_geometry.specs.Slots.{HasSlots}
 use Rattle.wild_loader.specs.declared.memory.Machine.TheVariants as machines
 use Rattle.wild_loader.specs.declared.memory.Memory.{Memory}
 use Rattle.wild_loader.specs.declared.world.World.{World}
-use Rattle.wild_meaning.specs.World.{IsExecutable, IsFirstModule, IsLegal}
+use Rattle.wild_meaning.specs.World.{IsFirstModule, IsLoadable, IsLegal}
 use Rattle.wild_meaning.specs.Value.{HasRaw}
 use Rattle.wild_meaning.specs.Thread.{thread_pointer, HasDistance, IsThreadPlace}
 use Rattle.wild_meaning.specs.Item.{Item, item_of, IsKeptSection, IsReference}
@@ -31,13 +33,28 @@ use Rattle.wild_meaning.specs.Formula.{IsSum, Gives}
 use Rattle.wild_meaning.specs.Reference.{IsAsked, HoldsPlain}
 use Rattle.wild_values.specs.Terms.{IsPlaced, HasTerm}
 
--- the value that the writer computes for a kind is what the expression of that kind gives (x86-64 psABI, "Relocation Types")
+-- the value that the writer computes for a kind is what the expression of that kind gives, where that is followed (x86-64 psABI,
+-- "Relocation Types")
 abbrev pub KindGives : RelocationKind → Type 0
-KindGives k = (l : Layout) (w : World) (m : Memory) (s : InputSection) (r : InputRelocation) (x : ℕ) → HasTerm l w m s r k x → Gives (plain_value k) l w m (item_of s) r x
+KindGives k = (l : Layout) (w : World) (m : Memory) (s : InputSection) (r : InputRelocation) (x : ℕ) → HasTerm l w m s r k x → IsFollowed l r k → Gives (plain_value k) l w m (item_of s) r x
 
--- an address that is decided to move is S + A of the world, once it is more by the base
+-- else, at base 0, it is what the expression gives with the output's own symbol: of the kinds that take a symbol's address or its
+-- offset from the thread pointer
+abbrev pub KindGivesLinked : RelocationKind → Type 0
+KindGivesLinked k = (l : Layout) (w : World) (m : Memory) (s : InputSection) (r : InputRelocation) (x i : ℕ) → HasTerm l w m s r k x → w.base ≡ 0 → r.symbol ≡ Some i → (IsStubbed l i → ⊥) ⊎ TakesOffset (plain_value k) → GivesLinked (plain_value k) l w (item_of s) r x
+
+-- an address that is decided to move is S + A of the world, once it is more by the base, where the symbol is followed
 abbrev pub AddressesGive : Type 0
-AddressesGive = (l : Layout) (w : World) (m : Memory) (s : InputSection) (r : InputRelocation) (v : ℕ) (packed : Bool) → IsPlaced l w m → decided l s r ≡ Ok (Moved v packed) → IsSum l w m r (in_memory w v packed)
+AddressesGive = (l : Layout) (w : World) (m : Memory) (s : InputSection) (r : InputRelocation) (v : ℕ) (packed : Bool) → IsPlaced l w m → NamesSymbol l r → decided l s r ≡ Ok (Moved v packed) → IsFollowed l r kinds.Absolute → IsSum l w m r (number_at InMemory w v packed)
+
+-- else, at base 0, with the output's own symbol
+abbrev pub AddressesGiveLinked : Type 0
+AddressesGiveLinked = (l : Layout) (w : World) (m : Memory) (s : InputSection) (r : InputRelocation) (v i : ℕ) (packed : Bool) → IsPlaced l w m → NamesSymbol l r → decided l s r ≡ Ok (Moved v packed) → w.base ≡ 0 → r.symbol ≡ Some i → (IsStubbed l i → ⊥) → IsOwnSum l w r (number_at InMemory w v packed)
+
+-- a field that is left to an entry has what the formula of the relocation's type gives, by what the entry stores
+abbrev pub EntriesGive : Type 0
+EntriesGive = (l : Layout) (w : World) (m : Memory) (s : InputSection) (r : InputRelocation) (z : RelocationSize) (number symbol addend : ℕ) (bs : List ℕ) → IsPlaced l w m → NamesSymbol l r → decided l s r ≡ Ok (Left z number symbol addend)
+    → ReadsLeft InMemory w z number symbol addend bs → (f : Formula) × (formula_of l.machine r.number ≡ Some f) × (x : ℕ) × Gives f.value l w m (item_of s) r x × Reads f.form bs x
 
 -- in a world with the executable as its first module: the distance of its thread-local data, where a symbol of these lies, and
 -- that this is its address less the thread pointer ("ELF Handling For Thread-Local Storage", "Run-Time Handling of TLS")
@@ -47,12 +64,12 @@ pub record ThreadPlacesAreKnown : Type 0 where
   pub less : (l : Layout) (w : World) (raw a : ℕ) → (f : IsFirstModule l w) → ((cast_unsigned w64 f.distance + raw + (2 ^ 64 - l.tls.start)) % 2 ^ 64 + a) % 2 ^ 64 ≡ (raw + a + (2 ^ 64 - thread_pointer l % 2 ^ 64)) % 2 ^ 64
 
 -- what memory has of an item by its fields: each reference that is asked reads as its formula, within a template that is the
--- input's, and every byte in no field is the input's
+-- input's, those that take the output's own symbol at base 0 as that, and every byte in no field is the input's
 pub record FieldsHold (l : Layout) (w : World) (m : Memory) (item : Item) : Type 0 where
-  pub references : (r : InputRelocation) → IsReference item r → IsAsked l w item r → HoldsPlain l w m item r
+  pub references : (r : InputRelocation) → IsReference item r → IsAsked l w item r → (IsLinkedAlone l item r → ⊥) → HoldsPlain l w m item r
+  pub linked : (r : InputRelocation) → IsReference item r → IsLinkedAlone l item r → w.base ≡ 0 → HoldsLinked l w m item r
   pub others : (k : ℕ) → k < length item.bytes → InNoField l item k → IsInputByte w m item k
 
--- so it is of a kept section of an x86-64 executable whose symbols are its own, where memory has their slots and stubs, and the
--- section as it was decided
+-- so it is of a kept section of an x86-64 output, where memory has slots and stubs, and the section as it was decided
 abbrev pub SectionsHold : Type 0
-SectionsHold = (l : Layout) (w : World) (m : Memory) (s : InputSection) → l.machine ≡ machine.X86_64 → IsExecutable l.kind → HasOwnSymbols l → NumbersFit l → IsLegal l w → IsLaidOut l → m.machine ≡ machines.X86_64 → HasSlots l w m → IsKeptSection l s → IsDecided l s → HasSection l w m s (in_memory w) → FieldsHold l w m (item_of s)
+SectionsHold = (l : Layout) (w : World) (m : Memory) (s : InputSection) → l.machine ≡ machine.X86_64 → IsLoadable l.kind → HaveTheirFlags l → NumbersFit l → IsLegal l w → IsLaidOut l → m.machine ≡ machines.X86_64 → HasSlots l w m → IsKeptSection l s → IsDecided l s → HasSection l w m s InMemory → FieldsHold l w m (item_of s)

@@ -1,0 +1,53 @@
+-- The entries that name symbols and resolvers: those of fields that are left to a loader, and those of symbols that are copied
+-- into the output (x86-64 psABI, "Relocation Types"; aaelf64, "Dynamic relocations").
+--   left_entry l s r       the entry of a relocation whose field is left to one; of what a symbol lacks it has 0
+--   section_generals l s   those of an input section, in the order of the relocations
+--   copy_entry l i         the entry by which a loader copies symbol i
+--   file_generals l f      those of a file: copies, and then fields
+use Rattle.std.specs.Prelude.{ℕ, ◌%◌, ◌^◌, List, ◌++◌, map, Some, unwrap_or}
+use Rattle.std.specs.Int.{w64, cast_signed}
+use Rattle.std.specs.List.{flat_map}
+use Rattle.wild_records.specs.declared.relocations.Rela.{Rela}
+use Rattle.wild_reloc.specs.declared.dynamic.DynamicRelocationKind.TheVariants.{Absolute, Copy, Irelative}
+use Rattle.wild_plan.specs.declared.input.InputRelocation.{InputRelocation}
+use Rattle.wild_plan.specs.declared.input.InputSection.{InputSection}
+use Rattle.wild_plan.specs.declared.file.File.{File}
+use Rattle.wild_plan.specs.declared.layout.Layout.{Layout}
+use Rattle.wild_plan.specs.declared.treatment.Treatment.{Treatment}
+use Rattle.wild_plan.specs.declared.treatment.Treatment.TheVariants.{Symbolic, Indirect, Extent}
+use Rattle.wild_plan.specs.Entries.{place_of, left_relocations, copies_of}
+use Rattle.wild_plan.specs.SlotParts.{type_of}
+use Rattle.wild_plan.specs.Treatment.{treatment}
+use Rattle.wild_layout.specs.Decide.{added}
+use Rattle.wild_layout.specs.Moved.{or_zero}
+use Rattle.wild_layout.specs.Values.{raw_address, index_of}
+
+-- an entry for a place, with an addend modulo 2^64; r_info has the low 32 bits of number and index (gABI, "Relocation",
+-- ELF64_R_INFO)
+abbrev pub entry_for : ℕ → ℕ → ℕ → ℕ → Rela
+entry_for place number symbol addend = record { offset = place; number = number % 2 ^ 32; symbol = symbol % 2 ^ 32; addend = cast_signed w64 addend }
+
+abbrev pub index_or_zero : Layout → ℕ → ℕ
+index_or_zero l i = unwrap_or (index_of l i) 0
+
+abbrev pub left_by : Layout → InputSection → InputRelocation → Treatment → Rela
+left_by l s r (Symbolic i) = entry_for (place_of s r) (type_of l.machine Absolute) (index_or_zero l i) (added r)
+left_by l s r (Indirect i) = entry_for (place_of s r) (type_of l.machine Irelative) 0 (or_zero (raw_address l (Some i)))
+left_by l s r (Extent row i) = entry_for (place_of s r) r.number (index_or_zero l i) (added r)
+left_by l s r other = entry_for (place_of s r) 0 0 0
+
+-- the entry of a relocation
+abbrev pub left_entry : Layout → InputSection → InputRelocation → Rela
+left_entry l s r = left_by l s r (treatment l s r)
+
+-- those of an input section
+unfoldable pub section_generals : Layout → InputSection → List Rela
+section_generals l s = map (left_entry l s) (left_relocations l s)
+
+-- the entry by which a loader copies a symbol's bytes to its address
+abbrev pub copy_entry : Layout → ℕ → Rela
+copy_entry l i = entry_for (or_zero (raw_address l (Some i))) (type_of l.machine Copy) (index_or_zero l i) 0
+
+-- those of a file
+unfoldable pub file_generals : Layout → File → List Rela
+file_generals l f = map (copy_entry l) (copies_of f) ++ flat_map (section_generals l) f.sections
