@@ -215,8 +215,7 @@ fn value_in(layout: &Layout, symbol: &Symbol) -> u64
 fn stands_as_stub(layout: &Layout, symbol: &Symbol) -> bool
     ensures { result ≡ stands_as_stub layout.now symbol.now }
 {
-    symbol.flags.is_ifunc()
-        && (stub_of(symbol).is_some() && layout.kind.has_fixed_load_address())
+    symbol.flags.is_ifunc() && (stub_of(symbol).is_some() && layout.kind.has_fixed_load_address())
 }
 
 fn as_function(symbol: &Symbol) -> SymbolAttributes
@@ -317,7 +316,12 @@ fn copied_fields(
     requires { named ≡ named_sections layout.now }
     ensures { result ≡ copied_fields layout.now index symbol.now }
 {
-    in_section(index, named.bss, decided_value(symbol), SymbolAttributes::of(symbol))
+    in_section(
+        index,
+        named.bss,
+        decided_value(symbol),
+        SymbolAttributes::of(symbol),
+    )
 }
 
 /// What is said of the symbol with that index, which other modules see. It is one of a file of that role (`Object` where
