@@ -27,6 +27,7 @@ use Rattle.wild_reloc.specs.declared.info.RelocationSize.{RelocationSize}
 use Rattle.wild_reloc.specs.declared.info.RelocationSize.TheVariants.{ByteSize, BitMasking}
 use Rattle.wild_reloc.specs.declared.info.Width.TheVariants.{Zero, One, Two, Four, Eight}
 use Rattle.wild_reloc.specs.declared.dynamic.DynamicRelocationKind.TheVariants.{Absolute, Irelative}
+use Rattle.wild_layout.specs.declared.decision.Decision.{Decision}
 use Rattle.wild_layout.specs.declared.decision.Decision.TheVariants.{Nothing, Field, Moved, Left}
 use Rattle.wild_layout.specs.Values.{place_of, sum, raw_address, address_of, index_of, term_of, value_by}
 use Rattle.wild_layout.specs.Geometry.{FieldLies}
@@ -288,9 +289,9 @@ left_field l s r row i known by = record { row = row; known = known; kind = ap h
 -- what is left to an entry that names a symbol
 record IsLeftTo (z x : RelocationSize) (number n symbol addend a : ℕ) (o : Option ℕ) : Type 0 where
   size : z ≡ x
-  number : number ≡ n
+  type_is : number ≡ n
   index : o ≡ Some symbol
-  addend : a ≡ addend
+  more : a ≡ addend
 
 left_parts : (z x : RelocationSize) (number n symbol addend : ℕ) (r : InputRelocation) (i : ℕ) (o : Option ℕ) → left_to z number r i o ≡ Ok (Left x n symbol addend) → IsLeftTo z x number n symbol addend (added r) o
 left_parts z x number n symbol addend r i None h = cc
@@ -299,7 +300,7 @@ left_parts z x number n symbol addend r i (Some index) h =
     let same : number ≡ n = cc in
     let there : index ≡ symbol = cc in
     let more : added r ≡ addend = cc in
-    record { size = size; number = same; index = ap (λ (k : ℕ). Some k) there; addend = more }
+    record { size = size; type_is = same; index = ap (λ (k : ℕ). Some k) there; more = more }
 
 chosen_parts : (l : Layout) (x : RelocationSize) (n symbol addend : ℕ) (r : InputRelocation) (a : Result ℕ Fault) → chosen_to l r a ≡ Ok (Left x n symbol addend) → (ByteSize Eight ≡ x) × (type_of l.machine Irelative ≡ n) × (0 ≡ symbol) × (a ≡ Ok addend)
 chosen_parts l x n symbol addend r (Err f) h = cc
@@ -344,7 +345,7 @@ treated_left l s r (treatments.Symbolic i) z n symbol addend is h =
       is = is;
       left = refl;
       made = h;
-      entry = ap (left_by l s r) is ∙ same p.number p.index p.addend;
+      entry = ap (left_by l s r) is ∙ same p.type_is p.index p.more;
     }
   where
     same : type_of l.machine Absolute ≡ n → index_of l i ≡ Some symbol → added r ≡ addend → left_by l s r (treatments.Symbolic i) ≡ entry_for (place_of s r) n symbol addend
@@ -374,7 +375,7 @@ treated_left l s r (treatments.Extent row i) z n symbol addend is h =
       is = is;
       left = refl;
       made = h;
-      entry = ap (left_by l s r) is ∙ same p.number p.index p.addend;
+      entry = ap (left_by l s r) is ∙ same p.type_is p.index p.more;
     }
   where
     same : r.number ≡ n → index_of l i ≡ Some symbol → added r ≡ addend → left_by l s r (treatments.Extent row i) ≡ entry_for (place_of s r) n symbol addend
