@@ -5,6 +5,7 @@ mod append;
 mod arch;
 mod batch;
 mod buffer;
+mod common;
 mod copies;
 mod dynamic;
 mod entries;
@@ -34,6 +35,7 @@ mod slots;
 mod strings;
 mod symbols;
 mod tables;
+mod take;
 #[cfg(test)]
 mod tests;
 mod values;

@@ -2,7 +2,7 @@ use Rattle.std.proofs.Common.{◌≡◌, ◌++◌, List, ℕ, get_or, ap, ◌∙
 use Rattle.wild_plan.specs.Lookups.{is_filled}
 use Rattle.wild_image.proofs.PieceLemmas.{section_zeros}
 use Rattle.wild_image.proofs.OwnedLemmas.{part_extended}
-use Rattle.wild_image.proofs.piece.take_section.Goals as goal
+use Rattle.wild_image.proofs.take.take_section.Goals as goal
 
 pub returns-in_ok-extend-clause-owned : goal.returns-in_ok-extend-clause-owned
 returns-in_ok-extend-clause-owned g c =

@@ -3,7 +3,7 @@ use Rattle.std.specs.Prelude.{Some}
 use Rattle.wild_plan.specs.declared.kind.Machine.{Machine}
 use Rattle.wild_plan.specs.Rows.{row_of}
 use Rattle.wild_image.proofs.DistanceLemmas.{fixed_decided}
-use Rattle.wild_image.proofs.relocation.value_of_common.Goals as goal
+use Rattle.wild_image.proofs.common.value_of_common.Goals as goal
 
 pub returns-in-Some : goal.returns-in-Some
 returns-in-Some g c = λ value e.
