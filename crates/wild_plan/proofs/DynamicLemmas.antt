@@ -1,4 +1,4 @@
--- How many strings entries name, and how many bytes these have.
+-- How many entries there are, and their ranges.
 use Rattle.std.proofs.Common.{◌<◌, ◌^◌, Bool, true, false, IfSome, ◌≡◌, ℕ, ◌+◌, List, [], ◌∷◌, ◌++◌, length, map, if◌then◌else◌, is_some, Option, Some, None, refl, arith}
 use Rattle.std.specs.Prelude.{All, flat_map}
 use Rattle.std.proofs.lemmas.List.Elements.{All-nil, All-cons, All-head, All-tail, All-append}
@@ -11,39 +11,7 @@ use Rattle.wild_plan.specs.declared.options.Options.{Options}
 use Rattle.wild_plan.specs.declared.layout.Layout.{Layout}
 use Rattle.wild_plan.specs.Kinds.{needs_dynamic}
 use Rattle.wild_plan.specs.Dynamic.{TagFits, all_tags, entry_of, entry_with, tag_entries, dynamic_entries, dynamic_count}
-use Rattle.wild_plan.specs.DynamicStrings.{NamedString, string_start, behind_text, string_entries, named_strings, named, texts_of, text_room, room_of, auxiliary_string, path_number, option_strings}
-use Rattle.wild_plan.specs.Lists.{total}
-
-total-texts : (xs ys : List NamedString) → total text_room (texts_of (xs ++ ys)) ≡ total text_room (texts_of xs) + total text_room (texts_of ys)
-total-texts [] ys = omega arith
-total-texts (x ∷ xs) ys = let e = total-texts xs ys in omega (arith, e)
-
-total-named : (n : ℕ) (text : Option (List ℕ)) → total text_room (texts_of (named n text)) ≡ room_of text
-total-named n None = refl
-total-named n (Some text) = omega arith
-
-total-auxiliary : (texts : List (List ℕ)) → total text_room (texts_of (map auxiliary_string texts)) ≡ total text_room texts
-total-auxiliary [] = refl
-total-auxiliary (t ∷ ts) = let e = total-auxiliary ts in omega (arith, e)
-
--- the bytes of the strings of the options
-pub rooms : (o : Options) → total text_room (texts_of (option_strings o)) ≡ room_of o.rpath + room_of o.soname + total text_room o.auxiliary
-rooms o =
-    let a = total-texts (named (path_number o) o.rpath) (named dt_soname o.soname ++ map auxiliary_string o.auxiliary) in
-    let b = total-texts (named dt_soname o.soname) (map auxiliary_string o.auxiliary) in
-    let c = total-named (path_number o) o.rpath in
-    let d = total-named dt_soname o.soname in
-    let e = total-auxiliary o.auxiliary in
-    omega (arith, a, b, c, d, e)
-
--- the bytes of strings, each with its zero
-pub length_strings : (texts : List (List ℕ)) → length (flat_map (λ text. text ++ 0 ∷ []) texts) ≡ total text_room texts
-length_strings [] = refl
-length_strings (t ∷ ts) =
-    let a = length-append (t ++ 0 ∷ []) (flat_map (λ text. text ++ 0 ∷ []) ts) in
-    let b = length-append t (0 ∷ []) in
-    let e = length_strings ts in
-    omega (arith, a, b, e)
+use Rattle.wild_plan.specs.DynamicStrings.{NamedString, string_start, behind_text, string_entries, named_strings, named, auxiliary_string, path_number, option_strings}
 
 -- an entry is one where it has a value
 pub length_entry : (number : ℕ) (value : Option ℕ) (rest : List DynamicEntry) → length (entry_with number value ++ rest) ≡ (if is_some value then 1 else 0) + length rest
@@ -96,9 +64,9 @@ named_numbers_of true o = option_numbers o
 named_numbers_of false o = All-nil _
 
 -- where the entries with values of their own have their ranges, all entries have them
-pub all_fit : (l : Layout) → All DynamicEntryFits (tag_entries l) → All DynamicEntryFits (dynamic_entries l)
+pub all_fit : (l : Layout) (start : ℕ) → start ≡ string_start l → start < 2 ^ 64 → All DynamicEntryFits (tag_entries l) → All DynamicEntryFits (dynamic_entries l)
 unfolding dynamic_entries named_strings
-all_fit l h = All-append DynamicEntryFits (string_entries (string_start l) (named_strings l)) (tag_entries l) (strings_fit (string_start l) (named_strings l) (omega arith) (named_numbers_of (needs_dynamic l.kind) l.options)) h
+all_fit l start is small h = All-append DynamicEntryFits (string_entries (string_start l) (named_strings l)) (tag_entries l) (strings_fit (string_start l) (named_strings l) (omega (arith, is, small)) (named_numbers_of (needs_dynamic l.kind) l.options)) h
 
 -- an entry that has a value has its ranges where the value has
 pub entry_fits : (number : ℕ) (value : Option ℕ) → number < 2 ^ 64 → IfSome value (λ v. v < 2 ^ 64) → All DynamicEntryFits (entry_with number value)

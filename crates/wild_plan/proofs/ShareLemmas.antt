@@ -1,8 +1,8 @@
 -- What files have to write where nothing is needed.
 use Rattle.std.proofs.Common.{◌≡◌, ℕ, ◌+◌, ◌-◌, ◌*◌, ◌^◌, min, inl, inr, Bool, true, false, List, [], ◌∷◌, length, refl, sym, ap, ◌∙◌, arith}
-use Rattle.std.specs.Prelude.{if◌then◌else◌, not, ◌&&◌, Option}
+use Rattle.std.specs.Prelude.{if◌then◌else◌, not, ◌&&◌, ◌==◌, Option}
 use Rattle.std.specs.List.{list_all, flat_map}
-use Rattle.std.proofs.lemmas.Bool.{cases_Bool, and_parts}
+use Rattle.std.proofs.lemmas.Bool.{cases_Bool, and_parts, eqb-true}
 use Rattle.wild_relr.specs.Packed.{packed, block}
 use Rattle.wild_plan.specs.declared.file.File.{File}
 use Rattle.wild_plan.specs.declared.file.Group.{Group}
@@ -12,9 +12,12 @@ use Rattle.wild_plan.specs.declared.layout.Layout.{Layout}
 use Rattle.wild_plan.specs.declared.part.Role.{Role}
 use Rattle.wild_plan.specs.declared.part.Role.TheVariants as role
 use Rattle.wild_plan.specs.Dynamic.{tag_entries, dynamic_entries, dynamic_count}
-use Rattle.wild_plan.specs.DynamicStrings.{named_strings, string_entries, epilogue_string_bytes}
-use Rattle.wild_plan.specs.Entries.{listed_place, packed_place, moved_of, listed_places, packed_places, words_of, entry_count, word_count}
-use Rattle.wild_plan.specs.Kinds.{is_position_independent, needs_dynamic, needs_dynsym}
+use Rattle.wild_plan.specs.DynamicStrings.{named_strings, string_entries, file_strings, strings_room, needed_count}
+use Rattle.wild_plan.specs.Entries.{listed_place, packed_place, moved_of, listed_places, packed_places, words_of, entry_count, word_count, general_count}
+use Rattle.wild_plan.specs.Kinds.{is_position_independent, needs_dynamic}
+use Rattle.wild_plan.specs.declared.kind.OutputKind.{OutputKind}
+use Rattle.wild_plan.specs.declared.kind.OutputKind.TheVariants.{StaticExecutable, DynamicExecutable, SharedObject, PartialObject}
+use Rattle.wild_plan.specs.declared.kind.RelocationModel.TheVariants.{NonRelocatable, Relocatable}
 use Rattle.wild_plan.specs.Lists.{total}
 use Rattle.wild_plan.specs.Needs.{whole_of, own_of, share, group_share, has_plain_role, is_plain}
 use Rattle.wild_plan.specs.FileRoles.{is_prelude, is_epilogue}
@@ -44,31 +47,47 @@ no_words l f h = total_none (λ (s : InputSection). length (words_of l s)) f.sec
 
 -- ---- one without dynamic linking has no dynamic section
 
-no_strings : (l : Layout) → needs_dynamic l.kind ≡ false → epilogue_string_bytes l ≡ 0
-unfolding named_strings
-no_strings l h = rw h refl
+no_strings : (l : Layout) (f : File) → needs_dynamic l.kind ≡ false → strings_room l f ≡ 0
+unfolding file_strings
+no_strings l f h = rw h refl
 
 no_dynamic : (l : Layout) → needs_dynamic l.kind ≡ false → dynamic_count l ≡ 0
 unfolding dynamic_entries named_strings tag_entries string_entries
 no_dynamic l h = rw h refl
 
+-- it does not move
+is_fixed : (k : OutputKind) → needs_dynamic k ≡ false → is_position_independent k ≡ false
+is_fixed (StaticExecutable Relocatable) h = cc
+is_fixed (StaticExecutable NonRelocatable) h = refl
+is_fixed (DynamicExecutable model) h = cc
+is_fixed SharedObject h = cc
+is_fixed PartialObject h = refl
+
 -- ---- shares
 
-own_nowhere : (l : Layout) (r : Role) (f : File) → is_position_independent l.kind ≡ false → needs_dynamic l.kind ≡ false → own_of l r f ≡ 0
-own_nowhere l role.RelaDynRelative f h d = let e = no_entries l f h in rw e refl
-own_nowhere l role.RelrDyn f h d = let e = no_words l f h in rw e refl
-own_nowhere l role.Dynsym f h d = rw d refl
-own_nowhere l role.Dynstr f h d = let e = no_strings l d in by_end (is_epilogue f.role) e
+-- the entries of a file that name symbols or resolvers, where they stand in parts of the role
+abbrev general_of : Layout → Role → File → ℕ
+general_of l role.RelaDynGeneral f = general_count l f
+general_of l other f = 0
+
+-- without these an output without a dynamic section has nothing for a loader
+own_none : (l : Layout) (r : Role) (f : File) → needs_dynamic l.kind ≡ false → general_of l r f ≡ 0 → own_of l r f ≡ 0
+own_none l role.RelaDynRelative f d g = let e = no_entries l f (is_fixed l.kind d) in rw e refl
+own_none l role.RelaDynGeneral f d g = rw g refl
+own_none l role.RelrDyn f d g = let e = no_words l f (is_fixed l.kind d) in rw e refl
+own_none l role.Dynsym f d g = rw d refl
+own_none l role.Dynstr f d g = no_strings l f d
+own_none l role.Dynamic f d g = let e = no_dynamic l d in by_end (is_epilogue f.role) e
   where
-    by_end : (b : Bool) → epilogue_string_bytes l ≡ 0 → (if needs_dynamic l.kind && is_prelude f.role then 1 else 0) + (if b then epilogue_string_bytes l else 0) ≡ 0
+    by_end : (b : Bool) → dynamic_count l ≡ 0 → 16 * (needed_count l f + (if b then dynamic_count l else 0)) ≡ 0
     by_end true e = rw (d, e) refl
     by_end false e = rw d refl
-own_nowhere l role.Dynamic f h d = let e = no_dynamic l d in by_end (is_epilogue f.role) e
-  where
-    by_end : (b : Bool) → dynamic_count l ≡ 0 → (if b then 16 * dynamic_count l else 0) ≡ 0
-    by_end true e = rw e refl
-    by_end false e = refl
-own_nowhere l other f h d = refl
+own_none l other f d g = refl
+
+-- parts of other roles have none of them
+none_of_others : (l : Layout) (r : Role) (f : File) → is_of_slots r ≡ false → general_of l r f ≡ 0
+none_of_others l role.RelaDynGeneral f h = cc
+none_of_others l other f h = refl
 
 -- what stands once beside slots
 no_header : (l : Layout) (r : Role) → is_of_slots r ≡ false → header_share l r ≡ 0
@@ -80,9 +99,9 @@ no_block : (l : Layout) (r : Role) (g : Group) → is_of_slots r ≡ false → b
 no_block l role.RelrDyn g h = cc
 no_block l other g h = refl
 
-share_none : (l : Layout) (r : Role) (f : File) → is_position_independent l.kind ≡ false → needs_dynamic l.kind ≡ false → is_of_slots r ≡ false → whole_of l r ≡ 0 → share l r f ≡ 0
-share_none l r f h d s w =
-    let own = own_nowhere l r f h d in
+share_none : (l : Layout) (r : Role) (f : File) → needs_dynamic l.kind ≡ false → is_of_slots r ≡ false → whole_of l r ≡ 0 → share l r f ≡ 0
+share_none l r f d s w =
+    let own = own_none l r f d (none_of_others l r f s) in
     let slots = others_share l r f s in
     let header = no_header l r s in
     elim (cases_Bool (is_prelude f.role)) [
@@ -90,57 +109,45 @@ share_none l r f h d s w =
       | inr n ↦ rw (n, own, slots) refl
     ]
 
--- where nothing stands once in the image, a static output at its own addresses needs nothing but for slots
-pub no_share : (l : Layout) (r : Role) (n : ℕ) → n ≡ min (2 ^ 64 - 1) (whole_of l r) → is_position_independent l.kind ≡ false → needs_dynamic l.kind ≡ false → is_of_slots r ≡ false → n ≡ 0 → total_share l r ≡ 0
-no_share l r n is h d s none =
+-- where nothing stands once in the image, an output without a dynamic section needs nothing but for slots
+pub no_share : (l : Layout) (r : Role) (n : ℕ) → n ≡ min (2 ^ 64 - 1) (whole_of l r) → needs_dynamic l.kind ≡ false → is_of_slots r ≡ false → n ≡ 0 → total_share l r ≡ 0
+no_share l r n is d s none =
     let w : whole_of l r ≡ 0 = least (whole_of l r) n is none in
-    total_none (group_share l r) l.groups (λ g. let files = total_none (share l r) g.files (λ f. share_none l r f h d s w) in let block = no_block l r g s in rw (files, block) refl)
+    total_none (group_share l r) l.groups (λ g. let files = total_none (share l r) g.files (λ f. share_none l r f d s w) in let block = no_block l r g s in rw (files, block) refl)
   where
     least : (k n : ℕ) → n ≡ min (2 ^ 64 - 1) k → n ≡ 0 → k ≡ 0
     least k n e z = omega (arith, e, z)
 
--- ---- a file that is neither first nor last, in an output that does not move
+-- ---- a file that is neither first nor last, in an output without a dynamic section
 
-first_none : (kind role : Bool) (n : ℕ) → role ≡ false → (if kind && role then n else 0) ≡ 0
-first_none true role n h = rw h refl
-first_none false role n h = refl
-
-own_plain : (l : Layout) (r : Role) (f : File) → is_position_independent l.kind ≡ false → is_prelude f.role ≡ false → is_epilogue f.role ≡ false → own_of l r f ≡ 0
-own_plain l role.RelaDynRelative f h p e = let n = no_entries l f h in rw n refl
-own_plain l role.RelrDyn f h p e = let n = no_words l f h in rw n refl
-own_plain l role.Dynsym f h p e = first_none (needs_dynsym l.kind) (is_prelude f.role) _ p
-own_plain l role.Dynstr f h p e = let n = first_none (needs_dynsym l.kind) (is_prelude f.role) (length empty_string) p in rw e (omega (arith, n))
-own_plain l role.Dynamic f h p e = rw e refl
-own_plain l other f h p e = refl
-
--- the tests of a plain file's role
+-- the tests of a plain file
 pub record Tests (l : Layout) (f : File) : Type 0 where
-  pub fixed : is_position_independent l.kind ≡ false
+  pub static : needs_dynamic l.kind ≡ false
   pub first : is_prelude f.role ≡ false
-  pub last : is_epilogue f.role ≡ false
+  pub without : list_all is_without (own_symbols l f) ≡ true
+  pub none : general_count l f ≡ 0
 
-tests_of : (l : Layout) (f : File) → has_plain_role l f ≡ true → Tests l f
+tests_of : (l : Layout) (f : File) → is_plain l f ≡ true → Tests l f
 tests_of l f h =
-    let a = and_parts (not (is_position_independent l.kind) && not (is_prelude f.role)) (not (is_epilogue f.role)) h in
-    let b = and_parts (not (is_position_independent l.kind)) (not (is_prelude f.role)) a.0 in
-    record { fixed = no (is_position_independent l.kind) b.0; first = no (is_prelude f.role) b.1; last = no (is_epilogue f.role) a.1 }
+    let p = and_parts (has_plain_role l f) (list_all is_without (own_symbols l f) && general_count l f == 0) h in
+    let q = and_parts (list_all is_without (own_symbols l f)) (general_count l f == 0) p.1 in
+    let a = and_parts (not (needs_dynamic l.kind) && not (is_prelude f.role)) (not (is_epilogue f.role)) p.0 in
+    let b = and_parts (not (needs_dynamic l.kind)) (not (is_prelude f.role)) a.0 in
+    record { static = no (needs_dynamic l.kind) b.0; first = no (is_prelude f.role) b.1; without = q.0; none = eqb-true _ _ q.1 }
   where
     no : (b : Bool) → not b ≡ true → b ≡ false
     no true h = cc
     no false h = refl
 
--- its role gives it nothing to write
-pub own_none : (l : Layout) (r : Role) (f : File) → has_plain_role l f ≡ true → own_of l r f ≡ 0
-own_none l r f h =
-    let t = tests_of l f h in
-    own_plain l r f t.fixed t.first t.last
+general_none : (l : Layout) (r : Role) (f : File) → general_count l f ≡ 0 → general_of l r f ≡ 0
+general_none l role.RelaDynGeneral f h = h
+general_none l other f h = refl
 
 share_plain : (l : Layout) (r : Role) (f : File) → is_plain l f ≡ true → share l r f ≡ 0
 share_plain l r f h =
-    let p = and_parts (has_plain_role l f) (list_all is_without (own_symbols l f)) h in
-    let t = tests_of l f p.0 in
-    let own = own_none l r f p.0 in
-    let slots = slots_plain l r f p.1 in
+    let t = tests_of l f h in
+    let own = own_none l r f t.static (general_none l r f t.none) in
+    let slots = slots_plain l r f t.without in
     rw (t.first, own, slots) refl
 
 -- a list of such files
@@ -157,8 +164,8 @@ places_plain : (l : Layout) (files : List File) → list_all (is_plain l) files 
 places_plain l [] h = refl
 places_plain l (f ∷ files) h =
     let p = and_parts (is_plain l f) (list_all (is_plain l) files) h in
-    let q = and_parts (has_plain_role l f) (list_all is_without (own_symbols l f)) p.0 in
-    rw (places_without l (own_symbols l f) q.1) (places_plain l files p.1)
+    let t = tests_of l f p.0 in
+    rw (places_without l (own_symbols l f) t.without) (places_plain l files p.1)
 
 pub block_plain : (l : Layout) (r : Role) (g : Group) → list_all (is_plain l) g.files ≡ true → block_share l r g ≡ 0
 unfolding group_block block

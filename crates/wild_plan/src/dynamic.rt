@@ -1,16 +1,14 @@
 //! The entries of the dynamic section that the last file writes (gABI, "Dynamic Section").
-ghost use Rattle.std.specs.Prelude.{◌≡◌, ◌+◌, ◌^◌, ◌<◌, ◌≤◌, length, option_map, All};
+ghost use Rattle.std.specs.Prelude.{◌≡◌, ◌<◌, length, option_map, All};
 ghost use Rattle.wild_records.specs.Dynamic.{DynamicEntryFits};
-ghost use Rattle.wild_plan.specs.declared.layout.Layout.{Layout};
 ghost use Rattle.wild_plan.specs.Dynamic.{dynamic_number, has_bytes, section_named, section_address, section_size, part_address, part_size, beside, filled_part, first_entries, bytes_of, entries_bytes, relative_count, only, flag, dynamic_flags, dynamic_flags_1, dynamic_entry, all_tags, TagFits, tag_entries, dynamic_entries, dynamic_count};
-ghost use Rattle.wild_plan.specs.DynamicStrings.{named_strings, text_room, room_of, epilogue_strings, epilogue_string_bytes};
-ghost use Rattle.wild_plan.specs.Lists.{total};
 
 use crate::kind::OutputKind;
 use crate::layout::Layout;
 use crate::options::Options;
 use crate::part::{Part, Role, part_with};
 use crate::section::Section;
+use crate::strings::{string_count, string_start};
 use wild_records::abi::dynamic::{
     DF_1_INTERPOSE, DF_1_NODELETE, DF_1_NOW, DF_1_ORIGIN, DF_1_PIE, DF_BIND_NOW, DF_ORIGIN,
     DF_STATIC_TLS, DF_TEXTREL, DT_DEBUG, DT_FINI, DT_FINI_ARRAY, DT_FINI_ARRAYSZ, DT_FLAGS,
@@ -21,7 +19,6 @@ use wild_records::abi::dynamic::{
 };
 use wild_records::abi::section::SHT_NOBITS;
 use wild_records::{Rela, Relr, SymtabEntry};
-use wild_words::Bytes;
 
 /// An entry with a value of its own, in the order in which they stand.
 #[derive(Clone, Copy, Debug, PartialEq, Eq)]
@@ -66,9 +63,6 @@ pub enum DynamicTag {
     /// The end of the entries.
     Null,
 }
-
-/// Where the strings that entries name begin in the string table: behind the empty string.
-pub const STRING_START: u64 = 1;
 
 impl DynamicTag {
     /// All of them, in their order.
@@ -350,21 +344,6 @@ fn tag_count(layout: &Layout) -> usize
     count
 }
 
-/// How many entries name strings.
-#[tactic(auto, unfolding(crate::specs::Dynamic::named_strings))]
-fn string_count(layout: &Layout) -> usize
-    ensures count { result ≡ length (named_strings layout.now) }
-    ensures few { result < 2 ^ 63 + 2 }
-{
-    let options = &layout.options;
-    if !layout.kind.needs_dynamic() {
-        return 0;
-    }
-    usize::from(options.rpath.is_some())
-        + usize::from(options.soname.is_some())
-        + options.auxiliary.as_slice().len()
-}
-
 /// How many entries the last file has; none where the output has no entries for dynamic linking.
 #[tactic(auto, using(crate::proofs::DynamicLemmas::length_dynamic_entries))]
 pub fn dynamic_count(layout: &Layout) -> usize
@@ -372,47 +351,6 @@ pub fn dynamic_count(layout: &Layout) -> usize
 {
     string_count(layout) + tag_count(layout)
 }
-
-/// How many bytes a string has with its zero.
-fn room_of(text: &Option<Bytes>) -> u128
-    ensures value { result ≡ room_of text.now }
-    ensures small { result ≤ 2 ^ 64 }
-{
-    match text {
-        Some(text) => text.len() as u128 + 1,
-        None => 0,
-    }
-}
-
-/// How many bytes strings have, each with its zero.
-fn rooms_of(texts: &[Bytes]) -> u128
-    ensures value { result ≡ total text_room texts.now }
-    ensures small { result ≤ 2 ^ 127 }
-{
-    let mut sum: u128 = 0;
-    for text in texts {
-        sum += text.len() as u128 + 1;
-    }
-    sum
-}
-
-/// How many bytes of the string table the strings have that entries name, each with its zero.
-#[tactic(auto, unfolding(crate::specs::Dynamic::named_strings), using(crate::proofs::DynamicLemmas::rooms))]
-pub fn epilogue_string_bytes(layout: &Layout) -> u128
-    ensures { result ≡ epilogue_string_bytes layout.now }
-{
-    let options = &layout.options;
-    if !layout.kind.needs_dynamic() {
-        return 0;
-    }
-    room_of(&options.rpath) + room_of(&options.soname) + rooms_of(options.auxiliary.as_slice())
-}
-
-/// What stands in the string table for the strings that entries name is as long as they need.
-#[tactic(auto, using(crate::proofs::DynamicLemmas::length_strings))]
-pub fn strings_have_their_room()
-    ensures { (l : Layout) → length (epilogue_strings l) ≡ epilogue_string_bytes l }
-{}
 
 /// The entry of a tag has the ranges of its fields.
 #[tactic(auto, using(crate::proofs::DynamicLemmas::entry_fits))]
@@ -437,6 +375,7 @@ fn tags_fit(layout: &Layout)
 pub fn dynamic_entries_fit(layout: &Layout)
     ensures { All DynamicEntryFits (dynamic_entries layout.now) }
 {
+    let _start = string_start(layout);
     if layout.kind.needs_dynamic() {
         tags_fit(layout);
     }

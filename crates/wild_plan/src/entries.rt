@@ -1,10 +1,13 @@
-//! The addresses of a movable output that a loader adds its base to, counted.
+//! What a loader writes into the fields of relocations, counted: the addresses that it adds its base to, and the entries
+//! that name a symbol or a resolver.
 ghost use Rattle.std.specs.Prelude.{◌≡◌, ℕ, ◌+◌, ◌-◌, ◌^◌, ◌%◌, ◌≤◌, true, min, List, length, ◌++◌, is_some, option_to_list, IfSome};
-ghost use Rattle.std.specs.List.{flat_map};
+ghost use Rattle.std.specs.List.{flat_map, filter};
 ghost use Rattle.wild_relr.specs.Packed.{counted, packed};
-ghost use Rattle.wild_plan.specs.Entries.{place_of, packs, is_moved, listed_place, packed_place, has_moved, listed_places, words_of, entry_count, word_count};
+ghost use Rattle.wild_plan.specs.Entries.{place_of, packs, is_moved, listed_place, packed_place, has_moved, listed_places, words_of, entry_count, word_count, is_left_to_entry, left_relocations, copies_of, general_count};
+ghost use Rattle.wild_plan.specs.Treatment.{treatment};
 
 use crate::file::File;
+use crate::index::SymbolIndex;
 use crate::input::{InputRelocation, InputSection};
 use crate::layout::Layout;
 use crate::treatment::{Treatment, treatment_of};
@@ -147,6 +150,71 @@ pub fn word_count(layout: &Layout, file: &File) -> u64
     let mut sum: u64 = 0;
     for section in file.sections.as_slice() {
         sum = sum.saturating_add(words_in(layout, section) as u64);
+    }
+    sum
+}
+
+impl File {
+    /// The symbols that a library has copied into the output.
+    pub fn copied(&self) -> &[SymbolIndex]
+        ensures { result.now ≡ copies_of self.now }
+    {
+        if self.role.is_library() {
+            self.copies.as_slice()
+        } else {
+            &[]
+        }
+    }
+}
+
+/// Whether the field of a relocation is left to an entry that names a symbol or a resolver.
+pub fn is_left_to_entry(
+    layout: &Layout,
+    section: &InputSection,
+    relocation: &InputRelocation,
+) -> bool
+    ensures { result ≡ is_left_to_entry (treatment layout.now section.now relocation.now) }
+{
+    matches!(
+        treatment_of(layout, section, relocation),
+        Treatment::Symbolic(_) | Treatment::Indirect(_) | Treatment::Extent(_, _)
+    )
+}
+
+/// How many of some relocations of a section are such.
+fn count_left(layout: &Layout, section: &InputSection, relocations: &[InputRelocation]) -> usize
+    ensures { result ≡ length (filter (λ r. is_left_to_entry (treatment layout.now section.now r)) relocations.now) }
+{
+    let mut count = 0;
+    for relocation in relocations {
+        if is_left_to_entry(layout, section, relocation) {
+            count += 1;
+        }
+    }
+    count
+}
+
+/// How many relocations of an input section have fields that are left to such entries.
+#[tactic(auto, unfolding(crate::specs::Entries::left_relocations))]
+fn left_in(layout: &Layout, section: &InputSection) -> usize
+    ensures { result ≡ length (left_relocations layout.now section.now) }
+{
+    if section.is_read() {
+        count_left(layout, section, section.relocations.as_slice())
+    } else {
+        0
+    }
+}
+
+/// How many entries a file has for fields that are left to entries, and for the symbols that it has copied, at most
+/// 2^64 - 1.
+#[tactic(auto, unfolding(crate::specs::Entries::general_count))]
+pub fn general_count(layout: &Layout, file: &File) -> u64
+    ensures { result ≡ min (2 ^ 64 - 1) (general_count layout.now file.now) }
+{
+    let mut sum: u64 = file.copied().len() as u64;
+    for section in file.sections.as_slice() {
+        sum = sum.saturating_add(left_in(layout, section) as u64);
     }
     sum
 }

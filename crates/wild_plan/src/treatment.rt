@@ -1,6 +1,6 @@
 //! What is done with a relocation, as far as the layout alone says it: no value is taken.
 ghost use Rattle.std.specs.Prelude.{◌≡◌};
-ghost use Rattle.wild_plan.specs.Treatment.{flags_at, is_left, is_elsewhere, is_barred, is_chosen, moves, moved_treatment, address_treatment, distance_treatment, row_treatment, treatment};
+ghost use Rattle.wild_plan.specs.Treatment.{flags_at, is_left, is_elsewhere, is_barred, is_narrow, is_chosen, chosen_treatment, moves, moved_treatment, address_treatment, distance_treatment, pointer_treatment, is_sized, size_treatment, row_treatment, treatment};
 
 use crate::index::SymbolIndex;
 use crate::input::{InputRelocation, InputSection};
@@ -81,6 +81,14 @@ fn is_barred(
         && is_elsewhere(flags_at(layout, symbol))
 }
 
+/// Whether the field is too narrow for an address of a library.
+#[inline]
+fn is_narrow(layout: &Layout, section: &InputSection, row: &RelocationKindInfo) -> bool
+    ensures { result ≡ is_narrow layout.now section.now row.now }
+{
+    is_allocated(section.flags) && layout.kind.is_shared_object() && row.width() != 8
+}
+
 /// Whether the address of the symbol moves with the base.
 #[inline]
 fn moves(layout: &Layout, symbol: SymbolIndex) -> bool
@@ -112,6 +120,18 @@ fn is_chosen(layout: &Layout, section: &InputSection, symbol: SymbolIndex) -> bo
         && flags_at(layout, symbol).is_ifunc()
 }
 
+/// What is done with an address that the resolver of the symbol answers.
+#[inline]
+fn chosen_treatment(row: &RelocationKindInfo, symbol: SymbolIndex) -> Treatment
+    ensures { result ≡ chosen_treatment row.now symbol }
+{
+    if row.width() == 8 {
+        Treatment::Indirect(symbol)
+    } else {
+        Treatment::Recompile
+    }
+}
+
 /// What is done with a relocation that writes S + A of that symbol.
 #[inline]
 fn address_treatment(
@@ -122,12 +142,12 @@ fn address_treatment(
 ) -> Treatment
     ensures { result ≡ address_treatment layout.now section.now row symbol }
 {
-    if is_barred(layout, section, &row, symbol) {
+    if is_barred(layout, section, &row, symbol) || is_narrow(layout, section, &row) {
         Treatment::Recompile
     } else if is_left(layout, section, &row, symbol) {
         Treatment::Symbolic(symbol)
     } else if is_chosen(layout, section, symbol) {
-        Treatment::Unsupported
+        chosen_treatment(&row, symbol)
     } else if is_allocated(section.flags) && moves(layout, symbol) {
         moved_treatment(&row)
     } else {
@@ -156,6 +176,50 @@ fn distance_treatment(
     }
 }
 
+/// What is done with a relocation that writes an offset from the thread pointer, which is known in an executable alone.
+#[inline]
+fn pointer_treatment(
+    layout: &Layout,
+    section: &InputSection,
+    row: RelocationKindInfo,
+) -> Treatment
+    ensures { result ≡ pointer_treatment layout.now section.now row }
+{
+    if is_allocated(section.flags) && layout.kind.is_shared_object() {
+        Treatment::Recompile
+    } else {
+        Treatment::Value(row)
+    }
+}
+
+/// Whether the size of the symbol, which another module may define, is left to a dynamic entry.
+#[inline]
+fn is_sized(layout: &Layout, section: &InputSection, symbol: SymbolIndex) -> bool
+    ensures { result ≡ is_sized layout.now section.now symbol }
+{
+    let flags = flags_at(layout, symbol);
+    is_allocated(section.flags)
+        && flags.is_interposable()
+        && (flags.is_dynamic() || layout.kind.is_shared_object())
+}
+
+/// What is done with a relocation that writes the size of that symbol.
+#[inline]
+fn size_treatment(
+    layout: &Layout,
+    section: &InputSection,
+    row: RelocationKindInfo,
+    symbol: SymbolIndex,
+) -> Treatment
+    ensures { result ≡ size_treatment layout.now section.now row symbol }
+{
+    if is_sized(layout, section, symbol) {
+        Treatment::Extent(row, symbol)
+    } else {
+        Treatment::Value(row)
+    }
+}
+
 /// What is done with a relocation that names that symbol, by the row of its type.
 #[inline]
 #[tactic(auto, unfolding(crate::specs::Treatment::row_treatment))]
@@ -174,11 +238,11 @@ pub fn row_treatment(
         (RelocationKind::None, _) => Treatment::Nothing,
         (RelocationKind::Absolute, Some(symbol)) => address_treatment(layout, section, row, symbol),
         (RelocationKind::Relative, symbol) => distance_treatment(layout, section, row, symbol),
+        (RelocationKind::TpOff, Some(_)) => pointer_treatment(layout, section, row),
+        (RelocationKind::SymbolSize, Some(symbol)) => size_treatment(layout, section, row, symbol),
         (RelocationKind::GotBaseRelative, _)
         | (RelocationKind::SymRelGotBase, Some(_))
         | (RelocationKind::DtpOff, Some(_))
-        | (RelocationKind::TpOff, Some(_))
-        | (RelocationKind::SymbolSize, Some(_))
         | (RelocationKind::PltRelative, Some(_))
         | (RelocationKind::PltRelGotBase, Some(_))
         | (RelocationKind::GotRelative, Some(_))

@@ -28,7 +28,8 @@ fn gives_entry(role: FileRole, flags: ValueFlags) -> bool
     }
 }
 
-fn is_undefined_entry(role: FileRole, symbol: &Symbol) -> bool
+/// Whether a symbol of a file of that role has an undefined entry in the dynamic symbol table.
+pub fn is_undefined_entry(role: FileRole, symbol: &Symbol) -> bool
     ensures { result ≡ is_undefined_entry role symbol.now }
 {
     gives_entry(role, symbol.flags) && symbol.resolution.is_some()
@@ -182,7 +183,7 @@ fn walk(layout: &Layout, undefined: usize) -> Option<usize>
 }
 
 /// How many of a file's symbols have an undefined entry.
-fn count_in(role: FileRole, symbols: &[Symbol]) -> usize
+pub(crate) fn count_in(role: FileRole, symbols: &[Symbol]) -> usize
     ensures count { result ≡ count_in role symbols.now }
     ensures few { result ≤ length symbols.now }
 {

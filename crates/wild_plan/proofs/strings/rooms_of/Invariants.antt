@@ -1,7 +1,7 @@
 use Rattle.std.proofs.Common.{◌≡◌, ◌+◌, ◌*◌, ◌^◌, ◌≤◌, drop}
 use Rattle.wild_plan.specs.DynamicStrings.{text_room}
 use Rattle.wild_plan.specs.Lists.{total}
-use Rattle.wild_plan.proofs.dynamic.rooms_of.Given as goal
+use Rattle.wild_plan.proofs.strings.rooms_of.Given as goal
 
 abbrev pub invariant-loop-text : goal.invariant-loop-text
 invariant-loop-text l = record {
