@@ -30,6 +30,7 @@ use Rattle.wild_plan.specs.Lists.{total}
 use Rattle.wild_plan.specs.Needs.{whole_of, dynsym_count, last_of, own_of, first_share, share, group_share}
 use Rattle.wild_plan.specs.FileRoles.{is_prelude, is_epilogue}
 use Rattle.wild_plan.specs.Places.{role_place}
+use Rattle.wild_plan.specs.SlotShares.{block_share}
 use Rattle.wild_layout.specs.Content.{whole_bytes, own_bytes, dynamic_room, file_content, dynamic_of, group_bytes, content}
 use Rattle.wild_layout.specs.Left.{left_entry, section_generals, copy_entry, file_generals}
 use Rattle.wild_tables.specs.Tables.{relative_entry}
@@ -106,7 +107,7 @@ unfolding section_generals
 left_length l s = length-map (left_relocations l s) (left_entry l s)
 
 general_length : (l : Layout) (f : File) → length (file_generals l f) ≡ general_count l f
-unfolding general_count
+unfolding file_generals general_count
 general_length l f =
     let copies = map (copy_entry l) (copies_of f) in
     let a = length-append copies (flat_map (section_generals l) f.sections) in
