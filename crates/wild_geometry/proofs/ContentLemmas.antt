@@ -10,7 +10,6 @@ use Rattle.wild_relr.proofs.SpellLemmas.{length-word_bytes}
 use Rattle.wild_tables.proofs.EntryLemmas.{length-rela_bytes}
 use Rattle.wild_tables.specs.Dynamic.{entries_bytes, dynamic_bytes}
 use Rattle.wild_tables.proofs.DynamicLemmas.{length_entries}
-use Rattle.wild_symbols.specs.Symbols.{symbol_bytes}
 use Rattle.wild_symbols.specs.DynamicEntries.{group_symbols}
 use Rattle.wild_headers.proofs.LengthLemmas.{lengths_of_headers}
 use Rattle.wild_symbols.proofs.StringLemmas.{length-string_bytes}
@@ -35,7 +34,7 @@ use Rattle.wild_layout.specs.Content.{whole_bytes, own_bytes, dynamic_room, file
 use Rattle.wild_layout.specs.Left.{left_entry, section_generals, copy_entry, file_generals}
 use Rattle.wild_tables.specs.Tables.{relative_entry}
 use Rattle.wild_layout.specs.Moved.{moved_value, listed_entry, section_entries, file_entries, file_words}
-use Rattle.wild_layout.specs.SlotBytes.{slot_bytes, header_bytes, block_bytes}
+use Rattle.wild_layout.specs.SlotBytes.{slot_bytes, header_bytes}
 use Rattle.wild_geometry.proofs.SlotLengths.{slot_length, header_length, block_length}
 use Rattle.wild_geometry.proofs.TableLemmas.{same_role}
 use Rattle.wild_geometry.proofs.SymbolLengths.{length-group_symbols, length-needed_entries}
