@@ -15,7 +15,8 @@ use Rattle.wild_plan.specs.DynamicStrings.{needed_entries}
 use Rattle.wild_tables.specs.Dynamic.{entries_bytes, dynamic_bytes}
 use Rattle.wild_layout.specs.Content.{dynamic_room, content}
 use Rattle.wild_layout.specs.Geometry.{table_bytes, all_needed}
-use Rattle.wild_geometry.proofs.ContentLemmas.{has_last, dynamic_content, has_last-group}
+use Rattle.wild_geometry.proofs.ContentLemmas.{dynamic_content}
+use Rattle.wild_geometry.proofs.LastGroupLemmas.{has_last, has_last-group}
 
 entries_joined : (xs ys : List DynamicEntry) → entries_bytes (xs ++ ys) ≡ entries_bytes xs ++ entries_bytes ys
 entries_joined xs ys = flat_map-append (λ (d : DynamicEntry). spell (dynamic_entry_fields d)) xs ys

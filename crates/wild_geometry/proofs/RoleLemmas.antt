@@ -29,7 +29,8 @@ use Rattle.wild_geometry.proofs.LaidLemmas.{Laid}
 use Rattle.wild_geometry.proofs.InterleaveLemmas.{Contains-flat_map_from}
 use Rattle.wild_geometry.proofs.OrderLemmas.{EndsBy-image}
 use Rattle.wild_geometry.proofs.ShareLemmas.{total_same, total_within, content_is_given, size_from_shares}
-use Rattle.wild_geometry.proofs.ContentLemmas.{has_last, some_if, length_joined, length-content, length-dynamic_content, dynamic_share, group_last}
+use Rattle.wild_geometry.proofs.ContentLemmas.{length_joined, length-content, length-dynamic_content, dynamic_share}
+use Rattle.wild_geometry.proofs.LastGroupLemmas.{has_last, some_if, group_last}
 use Rattle.wild_geometry.proofs.TableLemmas.{role_at, role_listed, same_role}
 use Rattle.wild_geometry.proofs.TablePieces.{not_raw_takes, Contains-some}
 
