@@ -125,10 +125,10 @@ fn is_chosen(layout: &Layout, section: &InputSection, symbol: SymbolIndex) -> bo
 fn chosen_treatment(row: &RelocationKindInfo, symbol: SymbolIndex) -> Treatment
     ensures { result ≡ chosen_treatment row.now symbol }
 {
-    if row.width() == 8 {
-        Treatment::Indirect(symbol)
-    } else {
+    if row.width() != 8 {
         Treatment::Recompile
+    } else {
+        Treatment::Indirect(symbol)
     }
 }
 
