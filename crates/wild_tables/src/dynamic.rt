@@ -5,7 +5,7 @@ ghost use Rattle.wild_plan.specs.Dynamic.{entry_of, tag_entries, dynamic_count};
 ghost use Rattle.wild_plan.specs.DynamicStrings.{named, behind_text, string_entries, auxiliary_strings, named_strings, string_start};
 ghost use Rattle.wild_tables.specs.Dynamic.{dynamic_bytes, entries_bytes, behind_strings, LengthsOfDynamic, RecordsStand, RecordsFit, BehindNullIsNotRead, EntriesAreFound, TablesAreNamed};
 
-use wild_plan::{DynamicTag, Layout, STRING_START, dynamic_entry};
+use wild_plan::{DynamicTag, Layout, dynamic_entry, string_start};
 use wild_records::DynamicEntry;
 use wild_records::abi::dynamic::{DT_AUXILIARY, DT_RPATH, DT_RUNPATH, DT_SONAME};
 use wild_words::{Bytes, put};
@@ -125,7 +125,7 @@ fn write_auxiliary(out: &mut [u8], cursor: Cursor, texts: &[Bytes]) -> Cursor
 }
 
 /// The entries that name strings, from the front on; answers the offset behind them.
-#[tactic(auto, using(crate::proofs::DynamicLemmas::option_bytes, crate::proofs::DynamicLemmas::option_count, crate::proofs::DynamicLemmas::no_strings), unfolding(wild_plan::specs::Dynamic::named_strings))]
+#[tactic(auto, using(crate::proofs::DynamicLemmas::option_bytes, crate::proofs::DynamicLemmas::option_count, crate::proofs::DynamicLemmas::no_strings), unfolding(wild_plan::specs::DynamicStrings::named_strings))]
 fn write_strings(layout: &Layout, out: &mut [u8]) -> usize
     requires { dynamic_entry_size * length (named_strings layout.now) ≤ length out.old }
     ensures at { result ≡ dynamic_entry_size * length (named_strings layout.now) }
@@ -143,7 +143,7 @@ fn write_strings(layout: &Layout, out: &mut [u8]) -> usize
     };
     let start = Cursor {
         at: 0,
-        offset: STRING_START,
+        offset: string_start(layout),
     };
     let cursor = write_option(out, start, path, &options.rpath);
     let cursor = write_option(out, cursor, DT_SONAME, &options.soname);
