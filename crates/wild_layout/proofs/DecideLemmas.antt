@@ -1,6 +1,6 @@
 -- What a decision says of its relocation.
-use Rattle.std.proofs.Common.{◌≡◌, ℕ, ◌+◌, ◌<◌, ◌≤◌, inl, inr, Bool, true, Some, refl, ap, ◌∙◌, arith, subst}
-use Rattle.std.specs.Prelude.{Result, Ok, Err, nat_lt, if◌then◌else◌}
+use Rattle.std.proofs.Common.{◌≡◌, ℕ, ◌+◌, ◌<◌, ◌≤◌, inl, inr, Bool, true, Some, refl, sym, ap, ◌∙◌, arith, subst}
+use Rattle.std.specs.Prelude.{⊤, Option, None, Result, Ok, Err, nat_lt, if◌then◌else◌, ◌==◌}
 use Rattle.std.specs.List.{list_all}
 use Rattle.std.proofs.lemmas.Bool.{cases_Bool, ltb-true}
 use Rattle.wild_plan.specs.declared.kind.Machine.{Machine}
@@ -13,7 +13,9 @@ use Rattle.wild_plan.specs.declared.treatment.Treatment.{Treatment}
 use Rattle.wild_plan.specs.declared.treatment.Treatment.TheVariants as treatments
 use Rattle.wild_plan.specs.Rows.{row_of, row_width}
 use Rattle.wild_plan.specs.Contents.{field_bytes}
-use Rattle.wild_plan.specs.Entries.{packs}
+use Rattle.wild_plan.specs.Entries.{packs, is_left_to_entry}
+use Rattle.wild_plan.specs.Lookups.{allocated}
+use Rattle.wild_plan.specs.SlotParts.{type_of}
 use Rattle.wild_plan.specs.Treatment.{treatment}
 use Rattle.wild_reloc.specs.Field.{allows, field_width, size_width}
 use Rattle.wild_reloc.specs.TableX86_64.{x86_64_rows, x86_64_row}
@@ -24,12 +26,15 @@ use Rattle.wild_reloc.specs.declared.info.RelocationKindInfo.{RelocationKindInfo
 use Rattle.wild_reloc.specs.declared.info.RelocationSize.{RelocationSize}
 use Rattle.wild_reloc.specs.declared.info.RelocationSize.TheVariants.{ByteSize, BitMasking}
 use Rattle.wild_reloc.specs.declared.info.Width.TheVariants.{Zero, One, Two, Four, Eight}
-use Rattle.wild_layout.specs.declared.decision.Decision.TheVariants.{Nothing, Field, Moved}
-use Rattle.wild_layout.specs.Values.{place_of, sum, address_of, term_of, value_by}
+use Rattle.wild_reloc.specs.declared.dynamic.DynamicRelocationKind.TheVariants.{Absolute, Irelative}
+use Rattle.wild_layout.specs.declared.decision.Decision.{Decision}
+use Rattle.wild_layout.specs.declared.decision.Decision.TheVariants.{Nothing, Field, Moved, Left}
+use Rattle.wild_layout.specs.Values.{place_of, sum, address_of, index_of, decided_address, term_of, value_by}
 use Rattle.wild_layout.specs.Geometry.{FieldLies}
-use Rattle.wild_layout.specs.Decide.{field, field_for, moved_to, decide_by, decided}
+use Rattle.wild_layout.specs.Decide.{field, field_for, moved_to, added, left_to, chosen_to, decide_by, decided}
+use Rattle.wild_layout.specs.Left.{left_by, left_entry, entry_for}
 pub use Rattle.wild_layout.proofs.TreatmentLemmas.{has_value, HasValue}
-use Rattle.wild_layout.proofs.TreatmentLemmas.{row_value, row_nothing, IsMovedBy, row_moved}
+use Rattle.wild_layout.proofs.TreatmentLemmas.{IsMovedBy, IsLeftBy, IsSizedBy, row_value, row_nothing, row_moved, row_symbolic, row_indirect, row_extent}
 
 -- ---- rows
 
@@ -103,6 +108,28 @@ field_from l s r row z v (Ok a) known treated kind is h =
     let f = in_field row (value_by l row.kind a r.addend (place_of s r)) v z h in
     record { row = row; known = known; treated = treated; kind = kind; size = f.0; term = a; given = is; value = f.1; allowed = f.2 }
 
+-- a field that is left to an entry
+abbrev IsLeftAlone : Decision → Type 0
+IsLeftAlone (Left z number symbol addend) = ⊤
+IsLeftAlone other = ⊥
+
+left_alone : (d : Decision) (z : RelocationSize) (number : ℕ) (r : InputRelocation) (i : ℕ) (o : Option ℕ) → left_to z number r i o ≡ Ok d → IsLeftAlone d
+left_alone d z number r i None h = cc
+left_alone d z number r i (Some index) h =
+    let e : Left z number index (added r) ≡ d = cc in
+    subst IsLeftAlone e tt
+
+chosen_alone : (d : Decision) (l : Layout) (r : InputRelocation) (a : Result ℕ Fault) → chosen_to l r a ≡ Ok d → IsLeftAlone d
+chosen_alone d l r (Err f) h = cc
+chosen_alone d l r (Ok resolver) h =
+    elim (cases_Bool (added r == 0)) [
+      | inr f ↦ cc (rw f at h)
+      | inl t ↦
+          (let made : Ok (Left (ByteSize Eight) (type_of l.machine Irelative) 0 resolver) ≡ Ok d = rw t at h in
+          let e : Left (ByteSize Eight) (type_of l.machine Irelative) 0 resolver ≡ d = cc in
+          subst IsLeftAlone e tt)
+    ]
+
 moved_is_no_field : (l : Layout) (s : InputSection) (r : InputRelocation) (z : RelocationSize) (v : ℕ) (a : Result ℕ Fault) → moved_to l s r a ≡ Ok (Field z v) → ⊥
 moved_is_no_field l s r z v (Err f) h = cc
 moved_is_no_field l s r z v (Ok a) h = cc
@@ -123,7 +150,9 @@ treated_field : (l : Layout) (s : InputSection) (r : InputRelocation) (t : Treat
 treated_field l s r treatments.Nothing z v is h = cc
 treated_field l s r (treatments.Value row) z v is h = let k = known_value l s r row is in field_from l s r row z v (term_of l r.symbol row.kind) k.0 is k.1 refl h
 treated_field l s r treatments.BaseRelative z v is h = absurd (moved_is_no_field l s r z v (address_of l r.symbol) h)
-treated_field l s r (treatments.Symbolic i) z v is h = cc
+treated_field l s r (treatments.Symbolic i) z v is h = absurd (left_alone (Field z v) (ByteSize Eight) (type_of l.machine Absolute) r i (index_of l i) h)
+treated_field l s r (treatments.Indirect i) z v is h = absurd (chosen_alone (Field z v) l r (decided_address l i) h)
+treated_field l s r (treatments.Extent row i) z v is h = absurd (left_alone (Field z v) row.size r.number r i (index_of l i) h)
 treated_field l s r treatments.Recompile z v is h = cc
 treated_field l s r treatments.Unsupported z v is h = cc
 
@@ -154,7 +183,9 @@ treated_moved : (l : Layout) (s : InputSection) (r : InputRelocation) (t : Treat
 treated_moved l s r treatments.Nothing v packed is h = cc
 treated_moved l s r (treatments.Value row) v packed is h = absurd (value_is_not_moved l s r row v packed (term_of l r.symbol row.kind) h)
 treated_moved l s r treatments.BaseRelative v packed is h = moved_from l s r v packed (address_of l r.symbol) is refl h
-treated_moved l s r (treatments.Symbolic i) v packed is h = cc
+treated_moved l s r (treatments.Symbolic i) v packed is h = absurd (left_alone (Moved v packed) (ByteSize Eight) (type_of l.machine Absolute) r i (index_of l i) h)
+treated_moved l s r (treatments.Indirect i) v packed is h = absurd (chosen_alone (Moved v packed) l r (decided_address l i) h)
+treated_moved l s r (treatments.Extent row i) v packed is h = absurd (left_alone (Moved v packed) row.size r.number r i (index_of l i) h)
 treated_moved l s r treatments.Recompile v packed is h = cc
 treated_moved l s r treatments.Unsupported v packed is h = cc
 
@@ -217,10 +248,144 @@ treated_nothing : (l : Layout) (s : InputSection) (r : InputRelocation) (t : Tre
 treated_nothing l s r treatments.Nothing is h = known_nothing l s r is
 treated_nothing l s r (treatments.Value row) is h = absurd (value_is_some l s r row (term_of l r.symbol row.kind) h)
 treated_nothing l s r treatments.BaseRelative is h = absurd (moved_is_some l s r (address_of l r.symbol) h)
-treated_nothing l s r (treatments.Symbolic i) is h = cc
+treated_nothing l s r (treatments.Symbolic i) is h = absurd (left_alone Nothing (ByteSize Eight) (type_of l.machine Absolute) r i (index_of l i) h)
+treated_nothing l s r (treatments.Indirect i) is h = absurd (chosen_alone Nothing l r (decided_address l i) h)
+treated_nothing l s r (treatments.Extent row i) is h = absurd (left_alone Nothing row.size r.number r i (index_of l i) h)
 treated_nothing l s r treatments.Recompile is h = cc
 treated_nothing l s r treatments.Unsupported is h = cc
 
 pub decided_nothing : (l : Layout) (s : InputSection) (r : InputRelocation) → decided l s r ≡ Ok Nothing → IsNothing l r
 unfolding decided
 decided_nothing l s r h = treated_nothing l s r (treatment l s r) refl h
+
+-- ---- fields that are left to entries
+
+-- a relocation whose field of size z is left to an entry of that number, with that index and addend
+pub record IsLeft (l : Layout) (s : InputSection) (r : InputRelocation) (z : RelocationSize) (number symbol addend : ℕ) : Type 0 where
+  pub field : HasField l r z
+  pub room : allocated s.flags ≡ true
+  pub treated : Treatment
+  pub is : treatment l s r ≡ treated
+  pub left : is_left_to_entry treated ≡ true
+  pub made : decide_by l s r treated ≡ Ok (Left z number symbol addend)
+  pub entry : left_entry l s r ≡ entry_for (place_of s r) number symbol addend
+
+known_symbolic : (l : Layout) (s : InputSection) (r : InputRelocation) (i : ℕ) → treatment l s r ≡ treatments.Symbolic i → (row : RelocationKindInfo) × (row_of l.machine r.number ≡ Some row) × IsLeftBy s r.symbol row i
+unfolding treatment
+known_symbolic l s r i is = row_symbolic l s r.symbol (row_of l.machine r.number) i is
+
+known_indirect : (l : Layout) (s : InputSection) (r : InputRelocation) (i : ℕ) → treatment l s r ≡ treatments.Indirect i → (row : RelocationKindInfo) × (row_of l.machine r.number ≡ Some row) × IsLeftBy s r.symbol row i
+unfolding treatment
+known_indirect l s r i is = row_indirect l s r.symbol (row_of l.machine r.number) i is
+
+known_extent : (l : Layout) (s : InputSection) (r : InputRelocation) (row : RelocationKindInfo) (i : ℕ) → treatment l s r ≡ treatments.Extent row i → (row_of l.machine r.number ≡ Some row) × IsSizedBy s r.symbol row i
+unfolding treatment
+known_extent l s r row i is = row_extent l s r.symbol (row_of l.machine r.number) row i is
+
+-- of an address in 8 bytes
+left_field : (l : Layout) (s : InputSection) (r : InputRelocation) (row : RelocationKindInfo) (i : ℕ) → row_of l.machine r.number ≡ Some row → IsLeftBy s r.symbol row i → HasField l r (ByteSize Eight)
+left_field l s r row i known by = record { row = row; known = known; kind = ap has_value by.kind; size = eight_bytes row.size by.width }
+
+-- what is left to an entry that names a symbol
+record IsLeftTo (z x : RelocationSize) (number n symbol addend a : ℕ) (o : Option ℕ) : Type 0 where
+  size : z ≡ x
+  type_is : number ≡ n
+  index : o ≡ Some symbol
+  more : a ≡ addend
+
+left_parts : (z x : RelocationSize) (number n symbol addend : ℕ) (r : InputRelocation) (i : ℕ) (o : Option ℕ) → left_to z number r i o ≡ Ok (Left x n symbol addend) → IsLeftTo z x number n symbol addend (added r) o
+left_parts z x number n symbol addend r i None h = cc
+left_parts z x number n symbol addend r i (Some index) h =
+    let size : z ≡ x = cc in
+    let same : number ≡ n = cc in
+    let there : index ≡ symbol = cc in
+    let more : added r ≡ addend = cc in
+    record { size = size; type_is = same; index = ap (λ (k : ℕ). Some k) there; more = more }
+
+chosen_parts : (l : Layout) (x : RelocationSize) (n symbol addend : ℕ) (r : InputRelocation) (a : Result ℕ Fault) → chosen_to l r a ≡ Ok (Left x n symbol addend) → (ByteSize Eight ≡ x) × (type_of l.machine Irelative ≡ n) × (0 ≡ symbol) × (a ≡ Ok addend)
+chosen_parts l x n symbol addend r (Err f) h = cc
+chosen_parts l x n symbol addend r (Ok resolver) h =
+    elim (cases_Bool (added r == 0)) [
+      | inr f ↦ cc (rw f at h)
+      | inl t ↦
+          (let e : Ok (Left (ByteSize Eight) (type_of l.machine Irelative) 0 resolver) ≡ Ok (Left x n symbol addend) = rw t at h in
+          let size : ByteSize Eight ≡ x = cc in
+          let same : type_of l.machine Irelative ≡ n = cc in
+          let none : 0 ≡ symbol = cc in
+          let is : resolver ≡ addend = cc in
+          (size, same, none, ap (λ (k : ℕ). Ok k) is))
+    ]
+
+field_is_not_left : (row : RelocationKindInfo) (w : ℕ) (z : RelocationSize) (n symbol addend : ℕ) → field row w ≡ Ok (Left z n symbol addend) → ⊥
+field_is_not_left row w z n symbol addend h =
+    elim (cases_Bool (allows row w)) [
+      | inr f ↦ cc (rw f at h)
+      | inl t ↦ cc (rw t at h)
+    ]
+
+value_is_not_left : (l : Layout) (s : InputSection) (r : InputRelocation) (row : RelocationKindInfo) (z : RelocationSize) (n symbol addend : ℕ) (a : Result ℕ Fault) → field_for l s r row a ≡ Ok (Left z n symbol addend) → ⊥
+value_is_not_left l s r row z n symbol addend (Err f) h = cc
+value_is_not_left l s r row z n symbol addend (Ok a) h = field_is_not_left row (value_by l row.kind a r.addend (place_of s r)) z n symbol addend h
+
+moved_is_not_left : (l : Layout) (s : InputSection) (r : InputRelocation) (z : RelocationSize) (n symbol addend : ℕ) (a : Result ℕ Fault) → moved_to l s r a ≡ Ok (Left z n symbol addend) → ⊥
+moved_is_not_left l s r z n symbol addend (Err f) h = cc
+moved_is_not_left l s r z n symbol addend (Ok a) h = cc
+
+treated_left : (l : Layout) (s : InputSection) (r : InputRelocation) (t : Treatment) (z : RelocationSize) (n symbol addend : ℕ) → treatment l s r ≡ t → decide_by l s r t ≡ Ok (Left z n symbol addend) → IsLeft l s r z n symbol addend
+treated_left l s r treatments.Nothing z n symbol addend is h = cc
+treated_left l s r (treatments.Value row) z n symbol addend is h = absurd (value_is_not_left l s r row z n symbol addend (term_of l r.symbol row.kind) h)
+treated_left l s r treatments.BaseRelative z n symbol addend is h = absurd (moved_is_not_left l s r z n symbol addend (address_of l r.symbol) h)
+treated_left l s r (treatments.Symbolic i) z n symbol addend is h =
+    let k = known_symbolic l s r i is in
+    let p = left_parts (ByteSize Eight) z (type_of l.machine Absolute) n symbol addend r i (index_of l i) h in
+    record {
+      field = subst (HasField l r) p.size (left_field l s r k.0 i k.1 k.2);
+      room = k.2.room;
+      treated = treatments.Symbolic i;
+      is = is;
+      left = refl;
+      made = h;
+      entry = ap (left_by l s r) is ∙ same p.type_is p.index p.more;
+    }
+  where
+    same : type_of l.machine Absolute ≡ n → index_of l i ≡ Some symbol → added r ≡ addend → left_by l s r (treatments.Symbolic i) ≡ entry_for (place_of s r) n symbol addend
+    same e f g = rw (e, f, g) refl
+treated_left l s r (treatments.Indirect i) z n symbol addend is h =
+    let k = known_indirect l s r i is in
+    let p = chosen_parts l z n symbol addend r (decided_address l i) h in
+    record {
+      field = subst (HasField l r) p.0 (left_field l s r k.0 i k.1 k.2);
+      room = k.2.room;
+      treated = treatments.Indirect i;
+      is = is;
+      left = refl;
+      made = h;
+      entry = ap (left_by l s r) is ∙ same p.1 p.2 p.3;
+    }
+  where
+    same : type_of l.machine Irelative ≡ n → 0 ≡ symbol → decided_address l i ≡ Ok addend → left_by l s r (treatments.Indirect i) ≡ entry_for (place_of s r) n symbol addend
+    same e f g = rw (e, sym f, g) refl
+treated_left l s r (treatments.Extent row i) z n symbol addend is h =
+    let k = known_extent l s r row i is in
+    let p = left_parts row.size z r.number n symbol addend r i (index_of l i) h in
+    record {
+      field = record { row = row; known = k.0; kind = ap has_value k.1.kind; size = p.size };
+      room = k.1.room;
+      treated = treatments.Extent row i;
+      is = is;
+      left = refl;
+      made = h;
+      entry = ap (left_by l s r) is ∙ same p.type_is p.index p.more;
+    }
+  where
+    same : r.number ≡ n → index_of l i ≡ Some symbol → added r ≡ addend → left_by l s r (treatments.Extent row i) ≡ entry_for (place_of s r) n symbol addend
+    same e f g = rw (e, f, g) refl
+treated_left l s r treatments.Recompile z n symbol addend is h = cc
+treated_left l s r treatments.Unsupported z n symbol addend is h = cc
+
+pub decided_left : (l : Layout) (s : InputSection) (r : InputRelocation) (z : RelocationSize) (n symbol addend : ℕ) → decided l s r ≡ Ok (Left z n symbol addend) → IsLeft l s r z n symbol addend
+unfolding decided
+decided_left l s r z n symbol addend h = treated_left l s r (treatment l s r) z n symbol addend refl h
+
+pub left_has : (l : Layout) (s : InputSection) (r : InputRelocation) (z : RelocationSize) (n symbol addend : ℕ) → IsLeft l s r z n symbol addend → HasField l r z
+left_has l s r z n symbol addend h = h.field

@@ -16,11 +16,11 @@ use Rattle.wild_reloc.specs.declared.info.RelocationSize.TheVariants.{ByteSize}
 use Rattle.wild_reloc.specs.declared.info.Width.TheVariants.{Eight}
 use Rattle.wild_reloc.proofs.PlaceLemmas.{length-size_written}
 use Rattle.wild_layout.specs.declared.decision.Decision.{Decision}
-use Rattle.wild_layout.specs.declared.decision.Decision.TheVariants.{Nothing, Field, Moved}
+use Rattle.wild_layout.specs.declared.decision.Decision.TheVariants.{Nothing, Field, Moved, Left}
 use Rattle.wild_layout.specs.Decide.{decided, decide}
 use Rattle.wild_layout.specs.Sites.{Written, written_by, field_site, site_of, site_at, site, sites, shared_byte}
 use Rattle.wild_layout.specs.Geometry.{FieldLies}
-use Rattle.wild_layout.proofs.DecideLemmas.{HasField, decided_field, decided_moved, field_has, moved_has, field_has_bytes, field_ends}
+use Rattle.wild_layout.proofs.DecideLemmas.{HasField, decided_field, decided_moved, decided_left, field_has, moved_has, left_has, field_has_bytes, field_ends}
 use Rattle.wild_layout.proofs.SitesApart.{IsFieldIn, fields_apart}
 
 pub All-one : {X : Type 0} (P : X → Type 0) (x : X) → P x → All P (x ∷ [])
@@ -75,6 +75,7 @@ site_cases l s i = listed l s i (slice_get s.relocations i) refl
     decision l s i r (Ok Nothing) e is = inl refl
     decision l s i r (Ok (Field z v)) e is = inr (site_for l s i r (Field z v) (record { size = z; value = v }) e is refl (field_has l s r z v (decided_field l s r z v is)))
     decision l s i r (Ok (Moved v packed)) e is = inr (site_for l s i r (Moved v packed) (record { size = ByteSize Eight; value = if packed then v else 0 }) e is refl (moved_has l s r v packed (decided_moved l s r v packed is)))
+    decision l s i r (Ok (Left z n symbol addend)) e is = inr (site_for l s i r (Left z n symbol addend) (record { size = z; value = 0 }) e is refl (left_has l s r z n symbol addend (decided_left l s r z n symbol addend is)))
 
     listed : (l : Layout) (s : InputSection) (i : ℕ) (o : Option InputRelocation) → slice_get s.relocations i ≡ o → (site_at s (decide l s i) o ≡ []) ⊎ IsSite l s i
     listed l s i None e = inl refl

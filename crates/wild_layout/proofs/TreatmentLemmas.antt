@@ -1,14 +1,15 @@
 -- What a treatment says of its relocation.
-use Rattle.std.proofs.Common.{◌≡◌, ℕ, inl, inr, Bool, true, Option, Some, None, refl, ap, subst}
-use Rattle.std.specs.Prelude.{false, if◌then◌else◌, ◌&&◌, ◌==◌}
+use Rattle.std.proofs.Common.{◌≡◌, ℕ, inl, inr, Bool, true, false, Option, Some, None, refl, sym, ap, ◌∙◌, subst}
+use Rattle.std.specs.Prelude.{⊤, if◌then◌else◌, not, ◌&&◌, ◌||◌, ◌==◌}
 use Rattle.std.proofs.lemmas.Bool.{cases_Bool, eqb-true}
 use Rattle.wild_plan.specs.declared.input.InputSection.{InputSection}
 use Rattle.wild_plan.specs.declared.layout.Layout.{Layout}
 use Rattle.wild_plan.specs.declared.treatment.Treatment.{Treatment}
 use Rattle.wild_plan.specs.declared.treatment.Treatment.TheVariants as treatments
-use Rattle.wild_plan.specs.Kinds.{is_position_independent}
-use Rattle.wild_plan.specs.Lookups.{allocated}
-use Rattle.wild_plan.specs.Treatment.{is_left, is_barred, is_chosen, moves, moved_treatment, address_treatment, distance_treatment, named, kind_treatment, row_treatment}
+use Rattle.wild_plan.specs.Flags.{has_flag, dynamic, ifunc, interposable}
+use Rattle.wild_plan.specs.Kinds.{is_position_independent, is_shared_object}
+use Rattle.wild_plan.specs.Lookups.{writable, allocated}
+use Rattle.wild_plan.specs.Treatment.{flags_at, is_left, is_barred, is_narrow, is_chosen, is_sized, moves, moved_treatment, chosen_treatment, address_treatment, distance_treatment, pointer_treatment, size_treatment, named, kind_treatment, row_treatment}
 use Rattle.wild_reloc.specs.Field.{field_width}
 use Rattle.wild_reloc.specs.declared.info.RelocationKind.{RelocationKind}
 use Rattle.wild_reloc.specs.declared.info.RelocationKind.TheVariants as kinds
@@ -37,117 +38,6 @@ has_value other = false
 abbrev pub HasValue : RelocationKind → Type 0
 HasValue k = has_value k ≡ true
 
--- the value of a row is the row's own
-abbrev IsOwnRow : RelocationKindInfo → Treatment → Type 0
-IsOwnRow row t = (r : RelocationKindInfo) → t ≡ treatments.Value r → row ≡ r
-
-own_value : (row : RelocationKindInfo) → IsOwnRow row (treatments.Value row)
-own_value row = λ r h. cc
-
-own_recompile : (row : RelocationKindInfo) → IsOwnRow row treatments.Recompile
-own_recompile row = λ r h. cc
-
-own_if : (row : RelocationKindInfo) (b : Bool) (t u : Treatment) → IsOwnRow row t → IsOwnRow row u → IsOwnRow row (if b then t else u)
-own_if row true t u h k = h
-own_if row false t u h k = k
-
-own_moved : (row : RelocationKindInfo) → IsOwnRow row (moved_treatment row)
-own_moved row = own_if row (field_width row == 8) treatments.BaseRelative treatments.Recompile (λ r h. cc) (own_recompile row)
-
-own_address : (l : Layout) (s : InputSection) (row : RelocationKindInfo) (i : ℕ) → IsOwnRow row (address_treatment l s row i)
-own_address l s row i =
-    own_if row (is_barred l s row i) _ _ (own_recompile row)
-    (own_if row (is_left l s row i) _ _ (λ r h. cc)
-    (own_if row (is_chosen l s i) _ _ (λ r h. cc)
-    (own_if row (allocated s.flags && moves l i) _ _ (own_moved row) (own_value row))))
-
-own_distance : (l : Layout) (s : InputSection) (row : RelocationKindInfo) (symbol : Option ℕ) → IsOwnRow row (distance_treatment l s row symbol)
-own_distance l s row None = own_if row (allocated s.flags && is_position_independent l.kind) _ _ (own_recompile row) (own_value row)
-own_distance l s row (Some i) = own_if row (is_barred l s row i) _ _ (own_recompile row) (own_value row)
-
-own_named : (row : RelocationKindInfo) (symbol : Option ℕ) (by : ℕ → Treatment) → ((i : ℕ) → IsOwnRow row (by i)) → IsOwnRow row (named symbol by)
-own_named row None by h = λ r e. cc
-own_named row (Some i) by h = h i
-
-kind_value : (l : Layout) (s : InputSection) (symbol : Option ℕ) (row r : RelocationKindInfo) (k : RelocationKind) → kind_treatment l s symbol row k ≡ treatments.Value r → (row ≡ r) × HasValue k
-kind_value l s symbol row r kinds.None h = cc
-kind_value l s symbol row r kinds.Absolute h = (own_named row symbol (address_treatment l s row) (own_address l s row) r h, refl)
-kind_value l s symbol row r kinds.Relative h = (own_distance l s row symbol r h, refl)
-kind_value l s symbol row r kinds.GotBaseRelative h = (cc, refl)
-kind_value l s symbol row r kinds.SymRelGotBase h = (own_named row symbol (λ i. treatments.Value row) (λ i. own_value row) r h, refl)
-kind_value l s symbol row r kinds.DtpOff h = (own_named row symbol (λ i. treatments.Value row) (λ i. own_value row) r h, refl)
-kind_value l s symbol row r kinds.TpOff h = (own_named row symbol (λ i. treatments.Value row) (λ i. own_value row) r h, refl)
-kind_value l s symbol row r kinds.SymbolSize h = (own_named row symbol (λ i. treatments.Value row) (λ i. own_value row) r h, refl)
-kind_value l s symbol row r kinds.PltRelative h = (own_named row symbol (λ i. treatments.Value row) (λ i. own_value row) r h, refl)
-kind_value l s symbol row r kinds.PltRelGotBase h = (own_named row symbol (λ i. treatments.Value row) (λ i. own_value row) r h, refl)
-kind_value l s symbol row r kinds.GotRelative h = (own_named row symbol (λ i. treatments.Value row) (λ i. own_value row) r h, refl)
-kind_value l s symbol row r kinds.GotRelGotBase h = (own_named row symbol (λ i. treatments.Value row) (λ i. own_value row) r h, refl)
-kind_value l s symbol row r kinds.TlsGd h = (own_named row symbol (λ i. treatments.Value row) (λ i. own_value row) r h, refl)
-kind_value l s symbol row r kinds.TlsLd h = (own_named row symbol (λ i. treatments.Value row) (λ i. own_value row) r h, refl)
-kind_value l s symbol row r kinds.GotTpOff h = (own_named row symbol (λ i. treatments.Value row) (λ i. own_value row) r h, refl)
-kind_value l s symbol row r other h = cc
-
-pub row_value : (l : Layout) (s : InputSection) (symbol : Option ℕ) (o : Option RelocationKindInfo) (r : RelocationKindInfo) → row_treatment l s symbol o ≡ treatments.Value r → (o ≡ Some r) × HasValue r.kind
-unfolding row_treatment
-row_value l s symbol None r h = cc
-row_value l s symbol (Some row) r h =
-    let v = kind_value l s symbol row r row.kind h in
-    (ap (λ (x : RelocationKindInfo). Some x) v.0, subst (λ (x : RelocationKindInfo). HasValue x.kind) v.0 v.1)
-
--- a treatment that is no nothing
-abbrev IsSome : Treatment → Type 0
-IsSome t = t ≡ treatments.Nothing → ⊥
-
-some_if : (b : Bool) (t u : Treatment) → IsSome t → IsSome u → IsSome (if b then t else u)
-some_if true t u h k = h
-some_if false t u h k = k
-
-some_value : (row : RelocationKindInfo) → IsSome (treatments.Value row)
-some_value row = λ h. cc
-
-some_recompile : IsSome treatments.Recompile
-some_recompile = λ h. cc
-
-some_address : (l : Layout) (s : InputSection) (row : RelocationKindInfo) (i : ℕ) → IsSome (address_treatment l s row i)
-some_address l s row i =
-    some_if (is_barred l s row i) _ _ some_recompile
-    (some_if (is_left l s row i) _ _ (λ h. cc)
-    (some_if (is_chosen l s i) _ _ (λ h. cc)
-    (some_if (allocated s.flags && moves l i) _ _ (some_if (field_width row == 8) _ _ (λ h. cc) some_recompile) (some_value row))))
-
-some_distance : (l : Layout) (s : InputSection) (row : RelocationKindInfo) (symbol : Option ℕ) → IsSome (distance_treatment l s row symbol)
-some_distance l s row None = some_if (allocated s.flags && is_position_independent l.kind) _ _ some_recompile (some_value row)
-some_distance l s row (Some i) = some_if (is_barred l s row i) _ _ some_recompile (some_value row)
-
-some_named : (symbol : Option ℕ) (by : ℕ → Treatment) → ((i : ℕ) → IsSome (by i)) → IsSome (named symbol by)
-some_named None by h = λ e. cc
-some_named (Some i) by h = h i
-
-kind_nothing : (l : Layout) (s : InputSection) (symbol : Option ℕ) (row : RelocationKindInfo) (k : RelocationKind) → kind_treatment l s symbol row k ≡ treatments.Nothing → k ≡ kinds.None
-kind_nothing l s symbol row kinds.None h = refl
-kind_nothing l s symbol row kinds.Absolute h = absurd (some_named symbol (address_treatment l s row) (some_address l s row) h)
-kind_nothing l s symbol row kinds.Relative h = absurd (some_distance l s row symbol h)
-kind_nothing l s symbol row kinds.GotBaseRelative h = cc
-kind_nothing l s symbol row kinds.SymRelGotBase h = absurd (some_named symbol (λ i. treatments.Value row) (λ i. some_value row) h)
-kind_nothing l s symbol row kinds.DtpOff h = absurd (some_named symbol (λ i. treatments.Value row) (λ i. some_value row) h)
-kind_nothing l s symbol row kinds.TpOff h = absurd (some_named symbol (λ i. treatments.Value row) (λ i. some_value row) h)
-kind_nothing l s symbol row kinds.SymbolSize h = absurd (some_named symbol (λ i. treatments.Value row) (λ i. some_value row) h)
-kind_nothing l s symbol row kinds.PltRelative h = absurd (some_named symbol (λ i. treatments.Value row) (λ i. some_value row) h)
-kind_nothing l s symbol row kinds.PltRelGotBase h = absurd (some_named symbol (λ i. treatments.Value row) (λ i. some_value row) h)
-kind_nothing l s symbol row kinds.GotRelative h = absurd (some_named symbol (λ i. treatments.Value row) (λ i. some_value row) h)
-kind_nothing l s symbol row kinds.GotRelGotBase h = absurd (some_named symbol (λ i. treatments.Value row) (λ i. some_value row) h)
-kind_nothing l s symbol row kinds.TlsGd h = absurd (some_named symbol (λ i. treatments.Value row) (λ i. some_value row) h)
-kind_nothing l s symbol row kinds.TlsLd h = absurd (some_named symbol (λ i. treatments.Value row) (λ i. some_value row) h)
-kind_nothing l s symbol row kinds.GotTpOff h = absurd (some_named symbol (λ i. treatments.Value row) (λ i. some_value row) h)
-kind_nothing l s symbol row other h = cc
-
-pub row_nothing : (l : Layout) (s : InputSection) (symbol : Option ℕ) (o : Option RelocationKindInfo) → row_treatment l s symbol o ≡ treatments.Nothing → (row : RelocationKindInfo) × (o ≡ Some row) × (row.kind ≡ kinds.None)
-unfolding row_treatment
-row_nothing l s symbol None h = cc
-row_nothing l s symbol (Some row) h = (row, refl, kind_nothing l s symbol row row.kind h)
-
--- ---- addresses that move
-
 -- an address that moves is one of a symbol's, in 8 bytes of an allocated section
 pub record IsMovedBy (l : Layout) (s : InputSection) (symbol : Option ℕ) (row : RelocationKindInfo) : Type 0 where
   pub kind : row.kind ≡ kinds.Absolute
@@ -157,60 +47,140 @@ pub record IsMovedBy (l : Layout) (s : InputSection) (symbol : Option ℕ) (row 
   pub moves : moves l number ≡ true
   pub room : allocated s.flags ≡ true
 
-moved_if : (l : Layout) (s : InputSection) (i : ℕ) (row : RelocationKindInfo) (b : Bool) → row.kind ≡ kinds.Absolute → (allocated s.flags && moves l i) ≡ b → (if b then moved_treatment row else treatments.Value row) ≡ treatments.BaseRelative → IsMovedBy l s (Some i) row
-moved_if l s i row false k e h = cc
-moved_if l s i row true k e h =
-    let both = both_true (allocated s.flags) (moves l i) e in
-    elim (cases_Bool (field_width row == 8)) [
-      | inl t ↦ record { kind = k; width = eqb-true (field_width row) 8 t; number = i; named = refl; moves = both.1; room = both.0 }
-      | inr f ↦ cc (rw f at h)
-    ]
-  where
-    both_true : (a b : Bool) → (a && b) ≡ true → (a ≡ true) × (b ≡ true)
-    both_true true b h = (refl, h)
-    both_true false b h = cc
+-- an address of symbol i that an entry fills stands in 8 bytes of an allocated section
+pub record IsLeftBy (s : InputSection) (symbol : Option ℕ) (row : RelocationKindInfo) (i : ℕ) : Type 0 where
+  pub kind : row.kind ≡ kinds.Absolute
+  pub width : field_width row ≡ 8
+  pub named : symbol ≡ Some i
+  pub room : allocated s.flags ≡ true
 
-address_moved : (l : Layout) (s : InputSection) (i : ℕ) (row : RelocationKindInfo) → row.kind ≡ kinds.Absolute → address_treatment l s row i ≡ treatments.BaseRelative → IsMovedBy l s (Some i) row
-address_moved l s i row k h =
-    elim (cases_Bool (is_barred l s row i)) [
-      | inl t ↦ cc (rw t at h)
-      | inr f ↦ elim (cases_Bool (is_left l s row i)) [
-        | inl t ↦ cc (rw (f, t) at h)
-        | inr g ↦ elim (cases_Bool (is_chosen l s i)) [
-          | inl t ↦ cc (rw (f, g, t) at h)
-          | inr c ↦ (let e : (if allocated s.flags && moves l i then moved_treatment row else treatments.Value row) ≡ treatments.BaseRelative = rw (f, g, c) at h in moved_if l s i row (allocated s.flags && moves l i) k refl e)
-        ]
-      ]
-    ]
+-- a size of symbol i that an entry fills stands in an allocated section
+pub record IsSizedBy (s : InputSection) (symbol : Option ℕ) (row : RelocationKindInfo) (i : ℕ) : Type 0 where
+  pub kind : row.kind ≡ kinds.SymbolSize
+  pub named : symbol ≡ Some i
+  pub room : allocated s.flags ≡ true
 
-distance_moved : (l : Layout) (s : InputSection) (row : RelocationKindInfo) (symbol : Option ℕ) → distance_treatment l s row symbol ≡ treatments.BaseRelative → ⊥
-distance_moved l s row None h = elim (cases_Bool (allocated s.flags && is_position_independent l.kind)) [ inl t ↦ cc (rw t at h) | inr f ↦ cc (rw f at h) ]
-distance_moved l s row (Some i) h = elim (cases_Bool (is_barred l s row i)) [ inl t ↦ cc (rw t at h) | inr f ↦ cc (rw f at h) ]
+-- what a treatment says
+abbrev pub Says : Layout → InputSection → Option ℕ → RelocationKindInfo → Treatment → Type 0
+Says l s symbol row treatments.Nothing = row.kind ≡ kinds.None
+Says l s symbol row (treatments.Value r) = (row ≡ r) × HasValue row.kind
+Says l s symbol row treatments.BaseRelative = IsMovedBy l s symbol row
+Says l s symbol row (treatments.Symbolic i) = IsLeftBy s symbol row i
+Says l s symbol row (treatments.Indirect i) = IsLeftBy s symbol row i
+Says l s symbol row (treatments.Extent r i) = (row ≡ r) × IsSizedBy s symbol row i
+Says l s symbol row other = ⊤
 
-named_moved : (row : RelocationKindInfo) (symbol : Option ℕ) → named symbol (λ i. treatments.Value row) ≡ treatments.BaseRelative → ⊥
-named_moved row None h = cc
-named_moved row (Some i) h = cc
+said_if : (P : Treatment → Type 0) (b : Bool) (t u : Treatment) → (b ≡ true → P t) → (b ≡ false → P u) → P (if b then t else u)
+said_if P true t u h k = h refl
+said_if P false t u h k = k refl
 
-kind_moved : (l : Layout) (s : InputSection) (symbol : Option ℕ) (row : RelocationKindInfo) (k : RelocationKind) → row.kind ≡ k → kind_treatment l s symbol row k ≡ treatments.BaseRelative → IsMovedBy l s symbol row
-kind_moved l s symbol row kinds.None e h = cc
-kind_moved l s None row kinds.Absolute e h = cc
-kind_moved l s (Some i) row kinds.Absolute e h = address_moved l s i row e h
-kind_moved l s symbol row kinds.Relative e h = absurd (distance_moved l s row symbol h)
-kind_moved l s symbol row kinds.GotBaseRelative e h = cc
-kind_moved l s symbol row kinds.SymRelGotBase e h = absurd (named_moved row symbol h)
-kind_moved l s symbol row kinds.DtpOff e h = absurd (named_moved row symbol h)
-kind_moved l s symbol row kinds.TpOff e h = absurd (named_moved row symbol h)
-kind_moved l s symbol row kinds.SymbolSize e h = absurd (named_moved row symbol h)
-kind_moved l s symbol row kinds.PltRelative e h = absurd (named_moved row symbol h)
-kind_moved l s symbol row kinds.PltRelGotBase e h = absurd (named_moved row symbol h)
-kind_moved l s symbol row kinds.GotRelative e h = absurd (named_moved row symbol h)
-kind_moved l s symbol row kinds.GotRelGotBase e h = absurd (named_moved row symbol h)
-kind_moved l s symbol row kinds.TlsGd e h = absurd (named_moved row symbol h)
-kind_moved l s symbol row kinds.TlsLd e h = absurd (named_moved row symbol h)
-kind_moved l s symbol row kinds.GotTpOff e h = absurd (named_moved row symbol h)
-kind_moved l s symbol row other e h = cc
+-- ---- by kind
+
+both_true : (a b : Bool) → (a && b) ≡ true → (a ≡ true) × (b ≡ true)
+both_true true b h = (refl, h)
+both_true false b h = cc
+
+left_true : (a b c d : Bool) → (a && b && c && d) ≡ true → (a ≡ true) × (c ≡ true)
+left_true true true true true h = (refl, refl)
+left_true true true true false h = cc
+left_true true true false d h = cc
+left_true true false c d h = cc
+left_true false b c d h = cc
+
+first_of_four : (a b c d : Bool) → (a && b && c && d) ≡ true → a ≡ true
+first_of_four true b c d h = refl
+first_of_four false b c d h = cc
+
+first_of_three : (a b c : Bool) → (a && b && c) ≡ true → a ≡ true
+first_of_three true b c h = refl
+first_of_three false b c h = cc
+
+said_address : (l : Layout) (s : InputSection) (row : RelocationKindInfo) (i : ℕ) → row.kind ≡ kinds.Absolute → Says l s (Some i) row (address_treatment l s row i)
+said_address l s row i k =
+    let P = Says l s (Some i) row in
+    let value : HasValue row.kind = ap has_value k in
+    said_if P (is_barred l s row i || is_narrow l s row) _ _ (λ e. tt) (λ e.
+    said_if P (is_left l s row i) _ _
+    (λ left. (let both = left_true (allocated s.flags) (writable s.flags) (field_width row == 8) (interposable (flags_at l i)) left in record { kind = k; width = eqb-true (field_width row) 8 both.1; named = refl; room = both.0 }))
+    (λ e. said_if P (is_chosen l s i) _ _
+    (λ chosen. said_if P (field_width row == 8) _ _ (λ w. record { kind = k; width = eqb-true (field_width row) 8 w; named = refl; room = first_of_four (allocated s.flags) (writable s.flags) (is_position_independent l.kind) (has_flag (flags_at l i) ifunc) chosen }) (λ w. tt))
+    (λ e. said_if P (allocated s.flags && moves l i) _ _
+    (λ m. (let both = both_true (allocated s.flags) (moves l i) m in said_if P (field_width row == 8) _ _ (λ w. record { kind = k; width = eqb-true (field_width row) 8 w; number = i; named = refl; moves = both.1; room = both.0 }) (λ w. tt)))
+    (λ m. (refl, value)))))
+
+said_size : (l : Layout) (s : InputSection) (row : RelocationKindInfo) (i : ℕ) → row.kind ≡ kinds.SymbolSize → Says l s (Some i) row (size_treatment l s row i)
+said_size l s row i k =
+    said_if (Says l s (Some i) row) (is_sized l s i) _ _
+    (λ sized. (refl, record { kind = k; named = refl; room = first_of_three (allocated s.flags) (interposable (flags_at l i)) (has_flag (flags_at l i) dynamic || is_shared_object l.kind) sized }))
+    (λ e. (refl, ap has_value k))
+
+said_distance : (l : Layout) (s : InputSection) (row : RelocationKindInfo) (symbol : Option ℕ) → row.kind ≡ kinds.Relative → Says l s symbol row (distance_treatment l s row symbol)
+said_distance l s row None k = said_if (Says l s None row) (allocated s.flags && is_position_independent l.kind) _ _ (λ e. tt) (λ e. (refl, ap has_value k))
+said_distance l s row (Some i) k = said_if (Says l s (Some i) row) (is_barred l s row i) _ _ (λ e. tt) (λ e. (refl, ap has_value k))
+
+said_named : (l : Layout) (s : InputSection) (row : RelocationKindInfo) (symbol : Option ℕ) (by : ℕ → Treatment) → ((i : ℕ) → Says l s (Some i) row (by i)) → Says l s symbol row (named symbol by)
+said_named l s row None by h = tt
+said_named l s row (Some i) by h = h i
+
+-- a value of the row's own
+said_value : (l : Layout) (s : InputSection) (row : RelocationKindInfo) (symbol : Option ℕ) → HasValue row.kind → Says l s symbol row (named symbol (λ i. treatments.Value row))
+said_value l s row symbol h = said_named l s row symbol (λ i. treatments.Value row) (λ i. (refl, h))
+
+kind_says : (l : Layout) (s : InputSection) (symbol : Option ℕ) (row : RelocationKindInfo) (k : RelocationKind) → row.kind ≡ k → Says l s symbol row (kind_treatment l s symbol row k)
+kind_says l s symbol row kinds.None e = e
+kind_says l s symbol row kinds.Absolute e = said_named l s row symbol (address_treatment l s row) (λ i. said_address l s row i e)
+kind_says l s symbol row kinds.Relative e = said_distance l s row symbol e
+kind_says l s symbol row kinds.GotBaseRelative e = (refl, ap has_value e)
+kind_says l s symbol row kinds.SymRelGotBase e = said_value l s row symbol (ap has_value e)
+kind_says l s symbol row kinds.DtpOff e = said_value l s row symbol (ap has_value e)
+kind_says l s symbol row kinds.TpOff e = said_named l s row symbol (λ i. pointer_treatment l s row) (λ i. said_if (Says l s (Some i) row) (allocated s.flags && is_shared_object l.kind) _ _ (λ p. tt) (λ p. (refl, ap has_value e)))
+kind_says l s symbol row kinds.SymbolSize e = said_named l s row symbol (size_treatment l s row) (λ i. said_size l s row i e)
+kind_says l s symbol row kinds.PltRelative e = said_value l s row symbol (ap has_value e)
+kind_says l s symbol row kinds.PltRelGotBase e = said_value l s row symbol (ap has_value e)
+kind_says l s symbol row kinds.GotRelative e = said_value l s row symbol (ap has_value e)
+kind_says l s symbol row kinds.GotRelGotBase e = said_value l s row symbol (ap has_value e)
+kind_says l s symbol row kinds.TlsGd e = said_value l s row symbol (ap has_value e)
+kind_says l s symbol row kinds.TlsLd e = said_value l s row symbol (ap has_value e)
+kind_says l s symbol row kinds.GotTpOff e = said_value l s row symbol (ap has_value e)
+kind_says l s symbol row other e = tt
+
+-- ---- by row
+
+-- a row whose treatment is t, and what that says
+pub record HasRow (l : Layout) (s : InputSection) (symbol : Option ℕ) (o : Option RelocationKindInfo) (t : Treatment) : Type 0 where
+  pub row : RelocationKindInfo
+  pub known : o ≡ Some row
+  pub says : Says l s symbol row t
+
+-- no row is needed where nothing is said
+abbrev Speaks : Treatment → Type 0
+Speaks treatments.Recompile = ⊥
+Speaks treatments.Unsupported = ⊥
+Speaks other = ⊤
+
+row_says : (l : Layout) (s : InputSection) (symbol : Option ℕ) (o : Option RelocationKindInfo) (t : Treatment) → Speaks t → row_treatment l s symbol o ≡ t → HasRow l s symbol o t
+unfolding row_treatment
+row_says l s symbol None t some h = absurd (subst Speaks (sym h) some)
+row_says l s symbol (Some row) t some h = record { row = row; known = refl; says = subst (Says l s symbol row) h (kind_says l s symbol row row.kind refl) }
+
+pub row_value : (l : Layout) (s : InputSection) (symbol : Option ℕ) (o : Option RelocationKindInfo) (r : RelocationKindInfo) → row_treatment l s symbol o ≡ treatments.Value r → (o ≡ Some r) × HasValue r.kind
+row_value l s symbol o r h =
+    let k = row_says l s symbol o (treatments.Value r) tt h in
+    (k.known ∙ ap (λ (x : RelocationKindInfo). Some x) k.says.0, subst (λ (x : RelocationKindInfo). HasValue x.kind) k.says.0 k.says.1)
+
+pub row_nothing : (l : Layout) (s : InputSection) (symbol : Option ℕ) (o : Option RelocationKindInfo) → row_treatment l s symbol o ≡ treatments.Nothing → (row : RelocationKindInfo) × (o ≡ Some row) × (row.kind ≡ kinds.None)
+row_nothing l s symbol o h = let k = row_says l s symbol o treatments.Nothing tt h in (k.row, k.known, k.says)
 
 pub row_moved : (l : Layout) (s : InputSection) (symbol : Option ℕ) (o : Option RelocationKindInfo) → row_treatment l s symbol o ≡ treatments.BaseRelative → (row : RelocationKindInfo) × (o ≡ Some row) × IsMovedBy l s symbol row
-unfolding row_treatment
-row_moved l s symbol None h = cc
-row_moved l s symbol (Some row) h = (row, refl, kind_moved l s symbol row row.kind refl h)
+row_moved l s symbol o h = let k = row_says l s symbol o treatments.BaseRelative tt h in (k.row, k.known, k.says)
+
+pub row_symbolic : (l : Layout) (s : InputSection) (symbol : Option ℕ) (o : Option RelocationKindInfo) (i : ℕ) → row_treatment l s symbol o ≡ treatments.Symbolic i → (row : RelocationKindInfo) × (o ≡ Some row) × IsLeftBy s symbol row i
+row_symbolic l s symbol o i h = let k = row_says l s symbol o (treatments.Symbolic i) tt h in (k.row, k.known, k.says)
+
+pub row_indirect : (l : Layout) (s : InputSection) (symbol : Option ℕ) (o : Option RelocationKindInfo) (i : ℕ) → row_treatment l s symbol o ≡ treatments.Indirect i → (row : RelocationKindInfo) × (o ≡ Some row) × IsLeftBy s symbol row i
+row_indirect l s symbol o i h = let k = row_says l s symbol o (treatments.Indirect i) tt h in (k.row, k.known, k.says)
+
+pub row_extent : (l : Layout) (s : InputSection) (symbol : Option ℕ) (o : Option RelocationKindInfo) (r : RelocationKindInfo) (i : ℕ) → row_treatment l s symbol o ≡ treatments.Extent r i → (o ≡ Some r) × IsSizedBy s symbol r i
+row_extent l s symbol o r i h =
+    let k = row_says l s symbol o (treatments.Extent r i) tt h in
+    (k.known ∙ ap (λ (x : RelocationKindInfo). Some x) k.says.0, subst (λ (x : RelocationKindInfo). IsSizedBy s symbol x i) k.says.0 k.says.1)

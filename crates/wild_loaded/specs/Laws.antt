@@ -11,10 +11,9 @@
 --   SlotsAreStored         and each word, each stub and the pair of the output's own thread-local data
 --   TablesAreFound         a loader finds the tables that fill addresses and slots by the dynamic section
 --   SectionTablesAreFound  or, without one, by their sections
---   EntriesHaveChanges     each entry makes a known change in a legal world
+--   EntriesHaveChanges     what entries of slots, of fields and of copies make a loader do in a legal world
 --   CopiesAreThere         and each symbol that is copied has an answer
-use Rattle.std.specs.Prelude.{◌≡◌, ℕ, ◌+◌, ◌*◌, ◌≤◌, true, false, [], length, Some, Ok, All, Contains, slice_get}
-use Rattle.wild_records.specs.declared.relocations.Rela.{Rela}
+use Rattle.std.specs.Prelude.{◌≡◌, ℕ, ◌+◌, ◌*◌, ◌≤◌, true, false, [], length, Some, Ok, Contains, slice_get}
 use Rattle.wild_plan.specs.declared.kind.Machine.TheVariants as machine
 use Rattle.wild_plan.specs.declared.input.InputSection.{InputSection}
 use Rattle.wild_plan.specs.declared.part.Part.{Part}
@@ -22,13 +21,10 @@ use Rattle.wild_plan.specs.declared.part.Role.{Role}
 use Rattle.wild_plan.specs.declared.slot.SlotWord.{SlotWord}
 use Rattle.wild_plan.specs.declared.symbol.Symbol.{Symbol}
 use Rattle.wild_plan.specs.declared.layout.Layout.{Layout}
-use Rattle.wild_plan.specs.declared.file.File.{File}
-use Rattle.wild_plan.specs.declared.file.Group.{Group}
 use Rattle.wild_plan.specs.declared.input.InputRelocation.{InputRelocation}
 use Rattle.wild_plan.specs.declared.slot.SlotEntry.{SlotEntry}
 use Rattle.wild_plan.specs.Kinds.{needs_dynamic}
 use Rattle.wild_plan.specs.ResolvedFlags.{HaveTheirFlags}
-use Rattle.wild_plan.specs.SlotParts.{entry_at}
 use Rattle.wild_plan.specs.Places.{is_loaded_role}
 use Rattle.wild_plan.specs.Segments.{part_with}
 use Rattle.wild_plan.specs.SlotShares.{word_size, slots_of, storage_words}
@@ -39,11 +35,10 @@ use Rattle.wild_layout.specs.Numbers.{NumbersFit}
 use Rattle.wild_layout.specs.Faults.{flat_map_from, group_errors}
 use Rattle.wild_layout.specs.Geometry.{IsLaidOut}
 use Rattle.wild_geometry.specs.Loaded.{IsDecided, HasSection, InFile}
-use Rattle.wild_reloc.specs.Field.{size_width}
 use Rattle.wild_reloc.specs.declared.info.RelocationSize.{RelocationSize}
 use Rattle.wild_layout.specs.declared.decision.Decision.TheVariants.{Left}
 use Rattle.wild_layout.specs.Decide.{decided}
-use Rattle.wild_layout.specs.Left.{entry_for, copy_entry}
+use Rattle.wild_layout.specs.Left.{copy_entry}
 use Rattle.wild_slots.specs.Entries.{entry_in}
 use Rattle.wild_loader.specs.declared.world.Answer.{Answer}
 use Rattle.wild_loader.specs.declared.memory.Machine.TheVariants as machines
@@ -57,8 +52,8 @@ use Rattle.wild_meaning.specs.Linked.{HasHeader}
 use Rattle.wild_loaded.specs.Owners.{HasOneOwnerEach}
 use Rattle.wild_loaded.specs.Memory.{IsStored, headers_of, image_memory}
 use Rattle.wild_loaded.specs.WholeSlots.{HasWholeSlots}
-use Rattle.wild_loaded.specs.Stored.{IsPartStored, IsWordStored, IsStubStored, HasChange, filled_width}
-use Rattle.wild_loaded.specs.Tables.{relatives, HasTablesIn, HasSectionsIn}
+use Rattle.wild_loaded.specs.Stored.{IsPartStored, IsWordStored, IsStubStored, FillsSlot, FillsField, Copies}
+use Rattle.wild_loaded.specs.Tables.{HasTablesIn, HasSectionsIn}
 
 -- no byte of the image is of two pieces, each piece stands in it, and every other byte is padding
 abbrev pub OwnersAreKnown : Type 0
@@ -113,17 +108,17 @@ TablesAreFound = (l : Layout) → needs_dynamic l.kind ≡ true → NumbersFit l
 abbrev pub SectionTablesAreFound : Type 0
 SectionTablesAreFound = (l : Layout) → IsLoadable l.kind → needs_dynamic l.kind ≡ false → NumbersFit l → IsLaidOut l → HasWholeSlots l → HasSectionsIn l
 
--- each entry makes a known change in a legal world: a relative one of eight bytes; those of a symbol's slots, by its answer or its
--- resolver's, and that of the pair; that of a field that is left to it of the field's; that of a copy of the answer's bytes
+-- what entries make a loader do in a legal world: that of a word of a slot stores a number or notes a descriptor, by the symbol's
+-- answer or its resolver's, and so does that of the pair; that of a field that is left to it stores a number there; that of a
+-- copy copies the answer's bytes
 pub record EntriesHaveChanges : Type 0 where
-  pub relative : (l : Layout) (w : World) (g : Group) (f : File) → l.machine ≡ machine.X86_64 → NumbersFit l → Contains l.groups g → Contains g.files f → All (λ (e : Rela). HasChange w e 8) (relatives l f)
-  pub slots : (l : Layout) (w : World) (i at k : ℕ) (s : Symbol) (d : SlotWord) (e : SlotEntry) → l.machine ≡ machine.X86_64 → NumbersFit l → IsLegal l w → IsLaidOut l → HasWholeSlots l
-      → slice_get l.symbols i ≡ Some s → slice_get (slots_of l s).words k ≡ Some d → entry_in d ≡ Some e → HasChange w (entry_at l.machine at e) (filled_width e)
-  pub pair : (l : Layout) (w : World) (at : ℕ) (d : SlotWord) (e : SlotEntry) → l.machine ≡ machine.X86_64 → IsLegal l w → Contains (storage_words l) d → entry_in d ≡ Some e → HasChange w (entry_at l.machine at e) 8
-  pub left : (l : Layout) (w : World) (s : InputSection) (r : InputRelocation) (z : RelocationSize) (number symbol addend at : ℕ) → l.machine ≡ machine.X86_64 → NumbersFit l → IsLegal l w → IsLaidOut l → Contains s.relocations r
-      → IsInput l s → decided l s r ≡ Ok (Left z number symbol addend) → HasChange w (entry_for at number symbol addend) (size_width z)
-  pub copies : (l : Layout) (w : World) (i raw : ℕ) (x : Answer) → l.machine ≡ machine.X86_64 → NumbersFit l → IsLegal l w → IsLaidOut l → HasCopy l w i raw x → HasChange w (copy_entry l i) (length x.bytes)
+  pub slots : (l : Layout) (w : World) (i k : ℕ) (s : Symbol) (d : SlotWord) (e : SlotEntry) → l.machine ≡ machine.X86_64 → NumbersFit l → IsLegal l w → IsLaidOut l → HasWholeSlots l
+      → slice_get l.symbols i ≡ Some s → slice_get (slots_of l s).words k ≡ Some d → entry_in d ≡ Some e → FillsSlot w e
+  pub pair : (l : Layout) (w : World) (d : SlotWord) (e : SlotEntry) → IsLegal l w → Contains (storage_words l) d → entry_in d ≡ Some e → FillsSlot w e
+  pub left : (l : Layout) (w : World) (s : InputSection) (r : InputRelocation) (z : RelocationSize) (number symbol addend : ℕ) → l.machine ≡ machine.X86_64 → NumbersFit l → IsLegal l w → IsLaidOut l → Contains s.relocations r
+      → IsInput l s → decided l s r ≡ Ok (Left z number symbol addend) → FillsField w z number symbol addend
+  pub copies : (l : Layout) (w : World) (i raw : ℕ) (x : Answer) → l.machine ≡ machine.X86_64 → NumbersFit l → IsLegal l w → IsLaidOut l → HasCopy l w i raw x → Copies w (copy_entry l i) raw x.bytes
 
 -- where no group has a fault, each symbol that is copied has an address and an answer
 abbrev pub CopiesAreThere : Type 0
-CopiesAreThere = (l : Layout) (w : World) (i : ℕ) → IsLegal l w → IsLaidOut l → flat_map_from (group_errors l) 0 l.groups ≡ [] → IsCopied l i → (raw : ℕ) (x : Answer) × HasCopy l w i raw x × ((copy_entry l i).offset ≡ raw)
+CopiesAreThere = (l : Layout) (w : World) (i : ℕ) → IsLegal l w → IsLaidOut l → flat_map_from (group_errors l) 0 l.groups ≡ [] → IsCopied l i → (raw : ℕ) × (x : Answer) × HasCopy l w i raw x

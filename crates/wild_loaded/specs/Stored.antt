@@ -3,8 +3,10 @@
 --   IsPartStored l w r p  memory has the table of a role where its part is
 --   IsWordStored l w a d  memory has a word of a slot as the file has it
 --   IsStubStored l w ..   memory has a stub
---   HasChange w e n       the entry makes a loader change n bytes
-use Rattle.std.specs.Prelude.{◌≡◌, ℕ, ◌+◌, ◌-◌, ◌^◌, ◌<◌, ◌≤◌, Some, Ok, Contains}
+--   FillsSlot w e         the entry of a slot fills its words
+--   FillsField w z ..     an entry stores a number in a field of that size
+--   Copies w e raw bytes  an entry copies bytes to an address
+use Rattle.std.specs.Prelude.{◌≡◌, ℕ, ◌+◌, ◌-◌, ◌^◌, ◌<◌, ◌≤◌, List, length, Some, Ok, Contains}
 use Rattle.wild_words.specs.Words.{word}
 use Rattle.wild_records.specs.Abi.Segment.{pt_load}
 use Rattle.wild_records.specs.declared.relocations.Rela.{Rela}
@@ -12,6 +14,9 @@ use Rattle.wild_plan.specs.declared.part.Part.{Part}
 use Rattle.wild_plan.specs.declared.part.Role.{Role}
 use Rattle.wild_plan.specs.declared.part.Role.TheVariants as role
 use Rattle.wild_plan.specs.declared.section.Segment.{Segment}
+use Rattle.wild_reloc.specs.Dynamic.{x86_64_type}
+use Rattle.wild_reloc.specs.Field.{size_width}
+use Rattle.wild_reloc.specs.declared.info.RelocationSize.{RelocationSize}
 use Rattle.wild_reloc.specs.declared.dynamic.DynamicRelocationKind.{DynamicRelocationKind}
 use Rattle.wild_reloc.specs.declared.dynamic.DynamicRelocationKind.TheVariants as entry_kinds
 use Rattle.wild_plan.specs.declared.slot.SlotEntry.{SlotEntry}
@@ -20,12 +25,14 @@ use Rattle.wild_plan.specs.declared.layout.Layout.{Layout}
 use Rattle.wild_plan.specs.SlotParts.{word_of}
 use Rattle.wild_plan.specs.Stub.{stub_x86_64}
 use Rattle.wild_layout.specs.Geometry.{table_bytes}
-use Rattle.wild_loader.specs.declared.kind.DynamicKind.{DynamicKind}
+use Rattle.wild_loader.specs.declared.kind.DynamicKind.TheVariants as kinds
 use Rattle.wild_loader.specs.declared.change.Change.{Change}
+use Rattle.wild_loader.specs.declared.change.Change.TheVariants as changes
 use Rattle.wild_loader.specs.declared.memory.Machine.TheVariants as machines
 use Rattle.wild_loader.specs.declared.world.World.{World}
-use Rattle.wild_loader.specs.Changes.{kind_of, change_of, size_of}
+use Rattle.wild_loader.specs.Changes.{kind_of, change_of}
 use Rattle.wild_loader.specs.Memory.{Holds}
+use Rattle.wild_geometry.specs.Loaded.{MakesChange, stored_bytes}
 use Rattle.wild_slots.specs.Stand.{part_of_word, role_of_words, StandsAt}
 use Rattle.wild_loaded.specs.Memory.{image_memory}
 
@@ -56,14 +63,6 @@ pub record IsStubStored (l : Layout) (w : World) (at stub : ℕ) : Type 0 where
   pub stands : StandsAt l role.PltGot stub (stub_x86_64 at stub).bytes
   pub held : Holds (image_memory l w) (w.base + stub) (stub_x86_64 at stub).bytes
 
--- the entry makes a loader change n bytes
-pub record HasChange (w : World) (e : Rela) (n : ℕ) : Type 0 where
-  pub kind : DynamicKind
-  pub known : kind_of machines.X86_64 e.number ≡ Some kind
-  pub change : Change
-  pub made : change_of w kind e ≡ Ok change
-  pub size : size_of change ≡ n
-
 -- the bytes that the entry of a slot fills: a descriptor's two words, else one
 abbrev pub filled_width : SlotEntry → ℕ
 filled_width e = width_by e.kind
@@ -71,3 +70,30 @@ filled_width e = width_by e.kind
     width_by : DynamicRelocationKind → ℕ
     width_by entry_kinds.TlsDesc = 16
     width_by other = 8
+
+-- the change stores a number of 64 bits in a word, or notes the offset of a descriptor, which has two words
+abbrev pub FillsWords : ℕ → Change → Type 0
+FillsWords n (changes.Word v) = (n ≡ 8) × (v < 2 ^ 64)
+FillsWords n (changes.Descriptor o) = n ≡ 16
+FillsWords n other = ⊥
+
+-- so does the entry of a slot
+pub record FillsSlot (w : World) (e : SlotEntry) : Type 0 where
+  pub index : e.symbol < 2 ^ 32
+  pub change : Change
+  pub makes : MakesChange w (x86_64_type e.kind) e.symbol e.addend change
+  pub fills : FillsWords (filled_width e) change
+
+-- an entry of that number, index and addend stores a number in a field of that size
+pub record FillsField (w : World) (z : RelocationSize) (number symbol addend : ℕ) : Type 0 where
+  pub type_fits : number < 2 ^ 32
+  pub index_fits : symbol < 2 ^ 32
+  pub change : Change
+  pub makes : MakesChange w number symbol addend change
+  pub width : length (stored_bytes change) ≡ size_width z
+
+-- the entry copies these bytes to an address
+pub record Copies (w : World) (e : Rela) (raw : ℕ) (bytes : List ℕ) : Type 0 where
+  pub place : e.offset ≡ raw
+  pub known : kind_of machines.X86_64 e.number ≡ Some kinds.Copy
+  pub makes : change_of w kinds.Copy e ≡ Ok (changes.Fill bytes)

@@ -493,7 +493,7 @@ table_length l n is =
     let undefined = undefined_entries l.symbols (files_of l.groups) in
     let same = groups_count l.symbols l.groups in
     let long : length (undefined ++ listed l.dynsyms) ≡ length undefined + length (listed l.dynsyms) = length-append undefined (listed l.dynsyms) in
-    let own : length (listed l.dynsyms) ≡ length l.dynsyms = length-map (λ (d : DynamicSymbol). d.symbol) l.dynsyms in
+    let own : length (listed l.dynsyms) ≡ length l.dynsyms = length-map l.dynsyms (λ (d : DynamicSymbol). d.symbol) in
     omega (arith, is, same, long, own)
 
 pub walk_finds_misplaced : (l : Layout) (n : ℕ) → check_indexes l ≡ Ok tt → n ≡ length (undefined_entries l.symbols (files_of l.groups)) → whole_walk l n ≡ misplaced (dynamic_symbols l) 0 l.symbols

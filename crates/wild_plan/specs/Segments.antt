@@ -4,6 +4,7 @@
 --   is_segment_of p g             the segment has the place and the size of the part
 --   dynamic_astray p i gs         the first PT_DYNAMIC segment that is not that of the part
 --   holds_entries parts k s       the bytes of the SHT_RELA section k are those of the parts with entries
+--   entries_follow parts q        the part of entries that are not relative begins where that of the relative ones ends
 --   table_is_loaded l p           one segment carries the whole table of relative entries to its addresses
 use Rattle.std.specs.Prelude.{ℕ, zero, suc, ◌+◌, ◌%◌, ◌==◌, Bool, true, false, not, ◌&&◌, ◌||◌, if◌then◌else◌, nat_lt, nat_le, List, [], ◌∷◌, find, Option, Some, None}
 use Rattle.std.specs.List.{list_any}
@@ -141,6 +142,21 @@ entries_astray parts k (s ∷ ss) = if holds_entries parts k s then entries_astr
 abbrev pub stands_in_entries : Layout → Part → Bool
 stands_in_entries l p = not (is_entry_role p.role) || (is_allocated_section l p.section && kind_at l p.section == sht_rela)
 
+-- ---- entries with addends are one table, of which the relative ones stand first (LSB, "Dynamic Entries", DT_RELACOUNT)
+
+-- the part begins where the other ends, in the file and in memory
+abbrev pub begins_behind : Option Part → Part → Bool
+begins_behind None q = true
+begins_behind (Some p) q = q.offset == p.offset + p.size && q.address == p.address + p.size
+
+-- so does that of the entries that are not relative
+abbrev pub entries_follow : List Part → Part → Bool
+entries_follow parts q = not (has_role role.RelaDynGeneral q) || begins_behind (part_with role.RelaDynRelative parts) q
+
+-- what stands behind a part in its table
+abbrev pub rest_of_table : List Part → Part → Option Part
+rest_of_table parts p = if has_role role.RelaDynRelative p then part_with role.RelaDynGeneral parts else None
+
 -- ---- tables of entries, which a loader finds by the dynamic section and reads out of one segment
 
 abbrev pub is_table_role : Role → Bool
@@ -154,7 +170,15 @@ is_table_role other = false
 abbrev pub carries_part : Part → Segment → Bool
 carries_part p g = g.kind == pt_load && within g.offset g.file_size p.offset p.size && p.offset + g.address == p.address + g.offset
 
+-- and those of the rest of its table, where that has some
+abbrev pub carries_rest : Option Part → Segment → Bool
+carries_rest None g = true
+carries_rest (Some q) g = q.size == 0 || carries_part q g
+
+abbrev pub carries_table : Part → Option Part → Segment → Bool
+carries_table p rest g = carries_part p g && carries_rest rest g
+
 -- one segment carries the whole table to its addresses
 abbrev pub table_is_loaded : Layout → Part → Bool
 table_is_loaded l p =
-    not (needs_dynamic l.kind) || not (is_table_role p.role) || p.size == 0 || list_any (carries_part p) l.segments
+    not (needs_dynamic l.kind) || not (is_table_role p.role) || p.size == 0 || list_any (carries_table p (rest_of_table l.parts p)) l.segments

@@ -21,7 +21,7 @@ use Rattle.wild_plan.specs.SlotShares.{slots_of, resolved_slots}
 use Rattle.wild_plan.specs.SlotPlaces.{begins_block}
 use Rattle.wild_plan.specs.SlotFlags.{takes_block_word, second_slot_fits}
 use Rattle.wild_plan.specs.Stub.{far_of}
-use Rattle.wild_slots.specs.Order.{HasItsFlags}
+use Rattle.wild_plan.specs.ResolvedFlags.{HasItsFlags}
 use Rattle.wild_slots.proofs.ItemLemmas.{ItemHas, More-items, All-words, none_more, of_stub}
 use Rattle.wild_slots.proofs.SlotLemmas.{IsOther, Shape, shape, behind_items, threads_other}
 

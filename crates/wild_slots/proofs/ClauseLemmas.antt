@@ -1,12 +1,11 @@
 -- Where the clauses of a layout hold, its slots are in order.
 use Rattle.std.proofs.Common.{◌≡◌, true, length, Ok, None}
-use Rattle.std.proofs.lemmas.List.Elements.{All-weaker}
 use Rattle.wild_plan.specs.declared.layout.Layout.{Layout}
 use Rattle.wild_plan.specs.Lists.{first_failing}
 use Rattle.wild_plan.specs.Contents.{share_mismatch, has_share_for_each_part, file_misplaced}
-use Rattle.wild_plan.specs.OwnSymbols.{IsOwnSymbol, HasOwnSymbols}
+use Rattle.wild_plan.specs.ResolvedFlags.{HaveTheirFlags}
 use Rattle.wild_plan.specs.WellFormed.{fails, first_clause, check_sizes, check_counts, check_order, check_roles, check_sections, check_segments, check_shares, check_inputs, check_indexes, check_fields, check_slots, check_dynsyms, check_slot_flags}
-use Rattle.wild_slots.specs.Order.{HasItsFlags, HasSlotsInOrder}
+use Rattle.wild_slots.specs.Order.{HasSlotsInOrder}
 use Rattle.wild_slots.proofs.CheckLemmas.{both, none}
 
 -- the tests that hold
@@ -40,12 +39,12 @@ files_follow l h =
     let b = both (fails 7 (first_failing (has_share_for_each_part (length l.parts)) 0 l.groups)) _ a.rest in
     none 7 (file_misplaced true 0 l.groups) b.rest
 
-pub in_order : (l : Layout) → first_clause l ≡ Ok tt → HasOwnSymbols l → HasSlotsInOrder l
-in_order l h own =
+pub in_order : (l : Layout) → first_clause l ≡ Ok tt → HaveTheirFlags l → HasSlotsInOrder l
+in_order l h flags =
     let c = clauses l h in
     record {
       slots = c.slots;
       flags = c.flags;
-      resolved = All-weaker IsOwnSymbol HasItsFlags (λ s o r e. (o.resolved r e).flags) l.symbols own.each;
+      resolved = flags;
       files = files_follow l c.shares;
     }

@@ -1,5 +1,5 @@
--- Which entries the slots of an output have.
-use Rattle.std.proofs.Common.{◌≡◌, ℕ, inl, inr, Bool, true, false, List, [], ◌∷◌, get_or, Some, None, All, refl, sym, ap, ◌∙◌, subst}
+-- What holds of the words of a symbol; slots of outputs at their own addresses.
+use Rattle.std.proofs.Common.{◌≡◌, ℕ, inl, inr, Bool, false, List, [], ◌∷◌, get_or, Some, None, All, refl, sym, subst}
 use Rattle.std.specs.Prelude.{Option}
 use Rattle.std.specs.List.{flat_map}
 use Rattle.std.proofs.lemmas.List.Elements.{All-nil, All-cons, All-head, All-tail, All-weaker}
@@ -7,23 +7,20 @@ use Rattle.wild_plan.specs.declared.kind.Machine.{Machine}
 use Rattle.wild_plan.specs.declared.file.File.{File}
 use Rattle.wild_plan.specs.declared.symbol.Resolution.{Resolution}
 use Rattle.wild_plan.specs.declared.symbol.Symbol.{Symbol}
-use Rattle.wild_plan.specs.declared.symbol.ValueFlags.{ValueFlags}
 use Rattle.wild_plan.specs.declared.layout.Layout.{Layout}
 use Rattle.wild_plan.specs.declared.slot.Setting.{Setting}
 use Rattle.wild_plan.specs.declared.slot.SlotWord.{SlotWord}
 use Rattle.wild_plan.specs.declared.slot.SlotWord.TheVariants.{Number, Address, InBlock, General, Plt}
 use Rattle.wild_plan.specs.declared.slot_parts.WordPart.TheVariants as words
 use Rattle.wild_plan.specs.declared.slot_parts.EntryPart.TheVariants as entries
-use Rattle.wild_plan.specs.Flags.{has_flag, dynamic}
-use Rattle.wild_plan.specs.Kinds.{is_static_executable, is_position_independent}
-use Rattle.wild_plan.specs.OwnSymbols.{IsOwnSymbol}
+use Rattle.wild_plan.specs.Kinds.{is_position_independent}
 use Rattle.wild_plan.specs.SlotParts.{word_of, entry_of, flat_place}
 use Rattle.wild_plan.specs.Slots.{setting_of, slot}
 use Rattle.wild_plan.specs.Stub.{far_of}
-use Rattle.wild_plan.specs.SlotShares.{own_symbols, slots_of, resolved_slots, slots_at, words_in, block_place, block_places, group_block}
+use Rattle.wild_plan.specs.SlotShares.{own_symbols, slots_of, resolved_slots, words_in, block_place, block_places, group_block}
 use Rattle.wild_layout.specs.SlotBytes.{symbol_entries, flat_in, slot_words_of, slot_entries_of, flat_places_of}
 use Rattle.wild_slots.specs.Entries.{MovesNothing}
-use Rattle.wild_slots.proofs.SlotLemmas.{IsOwn, IsOther, IsFirst, Shape, shape}
+use Rattle.wild_slots.proofs.SlotLemmas.{IsOther, IsFirst, Shape, shape}
 use Rattle.wild_slots.proofs.PlaceLemmas.{nothing_given}
 
 -- what nothing gives, all give nothing
@@ -39,7 +36,7 @@ of_shape P s far r ws other first (inl a) = All-weaker (IsOther s r) P other ws 
 of_shape P s far r ws other first (inr led) =
     subst (All P) (sym led.is) (All-cons P led.first led.rest (first led.first led.leads) (All-weaker (IsOther s r) P other led.rest led.others))
 
-of_words : (P : SlotWord → Type 0) (l : Layout) (s : Symbol) → ((r : Resolution) → s.resolution ≡ Some r → (w : SlotWord) → IsOther (setting_of l) r w → P w) → ((r : Resolution) → s.resolution ≡ Some r → (w : SlotWord) → IsFirst (setting_of l) r w → P w) → All P (slots_of l s).words
+pub of_words : (P : SlotWord → Type 0) (l : Layout) (s : Symbol) → ((r : Resolution) → s.resolution ≡ Some r → (w : SlotWord) → IsOther (setting_of l) r w → P w) → ((r : Resolution) → s.resolution ≡ Some r → (w : SlotWord) → IsFirst (setting_of l) r w → P w) → All P (slots_of l s).words
 unfolding slots_of
 of_words P l s other first = by_resolution s.resolution refl
   where
@@ -108,41 +105,3 @@ moves_nothing l f = record {
   block = λ d. none_of (words_in words.Block l) (own_symbols l d) (λ k s lt. nothing_given (word_of words.Block l.options.relr) Stays (λ p w h. no_block l.options.relr p w h) _ _ (all_stay l f _));
   groups = λ g. none_of (λ (d : File). flat_map (block_places l) (own_symbols l d)) g.files (λ j e m. none_of (block_places l) (own_symbols l (get_or g.files j e)) (λ k s lt. nothing_given block_place Stays (λ p w h. no_place p w h) _ _ (all_stay l f _)));
 }
-
--- ---- the output's own symbols in a static executable
-
-pub own : (l : Layout) (s : Symbol) (r : Resolution) → is_static_executable l.kind ≡ true → IsOwnSymbol s → s.resolution ≡ Some r → IsOwn (setting_of l) r
-own l s r static o e =
-    let i = o.resolved r e in
-    record { static = static; dynamic = ap (λ (f : ValueFlags). has_flag f dynamic) i.flags ∙ o.dynamic; index = i.index }
-
--- no entry of its own names a symbol
-abbrev pub NamesNone : SlotWord → Type 0
-NamesNone (General e) = ⊥
-NamesNone other = Unit {0}
-
-names_other : (s : Setting) (r : Resolution) → IsOwn s r → (w : SlotWord) → IsOther s r w → NamesNone w
-names_other s r o (Number n) h = tt
-names_other s r o (Address a) h = tt
-names_other s r o (InBlock a) h = tt
-names_other s r o (General e) h = h o
-names_other s r o (Plt e) h = tt
-
-names_first : (s : Setting) (r : Resolution) → IsOwn s r → (w : SlotWord) → IsFirst s r w → NamesNone w
-names_first s r o (Number n) h = tt
-names_first s r o (Address a) h = tt
-names_first s r o (InBlock a) h = tt
-names_first s r o (General e) h = h o
-names_first s r o (Plt e) h = tt
-
-no_general : (m : Machine) (relr : Bool) (at : ℕ) (w : SlotWord) → NamesNone w → entry_of entries.General m relr at w ≡ None
-no_general m relr at (Number n) h = refl
-no_general m relr at (Address a) h = refl
-no_general m relr at (InBlock a) h = refl
-no_general m relr at (General e) h = absurd h
-no_general m relr at (Plt e) h = refl
-
-pub general_none : (l : Layout) → is_static_executable l.kind ≡ true → (s : Symbol) → IsOwnSymbol s → symbol_entries entries.General l s ≡ []
-general_none l static s o =
-    nothing_given (entry_of entries.General l.machine l.options.relr) NamesNone (λ p w h. no_general l.machine l.options.relr p w h) (slots_at s) (slots_of l s).words
-    (of_words NamesNone l s (λ r e w h. names_other (setting_of l) r (own l s r static o e) w h) (λ r e w h. names_first (setting_of l) r (own l s r static o e) w h))

@@ -14,5 +14,5 @@ mod SymbolPlaces
 mod PlacesLemmas
 mod BlockLemmas
 mod EntryLemmas
-mod IndirectLemmas
+mod KnownLemmas
 mod ClauseLemmas

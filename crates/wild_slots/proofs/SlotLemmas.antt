@@ -3,9 +3,8 @@ use Rattle.std.proofs.Common.{◌≡◌, ℕ, inl, inr, ◌⊎◌, Bool, true, f
 use Rattle.std.specs.Prelude.{Option, not, ◌&&◌, ◌==◌, if◌then◌else◌}
 use Rattle.std.proofs.lemmas.Bool.{and_parts}
 use Rattle.std.proofs.lemmas.List.Elements.{All-nil, All-cons, All-append}
-use Rattle.wild_reloc.specs.declared.dynamic.DynamicRelocationKind.TheVariants.{Irelative}
-use Rattle.wild_plan.specs.declared.kind.OutputKind.{OutputKind}
-use Rattle.wild_plan.specs.declared.kind.OutputKind.TheVariants.{StaticExecutable, DynamicExecutable, SharedObject, PartialObject}
+use Rattle.wild_reloc.specs.declared.dynamic.DynamicRelocationKind.{DynamicRelocationKind}
+use Rattle.wild_reloc.specs.declared.dynamic.DynamicRelocationKind.TheVariants.{GotEntry, JumpSlot, DtpMod, DtpOff, TpOff, TlsDesc, Irelative}
 use Rattle.wild_plan.specs.declared.symbol.Resolution.{Resolution}
 use Rattle.wild_plan.specs.declared.slot.Setting.{Setting}
 use Rattle.wild_plan.specs.declared.slot.SlotEntry.{SlotEntry}
@@ -18,67 +17,63 @@ use Rattle.wild_plan.specs.Flags.{has_flag, interposable, has_link_time_address,
 use Rattle.wild_plan.specs.SymbolSlots.{has_thread_slot, has_dynamic_symbol}
 use Rattle.wild_plan.specs.Storage.{is_outside}
 use Rattle.wild_plan.specs.Slots.{is_replaceable, slot, items_at, with_items, no_slot, add_item, offset_item, module_item, module_offset, module_offset_item, described, descriptor_item, offset_items, module_items, descriptor_items, thread_items, plain_item, stub_items, stub_address, ifunc_address_items, canonical_address_items, address_items, number}
+use Rattle.wild_slots.specs.Entries.{NamesSymbols, NamesModules}
 use Rattle.wild_slots.proofs.ItemLemmas.{ItemHas, More-items, All-words, of_if, of_named, of_where, of_one, of_stub}
 
 -- ---- what a word may be
 
--- a symbol of a static executable, whose own it is
-pub record IsOwn (s : Setting) (r : Resolution) : Type 0 where
-  pub static : is_static_executable s.kind ≡ true
-  pub dynamic : has_flag r.flags dynamic ≡ false
-  pub index : r.dynamic_symbol_index ≡ None
-
-pub executable : (k : OutputKind) → is_static_executable k ≡ true → is_executable k ≡ true
-executable (StaticExecutable model) h = refl
-executable (DynamicExecutable model) h = cc
-executable SharedObject h = cc
-executable PartialObject h = cc
-
--- a word of thread-local data, or a second one
-abbrev pub IsOther : Setting → Resolution → SlotWord → Type 0
-IsOther s r (Number n) = Unit {0}
-IsOther s r (Address a) = is_position_independent s.kind ≡ true
-IsOther s r (InBlock a) = ⊥
-IsOther s r (General e) = IsOwn s r → ⊥
-IsOther s r (Plt e) = ⊥
+-- the entry names the symbol of the resolution
+pub record IsNamed (r : Resolution) (e : SlotEntry) : Type 0 where
+  pub index : r.dynamic_symbol_index ≡ Some e.symbol
+  pub kind : NamesSymbols e.kind
+  pub nothing : e.addend ≡ 0
 
 -- the entry of a resolver
 pub record IsIndirect (r : Resolution) (e : SlotEntry) : Type 0 where
   pub indirect : has_flag r.flags ifunc ≡ true
   pub is : e ≡ record { kind = Irelative; symbol = 0; addend = r.raw_value }
 
+abbrev pub IsEntry : Resolution → SlotEntry → Type 0
+IsEntry r e = IsNamed r e ⊎ (IsIndirect r e ⊎ (NamesModules e.kind × (e.symbol ≡ 0)))
+
+-- a word of thread-local data, or a second one
+abbrev pub IsOther : Setting → Resolution → SlotWord → Type 0
+IsOther s r (Number n) = Unit {0}
+IsOther s r (Address a) = is_position_independent s.kind ≡ true
+IsOther s r (InBlock a) = ⊥
+IsOther s r (General e) = IsEntry r e
+IsOther s r (Plt e) = ⊥
+
 -- the word of an address
 abbrev pub IsFirst : Setting → Resolution → SlotWord → Type 0
 IsFirst s r (Number n) = Unit {0}
 IsFirst s r (Address a) = is_position_independent s.kind ≡ true
 IsFirst s r (InBlock a) = is_position_independent s.kind ≡ true
-IsFirst s r (General e) = IsOwn s r → ⊥
-IsFirst s r (Plt e) = IsOwn s r → IsIndirect r e
+IsFirst s r (General e) = IsEntry r e
+IsFirst s r (Plt e) = IsEntry r e
 
 -- ---- items of thread-local data
 
--- of the output's own symbols none is named
-not_named : (s : Setting) (r : Resolution) (d : ℕ) → r.dynamic_symbol_index ≡ Some d → IsOwn s r → ⊥
-not_named s r d h own = let i = own.index in cc
+-- an entry for the index of the symbol, and one for the output's own module
+names : (r : Resolution) (kind : DynamicRelocationKind) (d : ℕ) → NamesSymbols kind → r.dynamic_symbol_index ≡ Some d → IsEntry r (record { kind = kind; symbol = d; addend = 0 })
+names r kind d k e = inl (record { index = e; kind = k; nothing = refl })
+
+names_none : (r : Resolution) (kind : DynamicRelocationKind) (a : ℕ) → NamesModules kind → IsEntry r (record { kind = kind; symbol = 0; addend = a })
+names_none r kind a k = inr (inr (k, refl))
 
 offset_other : (s : Setting) (r : Resolution) → ItemHas (IsOther s r) (offset_item s r)
 offset_other s r =
     let P : SlotItem → Type 0 = ItemHas (IsOther s r) in
-    of_if P (has_dynamic_symbol r.flags) _ _ (λ t. of_named (IsOther s r) r.dynamic_symbol_index _ (λ d e. not_named s r d e)) (λ f.
+    of_if P (has_dynamic_symbol r.flags) _ _ (λ t. of_named (IsOther s r) r.dynamic_symbol_index _ (λ d e. names r TpOff d tt e)) (λ f.
     of_if P (r.raw_value == 0) _ _ (λ t. tt) (λ g.
     of_if P (is_outside s.tls r.raw_value) _ _ (λ t. tt) (λ h.
-    of_if P (is_executable s.kind) _ _ (λ t. tt) (λ i own. let x = executable s.kind own.static in cc))))
+    of_if P (is_executable s.kind) _ _ (λ t. tt) (λ i. names_none r TpOff _ tt))))
 
 module_other : (s : Setting) (r : Resolution) → ItemHas (IsOther s r) (module_item s r)
 module_other s r =
     let P : SlotItem → Type 0 = ItemHas (IsOther s r) in
     of_if P (is_executable s.kind && not (has_flag r.flags dynamic)) _ _ (λ t. tt) (λ f.
-    of_if P (interposable r.flags) _ _ (λ t. of_named (IsOther s r) r.dynamic_symbol_index _ (λ d e. not_named s r d e)) (λ g own. own_test (is_executable s.kind) (has_flag r.flags dynamic) f (executable s.kind own.static) own.dynamic))
-  where
-    own_test : (a b : Bool) → (a && not b) ≡ false → a ≡ true → b ≡ false → ⊥
-    own_test true true f t h = cc
-    own_test true false f t h = cc
-    own_test false b f t h = cc
+    of_if P (interposable r.flags) _ _ (λ t. of_named (IsOther s r) r.dynamic_symbol_index _ (λ d e. names r DtpMod d tt e)) (λ g. names_none r DtpMod 0 tt))
 
 module_offset_other : (s : Setting) (r : Resolution) → ItemHas (IsOther s r) (module_offset_item s r)
 module_offset_other s r = by_index (interposable r.flags) r.dynamic_symbol_index refl
@@ -86,17 +81,17 @@ module_offset_other s r = by_index (interposable r.flags) r.dynamic_symbol_index
     by_index : (b : Bool) (o : Option ℕ) → r.dynamic_symbol_index ≡ o → ItemHas (IsOther s r) (module_offset s r.raw_value (if b then o else None))
     by_index false o e = tt
     by_index true None e = tt
-    by_index true (Some d) e = not_named s r d e
+    by_index true (Some d) e = names r DtpOff d tt e
 
 descriptor_other : (s : Setting) (r : Resolution) → ItemHas (IsOther s r) (descriptor_item s r)
 descriptor_other s r = by_index r.dynamic_symbol_index refl
   where
     by_index : (o : Option ℕ) → r.dynamic_symbol_index ≡ o → ItemHas (IsOther s r) (described s r.flags r.raw_value o)
-    by_index (Some d) e = of_if (ItemHas (IsOther s r)) (is_static_executable s.kind) _ _ (λ t. tt) (λ f. not_named s r d e)
+    by_index (Some d) e = of_if (ItemHas (IsOther s r)) (is_static_executable s.kind) _ _ (λ t. tt) (λ f. names r TlsDesc d tt e)
     by_index None e =
         of_if (ItemHas (IsOther s r)) (is_replaceable s.kind r.flags) _ _ (λ t. tt) (λ f.
         of_if (ItemHas (IsOther s r)) (is_outside s.tls r.raw_value) _ _ (λ t. tt) (λ g.
-        of_if (ItemHas (IsOther s r)) (is_static_executable s.kind) _ _ (λ t. tt) (λ h own. let x = own.static in cc)))
+        of_if (ItemHas (IsOther s r)) (is_static_executable s.kind) _ _ (λ t. tt) (λ h. names_none r TlsDesc _ tt)))
 
 pub threads_other : (s : Setting) (r : Resolution) → All (ItemHas (IsOther s r)) (thread_items s r)
 threads_other s r =
@@ -112,9 +107,9 @@ threads_other s r =
 first_item : (s : Setting) (r : Resolution) → ItemHas (IsFirst s r) (plain_item s r)
 first_item s r =
     let P : SlotItem → Type 0 = ItemHas (IsFirst s r) in
-    of_if P (has_flag r.flags canonical_plt) _ _ (λ t. of_named (IsFirst s r) r.dynamic_symbol_index _ (λ d e own. absurd (not_named s r d e own))) (λ f.
-    of_if P (has_dynamic_symbol r.flags) _ _ (λ t. of_named (IsFirst s r) r.dynamic_symbol_index _ (λ d e. not_named s r d e)) (λ g.
-    of_if P (has_flag r.flags ifunc) _ _ (λ t own. record { indirect = t; is = refl }) (λ h.
+    of_if P (has_flag r.flags canonical_plt) _ _ (λ t. of_named (IsFirst s r) r.dynamic_symbol_index _ (λ d e. names r JumpSlot d tt e)) (λ f.
+    of_if P (has_dynamic_symbol r.flags) _ _ (λ t. of_named (IsFirst s r) r.dynamic_symbol_index _ (λ d e. names r GotEntry d tt e)) (λ g.
+    of_if P (has_flag r.flags ifunc) _ _ (λ t. inr (inl (record { indirect = t; is = refl }))) (λ h.
     of_if P (is_position_independent s.kind && has_link_time_address r.flags) _ _ (λ t. moves s.relr (and_parts _ _ t).0) (λ i. tt))))
   where
     moves : (b : Bool) → is_position_independent s.kind ≡ true → ItemHas (IsFirst s r) (Word (if b then InBlock r.raw_value else Address r.raw_value))
@@ -136,7 +131,7 @@ behind_other s far r =
     (of_stub W far r.plt_address)
     (All-append (ItemHas W) (ifunc_address_items s r) (canonical_address_items s r)
     (of_where W (has_flag r.flags ifunc_got_for_address) (stub_address s r.plt_address ∷ []) (λ t. of_one W (stub_address s r.plt_address) (stub_other s r r.plt_address)))
-    (of_where W (has_flag r.flags canonical_plt_got_for_address) _ (λ t. of_one W _ (of_named W r.dynamic_symbol_index _ (λ d e. not_named s r d e)))))
+    (of_where W (has_flag r.flags canonical_plt_got_for_address) _ (λ t. of_one W _ (of_named W r.dynamic_symbol_index _ (λ d e. names r GotEntry d tt e)))))
 
 -- ---- the words of a symbol
 

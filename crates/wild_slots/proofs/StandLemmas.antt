@@ -27,7 +27,8 @@ use Rattle.wild_plan.specs.SlotShares.{writes_slots, own_symbols, slots_of, slot
 use Rattle.wild_plan.specs.SlotPlaces.{start_of, begins_block, stands_at, pair_follows_by}
 use Rattle.wild_plan.specs.SlotFlags.{second_slot_fits}
 use Rattle.wild_layout.specs.Geometry.{table_bytes}
-use Rattle.wild_slots.specs.Order.{group_symbols, HasItsFlags, HasSlotsInOrder, written_symbols, IsWritten}
+use Rattle.wild_plan.specs.ResolvedFlags.{HasItsFlags}
+use Rattle.wild_slots.specs.Order.{group_symbols, HasSlotsInOrder, written_symbols, IsWritten}
 use Rattle.wild_slots.specs.Stand.{StandsAt, WordsStand, SymbolStands}
 use Rattle.wild_slots.proofs.WalkLemmas.{Cut, Cut-from_contains}
 use Rattle.wild_slots.proofs.CheckLemmas.{SlotChecks-from_clause, FlagChecks-from_clause}

@@ -16,7 +16,8 @@ use Rattle.wild_plan.specs.Slots.{SlotContent, setting_of, slot, items_at, no_sl
 use Rattle.wild_plan.specs.SlotFlags.{thread_slot_alone}
 use Rattle.wild_plan.specs.SlotShares.{slots_of, resolved_slots}
 use Rattle.wild_plan.specs.Stub.{far_of}
-use Rattle.wild_slots.specs.Order.{HasItsFlags, HasSlotsInOrder}
+use Rattle.wild_plan.specs.ResolvedFlags.{HasItsFlags}
+use Rattle.wild_slots.specs.Order.{HasSlotsInOrder}
 use Rattle.wild_slots.proofs.ItemLemmas.{fault_first, stub_stays}
 use Rattle.wild_slots.proofs.CheckLemmas.{FlagChecks-from_clause}
 

@@ -22,7 +22,8 @@ use Rattle.wild_plan.specs.SlotFlags.{second_slot_fits}
 use Rattle.wild_plan.specs.SlotShares.{stub_size, writes_slots, own_symbols, slots_of, resolved_slots, slots_at, words_in, symbol_share}
 use Rattle.wild_plan.specs.SlotPlaces.{begins_block, stands_at}
 use Rattle.wild_plan.specs.Stub.{far_of}
-use Rattle.wild_slots.specs.Order.{group_symbols, HasItsFlags, written_symbols}
+use Rattle.wild_plan.specs.ResolvedFlags.{HasItsFlags}
+use Rattle.wild_slots.specs.Order.{group_symbols, written_symbols}
 use Rattle.wild_slots.specs.Ascend.{Ascend, place_in, word_places, stub_places}
 use Rattle.wild_slots.proofs.OrderLemmas.{StandsBehind}
 use Rattle.wild_slots.proofs.BlockWordLemmas.{NotInBlock, FirstAlone, first_alone, none_in_block, begins, only_word}

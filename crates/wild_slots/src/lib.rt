@@ -5,9 +5,9 @@ ghost use Rattle.wild_slots.specs.Order.{SlotsAreInOrder};
 ghost use Rattle.wild_slots.specs.Stand.{SlotsStand, EachWordStands, StubsAreThere, PairStands};
 ghost use Rattle.wild_slots.specs.Ascend.{PlacesAscend};
 ghost use Rattle.wild_slots.specs.Blocks.{BlocksAreWhole};
-ghost use Rattle.wild_slots.specs.Entries.{OwnSymbolsAreFilled, FixedOutputsMoveNothing};
+ghost use Rattle.wild_slots.specs.Entries.{EntriesAreKnown, EntriesAreOfWords, FixedOutputsMoveNothing};
 
-/// In a layout whose clauses hold, and whose symbols are its own, slots and stubs follow each other.
+/// In a layout whose clauses hold, and whose resolutions have their symbols' flags, slots and stubs follow each other.
 pub fn slots_are_in_order()
     ensures { SlotsAreInOrder }
 {}
@@ -42,9 +42,14 @@ pub fn blocks_are_whole()
     ensures { BlocksAreWhole }
 {}
 
-/// In a static executable whose symbols are its own, what resolvers answer is all that entries for symbols fill in.
-pub fn own_symbols_are_filled()
-    ensures { OwnSymbolsAreFilled }
+/// Each entry of a slot names its symbol, the symbol's resolver, or the output's own module.
+pub fn entries_are_known()
+    ensures { EntriesAreKnown }
+{}
+
+/// Each entry of a file's slots is that of a word of one of its symbols, at the word's place.
+pub fn entries_are_of_words()
+    ensures { EntriesAreOfWords }
 {}
 
 /// In an output at its own addresses no slot has an address that moves.

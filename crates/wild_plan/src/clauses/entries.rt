@@ -2,7 +2,7 @@
 ghost use Rattle.std.specs.Prelude.{◌≡◌, drop};
 ghost use Rattle.std.specs.List.{list_any};
 ghost use Rattle.wild_plan.specs.Lists.{first_failing, total};
-ghost use Rattle.wild_plan.specs.Segments.{is_segment_of, segment_lacking, dynamic_astray, part_with, is_entry_role, entry_parts, bytes_in, holds_entries, entries_astray, stands_in_entries, is_table_role, carries_part, table_is_loaded};
+ghost use Rattle.wild_plan.specs.Segments.{is_segment_of, segment_lacking, dynamic_astray, part_with, is_entry_role, entry_parts, bytes_in, holds_entries, entries_astray, stands_in_entries, is_table_role, carries_part, carries_rest, carries_table, rest_of_table, table_is_loaded};
 ghost use Rattle.wild_plan.specs.WellFormed.{check_entries};
 
 use crate::clauses::fails;
@@ -13,7 +13,7 @@ use crate::fault::Clause;
 use crate::index::SectionIndex;
 use crate::layout::Layout;
 use crate::lookups::is_allocated;
-use crate::part::{Part, Role, part_with};
+use crate::part::{Part, Role, has_role, part_with};
 use crate::section::{Section, Segment};
 use wild_records::abi::section::SHT_RELA;
 use wild_records::abi::segment::{PT_DYNAMIC, PT_LOAD};
@@ -153,20 +153,53 @@ fn carries_part(part: &Part, segment: &Segment) -> bool
         && wide_sum(part.offset, segment.address) == wide_sum(part.address, segment.offset)
 }
 
-fn is_carried(segments: &[Segment], part: &Part) -> bool
-    ensures { result ≡ list_any (carries_part part.now) segments.now }
+/// Whether it has those of the rest of a table.
+fn carries_rest(rest: Option<Part>, segment: &Segment) -> bool
+    ensures { result ≡ carries_rest rest segment.now }
 {
-    segments.iter().any(|segment| carries_part(part, segment))
+    match rest {
+        Some(part) => part.size == 0 || carries_part(&part, segment),
+        None => true,
+    }
 }
 
-/// Whether one segment carries the part to its addresses, where it is a table of entries.
+fn carries_table(part: &Part, rest: Option<Part>, segment: &Segment) -> bool
+    ensures { result ≡ carries_table part.now rest segment.now }
+{
+    carries_part(part, segment) && carries_rest(rest, segment)
+}
+
+fn is_carried(segments: &[Segment], part: &Part, rest: Option<Part>) -> bool
+    ensures { result ≡ list_any (carries_table part.now rest) segments.now }
+{
+    segments
+        .iter()
+        .any(|segment| carries_table(part, rest, segment))
+}
+
+/// What stands behind a part in its table: behind relative entries the others.
+fn rest_of_table(parts: &[Part], part: &Part) -> Option<Part>
+    ensures { result ≡ rest_of_table parts.now part.now }
+{
+    if has_role(Role::RelaDynRelative, part) {
+        part_with(Role::RelaDynGeneral, parts)
+    } else {
+        None
+    }
+}
+
+/// Whether one segment carries the table that begins with the part to its addresses, where it has entries.
 fn table_is_loaded(layout: &Layout, part: &Part) -> bool
     ensures { result ≡ table_is_loaded layout.now part.now }
 {
     !layout.kind.needs_dynamic()
         || !is_table_role(part.role)
         || part.size == 0
-        || is_carried(layout.segments.as_slice(), part)
+        || is_carried(
+            layout.segments.as_slice(),
+            part,
+            rest_of_table(layout.parts.as_slice(), part),
+        )
 }
 
 pub(crate) fn table_not_loaded(layout: &Layout, parts: &[Part]) -> Option<usize>
