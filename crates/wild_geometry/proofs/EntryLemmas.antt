@@ -1,11 +1,10 @@
 -- The relocation entries of an executable that is loaded at its own addresses, which are found by their sections.
 use Rattle.std.proofs.Common.{◌≡◌, ℕ, zero, suc, ◌+◌, ◌-◌, ◌<◌, ◌≤◌, inl, inr, ◌==◌, true, not, ◌&&◌, List, [], ◌∷◌, length, drop, Option, Some, None, slice_get, refl, sym, ap, ◌∙◌, arith, subst}
-use Rattle.std.proofs.lemmas.Bool.{cases_Bool, and_parts, ltb-true, eqb-true, eq-eqb, ne_eqb}
+use Rattle.std.proofs.lemmas.Bool.{cases_Bool, and_parts, ltb-true, eqb-true, eq-eqb}
 use Rattle.std.proofs.lemmas.Option.{same_Some}
 use Rattle.wild_records.specs.Abi.Section.{sht_nobits, sht_rela}
 use Rattle.wild_plan.specs.declared.part.Part.{Part}
 use Rattle.wild_plan.specs.declared.part.Role.{Role}
-use Rattle.wild_plan.specs.declared.part.Role.TheVariants as role
 use Rattle.wild_plan.specs.declared.section.Section.{Section}
 use Rattle.wild_plan.specs.declared.layout.Layout.{Layout}
 use Rattle.wild_plan.specs.Lists.{total}
@@ -14,28 +13,12 @@ use Rattle.wild_plan.specs.Places.{has_role, is_fixed_static, part_lies}
 use Rattle.wild_plan.specs.Segments.{part_with, is_entry_role, entry_parts, bytes_in, holds_entries, entries_astray, stands_in_entries}
 use Rattle.wild_plan.specs.WellFormed.{check_entries}
 use Rattle.wild_plan.proofs.ListLemmas.{All-from_none_fails}
-use Rattle.wild_layout.specs.Geometry.{HasEntries, HasEntriesAlone, HasStubEntriesAlone, HasTable, table_bytes}
+use Rattle.wild_layout.specs.Geometry.{EntriesLie, HasEntriesAlone}
 use Rattle.wild_geometry.proofs.ClauseLemmas.{Both-from_first_error, None-from_fails}
 use Rattle.wild_geometry.proofs.LaidLemmas.{Laid}
-use Rattle.wild_geometry.proofs.RoleLemmas.{FoundAt-from_find, HasTable-from_laid}
+use Rattle.wild_geometry.proofs.RoleLemmas.{FoundAt-from_find}
 use Rattle.wild_geometry.proofs.TableLemmas.{same_role}
 use Rattle.wild_geometry.proofs.CarriedLemmas.{implied, Filled, Filled-from_tests, part_level}
-
--- ---- the bytes of entries in a section
-
-none_in : (l : Layout) (r : Role) (k : ℕ) → HasTable l r → table_bytes l r ≡ [] → (o : Option Part) → part_with r l.parts ≡ o → bytes_in k o ≡ 0
-none_in l r k h e None is = refl
-none_in l r k h e (Some p) is =
-    let size = (h.there p is).size in
-    let long = ap length e in
-    let none : p.size ≡ 0 = omega arith in
-    elim (cases_Bool (p.section == k)) [ inl t ↦ rw (t, none) refl | inr f ↦ rw f refl ]
-
-stub_entries_alone : (l : Layout) → Laid l → HasStubEntriesAlone l → (k : ℕ) → total (bytes_in k) (entry_parts l.parts) ≡ bytes_in k (part_with role.RelaPlt l.parts)
-stub_entries_alone l h alone k =
-    let a = none_in l role.RelaDynRelative k (HasTable-from_laid l h role.RelaDynRelative (λ e. absurd (omega arith))) alone.relative (part_with role.RelaDynRelative l.parts) refl in
-    let b = none_in l role.RelaDynGeneral k (HasTable-from_laid l h role.RelaDynGeneral (λ e. absurd (omega arith))) alone.general (part_with role.RelaDynGeneral l.parts) refl in
-    omega arith
 
 -- ---- what the clause says of a section
 
@@ -70,23 +53,23 @@ held l h fixed k s later is =
 size_is : (l : Layout) (k : ℕ) (s : Section) → holds_entries (entry_parts l.parts) k s ≡ true → allocated s.flags ≡ true → s.kind ≡ sht_rela → total (bytes_in k) (entry_parts l.parts) ≡ s.size
 size_is l k s h a r = eqb-true _ _ (implied (allocated s.flags && s.kind == sht_rela) (total (bytes_in k) (entry_parts l.parts) == s.size) h (rw (a, eq-eqb s.kind sht_rela r) refl))
 
--- ---- the part of the entries of stubs
+-- ---- a part with entries
 
 -- it is listed, and its section is allocated and of type SHT_RELA
-record StubPart (l : Layout) (p : Part) : Type 0 where
+record PartOfEntries (l : Layout) (p : Part) : Type 0 where
   filled : Filled l p.section
   lies : part_lies l p ≡ true
   kind : filled.section.kind ≡ sht_rela
 
-stub_part : (l : Layout) → Laid l → is_fixed_static l.kind ≡ true → (p : Part) → part_with role.RelaPlt l.parts ≡ Some p → StubPart l p
+part_of_entries : (l : Layout) → Laid l → is_fixed_static l.kind ≡ true → (r : Role) (p : Part) → is_entry_role r ≡ true → part_with r l.parts ≡ Some p → PartOfEntries l p
 unfolding check_entries
-stub_part l h fixed p there =
-    let f = FoundAt-from_find (has_role role.RelaPlt) l.parts p there in
+part_of_entries l h fixed r p entries there =
+    let f = FoundAt-from_find (has_role r) l.parts p there in
     let asked = rw fixed at h.segments.entries in
     let stand = All-from_none_fails (stands_in_entries l) 0 l.parts (None-from_fails 6 _ (Both-from_first_error _ _ asked).rest) f.place p f.within in
     let P : Part → Type 0 = λ x. stands_in_entries l x ≡ true in
-    let is = same_role p.role role.RelaPlt (eqb-true _ _ f.passes) in
-    let both = implied (is_entry_role p.role) (is_allocated_section l p.section && kind_at l p.section == sht_rela) (subst P (f.is p) stand) (ap is_entry_role is) in
+    let is = same_role p.role r (eqb-true _ _ f.passes) in
+    let both = implied (is_entry_role p.role) (is_allocated_section l p.section && kind_at l p.section == sht_rela) (subst P (f.is p) stand) (ap is_entry_role is ∙ entries) in
     let tests = and_parts (is_allocated_section l p.section) (kind_at l p.section == sht_rela) both in
     let kind = eqb-true (kind_at l p.section) sht_rela tests.1 in
     let Q : Part → Type 0 = λ x. x.section < length l.sections in
@@ -102,34 +85,31 @@ stub_part l h fixed p there =
     with_bits : (n : ℕ) → n ≡ sht_rela → not (n == sht_nobits) ≡ true
     with_bits n e = rw e refl
 
-pub stands_later : (l : Layout) → Laid l → is_fixed_static l.kind ≡ true → (p : Part) → part_with role.RelaPlt l.parts ≡ Some p → 1 ≤ p.section
-stands_later l h fixed p there = let later = (stub_part l h fixed p there).filled.later in omega arith
+pub stands_later : (l : Layout) → Laid l → is_fixed_static l.kind ≡ true → (r : Role) (p : Part) → is_entry_role r ≡ true → part_with r l.parts ≡ Some p → 1 ≤ p.section
+stands_later l h fixed r p entries there = let later = (part_of_entries l h fixed r p entries there).filled.later in omega arith
 
 -- ---- the sections
 
-pub HasEntriesAlone-from_laid : (l : Layout) → Laid l → is_fixed_static l.kind ≡ true → HasStubEntriesAlone l → (k : ℕ) (s : Section) → 1 ≤ k → slice_get l.sections k ≡ Some s → HasEntriesAlone (part_with role.RelaPlt l.parts) k s
-HasEntriesAlone-from_laid l h fixed alone k s later is = record {
-  own = λ p there at. own p there at;
-  others = λ elsewhere a r. let size = size_is l k s (held l h fixed k s later is) a r in let only = stub_entries_alone l h alone k in let none = nowhere (part_with role.RelaPlt l.parts) elsewhere in omega arith;
-}
-  where
-    nowhere : (o : Option Part) → ((p : Part) → o ≡ Some p → p.section ≡ k → ⊥) → bytes_in k o ≡ 0
-    nowhere None n = refl
-    nowhere (Some p) n = let e = ne_eqb p.section k (n p refl) in rw e refl
+-- the part lies in its section
+entries_lie : (l : Layout) → Laid l → is_fixed_static l.kind ≡ true → (k : ℕ) (s : Section) → slice_get l.sections k ≡ Some s → (r : Role) (p : Part) → is_entry_role r ≡ true → part_with r l.parts ≡ Some p → p.section ≡ k → EntriesLie p s
+entries_lie l h fixed k s is r p entries there at =
+    let part = part_of_entries l h fixed r p entries there in
+    let o = part.filled in
+    let same : o.section ≡ s = same_Some o.section s (sym o.is ∙ ap (slice_get l.sections) at ∙ is) in
+    let level = part_level l p part.lies o in
+    let low = level.low in
+    let high = level.high in
+    let offset = ap (λ (x : Section). x.offset) same in
+    let long = ap (λ (x : Section). x.size) same in
+    record {
+      kind = sym (ap (λ (x : Section). x.kind) same) ∙ part.kind;
+      allocated = subst (λ (x : Section). allocated x.flags ≡ true) same o.allocated;
+      from = omega arith;
+      to = omega arith;
+    }
 
-    own : (p : Part) → part_with role.RelaPlt l.parts ≡ Some p → p.section ≡ k → HasEntries p s
-    own p there at =
-        let stub = stub_part l h fixed p there in
-        let o = stub.filled in
-        let same : o.section ≡ s = same_Some o.section s (sym o.is ∙ ap (slice_get l.sections) at ∙ is) in
-        let kind = sym (ap (λ (x : Section). x.kind) same) ∙ stub.kind in
-        let alloc = subst (λ (x : Section). allocated x.flags ≡ true) same o.allocated in
-        let size = size_is l k s (held l h fixed k s later is) alloc kind in
-        let only = stub_entries_alone l h alone k in
-        let bytes : bytes_in k (part_with role.RelaPlt l.parts) ≡ p.size = ap (bytes_in k) there ∙ (let e = eq-eqb p.section k at in rw e refl) in
-        let level = part_level l p stub.lies o in
-        let low = level.low in
-        let high = level.high in
-        let offset = ap (λ (x : Section). x.offset) same in
-        let long = ap (λ (x : Section). x.size) same in
-        record { kind = kind; offset = omega arith; size = omega arith; allocated = alloc }
+pub HasEntriesAlone-from_laid : (l : Layout) → Laid l → is_fixed_static l.kind ≡ true → (k : ℕ) (s : Section) → 1 ≤ k → slice_get l.sections k ≡ Some s → HasEntriesAlone l k s
+HasEntriesAlone-from_laid l h fixed k s later is = record {
+  own = λ r p entries there at. entries_lie l h fixed k s is r p entries there at;
+  full = λ a r. size_is l k s (held l h fixed k s later is) a r;
+}

@@ -8,17 +8,17 @@ use Rattle.wild_plan.specs.declared.file.Group.{Group}
 use Rattle.wild_plan.specs.declared.layout.Layout.{Layout}
 use Rattle.wild_plan.specs.FileRoles.{is_prelude, is_epilogue}
 use Rattle.wild_plan.specs.Contents.{bool_eq, file_placed, later_placed, files_placed, file_misplaced}
-use Rattle.wild_layout.specs.Content.{whole_bytes, own_bytes, file_content, content}
-use Rattle.wild_layout.specs.SlotBytes.{slot_bytes, header_bytes, block_bytes}
+use Rattle.wild_layout.specs.Content.{whole_bytes, own_bytes, file_content, group_bytes, content}
+use Rattle.wild_layout.specs.SlotBytes.{slot_bytes, header_bytes}
 use Rattle.wild_geometry.proofs.ClauseLemmas.{SharesHold}
-use Rattle.wild_geometry.proofs.ContentLemmas.{same_bool}
+use Rattle.wild_geometry.proofs.LastGroupLemmas.{same_bool}
 
--- no file and no slot gives anything to the part of the role
+-- no file and no group gives anything to the part of the role
 pub record StandsOnce (l : Layout) (r : Role) : Type 0 where
   pub own : (f : File) → own_bytes l r f ≡ []
   pub slots : (f : File) → slot_bytes l r f ≡ []
   pub header : header_bytes l r ≡ []
-  pub block : (g : Group) → block_bytes l r g ≡ []
+  pub block : (g : Group) → group_bytes l r g ≡ []
 
 -- files behind the first one give nothing
 later_content : (l : Layout) (r : Role) → StandsOnce l r → (last : Bool) (fs : List File) → later_placed last fs ≡ true → flat_map (file_content l r) fs ≡ []

@@ -1,11 +1,12 @@
 -- What it says that the clauses on input sections, indexes and fields hold; and all that a layout is laid out by.
 use Rattle.std.proofs.Common.{◌≡◌, true, [], All, None, Ok}
+use Rattle.wild_plan.specs.declared.part.Role.TheVariants as role
 use Rattle.wild_plan.specs.declared.layout.Layout.{Layout}
 use Rattle.wild_plan.specs.Lookups.{files_of}
 use Rattle.wild_plan.specs.Places.{part_out_of_order}
-use Rattle.wild_plan.specs.Contents.{addresses, each_section, section_misplaced, length_fits, part_is_raw, allocation_agrees, bytes_take_room, fields_lie}
-use Rattle.wild_plan.specs.Indexes.{part_index_fits, symbol_misfit, group_indexes_fit}
-use Rattle.wild_plan.specs.WellFormed.{check_inputs, check_indexes, check_fields, check_slots, check_slot_flags, first_clause}
+use Rattle.wild_plan.specs.Contents.{addresses, each_section, section_misplaced, length_fits, part_is_raw, allocation_agrees, bytes_take_room, fields_lie, start_astray, place_with}
+use Rattle.wild_plan.specs.Indexes.{part_index_fits, symbol_misfit, group_indexes_fit, copied_again}
+use Rattle.wild_plan.specs.WellFormed.{check_inputs, check_indexes, check_fields, check_slots, check_dynsyms, check_slot_flags, check_starts, first_clause}
 use Rattle.wild_plan.proofs.ListLemmas.{All-from_none_fails}
 use Rattle.wild_layout.specs.Faults.{flat_map_from, part_errors}
 use Rattle.wild_geometry.proofs.ClauseLemmas.{Both-from_first_error, None-from_fails, NoneFails-from_first_clause, SizesFit, SizesFit-from_check, CountsFit, CountsFit-from_check, OrderHolds-from_check, RolesHold, RolesHold-from_check, PartsLie, PartsLie-from_check, SegmentsHold, SegmentsHold-from_check, SharesHold, SharesHold-from_check}
@@ -39,6 +40,7 @@ pub record IndexesHold (l : Layout) : Type 0 where
   pub parts : All (λ p. part_index_fits l p ≡ true) l.parts
   pub symbols : symbol_misfit l (files_of l.groups) 0 l.symbols ≡ None
   pub groups : All (λ g. group_indexes_fit l g ≡ true) l.groups
+  pub copies : copied_again l [] 0 l.groups ≡ None
 
 pub IndexesHold-from_check : (l : Layout) → check_indexes l ≡ Ok tt → IndexesHold l
 unfolding check_indexes
@@ -46,15 +48,24 @@ IndexesHold-from_check l h =
     let a = Both-from_first_error _ _ h in
     let b = Both-from_first_error _ _ a.rest in
     let c = Both-from_first_error _ _ b.rest in
+    let d = Both-from_first_error _ _ c.rest in
+    let e = Both-from_first_error _ _ d.rest in
     record {
       parts = All-from_none_fails (part_index_fits l) 0 l.parts (None-from_fails 9 _ a.first);
       symbols = None-from_fails 9 _ b.first;
       groups = All-from_none_fails (group_indexes_fit l) 0 l.groups (None-from_fails 9 _ c.first);
+      copies = None-from_fails 9 _ e.first;
     }
 
 pub FieldsLie-from_check : (l : Layout) → check_fields l ≡ Ok tt → All (λ g. each_section (fields_lie l.machine) g ≡ true) l.groups
 unfolding check_fields
 FieldsLie-from_check l h = All-from_none_fails (each_section (fields_lie l.machine)) 0 l.groups (None-from_fails 10 _ h)
+
+-- ---- clause 16
+
+pub StartsFollow-from_check : (l : Layout) → check_starts l ≡ Ok tt → start_astray (place_with role.Dynstr l.parts) 0 0 l.groups ≡ None
+unfolding check_starts
+StartsFollow-from_check l h = None-from_fails 16 _ h
 
 -- ---- all of them, and the shares
 
@@ -70,7 +81,9 @@ pub record Laid (l : Layout) : Type 0 where
   pub indexes : IndexesHold l
   pub fields : All (λ g. each_section (fields_lie l.machine) g ≡ true) l.groups
   pub slots : check_slots l ≡ Ok tt
+  pub dynsyms : check_dynsyms l ≡ Ok tt
   pub slot_flags : check_slot_flags l ≡ Ok tt
+  pub starts : start_astray (place_with role.Dynstr l.parts) 0 0 l.groups ≡ None
   pub needed : flat_map_from (part_errors l) 0 l.parts ≡ []
 
 pub Laid-from_clauses : (l : Layout) → first_clause l ≡ Ok tt → flat_map_from (part_errors l) 0 l.parts ≡ [] → Laid l
@@ -88,6 +101,8 @@ Laid-from_clauses l h n =
       indexes = IndexesHold-from_check l c.indexes;
       fields = FieldsLie-from_check l c.fields;
       slots = c.slots;
+      dynsyms = c.dynsyms;
       slot_flags = c.slot_flags;
+      starts = StartsFollow-from_check l c.starts;
       needed = n;
     }

@@ -1,5 +1,5 @@
 -- The parts of roles hold what the groups give to them.
-use Rattle.std.proofs.Common.{◌≡◌, ℕ, zero, suc, ◌+◌, ◌-◌, ◌*◌, ◌<◌, ◌≤◌, if◌then◌else◌, inl, inr, ◌==◌, ◌||◌, Bool, true, false, List, [], ◌∷◌, length, get_or, take, find, Contains, Some, None, flat_map, refl, sym, ap, ◌∙◌, arith, subst}
+use Rattle.std.proofs.Common.{◌≡◌, ℕ, zero, suc, ◌+◌, ◌-◌, ◌*◌, ◌<◌, ◌≤◌, inl, inr, ◌==◌, ◌||◌, Bool, true, false, List, [], ◌∷◌, length, get_or, take, find, Contains, Some, None, flat_map, refl, sym, ap, ◌∙◌, arith, subst}
 use Rattle.std.specs.List.{list_any}
 use Rattle.std.proofs.lemmas.Bool.{cases_Bool, eqb-true, eqb-false, eq-eqb, ne_eqb}
 use Rattle.std.proofs.lemmas.Option.{same_Some}
@@ -11,27 +11,26 @@ use Rattle.wild_plan.specs.declared.part.Role.{Role}
 use Rattle.wild_plan.specs.declared.part.Role.TheVariants as role
 use Rattle.wild_plan.specs.declared.file.Group.{Group}
 use Rattle.wild_plan.specs.declared.layout.Layout.{Layout}
-use Rattle.wild_plan.specs.declared.file.File.{File}
 use Rattle.wild_plan.specs.Contents.{given, has_share_for_each_part}
 use Rattle.wild_plan.specs.Counts.{total_share, role_given}
 use Rattle.wild_plan.specs.Lists.{total}
 use Rattle.wild_plan.specs.Dynamic.{dynamic_count}
-use Rattle.wild_plan.specs.Needs.{last_of, group_share}
-use Rattle.wild_plan.specs.FileRoles.{is_epilogue}
-use Rattle.wild_plan.specs.Shares.{part_of_role, part_of, given_by}
+use Rattle.wild_plan.specs.Needs.{group_share}
+use Rattle.wild_plan.specs.Shares.{part_of_role, part_of, given_by, share_of}
 use Rattle.wild_records.specs.Dynamic.{dynamic_entry_size}
 use Rattle.wild_tables.specs.Dynamic.{dynamic_bytes}
 use Rattle.wild_tables.proofs.DynamicLemmas.{lengths}
 use Rattle.wild_plan.specs.Places.{role_place, has_role}
 use Rattle.wild_plan.specs.Segments.{part_with}
-use Rattle.wild_layout.specs.Content.{dynamic_room, content}
+use Rattle.wild_layout.specs.Content.{room_behind, dynamic_room, content}
 use Rattle.wild_layout.specs.Geometry.{table_bytes, bytes_before, TableLies, HasTable}
 use Rattle.wild_layout.specs.Image.{given_before, some_piece, table_piece, table_pieces, owned_pieces, group_pieces, pieces}
 use Rattle.wild_geometry.proofs.LaidLemmas.{Laid}
 use Rattle.wild_geometry.proofs.InterleaveLemmas.{Contains-flat_map_from}
 use Rattle.wild_geometry.proofs.OrderLemmas.{EndsBy-image}
 use Rattle.wild_geometry.proofs.ShareLemmas.{total_same, total_within, content_is_given, size_from_shares}
-use Rattle.wild_geometry.proofs.ContentLemmas.{length_joined, length-content, length-dynamic_content, dynamic_share, group_last}
+use Rattle.wild_geometry.proofs.ContentLemmas.{length_joined, length-content, length-dynamic_content, dynamic_share}
+use Rattle.wild_geometry.proofs.LastGroupLemmas.{has_last, some_if, group_last}
 use Rattle.wild_geometry.proofs.TableLemmas.{role_at, role_listed, same_role}
 use Rattle.wild_geometry.proofs.TablePieces.{not_raw_takes, Contains-some}
 
@@ -110,7 +109,8 @@ no_room l h none =
     let item = ItemAt-within l.groups (length l.groups - 1) (omega arith) in
     let each = holds_at (λ g. has_share_for_each_part (length l.parts) g ≡ true) l.groups (length l.groups - 1) item.item item.is h.shares.lengths in
     let long = eqb-true _ _ each in
-    ap (given_by (part_of l role.Dynamic)) item.is ∙ past_end item.item.part_sizes (part_of l role.Dynamic) (omega arith)
+    let share : share_of l (length l.groups - 1) role.Dynamic ≡ 0 = ap (given_by (part_of l role.Dynamic)) item.is ∙ past_end item.item.part_sizes (part_of l role.Dynamic) (omega arith) in
+    ap (room_behind l) item.is ∙ (omega arith)
 
 -- where the last group has nothing to write, there are no entries
 pub no_count : (l : Layout) → Laid l → total_share l role.Dynamic ≡ 0 → dynamic_count l ≡ 0
@@ -118,7 +118,8 @@ no_count l h shared =
     let some = h.counts.some_group in
     let item = ItemAt-within l.groups (length l.groups - 1) (omega arith) in
     let last : length l.groups - 1 + 1 ≡ length l.groups = omega arith in
-    let own = dynamic_share l (get_or l.groups (length l.groups - 1) item.item) ∙ group_last (dynamic_entry_size * dynamic_count l) true 0 l.groups h.shares.files (length l.groups - 1) item.item (omega arith) in
+    let share = dynamic_share l (get_or l.groups (length l.groups - 1) item.item) in
+    let own = group_last (dynamic_entry_size * dynamic_count l) true 0 l.groups h.shares.files (length l.groups - 1) item.item (omega arith) in
     let own' = rw (eq-eqb _ _ last) at own in
     let whole = total_within (group_share l role.Dynamic) l.groups (length l.groups - 1) item.item (omega arith) in
     omega arith
@@ -129,26 +130,20 @@ dynamic_nothing l h none shared =
     let room = no_room l h none in
     let count = no_count l h shared in
     let long = lengths l (dynamic_room l) (omega arith) in
-    by l.groups (omega arith)
+    by l.groups (omega arith) shared
   where
-    by : (gs : List Group) → length (dynamic_bytes l (dynamic_room l)) ≡ 0 → flat_map (content l role.Dynamic) gs ≡ []
-    by [] e = refl
-    by (g ∷ gs) e =
+    zero_if : (b : Bool) (n : ℕ) → n ≡ 0 → some_if n b ≡ 0
+    zero_if true n e = e
+    zero_if false n e = refl
+
+    by : (gs : List Group) → length (dynamic_bytes l (dynamic_room l)) ≡ 0 → total (group_share l role.Dynamic) gs ≡ 0 → flat_map (content l role.Dynamic) gs ≡ []
+    by [] e s = refl
+    by (g ∷ gs) e s =
         let a = length-dynamic_content l g in
-        let b = nothing_last (length (dynamic_bytes l (dynamic_room l))) e g.files in
+        let b = dynamic_share l g in
+        let c = zero_if (has_last g) (length (dynamic_bytes l (dynamic_room l))) e in
         let n = nil_from_length (content l role.Dynamic g) (omega arith) in
-        rw n (by gs e)
-      where
-        nothing_last : (n : ℕ) → n ≡ 0 → (fs : List File) → total (λ (f : File). last_of f.role n) fs ≡ 0
-        nothing_last n e [] = refl
-        nothing_last n e (f ∷ fs) =
-            let a = zero_if (is_epilogue f.role) n e in
-            let b = nothing_last n e fs in
-            omega arith
-          where
-            zero_if : (b : Bool) (n : ℕ) → n ≡ 0 → (if b then n else 0) ≡ 0
-            zero_if true n e = e
-            zero_if false n e = refl
+        rw n (by gs e (omega arith))
 
 -- where the part of a role is not there, nothing has to be written in one
 pub nothing_shared : (l : Layout) → Laid l → (r : Role) → part_with r l.parts ≡ None → total_share l r ≡ 0

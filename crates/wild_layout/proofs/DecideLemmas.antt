@@ -27,8 +27,9 @@ use Rattle.wild_reloc.specs.declared.info.RelocationSize.{RelocationSize}
 use Rattle.wild_reloc.specs.declared.info.RelocationSize.TheVariants.{ByteSize, BitMasking}
 use Rattle.wild_reloc.specs.declared.info.Width.TheVariants.{Zero, One, Two, Four, Eight}
 use Rattle.wild_reloc.specs.declared.dynamic.DynamicRelocationKind.TheVariants.{Absolute, Irelative}
+use Rattle.wild_layout.specs.declared.decision.Decision.{Decision}
 use Rattle.wild_layout.specs.declared.decision.Decision.TheVariants.{Nothing, Field, Moved, Left}
-use Rattle.wild_layout.specs.Values.{place_of, sum, raw_address, address_of, index_of, term_of, value_by}
+use Rattle.wild_layout.specs.Values.{place_of, sum, address_of, index_of, decided_address, term_of, value_by}
 use Rattle.wild_layout.specs.Geometry.{FieldLies}
 use Rattle.wild_layout.specs.Decide.{field, field_for, moved_to, added, left_to, chosen_to, decide_by, decided}
 use Rattle.wild_layout.specs.Left.{left_by, left_entry, entry_for}
@@ -150,7 +151,7 @@ treated_field l s r treatments.Nothing z v is h = cc
 treated_field l s r (treatments.Value row) z v is h = let k = known_value l s r row is in field_from l s r row z v (term_of l r.symbol row.kind) k.0 is k.1 refl h
 treated_field l s r treatments.BaseRelative z v is h = absurd (moved_is_no_field l s r z v (address_of l r.symbol) h)
 treated_field l s r (treatments.Symbolic i) z v is h = absurd (left_alone (Field z v) (ByteSize Eight) (type_of l.machine Absolute) r i (index_of l i) h)
-treated_field l s r (treatments.Indirect i) z v is h = absurd (chosen_alone (Field z v) l r (raw_address l (Some i)) h)
+treated_field l s r (treatments.Indirect i) z v is h = absurd (chosen_alone (Field z v) l r (decided_address l i) h)
 treated_field l s r (treatments.Extent row i) z v is h = absurd (left_alone (Field z v) row.size r.number r i (index_of l i) h)
 treated_field l s r treatments.Recompile z v is h = cc
 treated_field l s r treatments.Unsupported z v is h = cc
@@ -183,7 +184,7 @@ treated_moved l s r treatments.Nothing v packed is h = cc
 treated_moved l s r (treatments.Value row) v packed is h = absurd (value_is_not_moved l s r row v packed (term_of l r.symbol row.kind) h)
 treated_moved l s r treatments.BaseRelative v packed is h = moved_from l s r v packed (address_of l r.symbol) is refl h
 treated_moved l s r (treatments.Symbolic i) v packed is h = absurd (left_alone (Moved v packed) (ByteSize Eight) (type_of l.machine Absolute) r i (index_of l i) h)
-treated_moved l s r (treatments.Indirect i) v packed is h = absurd (chosen_alone (Moved v packed) l r (raw_address l (Some i)) h)
+treated_moved l s r (treatments.Indirect i) v packed is h = absurd (chosen_alone (Moved v packed) l r (decided_address l i) h)
 treated_moved l s r (treatments.Extent row i) v packed is h = absurd (left_alone (Moved v packed) row.size r.number r i (index_of l i) h)
 treated_moved l s r treatments.Recompile v packed is h = cc
 treated_moved l s r treatments.Unsupported v packed is h = cc
@@ -248,7 +249,7 @@ treated_nothing l s r treatments.Nothing is h = known_nothing l s r is
 treated_nothing l s r (treatments.Value row) is h = absurd (value_is_some l s r row (term_of l r.symbol row.kind) h)
 treated_nothing l s r treatments.BaseRelative is h = absurd (moved_is_some l s r (address_of l r.symbol) h)
 treated_nothing l s r (treatments.Symbolic i) is h = absurd (left_alone Nothing (ByteSize Eight) (type_of l.machine Absolute) r i (index_of l i) h)
-treated_nothing l s r (treatments.Indirect i) is h = absurd (chosen_alone Nothing l r (raw_address l (Some i)) h)
+treated_nothing l s r (treatments.Indirect i) is h = absurd (chosen_alone Nothing l r (decided_address l i) h)
 treated_nothing l s r (treatments.Extent row i) is h = absurd (left_alone Nothing row.size r.number r i (index_of l i) h)
 treated_nothing l s r treatments.Recompile is h = cc
 treated_nothing l s r treatments.Unsupported is h = cc
@@ -288,9 +289,9 @@ left_field l s r row i known by = record { row = row; known = known; kind = ap h
 -- what is left to an entry that names a symbol
 record IsLeftTo (z x : RelocationSize) (number n symbol addend a : ℕ) (o : Option ℕ) : Type 0 where
   size : z ≡ x
-  number : number ≡ n
+  type_is : number ≡ n
   index : o ≡ Some symbol
-  addend : a ≡ addend
+  more : a ≡ addend
 
 left_parts : (z x : RelocationSize) (number n symbol addend : ℕ) (r : InputRelocation) (i : ℕ) (o : Option ℕ) → left_to z number r i o ≡ Ok (Left x n symbol addend) → IsLeftTo z x number n symbol addend (added r) o
 left_parts z x number n symbol addend r i None h = cc
@@ -299,7 +300,7 @@ left_parts z x number n symbol addend r i (Some index) h =
     let same : number ≡ n = cc in
     let there : index ≡ symbol = cc in
     let more : added r ≡ addend = cc in
-    record { size = size; number = same; index = ap (λ (k : ℕ). Some k) there; addend = more }
+    record { size = size; type_is = same; index = ap (λ (k : ℕ). Some k) there; more = more }
 
 chosen_parts : (l : Layout) (x : RelocationSize) (n symbol addend : ℕ) (r : InputRelocation) (a : Result ℕ Fault) → chosen_to l r a ≡ Ok (Left x n symbol addend) → (ByteSize Eight ≡ x) × (type_of l.machine Irelative ≡ n) × (0 ≡ symbol) × (a ≡ Ok addend)
 chosen_parts l x n symbol addend r (Err f) h = cc
@@ -344,14 +345,14 @@ treated_left l s r (treatments.Symbolic i) z n symbol addend is h =
       is = is;
       left = refl;
       made = h;
-      entry = ap (left_by l s r) is ∙ same p.number p.index p.addend;
+      entry = ap (left_by l s r) is ∙ same p.type_is p.index p.more;
     }
   where
     same : type_of l.machine Absolute ≡ n → index_of l i ≡ Some symbol → added r ≡ addend → left_by l s r (treatments.Symbolic i) ≡ entry_for (place_of s r) n symbol addend
     same e f g = rw (e, f, g) refl
 treated_left l s r (treatments.Indirect i) z n symbol addend is h =
     let k = known_indirect l s r i is in
-    let p = chosen_parts l z n symbol addend r (raw_address l (Some i)) h in
+    let p = chosen_parts l z n symbol addend r (decided_address l i) h in
     record {
       field = subst (HasField l r) p.0 (left_field l s r k.0 i k.1 k.2);
       room = k.2.room;
@@ -362,7 +363,7 @@ treated_left l s r (treatments.Indirect i) z n symbol addend is h =
       entry = ap (left_by l s r) is ∙ same p.1 p.2 p.3;
     }
   where
-    same : type_of l.machine Irelative ≡ n → 0 ≡ symbol → raw_address l (Some i) ≡ Ok addend → left_by l s r (treatments.Indirect i) ≡ entry_for (place_of s r) n symbol addend
+    same : type_of l.machine Irelative ≡ n → 0 ≡ symbol → decided_address l i ≡ Ok addend → left_by l s r (treatments.Indirect i) ≡ entry_for (place_of s r) n symbol addend
     same e f g = rw (e, sym f, g) refl
 treated_left l s r (treatments.Extent row i) z n symbol addend is h =
     let k = known_extent l s r row i is in
@@ -374,7 +375,7 @@ treated_left l s r (treatments.Extent row i) z n symbol addend is h =
       is = is;
       left = refl;
       made = h;
-      entry = ap (left_by l s r) is ∙ same p.number p.index p.addend;
+      entry = ap (left_by l s r) is ∙ same p.type_is p.index p.more;
     }
   where
     same : r.number ≡ n → index_of l i ≡ Some symbol → added r ≡ addend → left_by l s r (treatments.Extent row i) ≡ entry_for (place_of s r) n symbol addend

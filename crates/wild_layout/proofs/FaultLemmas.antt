@@ -1,16 +1,20 @@
 -- What holds where there are no faults.
 use Rattle.std.proofs.Common.{◌≡◌, ℕ, ◌+◌, List, [], ◌∷◌, ◌++◌, Option, Some, None, Result, Ok, Err, refl}
 use Rattle.std.specs.Prelude.{All}
+use Rattle.std.specs.List.{flat_map}
 use Rattle.std.proofs.lemmas.List.Elements.{All-nil, All-cons}
 use Rattle.wild_plan.specs.declared.fault.At.{At}
 use Rattle.wild_plan.specs.declared.fault.Clause.{Clause}
+use Rattle.wild_plan.specs.declared.fault.Fault.{Fault}
 use Rattle.wild_plan.specs.declared.slot.SlotFault.{SlotFault}
 use Rattle.wild_plan.specs.declared.symbol.Symbol.{Symbol}
 use Rattle.wild_plan.specs.declared.file.File.{File}
 use Rattle.wild_plan.specs.declared.file.Group.{Group}
 use Rattle.wild_plan.specs.declared.layout.Layout.{Layout}
+use Rattle.wild_plan.specs.Entries.{copies_of}
 use Rattle.wild_plan.specs.SlotShares.{own_symbols, slots_of}
-use Rattle.wild_layout.specs.Faults.{flat_map_from, clause_errors, overlap_errors, section_errors, at_file, slot_refusal, symbol_errors, slot_errors, file_errors, group_errors}
+use Rattle.wild_layout.specs.Values.{raw_address, index_of}
+use Rattle.wild_layout.specs.Faults.{flat_map_from, clause_errors, overlap_errors, section_errors, at_file, slot_refusal, symbol_errors, slot_errors, copy_fault, fault_errors, copy_errors, file_errors, listed_errors, group_errors}
 
 pub clause_holds : (r : Result (Unit {0}) Clause) → clause_errors r ≡ [] → r ≡ Ok tt
 clause_holds (Ok x) h = refl
@@ -45,19 +49,50 @@ no_refusal : (at : At) (i : ℕ) (o : Option SlotFault) → slot_refusal at i o 
 no_refusal at i None h = refl
 no_refusal at i (Some f) h = cc
 
--- the faults of a file's sections, and those of its slots
+-- the faults of a file's sections, those of its copies, and those of its slots
 pub sections_of_file : (l : Layout) (g k : ℕ) (f : File) → file_errors l g k f ≡ [] → flat_map_from (section_errors l g k) 0 f.sections ≡ []
 unfolding file_errors
-sections_of_file l g k f h = first_empty (flat_map_from (section_errors l g k) 0 f.sections) (slot_errors l g k f) h
+sections_of_file l g k f h = first_empty (flat_map_from (section_errors l g k) 0 f.sections) (flat_map (copy_errors l g k) (copies_of f) ++ slot_errors l g k f) h
+
+behind_sections : (l : Layout) (g k : ℕ) (f : File) → file_errors l g k f ≡ [] → flat_map (copy_errors l g k) (copies_of f) ++ slot_errors l g k f ≡ []
+unfolding file_errors
+behind_sections l g k f h = rest_empty (flat_map_from (section_errors l g k) 0 f.sections) (flat_map (copy_errors l g k) (copies_of f) ++ slot_errors l g k f) h
 
 pub slots_of_file : (l : Layout) (g k : ℕ) (f : File) → file_errors l g k f ≡ [] → All (HasWholeSlots l) (own_symbols l f)
-unfolding file_errors slot_errors
+unfolding slot_errors
 slots_of_file l g k f h =
-    All-from_none (HasWholeSlots l) (symbol_errors l g k) f.first_symbol (own_symbols l f) (λ i s e. no_refusal (at_file g k) i (slots_of l s).fault e) (rest_empty (flat_map_from (section_errors l g k) 0 f.sections) (slot_errors l g k f) h)
+    All-from_none (HasWholeSlots l) (symbol_errors l g k) f.first_symbol (own_symbols l f) (λ i s e. no_refusal (at_file g k) i (slots_of l s).fault e) (rest_empty (flat_map (copy_errors l g k) (copies_of f)) (slot_errors l g k f) (behind_sections l g k f h))
 
--- where no group has a fault, each file writes all of its symbols' slots
-pub slots_of_groups : (l : Layout) → flat_map_from (group_errors l) 0 l.groups ≡ [] → All (λ (g : Group). All (λ (f : File). All (HasWholeSlots l) (own_symbols l f)) g.files) l.groups
+-- the faults of the files of a group
+pub files_of_group : (l : Layout) (i : ℕ) (g : Group) → group_errors l i g ≡ [] → flat_map_from (file_errors l i) 0 g.files ≡ []
 unfolding group_errors
-slots_of_groups l h =
-    All-from_none (λ (g : Group). All (λ (f : File). All (HasWholeSlots l) (own_symbols l f)) g.files) (group_errors l) 0 l.groups (λ i g e.
-    All-from_none (λ (f : File). All (HasWholeSlots l) (own_symbols l f)) (file_errors l i) 0 g.files (λ k f n. slots_of_file l i k f n) e) h
+files_of_group l i g h = first_empty (flat_map_from (file_errors l i) 0 g.files) (flat_map_from (listed_errors l i) 0 g.files) h
+
+-- where no group has a fault, what holds of each file without faults holds of all files
+pub of_files : (l : Layout) (P : File → Type 0) → ((i k : ℕ) (f : File) → file_errors l i k f ≡ [] → P f) → flat_map_from (group_errors l) 0 l.groups ≡ [] → All (λ (g : Group). All P g.files) l.groups
+of_files l P each h = All-from_none (λ (g : Group). All P g.files) (group_errors l) 0 l.groups (λ i g e. All-from_none P (file_errors l i) 0 g.files (λ k f n. each i k f n) (files_of_group l i g e)) h
+
+-- each file writes all of its symbols' slots
+pub slots_of_groups : (l : Layout) → flat_map_from (group_errors l) 0 l.groups ≡ [] → All (λ (g : Group). All (λ (f : File). All (HasWholeSlots l) (own_symbols l f)) g.files) l.groups
+slots_of_groups l h = of_files l (λ (f : File). All (HasWholeSlots l) (own_symbols l f)) (λ i k f n. slots_of_file l i k f n) h
+
+-- ---- copies
+
+-- nothing lacks of the entry that copies the symbol
+abbrev pub CanBeCopied : Layout → ℕ → Type 0
+CanBeCopied l i = copy_fault i (index_of l i) (raw_address l (Some i)) ≡ None
+
+no_fault : (at : At) (o : Option Fault) → fault_errors at o ≡ [] → o ≡ None
+no_fault at None h = refl
+no_fault at (Some f) h = cc
+
+All-from_empty : {X Y : Type 0} (P : X → Type 0) (f : X → List Y) (xs : List X) → ((x : X) → f x ≡ [] → P x) → flat_map f xs ≡ [] → All P xs
+All-from_empty P f [] each h = All-nil P
+All-from_empty P f (x ∷ xs) each h = All-cons P x xs (each x (first_empty (f x) (flat_map f xs) h)) (All-from_empty P f xs each (rest_empty (f x) (flat_map f xs) h))
+
+pub copies_of_file : (l : Layout) (g k : ℕ) (f : File) → file_errors l g k f ≡ [] → All (CanBeCopied l) (copies_of f)
+copies_of_file l g k f h =
+    All-from_empty (CanBeCopied l) (copy_errors l g k) (copies_of f) (λ i e. no_fault (at_file g k) (copy_fault i (index_of l i) (raw_address l (Some i))) e) (first_empty (flat_map (copy_errors l g k) (copies_of f)) (slot_errors l g k f) (behind_sections l g k f h))
+
+pub copies_of_groups : (l : Layout) → flat_map_from (group_errors l) 0 l.groups ≡ [] → All (λ (g : Group). All (λ (f : File). All (CanBeCopied l) (copies_of f)) g.files) l.groups
+copies_of_groups l h = of_files l (λ (f : File). All (CanBeCopied l) (copies_of f)) (λ i k f n. copies_of_file l i k f n) h

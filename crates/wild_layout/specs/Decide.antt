@@ -26,7 +26,7 @@ use Rattle.wild_reloc.specs.declared.info.RelocationSize.TheVariants.{ByteSize}
 use Rattle.wild_reloc.specs.declared.info.Width.TheVariants.{Eight}
 use Rattle.wild_reloc.specs.declared.dynamic.DynamicRelocationKind.TheVariants.{Absolute, Irelative}
 use Rattle.wild_plan.specs.SlotParts.{type_of}
-use Rattle.wild_layout.specs.Values.{place_of, sum, raw_address, address_of, index_of, term_of, value_by}
+use Rattle.wild_layout.specs.Values.{place_of, sum, address_of, index_of, decided_address, term_of, value_by}
 
 -- a value in the row's field, where it is in range
 abbrev pub field : RelocationKindInfo → ℕ → Result Decision Fault
@@ -51,7 +51,7 @@ abbrev pub left_to : RelocationSize → ℕ → InputRelocation → ℕ → Opti
 left_to size number r i None = Err (faults.MissingResolution missing.DynamicSymbol i)
 left_to size number r i (Some index) = Ok (Left size number index (added r))
 
--- to one with the address of a resolver, to whose answer nothing can be added (x86-64 psABI, "Relocation Types",
+-- to one with the address of a resolver, as it was decided of the symbol, to whose answer nothing can be added (x86-64 psABI, "Relocation Types",
 -- R_X86_64_IRELATIVE)
 abbrev pub chosen_to : Layout → InputRelocation → Result ℕ Fault → Result Decision Fault
 chosen_to l r (Err f) = Err f
@@ -63,7 +63,7 @@ decide_by l s r treatments.Nothing = Ok Nothing
 decide_by l s r (treatments.Value row) = field_for l s r row (term_of l r.symbol row.kind)
 decide_by l s r treatments.BaseRelative = moved_to l s r (address_of l r.symbol)
 decide_by l s r (treatments.Symbolic i) = left_to (ByteSize Eight) (type_of l.machine Absolute) r i (index_of l i)
-decide_by l s r (treatments.Indirect i) = chosen_to l r (raw_address l (Some i))
+decide_by l s r (treatments.Indirect i) = chosen_to l r (decided_address l i)
 decide_by l s r (treatments.Extent row i) = left_to row.size r.number r i (index_of l i)
 decide_by l s r treatments.Recompile = Err (faults.RecompileWithPic r.number)
 decide_by l s r treatments.Unsupported = Err (faults.UnsupportedRelocation r.number)

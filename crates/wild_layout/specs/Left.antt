@@ -20,7 +20,7 @@ use Rattle.wild_plan.specs.SlotParts.{type_of}
 use Rattle.wild_plan.specs.Treatment.{treatment}
 use Rattle.wild_layout.specs.Decide.{added}
 use Rattle.wild_layout.specs.Moved.{or_zero}
-use Rattle.wild_layout.specs.Values.{raw_address, index_of}
+use Rattle.wild_layout.specs.Values.{raw_address, index_of, decided_address}
 
 -- an entry for a place, with an addend modulo 2^64; r_info has the low 32 bits of number and index (gABI, "Relocation",
 -- ELF64_R_INFO)
@@ -32,7 +32,7 @@ index_or_zero l i = unwrap_or (index_of l i) 0
 
 abbrev pub left_by : Layout → InputSection → InputRelocation → Treatment → Rela
 left_by l s r (Symbolic i) = entry_for (place_of s r) (type_of l.machine Absolute) (index_or_zero l i) (added r)
-left_by l s r (Indirect i) = entry_for (place_of s r) (type_of l.machine Irelative) 0 (or_zero (raw_address l (Some i)))
+left_by l s r (Indirect i) = entry_for (place_of s r) (type_of l.machine Irelative) 0 (or_zero (decided_address l i))
 left_by l s r (Extent row i) = entry_for (place_of s r) r.number (index_or_zero l i) (added r)
 left_by l s r other = entry_for (place_of s r) 0 0 0
 

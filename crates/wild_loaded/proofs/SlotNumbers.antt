@@ -1,6 +1,6 @@
 -- The numbers in words of slots have 64 bits.
 use Rattle.std.proofs.Common.{◌≡◌, ℕ, ◌^◌, ◌<◌, [], ◌∷◌, refl, arith}
-use Rattle.std.specs.Prelude.{Option, Some, None, All, ⊤, not, ◌==◌, ◌&&◌, if◌then◌else◌}
+use Rattle.std.specs.Prelude.{Option, Some, None, All, not, ◌==◌, ◌&&◌, if◌then◌else◌}
 use Rattle.std.proofs.lemmas.List.Elements.{All-nil, All-cons, All-append}
 use Rattle.wild_reloc.specs.declared.dynamic.DynamicRelocationKind.TheVariants.{DtpMod}
 use Rattle.wild_plan.specs.declared.slot.SlotWord.{SlotWord}
@@ -24,17 +24,17 @@ abbrev pub WordFits : SlotWord → Type 0
 WordFits (Number n) = n < 2 ^ 64
 WordFits (Address a) = a < 2 ^ 64
 WordFits (InBlock a) = a < 2 ^ 64
-WordFits (General e) = ⊤
+WordFits (General e) = e.addend < 2 ^ 64
 WordFits (Plt e) = e.addend < 2 ^ 64
 
 -- ---- thread-local slots
 
 offset_fits : (s : Setting) (r : Resolution) → ItemHas WordFits (offset_item s r)
 offset_fits s r =
-    of_if (ItemHas WordFits) (has_dynamic_symbol r.flags) _ _ (λ t. of_named WordFits r.dynamic_symbol_index _ (λ d e. tt))
+    of_if (ItemHas WordFits) (has_dynamic_symbol r.flags) _ _ (λ t. of_named WordFits r.dynamic_symbol_index _ (λ d e. omega arith))
     (λ f. of_if (ItemHas WordFits) (r.raw_value == 0) _ _ (λ t. omega arith)
     (λ g. of_if (ItemHas WordFits) (is_outside s.tls r.raw_value) _ _ (λ t. tt)
-    (λ h. of_if (ItemHas WordFits) (is_executable s.kind) _ _ (λ t. omega arith) (λ k. tt))))
+    (λ h. of_if (ItemHas WordFits) (is_executable s.kind) _ _ (λ t. omega arith) (λ k. omega arith))))
 
 zero_fits : ItemHas WordFits (number 0)
 zero_fits = omega arith
@@ -45,24 +45,24 @@ one_fits = omega arith
 module_fits : (s : Setting) (r : Resolution) → ItemHas WordFits (module_item s r)
 module_fits s r =
     of_if (ItemHas WordFits) (is_executable s.kind && not (has_flag r.flags dynamic)) (number 1) _ (λ t. one_fits)
-    (λ f. of_if (ItemHas WordFits) (interposable r.flags) _ _ (λ t. of_named WordFits r.dynamic_symbol_index _ (λ d e. tt)) (λ g. tt))
+    (λ f. of_if (ItemHas WordFits) (interposable r.flags) _ _ (λ t. of_named WordFits r.dynamic_symbol_index _ (λ d e. omega arith)) (λ g. omega arith))
 
 pair_fits : (s : Setting) (r : Resolution) → ItemHas WordFits (module_offset_item s r)
 pair_fits s r = by_index (if interposable r.flags then r.dynamic_symbol_index else None)
   where
     by_index : (o : Option ℕ) → ItemHas WordFits (module_offset s r.raw_value o)
-    by_index (Some d) = tt
+    by_index (Some d) = omega arith
     by_index None = omega arith
 
 descriptor_fits : (s : Setting) (r : Resolution) → ItemHas WordFits (descriptor_item s r)
 descriptor_fits s r = by_index r.dynamic_symbol_index
   where
     by_index : (o : Option ℕ) → ItemHas WordFits (described s r.flags r.raw_value o)
-    by_index (Some d) = of_if (ItemHas WordFits) (is_static_executable s.kind) _ _ (λ t. tt) (λ f. tt)
+    by_index (Some d) = of_if (ItemHas WordFits) (is_static_executable s.kind) _ _ (λ t. tt) (λ f. omega arith)
     by_index None =
         of_if (ItemHas WordFits) (is_replaceable s.kind r.flags) _ _ (λ t. tt)
         (λ f. of_if (ItemHas WordFits) (is_outside s.tls r.raw_value) _ _ (λ t. tt)
-        (λ g. of_if (ItemHas WordFits) (is_static_executable s.kind) _ _ (λ t. tt) (λ h. tt)))
+        (λ g. of_if (ItemHas WordFits) (is_static_executable s.kind) _ _ (λ t. tt) (λ h. omega arith)))
 
 thread_fits : (s : Setting) (r : Resolution) → All (ItemHas WordFits) (thread_items s r)
 thread_fits s r =
@@ -76,7 +76,7 @@ thread_fits s r =
 plain_fits : (s : Setting) (r : Resolution) → ResolutionNumbers r → ItemHas WordFits (plain_item s r)
 plain_fits s r n =
     of_if (ItemHas WordFits) (has_flag r.flags canonical_plt) _ _ (λ t. of_named WordFits r.dynamic_symbol_index _ (λ d e. omega arith))
-    (λ f. of_if (ItemHas WordFits) (has_dynamic_symbol r.flags) _ _ (λ t. of_named WordFits r.dynamic_symbol_index _ (λ d e. tt))
+    (λ f. of_if (ItemHas WordFits) (has_dynamic_symbol r.flags) _ _ (λ t. of_named WordFits r.dynamic_symbol_index _ (λ d e. omega arith))
     (λ g. of_if (ItemHas WordFits) (has_flag r.flags ifunc) _ _ (λ t. n.value)
     (λ h. of_if (ItemHas WordFits) (is_position_independent s.kind && has_link_time_address r.flags) _ _ (λ t. of_if WordFits s.relr _ _ (λ a. n.value) (λ b. n.value)) (λ k. n.value))))
 
@@ -93,7 +93,7 @@ address_fits s far r n =
     (All-append (ItemHas WordFits) (stub_items far r.plt_address) _ (of_stub WordFits far r.plt_address)
     (All-append (ItemHas WordFits) (ifunc_address_items s r) (canonical_address_items s r)
     (of_where WordFits (has_flag r.flags ifunc_got_for_address) _ (λ t. of_one WordFits (stub_address s r.plt_address) (stub_fits s r n)))
-    (of_where WordFits (has_flag r.flags canonical_plt_got_for_address) _ (λ t. of_one WordFits _ (of_named WordFits r.dynamic_symbol_index _ (λ d e. tt))))))
+    (of_where WordFits (has_flag r.flags canonical_plt_got_for_address) _ (λ t. of_one WordFits _ (of_named WordFits r.dynamic_symbol_index _ (λ d e. omega arith))))))
 
 items_fit : (s : Setting) (far : Option ℕ) (r : Resolution) → ResolutionNumbers r → All (ItemHas WordFits) (slot_items s far r)
 items_fit s far r n = by_place r.got_address
@@ -115,7 +115,7 @@ words_fit l s n = by_resolution s.resolution n
     by_resolution None h = All-nil WordFits
     by_resolution (Some r) h = slot_fits (setting_of l) (far_of l.machine r) r (h r refl)
 
-abbrev own_module : SlotWord
+abbrev pub own_module : SlotWord
 own_module = General (record { kind = DtpMod; symbol = 0; addend = 0 })
 
 -- the pair of the output's own thread-local data
@@ -126,7 +126,7 @@ storage_fits l = by_place l.tlsld
     pair s =
         of_if (All WordFits) (is_executable s.kind) (Number 1 ∷ Number (less s.thread_pointer s.tls.start) ∷ []) (own_module ∷ Number 0 ∷ [])
         (λ t. All-cons WordFits (Number 1) (Number (less s.thread_pointer s.tls.start) ∷ []) (omega arith) (All-cons WordFits (Number (less s.thread_pointer s.tls.start)) [] (omega arith) (All-nil WordFits)))
-        (λ f. All-cons WordFits own_module (Number 0 ∷ []) tt (All-cons WordFits (Number 0) [] (omega arith) (All-nil WordFits)))
+        (λ f. All-cons WordFits own_module (Number 0 ∷ []) (omega arith) (All-cons WordFits (Number 0) [] (omega arith) (All-nil WordFits)))
 
     by_place : (o : Option ℕ) → All WordFits (storage_at (setting_of l) o)
     by_place None = All-nil WordFits

@@ -1,5 +1,5 @@
 -- The words and stubs of symbols in the memory of an image that no entry has changed.
-use Rattle.std.proofs.Common.{◌≡◌, ℕ, zero, suc, ◌+◌, ◌*◌, ◌^◌, ◌<◌, ◌≤◌, Bool, true, false, List, [], ◌∷◌, length, refl, ap, ◌∙◌, arith, subst}
+use Rattle.std.proofs.Common.{◌≡◌, ℕ, zero, suc, ◌+◌, ◌*◌, ◌^◌, ◌<◌, ◌≤◌, Bool, true, false, List, [], ◌∷◌, length, refl, sym, ap, ◌∙◌, arith, subst}
 use Rattle.std.specs.Prelude.{Option, All, Contains, Some, None, unwrap_or, if◌then◌else◌, slice_get}
 use Rattle.std.proofs.lemmas.List.Elements.{All-contains}
 use Rattle.std.proofs.lemmas.Option.{slice_get_within, get_or_from_slice_get}
@@ -8,11 +8,11 @@ use Rattle.wild_words.proofs.OverlayLemmas.{length-place}
 use Rattle.wild_words.proofs.WordLemmas.{length-word}
 use Rattle.wild_words.proofs.RecordLemmas.{Stands-left, Stands-right}
 use Rattle.wild_relr.specs.Written.{word_bytes}
+use Rattle.wild_plan.specs.declared.slot.Setting.{Setting}
 use Rattle.wild_plan.specs.declared.slot.SlotWord.{SlotWord}
 use Rattle.wild_plan.specs.declared.slot.SlotWord.TheVariants.{Number, Address, InBlock, General, Plt}
 use Rattle.wild_plan.specs.declared.slot_parts.WordPart.{WordPart}
 use Rattle.wild_plan.specs.declared.slot_parts.WordPart.TheVariants as words
-use Rattle.wild_plan.specs.declared.slot_parts.EntryPart.TheVariants as entries
 use Rattle.wild_plan.specs.declared.part.Role.TheVariants as role
 use Rattle.wild_plan.specs.declared.file.File.{File}
 use Rattle.wild_plan.specs.declared.file.Group.{Group}
@@ -22,7 +22,7 @@ use Rattle.wild_plan.specs.Kinds.{is_executable}
 use Rattle.wild_plan.specs.Places.{is_loaded_role}
 use Rattle.wild_plan.specs.Storage.{less}
 use Rattle.wild_plan.specs.Slots.{setting_of, storage_pair}
-use Rattle.wild_plan.specs.SlotParts.{is_packed, word_of, slot_words, slot_entries}
+use Rattle.wild_plan.specs.SlotParts.{is_packed, word_of, slot_words}
 use Rattle.wild_plan.specs.SymbolSlots.{got_of, plt_of}
 use Rattle.wild_plan.specs.SlotShares.{word_size, own_symbols, slots_of, slots_at, storage_at, storage_words}
 use Rattle.wild_plan.specs.Stub.{stub_x86_64, stub_template}
@@ -31,13 +31,13 @@ use Rattle.wild_layout.specs.Geometry.{IsLaidOut}
 use Rattle.wild_layout.specs.SlotBytes.{stub_bytes}
 use Rattle.wild_loader.specs.declared.world.World.{World}
 use Rattle.wild_meaning.specs.World.{IsLoadable, IsLegal}
-use Rattle.wild_slots.specs.Entries.{OwnEntries}
 use Rattle.wild_slots.specs.Stand.{part_of_word, role_of_words, StandsAt, WordStands, SlotsStand, EachWordStands, StubsAreThere, PairStands}
-use Rattle.wild_loaded.specs.OwnSlots.{HasOwnSlots}
+use Rattle.wild_loaded.specs.WholeSlots.{HasWholeSlots}
 use Rattle.wild_loaded.specs.Stored.{IsWordStored, IsStubStored}
 use Rattle.wild_loaded.specs.Laws.{PartsAreStored, SlotsAreStored}
 use Rattle.wild_loaded.proofs.PartsHeld.{stands_held, stands_inner}
-use Rattle.wild_loaded.proofs.SlotNumbers.{WordFits, words_fit, storage_fits}
+use Rattle.wild_slots.proofs.ItemLemmas.{of_if}
+use Rattle.wild_loaded.proofs.SlotNumbers.{WordFits, own_module, words_fit, storage_fits}
 
 -- what the crate below owes of slots
 pub record SlotLaws : Type 0 where
@@ -75,18 +75,18 @@ word_held l w at d law kind legal laid fits h =
 pub listed_at : {X : Type 0} (xs : List X) (i : ℕ) (x : X) → slice_get xs i ≡ Some x → Contains xs x
 listed_at xs i x e = (i, slice_get_within xs i x e, get_or_from_slice_get xs i x x e)
 
-symbol_word : (l : Layout) (w : World) (i at k : ℕ) (s : Symbol) (d : SlotWord) → SlotLaws → PartsAreStored → IsLoadable l.kind → NumbersFit l → IsLegal l w → IsLaidOut l → HasOwnSlots l → slice_get l.symbols i ≡ Some s → got_of s ≡ Some at → slice_get (slots_of l s).words k ≡ Some d → IsWordStored l w (at + word_size * k) d
-symbol_word l w i at k s d laws law kind numbers legal laid own there got here =
+symbol_word : (l : Layout) (w : World) (i at k : ℕ) (s : Symbol) (d : SlotWord) → SlotLaws → PartsAreStored → IsLoadable l.kind → NumbersFit l → IsLegal l w → IsLaidOut l → HasWholeSlots l → slice_get l.symbols i ≡ Some s → got_of s ≡ Some at → slice_get (slots_of l s).words k ≡ Some d → IsWordStored l w (at + word_size * k) d
+symbol_word l w i at k s d laws law kind numbers legal laid slots there got here =
     let fits = words_fit l s (All-contains SymbolNumbers l.symbols s numbers.symbols (listed_at l.symbols i s there)) in
-    word_held l w (at + word_size * k) d law kind legal laid (All-contains WordFits (slots_of l s).words d fits (listed_at (slots_of l s).words k d here)) (laws.words l own.order i at k s d there got here)
+    word_held l w (at + word_size * k) d law kind legal laid (All-contains WordFits (slots_of l s).words d fits (listed_at (slots_of l s).words k d here)) (laws.words l slots.order i at k s d there got here)
 
 -- ---- stubs
 
 -- no symbol with slots has a fault
-pub whole_slots : (l : Layout) (i at : ℕ) (s : Symbol) → SlotsStand → HasOwnSlots l → slice_get l.symbols i ≡ Some s → got_of s ≡ Some at → (slots_of l s).fault ≡ None
-whole_slots l i at s law own there got =
-    let h = (law l own.order i at s there got).written in
-    let groups = All-contains (λ (g : Group). All (λ (f : File). All (λ (s : Symbol). (slots_of l s).fault ≡ None) (own_symbols l f)) g.files) l.groups h.group own.whole h.listed in
+pub whole_slots : (l : Layout) (i at : ℕ) (s : Symbol) → SlotsStand → HasWholeSlots l → slice_get l.symbols i ≡ Some s → got_of s ≡ Some at → (slots_of l s).fault ≡ None
+whole_slots l i at s law slots there got =
+    let h = (law l slots.order i at s there got).written in
+    let groups = All-contains (λ (g : Group). All (λ (f : File). All (λ (s : Symbol). (slots_of l s).fault ≡ None) (own_symbols l f)) g.files) l.groups h.group slots.whole h.listed in
     let files = All-contains (λ (f : File). All (λ (s : Symbol). (slots_of l s).fault ≡ None) (own_symbols l f)) h.group.files h.file groups h.holds in
     All-contains (λ (s : Symbol). (slots_of l s).fault ≡ None) (own_symbols l h.file) s files h.own
 
@@ -99,22 +99,26 @@ stub_is l s at stub got plt has =
 some_stub : (at stub : ℕ) → 1 ≤ length (stub_x86_64 at stub).bytes
 some_stub at stub = (let d = (stub_x86_64 at stub).distance in let n = length-word 4 d in let e = length-place 7 stub_template (word 4 d) (omega (arith, n)) in omega (arith, e))
 
-stub_held : (l : Layout) (w : World) (i at stub : ℕ) (s : Symbol) → SlotLaws → PartsAreStored → IsLoadable l.kind → IsLegal l w → IsLaidOut l → HasOwnSlots l → slice_get l.symbols i ≡ Some s → got_of s ≡ Some at → plt_of s ≡ Some stub → IsStubStored l w at stub
-stub_held l w i at stub s laws law kind legal laid own there got plt =
-    let has = laws.stubs l own.order i at stub s there got plt (whole_slots l i at s laws.stand own there got) in
-    let stands = subst (λ (bs : List ℕ). StandsAt l role.PltGot stub bs) (stub_is l s at stub got plt has) ((laws.stand l own.order i at s there got).stub stub plt) in
+stub_held : (l : Layout) (w : World) (i at stub : ℕ) (s : Symbol) → SlotLaws → PartsAreStored → IsLoadable l.kind → IsLegal l w → IsLaidOut l → HasWholeSlots l → slice_get l.symbols i ≡ Some s → got_of s ≡ Some at → plt_of s ≡ Some stub → IsStubStored l w at stub
+stub_held l w i at stub s laws law kind legal laid slots there got plt =
+    let has = laws.stubs l slots.order i at stub s there got plt (whole_slots l i at s laws.stand slots there got) in
+    let stands = subst (λ (bs : List ℕ). StandsAt l role.PltGot stub bs) (stub_is l s at stub got plt has) ((laws.stand l slots.order i at s there got).stub stub plt) in
     record { stands = stands; held = (stands_held l w role.PltGot stub (stub_x86_64 at stub).bytes law refl kind legal laid (some_stub at stub) stands).held }
 
 -- ---- the pair of the output's own thread-local data
 
--- two numbers, one behind the other
-pair_stands : (l : Layout) (at a b k : ℕ) (d : SlotWord) → StandsAt l role.Got at (word_bytes (slot_words words.Got l.options.relr at (Number a ∷ Number b ∷ []))) → slice_get (Number a ∷ Number b ∷ []) k ≡ Some d → WordStands l (at + word_size * k) d
-pair_stands l at a b zero d h e =
-    let front = stands_inner l role.Got at 0 (word_bytes (a ∷ b ∷ [])) (word 8 a) h (Stands-left (word 8 a) (word_bytes (b ∷ []))) in
-    let same : Number a ≡ d = cc in
+-- what the file has for the first of its words
+abbrev IsFront : Layout → SlotWord → ℕ → Type 0
+IsFront l v a = (at : ℕ) → StandsAt l role.Got at (word 8 a) → WordStands l at v
+
+-- two words, one behind the other
+pair_stands : (l : Layout) (v : SlotWord) (at a b k : ℕ) (d : SlotWord) → IsFront l v a → StandsAt l role.Got at (word_bytes (a ∷ b ∷ [])) → slice_get (v ∷ Number b ∷ []) k ≡ Some d → WordStands l (at + word_size * k) d
+pair_stands l v at a b zero d front h e =
+    let here = stands_inner l role.Got at 0 (word_bytes (a ∷ b ∷ [])) (word 8 a) h (Stands-left (word 8 a) (word_bytes (b ∷ []))) in
+    let same : v ≡ d = cc in
     let P : SlotWord → Type 0 = λ x. WordStands l (at + word_size * 0) x in
-    subst P same (record { value = a; is = refl; stands = front })
-pair_stands l at a b (suc zero) d h e =
+    subst P same (front (at + word_size * 0) here)
+pair_stands l v at a b (suc zero) d front h e =
     let n = length-word 8 a in
     let second = Stands-right (word 8 a) (word_bytes (b ∷ [])) (word 8 b) 0 (Stands-left (word 8 b) []) in
     let at_is : at + (length (word 8 a) + 0) ≡ at + word_size * 1 = omega (arith, n) in
@@ -122,33 +126,39 @@ pair_stands l at a b (suc zero) d h e =
     let same : Number b ≡ d = cc in
     let P : SlotWord → Type 0 = λ x. WordStands l (at + word_size * 1) x in
     subst P same (record { value = b; is = refl; stands = back })
-pair_stands l at a b (suc (suc k)) d h e = cc
+pair_stands l v at a b (suc (suc k)) d front h e = cc
 
--- the pair of an output whose entries are its own is of two numbers
-pub storage_numbers : (l : Layout) (at : ℕ) → OwnEntries l → l.tlsld ≡ Some at → (a : ℕ) × (b : ℕ) × (storage_words l ≡ Number a ∷ Number b ∷ [])
-storage_numbers l at own e = by_kind (is_executable l.kind) refl
-  where
-    are : storage_words l ≡ storage_pair (setting_of l)
-    are = ap (λ (o : Option ℕ). storage_at (setting_of l) o) e
+-- the words of the pair: two numbers, or a word that an entry fills and 0
+record IsPair (l : Layout) (at : ℕ) (ws : List SlotWord) : Type 0 where
+  first : SlotWord
+  value : ℕ
+  second : ℕ
+  words : ws ≡ first ∷ Number second ∷ []
+  front : IsFront l first value
+  file : slot_words words.Got l.options.relr at ws ≡ value ∷ second ∷ []
 
-    by_kind : (b : Bool) → is_executable l.kind ≡ b → (a : ℕ) × (b : ℕ) × (storage_words l ≡ Number a ∷ Number b ∷ [])
-    by_kind true t = (let s = setting_of l in (1, less s.thread_pointer s.tls.start, are ∙ rw t refl))
-    by_kind false f =
-        let one = subst (λ (ws : List SlotWord). slot_entries entries.General l.machine l.options.relr (unwrap_or l.tlsld 0) ws ≡ []) are own.pair in
-        let two = rw f at one in
-        cc
+pair_of : (l : Layout) (at : ℕ) (s : Setting) → IsPair l at (storage_pair s)
+pair_of l at s =
+    of_if (IsPair l at) (is_executable s.kind) _ _
+    (λ t. record { first = Number 1; value = 1; second = less s.thread_pointer s.tls.start; words = refl; front = λ p h. record { value = 1; is = refl; stands = h }; file = refl })
+    (λ f. record { first = own_module; value = 0; second = 0; words = refl; front = λ p h. record { value = 0; is = refl; stands = h }; file = refl })
 
-pair_held : (l : Layout) (w : World) (at k : ℕ) (d : SlotWord) → SlotLaws → PartsAreStored → IsLoadable l.kind → IsLegal l w → IsLaidOut l → HasOwnSlots l → l.tlsld ≡ Some at → slice_get (storage_words l) k ≡ Some d → IsWordStored l w (at + word_size * k) d
-pair_held l w at k d laws law kind legal laid own e here =
+storage_pair_of : (l : Layout) (at : ℕ) → l.tlsld ≡ Some at → IsPair l at (storage_words l)
+storage_pair_of l at e =
+    let are : storage_words l ≡ storage_pair (setting_of l) = ap (λ (o : Option ℕ). storage_at (setting_of l) o) e in
+    subst (IsPair l at) (sym are) (pair_of l at (setting_of l))
+
+pair_held : (l : Layout) (w : World) (at k : ℕ) (d : SlotWord) → SlotLaws → PartsAreStored → IsLoadable l.kind → IsLegal l w → IsLaidOut l → HasWholeSlots l → l.tlsld ≡ Some at → slice_get (storage_words l) k ≡ Some d → IsWordStored l w (at + word_size * k) d
+pair_held l w at k d laws law kind legal laid slots e here =
     let fits = All-contains WordFits (storage_words l) d (storage_fits l) (listed_at (storage_words l) k d here) in
-    let n = storage_numbers l at own.entries e in
-    let stands = subst (λ (ws : List SlotWord). StandsAt l role.Got at (word_bytes (slot_words words.Got l.options.relr at ws))) n.2 (laws.pair l own.order laid.some_group at e) in
-    let there = subst (λ (ws : List SlotWord). slice_get ws k ≡ Some d) n.2 here in
-    word_held l w (at + word_size * k) d law kind legal laid fits (pair_stands l at n.0 n.1 k d stands there)
+    let pair = storage_pair_of l at e in
+    let stands = subst (λ (xs : List ℕ). StandsAt l role.Got at (word_bytes xs)) pair.file (laws.pair l slots.order laid.some_group at e) in
+    let there = subst (λ (ws : List SlotWord). slice_get ws k ≡ Some d) pair.words here in
+    word_held l w (at + word_size * k) d law kind legal laid fits (pair_stands l pair.first at pair.value pair.second k d pair.front stands there)
 
 pub slots_held : SlotLaws → PartsAreStored → SlotsAreStored
 slots_held laws law = record {
-  words = λ l w i at k s d kind numbers legal laid own there got here. symbol_word l w i at k s d laws law kind numbers legal laid own there got here;
-  stubs = λ l w i at stub s kind legal laid own there got plt. stub_held l w i at stub s laws law kind legal laid own there got plt;
-  pair = λ l w at k d kind legal laid own e here. pair_held l w at k d laws law kind legal laid own e here;
+  words = λ l w i at k s d kind numbers legal laid slots there got here. symbol_word l w i at k s d laws law kind numbers legal laid slots there got here;
+  stubs = λ l w i at stub s kind legal laid slots there got plt. stub_held l w i at stub s laws law kind legal laid slots there got plt;
+  pair = λ l w at k d kind legal laid slots e here. pair_held l w at k d laws law kind legal laid slots e here;
 }

@@ -15,13 +15,12 @@ use Rattle.wild_reloc.specs.declared.info.RelocationSize.TheVariants.{ByteSize}
 use Rattle.wild_reloc.specs.declared.info.Width.TheVariants.{Eight}
 use Rattle.wild_headers.specs.Headers.{file_header, program_header}
 use Rattle.wild_layout.specs.declared.decision.Decision.{Decision}
-use Rattle.wild_layout.specs.declared.decision.Decision.TheVariants.{Field, Moved}
+use Rattle.wild_layout.specs.declared.decision.Decision.TheVariants.{Field, Moved, Left}
 use Rattle.wild_layout.specs.Decide.{decided}
 use Rattle.wild_layout.specs.Sites.{Written, written_by, field_site, site, sites}
 use Rattle.wild_layout.specs.Image.{bytes}
 use Rattle.wild_layout.specs.Geometry.{SectionLies}
 use Rattle.wild_layout.proofs.SiteLemmas.{Contains-flat_map, site_written}
-use Rattle.wild_geometry.specs.Loaded.{in_file}
 use Rattle.wild_loader.specs.Headers.{machine_of}
 use Rattle.wild_loader.specs.Memory.{byte_in}
 use Rattle.wild_loader.specs.Laws.{BytesAreLoaded, ZerosAreLoaded}
@@ -54,7 +53,8 @@ sections_stored law = λ l w s legal laid k decisions.
     record {
       ends = section_ends l w s legal laid k lies;
       values = λ r z v c made. Holds-inner (image_memory l w) (w.base + s.address) r.offset whole (field_site s r.offset z v).bytes held (field_stands l s r (Field z v) (record { size = z; value = v }) decisions.apart c made refl);
-      addresses = λ r v packed c made. Holds-inner (image_memory l w) (w.base + s.address) r.offset whole (word 8 (in_file v packed)) held (field_stands l s r (Moved v packed) (record { size = ByteSize Eight; value = in_file v packed }) decisions.apart c made refl);
+      addresses = λ r v packed c made. Holds-inner (image_memory l w) (w.base + s.address) r.offset whole (word 8 (if packed then v else 0)) held (field_stands l s r (Moved v packed) (record { size = ByteSize Eight; value = if packed then v else 0 }) decisions.apart c made refl);
+      left = λ r z number symbol addend c made. (let p = field_site s r.offset z 0 in (p.bytes, Holds-inner (image_memory l w) (w.base + s.address) r.offset whole p.bytes held (field_stands l s r (Left z number symbol addend) (record { size = z; value = 0 }) decisions.apart c made refl), left_zero l s r z number symbol addend (decided_left l s r z number symbol addend made)));
       others = λ i lt out. held i (omega (arith, len, lt)) ∙ ap Some (overlay-outside i (sites l s) s.bytes decisions.apart out);
     }
 

@@ -86,8 +86,8 @@ pub record FillsSlot (w : World) (e : SlotEntry) : Type 0 where
 
 -- an entry of that number, index and addend stores a number in a field of that size
 pub record FillsField (w : World) (z : RelocationSize) (number symbol addend : ℕ) : Type 0 where
-  pub number : number < 2 ^ 32
-  pub index : symbol < 2 ^ 32
+  pub type_fits : number < 2 ^ 32
+  pub index_fits : symbol < 2 ^ 32
   pub change : Change
   pub makes : MakesChange w number symbol addend change
   pub width : length (stored_bytes change) ≡ size_width z

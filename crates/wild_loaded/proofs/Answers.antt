@@ -1,0 +1,140 @@
+-- What a legal world answers: dynamic symbols by their index, thread-local modules, and resolvers.
+use Rattle.std.proofs.Common.{◌≡◌, ℕ, ℤ, zero, suc, ◌+◌, ◌%◌, ◌^◌, ◌<◌, ◌≤◌, ◌⊎◌, inl, inr, Bool, true, false, List, [], ◌∷◌, length, refl, sym, ap, ◌∙◌, arith, subst}
+use Rattle.std.specs.Prelude.{Option, Some, None, Ok, All, ◌==◌, if◌then◌else◌, slice_get}
+use Rattle.std.specs.List.{filter}
+use Rattle.std.specs.Int.{w64, cast_unsigned}
+use Rattle.std.proofs.lemmas.Bool.{cases_Bool, eqb-true}
+use Rattle.std.proofs.lemmas.List.Elements.{All-contains}
+use Rattle.std.proofs.lemmas.Option.{slice_get_within}
+use Rattle.wild_plan.specs.declared.symbol.Resolution.{Resolution}
+use Rattle.wild_plan.specs.declared.symbol.Symbol.{Symbol}
+use Rattle.wild_plan.specs.declared.layout.Layout.{Layout}
+use Rattle.wild_plan.specs.Lists.{first_failing}
+use Rattle.wild_plan.specs.DynamicSymbols.{dynamic_symbols, is_named, has_position, dynsym_of, position_fits, misplaced, misfit, first_listed}
+use Rattle.wild_plan.specs.WellFormed.{fails, check_dynsyms}
+use Rattle.wild_layout.specs.Geometry.{IsLaidOut}
+use Rattle.wild_loader.specs.declared.world.Answer.{Answer}
+use Rattle.wild_loader.specs.declared.world.World.{World}
+use Rattle.wild_loader.specs.Changes.{first_value, answer_of, answer_at, module_and_offset, distance_of}
+use Rattle.wild_meaning.specs.World.{IsLegal, IsAnsweredOnce, IsKnownModule, IsAnswer, IsAnswered}
+use Rattle.wild_slots.proofs.CheckLemmas.{both, none}
+use Rattle.wild_loaded.proofs.SlotsHeld.{listed_at}
+
+-- ---- pairs by their keys
+
+-- the one pair of a key is the first
+first_filtered : {V : Type 0} (ps : List (ℕ × V)) (a : ℕ) (v : V) → filter (λ (p : ℕ × V). p.0 == a) ps ≡ (a, v) ∷ [] → first_value ps a ≡ Some v
+first_filtered [] a v h = cc
+first_filtered {V} (p ∷ ps) a v h =
+    elim (cases_Bool (p.0 == a)) [
+      | inl t ↦ (let e = rw t at h in let is : p ≡ (a, v) = head_is p (a, v) (filter (λ (q : ℕ × V). q.0 == a) ps) [] e in rw t (ap (λ (q : ℕ × V). Some q.1) is))
+      | inr f ↦ rw f (first_filtered ps a v (rw f at h))
+    ]
+  where
+    head_is : (x y : ℕ × V) (xs ys : List (ℕ × V)) → x ∷ xs ≡ y ∷ ys → x ≡ y
+    head_is x y xs ys e = cc
+
+pub answered : (w : World) (a : ℕ) → (h : IsAnsweredOnce w a) → answer_at w a ≡ Ok h.answer
+answered w a h = rw (first_filtered w.resolvers a h.answer h.pair) refl
+
+-- the distance of a module
+distance_known : (w : World) (m : ℕ) → (h : IsKnownModule w m) → distance_of w m ≡ Ok (cast_unsigned w64 h.distance)
+distance_known w m h = rw (first_filtered w.modules m h.distance h.pair) refl
+
+-- ---- dynamic symbols
+
+-- the answer of an index
+pub record IsGiven (w : World) (index : ℕ) : Type 0 where
+  pub answer : Answer
+  pub listed : slice_get w.symbols index ≡ Some answer
+  pub is : IsAnswer w answer
+
+item_there : {X : Type 0} (xs : List X) (k : ℕ) → k < length xs → (x : X) × (slice_get xs k ≡ Some x)
+item_there [] k h = absurd (omega arith)
+item_there (x ∷ xs) zero h = (x, refl)
+item_there (x ∷ xs) (suc k) h = item_there xs k (omega arith)
+
+pub given_answer : (l : Layout) (w : World) (index : ℕ) → IsLegal l w → index < length w.symbols → IsGiven w index
+given_answer l w index legal h =
+    let x = item_there w.symbols index h in
+    record { answer = x.0; listed = x.1; is = All-contains (IsAnswer w) w.symbols x.0 legal.symbols.each (listed_at w.symbols index x.0 x.1) }
+
+-- the index of a symbol has one
+pub symbol_answer : (l : Layout) (w : World) (i index : ℕ) (s : Symbol) (r : Resolution) → IsLegal l w → slice_get l.symbols i ≡ Some s → s.resolution ≡ Some r → r.dynamic_symbol_index ≡ Some index → IsGiven w index
+symbol_answer l w i index s r legal there is told = given_answer l w index legal (All-contains (IsAnswered w) l.symbols s legal.symbols.there (listed_at l.symbols i s there) r index is told)
+
+-- ---- indexes
+
+position_at : (table : List ℕ) (i j : ℕ) (ss : List Symbol) (s : Symbol) → misplaced table j ss ≡ None → slice_get ss i ≡ Some s → position_fits table (j + i) (dynsym_of s) ≡ true
+position_at table i j [] s h there = cc
+position_at table i j (x ∷ xs) s h there =
+    elim (cases_Bool (position_fits table j (dynsym_of x))) [
+      | inr f ↦ cc (rw f at h)
+      | inl t ↦ at i there t (rw t at h)
+    ]
+  where
+    at : (k : ℕ) → slice_get (x ∷ xs) k ≡ Some s → position_fits table j (dynsym_of x) ≡ true → misplaced table (j + 1) xs ≡ None → position_fits table (j + k) (dynsym_of s) ≡ true
+    at zero e t rest =
+        let same : x ≡ s = cc in
+        let z : j + 0 ≡ j = omega arith in
+        subst (λ (y : Symbol). position_fits table (j + 0) (dynsym_of y) ≡ true) same (subst (λ (k : ℕ). position_fits table k (dynsym_of x) ≡ true) (sym z) t)
+    at (suc k) e t rest =
+        let z : j + 1 + k ≡ j + suc k = omega arith in
+        subst (λ (m : ℕ). position_fits table m (dynsym_of s) ≡ true) z (position_at table k (j + 1) xs s rest e)
+
+within_table : (table : List ℕ) (i p : ℕ) → has_position table i p ≡ true → p ≤ length table
+within_table table i zero h = cc
+within_table table i (suc k) h = by_entry (slice_get table k) refl h
+  where
+    by_entry : (o : Option ℕ) → slice_get table k ≡ o → is_named i o ≡ true → suc k ≤ length table
+    by_entry None e h = cc
+    by_entry (Some j) e h = slice_get_within table k j e
+
+-- the index of a symbol has 32 bits
+pub index_small : (l : Layout) (i index : ℕ) (s : Symbol) (r : Resolution) → IsLaidOut l → slice_get l.symbols i ≡ Some s → s.resolution ≡ Some r → r.dynamic_symbol_index ≡ Some index → index < 2 ^ 32
+unfolding check_dynsyms
+index_small l i index s r laid there is told =
+    let checks = both (fails 13 (misplaced (dynamic_symbols l) 0 l.symbols)) (fails 13 (misfit l (first_listed l) 0 l.dynsyms)) laid.dynsyms in
+    let placed = position_at (dynamic_symbols l) i 0 l.symbols s (none 13 (misplaced (dynamic_symbols l) 0 l.symbols) checks.first) there in
+    let carried : dynsym_of s ≡ Some index = rw (is, told) refl in
+    let low = within_table (dynamic_symbols l) (0 + i) index (subst (λ (o : Option ℕ). position_fits (dynamic_symbols l) (0 + i) o ≡ true) carried placed) in
+    let few = laid.indexes in
+    omega (arith, low, few)
+
+-- ---- modules
+
+-- a module and an offset there, and its distance, for an index, which is 0 for the own module
+pub record IsKnownPair (w : World) (index : ℕ) : Type 0 where
+  pub pair : ℕ × ℕ
+  pub given : module_and_offset w index ≡ Ok pair
+  pub fits : pair.0 < 2 ^ 64
+  pub distance : ℕ
+  pub known : distance_of w pair.0 ≡ Ok distance
+
+own_pair : (l : Layout) (w : World) → IsLegal l w → IsKnownPair w 0
+own_pair l w legal = record {
+  pair = (w.own_module, 0);
+  given = refl;
+  fits = legal.symbols.module;
+  distance = cast_unsigned w64 legal.symbols.known.distance;
+  known = distance_known w w.own_module legal.symbols.known;
+}
+
+answer_pair : (w : World) (index : ℕ) → (index == 0) ≡ false → IsGiven w index → IsKnownPair w index
+answer_pair w index other g =
+    let is = g.is in
+    record {
+      pair = (g.answer.module, g.answer.offset);
+      given = rw (other, g.listed) refl;
+      fits = is.module;
+      distance = cast_unsigned w64 is.known.distance;
+      known = distance_known w g.answer.module is.known;
+    }
+
+pub known_pair : (l : Layout) (w : World) (index : ℕ) → IsLegal l w → (index ≡ 0) ⊎ IsGiven w index → IsKnownPair w index
+known_pair l w index legal (inl e) = subst (IsKnownPair w) (sym e) (own_pair l w legal)
+known_pair l w index legal (inr g) =
+    elim (cases_Bool (index == 0)) [
+      | inl t ↦ subst (IsKnownPair w) (sym (eqb-true index 0 t)) (own_pair l w legal)
+      | inr f ↦ answer_pair w index f g
+    ]
