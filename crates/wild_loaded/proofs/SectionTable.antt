@@ -470,7 +470,9 @@ joined_all l r es js gs x t = by_part (part_with r l.parts) refl
         let none = ap (λ (bs : List ℕ). length bs) (sym t.are ∙ (x.laid.roles r t.place).missing e) in
         let count = x.lengths es in
         joined_missing (length l.sections) 0 es ∙ sym (no_entries es (rela_size * length es) refl (omega (arith, none, count)))
-    by_part (Some p) e = joined_one (length l.sections) 0 p es (omega arith) (All-contains (λ (q : Part). q.section < length l.sections) l.parts p x.laid.named ((x.laid.roles r t.place).there p e).listed)
+    by_part (Some p) e =
+        let few = All-contains (λ (q : Part). q.section < length l.sections) l.parts p x.laid.named ((x.laid.roles r t.place).there p e).listed in
+        joined_one (length l.sections) 0 p es (omega arith) (omega (arith, few))
 
 -- ---- the tables of sections
 
