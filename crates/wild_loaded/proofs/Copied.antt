@@ -1,5 +1,5 @@
 -- Symbols that are copied into the output: their addresses, their answers, and what their entries make a loader do.
-use Rattle.std.proofs.Common.{◌≡◌, ℕ, ◌%◌, ◌^◌, ◌<◌, inl, inr, true, refl, sym, ap, ◌∙◌, arith, subst}
+use Rattle.std.proofs.Common.{◌≡◌, ℕ, ◌%◌, ◌^◌, ◌<◌, ◌⊎◌, inl, inr, true, refl, sym, ap, ◌∙◌, arith, subst}
 use Rattle.std.specs.Prelude.{Option, Some, None, Result, Ok, Err, All, Contains, [], option_map, option_and_then, unwrap_or, if◌then◌else◌, slice_get}
 use Rattle.std.proofs.lemmas.List.Elements.{All-contains}
 use Rattle.wild_plan.specs.declared.fault.Fault.{Fault}
@@ -26,7 +26,7 @@ use Rattle.wild_layout.proofs.FaultLemmas.{CanBeCopied, copies_of_groups}
 use Rattle.wild_loader.specs.declared.world.Answer.{Answer}
 use Rattle.wild_loader.specs.declared.world.World.{World}
 use Rattle.wild_loader.specs.Changes.{kind_of, change_of}
-use Rattle.wild_meaning.specs.Value.{IsDefinedBy, IsResolved, HasRaw, HasAnswer}
+use Rattle.wild_meaning.specs.Value.{IsDefinedBy, IsResolved, IsUnresolved, StandsAt, HasRaw, HasAnswer}
 use Rattle.wild_meaning.specs.World.{IsLegal, IsCopied, HasCopy}
 use Rattle.wild_loaded.specs.Stored.{Copies}
 use Rattle.wild_loaded.specs.Laws.{CopiesAreThere}
