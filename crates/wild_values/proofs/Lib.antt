@@ -10,8 +10,11 @@ mod Symbols
 mod SlotFlags
 mod SlotContents
 mod StubCode
+mod EntryWords
+mod Answered
 mod FirstSlots
 mod SymbolStubs
+mod Stubbed
 mod Targets
 mod ThreadValues
 mod Treated
