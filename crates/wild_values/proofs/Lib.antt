@@ -1,5 +1,6 @@
 mod Tests
 mod Bits
+mod OutputKinds
 mod KnownRows
 mod Written
 mod Sections

@@ -1,7 +1,7 @@
 -- Whether the output's address for a symbol is its stub's.
 use Rattle.std.proofs.Common.{◌≡◌, ◌≢◌, ℕ, ◌⊎◌, inl, inr, Bool, true, false, Option, Some, None, refl, sym, ap, ◌∙◌, subst}
 use Rattle.std.specs.Prelude.{◌==◌, option_and_then, slice_get}
-use Rattle.std.proofs.lemmas.Bool.{cases_Bool, eqb-true}
+use Rattle.std.proofs.lemmas.Bool.{cases_Bool, eqb-true, eq-eqb}
 use Rattle.wild_plan.specs.declared.symbol.Resolution.{Resolution}
 use Rattle.wild_plan.specs.declared.symbol.Symbol.{Symbol}
 use Rattle.wild_plan.specs.declared.symbol.ValueFlags.{ValueFlags}
@@ -85,7 +85,7 @@ by_stub l i p r d e known =
         let one = one_stub l i p there h in
         let is : h.stub ≡ r.raw_value = raw_is l i h.stub (canonical l i) d.symbol r raw d.defined d.listed d.decided in
         let same : r.raw_value ≡ p = sym (one ∙ is) in
-        let t : (r.raw_value == p) ≡ true = rw same refl in
+        let t : (r.raw_value == p) ≡ true = eq-eqb r.raw_value p same in
         let g : true ≡ false = sym t ∙ other in
         cc
 

@@ -6,7 +6,7 @@
 --   ThreadPlacesAreKnown  a symbol's place in the thread's data, and its distance from the thread pointer
 --   FieldsHold ..         memory has an item's fields as the formulas have them, and its other bytes
 --   SectionsHold          so it has each kept section that is there as it was decided
-use Rattle.std.specs.Prelude.{◌≡◌, ℕ, ◌+◌, ◌-◌, ◌%◌, ◌^◌, ◌<◌, ◌⊎◌, Bool, List, length, Some, Ok}
+use Rattle.std.specs.Prelude.{◌≡◌, ℕ, ◌+◌, ◌-◌, ◌%◌, ◌^◌, ◌<◌, ◌⊎◌, FitsSigned, Bool, List, length, Some, Ok}
 use Rattle.std.specs.Int.{w64, cast_unsigned}
 use Rattle.wild_plan.specs.declared.kind.Machine.TheVariants as machine
 use Rattle.wild_plan.specs.declared.input.InputRelocation.{InputRelocation}
@@ -56,7 +56,7 @@ AddressesGiveLinked = (l : Layout) (w : World) (m : Memory) (s : InputSection) (
 
 -- a field that is left to an entry has what the formula of the relocation's type gives, by what the entry stores
 abbrev pub EntriesGive : Type 0
-EntriesGive = (l : Layout) (w : World) (m : Memory) (s : InputSection) (r : InputRelocation) (z : RelocationSize) (number symbol addend : ℕ) (bs : List ℕ) → IsPlaced l w m → NamesSymbol l r → decided l s r ≡ Ok (Left z number symbol addend)
+EntriesGive = (l : Layout) (w : World) (m : Memory) (s : InputSection) (r : InputRelocation) (z : RelocationSize) (number symbol addend : ℕ) (bs : List ℕ) → IsPlaced l w m → NamesSymbol l r → FitsSigned w64 r.addend → decided l s r ≡ Ok (Left z number symbol addend)
     → ReadsLeft InMemory w z number symbol addend bs → (f : Formula) × (formula_of l.machine r.number ≡ Some f) × (x : ℕ) × Gives f.value l w m (item_of s) r x × Reads f.form bs x
 
 -- in a world with the executable as its first module: the distance of its thread-local data, where a symbol of these lies, and
