@@ -1,6 +1,6 @@
 -- What a legal world answers: dynamic symbols by their index, thread-local modules, and resolvers.
-use Rattle.std.proofs.Common.{◌≡◌, ℕ, ℤ, zero, suc, ◌+◌, ◌%◌, ◌^◌, ◌<◌, ◌≤◌, ◌⊎◌, inl, inr, Bool, true, false, List, [], ◌∷◌, length, refl, sym, ap, ◌∙◌, arith, subst}
-use Rattle.std.specs.Prelude.{Option, Some, None, Ok, All, ◌==◌, if◌then◌else◌, slice_get}
+use Rattle.std.proofs.Common.{◌≡◌, ℕ, zero, suc, ◌+◌, ◌^◌, ◌<◌, ◌≤◌, ◌⊎◌, inl, inr, true, false, List, [], ◌∷◌, length, refl, sym, ap, arith, subst}
+use Rattle.std.specs.Prelude.{Option, Some, None, Ok, ◌==◌, slice_get}
 use Rattle.std.specs.List.{filter}
 use Rattle.std.specs.Int.{w64, cast_unsigned}
 use Rattle.std.proofs.lemmas.Bool.{cases_Bool, eqb-true}
@@ -14,7 +14,7 @@ use Rattle.wild_plan.specs.WellFormed.{fails, check_dynsyms}
 use Rattle.wild_layout.specs.Geometry.{IsLaidOut}
 use Rattle.wild_loader.specs.declared.world.Answer.{Answer}
 use Rattle.wild_loader.specs.declared.world.World.{World}
-use Rattle.wild_loader.specs.Changes.{first_value, answer_of, answer_at, module_and_offset, distance_of}
+use Rattle.wild_loader.specs.Changes.{first_value, answer_at, module_and_offset, distance_of}
 use Rattle.wild_meaning.specs.World.{IsLegal, IsAnsweredOnce, IsKnownModule, IsAnswer, IsAnswered}
 use Rattle.wild_slots.proofs.CheckLemmas.{both, none}
 use Rattle.wild_loaded.proofs.SlotsHeld.{listed_at}

@@ -1,5 +1,5 @@
 -- What the entries of fields make a loader do in a legal world, and what these fields are in the file.
-use Rattle.std.proofs.Common.{◌≡◌, ℕ, ◌+◌, ◌%◌, ◌^◌, ◌<◌, ◌⊎◌, inl, inr, Bool, true, false, List, [], ◌∷◌, length, replicate, refl, sym, ap, ◌∙◌, arith, subst}
+use Rattle.std.proofs.Common.{◌≡◌, ℕ, ◌+◌, ◌%◌, ◌^◌, ◌<◌, ◌⊎◌, inl, inr, Bool, true, false, List, replicate, refl, sym, ap, arith, subst}
 use Rattle.std.specs.Prelude.{⊤, Option, Some, None, Result, Ok, Err, option_map, option_and_then, ◌==◌, ◌&&◌, ◌||◌, if◌then◌else◌, slice_get}
 use Rattle.std.specs.List.{list_all}
 use Rattle.std.specs.Int.{w64}
@@ -27,7 +27,7 @@ use Rattle.wild_plan.specs.Kinds.{is_position_independent, is_shared_object}
 use Rattle.wild_plan.specs.Lookups.{writable, allocated, canonical}
 use Rattle.wild_plan.specs.Rows.{row_of}
 use Rattle.wild_plan.specs.SlotParts.{type_of}
-use Rattle.wild_plan.specs.Treatment.{flags_at, is_left, is_barred, is_narrow, is_chosen, is_sized, moves, moved_treatment, chosen_treatment, address_treatment, distance_treatment, pointer_treatment, size_treatment, named, kind_treatment, row_treatment, treatment}
+use Rattle.wild_plan.specs.Treatment.{flags_at, is_left, is_barred, is_narrow, is_chosen, is_sized, moves, address_treatment, distance_treatment, pointer_treatment, size_treatment, named, kind_treatment, row_treatment, treatment}
 use Rattle.wild_reloc.specs.Field.{size_width, field_width, size_written}
 use Rattle.wild_reloc.specs.TableX86_64.{x86_64_rows, x86_64_row}
 use Rattle.wild_reloc.proofs.TableLemmas.{entry_passes}
@@ -44,7 +44,7 @@ use Rattle.wild_layout.specs.Decide.{added, left_to, chosen_to, decide_by, decid
 use Rattle.wild_layout.specs.Values.{address_or, index_of, decided_address}
 use Rattle.wild_layout.specs.Numbers.{NumbersFit, SymbolNumbers}
 use Rattle.wild_layout.specs.Geometry.{IsLaidOut}
-use Rattle.wild_layout.proofs.DecideLemmas.{IsLeft, decided_left}
+use Rattle.wild_layout.proofs.DecideLemmas.{decided_left}
 use Rattle.wild_geometry.specs.Loaded.{entry_with}
 use Rattle.wild_loader.specs.declared.world.World.{World}
 use Rattle.wild_loader.specs.declared.change.Change.TheVariants as changes

@@ -18,13 +18,12 @@ use Rattle.wild_plan.specs.declared.part.Role.{Role}
 use Rattle.wild_plan.specs.declared.part.Role.TheVariants as role
 use Rattle.wild_plan.specs.declared.section.Section.{Section}
 use Rattle.wild_plan.specs.declared.layout.Layout.{Layout}
-use Rattle.wild_plan.specs.Lists.{total}
 use Rattle.wild_plan.specs.Lookups.{allocated, takes_file_bytes}
 use Rattle.wild_plan.specs.Places.{role_place, has_role, is_fixed_static}
-use Rattle.wild_plan.specs.Segments.{part_with, is_entry_role, entry_parts, bytes_in}
+use Rattle.wild_plan.specs.Segments.{part_with, is_entry_role, bytes_in}
 use Rattle.wild_headers.specs.Headers.{null_header, info_at, section_header, headers_from, section_headers_of, spoken_of}
 use Rattle.wild_layout.specs.Image.{bytes}
-use Rattle.wild_layout.specs.Geometry.{IsLaidOut, EntriesLie, HasEntriesAlone, RangesApart, table_bytes, TablesStand}
+use Rattle.wild_layout.specs.Geometry.{IsLaidOut, RangesApart, table_bytes, TablesStand}
 use Rattle.wild_tables.specs.Laws.{EntriesAreRead, LengthsOfEntries}
 use Rattle.wild_loader.specs.Tables.{has_entries, relas_at}
 use Rattle.wild_loader.specs.Laws.{HoldsEntries, HasSectionTables, section_relas, rela_bytes}
