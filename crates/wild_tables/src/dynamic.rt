@@ -3,7 +3,7 @@ ghost use Rattle.std.specs.Prelude.{◌≡◌, ◌+◌, ◌*◌, ◌≤◌, ◌+
 ghost use Rattle.wild_records.specs.Dynamic.{dynamic_entry_size};
 ghost use Rattle.wild_plan.specs.Dynamic.{entry_of, tag_entries, dynamic_count};
 ghost use Rattle.wild_plan.specs.DynamicStrings.{named, behind_text, string_entries, auxiliary_strings, named_strings, string_start};
-ghost use Rattle.wild_tables.specs.Dynamic.{dynamic_bytes, entries_bytes, behind_strings, LengthsOfDynamic, RecordsStand, RecordsFit, BehindNullIsNotRead, EntriesAreFound, TablesAreNamed};
+ghost use Rattle.wild_tables.specs.Dynamic.{dynamic_bytes, entries_bytes, behind_strings, NeededAreOfLibraries, LengthsOfRecords, LengthsOfDynamic, RecordsStand, RecordsFit, BehindNullIsNotRead, EntriesAreFound, TablesAreNamed};
 
 use wild_plan::{DynamicTag, Layout, dynamic_entry, string_start};
 use wild_records::DynamicEntry;
@@ -161,9 +161,11 @@ pub fn write_dynamic(layout: &Layout, out: &mut [u8])
     write_unused(&mut out[at..]);
 }
 
-/// The bytes of the dynamic section fill its room, a reader finds the entries of the last file there and nothing behind
-/// `DT_NULL`, and by each tag the value of its entry.
+/// The entries of libraries name libraries. Behind them the bytes of the last file's entries fill their room, a reader
+/// finds these entries there and nothing behind `DT_NULL`, and by each tag the value of its entry.
 pub fn dynamic_sections_are_read()
+    ensures needed { NeededAreOfLibraries }
+    ensures records { LengthsOfRecords }
     ensures lengths { LengthsOfDynamic }
     ensures stand { RecordsStand }
     ensures fit { RecordsFit }
