@@ -1,11 +1,12 @@
 -- What an entry stores in a field that is left to it is what the formula of the relocation gives.
 use Rattle.std.proofs.Common.{◌≡◌, ℕ, suc, ◌+◌, ◌*◌, ◌/◌, ◌%◌, ◌^◌, ◌<◌, ◌⊎◌, inl, inr, Bool, true, false, List, length, Option, Some, None, Result, Ok, Err, refl, sym, ap, ◌∙◌, arith, subst}
-use Rattle.std.specs.Prelude.{FitsSigned, ◌==◌, ◌&&◌, ◌||◌, not, option_and_then, slice_get}
+use Rattle.std.specs.Prelude.{FitsSigned, ◌==◌, ◌&&◌, ◌||◌, not, option_and_then, option_map, slice_get}
 use Rattle.std.specs.Int.{w64, cast_unsigned, cast_signed}
 use Rattle.std.specs.List.{list_all}
 use Rattle.std.proofs.lemmas.Bool.{cases_Bool, eqb-true, eq-eqb}
 use Rattle.std.proofs.lemmas.Int.{of_z-to_z}
-use Rattle.wild_words.specs.Words.{word, number}
+use Rattle.wild_words.specs.Words.{word}
+use Rattle.wild_words.specs.Words as words
 use Rattle.wild_words.proofs.WordLemmas.{number-word, length-word}
 use Rattle.wild_records.specs.Abi.Relocation.{r_x86_64_64, r_x86_64_irelative, r_x86_64_size32, r_x86_64_size64}
 use Rattle.wild_records.proofs.FieldLemmas.{signed_fits}
@@ -24,7 +25,7 @@ use Rattle.wild_plan.specs.declared.treatment.Treatment.TheVariants as treatment
 use Rattle.wild_plan.specs.Entries.{is_left_to_entry}
 use Rattle.wild_plan.specs.Flags.{has_flag, interposable, dynamic, ifunc, absolute, non_interposable, copy_relocation, export_dynamic}
 use Rattle.wild_plan.specs.Kinds.{is_position_independent}
-use Rattle.wild_plan.specs.Lookups.{writable, allocated}
+use Rattle.wild_plan.specs.Lookups.{canonical, writable, allocated}
 use Rattle.wild_plan.specs.Rows.{row_of}
 use Rattle.wild_plan.specs.SlotParts.{type_of}
 use Rattle.wild_plan.specs.Treatment.{flags_at, is_left, is_chosen, address_treatment, kind_treatment, treatment}
@@ -44,7 +45,7 @@ use Rattle.wild_reloc.proofs.TableLemmas.{entry_passes}
 use Rattle.wild_layout.specs.declared.decision.Decision.{Decision}
 use Rattle.wild_layout.specs.declared.decision.Decision.TheVariants.{Left}
 use Rattle.wild_layout.specs.Decide.{added, left_to, chosen_to, decide_by, decided}
-use Rattle.wild_layout.specs.Values.{raw_address, resolution_of, index_of}
+use Rattle.wild_layout.specs.Values.{resolution_of, index_of, decided_address}
 use Rattle.wild_layout.proofs.DecideLemmas.{IsLeft, decided_left}
 use Rattle.wild_layout.specs.Geometry.{NamesSymbol}
 use Rattle.wild_layout.proofs.TreatmentLemmas.{has_value, IsLeftBy, IsSizedBy, row_symbolic, row_indirect, row_extent}
@@ -61,19 +62,18 @@ use Rattle.wild_loader.specs.declared.world.World.{World}
 use Rattle.wild_meaning.specs.Field.{formula_of}
 use Rattle.wild_meaning.specs.Formula.{IsTarget, IsSum, IsExtent, IsShort, Gives}
 use Rattle.wild_meaning.specs.Item.{item_of}
-use Rattle.wild_meaning.specs.Value.{HasRaw, HasOwnValue, HasFlag, HasAnswer, IsResolved, IsUnresolved, StandsAt, IsReplaceable, may_be_replaced, is_library}
-use Rattle.wild_values.specs.Terms.{SymbolsFit, IsPlaced}
+use Rattle.wild_meaning.specs.Value.{HasRaw, HasOwnValue, HasFlag, HasAnswer, IsReplaceable, may_be_replaced, is_library}
+use Rattle.wild_values.specs.Terms.{IsPlaced}
 use Rattle.wild_values.specs.Laws.{EntriesGive}
 use Rattle.wild_values.proofs.Answered.{has_answer, answered_value, answered_size}
 use Rattle.wild_values.proofs.EntryWords.{IsAnsweredBy, after_known, after_step, change_by}
 use Rattle.wild_values.proofs.KnownRows.{RowFits, row_fits}
 use Rattle.wild_values.proofs.SlotFlags.{symbol_fits, resolver_own}
-use Rattle.wild_values.proofs.Symbols.{IsResolvedBy, resolved, defined_by, definition_listed, flags_are, replaceable_at, flag_at}
+use Rattle.wild_values.proofs.Symbols.{IsResolvedBy, resolved, resolved_raw, defined_by, definition_listed, flags_are, replaceable_at, flag_at}
 use Rattle.wild_values.proofs.Tests.{either_of}
 use Rattle.wild_values.proofs.Treated.{IsLeftToResolver, treated_by, address_chosen}
 use Rattle.wild_values.proofs.ValueKinds.{more}
-use Rattle.wild_values.proofs.Values.{has_raw}
-use Rattle.wild_values.proofs.Written.{row_here, address_given, slice_get_inside}
+use Rattle.wild_values.proofs.Written.{row_here, given_some, slice_get_inside}
 
 -- ---- what a decision says of the entry
 
@@ -113,46 +113,46 @@ index_resolved l i d h = by_resolution (resolution_of l i) refl h
 bytes_are : (bs : List ℕ) (c d : Change) → c ≡ d → bs ≡ stored_bytes c → bs ≡ stored_bytes d
 bytes_are bs c d e h = h ∙ ap stored_bytes e
 
-abbrev made : Change → Result Change LoadFault
-made c = Ok c
+abbrev made_change : Change → Result Change LoadFault
+made_change c = Ok c
 
 -- a word reads as the number, modulo 2^64: byte by byte
-word_step : (n x : ℕ) → number (word (suc n) x) ≡ x % 256 + 256 * number (word n (x / 256))
-unfolding word number
+word_step : (n x : ℕ) → words.number (word (suc n) x) ≡ x % 256 + 256 * words.number (word n (x / 256))
+unfolding word words.number
 word_step n x = refl
 
-of_one : (x : ℕ) → number (word 1 x) ≡ x % 2 ^ 8
-unfolding word number
+of_one : (x : ℕ) → words.number (word 1 x) ≡ x % 2 ^ 8
+unfolding word words.number
 of_one x = omega arith
 
-of_two : (x : ℕ) → number (word 2 x) ≡ x % 2 ^ 16
+of_two : (x : ℕ) → words.number (word 2 x) ≡ x % 2 ^ 16
 of_two x = let a = word_step 1 x in let b = of_one (x / 256) in omega (arith, a, b)
 
-of_three : (x : ℕ) → number (word 3 x) ≡ x % 2 ^ 24
+of_three : (x : ℕ) → words.number (word 3 x) ≡ x % 2 ^ 24
 of_three x = let a = word_step 2 x in let b = of_two (x / 256) in omega (arith, a, b)
 
-of_four : (x : ℕ) → number (word 4 x) ≡ x % 2 ^ 32
+of_four : (x : ℕ) → words.number (word 4 x) ≡ x % 2 ^ 32
 of_four x = let a = word_step 3 x in let b = of_three (x / 256) in omega (arith, a, b)
 
-of_five : (x : ℕ) → number (word 5 x) ≡ x % 2 ^ 40
+of_five : (x : ℕ) → words.number (word 5 x) ≡ x % 2 ^ 40
 of_five x = let a = word_step 4 x in let b = of_four (x / 256) in omega (arith, a, b)
 
-of_six : (x : ℕ) → number (word 6 x) ≡ x % 2 ^ 48
+of_six : (x : ℕ) → words.number (word 6 x) ≡ x % 2 ^ 48
 of_six x = let a = word_step 5 x in let b = of_five (x / 256) in omega (arith, a, b)
 
-of_seven : (x : ℕ) → number (word 7 x) ≡ x % 2 ^ 56
+of_seven : (x : ℕ) → words.number (word 7 x) ≡ x % 2 ^ 56
 of_seven x = let a = word_step 6 x in let b = of_six (x / 256) in omega (arith, a, b)
 
-number_of_word : (x : ℕ) → number (word 8 x) ≡ x % 2 ^ 64
+number_of_word : (x : ℕ) → words.number (word 8 x) ≡ x % 2 ^ 64
 number_of_word x = let a = word_step 7 x in let b = of_seven (x / 256) in omega (arith, a, b)
 
 reads_full : (form : Form) (bs : List ℕ) (x : ℕ) → form ≡ Full → bs ≡ word 8 x → x < 2 ^ 64 → Reads form bs x
-reads_full form bs x full is low = subst (λ (f : Form). Reads f bs x) (sym full) (ap number is ∙ number-word 8 x low)
+reads_full form bs x full is low = subst (λ (f : Form). Reads f bs x) (sym full) (ap words.number is ∙ number-word 8 x low)
 
 -- ---- S + A
 
 -- what memory has, and the value that it is
-record IsGiven (l : Layout) (w : World) (m : Memory) (s : InputSection) (r : InputRelocation) (f : Formula) (bs : List ℕ) : Type 0 where
+pub record IsGiven (l : Layout) (w : World) (m : Memory) (s : InputSection) (r : InputRelocation) (f : Formula) (bs : List ℕ) : Type 0 where
   pub value : ℕ
   pub gives : Gives f.value l w m (item_of s) r value
   pub reads : Reads f.form bs value
@@ -170,7 +170,7 @@ unfolding change_of
 symbol_change w d a c low h =
     let e = change_by w r_x86_64_64 d a c works.SymbolPlus symbol_is h in
     let x = after_known (slice_get w.symbols d) _ _ c e in
-    let same : changes.Word ((x.0.address + cast_unsigned w64 (cast_signed w64 a)) % 2 ^ 64) ≡ c = (let g : made (changes.Word ((x.0.address + cast_unsigned w64 (cast_signed w64 a)) % 2 ^ 64)) ≡ made c = x.2 in cc) in
+    let same : changes.Word ((x.0.address + cast_unsigned w64 (cast_signed w64 a)) % 2 ^ 64) ≡ c = (let g : made_change (changes.Word ((x.0.address + cast_unsigned w64 (cast_signed w64 a)) % 2 ^ 64)) ≡ made_change c = x.2 in cc) in
     (record { answer = x.0; there = x.1 }, sym same ∙ ap (λ (n : ℕ). changes.Word ((x.0.address + n) % 2 ^ 64)) (of_z-to_z w64 a low))
 
 -- the row of the relocation fits its formula
@@ -209,18 +209,16 @@ unfolding change_of
 resolver_change w d a c low h =
     let e = change_by w r_x86_64_irelative d a c works.Resolved chosen_is h in
     let v = after_step (answer_at w ((w.base + cast_unsigned w64 (cast_signed w64 a)) % 2 ^ 64)) _ c e in
-    let same : changes.Word v.0 ≡ c = (let g : made (changes.Word v.0) ≡ made c = v.2 in cc) in
+    let same : changes.Word v.0 ≡ c = (let g : made_change (changes.Word v.0) ≡ made_change c = v.2 in cc) in
     (v.0, subst (λ (n : ℕ). answer_at w ((w.base + n) % 2 ^ 64) ≡ Ok v.0) (of_z-to_z w64 a low) v.1, sym same)
 
--- an address is a number of the machine
-raw_below : (l : Layout) (i a : ℕ) → SymbolsFit l → HasRaw l i a → a < 2 ^ 64
-raw_below l i a fit h = by_case h.given
+-- the address that was decided of a symbol
+decided_resolved : (l : Layout) (i a : ℕ) → decided_address l i ≡ Ok a → (r : Resolution) × IsResolvedBy l i r × (r.raw_value ≡ a)
+decided_resolved l i a h = by_resolution (resolution_of l i) refl (given_some missing.Address i (option_map (λ (r : Resolution). r.raw_value) (resolution_of l i)) a h)
   where
-    by_case : IsResolved l h.definition a ⊎ (IsUnresolved l h.definition × StandsAt l i a) → a < 2 ^ 64
-    by_case (inl by) =
-        let low = (symbol_fits l h.definition by.symbol fit by.listed).number by.resolution by.decided in
-        subst (λ (n : ℕ). n < 2 ^ 64) (sym by.value) low
-    by_case (inr at) = (let e = at.1.address in omega (arith, e))
+    by_resolution : (o : Option Resolution) → resolution_of l i ≡ o → option_map (λ (r : Resolution). r.raw_value) o ≡ Some a → (r : Resolution) × IsResolvedBy l i r × (r.raw_value ≡ a)
+    by_resolution None e h = cc
+    by_resolution (Some r) e h = (r, resolved l i r e, (let same : r.raw_value ≡ a = cc in same))
 
 -- a symbol that none may replace, and that a resolver chooses, is the output's own
 resolver_flags : (l : Layout) (s : InputSection) (row : RelocationKindInfo) (i : ℕ) → field_width row ≡ 8 → is_left l s row i ≡ false → is_chosen l s i ≡ true → has_flag (flags_at l i) dynamic ≡ false → (may_be_replaced l.kind (flags_at l i) ≡ false) × (has_flag (flags_at l i) ifunc ≡ true)
@@ -240,7 +238,7 @@ resolver_flags l s row i width own chosen none =
     by_tests true true true true true true false copied true true e own chosen none = (refl, refl)
 
 -- the own symbol, which a resolver chooses
-record IsChosenOwn (l : Layout) (i : ℕ) : Type 0 where
+pub record IsChosenOwn (l : Layout) (i : ℕ) : Type 0 where
   pub own : IsReplaceable l i false
   pub chosen : HasFlag l i ifunc true
 
@@ -261,19 +259,21 @@ chosen_own l w m s row i p listed width h =
     last_of false b h = cc
 
 indirect_given : (l : Layout) (w : World) (m : Memory) (s : InputSection) (r : InputRelocation) (i number symbol addend : ℕ) (z : RelocationSize) (bs : List ℕ) (f : Formula) → IsPlaced l w m → i < length l.symbols → IsChosenOwn l i → r.symbol ≡ Some i → f.value ≡ SymbolAddress → f.form ≡ Full
-    → chosen_to l r (raw_address l (Some i)) ≡ Ok (Left z number symbol addend) → ReadsLeft InMemory w z number symbol addend bs → IsGiven l w m s r f bs
+    → chosen_to l r (decided_address l i) ≡ Ok (Left z number symbol addend) → ReadsLeft InMemory w z number symbol addend bs → IsGiven l w m s r f bs
 indirect_given l w m s r i number symbol addend z bs f p listed chosen named value full made reads =
-    let d = resolver_given l z number symbol addend r (raw_address l (Some i)) made in
-    let raw = has_raw l i addend (address_given l (Some i) addend d.0) in
+    let d = resolver_given l z number symbol addend r (decided_address l i) made in
+    let by = decided_resolved l i addend d.0 in
+    let raw = subst (λ (a : ℕ). HasRaw l i a) by.2 (resolved_raw l i by.0 by.1) in
+    let low = subst (λ (a : ℕ). a < 2 ^ 64) by.2 ((symbol_fits l (canonical l i) by.1.symbol p.symbols by.1.listed).number by.0 by.1.decided) in
     let n = chosen_type l number p.x86 d.1 in
     let makes = subst (λ (k : ℕ). MakesChange w k symbol addend reads.0) (sym n) reads.1 in
-    let c = resolver_change w symbol addend reads.0 (raw_below l i addend p.symbols raw) makes in
+    let c = resolver_change w symbol addend reads.0 low makes in
     let z = slice_get_inside l.symbols i listed in
     let a : HasOwnValue l w i c.0 = record { raw = addend; given = raw; indirect = true; resolved = chosen.chosen; still = has_flag (flags_at l i) absolute; absolute = flag_at l i absolute z.0 p.symbols.named z.1; is = c.1 } in
     let target : IsTarget l w m r.symbol c.0 = subst (λ (o : Option ℕ). IsTarget l w m o c.0) (sym named) (inl (inr (chosen.own, a))) in
     let x = (c.0 + more r) % 2 ^ 64 in
     let bytes = bytes_are bs reads.0 (changes.Word c.0) c.2 reads.2 in
-    record { value = x; gives = subst (λ (v : Value). Gives v l w m (item_of s) r x) (sym value) (record { symbol = c.0; denoted = target; sum = refl }); reads = subst (λ (k : Form). Reads k bs x) (sym full) (ap number bytes ∙ (number_of_word c.0 ∙ sum_none c.0 (more r) d.2)) }
+    record { value = x; gives = subst (λ (v : Value). Gives v l w m (item_of s) r x) (sym value) (record { symbol = c.0; denoted = target; sum = refl }); reads = subst (λ (k : Form). Reads k bs x) (sym full) (ap words.number bytes ∙ (number_of_word c.0 ∙ sum_none c.0 (more r) d.2)) }
   where
     sum_none : (v a : ℕ) → a ≡ 0 → v % 2 ^ 64 ≡ (v + a) % 2 ^ 64
     sum_none v a e = omega (arith, e)
@@ -318,7 +318,7 @@ unfolding change_of
 short_change w d a c low h =
     let e = change_by w r_x86_64_size32 d a c works.Size32 short_is h in
     let x = after_known (slice_get w.symbols d) _ _ c e in
-    let same : changes.Half ((x.0.size + cast_unsigned w64 (cast_signed w64 a)) % 2 ^ 64 % 2 ^ 32) ≡ c = (let g : made (changes.Half ((x.0.size + cast_unsigned w64 (cast_signed w64 a)) % 2 ^ 64 % 2 ^ 32)) ≡ made c = x.2 in cc) in
+    let same : changes.Half ((x.0.size + cast_unsigned w64 (cast_signed w64 a)) % 2 ^ 64 % 2 ^ 32) ≡ c = (let g : made_change (changes.Half ((x.0.size + cast_unsigned w64 (cast_signed w64 a)) % 2 ^ 64 % 2 ^ 32)) ≡ made_change c = x.2 in cc) in
     (record { answer = x.0; there = x.1 }, sym same ∙ ap (λ (n : ℕ). changes.Half ((x.0.size + n) % 2 ^ 64 % 2 ^ 32)) (of_z-to_z w64 a low))
 
 long_change : (w : World) (d a : ℕ) (c : Change) → a < 2 ^ 64 → MakesChange w r_x86_64_size64 d a c → (x : IsAnsweredBy w d) × (c ≡ changes.Word ((x.answer.size + a) % 2 ^ 64))
@@ -326,7 +326,7 @@ unfolding change_of
 long_change w d a c low h =
     let e = change_by w r_x86_64_size64 d a c works.Size64 long_is h in
     let x = after_known (slice_get w.symbols d) _ _ c e in
-    let same : changes.Word ((x.0.size + cast_unsigned w64 (cast_signed w64 a)) % 2 ^ 64) ≡ c = (let g : made (changes.Word ((x.0.size + cast_unsigned w64 (cast_signed w64 a)) % 2 ^ 64)) ≡ made c = x.2 in cc) in
+    let same : changes.Word ((x.0.size + cast_unsigned w64 (cast_signed w64 a)) % 2 ^ 64) ≡ c = (let g : made_change (changes.Word ((x.0.size + cast_unsigned w64 (cast_signed w64 a)) % 2 ^ 64)) ≡ made_change c = x.2 in cc) in
     (record { answer = x.0; there = x.1 }, sym same ∙ ap (λ (n : ℕ). changes.Word ((x.0.size + n) % 2 ^ 64)) (of_z-to_z w64 a low))
 
 extent_given : (l : Layout) (w : World) (m : Memory) (s : InputSection) (r : InputRelocation) (row : RelocationKindInfo) (i number symbol addend : ℕ) (z : RelocationSize) (bs : List ℕ) (fits : RowFits r.number row) → IsPlaced l w m → FitsSigned w64 r.addend → r.symbol ≡ Some i → (r.number ≡ r_x86_64_size32) ⊎ (r.number ≡ r_x86_64_size64)
@@ -364,7 +364,7 @@ extent_given l w m s r row i number symbol addend z bs fits p signed named type 
         subst (λ (f : Formula). IsGiven l w m s r f bs) (formula_by r_x86_64_size32 (formula Size (Plain 32 Unsigned)) e short_formula) (record {
           value = v;
           gives = (x.answer.size, extent x, inr (short, ap (λ (k : ℕ). k % 2 ^ 32) (sum_is x)));
-          reads = ap number bytes ∙ number-word 4 v (omega arith);
+          reads = ap words.number bytes ∙ number-word 4 v (omega arith);
         })
     by_type (inr e) =
         let c = long_change w symbol addend reads.0 low (makes r_x86_64_size64 e) in
@@ -374,7 +374,7 @@ extent_given l w m s r row i number symbol addend z bs fits p signed named type 
         subst (λ (f : Formula). IsGiven l w m s r f bs) (formula_by r_x86_64_size64 (formula Size Full) e long_formula) (record {
           value = v;
           gives = (x.answer.size, extent x, inl (sum_is x));
-          reads = ap number bytes ∙ number-word 8 v (omega arith);
+          reads = ap words.number bytes ∙ number-word 8 v (omega arith);
         })
 
 -- ---- the entry of a relocation
