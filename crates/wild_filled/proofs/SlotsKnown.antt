@@ -210,7 +210,7 @@ width_most e = by_kind e.kind e.symbol e.addend
     by_kind entry_kinds.TlsDesc i a = omega arith
     by_kind other i a = omega arith
 
-two_widths : (e : SlotEntry) → (filled_width e ≡ 8) ⊎ (filled_width e ≡ 16)
+pub two_widths : (e : SlotEntry) → (filled_width e ≡ 8) ⊎ (filled_width e ≡ 16)
 two_widths e = by_kind e.kind e.symbol e.addend
   where
     by_kind : (k : DynamicRelocationKind) (i a : ℕ) → (filled_width (record { kind = k; symbol = i; addend = a }) ≡ 8) ⊎ (filled_width (record { kind = k; symbol = i; addend = a }) ≡ 16)
@@ -259,7 +259,7 @@ filled_place l P x h = by_word x.at x.word h
     by_word at (General e) h = one at (general_of (entry_at l.machine at e) (filled_width e)) refl h
     by_word at (Plt e) h = one at (record { table = JumpTable; entry = entry_at l.machine at e; width = filled_width e }) refl h
 
-filled_places : (l : Layout) (P : ℕ → Type 0) (xs : List SlotSite) → All P (made_of (place_in words.Got) xs) → All (FromPlace P) (made_of (slot_filling l) xs)
+pub filled_places : (l : Layout) (P : ℕ → Type 0) (xs : List SlotSite) → All P (made_of (place_in words.Got) xs) → All (FromPlace P) (made_of (slot_filling l) xs)
 filled_places l P [] h = All-nil (FromPlace P)
 filled_places l P (x ∷ xs) h =
     All-append (FromPlace P) (of_site (slot_filling l) x) (made_of (slot_filling l) xs)
@@ -314,14 +314,14 @@ two_known l w at next_at t e d c to x h s u is width =
     }
 
 -- the rest of the places
-rest_ascend : (low high : ℕ) (xs ys : List ℕ) → Ascend 8 low high (xs ++ ys) → Ascend 8 low high ys
+pub rest_ascend : (low high : ℕ) (xs ys : List ℕ) → Ascend 8 low high (xs ++ ys) → Ascend 8 low high ys
 rest_ascend low high xs ys h = record {
   within = All-right (LiesWithin 8 low high) xs ys h.within;
   ascend = AllPairs-right (λ (p q : ℕ). p + 8 ≤ q) xs ys h.ascend;
 }
 
 -- what stands behind a place
-behind_place : (low high a : ℕ) (ys : List ℕ) → Ascend 8 low high (a ∷ ys) → All (λ (q : ℕ). a + 8 ≤ q) ys
+pub behind_place : (low high a : ℕ) (ys : List ℕ) → Ascend 8 low high (a ∷ ys) → All (λ (q : ℕ). a + 8 ≤ q) ys
 behind_place low high a ys h = AllPairs-first (λ (p q : ℕ). p + 8 ≤ q) a ys h.ascend
 
 abbrev got_places : List SlotSite → List ℕ
@@ -350,14 +350,14 @@ wide_more l w low high at f y ys is wide next_is none own known h rest =
     let ahead : All (λ (z : Filling). f.entry.offset + f.width ≤ z.entry.offset) (made_of (slot_filling l) ys) = λ k d lt. (let b = behind k d lt in omega (arith, is, wide, next_is, b)) in
     filled_more w (image_memory l w) low high f (made_of (slot_filling l) (y ∷ ys)) (omega (arith, is, from)) (omega (arith, is, wide, next_is, to)) known (subst (All (λ (z : Filling). f.entry.offset + f.width ≤ z.entry.offset)) (sym same) ahead) rest
 
-number_none : (l : Layout) (at : ℕ) (d : SlotWord) → IsNumber d → slot_filling l at d ≡ None
+pub number_none : (l : Layout) (at : ℕ) (d : SlotWord) → IsNumber d → slot_filling l at d ≡ None
 number_none l at (Number n) h = refl
 number_none l at (Address a) h = absurd h
 number_none l at (InBlock a) h = absurd h
 number_none l at (General e) h = absurd h
 number_none l at (Plt e) h = absurd h
 
-number_own : (at : ℕ) (d : SlotWord) → IsNumber d → place_in words.Got at d ≡ Some at
+pub number_own : (at : ℕ) (d : SlotWord) → IsNumber d → place_in words.Got at d ≡ Some at
 number_own at (Number n) h = refl
 number_own at (Address a) h = absurd h
 number_own at (InBlock a) h = absurd h
@@ -370,7 +370,7 @@ next_there at at' low high ys e h =
     let le = All-head (λ (q : ℕ). at + 8 ≤ q) at' ys (behind_place low high at (at' ∷ ys) h) in
     omega (arith, e, le)
 
-second_there : (l : Layout) (low high at : ℕ) (y : SlotSite) (ys : List SlotSite) → IsNumber y.word → y.at ≡ next at → Ascend 8 low high (at ∷ got_places (y ∷ ys)) → y.at ≡ at + 8
+pub second_there : (l : Layout) (low high at : ℕ) (y : SlotSite) (ys : List SlotSite) → IsNumber y.word → y.at ≡ next at → Ascend 8 low high (at ∷ got_places (y ∷ ys)) → y.at ≡ at + 8
 second_there l low high at y ys num e h =
     let places : got_places (y ∷ ys) ≡ y.at ∷ got_places ys = ap (λ (o : Option ℕ). option_to_list o ++ got_places ys) (number_own y.at y.word num) in
     next_there at y.at low high (got_places ys) e (subst (λ (ps : List ℕ). Ascend 8 low high (at ∷ ps)) places h)
