@@ -47,7 +47,7 @@ use Rattle.wild_filled.proofs.Fillings.{Filling, general_of, AreBeside, HasChang
 
 -- ---- fillings
 
-abbrev width_by : Result Change LoadFault → ℕ
+abbrev pub width_by : Result Change LoadFault → ℕ
 width_by (Ok c) = size_of c
 width_by (Err f) = 0
 

@@ -42,9 +42,9 @@ use Rattle.wild_filled.specs.Laws.{AreMade, TablesAreMade}
 use Rattle.wild_filled.proofs.Fillings.{Filling, IsKnown, place_loaded}
 use Rattle.wild_filled.proofs.KeptSections.{kept_well}
 use Rattle.wild_filled.proofs.FilledSections.{have_places}
-use Rattle.wild_filled.proofs.CopyFillings.{group_copies, all_copies, copy_filling, copies_filled, copy_is}
+use Rattle.wild_filled.proofs.CopyFillings.{group_copies, all_copies, width_by, copy_width, copy_filling, copies_filled}
 use Rattle.wild_filled.proofs.TableLists.{stored_fillings, all_fillings}
-use Rattle.wild_filled.proofs.AllTables.{FilledLaws, IsFilledWell, copies_of_well, slot_tables, tables_sorted}
+use Rattle.wild_filled.proofs.AllTables.{IsFilledWell, slot_tables, tables_sorted}
 use Rattle.wild_moved.specs.Laws.{MemoryIsMoved, ImagesAreLoaded}
 use Rattle.wild_moved.specs.Moved.{HasApplied, HasMoved}
 use Rattle.wild_moved.proofs.MadeChanges.{MovingLaws, IsMovedImage, kept_at, made_over}
@@ -81,12 +81,13 @@ Contains-map f xs x c = (c.0, (let n = length-map xs f in let l = c.1 in omega (
 
 copy_moved : (l : Layout) (w : World) (m : Memory) (i raw : ℕ) (x : Answer) → IsMovedImage l w m → HasCopy l w i raw x → Holds m (w.base + raw) x.bytes
 copy_moved l w m i raw x h c =
-    let k = copy_is l w i raw x h.laws.filled.copies (copies_of_well l w h.well) c in
+    let k = h.laws.filled.copies.changes.copies l w i raw x h.well.x86 h.well.numbers h.well.legal h.well.laid c in
+    let wide : copy_width w (copy_entry l i) ≡ length x.bytes = ap width_by k.makes in
     let f = copy_filling l w i in
     let listed = Contains-append_right (stored_fillings l) (copies_filled l w) f (Contains-map (copy_filling l w) (all_copies l) i (copied_listed l i c.copied)) in
-    let over = made_over l w m f (changes.Fill x.bytes) h listed tt (record { kind = kinds.Copy; known = k.made.known; made = k.made.makes }) (sym k.width) in
+    let over = made_over l w m f (changes.Fill x.bytes) h listed tt (record { kind = kinds.Copy; known = k.known; made = k.makes }) (sym wide) in
     λ j lt. (
-    let width = k.width in
+    let width : f.width ≡ length x.bytes = wide in
     let low = (All-contains (IsKnown w (image_memory l w)) (all_fillings l w) f h.sorted.known listed).low (omega (arith, width, lt)) in
     let at = place_loaded w f.entry.offset f.width (omega (arith, width, lt)) low in
     let there : loaded_at w f.entry.offset ≡ w.base + raw = at ∙ ap (λ (a : ℕ). w.base + a) k.place in
