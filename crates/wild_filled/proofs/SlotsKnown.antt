@@ -1,7 +1,6 @@
 -- What the words of slots have tables fill: where it lies, and what memory has there before any entry is applied.
-use Rattle.std.proofs.Common.{◌≡◌, ℕ, zero, suc, ◌+◌, ◌-◌, ◌*◌, ◌%◌, ◌^◌, ◌<◌, ◌≤◌, ◌⊎◌, inl, inr, Bool, true, false, List, [], ◌∷◌, ◌++◌, length, get_or, refl, sym, ap, ◌∙◌, arith, subst}
+use Rattle.std.proofs.Common.{◌≡◌, ℕ, ◌+◌, ◌-◌, ◌*◌, ◌%◌, ◌^◌, ◌<◌, ◌≤◌, ◌⊎◌, inl, inr, Bool, true, false, List, [], ◌∷◌, ◌++◌, length, get_or, refl, sym, ap, ◌∙◌, arith, subst}
 use Rattle.std.specs.Prelude.{⊤, Option, Some, None, All, AllPairs, Contains, option_to_list, if◌then◌else◌, slice_get, slice_index, unwrap_or}
-use Rattle.std.specs.List.{flat_map}
 use Rattle.std.proofs.lemmas.Bool.{cases_lt}
 use Rattle.std.proofs.lemmas.List.{get_or_append_left, get_or-append_right, length-append}
 use Rattle.std.proofs.lemmas.List.Elements.{All-nil, All-cons, All-head, All-tail, All-contains, All-append}
@@ -22,7 +21,6 @@ use Rattle.wild_plan.specs.declared.slot_parts.WordPart.TheVariants as words
 use Rattle.wild_plan.specs.declared.symbol.Resolution.{Resolution}
 use Rattle.wild_plan.specs.declared.symbol.Symbol.{Symbol}
 use Rattle.wild_plan.specs.declared.file.File.{File}
-use Rattle.wild_plan.specs.declared.file.Group.{Group}
 use Rattle.wild_plan.specs.declared.layout.Layout.{Layout}
 use Rattle.wild_plan.specs.Kinds.{is_executable}
 use Rattle.wild_plan.specs.Storage.{less}
@@ -40,7 +38,6 @@ use Rattle.wild_loader.specs.declared.world.World.{World}
 use Rattle.wild_loader.specs.Changes.{size_of}
 use Rattle.wild_loader.specs.Memory.{Holds, byte_in}
 use Rattle.wild_loader.specs.Relocate.{loaded_at}
-use Rattle.wild_geometry.specs.Loaded.{MakesChange}
 use Rattle.wild_meaning.specs.World.{IsLoadable, IsLegal}
 use Rattle.wild_slots.specs.Ascend.{LiesWithin, Ascend, place_in}
 use Rattle.wild_loaded.specs.Memory.{image_memory}
@@ -50,13 +47,13 @@ use Rattle.wild_loaded.specs.Laws.{SlotsAreStored, EntriesHaveChanges}
 use Rattle.wild_loaded.proofs.SitesFit.{All-own, slots_low}
 use Rattle.wild_loaded.proofs.SlotNumbers.{WordFits, words_fit, storage_fits}
 use Rattle.wild_slots.specs.Entries.{entry_in}
-use Rattle.wild_loaded.proofs.SlotSites.{SlotSite, of_site, sites_at, symbol_sites, file_sites, group_sites, all_sites, IsSiteOf, site_of}
-use Rattle.wild_filled.proofs.PairLemmas.{All-left, All-right, AllPairs-none, AllPairs-more, AllPairs-left, AllPairs-right, AllPairs-first, AllPairs-rest}
+use Rattle.wild_loaded.proofs.SlotSites.{SlotSite, of_site, sites_at, symbol_sites, file_sites, group_sites, all_sites, site_of}
+use Rattle.wild_filled.proofs.PairLemmas.{All-left, All-right, AllPairs-none, AllPairs-more, AllPairs-right, AllPairs-first}
 use Rattle.wild_filled.proofs.FilledSections.{All-each}
-use Rattle.wild_filled.proofs.Fillings.{Table, PackedTable, RelativeTable, GeneralTable, JumpTable, Filling, Makes, place_entry, packed_at, relative_of, general_of, AreBeside, HasChange, HasWord, IsKnown, place_loaded}
+use Rattle.wild_filled.proofs.Fillings.{Table, PackedTable, RelativeTable, GeneralTable, JumpTable, Filling, Makes, place_entry, packed_at, relative_of, general_of, HasChange, HasWord, IsKnown, place_loaded}
 use Rattle.wild_filled.proofs.SectionsKnown.{MakesThat, makes_that, has_change, RelativeLaws, relative_makes}
 use Rattle.wild_filled.proofs.SlotFillings.{address_filling, slot_filling, block_filling, pair_sites, got_sites, made_of}
-use Rattle.wild_filled.proofs.SlotsSpaced.{IsNarrow, IsNumber, SitesSpaced, all_spaced}
+use Rattle.wild_filled.proofs.SlotsSpaced.{IsNarrow, IsNumber, SitesSpaced}
 
 -- ---- sites
 

@@ -1,12 +1,10 @@
 -- A word that an entry fills is followed by a number wherever that entry fills two words.
-use Rattle.std.proofs.Common.{◌≡◌, ℕ, ◌+◌, ◌%◌, ◌^◌, ◌≤◌, ◌⊎◌, inl, inr, Bool, true, false, List, [], ◌∷◌, ◌++◌, refl, sym, ap, ◌∙◌, arith, subst, append_assoc}
+use Rattle.std.proofs.Common.{◌≡◌, ℕ, ◌⊎◌, inl, inr, Bool, true, false, List, [], ◌∷◌, ◌++◌, refl, sym, ap, ◌∙◌, subst, append_assoc}
 use Rattle.std.specs.Prelude.{⊤, All, unwrap_or, Option, Some, None, if◌then◌else◌, ◌==◌, ◌&&◌, not}
 use Rattle.std.specs.List.{flat_map}
 use Rattle.std.proofs.lemmas.List.Elements.{All-head, All-tail}
 use Rattle.wild_reloc.specs.declared.dynamic.DynamicRelocationKind.{DynamicRelocationKind}
-use Rattle.wild_reloc.specs.declared.dynamic.DynamicRelocationKind.TheVariants.{GotEntry, JumpSlot, DtpMod, DtpOff, TpOff, Irelative}
-use Rattle.wild_plan.specs.declared.file.File.{File}
-use Rattle.wild_plan.specs.declared.file.Group.{Group}
+use Rattle.wild_reloc.specs.declared.dynamic.DynamicRelocationKind.TheVariants.{GotEntry, JumpSlot, DtpMod, TpOff}
 use Rattle.wild_plan.specs.declared.symbol.Resolution.{Resolution}
 use Rattle.wild_plan.specs.declared.symbol.Symbol.{Symbol}
 use Rattle.wild_plan.specs.declared.layout.Layout.{Layout}
@@ -18,9 +16,9 @@ use Rattle.wild_plan.specs.declared.slot.SlotWord.{SlotWord}
 use Rattle.wild_plan.specs.declared.slot.SlotWord.TheVariants.{Number, Address, InBlock, General, Plt}
 use Rattle.wild_plan.specs.Flags.{has_flag, interposable, has_link_time_address, dynamic, ifunc, got_tls_offset, got_tls_module, got_tls_descriptor, canonical_plt, ifunc_got_for_address, canonical_plt_got_for_address}
 use Rattle.wild_plan.specs.Kinds.{is_executable, is_position_independent}
-use Rattle.wild_plan.specs.Storage.{less, is_outside}
+use Rattle.wild_plan.specs.Storage.{is_outside}
 use Rattle.wild_plan.specs.SymbolSlots.{has_dynamic_symbol, has_thread_slot}
-use Rattle.wild_plan.specs.Slots.{SlotContent, no_slot, add_item, with_item, with_items, setting_of, number, general, plt, named, where_so, offset_item, module_item, module_offset, module_offset_item, descriptor_item, offset_items, module_items, descriptor_items, plain_item, stub_item, stub_items, stub_address, ifunc_address_items, canonical_address_items, thread_items, address_items, items_at, slot}
+use Rattle.wild_plan.specs.Slots.{SlotContent, no_slot, add_item, with_item, with_items, setting_of, number, general, plt, named, where_so, offset_item, module_item, module_offset, module_offset_item, descriptor_item, offset_items, module_items, descriptor_items, stub_item, stub_items, stub_address, ifunc_address_items, canonical_address_items, thread_items, address_items, items_at, slot}
 use Rattle.wild_plan.specs.SlotParts.{next}
 use Rattle.wild_plan.specs.SlotShares.{own_symbols, slots_of, resolved_slots, slots_at, storage_words}
 use Rattle.wild_plan.specs.Stub.{far_of}

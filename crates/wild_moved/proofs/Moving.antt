@@ -1,12 +1,11 @@
 -- The image of a layout is loaded: its addresses move, what is left to entries is filled, and nothing else changes.
-use Rattle.std.proofs.Common.{◌≡◌, ℕ, ◌+◌, ◌%◌, ◌^◌, ◌<◌, Bool, true, false, List, [], ◌∷◌, ◌++◌, length, map, refl, sym, ap, ◌∙◌, arith, subst}
-use Rattle.std.specs.Prelude.{Option, Some, None, Ok, All, Contains, if◌then◌else◌, ◌==◌}
+use Rattle.std.proofs.Common.{◌≡◌, ℕ, ◌+◌, Bool, true, false, List, [], ◌∷◌, length, map, refl, sym, ap, ◌∙◌, arith, subst}
+use Rattle.std.specs.Prelude.{Some, None, Ok, All, Contains, if◌then◌else◌}
 use Rattle.std.proofs.lemmas.Bool.{ne_eqb}
 use Rattle.std.proofs.lemmas.List.Elements.{All-contains, All-head, All-tail, Contains-append_right}
 use Rattle.std.proofs.lemmas.List.{length-map, get_or-map}
 use Rattle.wild_records.specs.Abi.Segment.{pt_dynamic}
 use Rattle.wild_records.specs.declared.program_header.ProgramHeader.{ProgramHeader}
-use Rattle.wild_records.specs.declared.relocations.Rela.{Rela}
 use Rattle.wild_plan.specs.declared.kind.Machine.TheVariants as machine
 use Rattle.wild_plan.specs.declared.file.FileRole.{FileRole}
 use Rattle.wild_plan.specs.declared.file.FileRole.TheVariants as file_role
@@ -33,7 +32,7 @@ use Rattle.wild_layout.specs.Numbers.{NumbersFit}
 use Rattle.wild_layout.specs.Geometry.{IsLaidOut}
 use Rattle.wild_meaning.specs.World.{IsLoadable, IsLegal, IsBehind, IsCopied, HasCopy}
 use Rattle.wild_meaning.specs.Linked.{IsNotCopied}
-use Rattle.wild_loaded.specs.Memory.{image_memory, headers_of, HasMemory}
+use Rattle.wild_loaded.specs.Memory.{image_memory, headers_of}
 use Rattle.wild_loaded.specs.WholeSlots.{HasWholeSlots}
 use Rattle.wild_loaded.specs.Tables.{tables_of}
 use Rattle.wild_loaded.specs.Laws.{HeadersStand, SegmentsAreLoadable, TablesAreFound, SectionTablesAreFound}
@@ -46,12 +45,12 @@ use Rattle.wild_filled.proofs.CopyFillings.{group_copies, all_copies, width_by, 
 use Rattle.wild_filled.proofs.TableLists.{stored_fillings, all_fillings}
 use Rattle.wild_filled.proofs.AllTables.{IsFilledWell, slot_tables, tables_sorted}
 use Rattle.wild_moved.specs.Laws.{MemoryIsMoved, ImagesAreLoaded}
-use Rattle.wild_moved.specs.Moved.{HasApplied, HasMoved}
+use Rattle.wild_moved.specs.Moved.{HasApplied}
 use Rattle.wild_moved.proofs.MadeChanges.{MovingLaws, IsMovedImage, kept_at, made_over}
 use Rattle.wild_moved.proofs.OutsideTables.{behind_miss}
 use Rattle.wild_moved.proofs.SectionsMoved.{section_moved}
 use Rattle.wild_moved.proofs.SlotsLoaded.{slots_loaded}
-use Rattle.wild_moved.proofs.Notes.{HasChanged, has_changed, alone, alone_made, alone_apart, alone_changed}
+use Rattle.wild_moved.proofs.Notes.{has_changed, alone, alone_made, alone_apart, alone_changed}
 
 moved_image : (l : Layout) (w : World) (m : Memory) → MovingLaws → IsFilledWell l w → HasApplied l w m → IsMovedImage l w m
 moved_image l w m laws h applied = record {

@@ -1,9 +1,9 @@
 -- What a loader notes of descriptors, and the tables of an image in whatever order a loader finds them.
-use Rattle.std.proofs.Common.{◌≡◌, ℕ, zero, suc, ◌+◌, ◌<◌, ◌≤◌, ◌⊎◌, inl, inr, ◌==◌, true, false, List, [], ◌∷◌, ◌++◌, length, get_or, map, refl, sym, ap, ◌∙◌, arith, subst}
+use Rattle.std.proofs.Common.{◌≡◌, ℕ, zero, suc, ◌+◌, ◌<◌, ◌≤◌, ◌⊎◌, inl, inr, List, [], ◌∷◌, ◌++◌, length, get_or, map, refl, sym, ap, ◌∙◌, arith, subst}
 use Rattle.std.specs.Prelude.{Option, Some, None, Ok, All, AllPairs, Contains, IsPermutation}
 use Rattle.std.proofs.lemmas.Bool.{eq-eqb, ne_eqb}
 use Rattle.std.proofs.lemmas.List.{length-map, get_or-map, map-append, append-nil}
-use Rattle.std.proofs.lemmas.List.Elements.{All-nil, All-cons, All-head, All-tail, All-append, All-map, All-contains, Contains-append_left, Contains-append_right}
+use Rattle.std.proofs.lemmas.List.Elements.{All-nil, All-head, All-tail, All-append, All-map, All-contains, Contains-append_left, Contains-append_right}
 use Rattle.std.proofs.lemmas.List.Sorted.{All-permutation, IsPermutation-sym, IsPermutation-map}
 use Rattle.wild_records.specs.declared.relocations.Rela.{Rela}
 use Rattle.wild_loader.specs.declared.change.Change.{Change}
@@ -14,14 +14,14 @@ use Rattle.wild_loader.specs.declared.memory.Memory.{Memory}
 use Rattle.wild_loader.specs.declared.memory.Run.{Run}
 use Rattle.wild_loader.specs.declared.tables.Tables.{Tables}
 use Rattle.wild_loader.specs.declared.world.World.{World}
-use Rattle.wild_loader.specs.Given.{◌>>=◌, known}
+use Rattle.wild_loader.specs.Given.{known}
 use Rattle.wild_loader.specs.Runs.{read_bytes}
-use Rattle.wild_loader.specs.Changes.{kind_of, change_of, size_of, offset_noted, bytes_after, patch_over, patch_at, first_value}
+use Rattle.wild_loader.specs.Changes.{kind_of, change_of, size_of, patch_over, patch_at, first_value}
 use Rattle.wild_loader.specs.Memory.{byte_in, Holds}
 use Rattle.wild_loader.specs.Places.{places, places_from}
 use Rattle.wild_loader.specs.Relocate.{loaded_at, rela_patch, place_patch, runs_of_patches, patched, notes, relocate}
 use Rattle.wild_loader.specs.Laws.{IsApart, IsElsewhere}
-use Rattle.wild_loader.specs.EntryLaws.{HasMade, patches_of, IsApplied, TablesAreApplied, OrderIsFree}
+use Rattle.wild_loader.specs.EntryLaws.{HasMade, patches_of, TablesAreApplied, OrderIsFree}
 use Rattle.wild_loader.proofs.EntryLemmas.{stepped, same-ok, read-bytes}
 use Rattle.wild_loader.proofs.Overlaid.{elsewhere}
 use Rattle.wild_filled.specs.Words.{place_change, entry_change}

@@ -1,20 +1,18 @@
 -- A number among the words of slots: no entry fills a byte of it, or it is the second word of a descriptor.
-use Rattle.std.proofs.Common.{◌≡◌, ℕ, zero, suc, ◌+◌, ◌%◌, ◌^◌, ◌<◌, ◌≤◌, ◌⊎◌, inl, inr, Bool, true, false, List, [], ◌∷◌, ◌++◌, length, get_or, refl, sym, ap, ◌∙◌, arith, subst}
-use Rattle.std.specs.Prelude.{⊤, Option, Some, None, All, Contains, option_to_list}
-use Rattle.std.specs.List.{flat_map}
-use Rattle.std.proofs.lemmas.List.Elements.{All-nil, All-cons, All-head, All-tail, All-append, All-contains, Contains-append_right}
+use Rattle.std.proofs.Common.{◌≡◌, ℕ, zero, suc, ◌+◌, ◌<◌, ◌≤◌, ◌⊎◌, inl, inr, Bool, true, false, List, [], ◌∷◌, ◌++◌, length, get_or, refl, sym, ap, ◌∙◌, arith, subst}
+use Rattle.std.specs.Prelude.{Option, Some, None, All, Contains, option_to_list}
+use Rattle.std.proofs.lemmas.List.Elements.{All-nil, All-cons, All-append, All-contains, Contains-append_right}
 use Rattle.wild_plan.specs.declared.slot.SlotEntry.{SlotEntry}
 use Rattle.wild_plan.specs.declared.slot.SlotWord.{SlotWord}
 use Rattle.wild_plan.specs.declared.slot.SlotWord.TheVariants.{Number, Address, InBlock, General, Plt}
 use Rattle.wild_plan.specs.declared.slot_parts.WordPart.TheVariants as words
 use Rattle.wild_plan.specs.declared.layout.Layout.{Layout}
-use Rattle.wild_plan.specs.SlotParts.{is_packed, entry_at, next}
+use Rattle.wild_plan.specs.SlotParts.{is_packed, next}
 use Rattle.wild_layout.proofs.SiteLemmas.{Contains-flat_map}
-use Rattle.wild_slots.specs.Ascend.{LiesWithin, Ascend, place_in}
+use Rattle.wild_slots.specs.Ascend.{Ascend, place_in}
 use Rattle.wild_slots.specs.Entries.{entry_in}
 use Rattle.wild_loaded.specs.Stored.{filled_width}
 use Rattle.wild_loaded.proofs.SlotSites.{SlotSite, of_site}
-use Rattle.wild_filled.proofs.PairLemmas.{All-right, AllPairs-right, AllPairs-first}
 use Rattle.wild_filled.proofs.Fillings.{Filling}
 use Rattle.wild_filled.proofs.SlotFillings.{address_filling, slot_filling, made_of}
 use Rattle.wild_filled.proofs.SlotsSpaced.{IsNarrow, IsNumber, SitesSpaced}

@@ -1,7 +1,6 @@
 -- Bytes that no table of the image fills.
-use Rattle.std.proofs.Common.{◌≡◌, ℕ, ◌+◌, ◌-◌, ◌<◌, ◌≤◌, ◌⊎◌, inl, inr, true, List, [], ◌∷◌, ◌++◌, length, get_or, refl, sym, ap, ◌∙◌, arith, subst}
+use Rattle.std.proofs.Common.{◌≡◌, ℕ, ◌+◌, ◌<◌, ◌≤◌, ◌⊎◌, inl, inr, true, List, ◌++◌, length, get_or, refl, arith}
 use Rattle.std.specs.Prelude.{All, Contains}
-use Rattle.std.specs.List.{flat_map}
 use Rattle.std.proofs.lemmas.List.Elements.{All-append, All-map}
 use Rattle.wild_plan.specs.declared.part.Role.{Role}
 use Rattle.wild_plan.specs.declared.part.Role.TheVariants as role
@@ -10,18 +9,18 @@ use Rattle.wild_plan.specs.declared.layout.Layout.{Layout}
 use Rattle.wild_plan.specs.Places.{is_loaded_role}
 use Rattle.wild_loader.specs.declared.memory.Memory.{Memory}
 use Rattle.wild_loader.specs.declared.world.World.{World}
-use Rattle.wild_meaning.specs.World.{IsBehind, HasCopy}
+use Rattle.wild_meaning.specs.World.{IsBehind}
 use Rattle.wild_meaning.specs.Linked.{IsNotCopied}
-use Rattle.wild_loaded.specs.Memory.{IsStored, image_memory}
+use Rattle.wild_loaded.specs.Memory.{IsStored}
 use Rattle.wild_filled.proofs.PairLemmas.{All-join}
 use Rattle.wild_filled.proofs.Fillings.{Filling, Misses, general_of, place_entry}
-use Rattle.wild_filled.proofs.Homes.{Home, HasHome, LiesIn, homes_back, misses_across, behind_misses}
+use Rattle.wild_filled.proofs.Homes.{Home, HasHome, homes_back, misses_across, behind_misses}
 use Rattle.wild_filled.proofs.SectionsApart.{all_sections, section_home, stored_home}
 use Rattle.wild_filled.proofs.PlacesApart.{misses_all, get_or-any}
 use Rattle.wild_filled.proofs.SectionFillings.{section_fillings}
 use Rattle.wild_filled.proofs.FilledSections.{All-each}
 use Rattle.wild_filled.proofs.TableHomes.{role_home, role_there, roles_apart, section_apart, InTable}
-use Rattle.wild_filled.proofs.CopyFillings.{LiesBehind, all_copies, copy_filling, copies_filled, copies_behind, copy_of}
+use Rattle.wild_filled.proofs.CopyFillings.{all_copies, copy_filling, copies_filled, copies_behind, copy_of}
 use Rattle.wild_filled.proofs.TableLists.{sections_filled, slots_filled, blocks_filled, stored_fillings, all_fillings}
 use Rattle.wild_filled.proofs.AllTables.{copies_of_well, lies_of, stored_misses}
 use Rattle.wild_moved.proofs.MadeChanges.{IsMovedImage}

@@ -1,5 +1,5 @@
 -- A kept section after a loader applied the tables of an image.
-use Rattle.std.proofs.Common.{◌≡◌, ℕ, ◌+◌, ◌%◌, ◌^◌, ◌<◌, ◌≤◌, ◌⊎◌, inl, inr, Bool, true, false, List, [], ◌∷◌, ◌++◌, length, get_or, refl, sym, ap, ◌∙◌, arith, subst}
+use Rattle.std.proofs.Common.{◌≡◌, ℕ, ◌+◌, ◌%◌, ◌^◌, ◌<◌, ◌≤◌, ◌⊎◌, inl, inr, Bool, true, false, List, [], ◌++◌, length, get_or, refl, sym, ap, ◌∙◌, arith, subst}
 use Rattle.std.specs.Prelude.{Option, Some, Ok, Result, All, Contains, option_to_list, if◌then◌else◌, slice_get, slice_index}
 use Rattle.std.specs.List.{flat_map, range_with_len}
 use Rattle.std.proofs.lemmas.Bool.{cases_lt}
@@ -8,15 +8,12 @@ use Rattle.std.proofs.lemmas.List.FromFn.{get_or-range_with_len, length-range_wi
 use Rattle.std.proofs.lemmas.Option.{slice_get-get_or}
 use Rattle.wild_words.specs.Words.{word}
 use Rattle.wild_words.specs.Overlay.{Piece, Apart}
-use Rattle.wild_words.proofs.WordLemmas.{length-word}
-use Rattle.wild_records.specs.declared.relocations.Rela.{Rela}
 use Rattle.wild_plan.specs.declared.fault.Fault.{Fault}
 use Rattle.wild_plan.specs.declared.input.InputRelocation.{InputRelocation}
 use Rattle.wild_plan.specs.declared.input.InputSection.{InputSection}
 use Rattle.wild_plan.specs.declared.file.File.{File}
 use Rattle.wild_plan.specs.declared.layout.Layout.{Layout}
 use Rattle.wild_plan.specs.Entries.{place_of}
-use Rattle.wild_plan.specs.Lookups.{is_read}
 use Rattle.wild_reloc.specs.Field.{size_width}
 use Rattle.wild_reloc.specs.declared.info.RelocationSize.{RelocationSize}
 use Rattle.wild_reloc.specs.declared.info.RelocationSize.TheVariants.{ByteSize}
@@ -27,7 +24,7 @@ use Rattle.wild_layout.specs.Values.{sum}
 use Rattle.wild_layout.specs.Decide.{decided}
 use Rattle.wild_layout.specs.Left.{entry_for}
 use Rattle.wild_layout.specs.Moved.{or_zero, moved_value}
-use Rattle.wild_layout.specs.Sites.{Written, field_site, site}
+use Rattle.wild_layout.specs.Sites.{field_site, site}
 use Rattle.wild_layout.specs.Geometry.{FieldLies}
 use Rattle.wild_layout.proofs.DecideLemmas.{HasField, IsMoved, moved_has, decided_field, decided_moved, decided_left, field_has, field_has_bytes}
 use Rattle.wild_layout.proofs.SiteLemmas.{Contains-flat_map, site_written, length-field_site, field_lies}
@@ -42,14 +39,13 @@ use Rattle.wild_loader.specs.Memory.{Holds, byte_in}
 use Rattle.wild_loader.specs.Relocate.{loaded_at}
 use Rattle.wild_geometry.specs.Loaded.{InNoSite, InMemory, ReadsLeft, stored_bytes, HasSection}
 use Rattle.wild_loaded.specs.Memory.{image_memory}
-use Rattle.wild_loaded.specs.Stored.{FillsField}
 use Rattle.wild_filled.proofs.PairLemmas.{All-joined}
-use Rattle.wild_filled.proofs.Fillings.{GeneralTable, RelativeTable, Filling, Misses, IsKnown, packed_at, relative_of, general_of, place_loaded}
+use Rattle.wild_filled.proofs.Fillings.{Filling, Misses, IsKnown, packed_at, relative_of, general_of, place_loaded}
 use Rattle.wild_filled.proofs.SectionsApart.{all_sections, sections_of}
 use Rattle.wild_filled.proofs.KeptSections.{IsKeptWell, kept_is_read}
-use Rattle.wild_filled.proofs.SectionFillings.{section_filling, section_fillings, moved_filling, IsFilledBy, Fills, moved_given, left_given}
-use Rattle.wild_filled.proofs.FilledSections.{IsFilledThere, filling_known, filled_there, filled_site, site_width, site_there, sites_apart_at, place_sum, lies_there, width_some, All-each}
-use Rattle.wild_filled.proofs.SectionsKnown.{before, listed_at, value_low, relative_makes, field_makes, stored_size, MakesThat}
+use Rattle.wild_filled.proofs.SectionFillings.{section_filling, section_fillings, Fills, moved_given, left_given}
+use Rattle.wild_filled.proofs.FilledSections.{IsFilledThere, filling_known, filled_there, filled_site, site_width, site_there, sites_apart_at, place_sum, All-each}
+use Rattle.wild_filled.proofs.SectionsKnown.{before, value_low, relative_makes, field_makes, stored_size}
 use Rattle.wild_filled.proofs.TableLists.{sections_filled, slots_filled, blocks_filled, stored_fillings, all_fillings}
 use Rattle.wild_filled.proofs.CopyFillings.{copies_filled}
 use Rattle.wild_moved.proofs.MadeChanges.{IsMovedImage, kept_at, packed_made, made_over}

@@ -1,9 +1,8 @@
 -- The words of slots after a loader applied the tables of an image.
-use Rattle.std.proofs.Common.{◌≡◌, ℕ, zero, suc, ◌+◌, ◌-◌, ◌*◌, ◌%◌, ◌^◌, ◌<◌, ◌≤◌, ◌⊎◌, inl, inr, Bool, true, false, List, [], ◌∷◌, ◌++◌, length, get_or, refl, sym, ap, ◌∙◌, arith, subst}
-use Rattle.std.specs.Prelude.{Option, Some, None, Ok, All, Contains, option_to_list, if◌then◌else◌, slice_get, slice_index}
-use Rattle.std.specs.List.{flat_map}
+use Rattle.std.proofs.Common.{◌≡◌, ℕ, ◌+◌, ◌-◌, ◌%◌, ◌^◌, ◌<◌, ◌≤◌, ◌⊎◌, inl, inr, Bool, true, false, List, ◌++◌, length, get_or, refl, sym, ap, ◌∙◌, arith, subst}
+use Rattle.std.specs.Prelude.{Option, Some, All, Contains, option_to_list, if◌then◌else◌}
 use Rattle.std.proofs.lemmas.List.Elements.{All-contains, Contains-append_left, Contains-append_right}
-use Rattle.wild_words.specs.Words.{word, number}
+use Rattle.wild_words.specs.Words.{word}
 use Rattle.wild_words.proofs.WordLemmas.{length-word}
 use Rattle.wild_records.specs.declared.relocations.Rela.{Rela}
 use Rattle.wild_plan.specs.declared.part.Role.TheVariants as role
@@ -28,18 +27,17 @@ use Rattle.wild_slots.specs.Stand.{StandsAt}
 use Rattle.wild_loaded.specs.Memory.{image_memory}
 use Rattle.wild_loaded.specs.Stored.{IsWordStored, filled_width, FillsWords, FillsSlot}
 use Rattle.wild_loaded.proofs.SlotSites.{SlotSite, of_site, all_sites}
-use Rattle.wild_filled.proofs.Fillings.{Table, GeneralTable, RelativeTable, JumpTable, Filling, Misses, packed_at, relative_of, general_of, place_loaded}
-use Rattle.wild_filled.proofs.FilledTables.{AreSorted}
+use Rattle.wild_filled.proofs.Fillings.{Table, GeneralTable, JumpTable, Filling, Misses, packed_at, relative_of, place_loaded}
 use Rattle.wild_filled.proofs.SectionsKnown.{relative_makes}
-use Rattle.wild_filled.proofs.SlotFillings.{slot_filling, block_filling, address_filling, pair_sites, got_sites, made_of}
-use Rattle.wild_filled.proofs.SlotsSpaced.{IsNumber, all_spaced}
-use Rattle.wild_filled.proofs.SlotsKnown.{SiteIsKnown, WordFills, sites_known, slot_makes, fills_size}
+use Rattle.wild_filled.proofs.SlotFillings.{slot_filling, block_filling, address_filling, got_sites}
+use Rattle.wild_filled.proofs.SlotsSpaced.{all_spaced}
+use Rattle.wild_filled.proofs.SlotsKnown.{SiteIsKnown, sites_known, slot_makes, fills_size}
 use Rattle.wild_filled.proofs.GotPlaces.{got_ascends}
 use Rattle.wild_filled.proofs.CopyFillings.{copies_filled}
 use Rattle.wild_filled.proofs.TableHomes.{role_home, stands_inside}
 use Rattle.wild_filled.proofs.TableLists.{sections_filled, slots_filled, blocks_filled, stored_fillings, all_fillings}
 use Rattle.wild_filled.proofs.AllTables.{slots_of_well}
-use Rattle.wild_moved.proofs.MadeChanges.{IsMovedImage, HasEntry, IsMadeOver, kept_at, packed_made, made_over}
+use Rattle.wild_moved.proofs.MadeChanges.{IsMovedImage, HasEntry, kept_at, packed_made, made_over}
 use Rattle.wild_moved.proofs.OutsideTables.{got_misses}
 use Rattle.wild_moved.proofs.NumbersKept.{IsClear, IsSecond, all_kept}
 

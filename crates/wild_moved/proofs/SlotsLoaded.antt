@@ -1,5 +1,5 @@
 -- Slots and stubs in the memory of an image whose tables were applied.
-use Rattle.std.proofs.Common.{◌≡◌, ℕ, zero, suc, ◌+◌, ◌-◌, ◌*◌, ◌%◌, ◌^◌, ◌<◌, ◌≤◌, true, List, [], ◌∷◌, ◌++◌, length, get_or, refl, sym, ap, ◌∙◌, arith, subst}
+use Rattle.std.proofs.Common.{◌≡◌, ℕ, zero, suc, ◌+◌, ◌-◌, ◌*◌, ◌%◌, ◌^◌, ◌<◌, List, [], ◌∷◌, get_or, refl, ap, ◌∙◌, arith, subst}
 use Rattle.std.specs.Prelude.{Option, Some, None, All, Contains, slice_get, unwrap_or}
 use Rattle.std.proofs.lemmas.List.Elements.{All-contains, Contains-append_left, Contains-append_right}
 use Rattle.std.proofs.lemmas.Option.{slice_get-get_or, slice_get_within, get_or_from_slice_get}
@@ -9,12 +9,11 @@ use Rattle.wild_plan.specs.declared.part.Role.TheVariants as role
 use Rattle.wild_plan.specs.declared.file.File.{File}
 use Rattle.wild_plan.specs.declared.file.Group.{Group}
 use Rattle.wild_plan.specs.declared.slot.SlotWord.{SlotWord}
-use Rattle.wild_plan.specs.declared.slot.SlotWord.TheVariants.{InBlock}
 use Rattle.wild_plan.specs.declared.symbol.Symbol.{Symbol}
 use Rattle.wild_plan.specs.declared.layout.Layout.{Layout}
 use Rattle.wild_plan.specs.SlotParts.{next}
 use Rattle.wild_plan.specs.SymbolSlots.{got_of, plt_of}
-use Rattle.wild_plan.specs.SlotShares.{word_size, own_symbols, slots_of, slots_at, storage_words}
+use Rattle.wild_plan.specs.SlotShares.{own_symbols, slots_of, slots_at, storage_words}
 use Rattle.wild_plan.specs.Stub.{stub_x86_64}
 use Rattle.wild_layout.specs.Numbers.{SymbolNumbers}
 use Rattle.wild_layout.proofs.SiteLemmas.{Contains-flat_map}
@@ -22,12 +21,11 @@ use Rattle.wild_loader.specs.declared.memory.Memory.{Memory}
 use Rattle.wild_loader.specs.declared.world.World.{World}
 use Rattle.wild_loader.specs.Memory.{Holds, byte_in, number_in}
 use Rattle.wild_loader.specs.Laws.{NumbersAreRead}
-use Rattle.wild_geometry.specs.Slots.{IsLoadedWord, HasWords, HasSymbolSlots, HasSlots}
-use Rattle.wild_slots.specs.Order.{IsWritten}
+use Rattle.wild_geometry.specs.Slots.{IsLoadedWord, HasSlots}
 use Rattle.wild_loaded.specs.Memory.{image_memory}
 use Rattle.wild_loaded.proofs.SitesFit.{slots_low}
 use Rattle.wild_loaded.proofs.SlotSites.{SlotSite, sites_at, symbol_sites, file_sites, group_sites, all_sites}
-use Rattle.wild_filled.proofs.SlotFillings.{IsPairWord, pair_words, pair_sites, got_sites}
+use Rattle.wild_filled.proofs.SlotFillings.{IsPairWord, pair_words, pair_sites}
 use Rattle.wild_filled.proofs.TableHomes.{role_home, stands_inside}
 use Rattle.wild_moved.proofs.MadeChanges.{IsMovedImage, kept_at}
 use Rattle.wild_moved.proofs.OutsideTables.{stub_misses}
