@@ -1,8 +1,7 @@
--- How long it is what files give to the parts, and which file gives it.
-use Rattle.std.proofs.Common.{◌≡◌, ℕ, ◌+◌, ◌*◌, ◌<◌, inl, inr, ◌==◌, Bool, true, false, ◌&&◌, if◌then◌else◌, List, [], ◌∷◌, ◌++◌, length, map, get_or, None, flat_map, refl, sym, ap, ◌∙◌, arith}
-use Rattle.std.specs.List.{list_any}
-use Rattle.std.specs.Prelude.{zero, suc, Option, Some, option_map, option_to_list}
-use Rattle.std.proofs.lemmas.Bool.{cases_Bool, and_parts, eq-eqb, ne_eqb, eqb-true, eqb-false}
+-- How long it is what files and groups give to the parts.
+use Rattle.std.proofs.Common.{◌≡◌, ℕ, ◌+◌, ◌*◌, inl, inr, ◌==◌, Bool, true, false, if◌then◌else◌, List, [], ◌∷◌, ◌++◌, length, map, None, flat_map, refl, arith}
+use Rattle.std.specs.Prelude.{Option, Some, option_map, option_to_list}
+use Rattle.std.proofs.lemmas.Bool.{cases_Bool, eqb-true, eqb-false}
 use Rattle.std.proofs.lemmas.List.{length-append, length-map}
 use Rattle.wild_records.specs.Dynamic.{dynamic_entry_size}
 use Rattle.wild_records.specs.SymtabEntry.{symtab_entry_size}
@@ -10,7 +9,6 @@ use Rattle.wild_relr.proofs.SpellLemmas.{length-word_bytes}
 use Rattle.wild_tables.proofs.EntryLemmas.{length-rela_bytes}
 use Rattle.wild_tables.specs.Dynamic.{entries_bytes, dynamic_bytes}
 use Rattle.wild_tables.proofs.DynamicLemmas.{length_entries}
-use Rattle.wild_symbols.specs.Symbols.{symbol_bytes}
 use Rattle.wild_symbols.specs.DynamicEntries.{group_symbols}
 use Rattle.wild_headers.proofs.LengthLemmas.{lengths_of_headers}
 use Rattle.wild_symbols.proofs.StringLemmas.{length-string_bytes}
@@ -22,7 +20,6 @@ use Rattle.wild_plan.specs.declared.part.Role.TheVariants as role
 use Rattle.wild_plan.specs.declared.file.File.{File}
 use Rattle.wild_plan.specs.declared.file.Group.{Group}
 use Rattle.wild_plan.specs.declared.layout.Layout.{Layout}
-use Rattle.wild_plan.specs.Contents.{bool_eq, file_placed, later_placed, files_placed, file_misplaced}
 use Rattle.wild_plan.specs.Dynamic.{dynamic_count}
 use Rattle.wild_plan.specs.DynamicStrings.{file_strings, needed_entries, needed_count}
 use Rattle.wild_plan.specs.Entries.{has_moved, listed_place, listed_places, words_of, entry_count, left_relocations, copies_of, general_count}
@@ -30,11 +27,13 @@ use Rattle.wild_plan.specs.Lists.{total}
 use Rattle.wild_plan.specs.Needs.{whole_of, dynsym_count, last_of, own_of, first_share, share, group_share}
 use Rattle.wild_plan.specs.FileRoles.{is_prelude, is_epilogue}
 use Rattle.wild_plan.specs.Places.{role_place}
+use Rattle.wild_plan.specs.SlotShares.{block_share}
 use Rattle.wild_layout.specs.Content.{whole_bytes, own_bytes, dynamic_room, file_content, dynamic_of, group_bytes, content}
 use Rattle.wild_layout.specs.Left.{left_entry, section_generals, copy_entry, file_generals}
 use Rattle.wild_tables.specs.Tables.{relative_entry}
 use Rattle.wild_layout.specs.Moved.{moved_value, listed_entry, section_entries, file_entries, file_words}
-use Rattle.wild_layout.specs.SlotBytes.{slot_bytes, header_bytes, block_bytes}
+use Rattle.wild_layout.specs.SlotBytes.{slot_bytes, header_bytes}
+use Rattle.wild_geometry.proofs.LastGroupLemmas.{has_last, some_if}
 use Rattle.wild_geometry.proofs.SlotLengths.{slot_length, header_length, block_length}
 use Rattle.wild_geometry.proofs.TableLemmas.{same_role}
 use Rattle.wild_geometry.proofs.SymbolLengths.{length-group_symbols, length-needed_entries}
@@ -70,14 +69,6 @@ total_times m f (x ∷ xs) =
     let a = total_times m f xs in
     omega arith
 
--- the group has the last file
-abbrev pub has_last : Group → Bool
-has_last g = list_any (λ (f : File). is_epilogue f.role) g.files
-
--- a number, or none
-abbrev pub some_if : ℕ → Bool → ℕ
-some_if a b = if b then a else 0
-
 -- ---- entries
 
 listed_length : (l : Layout) (s : InputSection) (rs : List InputRelocation) → length (flat_map (λ r. option_to_list (listed_entry l s r)) rs) ≡ length (flat_map (λ r. option_to_list (listed_place l s r)) rs)
@@ -106,7 +97,7 @@ unfolding section_generals
 left_length l s = length-map (left_relocations l s) (left_entry l s)
 
 general_length : (l : Layout) (f : File) → length (file_generals l f) ≡ general_count l f
-unfolding general_count
+unfolding file_generals general_count
 general_length l f =
     let copies = map (copy_entry l) (copies_of f) in
     let a = length-append copies (flat_map (section_generals l) f.sections) in
@@ -192,7 +183,7 @@ nil_if : (b : Bool) → (if b then no_bytes else no_bytes) ≡ []
 nil_if true = refl
 nil_if false = refl
 
-pub nil_joined : {X : Type 0} (f : X → List ℕ) (xs : List X) → ((x : X) → f x ≡ []) → flat_map f xs ≡ []
+nil_joined : {X : Type 0} (f : X → List ℕ) (xs : List X) → ((x : X) → f x ≡ []) → flat_map f xs ≡ []
 nil_joined f [] h = refl
 nil_joined f (x ∷ xs) h = rw (h x) (nil_joined f xs h)
 
@@ -223,64 +214,6 @@ length-content l r g n =
       | inr f ↦ by_file_length l r g (n, eqb-false _ _ f)
     ]
 
--- ---- the last file of the last group
-
-pub same_bool : (b c : Bool) → bool_eq b c ≡ true → b ≡ c
-same_bool true true h = refl
-same_bool true false h = cc
-same_bool false true h = cc
-same_bool false false h = refl
-
--- one more file in front
-last_step : (a : ℕ) (last own : Bool) (fs : List File) → own ≡ (last && length fs == 0) → total (λ (x : File). last_of x.role a) fs ≡ (if last then (if length fs == 0 then 0 else a) else 0) → (if own then a else 0) + total (λ (x : File). last_of x.role a) fs ≡ (if last then a else 0)
-last_step a true own [] e h = rw e (omega arith)
-last_step a true own (g ∷ gs) e h =
-    let n = ne_eqb (length (g ∷ gs)) 0 (λ z. omega arith) in
-    let none : own ≡ false = rw n at e in
-    let rest = rw n at h in
-    rw none (omega arith)
-last_step a false own fs e h = rw e (omega arith)
-
-later_last : (a : ℕ) (last : Bool) (fs : List File) → later_placed last fs ≡ true → total (λ (f : File). last_of f.role a) fs ≡ (if last then (if length fs == 0 then 0 else a) else 0)
-later_last a true [] h = refl
-later_last a false [] h = refl
-later_last a last (f ∷ fs) h =
-    let n = ne_eqb (length (f ∷ fs)) 0 (λ z. omega arith) in
-    let p = and_parts (file_placed false (last && length fs == 0) f) (later_placed last fs) h in
-    let e = same_bool (is_epilogue f.role) (last && length fs == 0) (and_parts (bool_eq (is_prelude f.role) false) (bool_eq (is_epilogue f.role) (last && length fs == 0)) p.0).1 in
-    rw n (last_step a last (is_epilogue f.role) fs e (later_last a last fs p.1))
-
--- a group has one last file where it is the last group, and none elsewhere
-files_last : (a : ℕ) (first last : Bool) (fs : List File) → files_placed first last fs ≡ true → total (λ (f : File). last_of f.role a) fs ≡ (if last then a else 0)
-files_last a true last [] h = cc
-files_last a false true [] h = cc
-files_last a false false [] h = refl
-files_last a first last (f ∷ fs) h =
-    let p = and_parts (file_placed first (last && length fs == 0) f) (later_placed last fs) h in
-    let e = same_bool (is_epilogue f.role) (last && length fs == 0) (and_parts (bool_eq (is_prelude f.role) first) (bool_eq (is_epilogue f.role) (last && length fs == 0)) p.0).1 in
-    last_step a last (is_epilogue f.role) fs e (later_last a last fs p.1)
-
-same_test : (a b c d : ℕ) → (a ≡ b → c ≡ d) → (c ≡ d → a ≡ b) → (a == b) ≡ (c == d)
-same_test a b c d f g =
-    elim (cases_Bool (a == b)) [
-      | inl t ↦ t ∙ sym (eq-eqb c d (f (eqb-true a b t)))
-      | inr n ↦ n ∙ sym (ne_eqb c d (λ e. eqb-false a b n (g e)))
-    ]
-
--- the same of group number k
-pub group_last : (a : ℕ) (first : Bool) (i : ℕ) (gs : List Group) → file_misplaced first i gs ≡ None → (k : ℕ) (d : Group) → k < length gs → total (λ (f : File). last_of f.role a) (get_or gs k d).files ≡ (if k + 1 == length gs then a else 0)
-group_last a first i [] h k d l = absurd (omega arith)
-group_last a first i (g ∷ gs) h zero d l =
-    elim (cases_Bool (files_placed first (length gs == 0) g.files)) [
-      | inl t ↦ files_last a first (length gs == 0) g.files t ∙ ap (some_if a) (same_test (length gs) 0 (0 + 1) (length (g ∷ gs)) (λ e. omega arith) (λ e. omega arith))
-      | inr f ↦ cc (rw f at h)
-    ]
-group_last a first i (g ∷ gs) h (suc k) d l =
-    elim (cases_Bool (files_placed first (length gs == 0) g.files)) [
-      | inl t ↦ group_last a false (i + 1) gs (rw t at h) k d (omega arith) ∙ ap (some_if a) (same_test (k + 1) (length gs) (suc k + 1) (length (g ∷ gs)) (λ e. omega arith) (λ e. omega arith))
-      | inr f ↦ cc (rw f at h)
-    ]
-
 -- ---- the dynamic section
 
 pub length-dynamic_content : (l : Layout) (g : Group) → length (content l role.Dynamic g) ≡ dynamic_entry_size * total (needed_count l) g.files + some_if (length (dynamic_bytes l (dynamic_room l))) (has_last g)
@@ -307,30 +240,3 @@ dynamic_share l g = let e = each g.files in omega arith
         let a = one f in
         let b = each fs in
         omega arith
-
--- where no file is the last one, none is found
-pub none_last : (fs : List File) → total (λ (f : File). last_of f.role 1) fs ≡ 0 → list_any (λ (f : File). is_epilogue f.role) fs ≡ false
-none_last [] h = refl
-none_last (f ∷ fs) h =
-    elim (cases_Bool (is_epilogue f.role)) [
-      | inl t ↦ absurd (let e = rw t at h in omega arith)
-      | inr n ↦ rw n (none_last fs (let e = rw n at h in omega arith))
-    ]
-
--- and where one is, it is
-some_last : (fs : List File) → total (λ (f : File). last_of f.role 1) fs ≡ 1 → list_any (λ (f : File). is_epilogue f.role) fs ≡ true
-some_last [] h = cc
-some_last (f ∷ fs) h =
-    elim (cases_Bool (is_epilogue f.role)) [
-      | inl t ↦ rw t refl
-      | inr n ↦ rw n (some_last fs (let e = rw n at h in omega arith))
-    ]
-
--- the last group has the last file
-pub has_last-group : (gs : List Group) → file_misplaced true 0 gs ≡ None → (k : ℕ) (d : Group) → k < length gs → has_last (get_or gs k d) ≡ (k + 1 == length gs)
-has_last-group gs h k d l =
-    let one = group_last 1 true 0 gs h k d l in
-    elim (cases_Bool (k + 1 == length gs)) [
-      | inl t ↦ some_last (get_or gs k d).files (rw t at one) ∙ sym t
-      | inr f ↦ none_last (get_or gs k d).files (rw f at one) ∙ sym f
-    ]

@@ -1,6 +1,6 @@
 -- The relocation entries of an executable that is loaded at its own addresses, which are found by their sections.
 use Rattle.std.proofs.Common.{◌≡◌, ℕ, zero, suc, ◌+◌, ◌-◌, ◌<◌, ◌≤◌, inl, inr, ◌==◌, true, not, ◌&&◌, List, [], ◌∷◌, length, drop, Option, Some, None, slice_get, refl, sym, ap, ◌∙◌, arith, subst}
-use Rattle.std.proofs.lemmas.Bool.{cases_Bool, and_parts, ltb-true, eqb-true, eq-eqb, ne_eqb}
+use Rattle.std.proofs.lemmas.Bool.{cases_Bool, and_parts, ltb-true, eqb-true, eq-eqb}
 use Rattle.std.proofs.lemmas.Option.{same_Some}
 use Rattle.wild_records.specs.Abi.Section.{sht_nobits, sht_rela}
 use Rattle.wild_plan.specs.declared.part.Part.{Part}
@@ -56,14 +56,14 @@ size_is l k s h a r = eqb-true _ _ (implied (allocated s.flags && s.kind == sht_
 -- ---- a part with entries
 
 -- it is listed, and its section is allocated and of type SHT_RELA
-record EntryPart (l : Layout) (p : Part) : Type 0 where
+record PartOfEntries (l : Layout) (p : Part) : Type 0 where
   filled : Filled l p.section
   lies : part_lies l p ≡ true
   kind : filled.section.kind ≡ sht_rela
 
-entry_part : (l : Layout) → Laid l → is_fixed_static l.kind ≡ true → (r : Role) (p : Part) → is_entry_role r ≡ true → part_with r l.parts ≡ Some p → EntryPart l p
+part_of_entries : (l : Layout) → Laid l → is_fixed_static l.kind ≡ true → (r : Role) (p : Part) → is_entry_role r ≡ true → part_with r l.parts ≡ Some p → PartOfEntries l p
 unfolding check_entries
-entry_part l h fixed r p entries there =
+part_of_entries l h fixed r p entries there =
     let f = FoundAt-from_find (has_role r) l.parts p there in
     let asked = rw fixed at h.segments.entries in
     let stand = All-from_none_fails (stands_in_entries l) 0 l.parts (None-from_fails 6 _ (Both-from_first_error _ _ asked).rest) f.place p f.within in
@@ -86,14 +86,14 @@ entry_part l h fixed r p entries there =
     with_bits n e = rw e refl
 
 pub stands_later : (l : Layout) → Laid l → is_fixed_static l.kind ≡ true → (r : Role) (p : Part) → is_entry_role r ≡ true → part_with r l.parts ≡ Some p → 1 ≤ p.section
-stands_later l h fixed r p entries there = let later = (entry_part l h fixed r p entries there).filled.later in omega arith
+stands_later l h fixed r p entries there = let later = (part_of_entries l h fixed r p entries there).filled.later in omega arith
 
 -- ---- the sections
 
 -- the part lies in its section
 entries_lie : (l : Layout) → Laid l → is_fixed_static l.kind ≡ true → (k : ℕ) (s : Section) → slice_get l.sections k ≡ Some s → (r : Role) (p : Part) → is_entry_role r ≡ true → part_with r l.parts ≡ Some p → p.section ≡ k → EntriesLie p s
 entries_lie l h fixed k s is r p entries there at =
-    let part = entry_part l h fixed r p entries there in
+    let part = part_of_entries l h fixed r p entries there in
     let o = part.filled in
     let same : o.section ≡ s = same_Some o.section s (sym o.is ∙ ap (slice_get l.sections) at ∙ is) in
     let level = part_level l p part.lies o in

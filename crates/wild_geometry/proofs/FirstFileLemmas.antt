@@ -11,7 +11,7 @@ use Rattle.wild_plan.specs.Contents.{bool_eq, file_placed, later_placed, files_p
 use Rattle.wild_layout.specs.Content.{whole_bytes, own_bytes, file_content, group_bytes, content}
 use Rattle.wild_layout.specs.SlotBytes.{slot_bytes, header_bytes}
 use Rattle.wild_geometry.proofs.ClauseLemmas.{SharesHold}
-use Rattle.wild_geometry.proofs.ContentLemmas.{same_bool}
+use Rattle.wild_geometry.proofs.LastGroupLemmas.{same_bool}
 
 -- no file and no group gives anything to the part of the role
 pub record StandsOnce (l : Layout) (r : Role) : Type 0 where

@@ -1,5 +1,5 @@
 -- What the groups give to the dynamic section: the entries of all libraries, and then those of the last file.
-use Rattle.std.proofs.Common.{◌≡◌, ℕ, suc, ◌+◌, ◌<◌, ◌≤◌, inl, inr, List, [], ◌∷◌, ◌++◌, length, get_or, flat_map, refl, sym, ap, ◌∙◌, arith}
+use Rattle.std.proofs.Common.{◌≡◌, ℕ, suc, ◌+◌, ◌<◌, ◌≤◌, inl, inr, true, List, [], ◌∷◌, ◌++◌, length, get_or, flat_map, refl, sym, ◌∙◌, arith}
 use Rattle.std.specs.Prelude.{◌==◌, None}
 use Rattle.std.proofs.lemmas.Bool.{cases_Bool, eq-eqb, ne_eqb, eqb-true, eqb-false}
 use Rattle.std.proofs.lemmas.List.{append-nil, append_assoc}
@@ -15,7 +15,8 @@ use Rattle.wild_plan.specs.DynamicStrings.{needed_entries}
 use Rattle.wild_tables.specs.Dynamic.{entries_bytes, dynamic_bytes}
 use Rattle.wild_layout.specs.Content.{dynamic_room, content}
 use Rattle.wild_layout.specs.Geometry.{table_bytes, all_needed}
-use Rattle.wild_geometry.proofs.ContentLemmas.{has_last, dynamic_content, has_last-group}
+use Rattle.wild_geometry.proofs.ContentLemmas.{dynamic_content}
+use Rattle.wild_geometry.proofs.LastGroupLemmas.{has_last, has_last-group}
 
 entries_joined : (xs ys : List DynamicEntry) → entries_bytes (xs ++ ys) ≡ entries_bytes xs ++ entries_bytes ys
 entries_joined xs ys = flat_map-append (λ (d : DynamicEntry). spell (dynamic_entry_fields d)) xs ys

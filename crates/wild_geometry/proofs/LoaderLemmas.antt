@@ -1,5 +1,5 @@
 -- What a loader goes by stands where it looks.
-use Rattle.std.proofs.Common.{◌≡◌, ℕ, ◌+◌, ◌≤◌, inl, inr, ◌==◌, nat_le, Bool, true, false, not, ◌&&◌, ◌||◌, if◌then◌else◌, List, [], ◌∷◌, ◌++◌, find, All, Option, Some, None, refl, ap, ◌∙◌, arith, subst}
+use Rattle.std.proofs.Common.{◌≡◌, ℕ, ◌+◌, ◌≤◌, inl, inr, ◌==◌, nat_le, Bool, true, false, not, ◌&&◌, ◌||◌, if◌then◌else◌, List, [], ◌∷◌, ◌++◌, find, All, Contains, Option, Some, None, refl, ap, ◌∙◌, arith, subst}
 use Rattle.std.specs.List.{list_any}
 use Rattle.std.proofs.lemmas.Bool.{cases_Bool, and_parts, leb-true, eqb-true, eqb-false, ne_eqb}
 use Rattle.std.proofs.lemmas.List.Elements.{All-nil, All-cons}
@@ -12,10 +12,10 @@ use Rattle.wild_plan.specs.declared.section.Segment.{Segment}
 use Rattle.wild_plan.specs.declared.layout.Layout.{Layout}
 use Rattle.wild_plan.specs.Kinds.{needs_dynamic}
 use Rattle.wild_plan.specs.Places.{role_place, has_role, is_fixed_static, within}
-use Rattle.wild_plan.specs.Segments.{is_segment_of, dynamic_astray, part_with, is_table_role, carries_part, table_is_loaded}
-use Rattle.wild_layout.specs.Geometry.{IsStatic, HasSegment, IsCarriedWhole}
+use Rattle.wild_plan.specs.Segments.{is_segment_of, dynamic_astray, part_with, begins_behind, entries_follow, rest_of_table, is_table_role, carries_part, carries_rest, carries_table, table_is_loaded}
+use Rattle.wild_layout.specs.Geometry.{IsStatic, HasSegment, IsCarriedWhole, BeginsBehind, AreCarriedTogether}
 use Rattle.wild_geometry.proofs.LaidLemmas.{Laid}
-use Rattle.wild_geometry.proofs.CarriedLemmas.{other}
+use Rattle.wild_geometry.proofs.CarriedLemmas.{implied, other}
 use Rattle.wild_geometry.proofs.RoleLemmas.{FoundAt-from_find, nil_from_length, no_count, nothing_shared}
 use Rattle.wild_records.specs.declared.dynamic.DynamicEntry.{DynamicEntry}
 use Rattle.wild_plan.specs.Dynamic.{dynamic_entries, dynamic_count}
@@ -104,23 +104,74 @@ dynamic_part l h needs = by (part_with role.Dynamic l.parts) refl
 
 -- ---- tables of entries
 
-carried : (l : Layout) (p : Part) → table_is_loaded l p ≡ true → needs_dynamic l.kind ≡ true → is_table_role p.role ≡ true → 1 ≤ p.size → IsCarriedWhole l p
-carried l p h needs relative some =
-    let size = ne_eqb p.size 0 (λ e. omega arith) in
-    let none : (not (needs_dynamic l.kind) || not (is_table_role p.role) || p.size == 0) ≡ false = rw (needs, relative, size) refl in
-    let found = Found-from_list_any (carries_part p) l.segments (other (not (needs_dynamic l.kind) || not (is_table_role p.role) || p.size == 0) (list_any (carries_part p) l.segments) h none) in
-    let g = found.item in
-    let a = and_parts (g.kind == pt_load && within g.offset g.file_size p.offset p.size) (p.offset + g.address == p.address + g.offset) found.passes in
-    let b = and_parts (g.kind == pt_load) (within g.offset g.file_size p.offset p.size) a.0 in
-    let c = and_parts (nat_le g.offset p.offset) (nat_le (p.offset + p.size) (g.offset + g.file_size)) b.1 in
-    let low = leb-true _ _ c.0 in
-    let high = leb-true _ _ c.1 in
-    let level = eqb-true _ _ a.1 in
-    record { segment = g; listed = found.listed; loaded = eqb-true _ _ b.0; from = omega arith; to = omega arith; distance = omega arith }
+-- one loaded segment has the part, and what stands behind it in its table
+record CarriesTable (l : Layout) (p : Part) (rest : Option Part) : Type 0 where
+  segment : Segment
+  listed : Contains l.segments segment
+  part : carries_part p segment ≡ true
+  behind : carries_rest rest segment ≡ true
 
-pub IsCarriedWhole-from_laid : (l : Layout) → Laid l → needs_dynamic l.kind ≡ true → (r : Role) (p : Part) → is_table_role r ≡ true → part_with r l.parts ≡ Some p → 1 ≤ p.size → IsCarriedWhole l p
-IsCarriedWhole-from_laid l h needs r p relative there some =
+table_carried : (l : Layout) → Laid l → needs_dynamic l.kind ≡ true → (r : Role) (p : Part) → is_table_role r ≡ true → part_with r l.parts ≡ Some p → 1 ≤ p.size → CarriesTable l p (rest_of_table l.parts p)
+table_carried l h needs r p table there some =
     let f = FoundAt-from_find (has_role r) l.parts p there in
     let P : Part → Type 0 = λ x. table_is_loaded l x ≡ true in
+    let loaded = subst P (f.is p) (h.segments.tables f.place p f.within) in
     let is = same_role p.role r (eqb-true _ _ f.passes) in
-    carried l p (subst P (f.is p) (h.segments.tables f.place p f.within)) needs (ap is_table_role is ∙ relative) some
+    let is_table = ap is_table_role is ∙ table in
+    let size = ne_eqb p.size 0 (λ e. omega arith) in
+    let none : (not (needs_dynamic l.kind) || not (is_table_role p.role) || p.size == 0) ≡ false = rw (needs, is_table, size) refl in
+    let test = carries_table p (rest_of_table l.parts p) in
+    let found = Found-from_list_any test l.segments (other (not (needs_dynamic l.kind) || not (is_table_role p.role) || p.size == 0) (list_any test l.segments) loaded none) in
+    let both = and_parts (carries_part p found.item) (carries_rest (rest_of_table l.parts p) found.item) found.passes in
+    record { segment = found.item; listed = found.listed; part = both.0; behind = both.1 }
+
+-- what it says that a segment has a part
+record HasPart (p : Part) (g : Segment) : Type 0 where
+  loaded : g.kind ≡ pt_load
+  low : g.offset ≤ p.offset
+  high : p.offset + p.size ≤ g.offset + g.file_size
+  level : p.offset + g.address ≡ p.address + g.offset
+
+HasPart-from_test : (p : Part) (g : Segment) → carries_part p g ≡ true → HasPart p g
+HasPart-from_test p g h =
+    let a = and_parts (g.kind == pt_load && within g.offset g.file_size p.offset p.size) (p.offset + g.address == p.address + g.offset) h in
+    let b = and_parts (g.kind == pt_load) (within g.offset g.file_size p.offset p.size) a.0 in
+    let c = and_parts (nat_le g.offset p.offset) (nat_le (p.offset + p.size) (g.offset + g.file_size)) b.1 in
+    record { loaded = eqb-true _ _ b.0; low = leb-true _ _ c.0; high = leb-true _ _ c.1; level = eqb-true _ _ a.1 }
+
+pub IsCarriedWhole-from_laid : (l : Layout) → Laid l → needs_dynamic l.kind ≡ true → (r : Role) (p : Part) → is_table_role r ≡ true → part_with r l.parts ≡ Some p → 1 ≤ p.size → IsCarriedWhole l p
+IsCarriedWhole-from_laid l h needs r p table there some =
+    let c = table_carried l h needs r p table there some in
+    let has = HasPart-from_test p c.segment c.part in
+    let low = has.low in
+    let high = has.high in
+    let level = has.level in
+    record { segment = c.segment; listed = c.listed; loaded = has.loaded; from = omega arith; to = omega arith; distance = omega arith }
+
+-- ---- entries with addends are one table
+
+pub BeginsBehind-from_laid : (l : Layout) → Laid l → (p q : Part) → part_with role.RelaDynRelative l.parts ≡ Some p → part_with role.RelaDynGeneral l.parts ≡ Some q → BeginsBehind p q
+BeginsBehind-from_laid l h p q first second =
+    let f = FoundAt-from_find (has_role role.RelaDynGeneral) l.parts q second in
+    let P : Part → Type 0 = λ x. entries_follow l.parts x ≡ true in
+    let follow = subst P (f.is q) (h.roles.follow f.place q f.within) in
+    let behind = implied (has_role role.RelaDynGeneral q) (begins_behind (part_with role.RelaDynRelative l.parts) q) follow f.passes in
+    let Q : Option Part → Type 0 = λ o. begins_behind o q ≡ true in
+    let both = and_parts (q.offset == p.offset + p.size) (q.address == p.address + p.size) (subst Q first behind) in
+    record { offset = eqb-true _ _ both.0; address = eqb-true _ _ both.1 }
+
+pub AreCarriedTogether-from_laid : (l : Layout) → Laid l → needs_dynamic l.kind ≡ true → (p q : Part) → part_with role.RelaDynRelative l.parts ≡ Some p → part_with role.RelaDynGeneral l.parts ≡ Some q → 1 ≤ p.size → 1 ≤ q.size → AreCarriedTogether l p q
+AreCarriedTogether-from_laid l h needs p q first second some more =
+    let c = table_carried l h needs role.RelaDynRelative p refl first some in
+    let g = c.segment in
+    let f = FoundAt-from_find (has_role role.RelaDynRelative) l.parts p first in
+    let rest : rest_of_table l.parts p ≡ Some q = rw f.passes second in
+    let P : Option Part → Type 0 = λ o. carries_rest o g ≡ true in
+    let passes = other (q.size == 0) (carries_part q g) (subst P rest c.behind) (ne_eqb q.size 0 (λ e. omega arith)) in
+    let has = HasPart-from_test p g c.part in
+    let has_rest = HasPart-from_test q g passes in
+    let low = has.low in
+    let level = has.level in
+    let high = has_rest.high in
+    let level_rest = has_rest.level in
+    record { segment = g; listed = c.listed; loaded = has.loaded; from = omega arith; to = omega arith; distance = omega arith }

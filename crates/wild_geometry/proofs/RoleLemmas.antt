@@ -1,5 +1,5 @@
 -- The parts of roles hold what the groups give to them.
-use Rattle.std.proofs.Common.{◌≡◌, ℕ, zero, suc, ◌+◌, ◌-◌, ◌*◌, ◌<◌, ◌≤◌, if◌then◌else◌, inl, inr, ◌==◌, ◌||◌, Bool, true, false, List, [], ◌∷◌, length, get_or, take, find, Contains, Some, None, flat_map, refl, sym, ap, ◌∙◌, arith, subst}
+use Rattle.std.proofs.Common.{◌≡◌, ℕ, zero, suc, ◌+◌, ◌-◌, ◌*◌, ◌<◌, ◌≤◌, inl, inr, ◌==◌, ◌||◌, Bool, true, false, List, [], ◌∷◌, length, get_or, take, find, Contains, Some, None, flat_map, refl, sym, ap, ◌∙◌, arith, subst}
 use Rattle.std.specs.List.{list_any}
 use Rattle.std.proofs.lemmas.Bool.{cases_Bool, eqb-true, eqb-false, eq-eqb, ne_eqb}
 use Rattle.std.proofs.lemmas.Option.{same_Some}
@@ -29,7 +29,8 @@ use Rattle.wild_geometry.proofs.LaidLemmas.{Laid}
 use Rattle.wild_geometry.proofs.InterleaveLemmas.{Contains-flat_map_from}
 use Rattle.wild_geometry.proofs.OrderLemmas.{EndsBy-image}
 use Rattle.wild_geometry.proofs.ShareLemmas.{total_same, total_within, content_is_given, size_from_shares}
-use Rattle.wild_geometry.proofs.ContentLemmas.{has_last, some_if, length_joined, length-content, length-dynamic_content, dynamic_share, group_last}
+use Rattle.wild_geometry.proofs.ContentLemmas.{length_joined, length-content, length-dynamic_content, dynamic_share}
+use Rattle.wild_geometry.proofs.LastGroupLemmas.{has_last, some_if, group_last}
 use Rattle.wild_geometry.proofs.TableLemmas.{role_at, role_listed, same_role}
 use Rattle.wild_geometry.proofs.TablePieces.{not_raw_takes, Contains-some}
 

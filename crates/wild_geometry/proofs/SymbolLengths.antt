@@ -1,5 +1,5 @@
 -- How many entries files have in the dynamic symbol table, and how many libraries they are.
-use Rattle.std.proofs.Common.{◌≡◌, ℕ, ◌+◌, ◌*◌, inl, inr, Bool, true, false, if◌then◌else◌, List, [], ◌∷◌, ◌++◌, length, refl, ◌∙◌, arith}
+use Rattle.std.proofs.Common.{◌≡◌, ℕ, ◌+◌, inl, inr, Bool, true, false, if◌then◌else◌, List, [], ◌∷◌, length, refl, arith}
 use Rattle.std.proofs.lemmas.Bool.{cases_Bool}
 use Rattle.std.proofs.lemmas.List.{length-append, length-map}
 use Rattle.wild_plan.specs.declared.symbol.Symbol.{Symbol}
@@ -28,6 +28,7 @@ names_length l f =
     ]
 
 entries_length : (at : ℕ) (ns : List NamedFields) → length (entries_at at ns) ≡ length ns
+unfolding entries_at
 entries_length at [] = refl
 entries_length at (n ∷ ns) = let e = entries_length (behind_text at n.name) ns in omega arith
 
@@ -59,7 +60,10 @@ length-group_symbols l g =
   where
     none : (l : Layout) (fs : List File) → needs_dynsym l.kind ≡ false → total (dynsym_count l) fs ≡ 0
     none l [] h = refl
-    none l (f ∷ fs) h = let a = none l fs h in rw h at a
+    none l (f ∷ fs) h =
+        let a = none l fs h in
+        let b : dynsym_count l f ≡ 0 = rw h refl in
+        omega arith
 
 -- ---- libraries
 
@@ -90,4 +94,7 @@ length-needed_entries l g =
   where
     none : (l : Layout) (fs : List File) → needs_dynamic l.kind ≡ false → total (needed_count l) fs ≡ 0
     none l [] h = refl
-    none l (f ∷ fs) h = let a = none l fs h in rw h at a
+    none l (f ∷ fs) h =
+        let a = none l fs h in
+        let b : needed_count l f ≡ 0 = rw h refl in
+        omega arith

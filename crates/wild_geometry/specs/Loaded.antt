@@ -43,8 +43,8 @@ pub data Stage : Type 0 where
   InFile : Stage
   InMemory : Stage
 
--- the number at the place of an address v that moves: in the file v where it is packed, and 0 beside an entry; in memory v more by
--- the base (gABI, "Relative Relocation Table"; x86-64 psABI, R_X86_64_RELATIVE)
+-- the number at the place of an address v that moves: in the file v where it is packed, and 0 beside an entry; in memory v more
+-- by the base (gABI, "Relative Relocation Table"; x86-64 psABI, R_X86_64_RELATIVE)
 abbrev pub number_at : Stage → World → ℕ → Bool → ℕ
 number_at InFile w v packed = if packed then v else 0
 number_at InMemory w v packed = (v + w.base) % 2 ^ 64

@@ -3,7 +3,7 @@
 --   HasWords ..             memory has these words from an address on
 --   HasSymbolSlots ..       memory has the slots of a symbol, and its stub
 --   HasSlots l w m          it has those of each symbol, and the pair of the output's own thread-local data
-use Rattle.std.specs.Prelude.{◌≡◌, ℕ, ◌+◌, ◌*◌, ◌%◌, ◌^◌, ◌<◌, List, length, Some, None, Ok, slice_get, slice_index_or}
+use Rattle.std.specs.Prelude.{◌≡◌, ℕ, ◌+◌, ◌*◌, ◌%◌, ◌^◌, ◌<◌, List, length, Some, None, slice_get, slice_index_or}
 use Rattle.wild_reloc.specs.Dynamic.{x86_64_type}
 use Rattle.wild_plan.specs.declared.symbol.Symbol.{Symbol}
 use Rattle.wild_plan.specs.declared.layout.Layout.{Layout}

@@ -25,10 +25,12 @@ use Rattle.wild_loader.specs.declared.effect.EffectKind.{EffectKind}
 use Rattle.wild_loader.specs.declared.effect.EffectKind.TheVariants as kinds
 use Rattle.wild_loader.specs.Memory.{Holds, byte_in}
 use Rattle.wild_loader.specs.Effect.{step}
-use Rattle.wild_meaning.specs.Value.{IsSymbol, IsDefinedBy, HasRaw, HasFlag, HasStub, Denotes, Reaches, moved}
+use Rattle.wild_meaning.specs.Value.{IsSymbol, IsDefinedBy, HasRaw, HasFlag, HasStub, IsReplaceable, Denotes, Reaches, moved}
 use Rattle.wild_meaning.specs.Field.{form_width}
 use Rattle.wild_meaning.specs.Formula.{IsTarget, IsGoal}
 use Rattle.wild_meaning.specs.World.{IsFixed}
+use Rattle.wild_meaning.specs.Item.{item_of}
+use Rattle.wild_meaning.specs.Reference.{IsLinkedAlone}
 use Rattle.wild_meaning.specs.Linked.{IsLinked}
 
 -- an input section of the layout that is loaded, allocated and has data
@@ -125,14 +127,18 @@ pub record HasFormula (l : Layout) (w : World) (m : Memory) (s : InputSection) (
 abbrev pub InNoField : InputSection → ℕ → Type 0
 InNoField s k = All (λ (r : InputRelocation). (f : Formula) → x86_64_formula r.number ≡ Some f → (k < r.offset) ⊎ (r.offset + form_width f.form ≤ k)) s.relocations
 
--- each reference to an address or a distance holds, each call and jump reaches its symbol where no field has its opcode, and every
--- byte in no field is the input's
+-- whichever module has the relocation's symbol, the reference is not to the output's own alone
+abbrev pub IsFollowed : Layout → InputSection → InputRelocation → Type 0
+IsFollowed l s r = IsLinkedAlone l (item_of s) r → ⊥
+
+-- each such reference to an address or a distance holds, each call and jump reaches its symbol where no field has its opcode, and
+-- every byte in no field is the input's
 pub record HoldsByFields (l : Layout) (w : World) (m : Memory) (s : InputSection) : Type 0 where
-  pub references : (r : InputRelocation) → IsRelocated s r → WritesAddress r → HasFormula l w m s r
-  pub calls : (r : InputRelocation) (k : ℕ) → IsRelocated s r → IsBranch s r k 0xe8 → InNoField s k → BranchReaches l w m s r k 5 (λ a. kinds.Call (past_field r a))
-  pub jumps : (r : InputRelocation) (k : ℕ) → IsRelocated s r → IsBranch s r k 0xe9 → InNoField s k → BranchReaches l w m s r k 5 (λ a. kinds.Jump (past_field r a))
-  pub slot_calls : (r : InputRelocation) (k : ℕ) → IsRelocated s r → IsSlotBranch s r k 0x15 → InNoField s k → InNoField s (k + 1) → BranchReaches l w m s r k 6 kinds.Call
-  pub slot_jumps : (r : InputRelocation) (k : ℕ) → IsRelocated s r → IsSlotBranch s r k 0x25 → InNoField s k → InNoField s (k + 1) → BranchReaches l w m s r k 6 kinds.Jump
+  pub references : (r : InputRelocation) → IsRelocated s r → IsFollowed l s r → WritesAddress r → HasFormula l w m s r
+  pub calls : (r : InputRelocation) (k : ℕ) → IsRelocated s r → IsFollowed l s r → IsBranch s r k 0xe8 → InNoField s k → BranchReaches l w m s r k 5 (λ a. kinds.Call (past_field r a))
+  pub jumps : (r : InputRelocation) (k : ℕ) → IsRelocated s r → IsFollowed l s r → IsBranch s r k 0xe9 → InNoField s k → BranchReaches l w m s r k 5 (λ a. kinds.Jump (past_field r a))
+  pub slot_calls : (r : InputRelocation) (k : ℕ) → IsRelocated s r → IsFollowed l s r → IsSlotBranch s r k 0x15 → InNoField s k → InNoField s (k + 1) → BranchReaches l w m s r k 6 kinds.Call
+  pub slot_jumps : (r : InputRelocation) (k : ℕ) → IsRelocated s r → IsFollowed l s r → IsSlotBranch s r k 0x25 → InNoField s k → InNoField s (k + 1) → BranchReaches l w m s r k 6 kinds.Jump
   pub others : (k : ℕ) → k < length s.bytes → InNoField s k → byte_in m (address_at w s k) ≡ Some (slice_index s.bytes k)
 
 -- each byte of memory is one
@@ -155,9 +161,9 @@ pub record IsAddress (l : Layout) (w : World) (i a : ℕ) : Type 0 where
   pub listed : IsSymbol l definition symbol
   pub moves : a ≡ moved (has_flag symbol.flags absolute) w.base raw
 
--- what stands for a symbol comes to it; of one that is no IFUNC nothing but its address stands for it without a stub, and code
--- that goes to it comes to that address
+-- what stands for a symbol comes to it; of the output's own that is no IFUNC nothing but its address stands for it without a stub,
+-- and code that goes to it comes to that address
 pub record NamesAreAddresses : Type 0 where
   pub stands : (l : Layout) (w : World) (m : Memory) (i a : ℕ) → Denotes l w m i a → IsGoal l w m (Some i) a
-  pub alone : (l : Layout) (w : World) (m : Memory) (i a : ℕ) → HasFlag l i ifunc false → ((p : ℕ) → HasStub l i p → ⊥) → Denotes l w m i a → IsAddress l w i a
-  pub goals : (l : Layout) (w : World) (m : Memory) (i a : ℕ) → HasFlag l i ifunc false → IsGoal l w m (Some i) a → (v : ℕ) × IsAddress l w i v × Reaches m a v
+  pub alone : (l : Layout) (w : World) (m : Memory) (i a : ℕ) → IsReplaceable l i false → HasFlag l i ifunc false → ((p : ℕ) → HasStub l i p → ⊥) → Denotes l w m i a → IsAddress l w i a
+  pub goals : (l : Layout) (w : World) (m : Memory) (i a : ℕ) → IsReplaceable l i false → HasFlag l i ifunc false → IsGoal l w m (Some i) a → (v : ℕ) × IsAddress l w i v × Reaches m a v

@@ -1,11 +1,12 @@
 -- The premises of the headline are met: there are legal worlds, kept items, references and calls.
-use Rattle.std.specs.Prelude.{◌≡◌, ◌≢◌, ℕ, ◌+◌, ◌-◌, ◌%◌, ◌^◌, ◌<◌, ◌≤◌, true, false, List, [], ◌∷◌, Some, None, Ok, All, Contains}
+use Rattle.std.specs.Prelude.{◌≡◌, ◌≢◌, ℕ, ℤ, ◌+◌, ◌-◌, ◌%◌, ◌^◌, ◌<◌, ◌≤◌, true, false, List, [], ◌∷◌, Some, None, Ok, All, Contains}
 use lib.IntN.{negsuc}
+use Rattle.std.specs.Int.{w64, cast_unsigned}
+use Rattle.std.specs.Int.RustNames.{FitsSigned}
 use Rattle.wild_records.specs.Abi.Relocation.{r_x86_64_none, r_x86_64_pc32, r_x86_64_plt32, r_x86_64_gotpcrel, r_x86_64_gotpcrelx}
 use Rattle.wild_records.specs.Abi.Section.{shf_execinstr}
 use Rattle.wild_records.specs.Abi.Segment.{pt_load}
 use Rattle.wild_plan.specs.declared.kind.Machine.TheVariants as machine
-use Rattle.wild_plan.specs.declared.kind.RelocationModel.{RelocationModel}
 use Rattle.wild_plan.specs.declared.kind.RelocationModel.TheVariants as model
 use Rattle.wild_plan.specs.declared.kind.OutputKind.{OutputKind}
 use Rattle.wild_plan.specs.declared.kind.OutputKind.TheVariants as output
@@ -18,22 +19,24 @@ use Rattle.wild_plan.specs.declared.input.InputSection.{InputSection}
 use Rattle.wild_plan.specs.declared.layout.Layout.{Layout}
 use Rattle.wild_plan.specs.Flags.{has_flag, absolute, ifunc}
 use Rattle.wild_plan.specs.Lookups.{allocated, thread_local}
+use Rattle.wild_plan.specs.ResolvedFlags.{HaveTheirFlags}
+use Rattle.wild_layout.specs.Numbers.{NumbersFit}
 use Rattle.wild_layout.specs.Faults.{errors}
 use Rattle.wild_loader.specs.declared.world.World.{World}
 use Rattle.wild_loader.specs.declared.memory.Memory.{Memory}
-use Rattle.wild_loader.specs.Changes.{answer_at}
+use Rattle.wild_loader.specs.declared.world.Answer.{Answer}
+use Rattle.wild_loader.specs.Changes.{answer_at, distance_of}
 use Rattle.wild_meaning.specs.Section.{IsSet}
-use Rattle.wild_meaning.specs.World.{IsFixed, IsMovable, IsLoadable, IsExecutable, IsFirstModule, HasResolver, IsLegal}
+use Rattle.wild_meaning.specs.World.{IsFixed, IsMovable, IsLoadable, IsExecutable, IsFirstModule, HasResolver, AnswersSymbols, IsCopied, IsBehind, AreBeside, IsLegal}
 use Rattle.wild_meaning.specs.Thread.{thread_pointer, IsThreadPlace}
-use Rattle.wild_meaning.specs.Value.{IsDefinedBy, IsResolved, HasRaw, HasFlag, IsAbsolute, HasValue, HasStub, Reaches, Denotes}
+use Rattle.wild_meaning.specs.Value.{IsDefinedBy, IsResolved, HasRaw, HasFlag, IsAbsolute, HasOwnSize, IsReplaceable, HasAnswer, HasValue, HasStub, Reaches, Denotes}
 use Rattle.wild_meaning.specs.Field.{formula_of}
-use Rattle.wild_meaning.specs.Formula.{IsGoal, IsPlaceRelative}
+use Rattle.wild_meaning.specs.Formula.{IsGoal, IsPlaceRelative, TakesAddress, TakesOffset}
 use Rattle.wild_meaning.specs.Item.{Item, IsInput, IsKept, IsReference}
 use Rattle.wild_meaning.specs.Template.{Operand, call_operand, jump_operand, slot_call_operand, slot_jump_operand, IsTemplate}
-use Rattle.wild_meaning.specs.Reference.{HasPlace, GoesThroughSlot, IsAsked}
-use Rattle.wild_meaning.specs.Linked.{IsBlank, IsBehind}
+use Rattle.wild_meaning.specs.Reference.{HasPlace, GoesThroughSlot, IsAsked, IsLeftToLoader, IsStubbed, IsLinkedAlone}
+use Rattle.wild_meaning.specs.Linked.{IsBlank}
 use Rattle.wild_reloc.specs.Formula.{Formula}
-use Rattle.wild_laws.specs.Laws.{IsStatic}
 use Rattle.wild_laws.specs.FirstPath.{IsLoadedSection}
 
 -- ---- worlds
@@ -55,37 +58,76 @@ pub record IsRoomy (l : Layout) (base : ℕ) : Type 0 where
   pub aligned : base % l.page_size ≡ 0
   pub ends : All (λ (g : Segment). base + g.address + g.mem_size ≤ 2 ^ 64) l.segments
 
--- whatever else a world has, base 0 is legal
+-- whatever else a world has, base 0 is legal where it answers for modules, resolvers and dynamic symbols
 abbrev pub ZeroIsLegal : Type 0
-ZeroIsLegal = (l : Layout) (w : World) → errors l ≡ [] → w.base ≡ 0 → KnowsModule l w → HasResolvers l w → IsLegal l w
+ZeroIsLegal = (l : Layout) (w : World) → errors l ≡ [] → w.base ≡ 0 → KnowsModule l w → HasResolvers l w → AnswersSymbols l w → IsLegal l w
 
 -- where the output is movable, so is every roomy base
 abbrev pub MovedIsLegal : Type 0
-MovedIsLegal = (l : Layout) (w : World) → IsMovable l.kind → IsRoomy l w.base → KnowsModule l w → HasResolvers l w → IsLegal l w
+MovedIsLegal = (l : Layout) (w : World) → IsMovable l.kind → IsRoomy l w.base → KnowsModule l w → HasResolvers l w → AnswersSymbols l w → IsLegal l w
 
 -- the resolvers of a layout's symbols answer that, each at its own address
 abbrev pub AreAnswered : Layout → World → (ℕ → ℕ) → Type 0
 AreAnswered l w answers = All (λ (s : Symbol). (r : Resolution) → s.resolution ≡ Some r → answer_at w ((w.base + r.raw_value) % 2 ^ 64) ≡ Ok (answers ((w.base + r.raw_value) % 2 ^ 64))) l.symbols
 
--- a legal world with that base and those answers
-pub record HasWorld (l : Layout) (base : ℕ) (answers : ℕ → ℕ) : Type 0 where
-  pub world : World
-  pub at : world.base ≡ base
-  pub legal : IsLegal l world
-  pub first : IsFirstModule l world
-  pub answered : AreAnswered l world answers
-
 -- each answer is an address of the machine
 abbrev pub AreAddresses : (ℕ → ℕ) → Type 0
 AreAddresses answers = (a : ℕ) → answers a < 2 ^ 64
 
--- so legal worlds are there, whatever the resolvers answer, each with a distance of the output's thread-local data: at base 0,
--- and where the output is movable at every roomy base
-pub record WorldsAreThere : Type 0 where
-  pub zero : (l : Layout) (answers : ℕ → ℕ) → AreAddresses answers → errors l ≡ [] → l.tls.start < 2 ^ 64 → HasWorld l 0 answers
-  pub elsewhere : (l : Layout) (base : ℕ) (answers : ℕ → ℕ) → AreAddresses answers → IsMovable l.kind → IsRoomy l base → l.tls.start < 2 ^ 64 → HasWorld l base answers
+-- what another module has for each index of the dynamic symbol table, and how far its thread-local data are from the thread pointer
+pub record Others : Type 0 where
+  pub address : ℕ → ℕ
+  pub offset : ℕ → ℕ
+  pub size : ℕ → ℕ
+  pub distance : ℤ
 
--- every kind but a partial object is loaded, at its own addresses or elsewhere; of the static ones soundness speaks
+-- these are numbers of the machine
+pub record AreNumbers (o : Others) : Type 0 where
+  pub address : AreAddresses o.address
+  pub offset : AreAddresses o.offset
+  pub size : AreAddresses o.size
+  pub distance : FitsSigned w64 o.distance
+
+-- the module behind the first one
+abbrev pub other_module : ℕ
+other_module = 2
+
+-- the answer for an index is what the other module has
+pub record IsOthers (o : Others) (index : ℕ) (x : Answer) : Type 0 where
+  pub address : x.address ≡ o.address index
+  pub module : x.module ≡ other_module
+  pub offset : x.offset ≡ o.offset index
+  pub size : x.size ≡ o.size index
+
+-- symbols that are copied are the output's own then, and have room for as many bytes as their sizes say, behind file bytes and apart
+pub record CopiesHaveRoom (l : Layout) : Type 0 where
+  pub own : (i : ℕ) → IsCopied l i → IsReplaceable l i false
+  pub behind : (i raw z k : ℕ) → IsCopied l i → HasRaw l i raw → HasOwnSize l i z → k < z → IsBehind l (raw + k)
+  pub apart : (i j c d raw other z y : ℕ) → IsCopied l i → IsCopied l j → IsDefinedBy l i c → IsDefinedBy l j d → (c ≡ d → ⊥) → HasRaw l i raw → HasRaw l j other → HasOwnSize l i z → HasOwnSize l j y → AreBeside raw z other y
+
+-- a legal world with that base, those answers of resolvers, and that other module
+pub record HasWorld (l : Layout) (base : ℕ) (answers : ℕ → ℕ) (others : Others) : Type 0 where
+  pub world : World
+  pub at : world.base ≡ base
+  pub legal : IsLegal l world
+  pub answered : AreAnswered l world answers
+  pub found : (i : ℕ) (x : Answer) → IsReplaceable l i true → (h : HasAnswer l world i x) → IsOthers others h.index x
+  pub far : distance_of world other_module ≡ Ok (cast_unsigned w64 others.distance)
+
+-- what is known of a layout whose worlds are told
+pub record IsTold (l : Layout) : Type 0 where
+  pub faultless : errors l ≡ []
+  pub numbers : NumbersFit l
+  pub flags : HaveTheirFlags l
+  pub copies : CopiesHaveRoom l
+
+-- so legal worlds are there, whatever resolvers answer and the other module has: at base 0, and where the output is movable at every
+-- roomy base
+pub record WorldsAreThere : Type 0 where
+  pub zero : (l : Layout) (answers : ℕ → ℕ) (others : Others) → AreAddresses answers → AreNumbers others → IsTold l → HasWorld l 0 answers others
+  pub elsewhere : (l : Layout) (base : ℕ) (answers : ℕ → ℕ) (others : Others) → AreAddresses answers → AreNumbers others → IsMovable l.kind → IsRoomy l base → IsTold l → HasWorld l base answers others
+
+-- every kind but a partial object is loaded, at its own addresses or elsewhere
 pub record KindsAreLoaded : Type 0 where
   pub static : IsFixed (output.StaticExecutable model.NonRelocatable)
   pub dynamic : IsFixed (output.DynamicExecutable model.NonRelocatable)
@@ -93,7 +135,6 @@ pub record KindsAreLoaded : Type 0 where
   pub dynamic_elsewhere : IsMovable (output.DynamicExecutable model.Relocatable)
   pub shared : IsMovable output.SharedObject
   pub each : (kind : OutputKind) → kind ≢ output.PartialObject → IsLoadable kind
-  pub sound : (any : RelocationModel) → IsStatic (output.StaticExecutable any)
 
 -- ---- items and references
 
@@ -125,6 +166,16 @@ pub record SlotsAreAsked : Type 0 where
   pub numbers : (l : Layout) (w : World) (item : Item) (r : InputRelocation) (f : Formula) → l.machine ≡ machine.X86_64 → formula_of l.machine r.number ≡ Some f → (IsPlaceRelative f.value → ⊥) → (Contains (r_x86_64_gotpcrel ∷ r_x86_64_gotpcrelx ∷ []) r.number → ⊥) → IsAsked l w item r
   pub elsewhere : (l : Layout) (w : World) (item : Item) (r : InputRelocation) (f : Formula) → formula_of l.machine r.number ≡ Some f → (IsPlaceRelative f.value → ⊥) → (IsSet item.flags shf_execinstr → ⊥) → IsAsked l w item r
 
+-- a reference takes the output's own symbol only where another module may have one: not of a symbol that is not replaceable, nor
+-- without one; not by an expression that has neither the symbol's address nor its offset, as a slot's or a stub's distance; not in
+-- a field that is left to a loader, nor where the address is a stub's
+pub record FewAreLinkedAlone : Type 0 where
+  pub own : (l : Layout) (item : Item) (r : InputRelocation) (i : ℕ) → r.symbol ≡ Some i → IsReplaceable l i false → IsLinkedAlone l item r → ⊥
+  pub unnamed : (l : Layout) (item : Item) (r : InputRelocation) → r.symbol ≡ None → IsLinkedAlone l item r → ⊥
+  pub valued : (l : Layout) (item : Item) (r : InputRelocation) (f : Formula) → formula_of l.machine r.number ≡ Some f → (TakesOffset f.value → ⊥) → (TakesAddress f.value → ⊥) → IsLinkedAlone l item r → ⊥
+  pub left : (l : Layout) (item : Item) (r : InputRelocation) (i : ℕ) (f : Formula) → r.symbol ≡ Some i → formula_of l.machine r.number ≡ Some f → IsLeftToLoader l item i f → IsLinkedAlone l item r → ⊥
+  pub stubbed : (l : Layout) (item : Item) (r : InputRelocation) (i : ℕ) (f : Formula) → r.symbol ≡ Some i → formula_of l.machine r.number ≡ Some f → (TakesOffset f.value → ⊥) → IsStubbed l i → IsLinkedAlone l item r → ⊥
+
 -- each loaded, allocated input section without data is asked for zeros, but those that each thread has a copy of, at every
 -- address behind the file bytes of a loaded segment
 pub record BlanksAreAsked : Type 0 where
@@ -133,19 +184,27 @@ pub record BlanksAreAsked : Type 0 where
 
 -- ---- symbols
 
--- of symbols that are no IFUNC: the address of one that is not absolute moves with the base, an absolute one's value does not;
--- without a stub no other address stands for the symbol, and code that goes to it comes to that
+-- of the output's own symbols that are no IFUNC: the address of one that is not absolute moves with the base, an absolute one's value
+-- does not; without a stub no other address stands for the symbol, and code that goes to it comes to that
 pub record AddressesMove : Type 0 where
-  pub moves : (l : Layout) (w : World) (m : Memory) (i raw : ℕ) → HasRaw l i raw → HasFlag l i ifunc false → HasFlag l i absolute false → Denotes l w m i ((w.base + raw) % 2 ^ 64)
-  pub stays : (l : Layout) (w : World) (m : Memory) (i raw : ℕ) → HasRaw l i raw → HasFlag l i ifunc false → HasFlag l i absolute true → Denotes l w m i raw
-  pub alone : (l : Layout) (w : World) (m : Memory) (i a : ℕ) → Denotes l w m i a → HasFlag l i ifunc false → HasFlag l i absolute false → ((p : ℕ) → HasStub l i p → ⊥) → (raw : ℕ) × HasRaw l i raw × (a ≡ (w.base + raw) % 2 ^ 64)
-  pub goals : (l : Layout) (w : World) (m : Memory) (i a : ℕ) → IsGoal l w m (Some i) a → HasFlag l i ifunc false → HasFlag l i absolute false → (raw : ℕ) × HasRaw l i raw × Reaches m a ((w.base + raw) % 2 ^ 64)
+  pub moves : (l : Layout) (w : World) (m : Memory) (i raw : ℕ) → IsReplaceable l i false → HasRaw l i raw → HasFlag l i ifunc false → HasFlag l i absolute false → Denotes l w m i ((w.base + raw) % 2 ^ 64)
+  pub stays : (l : Layout) (w : World) (m : Memory) (i raw : ℕ) → IsReplaceable l i false → HasRaw l i raw → HasFlag l i ifunc false → HasFlag l i absolute true → Denotes l w m i raw
+  pub alone : (l : Layout) (w : World) (m : Memory) (i a : ℕ) → IsReplaceable l i false → Denotes l w m i a → HasFlag l i ifunc false → HasFlag l i absolute false → ((p : ℕ) → HasStub l i p → ⊥) → (raw : ℕ) × HasRaw l i raw × (a ≡ (w.base + raw) % 2 ^ 64)
+  pub goals : (l : Layout) (w : World) (m : Memory) (i a : ℕ) → IsReplaceable l i false → IsGoal l w m (Some i) a → HasFlag l i ifunc false → HasFlag l i absolute false → (raw : ℕ) × HasRaw l i raw × Reaches m a ((w.base + raw) % 2 ^ 64)
 
--- an IFUNC's value is what its resolver answers, and nothing else; in a legal world it has one, an address
+-- an own IFUNC's value is what its resolver answers, and nothing else; in a legal world it has one, an address
 pub record ResolversAnswer : Type 0 where
-  pub value : (l : Layout) (w : World) (i raw a : ℕ) → HasRaw l i raw → HasFlag l i ifunc true → answer_at w ((w.base + raw) % 2 ^ 64) ≡ Ok a → HasValue l w i a
-  pub alone : (l : Layout) (w : World) (i a : ℕ) → HasValue l w i a → HasFlag l i ifunc true → (raw : ℕ) × HasRaw l i raw × (answer_at w ((w.base + raw) % 2 ^ 64) ≡ Ok a)
-  pub there : (l : Layout) (w : World) (i c raw : ℕ) → IsLegal l w → IsDefinedBy l i c → IsResolved l c raw → HasFlag l i ifunc true → (a : ℕ) × HasValue l w i a × (a < 2 ^ 64)
+  pub value : (l : Layout) (w : World) (i raw a : ℕ) → IsReplaceable l i false → HasRaw l i raw → HasFlag l i ifunc true → answer_at w ((w.base + raw) % 2 ^ 64) ≡ Ok a → HasValue l w i a
+  pub alone : (l : Layout) (w : World) (i a : ℕ) → IsReplaceable l i false → HasValue l w i a → HasFlag l i ifunc true → (raw : ℕ) × HasRaw l i raw × (answer_at w ((w.base + raw) % 2 ^ 64) ≡ Ok a)
+  pub there : (l : Layout) (w : World) (i c raw : ℕ) → IsLegal l w → IsReplaceable l i false → IsDefinedBy l i c → IsResolved l c raw → HasFlag l i ifunc true → (a : ℕ) × HasValue l w i a × (a < 2 ^ 64)
+
+-- a replaceable symbol's value is what the world answers for its index, and nothing else; so is an own one's that has an index, in a
+-- legal world
+pub record WorldsAnswer : Type 0 where
+  pub value : (l : Layout) (w : World) (i : ℕ) (x : Answer) → IsReplaceable l i true → HasAnswer l w i x → HasValue l w i x.address
+  pub alone : (l : Layout) (w : World) (i a : ℕ) → IsReplaceable l i true → HasValue l w i a → (x : Answer) × HasAnswer l w i x × (a ≡ x.address)
+  pub one : (l : Layout) (w : World) (i : ℕ) (x y : Answer) → HasAnswer l w i x → HasAnswer l w i y → x ≡ y
+  pub own : (l : Layout) (w : World) (i : ℕ) (x : Answer) → IsLegal l w → IsReplaceable l i false → HasAnswer l w i x → HasValue l w i x.address
 
 -- in a legal world each symbol of an executable with an address has a place in the thread's data, which is that address less
 -- the thread pointer, and no other

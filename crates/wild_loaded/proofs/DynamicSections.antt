@@ -1,61 +1,100 @@
 -- The dynamic section of an image, and the tables that it names.
-use Rattle.std.proofs.Common.{◌≡◌, ℕ, suc, ◌+◌, ◌-◌, ◌*◌, ◌/◌, ◌≤◌, inl, inr, true, List, [], ◌∷◌, ◌++◌, length, map, replicate, refl, sym, ap, ◌∙◌, arith, subst}
+use Rattle.std.proofs.Common.{◌≡◌, ℕ, zero, suc, ◌+◌, ◌-◌, ◌*◌, ◌/◌, ◌^◌, ◌<◌, ◌≤◌, inl, inr, true, List, [], ◌∷◌, ◌++◌, length, map, take, get_or, replicate, All, refl, sym, ap, ◌∙◌, arith, subst}
 use Rattle.std.specs.Prelude.{Option, Some, None, Contains, ◌==◌}
 use Rattle.std.specs.List.{flat_map}
 use Rattle.std.proofs.lemmas.Bool.{cases_Bool}
 use Rattle.std.proofs.lemmas.List.{length-append, length-replicate}
-use Rattle.std.proofs.lemmas.List.Elements.{All-contains}
+use Rattle.std.proofs.lemmas.List.Elements.{All-nil, All-append, All-contains}
+use Rattle.std.proofs.lemmas.Option.{slice_get-get_or}
 use Rattle.wild_words.specs.Words.{Stands}
 use Rattle.wild_words.proofs.OverlayLemmas.{Stands-inner}
 use Rattle.wild_records.specs.Abi.Segment.{pt_dynamic}
-use Rattle.wild_records.specs.Dynamic.{dynamic_entry_size}
+use Rattle.wild_records.specs.Dynamic.{dynamic_entry_size, DynamicEntryFits}
 use Rattle.wild_records.specs.declared.dynamic.DynamicEntry.{DynamicEntry}
 use Rattle.wild_records.specs.declared.program_header.ProgramHeader.{ProgramHeader}
+use Rattle.wild_plan.specs.declared.file.Group.{Group}
 use Rattle.wild_plan.specs.declared.part.Part.{Part}
+use Rattle.wild_plan.specs.declared.part.Role.{Role}
 use Rattle.wild_plan.specs.declared.part.Role.TheVariants as role
 use Rattle.wild_plan.specs.declared.section.Segment.{Segment}
 use Rattle.wild_plan.specs.declared.layout.Layout.{Layout}
 use Rattle.wild_plan.specs.declared.dynamic.DynamicTag.TheVariants as tags
 use Rattle.wild_plan.specs.Dynamic.{dynamic_number, dynamic_entry, dynamic_flags, dynamic_entries, dynamic_count}
+use Rattle.wild_plan.specs.Lists.{total}
+use Rattle.wild_plan.specs.Places.{role_place}
 use Rattle.wild_plan.specs.Segments.{part_with}
 use Rattle.wild_plan.specs.Kinds.{needs_dynamic}
 use Rattle.wild_plan.specs.Lookups.{image_size}
 use Rattle.wild_headers.specs.Headers.{program_header}
 use Rattle.wild_layout.specs.Image.{bytes}
 use Rattle.wild_layout.specs.Numbers.{NumbersFit}
-use Rattle.wild_layout.specs.Geometry.{IsLaidOut, SegmentLoads, first_dynamic, table_bytes, TablesStand}
-use Rattle.wild_layout.specs.Content.{dynamic_room}
+use Rattle.wild_layout.specs.Geometry.{IsLaidOut, SegmentLoads, first_dynamic, table_bytes, all_needed, TablesStand}
+use Rattle.wild_layout.specs.Content.{dynamic_room, content}
 use Rattle.wild_loader.specs.Tables.{first_dynamic as found_dynamic, tagged}
 use Rattle.wild_loader.specs.Laws.{HasDynamic, HasTables, IsTableOf, word_bytes, rela_bytes, before_null}
-use Rattle.wild_tables.specs.Dynamic.{dynamic_records, dynamic_bytes, entries_bytes, LengthsOfDynamic, RecordsStand, RecordsFit, EntriesAreFound, TablesAreNamed}
+use Rattle.wild_tables.specs.Dynamic.{dynamic_records, dynamic_bytes, entries_bytes, IsNeeded, NeededAreOfLibraries, LengthsOfRecords, RecordsStand, RecordsFit, EntriesAreFound, TablesAreNamed}
 use Rattle.wild_relr.specs.Laws.{WordsFit}
-use Rattle.wild_slots.specs.Entries.{OwnEntries}
+use Rattle.wild_slots.specs.Stand.{PairStands}
+use Rattle.wild_loaded.specs.WholeSlots.{HasWholeSlots}
 use Rattle.wild_loaded.specs.Laws.{TablesAreFound}
 use Rattle.wild_loaded.specs.Tables.{tables_of}
 use Rattle.wild_loaded.proofs.Loads.{length-bytes}
-use Rattle.wild_loaded.proofs.TablesFit.{entries_fit, words_fit}
+use Rattle.wild_loaded.proofs.TablesFit.{entries_fit, jumps_fit, words_fit}
+use Rattle.wild_loaded.proofs.PairPlace.{pair_low}
 use Rattle.wild_loaded.proofs.TableBytes.{words_are, entries_are, jumps_are, words_named, entries_named, jumps_named}
-use Rattle.wild_loaded.proofs.Jumps.{jumps_fit}
 
 -- what the crates below owe of a dynamic section
 pub record DynamicLaws : Type 0 where
   pub stand : TablesStand
-  pub lengths : LengthsOfDynamic
+  pub needed : NeededAreOfLibraries
+  pub lengths : LengthsOfRecords
   pub records : RecordsStand
   pub fit : RecordsFit
   pub found : EntriesAreFound
   pub named : TablesAreNamed
   pub words : WordsFit
+  pub pair : PairStands
+
+-- ---- the entries of libraries
+
+-- what groups give to a part before one of them is not more than they all give
+given_before : (of : Group → List ℕ) (gs : List Group) (j : ℕ) → total (λ (g : Group). length (of g)) (take j gs) ≤ length (flat_map of gs)
+given_before of gs zero = omega arith
+given_before of [] (suc j) = omega arith
+given_before of (g ∷ gs) (suc j) =
+    let n = length-append (of g) (flat_map of gs) in
+    let rest = given_before of gs j in
+    omega (arith, n, rest)
+
+-- a table has fewer bytes than addresses have numbers
+table_low : (l : Layout) (r : Role) (o : Option Part) → IsLaidOut l → (role_place r ≡ 0 → ⊥) → part_with r l.parts ≡ o → length (table_bytes l r) < 2 ^ 64
+table_low l r None laid place e = (let none = ap (λ (bs : List ℕ). length bs) ((laid.roles r place).missing e) in omega (arith, none))
+table_low l r (Some p) laid place e =
+    let t = (laid.roles r place).there p e in
+    let size = t.size in
+    let low = subst (λ (q : Part). q.offset + q.size ≤ 2 ^ 62) t.listed.2 (laid.parts t.listed.0 p t.listed.1).low in
+    omega (arith, size, low)
+
+-- so the strings of each group begin below 2^64
+starts_low : (l : Layout) → IsLaidOut l → needs_dynamic l.kind ≡ true → All (λ (g : Group). g.dynstr_start < 2 ^ 64) l.groups
+starts_low l laid needs = λ k d lt. (
+    let start = laid.starts k (get_or l.groups k d) (slice_get-get_or l.groups k d lt) needs in
+    let before = given_before (content l role.Dynstr) l.groups k in
+    let low = table_low l role.Dynstr (part_with role.Dynstr l.parts) laid (λ e. cc) refl in
+    omega (arith, start, before, low)
+    )
 
 -- ---- the part of the dynamic section
 
--- the dynamic section is there, with the last file's entries and the room behind them
+-- the dynamic section is there, with the entries of libraries, the last file's and the room behind them
 pub record HasDynamicPart (l : Layout) : Type 0 where
   pub part : Part
   pub there : part_with role.Dynamic l.parts ≡ Some part
   pub some : 1 ≤ part.size
-  pub room : dynamic_entry_size * dynamic_count l ≤ part.size
-  pub bytes : table_bytes l role.Dynamic ≡ dynamic_bytes l part.size
+  pub room : ℕ
+  pub fits : dynamic_entry_size * dynamic_count l ≤ room
+  pub size : part.size ≡ dynamic_entry_size * length (all_needed l) + room
+  pub bytes : table_bytes l role.Dynamic ≡ entries_bytes (all_needed l) ++ dynamic_bytes l room
 
 no_tag : (n : ℕ) → tagged n [] ≡ None
 unfolding tagged
@@ -64,7 +103,7 @@ no_tag n = refl
 -- some entry is there: DT_FLAGS is one of them
 some_entry : (l : Layout) → EntriesAreFound → needs_dynamic l.kind ≡ true → 1 ≤ dynamic_count l
 unfolding dynamic_entry
-some_entry l law needs = by_entries (dynamic_entries l) (law l [] tags.Flags needs (λ e. cc))
+some_entry l law needs = by_entries (dynamic_entries l) (law l [] [] tags.Flags (All-nil IsNeeded) needs (λ e. cc))
   where
     by_entries : (ds : List DynamicEntry) → tagged (dynamic_number tags.Flags) (before_null (ds ++ [])) ≡ Some (dynamic_flags l.kind l.options) → 1 ≤ length ds
     by_entries [] h = (let e : None ≡ Some (dynamic_flags l.kind l.options) = sym (no_tag (dynamic_number tags.Flags)) ∙ h in cc)
@@ -73,33 +112,29 @@ some_entry l law needs = by_entries (dynamic_entries l) (law l [] tags.Flags nee
 abbrev zeroed : ℕ
 zeroed = 0
 
--- the entries' bytes
-entries_length : (l : Layout) → LengthsOfDynamic → length (entries_bytes (dynamic_entries l)) ≡ dynamic_entry_size * dynamic_count l
-entries_length l law =
-    let n = dynamic_entry_size * dynamic_count l in
-    let whole = law l n (omega arith) in
-    let parts = length-append (entries_bytes (dynamic_entries l)) (replicate (n - n) zeroed) in
-    let rest = length-replicate (n - n) zeroed in
-    omega (arith, whole, parts, rest)
-
-dynamic_part : (l : Layout) → LengthsOfDynamic → EntriesAreFound → IsLaidOut l → needs_dynamic l.kind ≡ true → HasDynamicPart l
+dynamic_part : (l : Layout) → LengthsOfRecords → EntriesAreFound → IsLaidOut l → needs_dynamic l.kind ≡ true → HasDynamicPart l
 dynamic_part l lengths found laid needs =
     let p = laid.loadable.movable needs in
     let whole = laid.dynamic needs in
     let size = ((laid.roles role.Dynamic (λ e. cc)).there p.0 p.1).size in
     let bytes = ap (λ (bs : List ℕ). length bs) whole in
     let n = dynamic_entry_size * dynamic_count l in
-    let front = entries_length l lengths in
+    let f = dynamic_entry_size * length (all_needed l) in
+    let behind = length-append (entries_bytes (all_needed l)) (dynamic_bytes l (dynamic_room l)) in
     let parts = length-append (entries_bytes (dynamic_entries l)) (replicate (dynamic_room l - n) zeroed) in
+    let first = lengths (all_needed l) in
+    let front = lengths (dynamic_entries l) in
     let rest = length-replicate (dynamic_room l - n) zeroed in
     let count = some_entry l found needs in
-    let same : p.0.size - n ≡ dynamic_room l - n = omega (arith, size, bytes, front, parts, rest) in
+    let same : p.0.size - f - n ≡ dynamic_room l - n = omega (arith, size, bytes, behind, first, front, parts, rest) in
     record {
       part = p.0;
       there = p.1;
-      some = omega (arith, size, bytes, front, parts, rest, count);
-      room = omega (arith, size, bytes, front, parts, rest);
-      bytes = whole ∙ ap (λ (k : ℕ). entries_bytes (dynamic_entries l) ++ replicate k 0) (sym same);
+      some = omega (arith, size, bytes, behind, first, front, parts, rest, count);
+      room = p.0.size - f;
+      fits = omega (arith, size, bytes, behind, first, front, parts, rest);
+      size = omega (arith, size, bytes, behind, first, front, parts, rest);
+      bytes = whole ∙ ap (λ (k : ℕ). entries_bytes (all_needed l) ++ (entries_bytes (dynamic_entries l) ++ replicate k 0)) (sym same);
     }
 
 -- ---- the segment of the dynamic section
@@ -132,29 +167,33 @@ first_listed (x ∷ xs) g h =
 
 -- ---- the dynamic section
 
-has_dynamic : (l : Layout) → DynamicLaws → NumbersFit l → IsLaidOut l → (d : HasDynamicPart l) → HasDynamic (bytes l) (map (program_header l) l.segments) (dynamic_records l d.part.size)
-has_dynamic l laws numbers laid d =
+-- all entries
+abbrev all_records : Layout → ℕ → List DynamicEntry
+all_records l room = all_needed l ++ dynamic_records l room
+
+has_dynamic : (l : Layout) → DynamicLaws → NumbersFit l → IsLaidOut l → needs_dynamic l.kind ≡ true → (d : HasDynamicPart l) → HasDynamic (bytes l) (map (program_header l) l.segments) (all_records l d.room)
+has_dynamic l laws numbers laid needs d =
     let s = laid.loadable.dynamic d.part d.there in
     let place = segment_place l s.segment in
     let c = first_listed l.segments s.segment s.first in
     let file = (All-contains (SegmentLoads (image_size l)) l.segments s.segment laid.loadable.each c).file in
     let n = length-bytes l laid in
-    let at = laws.records l d.part.size d.room in
+    let at = laws.records l (all_needed l) d.room d.fits in
     let offset = place.0 ∙ s.offset in
-    let size = place.1 ∙ s.file_size in
+    let size = place.1 ∙ s.file_size ∙ d.size in
     let o = place.0 in
     let z = place.1 in
     let here = laws.stand l laid role.Dynamic (λ e. cc) d.part d.there d.some in
     let whole = subst (λ (bs : List ℕ). Stands (bytes l) d.part.offset bs) d.bytes here in
-    let inner = Stands-inner (bytes l) (dynamic_bytes l d.part.size) (entries_bytes (dynamic_records l d.part.size)) d.part.offset 0 whole at.stand in
+    let inner = Stands-inner (bytes l) (entries_bytes (all_needed l) ++ dynamic_bytes l d.room) (entries_bytes (all_records l d.room)) d.part.offset 0 whole at.stand in
     let nothing : d.part.offset + 0 ≡ (program_header l s.segment).offset = (let f : d.part.offset + 0 ≡ d.part.offset = omega arith in f ∙ sym offset) in
     record {
       segment = program_header l s.segment;
       first = first_header l l.segments s.segment s.first;
       room = omega (arith, file, n, o, z);
       count = ap (λ (k : ℕ). k / dynamic_entry_size) size ∙ at.count;
-      fits = laws.fit l d.part.size numbers.dynamic;
-      entries = subst (λ (a : ℕ). Stands (bytes l) a (entries_bytes (dynamic_records l d.part.size))) nothing inner;
+      fits = All-append DynamicEntryFits (all_needed l) (dynamic_records l d.room) (laws.needed.fit l l.groups (starts_low l laid needs)) (laws.fit l d.room numbers.dynamic);
+      entries = subst (λ (a : ℕ). Stands (bytes l) a (entries_bytes (all_records l d.room))) nothing inner;
     }
 
 -- ---- the tables
@@ -163,20 +202,20 @@ table_of : (image : List ℕ) (hs : List ProgramHeader) (a b c d : Option ℕ) (
 table_of image hs a b c d xs ys e f g h =
     subst (λ (o : Option ℕ). IsTableOf image hs o d ys) (sym e) (subst (λ (o : Option ℕ). IsTableOf image hs a o ys) (sym f) (subst (λ (bs : List ℕ). IsTableOf image hs a b bs) g h))
 
-has_tables : (l : Layout) (room : ℕ) → DynamicLaws → NumbersFit l → IsLaidOut l → OwnEntries l → needs_dynamic l.kind ≡ true → HasTables (bytes l) (map (program_header l) l.segments) (dynamic_records l room) (tables_of l)
-has_tables l room laws numbers laid own needs =
+has_tables : (l : Layout) (room : ℕ) → DynamicLaws → NumbersFit l → IsLaidOut l → HasWholeSlots l → needs_dynamic l.kind ≡ true → HasTables (bytes l) (map (program_header l) l.segments) (all_records l room) (tables_of l)
+has_tables l room laws numbers laid slots needs =
     let hs = map (program_header l) l.segments in
-    let n = laws.named l room needs in
+    let n = laws.named l (all_needed l) room (laws.needed.names l l.groups) needs in
     record {
       words_fit = words_fit l laws.words numbers.symbols;
       words = table_of (bytes l) hs (dynamic_entry l tags.Relr) (dynamic_entry l tags.RelrSize) _ _ (table_bytes l role.RelrDyn) (flat_map word_bytes (tables_of l).words) n.words n.words_size (words_are l) (words_named l laws.stand laid needs);
-      entries_fit = entries_fit l numbers.symbols;
-      entries = table_of (bytes l) hs (dynamic_entry l tags.Rela) (dynamic_entry l tags.RelaSize) _ _ (table_bytes l role.RelaDynRelative) (flat_map rela_bytes (tables_of l).entries) n.entries n.entries_size (entries_are l) (entries_named l laws.stand laid own needs);
-      jumps_fit = jumps_fit l own numbers.symbols;
+      entries_fit = entries_fit l (pair_low l laws.pair laid slots) numbers.symbols;
+      entries = table_of (bytes l) hs (dynamic_entry l tags.Rela) (dynamic_entry l tags.RelaSize) _ _ (table_bytes l role.RelaDynRelative ++ table_bytes l role.RelaDynGeneral) (flat_map rela_bytes (tables_of l).entries) n.entries n.entries_size (entries_are l) (entries_named l laws.stand laid needs);
+      jumps_fit = jumps_fit l numbers.symbols;
       jumps = table_of (bytes l) hs (dynamic_entry l tags.JmpRel) (dynamic_entry l tags.PltRelSize) _ _ (table_bytes l role.RelaPlt) (flat_map rela_bytes (tables_of l).jumps) n.jumps n.jumps_size (jumps_are l) (jumps_named l laws.stand laid needs);
     }
 
 pub tables_found : DynamicLaws → TablesAreFound
-tables_found laws = λ l needs numbers laid own.
+tables_found laws = λ l needs numbers laid slots.
     let d = dynamic_part l laws.lengths laws.found laid needs in
-    record { entries = dynamic_records l d.part.size; dynamic = has_dynamic l laws numbers laid d; tables = has_tables l d.part.size laws numbers laid own.entries needs }
+    record { entries = all_records l d.room; dynamic = has_dynamic l laws numbers laid needs d; tables = has_tables l d.room laws numbers laid slots needs }

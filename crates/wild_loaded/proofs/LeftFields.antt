@@ -1,6 +1,6 @@
 -- What the entries of fields make a loader do in a legal world, and what these fields are in the file.
 use Rattle.std.proofs.Common.{◌≡◌, ℕ, ◌+◌, ◌%◌, ◌^◌, ◌<◌, ◌⊎◌, inl, inr, Bool, true, false, List, [], ◌∷◌, length, replicate, refl, sym, ap, ◌∙◌, arith, subst}
-use Rattle.std.specs.Prelude.{⊤, Option, Some, None, Result, Ok, Err, ◌==◌, ◌&&◌, ◌||◌, if◌then◌else◌, slice_get, slice_range}
+use Rattle.std.specs.Prelude.{⊤, Option, Some, None, Result, Ok, Err, option_map, option_and_then, ◌==◌, ◌&&◌, ◌||◌, if◌then◌else◌, slice_get}
 use Rattle.std.specs.List.{list_all}
 use Rattle.std.specs.Int.{w64}
 use Rattle.std.proofs.lemmas.Bool.{cases_Bool, eqb-true}
@@ -10,15 +10,18 @@ use Rattle.wild_words.specs.Words.{word}
 use Rattle.wild_words.proofs.WordLemmas.{length-word}
 use Rattle.wild_records.specs.Abi.Relocation.{r_x86_64_size32, r_x86_64_size64}
 use Rattle.wild_plan.specs.declared.fault.Fault.{Fault}
+use Rattle.wild_plan.specs.declared.fault.Missing.TheVariants as missing
 use Rattle.wild_plan.specs.declared.kind.Machine.{Machine}
 use Rattle.wild_plan.specs.declared.kind.Machine.TheVariants as machine
 use Rattle.wild_plan.specs.declared.input.InputRelocation.{InputRelocation}
 use Rattle.wild_plan.specs.declared.input.InputSection.{InputSection}
 use Rattle.wild_plan.specs.declared.symbol.Resolution.{Resolution}
 use Rattle.wild_plan.specs.declared.symbol.Symbol.{Symbol}
+use Rattle.wild_plan.specs.declared.symbol.ValueFlags.{ValueFlags}
 use Rattle.wild_plan.specs.declared.layout.Layout.{Layout}
 use Rattle.wild_plan.specs.declared.treatment.Treatment.{Treatment}
 use Rattle.wild_plan.specs.declared.treatment.Treatment.TheVariants as treatments
+use Rattle.wild_plan.specs.Entries.{is_left_to_entry}
 use Rattle.wild_plan.specs.Flags.{has_flag, ifunc}
 use Rattle.wild_plan.specs.Kinds.{is_position_independent, is_shared_object}
 use Rattle.wild_plan.specs.Lookups.{writable, allocated, canonical}
@@ -38,7 +41,7 @@ use Rattle.wild_reloc.specs.declared.info.Width.{Width}
 use Rattle.wild_reloc.specs.declared.info.Width.TheVariants.{Zero, One, Two, Four, Eight}
 use Rattle.wild_layout.specs.declared.decision.Decision.TheVariants.{Left}
 use Rattle.wild_layout.specs.Decide.{added, left_to, chosen_to, decide_by, decided}
-use Rattle.wild_layout.specs.Values.{raw_value, raw_address, address_or, definition_of, resolution_of, index_of}
+use Rattle.wild_layout.specs.Values.{address_or, index_of, decided_address}
 use Rattle.wild_layout.specs.Numbers.{NumbersFit, SymbolNumbers}
 use Rattle.wild_layout.specs.Geometry.{IsLaidOut}
 use Rattle.wild_layout.proofs.DecideLemmas.{IsLeft, decided_left}
@@ -69,7 +72,7 @@ each_is_size_row : list_all (λ (e : ℕ × RelocationKindInfo). is_size_row e.0
 each_is_size_row = refl
 
 -- the number and the field of a row
-IsSizeRow : ℕ → RelocationSize → Type 0
+abbrev IsSizeRow : ℕ → RelocationSize → Type 0
 IsSizeRow n z = ((n ≡ r_x86_64_size32) × (z ≡ ByteSize Four)) ⊎ ((n ≡ r_x86_64_size64) × (z ≡ ByteSize Eight))
 
 four_bytes : (z : RelocationSize) → has_bytes Four z ≡ true → z ≡ ByteSize Four
@@ -173,20 +176,213 @@ tells l s r = row_tells l s r.number r.symbol (row_of l.machine r.number)
 -- ---- the symbol that an entry names
 
 -- its definition, with its resolution and its index
-record IsIndexed (l : Layout) (i index : ℕ) : Type 0 where
+pub record IsIndexed (l : Layout) (i index : ℕ) : Type 0 where
+  pub symbol : Symbol
+  pub listed : slice_get l.symbols (canonical l i) ≡ Some symbol
+  pub resolution : Resolution
+  pub resolved : symbol.resolution ≡ Some resolution
+  pub told : resolution.dynamic_symbol_index ≡ Some index
+
+pub indexed : (l : Layout) (i index : ℕ) → index_of l i ≡ Some index → IsIndexed l i index
+indexed l i index h = by_symbol (slice_get l.symbols (canonical l i)) refl h
+  where
+    by_resolution : (s : Symbol) → slice_get l.symbols (canonical l i) ≡ Some s → (o : Option Resolution) → s.resolution ≡ o → option_and_then (λ (r : Resolution). r.dynamic_symbol_index) o ≡ Some index → IsIndexed l i index
+    by_resolution s listed None e h = cc
+    by_resolution s listed (Some r) e h = record { symbol = s; listed = listed; resolution = r; resolved = e; told = h }
+
+    by_symbol : (o : Option Symbol) → slice_get l.symbols (canonical l i) ≡ o → option_and_then (λ (r : Resolution). r.dynamic_symbol_index) (option_and_then (λ (s : Symbol). s.resolution) o) ≡ Some index → IsIndexed l i index
+    by_symbol None e h = cc
+    by_symbol (Some s) e h = by_resolution s e s.resolution refl h
+
+-- what the world answers for it, and that the index has 32 bits
+record IsNamed (w : World) (index : ℕ) : Type 0 where
+  small : index < 2 ^ 32
+  given : IsGiven w index
+
+named_by : (l : Layout) (w : World) (i index : ℕ) → IsLegal l w → IsLaidOut l → index_of l i ≡ Some index → IsNamed w index
+named_by l w i index legal laid h =
+    let d = indexed l i index h in
+    record {
+      small = index_small l (canonical l i) index d.symbol d.resolution laid d.listed d.resolved d.told;
+      given = symbol_answer l w (canonical l i) index d.symbol d.resolution legal d.listed d.resolved d.told;
+    }
+
+-- ---- what entries store
+
+stores_address : (w : World) (symbol addend : ℕ) → IsNamed w symbol → FillsField w (ByteSize Eight) (type_of machine.X86_64 Absolute) symbol addend
+unfolding kind_of change_of
+stores_address w symbol addend n = record {
+  number = omega arith;
+  index = n.small;
+  change = changes.Word _;
+  makes = record { kind = kinds.SymbolPlus; known = refl; makes = rw n.given.listed refl };
+  width = length-word 8 _;
+}
+
+stores_half : (w : World) (symbol addend : ℕ) → IsNamed w symbol → FillsField w (ByteSize Four) r_x86_64_size32 symbol addend
+unfolding kind_of change_of
+stores_half w symbol addend n = record {
+  number = omega arith;
+  index = n.small;
+  change = changes.Half _;
+  makes = record { kind = kinds.Size32; known = refl; makes = rw n.given.listed refl };
+  width = length-word 4 _;
+}
+
+stores_size : (w : World) (symbol addend : ℕ) → IsNamed w symbol → FillsField w (ByteSize Eight) r_x86_64_size64 symbol addend
+unfolding kind_of change_of
+stores_size w symbol addend n = record {
+  number = omega arith;
+  index = n.small;
+  change = changes.Word _;
+  makes = record { kind = kinds.Size64; known = refl; makes = rw n.given.listed refl };
+  width = length-word 8 _;
+}
+
+stores_chosen : (w : World) (value : ℕ) → value < 2 ^ 64 → IsAnsweredOnce w ((w.base + value) % 2 ^ 64) → FillsField w (ByteSize Eight) (type_of machine.X86_64 Irelative) 0 value
+unfolding kind_of change_of
+stores_chosen w value small a =
+    let back = of_z-to_z w64 value small in
+    record {
+      number = omega arith;
+      index = omega arith;
+      change = changes.Word a.answer;
+      makes = record { kind = kinds.Resolved; known = refl; makes = rw (back, answered w ((w.base + value) % 2 ^ 64) a) refl };
+      width = length-word 8 a.answer;
+    }
+
+-- ---- resolvers
+
+-- the address of a resolver is what was decided of the symbol's definition
+record IsChosen (l : Layout) (i value : ℕ) : Type 0 where
   symbol : Symbol
   listed : slice_get l.symbols (canonical l i) ≡ Some symbol
   resolution : Resolution
   resolved : symbol.resolution ≡ Some resolution
-  told : resolution.dynamic_symbol_index ≡ Some index
+  is : resolution.raw_value ≡ value
 
-indexed : (l : Layout) (i index : ℕ) → index_of l i ≡ Some index → IsIndexed l i index
-indexed l i index h = by_symbol (slice_get l.symbols (canonical l i)) refl h
+chosen_by : (l : Layout) (i value : ℕ) → decided_address l i ≡ Ok value → IsChosen l i value
+chosen_by l i value h = by_symbol (slice_get l.symbols (canonical l i)) refl h
   where
-    by_resolution : (s : Symbol) → slice_get l.symbols (canonical l i) ≡ Some s → (o : Option Resolution) → s.resolution ≡ o → IsIndexedBy o index → IsIndexed l i index
-    by_resolution s listed None e h = absurd h
-    by_resolution s listed (Some r) e h = record { symbol = s; listed = listed; resolution = r; resolved = e; told = h }
+    address : Option Resolution → Result ℕ Fault
+    address o = address_or missing.Address i (option_map (λ (r : Resolution). r.raw_value) o)
 
-    by_symbol : (o : Option Symbol) → slice_get l.symbols (canonical l i) ≡ o → index_in o ≡ Some index → IsIndexed l i index
+    by_resolution : (s : Symbol) → slice_get l.symbols (canonical l i) ≡ Some s → (o : Option Resolution) → s.resolution ≡ o → address o ≡ Ok value → IsChosen l i value
+    by_resolution s listed None e h = cc
+    by_resolution s listed (Some r) e h = (let is : r.raw_value ≡ value = cc in record { symbol = s; listed = listed; resolution = r; resolved = e; is = is })
+
+    by_symbol : (o : Option Symbol) → slice_get l.symbols (canonical l i) ≡ o → address (option_and_then (λ (s : Symbol). s.resolution) o) ≡ Ok value → IsChosen l i value
     by_symbol None e h = cc
-    by_symbol (Some s) e h = by_resolution s e s.resolution refl (told_by s.resolution h)
+    by_symbol (Some s) e h = by_resolution s e s.resolution refl h
+
+-- the flags of a symbol are its definition's
+flag_of : (l : Layout) (i : ℕ) (s : Symbol) → slice_get l.symbols (canonical l i) ≡ Some s → has_flag (flags_at l i) ifunc ≡ true → has_flag s.flags ifunc ≡ true
+flag_of l i s e h =
+    let same : flags_at l i ≡ s.flags = rw e refl in
+    subst (λ (f : ValueFlags). has_flag f ifunc ≡ true) same h
+
+chosen_fills : (l : Layout) (w : World) (i value : ℕ) → NumbersFit l → IsLegal l w → has_flag (flags_at l i) ifunc ≡ true → decided_address l i ≡ Ok value → FillsField w (ByteSize Eight) (type_of machine.X86_64 Irelative) 0 value
+chosen_fills l w i value numbers legal flag h =
+    let c = chosen_by l i value h in
+    let there = listed_at l.symbols (canonical l i) c.symbol c.listed in
+    let small = (All-contains SymbolNumbers l.symbols c.symbol numbers.symbols there c.resolution c.resolved).value in
+    let a = All-contains (HasResolver w) l.symbols c.symbol legal.resolvers there (flag_of l i c.symbol c.listed flag) c.resolution c.resolved in
+    subst (λ (v : ℕ). FillsField w (ByteSize Eight) (type_of machine.X86_64 Irelative) 0 v) c.is (stores_chosen w c.resolution.raw_value small a)
+
+-- ---- decisions
+
+-- what an entry that names a symbol has
+left_parts : (P : RelocationSize → ℕ → ℕ → ℕ → Type 0) (z x : RelocationSize) (number n symbol addend : ℕ) (r : InputRelocation) (i : ℕ) (o : Option ℕ) → left_to z number r i o ≡ Ok (Left x n symbol addend) → ((index : ℕ) → o ≡ Some index → P z number index (added r)) → P x n symbol addend
+left_parts P z x number n symbol addend r i None h k = cc
+left_parts P z x number n symbol addend r i (Some index) h k =
+    let size : z ≡ x = cc in
+    let same : number ≡ n = cc in
+    let there : index ≡ symbol = cc in
+    let more : added r ≡ addend = cc in
+    subst (λ (y : RelocationSize). P y n symbol addend) size
+    (subst (λ (m : ℕ). P z m symbol addend) same
+    (subst (λ (m : ℕ). P z number m addend) there
+    (subst (λ (m : ℕ). P z number index m) more (k index refl))))
+
+-- and one with a resolver
+chosen_parts : (P : RelocationSize → ℕ → ℕ → ℕ → Type 0) (l : Layout) (x : RelocationSize) (n symbol addend : ℕ) (r : InputRelocation) (a : Result ℕ Fault) → chosen_to l r a ≡ Ok (Left x n symbol addend) → ((value : ℕ) → a ≡ Ok value → P (ByteSize Eight) (type_of l.machine Irelative) 0 value) → P x n symbol addend
+chosen_parts P l x n symbol addend r (Err f) h k = cc
+chosen_parts P l x n symbol addend r (Ok value) h k =
+    elim (cases_Bool (added r == 0)) [
+      | inr f ↦ cc (rw f at h)
+      | inl t ↦ parts (rw t at h)
+    ]
+  where
+    parts : Ok (Left (ByteSize Eight) (type_of l.machine Irelative) 0 value) ≡ Ok (Left x n symbol addend) → P x n symbol addend
+    parts e =
+        let size : ByteSize Eight ≡ x = cc in
+        let same : type_of l.machine Irelative ≡ n = cc in
+        let none : 0 ≡ symbol = cc in
+        let is : value ≡ addend = cc in
+        subst (λ (y : RelocationSize). P y n symbol addend) size
+        (subst (λ (m : ℕ). P (ByteSize Eight) m symbol addend) same
+        (subst (λ (m : ℕ). P (ByteSize Eight) (type_of l.machine Irelative) m addend) none
+        (subst (λ (m : ℕ). P (ByteSize Eight) (type_of l.machine Irelative) 0 m) is (k value refl))))
+
+-- the cases of a field that is left to an entry: of an address, of a size, of what a resolver answers
+record IsLeftCase (l : Layout) (s : InputSection) (r : InputRelocation) (P : RelocationSize → ℕ → ℕ → ℕ → Type 0) : Type 0 where
+  address : (i index : ℕ) → index_of l i ≡ Some index → P (ByteSize Eight) (type_of l.machine Absolute) index (added r)
+  chosen : (i value : ℕ) → has_flag (flags_at l i) ifunc ≡ true → decided_address l i ≡ Ok value → P (ByteSize Eight) (type_of l.machine Irelative) 0 value
+  size : (i index : ℕ) (row : RelocationKindInfo) → IsSizeRow r.number row.size → index_of l i ≡ Some index → P row.size r.number index (added r)
+
+by_treatment : (P : RelocationSize → ℕ → ℕ → ℕ → Type 0) (l : Layout) (s : InputSection) (r : InputRelocation) (z : RelocationSize) (n symbol addend : ℕ) → IsLeftCase l s r P → (t : Treatment) → treatment l s r ≡ t → is_left_to_entry t ≡ true → decide_by l s r t ≡ Ok (Left z n symbol addend) → P z n symbol addend
+by_treatment P l s r z n symbol addend k (treatments.Symbolic i) is left made = left_parts P (ByteSize Eight) z (type_of l.machine Absolute) n symbol addend r i (index_of l i) made (k.address i)
+by_treatment P l s r z n symbol addend k (treatments.Indirect i) is left made =
+    let flag = subst (Tells l r.number (row_of l.machine r.number)) is (tells l s r) in
+    chosen_parts P l z n symbol addend r (decided_address l i) made (λ value e. k.chosen i value flag e)
+by_treatment P l s r z n symbol addend k (treatments.Extent row i) is left made =
+    let told = subst (Tells l r.number (row_of l.machine r.number)) is (tells l s r) in
+    left_parts P row.size z r.number n symbol addend r i (index_of l i) made (λ index e. k.size i index row (size_row l.machine r.number row told.0 told.1) e)
+by_treatment P l s r z n symbol addend k treatments.Nothing is left made = cc
+by_treatment P l s r z n symbol addend k (treatments.Value row) is left made = cc
+by_treatment P l s r z n symbol addend k treatments.BaseRelative is left made = cc
+by_treatment P l s r z n symbol addend k treatments.Recompile is left made = cc
+by_treatment P l s r z n symbol addend k treatments.Unsupported is left made = cc
+
+left_case : (P : RelocationSize → ℕ → ℕ → ℕ → Type 0) (l : Layout) (s : InputSection) (r : InputRelocation) (z : RelocationSize) (n symbol addend : ℕ) → IsLeftCase l s r P → decided l s r ≡ Ok (Left z n symbol addend) → P z n symbol addend
+left_case P l s r z n symbol addend k h =
+    let x = decided_left l s r z n symbol addend h in
+    by_treatment P l s r z n symbol addend k x.treated x.is x.left x.made
+
+-- ---- what is in the file
+
+-- a field of whole bytes in which 0 is written is zeros
+abbrev IsZeroed : RelocationSize → Type 0
+IsZeroed z = (old : List ℕ) → size_written z 0 old ≡ replicate (size_width z) 0
+
+eight_zeroed : IsZeroed (ByteSize Eight)
+unfolding word
+eight_zeroed old = refl
+
+four_zeroed : IsZeroed (ByteSize Four)
+unfolding word
+four_zeroed old = refl
+
+size_zeroed : (n : ℕ) (z : RelocationSize) → IsSizeRow n z → IsZeroed z
+size_zeroed n z (inl e) = subst IsZeroed (sym e.1) four_zeroed
+size_zeroed n z (inr e) = subst IsZeroed (sym e.1) eight_zeroed
+
+pub left_zeroed : (l : Layout) (s : InputSection) (r : InputRelocation) (z : RelocationSize) (n symbol addend : ℕ) (old : List ℕ) → decided l s r ≡ Ok (Left z n symbol addend) → size_written z 0 old ≡ replicate (size_width z) 0
+left_zeroed l s r z n symbol addend old h =
+    left_case (λ y m k a. IsZeroed y) l s r z n symbol addend
+    (record { address = λ i index e. eight_zeroed; chosen = λ i value f e. eight_zeroed; size = λ i index row q e. size_zeroed r.number row.size q }) h old
+
+-- ---- what the entry makes a loader do
+
+size_fills : (w : World) (n symbol addend : ℕ) (z : RelocationSize) → IsSizeRow n z → IsNamed w symbol → FillsField w z n symbol addend
+size_fills w n symbol addend z (inl e) named =
+    subst (λ (y : RelocationSize). FillsField w y n symbol addend) (sym e.1) (subst (λ (m : ℕ). FillsField w (ByteSize Four) m symbol addend) (sym e.0) (stores_half w symbol addend named))
+size_fills w n symbol addend z (inr e) named =
+    subst (λ (y : RelocationSize). FillsField w y n symbol addend) (sym e.1) (subst (λ (m : ℕ). FillsField w (ByteSize Eight) m symbol addend) (sym e.0) (stores_size w symbol addend named))
+
+pub left_fills : (l : Layout) (w : World) (s : InputSection) (r : InputRelocation) (z : RelocationSize) (n symbol addend : ℕ) → l.machine ≡ machine.X86_64 → NumbersFit l → IsLegal l w → IsLaidOut l → decided l s r ≡ Ok (Left z n symbol addend) → FillsField w z n symbol addend
+left_fills l w s r z n symbol addend x numbers legal laid h = left_case (FillsField w) l s r z n symbol addend (record {
+  address = λ i index e. subst (λ (m : Machine). FillsField w (ByteSize Eight) (type_of m Absolute) index (added r)) (sym x) (stores_address w index (added r) (named_by l w i index legal laid e));
+  chosen = λ i value f e. subst (λ (m : Machine). FillsField w (ByteSize Eight) (type_of m Irelative) 0 value) (sym x) (chosen_fills l w i value numbers legal f e);
+  size = λ i index row q e. size_fills w r.number index (added r) row.size q (named_by l w i index legal laid e);
+}) h

@@ -1,12 +1,15 @@
--- The tables of an output at its own addresses: nothing moves, and what resolvers answer is filled in by the entries of a section.
+-- The tables of an output at its own addresses: nothing moves, and its sections have all entries.
 use Rattle.std.proofs.Common.{◌≡◌, ℕ, zero, suc, ◌<◌, ◌≤◌, inl, inr, false, List, [], ◌∷◌, ◌++◌, length, get_or, refl, sym, ap, ◌∙◌, arith, subst}
-use Rattle.std.specs.Prelude.{Option, AllPairs}
+use Rattle.std.specs.Prelude.{Option, AllPairs, IsPermutation, slice_index}
 use Rattle.std.specs.List.{flat_map}
 use Rattle.std.proofs.lemmas.Bool.{cases_lt}
-use Rattle.std.proofs.lemmas.List.{length-append}
+use Rattle.std.proofs.lemmas.List.{length-append, get_or_append_left}
 use Rattle.std.proofs.lemmas.List.Elements.{All-map}
+use Rattle.wild_words.specs.Words.{word}
 use Rattle.wild_words.specs.Record.{spell}
 use Rattle.wild_words.specs.Overlay.{Piece, Apart}
+use Rattle.wild_words.proofs.RecordLemmas.{Stands-field}
+use Rattle.wild_records.specs.FileHeader.{file_header_fields}
 use Rattle.wild_records.specs.SectionHeader.{section_header_fields}
 use Rattle.wild_records.specs.declared.relocations.Rela.{Rela}
 use Rattle.wild_records.specs.declared.section_header.SectionHeader.{SectionHeader}
@@ -14,6 +17,7 @@ use Rattle.wild_relr.specs.Packed.{packed_on, packed, block}
 use Rattle.wild_plan.specs.declared.part.Role.TheVariants as role
 use Rattle.wild_plan.specs.declared.input.InputRelocation.{InputRelocation}
 use Rattle.wild_plan.specs.declared.input.InputSection.{InputSection}
+use Rattle.wild_plan.specs.declared.section.Section.{Section}
 use Rattle.wild_plan.specs.declared.slot_parts.EntryPart.TheVariants as entries
 use Rattle.wild_plan.specs.declared.file.Group.{Group}
 use Rattle.wild_plan.specs.declared.layout.Layout.{Layout}
@@ -21,23 +25,23 @@ use Rattle.wild_plan.specs.Entries.{moved_of, packed_place, packed_places, words
 use Rattle.wild_plan.specs.Kinds.{is_position_independent}
 use Rattle.wild_plan.specs.SlotShares.{group_block, block_of, words_of_block, block_words}
 use Rattle.wild_headers.proofs.HeaderLemmas.{length-file_header, length-section_header}
-use Rattle.wild_headers.specs.Headers.{file_header, program_header, section_headers_of, offset_of_role, file_header_bytes, section_header_bytes}
-use Rattle.wild_layout.specs.Image.{bytes, pieces}
+use Rattle.wild_headers.specs.Headers.{file_header, null_header, headers_from, spoken_of, program_header, section_headers_of, offset_of_role, file_header_bytes, section_header_bytes}
+use Rattle.wild_layout.specs.Image.{pieces}
 use Rattle.wild_layout.specs.Moved.{listed_entry, section_entries}
 use Rattle.wild_layout.specs.SlotBytes.{slot_entries_of, flat_places_of}
 use Rattle.wild_layout.specs.Geometry.{IsLaidOut, TablesStand}
-use Rattle.wild_loader.specs.Laws.{IsStatic, rela_bytes}
-use Rattle.wild_loader.specs.EntryLaws.{HasSectionTable}
-use Rattle.wild_tables.specs.Laws.{LengthsOfEntries}
+use Rattle.wild_loader.specs.Laws.{IsStatic, section_relas, rela_bytes}
+use Rattle.wild_tables.specs.Laws.{LengthsOfEntries, EntriesAreRead}
 use Rattle.wild_slots.specs.Entries.{MovesNothing, FixedOutputsMoveNothing}
+use Rattle.wild_slots.specs.Stand.{PairStands}
 use Rattle.wild_loaded.specs.Tables.{file_packed, group_words, relatives, tables_of}
 use Rattle.wild_loaded.specs.Laws.{SectionTablesAreFound}
 use Rattle.wild_loaded.proofs.FileType.{plain_fixed, plain_still}
-use Rattle.wild_loaded.proofs.HeadersFit.{length-section_headers}
 use Rattle.wild_loaded.proofs.Loads.{segment_static}
-use Rattle.wild_loaded.proofs.TableBytes.{entries_are, jumps_are, general_none}
-use Rattle.wild_loaded.proofs.Jumps.{jumps_fit}
-use Rattle.wild_loaded.proofs.SectionTable.{IsOwnTable, section_table, two_sections}
+use Rattle.wild_loaded.proofs.PairPlace.{pair_low}
+use Rattle.wild_loaded.proofs.TableBytes.{all_relatives, all_generals, relatives_are, generals_are, jumps_are}
+use Rattle.wild_loaded.proofs.TablesFit.{jumps_fit, all_generals_fit}
+use Rattle.wild_loaded.proofs.SectionTable.{IsFixedTable, relas_of, section_tables, all_sections}
 
 -- ---- nothing moves
 
@@ -66,62 +70,76 @@ words_none l h still =
     ap (λ (ws : List ℕ). ws ++ block_words l g) (nothing_joined (file_packed l) g.files (λ f. ap (λ (ws : List ℕ). ws ++ flat_places_of l f) (nothing_joined (words_of l) f.sections (λ s. no_words l s still)) ∙ h.flat f))
     ∙ no_block l g (h.groups g))
 
-entries_none : (l : Layout) → MovesNothing l → is_position_independent l.kind ≡ false → (tables_of l).entries ≡ []
-entries_none l h still =
+relatives_none : (l : Layout) → MovesNothing l → is_position_independent l.kind ≡ false → all_relatives l ≡ []
+relatives_none l h still =
     nothing_joined (λ (g : Group). flat_map (relatives l) g.files) l.groups (λ g.
     nothing_joined (relatives l) g.files (λ f. ap (λ (es : List Rela). es ++ slot_entries_of entries.Relative l f) (nothing_joined (section_entries l) f.sections (λ s. no_entries l s still)) ∙ h.relative f))
 
 -- ---- where the section headers stand
 
--- two records of a list of pieces at one offset are one
-table_offset : (l : Layout) → IsLaidOut l → 2 ≤ length l.sections → 0 < offset_of_role role.SectionHeaders l.parts
-table_offset l laid two =
+-- the first byte of the file header, and that of the headers of sections
+front_byte : (l : Layout) → slice_index (file_header_bytes l) 0 ≡ 0x7f
+unfolding file_header_fields file_header word
+front_byte l = (Stands-field (file_header_fields (file_header l)) 0 (0, 0) (omega arith)).same 0 (omega arith)
+
+null_byte : (l : Layout) (rest : List ℕ) → slice_index (spell (section_header_fields (null_header l)) ++ rest) 0 ≡ 0
+unfolding section_header_fields null_header word
+null_byte l rest =
+    let n = length-section_header (null_header l) in
+    get_or_append_left (spell (section_header_fields (null_header l))) rest 0 0 (omega (arith, n))
+    ∙ (Stands-field (section_header_fields (null_header l)) 0 (0, 0) (omega arith)).same 0 (omega arith)
+
+-- of headers that are there
+record IsLong (l : Layout) (ss : List Section) : Type 0 where
+  some : 1 ≤ length (flat_map (λ (h : SectionHeader). spell (section_header_fields h)) (section_headers_of l ss))
+  first : slice_index (flat_map (λ (h : SectionHeader). spell (section_header_fields h)) (section_headers_of l ss)) 0 ≡ 0
+
+long : (l : Layout) (ss : List Section) → 1 ≤ length ss → IsLong l ss
+long l [] h = absurd (omega (arith, h))
+long l (s ∷ ss) h =
+    let rest = flat_map (λ (h : SectionHeader). spell (section_header_fields h)) (headers_from (spoken_of l) 1 (length s.name + 1) ss) in
+    let a = length-append (spell (section_header_fields (null_header l))) rest in
+    let b = length-section_header (null_header l) in
+    record { some = omega (arith, a, b); first = null_byte l rest }
+
+-- two pieces at one offset are one
+table_offset : (l : Layout) → IsLaidOut l → 0 < offset_of_role role.SectionHeaders l.parts
+table_offset l laid =
     elim (cases_lt 0 (offset_of_role role.SectionHeaders l.parts)) [
       | inl lt ↦ lt
-      | inr le ↦ absurd (at_front l laid two (omega (arith, le)))
+      | inr le ↦ absurd (at_front (omega (arith, le)))
     ]
   where
-    long : (l : Layout) (hs : List SectionHeader) → 2 ≤ length hs → 128 ≤ length (flat_map (λ (h : SectionHeader). spell (section_header_fields h)) hs)
-    long l [] h = absurd (omega arith)
-    long l (x ∷ []) h = absurd (omega arith)
-    long l (x ∷ y ∷ hs) h =
-        let rest = flat_map (λ (h : SectionHeader). spell (section_header_fields h)) hs in
-        let a = length-append (spell (section_header_fields x)) (spell (section_header_fields y) ++ rest) in
-        let b = length-append (spell (section_header_fields y)) rest in
-        let c = length-section_header x in
-        let d = length-section_header y in
-        omega (arith, a, b, c, d)
+    within_any : (xs : List Piece) (k : ℕ) (d e : Piece) → k < length xs → get_or xs k d ≡ get_or xs k e
+    within_any [] k d e h = absurd (omega arith)
+    within_any (x ∷ xs) zero d e h = refl
+    within_any (x ∷ xs) (suc k) d e h = within_any xs k d e (omega arith)
 
-    whole : (p q : Piece) (i j : ℕ) (ps : List Piece) → AllPairs Apart ps → i < length ps → j < length ps → get_or ps i p ≡ p → get_or ps j q ≡ q → p.at ≡ 0 → q.at ≡ 0 → 1 ≤ length p.bytes → length p.bytes < length q.bytes → ⊥
-    whole p q i j ps apart m n x y zp zq some more =
+    two_at : (ps : List Piece) (i j : ℕ) (p q : Piece) → AllPairs Apart ps → i < j → j < length ps → get_or ps i p ≡ p → get_or ps j q ≡ q → Apart p q
+    two_at ps i j p q apart lt n x y = subst (λ (r : Piece). Apart r q) x (subst (λ (r : Piece). Apart (get_or ps i p) r) (within_any ps j p q n ∙ y) (apart i j p lt n))
+
+    overlap : (p q : Piece) → Apart p q → p.at ≡ 0 → q.at ≡ 0 → 1 ≤ length p.bytes → 1 ≤ length q.bytes → ⊥
+    overlap p q (inl h) zp zq some more = omega (arith, h, zp, zq, some)
+    overlap p q (inr h) zp zq some more = omega (arith, h, zp, zq, more)
+
+    whole : (p q : Piece) (i j : ℕ) (ps : List Piece) → AllPairs Apart ps → i < length ps → j < length ps → get_or ps i p ≡ p → get_or ps j q ≡ q → p.at ≡ 0 → q.at ≡ 0 → 1 ≤ length p.bytes → 1 ≤ length q.bytes → (p ≡ q → ⊥) → ⊥
+    whole p q i j ps apart m n x y zp zq some more differ =
         elim (cases_lt i j) [
-          | inl lt ↦ overlap p q (two_at ps i j p q apart lt n x y) zp zq some (omega (arith, some, more))
+          | inl lt ↦ overlap p q (two_at ps i j p q apart lt n x y) zp zq some more
           | inr ge ↦ elim (cases_lt j i) [
-            | inl lt ↦ overlap q p (two_at ps j i q p apart lt m y x) zq zp (omega (arith, some, more)) (omega (arith, some, more))
-            | inr le ↦ (let same : i ≡ j = omega (arith, ge, le) in let e : p ≡ q = sym x ∙ ap (λ (k : ℕ). get_or ps k p) same ∙ within_any ps j p q n ∙ y in let lengths = ap (λ (r : Piece). length r.bytes) e in absurd (omega (arith, lengths, more)))
+            | inl lt ↦ overlap q p (two_at ps j i q p apart lt m y x) zq zp more some
+            | inr le ↦ (let same : i ≡ j = omega (arith, ge, le) in differ (sym x ∙ ap (λ (k : ℕ). get_or ps k p) same ∙ within_any ps j p q n ∙ y))
           ]
         ]
-      where
-        within_any : (xs : List Piece) (k : ℕ) (d e : Piece) → k < length xs → get_or xs k d ≡ get_or xs k e
-        within_any [] k d e h = absurd (omega arith)
-        within_any (x ∷ xs) zero d e h = refl
-        within_any (x ∷ xs) (suc k) d e h = within_any xs k d e (omega arith)
 
-        two_at : (ps : List Piece) (i j : ℕ) (p q : Piece) → AllPairs Apart ps → i < j → j < length ps → get_or ps i p ≡ p → get_or ps j q ≡ q → Apart p q
-        two_at ps i j p q apart lt n x y = subst (λ (r : Piece). Apart r q) x (subst (λ (r : Piece). Apart (get_or ps i p) r) (within_any ps j p q n ∙ y) (apart i j p lt n))
-
-        overlap : (p q : Piece) → Apart p q → p.at ≡ 0 → q.at ≡ 0 → 1 ≤ length p.bytes → 0 < length q.bytes → ⊥
-        overlap p q (inl h) zp zq some more = omega (arith, h, zp, zq, some)
-        overlap p q (inr h) zp zq some more = omega (arith, h, zp, zq, more)
-
-    at_front : (l : Layout) → IsLaidOut l → 2 ≤ length l.sections → offset_of_role role.SectionHeaders l.parts ≡ 0 → ⊥
-    at_front l laid two first =
+    at_front : offset_of_role role.SectionHeaders l.parts ≡ 0 → ⊥
+    at_front first =
         let m = length-file_header (file_header l) in
-        let count = length-section_headers l l.sections in
+        let headers = long l l.sections laid.some_section in
         let front = laid.tables.file_header.listed (omega (arith, m)) in
-        let n = long l (section_headers_of l l.sections) (omega (arith, count, two)) in
-        let back = laid.tables.section_headers.listed (omega (arith, n)) in
-        whole (record { at = 0; bytes = file_header_bytes l }) (record { at = offset_of_role role.SectionHeaders l.parts; bytes = section_header_bytes l }) front.0 back.0 (pieces l) laid.owners.apart front.1 back.1 front.2 back.2 refl first (omega (arith, m)) (omega (arith, m, n))
+        let back = laid.tables.section_headers.listed headers.some in
+        whole (record { at = 0; bytes = file_header_bytes l }) (record { at = offset_of_role role.SectionHeaders l.parts; bytes = section_header_bytes l }) front.0 back.0 (pieces l) laid.owners.apart front.1 back.1 front.2 back.2 refl first (omega (arith, m)) headers.some
+        (λ e. (let bytes_are = ap (λ (p : Piece). slice_index p.bytes 0) e in let both : 0x7f ≡ 0 = sym (front_byte l) ∙ bytes_are ∙ headers.first in cc))
 
 header_offset : (l : Layout) → (file_header l).section_offset ≡ offset_of_role role.SectionHeaders l.parts
 unfolding file_header
@@ -129,26 +147,30 @@ header_offset l = refl
 
 -- ---- the tables
 
-pub sections_found : TablesStand → LengthsOfEntries → FixedOutputsMoveNothing → SectionTablesAreFound
-sections_found stand lengths fixed = λ l kind plain numbers laid own.
+pub sections_found : TablesStand → LengthsOfEntries → EntriesAreRead → PairStands → FixedOutputsMoveNothing → SectionTablesAreFound
+sections_found stand lengths read pair fixed = λ l kind plain numbers laid slots.
     let still = plain_still l.kind plain in
     let moves = fixed l still in
-    let words = words_none l moves still in
-    let none = entries_none l moves still in
+    let none = relatives_none l moves still in
     let js : List Rela = (tables_of l).jumps in
-    let table : IsOwnTable l js = record {
+    let gs : List Rela = all_generals l in
+    let static = plain_fixed l.kind kind plain in
+    let table : IsFixedTable l js gs = record {
       laid = laid;
-      fixed = plain_fixed l.kind kind plain;
-      alone = record { relative = entries_are l ∙ ap (λ (es : List Rela). flat_map rela_bytes es) none; general = general_none l own.entries };
+      fixed = static;
       stand = stand;
-      are = jumps_are l;
-      length = lengths js;
-      fits = jumps_fit l own.entries numbers.symbols;
+      lengths = lengths;
+      read = read;
+      still = relatives_are l ∙ ap (λ (es : List Rela). flat_map rela_bytes es) none;
+      jumps = record { entry = refl; place = λ e. cc; are = jumps_are l; fits = jumps_fit l numbers.symbols };
+      generals = record { entry = refl; place = λ e. cc; are = generals_are l; fits = all_generals_fit l (pair_low l pair laid slots) numbers.symbols };
     } in
-    let same : (tables_of l).entries ++ js ≡ js = ap (λ (es : List Rela). es ++ js) none in
+    let same : (tables_of l).entries ++ js ≡ gs ++ js = ap (λ (es : List Rela). (es ++ gs) ++ js) none in
     record {
-      static = All-map IsStatic (program_header l) l.segments (λ i d lt. segment_static l (get_or l.segments i d) (laid.loadable.static (laid.loadable.fixed (plain_fixed l.kind kind plain)) i d lt));
-      words = words;
-      entries = subst (λ (es : List Rela). HasSectionTable (bytes l) (section_headers_of l l.sections) es) (sym same) (section_table l js table);
-      sections = λ some. subst (λ (n : ℕ). 0 < n) (sym (header_offset l)) (table_offset l laid (two_sections l js table (subst (λ (es : List Rela). 0 < length es) same some)));
+      static = All-map IsStatic (program_header l) l.segments (λ i d lt. segment_static l (get_or l.segments i d) (laid.loadable.static (laid.loadable.fixed static) i d lt));
+      words = words_none l moves still;
+      of = relas_of l;
+      sections = section_tables l js gs table;
+      all = subst (λ (es : List Rela). IsPermutation (section_relas (section_headers_of l l.sections) (relas_of l)) es) (sym same) (all_sections l js gs table);
+      told = subst (λ (n : ℕ). 0 < n) (sym (header_offset l)) (table_offset l laid);
     }

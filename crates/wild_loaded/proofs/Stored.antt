@@ -1,6 +1,6 @@
 -- Kept sections in the memory of an image that no entry has changed: their fields, their other bytes, and zeros.
 use Rattle.std.proofs.Common.{◌≡◌, ℕ, ◌+◌, ◌<◌, ◌≤◌, List, [], ◌∷◌, length, refl, sym, ap, ◌∙◌, arith, subst}
-use Rattle.std.specs.Prelude.{Some, Ok, Contains, slice_get}
+use Rattle.std.specs.Prelude.{Some, Ok, Contains, if◌then◌else◌, slice_get, slice_range}
 use Rattle.std.specs.List.{range_with_len}
 use Rattle.std.proofs.lemmas.Option.{slice_get-get_or}
 use Rattle.std.proofs.lemmas.List.FromFn.{get_or-range_with_len, length-range_with_len}
@@ -11,6 +11,7 @@ use Rattle.wild_plan.specs.declared.section.Segment.{Segment}
 use Rattle.wild_plan.specs.declared.input.InputRelocation.{InputRelocation}
 use Rattle.wild_plan.specs.declared.input.InputSection.{InputSection}
 use Rattle.wild_plan.specs.declared.layout.Layout.{Layout}
+use Rattle.wild_reloc.specs.Field.{size_width}
 use Rattle.wild_reloc.specs.declared.info.RelocationSize.TheVariants.{ByteSize}
 use Rattle.wild_reloc.specs.declared.info.Width.TheVariants.{Eight}
 use Rattle.wild_headers.specs.Headers.{file_header, program_header}
@@ -26,6 +27,7 @@ use Rattle.wild_loader.specs.Memory.{byte_in}
 use Rattle.wild_loader.specs.Laws.{BytesAreLoaded, ZerosAreLoaded}
 use Rattle.wild_loaded.specs.Memory.{image_memory, headers_of}
 use Rattle.wild_loaded.specs.Laws.{SectionsAreStored, ZerosAreStored}
+use Rattle.wild_loaded.proofs.LeftFields.{left_zeroed}
 use Rattle.wild_loaded.proofs.PartsHeld.{Holds-inner}
 use Rattle.wild_loaded.proofs.Carried.{each_at, section_held, section_ends}
 use Rattle.wild_loaded.proofs.Loads.{are_loadable, kind_is, Contains-map}
@@ -54,7 +56,7 @@ sections_stored law = λ l w s legal laid k decisions.
       ends = section_ends l w s legal laid k lies;
       values = λ r z v c made. Holds-inner (image_memory l w) (w.base + s.address) r.offset whole (field_site s r.offset z v).bytes held (field_stands l s r (Field z v) (record { size = z; value = v }) decisions.apart c made refl);
       addresses = λ r v packed c made. Holds-inner (image_memory l w) (w.base + s.address) r.offset whole (word 8 (if packed then v else 0)) held (field_stands l s r (Moved v packed) (record { size = ByteSize Eight; value = if packed then v else 0 }) decisions.apart c made refl);
-      left = λ r z number symbol addend c made. (let p = field_site s r.offset z 0 in (p.bytes, Holds-inner (image_memory l w) (w.base + s.address) r.offset whole p.bytes held (field_stands l s r (Left z number symbol addend) (record { size = z; value = 0 }) decisions.apart c made refl), left_zero l s r z number symbol addend (decided_left l s r z number symbol addend made)));
+      left = λ r z number symbol addend c made. (let p = field_site s r.offset z 0 in (p.bytes, Holds-inner (image_memory l w) (w.base + s.address) r.offset whole p.bytes held (field_stands l s r (Left z number symbol addend) (record { size = z; value = 0 }) decisions.apart c made refl), left_zeroed l s r z number symbol addend (slice_range s.bytes r.offset (r.offset + size_width z)) made));
       others = λ i lt out. held i (omega (arith, len, lt)) ∙ ap Some (overlay-outside i (sites l s) s.bytes decisions.apart out);
     }
 

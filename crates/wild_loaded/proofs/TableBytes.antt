@@ -1,9 +1,9 @@
 -- The bytes of the tables that fill addresses and slots, and where a loader finds them.
-use Rattle.std.proofs.Common.{◌≡◌, ℕ, ◌+◌, ◌-◌, ◌^◌, ◌<◌, ◌≤◌, inl, inr, Bool, true, false, List, [], ◌∷◌, ◌++◌, length, map, min, refl, sym, ap, ◌∙◌, arith, subst}
-use Rattle.std.specs.Prelude.{Option, Some, None, Contains, if◌then◌else◌, ◌==◌}
+use Rattle.std.proofs.Common.{◌≡◌, ℕ, zero, suc, ◌+◌, ◌-◌, ◌^◌, ◌<◌, ◌≤◌, inl, inr, Bool, true, false, List, [], ◌∷◌, ◌++◌, length, map, min, refl, sym, ap, ◌∙◌, arith, subst}
+use Rattle.std.specs.Prelude.{Option, Some, None, Contains, slice_index, if◌then◌else◌, ◌==◌}
 use Rattle.std.specs.List.{flat_map}
 use Rattle.std.specs.Option.{option_or}
-use Rattle.std.proofs.lemmas.Bool.{cases_Bool, eqb-true}
+use Rattle.std.proofs.lemmas.Bool.{cases_lt, eqb-true}
 use Rattle.wild_words.specs.Words.{Stands}
 use Rattle.wild_plan.specs.declared.dynamic.DynamicTag.TheVariants as tags
 use Rattle.wild_plan.specs.declared.part.Part.{Part}
@@ -23,6 +23,7 @@ use Rattle.wild_headers.specs.Headers.{program_header}
 use Rattle.wild_plan.specs.declared.slot_parts.EntryPart.TheVariants as entries
 use Rattle.wild_plan.specs.SlotShares.{block_words}
 use Rattle.wild_records.specs.declared.relocations.Rela.{Rela}
+use Rattle.wild_layout.specs.Left.{file_generals}
 use Rattle.wild_layout.specs.Moved.{file_entries, file_words}
 use Rattle.wild_layout.specs.SlotBytes.{slot_entries_of, flat_places_of, storage_entries}
 use Rattle.wild_layout.specs.Content.{file_content, content}
@@ -31,10 +32,9 @@ use Rattle.wild_layout.specs.Geometry.{IsLaidOut, SegmentLoads, table_bytes, Tab
 use Rattle.wild_loader.specs.Laws.{StandsAt, IsTableOf, word_bytes, rela_bytes}
 use Rattle.wild_loader.specs.Tables.{offset_in}
 use Rattle.std.proofs.lemmas.List.Elements.{All-contains}
-use Rattle.std.proofs.lemmas.List.{append-nil}
+use Rattle.std.proofs.lemmas.List.{append-nil, length-append, get_or_append_left, get_or-append_right}
 use Rattle.std.proofs.lemmas.List.Concat.{flat_map-append}
-use Rattle.wild_slots.specs.Entries.{OwnEntries}
-use Rattle.wild_loaded.specs.Tables.{file_packed, group_words, relatives, tables_of}
+use Rattle.wild_loaded.specs.Tables.{file_packed, group_words, relatives, generals, tables_of}
 use Rattle.wild_loaded.proofs.SlotSites.{flat_map-flat_map, flat_map-same}
 use Rattle.wild_loaded.proofs.Loads.{Contains-map, kind_is, header_from, header_to}
 
@@ -57,8 +57,15 @@ words_are l = by_group word_bytes (group_words l) role.RelrDyn l (λ g.
     ap (λ (bs : List ℕ). bs ++ flat_map word_bytes (block_words l g)) (by_files word_bytes (file_packed l) role.RelrDyn l g (λ f. ap (λ (bs : List ℕ). bs ++ flat_map word_bytes (flat_places_of l f)) (no_front (is_prelude f.role) (flat_map word_bytes (file_words l f))) ∙ sym (flat_map-append word_bytes (file_words l f) (flat_places_of l f))))
     ∙ sym (flat_map-append word_bytes (flat_map (file_packed l) g.files) (block_words l g)))
 
-pub entries_are : (l : Layout) → table_bytes l role.RelaDynRelative ≡ flat_map rela_bytes (tables_of l).entries
-entries_are l = by_group rela_bytes (λ (g : Group). flat_map (relatives l) g.files) role.RelaDynRelative l (λ g.
+-- all relative entries, and all others
+abbrev pub all_relatives : Layout → List Rela
+all_relatives l = flat_map (λ (g : Group). flat_map (relatives l) g.files) l.groups
+
+abbrev pub all_generals : Layout → List Rela
+all_generals l = flat_map (λ (g : Group). flat_map (generals l) g.files) l.groups
+
+pub relatives_are : (l : Layout) → table_bytes l role.RelaDynRelative ≡ flat_map rela_bytes (all_relatives l)
+relatives_are l = by_group rela_bytes (λ (g : Group). flat_map (relatives l) g.files) role.RelaDynRelative l (λ g.
     append-nil (flat_map (file_content l role.RelaDynRelative) g.files)
     ∙ by_files rela_bytes (relatives l) role.RelaDynRelative l g (λ f. ap (λ (bs : List ℕ). bs ++ flat_map rela_bytes (slot_entries_of entries.Relative l f)) (no_front (is_prelude f.role) (flat_map rela_bytes (file_entries l f))) ∙ sym (flat_map-append rela_bytes (file_entries l f) (slot_entries_of entries.Relative l f))))
 
@@ -67,24 +74,24 @@ jumps_are l = by_group rela_bytes (λ (g : Group). flat_map (slot_entries_of ent
     append-nil (flat_map (file_content l role.RelaPlt) g.files)
     ∙ by_files rela_bytes (slot_entries_of entries.Plt l) role.RelaPlt l g (λ f. ap (λ (bs : List ℕ). bs ++ flat_map rela_bytes (slot_entries_of entries.Plt l f)) (no_front (is_prelude f.role) [])))
 
--- no other entries are there
-pub general_none : (l : Layout) → OwnEntries l → table_bytes l role.RelaDynGeneral ≡ []
-general_none l own =
-    by_group nothing (λ (g : Group). g.files) role.RelaDynGeneral l (λ g.
-    append-nil (flat_map (file_content l role.RelaDynGeneral) g.files)
-    ∙ flat_map-same (file_content l role.RelaDynGeneral) nothing g.files (λ f. of_file (is_prelude f.role) (storage_entries l) (slot_entries_of entries.General l f) own.pair (own.files f).general))
-    ∙ nothing_joined (flat_map (λ (g : Group). g.files) l.groups)
+-- what stands once, what is the file's own, and what its slots have
+general_content : (b : Bool) (xs ys zs : List Rela) → (if b then flat_map rela_bytes xs else []) ++ (flat_map rela_bytes ys ++ flat_map rela_bytes zs) ≡ flat_map rela_bytes ((if b then xs else []) ++ (ys ++ zs))
+general_content b xs ys zs = by_test b ∙ sym (flat_map-append rela_bytes (if b then xs else []) (ys ++ zs))
   where
-    nothing : {X : Type 0} → X → List ℕ
-    nothing x = []
+    rest : flat_map rela_bytes ys ++ flat_map rela_bytes zs ≡ flat_map rela_bytes (ys ++ zs)
+    rest = sym (flat_map-append rela_bytes ys zs)
 
-    nothing_joined : {X : Type 0} (xs : List X) → flat_map nothing xs ≡ []
-    nothing_joined [] = refl
-    nothing_joined (x ∷ xs) = nothing_joined xs
+    by_test : (c : Bool) → (if c then flat_map rela_bytes xs else []) ++ (flat_map rela_bytes ys ++ flat_map rela_bytes zs) ≡ flat_map rela_bytes (if c then xs else []) ++ flat_map rela_bytes (ys ++ zs)
+    by_test true = ap (λ (bs : List ℕ). flat_map rela_bytes xs ++ bs) rest
+    by_test false = rest
 
-    of_file : (b : Bool) (xs ys : List Rela) → xs ≡ [] → ys ≡ [] → (if b then flat_map rela_bytes xs else []) ++ [] ++ flat_map rela_bytes ys ≡ []
-    of_file true xs ys e f = rw (e, f) refl
-    of_file false xs ys e f = rw f refl
+pub generals_are : (l : Layout) → table_bytes l role.RelaDynGeneral ≡ flat_map rela_bytes (all_generals l)
+generals_are l = by_group rela_bytes (λ (g : Group). flat_map (generals l) g.files) role.RelaDynGeneral l (λ g.
+    append-nil (flat_map (file_content l role.RelaDynGeneral) g.files)
+    ∙ by_files rela_bytes (generals l) role.RelaDynGeneral l g (λ f. general_content (is_prelude f.role) (storage_entries l) (file_generals l f) (slot_entries_of entries.General l f)))
+
+pub entries_are : (l : Layout) → table_bytes l role.RelaDynRelative ++ table_bytes l role.RelaDynGeneral ≡ flat_map rela_bytes (tables_of l).entries
+entries_are l = rw (relatives_are l, generals_are l) (sym (flat_map-append rela_bytes (all_relatives l) (all_generals l)))
 
 -- ---- where they stand
 
@@ -125,46 +132,135 @@ pub words_named : (l : Layout) → TablesStand → IsLaidOut l → needs_dynamic
 unfolding dynamic.dynamic_entry
 words_named l stands laid needs = table_there l role.RelrDyn stands laid (λ e. cc) needs refl (part_with role.RelrDyn l.parts) refl
 
--- the part of other entries with addends has no bytes
-general_size : (l : Layout) (o : Option Part) → IsLaidOut l → OwnEntries l → part_with role.RelaDynGeneral l.parts ≡ o → dynamic.bytes_of o ≡ 0
-general_size l None laid own e = refl
-general_size l (Some p) laid own e =
-    let size = ((laid.roles role.RelaDynGeneral (λ z. cc)).there p e).size in
-    let none = ap (λ (bs : List ℕ). length bs) (general_none l own) in
-    omega (arith, size, none)
+-- ---- entries with addends, of which the relative ones stand first
 
-unfilled : (o : Option Part) → dynamic.bytes_of o ≡ 0 → dynamic.unless_empty o ≡ None
-unfilled None h = refl
-unfilled (Some p) h = rw h refl
+no_bytes : (xs : List ℕ) → length xs ≡ 0 → xs ≡ []
+no_bytes [] h = refl
+no_bytes (x ∷ xs) h = absurd (omega (arith, h))
 
--- the entries, by their tags
-entries_by : (l : Layout) (o : Option Part) → TablesStand → IsLaidOut l → needs_dynamic l.kind ≡ true → part_with role.RelaDynRelative l.parts ≡ o → IsTableOf (bytes l) (map (program_header l) l.segments) (dynamic.part_address (option_or (dynamic.unless_empty o) None)) (dynamic.beside (min (2 ^ 64 - 1) (dynamic.bytes_of o + 0)) (option_or (dynamic.unless_empty o) None)) (table_bytes l role.RelaDynRelative)
-entries_by l None stands laid needs e = (laid.roles role.RelaDynRelative (λ z. cc)).missing e
-entries_by l (Some p) stands laid needs e =
-    let t = (laid.roles role.RelaDynRelative (λ z. cc)).there p e in
-    let full = t.size in
-    let ends = part_low l p laid t.listed in
-    elim (cases_Bool (p.size == 0)) [
-      | inl z ↦ rw z (no_bytes (table_bytes l role.RelaDynRelative) (let s = eqb-true p.size 0 z in omega (arith, s, full)))
-      | inr f ↦ rw f (omega (arith, full, ends), λ some. table_at l role.RelaDynRelative p stands laid (λ z. cc) needs refl e (omega (arith, some, full)) full)
-    ]
+part_low : (l : Layout) (p : Part) → IsLaidOut l → Contains l.parts p → p.offset + p.size ≤ 2 ^ 62
+part_low l p laid c = subst (λ (q : Part). q.offset + q.size ≤ 2 ^ 62) c.2 (laid.parts c.0 p c.1).low
+
+-- bytes that stand behind others
+stands_joined : (whole xs ys : List ℕ) (a b : ℕ) → b ≡ a + length xs → Stands whole a xs → Stands whole b ys → Stands whole a (xs ++ ys)
+stands_joined whole xs ys a b e s t = record {
+  fits = (let n = length-append xs ys in let f = t.fits in omega (arith, n, f, e));
+  same = λ k lt. elim (cases_lt k (length xs)) [
+    | inl low ↦ s.same k low ∙ sym (get_or_append_left xs ys 0 k low)
+    | inr high ↦ behind k lt high
+  ];
+}
   where
-    no_bytes : (xs : List ℕ) → length xs ≡ 0 → xs ≡ []
-    no_bytes [] h = refl
-    no_bytes (x ∷ xs) h = absurd (omega (arith, h))
+    behind : (k : ℕ) → k < length (xs ++ ys) → length xs ≤ k → slice_index whole (a + k) ≡ slice_index (xs ++ ys) k
+    behind k lt high =
+        let n = length-append xs ys in
+        let z : a + k ≡ b + (k - length xs) = omega (arith, e, high) in
+        let here = t.same (k - length xs) (omega (arith, lt, n, high)) in
+        ap (λ (m : ℕ). slice_index whole m) z ∙ here ∙ sym (get_or-append_right xs ys (length xs) k 0 refl high)
 
-    part_low : (l : Layout) (p : Part) → IsLaidOut l → Contains l.parts p → p.offset + p.size ≤ 2 ^ 62
-    part_low l p laid c = subst (λ (q : Part). q.offset + q.size ≤ 2 ^ 62) c.2 (laid.parts c.0 p c.1).low
+-- both parts have bytes: one segment has them
+both_at : (l : Layout) (p q : Part) → TablesStand → IsLaidOut l → needs_dynamic l.kind ≡ true → part_with role.RelaDynRelative l.parts ≡ Some p → part_with role.RelaDynGeneral l.parts ≡ Some q → 1 ≤ p.size → 1 ≤ q.size
+    → StandsAt (bytes l) (map (program_header l) l.segments) p.address (table_bytes l role.RelaDynRelative ++ table_bytes l role.RelaDynGeneral)
+both_at l p q stands laid needs first second some more =
+    let c = laid.loadable.together needs p q first second some more in
+    let b = laid.loadable.behind p q first second in
+    let to = c.to in
+    let at = b.address in
+    let off = b.offset in
+    let sizes = (All-contains (SegmentLoads (image_size l)) l.segments c.segment laid.loadable.each c.listed).sizes c.loaded in
+    let n = ((laid.roles role.RelaDynRelative (λ z. cc)).there p first).size in
+    let m = ((laid.roles role.RelaDynGeneral (λ z. cc)).there q second).size in
+    let x = length-append (table_bytes l role.RelaDynRelative) (table_bytes l role.RelaDynGeneral) in
+    let here = stands l laid role.RelaDynRelative (λ z. cc) p first some in
+    let there = stands l laid role.RelaDynGeneral (λ z. cc) q second more in
+    let whole = stands_joined (bytes l) (table_bytes l role.RelaDynRelative) (table_bytes l role.RelaDynGeneral) p.offset q.offset (omega (arith, off, n)) here there in
+    record {
+      segment = program_header l c.segment;
+      contained = Contains-map (program_header l) l.segments c.segment c.listed;
+      to_load = kind_is l c.segment ∙ c.loaded;
+      low = header_from l c.segment p.address c.from;
+      inner = segment_memory l c.segment p.address (omega (arith, some, to, at, sizes));
+      high = header_to l c.segment (p.address + length (table_bytes l role.RelaDynRelative ++ table_bytes l role.RelaDynGeneral)) (omega (arith, to, at, n, m, x));
+      stands = subst (λ (k : ℕ). Stands (bytes l) k (table_bytes l role.RelaDynRelative ++ table_bytes l role.RelaDynGeneral)) (c.distance ∙ sym (segment_offset l c.segment p.address)) whole;
+    }
 
-pub entries_named : (l : Layout) → TablesStand → IsLaidOut l → OwnEntries l → needs_dynamic l.kind ≡ true → IsTableOf (bytes l) (map (program_header l) l.segments) (dynamic.dynamic_entry l tags.Rela) (dynamic.dynamic_entry l tags.RelaSize) (table_bytes l role.RelaDynRelative)
+-- what a part that has no bytes, or is not there, gives
+empty_table : (l : Layout) (r : Role) (o : Option Part) → IsLaidOut l → (role_place r ≡ 0 → ⊥) → part_with r l.parts ≡ o → dynamic.unless_empty o ≡ None → table_bytes l r ≡ []
+empty_table l r None laid place e none = (laid.roles r place).missing e
+empty_table l r (Some p) laid place e none = by_test (p.size == 0) refl none
+  where
+    by_test : (b : Bool) → (p.size == 0) ≡ b → (if b then None else Some p) ≡ None → table_bytes l r ≡ []
+    by_test false z h = cc
+    by_test true z h = (let full = ((laid.roles r place).there p e).size in let s = eqb-true p.size 0 z in no_bytes (table_bytes l r) (omega (arith, s, full)))
+
+empty_size : (o : Option Part) → dynamic.unless_empty o ≡ None → dynamic.bytes_of o ≡ 0
+empty_size None h = refl
+empty_size (Some p) h = by_test (p.size == 0) refl h
+  where
+    by_test : (b : Bool) → (p.size == 0) ≡ b → (if b then None else Some p) ≡ None → p.size ≡ 0
+    by_test true z e = eqb-true p.size 0 z
+    by_test false z e = cc
+
+-- a part with bytes
+full_part : (o : Option Part) (p : Part) → dynamic.unless_empty o ≡ Some p → (o ≡ Some p) × (1 ≤ p.size)
+full_part None p h = cc
+full_part (Some x) p h = by_test (x.size == 0) refl h
+  where
+    some : (n : ℕ) → (n == 0) ≡ false → 1 ≤ n
+    some zero e = cc
+    some (suc n) e = omega arith
+
+    by_test : (b : Bool) → (x.size == 0) ≡ b → (if b then None else Some x) ≡ Some p → (Some x ≡ Some p) × (1 ≤ p.size)
+    by_test true z e = cc
+    by_test false z e = (let is : x ≡ p = cc in (e, subst (λ (y : Part). 1 ≤ y.size) is (some x.size z)))
+
+-- of two parts, by which of them have bytes
+entries_by : (l : Layout) (o q x y : Option Part) → TablesStand → IsLaidOut l → needs_dynamic l.kind ≡ true → part_with role.RelaDynRelative l.parts ≡ o → part_with role.RelaDynGeneral l.parts ≡ q → dynamic.unless_empty o ≡ x → dynamic.unless_empty q ≡ y
+    → IsTableOf (bytes l) (map (program_header l) l.segments) (dynamic.part_address (option_or x y)) (dynamic.beside (min (2 ^ 64 - 1) (dynamic.bytes_of o + dynamic.bytes_of q)) (option_or x y)) (table_bytes l role.RelaDynRelative ++ table_bytes l role.RelaDynGeneral)
+entries_by l o q None None stands laid needs e f g h =
+    rw (empty_table l role.RelaDynRelative o laid (λ z. cc) e g, empty_table l role.RelaDynGeneral q laid (λ z. cc) f h) refl
+entries_by l o q None (Some b) stands laid needs e f g h =
+    let none = empty_table l role.RelaDynRelative o laid (λ z. cc) e g in
+    let zero_size = empty_size o g in
+    let full = full_part q b h in
+    let there : part_with role.RelaDynGeneral l.parts ≡ Some b = f ∙ full.0 in
+    let t = (laid.roles role.RelaDynGeneral (λ z. cc)).there b there in
+    let size = t.size in
+    let ends = part_low l b laid t.listed in
+    let bytes_are : dynamic.bytes_of q ≡ b.size = ap (λ (p : Option Part). dynamic.bytes_of p) full.0 in
+    let P : List ℕ → Type 0 = λ bs. (min (2 ^ 64 - 1) (dynamic.bytes_of o + dynamic.bytes_of q) ≡ length (bs ++ table_bytes l role.RelaDynGeneral)) × (0 < length (bs ++ table_bytes l role.RelaDynGeneral) → StandsAt (bytes l) (map (program_header l) l.segments) b.address (bs ++ table_bytes l role.RelaDynGeneral)) in
+    subst P (sym none) (omega (arith, zero_size, bytes_are, size, ends), λ some. table_at l role.RelaDynGeneral b stands laid (λ z. cc) needs refl there full.1 size)
+entries_by l o q (Some a) None stands laid needs e f g h =
+    let none = empty_table l role.RelaDynGeneral q laid (λ z. cc) f h in
+    let zero_size = empty_size q h in
+    let full = full_part o a g in
+    let there : part_with role.RelaDynRelative l.parts ≡ Some a = e ∙ full.0 in
+    let t = (laid.roles role.RelaDynRelative (λ z. cc)).there a there in
+    let size = t.size in
+    let ends = part_low l a laid t.listed in
+    let bytes_are : dynamic.bytes_of o ≡ a.size = ap (λ (p : Option Part). dynamic.bytes_of p) full.0 in
+    let alone : table_bytes l role.RelaDynRelative ++ table_bytes l role.RelaDynGeneral ≡ table_bytes l role.RelaDynRelative = ap (λ (bs : List ℕ). table_bytes l role.RelaDynRelative ++ bs) none ∙ append-nil (table_bytes l role.RelaDynRelative) in
+    let P : List ℕ → Type 0 = λ bs. (min (2 ^ 64 - 1) (dynamic.bytes_of o + dynamic.bytes_of q) ≡ length bs) × (0 < length bs → StandsAt (bytes l) (map (program_header l) l.segments) a.address bs) in
+    subst P (sym alone) (omega (arith, zero_size, bytes_are, size, ends), λ some. table_at l role.RelaDynRelative a stands laid (λ z. cc) needs refl there full.1 size)
+entries_by l o q (Some a) (Some b) stands laid needs e f g h =
+    let first = full_part o a g in
+    let second = full_part q b h in
+    let here : part_with role.RelaDynRelative l.parts ≡ Some a = e ∙ first.0 in
+    let there : part_with role.RelaDynGeneral l.parts ≡ Some b = f ∙ second.0 in
+    let t = (laid.roles role.RelaDynRelative (λ z. cc)).there a here in
+    let u = (laid.roles role.RelaDynGeneral (λ z. cc)).there b there in
+    let n = t.size in
+    let m = u.size in
+    let low = part_low l a laid t.listed in
+    let high = part_low l b laid u.listed in
+    let front : dynamic.bytes_of o ≡ a.size = ap (λ (p : Option Part). dynamic.bytes_of p) first.0 in
+    let back : dynamic.bytes_of q ≡ b.size = ap (λ (p : Option Part). dynamic.bytes_of p) second.0 in
+    let x = length-append (table_bytes l role.RelaDynRelative) (table_bytes l role.RelaDynGeneral) in
+    (omega (arith, front, back, n, m, low, high, x), λ some. both_at l a b stands laid needs here there first.1 second.1)
+
+pub entries_named : (l : Layout) → TablesStand → IsLaidOut l → needs_dynamic l.kind ≡ true → IsTableOf (bytes l) (map (program_header l) l.segments) (dynamic.dynamic_entry l tags.Rela) (dynamic.dynamic_entry l tags.RelaSize) (table_bytes l role.RelaDynRelative ++ table_bytes l role.RelaDynGeneral)
 unfolding dynamic.dynamic_entry dynamic.first_entries dynamic.entries_bytes
-entries_named l stands laid own needs =
-    let general = general_size l (part_with role.RelaDynGeneral l.parts) laid own refl in
-    let none = unfilled (part_with role.RelaDynGeneral l.parts) general in
-    let P : Option Part → Option Part → Option Part → ℕ → Type 0 = λ o q b n. IsTableOf (bytes l) (map (program_header l) l.segments) (dynamic.part_address (option_or (dynamic.unless_empty o) q)) (dynamic.beside (min (2 ^ 64 - 1) (dynamic.bytes_of o + n)) (option_or (dynamic.unless_empty o) q)) (table_bytes l role.RelaDynRelative) in
-    let start = entries_by l (part_with role.RelaDynRelative l.parts) stands laid needs refl in
-    let a = subst (λ (n : ℕ). P (part_with role.RelaDynRelative l.parts) None None n) (sym general) start in
-    subst (λ (q : Option Part). P (part_with role.RelaDynRelative l.parts) q None (dynamic.bytes_of (part_with role.RelaDynGeneral l.parts))) (sym none) a
+entries_named l stands laid needs = entries_by l (part_with role.RelaDynRelative l.parts) (part_with role.RelaDynGeneral l.parts) _ _ stands laid needs refl refl refl refl
 
 -- the entries that stubs go through, by their tags
 pub jumps_named : (l : Layout) → TablesStand → IsLaidOut l → needs_dynamic l.kind ≡ true → IsTableOf (bytes l) (map (program_header l) l.segments) (dynamic.dynamic_entry l tags.JmpRel) (dynamic.dynamic_entry l tags.PltRelSize) (table_bytes l role.RelaPlt)

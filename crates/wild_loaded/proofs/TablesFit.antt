@@ -1,41 +1,56 @@
--- The numbers of the tables: each relative entry and each word has its range, and each entry adds the base.
-use Rattle.std.proofs.Common.{◌≡◌, ℕ, ◌^◌, ◌<◌, Bool, true, false, not, List, [], ◌∷◌, ◌++◌, get_or, sym, arith, subst}
-use Rattle.std.specs.Prelude.{Some, None, All, option_to_list, option_map, if◌then◌else◌, ◌&&◌}
+-- The numbers of the tables: each entry and each word has its range.
+use Rattle.std.proofs.Common.{◌≡◌, ℕ, ◌+◌, ◌%◌, ◌^◌, ◌<◌, ◌≤◌, inl, inr, Bool, true, false, not, List, [], ◌∷◌, ◌++◌, map, get_or, refl, sym, arith, subst}
+use Rattle.std.specs.Prelude.{Option, Some, None, All, unwrap_or, option_to_list, option_map, option_and_then, if◌then◌else◌, ◌&&◌, slice_get}
 use Rattle.std.specs.List.{flat_map}
 use Rattle.std.specs.Int.{w64, cast_signed}
 use Rattle.std.specs.Int.RustNames.{FitsSigned}
+use Rattle.std.proofs.lemmas.Bool.{cases_lt}
 use Rattle.std.proofs.lemmas.Int.{ints}
-use Rattle.std.proofs.lemmas.List.Elements.{All-nil, All-cons, All-head, All-tail, All-append}
+use Rattle.std.proofs.lemmas.List.Elements.{All-nil, All-cons, All-head, All-tail, All-append, All-map, All-contains}
 use Rattle.wild_words.proofs.ListLemmas.{All-flat_map}
 use Rattle.wild_records.specs.Relocations.{RelaFits}
 use Rattle.wild_records.specs.declared.relocations.Rela.{Rela}
+use Rattle.wild_reloc.specs.Dynamic.{x86_64_type, aarch64_type}
+use Rattle.wild_reloc.specs.declared.dynamic.DynamicRelocationKind.{DynamicRelocationKind}
+use Rattle.wild_reloc.specs.declared.dynamic.DynamicRelocationKind.TheVariants as entry_kinds
+use Rattle.wild_plan.specs.declared.fault.Missing.TheVariants as missing
 use Rattle.wild_plan.specs.declared.kind.Machine.{Machine}
 use Rattle.wild_plan.specs.declared.kind.Machine.TheVariants as machine
 use Rattle.wild_plan.specs.declared.input.InputRelocation.{InputRelocation}
 use Rattle.wild_plan.specs.declared.input.InputSection.{InputSection}
 use Rattle.wild_plan.specs.declared.file.File.{File}
 use Rattle.wild_plan.specs.declared.file.Group.{Group}
+use Rattle.wild_plan.specs.declared.symbol.Place.{Place}
+use Rattle.wild_plan.specs.declared.symbol.Place.TheVariants as at
+use Rattle.wild_plan.specs.declared.symbol.Resolution.{Resolution}
+use Rattle.wild_plan.specs.declared.symbol.Symbol.{Symbol}
 use Rattle.wild_plan.specs.declared.layout.Layout.{Layout}
+use Rattle.wild_plan.specs.declared.slot.SlotEntry.{SlotEntry}
 use Rattle.wild_plan.specs.declared.slot.SlotWord.{SlotWord}
 use Rattle.wild_plan.specs.declared.slot.SlotWord.TheVariants.{Number, Address, InBlock, General, Plt}
+use Rattle.wild_plan.specs.declared.slot_parts.EntryPart.{EntryPart}
 use Rattle.wild_plan.specs.declared.slot_parts.EntryPart.TheVariants as entries
-use Rattle.wild_plan.specs.Entries.{place_of, packs, is_moved, has_moved, packed_place, packed_places, words_of}
-use Rattle.wild_plan.specs.SlotParts.{is_packed, entry_of, address_entry, flat_place}
-use Rattle.wild_plan.specs.SlotShares.{block_place, first_place, block_of, group_block, block_words}
+use Rattle.wild_plan.specs.declared.treatment.Treatment.{Treatment}
+use Rattle.wild_plan.specs.declared.treatment.Treatment.TheVariants as treatments
+use Rattle.wild_plan.specs.Entries.{place_of, packs, is_moved, has_moved, packed_place, packed_places, words_of, left_relocations, copies_of}
+use Rattle.wild_plan.specs.FileRoles.{is_prelude}
+use Rattle.wild_plan.specs.Lookups.{canonical, has_address, files_of, file_of}
+use Rattle.wild_plan.specs.SlotParts.{next, is_packed, type_of, entry_at, entry_of, slot_entries, address_entry, flat_place}
+use Rattle.wild_plan.specs.SlotShares.{block_place, first_place, block_of, group_block, block_words, storage_words}
+use Rattle.wild_plan.specs.Treatment.{treatment}
 use Rattle.wild_relr.specs.Laws.{IsWord, WordsFit}
-use Rattle.wild_layout.specs.Moved.{moved_value, listed_entry, section_entries, file_entries, file_words}
+use Rattle.wild_layout.specs.Left.{entry_for, left_by, left_entry, section_generals, copy_entry, file_generals}
+use Rattle.wild_layout.specs.Moved.{or_zero, moved_value, listed_entry, section_entries, file_entries, file_words}
 use Rattle.wild_layout.specs.Numbers.{SymbolNumbers}
-use Rattle.wild_layout.specs.SlotBytes.{slot_entries_of, flat_places_of}
-use Rattle.wild_loader.specs.declared.kind.DynamicKind.TheVariants as kinds
-use Rattle.wild_loader.specs.declared.memory.Machine.TheVariants as machines
-use Rattle.wild_loader.specs.Changes.{kind_of}
+use Rattle.wild_layout.specs.SlotBytes.{slot_entries_of, flat_places_of, storage_entries}
+use Rattle.wild_layout.specs.Values.{address_in_section, address_in_file, address_at, placed_value, resolved_or, raw_value, address_or, raw_address}
+use Rattle.wild_slots.proofs.ItemLemmas.{of_if}
 use Rattle.wild_tables.specs.Tables.{relative_entry, relative_type}
-use Rattle.wild_tables.specs.Laws.{EntriesAddTheBase, loader_machine}
-use Rattle.wild_loaded.specs.Tables.{file_packed, group_words, relatives, tables_of}
+use Rattle.wild_loaded.specs.Tables.{file_packed, group_words, relatives, first_generals, generals, tables_of}
 use Rattle.wild_loaded.proofs.SlotNumbers.{WordFits}
 use Rattle.wild_loaded.proofs.SlotSites.{SlotSite, of_site, file_sites, group_sites, entries_by_sites, flat_by_sites, block_by_sites}
 use Rattle.wild_loaded.proofs.SitesFit.{SiteFits, sites_fit, group_sites_fit, block_fits}
-use Rattle.wild_loaded.specs.Laws.{EntriesAreRelative}
+use Rattle.wild_loaded.proofs.SlotsHeld.{listed_at}
 
 -- ---- each entry
 
@@ -82,24 +97,196 @@ of_file P l f h numbers =
     (All-flat_map P (section_entries l) f.sections (λ k d b. of_section P l (get_or f.sections k d) h))
     (subst (All P) (sym (entries_by_sites entries.Relative l f)) (of_slots P l (file_sites l f) h (sites_fit l f numbers)))
 
-of_group : (P : Rela → Type 0) (l : Layout) (g : Group) → OfEntries l P → All SymbolNumbers l.symbols → All P (flat_map (relatives l) g.files)
-of_group P l g h numbers = All-flat_map P (relatives l) g.files (λ k d b. of_file P l (get_or g.files k d) h numbers)
+-- any number, seen as one with a sign, has 64 bits
+pub signed_fits : (n : ℕ) → FitsSigned w64 (cast_signed w64 n)
+signed_fits n = elim (cases_lt n (2 ^ 64)) [ inl low ↦ low_fits n low | inr high ↦ high_fits n high ]
+  where
+    low_fits : (k : ℕ) → k < 2 ^ 64 → FitsSigned w64 (cast_signed w64 k)
+    low_fits k h = grind (arith, ints)
 
-of_entries : (P : Rela → Type 0) (l : Layout) → OfEntries l P → All SymbolNumbers l.symbols → All P (tables_of l).entries
-of_entries P l h numbers = All-flat_map P (λ (g : Group). flat_map (relatives l) g.files) l.groups (λ k d b. of_group P l (get_or l.groups k d) h numbers)
-
-pub signed_fits : (n : ℕ) → n < 2 ^ 64 → FitsSigned w64 (cast_signed w64 n)
-signed_fits n h = grind (arith, ints)
+    high_fits : (k : ℕ) → 2 ^ 64 ≤ k → FitsSigned w64 (cast_signed w64 k)
+    high_fits k h = grind (arith, ints)
 
 number_fits : (m : Machine) → relative_type m < 2 ^ 32
 number_fits machine.X86_64 = omega arith
 number_fits machine.AArch64 = omega arith
 
-pub entries_fit : (l : Layout) → All SymbolNumbers l.symbols → All RelaFits (tables_of l).entries
-entries_fit l numbers = of_entries RelaFits l (λ place v low small. record { offset = low; number = number_fits l.machine; symbol = omega arith; addend = signed_fits v small }) numbers
+relatives_fit : (l : Layout) (f : File) → All SymbolNumbers l.symbols → All RelaFits (relatives l f)
+relatives_fit l f numbers = of_file RelaFits l f (λ place v low small. record { offset = low; number = number_fits l.machine; symbol = omega arith; addend = signed_fits v }) numbers
 
-pub entries_relative : EntriesAddTheBase → EntriesAreRelative
-entries_relative law = λ l x numbers. of_entries (λ (e : Rela). kind_of machines.X86_64 e.number ≡ Some kinds.Relative) l (λ place v low small. subst (λ (m : Machine). kind_of (loader_machine m) (relative_entry l place v).number ≡ Some kinds.Relative) x (law l 0 place v small).0) numbers.symbols
+-- ---- entries of slots
+
+type_fits : (m : Machine) (k : DynamicRelocationKind) → type_of m k < 2 ^ 32
+type_fits machine.X86_64 k = on_x86_64 k
+  where
+    on_x86_64 : (k : DynamicRelocationKind) → x86_64_type k < 2 ^ 32
+    on_x86_64 entry_kinds.Absolute = omega arith
+    on_x86_64 entry_kinds.Copy = omega arith
+    on_x86_64 entry_kinds.GotEntry = omega arith
+    on_x86_64 entry_kinds.JumpSlot = omega arith
+    on_x86_64 entry_kinds.Relative = omega arith
+    on_x86_64 entry_kinds.DtpMod = omega arith
+    on_x86_64 entry_kinds.DtpOff = omega arith
+    on_x86_64 entry_kinds.TpOff = omega arith
+    on_x86_64 entry_kinds.TlsDesc = omega arith
+    on_x86_64 entry_kinds.Irelative = omega arith
+type_fits machine.AArch64 k = on_aarch64 k
+  where
+    on_aarch64 : (k : DynamicRelocationKind) → aarch64_type k < 2 ^ 32
+    on_aarch64 entry_kinds.Absolute = omega arith
+    on_aarch64 entry_kinds.Copy = omega arith
+    on_aarch64 entry_kinds.GotEntry = omega arith
+    on_aarch64 entry_kinds.JumpSlot = omega arith
+    on_aarch64 entry_kinds.Relative = omega arith
+    on_aarch64 entry_kinds.DtpMod = omega arith
+    on_aarch64 entry_kinds.DtpOff = omega arith
+    on_aarch64 entry_kinds.TpOff = omega arith
+    on_aarch64 entry_kinds.TlsDesc = omega arith
+    on_aarch64 entry_kinds.Irelative = omega arith
+
+entry_fits : (m : Machine) (at : ℕ) (e : SlotEntry) → at < 2 ^ 64 → RelaFits (entry_at m at e)
+entry_fits m at e low = record { offset = low; number = type_fits m e.kind; symbol = omega arith; addend = signed_fits e.addend }
+
+one_fits : (m : Machine) (at : ℕ) (e : SlotEntry) → at < 2 ^ 64 → All RelaFits (entry_at m at e ∷ [])
+one_fits m at e low = All-cons RelaFits (entry_at m at e) [] (entry_fits m at e low) (All-nil RelaFits)
+
+moved_fits : (m : Machine) (b : Bool) (at v : ℕ) → at < 2 ^ 64 → All RelaFits (option_to_list (if b then None else Some (address_entry m at v)))
+moved_fits m true at v low = All-nil RelaFits
+moved_fits m false at v low = All-cons RelaFits (address_entry m at v) [] (record { offset = low; number = type_fits m entry_kinds.Relative; symbol = omega arith; addend = signed_fits v }) (All-nil RelaFits)
+
+-- the entry of a word at its place
+site_entry_fits : (part : EntryPart) (m : Machine) (relr : Bool) (at : ℕ) (d : SlotWord) → at < 2 ^ 64 → All RelaFits (option_to_list (entry_of part m relr at d))
+site_entry_fits entries.Plt m relr at (Plt e) low = one_fits m at e low
+site_entry_fits entries.Plt m relr at (Number n) low = All-nil RelaFits
+site_entry_fits entries.Plt m relr at (Address a) low = All-nil RelaFits
+site_entry_fits entries.Plt m relr at (InBlock a) low = All-nil RelaFits
+site_entry_fits entries.Plt m relr at (General e) low = All-nil RelaFits
+site_entry_fits entries.General m relr at (General e) low = one_fits m at e low
+site_entry_fits entries.General m relr at (Number n) low = All-nil RelaFits
+site_entry_fits entries.General m relr at (Address a) low = All-nil RelaFits
+site_entry_fits entries.General m relr at (InBlock a) low = All-nil RelaFits
+site_entry_fits entries.General m relr at (Plt e) low = All-nil RelaFits
+site_entry_fits entries.Relative m relr at (Address a) low = moved_fits m (is_packed relr at) at a low
+site_entry_fits entries.Relative m relr at (Number n) low = All-nil RelaFits
+site_entry_fits entries.Relative m relr at (InBlock a) low = All-nil RelaFits
+site_entry_fits entries.Relative m relr at (General e) low = All-nil RelaFits
+site_entry_fits entries.Relative m relr at (Plt e) low = All-nil RelaFits
+
+slot_entries_fit : (part : EntryPart) (l : Layout) (f : File) → All SymbolNumbers l.symbols → All RelaFits (slot_entries_of part l f)
+slot_entries_fit part l f numbers =
+    subst (All RelaFits) (sym (entries_by_sites part l f))
+    (All-flat_map RelaFits (of_site (entry_of part l.machine l.options.relr)) (file_sites l f) (λ k d b. site_entry_fits part l.machine l.options.relr (get_or (file_sites l f) k d).at (get_or (file_sites l f) k d).word (sites_fit l f numbers k d b).0))
+
+-- those of words from a place on
+places_entries_fit : (part : EntryPart) (m : Machine) (relr : Bool) (at : ℕ) (ws : List SlotWord) → at < 2 ^ 64 → All RelaFits (slot_entries part m relr at ws)
+places_entries_fit part m relr at [] low = All-nil RelaFits
+places_entries_fit part m relr at (w ∷ ws) low =
+    All-append RelaFits (option_to_list (entry_of part m relr at w)) (slot_entries part m relr (next at) ws) (site_entry_fits part m relr at w low) (places_entries_fit part m relr (next at) ws (omega arith))
+
+-- ---- entries of fields and of copies
+
+named_fits : (place number symbol addend : ℕ) → place < 2 ^ 64 → RelaFits (entry_for place number symbol addend)
+named_fits place number symbol addend low = record { offset = low; number = omega arith; symbol = omega arith; addend = signed_fits addend }
+
+left_fits : (l : Layout) (s : InputSection) (r : InputRelocation) (t : Treatment) → RelaFits (left_by l s r t)
+left_fits l s r (treatments.Symbolic i) = named_fits (place_of s r) _ _ _ (omega arith)
+left_fits l s r (treatments.Indirect i) = named_fits (place_of s r) _ _ _ (omega arith)
+left_fits l s r (treatments.Extent row i) = named_fits (place_of s r) _ _ _ (omega arith)
+left_fits l s r treatments.Nothing = named_fits (place_of s r) _ _ _ (omega arith)
+left_fits l s r (treatments.Value row) = named_fits (place_of s r) _ _ _ (omega arith)
+left_fits l s r treatments.BaseRelative = named_fits (place_of s r) _ _ _ (omega arith)
+left_fits l s r treatments.Recompile = named_fits (place_of s r) _ _ _ (omega arith)
+left_fits l s r treatments.Unsupported = named_fits (place_of s r) _ _ _ (omega arith)
+
+-- where a symbol stands is a number of 64 bits
+placed_low : (l : Layout) (i v : ℕ) → placed_value l i ≡ Some v → v < 2 ^ 64
+placed_low l i v h = by_symbol (slice_get l.symbols i) h
+  where
+    by_section : (value : ℕ) (o : Option InputSection) → address_in_section l value o ≡ Some v → v < 2 ^ 64
+    by_section value None e = cc
+    by_section value (Some s) e = by_test (has_address l s) e
+      where
+        by_test : (b : Bool) → (if b then Some ((s.address + value) % 2 ^ 64) else None) ≡ Some v → v < 2 ^ 64
+        by_test true q = (let is : (s.address + value) % 2 ^ 64 ≡ v = cc in omega (arith, is))
+        by_test false q = cc
+
+    by_file : (k value : ℕ) (o : Option File) → address_in_file l k value o ≡ Some v → v < 2 ^ 64
+    by_file k value None e = cc
+    by_file k value (Some f) e = by_section value (slice_get f.sections k) e
+
+    by_place : (value : ℕ) (p : Place) → address_at l i value p ≡ Some v → v < 2 ^ 64
+    by_place value (at.Section k) e = by_file k value (file_of (files_of l.groups) i) e
+    by_place value at.Undefined e = cc
+    by_place value at.Absolute e = cc
+    by_place value at.Common e = cc
+    by_place value (at.Output k) e = cc
+
+    by_symbol : (o : Option Symbol) → option_and_then (λ (s : Symbol). address_at l i s.value s.place) o ≡ Some v → v < 2 ^ 64
+    by_symbol None e = cc
+    by_symbol (Some s) e = by_place s.value s.place e
+
+-- and so is the address of a symbol
+raw_low : (l : Layout) (i : ℕ) → All SymbolNumbers l.symbols → or_zero (raw_address l (Some i)) < 2 ^ 64
+unfolding raw_value
+raw_low l i numbers = by_symbol (slice_get l.symbols (canonical l i)) refl
+  where
+    placed : (o : Option ℕ) → placed_value l i ≡ o → or_zero (address_or missing.Address i (resolved_or None o)) < 2 ^ 64
+    placed None e = omega arith
+    placed (Some v) e = placed_low l i v e
+
+    by_resolution : (s : Symbol) → slice_get l.symbols (canonical l i) ≡ Some s → (o : Option Resolution) → s.resolution ≡ o → or_zero (address_or missing.Address i (resolved_or (option_map (λ (r : Resolution). r.raw_value) o) (placed_value l i))) < 2 ^ 64
+    by_resolution s there None e = placed (placed_value l i) refl
+    by_resolution s there (Some r) e = (All-contains SymbolNumbers l.symbols s numbers (listed_at l.symbols (canonical l i) s there) r e).value
+
+    by_symbol : (o : Option Symbol) → slice_get l.symbols (canonical l i) ≡ o → or_zero (address_or missing.Address i (resolved_or (option_and_then (λ (s : Symbol). option_map (λ (r : Resolution). r.raw_value) s.resolution) o) (placed_value l i))) < 2 ^ 64
+    by_symbol None e = placed (placed_value l i) refl
+    by_symbol (Some s) e = by_resolution s e s.resolution refl
+
+left_entries_fit : (l : Layout) (s : InputSection) → All RelaFits (section_generals l s)
+unfolding section_generals
+left_entries_fit l s = All-map RelaFits (left_entry l s) (left_relocations l s) (λ k d b. left_fits l s (get_or (left_relocations l s) k d) (treatment l s (get_or (left_relocations l s) k d)))
+
+file_entries_fit : (l : Layout) (f : File) → All SymbolNumbers l.symbols → All RelaFits (file_generals l f)
+unfolding file_generals
+file_entries_fit l f numbers =
+    All-append RelaFits (map (copy_entry l) (copies_of f)) (flat_map (section_generals l) f.sections)
+    (All-map RelaFits (copy_entry l) (copies_of f) (λ k d b. named_fits (or_zero (raw_address l (Some (get_or (copies_of f) k d)))) _ _ _ (raw_low l (get_or (copies_of f) k d) numbers)))
+    (All-flat_map RelaFits (section_generals l) f.sections (λ k d b. left_entries_fit l (get_or f.sections k d)))
+
+-- ---- all entries
+
+-- the pair of the output's own thread-local data stands at a number of 64 bits
+abbrev pub PairIsLow : Layout → Type 0
+PairIsLow l = (at : ℕ) → l.tlsld ≡ Some at → at < 2 ^ 64
+
+storage_fits : (l : Layout) → PairIsLow l → All RelaFits (storage_entries l)
+storage_fits l low = places_entries_fit entries.General l.machine l.options.relr (unwrap_or l.tlsld 0) (storage_words l) (by_place l.tlsld low)
+  where
+    by_place : (o : Option ℕ) → ((at : ℕ) → o ≡ Some at → at < 2 ^ 64) → unwrap_or o 0 < 2 ^ 64
+    by_place None h = omega arith
+    by_place (Some at) h = h at refl
+
+generals_fit : (l : Layout) (f : File) → PairIsLow l → All SymbolNumbers l.symbols → All RelaFits (generals l f)
+generals_fit l f low numbers =
+    All-append RelaFits (first_generals l f) (file_generals l f ++ slot_entries_of entries.General l f)
+    (of_if (All RelaFits) (is_prelude f.role) (storage_entries l) [] (λ t. storage_fits l low) (λ n. All-nil RelaFits))
+    (All-append RelaFits (file_generals l f) (slot_entries_of entries.General l f) (file_entries_fit l f numbers) (slot_entries_fit entries.General l f numbers))
+
+-- what holds of the entries of each file holds of all
+of_all_files : (P : Rela → Type 0) (l : Layout) (of : File → List Rela) → ((f : File) → All P (of f)) → All P (flat_map (λ (g : Group). flat_map of g.files) l.groups)
+of_all_files P l of h = All-flat_map P (λ (g : Group). flat_map of g.files) l.groups (λ i d b. All-flat_map P of (get_or l.groups i d).files (λ j f c. h (get_or (get_or l.groups i d).files j f)))
+
+pub all_generals_fit : (l : Layout) → PairIsLow l → All SymbolNumbers l.symbols → All RelaFits (flat_map (λ (g : Group). flat_map (generals l) g.files) l.groups)
+all_generals_fit l low numbers = of_all_files RelaFits l (generals l) (λ f. generals_fit l f low numbers)
+
+pub entries_fit : (l : Layout) → PairIsLow l → All SymbolNumbers l.symbols → All RelaFits (tables_of l).entries
+entries_fit l low numbers =
+    All-append RelaFits (flat_map (λ (g : Group). flat_map (relatives l) g.files) l.groups) (flat_map (λ (g : Group). flat_map (generals l) g.files) l.groups)
+    (of_all_files RelaFits l (relatives l) (λ f. relatives_fit l f numbers))
+    (all_generals_fit l low numbers)
+
+pub jumps_fit : (l : Layout) → All SymbolNumbers l.symbols → All RelaFits (tables_of l).jumps
+jumps_fit l numbers = of_all_files RelaFits l (slot_entries_of entries.Plt l) (λ f. slot_entries_fit entries.Plt l f numbers)
 
 -- ---- each word
 

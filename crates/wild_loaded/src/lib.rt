@@ -1,18 +1,16 @@
 //! What a loader makes of the image of a laid out layout before any entry is applied.
 #![tactic(auto)]
 
-ghost use Rattle.wild_loaded.specs.Laws.{EntriesAreRelative, HeadersStand, HeadersTell, JumpsAreAnswered, OwnersAreKnown, PartsAreStored, SectionTablesAreFound, SectionsAreCarried, SectionsAreStored, SegmentsAreLoadable, SlotsAreOwn, SlotsAreStored, TablesAreFound, ZerosAreStored};
+ghost use Rattle.wild_loaded.specs.Laws.{CopiesAreThere, EntriesHaveChanges, HeadersStand, HeadersTell, OwnersAreKnown, PartsAreStored, SectionTablesAreFound, SectionsAreCarried, SectionsAreStored, SegmentsAreLoadable, SlotsAreStored, SlotsAreThere, TablesAreFound, ZerosAreStored};
 
 use wild_geometry::tables_stand;
 use wild_loader::bytes_are_loaded;
 use wild_relr::words_fit;
 use wild_slots::{
-    each_word_stands, fixed_outputs_move_nothing, own_symbols_are_filled, pair_stands, slots_stand,
+    each_word_stands, entries_are_known, fixed_outputs_move_nothing, pair_stands, slots_stand,
     stubs_are_there,
 };
-use wild_tables::{
-    dynamic_sections_are_read, entries_add_the_base, entries_are_read, types_are_known,
-};
+use wild_tables::{dynamic_sections_are_read, entries_are_read};
 
 /// Each piece stands in the image, no byte is of two pieces, and a byte that no piece holds is padding.
 pub fn owners_are_known()
@@ -44,12 +42,10 @@ pub fn sections_are_stored()
     bytes_are_loaded();
 }
 
-/// The slots of a static executable whose symbols are its own hold what is its own.
-pub fn slots_are_own()
-    ensures { SlotsAreOwn }
-{
-    own_symbols_are_filled();
-}
+/// In a layout without faults the slots of symbols are written whole.
+pub fn slots_are_there()
+    ensures { SlotsAreThere }
+{}
 
 /// The memory of the loaded segments has the tables that a program reads.
 pub fn parts_are_stored()
@@ -70,19 +66,28 @@ pub fn slots_are_stored()
     pair_stands();
 }
 
-/// A loader finds the tables that fill addresses and slots, by the dynamic section or by a section of theirs; each entry
-/// adds the base, or stores what a resolver answers.
+/// A loader finds the tables that fill addresses and slots, by the dynamic section or by sections of theirs.
 pub fn tables_are_found()
     ensures found { TablesAreFound }
     ensures sections { SectionTablesAreFound }
-    ensures relative { EntriesAreRelative }
-    ensures answered { JumpsAreAnswered }
 {
     tables_stand();
     dynamic_sections_are_read();
     entries_are_read();
-    entries_add_the_base();
-    types_are_known();
     words_fit();
+    pair_stands();
     fixed_outputs_move_nothing();
 }
+
+/// In a legal world each entry of a slot, of a field and of a copy makes a loader do what the symbol's answer or its
+/// resolver's says.
+pub fn entries_have_changes()
+    ensures { EntriesHaveChanges }
+{
+    entries_are_known();
+}
+
+/// In a layout without faults each symbol that is copied has an address and an answer.
+pub fn copies_are_there()
+    ensures { CopiesAreThere }
+{}

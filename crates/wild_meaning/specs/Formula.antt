@@ -4,13 +4,15 @@
 --   table_at l w             GOT
 --   IsOffset l w symbol t    t is S's offset from the thread pointer
 --   IsExtent l w symbol z    z is Z
+--   IsWhole l w r n x        x is Z + A, or of an answer in a field of four bytes its low half
 --   IsGoal l w m symbol a    a is L: code that goes there comes to S
 --   HasOffsetMode l item     a descriptor's reference in the item is the offset itself
 --   Gives value l w m item r x   x is the value of the expression
 --   IsPlaceRelative value    the expression takes a place from an address
 --   GivesLinked value ..     the same with the output's own S, whatever another module has for it
-use Rattle.std.specs.Prelude.{◌≡◌, ℕ, ◌+◌, ◌-◌, ◌%◌, ◌^◌, true, ⊤, Option, Some, None}
+use Rattle.std.specs.Prelude.{◌≡◌, ℕ, ◌+◌, ◌-◌, ◌%◌, ◌^◌, ◌⊎◌, true, ⊤, Option, Some, None}
 use Rattle.std.specs.Int.{w64, cast_unsigned}
+use Rattle.wild_records.specs.Abi.Relocation.{r_x86_64_size32}
 use Rattle.wild_records.specs.Abi.Section.{shf_execinstr}
 use Rattle.wild_reloc.specs.Formula.{Value, SymbolAddress, Distance, PageDistance, FromTable, StubDistance, StubFromTable, TableDistance, SlotDistance, SlotFromTable, AddressSlot, Descriptor, ModuleOffset, PointerOffset, Size}
 use Rattle.wild_plan.specs.declared.kind.OutputKind.{OutputKind}
@@ -19,8 +21,9 @@ use Rattle.wild_plan.specs.declared.input.InputRelocation.{InputRelocation}
 use Rattle.wild_plan.specs.declared.layout.Layout.{Layout}
 use Rattle.wild_loader.specs.declared.memory.Memory.{Memory}
 use Rattle.wild_loader.specs.declared.world.World.{World}
+use Rattle.wild_loader.specs.declared.world.Answer.{Answer}
 use Rattle.wild_meaning.specs.Section.{IsSet}
-use Rattle.wild_meaning.specs.Value.{HasValue, HasOwnValue, Denotes, Reaches, HasSize}
+use Rattle.wild_meaning.specs.Value.{HasValue, HasOwnValue, HasAnswer, Denotes, Reaches, HasSize}
 use Rattle.wild_meaning.specs.Thread.{HasThreadOffset, HasOwnOffset, IsOffsetBase}
 use Rattle.wild_meaning.specs.Slot.{IsSlot}
 use Rattle.wild_meaning.specs.Item.{Item, place_at}
@@ -55,6 +58,19 @@ abbrev pub IsExtent : Layout → World → Option ℕ → ℕ → Type 0
 IsExtent l w None z = ⊥
 IsExtent l w (Some i) z = HasSize l w i z
 
+-- the field has four bytes, and the world answers for the symbol, which may have more bytes than such a field can tell (x86-64
+-- psABI, "Relocation Types": R_X86_64_SIZE32)
+pub record IsShort (l : Layout) (w : World) (r : InputRelocation) : Type 0 where
+  pub number : r.number ≡ r_x86_64_size32
+  pub symbol : ℕ
+  pub named : r.symbol ≡ Some symbol
+  pub answer : Answer
+  pub given : HasAnswer l w symbol answer
+
+-- x is the number n, or its low 32 bits in such a field
+abbrev pub IsWhole : Layout → World → InputRelocation → (n x : ℕ) → Type 0
+IsWhole l w r n x = (x ≡ n) ⊎ (IsShort l w r × (x ≡ n % 2 ^ 32))
+
 -- a program whose descriptors' references in code are offsets: one without a loader that fills descriptors, or one that is
 -- rewritten so
 abbrev pub KnowsOffsets : OutputKind → Layout → Type 0
@@ -82,7 +98,7 @@ Gives SlotFromTable l w m item r x = (g : ℕ) × IsSlot AddressSlot l w m r.sym
 Gives TableDistance l w m item r x = x ≡ (table_at l w + cast_unsigned w64 r.addend + (2 ^ 64 - place_at w item r.offset)) % 2 ^ 64
 Gives PointerOffset l w m item r x = (t : ℕ) × IsOffset l w r.symbol t × (x ≡ (t + cast_unsigned w64 r.addend) % 2 ^ 64)
 Gives ModuleOffset l w m item r x = (t b : ℕ) × IsOffset l w r.symbol t × IsOffsetBase l.machine l.kind w b × (x ≡ (t + cast_unsigned w64 r.addend + (2 ^ 64 - b)) % 2 ^ 64)
-Gives Size l w m item r x = (z : ℕ) × IsExtent l w r.symbol z × (x ≡ (z + cast_unsigned w64 r.addend) % 2 ^ 64)
+Gives Size l w m item r x = (z : ℕ) × IsExtent l w r.symbol z × IsWhole l w r ((z + cast_unsigned w64 r.addend) % 2 ^ 64) x
 Gives other l w m item r x = ⊥
 
 -- the expression takes P, Page(P) or GOT from S or L, also where it gives no value yet; GOT + A - P does not, since both

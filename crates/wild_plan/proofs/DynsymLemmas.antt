@@ -3,7 +3,7 @@ use Rattle.std.proofs.Common.{◌≡◌, ℕ, zero, suc, ◌+◌, ◌-◌, ◌<�
 use Rattle.std.specs.Prelude.{Option, Some, None, Result, Ok, Err, ◌&&◌, ◌||◌, ◌==◌, ◌⊎◌, if◌then◌else◌, nat_le, nat_lt, slice_get, unwrap_or}
 use Rattle.std.proofs.lemmas.Bool.{cases_Bool, eqb-true, eq-eqb, ne_eqb}
 use Rattle.std.proofs.lemmas.Bool.Decides.{nat_tests}
-use Rattle.std.proofs.lemmas.List.{drop-drop, length-drop, length-take-le, length-append}
+use Rattle.std.proofs.lemmas.List.{drop-drop, length-drop, length-take-le, length-append, length-map}
 use Rattle.wild_plan.specs.declared.symbol.Symbol.{Symbol}
 use Rattle.wild_plan.specs.declared.file.FileRole.{FileRole}
 use Rattle.wild_plan.specs.declared.file.FileRole.TheVariants as file_role
@@ -17,7 +17,7 @@ use Rattle.std.proofs.lemmas.Bool.{leb-true}
 use Rattle.std.proofs.lemmas.Grind.{flat_map-append}
 use Rattle.wild_plan.specs.Astray.{range_of}
 use Rattle.wild_plan.specs.Lists.{first_failing, through, total}
-use Rattle.wild_plan.specs.Indexes.{part_index_fits, symbol_misfit, section_indexes_fit, file_indexes_fit, group_indexes_fit, definition_is_own, range_follows, or_place, range_out_of_order}
+use Rattle.wild_plan.specs.Indexes.{part_index_fits, symbol_misfit, symbol_is_there, section_indexes_fit, file_indexes_fit, group_indexes_fit, listed_misfit, copied_again, definition_is_own, range_follows, or_place, range_out_of_order}
 use Rattle.wild_plan.specs.WellFormed.{fails, first_error, check_indexes}
 use Rattle.wild_plan.specs.declared.fault.Clause.{Clause}
 use Rattle.wild_plan.specs.Lookups.{section_of, section_of_part, files_of, file_of}
@@ -427,7 +427,7 @@ each_listed test [] h = tt
 each_listed test (x ∷ xs) h = let w = and_both (test x) (list_all test xs) h in (w.0, each_listed test xs w.1)
 
 group_fits : (l : Layout) (g : Group) → group_indexes_fit l g ≡ true → Each (Fits (length l.symbols)) g.files
-group_fits l g h = each_weaker (λ (f : File). file_indexes_fit l f ≡ true) (Fits (length l.symbols)) g.files (λ f k. (and_both (f.symbol_count == 0 || nat_le (f.first_symbol + f.symbol_count) (length l.symbols)) (list_all (section_indexes_fit l) f.sections) k).0) (each_listed (file_indexes_fit l) g.files h)
+group_fits l g h = each_weaker (λ (f : File). file_indexes_fit l f ≡ true) (Fits (length l.symbols)) g.files (λ f k. (and_both (f.symbol_count == 0 || nat_le (f.first_symbol + f.symbol_count) (length l.symbols)) (list_all (section_indexes_fit l) f.sections && list_all (symbol_is_there l) f.copies) k).0) (each_listed (file_indexes_fit l) g.files h)
 
 behind_first : (r s : Result (Unit {0}) Clause) → first_error r s ≡ Ok tt → s ≡ Ok tt
 behind_first (Ok u) s h = h
@@ -446,13 +446,17 @@ unfolding check_indexes
 ranges_ascend l h =
     let order = fails 9 (range_out_of_order 0 0 l.groups) in
     let own = fails 9 (first_failing (definition_is_own l) 0 l.symbols) in
+    let behind = first_error own order in
+    let copied = fails 9 (copied_again l [] 0 l.groups) in
+    let listed = fails 9 (listed_misfit l) in
+    let later = first_error listed (first_error copied behind) in
     let groups = fails 9 (first_failing (group_indexes_fit l) 0 l.groups) in
     let symbols = fails 9 (symbol_misfit l (files_of l.groups) 0 l.symbols) in
-    let a = behind_first (fails 9 (first_failing (part_index_fits l) 0 l.parts)) (first_error symbols (first_error groups (first_error own order))) h in
-    let b = behind_first symbols (first_error groups (first_error own order)) a in
-    let c = behind_first groups (first_error own order) b in
+    let a = behind_first (fails 9 (first_failing (part_index_fits l) 0 l.parts)) (first_error symbols (first_error groups later)) h in
+    let b = behind_first symbols (first_error groups later) a in
+    let c = behind_first copied behind (behind_first listed (first_error copied behind) (behind_first groups later b)) in
     let d = behind_first own order c in
-    let fit = each_weaker (λ (g : Group). group_indexes_fit l g ≡ true) (λ (g : Group). Each (Fits (length l.symbols)) g.files) l.groups (λ g k. group_fits l g k) (each_passes (group_indexes_fit l) 0 l.groups (nowhere 9 (first_failing (group_indexes_fit l) 0 l.groups) (first_of groups (first_error own order) b))) in
+    let fit = each_weaker (λ (g : Group). group_indexes_fit l g ≡ true) (λ (g : Group). Each (Fits (length l.symbols)) g.files) l.groups (λ g k. group_fits l g k) (each_passes (group_indexes_fit l) 0 l.groups (nowhere 9 (first_failing (group_indexes_fit l) 0 l.groups) (first_of groups later b))) in
     groups_ascend (length l.symbols) 0 0 l.groups fit (nowhere 9 (range_out_of_order 0 0 l.groups) d)
 
 -- ---- how many undefined entries there are
@@ -482,6 +486,15 @@ count_is_exact l h short =
     let few = few_entries l (ranges_ascend l h) in
     let same = groups_count l.symbols l.groups in
     rw same (omega (arith, few, short))
+
+-- all symbols of the table, counted with bounds
+pub table_length : (l : Layout) (n : ℕ) → n ≡ min (2 ^ 64 - 1) (undefined_count l) → min (2 ^ 64 - 1) (n + length l.dynsyms) ≡ min (2 ^ 64 - 1) (length (dynamic_symbols l))
+table_length l n is =
+    let undefined = undefined_entries l.symbols (files_of l.groups) in
+    let same = groups_count l.symbols l.groups in
+    let long : length (undefined ++ listed l.dynsyms) ≡ length undefined + length (listed l.dynsyms) = length-append undefined (listed l.dynsyms) in
+    let own : length (listed l.dynsyms) ≡ length l.dynsyms = length-map l.dynsyms (λ (d : DynamicSymbol). d.symbol) in
+    omega (arith, is, same, long, own)
 
 pub walk_finds_misplaced : (l : Layout) (n : ℕ) → check_indexes l ≡ Ok tt → n ≡ length (undefined_entries l.symbols (files_of l.groups)) → whole_walk l n ≡ misplaced (dynamic_symbols l) 0 l.symbols
 walk_finds_misplaced l n h e = walk_finds l n (ranges_ascend l h) e

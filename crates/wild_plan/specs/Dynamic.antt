@@ -3,7 +3,7 @@
 --   dynamic_entry l tag       its value; none where the entry is left out
 --   dynamic_entries l         all these entries, in order
 --   dynamic_count l           how many they are
-use Rattle.std.specs.Prelude.{ℕ, ◌+◌, ◌-◌, ◌/◌, ◌^◌, ◌==◌, Bool, not, ◌&&◌, if◌then◌else◌, min, List, [], ◌∷◌, ◌++◌, length, map, All, find, flat_map, bytes_eq, codes, bit_or, Option, Some, None, option_map}
+use Rattle.std.specs.Prelude.{ℕ, ◌+◌, ◌-◌, ◌/◌, ◌^◌, ◌==◌, Bool, not, ◌&&◌, if◌then◌else◌, min, List, [], ◌∷◌, ◌++◌, length, All, find, flat_map, bytes_eq, codes, bit_or, Option, Some, None, option_map}
 use Rattle.std.specs.Option.{option_or}
 use Rattle.wild_records.specs.Abi.Dynamic.{dt_null, dt_pltrelsz, dt_pltgot, dt_pltrel, dt_jmprel, dt_strtab, dt_symtab, dt_rela, dt_relasz, dt_relaent, dt_strsz, dt_syment, dt_init, dt_fini, dt_debug, dt_textrel, dt_init_array, dt_fini_array, dt_init_arraysz, dt_fini_arraysz, dt_flags, dt_preinit_array, dt_preinit_arraysz, dt_relrsz, dt_relr, dt_relrent, dt_relacount, dt_flags_1, df_origin, df_textrel, df_bind_now, df_static_tls, df_1_now, df_1_nodelete, df_1_origin, df_1_interpose, df_1_pie}
 use Rattle.wild_records.specs.Abi.Section.{sht_nobits}

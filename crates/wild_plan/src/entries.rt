@@ -10,6 +10,7 @@ use crate::file::File;
 use crate::index::SymbolIndex;
 use crate::input::{InputRelocation, InputSection};
 use crate::layout::Layout;
+use crate::lookups::is_allocated;
 use crate::treatment::{Treatment, treatment_of};
 use wild_relr::{Choice, Run, choice, runs_are_counted};
 
@@ -181,11 +182,14 @@ pub fn is_left_to_entry(
     )
 }
 
-/// How many of some relocations of a section are such.
+/// How many of some relocations of a section are such: none where it is not loaded into memory.
 fn count_left(layout: &Layout, section: &InputSection, relocations: &[InputRelocation]) -> usize
     ensures { result ≡ length (filter (λ r. is_left_to_entry (treatment layout.now section.now r)) relocations.now) }
 {
     let mut count = 0;
+    if !is_allocated(section.flags) {
+        return count;
+    }
     for relocation in relocations {
         if is_left_to_entry(layout, section, relocation) {
             count += 1;

@@ -115,7 +115,7 @@ fn listed_room(listed: &[DynamicSymbol]) -> u64
 }
 
 /// How many bytes the strings of a file have that no symbol has for its name, at most 2^64 - 1.
-fn lead_room(layout: &Layout, file: &File) -> u64
+pub fn lead_room(layout: &Layout, file: &File) -> u64
     ensures { result ≡ min (2 ^ 64 - 1) (total text_room (lead_strings layout.now file.now)) }
 {
     match file.role {

@@ -125,10 +125,10 @@ fn is_chosen(layout: &Layout, section: &InputSection, symbol: SymbolIndex) -> bo
 fn chosen_treatment(row: &RelocationKindInfo, symbol: SymbolIndex) -> Treatment
     ensures { result ≡ chosen_treatment row.now symbol }
 {
-    if row.width() == 8 {
-        Treatment::Indirect(symbol)
-    } else {
+    if row.width() != 8 {
         Treatment::Recompile
+    } else {
+        Treatment::Indirect(symbol)
     }
 }
 
@@ -178,11 +178,7 @@ fn distance_treatment(
 
 /// What is done with a relocation that writes an offset from the thread pointer, which is known in an executable alone.
 #[inline]
-fn pointer_treatment(
-    layout: &Layout,
-    section: &InputSection,
-    row: RelocationKindInfo,
-) -> Treatment
+fn pointer_treatment(layout: &Layout, section: &InputSection, row: RelocationKindInfo) -> Treatment
     ensures { result ≡ pointer_treatment layout.now section.now row }
 {
     if is_allocated(section.flags) && layout.kind.is_shared_object() {

@@ -1,5 +1,5 @@
 -- What holds of the words of a symbol; slots of outputs at their own addresses.
-use Rattle.std.proofs.Common.{◌≡◌, ℕ, inl, inr, Bool, true, false, List, [], ◌∷◌, get_or, Some, None, All, refl, sym, ap, ◌∙◌, subst}
+use Rattle.std.proofs.Common.{◌≡◌, ℕ, inl, inr, Bool, false, List, [], ◌∷◌, get_or, Some, None, All, refl, sym, subst}
 use Rattle.std.specs.Prelude.{Option}
 use Rattle.std.specs.List.{flat_map}
 use Rattle.std.proofs.lemmas.List.Elements.{All-nil, All-cons, All-head, All-tail, All-weaker}
@@ -17,7 +17,7 @@ use Rattle.wild_plan.specs.Kinds.{is_position_independent}
 use Rattle.wild_plan.specs.SlotParts.{word_of, entry_of, flat_place}
 use Rattle.wild_plan.specs.Slots.{setting_of, slot}
 use Rattle.wild_plan.specs.Stub.{far_of}
-use Rattle.wild_plan.specs.SlotShares.{own_symbols, slots_of, resolved_slots, slots_at, words_in, block_place, block_places, group_block}
+use Rattle.wild_plan.specs.SlotShares.{own_symbols, slots_of, resolved_slots, words_in, block_place, block_places, group_block}
 use Rattle.wild_layout.specs.SlotBytes.{symbol_entries, flat_in, slot_words_of, slot_entries_of, flat_places_of}
 use Rattle.wild_slots.specs.Entries.{MovesNothing}
 use Rattle.wild_slots.proofs.SlotLemmas.{IsOther, IsFirst, Shape, shape}

@@ -1,10 +1,8 @@
 -- Which entries the words of slots have, and where they come from.
-use Rattle.std.proofs.Common.{◌≡◌, ℕ, zero, suc, ◌+◌, ◌*◌, ◌%◌, ◌^◌, ◌<◌, inl, inr, Bool, true, false, List, [], ◌∷◌, get_or, Some, None, All, Contains, refl, sym, ap, ◌∙◌, subst, arith, slice_get}
-use Rattle.std.specs.Prelude.{Option, option_to_list, unwrap_or, if◌then◌else◌}
-use Rattle.std.proofs.lemmas.Bool.{cases_Bool}
+use Rattle.std.proofs.Common.{◌≡◌, ℕ, suc, ◌+◌, ◌*◌, ◌%◌, ◌^◌, ◌<◌, inl, inr, List, [], ◌∷◌, get_or, Some, None, All, Contains, refl, sym, ap, ◌∙◌, subst, arith, slice_get}
+use Rattle.std.specs.Prelude.{Option, option_to_list, unwrap_or}
 use Rattle.std.proofs.lemmas.List.Elements.{All-nil, All-cons, All-append, All-weaker, All-contains_itself}
 use Rattle.wild_words.proofs.ListLemmas.{All-flat_map}
-use Rattle.wild_records.specs.declared.relocations.Rela.{Rela}
 use Rattle.wild_reloc.specs.declared.dynamic.DynamicRelocationKind.TheVariants.{DtpMod}
 use Rattle.wild_plan.specs.declared.file.File.{File}
 use Rattle.wild_plan.specs.declared.symbol.Resolution.{Resolution}
@@ -19,13 +17,15 @@ use Rattle.wild_plan.specs.declared.slot_parts.EntryPart.{EntryPart}
 use Rattle.wild_plan.specs.Flags.{has_flag, ifunc}
 use Rattle.wild_plan.specs.Kinds.{is_executable}
 use Rattle.wild_plan.specs.ResolvedFlags.{HasItsFlags}
+use Rattle.wild_plan.specs.Storage.{less}
 use Rattle.wild_plan.specs.SlotParts.{next, at_places, entry_of}
 use Rattle.wild_plan.specs.Slots.{setting_of, storage_pair}
 use Rattle.wild_plan.specs.SymbolSlots.{got_of}
 use Rattle.wild_plan.specs.SlotShares.{own_symbols, slots_of, slots_at, storage_at, storage_words}
 use Rattle.wild_layout.specs.SlotBytes.{symbol_entries, slot_entries_of}
 use Rattle.wild_slots.specs.Entries.{IsKnownEntry, entry_in, EntriesAreKnown, IsOfWord}
-use Rattle.wild_slots.proofs.SlotLemmas.{IsNamed, IsIndirect, IsEntry, IsOther, IsFirst}
+use Rattle.wild_slots.proofs.ItemLemmas.{of_if}
+use Rattle.wild_slots.proofs.SlotLemmas.{IsEntry, IsOther, IsFirst}
 use Rattle.wild_slots.proofs.SymbolPlaces.{All-own}
 use Rattle.wild_slots.proofs.EntryLemmas.{of_words}
 
@@ -94,17 +94,20 @@ IsOwnWord w = (e : SlotEntry) → entry_in w ≡ Some e → (e.kind ≡ DtpMod) 
 own_number : (n : ℕ) → IsOwnWord (Number n)
 own_number n e h = cc
 
-own_module : IsOwnWord (General (record { kind = DtpMod; symbol = 0; addend = 0 }))
+abbrev own_word : SlotWord
+own_word = General (record { kind = DtpMod; symbol = 0; addend = 0 })
+
+own_module : IsOwnWord own_word
 own_module e h =
     let q : record { kind = DtpMod; symbol = 0; addend = 0 } ≡ e = cc in
     subst (λ (x : SlotEntry). (x.kind ≡ DtpMod) × (x.symbol ≡ 0) × (x.addend ≡ 0)) q (refl, refl, refl)
 
+own_two : (v : SlotWord) (n : ℕ) → IsOwnWord v → All IsOwnWord (v ∷ Number n ∷ [])
+own_two v n h = All-cons IsOwnWord v (Number n ∷ []) h (All-cons IsOwnWord (Number n) [] (own_number n) (All-nil IsOwnWord))
+
 own_pair : (s : Setting) → All IsOwnWord (storage_pair s)
 own_pair s =
-    elim (cases_Bool (is_executable s.kind)) [
-      | inl t ↦ rw t (All-cons IsOwnWord (Number 1) _ (own_number 1) (All-cons IsOwnWord (Number _) [] (own_number _) (All-nil IsOwnWord)))
-      | inr f ↦ rw f (All-cons IsOwnWord (General (record { kind = DtpMod; symbol = 0; addend = 0 })) _ own_module (All-cons IsOwnWord (Number 0) [] (own_number 0) (All-nil IsOwnWord)))
-    ]
+    of_if (All IsOwnWord) (is_executable s.kind) _ _ (λ t. own_two (Number 1) (less s.thread_pointer s.tls.start) (own_number 1)) (λ f. own_two own_word 0 own_module)
 
 own_storage : (s : Setting) (o : Option ℕ) → All IsOwnWord (storage_at s o)
 own_storage s None = All-nil IsOwnWord

@@ -24,8 +24,8 @@ use Rattle.wild_plan.specs.FileRoles.{is_prelude, is_epilogue}
 use Rattle.wild_plan.specs.Contents.{bool_eq, file_placed, later_placed, files_placed, file_misplaced}
 use Rattle.wild_plan.specs.SlotShares.{stub_size, own_symbols, slots_of, slots_at, words_in, symbol_share, header_words}
 use Rattle.wild_plan.specs.Stub.{stub_x86_64, stub_template, displacement_x86_64}
-use Rattle.wild_layout.specs.SlotBytes.{stub_bytes, slot_words_of, stubs_of, slot_bytes, block_bytes}
-use Rattle.wild_layout.specs.Content.{file_content, content}
+use Rattle.wild_layout.specs.SlotBytes.{stub_bytes, slot_words_of, stubs_of, slot_bytes}
+use Rattle.wild_layout.specs.Content.{file_content, group_bytes, content}
 use Rattle.wild_layout.specs.Geometry.{table_bytes}
 use Rattle.wild_slots.specs.Order.{group_symbols, written_symbols}
 
@@ -39,7 +39,7 @@ symbol_bytes l other s = []
 -- a table of slots or stubs, at whose front head stands
 pub record IsTable (l : Layout) (r : Role) (head : List ℕ) : Type 0 where
   pub file : (f : File) → file_content l r f ≡ (if is_prelude f.role then head else []) ++ flat_map (symbol_bytes l r) (own_symbols l f)
-  pub block : (g : Group) → block_bytes l r g ≡ []
+  pub block : (g : Group) → group_bytes l r g ≡ []
   pub share : (s : Symbol) → length (symbol_bytes l r s) ≡ symbol_share l r s
 
 -- ---- the three tables

@@ -4,18 +4,17 @@
 --   IsWritten l s        a file of a group writes the symbol's slots
 --   end_of l r           where the table of a role ends
 --   SlotsAreInOrder      the law
-use Rattle.std.specs.Prelude.{◌≡◌, ℕ, ◌+◌, List, true, length, Some, None, Ok, All, Contains}
+use Rattle.std.specs.Prelude.{◌≡◌, ℕ, ◌+◌, List, true, length, None, Ok, Contains}
 use Rattle.std.specs.List.{flat_map}
 use Rattle.wild_plan.specs.declared.part.Role.{Role}
 use Rattle.wild_plan.specs.declared.file.File.{File}
 use Rattle.wild_plan.specs.declared.file.Group.{Group}
-use Rattle.wild_plan.specs.declared.symbol.Resolution.{Resolution}
 use Rattle.wild_plan.specs.declared.symbol.Symbol.{Symbol}
 use Rattle.wild_plan.specs.declared.layout.Layout.{Layout}
 use Rattle.wild_plan.specs.Contents.{file_misplaced}
 use Rattle.wild_plan.specs.SlotShares.{writes_slots, own_symbols}
 use Rattle.wild_plan.specs.SlotPlaces.{start_of}
-use Rattle.wild_plan.specs.ResolvedFlags.{HasItsFlags, HaveTheirFlags}
+use Rattle.wild_plan.specs.ResolvedFlags.{HaveTheirFlags}
 use Rattle.wild_plan.specs.WellFormed.{check_slots, check_slot_flags, first_clause}
 use Rattle.wild_layout.specs.Geometry.{table_bytes}
 

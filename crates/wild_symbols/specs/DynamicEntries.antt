@@ -1,5 +1,6 @@
 -- What the entries of the dynamic symbol table say of symbols (gABI, "Symbol Table").
 --   undefined_fields role s    of a symbol that another module defines
+--   named_sections l           the sections of symbols that no input section has
 --   listed_fields l i s        of symbol i of the list of those that other modules see; or what it lacks
 --   file_symbols l f           the symbols of a file's entries, each with its name and what its entry says
 --   entries_at at ns           their entries, whose names stand one behind the other from an offset of the strings on
@@ -37,6 +38,7 @@ use Rattle.wild_plan.specs.Segments.{part_with}
 use Rattle.wild_plan.specs.SymbolSlots.{plt_of}
 use Rattle.wild_symbols.specs.declared.writer.SymbolAttributes.{SymbolAttributes}
 use Rattle.wild_symbols.specs.declared.dynamic.SymbolFields.{SymbolFields}
+use Rattle.wild_symbols.specs.declared.dynamic.NamedSections.{NamedSections}
 
 -- ---- attributes
 
@@ -77,6 +79,10 @@ some_section k = if k == 0 then None else Some k
 abbrev pub part_section : Option Part → Option ℕ
 part_section None = None
 part_section (Some p) = some_section p.section
+
+-- the sections of symbols that no input section has: of data without bytes in the file, of such thread-local data, and of stubs
+abbrev pub named_sections : Layout → NamedSections
+named_sections l = record { bss = section_named l (codes ".bss"); tbss = section_named l (codes ".tbss"); stubs = part_section (part_with role.PltGot l.parts) }
 
 -- in a section, at a value; or that symbol i has none
 abbrev pub in_section : ℕ → Option ℕ → ℕ → SymbolAttributes → Result SymbolFields Fault

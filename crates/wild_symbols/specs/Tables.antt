@@ -2,21 +2,25 @@
 --   no_dynamic_symbols l group    no symbols yet, in the group's shares of the dynamic table and of its strings
 --   symbol name s value a         a symbol whose name stands at that offset of the strings
 --   with_symbol local name s value a w    one symbol and its name more
+--   with_copied name section value s w    a symbol of the layout and its name more
 --   room_for_symbol local name w  there is room for both, or InsufficientAllocation
 --   left_over w                   no room is left, or ExcessiveAllocation of the first table that has
 --   room_for_prefix n m w         there is room for n global symbols and m bytes of strings, or InsufficientAllocation
 --   prefix_of n m w               the writer with that room alone; kept_behind n m w is what that leaves behind
 --   joined kept w                 the room behind is the writer's again
-use Rattle.std.specs.Prelude.{ℕ, ◌<◌, Bool, true, false, List, [], Result, Ok, Err, Option, Some, None, slice_get}
+use Rattle.std.specs.Prelude.{ℕ, ◌/◌, ◌%◌, ◌<◌, ◌==◌, ◌||◌, if◌then◌else◌, Bool, true, false, List, [], Result, Ok, Err, Option, Some, None, slice_get}
 use Rattle.wild_records.specs.Abi.Section.{shn_loreserve, shn_undef}
+use Rattle.wild_records.specs.Abi.Symbol.{stb_local}
 use Rattle.wild_records.specs.SymbolSections.{split_index}
 use Rattle.wild_records.specs.declared.symtab_entry.SymtabEntry.{SymtabEntry}
 use Rattle.wild_records.specs.declared.symbol_section.SymbolSection.{SymbolSection}
 use Rattle.wild_records.specs.declared.symbol_section.SymbolSection.TheVariants.{Raw, Index}
 use Rattle.wild_plan.specs.declared.part.Role.TheVariants as role
 use Rattle.wild_plan.specs.declared.fault.Error.{Error}
+use Rattle.wild_plan.specs.declared.symbol.Symbol.{Symbol as LaidOut}
 use Rattle.wild_plan.specs.declared.file.Group.{Group}
 use Rattle.wild_plan.specs.declared.layout.Layout.{Layout}
+use Rattle.wild_plan.specs.Flags.{has_flag, downgrade_to_local}
 use Rattle.wild_plan.specs.Shares.{part_of, share_of}
 use Rattle.wild_symbols.specs.Strings.{offset_of, with_string, room_for_string, left_of_strings, room_for_bytes, kept_strings, front_strings, strings_joined}
 use Rattle.wild_symbols.specs.Symbols.{Symbols, with_entry, room_for_entry, left_of_symbols, room_for_entries, kept_symbols, front_symbols, symbols_joined}
@@ -79,6 +83,20 @@ with_symbol local name s value a w = with_listed local (symbol (offset_of w.strt
 -- a symbol that no section has, of value 0
 abbrev pub with_undefined : Bool → List ℕ → SymbolAttributes → SymbolTableWriter → SymbolTableWriter
 with_undefined local name a w = with_symbol local name (Raw shn_undef) 0 a w
+
+-- ---- symbols of the layout
+
+-- a table has the symbol as a local one: by its binding, or since it was made one (gABI, "Symbol Table", STB_LOCAL)
+abbrev pub is_local : LaidOut → Bool
+is_local s = s.info / 16 == stb_local || has_flag s.flags downgrade_to_local
+
+-- what the layout gives for the symbol, which is a local one where it was made one
+abbrev pub copied_attributes : LaidOut → SymbolAttributes
+copied_attributes s = record { info = if has_flag s.flags downgrade_to_local then s.info % 16 else s.info; other = s.other; size = s.size }
+
+-- a symbol of the layout more, in a section, at a value
+abbrev pub with_copied : List ℕ → SymbolSection → ℕ → LaidOut → SymbolTableWriter → SymbolTableWriter
+with_copied name section value s w = with_symbol (is_local s) name section value (copied_attributes s) w
 
 -- ---- room
 

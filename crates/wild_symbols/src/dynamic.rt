@@ -1,5 +1,15 @@
 //! What the entries of the dynamic symbol table say of symbols (gABI, "Symbol Table").
+ghost use Rattle.std.specs.Prelude.{◌≡◌, ◌<◌};
+ghost use Rattle.wild_records.specs.SymbolSections.{split_index};
+ghost use Rattle.wild_plan.specs.Segments.{part_with};
+ghost use Rattle.wild_plan.specs.SymbolSlots.{plt_of};
+ghost use Rattle.wild_symbols.specs.DynamicEntries.{own_attributes, with_type, library_info, library_attributes, nowhere_with, undefined_fields, section_named, some_section, part_section, named_sections, in_section, decided_value, is_thread_symbol, value_in, stands_as_stub, as_function, common_section, placed_fields, fields_at, canonical_fields, copied_fields, listed_by, no_fields, entry_at};
+
 use crate::writer::SymbolAttributes;
+use wild_plan::{Fault, FileRole, Layout, Missing, Part, Place, Role, Symbol, has_role};
+use wild_records::SymtabEntry;
+use wild_records::abi::section::{SHN_ABS, SHN_LORESERVE, SHN_UNDEF, SHN_XINDEX};
+use wild_records::abi::symbol::{STT_FUNC, STT_GNU_IFUNC, STT_TLS};
 
 /// What an entry says of a symbol besides its name.
 #[derive(Clone, Copy, Debug, PartialEq, Eq)]
@@ -9,4 +19,355 @@ pub struct SymbolFields {
     /// `st_value`.
     pub value: u64,
     pub attributes: SymbolAttributes,
+}
+
+/// The header indexes of the sections of symbols that no input section has, where they are there.
+#[derive(Clone, Copy, Debug, PartialEq, Eq)]
+pub struct NamedSections {
+    /// `.bss`, of common symbols and of what is copied from libraries.
+    pub bss: Option<usize>,
+    /// `.tbss`, of common symbols that are thread-local.
+    pub tbss: Option<usize>,
+    /// That of the stubs.
+    pub stubs: Option<usize>,
+}
+
+impl SymbolAttributes {
+    /// What the layout gives for a symbol.
+    pub fn of(symbol: &Symbol) -> SymbolAttributes
+        ensures { result ≡ own_attributes symbol.now }
+    {
+        SymbolAttributes {
+            info: symbol.info,
+            other: symbol.other,
+            size: symbol.size,
+        }
+    }
+}
+
+/// The binding of `st_info` with another type.
+fn with_type(info: u8, kind: u8) -> u8
+    requires { kind < 16 }
+    ensures { result ≡ with_type info kind }
+{
+    info / 16 * 16 + kind
+}
+
+/// `st_info` of a library's symbol: a function that a resolver chooses there is a function here.
+fn library_info(info: u8) -> u8
+    ensures { result ≡ library_info info }
+{
+    if info % 16 == STT_GNU_IFUNC {
+        with_type(info, STT_FUNC)
+    } else {
+        info
+    }
+}
+
+/// Of a library's symbol neither visibility nor size is told.
+fn library_attributes(info: u8) -> SymbolAttributes
+    ensures { result ≡ library_attributes info }
+{
+    SymbolAttributes {
+        info,
+        other: 0,
+        size: 0,
+    }
+}
+
+/// What is said of a symbol that no section has.
+fn nowhere_with(attributes: SymbolAttributes) -> SymbolFields
+    ensures { result ≡ nowhere_with attributes }
+{
+    SymbolFields {
+        section: SHN_UNDEF,
+        value: 0,
+        attributes,
+    }
+}
+
+/// What is said of a symbol that another module defines, by a file of that role.
+pub fn undefined_fields(role: FileRole, symbol: &Symbol) -> SymbolFields
+    ensures { result ≡ undefined_fields role symbol.now }
+{
+    if role.is_library() {
+        nowhere_with(library_attributes(library_info(symbol.info)))
+    } else {
+        nowhere_with(SymbolAttributes::of(symbol))
+    }
+}
+
+/// The header index of the first section of a name.
+fn section_named(layout: &Layout, name: &[u8]) -> Option<usize>
+    ensures { result ≡ section_named layout.now name.now }
+{
+    layout
+        .sections
+        .as_slice()
+        .iter()
+        .position(|section| section.name.as_slice() == name)
+}
+
+/// Section 0 is none.
+fn some_section(index: usize) -> Option<usize>
+    ensures { result ≡ some_section index }
+{
+    if index == 0 { None } else { Some(index) }
+}
+
+/// The header index of the section of the first part of a role.
+fn section_of_role(role: Role, parts: &[Part]) -> Option<usize>
+    ensures { result ≡ part_section (part_with role parts.now) }
+{
+    for part in parts {
+        if has_role(role, part) {
+            return some_section(part.section.0);
+        }
+    }
+    None
+}
+
+impl NamedSections {
+    /// Those of a layout.
+    pub fn of(layout: &Layout) -> NamedSections
+        ensures { result ≡ named_sections layout.now }
+    {
+        NamedSections {
+            bss: section_named(layout, b".bss"),
+            tbss: section_named(layout, b".tbss"),
+            stubs: section_of_role(Role::PltGot, layout.parts.as_slice()),
+        }
+    }
+}
+
+/// `st_shndx` of a header index.
+fn section_number(index: usize) -> u16
+    ensures { result ≡ (split_index index).0 }
+{
+    match u16::try_from(index) {
+        Ok(low) if low < SHN_LORESERVE => low,
+        _ => SHN_XINDEX,
+    }
+}
+
+/// What is said of a symbol in a section, at a value.
+fn in_section(
+    index: usize,
+    section: Option<usize>,
+    value: u64,
+    attributes: SymbolAttributes,
+) -> Result<SymbolFields, Fault>
+    ensures { result ≡ in_section index section value attributes }
+{
+    match section {
+        Some(section) => Ok(SymbolFields {
+            section: section_number(section),
+            value,
+            attributes,
+        }),
+        None => Err(Fault::MissingResolution {
+            what: Missing::Section,
+            symbol: index,
+        }),
+    }
+}
+
+/// The address of the stub of a symbol.
+fn stub_of(symbol: &Symbol) -> Option<u64>
+    ensures { result ≡ plt_of symbol.now }
+{
+    match symbol.resolution {
+        Some(resolution) => resolution.plt_address,
+        None => None,
+    }
+}
+
+/// The address that was decided of a symbol; 0 where nothing was.
+fn decided_value(symbol: &Symbol) -> u64
+    ensures { result ≡ decided_value symbol.now }
+{
+    match symbol.resolution {
+        Some(resolution) => resolution.raw_value,
+        None => 0,
+    }
+}
+
+fn is_thread_symbol(symbol: &Symbol) -> bool
+    ensures { result ≡ is_thread_symbol symbol.now }
+{
+    symbol.info % 16 == STT_TLS
+}
+
+/// `st_value`: of thread-local data counted from their beginning.
+fn value_in(layout: &Layout, symbol: &Symbol) -> u64
+    ensures { result ≡ value_in layout.now symbol.now }
+{
+    let value = decided_value(symbol);
+    if is_thread_symbol(symbol) {
+        value.wrapping_sub(layout.tls.start)
+    } else {
+        value
+    }
+}
+
+/// Whether the symbol, which a resolver chooses, is told as its stub: pointers to it compare equal in a program that does
+/// not move.
+fn stands_as_stub(layout: &Layout, symbol: &Symbol) -> bool
+    ensures { result ≡ stands_as_stub layout.now symbol.now }
+{
+    symbol.flags.is_ifunc() && (stub_of(symbol).is_some() && layout.kind.has_fixed_load_address())
+}
+
+fn as_function(symbol: &Symbol) -> SymbolAttributes
+    ensures { result ≡ as_function symbol.now }
+{
+    SymbolAttributes {
+        info: with_type(symbol.info, STT_FUNC),
+        other: symbol.other,
+        size: symbol.size,
+    }
+}
+
+fn common_section(named: NamedSections, layout: &Layout, symbol: &Symbol) -> Option<usize>
+    requires { named ≡ named_sections layout.now }
+    ensures { result ≡ common_section layout.now symbol.now }
+{
+    if is_thread_symbol(symbol) {
+        named.tbss
+    } else {
+        named.bss
+    }
+}
+
+/// What is said of a symbol in its section, or as its stub.
+fn placed_fields(
+    layout: &Layout,
+    named: NamedSections,
+    index: usize,
+    symbol: &Symbol,
+    section: Option<usize>,
+) -> Result<SymbolFields, Fault>
+    requires { named ≡ named_sections layout.now }
+    ensures { result ≡ placed_fields layout.now index symbol.now section }
+{
+    if stands_as_stub(layout, symbol) {
+        let stub = stub_of(symbol).unwrap_or(0);
+        in_section(index, named.stubs, stub, as_function(symbol))
+    } else {
+        let value = value_in(layout, symbol);
+        in_section(index, section, value, SymbolAttributes::of(symbol))
+    }
+}
+
+/// What is said of a symbol by its place.
+fn fields_at(
+    layout: &Layout,
+    named: NamedSections,
+    index: usize,
+    symbol: &Symbol,
+    section: usize,
+) -> Result<SymbolFields, Fault>
+    requires { named ≡ named_sections layout.now }
+    ensures { result ≡ fields_at layout.now index symbol.now section symbol.now.place }
+{
+    match symbol.place {
+        Place::Undefined => Ok(nowhere_with(SymbolAttributes::of(symbol))),
+        Place::Absolute => Ok(SymbolFields {
+            section: SHN_ABS,
+            value: symbol.value,
+            attributes: SymbolAttributes::of(symbol),
+        }),
+        Place::Common => {
+            let section = common_section(named, layout, symbol);
+            placed_fields(layout, named, index, symbol, section)
+        }
+        Place::Section(_) | Place::Output(_) => {
+            placed_fields(layout, named, index, symbol, some_section(section))
+        }
+    }
+}
+
+/// What is said of a library's function whose stub is its address in every module: that no section has it, and the stub's
+/// address for its value.
+fn canonical_fields(index: usize, symbol: &Symbol) -> Result<SymbolFields, Fault>
+    ensures { result ≡ canonical_fields index symbol.now symbol.now.place (plt_of symbol.now) }
+{
+    match (symbol.place, stub_of(symbol)) {
+        (Place::Undefined, _) => Ok(nowhere_with(library_attributes(symbol.info))),
+        (_, Some(stub)) => Ok(SymbolFields {
+            section: SHN_UNDEF,
+            value: stub,
+            attributes: library_attributes(with_type(symbol.info, STT_FUNC)),
+        }),
+        (_, None) => Err(Fault::MissingResolution {
+            what: Missing::Stub,
+            symbol: index,
+        }),
+    }
+}
+
+/// What is said of a symbol that is copied from a library.
+fn copied_fields(
+    named: NamedSections,
+    layout: &Layout,
+    index: usize,
+    symbol: &Symbol,
+) -> Result<SymbolFields, Fault>
+    requires { named ≡ named_sections layout.now }
+    ensures { result ≡ copied_fields layout.now index symbol.now }
+{
+    in_section(
+        index,
+        named.bss,
+        decided_value(symbol),
+        SymbolAttributes::of(symbol),
+    )
+}
+
+/// What is said of the symbol with that index, which other modules see. It is one of a file of that role (`Object` where
+/// no file has it), and its place is in the output section with that header index (0: in none).
+///
+/// # Errors
+///
+/// `MissingResolution` exactly where the symbol stands in no section of the output (`Section`), or is told as a stub that
+/// it has not (`Stub`).
+pub fn listed_fields(
+    layout: &Layout,
+    named: NamedSections,
+    index: usize,
+    role: FileRole,
+    section: usize,
+    symbol: &Symbol,
+) -> Result<SymbolFields, Fault>
+    requires { named ≡ named_sections layout.now }
+    ensures { result ≡ listed_by layout.now index role symbol.now section }
+{
+    if role.is_library() && symbol.flags.needs_canonical_plt() {
+        canonical_fields(index, symbol)
+    } else if role.is_library() && symbol.flags.needs_copy_relocation() {
+        copied_fields(named, layout, index, symbol)
+    } else {
+        fields_at(layout, named, index, symbol, section)
+    }
+}
+
+/// What is said of a symbol that lacks something, and of the null symbol.
+pub fn no_fields() -> SymbolFields
+    ensures { result ≡ no_fields }
+{
+    nowhere_with(library_attributes(0))
+}
+
+/// The entry of a symbol, whose name stands at an offset of the strings, modulo 2^32.
+pub fn entry_at(offset: u64, fields: SymbolFields) -> SymtabEntry
+    ensures { result ≡ entry_at offset fields }
+{
+    SymtabEntry {
+        name: (offset % 0x1_0000_0000) as u32,
+        info: fields.attributes.info,
+        other: fields.attributes.other,
+        section: fields.section,
+        value: fields.value,
+        size: fields.attributes.size,
+    }
 }

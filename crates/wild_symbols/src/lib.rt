@@ -11,7 +11,9 @@ mod symbol_table;
 mod tests;
 mod writer;
 
-pub use dynamic::SymbolFields;
+pub use dynamic::{
+    NamedSections, SymbolFields, entry_at, listed_fields, no_fields, undefined_fields,
+};
 pub use laws::{strings_stand, symbols_are_read};
 pub use prefix::{KeptBehind, SymbolTablePrefix};
 pub use strtab::StrTabWriter;

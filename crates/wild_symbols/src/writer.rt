@@ -4,15 +4,18 @@ ghost use Rattle.wild_plan.specs.declared.part.Role.TheVariants.{Dynstr};
 ghost use Rattle.wild_records.specs.SymtabEntry.{symtab_entry_size, symtab_entry_at};
 ghost use Rattle.wild_records.specs.declared.symtab_entry.SymtabEntry.{SymtabEntry as Entry};
 ghost use Rattle.wild_plan.specs.Shares.{share_of};
+ghost use Rattle.wild_records.specs.declared.symbol_section.SymbolSection.TheVariants.{Raw, Index};
+ghost use Rattle.wild_records.specs.Abi.Section.{shn_abs, shn_loreserve};
 ghost use Rattle.wild_symbols.specs.Symbols.{symbol_bytes, symbols_used, room_for_entry};
-ghost use Rattle.wild_symbols.specs.Tables.{dynstr_start, no_dynamic_symbols, section_number, IsInReach, list_of, with_listed, with_symbol, with_undefined, room_for_symbol, left_over};
+ghost use Rattle.wild_symbols.specs.Tables.{dynstr_start, no_dynamic_symbols, section_number, IsInReach, list_of, with_listed, with_symbol, with_undefined, is_local, copied_attributes, with_copied, room_for_symbol, left_over};
 ghost use Rattle.wild_symbols.specs.Runs.{defined, undefined, called};
 
 use crate::strtab::StrTabWriter;
 use crate::symbol_table::SymbolTable;
 use std::alloc::{AllocError, Global};
-use wild_plan::{Error, Layout, Role, part_of, share_of};
-use wild_records::abi::section::SHN_UNDEF;
+use wild_plan::{Error, Layout, Role, SectionIndex, Symbol, part_of, share_of};
+use wild_records::abi::section::{SHN_ABS, SHN_UNDEF};
+use wild_records::abi::symbol::STB_LOCAL;
 use wild_records::{SymbolSection, SymtabEntry};
 
 /// What a symbol says of itself, wherever it lies.
@@ -55,6 +58,29 @@ fn section_number(section: SymbolSection) -> u16
     match section {
         SymbolSection::Raw(number) => number,
         SymbolSection::Index(index) => SymbolSection::split(index).0,
+    }
+}
+
+/// Whether a table has the symbol as a local one: by its binding, or since it was made one.
+fn is_local(symbol: &Symbol) -> bool
+    ensures { result ≡ is_local symbol.now }
+{
+    symbol.info / 16 == STB_LOCAL || symbol.flags.is_downgraded_to_local()
+}
+
+/// What the layout gives for a symbol, which is a local one where it was made one.
+fn copied_attributes(symbol: &Symbol) -> SymbolAttributes
+    ensures { result ≡ copied_attributes symbol.now }
+{
+    let info = if symbol.flags.is_downgraded_to_local() {
+        symbol.info % 16
+    } else {
+        symbol.info
+    };
+    SymbolAttributes {
+        info,
+        other: symbol.other,
+        size: symbol.size,
     }
 }
 
@@ -149,6 +175,76 @@ impl SymbolTableWriter {
         ensures call { self.new ≡ called (undefined is_local name.now attributes) self.old }
     {
         self.define_symbol(is_local, name, SymbolSection::Raw(SHN_UNDEF), 0, attributes)
+    }
+
+    /// Writes a symbol of the layout under a name, in the section with that number in `st_shndx`, at a value. It is a local
+    /// one by its binding, or where it was made one.
+    ///
+    /// # Errors
+    ///
+    /// `InsufficientAllocation` exactly where the symbol, or else its name, does not fit what is left of its share;
+    /// nothing changes then.
+    pub fn copy_symbol_shndx(
+        &mut self,
+        symbol: &Symbol,
+        name: &[u8],
+        shndx: u16,
+        value: u64,
+    ) -> Result<(), Error>
+        ensures answered { result ≡ room_for_symbol (is_local symbol.now) name.now self.old }
+        ensures written { OnOk result (self.new ≡ with_copied name.now (Raw shndx) value symbol.now self.old) }
+        ensures kept { OnErr result (self.new ≡ self.old) }
+        ensures call { self.new ≡ called (defined (is_local symbol.now) name.now (Raw shndx) value (copied_attributes symbol.now)) self.old }
+    {
+        let attributes = copied_attributes(symbol);
+        self.define_symbol(
+            is_local(symbol),
+            name,
+            SymbolSection::Raw(shndx),
+            value,
+            attributes,
+        )
+    }
+
+    /// Writes a symbol of the layout under a name, in the section with that header index, at a value. It is a local one by
+    /// its binding, or where it was made one.
+    ///
+    /// # Errors
+    ///
+    /// `InsufficientAllocation` exactly where the symbol, or else its name, does not fit what is left of its share;
+    /// nothing changes then.
+    pub fn copy_symbol(
+        &mut self,
+        symbol: &Symbol,
+        name: &[u8],
+        section: SectionIndex,
+        value: u64,
+    ) -> Result<(), Error>
+        requires section { section < shn_loreserve }
+        ensures answered { result ≡ room_for_symbol (is_local symbol.now) name.now self.old }
+        ensures written { OnOk result (self.new ≡ with_copied name.now (Index section) value symbol.now self.old) }
+        ensures kept { OnErr result (self.new ≡ self.old) }
+        ensures call { self.new ≡ called (defined (is_local symbol.now) name.now (Index section) value (copied_attributes symbol.now)) self.old }
+    {
+        let attributes = copied_attributes(symbol);
+        let section = SymbolSection::Index(section.0 as u32);
+        self.define_symbol(is_local(symbol), name, section, value, attributes)
+    }
+
+    /// Writes an absolute symbol of the layout, with its own value, under a name. It is a local one by its binding, or
+    /// where it was made one.
+    ///
+    /// # Errors
+    ///
+    /// `InsufficientAllocation` exactly where the symbol, or else its name, does not fit what is left of its share;
+    /// nothing changes then.
+    pub fn copy_absolute_symbol(&mut self, symbol: &Symbol, name: &[u8]) -> Result<(), Error>
+        ensures answered { result ≡ room_for_symbol (is_local symbol.now) name.now self.old }
+        ensures written { OnOk result (self.new ≡ with_copied name.now (Raw shn_abs) symbol.now.value symbol.now self.old) }
+        ensures kept { OnErr result (self.new ≡ self.old) }
+        ensures call { self.new ≡ called (defined (is_local symbol.now) name.now (Raw shn_abs) symbol.now.value (copied_attributes symbol.now)) self.old }
+    {
+        self.copy_symbol_shndx(symbol, name, SHN_ABS, symbol.value)
     }
 
     /// Whether every table is full.

@@ -1,5 +1,5 @@
 -- The bytes of the dynamic section.
-use Rattle.std.proofs.Common.{◌≡◌, ℕ, zero, suc, ◌+◌, ◌-◌, ◌*◌, ◌/◌, ◌≤◌, List, [], ◌∷◌, ◌++◌, length, take, drop, get_or, false, ◌<◌, replicate, Some, None, refl, sym, ap, ◌∙◌, arith, subst}
+use Rattle.std.proofs.Common.{◌≡◌, ◌^◌, Bool, true, if◌then◌else◌, ℕ, zero, suc, ◌+◌, ◌-◌, ◌*◌, ◌/◌, ◌≤◌, List, [], ◌∷◌, ◌++◌, length, take, drop, get_or, false, ◌<◌, replicate, Some, None, refl, sym, ap, ◌∙◌, arith, subst}
 use Rattle.std.specs.Prelude.{All, flat_map}
 use Rattle.std.proofs.lemmas.List.{drop_more, drop_all, length-drop, length-take, append_assoc, append-nil, length-append, length-map, length-replicate, replicate-append-replicate}
 use Rattle.std.proofs.lemmas.List.Elements.{All-nil, All-cons, All-append}
@@ -11,15 +11,18 @@ use Rattle.wild_words.proofs.OverlayLemmas.{length-place}
 use Rattle.wild_words.proofs.RecordLemmas.{length-spell, Stands-left}
 use Rattle.wild_records.specs.Dynamic.{dynamic_entry_size, dynamic_entry_fields, DynamicEntryFits}
 use Rattle.wild_records.specs.declared.dynamic.DynamicEntry.{DynamicEntry}
-use Rattle.wild_records.specs.Abi.Dynamic.{dt_soname, dt_auxiliary}
+use Rattle.wild_records.specs.Abi.Dynamic.{dt_needed, dt_soname, dt_auxiliary}
 use Rattle.wild_plan.specs.declared.dynamic.DynamicTag.{DynamicTag}
 use Rattle.wild_plan.specs.declared.options.Options.{Options}
 use Rattle.wild_plan.proofs.DynamicLemmas.{length_dynamic_entries}
+use Rattle.wild_plan.specs.declared.file.File.{File}
+use Rattle.wild_plan.specs.declared.file.Group.{Group}
 use Rattle.wild_plan.specs.declared.layout.Layout.{Layout}
 use Rattle.wild_plan.specs.Dynamic.{entry_of, tag_entries, dynamic_entries, dynamic_count}
-use Rattle.wild_plan.specs.DynamicStrings.{NamedString, named, path_number, option_strings, named_strings, auxiliary_string, auxiliary_strings, behind_text, string_start, string_entries}
+use Rattle.wild_plan.specs.DynamicStrings.{NamedString, named, path_number, option_strings, named_strings, auxiliary_string, auxiliary_strings, behind_text, string_start, string_entries, behind_file, needed_of, needed_from, needed_entries}
+use Rattle.wild_plan.specs.FileRoles.{is_library}
 use Rattle.wild_plan.specs.Kinds.{needs_dynamic}
-use Rattle.wild_tables.specs.Dynamic.{behind_strings, entries_bytes, dynamic_bytes, null_entry, dynamic_records, RecordsAt}
+use Rattle.wild_tables.specs.Dynamic.{behind_strings, entries_bytes, dynamic_bytes, null_entry, dynamic_records, RecordsAt, IsNeeded, NeededAreOfLibraries}
 
 pub length_entry : (d : DynamicEntry) → length (spell (dynamic_entry_fields d)) ≡ 16
 unfolding dynamic_entry_fields
@@ -62,15 +65,82 @@ whole_bytes ds n m h =
     ∙ append_assoc (entries_bytes ds) (entries_bytes (replicate n null_entry)) (zeros (m - 16 * n))
     ∙ ap (λ (x : List ℕ). entries_bytes ds ++ x) (ap (λ (x : List ℕ). x ++ zeros (m - 16 * n)) (nulls_bytes n) ∙ zeros_cut n m h)
 
-pub records_at : (l : Layout) (room : ℕ) → dynamic_entry_size * dynamic_count l ≤ room → RecordsAt l room
-records_at l room h =
+records_behind : (l : Layout) (front : List DynamicEntry) (room : ℕ) → dynamic_entry_size * dynamic_count l ≤ room → Stands (entries_bytes front ++ dynamic_bytes l room) 0 (entries_bytes (front ++ dynamic_records l room))
+records_behind l front room h =
     let n : ℕ = room / 16 - dynamic_count l in
     let m : ℕ = room - 16 * dynamic_count l in
-    let P : List ℕ → Type 0 = λ xs. Stands xs 0 (entries_bytes (dynamic_records l room)) in
-    let c : room / dynamic_entry_size ≡ length (dynamic_records l room) = (let a = length-append (dynamic_entries l) (replicate n null_entry) in let b = length-replicate n null_entry in omega (arith, a, b, h)) in
+    let P : List ℕ → Type 0 = λ xs. Stands xs 0 (entries_bytes (front ++ dynamic_records l room)) in
     let few : 16 * n ≤ m = omega (arith, h) in
-    let e = whole_bytes (dynamic_entries l) n m few in
-    record { count = c; stand = subst P e (Stands-left (entries_bytes (dynamic_records l room)) (zeros (m - 16 * n))) }
+    let j = flat_map-append (λ (d : DynamicEntry). spell (dynamic_entry_fields d)) front (dynamic_records l room) in
+    let e : entries_bytes (front ++ dynamic_records l room) ++ zeros (m - 16 * n) ≡ entries_bytes front ++ dynamic_bytes l room =
+    ap (λ (x : List ℕ). x ++ zeros (m - 16 * n)) j
+    ∙ append_assoc (entries_bytes front) (entries_bytes (dynamic_records l room)) (zeros (m - 16 * n))
+    ∙ ap (λ (x : List ℕ). entries_bytes front ++ x) (whole_bytes (dynamic_entries l) n m few) in
+    subst P e (Stands-left (entries_bytes (front ++ dynamic_records l room)) (zeros (m - 16 * n)))
+
+pub records_at : (l : Layout) (front : List DynamicEntry) (room : ℕ) → dynamic_entry_size * dynamic_count l ≤ room → RecordsAt l front room
+records_at l front room h =
+    let n : ℕ = room / 16 - dynamic_count l in
+    let a = length-append (dynamic_entries l) (replicate n null_entry) in
+    let b = length-replicate n null_entry in
+    let f = length-append front (dynamic_records l room) in
+    record { count = omega (arith, a, b, f, h); stand = records_behind l front room h }
+
+-- ---- entries of libraries
+
+needed_names : (at : ℕ) (f : File) → All IsNeeded (needed_of at f)
+needed_names at f = named_if (is_library f.role)
+  where
+    named_if : (b : Bool) → All IsNeeded (if b then record { tag = dt_needed; value = at } ∷ [] else [])
+    named_if true = All-cons IsNeeded (record { tag = dt_needed; value = at }) [] refl (All-nil IsNeeded)
+    named_if false = All-nil IsNeeded
+
+from_names : (l : Layout) (at : ℕ) (fs : List File) → All IsNeeded (needed_from l at fs)
+from_names l at [] = All-nil IsNeeded
+from_names l at (f ∷ fs) = All-append IsNeeded (needed_of at f) (needed_from l (behind_file l at f) fs) (needed_names at f) (from_names l (behind_file l at f) fs)
+
+entries_name : (l : Layout) (g : Group) → All IsNeeded (needed_entries l g)
+unfolding needed_entries
+entries_name l g = name_if (needs_dynamic l.kind)
+  where
+    name_if : (b : Bool) → All IsNeeded (if b then needed_from l g.dynstr_start g.files else [])
+    name_if true = from_names l g.dynstr_start g.files
+    name_if false = All-nil IsNeeded
+
+all_name : (l : Layout) (gs : List Group) → All IsNeeded (flat_map (needed_entries l) gs)
+all_name l [] = All-nil IsNeeded
+all_name l (g ∷ gs) = All-append IsNeeded (needed_entries l g) (flat_map (needed_entries l) gs) (entries_name l g) (all_name l gs)
+
+needed_fits : (at : ℕ) (f : File) → at < 2 ^ 64 → All DynamicEntryFits (needed_of at f)
+needed_fits at f h = fit_if (is_library f.role)
+  where
+    fit_if : (b : Bool) → All DynamicEntryFits (if b then record { tag = dt_needed; value = at } ∷ [] else [])
+    fit_if true = All-cons DynamicEntryFits (record { tag = dt_needed; value = at }) [] (record { tag = omega arith; value = h }) (All-nil DynamicEntryFits)
+    fit_if false = All-nil DynamicEntryFits
+
+from_fit : (l : Layout) (at : ℕ) (fs : List File) → at < 2 ^ 64 → All DynamicEntryFits (needed_from l at fs)
+from_fit l at [] h = All-nil DynamicEntryFits
+from_fit l at (f ∷ fs) h =
+    let next : behind_file l at f < 2 ^ 64 = omega arith in
+    All-append DynamicEntryFits (needed_of at f) (needed_from l (behind_file l at f) fs) (needed_fits at f h) (from_fit l (behind_file l at f) fs next)
+
+entries_fit : (l : Layout) (g : Group) → g.dynstr_start < 2 ^ 64 → All DynamicEntryFits (needed_entries l g)
+unfolding needed_entries
+entries_fit l g h = fit_if (needs_dynamic l.kind)
+  where
+    fit_if : (b : Bool) → All DynamicEntryFits (if b then needed_from l g.dynstr_start g.files else [])
+    fit_if true = from_fit l g.dynstr_start g.files h
+    fit_if false = All-nil DynamicEntryFits
+
+all_fit : (l : Layout) (gs : List Group) → All (λ (g : Group). g.dynstr_start < 2 ^ 64) gs → All DynamicEntryFits (flat_map (needed_entries l) gs)
+all_fit l [] h = All-nil DynamicEntryFits
+all_fit l (g ∷ gs) h =
+    let first : g.dynstr_start < 2 ^ 64 = h 0 g (omega arith) in
+    let rest : All (λ (x : Group). x.dynstr_start < 2 ^ 64) gs = λ i d k. h (suc i) d (omega (arith, k)) in
+    All-append DynamicEntryFits (needed_entries l g) (flat_map (needed_entries l) gs) (entries_fit l g first) (all_fit l gs rest)
+
+pub needed_are : NeededAreOfLibraries
+needed_are = record { names = all_name; fit = all_fit }
 
 nulls_fit : (n : ℕ) → All DynamicEntryFits (replicate n null_entry)
 nulls_fit zero = All-nil _

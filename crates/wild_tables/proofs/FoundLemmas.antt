@@ -1,11 +1,11 @@
 -- What a reader finds by a tag in the entries of the last file.
-use Rattle.std.proofs.Common.{◌≡◌, ◌≢◌, ℕ, ◌+◌, ◌==◌, Bool, true, false, not, ◌&&◌, if◌then◌else◌, List, [], ◌∷◌, ◌++◌, take, drop, map, replicate, ◌/◌, ◌-◌, Option, Some, None, refl, sym, ap, ◌∙◌, subst}
-use Rattle.std.specs.Prelude.{flat_map}
+use Rattle.std.proofs.Common.{◌≡◌, ◌≢◌, ℕ, suc, arith, ◌+◌, ◌==◌, Bool, true, false, not, ◌&&◌, if◌then◌else◌, List, [], ◌∷◌, ◌++◌, take, drop, map, replicate, ◌/◌, ◌-◌, Option, Some, None, refl, sym, ap, ◌∙◌, subst}
+use Rattle.std.specs.Prelude.{All, flat_map}
 use Rattle.std.specs.List.{list_all}
 use Rattle.std.proofs.lemmas.Bool.{and_parts, eq-eqb}
 use Rattle.std.proofs.lemmas.List.{append_assoc, append-nil}
 use Rattle.std.proofs.lemmas.Grind.{flat_map-append}
-use Rattle.wild_records.specs.Abi.Dynamic.{dt_null, dt_soname, dt_runpath, dt_rpath, dt_auxiliary}
+use Rattle.wild_records.specs.Abi.Dynamic.{dt_null, dt_needed, dt_soname, dt_runpath, dt_rpath, dt_auxiliary}
 use Rattle.wild_records.specs.declared.dynamic.DynamicEntry.{DynamicEntry}
 use Rattle.wild_plan.specs.declared.dynamic.DynamicTag.{DynamicTag}
 use Rattle.wild_plan.specs.declared.dynamic.DynamicTag.TheVariants as tags
@@ -16,7 +16,7 @@ use Rattle.wild_plan.specs.DynamicStrings.{NamedString, named, auxiliary_string,
 use Rattle.wild_plan.specs.Kinds.{needs_dynamic}
 use Rattle.wild_loader.specs.Laws.{before_null}
 use Rattle.wild_loader.specs.Tables.{tagged}
-use Rattle.wild_tables.specs.Dynamic.{null_entry, dynamic_records, NamesTables}
+use Rattle.wild_tables.specs.Dynamic.{null_entry, dynamic_records, IsNeeded, NamesTables}
 
 -- ---- tests of numbers
 
@@ -197,6 +197,24 @@ found_in l rest t front back n a =
     ∙ strings_passed (dynamic_number t) (string_start l) (named_strings l) (flat_map (entry_of l) front_tags) (strings_differ (dynamic_number t) l n a.strings)
     ∙ subst P a.whole (found_among l t front back a)
 
+-- entries of libraries are kept, and passed by
+needed_kept : (front rest : List DynamicEntry) → All IsNeeded front → before_null (front ++ rest) ≡ front ++ before_null rest
+needed_kept [] rest h = refl
+needed_kept (d ∷ front) rest h =
+    let e : d.tag ≡ dt_needed = h 0 d (omega arith) in
+    let further : All IsNeeded front = λ i x l. h (suc i) x (omega (arith, l)) in
+    let other : (d.tag == dt_null) ≡ false = ap (λ (t : ℕ). t == dt_null) e in
+    rw other (ap (λ (x : List DynamicEntry). d ∷ x) (needed_kept front rest further))
+
+needed_passed : (n : ℕ) (front rest : List DynamicEntry) → differs n dt_needed ≡ true → All IsNeeded front → tagged n (front ++ rest) ≡ tagged n rest
+unfolding tagged
+needed_passed n [] rest o h = refl
+needed_passed n (d ∷ front) rest o h =
+    let e : d.tag ≡ dt_needed = h 0 d (omega arith) in
+    let further : All IsNeeded front = λ i x l. h (suc i) x (omega (arith, l)) in
+    let other : (d.tag == n) ≡ false = ap (λ (t : ℕ). t == n) e ∙ differs_is (dt_needed == n) o in
+    rw other (needed_passed n front rest o further)
+
 -- how many tags stand ahead of one
 abbrev place_of : DynamicTag → ℕ
 place_of tags.Init = 0
@@ -233,18 +251,27 @@ unfolding dynamic_number
 among tags.Null h = absurd (h refl)
 among other h = record { whole = refl; strings = refl; ahead = refl; behind = refl }
 
-pub found : (l : Layout) (rest : List DynamicEntry) (t : DynamicTag) → needs_dynamic l.kind ≡ true → t ≢ tags.Null → tagged (dynamic_number t) (before_null (dynamic_entries l ++ rest)) ≡ dynamic_entry l t
-found l rest t n h = found_in l rest t (take (place_of t) front_tags) (drop (place_of t + 1) front_tags) n (among t h)
-
-pub tables_named : (l : Layout) (room : ℕ) → needs_dynamic l.kind ≡ true → NamesTables l (dynamic_records l room)
+no_library : (t : DynamicTag) → differs (dynamic_number t) dt_needed ≡ true
 unfolding dynamic_number
-tables_named l room n =
+no_library tags.Null = refl
+no_library other = refl
+
+pub found : (l : Layout) (front rest : List DynamicEntry) (t : DynamicTag) → All IsNeeded front → needs_dynamic l.kind ≡ true → t ≢ tags.Null
+    → tagged (dynamic_number t) (before_null (front ++ (dynamic_entries l ++ rest))) ≡ dynamic_entry l t
+found l front rest t a n h =
+    ap (tagged (dynamic_number t)) (needed_kept front (dynamic_entries l ++ rest) a)
+    ∙ needed_passed (dynamic_number t) front (before_null (dynamic_entries l ++ rest)) (no_library t) a
+    ∙ found_in l rest t (take (place_of t) front_tags) (drop (place_of t + 1) front_tags) n (among t h)
+
+pub tables_named : (l : Layout) (front : List DynamicEntry) (room : ℕ) → All IsNeeded front → needs_dynamic l.kind ≡ true → NamesTables l (front ++ dynamic_records l room)
+unfolding dynamic_number
+tables_named l front room a n =
     let rest = replicate (room / 16 - dynamic_count l) null_entry in
     record {
-      entries = found l rest tags.Rela n (λ e. cc e);
-      entries_size = found l rest tags.RelaSize n (λ e. cc e);
-      words = found l rest tags.Relr n (λ e. cc e);
-      words_size = found l rest tags.RelrSize n (λ e. cc e);
-      jumps = found l rest tags.JmpRel n (λ e. cc e);
-      jumps_size = found l rest tags.PltRelSize n (λ e. cc e);
+      entries = found l front rest tags.Rela a n (λ e. cc e);
+      entries_size = found l front rest tags.RelaSize a n (λ e. cc e);
+      words = found l front rest tags.Relr a n (λ e. cc e);
+      words_size = found l front rest tags.RelrSize a n (λ e. cc e);
+      jumps = found l front rest tags.JmpRel a n (λ e. cc e);
+      jumps_size = found l front rest tags.PltRelSize a n (λ e. cc e);
     }

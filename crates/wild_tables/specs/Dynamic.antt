@@ -1,23 +1,27 @@
 -- The dynamic section as a table, and what a loader finds in it (gABI, "Dynamic Section").
 --   dynamic_bytes l room      the entries of the last file in a room of bytes, and zeros behind them
 --   dynamic_records l room    these entries, and entries of zeros up to the room's end
+--   IsNeeded d                the entry names a library
+--   NeededAreOfLibraries      entries of groups' libraries do, and have the ranges of their fields
+--   LengthsOfRecords          entries have 16 bytes each
 --   LengthsOfDynamic          the bytes fill the room
---   RecordsStand              a reader finds these entries there
+--   RecordsStand              a reader finds these entries there, behind those of libraries
 --   RecordsFit                they have the ranges of their fields
 --   BehindNullIsNotRead       nothing behind DT_NULL is read
---   EntriesAreFound           the value of a tag is its entry's
+--   EntriesAreFound           the value of a tag is its entry's, also behind entries of libraries
 --   TablesAreNamed            the tables that a loader finds by their tags
-use Rattle.std.specs.Prelude.{◌≡◌, ◌≢◌, ℕ, ◌-◌, ◌*◌, ◌/◌, ◌≤◌, true, List, [], ◌∷◌, ◌++◌, length, replicate, flat_map, All}
+use Rattle.std.specs.Prelude.{◌≡◌, ◌≢◌, ℕ, ◌+◌, ◌-◌, ◌*◌, ◌/◌, ◌^◌, ◌<◌, ◌≤◌, true, List, [], ◌∷◌, ◌++◌, length, replicate, flat_map, All}
 use Rattle.wild_words.specs.Record.{spell}
 use Rattle.wild_words.specs.Words.{Stands}
-use Rattle.wild_records.specs.Abi.Dynamic.{dt_rela, dt_relasz, dt_jmprel, dt_pltrelsz, dt_relr, dt_relrsz}
+use Rattle.wild_records.specs.Abi.Dynamic.{dt_needed, dt_rela, dt_relasz, dt_jmprel, dt_pltrelsz, dt_relr, dt_relrsz}
 use Rattle.wild_records.specs.Dynamic.{dynamic_entry_size, dynamic_entry_fields, DynamicEntryFits}
 use Rattle.wild_records.specs.declared.dynamic.DynamicEntry.{DynamicEntry}
 use Rattle.wild_plan.specs.declared.dynamic.DynamicTag.{DynamicTag}
 use Rattle.wild_plan.specs.declared.dynamic.DynamicTag.TheVariants as tags
+use Rattle.wild_plan.specs.declared.file.Group.{Group}
 use Rattle.wild_plan.specs.declared.layout.Layout.{Layout}
 use Rattle.wild_plan.specs.Dynamic.{dynamic_number, dynamic_entry, dynamic_entries, dynamic_count}
-use Rattle.wild_plan.specs.DynamicStrings.{NamedString, behind_text}
+use Rattle.wild_plan.specs.DynamicStrings.{NamedString, behind_text, needed_entries}
 use Rattle.wild_plan.specs.Kinds.{needs_dynamic}
 use Rattle.wild_loader.specs.Laws.{before_null}
 use Rattle.wild_loader.specs.Tables.{tagged}
@@ -43,17 +47,34 @@ null_entry = record { tag = 0; value = 0 }
 abbrev pub dynamic_records : Layout → ℕ → List DynamicEntry
 dynamic_records l room = dynamic_entries l ++ replicate (room / dynamic_entry_size - dynamic_count l) null_entry
 
+-- ---- entries of libraries
+
+-- the entry names a library (gABI, "Shared Object Dependencies")
+abbrev pub IsNeeded : DynamicEntry → Type 0
+IsNeeded d = d.tag ≡ dt_needed
+
+-- the entries of a group's libraries name libraries; where their strings begin below 2^64 they have the ranges of their fields
+pub record NeededAreOfLibraries : Type 0 where
+  pub names : (l : Layout) (gs : List Group) → All IsNeeded (flat_map (needed_entries l) gs)
+  pub fit : (l : Layout) (gs : List Group) → All (λ (g : Group). g.dynstr_start < 2 ^ 64) gs → All DynamicEntryFits (flat_map (needed_entries l) gs)
+
+-- ---- what stands there
+
+-- entries have 16 bytes each
+abbrev pub LengthsOfRecords : Type 0
+LengthsOfRecords = (ds : List DynamicEntry) → length (entries_bytes ds) ≡ dynamic_entry_size * length ds
+
 -- the bytes fill the room
 abbrev pub LengthsOfDynamic : Type 0
 LengthsOfDynamic = (l : Layout) (room : ℕ) → dynamic_entry_size * dynamic_count l ≤ room → length (dynamic_bytes l room) ≡ room
 
--- a reader finds as many entries as the room has whole ones, and their bytes from its front on
-pub record RecordsAt (l : Layout) (room : ℕ) : Type 0 where
-  pub count : room / dynamic_entry_size ≡ length (dynamic_records l room)
-  pub stand : Stands (dynamic_bytes l room) 0 (entries_bytes (dynamic_records l room))
+-- behind entries of libraries: a reader finds as many entries as there is room for whole ones, and their bytes from the front on
+pub record RecordsAt (l : Layout) (front : List DynamicEntry) (room : ℕ) : Type 0 where
+  pub count : (dynamic_entry_size * length front + room) / dynamic_entry_size ≡ length (front ++ dynamic_records l room)
+  pub stand : Stands (entries_bytes front ++ dynamic_bytes l room) 0 (entries_bytes (front ++ dynamic_records l room))
 
 abbrev pub RecordsStand : Type 0
-RecordsStand = (l : Layout) (room : ℕ) → dynamic_entry_size * dynamic_count l ≤ room → RecordsAt l room
+RecordsStand = (l : Layout) (front : List DynamicEntry) (room : ℕ) → dynamic_entry_size * dynamic_count l ≤ room → RecordsAt l front room
 
 -- they have the ranges of their fields where the entries of the layout have them
 abbrev pub RecordsFit : Type 0
@@ -63,10 +84,12 @@ RecordsFit = (l : Layout) (room : ℕ) → All DynamicEntryFits (dynamic_entries
 abbrev pub BehindNullIsNotRead : Type 0
 BehindNullIsNotRead = (l : Layout) (rest : List DynamicEntry) → needs_dynamic l.kind ≡ true → before_null (dynamic_entries l ++ rest) ≡ before_null (dynamic_entries l)
 
+-- ---- what a reader finds
+
 -- the value of a tag, as a reader finds it, is its entry's: none where that is left out
 abbrev pub EntriesAreFound : Type 0
-EntriesAreFound = (l : Layout) (rest : List DynamicEntry) (tag : DynamicTag) → needs_dynamic l.kind ≡ true → tag ≢ tags.Null
-    → tagged (dynamic_number tag) (before_null (dynamic_entries l ++ rest)) ≡ dynamic_entry l tag
+EntriesAreFound = (l : Layout) (front rest : List DynamicEntry) (tag : DynamicTag) → All IsNeeded front → needs_dynamic l.kind ≡ true → tag ≢ tags.Null
+    → tagged (dynamic_number tag) (before_null (front ++ (dynamic_entries l ++ rest))) ≡ dynamic_entry l tag
 
 -- the tables that a loader finds by their tags: entries with addends, packed relocations, and the entries of stubs
 pub record NamesTables (l : Layout) (ds : List DynamicEntry) : Type 0 where
@@ -78,4 +101,4 @@ pub record NamesTables (l : Layout) (ds : List DynamicEntry) : Type 0 where
   pub jumps_size : tagged dt_pltrelsz (before_null ds) ≡ dynamic_entry l tags.PltRelSize
 
 abbrev pub TablesAreNamed : Type 0
-TablesAreNamed = (l : Layout) (room : ℕ) → needs_dynamic l.kind ≡ true → NamesTables l (dynamic_records l room)
+TablesAreNamed = (l : Layout) (front : List DynamicEntry) (room : ℕ) → All IsNeeded front → needs_dynamic l.kind ≡ true → NamesTables l (front ++ dynamic_records l room)

@@ -3,12 +3,14 @@
 --   room_for_all l t   each table has its room, or InsufficientAllocation of the first that has not
 --   left_over l t      no table has room left, or ExcessiveAllocation of the first that has
 --   Fit t              each table fits its part
---   slot_answer        what is answered for a slot
+--   slot_answer, copy_answer   what is answered for a slot, and for a copied symbol
 use Rattle.std.specs.Prelude.{ℕ, ◌-◌, ◌*◌, ◌^◌, ◌≤◌, nat_lt, min, if◌then◌else◌, List, [], ◌∷◌, length, Option, Some, None, Result, Ok, Err}
+use Rattle.wild_records.specs.declared.relocations.Rela.{Rela}
 use Rattle.wild_records.specs.Relocations.{rela_size, relr_size}
 use Rattle.wild_plan.specs.declared.part.Role.{Role}
 use Rattle.wild_plan.specs.declared.part.Role.TheVariants as role
 use Rattle.wild_plan.specs.declared.fault.Error.{Error}
+use Rattle.wild_plan.specs.declared.fault.Fault.{Fault}
 use Rattle.wild_plan.specs.declared.fault.Fault.TheVariants as faults
 use Rattle.wild_plan.specs.Faults.{nowhere}
 use Rattle.wild_plan.specs.declared.layout.Layout.{Layout}
@@ -17,7 +19,6 @@ use Rattle.wild_tables.specs.Entries.{Entries}
 use Rattle.wild_tables.specs.Words.{Words}
 use Rattle.wild_tables.specs.GotWords.{GotWords, Stubs}
 use Rattle.wild_plan.specs.declared.slot.SlotFault.{SlotFault}
-use Rattle.wild_plan.specs.declared.slot.SlotFault.TheVariants.{NoDynamicSymbol}
 use Rattle.wild_tables.specs.declared.refused.Refused.{Refused}
 use Rattle.wild_tables.specs.declared.refused.Refused.TheVariants as refused
 use Rattle.wild_tables.specs.declared.room.Room.{Room}
@@ -106,7 +107,7 @@ slot_answer (Err e) fault = Err (refused.Room e)
 slot_answer (Ok u) (Some f) = Err (refused.Fault f)
 slot_answer (Ok u) None = Ok tt
 
--- what is answered for a copied symbol: it has to be one of the dynamic symbol table
-abbrev pub copy_answer : Option ℕ → Result (Unit {0}) Error → Result (Unit {0}) Refused
-copy_answer None room = Err (refused.Fault NoDynamicSymbol)
-copy_answer (Some d) room = slot_answer room None
+-- what is answered for a copied symbol: what it lacks, else the room that lacks
+abbrev pub copy_answer : Result Rela Fault → Result (Unit {0}) Error → Result (Unit {0}) Error
+copy_answer (Err f) room = Err (record { fault = f; at = nowhere })
+copy_answer (Ok e) room = room

@@ -4,13 +4,19 @@
 --   with_header l t         with what stands once
 --   with_block base n t     with the places of the block, packed
 --   with_general e t        with an entry of `rela_dyn_general`
---   with_copy l r t         with a copied symbol
-use Rattle.std.specs.Prelude.{ℕ, ℤ, if◌then◌else◌, List, [], ◌∷◌, Option, Some, None, unwrap_or, Result, Ok, Err}
+--   copied_by l i           the entry by which a loader copies the bytes of symbol i; or what the symbol lacks
+--   with_copy l i t         with a copied symbol
+use Rattle.std.specs.Prelude.{ℕ, ℤ, if◌then◌else◌, List, [], ◌∷◌, Option, Some, None, option_and_then, unwrap_or, Result, Ok, Err, slice_get}
 use Rattle.wild_records.specs.declared.relocations.Rela.{Rela}
 use Rattle.wild_reloc.specs.declared.dynamic.DynamicRelocationKind.{DynamicRelocationKind}
 use Rattle.wild_reloc.specs.declared.dynamic.DynamicRelocationKind.TheVariants.{Copy}
+use Rattle.wild_plan.specs.declared.fault.Fault.{Fault}
+use Rattle.wild_plan.specs.declared.fault.Fault.TheVariants as faults
+use Rattle.wild_plan.specs.declared.fault.Missing.TheVariants as missing
 use Rattle.wild_plan.specs.declared.layout.Layout.{Layout}
 use Rattle.wild_plan.specs.declared.symbol.Resolution.{Resolution}
+use Rattle.wild_plan.specs.declared.symbol.Symbol.{Symbol}
+use Rattle.wild_plan.specs.Lookups.{canonical}
 use Rattle.wild_relr.specs.Packing.{State}
 use Rattle.wild_relr.specs.Packed.{after_flat, after_block}
 use Rattle.wild_tables.specs.Words.{Words}
@@ -91,10 +97,26 @@ symbol_entry l at addend symbol kind = record { offset = at; number = type_of l.
 abbrev pub copy_entry : Layout → Resolution → ℕ → Rela
 copy_entry l r d = entry_at l.machine r.raw_value (record { kind = Copy; symbol = d; addend = 0 })
 
-abbrev pub with_copy_of : Layout → Resolution → Option ℕ → Tables → Tables
-with_copy_of l r None t = t
-with_copy_of l r (Some d) t = with_general (copy_entry l r d) t
+-- what was decided of the symbol that defines symbol i
+abbrev pub resolution_of : Layout → ℕ → Option Resolution
+resolution_of l i = option_and_then (λ (s : Symbol). s.resolution) (slice_get l.symbols (canonical l i))
+
+abbrev pub copied_at : Layout → ℕ → Resolution → Option ℕ → Result Rela Fault
+copied_at l i r None = Err (faults.MissingResolution missing.DynamicSymbol i)
+copied_at l i r (Some d) = Ok (copy_entry l r d)
+
+abbrev pub copied_as : Layout → ℕ → Option Resolution → Result Rela Fault
+copied_as l i None = Err (faults.MissingResolution missing.Address i)
+copied_as l i (Some r) = copied_at l i r r.dynamic_symbol_index
+
+-- the entry by which a loader copies the bytes of symbol i; or what the symbol lacks: an address, an index
+abbrev pub copied_by : Layout → ℕ → Result Rela Fault
+copied_by l i = copied_as l i (resolution_of l i)
+
+abbrev pub with_copied : Result Rela Fault → Tables → Tables
+with_copied (Err f) t = t
+with_copied (Ok e) t = with_general e t
 
 -- a copied symbol
-abbrev pub with_copy : Layout → Resolution → Tables → Tables
-with_copy l r t = with_copy_of l r r.dynamic_symbol_index t
+abbrev pub with_copy : Layout → ℕ → Tables → Tables
+with_copy l i t = with_copied (copied_by l i) t

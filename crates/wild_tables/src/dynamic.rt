@@ -3,9 +3,9 @@ ghost use Rattle.std.specs.Prelude.{◌≡◌, ◌+◌, ◌*◌, ◌≤◌, ◌+
 ghost use Rattle.wild_records.specs.Dynamic.{dynamic_entry_size};
 ghost use Rattle.wild_plan.specs.Dynamic.{entry_of, tag_entries, dynamic_count};
 ghost use Rattle.wild_plan.specs.DynamicStrings.{named, behind_text, string_entries, auxiliary_strings, named_strings, string_start};
-ghost use Rattle.wild_tables.specs.Dynamic.{dynamic_bytes, entries_bytes, behind_strings, LengthsOfDynamic, RecordsStand, RecordsFit, BehindNullIsNotRead, EntriesAreFound, TablesAreNamed};
+ghost use Rattle.wild_tables.specs.Dynamic.{dynamic_bytes, entries_bytes, behind_strings, NeededAreOfLibraries, LengthsOfRecords, LengthsOfDynamic, RecordsStand, RecordsFit, BehindNullIsNotRead, EntriesAreFound, TablesAreNamed};
 
-use wild_plan::{DynamicTag, Layout, STRING_START, dynamic_entry};
+use wild_plan::{DynamicTag, Layout, dynamic_entry, string_start};
 use wild_records::DynamicEntry;
 use wild_records::abi::dynamic::{DT_AUXILIARY, DT_RPATH, DT_RUNPATH, DT_SONAME};
 use wild_words::{Bytes, put};
@@ -125,7 +125,7 @@ fn write_auxiliary(out: &mut [u8], cursor: Cursor, texts: &[Bytes]) -> Cursor
 }
 
 /// The entries that name strings, from the front on; answers the offset behind them.
-#[tactic(auto, using(crate::proofs::DynamicLemmas::option_bytes, crate::proofs::DynamicLemmas::option_count, crate::proofs::DynamicLemmas::no_strings), unfolding(wild_plan::specs::Dynamic::named_strings))]
+#[tactic(auto, using(crate::proofs::DynamicLemmas::option_bytes, crate::proofs::DynamicLemmas::option_count, crate::proofs::DynamicLemmas::no_strings), unfolding(wild_plan::specs::DynamicStrings::named_strings))]
 fn write_strings(layout: &Layout, out: &mut [u8]) -> usize
     requires { dynamic_entry_size * length (named_strings layout.now) ≤ length out.old }
     ensures at { result ≡ dynamic_entry_size * length (named_strings layout.now) }
@@ -143,7 +143,7 @@ fn write_strings(layout: &Layout, out: &mut [u8]) -> usize
     };
     let start = Cursor {
         at: 0,
-        offset: STRING_START,
+        offset: string_start(layout),
     };
     let cursor = write_option(out, start, path, &options.rpath);
     let cursor = write_option(out, cursor, DT_SONAME, &options.soname);
@@ -161,9 +161,11 @@ pub fn write_dynamic(layout: &Layout, out: &mut [u8])
     write_unused(&mut out[at..]);
 }
 
-/// The bytes of the dynamic section fill its room, a reader finds the entries of the last file there and nothing behind
-/// `DT_NULL`, and by each tag the value of its entry.
+/// The entries of libraries name libraries. Behind them the bytes of the last file's entries fill their room, a reader
+/// finds these entries there and nothing behind `DT_NULL`, and by each tag the value of its entry.
 pub fn dynamic_sections_are_read()
+    ensures needed { NeededAreOfLibraries }
+    ensures records { LengthsOfRecords }
     ensures lengths { LengthsOfDynamic }
     ensures stand { RecordsStand }
     ensures fit { RecordsFit }

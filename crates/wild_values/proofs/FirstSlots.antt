@@ -1,31 +1,39 @@
 -- The first slot of an address has the symbol's value.
-use Rattle.std.proofs.Common.{◌≡◌, ℕ, ◌+◌, ◌%◌, ◌^◌, ◌<◌, ◌⊎◌, inl, inr, Bool, true, false, List, ◌∷◌, ◌++◌, Option, Some, refl, sym, ap, ◌∙◌, arith, subst}
+use Rattle.std.proofs.Common.{◌≡◌, ℕ, ◌+◌, ◌%◌, ◌^◌, ◌<◌, ◌⊎◌, inl, inr, Bool, true, false, List, ◌∷◌, ◌++◌, Option, Some, None, refl, sym, ap, ◌∙◌, arith, subst}
 use Rattle.std.specs.Prelude.{◌&&◌, ◌||◌, not, if◌then◌else◌}
+use Rattle.wild_reloc.specs.Dynamic.{x86_64_type}
+use Rattle.wild_reloc.specs.declared.dynamic.DynamicRelocationKind.{DynamicRelocationKind}
 use Rattle.wild_reloc.specs.declared.dynamic.DynamicRelocationKind.TheVariants.{GotEntry, JumpSlot, Irelative}
+use Rattle.wild_plan.specs.declared.kind.OutputKind.{OutputKind}
+use Rattle.wild_plan.specs.declared.slot.SlotEntry.{SlotEntry}
 use Rattle.wild_plan.specs.declared.slot.Setting.{Setting}
 use Rattle.wild_plan.specs.declared.slot.SlotItem.{SlotItem}
 use Rattle.wild_plan.specs.declared.slot.SlotItem.TheVariants.{Word}
 use Rattle.wild_plan.specs.declared.slot.SlotWord.{SlotWord}
-use Rattle.wild_plan.specs.declared.slot.SlotWord.TheVariants.{Number, Address, InBlock, Plt}
+use Rattle.wild_plan.specs.declared.slot.SlotWord.TheVariants.{Number, Address, InBlock, General, Plt}
 use Rattle.wild_plan.specs.declared.symbol.Resolution.{Resolution}
 use Rattle.wild_plan.specs.declared.symbol.Symbol.{Symbol}
 use Rattle.wild_plan.specs.declared.symbol.ValueFlags.{ValueFlags}
 use Rattle.wild_plan.specs.declared.layout.Layout.{Layout}
-use Rattle.wild_plan.specs.Flags.{has_flag, interposable, has_link_time_address, absolute, dynamic, ifunc, export_dynamic, canonical_plt}
+use Rattle.wild_plan.specs.Flags.{has_flag, interposable, has_link_time_address, absolute, dynamic, ifunc, non_interposable, copy_relocation, export_dynamic, canonical_plt}
 use Rattle.wild_plan.specs.Kinds.{is_position_independent}
 use Rattle.wild_plan.specs.Lookups.{canonical}
-use Rattle.wild_plan.specs.OwnSymbols.{IsOwnSymbol}
 use Rattle.wild_plan.specs.Slots.{setting_of, named, general, plt, number, plain_item, stub_items, ifunc_address_items, canonical_address_items, slot_items, items_at, thread_items, address_items, slot}
 use Rattle.wild_plan.specs.SlotShares.{resolved_slots, slots_of}
 use Rattle.wild_plan.specs.Stub.{far_of}
 use Rattle.wild_plan.specs.SymbolSlots.{resolved_got, has_dynamic_symbol, has_thread_slot}
-use Rattle.wild_geometry.specs.Slots.{IsLoadedWord, HasWords}
+use Rattle.wild_geometry.specs.Slots.{IsFilledBy, IsLoadedWord, HasWords}
+use Rattle.wild_loader.specs.Changes.{kind_of}
+use Rattle.wild_loader.specs.declared.kind.DynamicKind.TheVariants as works
+use Rattle.wild_loader.specs.declared.memory.Machine.TheVariants as processors
 use Rattle.wild_loader.specs.declared.memory.Memory.{Memory}
 use Rattle.wild_loader.specs.declared.world.World.{World}
 use Rattle.wild_meaning.specs.Slot.{HasWord}
-use Rattle.wild_meaning.specs.Value.{IsValue, HasValue, moved}
+use Rattle.wild_meaning.specs.Value.{IsValue, HasValue, IsReplaceable, is_library, may_be_replaced, moved}
 use Rattle.wild_values.specs.Terms.{IsPlaced}
-use Rattle.wild_values.proofs.Symbols.{IsResolvedBy, resolved_raw, resolved_flag}
+use Rattle.wild_values.proofs.Answered.{has_answer, answered_value}
+use Rattle.wild_values.proofs.EntryWords.{got_is_address, jump_is_address, address_filled, chosen_filled}
+use Rattle.wild_values.proofs.Symbols.{IsResolvedBy, replaceable_by, resolved_raw, resolved_flag}
 use Rattle.wild_values.proofs.SlotFlags.{symbol_fits}
 use Rattle.wild_values.proofs.SlotContents.{ItemsHold, items_hold}
 
@@ -57,32 +65,43 @@ thread_held l w m i at r p d e thread =
 
 -- ---- the word of an address
 
--- by what is asked of the symbol: whether a resolver chooses it, whether it moves, and whether words are packed
+-- no loader looks the symbol up, so that it is the output's own
+pub own_flags : (kind : OutputKind) (f : ValueFlags) → has_dynamic_symbol f ≡ false → may_be_replaced kind f ≡ false
+own_flags kind f h = by_tests (has_flag f dynamic) (has_flag f copy_relocation) (is_library kind) (has_flag f export_dynamic) (has_flag f non_interposable) h
+  where
+    by_tests : (a copied library exported fixed : Bool) → (a || (exported && not fixed)) ≡ false → ((a && not copied) || (library && (exported && not fixed))) ≡ false
+    by_tests true copied library exported fixed h = cc
+    by_tests false copied false exported fixed h = refl
+    by_tests false copied true exported fixed h = h
+
+pub not_dynamic : (f : ValueFlags) → has_dynamic_symbol f ≡ false → has_flag f dynamic ≡ false
+not_dynamic f h = by_tests (has_flag f dynamic) (has_flag f export_dynamic && interposable f) h
+  where
+    by_tests : (a b : Bool) → (a || b) ≡ false → a ≡ false
+    by_tests true b h = cc
+    by_tests false b h = refl
+
+-- by what is asked of the output's own symbol: whether a resolver chooses it, whether it moves, and whether words are packed
 abbrev word_by : (chosen moving relr : Bool) → ℕ → SlotWord
 word_by true moving relr raw = Plt (record { kind = Irelative; symbol = 0; addend = raw })
 word_by false true true raw = InBlock raw
 word_by false true false raw = Address raw
 word_by false false relr raw = Number raw
 
--- no loader looks an own symbol up
-pub not_looked_up : (s : Symbol) → IsOwnSymbol s → has_dynamic_symbol s.flags ≡ false
-not_looked_up s own = by_tests (has_flag s.flags dynamic) (has_flag s.flags export_dynamic) (interposable s.flags) own.dynamic own.exported
-  where
-    by_tests : (a b c : Bool) → a ≡ false → b ≡ false → (a || (b && c)) ≡ false
-    by_tests false false c e f = refl
-    by_tests true b c e f = cc
-    by_tests false true c e f = cc
+abbrev own_item : Setting → Resolution → SlotItem
+own_item s r =
+    if has_flag r.flags ifunc then plt Irelative 0 r.raw_value
+    else if is_position_independent s.kind && has_link_time_address r.flags then Word (if s.relr then InBlock r.raw_value else Address r.raw_value)
+    else number r.raw_value
 
-plain_is : (s : Setting) (r : Resolution) → has_flag r.flags canonical_plt ≡ false → has_dynamic_symbol r.flags ≡ false → plain_item s r ≡ Word (word_by (has_flag r.flags ifunc) (is_position_independent s.kind && has_link_time_address r.flags) s.relr r.raw_value)
-plain_is s r a b = by_tests (named r.dynamic_symbol_index (λ d. plt JumpSlot d 0)) (named r.dynamic_symbol_index (λ d. general GotEntry d 0)) (has_flag r.flags canonical_plt) (has_dynamic_symbol r.flags) (has_flag r.flags ifunc) (is_position_independent s.kind && has_link_time_address r.flags) s.relr r.raw_value a b
+own_is : (s : Setting) (r : Resolution) → own_item s r ≡ Word (word_by (has_flag r.flags ifunc) (is_position_independent s.kind && has_link_time_address r.flags) s.relr r.raw_value)
+own_is s r = by_tests (has_flag r.flags ifunc) (is_position_independent s.kind && has_link_time_address r.flags) s.relr r.raw_value
   where
-    by_tests : (x y : SlotItem) (canonical named chosen moving relr : Bool) (raw : ℕ) → canonical ≡ false → named ≡ false → (if canonical then x else if named then y else if chosen then plt Irelative 0 raw else if moving then Word (if relr then InBlock raw else Address raw) else number raw) ≡ Word (word_by chosen moving relr raw)
-    by_tests x y true named chosen moving relr raw e f = cc
-    by_tests x y false true chosen moving relr raw e f = cc
-    by_tests x y false false true moving relr raw e f = refl
-    by_tests x y false false false true true raw e f = refl
-    by_tests x y false false false true false raw e f = refl
-    by_tests x y false false false false relr raw e f = refl
+    by_tests : (chosen moving relr : Bool) (raw : ℕ) → (if chosen then plt Irelative 0 raw else if moving then Word (if relr then InBlock raw else Address raw) else number raw) ≡ Word (word_by chosen moving relr raw)
+    by_tests true moving relr raw = refl
+    by_tests false true true raw = refl
+    by_tests false true false raw = refl
+    by_tests false false relr raw = refl
 
 address_is : (still : Bool) (base raw x : ℕ) → x ≡ (raw + base) % 2 ^ 64 → still ≡ false → x ≡ moved still base raw
 address_is false base raw x h e = h ∙ omega arith
@@ -94,11 +113,11 @@ number_is false base raw x h (inl z) low = omega (arith, h, z, low)
 number_is false base raw x h (inr t) low = cc
 
 -- it is the symbol's value, once it is loaded
-word_is : (w : World) (chosen moving relr still : Bool) (raw x : ℕ) → IsLoadedWord w (word_by chosen moving relr raw) x → (moving ≡ true → still ≡ false) → (moving ≡ false → (w.base ≡ 0) ⊎ (still ≡ true)) → raw < 2 ^ 64 → IsValue w chosen still raw x
-word_is w true moving relr still raw x h moves stays low = h
-word_is w false true true still raw x h moves stays low = address_is still w.base raw x h (moves refl)
-word_is w false true false still raw x h moves stays low = address_is still w.base raw x h (moves refl)
-word_is w false false relr still raw x h moves stays low = number_is still w.base raw x h (stays refl) low
+word_is : (w : World) (m : Memory) (place : ℕ) (chosen moving relr still : Bool) (raw x : ℕ) → IsLoadedWord w m place (word_by chosen moving relr raw) x → (moving ≡ true → still ≡ false) → (moving ≡ false → (w.base ≡ 0) ⊎ (still ≡ true)) → raw < 2 ^ 64 → IsValue w chosen still raw x
+word_is w m place true moving relr still raw x h moves stays low = chosen_filled w m place raw x low h
+word_is w m place false true true still raw x h moves stays low = address_is still w.base raw x h (moves refl)
+word_is w m place false true false still raw x h moves stays low = address_is still w.base raw x h (moves refl)
+word_is w m place false false relr still raw x h moves stays low = number_is still w.base raw x h (stays refl) low
 
 -- ---- the value
 
@@ -131,25 +150,36 @@ tests_still pi still f e d h = by_tests pi (has_flag f absolute) (has_flag f dyn
 abbrev pub items_behind : Layout → Resolution → List SlotItem
 items_behind l r = stub_items (far_of l.machine r) r.plt_address ++ (ifunc_address_items (setting_of l) r ++ canonical_address_items (setting_of l) r)
 
-pub first_held : (l : Layout) (w : World) (m : Memory) (i at : ℕ) (r : Resolution) → IsPlaced l w m → IsResolvedBy l i r → r.got_address ≡ Some at → has_thread_slot r.flags ≡ false → HasFirst l w m i at (items_behind l r)
-first_held l w m i at r p d e plain =
+-- the word of an entry that names the symbol
+pub named_held : (l : Layout) (w : World) (m : Memory) (i at : ℕ) (r : Resolution) (rest : List SlotItem) (kind : DynamicRelocationKind) (word : SlotEntry → SlotWord) → IsPlaced l w m → IsResolvedBy l i r → kind_of processors.X86_64 (x86_64_type kind) ≡ Some works.Symbol
+    → ((e : SlotEntry) (x : ℕ) → IsLoadedWord w m (w.base + at) (word e) x → IsFilledBy w m (w.base + at) e x) → ItemsHold w m at (named r.dynamic_symbol_index (λ d. Word (word (record { kind = kind; symbol = d; addend = 0 }))) ∷ rest) → HasFirst l w m i at rest
+named_held l w m i at r rest kind word p by is filled h = by_index r.dynamic_symbol_index refl h
+  where
+    by_index : (o : Option ℕ) → r.dynamic_symbol_index ≡ o → ItemsHold w m at (named o (λ d. Word (word (record { kind = kind; symbol = d; addend = 0 }))) ∷ rest) → HasFirst l w m i at rest
+    by_index None e h = absurd h
+    by_index (Some d) e h =
+        let x = h.0 in
+        let a = address_filled w m (w.base + at) d x.0 kind is (filled (record { kind = kind; symbol = d; addend = 0 }) x.0 x.2) in
+        record { value = x.0; there = x.1; is = subst (λ (n : ℕ). HasValue l w i n) (sym a.1) (answered_value l w i a.0.answer p.legal.symbols (has_answer l w i d r by e a.0)); behind = h.1 }
+
+own_held : (l : Layout) (w : World) (m : Memory) (i at : ℕ) (r : Resolution) (rest : List SlotItem) → IsPlaced l w m → IsResolvedBy l i r → has_dynamic_symbol r.flags ≡ false → ItemsHold w m at (own_item (setting_of l) r ∷ rest) → HasFirst l w m i at rest
+own_held l w m i at r rest p d looked held =
     let s = d.symbol in
     let fits = symbol_fits l (canonical l i) s p.symbols d.listed in
-    let flags : r.flags ≡ s.flags = (fits.own.resolved r d.decided).flags in
-    let canon = ap (λ (f : ValueFlags). has_flag f canonical_plt) flags ∙ fits.own.canonical in
-    let looked : has_dynamic_symbol r.flags ≡ false = ap (λ (f : ValueFlags). has_dynamic_symbol f) flags ∙ not_looked_up s fits.own in
-    let dyn = ap (λ (f : ValueFlags). has_flag f dynamic) flags ∙ fits.own.dynamic in
+    let flags : r.flags ≡ s.flags = fits.flags r d.decided in
+    let dyn = not_dynamic r.flags looked in
+    let own : may_be_replaced l.kind s.flags ≡ false = ap (λ (f : ValueFlags). may_be_replaced l.kind f) (sym flags) ∙ own_flags l.kind r.flags looked in
     let still = has_flag s.flags absolute in
     let fixed : has_flag r.flags absolute ≡ still = ap (λ (f : ValueFlags). has_flag f absolute) flags in
     let pi = is_position_independent l.kind in
-    let h = subst (λ (x : SlotItem). ItemsHold w m at (x ∷ items_behind l r)) (plain_is (setting_of l) r canon looked) (address_held l w m i at r p d e plain) in
+    let h = subst (λ (x : SlotItem). ItemsHold w m at (x ∷ rest)) (own_is (setting_of l) r) held in
     let x = h.0 in
     let stays : (pi && has_link_time_address r.flags) ≡ false → (w.base ≡ 0) ⊎ (still ≡ true) = λ f. (elim (tests_still pi still r.flags fixed dyn f) [ inl n ↦ inl (p.still n) | inr t ↦ inr t ]) in
-    let is = word_is w (has_flag r.flags ifunc) (pi && has_link_time_address r.flags) l.options.relr still r.raw_value x.0 x.2 (λ t. tests_moving pi still r.flags fixed dyn t) stays (fits.number r d.decided) in
+    let is = word_is w m (w.base + at) (has_flag r.flags ifunc) (pi && has_link_time_address r.flags) l.options.relr still r.raw_value x.0 x.2 (λ t. tests_moving pi still r.flags fixed dyn t) stays (fits.number r d.decided) in
     record {
       value = x.0;
       there = x.1;
-      is = record {
+      is = inr (subst (λ (b : Bool). IsReplaceable l i b) own (replaceable_by l i r d), record {
         raw = r.raw_value;
         given = resolved_raw l i r d;
         indirect = has_flag s.flags ifunc;
@@ -157,6 +187,17 @@ first_held l w m i at r p d e plain =
         still = still;
         absolute = resolved_flag l i absolute r d;
         is = subst (λ (f : ValueFlags). IsValue w (has_flag f ifunc) still r.raw_value x.0) flags is;
-      };
+      });
       behind = h.1;
     }
+
+first_is : (l : Layout) (w : World) (m : Memory) (i at : ℕ) (r : Resolution) (rest : List SlotItem) → IsPlaced l w m → IsResolvedBy l i r → ItemsHold w m at (plain_item (setting_of l) r ∷ rest) → HasFirst l w m i at rest
+first_is l w m i at r rest p d h = by_tests (has_flag r.flags canonical_plt) (has_dynamic_symbol r.flags) refl h
+  where
+    by_tests : (canonical looked : Bool) → has_dynamic_symbol r.flags ≡ looked → ItemsHold w m at ((if canonical then named r.dynamic_symbol_index (λ d. plt JumpSlot d 0) else if looked then named r.dynamic_symbol_index (λ d. general GotEntry d 0) else own_item (setting_of l) r) ∷ rest) → HasFirst l w m i at rest
+    by_tests true looked e h = named_held l w m i at r rest JumpSlot (λ e. Plt e) p d jump_is_address (λ e x f. f) h
+    by_tests false true e h = named_held l w m i at r rest GotEntry (λ e. General e) p d got_is_address (λ e x f. f) h
+    by_tests false false e h = own_held l w m i at r rest p d e h
+
+pub first_held : (l : Layout) (w : World) (m : Memory) (i at : ℕ) (r : Resolution) → IsPlaced l w m → IsResolvedBy l i r → r.got_address ≡ Some at → has_thread_slot r.flags ≡ false → HasFirst l w m i at (items_behind l r)
+first_held l w m i at r p d e plain = first_is l w m i at r (items_behind l r) p d (address_held l w m i at r p d e plain)

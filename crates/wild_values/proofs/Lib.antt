@@ -1,5 +1,6 @@
 mod Tests
 mod Bits
+mod OutputKinds
 mod KnownRows
 mod Written
 mod Sections
@@ -10,8 +11,11 @@ mod Symbols
 mod SlotFlags
 mod SlotContents
 mod StubCode
+mod EntryWords
+mod Answered
 mod FirstSlots
 mod SymbolStubs
+mod Stubbed
 mod Targets
 mod ThreadValues
 mod Treated

@@ -1,6 +1,6 @@
 -- What slots without a fault have in memory, item by item.
 use Rattle.std.proofs.Common.{◌≡◌, ℕ, suc, ◌+◌, ◌*◌, List, [], ◌∷◌, ◌++◌, Option, Some, None, refl, sym, ap, ◌∙◌, arith, append_assoc, subst}
-use Rattle.std.specs.Prelude.{⊤}
+use Rattle.std.specs.Prelude.{⊤, slice_index_or}
 use Rattle.std.proofs.lemmas.List.{append-nil}
 use Rattle.wild_plan.specs.declared.slot.SlotFault.{SlotFault}
 use Rattle.wild_plan.specs.declared.slot.SlotItem.{SlotItem}
@@ -30,7 +30,7 @@ NoFault (Fault f ∷ xs) = ⊥
 -- memory has the items' words from an address on, and none of them is a fault
 abbrev pub ItemsHold : World → Memory → ℕ → List SlotItem → Type 0
 ItemsHold w m at [] = ⊤
-ItemsHold w m at (Word v ∷ xs) = ((x : ℕ) × HasWord m (w.base + at) x × IsLoadedWord w v x) × ItemsHold w m (at + 8) xs
+ItemsHold w m at (Word v ∷ xs) = ((x : ℕ) × HasWord m (w.base + at) x × IsLoadedWord w m (w.base + at) v x) × ItemsHold w m (at + 8) xs
 ItemsHold w m at (Stub ∷ xs) = ItemsHold w m at xs
 ItemsHold w m at (Fault f ∷ xs) = ⊥
 
@@ -66,18 +66,18 @@ whole (Fault f ∷ xs) c none h =
 -- ---- words
 
 -- the first word, at its address
-pub word_first : (w : World) (m : Memory) (at : ℕ) (v : SlotWord) (vs : List SlotWord) → HasWords w m at (v ∷ vs) → (x : ℕ) × HasWord m (w.base + at) x × IsLoadedWord w v x
+pub word_first : (w : World) (m : Memory) (at : ℕ) (v : SlotWord) (vs : List SlotWord) → HasWords w m at (v ∷ vs) → (x : ℕ) × HasWord m (w.base + at) x × IsLoadedWord w m (w.base + at) v x
 word_first w m at v vs h =
     let x = h 0 v (omega arith) in
     let e : w.base + at + 8 * 0 ≡ w.base + at = omega arith in
-    (x.0, subst (λ (a : ℕ). HasWord m a x.0) e x.1, x.2)
+    (x.0, subst (λ (a : ℕ). HasWord m a x.0) e x.1, subst (λ (a : ℕ). IsLoadedWord w m a v x.0) e x.2)
 
 -- the others, from 8 bytes behind it on
 pub words_behind : (w : World) (m : Memory) (at : ℕ) (v : SlotWord) (vs : List SlotWord) → HasWords w m at (v ∷ vs) → HasWords w m (at + 8) vs
 words_behind w m at v vs h = λ k d l.
     let x = h (suc k) d (omega (arith, l)) in
     let e : w.base + at + 8 * suc k ≡ w.base + (at + 8) + 8 * k = omega arith in
-    (x.0, subst (λ (a : ℕ). number_in m a 8 ≡ Some x.0) e x.1, x.2)
+    (x.0, subst (λ (a : ℕ). number_in m a 8 ≡ Some x.0) e x.1, subst (λ (a : ℕ). IsLoadedWord w m a (slice_index_or vs k d) x.0) e x.2)
 
 items_from_words : (w : World) (m : Memory) (at : ℕ) (xs : List SlotItem) → NoFault xs → HasWords w m at (words_of xs) → ItemsHold w m at xs
 items_from_words w m at [] sound h = tt

@@ -66,7 +66,7 @@ pub stub_from : StubsOfValuesAreRead → (l : Layout) (w : World) (m : Memory) (
 stub_from law l w m i stub r p d f =
     let s = d.symbol in
     let fits = symbol_fits l (canonical l i) s p.symbols d.listed in
-    let flags : r.flags ≡ s.flags = (fits.own.resolved r d.decided).flags in
+    let flags : r.flags ≡ s.flags = fits.flags r d.decided in
     let has : plt_of s ≡ Some stub = ap resolved_plt d.decided ∙ f in
     let slot = slot_of_stub s stub fits.stub has in
     let at = slot.0 in

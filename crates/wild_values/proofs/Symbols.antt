@@ -1,18 +1,19 @@
 -- What the writer knows of a symbol, and what the reader does.
-use Rattle.std.proofs.Common.{◌≡◌, ℕ, ◌<◌, ◌⊎◌, inl, inr, true, false, length, get_or, refl, sym, ap, ◌∙◌, subst}
+use Rattle.std.proofs.Common.{◌≡◌, ℕ, ◌<◌, ◌⊎◌, inl, inr, Bool, true, false, length, get_or, refl, sym, ap, ◌∙◌, subst}
 use Rattle.std.specs.Prelude.{Option, Some, None, All, option_and_then, option_map, unwrap_or, slice_get}
 use Rattle.std.proofs.lemmas.Option.{slice_get-get_or, slice_get_within, get_or_from_slice_get}
 use Rattle.wild_plan.specs.declared.symbol.Place.{Place}
 use Rattle.wild_plan.specs.declared.symbol.Place.TheVariants as at
 use Rattle.wild_plan.specs.declared.symbol.Resolution.{Resolution}
 use Rattle.wild_plan.specs.declared.symbol.Symbol.{Symbol}
+use Rattle.wild_plan.specs.declared.symbol.ValueFlags.{ValueFlags}
 use Rattle.wild_plan.specs.declared.layout.Layout.{Layout}
 use Rattle.wild_plan.specs.Flags.{has_flag}
 use Rattle.wild_plan.specs.Lookups.{canonical}
 use Rattle.wild_plan.specs.Treatment.{flags_at}
 use Rattle.wild_layout.specs.Values.{definition_of, resolution_of, is_nowhere, is_undefined, symbol_size}
 use Rattle.wild_layout.specs.Geometry.{DefinitionNames}
-use Rattle.wild_meaning.specs.Value.{IsSymbol, IsDefinedBy, IsUndefined, HasRaw, HasFlag, HasSize}
+use Rattle.wild_meaning.specs.Value.{IsSymbol, IsDefinedBy, IsUndefined, HasRaw, HasFlag, HasOwnSize, IsReplaceable, may_be_replaced}
 
 -- ---- definitions
 
@@ -29,7 +30,7 @@ definition_listed l i c named d = by_case l i c d.symbol named d.listed d.define
         (get_or l.symbols c symbol, slice_get-get_or l.symbols c symbol below)
 
 -- the writer's definition is the reader's
-canonical_is : (l : Layout) (i c : ℕ) → IsDefinedBy l i c → canonical l i ≡ c
+pub canonical_is : (l : Layout) (i c : ℕ) → IsDefinedBy l i c → canonical l i ≡ c
 canonical_is l i c d = by_case l i c d.symbol d.listed d.defined
   where
     by_case : (l : Layout) (i c : ℕ) (symbol : Symbol) → IsSymbol l i symbol → (symbol.definition ≡ Some c) ⊎ ((symbol.definition ≡ None) × (c ≡ i)) → canonical l i ≡ c
@@ -37,7 +38,7 @@ canonical_is l i c d = by_case l i c d.symbol d.listed d.defined
     by_case l i c symbol listed (inr own) = rw (listed, own.0) (sym own.1)
 
 -- a listed symbol has a definition
-defined_by : (l : Layout) (i : ℕ) (symbol : Symbol) → IsSymbol l i symbol → IsDefinedBy l i (canonical l i)
+pub defined_by : (l : Layout) (i : ℕ) (symbol : Symbol) → IsSymbol l i symbol → IsDefinedBy l i (canonical l i)
 defined_by l i symbol listed = by_definition symbol.definition refl
   where
     by_definition : (o : Option ℕ) → symbol.definition ≡ o → IsDefinedBy l i (canonical l i)
@@ -83,6 +84,29 @@ resolved_raw l i r d = record { definition = canonical l i; defined = d.defined;
 pub resolved_flag : (l : Layout) (i flag : ℕ) (r : Resolution) → (d : IsResolvedBy l i r) → HasFlag l i flag (has_flag d.symbol.flags flag)
 resolved_flag l i flag r d = record { definition = canonical l i; defined = d.defined; symbol = d.symbol; listed = d.listed; flagged = refl }
 
+-- ---- whose symbol it is
+
+-- another module may have it, as its flags say
+pub replaceable_by : (l : Layout) (i : ℕ) (r : Resolution) → (d : IsResolvedBy l i r) → IsReplaceable l i (may_be_replaced l.kind d.symbol.flags)
+replaceable_by l i r d = record { definition = canonical l i; defined = d.defined; symbol = d.symbol; listed = d.listed; told = refl }
+
+-- what the writer knows of it
+pub replaceable_is : (l : Layout) (i : ℕ) (b : Bool) → IsReplaceable l i b → may_be_replaced l.kind (flags_at l i) ≡ b
+replaceable_is l i b h = ap (λ (f : ValueFlags). may_be_replaced l.kind f) (flags_are l i h.definition h.symbol h.defined h.listed) ∙ h.told
+
+pub replaceable_at : (l : Layout) (i : ℕ) (symbol : Symbol) → All (DefinitionNames l) l.symbols → IsSymbol l i symbol → IsReplaceable l i (may_be_replaced l.kind (flags_at l i))
+replaceable_at l i symbol named listed =
+    let d = defined_by l i symbol listed in
+    let s = definition_listed l i (canonical l i) named d in
+    record { definition = canonical l i; defined = d; symbol = s.0; listed = s.1; told = ap (λ (f : ValueFlags). may_be_replaced l.kind f) (sym (flags_are l i (canonical l i) s.0 d s.1)) }
+
+-- a flag of its definition
+pub flag_at : (l : Layout) (i flag : ℕ) (symbol : Symbol) → All (DefinitionNames l) l.symbols → IsSymbol l i symbol → HasFlag l i flag (has_flag (flags_at l i) flag)
+flag_at l i flag symbol named listed =
+    let d = defined_by l i symbol listed in
+    let s = definition_listed l i (canonical l i) named d in
+    record { definition = canonical l i; defined = d; symbol = s.0; listed = s.1; flagged = ap (λ (f : ValueFlags). has_flag f flag) (sym (flags_are l i (canonical l i) s.0 d s.1)) }
+
 -- ---- undefined symbols, and sizes
 
 nowhere_is : (p : Place) → is_nowhere p ≡ true → p ≡ at.Undefined
@@ -100,7 +124,7 @@ undefined l i symbol listed h = by_definition l i (defined_by l i symbol listed)
     by_definition l i d None e h = cc
     by_definition l i d (Some s) e h = record { definition = canonical l i; defined = d; symbol = s; listed = e; nowhere = nowhere_is s.place h }
 
-pub sized : (l : Layout) (i : ℕ) (symbol : Symbol) → All (DefinitionNames l) l.symbols → IsSymbol l i symbol → HasSize l i (symbol_size l i)
+pub sized : (l : Layout) (i : ℕ) (symbol : Symbol) → All (DefinitionNames l) l.symbols → IsSymbol l i symbol → HasOwnSize l i (symbol_size l i)
 sized l i symbol named listed =
     let d = defined_by l i symbol listed in
     let s = definition_listed l i (canonical l i) named d in

@@ -5,12 +5,12 @@ use Rattle.std.specs.List.{filter}
 use Rattle.std.specs.Int.{w64, cast_unsigned}
 use Rattle.std.proofs.Math.Nat.{zero-mod}
 use Rattle.std.proofs.lemmas.Bool.{cases_Bool, eqb-true}
+use Rattle.wild_records.proofs.FieldLemmas.{signed_fits}
 use Rattle.wild_plan.specs.declared.kind.Machine.{Machine}
 use Rattle.wild_plan.specs.declared.kind.Machine.TheVariants as machine
 use Rattle.wild_plan.specs.declared.kind.OutputKind.{OutputKind}
 use Rattle.wild_plan.specs.declared.kind.OutputKind.TheVariants as output
 use Rattle.wild_plan.specs.declared.layout.Layout.{Layout}
-use Rattle.wild_plan.specs.Kinds.{is_executable}
 use Rattle.wild_plan.specs.Storage as storage
 use Rattle.wild_loader.specs.declared.fault.LoadFault.TheVariants as faults
 use Rattle.wild_loader.specs.declared.world.World.{World}
@@ -18,7 +18,7 @@ use Rattle.wild_loader.specs.Given.{◌>>=◌, known}
 use Rattle.wild_loader.specs.Changes.{first_value, distance_of}
 use Rattle.wild_meaning.specs.Value.{HasRaw}
 use Rattle.wild_meaning.specs.Thread.{rounded_up, thread_pointer_of, thread_pointer, HasDistance, IsThreadPlace, IsOffsetBase}
-use Rattle.wild_meaning.specs.World.{first_module, IsExecutable, IsFirstModule}
+use Rattle.wild_meaning.specs.World.{first_module, IsExecutable, IsFirstModule, IsKnownModule}
 
 -- the only pair for a key is the first one
 only_pair : (ms : List (ℕ × ℤ)) (k : ℕ) (d : ℤ) → filter (λ (m : ℕ × ℤ). m.0 == k) ms ≡ (k, d) ∷ [] → first_value ms k ≡ Some d
@@ -29,14 +29,26 @@ only_pair (m ∷ ms) k d h = by_test m ms k d (m.0 == k) h (only_pair ms k d)
     by_test m ms k d true h again = (let e : m ≡ (k, d) = cc in ap (λ (x : ℕ × ℤ). Some x.1) e)
     by_test m ms k d false h again = again h
 
+-- so that the world has the distance of its module
+found : (w : World) (m : ℕ) (d : ℤ) → first_value w.modules m ≡ Some d → distance_of w m ≡ Ok (cast_unsigned w64 d)
+found w m d h = ap (λ (o : Option ℤ). known o (faults.NoAnswer m) >>= λ x. Ok (cast_unsigned w64 x)) h
+
+pub known_distance : (w : World) (m : ℕ) → (k : IsKnownModule w m) → distance_of w m ≡ Ok (cast_unsigned w64 k.distance)
+known_distance w m k = found w m k.distance (only_pair w.modules m k.distance k.pair)
+
+-- which is a number of the machine
+pub distance_below : (w : World) (m : ℕ) → (k : IsKnownModule w m) → cast_unsigned w64 k.distance < 2 ^ 64
+distance_below w m k = signed_fits w64 k.distance k.fits
+
 -- the world has the own module's distance
 pub own_distance : (l : Layout) (w : World) → (f : IsFirstModule l w) → HasDistance w (cast_unsigned w64 f.distance)
 own_distance l w f =
     let here = only_pair w.modules first_module f.distance f.pair in
-    subst (λ (n : ℕ). distance_of w n ≡ Ok (cast_unsigned w64 f.distance)) (sym f.own) (found w f.distance here)
-  where
-    found : (w : World) (d : ℤ) → first_value w.modules first_module ≡ Some d → distance_of w first_module ≡ Ok (cast_unsigned w64 d)
-    found w d h = ap (λ (o : Option ℤ). known o (faults.NoAnswer first_module) >>= λ x. Ok (cast_unsigned w64 x)) h
+    subst (λ (n : ℕ). distance_of w n ≡ Ok (cast_unsigned w64 f.distance)) (sym f.own) (found w first_module f.distance here)
+
+-- the place of a symbol in the data of a module with a distance
+pub placed_thread : (l : Layout) (w : World) (i raw d : ℕ) → HasDistance w d → HasRaw l i raw → IsThreadPlace l w i ((d + raw + (2 ^ 64 - l.tls.start)) % 2 ^ 64)
+placed_thread l w i raw d own given = record { raw = raw; given = given; distance = d; own = own; sum = refl }
 
 -- the place of a symbol in the thread's data
 pub thread_place : (l : Layout) (w : World) (i raw : ℕ) → (f : IsFirstModule l w) → HasRaw l i raw → IsThreadPlace l w i ((cast_unsigned w64 f.distance + raw + (2 ^ 64 - l.tls.start)) % 2 ^ 64)
@@ -79,8 +91,6 @@ own_base m k w x e = subst (λ (n : Machine). IsOffsetBase n k w 0) (sym x) (by_
     by_kind output.SharedObject h = absurd h
     by_kind output.PartialObject h = absurd h
 
-pub executable_is : (k : OutputKind) → IsExecutable k → is_executable k ≡ true
-executable_is (output.StaticExecutable any) h = refl
-executable_is (output.DynamicExecutable any) h = refl
-executable_is output.SharedObject h = absurd h
-executable_is output.PartialObject h = absurd h
+-- and those of a library from its own data
+pub library_base : (m : Machine) (k : OutputKind) (w : World) (d : ℕ) → m ≡ machine.X86_64 → k ≡ output.SharedObject → HasDistance w d → IsOffsetBase m k w d
+library_base m k w d x e h = subst (λ (n : Machine). IsOffsetBase n k w d) (sym x) (subst (λ (j : OutputKind). IsOffsetBase machine.X86_64 j w d) (sym e) h)

@@ -1,6 +1,6 @@
 -- What is known of a relocation that writes a value: whether its symbol moves.
 use Rattle.std.proofs.Common.{◌≡◌, ℕ, ◌⊎◌, inl, inr, Bool, true, false, refl}
-use Rattle.std.specs.Prelude.{Option, Some, None, if◌then◌else◌, not, ◌&&◌, ◌==◌}
+use Rattle.std.specs.Prelude.{Option, Some, None, if◌then◌else◌, not, ◌&&◌, ◌||◌, ◌==◌}
 use Rattle.std.proofs.lemmas.Bool.{cases_Bool}
 use Rattle.wild_plan.specs.declared.input.InputRelocation.{InputRelocation}
 use Rattle.wild_plan.specs.declared.input.InputSection.{InputSection}
@@ -8,10 +8,10 @@ use Rattle.wild_plan.specs.declared.layout.Layout.{Layout}
 use Rattle.wild_plan.specs.declared.treatment.Treatment.{Treatment}
 use Rattle.wild_plan.specs.declared.treatment.Treatment.TheVariants as treatments
 use Rattle.wild_plan.specs.Flags.{has_flag, absolute}
-use Rattle.wild_plan.specs.Kinds.{is_position_independent}
+use Rattle.wild_plan.specs.Kinds.{is_position_independent, is_shared_object}
 use Rattle.wild_plan.specs.Lookups.{allocated}
 use Rattle.wild_plan.specs.Rows.{row_of}
-use Rattle.wild_plan.specs.Treatment.{is_left, is_barred, is_chosen, flags_at, moves, moved_treatment, address_treatment, distance_treatment, named, kind_treatment, row_treatment, treatment}
+use Rattle.wild_plan.specs.Treatment.{is_left, is_barred, is_narrow, is_chosen, is_sized, flags_at, moves, moved_treatment, chosen_treatment, address_treatment, distance_treatment, pointer_treatment, size_treatment, named, kind_treatment, row_treatment, treatment}
 use Rattle.wild_reloc.specs.Field.{field_width}
 use Rattle.wild_reloc.specs.declared.info.RelocationKindInfo.{RelocationKindInfo}
 
@@ -43,21 +43,83 @@ is_no_value row h =
       | inr f ↦ cc (rw f at h)
     ]
 
+chosen_is_no_value : (row : RelocationKindInfo) (i : ℕ) → chosen_treatment row i ≡ treatments.Value row → ⊥
+chosen_is_no_value row i h =
+    elim (cases_Bool (field_width row == 8)) [
+      | inl t ↦ cc (rw t at h)
+      | inr f ↦ cc (rw f at h)
+    ]
+
 -- the value of an address that is written in memory does not move
 pub address_still : (l : Layout) (s : InputSection) (row : RelocationKindInfo) (i : ℕ) → allocated s.flags ≡ true → address_treatment l s row i ≡ treatments.Value row → (is_position_independent l.kind ≡ false) ⊎ (has_flag (flags_at l i) absolute ≡ true)
-address_still l s row i room h = still_cases l i (by_tests (is_barred l s row i) (is_left l s row i) (is_chosen l s i) (allocated s.flags) (moves l i) room h)
+address_still l s row i room h = still_cases l i (by_tests (is_barred l s row i || is_narrow l s row) (is_left l s row i) (is_chosen l s i) (allocated s.flags) (moves l i) room h)
   where
-    by_tests : (barred left chosen room moving : Bool) → room ≡ true → (if barred then treatments.Recompile else (if left then treatments.Symbolic i else (if chosen then treatments.Unsupported else (if room && moving then moved_treatment row else treatments.Value row)))) ≡ treatments.Value row → moving ≡ false
+    by_tests : (barred left chosen room moving : Bool) → room ≡ true → (if barred then treatments.Recompile else (if left then treatments.Symbolic i else (if chosen then chosen_treatment row i else (if room && moving then moved_treatment row else treatments.Value row)))) ≡ treatments.Value row → moving ≡ false
     by_tests barred left chosen room false e h = refl
     by_tests true left chosen room true e h = cc
     by_tests false true chosen room true e h = cc
-    by_tests false false true room true e h = cc
+    by_tests false false true room true e h = absurd (chosen_is_no_value row i h)
     by_tests false false false false true e h = cc
     by_tests false false false true true e h = absurd (is_no_value row h)
+
+-- an address that is written, or moves, is not left to an entry
+pub address_kept : (l : Layout) (s : InputSection) (row : RelocationKindInfo) (i : ℕ) (t : Treatment) → address_treatment l s row i ≡ t → (treatments.Recompile ≡ t → ⊥) → (treatments.Symbolic i ≡ t → ⊥) → is_left l s row i ≡ false
+address_kept l s row i t h no_recompile no_entry = by_tests (is_barred l s row i || is_narrow l s row) (is_left l s row i) (if is_chosen l s i then chosen_treatment row i else (if allocated s.flags && moves l i then moved_treatment row else treatments.Value row)) h
+  where
+    by_tests : (barred left : Bool) (rest : Treatment) → (if barred then treatments.Recompile else (if left then treatments.Symbolic i else rest)) ≡ t → left ≡ false
+    by_tests true left rest h = absurd (no_recompile h)
+    by_tests false true rest h = absurd (no_entry h)
+    by_tests false false rest h = refl
+
+-- one that is left to an entry with an index is one that others may define
+pub address_left : (l : Layout) (s : InputSection) (row : RelocationKindInfo) (i j : ℕ) → address_treatment l s row i ≡ treatments.Symbolic j → is_left l s row i ≡ true
+address_left l s row i j h = by_tests (is_barred l s row i || is_narrow l s row) (is_left l s row i) (is_chosen l s i) (allocated s.flags && moves l i) (field_width row == 8) h
+  where
+    by_tests : (barred left chosen moving wide : Bool) → (if barred then treatments.Recompile else (if left then treatments.Symbolic i else (if chosen then (if wide then treatments.Indirect i else treatments.Recompile) else (if moving then (if wide then treatments.BaseRelative else treatments.Recompile) else treatments.Value row)))) ≡ treatments.Symbolic j → left ≡ true
+    by_tests barred true chosen moving wide h = refl
+    by_tests true false chosen moving wide h = cc
+    by_tests false false true moving true h = cc
+    by_tests false false true moving false h = cc
+    by_tests false false false true true h = cc
+    by_tests false false false true false h = cc
+    by_tests false false false false wide h = cc
+
+-- one that is left to a resolver is not, and a resolver chooses the symbol
+pub record IsLeftToResolver (l : Layout) (s : InputSection) (row : RelocationKindInfo) (i : ℕ) : Type 0 where
+  pub own : is_left l s row i ≡ false
+  pub chosen : is_chosen l s i ≡ true
+
+pub address_chosen : (l : Layout) (s : InputSection) (row : RelocationKindInfo) (i j : ℕ) → address_treatment l s row i ≡ treatments.Indirect j → IsLeftToResolver l s row i
+address_chosen l s row i j h = by_tests (is_barred l s row i || is_narrow l s row) (is_left l s row i) (is_chosen l s i) (allocated s.flags && moves l i) (field_width row == 8) refl refl h
+  where
+    by_tests : (barred left chosen moving wide : Bool) → is_left l s row i ≡ left → is_chosen l s i ≡ chosen → (if barred then treatments.Recompile else (if left then treatments.Symbolic i else (if chosen then (if wide then treatments.Indirect i else treatments.Recompile) else (if moving then (if wide then treatments.BaseRelative else treatments.Recompile) else treatments.Value row)))) ≡ treatments.Indirect j → IsLeftToResolver l s row i
+    by_tests true left chosen moving wide e f h = cc
+    by_tests false true chosen moving wide e f h = cc
+    by_tests false false true moving wide e f h = record { own = e; chosen = f }
+    by_tests false false false true true e f h = cc
+    by_tests false false false true false e f h = cc
+    by_tests false false false false wide e f h = cc
 
 -- a distance without a symbol is in an output that does not move
 pub distance_still : (l : Layout) (s : InputSection) (row : RelocationKindInfo) → allocated s.flags ≡ true → distance_treatment l s row None ≡ treatments.Value row → is_position_independent l.kind ≡ false
 distance_still l s row room h = by_tests (allocated s.flags) (is_position_independent l.kind) room h
+  where
+    by_tests : (a b : Bool) → a ≡ true → (if a && b then treatments.Recompile else treatments.Value row) ≡ treatments.Value row → b ≡ false
+    by_tests a false e h = refl
+    by_tests true true e h = cc
+    by_tests false true e h = cc
+
+-- a size that is written is not left to an entry
+pub size_kept : (l : Layout) (s : InputSection) (row : RelocationKindInfo) (i : ℕ) → size_treatment l s row i ≡ treatments.Value row → is_sized l s i ≡ false
+size_kept l s row i h = by_test (is_sized l s i) h
+  where
+    by_test : (b : Bool) → (if b then treatments.Extent row i else treatments.Value row) ≡ treatments.Value row → b ≡ false
+    by_test false h = refl
+    by_test true h = cc
+
+-- an offset from the thread pointer is written in no library
+pub pointer_kept : (l : Layout) (s : InputSection) (row : RelocationKindInfo) → allocated s.flags ≡ true → pointer_treatment l s row ≡ treatments.Value row → is_shared_object l.kind ≡ false
+pointer_kept l s row room h = by_tests (allocated s.flags) (is_shared_object l.kind) room h
   where
     by_tests : (a b : Bool) → a ≡ true → (if a && b then treatments.Recompile else treatments.Value row) ≡ treatments.Value row → b ≡ false
     by_tests a false e h = refl

@@ -17,12 +17,12 @@ use Rattle.wild_reloc.specs.declared.info.RelocationSize.TheVariants.{ByteSize}
 use Rattle.wild_reloc.specs.declared.info.Width.TheVariants.{Eight}
 use Rattle.wild_plan.specs.Rows.{row_of}
 use Rattle.wild_layout.specs.declared.decision.Decision.{Decision}
-use Rattle.wild_layout.specs.declared.decision.Decision.TheVariants.{Nothing, Field, Moved}
+use Rattle.wild_layout.specs.declared.decision.Decision.TheVariants.{Nothing, Field, Moved, Left}
 use Rattle.wild_layout.specs.Values.{raw_value, address_or, raw_address}
 use Rattle.wild_layout.specs.Decide.{decided}
 use Rattle.wild_layout.specs.Sites.{Written, written_by}
 use Rattle.wild_geometry.specs.Loaded.{IsDecided}
-use Rattle.wild_layout.proofs.DecideLemmas.{HasField, IsField, IsMoved, decided_field, decided_moved, decided_nothing, field_has, moved_has}
+use Rattle.wild_layout.proofs.DecideLemmas.{HasField, IsField, IsMoved, IsLeft, decided_field, decided_moved, decided_left, decided_nothing, field_has, moved_has}
 use Rattle.wild_layout.proofs.SiteLemmas.{decide_listed}
 use Rattle.wild_layout.proofs.TreatmentLemmas.{has_value}
 use Rattle.wild_values.proofs.KnownRows.{RowFits, row_fits, none_is}
@@ -74,6 +74,16 @@ pub record IsAddress (l : Layout) (s : InputSection) (r : InputRelocation) : Typ
   pub moved : IsMoved l s r value packed
   pub fits : RowFits r.number moved.row
 
+-- a relocation whose field is left to an entry
+pub record IsLeftField (l : Layout) (s : InputSection) (r : InputRelocation) : Type 0 where
+  pub size : RelocationSize
+  pub number : ℕ
+  pub symbol : ℕ
+  pub addend : ℕ
+  pub written : IsWritten l s r (Left size number symbol addend)
+  pub left : IsLeft l s r size number symbol addend
+  pub fits : RowFits r.number left.field.row
+
 pub row_here : (l : Layout) (n : ℕ) (row : RelocationKindInfo) → l.machine ≡ machine.X86_64 → row_of l.machine n ≡ Some row → row_of machine.X86_64 n ≡ Some row
 row_here l n row m is = subst (λ (x : Machine). row_of x n ≡ Some row) m is
 
@@ -100,15 +110,33 @@ address_written l s r i v packed agrees m within listed made =
       fits = row_fits r.number f.row agrees (row_here l r.number f.row m f.known) (ap has_value f.by.kind);
     }
 
-decision_written : (l : Layout) (s : InputSection) (r : InputRelocation) (i : ℕ) (d : Decision) → X86_64Agrees → l.machine ≡ machine.X86_64 → i < length s.relocations → slice_get s.relocations i ≡ Some r → decided l s r ≡ Ok d → (r.number ≡ r_x86_64_none → ⊥) → IsValue l s r ⊎ IsAddress l s r
+left_written : (l : Layout) (s : InputSection) (r : InputRelocation) (i : ℕ) (z : RelocationSize) (number symbol addend : ℕ) → X86_64Agrees → l.machine ≡ machine.X86_64 → i < length s.relocations → slice_get s.relocations i ≡ Some r → decided l s r ≡ Ok (Left z number symbol addend) → IsLeftField l s r
+left_written l s r i z number symbol addend agrees m within listed made =
+    let f = decided_left l s r z number symbol addend made in
+    record {
+      size = z;
+      number = number;
+      symbol = symbol;
+      addend = addend;
+      written = record { index = i; within = within; listed = listed; made = made; written = record { size = z; value = 0 }; by = refl; field = f.field };
+      left = f;
+      fits = row_fits r.number f.field.row agrees (row_here l r.number f.field.row m f.field.known) f.field.kind;
+    }
+
+-- what a relocation writes
+abbrev pub Writes : Layout → InputSection → InputRelocation → Type 0
+Writes l s r = IsValue l s r ⊎ (IsAddress l s r ⊎ IsLeftField l s r)
+
+decision_written : (l : Layout) (s : InputSection) (r : InputRelocation) (i : ℕ) (d : Decision) → X86_64Agrees → l.machine ≡ machine.X86_64 → i < length s.relocations → slice_get s.relocations i ≡ Some r → decided l s r ≡ Ok d → (r.number ≡ r_x86_64_none → ⊥) → Writes l s r
 decision_written l s r i Nothing agrees m within listed made some =
     let none = decided_nothing l s r made in
     absurd (some (none_is r.number none.row (row_here l r.number none.row m none.known) none.kind))
 decision_written l s r i (Field z v) agrees m within listed made some = inl (value_written l s r i z v agrees m within listed made)
-decision_written l s r i (Moved v packed) agrees m within listed made some = inr (address_written l s r i v packed agrees m within listed made)
+decision_written l s r i (Moved v packed) agrees m within listed made some = inr (inl (address_written l s r i v packed agrees m within listed made))
+decision_written l s r i (Left z number symbol addend) agrees m within listed made some = inr (inr (left_written l s r i z number symbol addend agrees m within listed made))
 
--- each relocation but NONE writes a value or an address
-pub relocation_written : (l : Layout) (s : InputSection) (r : InputRelocation) → X86_64Agrees → l.machine ≡ machine.X86_64 → IsDecided l s → Contains s.relocations r → (r.number ≡ r_x86_64_none → ⊥) → IsValue l s r ⊎ IsAddress l s r
+-- each relocation but NONE writes a value or an address, or is left to an entry
+pub relocation_written : (l : Layout) (s : InputSection) (r : InputRelocation) → X86_64Agrees → l.machine ≡ machine.X86_64 → IsDecided l s → Contains s.relocations r → (r.number ≡ r_x86_64_none → ⊥) → Writes l s r
 relocation_written l s r agrees m every c some =
     let d = every.each c.0 c.1 in
     let listed : slice_get s.relocations c.0 ≡ Some r = slice_get-get_or s.relocations c.0 r c.1 ∙ ap Some c.2 in

@@ -6,7 +6,7 @@
 --   ThreadPlacesAreKnown  a symbol's place in the thread's data, and its distance from the thread pointer
 --   FieldsHold ..         memory has an item's fields as the formulas have them, and its other bytes
 --   SectionsHold          so it has each kept section that is there as it was decided
-use Rattle.std.specs.Prelude.{◌≡◌, ℕ, ◌+◌, ◌-◌, ◌%◌, ◌^◌, ◌<◌, Bool, length, Ok}
+use Rattle.std.specs.Prelude.{◌≡◌, ℕ, ◌+◌, ◌-◌, ◌%◌, ◌^◌, ◌<◌, ◌⊎◌, FitsSigned, Bool, List, length, Some, Ok}
 use Rattle.std.specs.Int.{w64, cast_unsigned}
 use Rattle.wild_plan.specs.declared.kind.Machine.TheVariants as machine
 use Rattle.wild_plan.specs.declared.input.InputRelocation.{InputRelocation}
@@ -14,11 +14,14 @@ use Rattle.wild_plan.specs.declared.input.InputSection.{InputSection}
 use Rattle.wild_plan.specs.declared.layout.Layout.{Layout}
 use Rattle.wild_plan.specs.ResolvedFlags.{HaveTheirFlags}
 use Rattle.wild_reloc.specs.Agreement.{plain_value}
+use Rattle.wild_reloc.specs.Formula.{Formula, Reads}
 use Rattle.wild_reloc.specs.declared.info.RelocationKind.{RelocationKind}
+use Rattle.wild_reloc.specs.declared.info.RelocationKind.TheVariants as kinds
+use Rattle.wild_reloc.specs.declared.info.RelocationSize.{RelocationSize}
 use Rattle.wild_layout.specs.declared.decision.Decision.TheVariants.{Moved, Left}
 use Rattle.wild_layout.specs.Decide.{decided}
 use Rattle.wild_layout.specs.Numbers.{NumbersFit}
-use Rattle.wild_layout.specs.Geometry.{IsLaidOut}
+use Rattle.wild_layout.specs.Geometry.{IsLaidOut, NamesSymbol}
 use Rattle.wild_geometry.specs.Loaded.{IsDecided, InMemory, number_at, ReadsLeft, HasSection}
 use Rattle.wild_geometry.specs.Slots.{HasSlots}
 use Rattle.wild_loader.specs.declared.memory.Machine.TheVariants as machines
@@ -28,10 +31,10 @@ use Rattle.wild_meaning.specs.World.{IsFirstModule, IsLoadable, IsLegal}
 use Rattle.wild_meaning.specs.Value.{HasRaw}
 use Rattle.wild_meaning.specs.Thread.{thread_pointer, HasDistance, IsThreadPlace}
 use Rattle.wild_meaning.specs.Item.{Item, item_of, IsKeptSection, IsReference}
-use Rattle.wild_meaning.specs.Field.{InNoField, IsInputByte}
-use Rattle.wild_meaning.specs.Formula.{IsSum, Gives}
-use Rattle.wild_meaning.specs.Reference.{IsAsked, HoldsPlain}
-use Rattle.wild_values.specs.Terms.{IsPlaced, HasTerm}
+use Rattle.wild_meaning.specs.Field.{formula_of, InNoField, IsInputByte}
+use Rattle.wild_meaning.specs.Formula.{IsSum, Gives, IsOwnSum, GivesLinked, TakesOffset}
+use Rattle.wild_meaning.specs.Reference.{IsAsked, IsStubbed, IsLinkedAlone, HoldsPlain, HoldsLinked}
+use Rattle.wild_values.specs.Terms.{IsPlaced, HasTerm, IsFollowed}
 
 -- the value that the writer computes for a kind is what the expression of that kind gives, where that is followed (x86-64 psABI,
 -- "Relocation Types")
@@ -53,7 +56,7 @@ AddressesGiveLinked = (l : Layout) (w : World) (m : Memory) (s : InputSection) (
 
 -- a field that is left to an entry has what the formula of the relocation's type gives, by what the entry stores
 abbrev pub EntriesGive : Type 0
-EntriesGive = (l : Layout) (w : World) (m : Memory) (s : InputSection) (r : InputRelocation) (z : RelocationSize) (number symbol addend : ℕ) (bs : List ℕ) → IsPlaced l w m → NamesSymbol l r → decided l s r ≡ Ok (Left z number symbol addend)
+EntriesGive = (l : Layout) (w : World) (m : Memory) (s : InputSection) (r : InputRelocation) (z : RelocationSize) (number symbol addend : ℕ) (bs : List ℕ) → IsPlaced l w m → NamesSymbol l r → FitsSigned w64 r.addend → decided l s r ≡ Ok (Left z number symbol addend)
     → ReadsLeft InMemory w z number symbol addend bs → (f : Formula) × (formula_of l.machine r.number ≡ Some f) × (x : ℕ) × Gives f.value l w m (item_of s) r x × Reads f.form bs x
 
 -- in a world with the executable as its first module: the distance of its thread-local data, where a symbol of these lies, and

@@ -13,7 +13,7 @@ use Rattle.wild_plan.specs.Kinds.{is_position_independent}
 use Rattle.wild_plan.specs.Lookups.{allocated}
 use Rattle.wild_plan.specs.ResolvedFlags.{HaveTheirFlags}
 use Rattle.wild_plan.specs.Treatment.{kind_treatment}
-use Rattle.wild_plan.specs.WellFormed.{check_slot_flags}
+use Rattle.wild_plan.specs.WellFormed.{check_dynsyms, check_slot_flags}
 use Rattle.wild_reloc.specs.Agreement.{plain_value}
 use Rattle.wild_reloc.specs.declared.info.RelocationKind.{RelocationKind}
 use Rattle.wild_reloc.specs.declared.info.RelocationKindInfo.{RelocationKindInfo}
@@ -31,11 +31,12 @@ use Rattle.wild_meaning.specs.Formula.{IsPlaceRelative, TakesAddress, TakesOffse
 use Rattle.wild_meaning.specs.Reference.{IsStubbed}
 
 -- each symbol's definition is one of the layout's symbols, resolutions have their symbols' flags, which agree with slots and stubs,
--- and the addresses that were decided of them fit
+-- indexes are positions in the dynamic symbol table, and the addresses that were decided of them fit
 pub record SymbolsFit (l : Layout) : Type 0 where
   pub named : All (DefinitionNames l) l.symbols
   pub own : HaveTheirFlags l
   pub flags : check_slot_flags l ≡ Ok tt
+  pub dynsyms : check_dynsyms l ≡ Ok tt
   pub numbers : All SymbolNumbers l.symbols
 
 -- an x86-64 output in a legal world: one that does not move is at base 0, an executable is the first module, its numbers fit, and

@@ -2,28 +2,31 @@
 #![tactic(auto)]
 
 ghost use Rattle.wild_reloc.specs.declared.info.RelocationKind.TheVariants as kinds;
-ghost use Rattle.wild_values.specs.Laws.{AddressesGive, KindGives, SectionsHold, ThreadPlacesAreKnown};
+ghost use Rattle.wild_values.specs.Laws.{AddressesGive, AddressesGiveLinked, EntriesGive, KindGives, KindGivesLinked, SectionsHold, ThreadPlacesAreKnown};
 
 use wild_loader::stubs_are_read;
 use wild_reloc::{fields_of_x86_64, widths_of_fields};
 
 /// S + A, of a symbol that does not move, or in an output that does not.
 pub fn sums_are_given()
-    ensures { KindGives kinds.Absolute }
+    ensures gives { KindGives kinds.Absolute }
+    ensures linked { KindGivesLinked kinds.Absolute }
 {
     stubs_are_read();
 }
 
 /// S + A - P.
 pub fn distances_are_given()
-    ensures { KindGives kinds.Relative }
+    ensures gives { KindGives kinds.Relative }
+    ensures linked { KindGivesLinked kinds.Relative }
 {
     stubs_are_read();
 }
 
 /// S + A - GOT.
 pub fn offsets_from_the_table_are_given()
-    ensures { KindGives kinds.SymRelGotBase }
+    ensures gives { KindGives kinds.SymRelGotBase }
+    ensures linked { KindGivesLinked kinds.SymRelGotBase }
 {
     stubs_are_read();
 }
@@ -40,12 +43,14 @@ pub fn sizes_are_given()
 
 /// An offset from the thread pointer, and A.
 pub fn offsets_from_the_thread_pointer_are_given()
-    ensures { KindGives kinds.TpOff }
+    ensures gives { KindGives kinds.TpOff }
+    ensures linked { KindGivesLinked kinds.TpOff }
 {}
 
 /// An offset in the module's thread-local data, and A.
 pub fn offsets_in_the_module_are_given()
-    ensures { KindGives kinds.DtpOff }
+    ensures gives { KindGives kinds.DtpOff }
+    ensures linked { KindGivesLinked kinds.DtpOff }
 {}
 
 /// L + A - P.
@@ -93,9 +98,17 @@ pub fn distances_of_the_own_pair_are_given()
 
 /// S + A of a symbol that moves with the base: what a loader makes of an address that moves.
 pub fn addresses_are_given()
-    ensures { AddressesGive }
+    ensures gives { AddressesGive }
+    ensures linked { AddressesGiveLinked }
 {
     stubs_are_read();
+}
+
+/// S + A and Z + A in fields that are left to entries: what a loader stores there.
+pub fn entries_are_given()
+    ensures { EntriesGive }
+{
+    fields_of_x86_64();
 }
 
 /// Where a symbol lies in the thread's data, and that this is its address less the thread pointer.
@@ -125,4 +138,5 @@ pub fn sections_hold()
     distances_of_pairs_are_given();
     distances_of_the_own_pair_are_given();
     addresses_are_given();
+    entries_are_given();
 }

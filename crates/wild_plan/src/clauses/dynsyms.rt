@@ -228,6 +228,14 @@ fn undefined_count(layout: &Layout) -> usize
     count
 }
 
+/// How many symbols the table has behind the null symbol, at most 2^64 - 1.
+#[tactic(auto, using(crate::proofs::DynsymLemmas::table_length))]
+pub(crate) fn table_length(layout: &Layout) -> usize
+    ensures { result ≡ min (2 ^ 64 - 1) (length (dynamic_symbols layout.now)) }
+{
+    undefined_count(layout).saturating_add(layout.dynsyms.len())
+}
+
 /// How many undefined entries all files give.
 #[tactic(auto, using(crate::proofs::DynsymLemmas::count_is_exact))]
 fn exact_count(layout: &Layout) -> usize

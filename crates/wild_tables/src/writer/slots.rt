@@ -2,10 +2,11 @@
 ghost use Rattle.std.specs.Prelude.{◌≡◌, ◌≢◌, ◌++◌, ◌%◌, ◌≤◌, unwrap_or, length, OnOk, OnErr};
 ghost use Rattle.std.specs.Int.{cast_signed, w64};
 ghost use Rattle.wild_reloc.specs.declared.dynamic.DynamicRelocationKind.TheVariants.{Irelative};
+ghost use Rattle.wild_plan.specs.declared.fault.Fault.TheVariants.{MissingResolution};
 ghost use Rattle.wild_relr.specs.Places.{places};
 ghost use Rattle.wild_relr.specs.Packed.{slots};
 ghost use Rattle.wild_plan.specs.SlotShares.{storage_words};
-ghost use Rattle.wild_tables.specs.SlotTables.{with_content, with_slot, content_of, with_header, with_block, with_general, symbol_entry, with_copy};
+ghost use Rattle.wild_tables.specs.SlotTables.{with_content, with_slot, content_of, with_header, with_block, with_general, symbol_entry, resolution_of, copied_by, with_copy};
 ghost use Rattle.wild_tables.specs.Rooms.{rooms, room_for_all, Fit, room_for_header, HeaderFits, room_for_block, room_for_general, slot_answer, copy_answer};
 
 use super::{TABLES, TableWriter};
@@ -15,8 +16,8 @@ use crate::room::{
 };
 use crate::slot_words::{add_entries, add_flat, add_words, add_zeros};
 use wild_plan::{
-    At, EntryPart, Error, Fault, Layout, Resolution, Role, STUB_SIZE, Setting, SlotEntry,
-    SlotFault, SlotWord, WORD_SIZE, WordPart, count_entries, count_flat, count_words, entry_at,
+    At, EntryPart, Error, Fault, Layout, Missing, Resolution, Role, STUB_SIZE, Setting, SlotEntry,
+    SlotWord, SymbolIndex, WORD_SIZE, WordPart, count_entries, count_flat, count_words, entry_at,
     insufficient, slot_of, storage_pair, type_of,
 };
 use wild_records::Rela;
@@ -301,27 +302,62 @@ impl TableWriter {
     ///
     /// # Errors
     ///
-    /// `Refused::Fault` where the symbol has no index in the dynamic symbol table, `Refused::Room` where
-    /// `rela_dyn_general` has no room. Nothing changes then.
+    /// `MissingResolution` where nothing was decided of the symbol (`Address`), or it has no index in the dynamic symbol
+    /// table (`DynamicSymbol`), else `InsufficientAllocation` exactly where `rela_dyn_general` has no room for the entry.
+    /// Nothing changes then.
     pub fn write_copy_relocation(
         &mut self,
         layout: &Layout,
-        resolution: &Resolution,
-    ) -> Result<(), Refused>
-        ensures answered { result ≡ copy_answer resolution.now.dynamic_symbol_index (room_for_general layout.now (with_copy layout.now resolution.now self.old)) }
-        ensures written { OnOk result (self.new ≡ with_copy layout.now resolution.now self.old) }
+        symbol: SymbolIndex,
+    ) -> Result<(), Error>
+        ensures answered { result ≡ copy_answer (copied_by layout.now symbol) (room_for_general layout.now (with_copy layout.now symbol self.old)) }
+        ensures written { OnOk result (self.new ≡ with_copy layout.now symbol self.old) }
         ensures kept { OnErr result (self.new ≡ self.old) }
     {
-        let Some(symbol) = resolution.dynamic_symbol_index else {
-            return Err(Refused::Fault(SlotFault::NoDynamicSymbol));
-        };
-        let copy = SlotEntry {
-            kind: DynamicRelocationKind::Copy,
-            symbol,
-            addend: 0,
-        };
-        let entry = entry_at(layout.machine, resolution.raw_value, copy);
-        self.list_general(layout, entry)?;
-        Ok(())
+        match copied_by(layout, symbol) {
+            Ok(entry) => self.list_general(layout, entry),
+            Err(fault) => Err(Error {
+                fault,
+                at: At::NOWHERE,
+            }),
+        }
     }
+}
+
+/// The fault of a symbol that lacks something.
+fn lacks(what: Missing, symbol: SymbolIndex) -> Fault
+    ensures { result ≡ MissingResolution what symbol }
+{
+    Fault::MissingResolution {
+        what,
+        symbol: symbol.0,
+    }
+}
+
+/// What was decided of the symbol that defines a symbol.
+fn resolution_of(layout: &Layout, symbol: SymbolIndex) -> Option<Resolution>
+    ensures { result ≡ resolution_of layout.now symbol }
+{
+    match layout.symbols.as_slice().get(layout.canonical(symbol).0) {
+        Some(found) => found.resolution,
+        None => None,
+    }
+}
+
+/// The entry by which a loader copies the bytes of a symbol; or what the symbol lacks.
+fn copied_by(layout: &Layout, symbol: SymbolIndex) -> Result<Rela, Fault>
+    ensures { result ≡ copied_by layout.now symbol }
+{
+    let Some(resolution) = resolution_of(layout, symbol) else {
+        return Err(lacks(Missing::Address, symbol));
+    };
+    let Some(index) = resolution.dynamic_symbol_index else {
+        return Err(lacks(Missing::DynamicSymbol, symbol));
+    };
+    let copy = SlotEntry {
+        kind: DynamicRelocationKind::Copy,
+        symbol: index,
+        addend: 0,
+    };
+    Ok(entry_at(layout.machine, resolution.raw_value, copy))
 }

@@ -1,6 +1,12 @@
-use Rattle.wild_tables.proofs.DynamicLemmas.{lengths, records_at, records_fit}
+use Rattle.wild_tables.proofs.DynamicLemmas.{length_entries, lengths, records_at, records_fit, needed_are}
 use Rattle.wild_tables.proofs.FoundLemmas.{behind_null, found, tables_named}
 use Rattle.wild_tables.proofs.dynamic.dynamic_sections_are_read.Goals as goal
+
+pub returns-clause-needed : goal.returns-clause-needed
+returns-clause-needed c = needed_are
+
+pub returns-clause-records : goal.returns-clause-records
+returns-clause-records c = length_entries
 
 pub returns-clause-lengths : goal.returns-clause-lengths
 returns-clause-lengths c = lengths

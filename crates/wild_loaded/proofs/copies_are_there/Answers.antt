@@ -1,0 +1,5 @@
+use Rattle.wild_loaded.proofs.Copied.{copies_there}
+use Rattle.wild_loaded.proofs.copies_are_there.Goals as goal
+
+pub returns : goal.returns
+returns c = copies_there

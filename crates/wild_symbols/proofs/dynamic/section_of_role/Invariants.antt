@@ -1,0 +1,7 @@
+use Rattle.std.proofs.Common.{◌≡◌, drop}
+use Rattle.wild_plan.specs.Segments.{part_with}
+use Rattle.wild_symbols.specs.DynamicEntries.{part_section}
+use Rattle.wild_symbols.proofs.dynamic.section_of_role.Given as goal
+
+abbrev pub invariant-loop-part : goal.invariant-loop-part
+invariant-loop-part l = part_section (part_with l.role (drop l.part-index l.parts)) ≡ part_section (part_with l.role l.parts)

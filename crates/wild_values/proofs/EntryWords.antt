@@ -1,0 +1,177 @@
+-- What an entry leaves of the word of a slot.
+use Rattle.std.proofs.Common.{◌≡◌, ◌≢◌, ℕ, ◌+◌, ◌%◌, ◌^◌, ◌<◌, Bool, true, false, Option, Some, None, Result, Ok, Err, refl, sym, ap, ◌∙◌, subst}
+use Rattle.std.specs.Prelude.{◌==◌, slice_get, if◌then◌else◌}
+use Rattle.std.specs.Int.{w64, cast_unsigned, cast_signed}
+use Rattle.std.proofs.lemmas.Bool.{ne_eqb}
+use Rattle.std.proofs.lemmas.Int.{of_z-to_z}
+use Rattle.wild_reloc.specs.Dynamic.{x86_64_type}
+use Rattle.wild_reloc.specs.declared.dynamic.DynamicRelocationKind.{DynamicRelocationKind}
+use Rattle.wild_reloc.specs.declared.dynamic.DynamicRelocationKind.TheVariants.{GotEntry, JumpSlot, DtpMod, DtpOff, TpOff, Irelative}
+use Rattle.wild_plan.specs.declared.slot.SlotEntry.{SlotEntry}
+use Rattle.wild_geometry.specs.Loaded.{MakesChange, entry_with}
+use Rattle.wild_geometry.specs.Slots.{IsLeft, IsFilledBy}
+use Rattle.wild_loader.specs.Given.{◌>>=◌, known}
+use Rattle.wild_loader.specs.Changes.{kind_of, change_of, answer_of, answer_at, module_and_offset, distance_of}
+use Rattle.wild_loader.specs.declared.change.Change.{Change}
+use Rattle.wild_loader.specs.declared.change.Change.TheVariants as changes
+use Rattle.wild_loader.specs.declared.fault.LoadFault.{LoadFault}
+use Rattle.wild_loader.specs.declared.kind.DynamicKind.{DynamicKind}
+use Rattle.wild_loader.specs.declared.kind.DynamicKind.TheVariants as kinds
+use Rattle.wild_loader.specs.declared.memory.Machine.TheVariants as processors
+use Rattle.wild_loader.specs.declared.memory.Memory.{Memory}
+use Rattle.wild_loader.specs.declared.world.Answer.{Answer}
+use Rattle.wild_loader.specs.declared.world.World.{World}
+
+-- ---- steps
+
+-- a step that gives something was given something
+pub after_known : {A B : Type 0} (o : Option A) (f : LoadFault) (g : A → Result B LoadFault) (c : B) → (known o f >>= g) ≡ Ok c → (x : A) × (o ≡ Some x) × (g x ≡ Ok c)
+after_known None f g c h = cc
+after_known (Some x) f g c h = (x, refl, h)
+
+pub after_step : {A B : Type 0} (o : Result A LoadFault) (g : A → Result B LoadFault) (c : B) → (o >>= g) ≡ Ok c → (x : A) × (o ≡ Ok x) × (g x ≡ Ok c)
+after_step (Ok x) g c h = (x, refl, h)
+after_step (Err e) g c h = cc
+
+-- the change of an entry, by what the entries of its number do
+pub change_by : (w : World) (n s a : ℕ) (c : Change) (k : DynamicKind) → kind_of processors.X86_64 n ≡ Some k → MakesChange w n s a c → change_of w k (entry_with n s a) ≡ Ok c
+change_by w n s a c k is h =
+    let same : Some k ≡ Some h.kind = sym is ∙ h.known in
+    let e : k ≡ h.kind = cc in
+    subst (λ (x : DynamicKind). change_of w x (entry_with n s a) ≡ Ok c) (sym e) h.makes
+
+-- the number in a word where the change stores one
+abbrev made : Change → Result Change LoadFault
+made c = Ok c
+
+stored : (m : Memory) (place x v : ℕ) (c : Change) → made (changes.Word v) ≡ made c → IsLeft m place c x → x ≡ v
+stored m place x v c e h =
+    let same : changes.Word v ≡ c = cc in
+    subst (λ (d : Change). IsLeft m place d x) (sym same) h
+
+-- ---- entries that name a symbol
+
+-- what such an entry is asked of: the answer for its index
+pub record IsAnsweredBy (w : World) (d : ℕ) : Type 0 where
+  pub answer : Answer
+  pub there : slice_get w.symbols d ≡ Some answer
+
+named_entry : (kind : DynamicRelocationKind) (d : ℕ) → SlotEntry
+named_entry kind d = record { kind = kind; symbol = d; addend = 0 }
+
+-- GLOB_DAT and JUMP_SLOT store the address
+address_kind : (kind : DynamicRelocationKind) → Type 0
+address_kind kind = kind_of processors.X86_64 (x86_64_type kind) ≡ Some kinds.Symbol
+
+pub got_is_address : kind_of processors.X86_64 (x86_64_type GotEntry) ≡ Some kinds.Symbol
+unfolding kind_of
+got_is_address = refl
+
+pub jump_is_address : kind_of processors.X86_64 (x86_64_type JumpSlot) ≡ Some kinds.Symbol
+unfolding kind_of
+jump_is_address = refl
+
+pub address_filled : (w : World) (m : Memory) (place d x : ℕ) (kind : DynamicRelocationKind) → kind_of processors.X86_64 (x86_64_type kind) ≡ Some kinds.Symbol → IsFilledBy w m place (record { kind = kind; symbol = d; addend = 0 }) x → (a : IsAnsweredBy w d) × (x ≡ a.answer.address)
+unfolding change_of
+address_filled w m place d x kind is f =
+    let h = change_by w (x86_64_type kind) d 0 f.change kinds.Symbol is f.makes in
+    let a = after_known (slice_get w.symbols d) _ _ f.change h in
+    (record { answer = a.0; there = a.1 }, stored m place x a.0.address f.change a.2 f.leaves)
+
+-- DTPMOD stores the module, and DTPOFF the offset in it
+module_is : kind_of processors.X86_64 (x86_64_type DtpMod) ≡ Some kinds.Module
+unfolding kind_of
+module_is = refl
+
+offset_is : kind_of processors.X86_64 (x86_64_type DtpOff) ≡ Some kinds.ModuleOffset
+unfolding kind_of
+offset_is = refl
+
+-- of an index behind the null symbol
+named_pair : (w : World) (d : ℕ) (p : ℕ × ℕ) → d ≢ 0 → module_and_offset w d ≡ Ok p → (a : IsAnsweredBy w d) × (p ≡ (a.answer.module, a.answer.offset))
+named_pair w d p some h =
+    let not : (d == 0) ≡ false = ne_eqb d 0 some in
+    let here : (answer_of w d >>= λ a. Ok (a.module, a.offset)) ≡ Ok p = rw not at h in
+    let a = after_known (slice_get w.symbols d) _ _ p here in
+    let same : (a.0.module, a.0.offset) ≡ p = (let e : Ok (a.0.module, a.0.offset) ≡ Ok p = a.2 in cc) in
+    (record { answer = a.0; there = a.1 }, sym same)
+
+pub module_filled : (w : World) (m : Memory) (place d x : ℕ) → d ≢ 0 → IsFilledBy w m place (record { kind = DtpMod; symbol = d; addend = 0 }) x → (a : IsAnsweredBy w d) × (x ≡ a.answer.module)
+unfolding change_of
+module_filled w m place d x some f =
+    let h = change_by w (x86_64_type DtpMod) d 0 f.change kinds.Module module_is f.makes in
+    let p = after_step (module_and_offset w d) _ f.change h in
+    let a = named_pair w d p.0 some p.1 in
+    (a.0, stored m place x p.0.0 f.change p.2 f.leaves ∙ ap (λ (q : ℕ × ℕ). q.0) a.1)
+
+pub own_module_filled : (w : World) (m : Memory) (place x : ℕ) → IsFilledBy w m place (record { kind = DtpMod; symbol = 0; addend = 0 }) x → x ≡ w.own_module
+unfolding change_of
+own_module_filled w m place x f =
+    let h = change_by w (x86_64_type DtpMod) 0 0 f.change kinds.Module module_is f.makes in
+    stored m place x w.own_module f.change h f.leaves
+
+pub offset_filled : (w : World) (m : Memory) (place d x : ℕ) → IsFilledBy w m place (record { kind = DtpOff; symbol = d; addend = 0 }) x → (a : IsAnsweredBy w d) × (x ≡ (a.answer.offset + 0) % 2 ^ 64)
+unfolding change_of
+offset_filled w m place d x f =
+    let h = change_by w (x86_64_type DtpOff) d 0 f.change kinds.ModuleOffset offset_is f.makes in
+    let a = after_known (slice_get w.symbols d) _ _ f.change h in
+    (record { answer = a.0; there = a.1 }, stored m place x ((a.0.offset + 0) % 2 ^ 64) f.change a.2 f.leaves)
+
+-- ---- offsets from the thread pointer
+
+thread_is : kind_of processors.X86_64 (x86_64_type TpOff) ≡ Some kinds.ThreadOffset
+unfolding kind_of
+thread_is = refl
+
+-- the distance of a module and an offset in its data, and the addend
+record IsThreadWord (w : World) (module_number offset a x : ℕ) : Type 0 where
+  pub distance : ℕ
+  pub known : distance_of w module_number ≡ Ok distance
+  pub is : x ≡ ((distance + offset) % 2 ^ 64 + cast_unsigned w64 (cast_signed w64 a)) % 2 ^ 64
+
+thread_word : (w : World) (m : Memory) (place d a x : ℕ) (f : IsFilledBy w m place (record { kind = TpOff; symbol = d; addend = a }) x) → (p : ℕ × ℕ) × (module_and_offset w d ≡ Ok p) × IsThreadWord w p.0 p.1 a x
+unfolding change_of
+thread_word w m place d a x f =
+    let h = change_by w (x86_64_type TpOff) d a f.change kinds.ThreadOffset thread_is f.makes in
+    let o = after_step _ _ f.change h in
+    let p = after_step (module_and_offset w d) _ o.0 o.1 in
+    let t = after_step (distance_of w p.0.0) _ o.0 p.2 in
+    let same : ((t.0 + p.0.1) % 2 ^ 64 + cast_unsigned w64 (cast_signed w64 a)) % 2 ^ 64 ≡ o.0 = (let e : Ok (((t.0 + p.0.1) % 2 ^ 64 + cast_unsigned w64 (cast_signed w64 a)) % 2 ^ 64) ≡ Ok o.0 = t.2 in cc) in
+    (p.0, p.1, record { distance = t.0; known = t.1; is = stored m place x o.0 f.change o.2 f.leaves ∙ sym same })
+
+-- TPOFF stores the offset of a symbol
+pub thread_filled : (w : World) (m : Memory) (place d x : ℕ) → d ≢ 0 → IsFilledBy w m place (record { kind = TpOff; symbol = d; addend = 0 }) x → (a : IsAnsweredBy w d) × (t : ℕ) × (distance_of w a.answer.module ≡ Ok t) × (x ≡ ((t + a.answer.offset) % 2 ^ 64 + 0) % 2 ^ 64)
+thread_filled w m place d x some f =
+    let h = thread_word w m place d 0 x f in
+    let a = named_pair w d h.0 some h.1 in
+    let t = h.2 in
+    let first : h.0.0 ≡ a.0.answer.module = ap (λ (q : ℕ × ℕ). q.0) a.1 in
+    let second : h.0.1 ≡ a.0.answer.offset = ap (λ (q : ℕ × ℕ). q.1) a.1 in
+    (a.0, t.distance, subst (λ (n : ℕ). distance_of w n ≡ Ok t.distance) first t.known, t.is ∙ ap (λ (n : ℕ). ((t.distance + n) % 2 ^ 64 + 0) % 2 ^ 64) second)
+
+-- or a place in the own module
+pub own_thread_filled : (w : World) (m : Memory) (place a x : ℕ) → a < 2 ^ 64 → IsFilledBy w m place (record { kind = TpOff; symbol = 0; addend = a }) x → (t : ℕ) × (distance_of w w.own_module ≡ Ok t) × (x ≡ ((t + 0) % 2 ^ 64 + a) % 2 ^ 64)
+own_thread_filled w m place a x low f =
+    let h = thread_word w m place 0 a x f in
+    let e : Ok (w.own_module, 0) ≡ Ok h.0 = h.1 in
+    let same : (w.own_module, 0) ≡ h.0 = cc in
+    let first : h.0.0 ≡ w.own_module = ap (λ (q : ℕ × ℕ). q.0) (sym same) in
+    let second : h.0.1 ≡ 0 = ap (λ (q : ℕ × ℕ). q.1) (sym same) in
+    let t = h.2 in
+    (t.distance, subst (λ (n : ℕ). distance_of w n ≡ Ok t.distance) first t.known, t.is ∙ ap (λ (n : ℕ). ((t.distance + n) % 2 ^ 64 + cast_unsigned w64 (cast_signed w64 a)) % 2 ^ 64) second ∙ ap (λ (n : ℕ). ((t.distance + 0) % 2 ^ 64 + n) % 2 ^ 64) (of_z-to_z w64 a low))
+
+-- ---- resolvers
+
+chosen_is : kind_of processors.X86_64 (x86_64_type Irelative) ≡ Some kinds.Resolved
+unfolding kind_of
+chosen_is = refl
+
+-- IRELATIVE stores what a resolver answers
+pub chosen_filled : (w : World) (m : Memory) (place a x : ℕ) → a < 2 ^ 64 → IsFilledBy w m place (record { kind = Irelative; symbol = 0; addend = a }) x → answer_at w ((w.base + a) % 2 ^ 64) ≡ Ok x
+unfolding change_of
+chosen_filled w m place a x low f =
+    let h = change_by w (x86_64_type Irelative) 0 a f.change kinds.Resolved chosen_is f.makes in
+    let v = after_step (answer_at w ((w.base + cast_unsigned w64 (cast_signed w64 a)) % 2 ^ 64)) _ f.change h in
+    let is : x ≡ v.0 = stored m place x v.0 f.change v.2 f.leaves in
+    let there = subst (λ (n : ℕ). answer_at w ((w.base + n) % 2 ^ 64) ≡ Ok v.0) (of_z-to_z w64 a low) v.1 in
+    subst (λ (n : ℕ). answer_at w ((w.base + a) % 2 ^ 64) ≡ Ok n) (sym is) there
