@@ -1,6 +1,6 @@
 -- What a legal world answers: dynamic symbols by their index, thread-local modules, and resolvers.
-use Rattle.std.proofs.Common.{◌≡◌, ℕ, ℤ, zero, suc, ◌+◌, ◌%◌, ◌^◌, ◌<◌, ◌≤◌, ◌⊎◌, inl, inr, Bool, true, false, List, [], ◌∷◌, length, refl, sym, ap, ◌∙◌, arith, subst}
-use Rattle.std.specs.Prelude.{Option, Some, None, Ok, All, ◌==◌, if◌then◌else◌, slice_get}
+use Rattle.std.proofs.Common.{◌≡◌, ℕ, zero, suc, ◌+◌, ◌^◌, ◌<◌, ◌≤◌, ◌⊎◌, inl, inr, true, false, List, [], ◌∷◌, length, refl, sym, ap, arith, subst}
+use Rattle.std.specs.Prelude.{Option, Some, None, Ok, ◌==◌, slice_get}
 use Rattle.std.specs.List.{filter}
 use Rattle.std.specs.Int.{w64, cast_unsigned}
 use Rattle.std.proofs.lemmas.Bool.{cases_Bool, eqb-true}
@@ -9,13 +9,12 @@ use Rattle.std.proofs.lemmas.Option.{slice_get_within}
 use Rattle.wild_plan.specs.declared.symbol.Resolution.{Resolution}
 use Rattle.wild_plan.specs.declared.symbol.Symbol.{Symbol}
 use Rattle.wild_plan.specs.declared.layout.Layout.{Layout}
-use Rattle.wild_plan.specs.Lists.{first_failing}
 use Rattle.wild_plan.specs.DynamicSymbols.{dynamic_symbols, is_named, has_position, dynsym_of, position_fits, misplaced, misfit, first_listed}
 use Rattle.wild_plan.specs.WellFormed.{fails, check_dynsyms}
 use Rattle.wild_layout.specs.Geometry.{IsLaidOut}
 use Rattle.wild_loader.specs.declared.world.Answer.{Answer}
 use Rattle.wild_loader.specs.declared.world.World.{World}
-use Rattle.wild_loader.specs.Changes.{first_value, answer_of, answer_at, module_and_offset, distance_of}
+use Rattle.wild_loader.specs.Changes.{first_value, answer_at, module_and_offset, distance_of}
 use Rattle.wild_meaning.specs.World.{IsLegal, IsAnsweredOnce, IsKnownModule, IsAnswer, IsAnswered}
 use Rattle.wild_slots.proofs.CheckLemmas.{both, none}
 use Rattle.wild_loaded.proofs.SlotsHeld.{listed_at}
@@ -65,22 +64,22 @@ symbol_answer l w i index s r legal there is told = given_answer l w index legal
 
 -- ---- indexes
 
+position_first : (table : List ℕ) (j k : ℕ) (x s : Symbol) (xs : List Symbol) → slice_get (x ∷ xs) k ≡ Some s → position_fits table j (dynsym_of x) ≡ true → ((i : ℕ) → slice_get xs i ≡ Some s → position_fits table (j + 1 + i) (dynsym_of s) ≡ true) → position_fits table (j + k) (dynsym_of s) ≡ true
+position_first table j zero x s xs e t rest =
+    let same : x ≡ s = cc in
+    let z : j + 0 ≡ j = omega arith in
+    subst (λ (y : Symbol). position_fits table (j + 0) (dynsym_of y) ≡ true) same (subst (λ (k : ℕ). position_fits table k (dynsym_of x) ≡ true) (sym z) t)
+position_first table j (suc k) x s xs e t rest =
+    let z : j + 1 + k ≡ j + suc k = omega arith in
+    subst (λ (m : ℕ). position_fits table m (dynsym_of s) ≡ true) z (rest k e)
+
 position_at : (table : List ℕ) (i j : ℕ) (ss : List Symbol) (s : Symbol) → misplaced table j ss ≡ None → slice_get ss i ≡ Some s → position_fits table (j + i) (dynsym_of s) ≡ true
 position_at table i j [] s h there = cc
 position_at table i j (x ∷ xs) s h there =
     elim (cases_Bool (position_fits table j (dynsym_of x))) [
       | inr f ↦ cc (rw f at h)
-      | inl t ↦ at i there t (rw t at h)
+      | inl t ↦ (let rest : misplaced table (j + 1) xs ≡ None = rw t at h in position_first table j i x s xs there t (λ k e. position_at table k (j + 1) xs s rest e))
     ]
-  where
-    at : (k : ℕ) → slice_get (x ∷ xs) k ≡ Some s → position_fits table j (dynsym_of x) ≡ true → misplaced table (j + 1) xs ≡ None → position_fits table (j + k) (dynsym_of s) ≡ true
-    at zero e t rest =
-        let same : x ≡ s = cc in
-        let z : j + 0 ≡ j = omega arith in
-        subst (λ (y : Symbol). position_fits table (j + 0) (dynsym_of y) ≡ true) same (subst (λ (k : ℕ). position_fits table k (dynsym_of x) ≡ true) (sym z) t)
-    at (suc k) e t rest =
-        let z : j + 1 + k ≡ j + suc k = omega arith in
-        subst (λ (m : ℕ). position_fits table m (dynsym_of s) ≡ true) z (position_at table k (j + 1) xs s rest e)
 
 within_table : (table : List ℕ) (i p : ℕ) → has_position table i p ≡ true → p ≤ length table
 within_table table i zero h = cc
@@ -115,7 +114,7 @@ own_pair : (l : Layout) (w : World) → IsLegal l w → IsKnownPair w 0
 own_pair l w legal = record {
   pair = (w.own_module, 0);
   given = refl;
-  fits = legal.symbols.module;
+  fits = legal.symbols.owner;
   distance = cast_unsigned w64 legal.symbols.known.distance;
   known = distance_known w w.own_module legal.symbols.known;
 }
@@ -126,7 +125,7 @@ answer_pair w index other g =
     record {
       pair = (g.answer.module, g.answer.offset);
       given = rw (other, g.listed) refl;
-      fits = is.module;
+      fits = is.owner;
       distance = cast_unsigned w64 is.known.distance;
       known = distance_known w g.answer.module is.known;
     }

@@ -1,13 +1,11 @@
 -- Symbols that are copied into the output: their addresses, their answers, and what their entries make a loader do.
-use Rattle.std.proofs.Common.{◌≡◌, ℕ, ◌%◌, ◌^◌, ◌<◌, inl, inr, true, refl, sym, ap, ◌∙◌, arith, subst}
-use Rattle.std.specs.Prelude.{Option, Some, None, Result, Ok, Err, All, Contains, [], option_map, option_and_then, unwrap_or, if◌then◌else◌, slice_get}
+use Rattle.std.proofs.Common.{◌≡◌, ℕ, ◌%◌, ◌^◌, ◌<◌, ◌⊎◌, inl, inr, true, refl, sym, ap, ◌∙◌, arith, subst}
+use Rattle.std.specs.Prelude.{Option, Some, None, Result, Ok, Err, All, [], option_and_then, unwrap_or, slice_get}
 use Rattle.std.proofs.lemmas.List.Elements.{All-contains}
 use Rattle.wild_plan.specs.declared.fault.Fault.{Fault}
 use Rattle.wild_plan.specs.declared.kind.Machine.TheVariants as machine
 use Rattle.wild_plan.specs.declared.kind.Machine.{Machine}
 use Rattle.wild_reloc.specs.declared.dynamic.DynamicRelocationKind.TheVariants.{Copy}
-use Rattle.wild_plan.specs.declared.file.FileRole.TheVariants as file_role
-use Rattle.wild_plan.specs.declared.file.FileRole.{FileRole}
 use Rattle.wild_plan.specs.declared.file.File.{File}
 use Rattle.wild_plan.specs.declared.file.Group.{Group}
 use Rattle.wild_plan.specs.declared.symbol.Resolution.{Resolution}
@@ -21,12 +19,12 @@ use Rattle.wild_layout.specs.Faults.{flat_map_from, copy_fault, group_errors}
 use Rattle.wild_layout.specs.Geometry.{IsLaidOut}
 use Rattle.wild_layout.specs.Left.{entry_for, copy_entry}
 use Rattle.wild_layout.specs.Moved.{or_zero}
-use Rattle.wild_layout.specs.Values.{resolved_or, raw_value, raw_address, index_of}
+use Rattle.wild_layout.specs.Values.{raw_value, raw_address, index_of}
 use Rattle.wild_layout.proofs.FaultLemmas.{CanBeCopied, copies_of_groups}
 use Rattle.wild_loader.specs.declared.world.Answer.{Answer}
 use Rattle.wild_loader.specs.declared.world.World.{World}
 use Rattle.wild_loader.specs.Changes.{kind_of, change_of}
-use Rattle.wild_meaning.specs.Value.{IsDefinedBy, IsResolved, HasRaw, HasAnswer}
+use Rattle.wild_meaning.specs.Value.{IsDefinedBy, IsResolved, IsUnresolved, StandsAt, HasRaw, HasAnswer}
 use Rattle.wild_meaning.specs.World.{IsLegal, IsCopied, HasCopy}
 use Rattle.wild_loaded.specs.Stored.{Copies}
 use Rattle.wild_loaded.specs.Laws.{CopiesAreThere}
@@ -95,12 +93,15 @@ copied_listed l i none c =
 
 copy_there : (l : Layout) (w : World) (i index : ℕ) → IsLegal l w → IsCopied l i → IsIndexed l i index → (raw : ℕ) × (x : Answer) × HasCopy l w i raw x
 copy_there l w i index legal c d =
-    let g = symbol_answer l w (canonical l i) index d.symbol d.resolution legal d.listed d.resolved d.told in
-    (d.resolution.raw_value, g.answer, record {
-      copied = c;
-      given = has_raw l i d.symbol d.resolution d.listed d.resolved;
-      answer = record { definition = canonical l i; defined = defined_by l i d.symbol d.listed; symbol = d.symbol; listed = d.listed; resolution = d.resolution; decided = d.resolved; index = index; told = d.told; given = g.listed };
-    })
+    let g = symbol_answer l w (canonical l i) index d.symbol d.resolution legal d.listed d.resolved d.told in (
+      d.resolution.raw_value,
+      g.answer,
+      record {
+        copied = c;
+        given = has_raw l i d.symbol d.resolution d.listed d.resolved;
+        answer = record { definition = canonical l i; defined = defined_by l i d.symbol d.listed; symbol = d.symbol; listed = d.listed; resolution = d.resolution; decided = d.resolved; index = index; told = d.told; given = g.listed };
+      },
+    )
 
 pub copies_there : CopiesAreThere
 copies_there = λ l w i legal laid none c.

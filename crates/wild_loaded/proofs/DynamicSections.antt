@@ -1,27 +1,22 @@
 -- The dynamic section of an image, and the tables that it names.
-use Rattle.std.proofs.Common.{◌≡◌, ℕ, zero, suc, ◌+◌, ◌-◌, ◌*◌, ◌/◌, ◌^◌, ◌<◌, ◌≤◌, inl, inr, true, List, [], ◌∷◌, ◌++◌, length, map, take, get_or, replicate, All, refl, sym, ap, ◌∙◌, arith, subst}
+use Rattle.std.proofs.Common.{◌≡◌, ℕ, suc, ◌+◌, ◌-◌, ◌*◌, ◌/◌, ◌≤◌, inl, inr, true, List, [], ◌∷◌, ◌++◌, length, map, replicate, refl, sym, ap, ◌∙◌, arith, subst}
 use Rattle.std.specs.Prelude.{Option, Some, None, Contains, ◌==◌}
 use Rattle.std.specs.List.{flat_map}
 use Rattle.std.proofs.lemmas.Bool.{cases_Bool}
 use Rattle.std.proofs.lemmas.List.{length-append, length-replicate}
 use Rattle.std.proofs.lemmas.List.Elements.{All-nil, All-append, All-contains}
-use Rattle.std.proofs.lemmas.Option.{slice_get-get_or}
 use Rattle.wild_words.specs.Words.{Stands}
 use Rattle.wild_words.proofs.OverlayLemmas.{Stands-inner}
 use Rattle.wild_records.specs.Abi.Segment.{pt_dynamic}
 use Rattle.wild_records.specs.Dynamic.{dynamic_entry_size, DynamicEntryFits}
 use Rattle.wild_records.specs.declared.dynamic.DynamicEntry.{DynamicEntry}
 use Rattle.wild_records.specs.declared.program_header.ProgramHeader.{ProgramHeader}
-use Rattle.wild_plan.specs.declared.file.Group.{Group}
 use Rattle.wild_plan.specs.declared.part.Part.{Part}
-use Rattle.wild_plan.specs.declared.part.Role.{Role}
 use Rattle.wild_plan.specs.declared.part.Role.TheVariants as role
 use Rattle.wild_plan.specs.declared.section.Segment.{Segment}
 use Rattle.wild_plan.specs.declared.layout.Layout.{Layout}
 use Rattle.wild_plan.specs.declared.dynamic.DynamicTag.TheVariants as tags
 use Rattle.wild_plan.specs.Dynamic.{dynamic_number, dynamic_entry, dynamic_flags, dynamic_entries, dynamic_count}
-use Rattle.wild_plan.specs.Lists.{total}
-use Rattle.wild_plan.specs.Places.{role_place}
 use Rattle.wild_plan.specs.Segments.{part_with}
 use Rattle.wild_plan.specs.Kinds.{needs_dynamic}
 use Rattle.wild_plan.specs.Lookups.{image_size}
@@ -29,7 +24,7 @@ use Rattle.wild_headers.specs.Headers.{program_header}
 use Rattle.wild_layout.specs.Image.{bytes}
 use Rattle.wild_layout.specs.Numbers.{NumbersFit}
 use Rattle.wild_layout.specs.Geometry.{IsLaidOut, SegmentLoads, first_dynamic, table_bytes, all_needed, TablesStand}
-use Rattle.wild_layout.specs.Content.{dynamic_room, content}
+use Rattle.wild_layout.specs.Content.{dynamic_room}
 use Rattle.wild_loader.specs.Tables.{first_dynamic as found_dynamic, tagged}
 use Rattle.wild_loader.specs.Laws.{HasDynamic, HasTables, IsTableOf, word_bytes, rela_bytes, before_null}
 use Rattle.wild_tables.specs.Dynamic.{dynamic_records, dynamic_bytes, entries_bytes, IsNeeded, NeededAreOfLibraries, LengthsOfRecords, RecordsStand, RecordsFit, EntriesAreFound, TablesAreNamed}
@@ -54,35 +49,6 @@ pub record DynamicLaws : Type 0 where
   pub named : TablesAreNamed
   pub words : WordsFit
   pub pair : PairStands
-
--- ---- the entries of libraries
-
--- what groups give to a part before one of them is not more than they all give
-given_before : (of : Group → List ℕ) (gs : List Group) (j : ℕ) → total (λ (g : Group). length (of g)) (take j gs) ≤ length (flat_map of gs)
-given_before of gs zero = omega arith
-given_before of [] (suc j) = omega arith
-given_before of (g ∷ gs) (suc j) =
-    let n = length-append (of g) (flat_map of gs) in
-    let rest = given_before of gs j in
-    omega (arith, n, rest)
-
--- a table has fewer bytes than addresses have numbers
-table_low : (l : Layout) (r : Role) (o : Option Part) → IsLaidOut l → (role_place r ≡ 0 → ⊥) → part_with r l.parts ≡ o → length (table_bytes l r) < 2 ^ 64
-table_low l r None laid place e = (let none = ap (λ (bs : List ℕ). length bs) ((laid.roles r place).missing e) in omega (arith, none))
-table_low l r (Some p) laid place e =
-    let t = (laid.roles r place).there p e in
-    let size = t.size in
-    let low = subst (λ (q : Part). q.offset + q.size ≤ 2 ^ 62) t.listed.2 (laid.parts t.listed.0 p t.listed.1).low in
-    omega (arith, size, low)
-
--- so the strings of each group begin below 2^64
-starts_low : (l : Layout) → IsLaidOut l → needs_dynamic l.kind ≡ true → All (λ (g : Group). g.dynstr_start < 2 ^ 64) l.groups
-starts_low l laid needs = λ k d lt. (
-    let start = laid.starts k (get_or l.groups k d) (slice_get-get_or l.groups k d lt) needs in
-    let before = given_before (content l role.Dynstr) l.groups k in
-    let low = table_low l role.Dynstr (part_with role.Dynstr l.parts) laid (λ e. cc) refl in
-    omega (arith, start, before, low)
-    )
 
 -- ---- the part of the dynamic section
 
@@ -171,8 +137,8 @@ first_listed (x ∷ xs) g h =
 abbrev all_records : Layout → ℕ → List DynamicEntry
 all_records l room = all_needed l ++ dynamic_records l room
 
-has_dynamic : (l : Layout) → DynamicLaws → NumbersFit l → IsLaidOut l → needs_dynamic l.kind ≡ true → (d : HasDynamicPart l) → HasDynamic (bytes l) (map (program_header l) l.segments) (all_records l d.room)
-has_dynamic l laws numbers laid needs d =
+has_dynamic : (l : Layout) → DynamicLaws → NumbersFit l → IsLaidOut l → (d : HasDynamicPart l) → HasDynamic (bytes l) (map (program_header l) l.segments) (all_records l d.room)
+has_dynamic l laws numbers laid d =
     let s = laid.loadable.dynamic d.part d.there in
     let place = segment_place l s.segment in
     let c = first_listed l.segments s.segment s.first in
@@ -192,7 +158,7 @@ has_dynamic l laws numbers laid needs d =
       first = first_header l l.segments s.segment s.first;
       room = omega (arith, file, n, o, z);
       count = ap (λ (k : ℕ). k / dynamic_entry_size) size ∙ at.count;
-      fits = All-append DynamicEntryFits (all_needed l) (dynamic_records l d.room) (laws.needed.fit l l.groups (starts_low l laid needs)) (laws.fit l d.room numbers.dynamic);
+      fits = All-append DynamicEntryFits (all_needed l) (dynamic_records l d.room) (laws.needed.fit l l.groups numbers.starts) (laws.fit l d.room numbers.dynamic);
       entries = subst (λ (a : ℕ). Stands (bytes l) a (entries_bytes (all_records l d.room))) nothing inner;
     }
 
@@ -218,4 +184,4 @@ has_tables l room laws numbers laid slots needs =
 pub tables_found : DynamicLaws → TablesAreFound
 tables_found laws = λ l needs numbers laid slots.
     let d = dynamic_part l laws.lengths laws.found laid needs in
-    record { entries = all_records l d.room; dynamic = has_dynamic l laws numbers laid needs d; tables = has_tables l d.room laws numbers laid slots needs }
+    record { entries = all_records l d.room; dynamic = has_dynamic l laws numbers laid d; tables = has_tables l d.room laws numbers laid slots needs }

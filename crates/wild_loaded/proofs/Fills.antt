@@ -1,9 +1,10 @@
 -- What the entries of slots make a loader do in a legal world.
-use Rattle.std.proofs.Common.{◌≡◌, ℕ, ◌+◌, ◌%◌, ◌^◌, ◌<◌, ◌⊎◌, inl, inr, refl, sym, ap, ◌∙◌, arith, subst}
-use Rattle.std.specs.Prelude.{Some, Ok, Contains, slice_get}
+use Rattle.std.proofs.Common.{◌≡◌, ℕ, ◌+◌, ◌%◌, ◌^◌, ◌<◌, inl, inr, refl, sym, arith, subst}
+use Rattle.std.specs.Prelude.{Some, Contains, slice_get}
 use Rattle.std.specs.Int.{w64}
 use Rattle.std.proofs.lemmas.Int.{of_z-to_z}
 use Rattle.std.proofs.lemmas.List.Elements.{All-contains}
+use Rattle.wild_reloc.specs.Dynamic.{x86_64_type}
 use Rattle.wild_reloc.specs.declared.dynamic.DynamicRelocationKind.{DynamicRelocationKind}
 use Rattle.wild_reloc.specs.declared.dynamic.DynamicRelocationKind.TheVariants.{Absolute, Copy, GotEntry, JumpSlot, Relative, DtpMod, DtpOff, TpOff, TlsDesc, Irelative}
 use Rattle.wild_plan.specs.declared.symbol.Symbol.{Symbol}
@@ -14,10 +15,11 @@ use Rattle.wild_plan.specs.ResolvedFlags.{HasItsFlags}
 use Rattle.wild_plan.specs.SlotShares.{slots_of, storage_words}
 use Rattle.wild_layout.specs.Numbers.{NumbersFit, SymbolNumbers}
 use Rattle.wild_layout.specs.Geometry.{IsLaidOut}
+use Rattle.wild_geometry.specs.Loaded.{entry_with}
 use Rattle.wild_loader.specs.declared.world.World.{World}
 use Rattle.wild_loader.specs.declared.change.Change.TheVariants as changes
 use Rattle.wild_loader.specs.declared.kind.DynamicKind.TheVariants as kinds
-use Rattle.wild_loader.specs.Changes.{kind_of, change_of, plus, answer_at}
+use Rattle.wild_loader.specs.Changes.{kind_of, change_of, plus}
 use Rattle.wild_meaning.specs.World.{IsLegal, HasResolver, IsAnsweredOnce}
 use Rattle.wild_slots.specs.Entries.{NamesSymbols, NamesModules, NamesItself, NamesResolver, IsKnownEntry, entry_in, EntriesAreKnown}
 use Rattle.wild_loaded.specs.WholeSlots.{HasWholeSlots}
@@ -52,7 +54,7 @@ fills_offset : (w : World) (symbol addend : ℕ) → symbol < 2 ^ 32 → IsGiven
 unfolding kind_of change_of
 fills_offset w symbol addend small g = record {
   index = small;
-  change = changes.Word _;
+  change = changes.Word (plus g.answer.offset (entry_with (x86_64_type DtpOff) symbol addend));
   makes = record { kind = kinds.ModuleOffset; known = refl; makes = rw g.listed refl };
   fills = (refl, omega arith);
 }
@@ -72,7 +74,7 @@ fills_thread : (w : World) (symbol addend : ℕ) → symbol < 2 ^ 32 → IsKnown
 unfolding kind_of change_of
 fills_thread w symbol addend small p = record {
   index = small;
-  change = changes.Word _;
+  change = changes.Word (plus ((p.distance + p.pair.1) % 2 ^ 64) (entry_with (x86_64_type TpOff) symbol addend));
   makes = record { kind = kinds.ThreadOffset; known = refl; makes = rw (p.given, p.known) refl };
   fills = (refl, omega arith);
 }
@@ -81,7 +83,7 @@ fills_descriptor : (w : World) (symbol addend : ℕ) → symbol < 2 ^ 32 → IsK
 unfolding kind_of change_of
 fills_descriptor w symbol addend small p = record {
   index = small;
-  change = changes.Descriptor _;
+  change = changes.Descriptor (plus ((p.distance + p.pair.1) % 2 ^ 64) (entry_with (x86_64_type TlsDesc) symbol addend));
   makes = record { kind = kinds.Descriptor; known = refl; makes = rw (p.given, p.known) refl };
   fills = refl;
 }

@@ -1,5 +1,5 @@
 -- What the entries of fields make a loader do in a legal world, and what these fields are in the file.
-use Rattle.std.proofs.Common.{◌≡◌, ℕ, ◌+◌, ◌%◌, ◌^◌, ◌<◌, ◌⊎◌, inl, inr, Bool, true, false, List, [], ◌∷◌, length, replicate, refl, sym, ap, ◌∙◌, arith, subst}
+use Rattle.std.proofs.Common.{◌≡◌, ℕ, ◌+◌, ◌%◌, ◌^◌, ◌<◌, ◌⊎◌, inl, inr, Bool, true, false, List, replicate, refl, sym, ap, arith, subst}
 use Rattle.std.specs.Prelude.{⊤, Option, Some, None, Result, Ok, Err, option_map, option_and_then, ◌==◌, ◌&&◌, ◌||◌, if◌then◌else◌, slice_get}
 use Rattle.std.specs.List.{list_all}
 use Rattle.std.specs.Int.{w64}
@@ -27,7 +27,7 @@ use Rattle.wild_plan.specs.Kinds.{is_position_independent, is_shared_object}
 use Rattle.wild_plan.specs.Lookups.{writable, allocated, canonical}
 use Rattle.wild_plan.specs.Rows.{row_of}
 use Rattle.wild_plan.specs.SlotParts.{type_of}
-use Rattle.wild_plan.specs.Treatment.{flags_at, is_left, is_barred, is_narrow, is_chosen, is_sized, moves, moved_treatment, chosen_treatment, address_treatment, distance_treatment, pointer_treatment, size_treatment, named, kind_treatment, row_treatment, treatment}
+use Rattle.wild_plan.specs.Treatment.{flags_at, is_left, is_barred, is_narrow, is_chosen, is_sized, moves, address_treatment, distance_treatment, pointer_treatment, size_treatment, named, kind_treatment, row_treatment, treatment}
 use Rattle.wild_reloc.specs.Field.{size_width, field_width, size_written}
 use Rattle.wild_reloc.specs.TableX86_64.{x86_64_rows, x86_64_row}
 use Rattle.wild_reloc.proofs.TableLemmas.{entry_passes}
@@ -44,11 +44,12 @@ use Rattle.wild_layout.specs.Decide.{added, left_to, chosen_to, decide_by, decid
 use Rattle.wild_layout.specs.Values.{address_or, index_of, decided_address}
 use Rattle.wild_layout.specs.Numbers.{NumbersFit, SymbolNumbers}
 use Rattle.wild_layout.specs.Geometry.{IsLaidOut}
-use Rattle.wild_layout.proofs.DecideLemmas.{IsLeft, decided_left}
+use Rattle.wild_layout.proofs.DecideLemmas.{decided_left}
+use Rattle.wild_geometry.specs.Loaded.{entry_with}
 use Rattle.wild_loader.specs.declared.world.World.{World}
 use Rattle.wild_loader.specs.declared.change.Change.TheVariants as changes
 use Rattle.wild_loader.specs.declared.kind.DynamicKind.TheVariants as kinds
-use Rattle.wild_loader.specs.Changes.{kind_of, change_of}
+use Rattle.wild_loader.specs.Changes.{kind_of, change_of, plus}
 use Rattle.wild_meaning.specs.World.{IsLegal, HasResolver, IsAnsweredOnce}
 use Rattle.wild_loaded.specs.Stored.{FillsField}
 use Rattle.wild_loaded.proofs.SlotsHeld.{listed_at}
@@ -212,31 +213,31 @@ named_by l w i index legal laid h =
 stores_address : (w : World) (symbol addend : ℕ) → IsNamed w symbol → FillsField w (ByteSize Eight) (type_of machine.X86_64 Absolute) symbol addend
 unfolding kind_of change_of
 stores_address w symbol addend n = record {
-  number = omega arith;
-  index = n.small;
-  change = changes.Word _;
+  type_fits = omega arith;
+  index_fits = n.small;
+  change = changes.Word (plus n.given.answer.address (entry_with (type_of machine.X86_64 Absolute) symbol addend));
   makes = record { kind = kinds.SymbolPlus; known = refl; makes = rw n.given.listed refl };
-  width = length-word 8 _;
+  width = length-word 8 (plus n.given.answer.address (entry_with (type_of machine.X86_64 Absolute) symbol addend));
 }
 
 stores_half : (w : World) (symbol addend : ℕ) → IsNamed w symbol → FillsField w (ByteSize Four) r_x86_64_size32 symbol addend
 unfolding kind_of change_of
 stores_half w symbol addend n = record {
-  number = omega arith;
-  index = n.small;
-  change = changes.Half _;
+  type_fits = omega arith;
+  index_fits = n.small;
+  change = changes.Half (plus n.given.answer.size (entry_with r_x86_64_size32 symbol addend) % 2 ^ 32);
   makes = record { kind = kinds.Size32; known = refl; makes = rw n.given.listed refl };
-  width = length-word 4 _;
+  width = length-word 4 (plus n.given.answer.size (entry_with r_x86_64_size32 symbol addend) % 2 ^ 32);
 }
 
 stores_size : (w : World) (symbol addend : ℕ) → IsNamed w symbol → FillsField w (ByteSize Eight) r_x86_64_size64 symbol addend
 unfolding kind_of change_of
 stores_size w symbol addend n = record {
-  number = omega arith;
-  index = n.small;
-  change = changes.Word _;
+  type_fits = omega arith;
+  index_fits = n.small;
+  change = changes.Word (plus n.given.answer.size (entry_with r_x86_64_size64 symbol addend));
   makes = record { kind = kinds.Size64; known = refl; makes = rw n.given.listed refl };
-  width = length-word 8 _;
+  width = length-word 8 (plus n.given.answer.size (entry_with r_x86_64_size64 symbol addend));
 }
 
 stores_chosen : (w : World) (value : ℕ) → value < 2 ^ 64 → IsAnsweredOnce w ((w.base + value) % 2 ^ 64) → FillsField w (ByteSize Eight) (type_of machine.X86_64 Irelative) 0 value
@@ -244,8 +245,8 @@ unfolding kind_of change_of
 stores_chosen w value small a =
     let back = of_z-to_z w64 value small in
     record {
-      number = omega arith;
-      index = omega arith;
+      type_fits = omega arith;
+      index_fits = omega arith;
       change = changes.Word a.answer;
       makes = record { kind = kinds.Resolved; known = refl; makes = rw (back, answered w ((w.base + value) % 2 ^ 64) a) refl };
       width = length-word 8 a.answer;
@@ -310,19 +311,17 @@ chosen_parts P l x n symbol addend r (Err f) h k = cc
 chosen_parts P l x n symbol addend r (Ok value) h k =
     elim (cases_Bool (added r == 0)) [
       | inr f ↦ cc (rw f at h)
-      | inl t ↦ parts (rw t at h)
+      | inl t ↦
+          (let e : Ok (Left (ByteSize Eight) (type_of l.machine Irelative) 0 value) ≡ Ok (Left x n symbol addend) = rw t at h in
+          let size : ByteSize Eight ≡ x = cc in
+          let same : type_of l.machine Irelative ≡ n = cc in
+          let none : 0 ≡ symbol = cc in
+          let is : value ≡ addend = cc in
+          subst (λ (y : RelocationSize). P y n symbol addend) size
+          (subst (λ (m : ℕ). P (ByteSize Eight) m symbol addend) same
+          (subst (λ (m : ℕ). P (ByteSize Eight) (type_of l.machine Irelative) m addend) none
+          (subst (λ (m : ℕ). P (ByteSize Eight) (type_of l.machine Irelative) 0 m) is (k value refl)))))
     ]
-  where
-    parts : Ok (Left (ByteSize Eight) (type_of l.machine Irelative) 0 value) ≡ Ok (Left x n symbol addend) → P x n symbol addend
-    parts e =
-        let size : ByteSize Eight ≡ x = cc in
-        let same : type_of l.machine Irelative ≡ n = cc in
-        let none : 0 ≡ symbol = cc in
-        let is : value ≡ addend = cc in
-        subst (λ (y : RelocationSize). P y n symbol addend) size
-        (subst (λ (m : ℕ). P (ByteSize Eight) m symbol addend) same
-        (subst (λ (m : ℕ). P (ByteSize Eight) (type_of l.machine Irelative) m addend) none
-        (subst (λ (m : ℕ). P (ByteSize Eight) (type_of l.machine Irelative) 0 m) is (k value refl))))
 
 -- the cases of a field that is left to an entry: of an address, of a size, of what a resolver answers
 record IsLeftCase (l : Layout) (s : InputSection) (r : InputRelocation) (P : RelocationSize → ℕ → ℕ → ℕ → Type 0) : Type 0 where

@@ -1,12 +1,12 @@
 -- Where the pair of the output's own thread-local data stands.
-use Rattle.std.proofs.Common.{◌≡◌, ℕ, ◌+◌, ◌^◌, ◌<◌, ◌≤◌, List, length, sym, ap, ◌∙◌, arith, subst}
-use Rattle.std.specs.Prelude.{Option, Some, None, option_map, unwrap_or}
+use Rattle.std.proofs.Common.{◌≡◌, ℕ, ◌+◌, ◌^◌, ◌<◌, ◌≤◌, List, length, refl, ap, arith, subst}
+use Rattle.std.specs.Prelude.{Option, Some, None}
 use Rattle.wild_plan.specs.declared.part.Part.{Part}
 use Rattle.wild_plan.specs.declared.part.Role.TheVariants as role
 use Rattle.wild_plan.specs.declared.layout.Layout.{Layout}
 use Rattle.wild_plan.specs.Segments.{part_with}
-use Rattle.wild_plan.specs.SlotPlaces.{start_of}
-use Rattle.wild_layout.specs.Geometry.{IsLaidOut, table_bytes}
+use Rattle.wild_plan.specs.SlotPlaces.{address_of_part, start_of}
+use Rattle.wild_layout.specs.Geometry.{IsLaidOut}
 use Rattle.wild_slots.specs.Order.{end_of}
 use Rattle.wild_slots.specs.Stand.{PairStands}
 use Rattle.wild_loaded.specs.WholeSlots.{HasWholeSlots}
@@ -23,7 +23,7 @@ got_ends l laid = by_part (part_with role.Got l.parts) refl
         omega (arith, none, start)
       where
         begins : part_with role.Got l.parts ≡ None → start_of l role.Got ≡ 0
-        begins q = rw q refl
+        begins q = ap address_of_part q
     by_part (Some p) e =
         let t = (laid.roles role.Got (λ z. cc)).there p e in
         let size = t.size in
@@ -32,7 +32,7 @@ got_ends l laid = by_part (part_with role.Got l.parts) refl
         omega (arith, size, low, start)
       where
         begins : part_with role.Got l.parts ≡ Some p → start_of l role.Got ≡ p.address
-        begins q = rw q refl
+        begins q = ap address_of_part q
 
 -- and the pair stands in it
 pub pair_low : (l : Layout) → PairStands → IsLaidOut l → HasWholeSlots l → PairIsLow l

@@ -2,7 +2,7 @@
 use Rattle.std.proofs.Common.{◌≡◌, ℕ, zero, suc, ◌+◌, ◌*◌, ◌/◌, ◌%◌, ◌<◌, ◌≤◌, ◌⊎◌, inl, inr, Bool, true, false, not, List, [], ◌∷◌, ◌++◌, length, get_or, All, refl, sym, ap, ◌∙◌, arith, subst}
 use Rattle.std.specs.Prelude.{Option, Some, None, Contains, IsPermutation, ◌&&◌, ◌==◌, if◌then◌else◌, slice_get}
 use Rattle.std.specs.List.{flat_map, filter}
-use Rattle.std.proofs.lemmas.Bool.{cases_Bool, cases_lt, eqb-true}
+use Rattle.std.proofs.lemmas.Bool.{cases_Bool, cases_lt, eqb-true, eqb-false}
 use Rattle.std.proofs.lemmas.List.{append-nil, append_assoc, length-append}
 use Rattle.std.proofs.lemmas.List.Elements.{All-nil, All-append, All-contains}
 use Rattle.std.proofs.lemmas.List.Sorted.{IsPermutation-refl, IsPermutation-trans, IsPermutation-append, IsPermutation-append_left, IsPermutation-append_right, IsPermutation-append_comm}
@@ -18,13 +18,12 @@ use Rattle.wild_plan.specs.declared.part.Role.{Role}
 use Rattle.wild_plan.specs.declared.part.Role.TheVariants as role
 use Rattle.wild_plan.specs.declared.section.Section.{Section}
 use Rattle.wild_plan.specs.declared.layout.Layout.{Layout}
-use Rattle.wild_plan.specs.Lists.{total}
 use Rattle.wild_plan.specs.Lookups.{allocated, takes_file_bytes}
 use Rattle.wild_plan.specs.Places.{role_place, has_role, is_fixed_static}
-use Rattle.wild_plan.specs.Segments.{part_with, is_entry_role, entry_parts, bytes_in}
+use Rattle.wild_plan.specs.Segments.{part_with, is_entry_role, bytes_in}
 use Rattle.wild_headers.specs.Headers.{null_header, info_at, section_header, headers_from, section_headers_of, spoken_of}
 use Rattle.wild_layout.specs.Image.{bytes}
-use Rattle.wild_layout.specs.Geometry.{IsLaidOut, EntriesLie, HasEntriesAlone, RangesApart, table_bytes, TablesStand}
+use Rattle.wild_layout.specs.Geometry.{IsLaidOut, RangesApart, table_bytes, TablesStand}
 use Rattle.wild_tables.specs.Laws.{EntriesAreRead, LengthsOfEntries}
 use Rattle.wild_loader.specs.Tables.{has_entries, relas_at}
 use Rattle.wild_loader.specs.Laws.{HoldsEntries, HasSectionTables, section_relas, rela_bytes}
@@ -249,11 +248,11 @@ lies_in l r es js gs k s x t some there = by_part (part_with r l.parts) refl
 -- ---- parts that lie apart
 
 raw_not : (r : Role) (p : Part) → p.role ≡ r → (role_place r ≡ 0 → ⊥) → has_role role.Raw p ≡ false
-raw_not r p e place = rw e (by_number (role_place r) place)
-  where
-    by_number : (n : ℕ) → (n ≡ 0 → ⊥) → (n == 0) ≡ false
-    by_number zero h = absurd (h refl)
-    by_number (suc n) h = refl
+raw_not r p e place =
+    elim (cases_Bool (role_place r == 0)) [
+      | inl t ↦ absurd (place (eqb-true (role_place r) 0 t))
+      | inr f ↦ ap (λ (x : Role). role_place x == 0) e ∙ f
+    ]
 
 listed_index : (ps : List Part) (p : Part) → (c : Contains ps p) → slice_get ps c.0 ≡ Some p
 listed_index ps p c = slice_get-get_or ps c.0 p c.1 ∙ ap (λ (q : Part). Some q) c.2
@@ -307,7 +306,7 @@ section_parts l k js gs = in_section k (part_with role.RelaPlt l.parts) js ++ in
 filled : (l : Layout) (js gs : List Rela) (k : ℕ) (s : Section) → IsFixedTable l js gs → 1 ≤ k → slice_get l.sections k ≡ Some s → s.kind ≡ sht_rela → allocated s.flags ≡ true → 1 ≤ s.size → Fill (bytes l) s.offset s.size (section_parts l k js gs)
 filled l js gs k s x some there kind flag size =
     let alone = x.laid.loadable.entries x.fixed k s some there in
-    let full = alone.full flag kind in
+    let full : bytes_in k (part_with role.RelaPlt l.parts) + (bytes_in k (part_with role.RelaDynRelative l.parts) + (bytes_in k (part_with role.RelaDynGeneral l.parts) + 0)) ≡ s.size = alone.full flag kind in
     let still = still_empty l k (part_with role.RelaDynRelative l.parts) x.laid x.still refl in
     fill_both (bytes l) s.offset s.size (bytes_in k (part_with role.RelaPlt l.parts)) (bytes_in k (part_with role.RelaDynGeneral l.parts)) (begins_at (part_with role.RelaPlt l.parts)) (begins_at (part_with role.RelaDynGeneral l.parts))
     (in_section k (part_with role.RelaPlt l.parts) js) (in_section k (part_with role.RelaDynGeneral l.parts) gs) x.lengths
@@ -393,63 +392,69 @@ crossed {X} a b c d =
     let right : (a ++ c) ++ (b ++ d) ≡ a ++ ((c ++ b) ++ d) = append_assoc a c (b ++ d) ∙ ap (λ (xs : List X). a ++ xs) (sym (append_assoc c b d)) in
     subst (λ (xs : List X). IsPermutation xs ((a ++ c) ++ (b ++ d))) (sym left) (subst (λ (xs : List X). IsPermutation (a ++ ((b ++ c) ++ d)) xs) (sym right) inner)
 
+behind_first_two : {X : Type 0} (xs rest a b c d : List X) → IsPermutation xs (a ++ b) → IsPermutation rest (c ++ d) → IsPermutation (xs ++ rest) ((a ++ c) ++ (b ++ d))
+behind_first_two xs rest a b c d first second =
+    IsPermutation-trans (xs ++ rest) ((a ++ b) ++ (c ++ d)) ((a ++ c) ++ (b ++ d)) (IsPermutation-append xs (a ++ b) rest (c ++ d) first second) (crossed a b c d)
+
+filter-yes : {X : Type 0} (p : X → Bool) (x : X) (xs : List X) → p x ≡ true → filter p (x ∷ xs) ≡ x ∷ filter p xs
+filter-yes p x xs e = rw e refl
+
+filter-no : {X : Type 0} (p : X → Bool) (x : X) (xs : List X) → p x ≡ false → filter p (x ∷ xs) ≡ filter p xs
+filter-no p x xs e = rw e refl
+
+-- what sections from number k on have of both parts
+abbrev both_joined : Layout → List Rela → List Rela → ℕ → ℕ → List Rela
+both_joined l js gs n k = joined n k (part_with role.RelaPlt l.parts) js ++ joined n k (part_with role.RelaDynGeneral l.parts) gs
+
+one_more : (l : Layout) (js gs : List Rela) (k : ℕ) (h : SectionHeader) (hs : List SectionHeader) → IsFixedTable l js gs → slice_get (section_headers_of l l.sections) k ≡ Some h
+    → IsPermutation (flat_map (relas_of l) (filter has_entries hs)) (both_joined l js gs (length hs) (k + 1)) → IsPermutation (flat_map (relas_of l) (filter has_entries (h ∷ hs))) (both_joined l js gs (suc (length hs)) k)
+one_more l js gs k h hs x here rest =
+    let a : List Rela = in_section k (part_with role.RelaPlt l.parts) js in
+    let b : List Rela = in_section k (part_with role.RelaDynGeneral l.parts) gs in
+    let c : List Rela = joined (length hs) (k + 1) (part_with role.RelaPlt l.parts) js in
+    let d : List Rela = joined (length hs) (k + 1) (part_with role.RelaDynGeneral l.parts) gs in
+    let P : List SectionHeader → Type 0 = λ ys. IsPermutation (flat_map (relas_of l) ys) ((a ++ c) ++ (b ++ d)) in
+    elim (cases_Bool (has_entries h)) [
+      | inl t ↦
+          (let r = section_read l js gs k h x here t in
+          subst P (sym (filter-yes has_entries h hs t)) (behind_first_two (relas_of l h) (flat_map (relas_of l) (filter has_entries hs)) a b c d r.same rest))
+      | inr f ↦
+          (let no_jumps : a ≡ [] = empty_section l role.RelaPlt js js gs k h x x.jumps here f in
+          let no_generals : b ≡ [] = empty_section l role.RelaDynGeneral gs js gs k h x x.generals here f in
+          let Q : List Rela → List Rela → Type 0 = λ xs ys. IsPermutation (flat_map (relas_of l) (filter has_entries hs)) ((xs ++ c) ++ (ys ++ d)) in
+          subst P (sym (filter-no has_entries h hs f)) (subst (λ (xs : List Rela). Q xs b) (sym no_jumps) (subst (λ (ys : List Rela). Q [] ys) (sym no_generals) rest)))
+    ]
+
 -- what a reader finds in all sections is what they have of the two parts
 sections_joined : (l : Layout) (js gs : List Rela) (k : ℕ) (hs : List SectionHeader) → IsFixedTable l js gs → ((i : ℕ) (h : SectionHeader) → slice_get hs i ≡ Some h → slice_get (section_headers_of l l.sections) (k + i) ≡ Some h)
-    → IsPermutation (flat_map (relas_of l) (filter has_entries hs)) (joined (length hs) k (part_with role.RelaPlt l.parts) js ++ joined (length hs) k (part_with role.RelaDynGeneral l.parts) gs)
+    → IsPermutation (flat_map (relas_of l) (filter has_entries hs)) (both_joined l js gs (length hs) k)
 sections_joined l js gs k [] x at = IsPermutation-refl []
 sections_joined l js gs k (h ∷ hs) x at =
     let z : k + 0 ≡ k = omega arith in
     let here = subst (λ (n : ℕ). slice_get (section_headers_of l l.sections) n ≡ Some h) z (at 0 h refl) in
-    let rest = sections_joined l js gs (k + 1) hs x (λ i g e. (let n : k + 1 + i ≡ k + suc i = omega arith in subst (λ (m : ℕ). slice_get (section_headers_of l l.sections) m ≡ Some g) (sym n) (at (suc i) g e))) in
-    elim (cases_Bool (has_entries h)) [
-      | inl t ↦
-          (let r = section_read l js gs k h x here t in
-          let both = IsPermutation-append (relas_of l h) (a ++ b) (flat_map (relas_of l) (filter has_entries hs)) (c ++ d) r.same rest in
-          let all = IsPermutation-trans (relas_of l h ++ flat_map (relas_of l) (filter has_entries hs)) ((a ++ b) ++ (c ++ d)) ((a ++ c) ++ (b ++ d)) both (crossed a b c d) in
-          rw t all)
-      | inr f ↦
-          (let no_jumps = empty_section l role.RelaPlt js js gs k h x x.jumps here f in
-          let no_generals = empty_section l role.RelaDynGeneral gs js gs k h x x.generals here f in
-          rw (f, no_jumps, no_generals) rest)
-    ]
-  where
-    abbrev a : List Rela
-    a = in_section k (part_with role.RelaPlt l.parts) js
-
-    abbrev b : List Rela
-    b = in_section k (part_with role.RelaDynGeneral l.parts) gs
-
-    abbrev c : List Rela
-    c = joined (length hs) (k + 1) (part_with role.RelaPlt l.parts) js
-
-    abbrev d : List Rela
-    d = joined (length hs) (k + 1) (part_with role.RelaDynGeneral l.parts) gs
+    one_more l js gs k h hs x here
+    (sections_joined l js gs (k + 1) hs x (λ i g e. (let n : k + 1 + i ≡ k + suc i = omega arith in subst (λ (m : ℕ). slice_get (section_headers_of l l.sections) m ≡ Some g) (sym n) (at (suc i) g e))))
 
 -- a part stands in one section
+elsewhere : (b : Bool) (p : Part) (k : ℕ) (es rest : List Rela) → (p.section == k) ≡ b → (p.section ≡ k → ⊥) → (if b then es else []) ++ rest ≡ rest
+elsewhere true p k es rest e h = absurd (h (eqb-true p.section k e))
+elsewhere false p k es rest e h = refl
+
+here_alone : (b : Bool) (p : Part) (k : ℕ) (es rest : List Rela) → (p.section == k) ≡ b → p.section ≡ k → rest ≡ [] → (if b then es else []) ++ rest ≡ es
+here_alone true p k es rest e h none = ap (λ (xs : List Rela). es ++ xs) none ∙ append-nil es
+here_alone false p k es rest e h none = absurd (eqb-false p.section k e h)
+
 joined_none : (n k : ℕ) (p : Part) (es : List Rela) → p.section < k → joined n k (Some p) es ≡ []
 joined_none zero k p es h = refl
-joined_none (suc n) k p es h = by_test (p.section == k) refl
-  where
-    rest : joined n (k + 1) (Some p) es ≡ []
-    rest = joined_none n (k + 1) p es (omega (arith, h))
-
-    by_test : (b : Bool) → (p.section == k) ≡ b → (if b then es else []) ++ joined n (k + 1) (Some p) es ≡ []
-    by_test true e = (let same = eqb-true p.section k e in absurd (omega (arith, h, same)))
-    by_test false e = rest
+joined_none (suc n) k p es h = elsewhere (p.section == k) p k es (joined n (k + 1) (Some p) es) refl (λ e. omega (arith, e, h)) ∙ joined_none n (k + 1) p es (omega (arith, h))
 
 joined_one : (n k : ℕ) (p : Part) (es : List Rela) → k ≤ p.section → p.section < k + n → joined n k (Some p) es ≡ es
 joined_one zero k p es low high = absurd (omega (arith, low, high))
-joined_one (suc n) k p es low high = by_test (p.section == k) refl
-  where
-    other : (p.section == k) ≡ false → (p.section ≡ k → ⊥)
-    other e q = (let t : (p.section == k) ≡ true = rw q refl in let both : true ≡ false = sym t ∙ e in cc)
-
-    by_test : (b : Bool) → (p.section == k) ≡ b → (if b then es else []) ++ joined n (k + 1) (Some p) es ≡ es
-    by_test true e = (let same = eqb-true p.section k e in ap (λ (xs : List Rela). es ++ xs) (joined_none n (k + 1) p es (omega (arith, same))) ∙ append-nil es)
-    by_test false e = joined_one n (k + 1) p es (above (other e)) (omega (arith, high))
-      where
-        above : (p.section ≡ k → ⊥) → k + 1 ≤ p.section
-        above h = elim (cases_lt k p.section) [ inl lt ↦ omega (arith, lt) | inr le ↦ absurd (h (omega (arith, le, low))) ]
+joined_one (suc n) k p es low high =
+    elim (cases_lt k p.section) [
+      | inl lt ↦ elsewhere (p.section == k) p k es (joined n (k + 1) (Some p) es) refl (λ e. omega (arith, e, lt)) ∙ joined_one n (k + 1) p es (omega (arith, lt)) (omega (arith, high))
+      | inr le ↦ here_alone (p.section == k) p k es (joined n (k + 1) (Some p) es) refl (omega (arith, le, low)) (joined_none n (k + 1) p es (omega (arith, le)))
+    ]
 
 joined_missing : (n k : ℕ) (es : List Rela) → joined n k None es ≡ []
 joined_missing zero k es = refl
@@ -464,7 +469,9 @@ joined_all l r es js gs x t = by_part (part_with r l.parts) refl
         let none = ap (λ (bs : List ℕ). length bs) (sym t.are ∙ (x.laid.roles r t.place).missing e) in
         let count = x.lengths es in
         joined_missing (length l.sections) 0 es ∙ sym (no_entries es (rela_size * length es) refl (omega (arith, none, count)))
-    by_part (Some p) e = joined_one (length l.sections) 0 p es (omega arith) (All-contains (λ (q : Part). q.section < length l.sections) l.parts p x.laid.named ((x.laid.roles r t.place).there p e).listed)
+    by_part (Some p) e =
+        let few = All-contains (λ (q : Part). q.section < length l.sections) l.parts p x.laid.named ((x.laid.roles r t.place).there p e).listed in
+        joined_one (length l.sections) 0 p es (omega arith) (omega (arith, few))
 
 -- ---- the tables of sections
 
@@ -475,7 +482,7 @@ pub all_sections : (l : Layout) (js gs : List Rela) → IsFixedTable l js gs →
 all_sections l js gs x =
     let hs = section_headers_of l l.sections in
     let n = length-section_headers l l.sections in
-    let read = sections_joined l js gs 0 hs x (λ i h e. e) in
+    let read = sections_joined l js gs 0 hs x (λ i h e. (let z : i ≡ 0 + i = omega arith in subst (λ (k : ℕ). slice_get hs k ≡ Some h) z e)) in
     let first = ap (λ (m : ℕ). joined m 0 (part_with role.RelaPlt l.parts) js) n ∙ joined_all l role.RelaPlt js js gs x x.jumps in
     let second = ap (λ (m : ℕ). joined m 0 (part_with role.RelaDynGeneral l.parts) gs) n ∙ joined_all l role.RelaDynGeneral gs js gs x x.generals in
     let both = subst (λ (es : List Rela). IsPermutation (section_relas hs (relas_of l)) (es ++ joined (length hs) 0 (part_with role.RelaDynGeneral l.parts) gs)) first read in

@@ -133,15 +133,15 @@ record IsPair (l : Layout) (at : ℕ) (ws : List SlotWord) : Type 0 where
   first : SlotWord
   value : ℕ
   second : ℕ
-  words : ws ≡ first ∷ Number second ∷ []
+  are : ws ≡ first ∷ Number second ∷ []
   front : IsFront l first value
   file : slot_words words.Got l.options.relr at ws ≡ value ∷ second ∷ []
 
 pair_of : (l : Layout) (at : ℕ) (s : Setting) → IsPair l at (storage_pair s)
 pair_of l at s =
     of_if (IsPair l at) (is_executable s.kind) _ _
-    (λ t. record { first = Number 1; value = 1; second = less s.thread_pointer s.tls.start; words = refl; front = λ p h. record { value = 1; is = refl; stands = h }; file = refl })
-    (λ f. record { first = own_module; value = 0; second = 0; words = refl; front = λ p h. record { value = 0; is = refl; stands = h }; file = refl })
+    (λ t. record { first = Number 1; value = 1; second = less s.thread_pointer s.tls.start; are = refl; front = λ p h. record { value = 1; is = refl; stands = h }; file = refl })
+    (λ f. record { first = own_module; value = 0; second = 0; are = refl; front = λ p h. record { value = 0; is = refl; stands = h }; file = refl })
 
 storage_pair_of : (l : Layout) (at : ℕ) → l.tlsld ≡ Some at → IsPair l at (storage_words l)
 storage_pair_of l at e =
@@ -153,7 +153,7 @@ pair_held l w at k d laws law kind legal laid slots e here =
     let fits = All-contains WordFits (storage_words l) d (storage_fits l) (listed_at (storage_words l) k d here) in
     let pair = storage_pair_of l at e in
     let stands = subst (λ (xs : List ℕ). StandsAt l role.Got at (word_bytes xs)) pair.file (laws.pair l slots.order laid.some_group at e) in
-    let there = subst (λ (ws : List SlotWord). slice_get ws k ≡ Some d) pair.words here in
+    let there = subst (λ (ws : List SlotWord). slice_get ws k ≡ Some d) pair.are here in
     word_held l w (at + word_size * k) d law kind legal laid fits (pair_stands l pair.first at pair.value pair.second k d pair.front stands there)
 
 pub slots_held : SlotLaws → PartsAreStored → SlotsAreStored

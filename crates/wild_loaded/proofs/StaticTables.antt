@@ -1,5 +1,5 @@
 -- The tables of an output at its own addresses: nothing moves, and its sections have all entries.
-use Rattle.std.proofs.Common.{◌≡◌, ℕ, zero, suc, ◌<◌, ◌≤◌, inl, inr, false, List, [], ◌∷◌, ◌++◌, length, get_or, refl, sym, ap, ◌∙◌, arith, subst}
+use Rattle.std.proofs.Common.{◌≡◌, ℕ, zero, suc, ◌+◌, ◌<◌, ◌≤◌, inl, inr, false, List, [], ◌∷◌, ◌++◌, length, get_or, refl, sym, ap, ◌∙◌, arith, subst}
 use Rattle.std.specs.Prelude.{Option, AllPairs, IsPermutation, slice_index}
 use Rattle.std.specs.List.{flat_map}
 use Rattle.std.proofs.lemmas.Bool.{cases_lt}
@@ -9,6 +9,8 @@ use Rattle.wild_words.specs.Words.{word}
 use Rattle.wild_words.specs.Record.{spell}
 use Rattle.wild_words.specs.Overlay.{Piece, Apart}
 use Rattle.wild_words.proofs.RecordLemmas.{Stands-field}
+use Rattle.wild_words.proofs.WordLemmas.{length-word}
+use Rattle.wild_records.specs.Abi.Header.{elfmag}
 use Rattle.wild_records.specs.FileHeader.{file_header_fields}
 use Rattle.wild_records.specs.SectionHeader.{section_header_fields}
 use Rattle.wild_records.specs.declared.relocations.Rela.{Rela}
@@ -80,14 +82,14 @@ relatives_none l h still =
 -- the first byte of the file header, and that of the headers of sections
 front_byte : (l : Layout) → slice_index (file_header_bytes l) 0 ≡ 0x7f
 unfolding file_header_fields file_header word
-front_byte l = (Stands-field (file_header_fields (file_header l)) 0 (0, 0) (omega arith)).same 0 (omega arith)
+front_byte l = (let n = length-word 4 elfmag in (Stands-field (file_header_fields (file_header l)) 0 (0, 0) (omega arith)).same 0 (omega (arith, n)))
 
 null_byte : (l : Layout) (rest : List ℕ) → slice_index (spell (section_header_fields (null_header l)) ++ rest) 0 ≡ 0
 unfolding section_header_fields null_header word
 null_byte l rest =
     let n = length-section_header (null_header l) in
     get_or_append_left (spell (section_header_fields (null_header l))) rest 0 0 (omega (arith, n))
-    ∙ (Stands-field (section_header_fields (null_header l)) 0 (0, 0) (omega arith)).same 0 (omega arith)
+    ∙ (let m = length-word 4 0 in (Stands-field (section_header_fields (null_header l)) 0 (0, 0) (omega arith)).same 0 (omega (arith, m)))
 
 -- of headers that are there
 record IsLong (l : Layout) (ss : List Section) : Type 0 where

@@ -32,7 +32,7 @@ use Rattle.wild_layout.specs.Geometry.{IsLaidOut, SegmentLoads, table_bytes, Tab
 use Rattle.wild_loader.specs.Laws.{StandsAt, IsTableOf, word_bytes, rela_bytes}
 use Rattle.wild_loader.specs.Tables.{offset_in}
 use Rattle.std.proofs.lemmas.List.Elements.{All-contains}
-use Rattle.std.proofs.lemmas.List.{append-nil, length-append, get_or_append_left, get_or-append_right}
+use Rattle.std.proofs.lemmas.List.{append-nil, append_assoc, length-append, get_or_append_left, get_or-append_right}
 use Rattle.std.proofs.lemmas.List.Concat.{flat_map-append}
 use Rattle.wild_loaded.specs.Tables.{file_packed, group_words, relatives, generals, tables_of}
 use Rattle.wild_loaded.proofs.SlotSites.{flat_map-flat_map, flat_map-same}
@@ -75,15 +75,16 @@ jumps_are l = by_group rela_bytes (λ (g : Group). flat_map (slot_entries_of ent
     ∙ by_files rela_bytes (slot_entries_of entries.Plt l) role.RelaPlt l g (λ f. ap (λ (bs : List ℕ). bs ++ flat_map rela_bytes (slot_entries_of entries.Plt l f)) (no_front (is_prelude f.role) [])))
 
 -- what stands once, what is the file's own, and what its slots have
-general_content : (b : Bool) (xs ys zs : List Rela) → (if b then flat_map rela_bytes xs else []) ++ (flat_map rela_bytes ys ++ flat_map rela_bytes zs) ≡ flat_map rela_bytes ((if b then xs else []) ++ (ys ++ zs))
-general_content b xs ys zs = by_test b ∙ sym (flat_map-append rela_bytes (if b then xs else []) (ys ++ zs))
+general_content : (b : Bool) (xs ys zs : List Rela) → ((if b then flat_map rela_bytes xs else []) ++ flat_map rela_bytes ys) ++ flat_map rela_bytes zs ≡ flat_map rela_bytes ((if b then xs else []) ++ (ys ++ zs))
+general_content b xs ys zs =
+    append_assoc (if b then flat_map rela_bytes xs else []) (flat_map rela_bytes ys) (flat_map rela_bytes zs)
+    ∙ ap (λ (bs : List ℕ). (if b then flat_map rela_bytes xs else []) ++ bs) (sym (flat_map-append rela_bytes ys zs))
+    ∙ ap (λ (bs : List ℕ). bs ++ flat_map rela_bytes (ys ++ zs)) (front b)
+    ∙ sym (flat_map-append rela_bytes (if b then xs else []) (ys ++ zs))
   where
-    rest : flat_map rela_bytes ys ++ flat_map rela_bytes zs ≡ flat_map rela_bytes (ys ++ zs)
-    rest = sym (flat_map-append rela_bytes ys zs)
-
-    by_test : (c : Bool) → (if c then flat_map rela_bytes xs else []) ++ (flat_map rela_bytes ys ++ flat_map rela_bytes zs) ≡ flat_map rela_bytes (if c then xs else []) ++ flat_map rela_bytes (ys ++ zs)
-    by_test true = ap (λ (bs : List ℕ). flat_map rela_bytes xs ++ bs) rest
-    by_test false = rest
+    front : (c : Bool) → (if c then flat_map rela_bytes xs else []) ≡ flat_map rela_bytes (if c then xs else [])
+    front true = refl
+    front false = refl
 
 pub generals_are : (l : Layout) → table_bytes l role.RelaDynGeneral ≡ flat_map rela_bytes (all_generals l)
 generals_are l = by_group rela_bytes (λ (g : Group). flat_map (generals l) g.files) role.RelaDynGeneral l (λ g.
@@ -91,7 +92,10 @@ generals_are l = by_group rela_bytes (λ (g : Group). flat_map (generals l) g.fi
     ∙ by_files rela_bytes (generals l) role.RelaDynGeneral l g (λ f. general_content (is_prelude f.role) (storage_entries l) (file_generals l f) (slot_entries_of entries.General l f)))
 
 pub entries_are : (l : Layout) → table_bytes l role.RelaDynRelative ++ table_bytes l role.RelaDynGeneral ≡ flat_map rela_bytes (tables_of l).entries
-entries_are l = rw (relatives_are l, generals_are l) (sym (flat_map-append rela_bytes (all_relatives l) (all_generals l)))
+entries_are l =
+    ap (λ (bs : List ℕ). bs ++ table_bytes l role.RelaDynGeneral) (relatives_are l)
+    ∙ ap (λ (bs : List ℕ). flat_map rela_bytes (all_relatives l) ++ bs) (generals_are l)
+    ∙ sym (flat_map-append rela_bytes (all_relatives l) (all_generals l))
 
 -- ---- where they stand
 
@@ -142,7 +146,7 @@ part_low : (l : Layout) (p : Part) → IsLaidOut l → Contains l.parts p → p.
 part_low l p laid c = subst (λ (q : Part). q.offset + q.size ≤ 2 ^ 62) c.2 (laid.parts c.0 p c.1).low
 
 -- bytes that stand behind others
-stands_joined : (whole xs ys : List ℕ) (a b : ℕ) → b ≡ a + length xs → Stands whole a xs → Stands whole b ys → Stands whole a (xs ++ ys)
+pub stands_joined : (whole xs ys : List ℕ) (a b : ℕ) → b ≡ a + length xs → Stands whole a xs → Stands whole b ys → Stands whole a (xs ++ ys)
 stands_joined whole xs ys a b e s t = record {
   fits = (let n = length-append xs ys in let f = t.fits in omega (arith, n, f, e));
   same = λ k lt. elim (cases_lt k (length xs)) [
@@ -218,7 +222,7 @@ full_part (Some x) p h = by_test (x.size == 0) refl h
 entries_by : (l : Layout) (o q x y : Option Part) → TablesStand → IsLaidOut l → needs_dynamic l.kind ≡ true → part_with role.RelaDynRelative l.parts ≡ o → part_with role.RelaDynGeneral l.parts ≡ q → dynamic.unless_empty o ≡ x → dynamic.unless_empty q ≡ y
     → IsTableOf (bytes l) (map (program_header l) l.segments) (dynamic.part_address (option_or x y)) (dynamic.beside (min (2 ^ 64 - 1) (dynamic.bytes_of o + dynamic.bytes_of q)) (option_or x y)) (table_bytes l role.RelaDynRelative ++ table_bytes l role.RelaDynGeneral)
 entries_by l o q None None stands laid needs e f g h =
-    rw (empty_table l role.RelaDynRelative o laid (λ z. cc) e g, empty_table l role.RelaDynGeneral q laid (λ z. cc) f h) refl
+    ap (λ (bs : List ℕ). bs ++ table_bytes l role.RelaDynGeneral) (empty_table l role.RelaDynRelative o laid (λ z. cc) e g) ∙ empty_table l role.RelaDynGeneral q laid (λ z. cc) f h
 entries_by l o q None (Some b) stands laid needs e f g h =
     let none = empty_table l role.RelaDynRelative o laid (λ z. cc) e g in
     let zero_size = empty_size o g in

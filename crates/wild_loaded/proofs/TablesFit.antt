@@ -39,11 +39,12 @@ use Rattle.wild_plan.specs.SlotParts.{next, is_packed, type_of, entry_at, entry_
 use Rattle.wild_plan.specs.SlotShares.{block_place, first_place, block_of, group_block, block_words, storage_words}
 use Rattle.wild_plan.specs.Treatment.{treatment}
 use Rattle.wild_relr.specs.Laws.{IsWord, WordsFit}
-use Rattle.wild_layout.specs.Left.{entry_for, left_by, left_entry, section_generals, copy_entry, file_generals}
+use Rattle.wild_layout.specs.Decide.{added}
+use Rattle.wild_layout.specs.Left.{entry_for, index_or_zero, left_by, left_entry, section_generals, copy_entry, file_generals}
 use Rattle.wild_layout.specs.Moved.{or_zero, moved_value, listed_entry, section_entries, file_entries, file_words}
 use Rattle.wild_layout.specs.Numbers.{SymbolNumbers}
 use Rattle.wild_layout.specs.SlotBytes.{slot_entries_of, flat_places_of, storage_entries}
-use Rattle.wild_layout.specs.Values.{address_in_section, address_in_file, address_at, placed_value, resolved_or, raw_value, address_or, raw_address}
+use Rattle.wild_layout.specs.Values.{address_in_section, address_in_file, address_at, placed_value, resolved_or, raw_value, address_or, raw_address, decided_address}
 use Rattle.wild_slots.proofs.ItemLemmas.{of_if}
 use Rattle.wild_tables.specs.Tables.{relative_entry, relative_type}
 use Rattle.wild_loaded.specs.Tables.{file_packed, group_words, relatives, first_generals, generals, tables_of}
@@ -189,14 +190,14 @@ named_fits : (place number symbol addend : ℕ) → place < 2 ^ 64 → RelaFits 
 named_fits place number symbol addend low = record { offset = low; number = omega arith; symbol = omega arith; addend = signed_fits addend }
 
 left_fits : (l : Layout) (s : InputSection) (r : InputRelocation) (t : Treatment) → RelaFits (left_by l s r t)
-left_fits l s r (treatments.Symbolic i) = named_fits (place_of s r) _ _ _ (omega arith)
-left_fits l s r (treatments.Indirect i) = named_fits (place_of s r) _ _ _ (omega arith)
-left_fits l s r (treatments.Extent row i) = named_fits (place_of s r) _ _ _ (omega arith)
-left_fits l s r treatments.Nothing = named_fits (place_of s r) _ _ _ (omega arith)
-left_fits l s r (treatments.Value row) = named_fits (place_of s r) _ _ _ (omega arith)
-left_fits l s r treatments.BaseRelative = named_fits (place_of s r) _ _ _ (omega arith)
-left_fits l s r treatments.Recompile = named_fits (place_of s r) _ _ _ (omega arith)
-left_fits l s r treatments.Unsupported = named_fits (place_of s r) _ _ _ (omega arith)
+left_fits l s r (treatments.Symbolic i) = named_fits (place_of s r) (type_of l.machine entry_kinds.Absolute) (index_or_zero l i) (added r) (omega arith)
+left_fits l s r (treatments.Indirect i) = named_fits (place_of s r) (type_of l.machine entry_kinds.Irelative) 0 (or_zero (decided_address l i)) (omega arith)
+left_fits l s r (treatments.Extent row i) = named_fits (place_of s r) r.number (index_or_zero l i) (added r) (omega arith)
+left_fits l s r treatments.Nothing = named_fits (place_of s r) 0 0 0 (omega arith)
+left_fits l s r (treatments.Value row) = named_fits (place_of s r) 0 0 0 (omega arith)
+left_fits l s r treatments.BaseRelative = named_fits (place_of s r) 0 0 0 (omega arith)
+left_fits l s r treatments.Recompile = named_fits (place_of s r) 0 0 0 (omega arith)
+left_fits l s r treatments.Unsupported = named_fits (place_of s r) 0 0 0 (omega arith)
 
 -- where a symbol stands is a number of 64 bits
 placed_low : (l : Layout) (i v : ℕ) → placed_value l i ≡ Some v → v < 2 ^ 64
@@ -250,7 +251,7 @@ file_entries_fit : (l : Layout) (f : File) → All SymbolNumbers l.symbols → A
 unfolding file_generals
 file_entries_fit l f numbers =
     All-append RelaFits (map (copy_entry l) (copies_of f)) (flat_map (section_generals l) f.sections)
-    (All-map RelaFits (copy_entry l) (copies_of f) (λ k d b. named_fits (or_zero (raw_address l (Some (get_or (copies_of f) k d)))) _ _ _ (raw_low l (get_or (copies_of f) k d) numbers)))
+    (All-map RelaFits (copy_entry l) (copies_of f) (λ k d b. named_fits (or_zero (raw_address l (Some (get_or (copies_of f) k d)))) (type_of l.machine entry_kinds.Copy) (index_or_zero l (get_or (copies_of f) k d)) 0 (raw_low l (get_or (copies_of f) k d) numbers)))
     (All-flat_map RelaFits (section_generals l) f.sections (λ k d b. left_entries_fit l (get_or f.sections k d)))
 
 -- ---- all entries
