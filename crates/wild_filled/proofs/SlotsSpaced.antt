@@ -113,17 +113,21 @@ items_join c (x ∷ xs) ys = items_join (with_item c x) xs ys
 
 offset_plain : (s : Setting) (r : Resolution) → AllPlain (offset_items s r)
 offset_plain s r =
-    plain_where (has_flag r.flags got_tls_offset) (offset_item s r ∷ [])
-    (plain_if (has_dynamic_symbol r.flags) _ _ (plain_named r.dynamic_symbol_index (λ d. general TpOff d 0) (λ d. refl))
-    (plain_if (r.raw_value == 0) _ _ tt
-    (plain_if (is_outside s.tls r.raw_value) _ _ tt
-    (plain_if (is_executable s.kind) _ _ tt refl))), tt)
+    plain_where (has_flag r.flags got_tls_offset) (offset_item s r ∷ []) (
+      plain_if (has_dynamic_symbol r.flags) _ _ (plain_named r.dynamic_symbol_index (λ d. general TpOff d 0) (λ d. refl))
+          (plain_if (r.raw_value == 0) _ _ tt
+          (plain_if (is_outside s.tls r.raw_value) _ _ tt
+          (plain_if (is_executable s.kind) _ _ tt refl))),
+      tt,
+    )
 
 module_plain : (s : Setting) (r : Resolution) → AllPlain (module_items s r)
 module_plain s r =
-    plain_where (has_flag r.flags got_tls_module) (module_item s r ∷ module_offset_item s r ∷ [])
-    (plain_if (is_executable s.kind && not (has_flag r.flags dynamic)) _ _ tt
-    (plain_if (interposable r.flags) _ _ (plain_named r.dynamic_symbol_index (λ d. general DtpMod d 0) (λ d. refl)) refl), (by_index (if interposable r.flags then r.dynamic_symbol_index else None), tt))
+    plain_where (has_flag r.flags got_tls_module) (module_item s r ∷ module_offset_item s r ∷ []) (
+      plain_if (is_executable s.kind && not (has_flag r.flags dynamic)) _ _ tt
+          (plain_if (interposable r.flags) _ _ (plain_named r.dynamic_symbol_index (λ d. general DtpMod d 0) (λ d. refl)) refl),
+      (by_index (if interposable r.flags then r.dynamic_symbol_index else None), tt),
+    )
   where
     by_index : (o : Option ℕ) → IsPlain (module_offset s r.raw_value o)
     by_index None = tt
@@ -145,15 +149,16 @@ thread_spaced s r =
     described c false h = h
 
 address_plain : (s : Setting) (far : Option ℕ) (r : Resolution) → AllPlain (address_items s far r)
-address_plain s far r =
-    (plain_if (has_flag r.flags canonical_plt) _ _ (plain_named r.dynamic_symbol_index (λ d. plt JumpSlot d 0) (λ d. refl))
-    (plain_if (has_dynamic_symbol r.flags) _ _ (plain_named r.dynamic_symbol_index (λ d. general GotEntry d 0) (λ d. refl))
-    (plain_if (has_flag r.flags ifunc) _ _ refl
-    (plain_if (is_position_independent s.kind && has_link_time_address r.flags) _ _ (moving s.relr) tt))),
-    plain_join (stub_items far r.plt_address) (ifunc_address_items s r ++ canonical_address_items s r) (of_stub r.plt_address)
-    (plain_join (ifunc_address_items s r) (canonical_address_items s r)
-    (plain_where (has_flag r.flags ifunc_got_for_address) (stub_address s r.plt_address ∷ []) (of_address r.plt_address, tt))
-    (plain_where (has_flag r.flags canonical_plt_got_for_address) _ (plain_named r.dynamic_symbol_index (λ d. general GotEntry d 0) (λ d. refl), tt))))
+address_plain s far r = (
+  plain_if (has_flag r.flags canonical_plt) _ _ (plain_named r.dynamic_symbol_index (λ d. plt JumpSlot d 0) (λ d. refl))
+      (plain_if (has_dynamic_symbol r.flags) _ _ (plain_named r.dynamic_symbol_index (λ d. general GotEntry d 0) (λ d. refl))
+      (plain_if (has_flag r.flags ifunc) _ _ refl
+      (plain_if (is_position_independent s.kind && has_link_time_address r.flags) _ _ (moving s.relr) tt))),
+  plain_join (stub_items far r.plt_address) (ifunc_address_items s r ++ canonical_address_items s r) (of_stub r.plt_address)
+      (plain_join (ifunc_address_items s r) (canonical_address_items s r)
+      (plain_where (has_flag r.flags ifunc_got_for_address) (stub_address s r.plt_address ∷ []) (of_address r.plt_address, tt))
+      (plain_where (has_flag r.flags canonical_plt_got_for_address) _ (plain_named r.dynamic_symbol_index (λ d. general GotEntry d 0) (λ d. refl), tt))),
+)
   where
     moving : (b : Bool) → IsNarrow (if b then InBlock r.raw_value else Address r.raw_value)
     moving true = tt

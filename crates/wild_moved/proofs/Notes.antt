@@ -132,8 +132,8 @@ has_changed w before t law made apart =
       machine = refl;
       words = each_made (λ x. IsMade m (g x)) (places t.words) (λ x c. record { held = All-contains (λ x. Holds m (g x).run.start (g x).run.bytes) (places t.words) x a.words c; noted = noted (g x) (Contains-append_left (map g (places t.words) ++ map f t.entries) (map f t.jumps) (g x) (Contains-append_left (map g (places t.words)) (map f t.entries) (g x) (Contains-map g (places t.words) x c))) });
       entries = All-append P t.entries t.jumps
-      (each_made P t.entries (λ e c. record { held = All-contains (λ (e : Rela). Holds m (f e).run.start (f e).run.bytes) t.entries e a.entries c; noted = noted (f e) (Contains-append_left (map g (places t.words) ++ map f t.entries) (map f t.jumps) (f e) (Contains-append_right (map g (places t.words)) (map f t.entries) (f e) (Contains-map f t.entries e c))) }))
-      (each_made P t.jumps (λ e c. record { held = All-contains (λ (e : Rela). Holds m (f e).run.start (f e).run.bytes) t.jumps e a.jumps c; noted = noted (f e) (Contains-append_right (map g (places t.words) ++ map f t.entries) (map f t.jumps) (f e) (Contains-map f t.jumps e c)) }));
+          (each_made P t.entries (λ e c. record { held = All-contains (λ (e : Rela). Holds m (f e).run.start (f e).run.bytes) t.entries e a.entries c; noted = noted (f e) (Contains-append_left (map g (places t.words) ++ map f t.entries) (map f t.jumps) (f e) (Contains-append_right (map g (places t.words)) (map f t.entries) (f e) (Contains-map f t.entries e c))) }))
+          (each_made P t.jumps (λ e c. record { held = All-contains (λ (e : Rela). Holds m (f e).run.start (f e).run.bytes) t.jumps e a.jumps c; noted = noted (f e) (Contains-append_right (map g (places t.words) ++ map f t.entries) (map f t.jumps) (f e) (Contains-map f t.jumps e c)) }));
       others = a.others;
     }
 
