@@ -1,5 +1,5 @@
 -- What the tables of an image fill: places of packed words, and those of entries, each with as many bytes as it changes.
-use Rattle.std.proofs.Common.{◌≡◌, ℕ, ◌+◌, ◌^◌, ◌<◌, ◌≤◌, List, [], ◌∷◌, length, refl, sym, ap, ◌∙◌, arith, subst}
+use Rattle.std.proofs.Common.{◌≡◌, ℕ, ◌+◌, ◌^◌, ◌<◌, ◌≤◌, List, [], ◌∷◌, length, sym, arith}
 use Rattle.std.specs.Prelude.{Some, Ok}
 use Rattle.std.specs.Int.{w64, cast_signed}
 use Rattle.wild_words.specs.Words.{word}
