@@ -23,7 +23,8 @@ use Rattle.wild_plan.specs.SlotShares.{own_symbols, block_share}
 use Rattle.wild_tables.specs.Dynamic.{dynamic_bytes}
 use Rattle.wild_layout.specs.Content.{dynamic_room, content}
 use Rattle.wild_layout.specs.Faults.{flat_map_from, has_spare, share_errors}
-use Rattle.wild_geometry.proofs.ContentLemmas.{has_last, some_if, length-content, length-dynamic_content, dynamic_share}
+use Rattle.wild_geometry.proofs.ContentLemmas.{length-content, length-dynamic_content, dynamic_share}
+use Rattle.wild_geometry.proofs.LastGroupLemmas.{has_last, some_if}
 use Rattle.wild_geometry.proofs.TableLemmas.{same_role}
 use Rattle.wild_image.specs.Pieces.{group_tables}
 use Rattle.wild_image.specs.Steps.{share_faults, part_faults}

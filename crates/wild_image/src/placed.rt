@@ -3,7 +3,7 @@
 ghost use Rattle.std.specs.Prelude.{◌≡◌, ℕ, ◌<◌, [], ◌∷◌, length, None, slice_index_or};
 ghost use Rattle.std.specs.Option.{option_or};
 ghost use Rattle.wild_plan.specs.Lookups.{files_of};
-ghost use Rattle.wild_image.specs.Placed.{address_in, found};
+ghost use Rattle.wild_image.specs.Placed.{stands_in, found};
 
 use wild_plan::{File, Layout, Place, Symbol};
 
