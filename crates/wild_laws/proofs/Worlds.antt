@@ -1,21 +1,24 @@
 -- Legal worlds are there.
-use Rattle.std.proofs.Common.{◌≡◌, ℕ, ◌+◌, ◌-◌, ◌%◌, ◌^◌, ◌<◌, [], ◌∷◌, refl, sym, ap, ◌∙◌, arith}
+use Rattle.std.proofs.Common.{◌≡◌, ℕ, ℤ, ◌+◌, ◌-◌, ◌%◌, ◌^◌, ◌<◌, [], ◌∷◌, refl, sym, ap, ◌∙◌, arith, subst}
 use Rattle.std.specs.Int.{w64, cast_unsigned, cast_signed}
 use Rattle.std.specs.Int.RustNames.{FitsSigned}
 use Rattle.std.proofs.Math.Nat.{zero-mod}
 use Rattle.std.proofs.lemmas.Int.{of_z-to_z, ints}
+use Rattle.wild_plan.specs.declared.kind.OutputKind.{OutputKind}
+use Rattle.wild_plan.specs.declared.kind.OutputKind.TheVariants as output
 use Rattle.wild_plan.specs.declared.layout.Layout.{Layout}
-use Rattle.wild_layout.specs.Geometry.{LayoutsAreLaidOut}
+use Rattle.wild_layout.specs.Geometry.{IsLaidOut, LayoutsAreLaidOut}
 use Rattle.wild_loader.specs.declared.fault.LoadFault.{LoadFault}
 use Rattle.wild_loader.specs.declared.world.World.{World}
 use Rattle.wild_loader.specs.Changes.{distance_of}
 use Rattle.std.specs.Prelude.{Result, Ok}
 use Rattle.wild_meaning.specs.Thread.{thread_pointer, IsOwnDistance}
-use Rattle.wild_meaning.specs.World.{IsFirstModule, IsLegal, first_module}
-use Rattle.wild_laws.specs.Premises.{ZeroIsLegal, MovedIsLegal, HasWorld, WorldsAreThere, OffsetsCount}
+use Rattle.wild_meaning.specs.World.{IsExecutable, IsFirstModule, IsLegal, AnswersSymbols, first_module}
+use Rattle.wild_laws.specs.Premises.{KnowsModule, AreAddresses, Others, AreNumbers, IsTold, ZeroIsLegal, MovedIsLegal, HasWorld, WorldsAreThere, OffsetsCount, other_module}
 use Rattle.wild_laws.proofs.Premises.{apart_kinds}
 use Rattle.wild_laws.proofs.NoErrors.{laid_out}
 use Rattle.wild_laws.proofs.Resolvers.{pairs_of, HasPairs, has_resolvers, are_answered}
+use Rattle.wild_laws.proofs.Answers.{answers_of, HasAnswers, others_found, answers_symbols}
 use Rattle.wild_values.specs.Laws.{ThreadPlacesAreKnown}
 
 -- ---- legal worlds
@@ -24,7 +27,7 @@ zero_divides : (base page : ℕ) → base ≡ 0 → base % page ≡ 0
 zero_divides base page z = ap (λ (b : ℕ). b % page) z ∙ zero-mod page
 
 pub zero_legal : LayoutsAreLaidOut → ZeroIsLegal
-zero_legal laws = λ l w none z first resolvers.
+zero_legal laws = λ l w none z first resolvers symbols.
     let laid = laid_out laws l none in
     record {
       aligned = zero_divides w.base l.page_size z;
@@ -32,15 +35,17 @@ zero_legal laws = λ l w none z first resolvers.
       fixed = λ f. z;
       first = first;
       resolvers = resolvers;
+      symbols = symbols;
     }
 
 pub moved_legal : MovedIsLegal
-moved_legal = λ l w movable roomy first resolvers. record {
+moved_legal = λ l w movable roomy first resolvers symbols. record {
   aligned = roomy.aligned;
   ends = λ k d lt loads. roomy.ends k d lt;
   fixed = λ f. absurd (apart_kinds l.kind f movable);
   first = first;
   resolvers = resolvers;
+  symbols = symbols;
 }
 
 -- ---- the own module
@@ -66,35 +71,89 @@ distance l h =
     back : (tp start : ℕ) → start < 2 ^ 64 → (tp + less start tp) % 2 ^ 64 ≡ start
     back tp start h = omega (arith, h)
 
--- a world that has the module and the resolvers' answers, and nothing else
-abbrev world_at : Layout → ℕ → (ℕ → ℕ) → World
-world_at l base answers = record {
+-- the own data's distance: an executable's is the layout's, and a library's any
+abbrev distance_by : OutputKind → ℤ → ℤ → ℤ
+distance_by (output.StaticExecutable any) d free = d
+distance_by (output.DynamicExecutable any) d free = d
+distance_by other d free = free
+
+abbrev own_distance : Layout → Others → ℤ
+own_distance l o = distance_by l.kind (cast_signed w64 (less l.tls.start (thread_pointer l))) o.own
+
+of_executable : (k : OutputKind) (d free : ℤ) → IsExecutable k → distance_by k d free ≡ d
+of_executable (output.StaticExecutable any) d free h = refl
+of_executable (output.DynamicExecutable any) d free h = refl
+of_executable output.SharedObject d free h = absurd h
+of_executable output.PartialObject d free h = absurd h
+
+of_library : (k : OutputKind) (d free : ℤ) → (IsExecutable k → ⊥) → distance_by k d free ≡ free
+of_library (output.StaticExecutable any) d free h = absurd (h tt)
+of_library (output.DynamicExecutable any) d free h = absurd (h tt)
+of_library output.SharedObject d free h = refl
+of_library output.PartialObject d free h = refl
+
+distance_fits : (k : OutputKind) (d free : ℤ) → FitsSigned w64 d → FitsSigned w64 free → FitsSigned w64 (distance_by k d free)
+distance_fits (output.StaticExecutable any) d free h g = h
+distance_fits (output.DynamicExecutable any) d free h g = h
+distance_fits output.SharedObject d free h g = g
+distance_fits output.PartialObject d free h g = g
+
+-- a world that has two modules, the resolvers' answers and those for dynamic symbols
+abbrev world_at : Layout → ℕ → (ℕ → ℕ) → Others → World
+world_at l base answers o = record {
   base = base;
-  symbols = [];
+  symbols = answers_of l base answers o;
   resolvers = pairs_of answers base l.symbols;
-  modules = (first_module, cast_signed w64 (less l.tls.start (thread_pointer l))) ∷ [];
+  modules = (first_module, own_distance l o) ∷ (other_module, o.distance) ∷ [];
   own_module = first_module;
 }
 
-knows : (l : Layout) (base : ℕ) (answers : ℕ → ℕ) → l.tls.start < 2 ^ 64 → IsFirstModule l (world_at l base answers)
-knows l base answers h = record { own = refl; distance = cast_signed w64 (less l.tls.start (thread_pointer l)); pair = refl; is = distance l h }
+knows : (l : Layout) (base : ℕ) (answers : ℕ → ℕ) (o : Others) → l.tls.start < 2 ^ 64 → KnowsModule l (world_at l base answers o)
+knows l base answers o h = λ e. record {
+  own = refl;
+  distance = own_distance l o;
+  pair = refl;
+  is = subst (λ (d : ℤ). IsOwnDistance l d) (sym (of_executable l.kind (cast_signed w64 (less l.tls.start (thread_pointer l))) o.own e)) (distance l h);
+}
 
-has_pairs : (l : Layout) (base : ℕ) (answers : ℕ → ℕ) → HasPairs l (world_at l base answers) answers
-has_pairs l base answers = record { pairs = refl }
+has_pairs : (l : Layout) (base : ℕ) (answers : ℕ → ℕ) (o : Others) → HasPairs l (world_at l base answers o) answers
+has_pairs l base answers o = record { pairs = refl }
 
-has_world : (l : Layout) (base : ℕ) (answers : ℕ → ℕ) → l.tls.start < 2 ^ 64 → IsLegal l (world_at l base answers) → HasWorld l base answers
-has_world l base answers h legal = record {
-  world = world_at l base answers;
+has_answers : (l : Layout) (base : ℕ) (answers : ℕ → ℕ) (o : Others) → l.tls.start < 2 ^ 64 → AreNumbers o → HasAnswers l (world_at l base answers o) answers o
+has_answers l base answers o h numbers = record {
+  symbols = refl;
+  own = refl;
+  near = record { distance = own_distance l o; fits = distance_fits l.kind (cast_signed w64 (less l.tls.start (thread_pointer l))) o.own (distance l h).fits numbers.own; pair = refl };
+  far = record { distance = o.distance; fits = numbers.distance; pair = refl };
+  answered = are_answered l (world_at l base answers o) answers (has_pairs l base answers o);
+}
+
+answers_all : (l : Layout) (base : ℕ) (answers : ℕ → ℕ) (o : Others) → IsLaidOut l → IsTold l → AreAddresses answers → AreNumbers o → AnswersSymbols l (world_at l base answers o)
+answers_all l base answers o laid told small numbers = answers_symbols l (world_at l base answers o) answers o laid told small numbers (has_answers l base answers o told.numbers.tls.start numbers)
+
+has_world : (l : Layout) (base : ℕ) (answers : ℕ → ℕ) (o : Others) → IsLaidOut l → l.tls.start < 2 ^ 64 → AreNumbers o → IsLegal l (world_at l base answers o) → HasWorld l base answers o
+has_world l base answers o laid h numbers legal = record {
+  world = world_at l base answers o;
   at = refl;
   legal = legal;
-  first = knows l base answers h;
-  answered = are_answered l (world_at l base answers) answers (has_pairs l base answers);
+  answered = are_answered l (world_at l base answers o) answers (has_pairs l base answers o);
+  found = λ i x is a. others_found l (world_at l base answers o) answers o i x laid (has_answers l base answers o h numbers) is a;
+  far = refl;
+  near = λ e. ap (λ (d : ℤ). Ok (cast_unsigned w64 d)) (of_library l.kind (cast_signed w64 (less l.tls.start (thread_pointer l))) o.own e);
 }
 
 pub worlds_there : LayoutsAreLaidOut → WorldsAreThere
 worlds_there laws = record {
-  zero = λ l answers small none h. has_world l 0 answers h (zero_legal laws l (world_at l 0 answers) none refl (λ e. knows l 0 answers h) (has_resolvers l (world_at l 0 answers) answers small (has_pairs l 0 answers)));
-  elsewhere = λ l base answers small movable roomy h. has_world l base answers h (moved_legal l (world_at l base answers) movable roomy (λ e. knows l base answers h) (has_resolvers l (world_at l base answers) answers small (has_pairs l base answers)));
+  zero = λ l answers o small numbers told.
+      (let laid = laid_out laws l told.faultless in
+      let w = world_at l 0 answers o in
+      has_world l 0 answers o laid told.numbers.tls.start numbers
+      (zero_legal laws l w told.faultless refl (knows l 0 answers o told.numbers.tls.start) (has_resolvers l w answers small (has_pairs l 0 answers o)) (answers_all l 0 answers o laid told small numbers)));
+  elsewhere = λ l base answers o small numbers movable roomy told.
+      (let laid = laid_out laws l told.faultless in
+      let w = world_at l base answers o in
+      has_world l base answers o laid told.numbers.tls.start numbers
+      (moved_legal l w movable roomy (knows l base answers o told.numbers.tls.start) (has_resolvers l w answers small (has_pairs l base answers o)) (answers_all l base answers o laid told small numbers)));
 }
 
 -- ---- offsets from the thread pointer

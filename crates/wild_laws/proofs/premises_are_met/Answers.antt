@@ -1,8 +1,8 @@
 use Rattle.wild_laws.proofs.NoErrors.{not_absolute}
 use Rattle.wild_laws.proofs.Worlds.{zero_legal, moved_legal, worlds_there, offsets_count}
 use Rattle.wild_laws.proofs.Resolvers.{none_needed}
-use Rattle.wild_laws.proofs.Premises.{kinds_loaded, sections_kept, relocations_refer, references_asked, slots_asked, blanks_asked, addresses_move}
-use Rattle.wild_laws.proofs.Indirect.{resolvers_answer}
+use Rattle.wild_laws.proofs.Premises.{kinds_loaded, sections_kept, relocations_refer, references_asked, slots_asked, few_alone, blanks_asked, addresses_move}
+use Rattle.wild_laws.proofs.Indirect.{resolvers_answer, worlds_answer}
 use Rattle.wild_laws.proofs.Worked.{worked_asked}
 use Rattle.wild_laws.proofs.premises_are_met.Goals as goal
 
@@ -17,9 +17,11 @@ returns c = record {
   references = relocations_refer;
   asked = references_asked (not_absolute c.layouts_are_laid_out.ensures);
   slots = slots_asked;
+  linked = few_alone;
   blanks = blanks_asked;
   addresses = addresses_move;
   resolvers = resolvers_answer;
+  answers = worlds_answer;
   offsets = offsets_count c.thread_places_are_known.ensures;
   branches = worked_asked;
 }
