@@ -1,10 +1,10 @@
-use Rattle.wild_laws.proofs.NoErrors.{not_absolute}
-use Rattle.wild_laws.proofs.Worlds.{zero_legal, moved_legal, worlds_there, offsets_count}
-use Rattle.wild_laws.proofs.Resolvers.{none_needed}
-use Rattle.wild_laws.proofs.Premises.{kinds_loaded, sections_kept, relocations_refer, references_asked, slots_asked, few_alone, blanks_asked, addresses_move}
-use Rattle.wild_laws.proofs.Indirect.{resolvers_answer, worlds_answer}
-use Rattle.wild_laws.proofs.Worked.{worked_asked}
-use Rattle.wild_laws.proofs.premises_are_met.Goals as goal
+use Rattle.wild_worlds.proofs.Absolute.{not_absolute}
+use Rattle.wild_worlds.proofs.Worlds.{zero_legal, moved_legal, worlds_there, offsets_count}
+use Rattle.wild_worlds.proofs.Resolvers.{none_needed}
+use Rattle.wild_worlds.proofs.Premises.{kinds_loaded, sections_kept, relocations_refer, references_asked, slots_asked, few_alone, blanks_asked, addresses_move}
+use Rattle.wild_worlds.proofs.Indirect.{resolvers_answer, worlds_answer}
+use Rattle.wild_worlds.proofs.Worked.{worked_asked}
+use Rattle.wild_worlds.proofs.premises_are_met.Goals as goal
 
 pub returns : goal.returns
 returns c = record {

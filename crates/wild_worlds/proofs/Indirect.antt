@@ -9,9 +9,9 @@ use Rattle.wild_loader.specs.declared.world.World.{World}
 use Rattle.wild_loader.specs.Changes.{answer_at}
 use Rattle.wild_meaning.specs.Value.{IsDefinedBy, IsResolved, HasRaw, HasFlag, HasOwnValue}
 use Rattle.wild_meaning.specs.World.{HasResolver, IsAnsweredOnce, IsLegal}
-use Rattle.wild_laws.specs.Premises.{ResolversAnswer, WorldsAnswer}
+use Rattle.wild_worlds.specs.Premises.{ResolversAnswer, WorldsAnswer}
 use Rattle.wild_laws.proofs.Symbols.{one_symbol, one_answer, some_flag, own_value, given_value, answered_value}
-use Rattle.wild_laws.proofs.Resolvers.{once_answered}
+use Rattle.wild_worlds.proofs.Resolvers.{once_answered}
 
 with_answer : (l : Layout) (w : World) (i raw a : ℕ) → HasRaw l i raw → HasFlag l i ifunc true → answer_at w ((w.base + raw) % 2 ^ 64) ≡ Ok a → HasOwnValue l w i a
 with_answer l w i raw a h f answered = let still = some_flag l i ifunc absolute true f in record { raw = raw; given = h; indirect = true; resolved = f; still = still.0; absolute = still.1; is = answered }

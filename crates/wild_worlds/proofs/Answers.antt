@@ -20,7 +20,7 @@ use Rattle.wild_loader.specs.declared.world.World.{World}
 use Rattle.wild_loader.specs.Changes.{answer_at}
 use Rattle.wild_meaning.specs.Value.{IsSymbol, IsDefinedBy, IsResolved, IsUnresolved, StandsAt, HasRaw, IsReplaceable, IsValue, HasAnswer, moved, may_be_replaced}
 use Rattle.wild_meaning.specs.World.{IsKnownModule, IsAnswer, IsOwnAnswer, HasCopy, HasRoomFor, AreBeside, AnswersSymbols, first_module}
-use Rattle.wild_laws.specs.Premises.{AreAnswered, AreAddresses, Others, AreNumbers, IsOthers, CopiesHaveRoom, IsTold, other_module}
+use Rattle.wild_worlds.specs.Premises.{AreAnswered, AreAddresses, Others, AreNumbers, IsOthers, CopiesHaveRoom, IsTold, other_module}
 use Rattle.wild_laws.proofs.Symbols.{one_definition, one_symbol}
 
 -- ---- an index is the position of one symbol

@@ -19,7 +19,7 @@ use Rattle.wild_meaning.specs.Field.{formula_of}
 use Rattle.wild_meaning.specs.Formula.{IsPlaceRelative, TakesAddress, TakesOffset}
 use Rattle.wild_meaning.specs.Template.{Operand}
 use Rattle.wild_meaning.specs.Reference.{HasPlace, GoesThroughSlot, IsExcepted, IsAsked, IsLeftToLoader, IsStubbed, TakesItself, IsLinkedAlone}
-use Rattle.wild_laws.specs.Premises.{KindsAreLoaded, SectionsAreKept, RelocationsRefer, ReferencesAreAsked, SlotsAreAsked, FewAreLinkedAlone, BlanksAreAsked, AddressesMove, ResolversAreNotAbsolute}
+use Rattle.wild_worlds.specs.Premises.{KindsAreLoaded, SectionsAreKept, RelocationsRefer, ReferencesAreAsked, SlotsAreAsked, FewAreLinkedAlone, BlanksAreAsked, AddressesMove, ResolversAreNotAbsolute}
 use Rattle.wild_laws.proofs.Bits.{bit_alloc, thread_local_bit}
 use Rattle.wild_laws.proofs.Operands.{each_operand}
 use Rattle.wild_laws.proofs.Symbols.{not_both, not_replaceable, own_value, moved_value}
