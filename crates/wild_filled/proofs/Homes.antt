@@ -8,10 +8,9 @@ use Rattle.wild_plan.specs.declared.section.Segment.{Segment}
 use Rattle.wild_plan.specs.declared.layout.Layout.{Layout}
 use Rattle.wild_plan.specs.Lookups.{image_size}
 use Rattle.wild_layout.specs.Geometry.{IsLaidOut, SegmentLoads, Ascends}
-use Rattle.wild_loader.specs.EntryLaws.{AreBeside}
-use Rattle.wild_meaning.specs.Linked.{IsBehind}
+use Rattle.wild_meaning.specs.World.{IsBehind}
 use Rattle.wild_loaded.specs.Stored.{CarriesByte}
-use Rattle.wild_filled.proofs.SortedTables.{IsOutside}
+use Rattle.wild_filled.proofs.Fillings.{Filling, Misses, AreBeside}
 
 -- ---- homes
 
@@ -33,10 +32,10 @@ pub homes_back : (h i : Home) → HomesApart h i → HomesApart i h
 homes_back h i (inl le) = inr le
 homes_back h i (inr le) = inl le
 
--- the eight bytes at a place lie in the run
-pub record LiesIn (h : Home) (a : ℕ) : Type 0 where
-  pub from : h.address ≤ a
-  pub to : a + 8 ≤ h.address + h.size
+-- the bytes of a filling lie in the run
+pub record LiesIn (h : Home) (x : Filling) : Type 0 where
+  pub from : h.address ≤ x.entry.offset
+  pub to : x.entry.offset + x.width ≤ h.address + h.size
 
 -- ---- segments
 
@@ -84,56 +83,33 @@ addresses_differ l h i k j laid a b apart below under e =
     no_byte (inl le) e = omega (arith, below, under, e, le)
     no_byte (inr le) e = omega (arith, below, under, e, le)
 
--- ---- places
+-- ---- fillings
 
--- the places of two runs lie beside each other
-pub beside_across : (l : Layout) (h i : Home) (a b : ℕ) → IsLaidOut l → HasHome l h → HasHome l i → HomesApart h i → LiesIn h a → LiesIn i b → AreBeside a b
-beside_across l h i a b laid sh si apart la lb =
-    let af = la.from in
-    let ae = la.to in
-    let bf = lb.from in
-    let be = lb.to in
-    elim (cases_lt b (a + 8)) [
-      | inr ge ↦ inl ge
-      | inl lt ↦ elim (cases_lt a (b + 8)) [
-        | inr ge ↦ inr ge
-        | inl gt ↦ elim (cases_lt a b) [
-          | inl up ↦ absurd (addresses_differ l h i (b - h.address) (b - i.address) laid sh si apart (omega (arith, af, ae, lt, up)) (omega (arith, bf, be)) (omega (arith, af, bf, up)))
-          | inr down ↦ absurd (addresses_differ l h i (a - h.address) (a - i.address) laid sh si apart (omega (arith, af, ae)) (omega (arith, bf, be, gt, down)) (omega (arith, af, bf, down)))
-        ]
-      ]
-    ]
-
--- a byte of one run and a place of the other
-pub outside_across : (l : Layout) (h i : Home) (k b : ℕ) → IsLaidOut l → HasHome l h → HasHome l i → HomesApart h i → k < h.size → LiesIn i b → IsOutside (h.address + k) b
-outside_across l h i k b laid sh si apart below lb =
-    let bf = lb.from in
-    let be = lb.to in
-    elim (cases_lt (h.address + k) b) [
-      | inl lt ↦ inl lt
-      | inr ge ↦ elim (cases_lt (h.address + k) (b + 8)) [
-        | inr le ↦ inr le
-        | inl lt ↦ absurd (addresses_differ l h i k (h.address + k - i.address) laid sh si apart below (omega (arith, bf, be, ge, lt)) (omega (arith, bf, ge)))
-      ]
-    ]
-
--- an address behind the file bytes of a segment is outside the places of a run
-pub behind_outside : (l : Layout) (h : Home) (x a : ℕ) → IsLaidOut l → HasHome l h → LiesIn h a → IsBehind l x → IsOutside x a
-behind_outside l h x a laid there lies b =
+-- a byte of one run and a filling in the other
+pub misses_across : (l : Layout) (h i : Home) (k : ℕ) (x : Filling) → IsLaidOut l → HasHome l h → HasHome l i → HomesApart h i → k < h.size → LiesIn i x → Misses (h.address + k) x
+misses_across l h i k x laid sh si apart below lies = λ j lt e. (
     let from = lies.from in
     let to = lies.to in
-    elim (cases_lt x a) [
-      | inl lt ↦ inl lt
-      | inr ge ↦ elim (cases_lt x (a + 8)) [
-        | inr le ↦ inr le
-        | inl lt ↦ absurd (shared (there (x - h.address) (omega (arith, from, to, ge, lt))) (omega (arith, from, ge)))
-      ]
-    ]
+    addresses_differ l h i k (x.entry.offset + j - i.address) laid sh si apart below (omega (arith, from, to, lt)) (omega (arith, from, e)))
+
+-- fillings in two runs
+pub beside_across : (l : Layout) (h i : Home) (x y : Filling) → IsLaidOut l → HasHome l h → HasHome l i → HomesApart h i → LiesIn h x → LiesIn i y → AreBeside x y
+beside_across l h i x y laid sh si apart lx ly = λ k lt j less e. (
+    let from = lx.from in
+    let to = lx.to in
+    misses_across l h i (x.entry.offset + k - h.address) y laid sh si apart (omega (arith, from, to, lt)) ly j less (omega (arith, from, e)))
+
+-- an address behind the file bytes of a segment is that of no byte of a filling in a run
+pub behind_misses : (l : Layout) (h : Home) (a : ℕ) (x : Filling) → IsLaidOut l → HasHome l h → LiesIn h x → IsBehind l a → Misses a x
+behind_misses l h a x laid there lies b = λ j lt e. (
+    let from = lies.from in
+    let to = lies.to in
+    shared (there (a - h.address) (omega (arith, from, to, lt, e))) (omega (arith, from, e)))
   where
-    shared : (g : Segment) × CarriesByte l g (h.offset + (x - h.address)) (h.address + (x - h.address)) → h.address + (x - h.address) ≡ x → ⊥
+    shared : (g : Segment) × CarriesByte l g (h.offset + (a - h.address)) (h.address + (a - h.address)) → h.address + (a - h.address) ≡ a → ⊥
     shared g e =
-        let c = subst (λ (y : ℕ). CarriesByte l g.0 (h.offset + (x - h.address)) y) e g.1 in
+        let c = subst (λ (y : ℕ). CarriesByte l g.0 (h.offset + (a - h.address)) y) e g.1 in
         let behind = b.from in
-        let same = one_loaded l g.0 b.segment x laid c.listed b.listed c.loaded b.loads c.from (file_loaded l g.0 x laid c.listed c.loaded c.to) (omega (arith, behind)) b.to in
-        let there = subst (λ (s : Segment). x < s.address + s.file_size) same c.to in
+        let same = one_loaded l g.0 b.segment a laid c.listed b.listed c.loaded b.loads c.from (file_loaded l g.0 a laid c.listed c.loaded c.to) (omega (arith, behind)) b.to in
+        let there = subst (λ (s : Segment). a < s.address + s.file_size) same c.to in
         omega (arith, there, behind)

@@ -1,17 +1,21 @@
-mod BesideLemmas
 pub mod PairLemmas
-pub mod SortedTables
+pub mod Permuted
+pub mod Fillings
+pub mod FilledTables
 pub mod Homes
 pub mod KeptSections
 pub mod SectionsApart
 pub mod PlacesApart
-pub mod MovedPlaces
-pub mod MovedSections
-pub mod Permuted
-pub mod SlotLists
-pub mod TableHomes
+pub mod SectionFillings
+pub mod FilledSections
+pub mod SectionsKnown
+pub mod SlotFillings
+pub mod SlotsSpaced
 pub mod SlotsKnown
-pub mod SectionWords
+pub mod TableHomes
+pub mod GotPlaces
+pub mod CopyFillings
+mod FirstFile
 pub mod TableLists
-pub mod PackedTables
+mod PackedTables
 pub mod AllTables

@@ -1,48 +1,46 @@
 -- The words of packed places: a loader finds the places of addresses and of slots in them, and no others.
-use Rattle.std.proofs.Common.{◌≡◌, ℕ, suc, ◌+◌, ◌%◌, ◌^◌, ◌<◌, ◌≤◌, inl, inr, Bool, true, false, List, [], ◌∷◌, ◌++◌, length, get_or, map, refl, sym, ap, ◌∙◌, arith, subst, append_assoc}
-use Rattle.std.specs.Prelude.{Option, Some, None, All, AllPairs, Contains, ◌≢◌, IsPermutation, option_to_list, if◌then◌else◌, ◌&&◌, ◌==◌}
-use Rattle.std.specs.List.{flat_map, filter}
+use Rattle.std.proofs.Common.{◌≡◌, ℕ, suc, ◌+◌, ◌%◌, ◌^◌, ◌<◌, ◌≤◌, ◌⊎◌, inl, inr, Bool, true, false, List, [], ◌∷◌, ◌++◌, get_or, map, refl, sym, ap, ◌∙◌, arith, subst, append_assoc}
+use Rattle.std.specs.Prelude.{Some, None, All, AllPairs, Contains, ◌≢◌, IsPermutation, option_to_list, if◌then◌else◌, ◌&&◌, ◌==◌}
+use Rattle.std.specs.List.{flat_map}
 use Rattle.std.proofs.lemmas.Bool.{cases_Bool, eqb-true}
 use Rattle.std.proofs.lemmas.List.{append-nil}
 use Rattle.std.proofs.lemmas.List.Concat.{flat_map-append}
 use Rattle.std.proofs.lemmas.List.Folds.{flat_map-map}
 use Rattle.std.proofs.lemmas.List.Elements.{All-nil, All-cons, All-append, All-map}
-use Rattle.std.proofs.lemmas.List.Sorted.{All-permutation, IsPermutation-sym, IsPermutation-trans, IsPermutation-append_left, IsPermutation-refl}
+use Rattle.std.proofs.lemmas.List.Sorted.{All-permutation, IsPermutation-sym, IsPermutation-trans, IsPermutation-append_left, IsPermutation-map}
 use Rattle.wild_words.proofs.ListLemmas.{All-flat_map}
 use Rattle.wild_plan.specs.declared.input.InputRelocation.{InputRelocation}
 use Rattle.wild_plan.specs.declared.input.InputSection.{InputSection}
-use Rattle.wild_plan.specs.declared.part.Role.TheVariants as role
 use Rattle.wild_plan.specs.declared.slot.SlotWord.{SlotWord}
 use Rattle.wild_plan.specs.declared.slot.SlotWord.TheVariants.{Number, Address, InBlock, General, Plt}
 use Rattle.wild_plan.specs.declared.slot_shares.Block.{Block}
 use Rattle.wild_plan.specs.declared.file.File.{File}
 use Rattle.wild_plan.specs.declared.file.Group.{Group}
 use Rattle.wild_plan.specs.declared.layout.Layout.{Layout}
-use Rattle.wild_plan.specs.Entries.{place_of, packs, is_moved, has_moved, packed_place, packed_places, words_of as section_words}
+use Rattle.wild_plan.specs.Entries.{place_of, packs, is_moved, has_moved, packed_place, packed_places}
 use Rattle.wild_plan.specs.SlotParts.{is_packed, flat_place}
-use Rattle.wild_plan.specs.SlotShares.{block_place, block_of, group_block, block_words}
+use Rattle.wild_plan.specs.SlotShares.{block_place, block_of, group_block}
 use Rattle.wild_relr.specs.Packed.{Piece, Places, packed, words_of, words_of_piece, places_of_pieces, places_of_piece, slots, IsEven, FlatIsARun, after_flat, after_run, nothing}
 use Rattle.wild_relr.specs.Packed as relr
 use Rattle.wild_relr.specs.Packing.{State}
-use Rattle.wild_layout.specs.Geometry.{IsLaidOut}
 use Rattle.wild_layout.specs.Moved.{file_words}
 use Rattle.wild_layout.specs.SlotBytes.{flat_places_of}
 use Rattle.wild_loader.specs.Places.{places}
-use Rattle.wild_loader.specs.EntryLaws.{AreBeside}
-use Rattle.wild_filled.proofs.BesideLemmas.{beside-order}
+use Rattle.wild_loader.specs.declared.memory.Run.{Run}
+use Rattle.wild_loader.specs.Laws.{IsApart}
+use Rattle.wild_loader.specs.EntryLaws.{OrderIsFree}
+use Rattle.wild_loader.proofs.Overlaid.{elsewhere}
 use Rattle.wild_tables.specs.Laws.{PlacesAreLoaded}
-use Rattle.wild_slots.specs.Order.{HasSlotsInOrder}
-use Rattle.wild_slots.specs.Blocks.{IsWhole, BlocksAreWhole}
+use Rattle.wild_slots.specs.Blocks.{IsWhole}
 use Rattle.wild_loaded.specs.Tables.{file_packed, group_words, tables_of}
-use Rattle.wild_loaded.proofs.SlotSites.{flat_map-flat_map, flat_map-same, of_site, SlotSite, file_sites, flat_by_sites, block_by_sites, all_by_sites, groups_by_sites}
-use Rattle.wild_filled.proofs.PairLemmas.{AllPairs-left, filter-flat_map}
+use Rattle.wild_loaded.proofs.SlotSites.{flat_map-flat_map, flat_map-same, of_site, file_sites, flat_by_sites, block_by_sites, all_by_sites, groups_by_sites, all_sites}
+use Rattle.wild_filled.proofs.PairLemmas.{AllPairs-none, AllPairs-more, AllPairs-first, AllPairs-rest, All-unmap}
 use Rattle.wild_filled.proofs.Permuted.{flat_map-parts, nested-parts}
 use Rattle.wild_filled.proofs.SectionsApart.{all_sections, by_files}
 use Rattle.wild_filled.proofs.PlacesApart.{get_or-any}
-use Rattle.wild_filled.proofs.TableHomes.{table_ends}
-use Rattle.wild_filled.proofs.MovedPlaces.{moved_places, packed_are}
-use Rattle.wild_filled.proofs.SlotLists.{places_of}
-use Rattle.wild_filled.proofs.TableLists.{packed_sections, sorted_places}
+use Rattle.wild_filled.proofs.FilledTables.{runs_apart_by}
+use Rattle.wild_filled.proofs.SlotFillings.{made_of}
+use Rattle.wild_filled.proofs.TableLists.{packed_list}
 
 -- ---- what is recorded
 
@@ -122,7 +120,7 @@ runs_places l whole =
 
 -- ---- the order
 
-recorded_sorted : (l : Layout) → IsPermutation (recorded_places l) (sorted_places l).packed
+recorded_sorted : (l : Layout) → IsPermutation (recorded_places l) (packed_list l)
 recorded_sorted l =
     let a : File → List ℕ = λ f. flat_map (packed_places l) f.sections in
     let b : File → List ℕ = flat_places_of l in
@@ -133,10 +131,10 @@ recorded_sorted l =
     let outer = flat_map-parts (λ (g : Group). flat_map (λ (f : File). a f ++ b f) g.files) c l.groups in
     let inner = IsPermutation-append_left cc' (flat_map (λ (g : Group). flat_map (λ (f : File). a f ++ b f) g.files) l.groups) (aa ++ bb) (nested-parts (λ (g : Group). g.files) a b l.groups) in
     let whole = IsPermutation-trans (recorded_places l) (flat_map (λ (g : Group). flat_map (λ (f : File). a f ++ b f) g.files) l.groups ++ cc') ((aa ++ bb) ++ cc') outer inner in
-    let sections : aa ≡ packed_sections l = sym (by_files (packed_places l) l) ∙ flat_map-same (packed_places l) (λ (s : InputSection). filter (packs l) (moved_places l s)) (all_sections l) (λ s. sym (packed_are l s)) ∙ sym (filter-flat_map (packs l) (moved_places l) (all_sections l)) in
-    let flats : bb ≡ places_of (flat_place l.options.relr) l = all_by_sites (of_site (flat_place l.options.relr)) b l (flat_by_sites l) in
-    let blocks : cc' ≡ places_of block_place l = groups_by_sites (of_site block_place) c l (block_by_sites l) in
-    let same : (aa ++ bb) ++ cc' ≡ (sorted_places l).packed = append_assoc aa bb cc' ∙ ap (λ (xs : List ℕ). xs ++ (bb ++ cc')) sections ∙ ap (λ (xs : List ℕ). packed_sections l ++ (xs ++ cc')) flats ∙ ap (λ (xs : List ℕ). packed_sections l ++ (places_of (flat_place l.options.relr) l ++ xs)) blocks in
+    let sections : aa ≡ flat_map (packed_places l) (all_sections l) = sym (by_files (packed_places l) l) in
+    let flats : bb ≡ made_of (flat_place l.options.relr) (all_sites l) = all_by_sites (of_site (flat_place l.options.relr)) b l (flat_by_sites l) in
+    let blocks : cc' ≡ made_of block_place (all_sites l) = groups_by_sites (of_site block_place) c l (block_by_sites l) in
+    let same : (aa ++ bb) ++ cc' ≡ packed_list l = append_assoc aa bb cc' ∙ ap (λ (xs : List ℕ). xs ++ (bb ++ cc')) sections ∙ ap (λ (xs : List ℕ). flat_map (packed_places l) (all_sections l) ++ (xs ++ cc')) flats ∙ ap (λ (xs : List ℕ). flat_map (packed_places l) (all_sections l) ++ (made_of (flat_place l.options.relr) (all_sites l) ++ xs)) blocks in
     subst (λ (xs : List ℕ). IsPermutation (recorded_places l) xs) same whole
 
 -- ---- even places
@@ -204,23 +202,47 @@ runs_even l whole =
 
 -- ---- what a loader finds
 
-differ : (xs : List ℕ) → AllPairs AreBeside xs → AllPairs (λ (a b : ℕ). a ≢ b) xs
-differ xs h = λ i j d l m. (λ e. not_beside (get_or xs i d) (get_or xs j d) (h i j d l m) e)
-  where
-    not_beside : (a b : ℕ) → AreBeside a b → a ≡ b → ⊥
-    not_beside a b (inl h) e = omega (arith, h, e)
-    not_beside a b (inr h) e = omega (arith, h, e)
+abbrev Differ : ℕ → ℕ → Type 0
+Differ a b = a ≢ b
 
-pub packed_sorted : (l : Layout) → FlatIsARun → PlacesAreLoaded → AreWhole l → All (λ (a : ℕ). a < 2 ^ 64) (sorted_places l).packed → AllPairs AreBeside (sorted_places l).packed → IsPermutation (sorted_places l).packed (places (tables_of l).words)
-packed_sorted l flat law whole low beside =
+-- a byte at a place
+abbrev byte_run : ℕ → Run
+byte_run a = record { start = a; bytes = 0 ∷ [] }
+
+-- whether places differ does not go by their order
+differ-order : OrderIsFree → (xs ys : List ℕ) → IsPermutation xs ys → AllPairs Differ xs → AllPairs Differ ys
+differ-order law xs ys moved h = back ys (law (map byte_run xs) (map byte_run ys) (IsPermutation-map byte_run xs ys moved) (there xs h))
+  where
+    apart : (a b : ℕ) → Differ a b → IsApart (byte_run a) (byte_run b)
+    apart a b d = runs_apart_by (byte_run a) (byte_run b) (λ k j lk lj e. d (omega (arith, lk, lj, e)))
+
+    there : (xs : List ℕ) → AllPairs Differ xs → AllPairs IsApart (map byte_run xs)
+    there [] h = AllPairs-none IsApart
+    there (x ∷ xs) h = AllPairs-more IsApart (byte_run x) (map byte_run xs) (All-map (IsApart (byte_run x)) byte_run xs (λ k d m. apart x (get_or xs k d) (AllPairs-first Differ x xs h k d m))) (there xs (AllPairs-rest Differ x xs h))
+
+    differ : (a b : ℕ) → IsApart (byte_run a) (byte_run b) → Differ a b
+    differ a b h = λ e. by_side a b e (elsewhere (byte_run a) (byte_run b) 0 h (omega arith))
+      where
+        by_side : (a b : ℕ) → a ≡ b → (a + 0 < b) ⊎ (b + 1 ≤ a + 0) → ⊥
+        by_side a b e (inl h) = omega (arith, e, h)
+        by_side a b e (inr h) = omega (arith, e, h)
+
+    back : (ys : List ℕ) → AllPairs IsApart (map byte_run ys) → AllPairs Differ ys
+    back [] h = AllPairs-none Differ
+    back (y ∷ ys) h =
+        let first = All-unmap (IsApart (byte_run y)) byte_run ys (AllPairs-first IsApart (byte_run y) (map byte_run ys) h) in
+        AllPairs-more Differ y ys (λ k d m. differ y (get_or ys k d) (first k d m)) (back ys (AllPairs-rest IsApart (byte_run y) (map byte_run ys) h))
+
+pub packed_sorted : (l : Layout) → FlatIsARun → PlacesAreLoaded → OrderIsFree → AreWhole l → All (λ (a : ℕ). a < 2 ^ 64) (packed_list l) → AllPairs Differ (packed_list l) → IsPermutation (packed_list l) (places (tables_of l).words)
+packed_sorted l flat law order whole low differ =
     let moved = recorded_sorted l in
-    let back = IsPermutation-sym (recorded_places l) (sorted_places l).packed moved in
+    let back = IsPermutation-sym (recorded_places l) (packed_list l) moved in
     let same = sym (runs_places l whole) in
     let P : List ℕ → Type 0 = λ xs. All (λ (a : ℕ). a < 2 ^ 64) xs in
     let Q : List ℕ → Type 0 = λ xs. AllPairs (λ (a b : ℕ). a ≢ b) xs in
-    let fit = All-permutation (λ (a : ℕ). a < 2 ^ 64) (sorted_places l).packed (recorded_places l) back low in
-    let other = differ (recorded_places l) (beside-order (sorted_places l).packed (recorded_places l) back beside) in
+    let fit = All-permutation (λ (a : ℕ). a < 2 ^ 64) (packed_list l) (recorded_places l) back low in
+    let other = differ-order order (packed_list l) (recorded_places l) back differ in
     let found = law (all_runs l) (runs_even l whole) (subst P same fit) (subst Q same other) in
     let found' = subst (λ (xs : List ℕ). IsPermutation xs (places (words_of (all_runs l)))) (sym same) found in
-    IsPermutation-trans (sorted_places l).packed (recorded_places l) (places (tables_of l).words) back
+    IsPermutation-trans (packed_list l) (recorded_places l) (places (tables_of l).words) back
     (subst (λ (ws : List ℕ). IsPermutation (recorded_places l) (places ws)) (runs_words flat l) found')

@@ -1,5 +1,5 @@
 -- Lists of which each two items are related, joined end to end.
-use Rattle.std.proofs.Common.{◌≡◌, ℕ, zero, suc, ◌+◌, ◌<◌, inl, inr, List, [], ◌∷◌, ◌++◌, length, get_or, map, refl, ap, ◌∙◌, arith}
+use Rattle.std.proofs.Common.{◌≡◌, ℕ, zero, suc, ◌+◌, ◌<◌, ◌⊎◌, inl, inr, List, [], ◌∷◌, ◌++◌, length, get_or, map, refl, sym, ap, ◌∙◌, arith, subst}
 use Rattle.std.specs.Prelude.{All, AllPairs, Contains, Bool}
 use Rattle.std.specs.List.{flat_map, filter}
 use Rattle.std.proofs.lemmas.Bool.{cases_lt}
@@ -102,6 +102,29 @@ AllPairs-behind {X} {Y} R t g i (x ∷ xs) p =
     (AllPairs-behind R t g (i + 1) xs (AllPairs-right R (t i x ++ g x) rest p))
     (λ k d l. All-behind (R (get_or (g x) k d)) t g (i + 1) xs (All-right (λ a. All (R a) rest) (t i x) (g x) (AllPairs-across R (t i x ++ g x) rest p) k d l))
 
+-- ---- fewer items
+
+-- where each item gives what it gave or nothing
+abbrev pub GivesFewer : {X Y : Type 0} → (X → List Y) → (X → List Y) → Type 0
+GivesFewer {X} f g = (x : X) → (g x ≡ []) ⊎ (g x ≡ f x)
+
+pub All-fewer : {X Y : Type 0} (P : Y → Type 0) (f g : X → List Y) (xs : List X) → GivesFewer f g → All P (flat_map f xs) → All P (flat_map g xs)
+All-fewer P f g [] h a = All-nil P
+All-fewer P f g (x ∷ xs) h a =
+    All-append P (g x) (flat_map g xs)
+    (elim (h x) [ inl e ↦ subst (All P) (sym e) (All-nil P) | inr e ↦ subst (All P) (sym e) (All-left P (f x) (flat_map f xs) a) ])
+    (All-fewer P f g xs h (All-right P (f x) (flat_map f xs) a))
+
+pub AllPairs-fewer : {X Y : Type 0} (R : Y → Y → Type 0) (f g : X → List Y) (xs : List X) → GivesFewer f g → AllPairs R (flat_map f xs) → AllPairs R (flat_map g xs)
+AllPairs-fewer R f g [] h p = AllPairs-none R
+AllPairs-fewer {X} {Y} R f g (x ∷ xs) h p =
+    let P : Y → Type 0 = λ a. All (R a) (flat_map g xs) in
+    let across : All P (f x) = λ k d m. All-fewer (R (get_or (f x) k d)) f g xs h (AllPairs-across R (f x) (flat_map f xs) p k d m) in
+    AllPairs-join R (g x) (flat_map g xs)
+    (elim (h x) [ inl e ↦ subst (AllPairs R) (sym e) (AllPairs-none R) | inr e ↦ subst (AllPairs R) (sym e) (AllPairs-left R (f x) (flat_map f xs) p) ])
+    (AllPairs-fewer R f g xs h (AllPairs-right R (f x) (flat_map f xs) p))
+    (elim (h x) [ inl e ↦ subst (All P) (sym e) (All-nil P) | inr e ↦ subst (All P) (sym e) across ])
+
 -- ---- two items at places
 
 -- where each two are related either way, two at different places are
@@ -120,6 +143,10 @@ at_places R xs back p i j d other l m =
 pub filter-flat_map : {X Y : Type 0} (p : Y → Bool) (f : X → List Y) (xs : List X) → filter p (flat_map f xs) ≡ flat_map (λ x. filter p (f x)) xs
 filter-flat_map p f [] = refl
 filter-flat_map p f (x ∷ xs) = filter-append p (f x) (flat_map f xs) ∙ ap (λ ys. filter p (f x) ++ ys) (filter-flat_map p f xs)
+
+pub All-unmap : {X Y : Type 0} (P : Y → Type 0) (f : X → Y) (xs : List X) → All P (map f xs) → All (λ x. P (f x)) xs
+All-unmap P f [] a = All-nil (λ x. P (f x))
+All-unmap P f (x ∷ xs) a = All-cons (λ x. P (f x)) x xs (All-head P (f x) (map f xs) a) (All-unmap P f xs (All-tail P (f x) (map f xs) a))
 
 pub map-flat_map : {X Y Z : Type 0} (f : Y → Z) (g : X → List Y) (xs : List X) → map f (flat_map g xs) ≡ flat_map (λ x. map f (g x)) xs
 map-flat_map f g [] = refl

@@ -1,5 +1,5 @@
 -- The parts of slots and stubs in memory: they share no byte with each other, nor with an input section.
-use Rattle.std.proofs.Common.{◌≡◌, ℕ, ◌+◌, ◌-◌, ◌*◌, ◌^◌, ◌<◌, ◌≤◌, ◌⊎◌, inl, inr, Bool, true, false, List, [], ◌∷◌, length, get_or, refl, sym, ap, ◌∙◌, arith, subst}
+use Rattle.std.proofs.Common.{◌≡◌, ℕ, ◌+◌, ◌-◌, ◌^◌, ◌≤◌, inl, inr, Bool, true, false, List, length, refl, sym, ap, ◌∙◌, arith, subst}
 use Rattle.std.specs.Prelude.{Option, Some, None, All, AllPairs, Contains, slice_get}
 use Rattle.std.proofs.lemmas.Bool.{eqb-true}
 use Rattle.std.proofs.lemmas.List.Elements.{All-contains}
@@ -12,17 +12,15 @@ use Rattle.wild_plan.specs.declared.layout.Layout.{Layout}
 use Rattle.wild_plan.specs.Lookups.{takes_file_bytes}
 use Rattle.wild_plan.specs.Places.{role_place, has_role, is_loaded_role}
 use Rattle.wild_plan.specs.Segments.{part_with}
-use Rattle.wild_plan.specs.SlotShares.{word_size, header_words}
-use Rattle.wild_plan.specs.SlotPlaces.{address_of_part, start_of, first_free}
+use Rattle.wild_plan.specs.SlotPlaces.{address_of_part, start_of}
 use Rattle.wild_layout.specs.Image.{offset_in}
-use Rattle.wild_layout.specs.Geometry.{IsLaidOut, SectionLies, OwnerLies, StandsIn, RangesApart, table_bytes}
-use Rattle.wild_loader.specs.EntryLaws.{AreBeside}
+use Rattle.wild_layout.specs.Geometry.{IsLaidOut, SectionLies, StandsIn, RangesApart}
 use Rattle.wild_meaning.specs.World.{IsLoadable}
 use Rattle.wild_slots.specs.Order.{end_of}
-use Rattle.wild_slots.specs.Ascend.{LiesWithin, Ascend}
 use Rattle.wild_slots.specs.Stand.{StandsAt}
 use Rattle.wild_loaded.specs.Memory.{IsStored}
 use Rattle.wild_loaded.proofs.PartsHeld.{placed, part_carried}
+use Rattle.wild_filled.proofs.Fillings.{Filling, AreBeside}
 use Rattle.wild_filled.proofs.Homes.{Home, HasHome, HomesApart, LiesIn}
 use Rattle.wild_filled.proofs.SectionsApart.{section_home}
 
@@ -134,19 +132,22 @@ table_ends l r loaded laid = by_part (part_with r l.parts) refl
         part_low : (p : Part) → Contains l.parts p → p.address + p.size ≤ 2 ^ 62
         part_low p c = subst (λ (q : Part). q.address + q.size ≤ 2 ^ 62) c.2 (laid.parts c.0 p c.1).address
 
--- places that ascend in the table of a role
-pub record InTable (l : Layout) (r : Role) (xs : List ℕ) : Type 0 where
+-- fillings in the table of a role
+pub record InTable (l : Layout) (r : Role) (xs : List Filling) : Type 0 where
   pub within : All (LiesIn (role_home l r)) xs
   pub beside : AllPairs AreBeside xs
 
-pub in_table : (l : Layout) (r : Role) (from : ℕ) (xs : List ℕ) → is_loaded_role r ≡ true → IsLaidOut l → start_of l r ≤ from → Ascend word_size from (end_of l r) xs → InTable l r xs
-in_table l r from xs loaded laid start h =
+abbrev pub EndsBefore : Filling → Filling → Type 0
+EndsBefore x y = x.entry.offset + x.width ≤ y.entry.offset
+
+pub in_table : (l : Layout) (r : Role) (low : ℕ) (xs : List Filling) → is_loaded_role r ≡ true → IsLaidOut l → start_of l r ≤ low → All (λ (x : Filling). low ≤ x.entry.offset) xs → All (λ (x : Filling). x.entry.offset + x.width ≤ end_of l r) xs → AllPairs EndsBefore xs → InTable l r xs
+in_table l r low xs loaded laid start from to ascend =
     let e = table_ends l r loaded laid in
     let s = e.0.0 in
     let t = e.0.1 in
     record {
-      within = λ k d m. (let x = h.within k d m in let f = x.from in let g = x.to in record { from = omega (arith, s, start, f); to = omega (arith, t, g) });
-      beside = λ i j d lt m. inl (h.ascend i j d lt m);
+      within = λ k d m. (let f = from k d m in let g = to k d m in record { from = omega (arith, s, start, f); to = omega (arith, t, g) });
+      beside = λ i j d lt m. (let h = ascend i j d lt m in λ k lk o lo e. omega (arith, h, lk, e));
     }
 
 -- a byte of what stands there

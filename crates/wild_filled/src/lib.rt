@@ -1,28 +1,34 @@
-//! Which words of an image its tables fill: those of addresses in sections, and those of slots.
+//! What the tables of an image change in its loaded segments: addresses, fields that are left to entries, slots, and copies.
 #![tactic(auto)]
 
-ghost use Rattle.wild_filled.specs.Laws.{TablesAreWords};
+ghost use Rattle.wild_filled.specs.Laws.{TablesAreMade};
 
 use wild_loaded::{
-    sections_are_carried, sections_are_stored, segments_are_loadable, slots_are_stored,
-    tables_are_found,
+    copies_are_there, entries_have_changes, sections_are_carried, sections_are_stored,
+    segments_are_loadable, slots_are_stored,
 };
-use wild_loader::{entries_store_words, numbers_are_read};
+use wild_loader::{
+    entries_make_changes, entries_store_words, numbers_are_read, tables_are_applied,
+};
 use wild_relr::flat_is_a_run;
 use wild_slots::{blocks_are_whole, places_ascend};
-use wild_tables::places_are_loaded;
+use wild_tables::{entries_add_the_base, places_are_loaded};
 
-/// Over the loaded segments each packed place has a word, each entry stores one, and their places lie beside each other.
-pub fn tables_are_words()
-    ensures { TablesAreWords }
+/// Over the loaded segments each packed place and each entry makes a known change, and no two share a byte.
+pub fn tables_are_made()
+    ensures { TablesAreMade }
 {
     sections_are_carried();
     sections_are_stored();
-    slots_are_stored();
     segments_are_loadable();
-    tables_are_found();
+    slots_are_stored();
+    entries_have_changes();
+    copies_are_there();
     numbers_are_read();
+    entries_make_changes();
+    tables_are_applied();
     entries_store_words();
+    entries_add_the_base();
     flat_is_a_run();
     places_are_loaded();
     places_ascend();

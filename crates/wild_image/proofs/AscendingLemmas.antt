@@ -19,12 +19,12 @@ use Rattle.wild_reloc.specs.Field.{size_width}
 use Rattle.wild_reloc.specs.declared.info.RelocationSize.TheVariants.{ByteSize}
 use Rattle.wild_reloc.specs.declared.info.Width.TheVariants.{Eight}
 use Rattle.wild_layout.specs.declared.decision.Decision.{Decision}
-use Rattle.wild_layout.specs.declared.decision.Decision.TheVariants.{Nothing, Field, Moved}
+use Rattle.wild_layout.specs.declared.decision.Decision.TheVariants.{Nothing, Field, Moved, Left}
 use Rattle.wild_layout.specs.Decide.{decided}
 use Rattle.wild_layout.specs.Sites.{Written, written_by, field_site, site_by, site_of, site, sites, extent_of, shared_byte, section_bytes}
 use Rattle.wild_layout.specs.Faults.{relocation_errors, refusal_of, at_offset, at_section, overlap_errors, section_errors}
 use Rattle.wild_layout.specs.Geometry.{FieldLies}
-use Rattle.wild_layout.proofs.DecideLemmas.{decided_field, decided_moved, field_has, moved_has, field_ends}
+use Rattle.wild_layout.proofs.DecideLemmas.{decided_field, decided_moved, decided_left, field_has, moved_has, left_has, field_ends}
 use Rattle.wild_layout.proofs.SiteLemmas.{length-field_site, All-at}
 use Rattle.wild_image.specs.Decided.{put_decision, WrittenLies, DecisionLies, reach_of, reach_behind}
 use Rattle.wild_image.proofs.FaultLemmas.{Refuses-front}
@@ -54,6 +54,7 @@ pub relocation_lies : (l : Layout) (s : InputSection) (r : InputRelocation) (n :
 relocation_lies l s r n Nothing lies is = tt
 relocation_lies l s r n (Field z v) lies is = field_ends l r z n (field_has l s r z v (decided_field l s r z v is)) lies
 relocation_lies l s r n (Moved v packed) lies is = field_ends l r (ByteSize Eight) n (moved_has l s r v packed (decided_moved l s r v packed is)) lies
+relocation_lies l s r n (Left z k i a) lies is = field_ends l r z n (left_has l s r z k i a (decided_left l s r z k i a is)) lies
 
 pub field_at : (l : Layout) (s : InputSection) (items : List InputRelocation) (i n : ℕ) (x : InputRelocation) → items ≡ s.relocations → i < length items → x ≡ get_or items i x → All (FieldLies l.machine n) s.relocations → FieldLies l.machine n x
 field_at l s items i n x same h read lies = All-at (FieldLies l.machine n) s.relocations i x lies (listed_at s items i x same h read)

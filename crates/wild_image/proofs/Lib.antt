@@ -16,3 +16,8 @@ pub mod OwnLemmas
 pub mod BatchLemmas
 pub mod PlainLemmas
 pub mod SlotLemmas
+pub mod GeneralLemmas
+pub mod StringLemmas
+pub mod DynamicLemmas
+pub mod SymbolLemmas
+pub mod HomeLemmas

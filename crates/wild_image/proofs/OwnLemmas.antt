@@ -1,13 +1,11 @@
 -- Laws of what a file gives to the tables that a loader reads.
-use Rattle.std.proofs.Common.{◌≡◌, ℕ, ◌+◌, ◌-◌, ◌*◌, ◌%◌, ◌<◌, ◌≤◌, ◌==◌, ◌&&◌, inl, inr, true, false, max, List, [], ◌∷◌, ◌++◌, length, take, get_or, map, refl, sym, ap, ◌∙◌, arith}
+use Rattle.std.proofs.Common.{◌≡◌, ℕ, ◌+◌, ◌*◌, ◌%◌, ◌<◌, ◌≤◌, ◌==◌, ◌&&◌, inl, inr, true, false, List, [], ◌∷◌, ◌++◌, length, take, get_or, refl, sym, ap, ◌∙◌, arith}
 use Rattle.std.specs.Prelude.{Option, Some, None, option_to_list, slice_get}
 use Rattle.std.specs.List.{flat_map}
 use Rattle.std.proofs.lemmas.Bool.{cases_Bool, and_parts, eqb-true}
-use Rattle.std.proofs.lemmas.List.{append-nil, append_assoc, length-append, take_all}
+use Rattle.std.proofs.lemmas.List.{append-nil, length-append, take_all}
 use Rattle.std.proofs.lemmas.List.Concat.{flat_map-append}
 use Rattle.wild_words.proofs.ListLemmas.{flat_map-more}
-use Rattle.wild_records.specs.Dynamic.{dynamic_entry_size}
-use Rattle.wild_records.specs.Abi.Dynamic.{dt_soname}
 use Rattle.wild_records.specs.Relocations.{relr_size}
 use Rattle.wild_relr.specs.declared.run.Choice.{Choice}
 use Rattle.wild_relr.specs.declared.run.Choice.TheVariants.{Joins, Adds}
@@ -17,20 +15,15 @@ use Rattle.wild_relr.specs.Written.{word_bytes}
 use Rattle.wild_relr.proofs.PackedLemmas.{afters-packed, length-joined}
 use Rattle.wild_plan.specs.declared.input.InputRelocation.{InputRelocation}
 use Rattle.wild_plan.specs.declared.input.InputSection.{InputSection}
-use Rattle.wild_plan.specs.declared.options.Options.{Options}
 use Rattle.wild_plan.specs.declared.part.Part.{Part}
 use Rattle.wild_plan.specs.declared.file.Group.{Group}
 use Rattle.wild_plan.specs.declared.layout.Layout.{Layout}
-use Rattle.wild_plan.specs.Kinds.{needs_dynamic}
 use Rattle.wild_plan.specs.Entries.{place_of, packs, is_moved, has_moved, packed_place, packed_places, words_of}
-use Rattle.wild_plan.specs.Dynamic.{dynamic_count}
-use Rattle.wild_plan.specs.DynamicStrings.{NamedString, named, named_strings, texts_of, path_number, auxiliary_string, option_strings, epilogue_strings}
 use Rattle.wild_tables.specs.Entries.{rela_bytes}
-use Rattle.wild_tables.specs.Dynamic.{dynamic_bytes}
 use Rattle.wild_layout.specs.Moved.{listed_entry, section_entries}
 use Rattle.wild_layout.specs.Content.{content}
 use Rattle.wild_image.specs.Pieces.{role_of, group_given}
-use Rattle.wild_image.specs.Own.{entry_bytes, section_entry_bytes, section_word_bytes, packed_in, zero_ended}
+use Rattle.wild_image.specs.Own.{entry_bytes, section_entry_bytes, section_word_bytes, packed_in}
 
 -- lists of lists, joined
 pub joined_by : {X Y Z : Type 0} (f : Y → List Z) (g : X → List Y) (xs : List X) → flat_map (λ x. flat_map f (g x)) xs ≡ flat_map f (flat_map g xs)
@@ -130,54 +123,3 @@ no_words l s h = rw h refl
 pub words_joined : (l : Layout) (ss : List InputSection) → word_bytes (flat_map (words_of l) ss) ≡ flat_map (section_word_bytes l) ss
 unfolding section_word_bytes
 words_joined l ss = sym (joined_by _ (words_of l) ss)
-
--- ---- strings
-
-texts-append : (xs ys : List NamedString) → flat_map zero_ended (texts_of (xs ++ ys)) ≡ flat_map zero_ended (texts_of xs) ++ flat_map zero_ended (texts_of ys)
-texts-append [] ys = refl
-texts-append (x ∷ xs) ys = ap (λ (zs : List ℕ). zero_ended x.text ++ zs) (texts-append xs ys) ∙ sym (append_assoc (zero_ended x.text) (flat_map zero_ended (texts_of xs)) (flat_map zero_ended (texts_of ys)))
-
-text_named : (n : ℕ) (o : Option (List ℕ)) → flat_map zero_ended (texts_of (named n o)) ≡ flat_map zero_ended (option_to_list o)
-text_named n None = refl
-text_named n (Some t) = refl
-
-text_auxiliary : (ts : List (List ℕ)) → flat_map zero_ended (texts_of (map auxiliary_string ts)) ≡ flat_map zero_ended ts
-text_auxiliary [] = refl
-text_auxiliary (t ∷ ts) = ap (λ (zs : List ℕ). zero_ended t ++ zs) (text_auxiliary ts)
-
-texts_are : (o : Options) → flat_map zero_ended (texts_of (option_strings o)) ≡ flat_map zero_ended (option_to_list o.rpath) ++ (flat_map zero_ended (option_to_list o.soname) ++ flat_map zero_ended o.auxiliary)
-texts_are o =
-    texts-append (named (path_number o) o.rpath) (named dt_soname o.soname ++ map auxiliary_string o.auxiliary)
-    ∙ ap (λ (zs : List ℕ). zs ++ flat_map zero_ended (texts_of (named dt_soname o.soname ++ map auxiliary_string o.auxiliary))) (text_named (path_number o) o.rpath)
-    ∙ ap (λ (zs : List ℕ). flat_map zero_ended (option_to_list o.rpath) ++ zs)
-    (texts-append (named dt_soname o.soname) (map auxiliary_string o.auxiliary)
-    ∙ ap (λ (zs : List ℕ). zs ++ flat_map zero_ended (texts_of (map auxiliary_string o.auxiliary))) (text_named dt_soname o.soname)
-    ∙ ap (λ (zs : List ℕ). flat_map zero_ended (option_to_list o.soname) ++ zs) (text_auxiliary o.auxiliary))
-
-pub strings_are : (l : Layout) → needs_dynamic l.kind ≡ true → epilogue_strings l ≡ flat_map zero_ended (option_to_list l.options.rpath) ++ (flat_map zero_ended (option_to_list l.options.soname) ++ flat_map zero_ended l.options.auxiliary)
-unfolding named_strings
-strings_are l h = rw h (texts_are l.options)
-
-pub no_strings : (l : Layout) → needs_dynamic l.kind ≡ false → epilogue_strings l ≡ []
-unfolding named_strings
-no_strings l h = rw h refl
-
--- the strings, one after another
-pub strings_added : (l : Layout) (base a b now : List ℕ) (texts : List (List ℕ)) → needs_dynamic l.kind ≡ true → a ≡ base ++ flat_map zero_ended (option_to_list l.options.rpath) → b ≡ a ++ flat_map zero_ended (option_to_list l.options.soname) → now ≡ b ++ flat_map zero_ended texts → texts ≡ l.options.auxiliary → now ≡ base ++ epilogue_strings l
-strings_added l base a b now texts h path name last same =
-    let r = flat_map zero_ended (option_to_list l.options.rpath) in
-    let s = flat_map zero_ended (option_to_list l.options.soname) in
-    let x = flat_map zero_ended l.options.auxiliary in
-    last ∙ ap (λ (ts : List (List ℕ)). b ++ flat_map zero_ended ts) same
-    ∙ ap (λ (ys : List ℕ). ys ++ x) name
-    ∙ ap (λ (ys : List ℕ). (ys ++ s) ++ x) path
-    ∙ append_assoc (base ++ r) s x ∙ append_assoc base r (s ++ x)
-    ∙ ap (λ (ys : List ℕ). base ++ ys) (sym (strings_are l h))
-
--- ---- the dynamic section
-
--- more room than the entries have is what counts
-pub dynamic_by : (l : Layout) (room size : ℕ) → size ≡ max (dynamic_entry_size * dynamic_count l) room → dynamic_bytes l size ≡ dynamic_bytes l room
-dynamic_by l room size is =
-    let e : size - dynamic_entry_size * dynamic_count l ≡ room - dynamic_entry_size * dynamic_count l = omega (arith, is) in
-    rw e refl

@@ -1,7 +1,7 @@
 -- Groups that write nothing but their input sections.
 use Rattle.std.proofs.Common.{◌≡◌, ℕ, suc, ◌+◌, ◌<◌, ◌==◌, inl, inr, Bool, true, false, List, [], ◌∷◌, ◌++◌, length, get_or, refl, sym, ap, ◌∙◌, arith, subst}
 use Rattle.std.specs.Prelude.{not, ◌&&◌, min, ◌-◌, ◌^◌, if◌then◌else◌, Some, slice_get}
-use Rattle.std.specs.List.{flat_map, list_all}
+use Rattle.std.specs.List.{flat_map, list_all, list_any}
 use Rattle.std.proofs.lemmas.Bool.{cases_Bool, cases_order, and_parts, eqb-true, eqb-false}
 use Rattle.std.proofs.lemmas.List.{append-nil, nil_from_length}
 use Rattle.std.proofs.lemmas.Option.{get_or_from_slice_get}
@@ -12,17 +12,18 @@ use Rattle.wild_plan.specs.declared.part.Part.{Part}
 use Rattle.wild_plan.specs.declared.part.Role.{Role}
 use Rattle.wild_plan.specs.declared.part.Role.TheVariants as role
 use Rattle.wild_plan.specs.Contents.{given}
-use Rattle.wild_plan.specs.Kinds.{is_position_independent}
+use Rattle.wild_plan.specs.Entries.{general_count}
+use Rattle.wild_plan.specs.Kinds.{needs_dynamic}
 use Rattle.wild_plan.specs.Lists.{total}
 use Rattle.wild_plan.specs.Places.{role_place}
-use Rattle.wild_plan.specs.Needs.{has_plain_role, is_plain, last_of, share, group_share, needs_of, needs}
+use Rattle.wild_plan.specs.Needs.{has_plain_role, is_plain, share, group_share, needs_of, needs}
 use Rattle.wild_plan.specs.FileRoles.{is_prelude, is_epilogue}
 use Rattle.wild_plan.specs.SlotPlaces.{is_without}
 use Rattle.wild_plan.specs.SlotShares.{own_symbols, block_share}
 use Rattle.wild_tables.specs.Dynamic.{dynamic_bytes}
 use Rattle.wild_layout.specs.Content.{dynamic_room, content}
 use Rattle.wild_layout.specs.Faults.{flat_map_from, has_spare, share_errors}
-use Rattle.wild_geometry.proofs.ContentLemmas.{length-content, length-dynamic_content}
+use Rattle.wild_geometry.proofs.ContentLemmas.{has_last, some_if, length-content, length-dynamic_content, dynamic_share}
 use Rattle.wild_geometry.proofs.TableLemmas.{same_role}
 use Rattle.wild_image.specs.Pieces.{group_tables}
 use Rattle.wild_image.specs.Steps.{share_faults, part_faults}
@@ -33,30 +34,35 @@ nothing_shared l g files block q = let a = files q in let b = block q in omega (
 
 -- ---- what they give to the tables
 
-last_none : (role : Bool) (n : ℕ) → role ≡ false → (if role then n else 0) ≡ 0
-last_none role n h = rw h refl
-
-no_last : (l : Layout) (n : ℕ) (files : List File) → list_all (is_plain l) files ≡ true → total (λ (f : File). last_of f.role n) files ≡ 0
-no_last l n [] h = refl
-no_last l n (f ∷ files) h =
+-- none of their files is the last one
+not_last : (l : Layout) (files : List File) → list_all (is_plain l) files ≡ true → list_any (λ (f : File). is_epilogue f.role) files ≡ false
+not_last l [] h = refl
+not_last l (f ∷ files) h =
     let p = and_parts (is_plain l f) (list_all (is_plain l) files) h in
-    let r = and_parts (has_plain_role l f) (list_all is_without (own_symbols l f)) p.0 in
-    let q = and_parts (not (is_position_independent l.kind) && not (is_prelude f.role)) (not (is_epilogue f.role)) r.0 in
-    let a = last_none (is_epilogue f.role) n (no (is_epilogue f.role) q.1) in
-    let b = no_last l n files p.1 in
-    omega (arith, a, b)
+    let r = and_parts (has_plain_role l f) (list_all is_without (own_symbols l f) && general_count l f == 0) p.0 in
+    let q = and_parts (not (needs_dynamic l.kind) && not (is_prelude f.role)) (not (is_epilogue f.role)) r.0 in
+    let a = no (is_epilogue f.role) q.1 in
+    rw a (not_last l files p.1)
   where
     no : (b : Bool) → not b ≡ true → b ≡ false
     no true h = cc
     no false h = refl
+
+dynamic_plain : (l : Layout) (g : Group) → list_all (is_plain l) g.files ≡ true → group_share l role.Dynamic g ≡ 0 → length (content l role.Dynamic g) ≡ 0
+dynamic_plain l g plain none =
+    let last = not_last l g.files plain in
+    let size = length (dynamic_bytes l (dynamic_room l)) in
+    let a : some_if size (has_last g) ≡ 0 = rw last refl in
+    let b = dynamic_share l g in
+    let c = length-dynamic_content l g in
+    omega (arith, a, b, c, none)
 
 content_plain : (l : Layout) (r : Role) (g : Group) → list_all (is_plain l) g.files ≡ true → ((q : Role) → group_share l q g ≡ 0) → content l r g ≡ []
 content_plain l r g plain none =
     elim (cases_Bool (role_place r == role_place role.Dynamic)) [
       | inl t ↦
           (let is = same_role r role.Dynamic (eqb-true _ _ t) in
-          let long = length-dynamic_content l g ∙ no_last l (length (dynamic_bytes l (dynamic_room l))) g.files plain in
-          ap (λ (q : Role). content l q g) is ∙ nil_from_length (content l role.Dynamic g) long)
+          ap (λ (q : Role). content l q g) is ∙ nil_from_length (content l role.Dynamic g) (dynamic_plain l g plain (none role.Dynamic)))
       | inr f ↦ nil_from_length (content l r g) (length-content l r g (eqb-false _ _ f) ∙ none r)
     ]
 

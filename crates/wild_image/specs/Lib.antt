@@ -2,6 +2,8 @@ pub mod Append
 pub mod Batches
 pub mod Counts
 pub mod Decided
+pub mod General
+pub mod Homes
 pub mod Jobs
 pub mod Own
 pub mod Pieces

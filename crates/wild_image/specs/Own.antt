@@ -1,11 +1,10 @@
 -- What a file gives to the tables that a loader reads, relocation by relocation, section by section and symbol by symbol.
 --   entry_bytes l s r      the bytes of the entry of relocation r of an input section; none where it has none
 --   packed_in l s r        its place, where that is packed
---   zero_ended text        a string of a string table
 --   symbol_word_bytes p l s, symbol_entry_bytes p l s, symbol_flat_bytes l s
 --                          the bytes of the words of a symbol's slots in a part, of their entries in one, and of their
 --                          places that have a RELR word of their own
-use Rattle.std.specs.Prelude.{ℕ, List, [], ◌∷◌, ◌++◌, option_to_list}
+use Rattle.std.specs.Prelude.{ℕ, List, option_to_list}
 use Rattle.wild_plan.specs.declared.input.InputRelocation.{InputRelocation}
 use Rattle.wild_plan.specs.declared.input.InputSection.{InputSection}
 use Rattle.wild_plan.specs.declared.symbol.Symbol.{Symbol}
@@ -34,10 +33,6 @@ section_word_bytes l s = word_bytes (words_of l s)
 -- the place of a relocation, where that is packed
 abbrev pub packed_in : Layout → InputSection → InputRelocation → List ℕ
 packed_in l s r = option_to_list (packed_place l s r)
-
--- a string of a string table (gABI, "String Table")
-abbrev pub zero_ended : List ℕ → List ℕ
-zero_ended text = text ++ 0 ∷ []
 
 -- the words of a symbol's slots in a part
 unfoldable pub symbol_word_bytes : WordPart → Layout → Symbol → List ℕ

@@ -11,11 +11,12 @@ ghost use Rattle.wild_image.specs.Batches.{batch_errors, batch_bytes};
 
 use crate::arch::Arch;
 use crate::batch::Batch;
+use crate::copies::check_entries;
+use crate::listed::check_listed;
 use crate::part_bytes::PartBytes;
-use crate::piece::{check_data, zeros};
 use crate::place::InputPlace;
-use crate::slot_faults::check_slots;
 use crate::tables::add_content;
+use crate::take::{check_data, zeros};
 use crate::values::Resolved;
 use std::alloc::{AllocError, Global};
 use wild_plan::{Error, File, Group, InputSection, Layout, is_plain_group};
@@ -87,7 +88,8 @@ fn add_file_sections<A: Arch>(
     Ok(())
 }
 
-/// Adds the bytes of the sections of a file, or answers its first fault: that of its sections, or else of its slots.
+/// Adds the bytes of the sections of a file, or answers its first fault: that of its sections, or else of
+/// its copies and slots.
 #[tactic(auto, using(crate::proofs::FaultLemmas::first_of_both), unfolding(wild_layout::specs::Faults::file_errors))]
 fn add_file<A: Arch>(
     alloc: Global,
@@ -101,12 +103,12 @@ fn add_file<A: Arch>(
     ensures bytes { OnOk result (bytes.new ≡ bytes.old ++ file_sections resolved.now.layout.now file.now) }
 {
     add_file_sections(alloc, resolved, place, file, bytes)?;
-    check_slots(resolved.layout, place, file)
+    check_entries(resolved, place, file)
 }
 
-/// Adds the bytes of a group's input sections, or answers its first fault.
-#[tactic(auto, using(crate::proofs::FaultLemmas::first_from), unfolding(wild_layout::specs::Faults::group_errors))]
-fn add_group_sections<A: Arch>(
+/// Adds the bytes of the sections of a group's files, or answers their first fault.
+#[tactic(auto, using(crate::proofs::FaultLemmas::first_from))]
+fn add_files<A: Arch>(
     alloc: Global,
     resolved: &Resolved<A>,
     index: usize,
@@ -114,7 +116,7 @@ fn add_group_sections<A: Arch>(
     bytes: &mut PartBytes,
 ) -> Result<(), Error>
     requires lies { All (λ (f : File). All (SectionLies resolved.now.layout.now) f.sections) group.now.files }
-    ensures faults { Answers result (group_errors resolved.now.layout.now index group.now) }
+    ensures faults { Answers result (flat_map_from (file_errors resolved.now.layout.now index) 0 group.now.files) }
     ensures bytes { OnOk result (bytes.new ≡ bytes.old ++ group_sections resolved.now.layout.now group.now) }
 {
     for (i, file) in group.files.as_slice().iter().enumerate() {
@@ -126,6 +128,24 @@ fn add_group_sections<A: Arch>(
         add_file(alloc, resolved, place, file, bytes)?;
     }
     Ok(())
+}
+
+/// Adds the bytes of a group's input sections, or answers its first fault: that of its files, or else of the symbols that
+/// other modules see.
+#[tactic(auto, using(crate::proofs::FaultLemmas::first_of_both), unfolding(wild_layout::specs::Faults::group_errors))]
+fn add_group_sections<A: Arch>(
+    alloc: Global,
+    resolved: &Resolved<A>,
+    index: usize,
+    group: &Group,
+    bytes: &mut PartBytes,
+) -> Result<(), Error>
+    requires lies { All (λ (f : File). All (SectionLies resolved.now.layout.now) f.sections) group.now.files }
+    ensures faults { Answers result (group_errors resolved.now.layout.now index group.now) }
+    ensures bytes { OnOk result (bytes.new ≡ bytes.old ++ group_sections resolved.now.layout.now group.now) }
+{
+    add_files(alloc, resolved, index, group, bytes)?;
+    check_listed(resolved, index, group.files.as_slice())
 }
 
 /// How many bytes some groups have, so that their buffer is taken at once.

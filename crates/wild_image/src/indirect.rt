@@ -1,7 +1,7 @@
 //! Addresses of stubs and slots, by which relocations reach a symbol (x86-64 psABI, "Procedure Linkage Table", "Global
 //! Offset Table (GOT)").
 ghost use Rattle.std.specs.Prelude.{◌≡◌};
-ghost use Rattle.wild_layout.specs.Values.{address_or, resolution_of, stub_of, is_chosen, stub_address, has_second_slot, behind_word, slot_among, slot_decided, slot_of, slot_address};
+ghost use Rattle.wild_layout.specs.Values.{address_or, resolution_of, index_of, stub_of, is_chosen, stub_address, has_second_slot, behind_word, slot_among, slot_decided, slot_of, slot_address};
 
 use wild_plan::{
     Fault, Layout, Missing, Resolution, SymbolIndex, ValueFlags, flags_at, has_thread_slot,
@@ -33,6 +33,16 @@ fn resolution_of(layout: &Layout, symbol: SymbolIndex) -> Option<Resolution>
 {
     match layout.symbols.as_slice().get(layout.canonical(symbol).0) {
         Some(found) => found.resolution,
+        None => None,
+    }
+}
+
+/// The index of the symbol's definition in the dynamic symbol table.
+pub(crate) fn index_of(layout: &Layout, symbol: SymbolIndex) -> Option<u64>
+    ensures { result ≡ index_of layout.now symbol }
+{
+    match resolution_of(layout, symbol) {
+        Some(resolution) => resolution.dynamic_symbol_index,
         None => None,
     }
 }

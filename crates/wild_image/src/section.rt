@@ -13,9 +13,11 @@ ghost use Rattle.wild_layout.specs.Geometry.{FieldLies};
 ghost use Rattle.wild_image.specs.Decided.{AreDecided, IsNext, decided_sites, decided_extents};
 
 use crate::arch::Arch;
+use crate::common::common_value;
+use crate::fields::{four_behind, write_behind, write_decision};
 use crate::overlap::shared_byte;
 use crate::place::InputPlace;
-use crate::relocation::{common_value, decide, four_behind, write_behind, write_decision};
+use crate::relocation::decide;
 use crate::values::Resolved;
 use std::alloc::Global;
 use wild_layout::Decision;

@@ -1,5 +1,5 @@
 -- The clauses on indexes, fields, the dynamic symbol table, flags and names hold of the plan of n groups, and so do all.
-use Rattle.std.proofs.Common.{◌≡◌, ℕ, zero, suc, ◌+◌, ◌<◌, ◌≤◌, ◌==◌, inl, inr, true, false, List, ◌++◌, refl, sym, ap, ◌∙◌, arith}
+use Rattle.std.proofs.Common.{◌≡◌, ℕ, zero, suc, ◌+◌, ◌<◌, ◌≤◌, ◌==◌, inl, inr, true, false, List, [], ◌++◌, refl, sym, ap, ◌∙◌, arith}
 use Rattle.std.specs.Prelude.{Some, None, Ok, nat_lt}
 use Rattle.std.specs.List.{list_all}
 use Rattle.std.proofs.lemmas.Bool.{cases_Bool, cases_eq, le-leb, lt-ltb, le-ltb}
@@ -8,8 +8,8 @@ use Rattle.wild_plan.specs.Lists.{first_failing}
 use Rattle.wild_plan.specs.Lookups.{files_of, file_of}
 use Rattle.wild_plan.specs.Rows.{row_of}
 use Rattle.wild_reloc.specs.TableX86_64.{x86_64_row}
-use Rattle.wild_plan.specs.Contents.{each_section, fields_lie, start_astray, input_name_fits, symbol_name_fits}
-use Rattle.wild_plan.specs.Indexes.{group_indexes_fit, file_indexes_fit, section_indexes_fit, relocation_index_fits, definition_is_own, range_follows, range_out_of_order, symbol_misfit}
+use Rattle.wild_plan.specs.Contents.{each_section, fields_lie, start_astray, file_names_fit, group_names_fit, symbol_name_fits}
+use Rattle.wild_plan.specs.Indexes.{group_indexes_fit, file_indexes_fit, section_indexes_fit, relocation_index_fits, copied_in, copied_again, definition_is_own, range_follows, range_out_of_order, symbol_misfit}
 use Rattle.wild_plan.specs.Flags.{has_flag}
 use Rattle.wild_plan.specs.DynamicSymbols.{dynamic_symbols, misplaced}
 use Rattle.wild_plan.specs.SlotFlags.{dynamic_is_interposable, stub_is_value, stub_has_slot, one_slot_for_address, thread_slot_alone, resolver_is_own, slot_agrees, resolver_moves, second_slot_fits}
@@ -85,9 +85,21 @@ definitions_own n = none_fails (definition_is_own (made n)) made_symbol 0 0 n (�
 group_indexes : (n : ℕ) → IsCount n → first_failing (group_indexes_fit (made n)) 0 (made_from (made_group n) 0 n) ≡ None
 group_indexes n c = none_fails (group_indexes_fit (made n)) (made_group n) 0 0 n (λ k low high. file_indexes n k c (omega arith))
 
+-- no group has copies
+no_copies : (n i : ℕ) → copied_in (made n) (made_group n i) ≡ []
+no_copies n i =
+    elim (cases_Bool (i == 0)) [
+      | inl a ↦ elim (cases_Bool (i + 1 == n)) [ inl b ↦ rw (a, b) refl | inr b ↦ rw (a, b) refl ]
+      | inr a ↦ elim (cases_Bool (i + 1 == n)) [ inl b ↦ rw (a, b) refl | inr b ↦ rw (a, b) refl ]
+    ]
+
+none_copied : (n i a m : ℕ) → copied_again (made n) [] i (made_from (made_group n) a m) ≡ None
+none_copied n i a zero = refl
+none_copied n i a (suc m) = rw (no_copies n a) (none_copied n (i + 1) (a + 1) m)
+
 pub indexes_hold : (n : ℕ) → IsCount n → check_indexes (made n) ≡ Ok tt
 unfolding check_indexes made
-indexes_hold n c = rw (none_astray n 0 n (omega arith), group_indexes n c, definitions_own n, ranges_follow n 0 n) refl
+indexes_hold n c = rw (none_astray n 0 n (omega arith), group_indexes n c, none_copied n 0 0 n, definitions_own n, ranges_follow n 0 n) refl
 
 -- ---- clauses 10, 15, 16 and 19
 
@@ -112,13 +124,13 @@ pub starts_hold : (n : ℕ) → check_starts (made n) ≡ Ok tt
 unfolding check_starts made
 starts_hold n = rw (none_starts_astray n 0 n) refl
 
-input_names_fit : (n : ℕ) → first_failing (each_section input_name_fits) 0 (made_from (made_group n) 0 n) ≡ None
+file_names : (n i : ℕ) → group_names_fit (made_group n i) ≡ true
 unfolding made_section
-input_names_fit n = sections_pass input_name_fits n (λ i h. refl)
+file_names n i = all_files file_names_fit n i refl refl refl
 
 pub names_hold : (n : ℕ) → check_names (made n) ≡ Ok tt
 unfolding check_names made
-names_hold n = rw (none_fails symbol_name_fits made_symbol 0 0 n (λ k low high. refl), input_names_fit n) refl
+names_hold n = rw (none_fails symbol_name_fits made_symbol 0 0 n (λ k low high. refl), none_fails group_names_fit (made_group n) 0 0 n (λ k low high. file_names n k)) refl
 
 -- ---- clauses 13 and 14
 

@@ -1,5 +1,5 @@
 -- The clauses on sizes, counts, parts, sections and segments hold of the plan of n groups.
-use Rattle.std.proofs.Common.{◌≡◌, ℕ, ◌+◌, ◌*◌, ◌-◌, ◌^◌, ◌<◌, ◌==◌, ◌%◌, inl, inr, Bool, true, false, not, if◌then◌else◌, ◌||◌, List, [], ◌∷◌, drop, refl, ◌∙◌, arith}
+use Rattle.std.proofs.Common.{◌≡◌, ℕ, ◌+◌, ◌*◌, ◌-◌, ◌^◌, ◌<◌, ◌==◌, ◌%◌, inl, inr, Bool, true, false, not, if◌then◌else◌, ◌||◌, List, [], ◌∷◌, drop, length, ap, refl, ◌∙◌, arith}
 use Rattle.std.specs.Prelude.{None, Ok, nat_le, codes}
 use Rattle.std.specs.List.{list_all, list_any}
 use lib.Count.{ones}
@@ -13,8 +13,13 @@ use Rattle.wild_plan.specs.declared.part.Role.{Role}
 use Rattle.wild_plan.specs.declared.part.Role.TheVariants as role
 use Rattle.wild_plan.specs.Counts.{total_share, role_given}
 use Rattle.wild_plan.specs.Dynamic.{dynamic_entries, tag_entries}
-use Rattle.wild_plan.specs.DynamicStrings.{named_strings, string_entries}
-use Rattle.wild_plan.specs.Entries.{listed_places, packed_places}
+use Rattle.wild_plan.specs.DynamicStrings.{named_strings, string_entries, file_strings}
+use Rattle.wild_plan.specs.DynamicSymbols.{dynamic_symbols}
+use Rattle.wild_plan.specs.Entries.{listed_places, packed_places, left_relocations, general_count}
+use Rattle.wild_plan.specs.Flags.{has_flag}
+use Rattle.wild_plan.specs.Rows.{row_of}
+use Rattle.wild_plan.specs.Treatment.{treatment, row_treatment}
+use Rattle.wild_reloc.specs.TableX86_64.{x86_64_row}
 use Rattle.wild_plan.specs.Needs.{first_share, own_of, share, group_share}
 use Rattle.wild_plan.specs.FileRoles.{is_prelude}
 use Rattle.wild_plan.specs.SlotShares.{slot_share}
@@ -31,7 +36,7 @@ use Rattle.wild_plan.specs.WellFormed.{check_sizes, check_counts, check_order, c
 use Rattle.wild_made.specs.Made.{made_section, made_object, plain_file, made_files, made_symbol, made_group, section_with, made_sections, made_segment, made}
 use Rattle.wild_made.specs.Laws.{IsCount}
 use Rattle.wild_made.proofs.ListLemmas.{made_from, none_fails, total_same, length_made}
-use Rattle.wild_made.proofs.SlotLemmas.{slots_made, block_made}
+use Rattle.wild_made.proofs.SlotLemmas.{slots_made, block_made, no_dynamic_symbols}
 
 -- ---- the files of a group
 
@@ -109,16 +114,17 @@ nothing_shared n r first own last =
     both_none a b g h = omega (arith, g, h)
 
 pub counts_hold : (n : ℕ) → IsCount n → check_counts (made n) ≡ Ok tt
-unfolding check_counts made named_strings
+unfolding check_counts made named_strings file_strings
 counts_hold n c =
     let some = c.some in
     let few = c.few in
     let symbols = length_made made_symbol 0 n in
     let groups = length_made (made_group n) 0 n in
     let a = lt-ltb n (2 ^ 32 - 1) (omega arith) in
+    let none : length (dynamic_symbols (made n)) ≡ 0 = ap length (no_dynamic_symbols n) in
     let b = lt-ltb (8 * n) (2 ^ 32 - 1) (omega arith) in
     let d = le-leb 1 n some in
-    simp (symbols, groups, relocations_made n, a, b, d, nothing_shared n role.Dynstr refl (λ i. refl) refl) refl
+    simp (symbols, groups, none, relocations_made n, a, b, d, nothing_shared n role.Dynstr refl (λ i. refl) refl) refl
 
 -- ---- clauses 3, 4 and 5
 
@@ -131,14 +137,27 @@ order_holds n c =
     let e : (152 + 64 * n) % 8 ≡ 0 = omega arith in
     simp (a, b, d, e) refl
 
+-- no field is left to an entry
+left_made : (n i : ℕ) → left_relocations (made n) (made_section n i) ≡ []
+unfolding left_relocations treatment row_treatment row_of x86_64_row made_section made bit has_flag
+left_made n i = refl
+
+generals_made : (n i : ℕ) → general_count (made n) (made_object n i) ≡ 0
+unfolding general_count
+generals_made n i = rw (left_made n i) refl
+
+general_share : (n i : ℕ) → other_share n role.RelaDynGeneral (made_object n i) ≡ 0
+general_share n i = let none = generals_made n i in rw none refl
+
 -- each role is there, or nothing has to be written in a part of it
 each_given : (n : ℕ) (r : Role) → role_given (made n) r ≡ true
-unfolding made named_strings dynamic_entries string_entries tag_entries listed_places packed_places packed packed_on
+unfolding made named_strings file_strings dynamic_entries string_entries tag_entries listed_places packed_places packed packed_on general_count
 each_given n role.Raw = refl
 each_given n role.FileHeader = refl
 each_given n role.ProgramHeaders = refl
 each_given n role.SectionHeaders = refl
 each_given n role.Shstrtab = refl
+each_given n role.RelaDynGeneral = rw (nothing_shared n role.RelaDynGeneral refl (general_share n) refl) refl
 each_given n other = rw (nothing_shared n other refl (λ i. refl) refl) refl
 
 none_fails_in : {X : Type 0} (t : X → Bool) (i : ℕ) (xs : List X) → ((x : X) → t x ≡ true) → first_failing t i xs ≡ None

@@ -1,16 +1,22 @@
 -- No symbol of the plan of n groups has a slot or a stub.
-use Rattle.std.proofs.Common.{◌≡◌, ℕ, zero, suc, ◌+◌, ◌-◌, ◌<◌, ◌==◌, inl, inr, Bool, true, List, [], ◌∷◌, take, drop, refl, arith}
-use Rattle.std.specs.Prelude.{None, Ok, slice_range, length}
+use Rattle.std.proofs.Common.{◌≡◌, ℕ, zero, suc, ◌+◌, ◌-◌, ◌<◌, ◌==◌, inl, inr, Bool, true, false, List, [], ◌∷◌, take, drop, refl, ◌∙◌, arith}
+use Rattle.std.specs.Prelude.{None, Ok, not, slice_range, length}
 use Rattle.std.specs.List.{flat_map, list_all}
 use Rattle.std.proofs.lemmas.Bool.{cases_Bool, and_parts, le-ltb}
+use Rattle.std.proofs.lemmas.List.Concat.{flat_map-append}
 use Rattle.wild_relr.specs.Packed.{block}
 use Rattle.wild_plan.specs.declared.part.Role.{Role}
 use Rattle.wild_plan.specs.declared.part.Role.TheVariants as role
 use Rattle.wild_plan.specs.declared.file.File.{File}
+use Rattle.wild_plan.specs.declared.file.FileRole.TheVariants as file_role
 use Rattle.wild_plan.specs.declared.file.Group.{Group}
 use Rattle.wild_plan.specs.declared.layout.Layout.{Layout}
 use Rattle.wild_plan.specs.declared.symbol.Symbol.{Symbol}
+use Rattle.wild_plan.specs.Astray.{range_of}
+use Rattle.wild_plan.specs.DynamicSymbols.{is_undefined_entry, places_where, undefined_in, dynamic_symbols}
+use Rattle.wild_plan.specs.Flags.{has_flag}
 use Rattle.wild_plan.specs.Lists.{first_failing}
+use Rattle.wild_plan.specs.Lookups.{files_of}
 use Rattle.wild_plan.specs.SlotShares.{writes_slots, own_symbols, slot_share, block_places, group_block, block_share}
 use Rattle.wild_plan.specs.SlotPlaces.{first_free, walk, symbol_step, is_without, slot_before, range_step, group_step, slots_astray, slot_is_even}
 use Rattle.wild_plan.specs.WellFormed.{check_slots}
@@ -18,7 +24,7 @@ use Rattle.wild_plan.proofs.SlotShareLemmas.{no_slots, slots_plain}
 use Rattle.wild_plan.proofs.SlotBlockLemmas.{places_without}
 use Rattle.wild_plan.proofs.SlotPlaceLemmas.{step_without}
 use Rattle.wild_layout.specs.Faults.{flat_map_from, symbol_errors, slot_errors}
-use Rattle.wild_made.specs.Made.{made_object, made_symbol, made_group, made}
+use Rattle.wild_made.specs.Made.{made_object, made_files, made_symbol, made_group, made}
 use Rattle.wild_made.proofs.ListLemmas.{made_from, none_fails, both_true, list_all_made}
 
 -- ---- parts of lists whose items all pass
@@ -79,6 +85,49 @@ errors_without l g k i (s ∷ ss) h =
 pub slots_clean : (n g k : ℕ) (f : File) → slot_errors (made n) g k f ≡ []
 unfolding slot_errors
 slots_clean n g k f = errors_without (made n) g k f.first_symbol (own_symbols (made n) f) (without_made n f)
+
+-- ---- the dynamic symbol table
+
+none_placed : {X : Type 0} (t : X → Bool) (i : ℕ) (xs : List X) → list_all (λ x. not (t x)) xs ≡ true → places_where t i xs ≡ []
+none_placed t i [] h = refl
+none_placed t i (x ∷ xs) h =
+    let p = and_parts (not (t x)) (list_all (λ y. not (t y)) xs) h in
+    let no : t x ≡ false = not-true (t x) p.0 in
+    rw no (none_placed t (i + 1) xs p.1)
+  where
+    not-true : (b : Bool) → not b ≡ true → b ≡ false
+    not-true true e = cc
+    not-true false e = refl
+
+-- no object's symbol is another module's
+all_own : (n : ℕ) → list_all (λ (s : Symbol). not (is_undefined_entry file_role.Object s)) (made_from made_symbol 0 n) ≡ true
+unfolding has_flag
+all_own n = list_all_made (λ (s : Symbol). not (is_undefined_entry file_role.Object s)) made_symbol 0 n (λ k low high. refl)
+
+none_undefined : (n i : ℕ) → undefined_in (made_from made_symbol 0 n) (made_object n i) ≡ []
+none_undefined n i =
+    let t = λ (s : Symbol). not (is_undefined_entry file_role.Object s) in
+    none_placed (is_undefined_entry file_role.Object) i (range_of (made_from made_symbol 0 n) (made_object n i)) (all_taken t 1 (drop i (made_from made_symbol 0 n)) (all_dropped t i (made_from made_symbol 0 n) (all_own n)))
+
+undefined_files : (n i : ℕ) → flat_map (undefined_in (made_from made_symbol 0 n)) (made_files n i) ≡ []
+undefined_files n i =
+    let own = none_undefined n i in
+    elim (cases_Bool (i == 0)) [
+      | inl a ↦ elim (cases_Bool (i + 1 == n)) [ inl b ↦ rw (a, b, own) refl | inr b ↦ rw (a, b, own) refl ]
+      | inr a ↦ elim (cases_Bool (i + 1 == n)) [ inl b ↦ rw (a, b, own) refl | inr b ↦ rw (a, b, own) refl ]
+    ]
+
+undefined_groups : (n a m : ℕ) → flat_map (undefined_in (made_from made_symbol 0 n)) (files_of (made_from (made_group n) a m)) ≡ []
+undefined_groups n a zero = refl
+undefined_groups n a (suc m) =
+    let one = undefined_files n a in
+    let rest = undefined_groups n (a + 1) m in
+    flat_map-append (undefined_in (made_from made_symbol 0 n)) (made_files n a) (files_of (made_from (made_group n) (a + 1) m)) ∙ rw (one, rest) refl
+
+-- no symbol is in the dynamic symbol table
+pub no_dynamic_symbols : (n : ℕ) → dynamic_symbols (made n) ≡ []
+unfolding made
+no_dynamic_symbols n = rw (undefined_groups n 0 n) refl
 
 -- ---- clause 11
 

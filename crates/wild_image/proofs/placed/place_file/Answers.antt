@@ -1,0 +1,12 @@
+use Rattle.std.proofs.Common.{◌<◌, ◌≤◌, subst, arith, ◌∙◌, ap, length, get_or, Option, Some, None, ℕ}
+use Rattle.std.specs.Option.{option_or}
+use Rattle.wild_plan.specs.declared.file.File.{File}
+use Rattle.wild_image.proofs.ValueLemmas.{place_more}
+use Rattle.wild_image.proofs.placed.place_file.Goals as goal
+
+pub loop-i-preserved : goal.loop-i-preserved
+loop-i-preserved g c =
+    let m : c.loop-i.i < length c.loop-i.placed = omega (arith, c.loop-i.auto.placed, c.min-end.ensures) in
+    let low = subst (λ (f : File). f.first_symbol ≤ c.loop-i.i) c.file.view_is c.loop-i.auto.i in
+    place_more (g.T.Told.told c.args.layout.now) c.args.file.now c.args.file.now.first_symbol c.loop-i.i c.args.placed.now c.loop-i.placed _ low m c.loop-i.invariant
+    (c.or.ensures ∙ ap (λ o. option_or (get_or c.loop-i.placed c.loop-i.i None) (Some o)) c.tell.ensures)

@@ -1,0 +1,29 @@
+-- What a file gives to the table of entries that name a symbol or a resolver, relocation by relocation and section by section.
+--   left_in l s r               the entry of a relocation, where its field is left to one
+--   left_bytes l s r            its bytes
+--   section_general_bytes l s   those of an input section
+--   copy_bytes l i              those of the entry by which symbol i is copied
+use Rattle.std.specs.Prelude.{ℕ, List, [], ◌∷◌, if◌then◌else◌, Option, Some, None, option_to_list}
+use Rattle.wild_records.specs.declared.relocations.Rela.{Rela}
+use Rattle.wild_plan.specs.declared.input.InputRelocation.{InputRelocation}
+use Rattle.wild_plan.specs.declared.input.InputSection.{InputSection}
+use Rattle.wild_plan.specs.declared.layout.Layout.{Layout}
+use Rattle.wild_plan.specs.Entries.{is_left_to_entry}
+use Rattle.wild_plan.specs.Treatment.{treatment}
+use Rattle.wild_tables.specs.Entries.{rela_bytes}
+use Rattle.wild_layout.specs.Left.{left_entry, section_generals, copy_entry}
+
+-- the entry of a relocation, where its field is left to one
+unfoldable pub left_in : Layout → InputSection → InputRelocation → Option Rela
+left_in l s r = if is_left_to_entry (treatment l s r) then Some (left_entry l s r) else None
+
+unfoldable pub left_bytes : Layout → InputSection → InputRelocation → List ℕ
+left_bytes l s r = rela_bytes (option_to_list (left_in l s r))
+
+-- those of an input section
+unfoldable pub section_general_bytes : Layout → InputSection → List ℕ
+section_general_bytes l s = rela_bytes (section_generals l s)
+
+-- the entry by which a symbol is copied
+unfoldable pub copy_bytes : Layout → ℕ → List ℕ
+copy_bytes l i = rela_bytes (copy_entry l i ∷ [])
