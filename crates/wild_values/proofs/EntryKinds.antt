@@ -7,7 +7,7 @@ use Rattle.std.proofs.lemmas.Bool.{cases_Bool, eqb-true, eq-eqb}
 use Rattle.std.proofs.lemmas.Int.{of_z-to_z}
 use Rattle.wild_words.specs.Words.{word}
 use Rattle.wild_words.specs.Words as words
-use Rattle.wild_words.proofs.WordLemmas.{number-word, length-word}
+use Rattle.wild_words.proofs.WordLemmas.{number-word}
 use Rattle.wild_records.specs.Abi.Relocation.{r_x86_64_64, r_x86_64_irelative, r_x86_64_size32, r_x86_64_size64}
 use Rattle.wild_records.proofs.FieldLemmas.{signed_fits}
 use Rattle.wild_plan.specs.declared.fault.Fault.{Fault}
@@ -15,7 +15,6 @@ use Rattle.wild_plan.specs.declared.fault.Missing.TheVariants as missing
 use Rattle.wild_plan.specs.declared.kind.Machine.{Machine}
 use Rattle.wild_plan.specs.declared.kind.Machine.TheVariants as machine
 use Rattle.wild_plan.specs.declared.symbol.Resolution.{Resolution}
-use Rattle.wild_plan.specs.declared.symbol.Symbol.{Symbol}
 use Rattle.wild_plan.specs.declared.symbol.ValueFlags.{ValueFlags}
 use Rattle.wild_plan.specs.declared.input.InputRelocation.{InputRelocation}
 use Rattle.wild_plan.specs.declared.input.InputSection.{InputSection}
@@ -23,14 +22,14 @@ use Rattle.wild_plan.specs.declared.layout.Layout.{Layout}
 use Rattle.wild_plan.specs.declared.treatment.Treatment.{Treatment}
 use Rattle.wild_plan.specs.declared.treatment.Treatment.TheVariants as treatments
 use Rattle.wild_plan.specs.Entries.{is_left_to_entry}
-use Rattle.wild_plan.specs.Flags.{has_flag, interposable, dynamic, ifunc, absolute, non_interposable, copy_relocation, export_dynamic}
+use Rattle.wild_plan.specs.Flags.{has_flag, dynamic, ifunc, absolute, non_interposable, copy_relocation, export_dynamic}
 use Rattle.wild_plan.specs.Kinds.{is_position_independent}
 use Rattle.wild_plan.specs.Lookups.{canonical, writable, allocated}
 use Rattle.wild_plan.specs.Rows.{row_of}
 use Rattle.wild_plan.specs.SlotParts.{type_of}
 use Rattle.wild_plan.specs.Treatment.{flags_at, is_left, is_chosen, address_treatment, kind_treatment, treatment}
 use Rattle.wild_reloc.specs.Agreement.{X86_64Agrees, plain_value}
-use Rattle.wild_reloc.specs.Field.{field_width, size_width}
+use Rattle.wild_reloc.specs.Field.{field_width}
 use Rattle.wild_reloc.specs.Formula.{Formula, formula, Form, Value, Full, Plain, Unsigned, Reads, SymbolAddress, Size}
 use Rattle.wild_reloc.specs.FormulaX86_64.{x86_64_formula}
 use Rattle.wild_reloc.specs.TableX86_64.{x86_64_rows, x86_64_row}
@@ -42,14 +41,13 @@ use Rattle.wild_reloc.specs.declared.info.RelocationSize.{RelocationSize}
 use Rattle.wild_reloc.specs.declared.info.RelocationSize.TheVariants.{ByteSize}
 use Rattle.wild_reloc.specs.declared.info.Width.TheVariants.{Eight}
 use Rattle.wild_reloc.proofs.TableLemmas.{entry_passes}
-use Rattle.wild_layout.specs.declared.decision.Decision.{Decision}
 use Rattle.wild_layout.specs.declared.decision.Decision.TheVariants.{Left}
 use Rattle.wild_layout.specs.Decide.{added, left_to, chosen_to, decide_by, decided}
 use Rattle.wild_layout.specs.Values.{resolution_of, index_of, decided_address}
-use Rattle.wild_layout.proofs.DecideLemmas.{IsLeft, decided_left}
+use Rattle.wild_layout.proofs.DecideLemmas.{decided_left}
 use Rattle.wild_layout.specs.Geometry.{NamesSymbol}
 use Rattle.wild_layout.proofs.TreatmentLemmas.{has_value, IsLeftBy, IsSizedBy, row_symbolic, row_indirect, row_extent}
-use Rattle.wild_geometry.specs.Loaded.{InMemory, MakesChange, entry_with, stored_bytes, ReadsLeft}
+use Rattle.wild_geometry.specs.Loaded.{InMemory, MakesChange, stored_bytes, ReadsLeft}
 use Rattle.wild_loader.specs.Changes.{kind_of, change_of, answer_at}
 use Rattle.wild_loader.specs.declared.change.Change.{Change}
 use Rattle.wild_loader.specs.declared.change.Change.TheVariants as changes
@@ -57,7 +55,6 @@ use Rattle.wild_loader.specs.declared.fault.LoadFault.{LoadFault}
 use Rattle.wild_loader.specs.declared.kind.DynamicKind.TheVariants as works
 use Rattle.wild_loader.specs.declared.memory.Machine.TheVariants as processors
 use Rattle.wild_loader.specs.declared.memory.Memory.{Memory}
-use Rattle.wild_loader.specs.declared.world.Answer.{Answer}
 use Rattle.wild_loader.specs.declared.world.World.{World}
 use Rattle.wild_meaning.specs.Field.{formula_of}
 use Rattle.wild_meaning.specs.Formula.{IsTarget, IsSum, IsExtent, IsShort, Gives}
@@ -69,7 +66,7 @@ use Rattle.wild_values.proofs.Answered.{has_answer, answered_value, answered_siz
 use Rattle.wild_values.proofs.EntryWords.{IsAnsweredBy, after_known, after_step, change_by}
 use Rattle.wild_values.proofs.KnownRows.{RowFits, row_fits}
 use Rattle.wild_values.proofs.SlotFlags.{symbol_fits, resolver_own}
-use Rattle.wild_values.proofs.Symbols.{IsResolvedBy, resolved, resolved_raw, defined_by, definition_listed, flags_are, replaceable_at, flag_at}
+use Rattle.wild_values.proofs.Symbols.{IsResolvedBy, resolved, resolved_raw, flags_are, replaceable_at, flag_at}
 use Rattle.wild_values.proofs.Tests.{either_of}
 use Rattle.wild_values.proofs.Treated.{IsLeftToResolver, treated_by, address_chosen}
 use Rattle.wild_values.proofs.ValueKinds.{more}

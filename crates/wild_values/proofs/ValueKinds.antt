@@ -150,7 +150,7 @@ own_size l w m s i symbol p listed room kept =
     let f = flags_are l i c whose.symbol whose.defined whose.listed in
     let fits = symbol_fits l c whose.symbol p.symbols whose.listed in
     let open_one : has_flag (flags_at l i) dynamic ≡ true → interposable (flags_at l i) ≡ true = λ d.
-        ap (λ (x : ValueFlags). interposable x) f ∙ dynamic_interposable whose.symbol fits.interposable (sym (ap (λ (x : ValueFlags). has_flag x dynamic) f) ∙ d) in
+    ap (λ (x : ValueFlags). interposable x) f ∙ dynamic_interposable whose.symbol fits.interposable (sym (ap (λ (x : ValueFlags). has_flag x dynamic) f) ∙ d) in
     let none = by_tests (allocated s.flags) (has_flag (flags_at l i) non_interposable) (has_flag (flags_at l i) dynamic) (has_flag (flags_at l i) copy_relocation) (is_shared_object l.kind) (has_flag (flags_at l i) export_dynamic) room open_one kept in
     subst (λ (b : Bool). IsReplaceable l i b) (ap (λ (b : Bool). (has_flag (flags_at l i) dynamic && not (has_flag (flags_at l i) copy_relocation)) || (b && (has_flag (flags_at l i) export_dynamic && not (has_flag (flags_at l i) non_interposable)))) (library_is l.kind) ∙ none) whose
   where
