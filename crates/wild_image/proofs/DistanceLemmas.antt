@@ -36,3 +36,8 @@ unfolding decided treatment row_treatment
 fixed_decided l s r row known kind h =
     let t : kind_treatment l s r.symbol row row.kind ≡ Value row = ap (kind_treatment l s r.symbol row) kind ∙ fixed_distance l s row r.symbol h in
     rw (known, t) refl
+
+-- what is decided of a relocation of which that treatment was found
+pub decided_is : (l : Layout) (s : InputSection) (r : InputRelocation) (row : Option RelocationKindInfo) (t : Treatment) → row ≡ row_of l.machine r.number → t ≡ row_treatment l s r.symbol row → decide_by l s r t ≡ decided l s r
+unfolding decided treatment
+decided_is l s r row t is found = ap (decide_by l s r) (found ∙ ap (row_treatment l s r.symbol) is)

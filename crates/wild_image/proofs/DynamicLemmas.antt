@@ -1,5 +1,5 @@
 -- Laws of the entries of a group in the dynamic section.
-use Rattle.std.proofs.Common.{◌≡◌, ℕ, ◌+◌, ◌-◌, ◌*◌, ◌≤◌, Bool, true, false, if◌then◌else◌, max, List, [], ◌∷◌, ◌++◌, length, refl, sym, ap, ◌∙◌, arith}
+use Rattle.std.proofs.Common.{◌≡◌, ℕ, ◌+◌, ◌-◌, ◌*◌, inl, inr, Bool, true, false, if◌then◌else◌, max, List, [], ◌∷◌, ◌++◌, length, refl, sym, ap, ◌∙◌, arith}
 use Rattle.std.specs.List.{list_any}
 use Rattle.std.proofs.lemmas.Bool.{cases_Bool}
 use Rattle.std.proofs.lemmas.List.{append-nil, append_assoc, length-append}
@@ -29,7 +29,7 @@ dynamic_by l room size is =
 one_needed : (at : ℕ) (f : File) → length (needed_of at f) ≡ length (needed_of 0 f)
 one_needed at f = by (is_library f.role) at
   where
-    by : (b : Bool) (at : ℕ) → length (if b then record { tag = 1; value = at } ∷ [] else []) ≡ length {A = DynamicEntry} (if b then record { tag = 1; value = 0 } ∷ [] else [])
+    by : (b : Bool) (at : ℕ) → length {A = DynamicEntry} (if b then record { tag = 1; value = at } ∷ [] else []) ≡ length {A = DynamicEntry} (if b then record { tag = 1; value = 0 } ∷ [] else [])
     by true at = refl
     by false at = refl
 

@@ -49,6 +49,7 @@ fn check_copy<A: Arch>(
 }
 
 /// Refuses copies of which one lacks something: answers the first fault in their order.
+#[tactic(auto, using(crate::proofs::FaultLemmas::first_faults))]
 fn check_copies<A: Arch>(
     resolved: &Resolved<A>,
     place: InputPlace,

@@ -102,7 +102,7 @@ fn add_all_left<A: Arch>(
 }
 
 /// Adds the entries of a section.
-#[tactic(auto, using(crate::proofs::GeneralLemmas::section_left, crate::proofs::GeneralLemmas::section_unread))]
+#[tactic(auto, using(crate::proofs::GeneralLemmas::section_left, crate::proofs::GeneralLemmas::none_left))]
 fn add_section_left<A: Arch>(
     resolved: &Resolved<A>,
     section: &InputSection,

@@ -13,7 +13,6 @@ use wild_plan::{DynamicSymbol, Error, Fault, File};
 use wild_symbols::{SymbolFields, listed_fields, no_fields};
 
 /// What the entry of a listed symbol says, or what the symbol lacks of it.
-#[tactic(auto, using(crate::proofs::HomeLemmas::listed_by_home))]
 fn fields_of<A: Arch>(
     resolved: &Resolved<A>,
     listed: &DynamicSymbol,

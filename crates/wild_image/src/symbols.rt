@@ -37,7 +37,6 @@ fn behind_text(at: u64, text: &[u8]) -> u64
 }
 
 /// Adds the entry of a symbol whose name stands at an offset, and tells the offset behind that.
-#[tactic(auto, using(crate::proofs::SymbolLemmas::entry_added))]
 fn add_symbol(
     at: u64,
     name: &[u8],
