@@ -23,11 +23,11 @@ use Rattle.wild_plan.specs.declared.treatment.Treatment.{Treatment}
 use Rattle.wild_plan.specs.declared.treatment.Treatment.TheVariants as treatments
 use Rattle.wild_plan.specs.Entries.{is_left_to_entry}
 use Rattle.wild_plan.specs.Flags.{has_flag, dynamic, ifunc, absolute, non_interposable, copy_relocation, export_dynamic}
-use Rattle.wild_plan.specs.Kinds.{is_position_independent}
+use Rattle.wild_plan.specs.Kinds.{is_position_independent, is_shared_object}
 use Rattle.wild_plan.specs.Lookups.{canonical, writable, allocated}
 use Rattle.wild_plan.specs.Rows.{row_of}
 use Rattle.wild_plan.specs.SlotParts.{type_of}
-use Rattle.wild_plan.specs.Treatment.{flags_at, is_left, is_chosen, address_treatment, kind_treatment, treatment}
+use Rattle.wild_plan.specs.Treatment.{flags_at, is_left, is_chosen, is_sized, address_treatment, size_treatment, kind_treatment, treatment}
 use Rattle.wild_reloc.specs.Agreement.{X86_64Agrees, plain_value}
 use Rattle.wild_reloc.specs.Field.{field_width}
 use Rattle.wild_reloc.specs.Formula.{Formula, formula, Form, Value, Full, Plain, Unsigned, Reads, SymbolAddress, Size}
@@ -326,9 +326,34 @@ long_change w d a c low h =
     let same : changes.Word ((x.0.size + cast_unsigned w64 (cast_signed w64 a)) % 2 ^ 64) ≡ c = (let g : made_change (changes.Word ((x.0.size + cast_unsigned w64 (cast_signed w64 a)) % 2 ^ 64)) ≡ made_change c = x.2 in cc) in
     (record { answer = x.0; there = x.1 }, sym same ∙ ap (λ (n : ℕ). changes.Word ((x.0.size + n) % 2 ^ 64)) (of_z-to_z w64 a low))
 
-extent_given : (l : Layout) (w : World) (m : Memory) (s : InputSection) (r : InputRelocation) (row : RelocationKindInfo) (i number symbol addend : ℕ) (z : RelocationSize) (bs : List ℕ) (fits : RowFits r.number row) → IsPlaced l w m → FitsSigned w64 r.addend → r.symbol ≡ Some i → (r.number ≡ r_x86_64_size32) ⊎ (r.number ≡ r_x86_64_size64)
+-- an entry has the size of a symbol that others may define
+middle : (a b c : Bool) → (a && b && c) ≡ true → b ≡ true
+middle a true c h = refl
+middle true false c h = cc
+middle false false c h = cc
+
+not_set : (b : Bool) → not b ≡ true → b ≡ false
+not_set true h = cc
+not_set false h = refl
+
+sized : (l : Layout) (s : InputSection) (row r : RelocationKindInfo) (i k : ℕ) → size_treatment l s row i ≡ treatments.Extent r k → is_sized l s i ≡ true
+sized l s row r i k h =
+    elim (cases_Bool (is_sized l s i)) [
+      | inl t ↦ t
+      | inr f ↦ cc (rw f at h)
+    ]
+
+open_flag : (l : Layout) (s : InputSection) (row r : RelocationKindInfo) (i k : ℕ) → size_treatment l s row i ≡ treatments.Extent r k → has_flag (flags_at l i) non_interposable ≡ false
+open_flag l s row r i k h = not_set (has_flag (flags_at l i) non_interposable) (middle (allocated s.flags) (not (has_flag (flags_at l i) non_interposable)) (has_flag (flags_at l i) dynamic || is_shared_object l.kind) (sized l s row r i k h))
+
+open_symbol : (l : Layout) (w : World) (m : Memory) (i : ℕ) → IsPlaced l w m → i < length l.symbols → has_flag (flags_at l i) non_interposable ≡ false → HasFlag l i non_interposable false
+open_symbol l w m i p listed h =
+    let z = slice_get_inside l.symbols i listed in
+    subst (λ (b : Bool). HasFlag l i non_interposable b) h (flag_at l i non_interposable z.0 p.symbols.named z.1)
+
+extent_given : (l : Layout) (w : World) (m : Memory) (s : InputSection) (r : InputRelocation) (row : RelocationKindInfo) (i number symbol addend : ℕ) (z : RelocationSize) (bs : List ℕ) (fits : RowFits r.number row) → IsPlaced l w m → FitsSigned w64 r.addend → HasFlag l i non_interposable false → r.symbol ≡ Some i → (r.number ≡ r_x86_64_size32) ⊎ (r.number ≡ r_x86_64_size64)
     → left_to row.size r.number r i (index_of l i) ≡ Ok (Left z number symbol addend) → ReadsLeft InMemory w z number symbol addend bs → IsGiven l w m s r fits.formula bs
-extent_given l w m s r row i number symbol addend z bs fits p signed named type made reads = by_type type
+extent_given l w m s r row i number symbol addend z bs fits p signed opened named type made reads = by_type type
   where
     d : (index_of l i ≡ Some symbol) × (r.number ≡ number) × (added r ≡ addend)
     d = index_given row.size z r.number number symbol addend r i (index_of l i) made
@@ -356,7 +381,7 @@ extent_given l w m s r row i number symbol addend z bs fits p signed named type 
         let c = short_change w symbol addend reads.0 low (makes r_x86_64_size32 e) in
         let x = c.0 in
         let v = (x.answer.size + addend) % 2 ^ 64 % 2 ^ 32 in
-        let short : IsShort l w r = record { number = e; symbol = i; named = named; answer = x.answer; given = answer x } in
+        let short : IsShort l w r = record { number = e; symbol = i; named = named; interposable = opened; answer = x.answer; given = answer x } in
         let bytes = bytes_are bs reads.0 (changes.Half v) c.1 reads.2 in
         subst (λ (f : Formula). IsGiven l w m s r f bs) (formula_by r_x86_64_size32 (formula Size (Plain 32 Unsigned)) e short_formula) (record {
           value = v;
@@ -396,6 +421,13 @@ address_by l s r row i t is known kind named =
     let b : kind_treatment l s r.symbol row kinds.Absolute ≡ t = subst (λ (k : RelocationKind). kind_treatment l s r.symbol row k ≡ t) kind a in
     subst (λ (o : Option ℕ). kind_treatment l s o row kinds.Absolute ≡ t) named b
 
+-- that of a size is its symbol's too
+size_by : (l : Layout) (s : InputSection) (r : InputRelocation) (row : RelocationKindInfo) (i : ℕ) (t : Treatment) → treatment l s r ≡ t → row_of l.machine r.number ≡ Some row → row.kind ≡ kinds.SymbolSize → r.symbol ≡ Some i → size_treatment l s row i ≡ t
+size_by l s r row i t is known kind named =
+    let a : kind_treatment l s r.symbol row row.kind ≡ t = sym (treated_by l s r row known) ∙ is in
+    let b : kind_treatment l s r.symbol row kinds.SymbolSize ≡ t = subst (λ (k : RelocationKind). kind_treatment l s r.symbol row k ≡ t) kind a in
+    subst (λ (o : Option ℕ). kind_treatment l s o row kinds.SymbolSize ≡ t) named b
+
 -- a field with its formula
 pub record FieldGiven (l : Layout) (w : World) (m : Memory) (s : InputSection) (r : InputRelocation) (bs : List ℕ) : Type 0 where
   pub formula : Formula
@@ -422,7 +454,8 @@ left_given agrees l w m s r z number symbol addend bs p listed fits made reads =
         let k = extent_row l s r row i is in
         let here = row_here l r.number row p.x86 k.0 in
         let f = row_fits r.number row agrees here (ap has_value k.1.kind) in
-        record { formula = f.formula; known = formula_here l r row p.x86 f; given = extent_given l w m s r row i number symbol addend z bs f p fits k.1.named (size_types r.number row here k.1.kind) h reads }
+        let opened = open_symbol l w m i p (listed i k.1.named) (open_flag l s row row i i (size_by l s r row i (treatments.Extent row i) is k.0 k.1.kind k.1.named)) in
+        record { formula = f.formula; known = formula_here l r row p.x86 f; given = extent_given l w m s r row i number symbol addend z bs f p fits opened k.1.named (size_types r.number row here k.1.kind) h reads }
     by_treatment other left is h = cc
 
 pub entries_give : X86_64Agrees → EntriesGive
