@@ -1,8 +1,8 @@
 -- What the tables of a layout fill is known and lies beside each other.
-use Rattle.std.proofs.Common.{◌≡◌, ℕ, ◌+◌, ◌^◌, ◌<◌, ◌≤◌, true, List, [], ◌∷◌, ◌++◌, length, get_or, refl, sym, arith, subst}
-use Rattle.std.specs.Prelude.{Some, None, All, AllPairs, Contains, ◌≢◌, IsPermutation}
+use Rattle.std.proofs.Common.{◌≡◌, ℕ, ◌+◌, ◌^◌, ◌<◌, ◌≤◌, true, List, [], ◌++◌, length, get_or, refl, sym, arith, subst}
+use Rattle.std.specs.Prelude.{All, AllPairs, Contains, ◌≢◌, IsPermutation}
 use Rattle.std.specs.List.{flat_map}
-use Rattle.std.proofs.lemmas.List.Elements.{All-nil, All-cons, All-head, All-tail, All-append}
+use Rattle.std.proofs.lemmas.List.Elements.{All-nil, All-cons, All-append}
 use Rattle.wild_records.specs.declared.relocations.Rela.{Rela}
 use Rattle.wild_plan.specs.declared.kind.Machine.TheVariants as machine
 use Rattle.wild_plan.specs.declared.part.Role.{Role}
@@ -11,7 +11,7 @@ use Rattle.wild_plan.specs.declared.slot_parts.WordPart.TheVariants as words
 use Rattle.wild_plan.specs.declared.input.InputSection.{InputSection}
 use Rattle.wild_plan.specs.declared.layout.Layout.{Layout}
 use Rattle.wild_plan.specs.Places.{is_loaded_role}
-use Rattle.wild_plan.specs.SlotShares.{word_size, block_place}
+use Rattle.wild_plan.specs.SlotShares.{word_size}
 use Rattle.wild_plan.specs.SlotPlaces.{start_of}
 use Rattle.wild_layout.specs.Numbers.{NumbersFit}
 use Rattle.wild_layout.specs.Faults.{flat_map_from, group_errors}
@@ -22,33 +22,33 @@ use Rattle.wild_loader.specs.Places.{places}
 use Rattle.wild_loader.specs.declared.memory.Memory.{Memory}
 use Rattle.wild_loader.specs.declared.world.World.{World}
 use Rattle.wild_meaning.specs.World.{IsLoadable, IsLegal, IsBehind}
-use Rattle.wild_slots.specs.Order.{end_of, written_symbols}
+use Rattle.wild_slots.specs.Order.{end_of}
 use Rattle.wild_slots.specs.Ascend.{Ascend, PlacesAscend}
 use Rattle.wild_slots.specs.Blocks.{BlocksAreWhole}
 use Rattle.wild_loaded.specs.Memory.{image_memory, EachDecided}
 use Rattle.wild_loaded.specs.WholeSlots.{HasWholeSlots}
 use Rattle.wild_loaded.specs.Tables.{tables_of}
-use Rattle.wild_loaded.specs.Laws.{SectionsAreCarried, SectionsAreStored, SegmentsAreLoadable, SlotsAreStored, ZerosAreStored, EntriesHaveChanges, CopiesAreThere}
+use Rattle.wild_loaded.specs.Laws.{SectionsAreCarried, SegmentsAreLoadable}
 use Rattle.wild_loaded.proofs.PartsHeld.{placed}
 use Rattle.wild_loaded.proofs.SlotSites.{all_sites}
 use Rattle.wild_filled.specs.Laws.{TablesAreMade}
 use Rattle.wild_filled.proofs.PairLemmas.{All-join, All-right, AllPairs-none, AllPairs-join, AllPairs-joining}
 use Rattle.wild_filled.proofs.Fillings.{Table, PackedTable, RelativeTable, GeneralTable, JumpTable, Filling, Misses, AreBeside, IsKnown, Makes, packed_in}
 use Rattle.wild_filled.proofs.FilledTables.{ChangeLaws, AreSorted, tables_made, patches_apart, All-made}
-use Rattle.wild_filled.proofs.Homes.{HomesApart, LiesIn, homes_back, beside_across, behind_misses}
+use Rattle.wild_filled.proofs.Homes.{HomesApart, homes_back, beside_across, behind_misses}
 use Rattle.wild_filled.proofs.KeptSections.{each_at}
 use Rattle.wild_filled.proofs.SectionsApart.{all_sections, section_home, stored_home}
-use Rattle.wild_filled.proofs.PlacesApart.{HavePlaces, places_beside, get_or-any, all_places}
+use Rattle.wild_filled.proofs.PlacesApart.{HavePlaces, places_beside, get_or-any}
 use Rattle.wild_filled.proofs.SectionFillings.{section_fillings}
 use Rattle.wild_filled.proofs.FilledSections.{input_of, have_places}
-use Rattle.wild_filled.proofs.SectionsKnown.{RelativeLaws, SectionLaws, sections_known}
+use Rattle.wild_filled.proofs.SectionsKnown.{SectionLaws, sections_known}
 use Rattle.wild_filled.proofs.SlotFillings.{pair_sites, got_sites, words_by_sites}
 use Rattle.wild_filled.proofs.SlotsSpaced.{all_spaced}
 use Rattle.wild_filled.proofs.SlotsKnown.{SlotLaws, IsFilledSlots, SiteIsKnown, AreFilled, sites_known, sites_filled, blocks_known, blocks_placed, blocks_wide, blocks_ascend}
 use Rattle.wild_filled.proofs.GotPlaces.{got_ascends}
 use Rattle.wild_filled.proofs.TableHomes.{role_home, role_there, roles_apart, section_apart, table_ends, InTable, in_table}
 use Rattle.wild_filled.proofs.CopyFillings.{CopyLaws, HasCopies, copies_filled, LiesBehind, copies_behind, copies_known, copies_beside}
-use Rattle.wild_filled.proofs.TableLists.{sections_filled, slots_filled, blocks_filled, stored_fillings, all_fillings, packed_list, all_packed, entries_sorted, jumps_sorted}
+use Rattle.wild_filled.proofs.TableLists.{sections_filled, slots_filled, blocks_filled, stored_fillings, all_fillings, all_packed, entries_sorted, jumps_sorted}
 use Rattle.wild_filled.proofs.PackedTables.{AreWhole, packed_sorted}
 
 -- what the crates below owe

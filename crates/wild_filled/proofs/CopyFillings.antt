@@ -1,11 +1,10 @@
 -- The bytes of symbols that are copied: they lie behind file bytes, those of one symbol beside those of another.
-use Rattle.std.proofs.Common.{◌≡◌, ℕ, zero, suc, ◌+◌, ◌-◌, ◌%◌, ◌^◌, ◌<◌, ◌≤◌, ◌⊎◌, inl, inr, Bool, true, false, not, List, [], ◌∷◌, ◌++◌, length, get_or, map, replicate, refl, sym, ap, ◌∙◌, arith, subst, append_assoc}
-use Rattle.std.specs.Prelude.{Option, Some, None, Result, Ok, Err, All, AllPairs, Contains, ◌≢◌, if◌then◌else◌, ◌&&◌, ◌==◌, option_and_then, unwrap_or, slice_get, slice_index}
+use Rattle.std.proofs.Common.{◌≡◌, ℕ, ◌+◌, ◌-◌, ◌^◌, ◌<◌, ◌≤◌, ◌⊎◌, inl, inr, Bool, true, false, not, List, [], ◌∷◌, ◌++◌, length, get_or, map, replicate, refl, sym, ap, ◌∙◌, arith, subst, append_assoc}
+use Rattle.std.specs.Prelude.{Option, Some, None, Result, Ok, Err, All, AllPairs, Contains, ◌≢◌, if◌then◌else◌, ◌&&◌, ◌==◌, option_and_then, unwrap_or, slice_index}
 use Rattle.std.specs.List.{flat_map, list_any}
 use Rattle.std.proofs.lemmas.Bool.{cases_Bool, eq-eqb}
 use Rattle.std.proofs.lemmas.List.{append-nil, get_or-replicate, length-replicate}
-use Rattle.std.proofs.lemmas.List.Elements.{All-nil, All-cons, All-head, All-tail, All-append, All-map, All-contains}
-use Rattle.wild_words.proofs.ListLemmas.{All-flat_map}
+use Rattle.std.proofs.lemmas.List.Elements.{All-nil, All-cons, All-head, All-tail, All-map, All-contains}
 use Rattle.wild_records.specs.Abi.Segment.{pt_load}
 use Rattle.wild_records.specs.declared.relocations.Rela.{Rela}
 use Rattle.wild_plan.specs.declared.kind.Machine.TheVariants as machine
@@ -28,26 +27,24 @@ use Rattle.wild_loader.specs.declared.change.Change.{Change}
 use Rattle.wild_loader.specs.declared.change.Change.TheVariants as changes
 use Rattle.wild_loader.specs.declared.fault.LoadFault.{LoadFault}
 use Rattle.wild_loader.specs.declared.kind.DynamicKind.TheVariants as kinds
-use Rattle.wild_loader.specs.declared.memory.Memory.{Memory}
 use Rattle.wild_loader.specs.declared.world.Answer.{Answer}
 use Rattle.wild_loader.specs.declared.world.World.{World}
 use Rattle.wild_loader.specs.Changes.{change_of, size_of}
-use Rattle.wild_loader.specs.Memory.{Holds, byte_in}
+use Rattle.wild_loader.specs.Memory.{byte_in}
 use Rattle.wild_loader.specs.Relocate.{loaded_at}
-use Rattle.wild_meaning.specs.Value.{IsDefinedBy, HasAnswer, HasRaw}
+use Rattle.wild_meaning.specs.Value.{IsDefinedBy}
 use Rattle.wild_meaning.specs.World.{IsLegal, IsBehind, IsCopied, HasCopy}
 use Rattle.wild_loaded.specs.Memory.{image_memory}
 use Rattle.wild_loaded.specs.Stored.{Copies}
 use Rattle.wild_loaded.specs.Laws.{ZerosAreStored, EntriesHaveChanges, CopiesAreThere}
 use Rattle.wild_loaded.proofs.SlotSites.{flat_map-flat_map}
 use Rattle.wild_filled.proofs.PairLemmas.{AllPairs-none, AllPairs-more, AllPairs-join, AllPairs-fewer, All-unmap, AllPairs-first, AllPairs-rest, map-flat_map, Contains-from_flat_map}
-use Rattle.wild_filled.proofs.PlacesApart.{get_or-any}
 use Rattle.wild_filled.proofs.FilledSections.{All-each}
-use Rattle.wild_filled.proofs.Fillings.{Filling, general_of, AreBeside, HasChange, IsKnown, place_loaded}
+use Rattle.wild_filled.proofs.Fillings.{Filling, general_of, AreBeside, IsKnown, place_loaded}
 
 -- ---- fillings
 
-abbrev width_by : Result Change LoadFault → ℕ
+abbrev pub width_by : Result Change LoadFault → ℕ
 width_by (Ok c) = size_of c
 width_by (Err f) = 0
 

@@ -1,18 +1,17 @@
 -- Tables whose fillings are known and lie beside each other make known changes, of which no two share a byte.
-use Rattle.std.proofs.Common.{◌≡◌, ℕ, zero, suc, ◌+◌, ◌-◌, ◌%◌, ◌^◌, ◌<◌, ◌≤◌, ◌⊎◌, inl, inr, List, [], ◌∷◌, ◌++◌, length, get_or, map, refl, sym, ap, ◌∙◌, arith, subst, append_assoc}
-use Rattle.std.specs.Prelude.{All, AllPairs, Contains, Some, None, Ok, Option, Result, IsPermutation, nat_lt, max, min}
+use Rattle.std.proofs.Common.{◌≡◌, ℕ, ◌+◌, ◌-◌, ◌%◌, ◌^◌, ◌<◌, ◌≤◌, ◌⊎◌, inl, inr, List, [], ◌∷◌, ◌++◌, length, get_or, map, refl, sym, ap, ◌∙◌, arith, subst, append_assoc}
+use Rattle.std.specs.Prelude.{All, AllPairs, Some, Ok, IsPermutation, nat_lt, max, min}
 use Rattle.std.specs.List.{flat_map}
 use Rattle.std.proofs.lemmas.Bool.{cases_Bool, cases_lt, ltb-true}
 use Rattle.std.proofs.lemmas.List.{map-append}
-use Rattle.std.proofs.lemmas.List.Elements.{All-contains, All-map, All-nil, All-cons, All-head, All-tail, All-append}
-use Rattle.std.proofs.lemmas.List.Sorted.{All-permutation, Contains-permutation, IsPermutation-sym, IsPermutation-refl, IsPermutation-trans, IsPermutation-map, IsPermutation-append, IsPermutation-append_right}
+use Rattle.std.proofs.lemmas.List.Elements.{All-map, All-nil, All-cons, All-head, All-tail, All-append}
+use Rattle.std.proofs.lemmas.List.Sorted.{All-permutation, IsPermutation-trans, IsPermutation-map, IsPermutation-append, IsPermutation-append_right}
 use Rattle.wild_words.specs.Words.{word, number}
 use Rattle.wild_words.proofs.WordLemmas.{number-word, length-word}
 use Rattle.wild_records.specs.declared.relocations.Rela.{Rela}
 use Rattle.wild_loader.specs.declared.change.Change.{Change}
 use Rattle.wild_loader.specs.declared.change.Change.TheVariants as changes
 use Rattle.wild_loader.specs.declared.change.Patch.{Patch}
-use Rattle.wild_loader.specs.declared.fault.LoadFault.{LoadFault}
 use Rattle.wild_loader.specs.declared.kind.DynamicKind.{DynamicKind}
 use Rattle.wild_loader.specs.declared.memory.Machine.{Machine}
 use Rattle.wild_loader.specs.declared.memory.Machine.TheVariants as machines
@@ -21,7 +20,7 @@ use Rattle.wild_loader.specs.declared.memory.Run.{Run}
 use Rattle.wild_loader.specs.declared.tables.Tables.{Tables}
 use Rattle.wild_loader.specs.declared.world.World.{World}
 use Rattle.wild_loader.specs.Changes.{kind_of, change_of, size_of, bytes_after, patch_over}
-use Rattle.wild_loader.specs.Memory.{Holds, byte_in, number_in}
+use Rattle.wild_loader.specs.Memory.{Holds, number_in}
 use Rattle.wild_loader.specs.Places.{places}
 use Rattle.wild_loader.specs.Relocate.{loaded_at, rela_patch, place_patch, runs_of_patches}
 use Rattle.wild_loader.specs.Laws.{IsApart, IsElsewhere, NumbersAreRead}

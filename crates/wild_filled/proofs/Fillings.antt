@@ -1,5 +1,5 @@
 -- What the tables of an image fill: places of packed words, and those of entries, each with as many bytes as it changes.
-use Rattle.std.proofs.Common.{◌≡◌, ℕ, ◌+◌, ◌^◌, ◌<◌, ◌≤◌, List, [], ◌∷◌, length, refl, sym, ap, ◌∙◌, arith, subst}
+use Rattle.std.proofs.Common.{◌≡◌, ℕ, ◌+◌, ◌^◌, ◌<◌, ◌≤◌, List, [], ◌∷◌, length, arith}
 use Rattle.std.specs.Prelude.{Some, Ok}
 use Rattle.std.specs.Int.{w64, cast_signed}
 use Rattle.wild_words.specs.Words.{word}
@@ -50,9 +50,6 @@ Misses a x = (j : ℕ) → j < x.width → x.entry.offset + j ≡ a → ⊥
 -- they have no byte in common
 abbrev pub AreBeside : Filling → Filling → Type 0
 AreBeside x y = (k : ℕ) → k < x.width → Misses (x.entry.offset + k) y
-
-pub beside_back : (x y : Filling) → AreBeside x y → AreBeside y x
-beside_back x y h = λ k lt j less e. h j less k lt (sym e)
 
 -- ---- what is known of them
 

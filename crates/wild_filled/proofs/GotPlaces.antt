@@ -1,7 +1,6 @@
 -- The words of the table of slots ascend, those of the pair that stands once ahead of all others.
-use Rattle.std.proofs.Common.{◌≡◌, ℕ, ◌+◌, ◌*◌, ◌%◌, ◌^◌, ◌<◌, ◌≤◌, Bool, true, false, List, [], ◌∷◌, ◌++◌, length, get_or, replicate, refl, sym, ap, ◌∙◌, arith, subst}
+use Rattle.std.proofs.Common.{◌≡◌, ℕ, ◌+◌, ◌*◌, ◌≤◌, Bool, true, false, List, [], ◌∷◌, ◌++◌, length, replicate, refl, sym, ap, ◌∙◌, arith, subst}
 use Rattle.std.specs.Prelude.{Option, Some, None, All, AllPairs, if◌then◌else◌, unwrap_or, slice_get}
-use Rattle.std.specs.List.{flat_map}
 use Rattle.std.proofs.lemmas.Bool.{eqb-true}
 use Rattle.std.proofs.lemmas.List.{length-append, length-replicate}
 use Rattle.std.proofs.lemmas.List.Concat.{flat_map-append}
@@ -16,21 +15,19 @@ use Rattle.wild_plan.specs.Kinds.{is_executable}
 use Rattle.wild_plan.specs.Slots.{setting_of}
 use Rattle.wild_plan.specs.Storage.{less}
 use Rattle.wild_plan.specs.SlotParts.{next, slot_words}
-use Rattle.wild_plan.specs.SlotShares.{word_size, storage_at, storage_words, header_words}
+use Rattle.wild_plan.specs.SlotShares.{word_size, storage_at, storage_words}
 use Rattle.wild_plan.specs.SlotPlaces.{start_of, first_free, pair_follows_by}
 use Rattle.wild_layout.specs.Geometry.{IsLaidOut}
 use Rattle.wild_loader.specs.declared.world.World.{World}
-use Rattle.wild_meaning.specs.World.{IsLoadable, IsLegal}
 use Rattle.wild_words.specs.Words.{word}
 use Rattle.wild_words.proofs.WordLemmas.{length-word}
 use Rattle.wild_slots.specs.Order.{end_of}
 use Rattle.wild_slots.specs.Ascend.{LiesWithin, Ascend, place_in, PlacesAscend}
 use Rattle.wild_slots.specs.Stand.{StandsAt}
 use Rattle.wild_slots.proofs.CheckLemmas.{SlotChecks-from_clause}
-use Rattle.wild_loaded.specs.WholeSlots.{HasWholeSlots}
 use Rattle.wild_loaded.specs.Stored.{IsWordStored}
 use Rattle.wild_loaded.specs.Laws.{SlotsAreStored}
-use Rattle.wild_loaded.proofs.SlotSites.{SlotSite, of_site, sites_at, all_sites}
+use Rattle.wild_loaded.proofs.SlotSites.{of_site, sites_at, all_sites}
 use Rattle.wild_filled.proofs.PairLemmas.{AllPairs-none, AllPairs-more, AllPairs-join}
 use Rattle.wild_filled.proofs.SlotFillings.{pair_sites, got_sites, made_of, words_by_sites}
 use Rattle.wild_filled.proofs.SlotsKnown.{IsFilledSlots}

@@ -10,7 +10,7 @@ pub mod SectionFillings
 pub mod FilledSections
 pub mod SectionsKnown
 pub mod SlotFillings
-mod SlotsSpaced
+pub mod SlotsSpaced
 pub mod SlotsKnown
 pub mod TableHomes
 pub mod GotPlaces

@@ -1,6 +1,6 @@
 -- The words of packed places: a loader finds the places of addresses and of slots in them, and no others.
-use Rattle.std.proofs.Common.{◌≡◌, ℕ, suc, ◌+◌, ◌%◌, ◌^◌, ◌<◌, ◌≤◌, ◌⊎◌, inl, inr, Bool, true, false, List, [], ◌∷◌, ◌++◌, length, get_or, map, refl, sym, ap, ◌∙◌, arith, subst, append_assoc}
-use Rattle.std.specs.Prelude.{Option, Some, None, All, AllPairs, Contains, ◌≢◌, IsPermutation, option_to_list, if◌then◌else◌, ◌&&◌, ◌==◌}
+use Rattle.std.proofs.Common.{◌≡◌, ℕ, suc, ◌+◌, ◌%◌, ◌^◌, ◌<◌, ◌≤◌, ◌⊎◌, inl, inr, Bool, true, false, List, [], ◌∷◌, ◌++◌, get_or, map, refl, sym, ap, ◌∙◌, arith, subst, append_assoc}
+use Rattle.std.specs.Prelude.{Some, None, All, AllPairs, Contains, ◌≢◌, IsPermutation, option_to_list, if◌then◌else◌, ◌&&◌, ◌==◌}
 use Rattle.std.specs.List.{flat_map}
 use Rattle.std.proofs.lemmas.Bool.{cases_Bool, eqb-true}
 use Rattle.std.proofs.lemmas.List.{append-nil}
@@ -11,20 +11,18 @@ use Rattle.std.proofs.lemmas.List.Sorted.{All-permutation, IsPermutation-sym, Is
 use Rattle.wild_words.proofs.ListLemmas.{All-flat_map}
 use Rattle.wild_plan.specs.declared.input.InputRelocation.{InputRelocation}
 use Rattle.wild_plan.specs.declared.input.InputSection.{InputSection}
-use Rattle.wild_plan.specs.declared.part.Role.TheVariants as role
 use Rattle.wild_plan.specs.declared.slot.SlotWord.{SlotWord}
 use Rattle.wild_plan.specs.declared.slot.SlotWord.TheVariants.{Number, Address, InBlock, General, Plt}
 use Rattle.wild_plan.specs.declared.slot_shares.Block.{Block}
 use Rattle.wild_plan.specs.declared.file.File.{File}
 use Rattle.wild_plan.specs.declared.file.Group.{Group}
 use Rattle.wild_plan.specs.declared.layout.Layout.{Layout}
-use Rattle.wild_plan.specs.Entries.{place_of, packs, is_moved, has_moved, packed_place, packed_places, words_of as section_words}
+use Rattle.wild_plan.specs.Entries.{place_of, packs, is_moved, has_moved, packed_place, packed_places}
 use Rattle.wild_plan.specs.SlotParts.{is_packed, flat_place}
-use Rattle.wild_plan.specs.SlotShares.{block_place, block_of, group_block, block_words}
+use Rattle.wild_plan.specs.SlotShares.{block_place, block_of, group_block}
 use Rattle.wild_relr.specs.Packed.{Piece, Places, packed, words_of, words_of_piece, places_of_pieces, places_of_piece, slots, IsEven, FlatIsARun, after_flat, after_run, nothing}
 use Rattle.wild_relr.specs.Packed as relr
 use Rattle.wild_relr.specs.Packing.{State}
-use Rattle.wild_layout.specs.Geometry.{IsLaidOut}
 use Rattle.wild_layout.specs.Moved.{file_words}
 use Rattle.wild_layout.specs.SlotBytes.{flat_places_of}
 use Rattle.wild_loader.specs.Places.{places}
@@ -33,10 +31,9 @@ use Rattle.wild_loader.specs.Laws.{IsApart}
 use Rattle.wild_loader.specs.EntryLaws.{OrderIsFree}
 use Rattle.wild_loader.proofs.Overlaid.{elsewhere}
 use Rattle.wild_tables.specs.Laws.{PlacesAreLoaded}
-use Rattle.wild_slots.specs.Order.{HasSlotsInOrder}
-use Rattle.wild_slots.specs.Blocks.{IsWhole, BlocksAreWhole}
+use Rattle.wild_slots.specs.Blocks.{IsWhole}
 use Rattle.wild_loaded.specs.Tables.{file_packed, group_words, tables_of}
-use Rattle.wild_loaded.proofs.SlotSites.{flat_map-flat_map, flat_map-same, of_site, SlotSite, file_sites, flat_by_sites, block_by_sites, all_by_sites, groups_by_sites, all_sites}
+use Rattle.wild_loaded.proofs.SlotSites.{flat_map-flat_map, flat_map-same, of_site, file_sites, flat_by_sites, block_by_sites, all_by_sites, groups_by_sites, all_sites}
 use Rattle.wild_filled.proofs.PairLemmas.{AllPairs-none, AllPairs-more, AllPairs-first, AllPairs-rest, All-unmap}
 use Rattle.wild_filled.proofs.Permuted.{flat_map-parts, nested-parts}
 use Rattle.wild_filled.proofs.SectionsApart.{all_sections, by_files}

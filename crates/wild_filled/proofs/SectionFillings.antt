@@ -1,5 +1,5 @@
 -- What relocations have tables fill: addresses that move with the base, and fields that are left to entries.
-use Rattle.std.proofs.Common.{◌≡◌, ℕ, ◌+◌, ◌<◌, ◌≤◌, inl, inr, Bool, true, false, not, List, [], ◌∷◌, ◌++◌, length, map, refl, sym, ap, ◌∙◌, subst}
+use Rattle.std.proofs.Common.{◌≡◌, ℕ, inl, inr, Bool, true, false, not, List, [], ◌∷◌, map, refl, sym, ap, ◌∙◌}
 use Rattle.std.specs.Prelude.{Option, Some, None, Result, Ok, Err, option_to_list, option_map, if◌then◌else◌, ◌&&◌, ◌==◌}
 use Rattle.std.specs.List.{flat_map, filter}
 use Rattle.std.proofs.lemmas.Bool.{cases_Bool}
@@ -10,7 +10,7 @@ use Rattle.wild_plan.specs.declared.input.InputSection.{InputSection}
 use Rattle.wild_plan.specs.declared.layout.Layout.{Layout}
 use Rattle.wild_plan.specs.declared.treatment.Treatment.{Treatment}
 use Rattle.wild_plan.specs.declared.treatment.Treatment.TheVariants as treatments
-use Rattle.wild_plan.specs.Entries.{place_of, packs, is_base_relative, is_moved, listed_place, packed_place, has_moved, moved_of, packed_places, is_left_to_entry, left_relocations}
+use Rattle.wild_plan.specs.Entries.{place_of, packs, is_base_relative, is_moved, packed_place, moved_of, packed_places, is_left_to_entry, left_relocations}
 use Rattle.wild_plan.specs.Flags.{has_flag, absolute}
 use Rattle.wild_plan.specs.Kinds.{is_position_independent}
 use Rattle.wild_plan.specs.Lookups.{is_read, allocated}
@@ -23,14 +23,14 @@ use Rattle.wild_reloc.specs.declared.info.RelocationSize.{RelocationSize}
 use Rattle.wild_reloc.specs.declared.info.RelocationSize.TheVariants.{ByteSize}
 use Rattle.wild_reloc.specs.declared.info.Width.TheVariants.{Eight}
 use Rattle.wild_layout.specs.declared.decision.Decision.{Decision}
-use Rattle.wild_layout.specs.declared.decision.Decision.TheVariants.{Nothing, Field, Moved, Left}
+use Rattle.wild_layout.specs.declared.decision.Decision.TheVariants.{Moved, Left}
 use Rattle.wild_layout.specs.Values.{sum, decided_address, address_of, index_of}
 use Rattle.wild_layout.specs.Decide.{added, moved_to, left_to, chosen_to, decide_by, decided}
 use Rattle.wild_layout.specs.Left.{entry_for, left_by, left_entry, section_generals}
 use Rattle.wild_layout.specs.Moved.{moved_value, listed_entry, section_entries}
 use Rattle.wild_layout.specs.Sites.{Written, written_by}
 use Rattle.wild_layout.proofs.TreatmentLemmas.{row_moved}
-use Rattle.wild_layout.proofs.DecideLemmas.{HasField, IsMoved, IsLeft, decided_moved, decided_left, moved_has, left_has}
+use Rattle.wild_layout.proofs.DecideLemmas.{HasField, IsMoved, decided_moved, decided_left, moved_has}
 use Rattle.wild_tables.specs.Tables.{relative_entry}
 use Rattle.wild_loaded.proofs.SlotSites.{flat_map-flat_map, flat_map-same}
 use Rattle.wild_filled.proofs.Fillings.{Filling, packed_at, relative_of, general_of, packed_in, relative_in, general_in, jump_in}

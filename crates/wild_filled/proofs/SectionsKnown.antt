@@ -21,7 +21,7 @@ use Rattle.wild_layout.specs.Geometry.{IsLaidOut}
 use Rattle.wild_layout.specs.Decide.{decided}
 use Rattle.wild_layout.specs.Left.{entry_for}
 use Rattle.wild_layout.specs.Moved.{moved_value}
-use Rattle.wild_layout.proofs.DecideLemmas.{IsMoved, decided_moved}
+use Rattle.wild_layout.proofs.DecideLemmas.{IsMoved}
 use Rattle.wild_meaning.specs.World.{IsLegal}
 use Rattle.wild_tables.specs.Tables.{relative_entry}
 use Rattle.wild_tables.specs.Laws.{EntriesAddTheBase, loader_machine}
@@ -29,11 +29,9 @@ use Rattle.wild_loader.specs.declared.change.Change.{Change}
 use Rattle.wild_loader.specs.declared.change.Change.TheVariants as changes
 use Rattle.wild_loader.specs.declared.kind.DynamicKind.{DynamicKind}
 use Rattle.wild_loader.specs.declared.kind.DynamicKind.TheVariants as kinds
-use Rattle.wild_loader.specs.declared.memory.Machine.{Machine as Processor}
 use Rattle.wild_loader.specs.declared.memory.Machine.TheVariants as machines
-use Rattle.wild_loader.specs.declared.memory.Memory.{Memory}
 use Rattle.wild_loader.specs.declared.world.World.{World}
-use Rattle.wild_loader.specs.Changes.{kind_of, change_of, size_of, plus}
+use Rattle.wild_loader.specs.Changes.{kind_of, change_of, size_of}
 use Rattle.wild_loader.specs.Memory.{Holds}
 use Rattle.wild_loader.specs.Relocate.{loaded_at}
 use Rattle.wild_loader.specs.EntryLaws.{RelativesStoreWords}
@@ -42,7 +40,7 @@ use Rattle.wild_loaded.specs.Memory.{image_memory, EachDecided}
 use Rattle.wild_loaded.specs.Stored.{FillsField}
 use Rattle.wild_loaded.specs.Laws.{SectionsAreStored, EntriesHaveChanges}
 use Rattle.wild_filled.proofs.PairLemmas.{All-join}
-use Rattle.wild_filled.proofs.Fillings.{Table, PackedTable, RelativeTable, GeneralTable, Filling, packed_at, relative_of, general_of, HasChange, HasWord, IsKnown, place_loaded}
+use Rattle.wild_filled.proofs.Fillings.{Filling, general_of, HasChange, HasWord, IsKnown, place_loaded}
 use Rattle.wild_filled.proofs.SectionsApart.{all_sections}
 use Rattle.wild_filled.proofs.PlacesApart.{all_places}
 use Rattle.wild_filled.proofs.SectionFillings.{moved_filling, section_fillings, Fills}

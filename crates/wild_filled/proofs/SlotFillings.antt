@@ -1,17 +1,14 @@
 -- What the words of slots have tables fill, by table.
-use Rattle.std.proofs.Common.{◌≡◌, ℕ, Bool, true, false, List, [], ◌∷◌, ◌++◌, length, get_or, map, refl, sym, ap, ◌∙◌, arith, subst}
+use Rattle.std.proofs.Common.{◌≡◌, ℕ, Bool, true, false, List, [], ◌∷◌, ◌++◌, refl, sym, ap, ◌∙◌}
 use Rattle.std.specs.Prelude.{⊤, Option, Some, None, All, option_to_list, if◌then◌else◌, unwrap_or}
 use Rattle.std.specs.List.{flat_map}
-use Rattle.std.proofs.lemmas.List.Concat.{flat_map-append}
 use Rattle.std.proofs.lemmas.List.Elements.{All-nil, All-cons, All-head, All-tail}
 use Rattle.wild_records.specs.declared.relocations.Rela.{Rela}
 use Rattle.wild_reloc.specs.declared.dynamic.DynamicRelocationKind.TheVariants.{DtpMod}
 use Rattle.wild_plan.specs.declared.slot.SlotWord.{SlotWord}
 use Rattle.wild_plan.specs.declared.slot.SlotWord.TheVariants.{Number, Address, InBlock, General, Plt}
-use Rattle.wild_plan.specs.declared.slot.Setting.{Setting}
 use Rattle.wild_plan.specs.declared.slot_parts.EntryPart.TheVariants as entries
 use Rattle.wild_plan.specs.declared.slot_parts.WordPart.{WordPart}
-use Rattle.wild_plan.specs.declared.slot_parts.WordPart.TheVariants as words
 use Rattle.wild_plan.specs.declared.symbol.Symbol.{Symbol}
 use Rattle.wild_plan.specs.declared.file.File.{File}
 use Rattle.wild_plan.specs.declared.file.Group.{Group}
@@ -26,7 +23,7 @@ use Rattle.wild_slots.specs.Order.{group_symbols, written_symbols}
 use Rattle.wild_slots.specs.Ascend.{place_in, word_places}
 use Rattle.wild_loaded.specs.Stored.{filled_width}
 use Rattle.wild_loaded.proofs.SlotSites.{flat_map-flat_map, flat_map-same, SlotSite, of_site, sites_at, symbol_sites, file_sites, group_sites, all_sites, by_sites}
-use Rattle.wild_filled.proofs.Fillings.{Filling, GeneralTable, JumpTable, packed_at, relative_of, general_of, packed_in, relative_in, general_in, jump_in}
+use Rattle.wild_filled.proofs.Fillings.{Filling, JumpTable, packed_at, relative_of, general_of, packed_in, relative_in, general_in, jump_in}
 
 -- ---- fillings
 

@@ -1,7 +1,6 @@
 -- What the words of slots have tables fill: where it lies, and what memory has there before any entry is applied.
-use Rattle.std.proofs.Common.{◌≡◌, ℕ, zero, suc, ◌+◌, ◌-◌, ◌*◌, ◌%◌, ◌^◌, ◌<◌, ◌≤◌, ◌⊎◌, inl, inr, Bool, true, false, List, [], ◌∷◌, ◌++◌, length, get_or, refl, sym, ap, ◌∙◌, arith, subst}
+use Rattle.std.proofs.Common.{◌≡◌, ℕ, ◌+◌, ◌-◌, ◌*◌, ◌%◌, ◌^◌, ◌<◌, ◌≤◌, ◌⊎◌, inl, inr, Bool, true, false, List, [], ◌∷◌, ◌++◌, length, get_or, refl, sym, ap, ◌∙◌, arith, subst}
 use Rattle.std.specs.Prelude.{⊤, Option, Some, None, All, AllPairs, Contains, option_to_list, if◌then◌else◌, slice_get, slice_index, unwrap_or}
-use Rattle.std.specs.List.{flat_map}
 use Rattle.std.proofs.lemmas.Bool.{cases_lt}
 use Rattle.std.proofs.lemmas.List.{get_or_append_left, get_or-append_right, length-append}
 use Rattle.std.proofs.lemmas.List.Elements.{All-nil, All-cons, All-head, All-tail, All-contains, All-append}
@@ -22,7 +21,6 @@ use Rattle.wild_plan.specs.declared.slot_parts.WordPart.TheVariants as words
 use Rattle.wild_plan.specs.declared.symbol.Resolution.{Resolution}
 use Rattle.wild_plan.specs.declared.symbol.Symbol.{Symbol}
 use Rattle.wild_plan.specs.declared.file.File.{File}
-use Rattle.wild_plan.specs.declared.file.Group.{Group}
 use Rattle.wild_plan.specs.declared.layout.Layout.{Layout}
 use Rattle.wild_plan.specs.Kinds.{is_executable}
 use Rattle.wild_plan.specs.Storage.{less}
@@ -40,7 +38,6 @@ use Rattle.wild_loader.specs.declared.world.World.{World}
 use Rattle.wild_loader.specs.Changes.{size_of}
 use Rattle.wild_loader.specs.Memory.{Holds, byte_in}
 use Rattle.wild_loader.specs.Relocate.{loaded_at}
-use Rattle.wild_geometry.specs.Loaded.{MakesChange}
 use Rattle.wild_meaning.specs.World.{IsLoadable, IsLegal}
 use Rattle.wild_slots.specs.Ascend.{LiesWithin, Ascend, place_in}
 use Rattle.wild_loaded.specs.Memory.{image_memory}
@@ -50,13 +47,13 @@ use Rattle.wild_loaded.specs.Laws.{SlotsAreStored, EntriesHaveChanges}
 use Rattle.wild_loaded.proofs.SitesFit.{All-own, slots_low}
 use Rattle.wild_loaded.proofs.SlotNumbers.{WordFits, words_fit, storage_fits}
 use Rattle.wild_slots.specs.Entries.{entry_in}
-use Rattle.wild_loaded.proofs.SlotSites.{SlotSite, of_site, sites_at, symbol_sites, file_sites, group_sites, all_sites, IsSiteOf, site_of}
-use Rattle.wild_filled.proofs.PairLemmas.{All-left, All-right, AllPairs-none, AllPairs-more, AllPairs-left, AllPairs-right, AllPairs-first, AllPairs-rest}
+use Rattle.wild_loaded.proofs.SlotSites.{SlotSite, of_site, sites_at, symbol_sites, file_sites, group_sites, all_sites, site_of}
+use Rattle.wild_filled.proofs.PairLemmas.{All-left, All-right, AllPairs-none, AllPairs-more, AllPairs-right, AllPairs-first}
 use Rattle.wild_filled.proofs.FilledSections.{All-each}
-use Rattle.wild_filled.proofs.Fillings.{Table, PackedTable, RelativeTable, GeneralTable, JumpTable, Filling, Makes, place_entry, packed_at, relative_of, general_of, AreBeside, HasChange, HasWord, IsKnown, place_loaded}
+use Rattle.wild_filled.proofs.Fillings.{Table, PackedTable, RelativeTable, GeneralTable, JumpTable, Filling, Makes, place_entry, packed_at, relative_of, general_of, HasChange, HasWord, IsKnown, place_loaded}
 use Rattle.wild_filled.proofs.SectionsKnown.{MakesThat, makes_that, has_change, RelativeLaws, relative_makes}
 use Rattle.wild_filled.proofs.SlotFillings.{address_filling, slot_filling, block_filling, pair_sites, got_sites, made_of}
-use Rattle.wild_filled.proofs.SlotsSpaced.{IsNarrow, IsNumber, SitesSpaced, all_spaced}
+use Rattle.wild_filled.proofs.SlotsSpaced.{IsNarrow, IsNumber, SitesSpaced}
 
 -- ---- sites
 
@@ -210,7 +207,7 @@ width_most e = by_kind e.kind e.symbol e.addend
     by_kind entry_kinds.TlsDesc i a = omega arith
     by_kind other i a = omega arith
 
-two_widths : (e : SlotEntry) → (filled_width e ≡ 8) ⊎ (filled_width e ≡ 16)
+pub two_widths : (e : SlotEntry) → (filled_width e ≡ 8) ⊎ (filled_width e ≡ 16)
 two_widths e = by_kind e.kind e.symbol e.addend
   where
     by_kind : (k : DynamicRelocationKind) (i a : ℕ) → (filled_width (record { kind = k; symbol = i; addend = a }) ≡ 8) ⊎ (filled_width (record { kind = k; symbol = i; addend = a }) ≡ 16)
@@ -259,7 +256,7 @@ filled_place l P x h = by_word x.at x.word h
     by_word at (General e) h = one at (general_of (entry_at l.machine at e) (filled_width e)) refl h
     by_word at (Plt e) h = one at (record { table = JumpTable; entry = entry_at l.machine at e; width = filled_width e }) refl h
 
-filled_places : (l : Layout) (P : ℕ → Type 0) (xs : List SlotSite) → All P (made_of (place_in words.Got) xs) → All (FromPlace P) (made_of (slot_filling l) xs)
+pub filled_places : (l : Layout) (P : ℕ → Type 0) (xs : List SlotSite) → All P (made_of (place_in words.Got) xs) → All (FromPlace P) (made_of (slot_filling l) xs)
 filled_places l P [] h = All-nil (FromPlace P)
 filled_places l P (x ∷ xs) h =
     All-append (FromPlace P) (of_site (slot_filling l) x) (made_of (slot_filling l) xs)
@@ -314,14 +311,14 @@ two_known l w at next_at t e d c to x h s u is width =
     }
 
 -- the rest of the places
-rest_ascend : (low high : ℕ) (xs ys : List ℕ) → Ascend 8 low high (xs ++ ys) → Ascend 8 low high ys
+pub rest_ascend : (low high : ℕ) (xs ys : List ℕ) → Ascend 8 low high (xs ++ ys) → Ascend 8 low high ys
 rest_ascend low high xs ys h = record {
   within = All-right (LiesWithin 8 low high) xs ys h.within;
   ascend = AllPairs-right (λ (p q : ℕ). p + 8 ≤ q) xs ys h.ascend;
 }
 
 -- what stands behind a place
-behind_place : (low high a : ℕ) (ys : List ℕ) → Ascend 8 low high (a ∷ ys) → All (λ (q : ℕ). a + 8 ≤ q) ys
+pub behind_place : (low high a : ℕ) (ys : List ℕ) → Ascend 8 low high (a ∷ ys) → All (λ (q : ℕ). a + 8 ≤ q) ys
 behind_place low high a ys h = AllPairs-first (λ (p q : ℕ). p + 8 ≤ q) a ys h.ascend
 
 abbrev got_places : List SlotSite → List ℕ
@@ -350,14 +347,14 @@ wide_more l w low high at f y ys is wide next_is none own known h rest =
     let ahead : All (λ (z : Filling). f.entry.offset + f.width ≤ z.entry.offset) (made_of (slot_filling l) ys) = λ k d lt. (let b = behind k d lt in omega (arith, is, wide, next_is, b)) in
     filled_more w (image_memory l w) low high f (made_of (slot_filling l) (y ∷ ys)) (omega (arith, is, from)) (omega (arith, is, wide, next_is, to)) known (subst (All (λ (z : Filling). f.entry.offset + f.width ≤ z.entry.offset)) (sym same) ahead) rest
 
-number_none : (l : Layout) (at : ℕ) (d : SlotWord) → IsNumber d → slot_filling l at d ≡ None
+pub number_none : (l : Layout) (at : ℕ) (d : SlotWord) → IsNumber d → slot_filling l at d ≡ None
 number_none l at (Number n) h = refl
 number_none l at (Address a) h = absurd h
 number_none l at (InBlock a) h = absurd h
 number_none l at (General e) h = absurd h
 number_none l at (Plt e) h = absurd h
 
-number_own : (at : ℕ) (d : SlotWord) → IsNumber d → place_in words.Got at d ≡ Some at
+pub number_own : (at : ℕ) (d : SlotWord) → IsNumber d → place_in words.Got at d ≡ Some at
 number_own at (Number n) h = refl
 number_own at (Address a) h = absurd h
 number_own at (InBlock a) h = absurd h
@@ -370,7 +367,7 @@ next_there at at' low high ys e h =
     let le = All-head (λ (q : ℕ). at + 8 ≤ q) at' ys (behind_place low high at (at' ∷ ys) h) in
     omega (arith, e, le)
 
-second_there : (l : Layout) (low high at : ℕ) (y : SlotSite) (ys : List SlotSite) → IsNumber y.word → y.at ≡ next at → Ascend 8 low high (at ∷ got_places (y ∷ ys)) → y.at ≡ at + 8
+pub second_there : (l : Layout) (low high at : ℕ) (y : SlotSite) (ys : List SlotSite) → IsNumber y.word → y.at ≡ next at → Ascend 8 low high (at ∷ got_places (y ∷ ys)) → y.at ≡ at + 8
 second_there l low high at y ys num e h =
     let places : got_places (y ∷ ys) ≡ y.at ∷ got_places ys = ap (λ (o : Option ℕ). option_to_list o ++ got_places ys) (number_own y.at y.word num) in
     next_there at y.at low high (got_places ys) e (subst (λ (ps : List ℕ). Ascend 8 low high (at ∷ ps)) places h)

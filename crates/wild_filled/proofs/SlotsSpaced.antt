@@ -1,12 +1,10 @@
 -- A word that an entry fills is followed by a number wherever that entry fills two words.
-use Rattle.std.proofs.Common.{◌≡◌, ℕ, ◌+◌, ◌%◌, ◌^◌, ◌≤◌, ◌⊎◌, inl, inr, Bool, true, false, List, [], ◌∷◌, ◌++◌, refl, sym, ap, ◌∙◌, arith, subst, append_assoc}
+use Rattle.std.proofs.Common.{◌≡◌, ℕ, ◌⊎◌, inl, inr, Bool, true, false, List, [], ◌∷◌, ◌++◌, refl, sym, ap, ◌∙◌, subst, append_assoc}
 use Rattle.std.specs.Prelude.{⊤, All, unwrap_or, Option, Some, None, if◌then◌else◌, ◌==◌, ◌&&◌, not}
 use Rattle.std.specs.List.{flat_map}
 use Rattle.std.proofs.lemmas.List.Elements.{All-head, All-tail}
 use Rattle.wild_reloc.specs.declared.dynamic.DynamicRelocationKind.{DynamicRelocationKind}
-use Rattle.wild_reloc.specs.declared.dynamic.DynamicRelocationKind.TheVariants.{GotEntry, JumpSlot, DtpMod, DtpOff, TpOff, Irelative}
-use Rattle.wild_plan.specs.declared.file.File.{File}
-use Rattle.wild_plan.specs.declared.file.Group.{Group}
+use Rattle.wild_reloc.specs.declared.dynamic.DynamicRelocationKind.TheVariants.{GotEntry, JumpSlot, DtpMod, TpOff}
 use Rattle.wild_plan.specs.declared.symbol.Resolution.{Resolution}
 use Rattle.wild_plan.specs.declared.symbol.Symbol.{Symbol}
 use Rattle.wild_plan.specs.declared.layout.Layout.{Layout}
@@ -18,9 +16,9 @@ use Rattle.wild_plan.specs.declared.slot.SlotWord.{SlotWord}
 use Rattle.wild_plan.specs.declared.slot.SlotWord.TheVariants.{Number, Address, InBlock, General, Plt}
 use Rattle.wild_plan.specs.Flags.{has_flag, interposable, has_link_time_address, dynamic, ifunc, got_tls_offset, got_tls_module, got_tls_descriptor, canonical_plt, ifunc_got_for_address, canonical_plt_got_for_address}
 use Rattle.wild_plan.specs.Kinds.{is_executable, is_position_independent}
-use Rattle.wild_plan.specs.Storage.{less, is_outside}
+use Rattle.wild_plan.specs.Storage.{is_outside}
 use Rattle.wild_plan.specs.SymbolSlots.{has_dynamic_symbol, has_thread_slot}
-use Rattle.wild_plan.specs.Slots.{SlotContent, no_slot, add_item, with_item, with_items, setting_of, number, general, plt, named, where_so, offset_item, module_item, module_offset, module_offset_item, descriptor_item, offset_items, module_items, descriptor_items, plain_item, stub_item, stub_items, stub_address, ifunc_address_items, canonical_address_items, thread_items, address_items, items_at, slot}
+use Rattle.wild_plan.specs.Slots.{SlotContent, no_slot, add_item, with_item, with_items, setting_of, number, general, plt, named, where_so, offset_item, module_item, module_offset, module_offset_item, descriptor_item, offset_items, module_items, descriptor_items, stub_item, stub_items, stub_address, ifunc_address_items, canonical_address_items, thread_items, address_items, items_at, slot}
 use Rattle.wild_plan.specs.SlotParts.{next}
 use Rattle.wild_plan.specs.SlotShares.{own_symbols, slots_of, resolved_slots, slots_at, storage_words}
 use Rattle.wild_plan.specs.Stub.{far_of}
@@ -115,17 +113,21 @@ items_join c (x ∷ xs) ys = items_join (with_item c x) xs ys
 
 offset_plain : (s : Setting) (r : Resolution) → AllPlain (offset_items s r)
 offset_plain s r =
-    plain_where (has_flag r.flags got_tls_offset) (offset_item s r ∷ [])
-    (plain_if (has_dynamic_symbol r.flags) _ _ (plain_named r.dynamic_symbol_index (λ d. general TpOff d 0) (λ d. refl))
-    (plain_if (r.raw_value == 0) _ _ tt
-    (plain_if (is_outside s.tls r.raw_value) _ _ tt
-    (plain_if (is_executable s.kind) _ _ tt refl))), tt)
+    plain_where (has_flag r.flags got_tls_offset) (offset_item s r ∷ []) (
+      plain_if (has_dynamic_symbol r.flags) _ _ (plain_named r.dynamic_symbol_index (λ d. general TpOff d 0) (λ d. refl))
+          (plain_if (r.raw_value == 0) _ _ tt
+          (plain_if (is_outside s.tls r.raw_value) _ _ tt
+          (plain_if (is_executable s.kind) _ _ tt refl))),
+      tt,
+    )
 
 module_plain : (s : Setting) (r : Resolution) → AllPlain (module_items s r)
 module_plain s r =
-    plain_where (has_flag r.flags got_tls_module) (module_item s r ∷ module_offset_item s r ∷ [])
-    (plain_if (is_executable s.kind && not (has_flag r.flags dynamic)) _ _ tt
-    (plain_if (interposable r.flags) _ _ (plain_named r.dynamic_symbol_index (λ d. general DtpMod d 0) (λ d. refl)) refl), (by_index (if interposable r.flags then r.dynamic_symbol_index else None), tt))
+    plain_where (has_flag r.flags got_tls_module) (module_item s r ∷ module_offset_item s r ∷ []) (
+      plain_if (is_executable s.kind && not (has_flag r.flags dynamic)) _ _ tt
+          (plain_if (interposable r.flags) _ _ (plain_named r.dynamic_symbol_index (λ d. general DtpMod d 0) (λ d. refl)) refl),
+      (by_index (if interposable r.flags then r.dynamic_symbol_index else None), tt),
+    )
   where
     by_index : (o : Option ℕ) → IsPlain (module_offset s r.raw_value o)
     by_index None = tt
@@ -147,15 +149,16 @@ thread_spaced s r =
     described c false h = h
 
 address_plain : (s : Setting) (far : Option ℕ) (r : Resolution) → AllPlain (address_items s far r)
-address_plain s far r =
-    (plain_if (has_flag r.flags canonical_plt) _ _ (plain_named r.dynamic_symbol_index (λ d. plt JumpSlot d 0) (λ d. refl))
-    (plain_if (has_dynamic_symbol r.flags) _ _ (plain_named r.dynamic_symbol_index (λ d. general GotEntry d 0) (λ d. refl))
-    (plain_if (has_flag r.flags ifunc) _ _ refl
-    (plain_if (is_position_independent s.kind && has_link_time_address r.flags) _ _ (moving s.relr) tt))),
-    plain_join (stub_items far r.plt_address) (ifunc_address_items s r ++ canonical_address_items s r) (of_stub r.plt_address)
-    (plain_join (ifunc_address_items s r) (canonical_address_items s r)
-    (plain_where (has_flag r.flags ifunc_got_for_address) (stub_address s r.plt_address ∷ []) (of_address r.plt_address, tt))
-    (plain_where (has_flag r.flags canonical_plt_got_for_address) _ (plain_named r.dynamic_symbol_index (λ d. general GotEntry d 0) (λ d. refl), tt))))
+address_plain s far r = (
+  plain_if (has_flag r.flags canonical_plt) _ _ (plain_named r.dynamic_symbol_index (λ d. plt JumpSlot d 0) (λ d. refl))
+      (plain_if (has_dynamic_symbol r.flags) _ _ (plain_named r.dynamic_symbol_index (λ d. general GotEntry d 0) (λ d. refl))
+      (plain_if (has_flag r.flags ifunc) _ _ refl
+      (plain_if (is_position_independent s.kind && has_link_time_address r.flags) _ _ (moving s.relr) tt))),
+  plain_join (stub_items far r.plt_address) (ifunc_address_items s r ++ canonical_address_items s r) (of_stub r.plt_address)
+      (plain_join (ifunc_address_items s r) (canonical_address_items s r)
+      (plain_where (has_flag r.flags ifunc_got_for_address) (stub_address s r.plt_address ∷ []) (of_address r.plt_address, tt))
+      (plain_where (has_flag r.flags canonical_plt_got_for_address) _ (plain_named r.dynamic_symbol_index (λ d. general GotEntry d 0) (λ d. refl), tt))),
+)
   where
     moving : (b : Bool) → IsNarrow (if b then InBlock r.raw_value else Address r.raw_value)
     moving true = tt

@@ -1,5 +1,5 @@
 -- The parts of slots and stubs in memory: they share no byte with each other, nor with an input section.
-use Rattle.std.proofs.Common.{◌≡◌, ℕ, ◌+◌, ◌-◌, ◌*◌, ◌^◌, ◌<◌, ◌≤◌, ◌⊎◌, inl, inr, Bool, true, false, List, [], ◌∷◌, length, get_or, refl, sym, ap, ◌∙◌, arith, subst}
+use Rattle.std.proofs.Common.{◌≡◌, ℕ, ◌+◌, ◌-◌, ◌^◌, ◌≤◌, inl, inr, Bool, true, false, List, length, refl, sym, ap, ◌∙◌, arith, subst}
 use Rattle.std.specs.Prelude.{Option, Some, None, All, AllPairs, Contains, slice_get}
 use Rattle.std.proofs.lemmas.Bool.{eqb-true}
 use Rattle.std.proofs.lemmas.List.Elements.{All-contains}
@@ -12,10 +12,9 @@ use Rattle.wild_plan.specs.declared.layout.Layout.{Layout}
 use Rattle.wild_plan.specs.Lookups.{takes_file_bytes}
 use Rattle.wild_plan.specs.Places.{role_place, has_role, is_loaded_role}
 use Rattle.wild_plan.specs.Segments.{part_with}
-use Rattle.wild_plan.specs.SlotShares.{word_size, header_words}
-use Rattle.wild_plan.specs.SlotPlaces.{address_of_part, start_of, first_free}
+use Rattle.wild_plan.specs.SlotPlaces.{address_of_part, start_of}
 use Rattle.wild_layout.specs.Image.{offset_in}
-use Rattle.wild_layout.specs.Geometry.{IsLaidOut, SectionLies, OwnerLies, StandsIn, RangesApart, table_bytes}
+use Rattle.wild_layout.specs.Geometry.{IsLaidOut, SectionLies, StandsIn, RangesApart}
 use Rattle.wild_meaning.specs.World.{IsLoadable}
 use Rattle.wild_slots.specs.Order.{end_of}
 use Rattle.wild_slots.specs.Stand.{StandsAt}

@@ -95,6 +95,6 @@ unfolding group_errors file_errors
 sections_decided l laid none = λ s k read.
     let lies = lies_at l s laid k in
     let g = nothing_from (group_errors l) 0 l.groups k.group k.grouped none in
-    let f = nothing_from (file_errors l g.0) 0 k.group.files k.file k.filed g.1 in
+    let f = nothing_from (file_errors l g.0) 0 k.group.files k.file k.filed (nil_parts _ _ g.1).0 in
     let e = nothing_from (section_errors l g.0 f.0) 0 k.file.sections s k.listed (nil_parts _ _ f.1).0 in
     section_decided l g.0 f.0 e.0 s read lies e.1

@@ -1,5 +1,5 @@
 -- Bytes in no field are the input's, those of instructions that belong to references too.
-use Rattle.std.proofs.Common.{◌≡◌, ℕ, ◌+◌, ◌<◌, ◌≤◌, ◌⊎◌, inl, inr, [], ◌∷◌, length, sym, ap, ◌∙◌, arith, subst}
+use Rattle.std.proofs.Common.{◌≡◌, ℕ, ◌+◌, ◌-◌, ◌<◌, ◌≤◌, ◌⊎◌, inl, inr, [], ◌∷◌, length, refl, sym, ap, ◌∙◌, arith, subst}
 use Rattle.std.specs.Prelude.{Option, Some, None, Contains, All, slice_index, nat_lt, ◌==◌}
 use Rattle.std.proofs.lemmas.Bool.{cases_Bool, eqb-true, eqb-false, ltb-true, ltb-false}
 use Rattle.std.proofs.lemmas.List.Elements.{All-contains}
@@ -20,8 +20,8 @@ use Rattle.wild_loader.specs.Memory.{byte_in}
 use Rattle.wild_loader.specs.Effect.{call_near, jump_near, call_indirect, jump_indirect}
 use Rattle.wild_meaning.specs.Item.{item_of, place_at, IsReference}
 use Rattle.wild_meaning.specs.Field.{formula_of, form_width, InNoField, IsInputByte}
-use Rattle.wild_meaning.specs.Template.{Operand, operands_of, size_of, IsTemplate, DoesDemanded}
-use Rattle.wild_meaning.specs.Reference.{IsAsked, ItemHolds}
+use Rattle.wild_meaning.specs.Template.{Operand, operands_of, size_of, IsOwnByte, IsTemplate, DoesDemanded}
+use Rattle.wild_meaning.specs.Reference.{IsAsked, HoldsLinked, ItemHolds}
 use Rattle.wild_laws.specs.FirstPath.{InNoField as NoField}
 use Rattle.wild_laws.proofs.Operands.{each_operand, each_of_two, displaced, formula_pc32, formula_plt32, formula_gotpcrel, formula_gotpcrelx}
 use Rattle.wild_laws.proofs.Branches.{direct, opcode_input}
@@ -99,6 +99,29 @@ keeps_byte l w m s r start k o x same out ref known =
     x
     known
 
+-- ---- references to the output's own symbols
+
+-- the field of each template has four bytes, and is a displacement
+abbrev IsShort : InputRelocation → Operand → Type 0
+IsShort r o = Contains o.numbers r.number → (o.width ≡ 4) × IsDisplaced r.number
+
+short : (l : Layout) (r : InputRelocation) (o : Operand) → l.machine ≡ machine.X86_64 → Contains (operands_of l.machine) o → IsShort r o
+short l r o x known =
+    each_operand (IsShort r) l.machine o (λ n. (refl, direct_number r.number n)) (λ n. (refl, direct_number r.number n)) (λ n. (refl, indirect_number r.number n)) (λ n. (refl, indirect_number r.number n)) x known
+
+-- a byte of the template that is not in the field
+own_byte : (start k offset field width size : ℕ) → offset ≡ start + field → width ≡ 4 → start ≤ k → k < start + size → (k < offset) ⊎ (offset + 4 ≤ k) → (k - start < size) × ((k - start < field) ⊎ (field + width ≤ k - start))
+own_byte start k offset field width size e four from to (inl a) = (omega (arith, from, to), inl (omega (arith, e, from, a)))
+own_byte start k offset field width size e four from to (inr b) = (omega (arith, from, to), inr (omega (arith, e, four, from, b)))
+
+-- so it is the input's, where the field reads as the formula with the own symbol
+linked_byte : (l : Layout) (w : World) (m : Memory) (s : InputSection) (r : InputRelocation) (start k : ℕ) (o : Operand) → l.machine ≡ machine.X86_64 → NoField s k → IsReference (item_of s) r → HoldsLinked l w m (item_of s) r → IsTemplate l (item_of s) r start o → start ≤ k → k < start + size_of o → IsInputByte w m (item_of s) k
+linked_byte l w m s r start k o x out ref h t from to =
+    let n = short l r o x t.known t.number in
+    let here : start + (k - start) ≡ k = omega (arith, from) in
+    let own : IsOwnByte o (k - start) = own_byte start k r.offset o.field o.width (size_of o) t.field n.0 from to (outside s r k n.1.0 out ref.listed n.1.1) in
+    subst (λ (j : ℕ). IsInputByte w m (item_of s) j) here (h.kept start o t (k - start) own)
+
 -- ---- other bytes
 
 -- whether a byte is loaded so can be decided
@@ -121,9 +144,10 @@ beside k start n never =
           ]
     ]
 
-pub other_byte : (l : Layout) (w : World) (m : Memory) (s : InputSection) (k : ℕ) → l.machine ≡ machine.X86_64 → m.machine ≡ machines.X86_64 → ((r : InputRelocation) → IsAsked l w (item_of s) r) → ItemHolds l w m (item_of s) → k < length s.bytes → NoField s k → IsInputByte w m (item_of s) k
-other_byte l w m s k x same asked holds lt out =
+pub other_byte : (l : Layout) (w : World) (m : Memory) (s : InputSection) (k : ℕ) → l.machine ≡ machine.X86_64 → m.machine ≡ machines.X86_64 → w.base ≡ 0 → ((r : InputRelocation) → IsAsked l w (item_of s) r) → ItemHolds l w m (item_of s) → k < length s.bytes → NoField s k → IsInputByte w m (item_of s) k
+other_byte l w m s k x same zero asked holds lt out =
     stable (byte_in m (place_at w (item_of s) k)) (slice_index s.bytes k) (λ never. holds.others k lt (record {
       fields = in_no_field l s k x out;
-      templates = λ r start o ref t. beside k start (size_of o) (λ from to. never (keeps_byte l w m s r start k o x same out ref t.known t (holds.effects r start o ref (asked r) t) from to));
+      templates = λ r start o ref t. beside k start (size_of o) (λ from to. never (keeps_byte l w m s r start k o x same out ref t.known t
+          (holds.effects r start o ref (asked r) (λ alone. never (linked_byte l w m s r start k o x out ref (holds.linked r ref alone zero) t from to)) t) from to));
     }))

@@ -8,16 +8,16 @@ use Rattle.wild_plan.specs.Flags.{ifunc}
 use Rattle.wild_reloc.specs.Formula.{Value, SymbolAddress, Distance}
 use Rattle.wild_loader.specs.declared.memory.Memory.{Memory}
 use Rattle.wild_loader.specs.declared.world.World.{World}
-use Rattle.wild_meaning.specs.Value.{HasFlag, HasValue, HasStub, Denotes, moved}
+use Rattle.wild_meaning.specs.Value.{HasFlag, HasOwnValue, HasStub, IsReplaceable, Denotes, moved}
 use Rattle.wild_meaning.specs.Item.{item_of, place_at}
 use Rattle.wild_meaning.specs.Formula.{IsTarget, Gives}
 use Rattle.wild_laws.specs.FirstPath.{IsAddress, Demands, NamesAreAddresses}
-use Rattle.wild_laws.proofs.Symbols.{plain_value}
+use Rattle.wild_laws.proofs.Symbols.{own_value, plain_value}
 use Rattle.wild_laws.proofs.Branches.{target_reached}
 
 -- ---- symbols
 
-address : (l : Layout) (w : World) (i a : ℕ) → HasFlag l i ifunc false → HasValue l w i a → IsAddress l w i a
+address : (l : Layout) (w : World) (i a : ℕ) → HasFlag l i ifunc false → HasOwnValue l w i a → IsAddress l w i a
 address l w i a f h = record {
   raw = h.raw;
   given = h.given;
@@ -28,15 +28,15 @@ address l w i a f h = record {
   moves = plain_value l w i a h f ∙ ap (λ (b : Bool). moved b w.base h.raw) (sym h.absolute.flagged);
 }
 
-alone : (l : Layout) (w : World) (m : Memory) (i a : ℕ) → HasFlag l i ifunc false → ((p : ℕ) → HasStub l i p → ⊥) → Denotes l w m i a → IsAddress l w i a
-alone l w m i a f none (inl h) = address l w i a f h
-alone l w m i a f none (inr s) = absurd (none s.stub s.given)
+alone : (l : Layout) (w : World) (m : Memory) (i a : ℕ) → IsReplaceable l i false → HasFlag l i ifunc false → ((p : ℕ) → HasStub l i p → ⊥) → Denotes l w m i a → IsAddress l w i a
+alone l w m i a own f none (inl h) = address l w i a f (own_value l w i a own h)
+alone l w m i a own f none (inr s) = absurd (none s.stub s.given)
 
 pub names_addresses : NamesAreAddresses
 names_addresses = record {
   stands = λ l w m i a h. target_reached l w m (Some i) a h;
   alone = alone;
-  goals = λ l w m i a f h. (h.0, address l w i h.0 f h.1, h.2);
+  goals = λ l w m i a own f h. (h.0, address l w i h.0 f (own_value l w i h.0 own h.1), h.2);
 }
 
 -- ---- formulas

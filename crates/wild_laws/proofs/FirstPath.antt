@@ -11,19 +11,18 @@ use Rattle.wild_loader.specs.declared.memory.Memory.{Memory}
 use Rattle.wild_loader.specs.declared.effect.EffectKind.{EffectKind}
 use Rattle.wild_loader.specs.declared.effect.EffectKind.TheVariants as kinds
 use Rattle.wild_loader.specs.Effect.{exact, field, stands, call_near, jump_near, call_indirect, jump_indirect}
-use Rattle.wild_meaning.specs.Item.{item_of}
+use Rattle.wild_meaning.specs.Item.{item_of, IsKept}
 use Rattle.wild_meaning.specs.Field.{InNoField}
 use Rattle.wild_meaning.specs.Template.{operands_of, IsOwnByte, IsTemplate}
 use Rattle.wild_meaning.specs.Reference.{IsAsked}
 use Rattle.wild_meaning.specs.Linked.{processor_of}
-use Rattle.wild_laws.specs.FirstPath.{IsBranch, IsSlotBranch, InNoField as NoField, MeaningGivesFields}
-use Rattle.wild_laws.proofs.Bits.{bit_executable}
+use Rattle.wild_laws.specs.FirstPath.{IsLoadedSection, IsBranch, IsSlotBranch, InNoField as NoField, MeaningGivesFields}
+use Rattle.wild_laws.proofs.Bits.{bit_alloc, bit_executable}
 use Rattle.wild_laws.proofs.Operands.{range_byte}
 use Rattle.wild_laws.proofs.Branches.{direct}
 use Rattle.wild_laws.proofs.SlotBranches.{indirect}
 use Rattle.wild_laws.proofs.FirstFields.{has_formula}
 use Rattle.wild_laws.proofs.FirstBytes.{in_no_field, other_byte}
-use Rattle.wild_laws.proofs.Premises.{fixed_asked, sections_kept}
 
 -- ---- bytes
 
@@ -105,25 +104,33 @@ slot_template l s r k opcode kind does known x branch out next =
 
 -- ---- the whole
 
+-- such a section is kept
+kept : (l : Layout) (s : InputSection) → IsLoadedSection l s → IsKept l (item_of s)
+kept l s h = record {
+  section = s;
+  kept = record { input = record { group = h.group; grouped = h.grouped; file = h.file; filed = h.filed; listed = h.listed }; loaded = h.loaded; room = bit_alloc s.flags h.carried; has_data = h.has_data };
+  is = refl;
+}
+
 pub meaning_gives_fields : MeaningGivesFields
-meaning_gives_fields = λ l w image x fixed linked small s loaded.
+meaning_gives_fields = λ l w image x zero linked small s loaded.
     let m = linked.memory in
     let same = linked.machine ∙ ap processor_of x in
-    let holds = linked.kept (item_of s) (sections_kept l s loaded) in
-    let asked : (r : InputRelocation) → IsAsked l w (item_of s) r = λ r. fixed_asked l w (item_of s) r fixed in
+    let holds = linked.kept (item_of s) (kept l s loaded) in
+    let asked : (r : InputRelocation) → IsAsked l w (item_of s) r = λ r e. zero in
     record {
-      references = λ r ref address. has_formula l w m s r x same small address (holds.references r (record { listed = ref.listed; refers = ref.refers }) (asked r));
-      calls = λ r k ref branch out.
-          (let d = holds.effects r k (direct 0xe8 call_near.kind kinds.Call) (record { listed = ref.listed; refers = ref.refers }) (asked r) (branch_template l s r k 0xe8 call_near.kind kinds.Call (0, omega arith, refl) x branch out) in
+      references = λ r ref follows address. has_formula l w m s r x same small address (holds.references r (record { listed = ref.listed; refers = ref.refers }) (asked r) follows);
+      calls = λ r k ref follows branch out.
+          (let d = holds.effects r k (direct 0xe8 call_near.kind kinds.Call) (record { listed = ref.listed; refers = ref.refers }) (asked r) follows (branch_template l s r k 0xe8 call_near.kind kinds.Call (0, omega arith, refl) x branch out) in
           record { target = d.goal; reached = d.reached; goes = d.effect });
-      jumps = λ r k ref branch out.
-          (let d = holds.effects r k (direct 0xe9 jump_near.kind kinds.Jump) (record { listed = ref.listed; refers = ref.refers }) (asked r) (branch_template l s r k 0xe9 jump_near.kind kinds.Jump (1, omega arith, refl) x branch out) in
+      jumps = λ r k ref follows branch out.
+          (let d = holds.effects r k (direct 0xe9 jump_near.kind kinds.Jump) (record { listed = ref.listed; refers = ref.refers }) (asked r) follows (branch_template l s r k 0xe9 jump_near.kind kinds.Jump (1, omega arith, refl) x branch out) in
           record { target = d.goal; reached = d.reached; goes = d.effect });
-      slot_calls = λ r k ref branch out next.
-          (let d = holds.effects r k (indirect 0xff 0x15 call_indirect.kind kinds.Call) (record { listed = ref.listed; refers = ref.refers }) (asked r) (slot_template l s r k 0x15 call_indirect.kind kinds.Call (2, omega arith, refl) x branch out next) in
+      slot_calls = λ r k ref follows branch out next.
+          (let d = holds.effects r k (indirect 0xff 0x15 call_indirect.kind kinds.Call) (record { listed = ref.listed; refers = ref.refers }) (asked r) follows (slot_template l s r k 0x15 call_indirect.kind kinds.Call (2, omega arith, refl) x branch out next) in
           record { target = d.goal; reached = d.reached; goes = d.effect });
-      slot_jumps = λ r k ref branch out next.
-          (let d = holds.effects r k (indirect 0xff 0x25 jump_indirect.kind kinds.Jump) (record { listed = ref.listed; refers = ref.refers }) (asked r) (slot_template l s r k 0x25 jump_indirect.kind kinds.Jump (3, omega arith, refl) x branch out next) in
+      slot_jumps = λ r k ref follows branch out next.
+          (let d = holds.effects r k (indirect 0xff 0x25 jump_indirect.kind kinds.Jump) (record { listed = ref.listed; refers = ref.refers }) (asked r) follows (slot_template l s r k 0x25 jump_indirect.kind kinds.Jump (3, omega arith, refl) x branch out next) in
           record { target = d.goal; reached = d.reached; goes = d.effect });
-      others = λ k lt out. other_byte l w m s k x same asked holds lt out;
+      others = λ k lt out. other_byte l w m s k x same zero asked holds lt out;
     }

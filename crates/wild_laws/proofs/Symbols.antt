@@ -1,12 +1,14 @@
 -- What the layout says of a symbol is one thing.
 use Rattle.std.proofs.Common.{◌≡◌, ℕ, ◌+◌, ◌%◌, ◌^◌, ◌⊎◌, inl, inr, Bool, true, false, refl, sym, ap, ◌∙◌, subst}
-use Rattle.std.specs.Prelude.{Option, Some, None, Ok}
+use Rattle.std.specs.Prelude.{Option, Some, None, Ok, slice_get}
+use Rattle.wild_plan.specs.declared.symbol.Resolution.{Resolution}
 use Rattle.wild_plan.specs.declared.symbol.Symbol.{Symbol}
 use Rattle.wild_plan.specs.declared.layout.Layout.{Layout}
 use Rattle.wild_plan.specs.Flags.{has_flag, absolute, ifunc}
 use Rattle.wild_loader.specs.declared.world.World.{World}
 use Rattle.wild_loader.specs.Changes.{answer_at}
-use Rattle.wild_meaning.specs.Value.{IsSymbol, IsDefinedBy, HasFlag, HasValue, IsValue, moved}
+use Rattle.wild_loader.specs.declared.world.Answer.{Answer}
+use Rattle.wild_meaning.specs.Value.{IsSymbol, IsDefinedBy, HasFlag, HasOwnValue, HasAnswer, HasValue, IsReplaceable, IsValue, moved, may_be_replaced}
 
 -- a symbol has one definition
 pub one_definition : (l : Layout) (i c d : ℕ) → IsDefinedBy l i c → IsDefinedBy l i d → c ≡ d
@@ -38,16 +40,49 @@ not_both l i flag h g = let both : true ≡ false = one_flag l i flag true false
 pub some_flag : (l : Layout) (i flag other : ℕ) (b : Bool) → HasFlag l i flag b → (c : Bool) × HasFlag l i other c
 some_flag l i flag other b h = (has_flag h.symbol.flags other, record { definition = h.definition; defined = h.defined; symbol = h.symbol; listed = h.listed; flagged = refl })
 
+-- whether a symbol may be another module's is one thing
+pub one_owner : (l : Layout) (i : ℕ) (b c : Bool) → IsReplaceable l i b → IsReplaceable l i c → b ≡ c
+one_owner l i b c h g = sym h.told ∙ ap (λ (s : Symbol). may_be_replaced l.kind s.flags) (one_symbol l i h.definition g.definition h.symbol g.symbol h.defined g.defined h.listed g.listed) ∙ g.told
+
+pub not_replaceable : (l : Layout) (i : ℕ) → IsReplaceable l i true → IsReplaceable l i false → ⊥
+not_replaceable l i h g = let both : true ≡ false = one_owner l i true false h g in cc
+
 -- ---- values
 
--- the value of a symbol that is no IFUNC
-pub plain_value : (l : Layout) (w : World) (i a : ℕ) → (h : HasValue l w i a) → HasFlag l i ifunc false → a ≡ moved h.still w.base h.raw
+-- the value of a symbol that is the output's own
+pub own_value : (l : Layout) (w : World) (i a : ℕ) → IsReplaceable l i false → HasValue l w i a → HasOwnValue l w i a
+own_value l w i a own (inl h) = absurd (not_replaceable l i h.0 own)
+own_value l w i a own (inr h) = h.1
+
+-- and of one that may be another module's
+pub given_value : (l : Layout) (w : World) (i a : ℕ) → IsReplaceable l i true → HasValue l w i a → (x : Answer) × HasAnswer l w i x × (a ≡ x.address)
+given_value l w i a other (inl h) = (h.1, h.2, h.3)
+given_value l w i a other (inr h) = absurd (not_replaceable l i other h.0)
+
+-- a world has one answer for a symbol
+pub one_answer : (l : Layout) (w : World) (i : ℕ) (x y : Answer) → HasAnswer l w i x → HasAnswer l w i y → x ≡ y
+one_answer l w i x y h g =
+    let same = one_symbol l i g.definition h.definition g.symbol h.symbol g.defined h.defined g.listed h.listed in
+    by_index l w i x y h g (subst (λ (s : Symbol). s.resolution ≡ Some g.resolution) same g.decided)
+  where
+    by_index : (l : Layout) (w : World) (i : ℕ) (x y : Answer) → (h : HasAnswer l w i x) → (g : HasAnswer l w i y) → h.symbol.resolution ≡ Some g.resolution → x ≡ y
+    by_index l w i x y h g decided =
+        let both : Some h.resolution ≡ Some g.resolution = sym h.decided ∙ decided in
+        let same : h.resolution ≡ g.resolution = cc in
+        let told : h.resolution.dynamic_symbol_index ≡ Some g.index = subst (λ (r : Resolution). r.dynamic_symbol_index ≡ Some g.index) (sym same) g.told in
+        let index : Some h.index ≡ Some g.index = sym h.told ∙ told in
+        let at : h.index ≡ g.index = cc in
+        let given : Some x ≡ Some y = sym h.given ∙ subst (λ (k : ℕ). slice_get w.symbols k ≡ Some y) (sym at) g.given in
+        cc
+
+-- the value of one of the output's own that is no IFUNC
+pub plain_value : (l : Layout) (w : World) (i a : ℕ) → (h : HasOwnValue l w i a) → HasFlag l i ifunc false → a ≡ moved h.still w.base h.raw
 plain_value l w i a h f = subst (λ (b : Bool). IsValue w b h.still h.raw a) (one_flag l i ifunc h.indirect false h.resolved f) h.is
 
 -- where it moves
-pub moved_value : (l : Layout) (w : World) (i a : ℕ) → (h : HasValue l w i a) → HasFlag l i ifunc false → HasFlag l i absolute false → a ≡ (w.base + h.raw) % 2 ^ 64
+pub moved_value : (l : Layout) (w : World) (i a : ℕ) → (h : HasOwnValue l w i a) → HasFlag l i ifunc false → HasFlag l i absolute false → a ≡ (w.base + h.raw) % 2 ^ 64
 moved_value l w i a h f g = plain_value l w i a h f ∙ ap (λ (b : Bool). moved b w.base h.raw) (one_flag l i absolute h.still false h.absolute g)
 
 -- of an IFUNC it is the answer
-pub answered_value : (l : Layout) (w : World) (i a : ℕ) → (h : HasValue l w i a) → HasFlag l i ifunc true → answer_at w ((w.base + h.raw) % 2 ^ 64) ≡ Ok a
+pub answered_value : (l : Layout) (w : World) (i a : ℕ) → (h : HasOwnValue l w i a) → HasFlag l i ifunc true → answer_at w ((w.base + h.raw) % 2 ^ 64) ≡ Ok a
 answered_value l w i a h f = subst (λ (b : Bool). IsValue w b h.still h.raw a) (one_flag l i ifunc h.indirect true h.resolved f) h.is

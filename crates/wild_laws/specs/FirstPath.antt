@@ -1,4 +1,5 @@
--- What an image owes a fixed x86-64 layout, told by fields, calls and jumps alone. It follows from the meaning of all layouts.
+-- What an image owes an x86-64 layout at base 0, where each fixed output is, told by fields, calls and jumps alone. It follows from
+-- the meaning of all layouts.
 --   HasFormula ..        the field in memory is the formula's
 --   BranchReaches ..     a call or a jump goes to what comes to its symbol
 --   WritesAddress r      the relocation's type is one of an address or a distance
@@ -28,7 +29,6 @@ use Rattle.wild_loader.specs.Effect.{step}
 use Rattle.wild_meaning.specs.Value.{IsSymbol, IsDefinedBy, HasRaw, HasFlag, HasStub, IsReplaceable, Denotes, Reaches, moved}
 use Rattle.wild_meaning.specs.Field.{form_width}
 use Rattle.wild_meaning.specs.Formula.{IsTarget, IsGoal}
-use Rattle.wild_meaning.specs.World.{IsFixed}
 use Rattle.wild_meaning.specs.Item.{item_of}
 use Rattle.wild_meaning.specs.Reference.{IsLinkedAlone}
 use Rattle.wild_meaning.specs.Linked.{IsLinked}
@@ -145,9 +145,9 @@ pub record HoldsByFields (l : Layout) (w : World) (m : Memory) (s : InputSection
 abbrev pub AreBytes : Memory → Type 0
 AreBytes m = (a b : ℕ) → byte_in m a ≡ Some b → b < 256
 
--- an image that meets the meaning of all layouts meets this one
+-- an image that meets the meaning of all layouts at base 0 meets this one
 abbrev pub MeaningGivesFields : Type 0
-MeaningGivesFields = (l : Layout) (w : World) (image : List ℕ) → l.machine ≡ machine.X86_64 → IsFixed l.kind → (linked : IsLinked l w image) → AreBytes linked.memory → (s : InputSection) → IsLoadedSection l s → HoldsByFields l w linked.memory s
+MeaningGivesFields = (l : Layout) (w : World) (image : List ℕ) → l.machine ≡ machine.X86_64 → w.base ≡ 0 → (linked : IsLinked l w image) → AreBytes linked.memory → (s : InputSection) → IsLoadedSection l s → HoldsByFields l w linked.memory s
 
 -- ---- symbols
 

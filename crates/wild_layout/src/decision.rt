@@ -7,10 +7,16 @@ pub enum Decision {
     /// Nothing.
     Nothing,
     /// A value into a field of that size, at the relocation's offset.
-    Field { size: RelocationSize, value: u64 },
+    Field {
+        size: RelocationSize,
+        value: u64,
+    },
     /// The address `value`, which moves with the base, in 8 bytes: where it is packed it stands there and a loader adds the
     /// base to it; else 0 does, and a loader stores the sum of base and value by an entry.
-    Moved { value: u64, packed: bool },
+    Moved {
+        value: u64,
+        packed: bool,
+    },
     /// 0 into a field of that size, which a loader fills by an entry of that number, with an index in the dynamic symbol
     /// table (0: none) and an addend.
     Left {

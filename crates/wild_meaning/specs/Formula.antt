@@ -10,7 +10,7 @@
 --   Gives value l w m item r x   x is the value of the expression
 --   IsPlaceRelative value    the expression takes a place from an address
 --   GivesLinked value ..     the same with the output's own S, whatever another module has for it
-use Rattle.std.specs.Prelude.{◌≡◌, ℕ, ◌+◌, ◌-◌, ◌%◌, ◌^◌, ◌⊎◌, true, ⊤, Option, Some, None}
+use Rattle.std.specs.Prelude.{◌≡◌, ℕ, ◌+◌, ◌-◌, ◌%◌, ◌^◌, ◌⊎◌, true, false, ⊤, Option, Some, None}
 use Rattle.std.specs.Int.{w64, cast_unsigned}
 use Rattle.wild_records.specs.Abi.Relocation.{r_x86_64_size32}
 use Rattle.wild_records.specs.Abi.Section.{shf_execinstr}
@@ -19,11 +19,12 @@ use Rattle.wild_plan.specs.declared.kind.OutputKind.{OutputKind}
 use Rattle.wild_plan.specs.declared.kind.OutputKind.TheVariants as output
 use Rattle.wild_plan.specs.declared.input.InputRelocation.{InputRelocation}
 use Rattle.wild_plan.specs.declared.layout.Layout.{Layout}
+use Rattle.wild_plan.specs.Flags.{non_interposable}
 use Rattle.wild_loader.specs.declared.memory.Memory.{Memory}
 use Rattle.wild_loader.specs.declared.world.World.{World}
 use Rattle.wild_loader.specs.declared.world.Answer.{Answer}
 use Rattle.wild_meaning.specs.Section.{IsSet}
-use Rattle.wild_meaning.specs.Value.{HasValue, HasOwnValue, HasAnswer, Denotes, Reaches, HasSize}
+use Rattle.wild_meaning.specs.Value.{HasFlag, HasValue, HasOwnValue, HasAnswer, Denotes, Reaches, HasSize}
 use Rattle.wild_meaning.specs.Thread.{HasThreadOffset, HasOwnOffset, IsOffsetBase}
 use Rattle.wild_meaning.specs.Slot.{IsSlot}
 use Rattle.wild_meaning.specs.Item.{Item, place_at}
@@ -58,12 +59,13 @@ abbrev pub IsExtent : Layout → World → Option ℕ → ℕ → Type 0
 IsExtent l w None z = ⊥
 IsExtent l w (Some i) z = HasSize l w i z
 
--- the field has four bytes, and the world answers for the symbol, which may have more bytes than such a field can tell (x86-64
--- psABI, "Relocation Types": R_X86_64_SIZE32)
+-- the field has four bytes, and the world answers for the symbol, one that others may define: it may have more bytes than such a
+-- field can tell (x86-64 psABI, "Relocation Types": R_X86_64_SIZE32)
 pub record IsShort (l : Layout) (w : World) (r : InputRelocation) : Type 0 where
   pub number : r.number ≡ r_x86_64_size32
   pub symbol : ℕ
   pub named : r.symbol ≡ Some symbol
+  pub interposable : HasFlag l symbol non_interposable false
   pub answer : Answer
   pub given : HasAnswer l w symbol answer
 

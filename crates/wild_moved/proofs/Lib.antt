@@ -1,6 +1,8 @@
+pub mod MadeChanges
 pub mod OutsideTables
-pub mod MovedMemory
-pub mod MovedLoaded
+pub mod SectionsMoved
+mod NumbersKept
 pub mod SitesLoaded
 pub mod SlotsLoaded
+mod Notes
 pub mod Moving

@@ -1,67 +1,105 @@
--- The image of a layout is loaded: its addresses move, its slots are filled, and nothing else changes.
-use Rattle.std.proofs.Common.{◌≡◌, ℕ, ◌+◌, Bool, true, false, refl, ◌∙◌}
-use Rattle.std.specs.Prelude.{Some, Ok, Contains}
+-- The image of a layout is loaded: its addresses move, what is left to entries is filled, and nothing else changes.
+use Rattle.std.proofs.Common.{◌≡◌, ℕ, ◌+◌, Bool, true, false, List, [], ◌∷◌, length, map, refl, sym, ap, ◌∙◌, arith, subst}
+use Rattle.std.specs.Prelude.{Some, None, Ok, All, Contains, if◌then◌else◌}
+use Rattle.std.proofs.lemmas.Bool.{ne_eqb}
+use Rattle.std.proofs.lemmas.List.Elements.{All-contains, All-head, All-tail, Contains-append_right}
+use Rattle.std.proofs.lemmas.List.{length-map, get_or-map}
+use Rattle.wild_records.specs.Abi.Segment.{pt_dynamic}
+use Rattle.wild_records.specs.declared.program_header.ProgramHeader.{ProgramHeader}
 use Rattle.wild_plan.specs.declared.kind.Machine.TheVariants as machine
+use Rattle.wild_plan.specs.declared.file.FileRole.{FileRole}
+use Rattle.wild_plan.specs.declared.file.FileRole.TheVariants as file_role
 use Rattle.wild_plan.specs.declared.layout.Layout.{Layout}
+use Rattle.wild_plan.specs.Entries.{copies_of}
+use Rattle.wild_plan.specs.FileRoles.{is_library}
 use Rattle.wild_plan.specs.Kinds.{needs_dynamic}
 use Rattle.wild_headers.specs.Headers.{file_header, section_headers_of}
 use Rattle.wild_layout.specs.Image.{bytes}
+use Rattle.wild_layout.specs.Left.{copy_entry}
+use Rattle.wild_layout.proofs.SiteLemmas.{Contains-flat_map}
+use Rattle.wild_loader.specs.declared.change.Change.TheVariants as changes
+use Rattle.wild_loader.specs.declared.kind.DynamicKind.TheVariants as kinds
 use Rattle.wild_loader.specs.declared.memory.Memory.{Memory}
+use Rattle.wild_loader.specs.declared.world.Answer.{Answer}
 use Rattle.wild_loader.specs.declared.world.World.{World}
 use Rattle.wild_loader.specs.Load.{load}
-use Rattle.wild_loader.specs.EntryLaws.{HasImage, HasStaticImage, AreWords, IsFilled, ImagesAreFilled, StaticImagesAreFilled}
-use Rattle.wild_tables.specs.Laws.{EntriesAddTheBase}
+use Rattle.wild_loader.specs.Memory.{byte_in, Holds}
+use Rattle.wild_loader.specs.Relocate.{loaded_at, patched}
+use Rattle.wild_loader.specs.Tables.{first_dynamic}
+use Rattle.wild_loader.specs.Laws.{IsStatic, section_relas, DynamicImagesAreLoaded, StaticImagesAreLoaded}
+use Rattle.wild_loader.specs.EntryLaws.{patches_of, TablesAreApplied, OrderIsFree}
 use Rattle.wild_layout.specs.Numbers.{NumbersFit}
 use Rattle.wild_layout.specs.Geometry.{IsLaidOut}
-use Rattle.wild_meaning.specs.Linked.{IsBehind}
-use Rattle.wild_meaning.specs.World.{IsLoadable, IsLegal}
-use Rattle.wild_loader.specs.Memory.{byte_in}
-use Rattle.wild_slots.specs.Stand.{SlotsStand}
-use Rattle.wild_loaded.specs.Memory.{image_memory, headers_of, HasMemory}
-use Rattle.wild_loaded.specs.OwnSlots.{HasOwnSlots}
+use Rattle.wild_meaning.specs.World.{IsLoadable, IsLegal, IsBehind, IsCopied, HasCopy}
+use Rattle.wild_meaning.specs.Linked.{IsNotCopied}
+use Rattle.wild_loaded.specs.Memory.{image_memory, headers_of}
+use Rattle.wild_loaded.specs.WholeSlots.{HasWholeSlots}
 use Rattle.wild_loaded.specs.Tables.{tables_of}
-use Rattle.wild_loaded.specs.Laws.{HeadersStand, SegmentsAreLoadable, ZerosAreStored, TablesAreFound, SectionTablesAreFound}
-use Rattle.wild_filled.specs.Words.{value_at, stored}
-use Rattle.wild_filled.specs.Laws.{TablesAreWords}
+use Rattle.wild_loaded.specs.Laws.{HeadersStand, SegmentsAreLoadable, TablesAreFound, SectionTablesAreFound}
+use Rattle.wild_filled.specs.Words.{place_change, entry_change}
+use Rattle.wild_filled.specs.Laws.{AreMade, TablesAreMade}
+use Rattle.wild_filled.proofs.Fillings.{Filling, IsKnown, place_loaded}
 use Rattle.wild_filled.proofs.KeptSections.{kept_well}
-use Rattle.wild_filled.proofs.MovedSections.{have_places}
-use Rattle.wild_filled.proofs.AllTables.{FilledLaws, EntryLaws, IsFilledWell, slot_tables, tables_sorted}
+use Rattle.wild_filled.proofs.FilledSections.{have_places}
+use Rattle.wild_filled.proofs.CopyFillings.{group_copies, all_copies, width_by, copy_width, copy_filling, copies_filled}
+use Rattle.wild_filled.proofs.TableLists.{stored_fillings, all_fillings}
+use Rattle.wild_filled.proofs.AllTables.{IsFilledWell, slot_tables, tables_sorted}
 use Rattle.wild_moved.specs.Laws.{MemoryIsMoved, ImagesAreLoaded}
-use Rattle.wild_moved.proofs.OutsideTables.{behind_all}
-use Rattle.wild_moved.proofs.MovedLoaded.{IsFilledImage, kept_at, section_moved}
+use Rattle.wild_moved.specs.Moved.{HasApplied}
+use Rattle.wild_moved.proofs.MadeChanges.{MovingLaws, IsMovedImage, kept_at, made_over}
+use Rattle.wild_moved.proofs.OutsideTables.{behind_miss}
+use Rattle.wild_moved.proofs.SectionsMoved.{section_moved}
 use Rattle.wild_moved.proofs.SlotsLoaded.{slots_loaded}
+use Rattle.wild_moved.proofs.Notes.{has_changed, alone, alone_made, alone_apart, alone_changed}
 
--- what the crates below owe of memory
-pub record MovingLaws : Type 0 where
-  pub filled : FilledLaws
-  pub changes : EntryLaws
-  pub base : EntriesAddTheBase
-  pub zeros : ZerosAreStored
-  pub stand : SlotsStand
-
-filled_image : (l : Layout) (w : World) (m : Memory) → MovingLaws → l.machine ≡ machine.X86_64 → IsFilledWell l w → IsFilled w (image_memory l w) (tables_of l) (value_at w (image_memory l w)) (stored w (image_memory l w)) m → IsFilledImage l w m
-filled_image l w m laws x h filled = record {
-  laws = laws.filled;
-  changes = laws.changes;
-  base = laws.base;
-  zeros = laws.zeros;
-  x86 = x;
+moved_image : (l : Layout) (w : World) (m : Memory) → MovingLaws → IsFilledWell l w → HasApplied l w m → IsMovedImage l w m
+moved_image l w m laws h applied = record {
+  laws = laws;
   well = h;
-  places = record { kind = h.kind; laid = h.laid; sections = have_places l laws.filled.carried h.laid h.decided; slots = slot_tables l laws.filled.ascend h.laid h.own };
+  sections = have_places l laws.filled.carried h.laid h.decided;
+  slots = slot_tables l w laws.filled h;
   sorted = tables_sorted l w laws.filled h;
-  filled = filled;
+  applied = applied;
 }
 
-zero_moved : (l : Layout) (w : World) (m : Memory) (a : ℕ) → IsFilledImage l w m → IsBehind l a → byte_in m (w.base + a) ≡ Some 0
-zero_moved l w m a h b = kept_at l w m a h (behind_all l a h.places b) ∙ h.zeros l w a h.well.legal h.well.laid b
+-- ---- zeros and copies
+
+zero_moved : (l : Layout) (w : World) (m : Memory) (a : ℕ) → IsMovedImage l w m → IsBehind l a → IsNotCopied l w a → byte_in m (w.base + a) ≡ Some 0
+zero_moved l w m a h b none = kept_at l w m a h (behind_miss l w m a h b none) ∙ h.laws.filled.copies.zeros l w a h.well.legal h.well.laid b
+
+library : (r : FileRole) → r ≡ file_role.Dynamic → is_library r ≡ true
+library r e = ap is_library e
+
+copied_listed : (l : Layout) (i : ℕ) → IsCopied l i → Contains (all_copies l) i
+copied_listed l i c =
+    let here : Contains (copies_of c.file) i = subst (λ (b : Bool). Contains (if b then c.file.copies else []) i) (sym (library c.file.role c.library)) c.listed in
+    Contains-flat_map group_copies l.groups c.group i c.grouped (Contains-flat_map copies_of c.group.files c.file i c.filed here)
+
+Contains-map : (f : ℕ → Filling) (xs : List ℕ) (x : ℕ) → Contains xs x → Contains (map f xs) (f x)
+Contains-map f xs x c = (c.0, (let n = length-map xs f in let l = c.1 in omega (arith, n, l)), get_or-map f xs c.0 x (f x) c.1 ∙ ap f c.2)
+
+copy_moved : (l : Layout) (w : World) (m : Memory) (i raw : ℕ) (x : Answer) → IsMovedImage l w m → HasCopy l w i raw x → Holds m (w.base + raw) x.bytes
+copy_moved l w m i raw x h c =
+    let k = h.laws.filled.copies.changes.copies l w i raw x h.well.x86 h.well.numbers h.well.legal h.well.laid c in
+    let wide : copy_width w (copy_entry l i) ≡ length x.bytes = ap width_by k.makes in
+    let f = copy_filling l w i in
+    let listed = Contains-append_right (stored_fillings l) (copies_filled l w) f (Contains-map (copy_filling l w) (all_copies l) i (copied_listed l i c.copied)) in
+    let over = made_over l w m f (changes.Fill x.bytes) h listed tt (record { kind = kinds.Copy; known = k.known; made = k.makes }) (sym wide) in
+    λ j lt. (
+    let width : f.width ≡ length x.bytes = wide in
+    let low = (All-contains (IsKnown w (image_memory l w)) (all_fillings l w) f h.sorted.known listed).low (omega (arith, width, lt)) in
+    let at = place_loaded w f.entry.offset f.width (omega (arith, width, lt)) low in
+    let there : loaded_at w f.entry.offset ≡ w.base + raw = at ∙ ap (λ (a : ℕ). w.base + a) k.place in
+    subst (λ (a : ℕ). Holds m a x.bytes) there over.made.held j lt)
 
 pub memory_moved : MovingLaws → MemoryIsMoved
-memory_moved laws = λ l w m x kind numbers legal laid decided own filled.
-    let h = filled_image l w m laws x (record { kind = kind; numbers = numbers; legal = legal; laid = laid; decided = decided; own = own }) filled in
+memory_moved laws = λ l w m x kind numbers legal laid decided whole none applied.
+    let h = moved_image l w m laws (record { x86 = x; kind = kind; numbers = numbers; legal = legal; laid = laid; decided = decided; whole = whole; none = none }) applied in
     record {
       sections = λ s kept. section_moved l w m s h (kept_well l s laid decided kept);
-      slots = slots_loaded l w m laws.stand h;
-      zeros = λ a b. zero_moved l w m a h b;
+      slots = slots_loaded l w m h;
+      zeros = λ a b free. zero_moved l w m a h b free;
+      copies = λ i raw y c. copy_moved l w m i raw y h c;
     }
 
 -- ---- the image
@@ -72,50 +110,65 @@ pub record ImageLaws : Type 0 where
   pub segments : SegmentsAreLoadable
   pub found : TablesAreFound
   pub sections : SectionTablesAreFound
-  pub words : TablesAreWords
+  pub made : TablesAreMade
+  pub applied : TablesAreApplied
+  pub order : OrderIsFree
   pub moved : MemoryIsMoved
-  pub dynamic : ImagesAreFilled
-  pub static : StaticImagesAreFilled
+  pub dynamic : DynamicImagesAreLoaded
+  pub static : StaticImagesAreLoaded
+
+-- what a loader makes of the image
+record IsLoadedBy (l : Layout) (w : World) : Type 0 where
+  memory : Memory
+  accepted : load w (bytes l) ≡ Ok memory
+  applied : HasApplied l w memory
+
+no_dynamic : (hs : List ProgramHeader) → All IsStatic hs → first_dynamic hs ≡ None
+unfolding first_dynamic
+no_dynamic [] static = refl
+no_dynamic (h ∷ hs) static = rw (ne_eqb h.kind pt_dynamic (All-head IsStatic h hs static)) (no_dynamic hs (All-tail IsStatic h hs static))
+
+dynamic_loaded : (l : Layout) (w : World) → ImageLaws → needs_dynamic l.kind ≡ true → l.machine ≡ machine.X86_64 → IsLoadable l.kind → NumbersFit l → IsLegal l w → IsLaidOut l → HasWholeSlots l → AreMade l w → IsLoadedBy l w
+dynamic_loaded l w laws needs x kind numbers legal laid whole made =
+    let t = laws.found l needs numbers laid whole in
+    let before = image_memory l w in
+    let is = laws.dynamic w (bytes l) (file_header l) (headers_of l) (section_headers_of l l.sections) t.entries (tables_of l) (laws.headers.stand l x kind numbers laid) (laws.headers.taken l x kind) (laws.segments.loadable l w legal laid) t.dynamic t.tables in
+    let h = has_changed w before (tables_of l) laws.applied made.made made.apart in
+    record {
+      memory = patched before (patches_of (tables_of l) (place_change w before) (entry_change w before));
+      accepted = is ∙ h.is;
+      applied = record { machine = h.machine ∙ laws.segments.machine l w x; words = h.words; entries = h.entries; others = h.others };
+    }
+
+static_loaded : (l : Layout) (w : World) → ImageLaws → needs_dynamic l.kind ≡ false → l.machine ≡ machine.X86_64 → IsLoadable l.kind → NumbersFit l → IsLegal l w → IsLaidOut l → HasWholeSlots l → AreMade l w → IsLoadedBy l w
+static_loaded l w laws plain x kind numbers legal laid whole made =
+    let t = laws.sections l kind plain numbers laid whole in
+    let before = image_memory l w in
+    let rs = section_relas (section_headers_of l l.sections) t.of in
+    let is = laws.static w (bytes l) (file_header l) (headers_of l) (section_headers_of l l.sections) t.of (laws.headers.stand l x kind numbers laid) (laws.headers.taken l x kind) (laws.segments.loadable l w legal laid) (no_dynamic (headers_of l) t.static) t.told t.sections in
+    let h = has_changed w before (alone rs) laws.applied (alone_made w before (tables_of l) rs t.all made.made) (alone_apart w before (tables_of l) rs laws.order t.words t.all made.apart) in
+    let back = alone_changed w before (patched before (patches_of (alone rs) (place_change w before) (entry_change w before))) (tables_of l) rs t.words t.all h in
+    record {
+      memory = patched before (patches_of (alone rs) (place_change w before) (entry_change w before));
+      accepted = is ∙ h.is;
+      applied = record { machine = h.machine ∙ laws.segments.machine l w x; words = back.0.0; entries = back.0.1; others = back.1 };
+    }
 
 pub images_loaded : ImageLaws → ImagesAreLoaded
-images_loaded laws = λ l w x kind numbers legal laid decided own.
-    let words = laws.words l w x kind numbers legal laid decided own in
-    let before = image_memory l w in
-    let moved = λ (m : Memory) (filled : IsFilled w before (tables_of l) (value_at w before) (stored w before) m). laws.moved l w m x kind numbers legal laid decided own filled in
-    let whole : (m : Memory) × (load w (bytes l) ≡ Ok m) × IsFilled w before (tables_of l) (value_at w before) (stored w before) m → HasMemory l w = λ loaded. (
-    let h = moved loaded.0 loaded.2 in
+images_loaded laws = λ l w x kind numbers legal laid decided whole none.
+    let made = laws.made l w x kind numbers legal laid decided whole none in
+    let loaded = by_kind l w (needs_dynamic l.kind) refl x kind numbers legal laid whole made in
+    let h = laws.moved l w loaded.memory x kind numbers legal laid decided whole none loaded.applied in
     record {
-      memory = loaded.0;
-      accepted = loaded.1;
-      machine = loaded.2.machine ∙ laws.segments.machine l w x;
+      memory = loaded.memory;
+      accepted = loaded.accepted;
+      machine = loaded.applied.machine;
       sections = h.sections;
       slots = h.slots;
       zeros = h.zeros;
-    }) in
-    whole (by_kind l w (needs_dynamic l.kind) refl x kind numbers legal laid own words)
+      copies = h.copies;
+    }
   where
-    by_kind : (l : Layout) (w : World) (b : Bool) → needs_dynamic l.kind ≡ b → l.machine ≡ machine.X86_64 → IsLoadable l.kind → NumbersFit l → IsLegal l w → IsLaidOut l → HasOwnSlots l
-        → AreWords w (image_memory l w) (tables_of l) (value_at w (image_memory l w)) (stored w (image_memory l w))
-        → (m : Memory) × (load w (bytes l) ≡ Ok m) × IsFilled w (image_memory l w) (tables_of l) (value_at w (image_memory l w)) (stored w (image_memory l w)) m
-    by_kind l w true needs x kind numbers legal laid own words =
-        let t = laws.found l needs numbers laid own in
-        let image : HasImage w (bytes l) (file_header l) (headers_of l) (section_headers_of l l.sections) t.entries (tables_of l) = record {
-          headers = laws.headers.stand l x kind numbers laid;
-          loadable_header = laws.headers.taken l x kind;
-          loadable = laws.segments.loadable l w legal laid;
-          dynamic = t.dynamic;
-          tables = t.tables;
-        } in
-        laws.dynamic w (bytes l) (file_header l) (headers_of l) (section_headers_of l l.sections) t.entries (tables_of l) (value_at w (image_memory l w)) (stored w (image_memory l w)) image words
-    by_kind l w false plain x kind numbers legal laid own words =
-        let t = laws.sections l kind plain numbers laid own in
-        let image : HasStaticImage w (bytes l) (file_header l) (headers_of l) (section_headers_of l l.sections) (tables_of l) = record {
-          headers = laws.headers.stand l x kind numbers laid;
-          loadable_header = laws.headers.taken l x kind;
-          loadable = laws.segments.loadable l w legal laid;
-          static = t.static;
-          words = t.words;
-          entries = t.entries;
-          sections = t.sections;
-        } in
-        laws.static w (bytes l) (file_header l) (headers_of l) (section_headers_of l l.sections) (tables_of l) (value_at w (image_memory l w)) (stored w (image_memory l w)) image words
+    by_kind : (l : Layout) (w : World) (b : Bool) → needs_dynamic l.kind ≡ b → l.machine ≡ machine.X86_64 → IsLoadable l.kind → NumbersFit l → IsLegal l w → IsLaidOut l → HasWholeSlots l → AreMade l w → IsLoadedBy l w
+    by_kind l w true needs x kind numbers legal laid whole made = dynamic_loaded l w laws needs x kind numbers legal laid whole made
+    by_kind l w false plain x kind numbers legal laid whole made = static_loaded l w laws plain x kind numbers legal laid whole made

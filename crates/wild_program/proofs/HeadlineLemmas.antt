@@ -1,5 +1,5 @@
 -- The text of status 0 is that of a sound image.
-use Rattle.std.proofs.Common.{◌≡◌, ℕ, List, [], ◌∷◌, ◌++◌, Option, Some, None, refl, sym, ap, ◌∙◌, subst, ◌⊎◌, inl, inr, String, Global}
+use Rattle.std.proofs.Common.{◌≡◌, ℕ, List, [], ◌∷◌, ◌++◌, Option, Some, None, refl, sym, ap, ◌∙◌, subst, inl, inr, String, Global}
 use Rattle.std.proofs.lemmas.List.{append_cancel_left}
 use Rattle.std.specs.Io.KnownBytes.{Appends}
 use Rattle.wild_plan.specs.declared.fault.Error.{Error}
@@ -7,14 +7,15 @@ use Rattle.wild_plan.specs.declared.layout.Layout.{Layout}
 use Rattle.wild_layout.specs.Image.{bytes, counts}
 use Rattle.wild_layout.specs.Warnings.{warnings}
 use Rattle.wild_layout.specs.Faults.{errors}
-use Rattle.wild_laws.specs.Laws.{IsStatic, ImagesAreSound}
+use Rattle.wild_laws.specs.Laws.{ImagesAreSound}
 use Rattle.wild_text.specs.Means.{no_json, no_plan, plan, Means}
 use Rattle.wild_text.specs.Answer.{image_text}
-use Rattle.wild_text.specs.Laws.{PlansAreStatic}
-use Rattle.wild_text.specs.Plan.{fixed, movable}
+use Rattle.wild_text.specs.Laws.{PlansAreRead}
 use Rattle.wild_plan.specs.declared.kind.OutputKind.{OutputKind}
+use Rattle.wild_plan.specs.declared.kind.OutputKind.TheVariants as output
+use Rattle.wild_plan.specs.declared.kind.RelocationModel.TheVariants as model
 use Rattle.wild_layout.specs.Numbers.{NumbersFit}
-use Rattle.wild_meaning.specs.World.{IsFixed, IsMovable, IsLoadable}
+use Rattle.wild_meaning.specs.World.{IsLoadable}
 use Rattle.wild_program.specs.Exit as exit
 use Rattle.wild_program.specs.Program.{Answer, usage, read_fault, too_long, of_plan, of_make, status, text as text_of, errors_status, errors_text, layout_text, Turn, Told, IsDue, IsSaid, IsMeant, IsLinkedText}
 use Rattle.wild_program.specs.Clauses.{IsHeadline}
@@ -36,41 +37,41 @@ no_errors : (es : List Error) (said : ℕ) → said ≡ exit.linked → said ≡
 no_errors [] said zero h = refl
 no_errors (e ∷ es) said zero h = clash exit.linked exit.refused said refl zero h
 
--- a static executable is loaded: at its own addresses, or at any base
-loaded_kind : (l : Layout) → (l.kind ≡ fixed) ⊎ (l.kind ≡ movable) → IsLoadable l.kind
-loaded_kind l (inl e) = inl (subst (λ (k : OutputKind). IsFixed k) (sym e) tt)
-loaded_kind l (inr e) = inr (subst (λ (k : OutputKind). IsMovable k) (sym e) tt)
-
-static_kind : (l : Layout) → (l.kind ≡ fixed) ⊎ (l.kind ≡ movable) → IsStatic l.kind
-static_kind l (inl e) = subst (λ (k : OutputKind). IsStatic k) (sym e) tt
-static_kind l (inr e) = subst (λ (k : OutputKind). IsStatic k) (sym e) tt
+-- an executable or a shared object is loaded: at its own addresses, or at any base
+loaded_kind : (k : OutputKind) → (k ≡ output.PartialObject → ⊥) → IsLoadable k
+loaded_kind (output.StaticExecutable model.NonRelocatable) h = inl tt
+loaded_kind (output.DynamicExecutable model.NonRelocatable) h = inl tt
+loaded_kind (output.StaticExecutable model.Relocatable) h = inr tt
+loaded_kind (output.DynamicExecutable model.Relocatable) h = inr tt
+loaded_kind output.SharedObject h = inr tt
+loaded_kind output.PartialObject h = absurd (h refl)
 
 -- the text of a layout without faults
-image_of : (t : Turn) (l : Layout) (plan_bytes text : List ℕ) → ImagesAreSound → PlansAreStatic → NumbersFit l → t.left_before ≡ Some plan_bytes → IsMeant t (plan l)
+image_of : (t : Turn) (l : Layout) (plan_bytes text : List ℕ) → ImagesAreSound → PlansAreRead → NumbersFit l → t.left_before ≡ Some plan_bytes → IsMeant t (plan l)
     → errors l ≡ [] → text ≡ layout_text l → IsLinkedText plan_bytes text
-image_of t l plan_bytes text sound static fits left meant none is =
+image_of t l plan_bytes text sound reads fits left meant none is =
     let same = all_read t plan_bytes meant.0 left meant.1 in
     let means = subst (λ (b : List ℕ). Means b (plan l)) (sym same) meant.2 in
-    let target = static means.0 l means.2 in
+    let target = reads means.0 l means.2 in
     let shown : text ≡ image_text l (bytes l) (warnings l) (counts l) = is ∙ ap (errors_text l) none in
-    (l, means, bytes l, warnings l, counts l, shown, loaded_kind l target.kind, sound l target.machine (static_kind l target.kind) fits target.own none)
+    (l, means, bytes l, warnings l, counts l, shown, loaded_kind l.kind target.whole, sound l target.machine fits target.own none)
 
-said_image : (t : Turn) (u : Told) (said : ℕ) (a : Answer) (words : List (String Global)) → ImagesAreSound → PlansAreStatic → AnswerFits a → IsDue words t a
+said_image : (t : Turn) (u : Told) (said : ℕ) (a : Answer) (words : List (String Global)) → ImagesAreSound → PlansAreRead → AnswerFits a → IsDue words t a
     → said ≡ status a → Appends u.taken_before u.taken_after (text_of a) → IsHeadline words t u said
-said_image t u said usage words sound static fits due h took plan_bytes before text command zero left b a = clash exit.linked exit.usage said refl zero h
-said_image t u said read_fault words sound static fits due h took plan_bytes before text command zero left b a = clash exit.linked exit.read_fault said refl zero h
-said_image t u said too_long words sound static fits due h took plan_bytes before text command zero left b a = clash exit.linked exit.too_long said refl zero h
-said_image t u said (of_plan no_json) words sound static fits due h took plan_bytes before text command zero left b a = clash exit.linked exit.no_plan said refl zero h
-said_image t u said (of_plan (no_plan path)) words sound static fits due h took plan_bytes before text command zero left b a = clash exit.linked exit.no_plan said refl zero h
-said_image t u said (of_plan (plan l)) words sound static fits due h took plan_bytes before text command zero left b a =
-    image_of t l plan_bytes text sound static fits left due.1 (no_errors (errors l) said zero h)
+said_image t u said usage words sound reads fits due h took plan_bytes before text command zero left b a = clash exit.linked exit.usage said refl zero h
+said_image t u said read_fault words sound reads fits due h took plan_bytes before text command zero left b a = clash exit.linked exit.read_fault said refl zero h
+said_image t u said too_long words sound reads fits due h took plan_bytes before text command zero left b a = clash exit.linked exit.too_long said refl zero h
+said_image t u said (of_plan no_json) words sound reads fits due h took plan_bytes before text command zero left b a = clash exit.linked exit.no_plan said refl zero h
+said_image t u said (of_plan (no_plan path)) words sound reads fits due h took plan_bytes before text command zero left b a = clash exit.linked exit.no_plan said refl zero h
+said_image t u said (of_plan (plan l)) words sound reads fits due h took plan_bytes before text command zero left b a =
+    image_of t l plan_bytes text sound reads fits left due.1 (no_errors (errors l) said zero h)
     (appended u.taken_before u.taken_after before (layout_text l) text b a took)
-said_image t u said (of_make n) words sound static fits due h took plan_bytes before text command zero left b a = two_commands words n command due.0
+said_image t u said (of_make n) words sound reads fits due h took plan_bytes before text command zero left b a = two_commands words n command due.0
 
-told_image : (t : Turn) (u : Told) (said : ℕ) (a : Answer) (words : List (String Global)) → ImagesAreSound → PlansAreStatic → AnswerFits a → IsDue words t a
+told_image : (t : Turn) (u : Told) (said : ℕ) (a : Answer) (words : List (String Global)) → ImagesAreSound → PlansAreRead → AnswerFits a → IsDue words t a
     → IsSaid u (status a) (text_of a) said → IsHeadline words t u said
-told_image t u said a words sound static fits due (inl h) = said_image t u said a words sound static fits due h.0 h.1
-told_image t u said a words sound static fits due (inr h) = λ plan_bytes before text command zero left b c. clash exit.linked exit.cut_short said refl zero h.0
+told_image t u said a words sound reads fits due (inl h) = said_image t u said a words sound reads fits due h.0 h.1
+told_image t u said a words sound reads fits due (inr h) = λ plan_bytes before text command zero left b c. clash exit.linked exit.cut_short said refl zero h.0
 
-pub headline : (words : List (String Global)) (t : Turn) (u : Told) (said : ℕ) → ImagesAreSound → PlansAreStatic → IsAnsweredBy words t u said → IsHeadline words t u said
-headline words t u said sound static h = told_image t u said h.answer words sound static h.fits h.due h.told_as
+pub headline : (words : List (String Global)) (t : Turn) (u : Told) (said : ℕ) → ImagesAreSound → PlansAreRead → IsAnsweredBy words t u said → IsHeadline words t u said
+headline words t u said sound reads h = told_image t u said h.answer words sound reads h.fits h.due h.told_as

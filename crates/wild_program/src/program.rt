@@ -20,7 +20,7 @@ use wild_layout::numbers_fit;
 use wild_outside::{ReadFault, Sink, Source, SureSink, SureSource, read_whole, write_whole};
 use wild_plan::{Error, Fault, Layout};
 use wild_text::{
-    PlanFault, image_answer, no_plan_answer, plans_are_static, read_plan, refusal_answer,
+    PlanFault, image_answer, no_plan_answer, plans_are_read, read_plan, refusal_answer,
 };
 
 /// How many bytes a plan may have.
@@ -103,7 +103,7 @@ fn plan_answer(
             return Ok((NO_PLAN, text.into_bytes()));
         }
     };
-    plans_are_static();
+    plans_are_read();
     numbers_fit(&layout);
     let answer = layout_answer(rt, alloc, &layout, workers)?;
     Ok(answer)
@@ -201,7 +201,7 @@ pub fn run<S: Source, K: Sink>(
     // Where memory is refused, nothing has been written.
     ensures memory { OnErr result (K.taken sink.new ≡ K.taken sink.old) }
 {
-    plans_are_static();
+    plans_are_read();
     images_are_sound();
     answered(rt, alloc, words, source, sink)
 }

@@ -2,3 +2,4 @@ pub mod StringLemmas
 pub mod SymbolLemmas
 pub mod RunLemmas
 pub mod RoomLemmas
+pub mod EntryRunLemmas

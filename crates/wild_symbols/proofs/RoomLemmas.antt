@@ -50,7 +50,7 @@ one_more : (n k : ℕ) (b : Bool) (xs : List SymbolCall) (c : SymbolCall) → b 
 one_more n k true xs c e h = omega (arith, h)
 one_more n k false xs c e h = cc
 
-has_room-first : (c : SymbolCall) (cs : List SymbolCall) (w : SymbolTableWriter) → HasRoomFor (c ∷ cs) w → has_room c w ≡ true
+pub has_room-first : (c : SymbolCall) (cs : List SymbolCall) (w : SymbolTableWriter) → HasRoomFor (c ∷ cs) w → has_room c w ≡ true
 has_room-first c cs w h =
     let s = one_more (symbols_used (list_of c.local w)) (list_of c.local w).room (is_in c.local c.local) (filter (λ d. is_in c.local d.local) cs) c (is_in-same c.local) (h.symbols c.local) in
     let n = h.names in
@@ -76,7 +76,7 @@ names_next c k w h =
     let m = length-append c.name (0 ∷ []) in
     omega (arith, b, r, n, m, h)
 
-room_next : (c : SymbolCall) (cs : List SymbolCall) (w : SymbolTableWriter) → HasRoomFor (c ∷ cs) w → HasRoomFor cs (called_if true c w)
+pub room_next : (c : SymbolCall) (cs : List SymbolCall) (w : SymbolTableWriter) → HasRoomFor (c ∷ cs) w → HasRoomFor cs (called_if true c w)
 room_next c cs w h = record {
   symbols = λ local. symbols_next local c (filter (λ d. is_in local d.local) cs) w (is_in local c.local) refl (h.symbols local);
   names = names_next c (total (λ d. length d.name + 1) cs) w h.names;

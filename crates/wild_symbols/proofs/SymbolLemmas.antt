@@ -1,12 +1,12 @@
 -- Laws of symbols in bytes.
-use Rattle.std.proofs.Common.{◌≡◌, ℕ, inl, inr, zero, suc, ◌+◌, ◌-◌, ◌*◌, ◌<◌, ◌≤◌, List, [], ◌∷◌, ◌++◌, length, take, drop, get_or, slice_range, refl, sym, ap, ◌∙◌, arith}
+use Rattle.std.proofs.Common.{◌≡◌, ℕ, inl, inr, zero, suc, ◌+◌, ◌-◌, ◌*◌, ◌<◌, ◌≤◌, List, [], ◌∷◌, ◌++◌, length, take, get_or, refl, sym, ap, ◌∙◌, arith}
 use Rattle.std.specs.Prelude.{All}
-use Rattle.std.proofs.lemmas.List.{append_assoc, append-nil, length-append, length-take, length-drop, get_or-take, get_or-drop, get_or_append_left, get_or-append_right, ext_get_or}
+use Rattle.std.proofs.lemmas.List.{append_assoc, append-nil, length-append, get_or_append_left, get_or-append_right}
 use Rattle.std.proofs.lemmas.Bool.{cases_lt}
-use Rattle.wild_words.specs.Words.{number, place, Stands}
+use Rattle.wild_words.specs.Words.{place, Stands}
 use Rattle.wild_words.specs.Record.{spell}
 use Rattle.wild_words.proofs.WordLemmas.{front-place}
-use Rattle.wild_words.proofs.OverlayLemmas.{length-place, place-below, Stands-place, Stands-inner}
+use Rattle.wild_words.proofs.OverlayLemmas.{Stands-place, Stands-inner}
 use Rattle.wild_words.proofs.RecordLemmas.{length-spell, Stands-left, Stands-right}
 use Rattle.wild_words.proofs.OrderLemmas.{number_kept}
 use Rattle.wild_records.specs.declared.symtab_entry.SymtabEntry.{SymtabEntry}

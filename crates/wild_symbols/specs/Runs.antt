@@ -8,8 +8,9 @@
 --   RunsCount             each call that gave a symbol gave one
 --   RunsStandBehind       what stood before a run stands before what it wrote
 --   RunsWithRoomAreWhole  where there is room for all, each call gives its symbol
+--   RunsAreEntries        calls with names and fields leave their entries, as `entries_at` has them
 --   PrefixesAreTheWriters what calls write through a prefix, the writer itself would have written
-use Rattle.std.specs.Prelude.{◌≡◌, ℕ, ◌+◌, ◌*◌, ◌<◌, ◌≤◌, ◌^◌, Bool, true, false, not, List, [], ◌∷◌, length, take, All, slice_index_or, Result, Ok, Err}
+use Rattle.std.specs.Prelude.{◌≡◌, ℕ, ◌+◌, ◌*◌, ◌<◌, ◌≤◌, ◌^◌, Bool, true, false, not, List, [], ◌∷◌, ◌++◌, length, take, map, All, slice_index_or, Result, Ok, Err}
 use Rattle.std.specs.List.{filter}
 use Rattle.wild_words.specs.Words.{Stands}
 use Rattle.wild_records.specs.Abi.Section.{shn_undef}
@@ -19,9 +20,10 @@ use Rattle.wild_records.specs.declared.symbol_section.SymbolSection.TheVariants.
 use Rattle.wild_records.specs.SymtabEntry.{symtab_entry_size, symtab_entry_at}
 use Rattle.wild_plan.specs.declared.fault.Error.{Error}
 use Rattle.wild_plan.specs.Lists.{total}
-use Rattle.wild_symbols.specs.Strings.{string}
+use Rattle.wild_symbols.specs.Strings.{string, offset_of, with_strings}
 use Rattle.wild_symbols.specs.Symbols.{symbol_bytes, symbols_used}
 use Rattle.wild_symbols.specs.Tables.{section_number, list_of, with_symbol, room_for_symbol, room_for_prefix, kept_behind, prefix_of, joined}
+use Rattle.wild_symbols.specs.DynamicEntries.{NamedFields, entries_at}
 use Rattle.wild_symbols.specs.declared.writer.SymbolAttributes.{SymbolAttributes}
 use Rattle.wild_symbols.specs.declared.writer.SymbolTableWriter.{SymbolTableWriter}
 
@@ -121,6 +123,19 @@ pub record HasRoomFor (cs : List SymbolCall) (w : SymbolTableWriter) : Type 0 wh
 -- where there is room for all, each call gives its symbol
 abbrev pub RunsWithRoomAreWhole : Type 0
 RunsWithRoomAreWhole = (cs : List SymbolCall) (w : SymbolTableWriter) (local : Bool) → HasRoomFor cs w → taken local cs w ≡ filter (λ c. is_in local c.local) cs
+
+-- the call that gives a global symbol with these fields
+abbrev pub call_of : NamedFields → SymbolCall
+call_of n = defined false n.name (Raw n.fields.section) n.fields.value n.fields.attributes
+
+-- the writer has the symbols and the strings of w, behind them these entries, and the names of these one behind the other
+pub record HasEntries (ns : List NamedFields) (w v : SymbolTableWriter) : Type 0 where
+  pub symbols : v.globals.symbols ≡ w.globals.symbols ++ entries_at (offset_of w.strtab) ns
+  pub strings : v.strtab ≡ with_strings (map (λ (n : NamedFields). n.name) ns) w.strtab
+
+-- where there is room for all, calls with names and fields leave just their entries and their names
+abbrev pub RunsAreEntries : Type 0
+RunsAreEntries = (ns : List NamedFields) (w : SymbolTableWriter) → HasRoomFor (map call_of ns) w → w.strtab.start + w.strtab.room < 2 ^ 32 → HasEntries ns w (after (map call_of ns) w)
 
 -- what calls write through a prefix that has room for them, the writer itself would have written; when the prefix is
 -- let go, the writer has all its room again

@@ -1,5 +1,5 @@
 //! Laws of the tables.
-ghost use Rattle.wild_symbols.specs.Runs.{RunsAreRead, RunsCount, RunsStandBehind, RunsWithRoomAreWhole, PrefixesAreTheWriters};
+ghost use Rattle.wild_symbols.specs.Runs.{RunsAreRead, RunsCount, RunsStandBehind, RunsWithRoomAreWhole, RunsAreEntries, PrefixesAreTheWriters};
 ghost use Rattle.wild_symbols.specs.Laws.{LengthsOfSymbols, SymbolsAreRead, LengthsOfStrings, StringsAreBehind, StringsStand};
 
 use wild_records::symtab_entry_is_read;
@@ -28,6 +28,7 @@ pub fn runs_are_read()
     ensures count { RunsCount }
     ensures behind { RunsStandBehind }
     ensures whole { RunsWithRoomAreWhole }
+    ensures entries { RunsAreEntries }
 {
     symtab_entry_is_read();
 }

@@ -6,11 +6,12 @@
 //! void finish(void) { exit(0); }
 //! ```
 use super::*;
+use crate::dynamic::entry_at;
 use crate::writer::dynstr_start;
 use std::alloc::{AllocError, Global};
 use std::test::Fail;
 use wild_plan::*;
-use wild_records::SymbolSection;
+use wild_records::{SymbolSection, SymtabEntry};
 use wild_words::{Bytes, Items};
 
 /// The null symbol and `finish`.
@@ -142,5 +143,93 @@ fn goes_on_behind_a_prefix(rt: HostRuntime) -> Result<(), Fail> {
     assert!(rt; put_in_turn(&mut writer).is_ok());
     assert!(rt; has(&writer, &ALL_SYMBOLS, b"\0finish\0exit\0"));
     assert!(rt; writer.take_prefix_global(1, 0).is_err());
+    Ok(())
+}
+
+/// What GNU ld 2.40 wrote of `value`, which is copied, and of `call`, whose stub is its address in each module, of a program
+/// that gcc 12.2 made by `-fno-pic -no-pie -O1 -nostdlib` of
+///
+/// ```c
+/// extern int value;
+/// extern void call(void);
+/// void _start(void) { void (*volatile here)(void) = call; here(); value++; for (;;) {} }
+/// ```
+///
+/// and a library that defines both; but for the header index of `.bss`, which is 14 there.
+#[rattlefmt::skip]
+const OF_LIBRARY: [u8; 48] = [
+    0x01, 0, 0, 0, 0x11, 0, 0x01, 0, 0x08, 0x40, 0x40, 0, 0, 0, 0, 0, 0x04, 0, 0, 0, 0, 0, 0, 0,
+    0x07, 0, 0, 0, 0x12, 0, 0, 0, 0x10, 0x10, 0x40, 0, 0, 0, 0, 0, 0, 0, 0, 0, 0, 0, 0, 0,
+];
+
+fn section(name: Bytes) -> Section {
+    Section {
+        name,
+        kind: 0,
+        flags: 0,
+        address: 0,
+        offset: 0,
+        size: 0,
+        link: 0,
+        info: 0,
+        align: 1,
+        entsize: 0,
+        fill: None,
+        section_symbol: false,
+    }
+}
+
+/// A symbol that a library defines.
+fn of_library(alloc: Global, info: u8, size: u64, resolution: Resolution) -> Symbol {
+    Symbol {
+        name: Bytes::new(alloc),
+        definition: None,
+        info,
+        other: 0,
+        size,
+        value: 0,
+        place: Place::Absolute,
+        flags: resolution.flags,
+        version: 1,
+        emit: false,
+        resolution: Some(resolution),
+    }
+}
+
+fn decided(flags: ValueFlags, raw_value: u64, stub: Option<u64>) -> Resolution {
+    Resolution {
+        raw_value,
+        flags,
+        dynamic_symbol_index: None,
+        got_address: None,
+        plt_address: stub,
+    }
+}
+
+/// The entry of a library's symbol, in an output whose section 1 is `.bss`.
+fn entry_of(alloc: Global, name: u64, symbol: &Symbol) -> Result<SymtabEntry, Fail> {
+    let bss = Bytes::from_vec(vec![in alloc; b'.', b'b', b's', b's']?);
+    let sections = vec![in alloc; section(Bytes::new(alloc)), section(bss)]?;
+    let layout = Layout {
+        sections: Items::from_vec(sections),
+        ..Layout::empty(alloc)
+    };
+    let named = NamedSections::of(&layout);
+    match listed_fields(&layout, named, 0, FileRole::Dynamic, 0, symbol) {
+        Ok(fields) => Ok(entry_at(name, fields)),
+        Err(_) => Err("no section".into()),
+    }
+}
+
+#[test]
+fn tells_of_libraries_as_ld(rt: HostRuntime) -> Result<(), Fail> {
+    let copied = decided(ValueFlags::COPY_RELOCATION, 0x40_4008, None);
+    let value = of_library(rt.alloc(), 0x11, 4, copied);
+    let canonical = decided(ValueFlags::CANONICAL_PLT, 0, Some(0x40_1010));
+    let call = of_library(rt.alloc(), 0x12, 1, canonical);
+    let mut bytes = [0; 48];
+    entry_of(rt.alloc(), 1, &value)?.put(&mut bytes[..24]);
+    entry_of(rt.alloc(), 7, &call)?.put(&mut bytes[24..]);
+    assert!(rt; bytes == OF_LIBRARY);
     Ok(())
 }

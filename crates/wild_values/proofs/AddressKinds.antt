@@ -30,7 +30,7 @@ not_absolute l i h = by_tests (is_position_independent l.kind) (has_flag (flags_
     by_tests true true h = cc
     by_tests false b h = cc
 
--- without an entry's word of its own: what moves is more by the base
+-- what moves is more by the base
 moved_here : (base a c x still_base : ℕ) → (a + c) % 2 ^ 64 ≡ x → still_base ≡ (base + a) % 2 ^ 64 → (x + base) % 2 ^ 64 ≡ (still_base + c) % 2 ^ 64
 moved_here base a c x still_base e f = omega (arith, e, f)
 

@@ -2,8 +2,9 @@
 use Rattle.std.proofs.Common.{◌≡◌, ℕ, ◌*◌, ◌/◌, ◌%◌, true, refl, arith}
 use Rattle.std.specs.Int.RustNames.{bit_and}
 use Rattle.std.proofs.lemmas.Nat.Bits.{and_pow}
-use Rattle.wild_records.specs.Abi.Section.{shf_alloc}
-use Rattle.wild_plan.specs.Lookups.{bit, allocated}
+use Rattle.std.proofs.lemmas.Bool.{eqb-true}
+use Rattle.wild_records.specs.Abi.Section.{shf_alloc, shf_write}
+use Rattle.wild_plan.specs.Lookups.{bit, allocated, writable}
 use Rattle.wild_meaning.specs.Section.{IsSet}
 
 pub alloc_bit : (f : ℕ) → IsSet f shf_alloc → allocated f ≡ true
@@ -12,3 +13,17 @@ alloc_bit f h =
     let a : bit_and f 2 ≡ f / 2 % 2 * 2 = and_pow f 1 in
     let e : bit_and f 2 ≡ 2 = omega (arith, a, h) in
     rw e refl
+
+pub write_bit : (f : ℕ) → IsSet f shf_write → writable f ≡ true
+unfolding bit
+write_bit f h =
+    let a : bit_and f 1 ≡ f / 1 % 2 * 1 = and_pow f 0 in
+    let e : bit_and f 1 ≡ 1 = omega (arith, a, h) in
+    rw e refl
+
+pub bit_write : (f : ℕ) → writable f ≡ true → IsSet f shf_write
+unfolding bit
+bit_write f h =
+    let a : bit_and f 1 ≡ f / 1 % 2 * 1 = and_pow f 0 in
+    let e : bit_and f 1 ≡ 1 = eqb-true _ _ h in
+    omega (arith, a, e)

@@ -1,13 +1,12 @@
 -- What an entry leaves of the word of a slot.
-use Rattle.std.proofs.Common.{◌≡◌, ◌≢◌, ℕ, ◌+◌, ◌%◌, ◌^◌, ◌<◌, Bool, true, false, Option, Some, None, Result, Ok, Err, refl, sym, ap, ◌∙◌, subst}
-use Rattle.std.specs.Prelude.{◌==◌, slice_get, if◌then◌else◌}
+use Rattle.std.proofs.Common.{◌≡◌, ◌≢◌, ℕ, ◌+◌, ◌%◌, ◌^◌, ◌<◌, false, Option, Some, None, Result, Ok, Err, refl, sym, ap, ◌∙◌, subst}
+use Rattle.std.specs.Prelude.{◌==◌, slice_get}
 use Rattle.std.specs.Int.{w64, cast_unsigned, cast_signed}
 use Rattle.std.proofs.lemmas.Bool.{ne_eqb}
 use Rattle.std.proofs.lemmas.Int.{of_z-to_z}
 use Rattle.wild_reloc.specs.Dynamic.{x86_64_type}
 use Rattle.wild_reloc.specs.declared.dynamic.DynamicRelocationKind.{DynamicRelocationKind}
 use Rattle.wild_reloc.specs.declared.dynamic.DynamicRelocationKind.TheVariants.{GotEntry, JumpSlot, DtpMod, DtpOff, TpOff, Irelative}
-use Rattle.wild_plan.specs.declared.slot.SlotEntry.{SlotEntry}
 use Rattle.wild_geometry.specs.Loaded.{MakesChange, entry_with}
 use Rattle.wild_geometry.specs.Slots.{IsLeft, IsFilledBy}
 use Rattle.wild_loader.specs.Given.{◌>>=◌, known}
@@ -56,13 +55,7 @@ pub record IsAnsweredBy (w : World) (d : ℕ) : Type 0 where
   pub answer : Answer
   pub there : slice_get w.symbols d ≡ Some answer
 
-named_entry : (kind : DynamicRelocationKind) (d : ℕ) → SlotEntry
-named_entry kind d = record { kind = kind; symbol = d; addend = 0 }
-
 -- GLOB_DAT and JUMP_SLOT store the address
-address_kind : (kind : DynamicRelocationKind) → Type 0
-address_kind kind = kind_of processors.X86_64 (x86_64_type kind) ≡ Some kinds.Symbol
-
 pub got_is_address : kind_of processors.X86_64 (x86_64_type GotEntry) ≡ Some kinds.Symbol
 unfolding kind_of
 got_is_address = refl

@@ -24,17 +24,18 @@ use Rattle.wild_layout.specs.Sites.{field_site}
 use Rattle.wild_layout.proofs.DecideLemmas.{IsField, field_has_bytes}
 use Rattle.wild_layout.proofs.SiteLemmas.{field_lies}
 use Rattle.wild_layout.specs.Geometry.{FieldLies, NamesSymbol}
+use Rattle.wild_layout.specs.Numbers.{AddendFits}
 use Rattle.wild_meaning.specs.Item.{place_at, item_of}
 use Rattle.wild_meaning.specs.Field.{formula_of, form_width, FieldReads, InNoField, IsInputByte}
 use Rattle.wild_meaning.specs.Template.{Operand, IsOwnByte, IsTemplate}
 use Rattle.wild_loader.specs.declared.world.World.{World}
 use Rattle.wild_loader.specs.declared.memory.Memory.{Memory}
 use Rattle.wild_loader.specs.Memory.{Holds, byte_in}
-use Rattle.wild_geometry.specs.Loaded.{IsDecided}
+use Rattle.wild_geometry.specs.Loaded.{IsDecided, InMemory, ReadsLeft}
 use Rattle.wild_values.specs.Terms.{IsPlaced}
-use Rattle.wild_values.specs.Laws.{KindGives, AddressesGive}
+use Rattle.wild_values.specs.Laws.{KindGives, KindGivesLinked, AddressesGive, AddressesGiveLinked, EntriesGive}
 use Rattle.wild_values.proofs.Tests.{both_of}
-use Rattle.wild_values.proofs.Written.{IsWritten, IsValue, IsAddress}
+use Rattle.wild_values.proofs.Written.{IsWritten, IsValue, IsAddress, IsLeftField}
 use Rattle.wild_values.proofs.Sections.{Tables, OutOfFields}
 
 -- ---- fields of whole bytes
@@ -87,21 +88,34 @@ pub record KindLaws : Type 0 where
   pub pair : KindGives kinds.TlsGd
   pub own_pair : KindGives kinds.TlsLd
   pub address : AddressesGive
+  pub entry : EntriesGive
+
+-- those of the kinds that take a symbol's address or its offset, with the output's own symbol
+pub record LinkedLaws : Type 0 where
+  pub sum : KindGivesLinked kinds.Absolute
+  pub distance : KindGivesLinked kinds.Relative
+  pub from_table : KindGivesLinked kinds.SymRelGotBase
+  pub pointer : KindGivesLinked kinds.TpOff
+  pub own : KindGivesLinked kinds.DtpOff
+  pub address : AddressesGiveLinked
 
 -- a kept section in a legal world, whose bytes are loaded: each value, each address and each other byte is there
 pub record IsSectionLoaded (l : Layout) (w : World) (m : Memory) (s : InputSection) : Type 0 where
   pub tables : Tables
   pub kinds : KindLaws
+  pub linked : LinkedLaws
   pub placed : IsPlaced l w m
   pub room : allocated s.flags ≡ true
   pub clean : IsDecided l s
   pub symbols : All (NamesSymbol l) s.relocations
+  pub addends : All AddendFits s.relocations
   pub full : length s.bytes ≡ s.size
   pub low : s.address + s.size ≤ 2 ^ 62
   pub ends : 1 ≤ length s.bytes → w.base + s.address + s.size ≤ 2 ^ 64
   pub lies : All (FieldLies l.machine s.size) s.relocations
   pub values : (r : InputRelocation) (v : IsValue l s r) → Holds m (place_at w (item_of s) r.offset) (field_site s r.offset v.size v.value).bytes
   pub addresses : (r : InputRelocation) (a : IsAddress l s r) → Holds m (place_at w (item_of s) r.offset) (word 8 ((a.value + w.base) % 2 ^ 64))
+  pub left : (r : InputRelocation) (f : IsLeftField l s r) → (bs : List ℕ) × Holds m (place_at w (item_of s) r.offset) bs × ReadsLeft InMemory w f.size f.number f.symbol f.addend bs
   pub others : (k : ℕ) → k < length s.bytes → OutOfFields s k → byte_in m (place_at w (item_of s) k) ≡ Some (slice_index s.bytes k)
 
 length-range : (bs : List ℕ) (a n : ℕ) → a + n ≤ length bs → length (slice_range bs a (a + n)) ≡ n
@@ -177,6 +191,19 @@ address_reads l w m s r h a =
       held = h.addresses r a;
       reads = subst (λ (f : Form). Reads f (word 8 x) x) (sym full) (number-word 8 x low);
       keeps = whole_bytes r.number a.fits.formula a.fits.known (slice_range s.bytes r.offset (r.offset + form_width a.fits.formula.form)) (word 8 x);
+    }
+
+-- what an entry stores fills the field
+pub left_reads : (l : Layout) (w : World) (m : Memory) (s : InputSection) (r : InputRelocation) (x : ℕ) → (h : IsSectionLoaded l w m s) → (f : IsLeftField l s r) → (form : Form) → form ≡ f.fits.formula.form → Reads form (h.left r f).0 x → FieldReads w m (item_of s) r form x
+left_reads l w m s r x h f form same reads =
+    let b = h.left r f in
+    let size : size_width f.size ≡ field_width f.left.field.row = sym (ap size_width f.left.field.size) in
+    record {
+      bytes = b.0;
+      wide = b.2.3 ∙ (size ∙ (f.fits.width ∙ sym (ap form_width same)));
+      held = b.1;
+      reads = reads;
+      keeps = subst (λ (k : Form). Keeps k (slice_range s.bytes r.offset (r.offset + form_width form)) b.0) (sym same) (whole_bytes r.number f.fits.formula f.fits.known (slice_range s.bytes r.offset (r.offset + form_width form)) b.0);
     }
 
 -- ---- other bytes

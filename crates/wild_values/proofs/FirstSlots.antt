@@ -12,7 +12,6 @@ use Rattle.wild_plan.specs.declared.slot.SlotItem.TheVariants.{Word}
 use Rattle.wild_plan.specs.declared.slot.SlotWord.{SlotWord}
 use Rattle.wild_plan.specs.declared.slot.SlotWord.TheVariants.{Number, Address, InBlock, General, Plt}
 use Rattle.wild_plan.specs.declared.symbol.Resolution.{Resolution}
-use Rattle.wild_plan.specs.declared.symbol.Symbol.{Symbol}
 use Rattle.wild_plan.specs.declared.symbol.ValueFlags.{ValueFlags}
 use Rattle.wild_plan.specs.declared.layout.Layout.{Layout}
 use Rattle.wild_plan.specs.Flags.{has_flag, interposable, has_link_time_address, absolute, dynamic, ifunc, non_interposable, copy_relocation, export_dynamic, canonical_plt}
@@ -179,15 +178,18 @@ own_held l w m i at r rest p d looked held =
     record {
       value = x.0;
       there = x.1;
-      is = inr (subst (λ (b : Bool). IsReplaceable l i b) own (replaceable_by l i r d), record {
-        raw = r.raw_value;
-        given = resolved_raw l i r d;
-        indirect = has_flag s.flags ifunc;
-        resolved = resolved_flag l i ifunc r d;
-        still = still;
-        absolute = resolved_flag l i absolute r d;
-        is = subst (λ (f : ValueFlags). IsValue w (has_flag f ifunc) still r.raw_value x.0) flags is;
-      });
+      is = inr (
+        subst (λ (b : Bool). IsReplaceable l i b) own (replaceable_by l i r d),
+        record {
+          raw = r.raw_value;
+          given = resolved_raw l i r d;
+          indirect = has_flag s.flags ifunc;
+          resolved = resolved_flag l i ifunc r d;
+          still = still;
+          absolute = resolved_flag l i absolute r d;
+          is = subst (λ (f : ValueFlags). IsValue w (has_flag f ifunc) still r.raw_value x.0) flags is;
+        },
+      );
       behind = h.1;
     }
 

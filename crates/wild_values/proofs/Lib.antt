@@ -27,5 +27,7 @@ mod ThreadSlots
 mod ThreadPlaces
 mod ThreadKinds
 mod AddressKinds
+mod EntryKinds
+mod Alone
 mod References
 mod WholeSections

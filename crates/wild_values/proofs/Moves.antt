@@ -30,10 +30,6 @@ moved_distance base a c p ends = omega (arith, ends)
 pub moved_offset : (base a c g : ℕ) → g < 2 ^ 64 → ((a + c) % 2 ^ 64 + (2 ^ 64 - g)) % 2 ^ 64 ≡ ((base + a) % 2 ^ 64 + c + (2 ^ 64 - (base + g) % 2 ^ 64)) % 2 ^ 64
 moved_offset base a c g low = omega (arith, low)
 
--- an address that a loader moves
-pub moved_sum : (base a c : ℕ) → ((a + c) % 2 ^ 64 + base) % 2 ^ 64 ≡ ((base + a) % 2 ^ 64 + c) % 2 ^ 64
-moved_sum base a c = omega arith
-
 -- an address less a number, and more by another
 pub less_sum : (a c p : ℕ) → ((a + (2 ^ 64 - p)) % 2 ^ 64 + c) % 2 ^ 64 ≡ (a + c + (2 ^ 64 - p)) % 2 ^ 64
 less_sum a c p = omega arith

@@ -3,8 +3,7 @@ use Rattle.std.proofs.Common.{◌≡◌, ◌≢◌, ℕ, ◌+◌, ◌-◌, ◌%�
 use Rattle.std.specs.Prelude.{Ok, ◌==◌, ◌&&◌, ◌||◌, not, if◌then◌else◌}
 use Rattle.std.specs.Int.{w64, cast_unsigned}
 use Rattle.std.proofs.lemmas.Bool.{eqb-true}
-use Rattle.wild_reloc.specs.declared.dynamic.DynamicRelocationKind.TheVariants.{DtpMod, DtpOff, TpOff}
-use Rattle.wild_plan.specs.declared.slot.Setting.{Setting}
+use Rattle.wild_reloc.specs.declared.dynamic.DynamicRelocationKind.TheVariants.{DtpMod, TpOff}
 use Rattle.wild_plan.specs.declared.slot.SlotFault.TheVariants.{TlsOutOfSegment}
 use Rattle.wild_plan.specs.declared.slot.SlotItem.{SlotItem}
 use Rattle.wild_plan.specs.declared.slot.SlotItem.TheVariants.{Fault}
@@ -171,8 +170,8 @@ own_second l w m i at owner r rest (Some index) p d own (inr told) e first h =
     own_pair l w m i at h.0.0 r p d own (record { first = subst (λ (n : ℕ). HasWord m (w.base + at) n) e first; second = next_word w m at h.0.0 h.0.1 }) same
 
 -- of a symbol that a loader looks up
-named_pair : (l : Layout) (w : World) (m : Memory) (i at index owner : ℕ) (r : Resolution) (rest : List SlotItem) → IsPlaced l w m → IsResolvedBy l i r → (told : r.dynamic_symbol_index ≡ Some index) → HasWord m (w.base + at) owner → (d : ℕ) → ItemsHold w m (at + 8) (second_item l r (Some index) ∷ rest) → ItemsHold w m at (general DtpMod index 0 ∷ second_item l r (Some index) ∷ rest) → HasPair l w m i at
-named_pair l w m i at index owner r rest p by told first d behind h =
+named_pair : (l : Layout) (w : World) (m : Memory) (i at index : ℕ) (r : Resolution) (rest : List SlotItem) → IsPlaced l w m → IsResolvedBy l i r → (told : r.dynamic_symbol_index ≡ Some index) → ItemsHold w m at (general DtpMod index 0 ∷ second_item l r (Some index) ∷ rest) → HasPair l w m i at
+named_pair l w m i at index r rest p by told h =
     let x = h.0 in
     let y = h.1.0 in
     let a = module_filled w m (w.base + at) index x.0 (index_some l w m i index r p by told) x.2 in
@@ -236,7 +235,7 @@ pair_held l w m i at r rest p d h = by_tests (is_executable l.kind) (has_flag r.
 
     by_index : (o : Option ℕ) → r.dynamic_symbol_index ≡ o → ItemsHold w m at (named o (λ d. general DtpMod d 0) ∷ second_item l r o ∷ rest) → HasPair l w m i at
     by_index None e h = absurd h
-    by_index (Some index) e h = named_pair l w m i at index h.0.0 r rest p d e h.0.1 0 h.1 h
+    by_index (Some index) e h = named_pair l w m i at index r rest p d e h
 
     others : (open_flag : Bool) → interposable r.flags ≡ open_flag → ItemsHold w m at ((if open_flag then named r.dynamic_symbol_index (λ d. general DtpMod d 0) else general DtpMod 0 0) ∷ second_item l r (if open_flag then r.dynamic_symbol_index else None) ∷ rest) → HasPair l w m i at
     others true e h = by_index r.dynamic_symbol_index refl h

@@ -51,8 +51,8 @@ address_here law l w m s r k x h takes f same = addressed law l w m r.symbol h.t
 
 -- with the own symbol
 own_here : StubsOfValuesAreRead → (l : Layout) (w : World) (m : Memory) (s : InputSection) (r : InputRelocation) (k : RelocationKind) (x i : ℕ) → (h : HasTerm l w m s r k x) → r.symbol ≡ Some i → (TakesOffset (plain_value k) → ⊥) → (IsStubbed l i → ⊥) ⊎ TakesOffset (plain_value k) → term_of l r.symbol k ≡ address_of l r.symbol → IsOwnAddressed l w i h.term
-own_here law l w m s r k x i h named no (inr offset) same = absurd (no offset)
-own_here law l w m s r k x i h named no (inl alone) same = linked law l w m i h.term h.placed alone (subst (λ (o : Option ℕ). address_of l o ≡ Ok h.term) named (sym same ∙ h.given))
+own_here law l w m s r k x i h named none (inr offset) same = absurd (none offset)
+own_here law l w m s r k x i h named none (inl alone) same = linked law l w m i h.term h.placed alone (subst (λ (o : Option ℕ). address_of l o ≡ Ok h.term) named (sym same ∙ h.given))
 
 own_sum : (l : Layout) (w : World) (r : InputRelocation) (i a : ℕ) → r.symbol ≡ Some i → (t : IsOwnAddressed l w i a) → IsOwnSum l w r ((moved t.still w.base a + more r) % 2 ^ 64)
 own_sum l w r i a named t = record { symbol = moved t.still w.base a; denoted = subst (λ (o : Option ℕ). IsOwnTarget l w o (moved t.still w.base a)) (sym named) t.value; sum = refl }
@@ -150,10 +150,14 @@ own_size l w m s i symbol p listed room kept =
     let f = flags_are l i c whose.symbol whose.defined whose.listed in
     let fits = symbol_fits l c whose.symbol p.symbols whose.listed in
     let open_one : has_flag (flags_at l i) dynamic ≡ true → interposable (flags_at l i) ≡ true = λ d.
-        ap (λ (x : ValueFlags). interposable x) f ∙ dynamic_interposable whose.symbol fits.interposable (sym (ap (λ (x : ValueFlags). has_flag x dynamic) f) ∙ d) in
+    ap (λ (x : ValueFlags). interposable x) f ∙ dynamic_interposable whose.symbol fits.interposable (sym (ap (λ (x : ValueFlags). has_flag x dynamic) f) ∙ d) in
     let none = by_tests (allocated s.flags) (has_flag (flags_at l i) non_interposable) (has_flag (flags_at l i) dynamic) (has_flag (flags_at l i) copy_relocation) (is_shared_object l.kind) (has_flag (flags_at l i) export_dynamic) room open_one kept in
     subst (λ (b : Bool). IsReplaceable l i b) (ap (λ (b : Bool). (has_flag (flags_at l i) dynamic && not (has_flag (flags_at l i) copy_relocation)) || (b && (has_flag (flags_at l i) export_dynamic && not (has_flag (flags_at l i) non_interposable)))) (library_is l.kind) ∙ none) whose
   where
+    never : (fixed library : Bool) → not fixed ≡ true → (true && not fixed && (true || library)) ≡ false → ⊥
+    never false library e h = cc
+    never true library e h = cc
+
     by_tests : (a fixed d copied library exported : Bool) → a ≡ true → (d ≡ true → not fixed ≡ true) → (a && not fixed && (d || library)) ≡ false → ((d && not copied) || (library && (exported && not fixed))) ≡ false
     by_tests false fixed d copied library exported e f h = cc
     by_tests true fixed true copied library exported e f h = absurd (never fixed library (f refl) h)
@@ -161,10 +165,6 @@ own_size l w m s i symbol p listed room kept =
     by_tests true true false copied true false e f h = refl
     by_tests true false false copied true exported e f h = cc
     by_tests true fixed false copied false exported e f h = refl
-
-    never : (fixed library : Bool) → not fixed ≡ true → (true && not fixed && (true || library)) ≡ false → ⊥
-    never false library e h = cc
-    never true library e h = cc
 
 pub gives_size : (l : Layout) (w : World) (m : Memory) (s : InputSection) (r : InputRelocation) (x : ℕ) → HasTerm l w m s r kinds.SymbolSize x → Gives (plain_value kinds.SymbolSize) l w m (item_of s) r x
 gives_size l w m s r x h =

@@ -30,8 +30,8 @@ use Rattle.wild_meaning.specs.Item.{place_at, item_of}
 use Rattle.wild_meaning.specs.Formula.{IsPlaceRelative, TakesAddress, TakesOffset}
 use Rattle.wild_meaning.specs.Reference.{IsStubbed}
 
--- each symbol's definition is one of the layout's symbols, resolutions have their symbols' flags, which agree with slots and stubs,
--- indexes are positions in the dynamic symbol table, and the addresses that were decided of them fit
+-- each symbol's definition is one of the layout's symbols, resolutions have their symbols' flags, which agree with slots and
+-- stubs, indexes are positions in the dynamic symbol table, and the addresses that were decided of them fit
 pub record SymbolsFit (l : Layout) : Type 0 where
   pub named : All (DefinitionNames l) l.symbols
   pub own : HaveTheirFlags l

@@ -7,8 +7,10 @@ returns c = images_loaded (record {
   segments = c.segments_are_loadable.ensures;
   found = c.tables_are_found.ensures.found;
   sections = c.tables_are_found.ensures.sections;
-  words = c.tables_are_words.ensures;
+  made = c.tables_are_made.ensures;
+  applied = c.tables_are_applied.ensures.applied;
+  order = c.tables_are_applied.ensures.order;
   moved = c.memory_is_moved.ensures;
-  dynamic = c.linked_images_are_loaded.ensures.filled;
-  static = c.static_images_are_loaded.ensures.filled;
+  dynamic = c.dynamic_images_are_loaded.ensures;
+  static = c.static_images_are_loaded.ensures.tables;
 })

@@ -1,4 +1,4 @@
-use Rattle.std.proofs.Common.{ℕ, ◌<◌, ◌^◌, take}
+use Rattle.std.proofs.Common.{◌<◌, ◌^◌, take}
 use Rattle.std.specs.Prelude.{All}
 use Rattle.wild_plan.specs.declared.file.Group.{Group}
 use Rattle.wild_layout.proofs.numbers.starts_fit.Given as goal

@@ -1,5 +1,6 @@
 use Rattle.wild_symbols.proofs.RunLemmas.{run_read, run_counted, stand_behind}
 use Rattle.wild_symbols.proofs.RoomLemmas.{run_whole}
+use Rattle.wild_symbols.proofs.EntryRunLemmas.{run_entries}
 use Rattle.wild_symbols.proofs.laws.runs_are_read.Goals as goal
 
 pub returns-clause-read : goal.returns-clause-read
@@ -13,3 +14,6 @@ returns-clause-behind c = stand_behind
 
 pub returns-clause-whole : goal.returns-clause-whole
 returns-clause-whole c = run_whole
+
+pub returns-clause-entries : goal.returns-clause-entries
+returns-clause-entries c = run_entries

@@ -10,7 +10,7 @@ use Rattle.wild_reloc.specs.Formula.{Formula}
 use Rattle.wild_loader.specs.Effect.{stands}
 use Rattle.wild_meaning.specs.Field.{form_width, InNoField}
 use Rattle.wild_meaning.specs.Template.{Operand, call_operand, jump_operand, slot_call_operand, slot_jump_operand, operands_of, size_of, IsOwnByte, TakesWord}
-use Rattle.wild_laws.specs.Premises.{WorkedBranchesAreAsked, IsWorked, worked_relocation, worked_item, direct_code, indirect_code}
+use Rattle.wild_worlds.specs.Premises.{WorkedBranchesAreAsked, IsWorked, worked_relocation, worked_item, direct_code, indirect_code}
 
 -- the bytes before the one field are in none
 before : (l : Layout) (address : ℕ) (bytes : List ℕ) (r : InputRelocation) (k : ℕ) → k < r.offset → InNoField l (worked_item address bytes r) k

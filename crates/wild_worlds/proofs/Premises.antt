@@ -9,20 +9,20 @@ use Rattle.wild_plan.specs.declared.kind.Machine.TheVariants as machine
 use Rattle.wild_plan.specs.declared.input.InputRelocation.{InputRelocation}
 use Rattle.wild_plan.specs.declared.layout.Layout.{Layout}
 use Rattle.wild_plan.specs.Flags.{absolute, ifunc}
-use Rattle.wild_reloc.specs.Formula.{Formula}
+use Rattle.wild_reloc.specs.Formula.{Value, Formula, SymbolAddress}
 use Rattle.wild_loader.specs.declared.memory.Memory.{Memory}
 use Rattle.wild_loader.specs.declared.world.World.{World}
 use Rattle.wild_meaning.specs.World.{IsFixed, IsMovable, IsLoadable}
-use Rattle.wild_meaning.specs.Value.{HasRaw, HasFlag, HasStub, Denotes, Reaches, IsAbsolute}
+use Rattle.wild_meaning.specs.Value.{HasRaw, HasFlag, HasStub, HasOwnValue, IsReplaceable, Denotes, Reaches, IsAbsolute}
 use Rattle.wild_meaning.specs.Item.{Item}
 use Rattle.wild_meaning.specs.Field.{formula_of}
-use Rattle.wild_meaning.specs.Formula.{IsPlaceRelative}
+use Rattle.wild_meaning.specs.Formula.{IsPlaceRelative, TakesAddress, TakesOffset}
 use Rattle.wild_meaning.specs.Template.{Operand}
-use Rattle.wild_meaning.specs.Reference.{HasPlace, GoesThroughSlot, IsExcepted, IsAsked}
-use Rattle.wild_laws.specs.Premises.{KindsAreLoaded, SectionsAreKept, RelocationsRefer, ReferencesAreAsked, SlotsAreAsked, BlanksAreAsked, AddressesMove, ResolversAreNotAbsolute}
+use Rattle.wild_meaning.specs.Reference.{HasPlace, GoesThroughSlot, IsExcepted, IsAsked, IsLeftToLoader, IsStubbed, TakesItself, IsLinkedAlone}
+use Rattle.wild_worlds.specs.Premises.{KindsAreLoaded, SectionsAreKept, RelocationsRefer, ReferencesAreAsked, SlotsAreAsked, FewAreLinkedAlone, BlanksAreAsked, AddressesMove, ResolversAreNotAbsolute}
 use Rattle.wild_laws.proofs.Bits.{bit_alloc, thread_local_bit}
 use Rattle.wild_laws.proofs.Operands.{each_operand}
-use Rattle.wild_laws.proofs.Symbols.{not_both, moved_value}
+use Rattle.wild_laws.proofs.Symbols.{not_both, not_replaceable, own_value, moved_value}
 
 -- ---- kinds
 
@@ -41,7 +41,7 @@ loaded_kind output.SharedObject h = inr tt
 loaded_kind output.PartialObject h = absurd (h refl)
 
 pub kinds_loaded : KindsAreLoaded
-kinds_loaded = record { static = tt; dynamic = tt; static_elsewhere = tt; dynamic_elsewhere = tt; shared = tt; each = loaded_kind; sound = λ any. tt }
+kinds_loaded = record { static = tt; dynamic = tt; static_elsewhere = tt; dynamic_elsewhere = tt; shared = tt; each = loaded_kind }
 
 -- ---- items and references
 
@@ -93,6 +93,44 @@ slots_asked = record {
   elsewhere = λ l w item r f known none code. placeless_asked l w item r (no_place l r f known none) (λ h. code h.template.code);
 }
 
+-- ---- references to the output's own symbols
+
+-- the symbol and the formula of such a reference
+named_symbol : (l : Layout) (item : Item) (r : InputRelocation) (i : ℕ) → r.symbol ≡ Some i → (a : IsLinkedAlone l item r) → a.symbol ≡ i
+named_symbol l item r i n a = let both : Some a.symbol ≡ Some i = sym a.named ∙ n in cc
+
+known_formula : (l : Layout) (item : Item) (r : InputRelocation) (f : Formula) → formula_of l.machine r.number ≡ Some f → (a : IsLinkedAlone l item r) → a.formula ≡ f
+known_formula l item r f known a = let both : Some a.formula ≡ Some f = sym a.known ∙ known in cc
+
+taken : (l : Layout) (item : Item) (r : InputRelocation) (i : ℕ) (f : Formula) → r.symbol ≡ Some i → formula_of l.machine r.number ≡ Some f → IsLinkedAlone l item r → TakesItself l item i f
+taken l item r i f n known a = subst (λ (g : Formula). TakesItself l item i g) (known_formula l item r f known a) (subst (λ (j : ℕ). TakesItself l item j a.formula) (named_symbol l item r i n a) a.takes)
+
+takes_value : (l : Layout) (item : Item) (i : ℕ) (f : Formula) → (TakesOffset f.value → ⊥) → (TakesAddress f.value → ⊥) → TakesItself l item i f → ⊥
+takes_value l item i f o a (inl t) = o t
+takes_value l item i f o a (inr t) = a t.0
+
+takes_left : (l : Layout) (item : Item) (i : ℕ) (f : Formula) → IsLeftToLoader l item i f → TakesItself l item i f → ⊥
+takes_left l item i f h (inl t) = by_value f.value h.value t
+  where
+    by_value : (v : Value) → v ≡ SymbolAddress → TakesOffset v → ⊥
+    by_value v e t = subst TakesOffset e t
+takes_left l item i f h (inr t) = t.1 h
+
+takes_stub : (l : Layout) (item : Item) (i : ℕ) (f : Formula) → (TakesOffset f.value → ⊥) → IsStubbed l i → TakesItself l item i f → ⊥
+takes_stub l item i f o h (inl t) = o t
+takes_stub l item i f o h (inr t) = t.2 h
+
+pub few_alone : FewAreLinkedAlone
+few_alone = record {
+  own = λ l item r i n own a. not_replaceable l i (subst (λ (j : ℕ). IsReplaceable l j true) (named_symbol l item r i n a) a.replaceable) own;
+  unnamed = λ l item r n a. (let both : Some a.symbol ≡ None = sym a.named ∙ n in cc);
+  valued = λ l item r f known o t a. takes_value l item a.symbol f o t (taken l item r a.symbol f a.named known a);
+  left = λ l item r i f n known h a. takes_left l item i f h (taken l item r i f n known a);
+  stubbed = λ l item r i f n known o h a. takes_stub l item i f o h (taken l item r i f n known a);
+}
+
+-- ---- zeros
+
 pub blanks_asked : BlanksAreAsked
 blanks_asked = record {
   sections = λ l s input loaded room own blank. record { input = input; loaded = loaded; room = bit_alloc s.flags room; shared = λ t. (let both : true ≡ false = sym (thread_local_bit s.flags t) ∙ own in cc); blank = blank };
@@ -101,14 +139,20 @@ blanks_asked = record {
 
 -- ---- symbols
 
-alone : (l : Layout) (w : World) (m : Memory) (i a : ℕ) → Denotes l w m i a → HasFlag l i ifunc false → HasFlag l i absolute false → ((p : ℕ) → HasStub l i p → ⊥) → (raw : ℕ) × HasRaw l i raw × (a ≡ (w.base + raw) % 2 ^ 64)
-alone l w m i a (inl h) f g none = (h.raw, h.given, moved_value l w i a h f g)
-alone l w m i a (inr s) f g none = absurd (none s.stub s.given)
+-- an own value that moves
+own_address : (l : Layout) (w : World) (i a : ℕ) → HasFlag l i ifunc false → HasFlag l i absolute false → HasOwnValue l w i a → (raw : ℕ) × HasRaw l i raw × (a ≡ (w.base + raw) % 2 ^ 64)
+own_address l w i a f g h = (h.raw, h.given, moved_value l w i a h f g)
+
+alone : (l : Layout) (w : World) (m : Memory) (i a : ℕ) → IsReplaceable l i false → Denotes l w m i a → HasFlag l i ifunc false → HasFlag l i absolute false → ((p : ℕ) → HasStub l i p → ⊥) → (raw : ℕ) × HasRaw l i raw × (a ≡ (w.base + raw) % 2 ^ 64)
+alone l w m i a own (inl h) f g none = own_address l w i a f g (own_value l w i a own h)
+alone l w m i a own (inr s) f g none = absurd (none s.stub s.given)
 
 pub addresses_move : AddressesMove
 addresses_move = record {
-  moves = λ l w m i raw h f g. inl (record { raw = raw; given = h; indirect = false; resolved = f; still = false; absolute = g; is = refl });
-  stays = λ l w m i raw h f g. inl (record { raw = raw; given = h; indirect = false; resolved = f; still = true; absolute = g; is = refl });
+  moves = λ l w m i raw own h f g. inl (inr (own, record { raw = raw; given = h; indirect = false; resolved = f; still = false; absolute = g; is = refl }));
+  stays = λ l w m i raw own h f g. inl (inr (own, record { raw = raw; given = h; indirect = false; resolved = f; still = true; absolute = g; is = refl }));
   alone = alone;
-  goals = λ l w m i a h f g. (h.1.raw, h.1.given, subst (λ (v : ℕ). Reaches m a v) (moved_value l w i h.0 h.1 f g) h.2);
+  goals = λ l w m i a own h f g.
+      (let v = own_address l w i h.0 f g (own_value l w i h.0 own h.1) in
+      (v.0, v.1, subst (λ (b : ℕ). Reaches m a b) v.2 h.2));
 }

@@ -19,7 +19,6 @@ use Rattle.wild_plan.specs.declared.input.InputSection.{InputSection}
 use Rattle.wild_plan.specs.declared.layout.Layout.{Layout}
 use Rattle.wild_plan.specs.Flags.{has_flag, absolute, ifunc}
 use Rattle.wild_plan.specs.Lookups.{allocated, thread_local}
-use Rattle.wild_plan.specs.ResolvedFlags.{HaveTheirFlags}
 use Rattle.wild_layout.specs.Numbers.{NumbersFit}
 use Rattle.wild_layout.specs.Faults.{errors}
 use Rattle.wild_loader.specs.declared.world.World.{World}
@@ -74,12 +73,14 @@ AreAnswered l w answers = All (λ (s : Symbol). (r : Resolution) → s.resolutio
 abbrev pub AreAddresses : (ℕ → ℕ) → Type 0
 AreAddresses answers = (a : ℕ) → answers a < 2 ^ 64
 
--- what another module has for each index of the dynamic symbol table, and how far its thread-local data are from the thread pointer
+-- what another module has for each index of the dynamic symbol table, how far its thread-local data are from the thread pointer, and
+-- how far the output's own are where it is a library
 pub record Others : Type 0 where
   pub address : ℕ → ℕ
   pub offset : ℕ → ℕ
   pub size : ℕ → ℕ
   pub distance : ℤ
+  pub own : ℤ
 
 -- these are numbers of the machine
 pub record AreNumbers (o : Others) : Type 0 where
@@ -87,6 +88,7 @@ pub record AreNumbers (o : Others) : Type 0 where
   pub offset : AreAddresses o.offset
   pub size : AreAddresses o.size
   pub distance : FitsSigned w64 o.distance
+  pub own : FitsSigned w64 o.own
 
 -- the module behind the first one
 abbrev pub other_module : ℕ
@@ -95,7 +97,7 @@ other_module = 2
 -- the answer for an index is what the other module has
 pub record IsOthers (o : Others) (index : ℕ) (x : Answer) : Type 0 where
   pub address : x.address ≡ o.address index
-  pub module : x.module ≡ other_module
+  pub owner : x.module ≡ other_module
   pub offset : x.offset ≡ o.offset index
   pub size : x.size ≡ o.size index
 
@@ -113,12 +115,13 @@ pub record HasWorld (l : Layout) (base : ℕ) (answers : ℕ → ℕ) (others : 
   pub answered : AreAnswered l world answers
   pub found : (i : ℕ) (x : Answer) → IsReplaceable l i true → (h : HasAnswer l world i x) → IsOthers others h.index x
   pub far : distance_of world other_module ≡ Ok (cast_unsigned w64 others.distance)
+  pub near : (IsExecutable l.kind → ⊥) → distance_of world world.own_module ≡ Ok (cast_unsigned w64 others.own)
 
 -- what is known of a layout whose worlds are told
 pub record IsTold (l : Layout) : Type 0 where
   pub faultless : errors l ≡ []
   pub numbers : NumbersFit l
-  pub flags : HaveTheirFlags l
+  pub sizes : All (λ (s : Symbol). s.size < 2 ^ 64) l.symbols
   pub copies : CopiesHaveRoom l
 
 -- so legal worlds are there, whatever resolvers answer and the other module has: at base 0, and where the output is movable at every

@@ -1,0 +1,10 @@
+use Rattle.std.proofs.Common.{take}
+use Rattle.std.specs.Prelude.{All}
+use Rattle.wild_plan.specs.declared.file.Group.{Group}
+use Rattle.wild_plan.specs.declared.file.File.{File}
+use Rattle.wild_plan.specs.declared.input.InputSection.{InputSection}
+use Rattle.wild_layout.specs.Numbers.{AddendFits}
+use Rattle.wild_layout.proofs.addends.addends_fit.Given as goal
+
+abbrev pub invariant-loop-group : goal.invariant-loop-group
+invariant-loop-group l = All (λ (g : Group). All (λ (f : File). All (λ (s : InputSection). All AddendFits s.relocations) f.sections) g.files) (take l.group-index l.groups)

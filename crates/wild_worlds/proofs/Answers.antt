@@ -1,0 +1,284 @@
+-- A world that answers for each dynamic symbol: what another module has of one that may be replaced, else what the output has.
+use Rattle.std.proofs.Common.{◌≡◌, ℕ, zero, suc, ◌+◌, ◌-◌, ◌%◌, ◌^◌, ◌<◌, ◌⊎◌, inl, inr, Bool, true, false, List, [], ◌∷◌, length, get_or, refl, sym, ap, ◌∙◌, arith, subst}
+use Rattle.std.specs.Prelude.{Option, Some, None, Ok, All, map, option_map, slice_get}
+use Rattle.std.proofs.lemmas.Bool.{cases_Bool, eqb-true}
+use Rattle.std.proofs.lemmas.List.{length-map}
+use Rattle.std.proofs.lemmas.List.Elements.{All-nil, All-cons}
+use Rattle.std.proofs.lemmas.Option.{slice_get-map, slice_get-get_or, slice_get_within}
+use Rattle.wild_plan.specs.declared.symbol.Resolution.{Resolution}
+use Rattle.wild_plan.specs.declared.symbol.Symbol.{Symbol}
+use Rattle.wild_plan.specs.declared.layout.Layout.{Layout}
+use Rattle.wild_plan.specs.Flags.{has_flag, absolute, ifunc}
+use Rattle.wild_plan.specs.DynamicSymbols.{dynamic_symbols, is_named, has_position, dynsym_of, position_fits, misplaced, misfit, first_listed}
+use Rattle.wild_plan.specs.WellFormed.{fails, check_dynsyms}
+use Rattle.wild_layout.specs.Numbers.{SymbolNumbers}
+use Rattle.wild_layout.specs.Geometry.{IsLaidOut}
+use Rattle.wild_layout.proofs.SiteLemmas.{All-at}
+use Rattle.wild_geometry.proofs.ClauseLemmas.{Both-from_first_error, None-from_fails}
+use Rattle.wild_loader.specs.declared.world.Answer.{Answer}
+use Rattle.wild_loader.specs.declared.world.World.{World}
+use Rattle.wild_loader.specs.Changes.{answer_at}
+use Rattle.wild_meaning.specs.Value.{IsSymbol, IsDefinedBy, IsResolved, IsUnresolved, StandsAt, HasRaw, IsReplaceable, IsValue, HasAnswer, moved, may_be_replaced}
+use Rattle.wild_meaning.specs.World.{IsKnownModule, IsAnswer, IsOwnAnswer, HasCopy, HasRoomFor, AreBeside, AnswersSymbols, first_module}
+use Rattle.wild_worlds.specs.Premises.{AreAnswered, AreAddresses, Others, AreNumbers, IsOthers, CopiesHaveRoom, IsTold, other_module}
+use Rattle.wild_laws.proofs.Symbols.{one_definition, one_symbol}
+
+-- ---- an index is the position of one symbol
+
+position_at : (table : List ℕ) (i j : ℕ) (ss : List Symbol) (s : Symbol) → misplaced table j ss ≡ None → slice_get ss i ≡ Some s → position_fits table (j + i) (dynsym_of s) ≡ true
+position_at table i j [] s h there = cc
+position_at table i j (x ∷ xs) s h there =
+    elim (cases_Bool (position_fits table j (dynsym_of x))) [
+      | inr f ↦ cc (rw f at h)
+      | inl t ↦ at table i j x xs s there t (rw t at h) (λ k e rest. position_at table k (j + 1) xs s rest e)
+    ]
+  where
+    at : (table : List ℕ) (i j : ℕ) (x : Symbol) (xs : List Symbol) (s : Symbol) → slice_get (x ∷ xs) i ≡ Some s → position_fits table j (dynsym_of x) ≡ true → misplaced table (j + 1) xs ≡ None
+        → ((k : ℕ) → slice_get xs k ≡ Some s → misplaced table (j + 1) xs ≡ None → position_fits table (j + 1 + k) (dynsym_of s) ≡ true) → position_fits table (j + i) (dynsym_of s) ≡ true
+    at table zero j x xs s e t rest again =
+        let same : x ≡ s = cc in
+        let z : j ≡ j + 0 = omega arith in
+        subst (λ (y : Symbol). position_fits table (j + 0) (dynsym_of y) ≡ true) same (subst (λ (k : ℕ). position_fits table k (dynsym_of x) ≡ true) z t)
+    at table (suc i) j x xs s e t rest again = (let z : j + 1 + i ≡ j + suc i = omega arith in subst (λ (m : ℕ). position_fits table m (dynsym_of s) ≡ true) z (again i e rest))
+
+-- entry p of a table behind the null symbol is that of symbol c
+abbrev IsEntry : List ℕ → ℕ → ℕ → Type 0
+IsEntry table c p = (k : ℕ) × (p ≡ suc k) × (slice_get table k ≡ Some c)
+
+entry_of : (table : List ℕ) (c p : ℕ) → has_position table c p ≡ true → IsEntry table c p
+entry_of table c zero h = cc
+entry_of table c (suc k) h = by_item table c k (slice_get table k) refl h
+  where
+    by_item : (table : List ℕ) (c k : ℕ) (o : Option ℕ) → slice_get table k ≡ o → is_named c o ≡ true → IsEntry table c (suc k)
+    by_item table c k None e h = cc
+    by_item table c k (Some d) e h = (k, refl, e ∙ ap (λ (n : ℕ). Some n) (eqb-true d c h))
+
+has_entry : (l : Layout) → IsLaidOut l → (c p : ℕ) (s : Symbol) (r : Resolution) → IsSymbol l c s → s.resolution ≡ Some r → r.dynamic_symbol_index ≡ Some p → IsEntry (dynamic_symbols l) c p
+unfolding check_dynsyms
+has_entry l laid c p s r there decided told =
+    let checks = Both-from_first_error (fails 13 (misplaced (dynamic_symbols l) 0 l.symbols)) (fails 13 (misfit l (first_listed l) 0 l.dynsyms)) laid.dynsyms in
+    let placed = position_at (dynamic_symbols l) c 0 l.symbols s (None-from_fails 13 (misplaced (dynamic_symbols l) 0 l.symbols) checks.first) there in
+    let carried : dynsym_of s ≡ Some p = rw (decided, told) refl in
+    let z : 0 + c ≡ c = omega arith in
+    entry_of (dynamic_symbols l) c p (subst (λ (n : ℕ). position_fits (dynamic_symbols l) n (Some p) ≡ true) z (subst (λ (o : Option ℕ). position_fits (dynamic_symbols l) (0 + c) o ≡ true) carried placed))
+
+-- ---- the answers
+
+abbrev zeros : ℕ → List ℕ
+zeros zero = []
+zeros (suc n) = 0 ∷ zeros n
+
+length-zeros : (n : ℕ) → length (zeros n) ≡ n
+length-zeros zero = refl
+length-zeros (suc n) = ap suc (length-zeros n)
+
+zeros_small : (n : ℕ) → All (λ (b : ℕ). b < 256) (zeros n)
+zeros_small zero = All-nil (λ (b : ℕ). b < 256)
+zeros_small (suc n) = All-cons (λ (b : ℕ). b < 256) 0 (zeros n) (omega arith) (zeros_small n)
+
+abbrev null_answer : Answer
+null_answer = record { address = 0; «module» = first_module; offset = 0; size = 0; bytes = [] }
+
+abbrev index_of : Option ℕ → ℕ
+index_of None = 0
+index_of (Some p) = p
+
+abbrev others_answer : Others → ℕ → Answer
+others_answer o p = record { address = o.address p; «module» = other_module; offset = o.offset p; size = o.size p; bytes = [] }
+
+abbrev address_by : (indirect still : Bool) → (ℕ → ℕ) → ℕ → ℕ → ℕ
+address_by true still answers base raw = answers ((base + raw) % 2 ^ 64)
+address_by false still answers base raw = moved still base raw
+
+-- as many zeros as the size says, in case the symbol is copied
+abbrev own_answer : Layout → ℕ → (ℕ → ℕ) → Symbol → Resolution → Answer
+own_answer l base answers s r = record {
+  address = address_by (has_flag s.flags ifunc) (has_flag s.flags absolute) answers base r.raw_value;
+  «module» = first_module;
+  offset = (r.raw_value + (2 ^ 64 - l.tls.start)) % 2 ^ 64;
+  size = s.size;
+  bytes = zeros s.size;
+}
+
+abbrev one_of : Bool → Answer → Answer → Answer
+one_of true x y = x
+one_of false x y = y
+
+abbrev answer_by : Layout → ℕ → (ℕ → ℕ) → Others → Symbol → Option Resolution → Answer
+answer_by l base answers o s None = null_answer
+answer_by l base answers o s (Some r) = one_of (may_be_replaced l.kind s.flags) (others_answer o (index_of r.dynamic_symbol_index)) (own_answer l base answers s r)
+
+abbrev answer_to : Layout → ℕ → (ℕ → ℕ) → Others → Option Symbol → Answer
+answer_to l base answers o None = null_answer
+answer_to l base answers o (Some s) = answer_by l base answers o s s.resolution
+
+-- one for each entry of the dynamic symbol table
+abbrev pub answers_of : Layout → ℕ → (ℕ → ℕ) → Others → List Answer
+answers_of l base answers o = null_answer ∷ map (λ (c : ℕ). answer_to l base answers o (slice_get l.symbols c)) (dynamic_symbols l)
+
+-- a world with these answers, with pairs of the resolvers and of two modules
+pub record HasAnswers (l : Layout) (w : World) (answers : ℕ → ℕ) (o : Others) : Type 0 where
+  pub symbols : w.symbols ≡ answers_of l w.base answers o
+  pub own : w.own_module ≡ first_module
+  pub near : IsKnownModule w first_module
+  pub far : IsKnownModule w other_module
+  pub answered : AreAnswered l w answers
+
+-- ---- what the world answers for a symbol
+
+answer_is : (l : Layout) (w : World) (answers : ℕ → ℕ) (o : Others) (i : ℕ) (x : Answer) → IsLaidOut l → HasAnswers l w answers o → (h : HasAnswer l w i x) → x ≡ answer_by l w.base answers o h.symbol (Some h.resolution)
+answer_is l w answers o i x laid has h =
+    let e = has_entry l laid h.definition h.index h.symbol h.resolution h.listed h.decided h.told in
+    let f : ℕ → Answer = λ (c : ℕ). answer_to l w.base answers o (slice_get l.symbols c) in
+    let given : slice_get (answers_of l w.base answers o) (suc e.0) ≡ Some x = subst (λ (k : ℕ). slice_get (answers_of l w.base answers o) k ≡ Some x) e.1 (subst (λ (xs : List Answer). slice_get xs h.index ≡ Some x) has.symbols h.given) in
+    let mapped : slice_get (map f (dynamic_symbols l)) e.0 ≡ Some (f h.definition) = slice_get-map f (dynamic_symbols l) e.0 ∙ ap (λ (q : Option ℕ). option_map f q) e.2 in
+    let both : Some x ≡ Some (f h.definition) = sym given ∙ mapped in
+    let same : x ≡ f h.definition = cc in
+    same ∙ ap (λ (q : Option Symbol). answer_to l w.base answers o q) h.listed ∙ ap (λ (q : Option Resolution). answer_by l w.base answers o h.symbol q) h.decided
+
+-- whether it is another module's
+chosen : (l : Layout) (w : World) (answers : ℕ → ℕ) (o : Others) (i : ℕ) (x : Answer) (b : Bool) → IsLaidOut l → HasAnswers l w answers o → (h : HasAnswer l w i x) → IsReplaceable l i b
+    → x ≡ one_of b (others_answer o (index_of h.resolution.dynamic_symbol_index)) (own_answer l w.base answers h.symbol h.resolution)
+chosen l w answers o i x b laid has h is =
+    let same = one_symbol l i is.definition h.definition is.symbol h.symbol is.defined h.defined is.listed h.listed in
+    let told : may_be_replaced l.kind h.symbol.flags ≡ b = subst (λ (s : Symbol). may_be_replaced l.kind s.flags ≡ b) same is.told in
+    answer_is l w answers o i x laid has h ∙ ap (λ (c : Bool). one_of c (others_answer o (index_of h.resolution.dynamic_symbol_index)) (own_answer l w.base answers h.symbol h.resolution)) told
+
+pub others_found : (l : Layout) (w : World) (answers : ℕ → ℕ) (o : Others) (i : ℕ) (x : Answer) → IsLaidOut l → HasAnswers l w answers o → IsReplaceable l i true → (h : HasAnswer l w i x) → IsOthers o h.index x
+others_found l w answers o i x laid has is h =
+    let e = chosen l w answers o i x true laid has h is ∙ ap (λ (q : Option ℕ). others_answer o (index_of q)) h.told in
+    subst (λ (y : Answer). IsOthers o h.index y) (sym e) (record { address = refl; owner = refl; offset = refl; size = refl })
+
+-- ---- the own answers
+
+value_by : (w : World) (answers : ℕ → ℕ) (indirect still : Bool) (raw : ℕ) → answer_at w ((w.base + raw) % 2 ^ 64) ≡ Ok (answers ((w.base + raw) % 2 ^ 64)) → IsValue w indirect still raw (address_by indirect still answers w.base raw)
+value_by w answers true still raw h = h
+value_by w answers false still raw h = refl
+
+-- the address of a symbol that was decided
+raw_is : (l : Layout) (i c raw : ℕ) (s : Symbol) (r : Resolution) → IsDefinedBy l i c → IsSymbol l c s → s.resolution ≡ Some r → HasRaw l i raw → raw ≡ r.raw_value
+raw_is l i c raw s r defined listed decided h = by_given l i c raw s r h.definition defined h.defined listed decided h.given
+  where
+    by_given : (l : Layout) (i c raw : ℕ) (s : Symbol) (r : Resolution) (d : ℕ) → IsDefinedBy l i c → IsDefinedBy l i d → IsSymbol l c s → s.resolution ≡ Some r → IsResolved l d raw ⊎ (IsUnresolved l d × StandsAt l i raw) → raw ≡ r.raw_value
+    by_given l i c raw s r d defined other listed decided (inl h) =
+        let same = one_symbol l i c d s h.symbol defined other listed h.listed in
+        let both : Some r ≡ Some h.resolution = sym decided ∙ ap (λ (t : Symbol). t.resolution) same ∙ h.decided in
+        let one : h.resolution ≡ r = cc in
+        h.value ∙ ap (λ (q : Resolution). q.raw_value) one
+    by_given l i c raw s r d defined other listed decided (inr h) =
+        let there = subst (λ (k : ℕ). IsSymbol l k s) (one_definition l i c d defined other) listed in
+        let both : Some r ≡ None = sym decided ∙ h.0 s there in
+        cc
+
+own_given : (l : Layout) (w : World) (answers : ℕ → ℕ) (o : Others) (i c : ℕ) (s : Symbol) (r : Resolution) → HasAnswers l w answers o → IsDefinedBy l i c → IsSymbol l c s → s.resolution ≡ Some r → IsOwnAnswer l w i (own_answer l w.base answers s r)
+own_given l w answers o i c s r has defined listed decided = record {
+  address = record {
+    raw = r.raw_value;
+    given = record { definition = c; defined = defined; given = inl (record { symbol = s; listed = listed; resolution = r; decided = decided; value = refl }) };
+    indirect = has_flag s.flags ifunc;
+    resolved = record { definition = c; defined = defined; symbol = s; listed = listed; flagged = refl };
+    still = has_flag s.flags absolute;
+    absolute = record { definition = c; defined = defined; symbol = s; listed = listed; flagged = refl };
+    is = value_by w answers (has_flag s.flags ifunc) (has_flag s.flags absolute) r.raw_value (All-at (λ (t : Symbol). (q : Resolution) → t.resolution ≡ Some q → answer_at w ((w.base + q.raw_value) % 2 ^ 64) ≡ Ok (answers ((w.base + q.raw_value) % 2 ^ 64))) l.symbols c s has.answered listed r decided);
+  };
+  owner = sym has.own;
+  offset = λ raw h. ap (λ (n : ℕ). (n + (2 ^ 64 - l.tls.start)) % 2 ^ 64) (sym (raw_is l i c raw s r defined listed decided h));
+  size = record { definition = c; defined = defined; symbol = s; listed = listed; size = refl };
+}
+
+owned : (l : Layout) (w : World) (answers : ℕ → ℕ) (o : Others) (i : ℕ) (x : Answer) → IsLaidOut l → HasAnswers l w answers o → IsReplaceable l i false → HasAnswer l w i x → IsOwnAnswer l w i x
+owned l w answers o i x laid has is h = subst (λ (y : Answer). IsOwnAnswer l w i y) (sym (chosen l w answers o i x false laid has h is)) (own_given l w answers o i h.definition h.symbol h.resolution has h.defined h.listed h.decided)
+
+-- ---- copies
+
+-- an own answer has as many bytes as its size says
+whole : (l : Layout) (w : World) (answers : ℕ → ℕ) (o : Others) (i : ℕ) (x : Answer) → IsLaidOut l → HasAnswers l w answers o → IsReplaceable l i false → HasAnswer l w i x → length x.bytes ≡ x.size
+whole l w answers o i x laid has is h = subst (λ (y : Answer). length y.bytes ≡ y.size) (sym (chosen l w answers o i x false laid has h is)) (length-zeros h.symbol.size)
+
+copied : (l : Layout) (w : World) (answers : ℕ → ℕ) (o : Others) (i raw : ℕ) (x : Answer) → IsLaidOut l → CopiesHaveRoom l → HasAnswers l w answers o → HasCopy l w i raw x → HasRoomFor l raw x
+copied l w answers o i raw x laid room has h =
+    let own = room.own i h.copied in
+    let long = whole l w answers o i x laid has own h.answer in
+    record { whole = long; behind = λ k lt. room.behind i raw x.size k h.copied h.given (owned l w answers o i x laid has own h.answer).size (omega (arith, long, lt)) }
+
+copies_apart : (l : Layout) (w : World) (answers : ℕ → ℕ) (o : Others) (i j c d raw other : ℕ) (x y : Answer) → IsLaidOut l → CopiesHaveRoom l → HasAnswers l w answers o → IsDefinedBy l i c → IsDefinedBy l j d → (c ≡ d → ⊥)
+    → HasCopy l w i raw x → HasCopy l w j other y → AreBeside raw (length x.bytes) other (length y.bytes)
+copies_apart l w answers o i j c d raw other x y laid room has first second differ h g =
+    let own = room.own i h.copied in
+    let owns = room.own j g.copied in
+    let a = sym (whole l w answers o i x laid has own h.answer) in
+    let b = sym (whole l w answers o j y laid has owns g.answer) in
+    let apart = room.apart i j c d raw other x.size y.size h.copied g.copied first second differ h.given g.given (owned l w answers o i x laid has own h.answer).size (owned l w answers o j y laid has owns g.answer).size in
+    subst (λ (m : ℕ). AreBeside raw (length x.bytes) other m) b (subst (λ (n : ℕ). AreBeside raw n other y.size) a apart)
+
+-- ---- numbers
+
+-- what is known of a symbol's numbers
+record IsSmall (s : Symbol) : Type 0 where
+  numbers : SymbolNumbers s
+  size : s.size < 2 ^ 64
+
+address_small : (indirect still : Bool) (answers : ℕ → ℕ) (base raw : ℕ) → AreAddresses answers → raw < 2 ^ 64 → address_by indirect still answers base raw < 2 ^ 64
+address_small true still answers base raw small low = small ((base + raw) % 2 ^ 64)
+address_small false true answers base raw small low = low
+address_small false false answers base raw small low = omega arith
+
+null_fits : (w : World) → IsKnownModule w first_module → IsAnswer w null_answer
+null_fits w near = record { address = omega arith; offset = omega arith; size = omega arith; bytes = All-nil (λ (b : ℕ). b < 256); owner = omega arith; known = near }
+
+others_fit : (w : World) (o : Others) (p : ℕ) → AreNumbers o → IsKnownModule w other_module → IsAnswer w (others_answer o p)
+others_fit w o p numbers far = record { address = numbers.address p; offset = numbers.offset p; size = numbers.size p; bytes = All-nil (λ (b : ℕ). b < 256); owner = omega arith; known = far }
+
+own_fits : (l : Layout) (w : World) (answers : ℕ → ℕ) (s : Symbol) (r : Resolution) → AreAddresses answers → IsSmall s → s.resolution ≡ Some r → IsKnownModule w first_module → IsAnswer w (own_answer l w.base answers s r)
+own_fits l w answers s r small is decided near = record {
+  address = address_small (has_flag s.flags ifunc) (has_flag s.flags absolute) answers w.base r.raw_value small (is.numbers r decided).value;
+  offset = omega arith;
+  size = is.size;
+  bytes = zeros_small s.size;
+  owner = omega arith;
+  known = near;
+}
+
+answer_fits : (l : Layout) (w : World) (answers : ℕ → ℕ) (o : Others) (q : Option Symbol) → AreAddresses answers → AreNumbers o → HasAnswers l w answers o → ((s : Symbol) → q ≡ Some s → IsSmall s) → IsAnswer w (answer_to l w.base answers o q)
+answer_fits l w answers o None small numbers has each = null_fits w has.near
+answer_fits l w answers o (Some s) small numbers has each = by_resolution l w answers o s s.resolution refl small numbers has (each s refl)
+  where
+    by_choice : (w : World) (b : Bool) (x y : Answer) → IsAnswer w x → IsAnswer w y → IsAnswer w (one_of b x y)
+    by_choice w true x y h g = h
+    by_choice w false x y h g = g
+
+    by_resolution : (l : Layout) (w : World) (answers : ℕ → ℕ) (o : Others) (s : Symbol) (q : Option Resolution) → s.resolution ≡ q → AreAddresses answers → AreNumbers o → HasAnswers l w answers o → IsSmall s → IsAnswer w (answer_by l w.base answers o s q)
+    by_resolution l w answers o s None e small numbers has is = null_fits w has.near
+    by_resolution l w answers o s (Some r) e small numbers has is =
+        by_choice w (may_be_replaced l.kind s.flags) (others_answer o (index_of r.dynamic_symbol_index)) (own_answer l w.base answers s r)
+        (others_fit w o (index_of r.dynamic_symbol_index) numbers has.far) (own_fits l w answers s r small is e has.near)
+
+each_fits : {X Y : Type 0} (P : Y → Type 0) (f : X → Y) (xs : List X) → ((x : X) → P (f x)) → All P (map f xs)
+each_fits P f [] h = All-nil P
+each_fits P f (x ∷ xs) h = All-cons P (f x) (map f xs) (h x) (each_fits P f xs h)
+
+-- ---- the whole
+
+index_within : (l : Layout) (w : World) (answers : ℕ → ℕ) (o : Others) (c p : ℕ) (s : Symbol) (r : Resolution) → IsLaidOut l → HasAnswers l w answers o → IsSymbol l c s → s.resolution ≡ Some r → r.dynamic_symbol_index ≡ Some p → p < length w.symbols
+index_within l w answers o c p s r laid has there decided told =
+    let e = has_entry l laid c p s r there decided told in
+    let low = slice_get_within (dynamic_symbols l) e.0 c e.2 in
+    let is = e.1 in
+    let f : ℕ → Answer = λ (d : ℕ). answer_to l w.base answers o (slice_get l.symbols d) in
+    let long : length (map f (dynamic_symbols l)) ≡ length (dynamic_symbols l) = length-map (dynamic_symbols l) f in
+    let inside : p < length (answers_of l w.base answers o) = omega (arith, low, is, long) in
+    subst (λ (xs : List Answer). p < length xs) (sym has.symbols) inside
+
+pub answers_symbols : (l : Layout) (w : World) (answers : ℕ → ℕ) (o : Others) → IsLaidOut l → IsTold l → AreAddresses answers → AreNumbers o → HasAnswers l w answers o → AnswersSymbols l w
+answers_symbols l w answers o laid told small numbers has = record {
+  owner = subst (λ (n : ℕ). n < 2 ^ 64) (sym has.own) (omega arith);
+  known = subst (λ (n : ℕ). IsKnownModule w n) (sym has.own) has.near;
+  each = subst (λ (xs : List Answer). All (IsAnswer w) xs) (sym has.symbols)
+      (All-cons (IsAnswer w) null_answer (map (λ (c : ℕ). answer_to l w.base answers o (slice_get l.symbols c)) (dynamic_symbols l)) (null_fits w has.near)
+      (each_fits (IsAnswer w) (λ (c : ℕ). answer_to l w.base answers o (slice_get l.symbols c)) (dynamic_symbols l)
+      (λ c. answer_fits l w answers o (slice_get l.symbols c) small numbers has (λ s e. record { numbers = All-at SymbolNumbers l.symbols c s told.numbers.symbols e; size = All-at (λ (t : Symbol). t.size < 2 ^ 64) l.symbols c s told.sizes e }))));
+  there = λ k d lt r index decided listed. index_within l w answers o k index (get_or l.symbols k d) r laid has (slice_get-get_or l.symbols k d lt) decided listed;
+  own = λ i x is h. owned l w answers o i x laid has is h;
+  copies = λ i raw x h. copied l w answers o i raw x laid told.copies has h;
+  apart = λ i j c d raw other x y first second differ h g. copies_apart l w answers o i j c d raw other x y laid told.copies has first second differ h g;
+}

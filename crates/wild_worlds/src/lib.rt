@@ -1,0 +1,36 @@
+//! The premises of soundness are met: there are legal worlds, and references that are asked in them.
+#![tactic(auto)]
+
+ghost use Rattle.wild_worlds.specs.Premises.{ZeroIsLegal, MovedIsLegal, NoneHasNone, WorldsAreThere, KindsAreLoaded, SectionsAreKept, RelocationsRefer, ReferencesAreAsked, SlotsAreAsked, FewAreLinkedAlone, BlanksAreAsked, AddressesMove, ResolversAnswer, WorldsAnswer, OffsetsCount, WorkedBranchesAreAsked};
+
+use wild_geometry::layouts_are_laid_out;
+use wild_values::thread_places_are_known;
+
+/// The premises of soundness are met. A layout without faults has legal worlds, with the distance of its own
+/// thread-local data, whatever its resolvers answer and another module has: at base 0, and where the output is movable at every
+/// page-aligned base at which no segment wraps. Each loaded, allocated input section with data is kept, each of its relocations but NONE
+/// is a reference, and is asked unless its symbol is absolute and its value takes a place from it, or its instruction goes
+/// through a slot; few take the output's own symbol alone; the address of an own symbol that is not absolute moves with the base,
+/// an IFUNC's value is what its resolver answers, a replaceable symbol's what the world does; an offset from the thread pointer is
+/// an address less that; the worked example has calls and jumps.
+pub fn premises_are_met()
+    ensures zero { ZeroIsLegal }
+    ensures elsewhere { MovedIsLegal }
+    ensures unresolved { NoneHasNone }
+    ensures worlds { WorldsAreThere }
+    ensures kinds { KindsAreLoaded }
+    ensures kept { SectionsAreKept }
+    ensures references { RelocationsRefer }
+    ensures asked { ReferencesAreAsked }
+    ensures slots { SlotsAreAsked }
+    ensures linked { FewAreLinkedAlone }
+    ensures blanks { BlanksAreAsked }
+    ensures addresses { AddressesMove }
+    ensures resolvers { ResolversAnswer }
+    ensures answers { WorldsAnswer }
+    ensures offsets { OffsetsCount }
+    ensures branches { WorkedBranchesAreAsked }
+{
+    layouts_are_laid_out();
+    thread_places_are_known();
+}
