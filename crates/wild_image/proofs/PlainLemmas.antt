@@ -1,6 +1,6 @@
 -- Groups that write nothing but their input sections.
 use Rattle.std.proofs.Common.{◌≡◌, ℕ, suc, ◌+◌, ◌<◌, ◌==◌, inl, inr, Bool, true, false, List, [], ◌∷◌, ◌++◌, length, get_or, refl, sym, ap, ◌∙◌, arith, subst}
-use Rattle.std.specs.Prelude.{not, ◌&&◌, min, ◌-◌, ◌^◌, if◌then◌else◌, Some, slice_get}
+use Rattle.std.specs.Prelude.{not, ◌&&◌, min, ◌-◌, ◌^◌, Some, slice_get}
 use Rattle.std.specs.List.{flat_map, list_all, list_any}
 use Rattle.std.proofs.lemmas.Bool.{cases_Bool, cases_order, and_parts, eqb-true, eqb-false}
 use Rattle.std.proofs.lemmas.List.{append-nil, nil_from_length}

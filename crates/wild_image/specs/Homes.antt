@@ -2,7 +2,7 @@
 --   home_of l place f   the role of a symbol's file, and the header index of the section in which the symbol stands
 --   home_in l i f       the same for symbol i, as one of file f
 --   HasHomes l homes    a table of these for all symbols, where the output has a dynamic symbol table
-use Rattle.std.specs.Prelude.{◌≡◌, ℕ, ◌<◌, true, List, length, Option, Some, None, option_map, unwrap_or, slice_get, slice_index_or}
+use Rattle.std.specs.Prelude.{◌≡◌, ℕ, ◌<◌, true, List, length, Option, Some, None, slice_get, slice_index_or}
 use Rattle.wild_plan.specs.declared.symbol.Place.{Place}
 use Rattle.wild_plan.specs.declared.symbol.Place.TheVariants as at
 use Rattle.wild_plan.specs.declared.symbol.Symbol.{Symbol}

@@ -64,8 +64,9 @@ fn room_behind(layout: &Layout, group: &Group) -> u64
 {
     let needed = needed_of_files(layout, group.files.as_slice()) as u64;
     let last = layout.groups.len().saturating_sub(1);
-    share_of(layout, last, Role::Dynamic)
-        .saturating_sub(needed.saturating_mul(DynamicEntry::SIZE as u64))
+    share_of(layout, last, Role::Dynamic).saturating_sub(needed.saturating_mul(
+        DynamicEntry::SIZE as u64,
+    ))
 }
 
 /// The room of the last file in the dynamic section.

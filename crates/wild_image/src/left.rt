@@ -43,11 +43,7 @@ fn index_or_zero(layout: &Layout, symbol: SymbolIndex) -> u64
 
 /// The entry of a relocation, where its field is left to one.
 #[tactic(auto, unfolding(crate::specs::General::left_in))]
-fn left_entry(
-    layout: &Layout,
-    section: &InputSection,
-    relocation: &InputRelocation,
-) -> Option<Rela>
+fn left_entry(layout: &Layout, section: &InputSection, relocation: &InputRelocation) -> Option<Rela>
     ensures { result ≡ left_in layout.now section.now relocation.now }
 {
     let place = section.place_of(relocation);
@@ -116,11 +112,7 @@ fn add_section_left(
 }
 
 /// Adds the entries of the sections of a file.
-fn add_sections_left(
-    layout: &Layout,
-    file: &File,
-    bytes: &mut PartBytes,
-) -> Result<(), AllocError>
+fn add_sections_left(layout: &Layout, file: &File, bytes: &mut PartBytes) -> Result<(), AllocError>
     ensures { OnOk result (bytes.new ≡ bytes.old ++ flat_map (section_general_bytes layout.now) file.now.sections) }
 {
     for section in file.sections.as_slice() {

@@ -13,10 +13,7 @@ use wild_plan::{DynamicSymbol, Error, Fault, File};
 use wild_symbols::{SymbolFields, listed_fields, no_fields};
 
 /// What the entry of a listed symbol says, or what the symbol lacks of it.
-fn fields_of<A: Arch>(
-    resolved: &Resolved<A>,
-    listed: &DynamicSymbol,
-) -> Result<SymbolFields, Fault>
+fn fields_of<A: Arch>(resolved: &Resolved<A>, listed: &DynamicSymbol) -> Result<SymbolFields, Fault>
     requires table { needs_dynsym resolved.now.layout.now.kind ≡ true }
     ensures { result ≡ listed_of resolved.now.layout.now listed.now.symbol (slice_get resolved.now.layout.now.symbols listed.now.symbol) }
 {
@@ -84,11 +81,7 @@ fn check_symbols<A: Arch>(
 
 /// Refuses the listed symbols, where the file is the last one.
 #[tactic(auto, unfolding(wild_layout::specs::Faults::listed_errors))]
-fn check_file<A: Arch>(
-    resolved: &Resolved<A>,
-    place: InputPlace,
-    file: &File,
-) -> Result<(), Error>
+fn check_file<A: Arch>(resolved: &Resolved<A>, place: InputPlace, file: &File) -> Result<(), Error>
     ensures { Answers result (listed_errors resolved.now.layout.now place.group place.file file.now) }
 {
     let layout = resolved.layout;

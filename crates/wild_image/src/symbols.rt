@@ -15,7 +15,8 @@ use crate::part_bytes::PartBytes;
 use crate::values::Resolved;
 use std::alloc::AllocError;
 use wild_plan::{
-    DynamicSymbol, File, FileRole, Group, Layout, Symbol, behind_file, is_undefined_entry, lead_room,
+    DynamicSymbol, File, FileRole, Group, Layout, Symbol, behind_file, is_undefined_entry,
+    lead_room,
 };
 use wild_records::SymtabEntry;
 use wild_symbols::{SymbolFields, entry_at, no_fields, undefined_fields};
@@ -134,7 +135,12 @@ fn add_file<A: Arch>(
     ensures { OnOk result (bytes.new ≡ bytes.old ++ symbol_bytes (file_entries resolved.now.layout.now at file.now)) }
 {
     add_null(file, bytes)?;
-    add_symbols(resolved, file, behind_lead(resolved.layout, at, file), bytes)
+    add_symbols(
+        resolved,
+        file,
+        behind_lead(resolved.layout, at, file),
+        bytes,
+    )
 }
 
 /// Adds the entries of a group.

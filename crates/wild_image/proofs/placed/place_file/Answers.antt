@@ -1,4 +1,4 @@
-use Rattle.std.proofs.Common.{◌<◌, ◌≤◌, subst, arith, ◌∙◌, ap, length, get_or, Option, Some, None, ℕ}
+use Rattle.std.proofs.Common.{◌<◌, ◌≤◌, subst, arith, ◌∙◌, ap, length, Some, None}
 use Rattle.std.specs.Option.{option_or}
 use Rattle.wild_plan.specs.declared.file.File.{File}
 use Rattle.wild_image.proofs.ValueLemmas.{place_more, read_any}
