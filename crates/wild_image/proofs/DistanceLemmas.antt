@@ -14,7 +14,7 @@ use Rattle.wild_plan.specs.Treatment.{flags_at, is_elsewhere, distance_treatment
 use Rattle.wild_reloc.specs.declared.info.RelocationKind.TheVariants.{Relative}
 use Rattle.wild_reloc.specs.declared.info.RelocationKindInfo.{RelocationKindInfo}
 use Rattle.wild_layout.specs.Values.{term_of}
-use Rattle.wild_layout.specs.Decide.{field_for, decided}
+use Rattle.wild_layout.specs.Decide.{field_for, decide_by, decided}
 
 -- a test that asks for a moving output is none in a fixed one
 no_test : (a m b c : Bool) (t u : Treatment) → m ≡ false → (if a && m && b && c then t else u) ≡ u
