@@ -14,7 +14,7 @@ use Rattle.wild_plan.specs.Treatment.{flags_at, is_elsewhere, distance_treatment
 use Rattle.wild_reloc.specs.declared.info.RelocationKind.TheVariants.{Relative}
 use Rattle.wild_reloc.specs.declared.info.RelocationKindInfo.{RelocationKindInfo}
 use Rattle.wild_layout.specs.Values.{term_of}
-use Rattle.wild_layout.specs.Decide.{field_for, decide_by, decided}
+use Rattle.wild_layout.specs.Decide.{field_for, decided}
 
 -- a test that asks for a moving output is none in a fixed one
 no_test : (a m b c : Bool) (t u : Treatment) → m ≡ false → (if a && m && b && c then t else u) ≡ u
@@ -36,8 +36,3 @@ unfolding decided treatment row_treatment
 fixed_decided l s r row known kind h =
     let t : kind_treatment l s r.symbol row row.kind ≡ Value row = ap (kind_treatment l s r.symbol row) kind ∙ fixed_distance l s row r.symbol h in
     rw (known, t) refl
-
--- what is decided of a relocation of which that treatment was found
-pub decided_is : (l : Layout) (s : InputSection) (r : InputRelocation) (row : Option RelocationKindInfo) (t : Treatment) → row ≡ row_of l.machine r.number → t ≡ row_treatment l s r.symbol row → decide_by l s r t ≡ decided l s r
-unfolding decided treatment
-decided_is l s r row t is found = ap (decide_by l s r) (found ∙ ap (row_treatment l s r.symbol) is)

@@ -12,17 +12,11 @@ use Rattle.wild_plan.specs.declared.input.InputRelocation.{InputRelocation}
 use Rattle.wild_plan.specs.declared.input.InputSection.{InputSection}
 use Rattle.wild_plan.specs.declared.file.File.{File}
 use Rattle.wild_plan.specs.declared.layout.Layout.{Layout}
-use Rattle.wild_plan.specs.declared.treatment.Treatment.{Treatment}
-use Rattle.wild_plan.specs.declared.treatment.Treatment.TheVariants as treatments
-use Rattle.wild_plan.specs.SlotParts.{type_of}
-use Rattle.wild_reloc.specs.declared.dynamic.DynamicRelocationKind.TheVariants.{Irelative}
-use Rattle.wild_plan.specs.Entries.{place_of, is_left_to_entry, left_relocations, copies_of}
+use Rattle.wild_plan.specs.Entries.{is_left_to_entry, left_relocations, copies_of}
 use Rattle.wild_plan.specs.Lookups.{is_read}
 use Rattle.wild_plan.specs.Treatment.{treatment}
 use Rattle.wild_tables.specs.Entries.{rela_bytes}
-use Rattle.wild_layout.specs.Left.{entry_for, left_entry, section_generals, copy_entry, file_generals}
-use Rattle.wild_layout.specs.Moved.{or_zero}
-use Rattle.wild_layout.specs.Values.{raw_address}
+use Rattle.wild_layout.specs.Left.{left_entry, section_generals, copy_entry, file_generals}
 use Rattle.wild_image.specs.General.{left_in, left_bytes, section_general_bytes, copy_bytes}
 use Rattle.wild_image.proofs.OwnLemmas.{joined_by, none_added}
 
@@ -49,11 +43,6 @@ section_unread l s h = rw h refl
 
 pub none_left : (l : Layout) (s : InputSection) (bytes : List ℕ) → is_read s ≡ false → bytes ≡ bytes ++ section_general_bytes l s
 none_left l s bytes h = none_added bytes (section_general_bytes l s) (section_unread l s h)
-
--- the entry of a field that a loader fills by what a resolver answers
-pub indirect_left : (l : Layout) (s : InputSection) (r : InputRelocation) (i : ℕ) (t : Treatment) → treatment l s r ≡ t → t ≡ treatments.Indirect i → left_in l s r ≡ Some (entry_for (place_of s r) (type_of l.machine Irelative) 0 (or_zero (raw_address l (Some i))))
-unfolding left_in
-indirect_left l s r i t h e = rw (h, e) refl
 
 -- ---- copies
 

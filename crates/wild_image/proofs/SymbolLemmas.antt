@@ -1,16 +1,21 @@
 -- Laws of the entries of a group in the dynamic symbol table.
-use Rattle.std.proofs.Common.{◌≡◌, ℕ, Bool, true, false, if◌then◌else◌, List, [], ◌∷◌, ◌++◌, map, refl, sym, ap, ◌∙◌}
+use Rattle.std.proofs.Common.{◌≡◌, ℕ, zero, suc, ◌+◌, ◌<◌, ◌≤◌, true, false, if◌then◌else◌, List, [], ◌∷◌, ◌++◌, length, drop, get_or, map, refl, sym, ap, ◌∙◌, arith}
 use Rattle.std.specs.List.{filter}
 use Rattle.std.proofs.lemmas.List.{append-nil, append_assoc}
 use Rattle.std.proofs.lemmas.List.Concat.{flat_map-append}
 use Rattle.wild_words.specs.Record.{spell}
 use Rattle.wild_records.specs.SymtabEntry.{symtab_entry_fields}
 use Rattle.wild_records.specs.declared.symtab_entry.SymtabEntry.{SymtabEntry}
+use Rattle.wild_plan.specs.declared.symbol.Symbol.{Symbol}
+use Rattle.wild_plan.specs.declared.layout.DynamicSymbol.{DynamicSymbol}
+use Rattle.wild_plan.specs.declared.file.FileRole.{FileRole}
 use Rattle.wild_plan.specs.declared.file.File.{File}
 use Rattle.wild_plan.specs.declared.layout.Layout.{Layout}
 use Rattle.wild_plan.specs.DynamicStrings.{behind_text, behind_file}
+use Rattle.wild_plan.specs.DynamicSymbols.{is_undefined_entry}
+use Rattle.wild_symbols.specs.declared.dynamic.SymbolFields.{SymbolFields}
 use Rattle.wild_symbols.specs.Symbols.{symbol_bytes}
-use Rattle.wild_symbols.specs.DynamicEntries.{NamedFields, entry_at, entries_at, file_symbols, null_entries, behind_lead, file_entries, entries_from}
+use Rattle.wild_symbols.specs.DynamicEntries.{NamedFields, undefined_fields, undefined, listed, entry_at, entries_at, file_symbols, null_entries, behind_lead, file_entries, entries_from}
 
 symbols-append : (es fs : List SymtabEntry) → symbol_bytes (es ++ fs) ≡ symbol_bytes es ++ symbol_bytes fs
 symbols-append es fs = flat_map-append (λ (e : SymtabEntry). spell (symtab_entry_fields e)) es fs
@@ -26,9 +31,60 @@ symbol_next now next whole at behind n rest before step is =
     ∙ before
 
 -- no entry is to come
-pub symbols_end : (now whole : List ℕ) (at : ℕ) (ns : List NamedFields) → ns ≡ [] → now ++ symbol_bytes (entries_at at ns) ≡ whole → now ≡ whole
+symbols_end : (now whole : List ℕ) (at : ℕ) (ns : List NamedFields) → ns ≡ [] → now ++ symbol_bytes (entries_at at ns) ≡ whole → now ≡ whole
 unfolding entries_at
 symbols_end now whole at ns none all = sym (append-nil now) ∙ ap (λ (ms : List NamedFields). now ++ symbol_bytes (entries_at at ms)) (sym none) ∙ all
+
+drop_at : {X : Type 0} (xs : List X) (i : ℕ) (x : X) → i < length xs → x ≡ get_or xs i x → drop i xs ≡ x ∷ drop (i + 1) xs
+drop_at [] i x h e = absurd (omega arith)
+drop_at (y ∷ ys) zero x h e = let z : x ≡ y = e in rw z refl
+drop_at (y ∷ ys) (suc i) x h e = drop_at ys i x (omega arith) e
+
+drop_past : {X : Type 0} (xs : List X) (i : ℕ) → length xs ≤ i → drop i xs ≡ []
+drop_past [] zero h = refl
+drop_past [] (suc i) h = refl
+drop_past (x ∷ xs) zero h = absurd (omega arith)
+drop_past (x ∷ xs) (suc i) h = drop_past xs i (omega arith)
+
+-- ---- listed symbols
+
+pub listed_next : (l : Layout) (ds : List DynamicSymbol) (i : ℕ) (d : DynamicSymbol) (now next whole : List ℕ) (at behind : ℕ) (fields : SymbolFields) → i < length ds → d ≡ get_or ds i d → fields ≡ (listed l d).fields
+    → now ++ symbol_bytes (entries_at at (map (listed l) (drop i ds))) ≡ whole → next ≡ now ++ symbol_bytes (entry_at at fields ∷ []) → behind ≡ behind_text at d.name → next ++ symbol_bytes (entries_at behind (map (listed l) (drop (i + 1) ds))) ≡ whole
+listed_next l ds i d now next whole at behind fields h read said before step is =
+    let cut : map (listed l) (drop i ds) ≡ listed l d ∷ map (listed l) (drop (i + 1) ds) = ap (λ (xs : List DynamicSymbol). map (listed l) xs) (drop_at ds i d h read) in
+    symbol_next now next whole at behind (listed l d) (map (listed l) (drop (i + 1) ds)) (ap (λ (ns : List NamedFields). now ++ symbol_bytes (entries_at at ns)) (sym cut) ∙ before) (step ∙ ap (λ (f : SymbolFields). now ++ symbol_bytes (entry_at at f ∷ [])) said) is
+
+pub listed_end : (l : Layout) (ds : List DynamicSymbol) (i at : ℕ) (now whole : List ℕ) → length ds ≤ i → now ++ symbol_bytes (entries_at at (map (listed l) (drop i ds))) ≡ whole → now ≡ whole
+listed_end l ds i at now whole h all = symbols_end now whole at (map (listed l) (drop i ds)) (ap (λ (xs : List DynamicSymbol). map (listed l) xs) (drop_past ds i h)) all
+
+pub ruleset listed_listed = (listed_next, listed_end)
+
+-- ---- symbols that other modules define
+
+-- those of a list
+abbrev pub undefined_of : FileRole → List Symbol → List NamedFields
+undefined_of role ss = map (undefined role) (filter (is_undefined_entry role) ss)
+
+undefined_cut : (role : FileRole) (ss : List Symbol) (i : ℕ) (s : Symbol) → i < length ss → s ≡ get_or ss i s
+    → undefined_of role (drop i ss) ≡ map (undefined role) (if is_undefined_entry role s then s ∷ filter (is_undefined_entry role) (drop (i + 1) ss) else filter (is_undefined_entry role) (drop (i + 1) ss))
+undefined_cut role ss i s h read = ap (undefined_of role) (drop_at ss i s h read)
+
+pub undefined_next : (role : FileRole) (ss : List Symbol) (i : ℕ) (s : Symbol) (now next whole : List ℕ) (at behind : ℕ) (fields : SymbolFields) → i < length ss → s ≡ get_or ss i s → is_undefined_entry role s ≡ true → fields ≡ undefined_fields role s
+    → now ++ symbol_bytes (entries_at at (undefined_of role (drop i ss))) ≡ whole → next ≡ now ++ symbol_bytes (entry_at at fields ∷ []) → behind ≡ behind_text at s.name → next ++ symbol_bytes (entries_at behind (undefined_of role (drop (i + 1) ss))) ≡ whole
+undefined_next role ss i s now next whole at behind fields h read kept said before step is =
+    let cut : undefined_of role (drop i ss) ≡ undefined role s ∷ undefined_of role (drop (i + 1) ss) = undefined_cut role ss i s h read ∙ rw kept refl in
+    symbol_next now next whole at behind (undefined role s) (undefined_of role (drop (i + 1) ss)) (ap (λ (ns : List NamedFields). now ++ symbol_bytes (entries_at at ns)) (sym cut) ∙ before) (step ∙ ap (λ (f : SymbolFields). now ++ symbol_bytes (entry_at at f ∷ [])) said) is
+
+pub undefined_skipped : (role : FileRole) (ss : List Symbol) (i : ℕ) (s : Symbol) (now whole : List ℕ) (at : ℕ) → i < length ss → s ≡ get_or ss i s → is_undefined_entry role s ≡ false
+    → now ++ symbol_bytes (entries_at at (undefined_of role (drop i ss))) ≡ whole → now ++ symbol_bytes (entries_at at (undefined_of role (drop (i + 1) ss))) ≡ whole
+undefined_skipped role ss i s now whole at h read left before =
+    let cut : undefined_of role (drop i ss) ≡ undefined_of role (drop (i + 1) ss) = undefined_cut role ss i s h read ∙ rw left refl in
+    ap (λ (ns : List NamedFields). now ++ symbol_bytes (entries_at at ns)) (sym cut) ∙ before
+
+pub undefined_end : (role : FileRole) (ss : List Symbol) (i at : ℕ) (now whole : List ℕ) → length ss ≤ i → now ++ symbol_bytes (entries_at at (undefined_of role (drop i ss))) ≡ whole → now ≡ whole
+undefined_end role ss i at now whole h all = symbols_end now whole at (undefined_of role (drop i ss)) (ap (undefined_of role) (drop_past ss i h)) all
+
+pub ruleset undefined_listed = (undefined_next, undefined_skipped, undefined_end)
 
 -- ---- files
 

@@ -1,7 +1,7 @@
 //! Addresses of stubs and slots, by which relocations reach a symbol (x86-64 psABI, "Procedure Linkage Table", "Global
 //! Offset Table (GOT)").
 ghost use Rattle.std.specs.Prelude.{◌≡◌};
-ghost use Rattle.wild_layout.specs.Values.{address_or, resolution_of, index_of, stub_of, is_chosen, stub_address, has_second_slot, behind_word, slot_among, slot_decided, slot_of, slot_address};
+ghost use Rattle.wild_layout.specs.Values.{address_or, resolution_of, index_of, decided_address, stub_of, is_chosen, stub_address, has_second_slot, behind_word, slot_among, slot_decided, slot_of, slot_address};
 
 use wild_plan::{
     Fault, Layout, Missing, Resolution, SymbolIndex, ValueFlags, flags_at, has_thread_slot,
@@ -45,6 +45,17 @@ pub(crate) fn index_of(layout: &Layout, symbol: SymbolIndex) -> Option<u64>
         Some(resolution) => resolution.dynamic_symbol_index,
         None => None,
     }
+}
+
+/// The address that was decided of a symbol, its resolver's where a resolver chooses it; or that none was.
+pub(crate) fn decided_address(layout: &Layout, symbol: SymbolIndex) -> Result<u64, Fault>
+    ensures { result ≡ decided_address layout.now symbol }
+{
+    let decided = match resolution_of(layout, symbol) {
+        Some(resolution) => Some(resolution.raw_value),
+        None => None,
+    };
+    address_or(Missing::Address, symbol, decided)
 }
 
 /// Whether a resolver chooses the function that the symbol names.

@@ -10,7 +10,7 @@ ghost use Rattle.wild_image.specs.General.{left_in, left_bytes, section_general_
 
 use crate::arch::Arch;
 use crate::entries::add_entry;
-use crate::indirect::index_of;
+use crate::indirect::{decided_address, index_of};
 use crate::part_bytes::PartBytes;
 use crate::relocation::added;
 use crate::resolve::{or_zero, raw_address};
@@ -43,14 +43,13 @@ fn index_or_zero(layout: &Layout, symbol: SymbolIndex) -> u64
 
 /// The entry of a relocation, where its field is left to one.
 #[tactic(auto, unfolding(crate::specs::General::left_in))]
-fn left_entry<A: Arch>(
-    resolved: &Resolved<A>,
+fn left_entry(
+    layout: &Layout,
     section: &InputSection,
     relocation: &InputRelocation,
 ) -> Option<Rela>
-    ensures { result ≡ left_in resolved.now.layout.now section.now relocation.now }
+    ensures { result ≡ left_in layout.now section.now relocation.now }
 {
-    let layout = resolved.layout;
     let place = section.place_of(relocation);
     match treatment_of(layout, section, relocation) {
         Treatment::Symbolic(symbol) => {
@@ -60,7 +59,7 @@ fn left_entry<A: Arch>(
         }
         Treatment::Indirect(symbol) => {
             let number = type_of(layout.machine, DynamicRelocationKind::Irelative);
-            let resolver = or_zero(raw_address(resolved, Some(symbol)));
+            let resolver = or_zero(decided_address(layout, symbol));
             Some(entry_for(place, number, 0, resolver))
         }
         Treatment::Extent(_, symbol) => {
@@ -73,59 +72,59 @@ fn left_entry<A: Arch>(
 
 /// Adds the entry of a relocation, where its field is left to one.
 #[tactic(auto, unfolding(crate::specs::General::left_bytes))]
-fn add_left<A: Arch>(
-    resolved: &Resolved<A>,
+fn add_left(
+    layout: &Layout,
     section: &InputSection,
     relocation: &InputRelocation,
     bytes: &mut PartBytes,
 ) -> Result<(), AllocError>
-    ensures { OnOk result (bytes.new ≡ bytes.old ++ left_bytes resolved.now.layout.now section.now relocation.now) }
+    ensures { OnOk result (bytes.new ≡ bytes.old ++ left_bytes layout.now section.now relocation.now) }
 {
-    match left_entry(resolved, section, relocation) {
+    match left_entry(layout, section, relocation) {
         Some(entry) => add_entry(entry, bytes),
         None => Ok(()),
     }
 }
 
 /// Adds the entries of the relocations of a section.
-fn add_all_left<A: Arch>(
-    resolved: &Resolved<A>,
+fn add_all_left(
+    layout: &Layout,
     section: &InputSection,
     bytes: &mut PartBytes,
 ) -> Result<(), AllocError>
-    ensures { OnOk result (bytes.new ≡ bytes.old ++ flat_map (left_bytes resolved.now.layout.now section.now) section.now.relocations) }
+    ensures { OnOk result (bytes.new ≡ bytes.old ++ flat_map (left_bytes layout.now section.now) section.now.relocations) }
 {
     for relocation in section.relocations.as_slice() {
-        add_left(resolved, section, relocation, bytes)?;
+        add_left(layout, section, relocation, bytes)?;
     }
     Ok(())
 }
 
 /// Adds the entries of a section.
 #[tactic(auto, using(crate::proofs::GeneralLemmas::section_left, crate::proofs::GeneralLemmas::none_left))]
-fn add_section_left<A: Arch>(
-    resolved: &Resolved<A>,
+fn add_section_left(
+    layout: &Layout,
     section: &InputSection,
     bytes: &mut PartBytes,
 ) -> Result<(), AllocError>
-    ensures { OnOk result (bytes.new ≡ bytes.old ++ section_general_bytes resolved.now.layout.now section.now) }
+    ensures { OnOk result (bytes.new ≡ bytes.old ++ section_general_bytes layout.now section.now) }
 {
     if section.is_read() {
-        add_all_left(resolved, section, bytes)?;
+        add_all_left(layout, section, bytes)?;
     }
     Ok(())
 }
 
 /// Adds the entries of the sections of a file.
-fn add_sections_left<A: Arch>(
-    resolved: &Resolved<A>,
+fn add_sections_left(
+    layout: &Layout,
     file: &File,
     bytes: &mut PartBytes,
 ) -> Result<(), AllocError>
-    ensures { OnOk result (bytes.new ≡ bytes.old ++ flat_map (section_general_bytes resolved.now.layout.now) file.now.sections) }
+    ensures { OnOk result (bytes.new ≡ bytes.old ++ flat_map (section_general_bytes layout.now) file.now.sections) }
 {
     for section in file.sections.as_slice() {
-        add_section_left(resolved, section, bytes)?;
+        add_section_left(layout, section, bytes)?;
     }
     Ok(())
 }
@@ -168,5 +167,5 @@ pub(crate) fn add_generals<A: Arch>(
     ensures { OnOk result (bytes.new ≡ bytes.old ++ rela_bytes (file_generals resolved.now.layout.now file.now)) }
 {
     add_copies(resolved, file, bytes)?;
-    add_sections_left(resolved, file, bytes)
+    add_sections_left(resolved.layout, file, bytes)
 }

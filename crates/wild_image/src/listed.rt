@@ -67,6 +67,7 @@ fn check_symbol<A: Arch>(
 }
 
 /// Refuses listed symbols of which one lacks something: answers the first fault in their order.
+#[tactic(auto, using(crate::proofs::FaultLemmas::first_faults))]
 fn check_symbols<A: Arch>(
     resolved: &Resolved<A>,
     place: InputPlace,

@@ -4,4 +4,4 @@ use Rattle.wild_image.specs.General.{left_bytes}
 use Rattle.wild_image.proofs.left.add_all_left.Given as goal
 
 abbrev pub invariant-loop-relocation : goal.invariant-loop-relocation
-invariant-loop-relocation g l = l.bytes ≡ l.initial.bytes ++ flat_map (left_bytes l.resolved.layout.now l.section) (take l.relocation-index l.section.relocations)
+invariant-loop-relocation l = l.bytes ≡ l.initial.bytes ++ flat_map (left_bytes l.layout l.section) (take l.relocation-index l.section.relocations)
