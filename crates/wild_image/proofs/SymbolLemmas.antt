@@ -1,7 +1,7 @@
 -- Laws of the entries of a group in the dynamic symbol table.
-use Rattle.std.proofs.Common.{◌≡◌, ℕ, zero, suc, ◌+◌, ◌<◌, ◌≤◌, true, false, if◌then◌else◌, List, [], ◌∷◌, ◌++◌, length, drop, get_or, map, refl, sym, ap, ◌∙◌, arith}
+use Rattle.std.proofs.Common.{◌≡◌, ℕ, ◌+◌, ◌<◌, ◌≤◌, true, false, if◌then◌else◌, List, [], ◌∷◌, ◌++◌, length, drop, get_or, map, refl, sym, ap, ◌∙◌}
 use Rattle.std.specs.List.{filter}
-use Rattle.std.proofs.lemmas.List.{append-nil, append_assoc}
+use Rattle.std.proofs.lemmas.List.{append-nil, append_assoc, drop_more, drop_all}
 use Rattle.std.proofs.lemmas.List.Concat.{flat_map-append}
 use Rattle.wild_words.specs.Record.{spell}
 use Rattle.wild_records.specs.SymtabEntry.{symtab_entry_fields}
@@ -36,15 +36,7 @@ unfolding entries_at
 symbols_end now whole at ns none all = sym (append-nil now) ∙ ap (λ (ms : List NamedFields). now ++ symbol_bytes (entries_at at ms)) (sym none) ∙ all
 
 drop_at : {X : Type 0} (xs : List X) (i : ℕ) (x : X) → i < length xs → x ≡ get_or xs i x → drop i xs ≡ x ∷ drop (i + 1) xs
-drop_at [] i x h e = absurd (omega arith)
-drop_at (y ∷ ys) zero x h e = let z : x ≡ y = e in rw z refl
-drop_at (y ∷ ys) (suc i) x h e = drop_at ys i x (omega arith) e
-
-drop_past : {X : Type 0} (xs : List X) (i : ℕ) → length xs ≤ i → drop i xs ≡ []
-drop_past [] zero h = refl
-drop_past [] (suc i) h = refl
-drop_past (x ∷ xs) zero h = absurd (omega arith)
-drop_past (x ∷ xs) (suc i) h = drop_past xs i (omega arith)
+drop_at {X} xs i x h read = drop_more xs i x h ∙ ap (λ (y : X). y ∷ drop (i + 1) xs) (sym read)
 
 -- ---- listed symbols
 
@@ -55,9 +47,7 @@ listed_next l ds i d now next whole at behind fields h read said before step is 
     symbol_next now next whole at behind (listed l d) (map (listed l) (drop (i + 1) ds)) (ap (λ (ns : List NamedFields). now ++ symbol_bytes (entries_at at ns)) (sym cut) ∙ before) (step ∙ ap (λ (f : SymbolFields). now ++ symbol_bytes (entry_at at f ∷ [])) said) is
 
 pub listed_end : (l : Layout) (ds : List DynamicSymbol) (i at : ℕ) (now whole : List ℕ) → length ds ≤ i → now ++ symbol_bytes (entries_at at (map (listed l) (drop i ds))) ≡ whole → now ≡ whole
-listed_end l ds i at now whole h all = symbols_end now whole at (map (listed l) (drop i ds)) (ap (λ (xs : List DynamicSymbol). map (listed l) xs) (drop_past ds i h)) all
-
-pub ruleset listed_listed = (listed_next, listed_end)
+listed_end l ds i at now whole h all = symbols_end now whole at (map (listed l) (drop i ds)) (ap (λ (xs : List DynamicSymbol). map (listed l) xs) (drop_all i ds h)) all
 
 -- ---- symbols that other modules define
 
@@ -75,16 +65,16 @@ undefined_next role ss i s now next whole at behind fields h read kept said befo
     let cut : undefined_of role (drop i ss) ≡ undefined role s ∷ undefined_of role (drop (i + 1) ss) = undefined_cut role ss i s h read ∙ rw kept refl in
     symbol_next now next whole at behind (undefined role s) (undefined_of role (drop (i + 1) ss)) (ap (λ (ns : List NamedFields). now ++ symbol_bytes (entries_at at ns)) (sym cut) ∙ before) (step ∙ ap (λ (f : SymbolFields). now ++ symbol_bytes (entry_at at f ∷ [])) said) is
 
-pub undefined_skipped : (role : FileRole) (ss : List Symbol) (i : ℕ) (s : Symbol) (now whole : List ℕ) (at : ℕ) → i < length ss → s ≡ get_or ss i s → is_undefined_entry role s ≡ false
-    → now ++ symbol_bytes (entries_at at (undefined_of role (drop i ss))) ≡ whole → now ++ symbol_bytes (entries_at at (undefined_of role (drop (i + 1) ss))) ≡ whole
-undefined_skipped role ss i s now whole at h read left before =
+pub undefined_skipped : (role : FileRole) (ss : List Symbol) (i : ℕ) (s : Symbol) (now next whole : List ℕ) (at behind : ℕ) → i < length ss → s ≡ get_or ss i s → is_undefined_entry role s ≡ false
+    → now ++ symbol_bytes (entries_at at (undefined_of role (drop i ss))) ≡ whole → next ≡ now → behind ≡ at → next ++ symbol_bytes (entries_at behind (undefined_of role (drop (i + 1) ss))) ≡ whole
+undefined_skipped role ss i s now next whole at behind h read left before same is =
     let cut : undefined_of role (drop i ss) ≡ undefined_of role (drop (i + 1) ss) = undefined_cut role ss i s h read ∙ rw left refl in
-    ap (λ (ns : List NamedFields). now ++ symbol_bytes (entries_at at ns)) (sym cut) ∙ before
+    ap (λ (k : ℕ). next ++ symbol_bytes (entries_at k (undefined_of role (drop (i + 1) ss)))) is
+    ∙ ap (λ (bs : List ℕ). bs ++ symbol_bytes (entries_at at (undefined_of role (drop (i + 1) ss)))) same
+    ∙ ap (λ (ns : List NamedFields). now ++ symbol_bytes (entries_at at ns)) (sym cut) ∙ before
 
 pub undefined_end : (role : FileRole) (ss : List Symbol) (i at : ℕ) (now whole : List ℕ) → length ss ≤ i → now ++ symbol_bytes (entries_at at (undefined_of role (drop i ss))) ≡ whole → now ≡ whole
-undefined_end role ss i at now whole h all = symbols_end now whole at (undefined_of role (drop i ss)) (ap (undefined_of role) (drop_past ss i h)) all
-
-pub ruleset undefined_listed = (undefined_next, undefined_skipped, undefined_end)
+undefined_end role ss i at now whole h all = symbols_end now whole at (undefined_of role (drop i ss)) (ap (undefined_of role) (drop_all i ss h)) all
 
 -- ---- files
 

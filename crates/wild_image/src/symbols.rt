@@ -51,7 +51,6 @@ fn add_symbol(
 }
 
 /// Adds the entries of the symbols that other modules define, of some of a file of that role.
-#[tactic(auto, using(crate::proofs::SymbolLemmas::undefined_listed))]
 fn add_undefined(
     role: FileRole,
     symbols: &[Symbol],
@@ -71,7 +70,6 @@ fn add_undefined(
 }
 
 /// Adds the entries of the symbols that other modules see.
-#[tactic(auto, using(crate::proofs::SymbolLemmas::listed_listed))]
 fn add_listed<A: Arch>(
     resolved: &Resolved<A>,
     symbols: &[DynamicSymbol],
