@@ -27,7 +27,7 @@ pub(super) const TEXTS: [Broken; 16] = [
     },
     Broken {
         plan: SMALLEST,
-        changes: &[(r#""static""#, r#""shared""#)],
+        changes: &[(r#""static""#, r#""partial""#)],
         answer: "not a plan: /kind",
     },
     Broken {
