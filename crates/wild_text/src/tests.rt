@@ -47,7 +47,7 @@ const REFUSED: [(&str, &str); 46] = [
     ),
     (r#"{"machine":"aarch64"}"#, "not a plan: /machine\n"),
     (
-        r#"{"kind":"shared","machine":"x86_64"}"#,
+        r#"{"kind":"partial","machine":"x86_64"}"#,
         "not a plan: /kind\n",
     ),
     (
@@ -143,7 +143,7 @@ const REFUSED: [(&str, &str); 46] = [
         "not a plan: /symbols/0/place/output\n",
     ),
     (
-        r#"{"options":{"strip_all":true},"symbols":[{"flags":["GOT","EXPORT_DYNAMIC"]}]}"#,
+        r#"{"options":{"strip_all":true},"symbols":[{"flags":["GOT","EXPORTED"]}]}"#,
         "not a plan: /symbols/0/flags/1\n",
     ),
     (
@@ -151,11 +151,11 @@ const REFUSED: [(&str, &str); 46] = [
         "not a plan: /symbols/0/resolution/plt\n",
     ),
     (
-        r#"{"options":{"strip_all":true},"symbols":[{"resolution":{"dynsym":null,"got":8,"plt":null}}]}"#,
+        r#"{"options":{"strip_all":true},"symbols":[{"resolution":{"dynsym":"1","got":8,"plt":null}}]}"#,
         "not a plan: /symbols/0/resolution/dynsym\n",
     ),
     (
-        r#"{"options":{"strip_all":true},"groups":[{"files":[{"role":"dynamic"}]}]}"#,
+        r#"{"options":{"strip_all":true},"groups":[{"files":[{"role":"library"}]}]}"#,
         "not a plan: /groups/0/files/0/role\n",
     ),
     (
