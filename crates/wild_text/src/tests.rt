@@ -71,7 +71,7 @@ const REFUSED: [(&str, &str); 46] = [
         "not a plan: /parts/2/size\n",
     ),
     (
-        r#"{"options":{"strip_all":true},"parts":[{"role":"rela_dyn_general"}]}"#,
+        r#"{"options":{"strip_all":true},"parts":[{"role":"rela_dyn_other"}]}"#,
         "not a plan: /parts/0/role\n",
     ),
     (
