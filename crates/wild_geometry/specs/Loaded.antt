@@ -3,10 +3,11 @@
 --   InNoSite l s k        no relocation writes byte k of the section
 --   Stage                 before the entries of the image are applied, or behind that
 --   number_at stage w     the number at the place of an address that moves
+--   HasDecision ..        relocation i has that decision
 --   MakesChange w ..      what an entry makes a loader do
 --   ReadsLeft stage w ..  the bytes of a field that is left to an entry
 --   HasSection ..         memory has the section's values, its addresses, what is left to entries, and its other bytes
-use Rattle.std.specs.Prelude.{◌≡◌, ℕ, ◌+◌, ◌%◌, ◌^◌, ◌<◌, ◌≤◌, ◌⊎◌, Bool, if◌then◌else◌, List, [], length, replicate, Some, Ok, All, Contains, slice_index}
+use Rattle.std.specs.Prelude.{◌≡◌, ℕ, ◌+◌, ◌%◌, ◌^◌, ◌<◌, ◌≤◌, ◌⊎◌, Bool, if◌then◌else◌, List, [], length, replicate, Some, Ok, All, slice_index, slice_get}
 use Rattle.std.specs.Int.{w64, cast_signed}
 use Rattle.wild_words.specs.Words.{word}
 use Rattle.wild_words.specs.Overlay.{Piece, AreApart}
@@ -17,9 +18,10 @@ use Rattle.wild_plan.specs.declared.input.InputSection.{InputSection}
 use Rattle.wild_plan.specs.declared.layout.Layout.{Layout}
 use Rattle.wild_reloc.specs.declared.info.RelocationSize.{RelocationSize}
 use Rattle.wild_layout.specs.declared.decision.Decision.{Decision}
-use Rattle.wild_layout.specs.declared.decision.Decision.TheVariants.{Field, Moved, Left}
-use Rattle.wild_layout.specs.Decide.{decide, decided}
-use Rattle.wild_layout.specs.Sites.{field_site, sites}
+use Rattle.wild_layout.specs.declared.decision.Decision.TheVariants.{Field, Moved, Left, Rewritten}
+use Rattle.wild_relax.specs.declared.row.Row.{Row}
+use Rattle.wild_layout.specs.Decide.{decide}
+use Rattle.wild_layout.specs.Sites.{field_site, template_site, sites}
 use Rattle.wild_loader.specs.declared.memory.Memory.{Memory}
 use Rattle.wild_loader.specs.declared.world.World.{World}
 use Rattle.wild_loader.specs.declared.memory.Machine.TheVariants as processors
@@ -71,12 +73,19 @@ abbrev pub ReadsLeft : Stage → World → RelocationSize → (number symbol add
 ReadsLeft InFile w z number symbol addend bs = bs ≡ replicate (size_width z) 0
 ReadsLeft InMemory w z number symbol addend bs = (c : Change) × MakesChange w number symbol addend c × (bs ≡ stored_bytes c) × (length bs ≡ size_width z)
 
+-- relocation i of the section has that decision
+pub record HasDecision (l : Layout) (s : InputSection) (i : ℕ) (r : InputRelocation) (d : Decision) : Type 0 where
+  pub listed : slice_get s.relocations i ≡ Some r
+  pub decided : decide l s i ≡ Ok d
+
 -- memory has an input section as it was decided, at its address and the base: each value in its field, each address that
--- moves as eight bytes, each field that is left to an entry, and every byte that no relocation writes as the input has it
+-- moves as eight bytes, each field that is left to an entry, each instruction that is rewritten as its row writes it, and every
+-- byte that no relocation writes as the input has it
 pub record HasSection (l : Layout) (w : World) (m : Memory) (s : InputSection) (stage : Stage) : Type 0 where
   pub ends : 1 ≤ length s.bytes → w.base + s.address + s.size ≤ 2 ^ 64
-  pub values : (r : InputRelocation) (z : RelocationSize) (v : ℕ) → Contains s.relocations r → decided l s r ≡ Ok (Field z v) → Holds m (w.base + s.address + r.offset) (field_site s r.offset z v).bytes
-  pub addresses : (r : InputRelocation) (v : ℕ) (packed : Bool) → Contains s.relocations r → decided l s r ≡ Ok (Moved v packed) → Holds m (w.base + s.address + r.offset) (word 8 (number_at stage w v packed))
-  pub left : (r : InputRelocation) (z : RelocationSize) (number symbol addend : ℕ) → Contains s.relocations r → decided l s r ≡ Ok (Left z number symbol addend)
+  pub values : (i : ℕ) (r : InputRelocation) (z : RelocationSize) (v : ℕ) → HasDecision l s i r (Field z v) → Holds m (w.base + s.address + r.offset) (field_site s r.offset z v).bytes
+  pub addresses : (i : ℕ) (r : InputRelocation) (v : ℕ) (packed : Bool) → HasDecision l s i r (Moved v packed) → Holds m (w.base + s.address + r.offset) (word 8 (number_at stage w v packed))
+  pub left : (i : ℕ) (r : InputRelocation) (z : RelocationSize) (number symbol addend : ℕ) → HasDecision l s i r (Left z number symbol addend)
       → (bs : List ℕ) × Holds m (w.base + s.address + r.offset) bs × ReadsLeft stage w z number symbol addend bs
+  pub rewritten : (i : ℕ) (r : InputRelocation) (row : Row) (v : ℕ) → HasDecision l s i r (Rewritten row v) → Holds m (w.base + s.address + (template_site s r row v).at) (template_site s r row v).bytes
   pub others : (k : ℕ) → k < length s.bytes → InNoSite l s k → byte_in m (w.base + s.address + k) ≡ Some (slice_index s.bytes k)

@@ -4,8 +4,10 @@
 --   left_to ..             the field is left to an entry with an index in the dynamic symbol table
 --   chosen_to ..           or to one with a resolver
 --   decide_by l s r t      what is decided of a relocation with that treatment
+--   decided l s r          what is decided of a relocation that keeps its instruction
+--   rewritten_to l s r row what is decided of one whose instruction is rewritten by a row
 --   decide l s i           what is decided of relocation i of section s
-use Rattle.std.specs.Prelude.{ℕ, ◌==◌, Option, Some, None, Result, Ok, Err, if◌then◌else◌, slice_get}
+use Rattle.std.specs.Prelude.{ℕ, ◌+◌, ◌-◌, ◌%◌, ◌^◌, ◌==◌, Bool, true, false, Option, Some, None, Result, Ok, Err, if◌then◌else◌, slice_get}
 use Rattle.std.specs.Int.{w64, cast_unsigned}
 use Rattle.wild_plan.specs.declared.fault.Fault.{Fault}
 use Rattle.wild_plan.specs.declared.fault.Fault.TheVariants as faults
@@ -20,12 +22,20 @@ use Rattle.wild_plan.specs.Treatment.{treatment}
 use Rattle.wild_reloc.specs.Field.{allows}
 use Rattle.wild_reloc.specs.declared.info.RelocationKindInfo.{RelocationKindInfo}
 use Rattle.wild_layout.specs.declared.decision.Decision.{Decision}
-use Rattle.wild_layout.specs.declared.decision.Decision.TheVariants.{Nothing, Field, Moved, Left}
+use Rattle.wild_layout.specs.declared.decision.Decision.TheVariants.{Nothing, Field, Moved, Left, Rewritten, Partner}
 use Rattle.wild_reloc.specs.declared.info.RelocationSize.{RelocationSize}
 use Rattle.wild_reloc.specs.declared.info.RelocationSize.TheVariants.{ByteSize}
 use Rattle.wild_reloc.specs.declared.info.Width.TheVariants.{Eight}
 use Rattle.wild_reloc.specs.declared.dynamic.DynamicRelocationKind.TheVariants.{Absolute, Irelative}
 use Rattle.wild_plan.specs.SlotParts.{type_of}
+use Rattle.wild_plan.specs.Rows.{row_of}
+use Rattle.wild_reloc.specs.declared.info.RelocationKind.{RelocationKind}
+use Rattle.wild_reloc.specs.declared.info.RelocationKind.TheVariants as kinds
+use Rattle.wild_relax.specs.declared.reference.UnknownSequence.{UnknownSequence}
+use Rattle.wild_relax.specs.declared.row.Row.{Row}
+use Rattle.wild_relax.specs.RewriteX86_64.{rewrite_of}
+use Rattle.wild_relax.specs.Linked.{keeps_bytes}
+use Rattle.wild_layout.specs.Choice.{choice_of, is_partner}
 use Rattle.wild_layout.specs.Values.{place_of, sum, address_of, index_of, decided_address, term_of, value_by}
 
 -- a value in the row's field, where it is in range
@@ -68,14 +78,61 @@ decide_by l s r (treatments.Extent row i) = left_to row.size r.number r i (index
 decide_by l s r treatments.Recompile = Err (faults.RecompileWithPic r.number)
 decide_by l s r treatments.Unsupported = Err (faults.UnsupportedRelocation r.number)
 
--- the same, by the relocation
+-- the same, by the relocation, where it keeps its instruction
 unfoldable pub decided : Layout → InputSection → InputRelocation → Result Decision Fault
 decided l s r = decide_by l s r (treatment l s r)
 
-abbrev pub decide_at : Layout → InputSection → Option InputRelocation → Result Decision Fault
-decide_at l s None = Ok Nothing
-decide_at l s (Some r) = decided l s r
+-- ---- instructions that are rewritten
 
--- what is decided of relocation i of a section
+-- where the field of a rewritten instruction begins in its section
+abbrev pub field_at : Row → InputRelocation → ℕ
+field_at row r = r.offset - (rewrite_of row).back + (rewrite_of row).field
+
+-- the value of the kind that is written, for what A is added to, at the field's new place and with its new addend; a row that
+-- keeps the bytes around the field has that alone
+abbrev pub value_to : Layout → InputSection → InputRelocation → Row → RelocationKindInfo → Result ℕ Fault → Result Decision Fault
+value_to l s r row info (Err f) = Err f
+value_to l s r row info (Ok a) =
+    let v = value_by l info.kind a ((rewrite_of row).addend r.addend) ((s.address + field_at row r) % 2 ^ 64) in
+    if allows info v then Ok (if keeps_bytes row then Field info.size v else Rewritten row v) else Err (faults.OutOfRange v)
+
+-- what the written kind needs of the symbol; a kind without a value needs nothing
+abbrev pub term_to : Layout → InputRelocation → RelocationKindInfo → Result ℕ Fault
+term_to l r info = if has_no_value info.kind then Ok 0 else term_of l r.symbol info.kind
+  where
+    has_no_value : RelocationKind → Bool
+    has_no_value kinds.None = true
+    has_no_value other = false
+
+abbrev pub rewritten_by : Layout → InputSection → InputRelocation → Row → Option RelocationKindInfo → Result Decision Fault
+rewritten_by l s r row None = Err (faults.UnsupportedRelocation r.number)
+rewritten_by l s r row (Some info) = value_to l s r row info (term_to l r info)
+
+-- by the row of the relocation type that is written
+abbrev pub rewritten_to : Layout → InputSection → InputRelocation → Row → Result Decision Fault
+rewritten_to l s r row = rewritten_by l s r row (row_of l.machine (rewrite_of row).number)
+
+-- a row stands without its sequence: what the written kind needs is asked first
+abbrev pub refused_with : Layout → InputRelocation → UnknownSequence → Option RelocationKindInfo → Result Decision Fault
+refused_with l r e None = Err (faults.UnknownSequence e.number)
+refused_with l r e (Some info) = refused_by (term_to l r info)
+  where
+    refused_by : Result ℕ Fault → Result Decision Fault
+    refused_by (Err f) = Err f
+    refused_by (Ok a) = Err (faults.UnknownSequence e.number)
+
+-- what is decided of a relocation, by the row that stands
+abbrev pub decide_with : Layout → InputSection → InputRelocation → Result (Option Row) UnknownSequence → Result Decision Fault
+decide_with l s r (Ok None) = decided l s r
+decide_with l s r (Ok (Some row)) = rewritten_to l s r row
+decide_with l s r (Err e) = refused_with l r e (row_of l.machine e.written)
+
+-- ---- relocations of a section
+
+abbrev pub decide_at : Layout → InputSection → Option InputRelocation → Option InputRelocation → Result Decision Fault
+decide_at l s None next = Ok Nothing
+decide_at l s (Some r) next = decide_with l s r (choice_of l s r next)
+
+-- what is decided of relocation i of a section: the call of a sequence that is rewritten is written with it
 unfoldable pub decide : Layout → InputSection → ℕ → Result Decision Fault
-decide l s i = decide_at l s (slice_get s.relocations i)
+decide l s i = if is_partner l s i then Ok Partner else decide_at l s (slice_get s.relocations i) (slice_get s.relocations (i + 1))

@@ -1,4 +1,5 @@
 //! What is decided of a relocation.
+use wild_relax::Row;
 use wild_reloc::RelocationSize;
 
 /// What a relocation writes into the bytes of its section, and what it leaves to a loader.
@@ -26,4 +27,8 @@ pub enum Decision {
         /// Modulo 2^64.
         addend: u64,
     },
+    /// All bytes of the input's instruction, as the row writes them, with a value in the field; 0 where the row has none.
+    Rewritten { row: Row, value: u64 },
+    /// Nothing: the relocation is that of the call of a sequence, which is written with the relocation before.
+    Partner,
 }

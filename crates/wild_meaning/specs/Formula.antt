@@ -14,7 +14,7 @@ use Rattle.std.specs.Prelude.{◌≡◌, ℕ, ◌+◌, ◌-◌, ◌%◌, ◌^◌
 use Rattle.std.specs.Int.{w64, cast_unsigned}
 use Rattle.wild_records.specs.Abi.Relocation.{r_x86_64_size32}
 use Rattle.wild_records.specs.Abi.Section.{shf_execinstr}
-use Rattle.wild_reloc.specs.Formula.{Value, SymbolAddress, Distance, PageDistance, FromTable, StubDistance, StubFromTable, TableDistance, SlotDistance, SlotFromTable, AddressSlot, Descriptor, ModuleOffset, PointerOffset, Size}
+use Rattle.wild_reloc.specs.Formula.{Value, NoValue, SymbolAddress, Distance, PageDistance, FromTable, StubDistance, StubFromTable, TableDistance, SlotDistance, SlotFromTable, AddressSlot, Descriptor, ModuleOffset, PointerOffset, Size}
 use Rattle.wild_plan.specs.declared.kind.OutputKind.{OutputKind}
 use Rattle.wild_plan.specs.declared.kind.OutputKind.TheVariants as output
 use Rattle.wild_plan.specs.declared.input.InputRelocation.{InputRelocation}
@@ -86,9 +86,11 @@ abbrev pub HasOffsetMode : Layout → Item → Type 0
 HasOffsetMode l item = KnowsOffsets l.kind l × IsSet item.flags shf_execinstr
 
 -- x is the value of the expression (x86-64 psABI, "Relocation Types"; aaelf64, "Relocation operations"; thread-local ones:
--- "ELF Handling For Thread-Local Storage", "TLS Access Models"). An expression without a line gives no value: a layout with such a
--- reference has no image yet
+-- "ELF Handling For Thread-Local Storage", "TLS Access Models"). The call through a descriptor has no value, and where descriptors'
+-- references are offsets it may not stand. An expression without a line gives no value: a layout with such a reference has no
+-- image yet
 abbrev pub Gives : Value → Layout → World → Memory → Item → InputRelocation → ℕ → Type 0
+Gives NoValue l w m item r x = HasOffsetMode l item → ⊥
 Gives SymbolAddress l w m item r x = IsSum l w m r x
 Gives Distance l w m item r x = (t : ℕ) × IsSum l w m r t × (x ≡ (t + (2 ^ 64 - place_at w item r.offset)) % 2 ^ 64)
 Gives FromTable l w m item r x = (t : ℕ) × IsSum l w m r t × (x ≡ (t + (2 ^ 64 - table_at l w)) % 2 ^ 64)

@@ -148,21 +148,41 @@ of_slot cells = thread_address cells (λ a bs. Word (sum_64 (a + 16) (signed_at 
 abbrev pub of_pointer : List Cell → Template
 of_pointer cells = thread_address cells (λ a bs. Number 0)
 
+-- ---- sequences that call `__tls_get_addr` with the address of a pair in rdi, and leave a thread address in rax
+
+-- by a call, and by one through a slot, with prefixes that make both 16 bytes
+abbrev pub general_call : Template
+general_call = of_pair 4 (Is 0x66 ∷ (lea_rdi ++ (exact (0x66 ∷ 0x66 ∷ 0x48 ∷ 0xe8 ∷ []) ++ field)))
+
+abbrev pub general_slot_call : Template
+general_slot_call = of_pair 4 (Is 0x66 ∷ (lea_rdi ++ (exact (0x66 ∷ 0x48 ∷ 0xff ∷ 0x15 ∷ []) ++ field)))
+
+-- by a call to a distance of 64 bits
+abbrev pub far_pair_call : Template
+far_pair_call = of_pair 3 (lea_rdi ++ far_call)
+
+-- the same without prefixes
+abbrev pub local_call : Template
+local_call = of_pair 3 (lea_rdi ++ (exact (0xe8 ∷ []) ++ field))
+
+abbrev pub local_slot_call : Template
+local_slot_call = of_pair 3 (lea_rdi ++ (exact (0xff ∷ 0x15 ∷ []) ++ field))
+
 -- ---- the table
 
 abbrev pub whole_sequences : List Template
 whole_sequences =
-    of_pair 3 (lea_rdi ++ far_call)
+    far_pair_call
     ∷ of_number (mov_pointer ++ (lea_number ++ nops 6))
     ∷ of_pointer (mov_pointer ++ nops 13)
-    ∷ of_pair 4 (Is 0x66 ∷ (lea_rdi ++ (exact (0x66 ∷ 0x66 ∷ 0x48 ∷ 0xe8 ∷ []) ++ field)))
-    ∷ of_pair 4 (Is 0x66 ∷ (lea_rdi ++ (exact (0x66 ∷ 0x48 ∷ 0xff ∷ 0x15 ∷ []) ++ field)))
+    ∷ general_call
+    ∷ general_slot_call
     ∷ of_number (mov_pointer ++ lea_number)
     ∷ of_slot (mov_pointer ++ add_slot)
     ∷ stub
-    ∷ of_pair 3 (lea_rdi ++ (exact (0xff ∷ 0x15 ∷ []) ++ field))
+    ∷ local_slot_call
     ∷ of_pointer (mov_pointer ++ nops 4)
-    ∷ of_pair 3 (lea_rdi ++ (exact (0xe8 ∷ []) ++ field))
+    ∷ local_call
     ∷ of_pointer (exact (0x66 ∷ 0x66 ∷ 0x66 ∷ []) ++ mov_pointer)
     ∷ []
 
@@ -178,11 +198,14 @@ branches =
 abbrev pub does_nothing : List Cell → Template
 does_nothing cells = record { cells = cells; action = λ a bs. record { deed = Nothing; width = 64; operand = Number 0 } }
 
--- `call [rax]`, with a descriptor's address in rax ("ELF Handling For Thread-Local Storage", "TLS Descriptors"), and what does
--- nothing
+-- `call [rax]`, with a descriptor's address in rax ("ELF Handling For Thread-Local Storage", "TLS Descriptors")
+abbrev pub descriptor_call : Template
+descriptor_call = record { cells = exact (0xff ∷ 0x10 ∷ []); action = λ a bs. record { deed = CallDescriptor 0; width = 64; operand = Number 0 } }
+
+-- that, and what does nothing
 abbrev pub short : List Template
 short =
-    record { cells = exact (0xff ∷ 0x10 ∷ []); action = λ a bs. record { deed = CallDescriptor 0; width = 64; operand = Number 0 } }
+    descriptor_call
     ∷ does_nothing (exact (0x66 ∷ nop_byte ∷ []))
     ∷ does_nothing (exact (nop_byte ∷ []))
     ∷ []

@@ -1,102 +1,181 @@
 -- The instruction of the input that a reference belongs to, and what it demands.
---   Operand              a template of the loader's table with its field, which relocations fill
---   IsTemplate ..        the operand's template stands in the input's bytes, with the relocation at its field
---   Does m a e           the code in memory at an address does that
---   DoesDemanded ..      the loaded code does what that template does with its operand read as the value
-use Rattle.std.specs.Prelude.{◌≡◌, ℕ, ◌+◌, ◌%◌, ◌^◌, ◌<◌, ◌≤◌, ◌⊎◌, Bool, true, false, if◌then◌else◌, List, [], ◌∷◌, length, slice_range, Some, Contains}
+--   IsInstruction ..     an instruction stands in the input's bytes, with a relocation at its field
+--   IsSequence ..        it is a sequence with a call, whose relocation is the next one
+--   IsTemplate ..        it is the one that a reference belongs to; `first` is the relocation of its field
+--   reads w m            what operands read as in memory
+--   Demands ..           v is what the operand of the instruction is to read as
+--   IsDemanded ..        e is the effect that the input's bytes are to have
+--   DoesDemanded ..      the loaded code has that effect
+use Rattle.std.specs.Prelude.{◌≡◌, ℕ, ◌+◌, ◌%◌, ◌^◌, ◌≤◌, ◌⊎◌, ⊤, true, false, List, [], ◌∷◌, length, slice_get, slice_range, Option, Some, None, Result, Ok, Err, option_and_then, option_map, Contains}
 use Rattle.std.specs.Int.{w64, cast_unsigned}
-use Rattle.wild_records.specs.Abi.Relocation.{r_x86_64_pc32, r_x86_64_plt32, r_x86_64_gotpcrel, r_x86_64_gotpcrelx}
+use Rattle.wild_records.specs.Abi.Relocation.{r_x86_64_tlsgd}
 use Rattle.wild_records.specs.Abi.Section.{shf_execinstr}
 use Rattle.wild_plan.specs.declared.kind.Machine.{Machine}
 use Rattle.wild_plan.specs.declared.kind.Machine.TheVariants as machine
 use Rattle.wild_plan.specs.declared.input.InputRelocation.{InputRelocation}
+use Rattle.wild_plan.specs.declared.symbol.Symbol.{Symbol}
 use Rattle.wild_plan.specs.declared.layout.Layout.{Layout}
-use Rattle.wild_loader.specs.declared.effect.Effect.{Effect}
-use Rattle.wild_loader.specs.declared.effect.EffectKind.{EffectKind}
-use Rattle.wild_loader.specs.declared.effect.EffectKind.TheVariants as kinds
+use Rattle.wild_plan.specs.Flags.{ifunc, non_interposable}
+use Rattle.wild_reloc.specs.Formula.{Descriptor}
+use Rattle.wild_loader.specs.declared.fault.LoadFault.{LoadFault}
 use Rattle.wild_loader.specs.declared.memory.Memory.{Memory}
 use Rattle.wild_loader.specs.declared.world.World.{World}
-use Rattle.wild_loader.specs.Effect.{Template, stands, call_near, jump_near, call_indirect, jump_indirect, step}
+use Rattle.wild_loader.specs.Changes.{distance_of}
+use Rattle.wild_loader.specs.Memory.{number_in, Holds}
+use Rattle.wild_meaning.specs.Instruction.{Operand, Number, Word, Pair, Nothing, Reader, Effect, stands, as_value}
+use Rattle.wild_meaning.specs.InstructionX86_64.{effect_x86_64}
+use Rattle.wild_meaning.specs.Sequence.{Sort, Target, TargetInSlot, AddressInSlot, OffsetInSlot, SymbolPair, OwnPair, Described, DescribedCall, Partner, Instruction, size_of, IsOwnByte, instructions_of}
+use Rattle.wild_meaning.specs.World.{IsExecutable}
 use Rattle.wild_meaning.specs.Section.{IsSet}
+use Rattle.wild_meaning.specs.Value.{IsSymbol, HasFlag}
+use Rattle.wild_meaning.specs.Thread.{IsOffsetBase}
+use Rattle.wild_meaning.specs.Slot.{IsSlot}
 use Rattle.wild_meaning.specs.Item.{Item, place_at}
 use Rattle.wild_meaning.specs.Field.{InNoField}
-use Rattle.wild_meaning.specs.Formula.{IsGoal}
+use Rattle.wild_meaning.specs.Formula.{IsTarget, IsGoal, IsOffset, HasOffsetMode}
 
--- a template, where its field begins and how many bytes that has, how far behind the field's beginning is what it counts
--- from, whether the field names a slot in whose word the address stands, the relocation types that fill it, and what the
--- template does where its operand reads as a value
-pub record Operand : Type 0 where
-  pub template : Template
-  pub field : ℕ
-  pub width : ℕ
-  pub counts : ℕ
-  pub through : Bool
-  pub numbers : List ℕ
-  pub does : ℕ → EffectKind
+-- ---- in the input's bytes
 
--- a displacement of four bytes behind so many bytes of opcode, which counts from the instruction's end
-abbrev pub behind : ℕ → Template → (ℕ → EffectKind) → Operand
-behind n t does = record { template = t; field = n; width = 4; counts = 4; through = false; numbers = r_x86_64_pc32 ∷ r_x86_64_plt32 ∷ []; does = does }
+-- a field through a slot counts from its end: the addend takes back its four bytes. A branch may go past its symbol, and the call
+-- through a descriptor adds nothing
+abbrev pub CountsFromItsEnd : Sort → InputRelocation → Type 0
+CountsFromItsEnd Target r = ⊤
+CountsFromItsEnd DescribedCall r = ⊤
+CountsFromItsEnd other r = (cast_unsigned w64 r.addend + 4) % 2 ^ 64 ≡ 0
 
--- the same to the slot of an address; R_X86_64_GOTPCRELX is for instructions without a prefix, as these are (x86-64 psABI,
--- "Relocation Types")
-abbrev pub through_slot : ℕ → Template → (ℕ → EffectKind) → Operand
-through_slot n t does = record { template = t; field = n; width = 4; counts = 4; through = true; numbers = r_x86_64_gotpcrel ∷ r_x86_64_gotpcrelx ∷ []; does = does }
-
--- `call` and `jmp` (Intel SDM, "CALL": e8, ff /2; "JMP": e9, ff /4)
-abbrev pub call_operand : Operand
-call_operand = behind 1 call_near kinds.Call
-
-abbrev pub jump_operand : Operand
-jump_operand = behind 1 jump_near kinds.Jump
-
-abbrev pub slot_call_operand : Operand
-slot_call_operand = through_slot 2 call_indirect kinds.Call
-
-abbrev pub slot_jump_operand : Operand
-slot_jump_operand = through_slot 2 jump_indirect kinds.Jump
-
--- the templates of a machine that a relocation may fill; no two have their bytes before one field
-abbrev pub operands_of : Machine → List Operand
-operands_of machine.X86_64 = call_operand ∷ jump_operand ∷ slot_call_operand ∷ slot_jump_operand ∷ []
-operands_of machine.AArch64 = []
-
-abbrev pub size_of : Operand → ℕ
-size_of o = length o.template.cells
-
--- byte k of the template is not of its field
-abbrev pub IsOwnByte : Operand → ℕ → Type 0
-IsOwnByte o k = (k < size_of o) × ((k < o.field) ⊎ (o.field + o.width ≤ k))
-
--- an instruction through a slot takes the slot's own word: the addend takes back the bytes from the field to what it
--- counts from
-abbrev pub TakesWord : Operand → InputRelocation → Type 0
-TakesWord o r = o.through ≡ true → (cast_unsigned w64 r.addend + o.counts) % 2 ^ 64 ≡ 0
-
--- the template stands in the item's bytes at start, in code, with the relocation at its field; no relocation fills
--- its other bytes, which would make another instruction of it
-pub record IsTemplate (l : Layout) (item : Item) (r : InputRelocation) (start : ℕ) (o : Operand) : Type 0 where
+-- the instruction stands in the item's bytes at start, in code, with the relocation at its field; no relocation fills its own
+-- bytes, which would make another instruction of it
+pub record IsInstruction (l : Layout) (item : Item) (r : InputRelocation) (start : ℕ) (o : Instruction) : Type 0 where
   pub code : IsSet item.flags shf_execinstr
-  pub known : Contains (operands_of l.machine) o
+  pub known : Contains (instructions_of l.machine) o
   pub number : Contains o.numbers r.number
   pub field : r.offset ≡ start + o.field
   pub inside : start + size_of o ≤ length item.bytes
   pub stands : stands o.template.cells (slice_range item.bytes start (start + size_of o)) ≡ true
-  pub word : TakesWord o r
+  pub counts : CountsFromItsEnd o.sort r
   pub alone : (k : ℕ) → IsOwnByte o k → InNoField l item (start + k)
 
--- the code in memory at an address does that: one known instruction fills its bytes
-abbrev pub Does : Memory → ℕ → Effect → Type 0
-Does m a e = step m a ≡ Some e
+-- `__tls_get_addr` ("ELF Handling For Thread-Local Storage", "Run-Time Handling of TLS")
+abbrev pub tls_get_addr : List ℕ
+tls_get_addr = 95 ∷ 95 ∷ 116 ∷ 108 ∷ 115 ∷ 95 ∷ 103 ∷ 101 ∷ 116 ∷ 95 ∷ 97 ∷ 100 ∷ 100 ∷ 114 ∷ []
 
--- where a template goes whose operand reads as a: past it by the addend and what the field counts from, which is nothing where
--- the addend takes back the bytes from the field to the instruction's end; through a slot, to a itself
-abbrev pub target_of : Operand → InputRelocation → ℕ → ℕ
-target_of o r a = if o.through then a else (a + cast_unsigned w64 r.addend + o.counts) % 2 ^ 64
+-- the relocation names the function that gives thread addresses
+pub record NamesGetter (l : Layout) (r : InputRelocation) : Type 0 where
+  pub index : ℕ
+  pub named : r.symbol ≡ Some index
+  pub symbol : Symbol
+  pub listed : IsSymbol l index symbol
+  pub getter : symbol.name ≡ tls_get_addr
 
--- the code in memory does what the template does where its operand, or the slot that it names, reads as what S is: it calls, or
--- goes to, what comes to S
-pub record DoesDemanded (l : Layout) (w : World) (m : Memory) (item : Item) (r : InputRelocation) (start : ℕ) (o : Operand) : Type 0 where
+-- the relocation behind the first is that of the call
+pub record HasPartner (l : Layout) (item : Item) (first second : InputRelocation) (start : ℕ) (p : Partner) : Type 0 where
+  pub index : ℕ
+  pub listed : slice_get item.relocations index ≡ Some first
+  pub next : slice_get item.relocations (index + 1) ≡ Some second
+  pub field : second.offset ≡ start + p.field
+  pub number : Contains p.numbers second.number
+  pub getter : NamesGetter l second
+
+-- a sequence of an executable that asks for a thread address, whose symbol no resolver answers for; of a symbol that others may
+-- define it is one where instructions are rewritten. Else the two are instructions of their own
+pub record IsSequence (l : Layout) (item : Item) (first second : InputRelocation) (start : ℕ) (o : Instruction) : Type 0 where
+  pub executable : IsExecutable l.kind
+  pub stands : IsInstruction l item first start o
+  pub partner : Partner
+  pub calls : o.partner ≡ Some partner
+  pub has : HasPartner l item first second start partner
+  pub symbol : ℕ
+  pub named : first.symbol ≡ Some symbol
+  pub plain : HasFlag l symbol ifunc false
+  pub rewritten : first.number ≡ r_x86_64_tlsgd → HasFlag l symbol non_interposable false → l.options.relax ≡ true
+
+-- an instruction of one field, which is no sequence's call; of several that stand there the longest
+pub record IsSingle (l : Layout) (item : Item) (r : InputRelocation) (start : ℕ) (o : Instruction) : Type 0 where
+  pub single : o.partner ≡ None
+  pub stands : IsInstruction l item r start o
+  pub longest : (from : ℕ) (p : Instruction) → p.partner ≡ None → IsInstruction l item r from p → size_of p ≤ size_of o
+  pub free : (first : InputRelocation) (from : ℕ) (p : Instruction) → IsSequence l item first r from p → ⊥
+
+-- the relocation is one of the two of a sequence
+pub record IsDouble (l : Layout) (item : Item) (r : InputRelocation) (start : ℕ) (o : Instruction) (first : InputRelocation) : Type 0 where
+  pub second : InputRelocation
+  pub sequence : IsSequence l item first second start o
+  pub one : (r ≡ first) ⊎ (r ≡ second)
+
+-- the instruction that a reference belongs to, with the relocation of its first field
+abbrev pub IsTemplate : Layout → Item → InputRelocation → ℕ → Instruction → InputRelocation → Type 0
+IsTemplate l item r start o first = (IsSingle l item r start o × (first ≡ r)) ⊎ IsDouble l item r start o first
+
+-- ---- in memory
+
+abbrev pub or_none : Result ℕ LoadFault → Option ℕ
+or_none (Ok d) = Some d
+or_none (Err f) = None
+
+abbrev pub sum_of : Option ℕ → Option ℕ → Option ℕ
+sum_of None b = None
+sum_of (Some a) b = option_map (λ n. (a + n) % 2 ^ 64) b
+
+-- the offset from the thread pointer of the pair at an address: the distance of its module, and the offset there
+abbrev pub pair_in : World → Memory → ℕ → Option ℕ
+pair_in w m a = sum_of (option_and_then (λ owner. or_none (distance_of w owner)) (number_in m a 8)) (number_in m (a + 8) 8)
+
+-- what operands read as
+abbrev pub reads : World → Memory → Reader
+reads w m (Number n) = Some n
+reads w m (Word a) = number_in m a 8
+reads w m (Pair a) = pair_in w m a
+
+-- the effect of bytes at an address, by the instructions of the machine
+abbrev pub effect_of : Machine → Reader → ℕ → List ℕ → Option Effect
+effect_of machine.X86_64 read a bs = effect_x86_64 read a bs
+effect_of machine.AArch64 read a bs = None
+
+-- ---- what is demanded
+
+-- where code goes that goes to L + A, past the four bytes of the field
+pub record IsBranchTarget (l : Layout) (w : World) (m : Memory) (r : InputRelocation) (v : ℕ) : Type 0 where
   pub goal : ℕ
   pub reached : IsGoal l w m r.symbol goal
-  pub effect : Does m (place_at w item start) (record { length = size_of o; width = o.template.width; kind = o.does (target_of o r goal) })
+  pub is : v ≡ (goal + cast_unsigned w64 r.addend + 4) % 2 ^ 64
+
+-- the value of a descriptor's reference: the offset itself, or the address of a descriptor
+abbrev pub IsDescribed : Layout → World → Memory → Item → InputRelocation → ℕ → Type 0
+IsDescribed l w m item r v = (HasOffsetMode l item × IsOffset l w r.symbol v) ⊎ ((HasOffsetMode l item → ⊥) × IsSlot Descriptor l w m r.symbol v)
+
+-- v is what an operand of that sort is to read as: what comes to S; what stands for S; its offset from the thread pointer; what
+-- offsets in the output's own thread-local data count from; or what a descriptor's reference is
+abbrev pub Demands : Sort → Layout → World → Memory → Item → InputRelocation → ℕ → Type 0
+Demands Target l w m item r v = IsBranchTarget l w m r v
+Demands TargetInSlot l w m item r v = IsGoal l w m r.symbol v
+Demands AddressInSlot l w m item r v = IsTarget l w m r.symbol v
+Demands OffsetInSlot l w m item r v = IsOffset l w r.symbol v
+Demands SymbolPair l w m item r v = IsOffset l w r.symbol v
+Demands OwnPair l w m item r v = IsOffsetBase l.machine l.kind w v
+Demands Described l w m item r v = IsDescribed l w m item r v
+Demands DescribedCall l w m item r v = v ≡ 0
+
+-- nothing is done
+abbrev pub no_effect : Effect
+no_effect = record { deed = Nothing; width = 64; value = 0 }
+
+-- the effect of the input's bytes where their operand reads as v; where descriptors' references are offsets, the call through one
+-- has nothing to do
+abbrev pub IsDemanded : Sort → Layout → Item → ℕ → ℕ → List ℕ → Effect → Type 0
+IsDemanded DescribedCall l item v a old e = (HasOffsetMode l item × (e ≡ no_effect)) ⊎ ((HasOffsetMode l item → ⊥) × (effect_of l.machine (as_value v) a old ≡ Some e))
+IsDemanded sort l item v a old e = effect_of l.machine (as_value v) a old ≡ Some e
+
+-- the input's bytes of the instruction
+abbrev pub old_bytes : Item → ℕ → Instruction → List ℕ
+old_bytes item start o = slice_range item.bytes start (start + size_of o)
+
+-- the loaded code does what the input's instruction does where its operand reads as is demanded
+pub record DoesDemanded (l : Layout) (w : World) (m : Memory) (item : Item) (first : InputRelocation) (start : ℕ) (o : Instruction) : Type 0 where
+  pub value : ℕ
+  pub demands : Demands o.sort l w m item first value
+  pub effect : Effect
+  pub demanded : IsDemanded o.sort l item value (place_at w item start) (old_bytes item start o) effect
+  pub bytes : List ℕ
+  pub whole : length bytes ≡ size_of o
+  pub held : Holds m (place_at w item start) bytes
+  pub does : effect_of l.machine (reads w m) (place_at w item start) bytes ≡ Some effect

@@ -97,7 +97,7 @@ abbrev pub size_treatment : Layout → InputSection → RelocationKindInfo → �
 size_treatment l s row i = if is_sized l s i then Extent row i else Value row
 
 -- the kinds that are known: no value; S + A; S + A - P; GOT + A - P; S + A - GOT; offsets in thread storage; sizes; L + A - P and
--- L + A - GOT; G + A - P and G + A - GOT, of slots but descriptors
+-- L + A - GOT; G + A - P and G + A - GOT, of slots; and the call through a descriptor, which has no value
 abbrev pub kind_treatment : Layout → InputSection → Option ℕ → RelocationKindInfo → RelocationKind → Treatment
 kind_treatment l s symbol row kinds.None = Nothing
 kind_treatment l s symbol row kinds.Absolute = named symbol (address_treatment l s row)
@@ -114,6 +114,8 @@ kind_treatment l s symbol row kinds.GotRelGotBase = named symbol (λ i. Value ro
 kind_treatment l s symbol row kinds.TlsGd = named symbol (λ i. Value row)
 kind_treatment l s symbol row kinds.TlsLd = named symbol (λ i. Value row)
 kind_treatment l s symbol row kinds.GotTpOff = named symbol (λ i. Value row)
+kind_treatment l s symbol row kinds.TlsDesc = named symbol (λ i. Value row)
+kind_treatment l s symbol row kinds.TlsDescCall = named symbol (λ i. Nothing)
 kind_treatment l s symbol row other = Unsupported
 
 unfoldable pub row_treatment : Layout → InputSection → Option ℕ → Option RelocationKindInfo → Treatment

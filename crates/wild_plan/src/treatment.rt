@@ -231,7 +231,7 @@ pub fn row_treatment(
         return Treatment::Unsupported;
     };
     match (row.kind, symbol) {
-        (RelocationKind::None, _) => Treatment::Nothing,
+        (RelocationKind::None, _) | (RelocationKind::TlsDescCall, Some(_)) => Treatment::Nothing,
         (RelocationKind::Absolute, Some(symbol)) => address_treatment(layout, section, row, symbol),
         (RelocationKind::Relative, symbol) => distance_treatment(layout, section, row, symbol),
         (RelocationKind::TpOff, Some(_)) => pointer_treatment(layout, section, row),
@@ -245,7 +245,8 @@ pub fn row_treatment(
         | (RelocationKind::GotRelGotBase, Some(_))
         | (RelocationKind::TlsGd, Some(_))
         | (RelocationKind::TlsLd, Some(_))
-        | (RelocationKind::GotTpOff, Some(_)) => Treatment::Value(row),
+        | (RelocationKind::GotTpOff, Some(_))
+        | (RelocationKind::TlsDesc, Some(_)) => Treatment::Value(row),
         _ => Treatment::Unsupported,
     }
 }

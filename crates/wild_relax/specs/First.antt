@@ -1,9 +1,13 @@
 -- The first row of a machine's table that stands.
---   first_row number stands has rows   of these rows the first that stands; without what it needs it is refused, with the
---                                      relocation type of the input
-use Rattle.std.specs.Prelude.{ℕ, Bool, List, [], ◌∷◌, Option, Some, None, Result, Ok, Err, if◌then◌else◌}
+--   first_standing stands rows   of these rows the first that stands
+--   checked has by row           that row; without what it needs it is refused
+use Rattle.std.specs.Prelude.{Bool, List, [], ◌∷◌, Option, Some, None, Result, Ok, Err, if◌then◌else◌}
 use Rattle.wild_relax.specs.declared.reference.UnknownSequence.{UnknownSequence}
 
-abbrev pub first_row : {R : Type 0} → ℕ → (R → Bool) → (R → Bool) → List R → Result (Option R) UnknownSequence
-first_row number stands has [] = Ok None
-first_row number stands has (r ∷ rs) = if stands r then (if has r then Ok (Some r) else Err (record { number = number })) else first_row number stands has rs
+abbrev pub first_standing : {R : Type 0} → (R → Bool) → List R → Option R
+first_standing stands [] = None
+first_standing stands (r ∷ rs) = if stands r then Some r else first_standing stands rs
+
+abbrev pub checked : {R : Type 0} → (R → Bool) → (R → UnknownSequence) → Option R → Result (Option R) UnknownSequence
+checked has by None = Ok None
+checked has by (Some r) = if has r then Ok (Some r) else Err (by r)

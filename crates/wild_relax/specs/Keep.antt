@@ -1,54 +1,24 @@
 -- The law of the rewrites of x86-64: what is written in place of an instruction does what the instruction demands of its operand.
---   pattern_of row           all bytes of the input that belong to the row
---   linked row info v old    what stands in their place, with the field that holds a value
 --   Lands row read p v value the value that the field holds at p is the one by which the operand reads as v
 --   RowsKeep                 the law
 use Rattle.std.specs.Prelude.{◌≡◌, ℕ, ◌+◌, ◌-◌, ◌%◌, ◌^◌, ◌<◌, true, List, [], length, Option, Some}
-use Rattle.wild_words.specs.Words.{place}
-use Rattle.wild_reloc.specs.Field.{allows, written}
+use Rattle.wild_reloc.specs.Field.{allows}
 use Rattle.wild_reloc.specs.TableX86_64.{x86_64_row}
 use Rattle.wild_reloc.specs.declared.info.RelocationKindInfo.{RelocationKindInfo}
 use Rattle.wild_meaning.specs.Instruction.{Reader, Number, Word, Nothing, Effect, sum_64}
 use Rattle.wild_meaning.specs.InstructionX86_64.{effect_x86_64, demand_x86_64}
-use Rattle.wild_relax.specs.declared.pattern.GeneralForm.TheVariants as general
 use Rattle.wild_relax.specs.declared.pattern.Cell.{Cell}
-use Rattle.wild_relax.specs.declared.pattern.Pattern.{Pattern}
-use Rattle.wild_relax.specs.declared.pattern.Pattern.TheVariants as pattern
 use Rattle.wild_relax.specs.declared.row.DescriptorUse.TheVariants.{LocalExec, InitialExec}
 use Rattle.wild_relax.specs.declared.row.Row.{Row}
 use Rattle.wild_relax.specs.declared.row.Row.TheVariants.{IfuncThroughStub, RexGotToImmediate, RexGotMovToLea, GotMovToImmediate, GotMovToLea, IndirectCallToDirect, IndirectJumpToDirect, PlainGotMovToLea, InitialExecToLocalExec, Plt32ToPc32, PltOffToGotOff, GeneralDynamicToLocalExec, GeneralDynamicToInitialExec, LocalDynamicToLocalExec, DescriptorLea, DescriptorCall}
-use Rattle.wild_relax.specs.Pattern.{cells_of, field_of, stands}
-use Rattle.wild_relax.specs.Rows.{always_pattern}
-use Rattle.wild_relax.specs.Rewrite.{rewritten}
+use Rattle.wild_relax.specs.Pattern.{cells_of, stands}
 use Rattle.wild_relax.specs.RewriteX86_64.{rewrite_of}
-
--- the bytes that it needs, or those without which it does not stand
-abbrev pub pattern_of : Row → Pattern
-pattern_of (LocalDynamicToLocalExec f) = pattern.Local f
-pattern_of (DescriptorLea p u) = pattern.Lea p
-pattern_of DescriptorCall = pattern.DescriptorCall
-pattern_of other = always_pattern other
+use Rattle.wild_relax.specs.Linked.{pattern_of, IsChanging, field_in, linked}
 
 -- the bytes are that pattern
 pub record IsWhole (cells : List Cell) (bs : List ℕ) : Type 0 where
   pub long : length bs ≡ length cells
   pub same : stands cells bs ≡ true
-
--- the row changes bytes around its field, and the table has it
-abbrev pub IsChanging : Row → Type 0
-IsChanging IfuncThroughStub = ⊥
-IsChanging Plt32ToPc32 = ⊥
-IsChanging PltOffToGotOff = ⊥
-IsChanging (GeneralDynamicToInitialExec general.Large) = ⊥
-IsChanging other = Unit {0}
-
--- where the field stands then, behind the pattern's start
-abbrev pub field_in : Row → ℕ
-field_in row = field_of (pattern_of row) - (rewrite_of row).back + (rewrite_of row).field
-
--- the pattern's bytes after the rewrite and the writing of the field
-abbrev pub linked : Row → RelocationKindInfo → ℕ → List ℕ → List ℕ
-linked row info value old = place (field_in row) (written info value []) (rewritten (rewrite_of row) (field_of (pattern_of row)) old)
 
 -- numbers are what they are
 abbrev pub ReadsNumbers : Reader → Type 0

@@ -3,9 +3,10 @@ pub mod Thread
 pub mod Question
 pub mod Pattern
 pub mod First
-pub mod Rows
 pub mod Rewrite
 pub mod RewriteX86_64
+pub mod Rows
+pub mod Linked
 pub mod Relaxation
 pub mod Keep
 pub mod Section

@@ -13,7 +13,7 @@ use Rattle.wild_relax.specs.declared.reference.RelocationInfo.{RelocationInfo}
 use Rattle.wild_relax.specs.declared.reference.Reference.{Reference}
 
 -- the section's relocations and the one asked about, the section's bytes, flags (`sh_flags`) and address, what is known of
--- the symbol and its value, the kind of output, and whether rewriting is on
+-- the symbol and its value, where it has one, the kind of output, and whether rewriting is on
 pub record Question : Type 0 where
   pub relocations : List RelocationInfo
   pub at : ℕ
@@ -22,7 +22,7 @@ pub record Question : Type 0 where
   pub kind : OutputKind
   pub section_flags : ℕ
   pub relax : Bool
-  pub value : ℕ
+  pub value : Option ℕ
   pub address : ℕ
 
 abbrev pub question : Reference → Question

@@ -1,5 +1,9 @@
--- The rewrite of x86-64 that stands at a relocation.
+-- The rewrite that stands at a relocation.
+--   relaxation_x86_64 q   that of x86-64
+--   chosen_of m q         its row, by the machine
 use Rattle.std.specs.Prelude.{Option, Some, None, Result, Ok, Err}
+use Rattle.wild_plan.specs.declared.kind.Machine.{Machine}
+use Rattle.wild_plan.specs.declared.kind.Machine.TheVariants as machine
 use Rattle.wild_relax.specs.declared.reference.UnknownSequence.{UnknownSequence}
 use Rattle.wild_relax.specs.declared.row.Row.{Row}
 use Rattle.wild_relax.specs.declared.x86_64.ElfX86_64Relaxation.{ElfX86_64Relaxation}
@@ -15,3 +19,16 @@ with_duty q (Err e) = Err e
 -- the first row that stands, as a rewrite
 abbrev pub relaxation_x86_64 : Question → Result (Option ElfX86_64Relaxation) UnknownSequence
 relaxation_x86_64 q = with_duty q (chosen_x86_64 q)
+
+-- ---- by machine
+
+-- the rows that rewrites are of
+abbrev pub rows_of : {R : Type 0} → (R → Row) → Result (Option R) UnknownSequence → Result (Option Row) UnknownSequence
+rows_of row (Ok None) = Ok None
+rows_of row (Ok (Some r)) = Ok (Some (row r))
+rows_of row (Err e) = Err e
+
+-- the first row that stands at a relocation, or why it is refused; of AArch64 there is none so far
+abbrev pub chosen_of : Machine → Question → Result (Option Row) UnknownSequence
+chosen_of machine.X86_64 q = chosen_x86_64 q
+chosen_of machine.AArch64 q = Ok None

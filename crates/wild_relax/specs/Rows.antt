@@ -3,13 +3,15 @@
 --   rows_x86_64            the rows in order, with the alternatives of one side by side
 --   applies q row          the row stands
 --   has_its_sequence q row the bytes and the next relocation are what the row needs
---   chosen_x86_64 q        the first row that stands
+--   standing_x86_64 q      the first row that stands
+--   chosen_x86_64 q        that row, or why it is refused
 use Rattle.std.specs.Prelude.{ℕ, ℤ, ◌+◌, ◌==◌, Bool, true, false, not, ◌&&◌, ◌||◌, List, [], ◌∷◌, Option, Some, None, Result}
 use Rattle.wild_records.specs.Abi.Relocation as abi
 use Rattle.wild_plan.specs.Kinds.{is_executable, is_static_executable, is_position_independent, has_fixed_load_address}
 use Rattle.wild_plan.specs.Flags.{has_flag, has_link_time_address, absolute, ifunc}
 use Rattle.wild_plan.specs.Lookups.{executable}
 use Rattle.wild_reloc.specs.Range.{of_bits, contains}
+use Rattle.wild_reloc.specs.declared.range.Sign.{Sign}
 use Rattle.wild_reloc.specs.declared.range.Sign.TheVariants.{Unsigned, Signed}
 use Rattle.wild_relax.specs.declared.reference.RelocationInfo.{RelocationInfo}
 use Rattle.wild_relax.specs.declared.reference.UnknownSequence.{UnknownSequence}
@@ -25,7 +27,8 @@ use Rattle.wild_relax.specs.declared.row.Row.{Row}
 use Rattle.wild_relax.specs.declared.row.Row.TheVariants.{IfuncThroughStub, RexGotToImmediate, RexGotMovToLea, GotMovToImmediate, GotMovToLea, IndirectCallToDirect, IndirectJumpToDirect, PlainGotMovToLea, InitialExecToLocalExec, Plt32ToPc32, PltOffToGotOff, GeneralDynamicToLocalExec, GeneralDynamicToInitialExec, LocalDynamicToLocalExec, DescriptorLea, DescriptorCall}
 use Rattle.wild_relax.specs.Question.{Question, relocation_of, next_of, is_known, is_own, minus_four, zero}
 use Rattle.wild_relax.specs.Pattern.{stands_before}
-use Rattle.wild_relax.specs.First.{first_row}
+use Rattle.wild_relax.specs.RewriteX86_64.{rewrite_of}
+use Rattle.wild_relax.specs.First.{first_standing, checked}
 
 abbrev pub rows_x86_64 : List Row
 rows_x86_64 =
@@ -115,13 +118,18 @@ counts_from_its_end other = false
 
 -- ---- the symbol, the section and the output
 
+-- there is a value, and a field of 32 bits holds it
+abbrev pub is_held : Sign → Option ℕ → Bool
+is_held sign None = false
+is_held sign (Some v) = contains (of_bits 32 sign) v
+
 -- a signed field of 32 bits holds the value, known when the image is linked
 abbrev pub is_signed_number : Question → Bool
-is_signed_number q = is_known q && contains (of_bits 32 Signed) q.value
+is_signed_number q = is_known q && is_held Signed q.value
 
 -- an unsigned one does
 abbrev pub is_unsigned_number : Question → Bool
-is_unsigned_number q = is_known q && contains (of_bits 32 Unsigned) q.value
+is_unsigned_number q = is_known q && is_held Unsigned q.value
 
 -- thread-local storage has one place for each thread in an executable alone
 abbrev pub is_thread_local : Row → Bool
@@ -235,5 +243,13 @@ has_its_sequence q row = stands_before q.bytes (relocation_of q).offset (needed_
 -- ---- the choice
 
 -- the first row that stands
+unfoldable pub standing_x86_64 : Question → Option Row
+standing_x86_64 q = first_standing (applies q) rows_x86_64
+
+-- a row whose sequence is not there: the relocation type of the input, and the one that the row would have written
+abbrev pub unknown_sequence : Question → Row → UnknownSequence
+unknown_sequence q row = record { number = (relocation_of q).number; written = (rewrite_of row).number }
+
+-- the first row that stands; refused without its sequence
 unfoldable pub chosen_x86_64 : Question → Result (Option Row) UnknownSequence
-chosen_x86_64 q = first_row (relocation_of q).number (applies q) (has_its_sequence q) rows_x86_64
+chosen_x86_64 q = checked (has_its_sequence q) (unknown_sequence q) (standing_x86_64 q)

@@ -13,7 +13,8 @@ use Rattle.wild_relax.specs.Pattern.{cells_of, field_of}
 use Rattle.wild_relax.specs.Rows.{chosen_x86_64}
 use Rattle.wild_relax.specs.Rewrite.{rewritten}
 use Rattle.wild_relax.specs.RewriteX86_64.{rewrite_of}
-use Rattle.wild_relax.specs.Keep.{pattern_of, IsWhole, IsChanging, linked}
+use Rattle.wild_relax.specs.Linked.{pattern_of, IsChanging, linked}
+use Rattle.wild_relax.specs.Keep.{IsWhole}
 
 -- where the row's pattern begins
 abbrev pub start_of : Question → Row → ℕ

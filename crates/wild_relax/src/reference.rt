@@ -23,6 +23,8 @@ pub struct RelocationInfo {
 pub struct UnknownSequence {
     /// The relocation type of the input.
     pub number: u32,
+    /// The relocation type by which the row's field would have been written.
+    pub written: u32,
 }
 
 const NOTHING: RelocationInfo = RelocationInfo {

@@ -4,9 +4,11 @@
 --   AddressesGive, AddressesGiveLinked   an address that moves is S + A, once it is moved
 --   EntriesGive           so is what an entry stores in a field that is left to it
 --   ThreadPlacesAreKnown  a symbol's place in the thread's data, and its distance from the thread pointer
---   FieldsHold ..         memory has an item's fields as the formulas have them, and its other bytes
+--   KeepsInstruction d    the relocation keeps its instruction
+--   FieldHolds ..         a field in memory reads as its formula; FieldIsLinked with the output's own symbol
+--   FieldsHold ..         memory has a section's fields as the formulas have them, where they keep their instructions
 --   SectionsHold          so it has each kept section that is there as it was decided
-use Rattle.std.specs.Prelude.{◌≡◌, ℕ, ◌+◌, ◌-◌, ◌%◌, ◌^◌, ◌<◌, ◌⊎◌, FitsSigned, Bool, List, length, Some, Ok}
+use Rattle.std.specs.Prelude.{◌≡◌, ℕ, ◌+◌, ◌-◌, ◌%◌, ◌^◌, ◌<◌, ◌≢◌, ◌⊎◌, ⊤, FitsSigned, Bool, List, Some, Ok}
 use Rattle.std.specs.Int.{w64, cast_unsigned}
 use Rattle.wild_plan.specs.declared.kind.Machine.TheVariants as machine
 use Rattle.wild_plan.specs.declared.input.InputRelocation.{InputRelocation}
@@ -18,11 +20,12 @@ use Rattle.wild_reloc.specs.Formula.{Formula, Reads}
 use Rattle.wild_reloc.specs.declared.info.RelocationKind.{RelocationKind}
 use Rattle.wild_reloc.specs.declared.info.RelocationKind.TheVariants as kinds
 use Rattle.wild_reloc.specs.declared.info.RelocationSize.{RelocationSize}
-use Rattle.wild_layout.specs.declared.decision.Decision.TheVariants.{Moved, Left}
+use Rattle.wild_layout.specs.declared.decision.Decision.{Decision}
+use Rattle.wild_layout.specs.declared.decision.Decision.TheVariants.{Moved, Left, Rewritten, Partner}
 use Rattle.wild_layout.specs.Decide.{decided}
 use Rattle.wild_layout.specs.Numbers.{NumbersFit}
 use Rattle.wild_layout.specs.Geometry.{IsLaidOut, NamesSymbol}
-use Rattle.wild_geometry.specs.Loaded.{IsDecided, InMemory, number_at, ReadsLeft, HasSection}
+use Rattle.wild_geometry.specs.Loaded.{IsDecided, InMemory, number_at, ReadsLeft, HasDecision, HasSection}
 use Rattle.wild_geometry.specs.Slots.{HasSlots}
 use Rattle.wild_loader.specs.declared.memory.Machine.TheVariants as machines
 use Rattle.wild_loader.specs.declared.memory.Memory.{Memory}
@@ -30,10 +33,11 @@ use Rattle.wild_loader.specs.declared.world.World.{World}
 use Rattle.wild_meaning.specs.World.{IsFirstModule, IsLoadable, IsLegal}
 use Rattle.wild_meaning.specs.Value.{HasRaw}
 use Rattle.wild_meaning.specs.Thread.{thread_pointer, HasDistance, IsThreadPlace}
-use Rattle.wild_meaning.specs.Item.{Item, item_of, IsKeptSection, IsReference}
-use Rattle.wild_meaning.specs.Field.{formula_of, InNoField, IsInputByte}
+use Rattle.wild_records.specs.Abi.Relocation.{r_x86_64_none}
+use Rattle.wild_meaning.specs.Item.{Item, item_of, IsKeptSection}
+use Rattle.wild_meaning.specs.Field.{formula_of, FieldReads}
 use Rattle.wild_meaning.specs.Formula.{IsSum, Gives, IsOwnSum, GivesLinked, TakesOffset}
-use Rattle.wild_meaning.specs.Reference.{IsAsked, IsStubbed, IsLinkedAlone, HoldsPlain, HoldsLinked}
+use Rattle.wild_meaning.specs.Reference.{IsAsked, IsStubbed, IsLinkedAlone}
 use Rattle.wild_values.specs.Terms.{IsPlaced, HasTerm, IsFollowed}
 
 -- the value that the writer computes for a kind is what the expression of that kind gives, where that is followed (x86-64 psABI,
@@ -66,13 +70,55 @@ pub record ThreadPlacesAreKnown : Type 0 where
   pub there : (l : Layout) (w : World) (i raw : ℕ) → (f : IsFirstModule l w) → HasRaw l i raw → IsThreadPlace l w i ((cast_unsigned w64 f.distance + raw + (2 ^ 64 - l.tls.start)) % 2 ^ 64)
   pub less : (l : Layout) (w : World) (raw a : ℕ) → (f : IsFirstModule l w) → ((cast_unsigned w64 f.distance + raw + (2 ^ 64 - l.tls.start)) % 2 ^ 64 + a) % 2 ^ 64 ≡ (raw + a + (2 ^ 64 - thread_pointer l % 2 ^ 64)) % 2 ^ 64
 
--- what memory has of an item by its fields: each reference that is asked reads as its formula, within a template that is the
--- input's, those that take the output's own symbol at base 0 as that, and every byte in no field is the input's
-pub record FieldsHold (l : Layout) (w : World) (m : Memory) (item : Item) : Type 0 where
-  pub references : (r : InputRelocation) → IsReference item r → IsAsked l w item r → (IsLinkedAlone l item r → ⊥) → HoldsPlain l w m item r
-  pub linked : (r : InputRelocation) → IsReference item r → IsLinkedAlone l item r → w.base ≡ 0 → HoldsLinked l w m item r
-  pub others : (k : ℕ) → k < length item.bytes → InNoField l item k → IsInputByte w m item k
+-- the relocation keeps its instruction: it is not rewritten, and no sequence's before it takes it along
+abbrev pub KeepsInstruction : Decision → Type 0
+KeepsInstruction (Rewritten row v) = ⊥
+KeepsInstruction Partner = ⊥
+KeepsInstruction other = ⊤
 
--- so it is of a kept section of an x86-64 output, where memory has slots and stubs, and the section as it was decided
+-- the field reads as the formula of the relocation's type
+pub record FieldHolds (l : Layout) (w : World) (m : Memory) (item : Item) (r : InputRelocation) : Type 0 where
+  pub formula : Formula
+  pub known : formula_of l.machine r.number ≡ Some formula
+  pub value : ℕ
+  pub gives : Gives formula.value l w m item r value
+  pub field : FieldReads w m item r formula.form value
+
+-- or as the formula with the output's own symbol
+pub record FieldIsLinked (l : Layout) (w : World) (m : Memory) (item : Item) (r : InputRelocation) : Type 0 where
+  pub formula : Formula
+  pub known : formula_of l.machine r.number ≡ Some formula
+  pub value : ℕ
+  pub gives : GivesLinked formula.value l w item r value
+  pub field : FieldReads w m item r formula.form value
+
+-- relocation i of a section refers to something and keeps its instruction
+pub record IsKeptReference (l : Layout) (s : InputSection) (i : ℕ) (r : InputRelocation) : Type 0 where
+  pub decision : Decision
+  pub has : HasDecision l s i r decision
+  pub keeps : KeepsInstruction decision
+  pub refers : r.number ≢ r_x86_64_none
+
+-- what memory has of a section by its fields: each reference that keeps its instruction and is asked reads as its formula, those
+-- that take the output's own symbol at base 0 as that
+pub record FieldsHold (l : Layout) (w : World) (m : Memory) (s : InputSection) : Type 0 where
+  pub references : (i : ℕ) (r : InputRelocation) → IsKeptReference l s i r → IsAsked l w (item_of s) r → (IsLinkedAlone l (item_of s) r → ⊥) → FieldHolds l w m (item_of s) r
+  pub linked : (i : ℕ) (r : InputRelocation) → IsKeptReference l s i r → IsLinkedAlone l (item_of s) r → w.base ≡ 0 → FieldIsLinked l w m (item_of s) r
+
+-- a kept section of an x86-64 output in a legal world, and a memory that has slots and stubs, and the section as it was decided
+pub record IsLoadedSection (l : Layout) (w : World) (m : Memory) (s : InputSection) : Type 0 where
+  pub x86 : l.machine ≡ machine.X86_64
+  pub loadable : IsLoadable l.kind
+  pub flags : HaveTheirFlags l
+  pub numbers : NumbersFit l
+  pub legal : IsLegal l w
+  pub laid : IsLaidOut l
+  pub loaded : m.machine ≡ machines.X86_64
+  pub slots : HasSlots l w m
+  pub kept : IsKeptSection l s
+  pub decided : IsDecided l s
+  pub section : HasSection l w m s InMemory
+
+-- its fields hold
 abbrev pub SectionsHold : Type 0
-SectionsHold = (l : Layout) (w : World) (m : Memory) (s : InputSection) → l.machine ≡ machine.X86_64 → IsLoadable l.kind → HaveTheirFlags l → NumbersFit l → IsLegal l w → IsLaidOut l → m.machine ≡ machines.X86_64 → HasSlots l w m → IsKeptSection l s → IsDecided l s → HasSection l w m s InMemory → FieldsHold l w m (item_of s)
+SectionsHold = (l : Layout) (w : World) (m : Memory) (s : InputSection) → IsLoadedSection l w m s → FieldsHold l w m s

@@ -1,0 +1,50 @@
+//! What makes the references of a section hold beyond their fields: instructions, kept or rewritten, do what is demanded.
+#![tactic(auto)]
+
+ghost use Rattle.wild_effects.specs.Laws.{InstructionsAreKept, ItemsHold, KeptInstructionsDo, OthersAreKept, PartnersHold, RewrittenHold, WindowsAreAlone};
+
+use wild_relax::{rewrites_keep_the_effect, rewrites_stay_in_their_patterns};
+use wild_reloc::{fields_of_x86_64, widths_of_fields};
+
+/// No field of another relocation lies among the bytes of an instruction that is rewritten.
+pub fn windows_are_alone()
+    ensures { WindowsAreAlone }
+{
+    rewrites_stay_in_their_patterns();
+}
+
+/// An instruction that is rewritten does what the input's demands, and so does the call that it takes along.
+pub fn rewritten_instructions_hold()
+    ensures rewritten { RewrittenHold }
+    ensures partners { PartnersHold }
+{
+    windows_are_alone();
+    rewrites_keep_the_effect();
+    rewrites_stay_in_their_patterns();
+}
+
+/// An instruction that is not rewritten keeps its bytes, whatever is rewritten beside it, and so does every byte in no field and
+/// no instruction.
+pub fn other_bytes_are_kept()
+    ensures instructions { InstructionsAreKept }
+    ensures others { OthersAreKept }
+{
+    rewritten_instructions_hold();
+    rewrites_stay_in_their_patterns();
+}
+
+/// An instruction that is kept does what it demands, by its fields.
+pub fn kept_instructions_do()
+    ensures { KeptInstructionsDo }
+{
+    other_bytes_are_kept();
+}
+
+/// Each reference of a loaded section holds.
+pub fn items_hold()
+    ensures { ItemsHold }
+{
+    rewritten_instructions_hold();
+    other_bytes_are_kept();
+    kept_instructions_do();
+}

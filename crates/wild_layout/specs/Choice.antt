@@ -1,0 +1,86 @@
+-- The rewrite of an instruction that stands at a relocation.
+--   info_of l r            what the rows of rewrites ask of a relocation by itself
+--   question_of ..         what they ask of one that names symbol i, with the relocation behind it
+--   choice_of l s r next   the row that stands, or why it is refused
+--   choice l s i           the same of relocation i of section s
+--   is_partner l s i       relocation i is the call of the sequence before it, which is rewritten as a whole
+use Rattle.std.specs.Prelude.{ℕ, zero, suc, ◌+◌, ◌==◌, Bool, true, false, if◌then◌else◌, List, [], ◌∷◌, Option, Some, None, option_to_list, option_map, unwrap_or, Result, Ok, Err, slice_get}
+use Rattle.wild_records.specs.Abi.Relocation.{r_x86_64_pc32}
+use Rattle.wild_plan.specs.declared.input.InputRelocation.{InputRelocation}
+use Rattle.wild_plan.specs.declared.input.InputSection.{InputSection}
+use Rattle.wild_plan.specs.declared.symbol.Symbol.{Symbol}
+use Rattle.wild_plan.specs.declared.layout.Layout.{Layout}
+use Rattle.wild_plan.specs.Treatment.{flags_at}
+use Rattle.wild_relax.specs.declared.reference.RelocationInfo.{RelocationInfo}
+use Rattle.wild_relax.specs.declared.reference.UnknownSequence.{UnknownSequence}
+use Rattle.wild_relax.specs.declared.relaxation.RelocationModifier.{RelocationModifier}
+use Rattle.wild_relax.specs.declared.relaxation.RelocationModifier.TheVariants.{Normal, SkipNextRelocation}
+use Rattle.wild_relax.specs.declared.row.Row.{Row}
+use Rattle.wild_relax.specs.Question.{Question}
+use Rattle.wild_relax.specs.RewriteX86_64.{rewrite_of}
+use Rattle.wild_relax.specs.Relaxation.{chosen_of}
+use Rattle.wild_layout.specs.Values.{raw_value}
+
+-- `__tls_get_addr` ("ELF Handling For Thread-Local Storage", "Run-Time Handling of TLS")
+abbrev pub getter_name : List ℕ
+getter_name = 95 ∷ 95 ∷ 116 ∷ 108 ∷ 115 ∷ 95 ∷ 103 ∷ 101 ∷ 116 ∷ 95 ∷ 97 ∷ 100 ∷ 100 ∷ 114 ∷ []
+
+abbrev pub same_names : List ℕ → List ℕ → Bool
+same_names [] [] = true
+same_names (a ∷ as) (b ∷ bs) = if a == b then same_names as bs else false
+same_names other name = false
+
+abbrev pub is_getter : Layout → Option ℕ → Bool
+is_getter l None = false
+is_getter l (Some i) = unwrap_or (option_map (λ (s : Symbol). same_names s.name getter_name) (slice_get l.symbols i)) false
+
+-- what the rows ask of a relocation by itself
+abbrev pub info_of : Layout → InputRelocation → RelocationInfo
+info_of l r = record { number = r.number; offset = r.offset; symbol = r.symbol; addend = r.addend; names_tls_get_addr = is_getter l r.symbol }
+
+-- what they ask of one that names symbol i: the flags are those of its definition, and the value is the address that the layout has
+abbrev pub question_of : Layout → InputSection → InputRelocation → ℕ → Option InputRelocation → Question
+question_of l s r i next = record {
+  relocations = info_of l r ∷ option_to_list (option_map (info_of l) next);
+  at = 0;
+  bytes = s.bytes;
+  flags = flags_at l i;
+  kind = l.kind;
+  section_flags = s.flags;
+  relax = l.options.relax;
+  value = raw_value l i;
+  address = s.address;
+}
+
+-- the row that stands, or why it is refused. S of an IFUNC is its stub in any case, so the row that says so for R_X86_64_PC32 has
+-- nothing to do here
+unfoldable pub choice_by : Layout → InputSection → InputRelocation → Option InputRelocation → Option ℕ → Result (Option Row) UnknownSequence
+choice_by l s r next None = Ok None
+choice_by l s r next (Some i) = if r.number == r_x86_64_pc32 then Ok None else chosen_of l.machine (question_of l s r i next)
+
+abbrev pub choice_of : Layout → InputSection → InputRelocation → Option InputRelocation → Result (Option Row) UnknownSequence
+choice_of l s r next = choice_by l s r next r.symbol
+
+abbrev pub choice_at : Layout → InputSection → Option InputRelocation → Option InputRelocation → Result (Option Row) UnknownSequence
+choice_at l s None next = Ok None
+choice_at l s (Some r) next = choice_of l s r next
+
+-- that of relocation i
+abbrev pub choice : Layout → InputSection → ℕ → Result (Option Row) UnknownSequence
+choice l s i = choice_at l s (slice_get s.relocations i) (slice_get s.relocations (i + 1))
+
+-- ---- sequences
+
+abbrev pub is_skip : RelocationModifier → Bool
+is_skip Normal = false
+is_skip SkipNextRelocation = true
+
+-- the row writes a whole sequence
+abbrev pub takes_next : Result (Option Row) UnknownSequence → Bool
+takes_next (Ok (Some row)) = is_skip (rewrite_of row).next
+takes_next other = false
+
+-- the relocation before it takes it along
+abbrev pub is_partner : Layout → InputSection → ℕ → Bool
+is_partner l s zero = false
+is_partner l s (suc i) = takes_next (choice l s i)

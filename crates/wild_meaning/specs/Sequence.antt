@@ -1,0 +1,136 @@
+-- The instructions of x86-64 that relocations fill: which bytes are their fields, and what their operands stand for.
+--   Sort               what an operand stands for
+--   Partner            the field of the call in a sequence
+--   Instruction        an instruction, or a sequence of them, with its fields
+--   instructions_of m  those of a machine
+--   IsOwnByte o k      byte k of an instruction is in none of its fields
+use Rattle.std.specs.Prelude.{ℕ, ◌+◌, ◌<◌, ◌≤◌, ◌⊎◌, ⊤, List, [], ◌∷◌, ◌++◌, length, Option, Some, None}
+use Rattle.wild_records.specs.Abi.Relocation.{r_x86_64_pc32, r_x86_64_plt32, r_x86_64_gotpcrel, r_x86_64_gotpcrelx, r_x86_64_rex_gotpcrelx, r_x86_64_code_4_gotpcrelx, r_x86_64_gottpoff, r_x86_64_code_4_gottpoff, r_x86_64_gotpc32_tlsdesc, r_x86_64_code_4_gotpc32_tlsdesc, r_x86_64_tlsdesc_call, r_x86_64_tlsgd, r_x86_64_tlsld, r_x86_64_pltoff64}
+use Rattle.wild_plan.specs.declared.kind.Machine.{Machine}
+use Rattle.wild_plan.specs.declared.kind.Machine.TheVariants as machine
+use Rattle.wild_meaning.specs.Instruction.{Number, Word, Set, Add, Subtract, Compare, Call, Jump, Template}
+use Rattle.wild_meaning.specs.InstructionX86_64.{Prefix, bare, rex, rex2, with_slot, branch, descriptor_call, general_call, general_slot_call, far_pair_call, local_call, local_slot_call}
+
+-- code, which is called or gone to, itself or by its address in a slot; an address in a slot; an offset from the thread pointer in
+-- a slot; the pair of a symbol, and that of the output's own thread-local data; a descriptor; or nothing, at the call through one
+pub data Sort : Type 0 where
+  Target : Sort
+  TargetInSlot : Sort
+  AddressInSlot : Sort
+  OffsetInSlot : Sort
+  SymbolPair : Sort
+  OwnPair : Sort
+  Described : Sort
+  DescribedCall : Sort
+
+-- where the field of the call begins in a sequence, how many bytes it has, and the relocation types that fill it
+pub record Partner : Type 0 where
+  pub field : ℕ
+  pub width : ℕ
+  pub numbers : List ℕ
+
+-- an instruction, where its field begins and how many bytes that has, what its operand stands for, the relocation types that fill
+-- the field, and the call of a sequence
+pub record Instruction : Type 0 where
+  pub template : Template
+  pub field : ℕ
+  pub width : ℕ
+  pub sort : Sort
+  pub numbers : List ℕ
+  pub partner : Option Partner
+
+abbrev pub size_of : Instruction → ℕ
+size_of o = length o.template.cells
+
+abbrev pub IsBesidePartner : ℕ → Option Partner → Type 0
+IsBesidePartner k None = ⊤
+IsBesidePartner k (Some p) = (k < p.field) ⊎ (p.field + p.width ≤ k)
+
+-- byte k of the instruction is in none of its fields
+pub record IsOwnByte (o : Instruction) (k : ℕ) : Type 0 where
+  pub inside : k < size_of o
+  pub beside : (k < o.field) ⊎ (o.field + o.width ≤ k)
+  pub apart : IsBesidePartner k o.partner
+
+-- ---- x86-64
+
+-- one field of four bytes
+abbrev pub of_field : Template → ℕ → Sort → List ℕ → Instruction
+of_field t field sort numbers = record { template = t; field = field; width = 4; sort = sort; numbers = numbers; partner = None }
+
+-- the same with a call
+abbrev pub of_sequence : Template → ℕ → Sort → ℕ → Partner → Instruction
+of_sequence t field sort number partner = record { template = t; field = field; width = 4; sort = sort; numbers = number ∷ []; partner = Some partner }
+
+-- `call` and `jmp`, direct and through a slot; R_X86_64_GOTPCRELX is for instructions without a prefix, as these are (x86-64
+-- psABI, "Relocation Types")
+abbrev pub branches : List Instruction
+branches =
+    of_field (branch (0xe8 ∷ []) Number Call) 1 Target (r_x86_64_pc32 ∷ r_x86_64_plt32 ∷ [])
+    ∷ of_field (branch (0xe9 ∷ []) Number Jump) 1 Target (r_x86_64_pc32 ∷ r_x86_64_plt32 ∷ [])
+    ∷ of_field (branch (0xff ∷ 0x15 ∷ []) Word Call) 2 TargetInSlot (r_x86_64_gotpcrel ∷ r_x86_64_gotpcrelx ∷ [])
+    ∷ of_field (branch (0xff ∷ 0x25 ∷ []) Word Jump) 2 TargetInSlot (r_x86_64_gotpcrel ∷ r_x86_64_gotpcrelx ∷ [])
+    ∷ []
+
+-- a register and the address in a slot, with a field n bytes behind the start
+abbrev pub of_addresses : Prefix → ℕ → ℕ → List Instruction
+of_addresses p n number =
+    of_field (with_slot 0x8b Word Set p) n AddressInSlot (number ∷ [])
+    ∷ of_field (with_slot 0x03 Word Add p) n AddressInSlot (number ∷ [])
+    ∷ of_field (with_slot 0x2b Word Subtract p) n AddressInSlot (number ∷ [])
+    ∷ of_field (with_slot 0x3b Word Compare p) n AddressInSlot (number ∷ [])
+    ∷ []
+
+-- a register and the offset from the thread pointer in a slot ("ELF Handling For Thread-Local Storage", "Initial Exec")
+abbrev pub of_offsets : Prefix → ℕ → ℕ → List Instruction
+of_offsets p n number =
+    of_field (with_slot 0x8b Word Set p) n OffsetInSlot (number ∷ [])
+    ∷ of_field (with_slot 0x03 Word Add p) n OffsetInSlot (number ∷ [])
+    ∷ []
+
+-- R_X86_64_GOTPCREL does not tell the prefix
+abbrev pub of_loads : List Instruction
+of_loads =
+    of_field (with_slot 0x8b Word Set rex) 3 AddressInSlot (r_x86_64_gotpcrel ∷ [])
+    ∷ of_field (with_slot 0x8b Word Set rex2) 4 AddressInSlot (r_x86_64_gotpcrel ∷ [])
+    ∷ []
+
+-- `lea` of a descriptor, and the call through one, which has no field
+abbrev pub of_descriptors : List Instruction
+of_descriptors =
+    of_field (with_slot 0x8d Number Set rex) 3 Described (r_x86_64_gotpc32_tlsdesc ∷ [])
+    ∷ of_field (with_slot 0x8d Number Set rex2) 4 Described (r_x86_64_code_4_gotpc32_tlsdesc ∷ [])
+    ∷ record { template = descriptor_call; field = 0; width = 0; sort = DescribedCall; numbers = r_x86_64_tlsdesc_call ∷ []; partner = None }
+    ∷ []
+
+-- the calls of sequences (x86-64 psABI, "Thread-Local Storage")
+abbrev pub by_call : ℕ → Partner
+by_call n = record { field = n; width = 4; numbers = r_x86_64_pc32 ∷ r_x86_64_plt32 ∷ [] }
+
+abbrev pub by_slot : ℕ → Partner
+by_slot n = record { field = n; width = 4; numbers = r_x86_64_gotpcrel ∷ r_x86_64_gotpcrelx ∷ r_x86_64_rex_gotpcrelx ∷ [] }
+
+abbrev pub by_distance : ℕ → Partner
+by_distance n = record { field = n; width = 8; numbers = r_x86_64_pltoff64 ∷ [] }
+
+abbrev pub sequences : List Instruction
+sequences =
+    of_sequence general_call 4 SymbolPair r_x86_64_tlsgd (by_call 12)
+    ∷ of_sequence general_slot_call 4 SymbolPair r_x86_64_tlsgd (by_slot 12)
+    ∷ of_sequence far_pair_call 3 SymbolPair r_x86_64_tlsgd (by_distance 9)
+    ∷ of_sequence local_call 3 OwnPair r_x86_64_tlsld (by_call 8)
+    ∷ of_sequence local_slot_call 3 OwnPair r_x86_64_tlsld (by_slot 9)
+    ∷ of_sequence far_pair_call 3 OwnPair r_x86_64_tlsld (by_distance 9)
+    ∷ []
+
+-- the instructions of a machine that relocations may fill
+abbrev pub instructions_of : Machine → List Instruction
+instructions_of machine.X86_64 =
+    branches
+    ++ (of_addresses bare 2 r_x86_64_gotpcrelx
+    ++ (of_addresses rex 3 r_x86_64_rex_gotpcrelx
+    ++ (of_addresses rex2 4 r_x86_64_code_4_gotpcrelx
+    ++ (of_offsets rex 3 r_x86_64_gottpoff
+    ++ (of_offsets rex2 4 r_x86_64_code_4_gottpoff
+    ++ (of_loads ++ (of_descriptors ++ sequences)))))))
+instructions_of machine.AArch64 = []
