@@ -353,7 +353,8 @@ fn is_applied(row: Row, reference: &Reference) -> bool
         && (!is_thread_local(row) || reference.kind.is_executable())
         && takes_value(row, reference)
         && (!counts_from_its_end(row) || is_minus_four(relocation.addend))
-        && is_standing_before(reference.bytes, relocation.offset, always_pattern(row))
+        && (matches!(row, Row::DescriptorCall)
+            || is_standing_before(reference.bytes, relocation.offset, always_pattern(row)))
 }
 
 // How far behind the field of the row the field of the call is, where the call is of `__tls_get_addr`.
