@@ -1,5 +1,6 @@
 -- Instructions in memory, kept or rewritten: what makes each reference of a section hold, beyond its fields.
 --   WindowsAreAlone      no other relocation has a field among the bytes of an instruction that is rewritten
+--   RewrittenStand       an instruction that is rewritten is one that the reader knows, all of it
 --   RewrittenHold        the code that is written in place of an instruction does what that demands
 --   PartnersHold         so it is of the call of a sequence
 --   InstructionsAreKept  an instruction that is not rewritten has its own bytes
@@ -21,9 +22,9 @@ use Rattle.wild_geometry.specs.Loaded.{IsDecided, HasDecision}
 use Rattle.wild_values.specs.Laws.{KeepsInstruction, IsKeptReference, FieldsHold, IsLoadedSection}
 use Rattle.wild_loader.specs.declared.memory.Memory.{Memory}
 use Rattle.wild_loader.specs.declared.world.World.{World}
-use Rattle.wild_meaning.specs.Item.{item_of}
+use Rattle.wild_meaning.specs.Item.{Item, item_of}
 use Rattle.wild_meaning.specs.Field.{formula_of, form_width, IsInputByte}
-use Rattle.wild_meaning.specs.Sequence.{Instruction, IsOwnByte}
+use Rattle.wild_meaning.specs.Sequence.{Instruction, size_of, IsOwnByte}
 use Rattle.wild_meaning.specs.Template.{IsTemplate, DoesDemanded}
 use Rattle.wild_meaning.specs.Reference.{IsAsked, IsLinkedAlone, HoldsRewritten, IsOther, ItemHolds}
 
@@ -35,6 +36,17 @@ IsBesideField l r k = (f : Formula) → formula_of l.machine r.number ≡ Some f
 abbrev pub WindowsAreAlone : Type 0
 WindowsAreAlone = (l : Layout) (s : InputSection) → l.machine ≡ machine.X86_64 → IsDecided l s → (i j : ℕ) (r q : InputRelocation) (row : Row) (v : ℕ) (d : Decision) → HasDecision l s i r (Rewritten row v) → HasDecision l s j q d → (i ≡ j → ⊥) → (j ≡ i + 1 → d ≡ Partner → ⊥)
     → (k : ℕ) → template_start row r ≤ k → k < template_start row r + pattern_size row → IsBesideField l q k
+
+-- an instruction that the reader knows stands at start, with so many bytes, and the reference belongs to it
+pub record StandsAt (l : Layout) (item : Item) (r : InputRelocation) (start size : ℕ) : Type 0 where
+  pub instruction : Instruction
+  pub first : InputRelocation
+  pub template : IsTemplate l item r start instruction first
+  pub whole : size_of instruction ≡ size
+
+-- all bytes that are rewritten are those of an instruction that the reader knows
+abbrev pub RewrittenStand : Type 0
+RewrittenStand = (l : Layout) (w : World) (m : Memory) (s : InputSection) → IsLoadedSection l w m s → (i : ℕ) (r : InputRelocation) (row : Row) (v : ℕ) → HasDecision l s i r (Rewritten row v) → StandsAt l (item_of s) r (template_start row r) (pattern_size row)
 
 -- where an instruction is rewritten, the loaded code does what it demands, at each base at which the reference is asked
 abbrev pub RewrittenHold : Type 0

@@ -1,7 +1,7 @@
 //! What makes the references of a section hold beyond their fields: instructions, kept or rewritten, do what is demanded.
 #![tactic(auto)]
 
-ghost use Rattle.wild_effects.specs.Laws.{InstructionsAreKept, ItemsHold, KeptInstructionsDo, OthersAreKept, PartnersHold, RewrittenHold, WindowsAreAlone};
+ghost use Rattle.wild_effects.specs.Laws.{InstructionsAreKept, ItemsHold, KeptInstructionsDo, OthersAreKept, PartnersHold, RewrittenHold, RewrittenStand, WindowsAreAlone};
 
 use wild_relax::{rewrites_keep_the_effect, rewrites_stay_in_their_patterns};
 use wild_reloc::{fields_of_x86_64, widths_of_fields};
@@ -10,11 +10,14 @@ use wild_reloc::{fields_of_x86_64, widths_of_fields};
 pub fn windows_are_alone()
     ensures { WindowsAreAlone }
 {
+    fields_of_x86_64();
     rewrites_stay_in_their_patterns();
 }
 
-/// An instruction that is rewritten does what the input's demands, and so does the call that it takes along.
+/// An instruction that is rewritten is one that the reader knows and does what the input's demands, and so does the call that it
+/// takes along.
 pub fn rewritten_instructions_hold()
+    ensures stand { RewrittenStand }
     ensures rewritten { RewrittenHold }
     ensures partners { PartnersHold }
 {

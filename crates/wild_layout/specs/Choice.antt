@@ -13,10 +13,9 @@ use Rattle.wild_plan.specs.declared.layout.Layout.{Layout}
 use Rattle.wild_plan.specs.Treatment.{flags_at}
 use Rattle.wild_relax.specs.declared.reference.RelocationInfo.{RelocationInfo}
 use Rattle.wild_relax.specs.declared.reference.UnknownSequence.{UnknownSequence}
-use Rattle.wild_relax.specs.declared.relaxation.RelocationModifier.{RelocationModifier}
-use Rattle.wild_relax.specs.declared.relaxation.RelocationModifier.TheVariants.{Normal, SkipNextRelocation}
 use Rattle.wild_relax.specs.declared.row.Row.{Row}
 use Rattle.wild_relax.specs.Question.{Question}
+use Rattle.wild_relax.specs.Rewrite.{is_skip}
 use Rattle.wild_relax.specs.RewriteX86_64.{rewrite_of}
 use Rattle.wild_relax.specs.Relaxation.{chosen_of}
 use Rattle.wild_layout.specs.Values.{raw_value}
@@ -27,7 +26,7 @@ getter_name = 95 ∷ 95 ∷ 116 ∷ 108 ∷ 115 ∷ 95 ∷ 103 ∷ 101 ∷ 116 �
 
 abbrev pub same_names : List ℕ → List ℕ → Bool
 same_names [] [] = true
-same_names (a ∷ as) (b ∷ bs) = if a == b then same_names as bs else false
+same_names (a ∷ xs) (b ∷ ys) = if a == b then same_names xs ys else false
 same_names other name = false
 
 abbrev pub is_getter : Layout → Option ℕ → Bool
@@ -70,10 +69,6 @@ abbrev pub choice : Layout → InputSection → ℕ → Result (Option Row) Unkn
 choice l s i = choice_at l s (slice_get s.relocations i) (slice_get s.relocations (i + 1))
 
 -- ---- sequences
-
-abbrev pub is_skip : RelocationModifier → Bool
-is_skip Normal = false
-is_skip SkipNextRelocation = true
 
 -- the row writes a whole sequence
 abbrev pub takes_next : Result (Option Row) UnknownSequence → Bool

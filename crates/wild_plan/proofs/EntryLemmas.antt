@@ -1,20 +1,31 @@
--- Words of packed relocations, counted; no field is left to an entry where the section is not loaded.
-use Rattle.std.proofs.Common.{◌≡◌, ℕ, ◌+◌, ◌≤◌, false, List, [], ◌∷◌, length, drop, Option, Some, None, refl, ap, ◌∙◌, arith}
-use Rattle.std.specs.List.{flat_map, filter}
+-- Words of packed relocations, counted; no field is left to an entry where the section is not loaded, or the type is none of
+-- those that entries fill.
+use Rattle.std.proofs.Common.{◌≡◌, ℕ, ◌+◌, ◌≤◌, Bool, true, false, List, [], ◌∷◌, length, drop, Option, Some, None, refl, ap, ◌∙◌, arith}
+use Rattle.std.specs.Prelude.{◌==◌, ◌&&◌, ◌||◌, not, if◌then◌else◌}
+use Rattle.std.specs.List.{flat_map, filter, list_all}
 use Rattle.std.proofs.lemmas.List.{drop_all}
+use Rattle.wild_records.specs.Abi.Relocation.{r_x86_64_64, r_x86_64_size32, r_x86_64_size64}
 use Rattle.wild_relr.specs.declared.run.Run.{Run}
 use Rattle.wild_relr.specs.Packing.{choice}
 use Rattle.wild_relr.specs.Packed.{counted, new_words, run_after, packed, packed_on}
+use Rattle.wild_reloc.specs.Field.{field_width}
+use Rattle.wild_reloc.specs.TableX86_64.{x86_64_rows, x86_64_row}
+use Rattle.wild_reloc.proofs.TableLemmas.{entry_passes}
 use Rattle.wild_reloc.specs.declared.info.RelocationKind.{RelocationKind}
 use Rattle.wild_reloc.specs.declared.info.RelocationKind.TheVariants as kinds
 use Rattle.wild_reloc.specs.declared.info.RelocationKindInfo.{RelocationKindInfo}
 use Rattle.wild_plan.specs.declared.input.InputRelocation.{InputRelocation}
 use Rattle.wild_plan.specs.declared.input.InputSection.{InputSection}
+use Rattle.wild_plan.specs.declared.kind.Machine.{Machine}
+use Rattle.wild_plan.specs.declared.kind.Machine.TheVariants as machine
 use Rattle.wild_plan.specs.declared.layout.Layout.{Layout}
-use Rattle.wild_plan.specs.Entries.{is_left_to_entry}
-use Rattle.wild_plan.specs.Lookups.{allocated}
+use Rattle.wild_plan.specs.declared.treatment.Treatment.TheVariants.{Value, BaseRelative, Symbolic, Indirect, Recompile}
+use Rattle.wild_plan.specs.Entries.{is_left_to_entry, may_be_left}
+use Rattle.wild_plan.specs.Lookups.{allocated, writable}
 use Rattle.wild_plan.specs.Rows.{row_of}
-use Rattle.wild_plan.specs.Treatment.{kind_treatment, row_treatment, treatment}
+use Rattle.wild_plan.specs.Flags.{has_flag, interposable, ifunc}
+use Rattle.wild_plan.specs.Kinds.{is_position_independent, is_shared_object}
+use Rattle.wild_plan.specs.Treatment.{flags_at, is_barred, is_narrow, moves, kind_treatment, row_treatment, treatment}
 
 -- a place more, in front
 pub counted_more : (r : Run) (p : ℕ) (ps : List ℕ) → counted r (p ∷ ps) ≡ new_words (choice r p) + counted (run_after (choice r p) r) ps
@@ -64,3 +75,72 @@ keeps l s r h = row_keeps l s r.symbol (row_of l.machine r.number) h
 pub none_left : (l : Layout) (s : InputSection) (rs : List InputRelocation) → allocated s.flags ≡ false → length (filter (λ r. is_left_to_entry (treatment l s r)) rs) ≡ 0
 none_left l s [] h = refl
 none_left l s (r ∷ rs) h = let e = keeps l s r h in rw e (none_left l s rs h)
+
+-- ---- types whose fields entries fill
+
+-- the number of such a row
+abbrev has_number : RelocationKind → ℕ → ℕ → Bool
+has_number kinds.Absolute width n = not (width == 8) || n == r_x86_64_64
+has_number kinds.SymbolSize width n = n == r_x86_64_size32 || n == r_x86_64_size64
+has_number other width n = true
+
+each_has_number : list_all (λ (e : ℕ × RelocationKindInfo). has_number e.1.kind (field_width e.1) e.0) x86_64_rows ≡ true
+each_has_number = refl
+
+-- an address
+address_stays : (refused loaded writes eight left fixed ifunc moved : Bool) (row : RelocationKindInfo) (i : ℕ) → (writes && eight) ≡ false → is_left_to_entry (if refused then Recompile else if loaded && writes && eight && left then Symbolic i else if loaded && writes && fixed && ifunc then (if eight then Indirect i else Recompile) else if loaded && moved then (if eight then BaseRelative else Recompile) else Value row) ≡ false
+address_stays true loaded writes eight left fixed ifunc moved row i h = refl
+address_stays false false writes eight left fixed ifunc moved row i h = refl
+address_stays false true false true left fixed ifunc true row i h = refl
+address_stays false true false false left fixed ifunc true row i h = refl
+address_stays false true false eight left fixed ifunc false row i h = refl
+address_stays false true true true left fixed ifunc moved row i h = cc
+address_stays false true true false left true true moved row i h = refl
+address_stays false true true false left true false true row i h = refl
+address_stays false true true false left true false false row i h = refl
+address_stays false true true false left false ifunc true row i h = refl
+address_stays false true true false left false ifunc false row i h = refl
+
+refused_stays : (refused : Bool) (row : RelocationKindInfo) → is_left_to_entry (if refused then Recompile else Value row) ≡ false
+refused_stays true row = refl
+refused_stays false row = refl
+
+number_known : (writes size other eight same : Bool) → (not eight || same) ≡ true → (same && writes || (size || other)) ≡ false → (writes && eight) ≡ false
+number_known false size other eight same h m = refl
+number_known true size other false same h m = refl
+number_known true size other true false h m = cc
+number_known true size other true true h m = cc
+
+kind_stays : (l : Layout) (s : InputSection) (o : Option ℕ) (row : RelocationKindInfo) (k : RelocationKind) (n : ℕ) → has_number k (field_width row) n ≡ true → may_be_left s n ≡ false → is_left_to_entry (kind_treatment l s o row k) ≡ false
+kind_stays l s None row kinds.Absolute n h m = refl
+kind_stays l s (Some i) row kinds.Absolute n h m =
+    let stays = number_known (writable s.flags) (n == r_x86_64_size32) (n == r_x86_64_size64) (field_width row == 8) (n == r_x86_64_64) h m in
+    address_stays (is_barred l s row i || is_narrow l s row) (allocated s.flags) (writable s.flags) (field_width row == 8) (interposable (flags_at l i)) (is_position_independent l.kind) (has_flag (flags_at l i) ifunc) (moves l i) row i stays
+kind_stays l s None row kinds.Relative n h m = refused_stays (allocated s.flags && is_position_independent l.kind) row
+kind_stays l s (Some i) row kinds.Relative n h m = refused_stays (is_barred l s row i) row
+kind_stays l s None row kinds.TpOff n h m = refl
+kind_stays l s (Some i) row kinds.TpOff n h m = refused_stays (allocated s.flags && is_shared_object l.kind) row
+kind_stays l s None row kinds.SymbolSize n h m = refl
+kind_stays l s (Some i) row kinds.SymbolSize n h m = no_size (n == r_x86_64_64 && writable s.flags) (n == r_x86_64_size32 || n == r_x86_64_size64) h m
+  where
+    no_size : {X : Type 0} (a b : Bool) → b ≡ true → (a || b) ≡ false → X
+    no_size true true h m = cc
+    no_size false true h m = cc
+    no_size a false h m = cc
+kind_stays l s None row other n h m = refl
+kind_stays l s (Some i) row other n h m = refl
+
+row_stays : (l : Layout) (s : InputSection) (o : Option ℕ) (n : ℕ) (row : Option RelocationKindInfo) → x86_64_row n ≡ row → may_be_left s n ≡ false → is_left_to_entry (row_treatment l s o row) ≡ false
+unfolding row_treatment x86_64_row
+row_stays l s o n None known m = refl
+row_stays l s o n (Some row) known m = kind_stays l s o row row.kind n (entry_passes (λ (k : ℕ) (r : RelocationKindInfo). has_number r.kind (field_width r) k) x86_64_rows each_has_number n row known) m
+
+machine_stays : (l : Layout) (s : InputSection) (o : Option ℕ) (k : Machine) (n : ℕ) → may_be_left s n ≡ false → is_left_to_entry (row_treatment l s o (row_of k n)) ≡ false
+unfolding row_treatment row_of
+machine_stays l s o machine.AArch64 n m = refl
+machine_stays l s o machine.X86_64 n m = row_stays l s o n (x86_64_row n) refl m
+
+-- the field of a relocation of another type is left to none
+pub others_stay : (l : Layout) (s : InputSection) (r : InputRelocation) → may_be_left s r.number ≡ false → is_left_to_entry (treatment l s r) ≡ false
+unfolding treatment
+others_stay l s r m = machine_stays l s r.symbol l.machine r.number m

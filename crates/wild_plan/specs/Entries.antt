@@ -5,10 +5,12 @@
 --   listed_places, packed_places    the places of a section's addresses that move: those that have an entry, and those
 --                                   that are packed
 --   entry_count l f, word_count l f   how many entries, and how many words, a file has
+--   may_be_left s n                 an entry that names a symbol or a resolver can fill the field of a relocation of type n
 --   left_relocations l s            the relocations of a section whose fields are left to entries that name a symbol or a resolver
 --   general_count l f               how many entries a file has for these, and for the symbols that it has copied
-use Rattle.std.specs.Prelude.{ℕ, ◌+◌, ◌%◌, ◌^◌, ◌==◌, ◌&&◌, Bool, true, false, not, if◌then◌else◌, List, [], length, Option, Some, None, option_to_list}
+use Rattle.std.specs.Prelude.{ℕ, ◌+◌, ◌%◌, ◌^◌, ◌==◌, ◌&&◌, ◌||◌, Bool, true, false, not, if◌then◌else◌, List, [], length, Option, Some, None, option_to_list}
 use Rattle.std.specs.List.{flat_map, filter}
+use Rattle.wild_records.specs.Abi.Relocation.{r_x86_64_64, r_x86_64_size32, r_x86_64_size64}
 use Rattle.wild_relr.specs.Packed.{packed}
 use Rattle.wild_plan.specs.declared.input.InputRelocation.{InputRelocation}
 use Rattle.wild_plan.specs.declared.input.InputSection.{InputSection}
@@ -19,7 +21,7 @@ use Rattle.wild_plan.specs.declared.treatment.Treatment.TheVariants.{BaseRelativ
 use Rattle.wild_plan.specs.FileRoles.{is_library}
 use Rattle.wild_plan.specs.Kinds.{is_position_independent}
 use Rattle.wild_plan.specs.Lists.{total}
-use Rattle.wild_plan.specs.Lookups.{is_read}
+use Rattle.wild_plan.specs.Lookups.{is_read, writable}
 use Rattle.wild_plan.specs.Treatment.{treatment}
 
 -- the address of the field
@@ -82,6 +84,10 @@ is_left_to_entry (Symbolic i) = true
 is_left_to_entry (Indirect i) = true
 is_left_to_entry (Extent row i) = true
 is_left_to_entry other = false
+
+-- no other type has a field that such an entry fills: an address of 8 bytes, where the program may write, and a size
+abbrev pub may_be_left : InputSection → ℕ → Bool
+may_be_left s n = n == r_x86_64_64 && writable s.flags || (n == r_x86_64_size32 || n == r_x86_64_size64)
 
 -- the relocations of an input section whose fields are left to entries, in order
 unfoldable pub left_relocations : Layout → InputSection → List InputRelocation

@@ -3,15 +3,16 @@
 ghost use Rattle.std.specs.Prelude.{◌≡◌, ℕ, ◌+◌, ◌-◌, ◌^◌, ◌%◌, ◌≤◌, true, min, List, length, ◌++◌, is_some, option_to_list, IfSome};
 ghost use Rattle.std.specs.List.{flat_map, filter};
 ghost use Rattle.wild_relr.specs.Packed.{counted, packed};
-ghost use Rattle.wild_plan.specs.Entries.{place_of, packs, is_moved, listed_place, packed_place, has_moved, listed_places, words_of, entry_count, word_count, is_left_to_entry, left_relocations, copies_of, general_count};
+ghost use Rattle.wild_plan.specs.Entries.{place_of, packs, is_moved, listed_place, packed_place, has_moved, listed_places, words_of, entry_count, word_count, is_left_to_entry, may_be_left, left_relocations, copies_of, general_count};
 ghost use Rattle.wild_plan.specs.Treatment.{treatment};
 
 use crate::file::File;
 use crate::index::SymbolIndex;
 use crate::input::{InputRelocation, InputSection};
 use crate::layout::Layout;
-use crate::lookups::is_allocated;
+use crate::lookups::{is_allocated, is_writable};
 use crate::treatment::{Treatment, treatment_of};
+use wild_records::abi::relocation::{R_X86_64_64, R_X86_64_SIZE32, R_X86_64_SIZE64};
 use wild_relr::{Choice, Run, choice, runs_are_counted};
 
 impl InputSection {
@@ -168,7 +169,21 @@ impl File {
     }
 }
 
-/// Whether the field of a relocation is left to an entry that names a symbol or a resolver.
+/// Whether an entry that names a symbol or a resolver can fill the field of a relocation of that type.
+#[inline]
+fn may_be_left(section: &InputSection, number: u32) -> bool
+    ensures { result ≡ may_be_left section.now number }
+{
+    match number {
+        R_X86_64_64 => is_writable(section.flags),
+        R_X86_64_SIZE32 | R_X86_64_SIZE64 => true,
+        _ => false,
+    }
+}
+
+/// Whether the field of a relocation is left to an entry that names a symbol or a resolver. Its treatment is asked only
+/// where its type allows that.
+#[tactic(auto, using(crate::proofs::EntryLemmas::others_stay))]
 pub fn is_left_to_entry(
     layout: &Layout,
     section: &InputSection,
@@ -176,10 +191,11 @@ pub fn is_left_to_entry(
 ) -> bool
     ensures { result ≡ is_left_to_entry (treatment layout.now section.now relocation.now) }
 {
-    matches!(
-        treatment_of(layout, section, relocation),
-        Treatment::Symbolic(_) | Treatment::Indirect(_) | Treatment::Extent(_, _)
-    )
+    may_be_left(section, relocation.number)
+        && matches!(
+            treatment_of(layout, section, relocation),
+            Treatment::Symbolic(_) | Treatment::Indirect(_) | Treatment::Extent(_, _)
+        )
 }
 
 /// How many of some relocations of a section are such: none where it is not loaded into memory.

@@ -10,7 +10,8 @@ use Rattle.wild_relax.specs.declared.row.Row.TheVariants.{RexGotMovToLea, GotMov
 use Rattle.wild_relax.specs.Pattern.{field_of}
 use Rattle.wild_relax.specs.Rewrite.{rewritten}
 use Rattle.wild_relax.specs.RewriteX86_64.{rewrite_of}
-use Rattle.wild_relax.specs.Keep.{pattern_of, field_in, ReadsNumbers}
+use Rattle.wild_relax.specs.Linked.{pattern_of, field_in}
+use Rattle.wild_relax.specs.Keep.{ReadsNumbers}
 
 -- the bytes of the pattern with those of the field
 abbrev pub placed : Row → List ℕ → List ℕ → List ℕ

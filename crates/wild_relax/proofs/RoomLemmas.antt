@@ -1,6 +1,6 @@
 -- A rewrite that stands has room.
-use Rattle.std.proofs.Common.{◌≡◌, ℕ, ◌+◌, Bool, true, false, List, [], ◌∷◌, length, refl, arith, subst, ⊎_elim, inl, inr}
-use Rattle.std.specs.Prelude.{Option, Some, Result, Ok, Err, ◌&&◌, ◌||◌, ◌⊎◌, cond, nat_le}
+use Rattle.std.proofs.Common.{◌≡◌, ℕ, ◌+◌, Bool, true, false, List, [], ◌∷◌, length, refl, ap, arith, subst, ⊎_elim, inl, inr}
+use Rattle.std.specs.Prelude.{Option, Some, None, Result, Ok, Err, ◌&&◌, ◌||◌, ◌⊎◌, cond, nat_le}
 use Rattle.std.specs.List.{list_all}
 use Rattle.std.proofs.lemmas.Bool.Decides.{nat_tests}
 use Rattle.wild_relax.specs.declared.reference.UnknownSequence.{UnknownSequence}
@@ -8,33 +8,46 @@ use Rattle.wild_relax.specs.declared.pattern.Pattern.{Pattern}
 use Rattle.wild_relax.specs.declared.row.Row.{Row}
 use Rattle.wild_relax.specs.Question.{Question, relocation_of}
 use Rattle.wild_relax.specs.Pattern.{cells_of, field_of, stands_before, stands_at}
-use Rattle.wild_relax.specs.First.{first_row}
-use Rattle.wild_relax.specs.Rows.{rows_x86_64, always_pattern, needed_pattern, applies, has_its_sequence, chosen_x86_64}
+use Rattle.wild_relax.specs.First.{first_standing, checked}
+use Rattle.wild_relax.specs.Rows.{rows_x86_64, always_pattern, needed_pattern, applies, has_its_sequence, unknown_sequence, standing_x86_64, chosen_x86_64}
 use Rattle.wild_relax.specs.Rewrite.{Rewrite, HasRoom}
 use Rattle.wild_relax.specs.RewriteX86_64.{rewrite_of}
 
 -- what a first row is
-pub record IsFirst {R : Type 0} (stands has p : R → Bool) (r : R) : Type 0 where
+pub record IsFirst {R : Type 0} (stands p : R → Bool) (r : R) : Type 0 where
   pub here : stands r ≡ true
-  pub whole : has r ≡ true
   pub listed : p r ≡ true
 
 both : (a b : Bool) → (a && b) ≡ true → (a ≡ true) × (b ≡ true)
 both true b h = (refl, h)
 both false b h = cc
 
-here_or_later : {R : Type 0} (number : ℕ) (stands has p : R → Bool) (q : R) (b h : Bool) (rest : Result (Option R) UnknownSequence) (r : R) → stands q ≡ b → has q ≡ h → p q ≡ true → (rest ≡ Ok (Some r) → IsFirst stands has p r) → cond b (cond h (Ok (Some q)) (Err (record { number = number }))) rest ≡ Ok (Some r) → IsFirst stands has p r
-here_or_later number stands has p q true true rest r s h l later e =
+here_or_later : {R : Type 0} (stands p : R → Bool) (q : R) (b : Bool) (rest : Option R) (r : R) → stands q ≡ b → p q ≡ true → (rest ≡ Some r → IsFirst stands p r) → cond b (Some q) rest ≡ Some r → IsFirst stands p r
+here_or_later stands p q true rest r s l later e =
     let same : q ≡ r = cc in
-    subst (IsFirst stands has p) same (record { here = s; whole = h; listed = l })
-here_or_later number stands has p q true false rest r s h l later e = cc
-here_or_later number stands has p q false h rest r s e1 l later e = later e
+    subst (IsFirst stands p) same (record { here = s; listed = l })
+here_or_later stands p q false rest r s l later e = later e
 
-pub first_is : {R : Type 0} (number : ℕ) (stands has p : R → Bool) (rows : List R) (r : R) → list_all p rows ≡ true → first_row number stands has rows ≡ Ok (Some r) → IsFirst stands has p r
-first_is number stands has p [] r all e = cc
-first_is number stands has p (q ∷ rows) r all e =
+pub first_is : {R : Type 0} (stands p : R → Bool) (rows : List R) (r : R) → list_all p rows ≡ true → first_standing stands rows ≡ Some r → IsFirst stands p r
+first_is stands p [] r all e = cc
+first_is stands p (q ∷ rows) r all e =
     let parts = both (p q) (list_all p rows) all in
-    here_or_later number stands has p q (stands q) (has q) (first_row number stands has rows) r refl refl parts.0 (first_is number stands has p rows r parts.1) e
+    here_or_later stands p q (stands q) (first_standing stands rows) r refl parts.0 (first_is stands p rows r parts.1) e
+
+-- a row that is not refused
+pub record IsChecked {R : Type 0} (has : R → Bool) (found : Option R) (r : R) : Type 0 where
+  pub same : found ≡ Some r
+  pub whole : has r ≡ true
+
+has_all : {R : Type 0} (has : R → Bool) (by : R → UnknownSequence) (q r : R) (h : Bool) → has q ≡ h → cond h (Ok (Some q)) (Err (by q)) ≡ Ok (Some r) → IsChecked has (Some q) r
+has_all has by q r true h e =
+    let same : q ≡ r = cc in
+    record { same = ap Some same; whole = subst (λ x. has x ≡ true) same h }
+has_all has by q r false h e = cc
+
+pub checked_is : {R : Type 0} (has : R → Bool) (by : R → UnknownSequence) (found : Option R) (r : R) → checked has by found ≡ Ok (Some r) → IsChecked has found r
+checked_is has by None r e = cc
+checked_is has by (Some q) r e = has_all has by q r (has q) refl e
 
 -- the bytes that are replaced are the pattern's
 abbrev lies_in : Rewrite → Pattern → Bool
@@ -62,13 +75,22 @@ either : (a b : Bool) → (a || b) ≡ true → (a ≡ true) ⊎ (b ≡ true)
 either true b h = inl refl
 either false b h = inr h
 
-pub chosen_is : (q : Question) (row : Row) → chosen_x86_64 q ≡ Ok (Some row) → IsFirst (applies q) (has_its_sequence q) lies_in_its_own row
-unfolding chosen_x86_64
-chosen_is q row e = first_is (relocation_of q).number (applies q) (has_its_sequence q) lies_in_its_own rows_x86_64 row each_lies e
+-- what a chosen row is
+pub record IsChosenRow (q : Question) (p : Row → Bool) (row : Row) : Type 0 where
+  pub here : applies q row ≡ true
+  pub listed : p row ≡ true
+  pub whole : has_its_sequence q row ≡ true
+
+pub chosen_is : (q : Question) (p : Row → Bool) (row : Row) → list_all p rows_x86_64 ≡ true → chosen_x86_64 q ≡ Ok (Some row) → IsChosenRow q p row
+unfolding chosen_x86_64 standing_x86_64
+chosen_is q p row all e =
+    let good = checked_is (has_its_sequence q) (unknown_sequence q) (standing_x86_64 q) row e in
+    let first = first_is (applies q) p rows_x86_64 row all good.same in
+    record { here = first.here; listed = first.listed; whole = good.whole }
 
 pub chosen_has_room : (q : Question) (row : Row) → chosen_x86_64 q ≡ Ok (Some row) → HasRoom (rewrite_of row) (relocation_of q).offset (length q.bytes)
 chosen_has_room q row e =
-    let first = chosen_is q row e in
+    let first = chosen_is q lies_in_its_own row each_lies e in
     ⊎_elim
     (λ l. room_in q.bytes (relocation_of q).offset (always_pattern row) (rewrite_of row) (always_stands q row first.here) l)
     (λ l. room_in q.bytes (relocation_of q).offset (needed_pattern row) (rewrite_of row) (needed_stands q row first.whole) l)

@@ -24,7 +24,8 @@ use Rattle.wild_relax.specs.declared.row.DescriptorUse.TheVariants.{LocalExec, I
 use Rattle.wild_relax.specs.declared.row.Row.{Row}
 use Rattle.wild_relax.specs.declared.row.Row.TheVariants.{IfuncThroughStub, RexGotToImmediate, RexGotMovToLea, GotMovToImmediate, GotMovToLea, IndirectCallToDirect, IndirectJumpToDirect, PlainGotMovToLea, InitialExecToLocalExec, Plt32ToPc32, PltOffToGotOff, GeneralDynamicToLocalExec, GeneralDynamicToInitialExec, LocalDynamicToLocalExec, DescriptorLea, DescriptorCall}
 use Rattle.wild_relax.specs.Pattern.{cells_of, opcode}
-use Rattle.wild_relax.specs.Keep.{pattern_of, IsWhole, linked, distance, ReadsNumbers, no_effect, RowsKeep}
+use Rattle.wild_relax.specs.Linked.{pattern_of, linked}
+use Rattle.wild_relax.specs.Keep.{IsWhole, distance, ReadsNumbers, no_effect, RowsKeep}
 use Rattle.wild_relax.proofs.StubLemmas.{read_back}
 use Rattle.wild_relax.proofs.ShapeLemmas.{parts, filled, shape, shape-stands}
 use Rattle.wild_relax.proofs.KeepLemmas.{placed, SlotByte, IsWide, Back, lea_bare, lea_rex, lea_rex2, call_direct, jump_direct}

@@ -21,7 +21,8 @@ use Rattle.wild_relax.specs.Pattern.{cells_of, field_of, stands_before, stands_a
 use Rattle.wild_relax.specs.Rows.{always_pattern, needed_pattern, chosen_x86_64}
 use Rattle.wild_relax.specs.Rewrite.{rewritten}
 use Rattle.wild_relax.specs.RewriteX86_64.{rewrite_of}
-use Rattle.wild_relax.specs.Keep.{pattern_of, field_in, IsWhole, IsChanging}
+use Rattle.wild_relax.specs.Linked.{pattern_of, field_in, IsChanging}
+use Rattle.wild_relax.specs.Keep.{IsWhole}
 use Rattle.wild_relax.specs.Section.{start_of, window, field_after, ChosenAreWhole, SectionsAreLinked}
 use Rattle.wild_relax.proofs.RoomLemmas.{chosen_is, always_stands, needed_stands}
 use Rattle.wild_relax.proofs.RowLemmas.{pc32, signed_32s, unsigned_32, tpoff32, gottpoff, nothing}
@@ -70,7 +71,7 @@ pattern_is DescriptorCall = inr refl
 
 pub chosen_at : (q : Question) (row : Row) → chosen_x86_64 q ≡ Ok (Some row) → IsAt q.bytes (relocation_of q).offset (pattern_of row)
 chosen_at q row e =
-    let first = chosen_is q row e in
+    let first = chosen_is q is_listed row each_is_listed e in
     let P : Pattern → Type 0 = λ p. IsAt q.bytes (relocation_of q).offset p in
     ⊎_elim
     (λ h. subst P (sym h) (at_place q.bytes (relocation_of q).offset (always_pattern row) (always_stands q row first.here)))

@@ -6,6 +6,7 @@ pub mod First
 pub mod Rewrite
 pub mod RewriteX86_64
 pub mod Rows
+pub mod ByNumber
 pub mod Linked
 pub mod Relaxation
 pub mod Keep

@@ -1,7 +1,7 @@
 -- The rewrite that stands at a relocation.
 --   relaxation_x86_64 q   that of x86-64
 --   chosen_of m q         its row, by the machine
-use Rattle.std.specs.Prelude.{Option, Some, None, Result, Ok, Err}
+use Rattle.std.specs.Prelude.{◌≡◌, refl, Option, Some, None, Result, Ok, Err}
 use Rattle.wild_plan.specs.declared.kind.Machine.{Machine}
 use Rattle.wild_plan.specs.declared.kind.Machine.TheVariants as machine
 use Rattle.wild_relax.specs.declared.reference.UnknownSequence.{UnknownSequence}
@@ -32,3 +32,9 @@ rows_of row (Err e) = Err e
 abbrev pub chosen_of : Machine → Question → Result (Option Row) UnknownSequence
 chosen_of machine.X86_64 q = chosen_x86_64 q
 chosen_of machine.AArch64 q = Ok None
+
+-- the duty changes no row
+pub rows_with_duty : (q : Question) (found : Result (Option Row) UnknownSequence) → rows_of (λ (r : ElfX86_64Relaxation). r.row) (with_duty q found) ≡ found
+rows_with_duty q (Ok None) = refl
+rows_with_duty q (Ok (Some row)) = refl
+rows_with_duty q (Err e) = refl

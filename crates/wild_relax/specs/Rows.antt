@@ -184,10 +184,16 @@ is_mandatory (GeneralDynamicToInitialExec f) q = false
 is_mandatory (LocalDynamicToLocalExec local.Large) q = false
 is_mandatory other q = is_static_executable q.kind
 
+-- the call through a descriptor has no field that clauses ask for: its row stands wherever its relocation is, and without its
+-- bytes it is refused
+abbrev pub stands_anywhere : Row → Bool
+stands_anywhere DescriptorCall = true
+stands_anywhere other = false
+
 unfoldable pub applies : Question → Row → Bool
 applies q row = (relocation_of q).number == number_of row && (q.relax || is_mandatory row q) && takes_section row q && takes_symbol row q
     && (not (is_thread_local row) || is_executable q.kind) && takes_value row q
-    && (not (counts_from_its_end row) || minus_four (relocation_of q).addend) && stands_before q.bytes (relocation_of q).offset (always_pattern row)
+    && (not (counts_from_its_end row) || minus_four (relocation_of q).addend) && (stands_anywhere row || stands_before q.bytes (relocation_of q).offset (always_pattern row))
 
 -- ---- the call of a sequence, whose relocation is the next one
 

@@ -1,19 +1,21 @@
 -- A rewrite in its section.
 --   window q row        the input's bytes that the row is about
+--   ChosenStand         a row that is chosen stands, with all that it needs
 --   ChosenAreWhole      where a row is chosen, its whole pattern stands in the input
 --   SectionsAreLinked   the rewrite and the field, written into the section, are `linked` in place of the pattern
-use Rattle.std.specs.Prelude.{◌≡◌, ℕ, ◌+◌, ◌-◌, List, [], length, slice_range, Some, Ok}
+use Rattle.std.specs.Prelude.{◌≡◌, ℕ, ◌+◌, ◌-◌, ◌≤◌, true, false, not, ◌||◌, List, [], length, slice_range, Some, Ok}
 use Rattle.wild_words.specs.Words.{place}
 use Rattle.wild_reloc.specs.Field.{written}
 use Rattle.wild_reloc.specs.TableX86_64.{x86_64_row}
 use Rattle.wild_reloc.specs.declared.info.RelocationKindInfo.{RelocationKindInfo}
 use Rattle.wild_relax.specs.declared.row.Row.{Row}
-use Rattle.wild_relax.specs.Question.{Question, relocation_of}
+use Rattle.wild_plan.specs.Kinds.{is_executable}
+use Rattle.wild_relax.specs.Question.{Question, relocation_of, minus_four}
 use Rattle.wild_relax.specs.Pattern.{cells_of, field_of}
-use Rattle.wild_relax.specs.Rows.{chosen_x86_64}
+use Rattle.wild_relax.specs.Rows.{number_of, takes_symbol, takes_section, takes_value, is_thread_local, counts_from_its_end, needs_its_end, has_partner, applies, has_its_sequence, chosen_x86_64}
 use Rattle.wild_relax.specs.Rewrite.{rewritten}
 use Rattle.wild_relax.specs.RewriteX86_64.{rewrite_of}
-use Rattle.wild_relax.specs.Linked.{pattern_of, IsChanging, linked}
+use Rattle.wild_relax.specs.Linked.{pattern_of, pattern_size, keeps_bytes, IsChanging, linked}
 use Rattle.wild_relax.specs.Keep.{IsWhole}
 
 -- where the row's pattern begins
@@ -22,6 +24,28 @@ start_of q row = (relocation_of q).offset - field_of (pattern_of row)
 
 abbrev pub window : Question → Row → List ℕ
 window q row = slice_range q.bytes (start_of q row) (start_of q row + length (cells_of (pattern_of row)))
+
+-- what a row takes of the symbol, the section, the output, the addend and the next relocation
+pub record IsTaken (q : Question) (row : Row) : Type 0 where
+  pub symbol : takes_symbol row q ≡ true
+  pub section : takes_section row q ≡ true
+  pub value : takes_value row q ≡ true
+  pub thread : (not (is_thread_local row) || is_executable q.kind) ≡ true
+  pub addend : (not (counts_from_its_end row || needs_its_end row) || minus_four (relocation_of q).addend) ≡ true
+  pub partner : has_partner row q ≡ true
+
+-- the row stands, its relocation type is the relocation's, and its pattern lies in the section
+pub record IsStanding (q : Question) (row : Row) : Type 0 where
+  pub here : applies q row ≡ true
+  pub sequence : has_its_sequence q row ≡ true
+  pub number : (relocation_of q).number ≡ number_of row
+  pub taken : IsTaken q row
+  pub before : field_of (pattern_of row) ≤ (relocation_of q).offset
+  pub inside : start_of q row + pattern_size row ≤ length q.bytes
+  pub changing : keeps_bytes row ≡ false → IsChanging row
+
+abbrev pub ChosenStand : Type 0
+ChosenStand = (q : Question) (row : Row) → chosen_x86_64 q ≡ Ok (Some row) → IsStanding q row
 
 abbrev pub ChosenAreWhole : Type 0
 ChosenAreWhole = (q : Question) (row : Row) → chosen_x86_64 q ≡ Ok (Some row) → IsWhole (cells_of (pattern_of row)) (window q row)

@@ -20,6 +20,7 @@ pub trait Arch {
     ghost use Rattle.wild_relax.specs.declared.reference.UnknownSequence.{UnknownSequence};
     ghost use Rattle.wild_relax.specs.Question.{Question, entry_at};
     ghost use Rattle.wild_relax.specs.Rewrite.{HasRoom};
+    ghost use Rattle.wild_relax.specs.Relaxation.{rows_of, chosen_of};
     ghost use Rattle.wild_plan.specs.Stub.{Stub};
 
     /// A rewrite of instructions of the machine.
@@ -116,9 +117,9 @@ pub trait Arch {
         ensures unchanged { OnErr result (plt_entry.new ≡ plt_entry.old) };
 
     /// The first rewrite that stands at relocation `at` of a section; none where none stands. `section_bytes` are the bytes
-    /// of the input, never rewritten ones; `flags` and `sym_addr` are those of the symbol, `section_flags` are `sh_flags`.
-    /// A symbol of merged strings has another value for each addend: no rewrite is asked for it. The bytes that a rewrite
-    /// replaces are in the section.
+    /// of the input, never rewritten ones; `flags` and `sym_addr` are those of the symbol, where it has an address, and
+    /// `section_flags` are `sh_flags`. A symbol of merged strings has another value for each addend: no rewrite is asked
+    /// for it. The bytes that a rewrite replaces are in the section.
     fn new_relaxation(
         relocations: &[RelocationInfo],
         at: usize,
@@ -127,7 +128,7 @@ pub trait Arch {
         output_kind: OutputKind,
         section_flags: u64,
         relax: bool,
-        sym_addr: u64,
+        sym_addr: Option<u64>,
         section_address: u64,
     ) -> Result<Option<Self::Relaxation>, UnknownSequence>
         ensures first { result ≡ Self.relaxation (record {
@@ -146,4 +147,7 @@ pub trait Arch {
 
     /// The rewrites are the machine's own.
     ghost same_machine: { Self.Relaxation.machine ≡ Self.machine };
+
+    /// Their rows are those that stand.
+    ghost same_rows: { (q : Question) → rows_of Self.Relaxation.as_row (Self.relaxation q) ≡ chosen_of Self.machine q };
 }

@@ -1,7 +1,7 @@
 //! Laws: what is written does what is asked of it.
 ghost use Rattle.wild_relax.specs.Laws.{StubsJump};
 ghost use Rattle.wild_relax.specs.Keep.{RowsKeep};
-ghost use Rattle.wild_relax.specs.Section.{ChosenAreWhole, SectionsAreLinked};
+ghost use Rattle.wild_relax.specs.Section.{ChosenStand, ChosenAreWhole, SectionsAreLinked};
 
 use wild_words::owners_of_bytes;
 
@@ -15,9 +15,10 @@ pub fn rewrites_keep_the_effect()
     ensures { RowsKeep }
 {}
 
-/// A row is chosen only where its whole pattern stands in the input, and the rewrite and its field, written into the section,
+/// A row is chosen only where it stands with its whole pattern in the input, and the rewrite and its field, written into the section,
 /// change nothing but that pattern.
 pub fn rewrites_stay_in_their_patterns()
+    ensures stand { ChosenStand }
     ensures whole { ChosenAreWhole }
     ensures linked { SectionsAreLinked }
 {

@@ -8,6 +8,7 @@ mod reference;
 mod relaxation;
 mod rewrite;
 mod row;
+mod template;
 #[cfg(test)]
 mod tests;
 mod thread;

@@ -252,8 +252,8 @@ fn wide_cells(prefix: Prefix, operation: Operation) -> &'static [Cell]
     }
 }
 
-// The bytes of a pattern.
-fn cells(pattern: Pattern) -> &'static [Cell]
+/// The bytes of a pattern.
+pub(crate) fn cells(pattern: Pattern) -> &'static [Cell]
     ensures value { result.now ≡ cells_of pattern }
     ensures short { length result.now ≤ 22 }
 {
@@ -278,8 +278,8 @@ fn cells(pattern: Pattern) -> &'static [Cell]
     }
 }
 
-// How far behind the pattern's start the field begins.
-fn field(pattern: Pattern) -> u64
+/// How far behind the pattern's start the field begins.
+pub(crate) fn field(pattern: Pattern) -> u64
     ensures value { result ≡ field_of pattern }
     ensures low { result ≤ 4 }
 {

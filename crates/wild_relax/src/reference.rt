@@ -45,7 +45,7 @@ pub(crate) struct Reference<'a> {
     pub kind: OutputKind,
     pub section_flags: u64,
     pub relax: bool,
-    pub value: u64,
+    pub value: Option<u64>,
     pub address: u64,
 }
 

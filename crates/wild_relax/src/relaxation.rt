@@ -1,6 +1,7 @@
 //! What a rewrite is to the writer of a section.
 ghost use Rattle.std.specs.Prelude.{◌≡◌, ◌+◌, ◌-◌, ◌≤◌, length, Some};
 
+use crate::row::Row;
 use wild_reloc::RelocationKindInfo;
 
 /// What becomes of an instruction, by the names of the first linker that had them; `n` bytes of it stand before the field.
@@ -60,6 +61,10 @@ pub trait Relaxation {
     ghost use Rattle.wild_plan.specs.Rows.{row_of};
     ghost use Rattle.wild_relax.specs.Rewrite.{Rewrite, rewritten};
     ghost use Rattle.wild_relax.specs.declared.relaxation.RelaxationKind.{RelaxationKind};
+    ghost use Rattle.wild_relax.specs.declared.row.Row.{Row};
+
+    /// Its row.
+    ghost as_row: { Self → Row };
 
     /// What is written, and as which relocation type.
     ghost rewrite: { Self → Rewrite };
@@ -75,6 +80,10 @@ pub trait Relaxation {
 
     /// Whether the field gets a number, for which the slot is asked where it does not fit.
     ghost falls_back: { Self → Bool };
+
+    /// Its row.
+    fn row(&self) -> Row
+        ensures { result ≡ Self.as_row self.now };
 
     /// Writes the instructions, all but their field, into the bytes of the section, and moves the place of the field and
     /// its addend. The bytes around the field, before and behind as many as the rewrite changes, are in the section; no

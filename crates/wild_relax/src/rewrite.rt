@@ -51,82 +51,86 @@ const THREAD_POINTER_NO_PLT: [u8; 13] = [
     0x64, 0x48, 0x8b, 0x04, 0x25, 0, 0, 0, 0, 0x90, 0x90, 0x90, 0x90,
 ];
 
-// How many bytes before the field the row's own begin.
-pub(crate) fn back(row: Row) -> u64
-    ensures { result ≡ (rewrite_of row).back }
-{
-    match row {
-        Row::IfuncThroughStub | Row::Plt32ToPc32 | Row::PltOffToGotOff | Row::DescriptorCall => 0,
-        Row::RexGotMovToLea(_)
-        | Row::GotMovToImmediate
-        | Row::GotMovToLea
-        | Row::IndirectCallToDirect
-        | Row::IndirectJumpToDirect
-        | Row::PlainGotMovToLea
-        | Row::DescriptorLea(_, DescriptorUse::InitialExec) => 2,
-        Row::RexGotToImmediate(_, _)
-        | Row::InitialExecToLocalExec(_, _)
-        | Row::GeneralDynamicToLocalExec(GeneralForm::Large)
-        | Row::LocalDynamicToLocalExec(_)
-        | Row::DescriptorLea(_, DescriptorUse::LocalExec) => 3,
-        Row::GeneralDynamicToLocalExec(_) | Row::GeneralDynamicToInitialExec(_) => 4,
-    }
-}
-
-// How far behind them the field stands then.
-pub(crate) fn field(row: Row) -> u64
-    ensures { result ≡ (rewrite_of row).field }
-{
-    match row {
-        Row::IndirectJumpToDirect => 1,
-        Row::GeneralDynamicToLocalExec(_) | Row::GeneralDynamicToInitialExec(_) => 12,
-        _ => back(row),
-    }
-}
-
-// The relocation type by which the field is written.
-fn number(row: Row) -> u32
-    ensures { result ≡ (rewrite_of row).number }
-{
-    match row {
-        Row::IfuncThroughStub => R_X86_64_PLT32,
-        Row::RexGotToImmediate(_, _) => R_X86_64_32S,
-        Row::GotMovToImmediate => R_X86_64_32,
-        Row::RexGotMovToLea(_)
-        | Row::GotMovToLea
-        | Row::IndirectCallToDirect
-        | Row::IndirectJumpToDirect
-        | Row::PlainGotMovToLea
-        | Row::Plt32ToPc32 => R_X86_64_PC32,
-        Row::PltOffToGotOff => R_X86_64_GOTOFF64,
-        Row::InitialExecToLocalExec(_, _)
-        | Row::GeneralDynamicToLocalExec(_)
-        | Row::DescriptorLea(_, DescriptorUse::LocalExec) => R_X86_64_TPOFF32,
-        Row::GeneralDynamicToInitialExec(_) | Row::DescriptorLea(_, DescriptorUse::InitialExec) => {
-            R_X86_64_GOTTPOFF
+impl Row {
+    /// How many bytes before the field the row's own begin.
+    pub fn back(self) -> u64
+        ensures { result ≡ (rewrite_of self).back }
+    {
+        match self {
+            Row::IfuncThroughStub
+            | Row::Plt32ToPc32
+            | Row::PltOffToGotOff
+            | Row::DescriptorCall => 0,
+            Row::RexGotMovToLea(_)
+            | Row::GotMovToImmediate
+            | Row::GotMovToLea
+            | Row::IndirectCallToDirect
+            | Row::IndirectJumpToDirect
+            | Row::PlainGotMovToLea
+            | Row::DescriptorLea(_, DescriptorUse::InitialExec) => 2,
+            Row::RexGotToImmediate(_, _)
+            | Row::InitialExecToLocalExec(_, _)
+            | Row::GeneralDynamicToLocalExec(GeneralForm::Large)
+            | Row::LocalDynamicToLocalExec(_)
+            | Row::DescriptorLea(_, DescriptorUse::LocalExec) => 3,
+            Row::GeneralDynamicToLocalExec(_) | Row::GeneralDynamicToInitialExec(_) => 4,
         }
-        Row::LocalDynamicToLocalExec(_) | Row::DescriptorCall => R_X86_64_NONE,
     }
-}
 
-// The row of that type.
-pub(crate) fn row_written(row: Row) -> RelocationKindInfo
-    ensures { Some result ≡ x86_64_row (rewrite_of row).number }
-{
-    x86_64::relocation_from_raw(number(row)).unwrap()
-}
+    /// How far behind them the field stands then.
+    pub fn field(self) -> u64
+        ensures { result ≡ (rewrite_of self).field }
+    {
+        match self {
+            Row::IndirectJumpToDirect => 1,
+            Row::GeneralDynamicToLocalExec(_) | Row::GeneralDynamicToInitialExec(_) => 12,
+            _ => self.back(),
+        }
+    }
 
-// The addend with which the field is written.
-pub(crate) fn addend_written(row: Row, addend: i64) -> i64
-    ensures { result ≡ (rewrite_of row).addend addend }
-{
-    match row {
-        Row::RexGotToImmediate(_, _)
-        | Row::GotMovToImmediate
-        | Row::InitialExecToLocalExec(_, _)
-        | Row::GeneralDynamicToLocalExec(_)
-        | Row::DescriptorLea(_, DescriptorUse::LocalExec) => 0,
-        _ => addend,
+    /// The relocation type by which the field is written.
+    pub fn number_written(self) -> u32
+        ensures { result ≡ (rewrite_of self).number }
+    {
+        match self {
+            Row::IfuncThroughStub => R_X86_64_PLT32,
+            Row::RexGotToImmediate(_, _) => R_X86_64_32S,
+            Row::GotMovToImmediate => R_X86_64_32,
+            Row::RexGotMovToLea(_)
+            | Row::GotMovToLea
+            | Row::IndirectCallToDirect
+            | Row::IndirectJumpToDirect
+            | Row::PlainGotMovToLea
+            | Row::Plt32ToPc32 => R_X86_64_PC32,
+            Row::PltOffToGotOff => R_X86_64_GOTOFF64,
+            Row::InitialExecToLocalExec(_, _)
+            | Row::GeneralDynamicToLocalExec(_)
+            | Row::DescriptorLea(_, DescriptorUse::LocalExec) => R_X86_64_TPOFF32,
+            Row::GeneralDynamicToInitialExec(_)
+            | Row::DescriptorLea(_, DescriptorUse::InitialExec) => R_X86_64_GOTTPOFF,
+            Row::LocalDynamicToLocalExec(_) | Row::DescriptorCall => R_X86_64_NONE,
+        }
+    }
+
+    /// The row of that type.
+    pub fn row_written(self) -> RelocationKindInfo
+        ensures { Some result ≡ x86_64_row (rewrite_of self).number }
+    {
+        x86_64::relocation_from_raw(self.number_written()).unwrap()
+    }
+
+    /// The addend with which the field is written.
+    pub fn addend_written(self, addend: i64) -> i64
+        ensures { result ≡ (rewrite_of self).addend addend }
+    {
+        match self {
+            Row::RexGotToImmediate(_, _)
+            | Row::GotMovToImmediate
+            | Row::InitialExecToLocalExec(_, _)
+            | Row::GeneralDynamicToLocalExec(_)
+            | Row::DescriptorLea(_, DescriptorUse::LocalExec) => 0,
+            _ => addend,
+        }
     }
 }
 

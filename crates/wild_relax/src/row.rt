@@ -2,8 +2,9 @@
 //! Relaxations"): which stand at a relocation. The first that stands is taken.
 ghost use Rattle.std.specs.Prelude.{◌≡◌, ◌+◌};
 ghost use Rattle.wild_relax.specs.Question.{question, relocation_of};
-ghost use Rattle.wild_relax.specs.First.{first_row};
-ghost use Rattle.wild_relax.specs.Rows.{number_of, always_pattern, needed_pattern, counts_from_its_end, is_signed_number, is_unsigned_number, is_thread_local, takes_value, takes_symbol, takes_section, is_mandatory, partner_distance, is_call_number, is_call_addend, call_form, is_partner, has_partner, applies, has_its_sequence, chosen_x86_64};
+ghost use Rattle.wild_relax.specs.First.{first_standing};
+ghost use Rattle.wild_relax.specs.ByNumber.{rows_with};
+ghost use Rattle.wild_relax.specs.Rows.{number_of, always_pattern, needed_pattern, counts_from_its_end, is_held, is_signed_number, is_unsigned_number, is_thread_local, takes_value, takes_symbol, takes_section, is_mandatory, partner_distance, is_call_number, is_call_addend, call_form, is_partner, has_partner, applies, has_its_sequence, standing_x86_64, chosen_x86_64};
 
 use crate::pattern::{GeneralForm, LocalForm, Operation, Pattern, Prefix, is_standing_before};
 use crate::reference::{Reference, RelocationInfo, UnknownSequence, is_minus_four, is_zero};
@@ -62,42 +63,97 @@ pub enum Row {
     DescriptorCall,
 }
 
-/// The rows in order, those of one row side by side: no two of these stand at the same relocation.
-const ROWS: [Row; 33] = [
-    Row::IfuncThroughStub,
+/// The rows in order, those of one relocation type side by side.
+const WITH_PC32: [Row; 1] = [Row::IfuncThroughStub];
+
+const WITH_REX_GOTPCRELX: [Row; 4] = [
     Row::RexGotToImmediate(Prefix::Rex, Operation::Mov),
     Row::RexGotToImmediate(Prefix::Rex, Operation::Sub),
     Row::RexGotToImmediate(Prefix::Rex, Operation::Cmp),
+    Row::RexGotMovToLea(Prefix::Rex),
+];
+
+const WITH_CODE_4_GOTPCRELX: [Row; 4] = [
     Row::RexGotToImmediate(Prefix::Rex2, Operation::Mov),
     Row::RexGotToImmediate(Prefix::Rex2, Operation::Sub),
     Row::RexGotToImmediate(Prefix::Rex2, Operation::Cmp),
-    Row::RexGotMovToLea(Prefix::Rex),
     Row::RexGotMovToLea(Prefix::Rex2),
+];
+
+const WITH_GOTPCRELX: [Row; 4] = [
     Row::GotMovToImmediate,
     Row::GotMovToLea,
     Row::IndirectCallToDirect,
     Row::IndirectJumpToDirect,
-    Row::PlainGotMovToLea,
+];
+
+const WITH_GOTPCREL: [Row; 1] = [Row::PlainGotMovToLea];
+
+const WITH_GOTTPOFF: [Row; 2] = [
     Row::InitialExecToLocalExec(Prefix::Rex, Operation::Mov),
     Row::InitialExecToLocalExec(Prefix::Rex, Operation::Add),
+];
+
+const WITH_CODE_4_GOTTPOFF: [Row; 2] = [
     Row::InitialExecToLocalExec(Prefix::Rex2, Operation::Mov),
     Row::InitialExecToLocalExec(Prefix::Rex2, Operation::Add),
-    Row::Plt32ToPc32,
-    Row::PltOffToGotOff,
+];
+
+const WITH_PLT32: [Row; 1] = [Row::Plt32ToPc32];
+
+const WITH_PLTOFF64: [Row; 1] = [Row::PltOffToGotOff];
+
+const WITH_TLSGD: [Row; 5] = [
     Row::GeneralDynamicToLocalExec(GeneralForm::Regular),
     Row::GeneralDynamicToLocalExec(GeneralForm::NoPlt),
     Row::GeneralDynamicToLocalExec(GeneralForm::Large),
     Row::GeneralDynamicToInitialExec(GeneralForm::Regular),
     Row::GeneralDynamicToInitialExec(GeneralForm::NoPlt),
+];
+
+const WITH_TLSLD: [Row; 3] = [
     Row::LocalDynamicToLocalExec(LocalForm::Regular),
     Row::LocalDynamicToLocalExec(LocalForm::Large),
     Row::LocalDynamicToLocalExec(LocalForm::NoPlt),
-    Row::DescriptorLea(Prefix::Rex, DescriptorUse::LocalExec),
-    Row::DescriptorLea(Prefix::Rex2, DescriptorUse::LocalExec),
-    Row::DescriptorLea(Prefix::Rex, DescriptorUse::InitialExec),
-    Row::DescriptorLea(Prefix::Rex2, DescriptorUse::InitialExec),
-    Row::DescriptorCall,
 ];
+
+const WITH_GOTPC32_TLSDESC: [Row; 2] = [
+    Row::DescriptorLea(Prefix::Rex, DescriptorUse::LocalExec),
+    Row::DescriptorLea(Prefix::Rex, DescriptorUse::InitialExec),
+];
+
+const WITH_CODE_4_GOTPC32_TLSDESC: [Row; 2] = [
+    Row::DescriptorLea(Prefix::Rex2, DescriptorUse::LocalExec),
+    Row::DescriptorLea(Prefix::Rex2, DescriptorUse::InitialExec),
+];
+
+const WITH_TLSDESC_CALL: [Row; 1] = [Row::DescriptorCall];
+
+const NO_ROWS: [Row; 0] = [];
+
+// The rows of a relocation type.
+#[tactic(auto, unfolding(crate::specs::ByNumber::rows_with))]
+fn rows_with(number: u32) -> &'static [Row]
+    ensures { result.now ≡ rows_with number }
+{
+    match number {
+        R_X86_64_PC32 => &WITH_PC32,
+        R_X86_64_PLT32 => &WITH_PLT32,
+        R_X86_64_GOTPCREL => &WITH_GOTPCREL,
+        R_X86_64_TLSGD => &WITH_TLSGD,
+        R_X86_64_TLSLD => &WITH_TLSLD,
+        R_X86_64_GOTTPOFF => &WITH_GOTTPOFF,
+        R_X86_64_PLTOFF64 => &WITH_PLTOFF64,
+        R_X86_64_GOTPC32_TLSDESC => &WITH_GOTPC32_TLSDESC,
+        R_X86_64_TLSDESC_CALL => &WITH_TLSDESC_CALL,
+        R_X86_64_GOTPCRELX => &WITH_GOTPCRELX,
+        R_X86_64_REX_GOTPCRELX => &WITH_REX_GOTPCRELX,
+        R_X86_64_CODE_4_GOTPCRELX => &WITH_CODE_4_GOTPCRELX,
+        R_X86_64_CODE_4_GOTTPOFF => &WITH_CODE_4_GOTTPOFF,
+        R_X86_64_CODE_4_GOTPC32_TLSDESC => &WITH_CODE_4_GOTPC32_TLSDESC,
+        _ => &NO_ROWS,
+    }
+}
 
 // The relocation type at which the row stands.
 fn number(row: Row) -> u32
@@ -128,8 +184,8 @@ fn number(row: Row) -> u32
     }
 }
 
-// The bytes without which the row does not stand.
-fn always_pattern(row: Row) -> Pattern
+/// The bytes without which the row does not stand.
+pub(crate) fn always_pattern(row: Row) -> Pattern
     ensures { result ≡ always_pattern row }
 {
     match row {
@@ -181,19 +237,28 @@ fn counts_from_its_end(row: Row) -> bool
     )
 }
 
+// Whether there is a value, and a field of 32 bits holds it.
+fn is_held(sign: Sign, value: Option<u64>) -> bool
+    ensures { result ≡ is_held sign value }
+{
+    match value {
+        None => false,
+        Some(value) => AllowedRange::from_bit_size(32, sign).contains(value),
+    }
+}
+
 // Whether the value is a number that a signed field of 32 bits holds.
 fn is_signed_number(reference: &Reference) -> bool
     ensures { result ≡ is_signed_number (question reference.now) }
 {
-    reference.is_known() && AllowedRange::from_bit_size(32, Sign::Signed).contains(reference.value)
+    reference.is_known() && is_held(Sign::Signed, reference.value)
 }
 
 // Whether the value is a number that an unsigned field of 32 bits holds.
 fn is_unsigned_number(reference: &Reference) -> bool
     ensures { result ≡ is_unsigned_number (question reference.now) }
 {
-    reference.is_known()
-        && AllowedRange::from_bit_size(32, Sign::Unsigned).contains(reference.value)
+    reference.is_known() && is_held(Sign::Unsigned, reference.value)
 }
 
 // Whether the row is about thread-local storage, which has one place for each thread in an executable alone.
@@ -288,7 +353,8 @@ fn is_applied(row: Row, reference: &Reference) -> bool
         && (!is_thread_local(row) || reference.kind.is_executable())
         && takes_value(row, reference)
         && (!counts_from_its_end(row) || is_minus_four(relocation.addend))
-        && is_standing_before(reference.bytes, relocation.offset, always_pattern(row))
+        && (matches!(row, Row::DescriptorCall)
+            || is_standing_before(reference.bytes, relocation.offset, always_pattern(row)))
 }
 
 // How far behind the field of the row the field of the call is, where the call is of `__tls_get_addr`.
@@ -381,28 +447,43 @@ fn has_its_sequence(row: Row, reference: &Reference) -> bool
 }
 
 // The first of the rows that stands.
-fn first_of(rows: &[Row], reference: &Reference) -> Result<Option<Row>, UnknownSequence>
-    ensures { result ≡ first_row (relocation_of (question reference.now)).number (applies (question reference.now)) (has_its_sequence (question reference.now)) rows.now }
+fn first_of(rows: &[Row], reference: &Reference) -> Option<Row>
+    ensures { result ≡ first_standing (applies (question reference.now)) rows.now }
 {
     match rows.split_first() {
-        None => Ok(None),
+        None => None,
         Some((row, rest)) => {
-            if !is_applied(*row, reference) {
-                first_of(rest, reference)
-            } else if has_its_sequence(*row, reference) {
-                Ok(Some(*row))
+            if is_applied(*row, reference) {
+                Some(*row)
             } else {
-                let number = reference.relocation().number;
-                Err(UnknownSequence { number })
+                first_of(rest, reference)
             }
         }
     }
 }
 
-/// The first row that stands.
+// The first row that stands: one of those of the relocation's type.
+#[tactic(auto, unfolding(crate::specs::Rows::standing_x86_64))]
+fn standing(reference: &Reference) -> Option<Row>
+    ensures { result ≡ standing_x86_64 (question reference.now) }
+{
+    first_of(rows_with(reference.relocation().number), reference)
+}
+
+/// The first row that stands; refused without its sequence.
 #[tactic(auto, unfolding(crate::specs::Rows::chosen_x86_64))]
 pub(crate) fn choose(reference: &Reference) -> Result<Option<Row>, UnknownSequence>
     ensures { result ≡ chosen_x86_64 (question reference.now) }
 {
-    first_of(&ROWS, reference)
+    let Some(row) = standing(reference) else {
+        return Ok(None);
+    };
+    if has_its_sequence(row, reference) {
+        Ok(Some(row))
+    } else {
+        Err(UnknownSequence {
+            number: reference.relocation().number,
+            written: row.number_written(),
+        })
+    }
 }

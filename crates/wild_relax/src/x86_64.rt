@@ -24,7 +24,8 @@ impl Arch for ElfX86_64 {
     ghost use Rattle.wild_relax.specs.Barred.{barred_x86_64, barred_in_shared_x86_64};
     ghost use Rattle.wild_plan.specs.Stub.{stub_x86_64};
     ghost use Rattle.wild_relax.specs.Thread.{pointer_x86_64};
-    ghost use Rattle.wild_relax.specs.Relaxation.{relaxation_x86_64};
+    ghost use Rattle.wild_relax.specs.Rows.{chosen_x86_64};
+    ghost use Rattle.wild_relax.specs.Relaxation.{relaxation_x86_64, rows_with_duty};
 
     type Relaxation = ElfX86_64Relaxation;
 
@@ -47,6 +48,8 @@ impl Arch for ElfX86_64 {
     ghost nop_padding = { λ n. replicate n 0xcc };
 
     ghost same_machine = { refl };
+
+    ghost same_rows = { λ q. rows_with_duty q (chosen_x86_64 q) };
 
     fn arch_identifier() -> Machine {
         Machine::X86_64
@@ -125,7 +128,7 @@ impl Arch for ElfX86_64 {
         output_kind: OutputKind,
         section_flags: u64,
         relax: bool,
-        sym_addr: u64,
+        sym_addr: Option<u64>,
         section_address: u64,
     ) -> Result<Option<ElfX86_64Relaxation>, UnknownSequence> {
         let reference = Reference {
@@ -161,6 +164,8 @@ impl Relaxation for ElfX86_64Relaxation {
     ghost use Rattle.wild_plan.specs.declared.kind.Machine.TheVariants.{X86_64};
     ghost use Rattle.wild_relax.specs.RewriteX86_64.{rewrite_of, kind_of, is_number};
 
+    ghost as_row = { λ r. r.row };
+
     ghost rewrite = { λ r. rewrite_of r.row };
 
     ghost mandatory = { λ r. r.mandatory };
@@ -171,16 +176,20 @@ impl Relaxation for ElfX86_64Relaxation {
 
     ghost falls_back = { λ r. is_number r.row };
 
+    fn row(&self) -> Row {
+        self.row
+    }
+
     fn apply(&self, section_bytes: &mut [u8], offset_in_section: &mut u64, addend: &mut i64) {
-        let start = *offset_in_section - rewrite::back(self.row);
+        let start = *offset_in_section - self.row.back();
         rewrite::write(self.row, section_bytes, start as usize);
-        *offset_in_section = start + rewrite::field(self.row);
-        *addend = rewrite::addend_written(self.row, *addend);
+        *offset_in_section = start + self.row.field();
+        *addend = self.row.addend_written(*addend);
     }
 
     #[tactic(auto, unfolding(wild_plan::specs::Rows::row_of))]
     fn rel_info(&self) -> RelocationKindInfo {
-        rewrite::row_written(self.row)
+        self.row.row_written()
     }
 
     fn debug_kind(&self) -> RelaxationKind {

@@ -119,6 +119,11 @@ fn refusals(rt: HostRuntime) -> Result<(), Fail> {
             "refused MissingResolution what=stub symbol=2\n",
         ),
         (
+            Fault::UnknownSequence { number: 19 },
+            at(Some(1), Some(4)),
+            "refused UnknownSequence number=19 at group=0 file=1 section=1 offset=4\n",
+        ),
+        (
             Fault::PltTooFar {
                 value: u64::MAX - (1 << 31),
             },

@@ -1,0 +1,63 @@
+-- The dynamic symbol table of an image and the names in it (gABI, "Symbol Table", "String Table", "Dynamic Section").
+--   table_symbols l        the symbols of the table behind the null one, in order, each with its name and what its entry says
+--   IsNamed ..             a name stands at an offset of the string table, with a zero behind it
+--   HasEntry ..            an entry of the table says that of a symbol, and its name stands where it tells
+--   SymbolsStand           each symbol has its entry, behind a null one
+--   LibrariesStand         each library's name stands where the dynamic section tells
+use Rattle.std.specs.Prelude.{◌≡◌, ℕ, ◌+◌, ◌*◌, ◌^◌, ◌<◌, true, List, [], ◌∷◌, ◌++◌, map, replicate, Some, slice_get}
+use Rattle.std.specs.List.{flat_map, filter}
+use Rattle.wild_words.specs.Words.{Stands}
+use Rattle.wild_words.specs.Record.{spell}
+use Rattle.wild_records.specs.Abi.Dynamic.{dt_needed}
+use Rattle.wild_records.specs.Dynamic.{dynamic_entry_size, dynamic_entry_fields}
+use Rattle.wild_records.specs.SymtabEntry.{symtab_entry_size, symtab_entry_fields}
+use Rattle.wild_plan.specs.declared.part.Part.{Part}
+use Rattle.wild_plan.specs.declared.part.Role.TheVariants as role
+use Rattle.wild_plan.specs.declared.file.File.{File}
+use Rattle.wild_plan.specs.declared.layout.Layout.{Layout}
+use Rattle.wild_plan.specs.DynamicStrings.{undefined_symbols}
+use Rattle.wild_plan.specs.FileRoles.{is_library}
+use Rattle.wild_plan.specs.Kinds.{needs_dynsym, needs_dynamic}
+use Rattle.wild_plan.specs.Lookups.{files_of}
+use Rattle.wild_plan.specs.Segments.{part_with}
+use Rattle.wild_symbols.specs.DynamicEntries.{NamedFields, undefined, listed, entry_at}
+use Rattle.wild_layout.specs.Image.{bytes}
+use Rattle.wild_layout.specs.Geometry.{IsLaidOut}
+
+-- file by file the symbols that other modules define, and then those that other modules see
+abbrev pub table_symbols : Layout → List NamedFields
+table_symbols l = flat_map (λ (f : File). map (undefined f.role) (undefined_symbols l.symbols f)) (files_of l.groups) ++ map (listed l) l.dynsyms
+
+-- the name stands in the image at an offset of the string table, with a zero behind it
+pub record IsNamed (l : Layout) (strings : Part) (at : ℕ) (name : List ℕ) : Type 0 where
+  pub small : at < 2 ^ 32
+  pub stands : Stands (bytes l) (strings.offset + at) (name ++ 0 ∷ [])
+
+-- entry k of the table says that of a symbol, and its name stands where the entry tells
+pub record HasEntry (l : Layout) (table strings : Part) (k : ℕ) (n : NamedFields) : Type 0 where
+  pub at : ℕ
+  pub entry : Stands (bytes l) (table.offset + symtab_entry_size * k) (spell (symtab_entry_fields (entry_at at n.fields)))
+  pub name : IsNamed l strings at n.name
+
+-- each symbol of the table has its entry, behind one of zeros
+pub record SymbolsAreThere (l : Layout) (table strings : Part) : Type 0 where
+  pub null : Stands (bytes l) table.offset (replicate symtab_entry_size 0)
+  pub each : (k : ℕ) (n : NamedFields) → slice_get (table_symbols l) k ≡ Some n → HasEntry l table strings (k + 1) n
+
+-- so it is in the image of a layout whose clauses and shares hold
+abbrev pub SymbolsStand : Type 0
+SymbolsStand = (l : Layout) → IsLaidOut l → needs_dynsym l.kind ≡ true → (table strings : Part) → part_with role.Dynsym l.parts ≡ Some table → part_with role.Dynstr l.parts ≡ Some strings → SymbolsAreThere l table strings
+
+-- the entry of a library, number j of the dynamic section, tells where its name stands
+pub record HasLibrary (l : Layout) (section strings : Part) (j : ℕ) (f : File) : Type 0 where
+  pub at : ℕ
+  pub entry : Stands (bytes l) (section.offset + dynamic_entry_size * j) (spell (dynamic_entry_fields (record { tag = dt_needed; value = at })))
+  pub name : IsNamed l strings at f.lib_name
+
+-- the libraries of a layout, in order
+abbrev pub libraries : Layout → List File
+libraries l = filter (λ (f : File). is_library f.role) (files_of l.groups)
+
+-- each library has its entry, those of all others behind them
+abbrev pub LibrariesStand : Type 0
+LibrariesStand = (l : Layout) → IsLaidOut l → needs_dynamic l.kind ≡ true → (section strings : Part) → part_with role.Dynamic l.parts ≡ Some section → part_with role.Dynstr l.parts ≡ Some strings → (j : ℕ) (f : File) → slice_get (libraries l) j ≡ Some f → HasLibrary l section strings j f

@@ -1,0 +1,9 @@
+-- The rows of one relocation type.
+use Rattle.std.specs.Prelude.{ℕ, ◌==◌, List}
+use Rattle.std.specs.List.{filter}
+use Rattle.wild_relax.specs.declared.row.Row.{Row}
+use Rattle.wild_relax.specs.Rows.{rows_x86_64, number_of}
+
+-- those of all rows that stand at that type, in order
+unfoldable pub rows_with : ℕ → List Row
+rows_with number = filter (λ row. number == number_of row) rows_x86_64
