@@ -33,7 +33,7 @@ use Rattle.wild_layout.specs.Values.{place_of, sum, address_of, index_of, decide
 use Rattle.wild_layout.specs.Geometry.{FieldLies}
 use Rattle.wild_layout.specs.Decide.{field, field_for, moved_to, added, left_to, chosen_to, decide_by, decided}
 use Rattle.wild_layout.specs.Left.{left_by, left_entry, entry_for}
-pub use Rattle.wild_layout.proofs.TreatmentLemmas.{has_value, HasValue}
+pub use Rattle.wild_layout.proofs.TreatmentLemmas.{has_value, HasValue, IsSilent}
 use Rattle.wild_layout.proofs.TreatmentLemmas.{IsMovedBy, IsLeftBy, IsSizedBy, row_value, row_nothing, row_moved, row_symbolic, row_indirect, row_extent}
 
 -- ---- rows
@@ -89,7 +89,7 @@ pub record IsMoved (l : Layout) (s : InputSection) (r : InputRelocation) (v : �
 pub record IsNothing (l : Layout) (r : InputRelocation) : Type 0 where
   pub row : RelocationKindInfo
   pub known : row_of l.machine r.number ≡ Some row
-  pub kind : row.kind ≡ kinds.None
+  pub kind : IsSilent row.kind
 
 in_field : (row : RelocationKindInfo) (w v : ℕ) (z : RelocationSize) → field row w ≡ Ok (Field z v) → (row.size ≡ z) × (w ≡ v) × (allows row v ≡ true)
 in_field row w v z h =

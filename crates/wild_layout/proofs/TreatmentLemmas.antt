@@ -1,5 +1,5 @@
 -- What a treatment says of its relocation.
-use Rattle.std.proofs.Common.{◌≡◌, ℕ, Bool, true, false, Option, Some, None, refl, sym, ap, ◌∙◌, subst}
+use Rattle.std.proofs.Common.{◌≡◌, ℕ, ◌⊎◌, inl, inr, Bool, true, false, Option, Some, None, refl, sym, ap, ◌∙◌, subst}
 use Rattle.std.specs.Prelude.{⊤, if◌then◌else◌, ◌&&◌, ◌||◌, ◌==◌}
 use Rattle.std.proofs.lemmas.Bool.{eqb-true}
 use Rattle.wild_plan.specs.declared.input.InputSection.{InputSection}
@@ -33,10 +33,15 @@ has_value kinds.GotRelGotBase = true
 has_value kinds.TlsGd = true
 has_value kinds.TlsLd = true
 has_value kinds.GotTpOff = true
+has_value kinds.TlsDesc = true
 has_value other = false
 
 abbrev pub HasValue : RelocationKind → Type 0
 HasValue k = has_value k ≡ true
+
+-- one that has none: nothing is relocated, or a descriptor is called
+abbrev pub IsSilent : RelocationKind → Type 0
+IsSilent k = (k ≡ kinds.None) ⊎ (k ≡ kinds.TlsDescCall)
 
 -- an address that moves is one of a symbol's, in 8 bytes of an allocated section
 pub record IsMovedBy (l : Layout) (s : InputSection) (symbol : Option ℕ) (row : RelocationKindInfo) : Type 0 where
@@ -62,7 +67,7 @@ pub record IsSizedBy (s : InputSection) (symbol : Option ℕ) (row : RelocationK
 
 -- what a treatment says
 abbrev pub Says : Layout → InputSection → Option ℕ → RelocationKindInfo → Treatment → Type 0
-Says l s symbol row treatments.Nothing = row.kind ≡ kinds.None
+Says l s symbol row treatments.Nothing = IsSilent row.kind
 Says l s symbol row (treatments.Value r) = (row ≡ r) × HasValue row.kind
 Says l s symbol row treatments.BaseRelative = IsMovedBy l s symbol row
 Says l s symbol row (treatments.Symbolic i) = IsLeftBy s symbol row i
@@ -127,7 +132,7 @@ said_value : (l : Layout) (s : InputSection) (row : RelocationKindInfo) (symbol 
 said_value l s row symbol h = said_named l s row symbol (λ i. treatments.Value row) (λ i. (refl, h))
 
 kind_says : (l : Layout) (s : InputSection) (symbol : Option ℕ) (row : RelocationKindInfo) (k : RelocationKind) → row.kind ≡ k → Says l s symbol row (kind_treatment l s symbol row k)
-kind_says l s symbol row kinds.None e = e
+kind_says l s symbol row kinds.None e = inl e
 kind_says l s symbol row kinds.Absolute e = said_named l s row symbol (address_treatment l s row) (λ i. said_address l s row i e)
 kind_says l s symbol row kinds.Relative e = said_distance l s row symbol e
 kind_says l s symbol row kinds.GotBaseRelative e = (refl, ap has_value e)
@@ -142,6 +147,8 @@ kind_says l s symbol row kinds.GotRelGotBase e = said_value l s row symbol (ap h
 kind_says l s symbol row kinds.TlsGd e = said_value l s row symbol (ap has_value e)
 kind_says l s symbol row kinds.TlsLd e = said_value l s row symbol (ap has_value e)
 kind_says l s symbol row kinds.GotTpOff e = said_value l s row symbol (ap has_value e)
+kind_says l s symbol row kinds.TlsDesc e = said_value l s row symbol (ap has_value e)
+kind_says l s symbol row kinds.TlsDescCall e = said_named l s row symbol (λ i. treatments.Nothing) (λ i. inr e)
 kind_says l s symbol row other e = tt
 
 -- ---- by row
@@ -168,7 +175,7 @@ row_value l s symbol o r h =
     let k = row_says l s symbol o (treatments.Value r) tt h in
     (k.known ∙ ap (λ (x : RelocationKindInfo). Some x) k.says.0, subst (λ (x : RelocationKindInfo). HasValue x.kind) k.says.0 k.says.1)
 
-pub row_nothing : (l : Layout) (s : InputSection) (symbol : Option ℕ) (o : Option RelocationKindInfo) → row_treatment l s symbol o ≡ treatments.Nothing → (row : RelocationKindInfo) × (o ≡ Some row) × (row.kind ≡ kinds.None)
+pub row_nothing : (l : Layout) (s : InputSection) (symbol : Option ℕ) (o : Option RelocationKindInfo) → row_treatment l s symbol o ≡ treatments.Nothing → (row : RelocationKindInfo) × (o ≡ Some row) × IsSilent row.kind
 row_nothing l s symbol o h = let k = row_says l s symbol o treatments.Nothing tt h in (k.row, k.known, k.says)
 
 pub row_moved : (l : Layout) (s : InputSection) (symbol : Option ℕ) (o : Option RelocationKindInfo) → row_treatment l s symbol o ≡ treatments.BaseRelative → (row : RelocationKindInfo) × (o ≡ Some row) × IsMovedBy l s symbol row

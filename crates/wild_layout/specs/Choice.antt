@@ -26,7 +26,7 @@ getter_name = 95 ∷ 95 ∷ 116 ∷ 108 ∷ 115 ∷ 95 ∷ 103 ∷ 101 ∷ 116 �
 
 abbrev pub same_names : List ℕ → List ℕ → Bool
 same_names [] [] = true
-same_names (a ∷ as) (b ∷ bs) = if a == b then same_names as bs else false
+same_names (a ∷ xs) (b ∷ ys) = if a == b then same_names xs ys else false
 same_names other name = false
 
 abbrev pub is_getter : Layout → Option ℕ → Bool
