@@ -1,5 +1,6 @@
 pub mod FaultLemmas
 pub mod TreatmentLemmas
+pub mod ChoiceLemmas
 pub mod DecideLemmas
 pub mod SitesApart
 pub mod SiteLemmas
