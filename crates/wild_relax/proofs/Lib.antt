@@ -7,3 +7,5 @@ pub mod ImmediateLemmas
 pub mod SequenceLemmas
 pub mod RowLemmas
 pub mod SectionLemmas
+pub mod NumberLemmas
+pub mod TemplateLemmas

@@ -1,6 +1,6 @@
 -- A rewrite that stands has room.
 use Rattle.std.proofs.Common.{◌≡◌, ℕ, ◌+◌, Bool, true, false, List, [], ◌∷◌, length, refl, ap, arith, subst, ⊎_elim, inl, inr}
-use Rattle.std.specs.Prelude.{Option, Some, None, Result, Ok, Err, ◌&&◌, ◌||◌, ◌⊎◌, cond, nat_le}
+use Rattle.std.specs.Prelude.{Option, Some, None, Result, Ok, Err, ◌&&◌, ◌||◌, ◌⊎◌, not, cond, nat_le}
 use Rattle.std.specs.List.{list_all}
 use Rattle.std.proofs.lemmas.Bool.Decides.{nat_tests}
 use Rattle.wild_relax.specs.declared.reference.UnknownSequence.{UnknownSequence}
@@ -9,7 +9,7 @@ use Rattle.wild_relax.specs.declared.row.Row.{Row}
 use Rattle.wild_relax.specs.Question.{Question, relocation_of}
 use Rattle.wild_relax.specs.Pattern.{cells_of, field_of, stands_before, stands_at}
 use Rattle.wild_relax.specs.First.{first_standing, checked}
-use Rattle.wild_relax.specs.Rows.{rows_x86_64, always_pattern, needed_pattern, applies, has_its_sequence, unknown_sequence, standing_x86_64, chosen_x86_64}
+use Rattle.wild_relax.specs.Rows.{rows_x86_64, always_pattern, needed_pattern, stands_anywhere, applies, has_its_sequence, unknown_sequence, standing_x86_64, chosen_x86_64}
 use Rattle.wild_relax.specs.Rewrite.{Rewrite, HasRoom}
 use Rattle.wild_relax.specs.RewriteX86_64.{rewrite_of}
 
@@ -54,7 +54,7 @@ abbrev lies_in : Rewrite → Pattern → Bool
 lies_in w p = nat_le w.back (field_of p) && nat_le (w.size + field_of p) (length (cells_of p) + w.back)
 
 abbrev lies_in_its_own : Row → Bool
-lies_in_its_own row = lies_in (rewrite_of row) (always_pattern row) || lies_in (rewrite_of row) (needed_pattern row)
+lies_in_its_own row = not (stands_anywhere row) && lies_in (rewrite_of row) (always_pattern row) || lies_in (rewrite_of row) (needed_pattern row)
 
 each_lies : list_all lies_in_its_own rows_x86_64 ≡ true
 each_lies = refl
@@ -63,9 +63,13 @@ room_in : (bs : List ℕ) (offset : ℕ) (p : Pattern) (w : Rewrite) → stands_
 unfolding stands_before stands_at
 room_in bs offset p w s l = record { before = grind (arith, nat_tests); behind = grind (arith, nat_tests) }
 
-pub always_stands : (q : Question) (row : Row) → applies q row ≡ true → stands_before q.bytes (relocation_of q).offset (always_pattern row) ≡ true
+by_bytes : (a b : Bool) → (a || b) ≡ true → not a ≡ true → b ≡ true
+by_bytes true b h n = cc
+by_bytes false b h n = h
+
+pub always_stands : (q : Question) (row : Row) → applies q row ≡ true → not (stands_anywhere row) ≡ true → stands_before q.bytes (relocation_of q).offset (always_pattern row) ≡ true
 unfolding applies
-always_stands q row h = (both _ _ h).1
+always_stands q row h n = by_bytes _ _ (both _ _ h).1 n
 
 pub needed_stands : (q : Question) (row : Row) → has_its_sequence q row ≡ true → stands_before q.bytes (relocation_of q).offset (needed_pattern row) ≡ true
 unfolding has_its_sequence
@@ -92,6 +96,6 @@ pub chosen_has_room : (q : Question) (row : Row) → chosen_x86_64 q ≡ Ok (Som
 chosen_has_room q row e =
     let first = chosen_is q lies_in_its_own row each_lies e in
     ⊎_elim
-    (λ l. room_in q.bytes (relocation_of q).offset (always_pattern row) (rewrite_of row) (always_stands q row first.here) l)
+    (λ l. room_in q.bytes (relocation_of q).offset (always_pattern row) (rewrite_of row) (always_stands q row first.here (both _ _ l).0) (both _ _ l).1)
     (λ l. room_in q.bytes (relocation_of q).offset (needed_pattern row) (rewrite_of row) (needed_stands q row first.whole) l)
     (either _ _ first.listed)

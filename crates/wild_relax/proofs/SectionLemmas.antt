@@ -1,6 +1,8 @@
 -- A rewrite in its section.
-use Rattle.std.proofs.Common.{◌≡◌, ℕ, ◌+◌, ◌-◌, ◌≤◌, true, List, [], ◌∷◌, ◌++◌, length, take, drop, refl, sym, ap, ◌∙◌, arith, subst, ⊎_elim, inl, inr}
-use Rattle.std.specs.Prelude.{Some, Ok, ◌⊎◌, slice_range}
+use Rattle.std.proofs.Common.{◌≡◌, ℕ, ◌+◌, ◌-◌, ◌≤◌, Bool, true, false, List, [], ◌∷◌, ◌++◌, length, take, drop, refl, sym, ap, ◌∙◌, arith, subst, ⊎_elim, inl, inr}
+use Rattle.std.specs.Prelude.{Some, Ok, ◌⊎◌, ◌||◌, not, slice_range}
+use Rattle.std.specs.List.{list_all}
+use Rattle.std.proofs.lemmas.Bool.{eqb-true}
 use Rattle.std.proofs.lemmas.Bool.Decides.{nat_tests}
 use Rattle.std.proofs.lemmas.List.{drop-drop, take-take, drop-take, take-append-drop, length-take-le, length-drop}
 use Rattle.std.proofs.lemmas.List.Elements.{All-nil, All-cons}
@@ -16,14 +18,16 @@ use Rattle.wild_relax.specs.declared.pattern.Pattern.{Pattern}
 use Rattle.wild_relax.specs.declared.row.DescriptorUse.TheVariants.{LocalExec, InitialExec}
 use Rattle.wild_relax.specs.declared.row.Row.{Row}
 use Rattle.wild_relax.specs.declared.row.Row.TheVariants.{IfuncThroughStub, RexGotToImmediate, RexGotMovToLea, GotMovToImmediate, GotMovToLea, IndirectCallToDirect, IndirectJumpToDirect, PlainGotMovToLea, InitialExecToLocalExec, Plt32ToPc32, PltOffToGotOff, GeneralDynamicToLocalExec, GeneralDynamicToInitialExec, LocalDynamicToLocalExec, DescriptorLea, DescriptorCall}
-use Rattle.wild_relax.specs.Question.{Question, relocation_of}
+use Rattle.wild_plan.specs.Kinds.{is_executable}
+use Rattle.wild_relax.specs.Question.{Question, relocation_of, minus_four}
 use Rattle.wild_relax.specs.Pattern.{cells_of, field_of, stands_before, stands_at}
-use Rattle.wild_relax.specs.Rows.{always_pattern, needed_pattern, chosen_x86_64}
+use Rattle.wild_relax.specs.Rows.{rows_x86_64, always_pattern, needed_pattern, number_of, takes_symbol, takes_section, takes_value, is_thread_local, counts_from_its_end, needs_its_end, has_partner, stands_anywhere, applies, has_its_sequence, chosen_x86_64}
 use Rattle.wild_relax.specs.Rewrite.{rewritten}
 use Rattle.wild_relax.specs.RewriteX86_64.{rewrite_of}
-use Rattle.wild_relax.specs.Linked.{pattern_of, field_in, IsChanging}
+use Rattle.wild_relax.specs.Linked.{pattern_of, keeps_bytes, field_in, IsChanging}
 use Rattle.wild_relax.specs.Keep.{IsWhole}
-use Rattle.wild_relax.specs.Section.{start_of, window, field_after, ChosenAreWhole, SectionsAreLinked}
+use Rattle.wild_relax.specs.Section.{start_of, window, field_after, ChosenStand, ChosenAreWhole, SectionsAreLinked}
+use Rattle.wild_relax.proofs.ShapeLemmas.{parts}
 use Rattle.wild_relax.proofs.RoomLemmas.{chosen_is, always_stands, needed_stands}
 use Rattle.wild_relax.proofs.RowLemmas.{pc32, signed_32s, unsigned_32, tpoff32, gottpoff, nothing}
 
@@ -51,20 +55,54 @@ at_place bs offset p h =
       whole = record { long = length-window bs (offset - field_of p) (length (cells_of p)) inside; same = grind (arith, nat_tests) };
     }
 
-pattern_is : (row : Row) → (pattern_of row ≡ always_pattern row) ⊎ (pattern_of row ≡ needed_pattern row)
-pattern_is IfuncThroughStub = inl refl
-pattern_is (RexGotToImmediate p o) = inl refl
-pattern_is (RexGotMovToLea p) = inl refl
-pattern_is GotMovToImmediate = inl refl
-pattern_is GotMovToLea = inl refl
-pattern_is IndirectCallToDirect = inl refl
-pattern_is IndirectJumpToDirect = inl refl
-pattern_is PlainGotMovToLea = inl refl
-pattern_is (InitialExecToLocalExec p o) = inl refl
-pattern_is Plt32ToPc32 = inl refl
-pattern_is PltOffToGotOff = inl refl
-pattern_is (GeneralDynamicToLocalExec f) = inl refl
-pattern_is (GeneralDynamicToInitialExec f) = inl refl
+-- the table has the row
+abbrev is_listed : Row → Bool
+is_listed (GeneralDynamicToInitialExec general.Large) = false
+is_listed other = true
+
+each_is_listed : list_all is_listed rows_x86_64 ≡ true
+each_is_listed = refl
+
+-- and so it changes bytes, or none
+changes : (row : Row) → is_listed row ≡ true → keeps_bytes row ≡ false → IsChanging row
+changes IfuncThroughStub l h = cc
+changes (RexGotToImmediate p o) l h = tt
+changes (RexGotMovToLea p) l h = tt
+changes GotMovToImmediate l h = tt
+changes GotMovToLea l h = tt
+changes IndirectCallToDirect l h = tt
+changes IndirectJumpToDirect l h = tt
+changes PlainGotMovToLea l h = tt
+changes (InitialExecToLocalExec p o) l h = tt
+changes Plt32ToPc32 l h = cc
+changes PltOffToGotOff l h = cc
+changes (GeneralDynamicToLocalExec f) l h = tt
+changes (GeneralDynamicToInitialExec general.Regular) l h = tt
+changes (GeneralDynamicToInitialExec general.NoPlt) l h = tt
+changes (GeneralDynamicToInitialExec general.Large) l h = cc
+changes (LocalDynamicToLocalExec f) l h = tt
+changes (DescriptorLea p u) l h = tt
+changes DescriptorCall l h = tt
+
+-- the row stands only on that pattern
+record IsAlways (row : Row) : Type 0 where
+  same : pattern_of row ≡ always_pattern row
+  somewhere : not (stands_anywhere row) ≡ true
+
+pattern_is : (row : Row) → IsAlways row ⊎ (pattern_of row ≡ needed_pattern row)
+pattern_is IfuncThroughStub = inl (record { same = refl; somewhere = refl })
+pattern_is (RexGotToImmediate p o) = inl (record { same = refl; somewhere = refl })
+pattern_is (RexGotMovToLea p) = inl (record { same = refl; somewhere = refl })
+pattern_is GotMovToImmediate = inl (record { same = refl; somewhere = refl })
+pattern_is GotMovToLea = inl (record { same = refl; somewhere = refl })
+pattern_is IndirectCallToDirect = inl (record { same = refl; somewhere = refl })
+pattern_is IndirectJumpToDirect = inl (record { same = refl; somewhere = refl })
+pattern_is PlainGotMovToLea = inl (record { same = refl; somewhere = refl })
+pattern_is (InitialExecToLocalExec p o) = inl (record { same = refl; somewhere = refl })
+pattern_is Plt32ToPc32 = inl (record { same = refl; somewhere = refl })
+pattern_is PltOffToGotOff = inl (record { same = refl; somewhere = refl })
+pattern_is (GeneralDynamicToLocalExec f) = inl (record { same = refl; somewhere = refl })
+pattern_is (GeneralDynamicToInitialExec f) = inl (record { same = refl; somewhere = refl })
 pattern_is (LocalDynamicToLocalExec f) = inr refl
 pattern_is (DescriptorLea p u) = inr refl
 pattern_is DescriptorCall = inr refl
@@ -74,9 +112,68 @@ chosen_at q row e =
     let first = chosen_is q is_listed row each_is_listed e in
     let P : Pattern → Type 0 = λ p. IsAt q.bytes (relocation_of q).offset p in
     ⊎_elim
-    (λ h. subst P (sym h) (at_place q.bytes (relocation_of q).offset (always_pattern row) (always_stands q row first.here)))
+    (λ h. subst P (sym h.same) (at_place q.bytes (relocation_of q).offset (always_pattern row) (always_stands q row first.here h.somewhere)))
     (λ h. subst P (sym h) (at_place q.bytes (relocation_of q).offset (needed_pattern row) (needed_stands q row first.whole)))
     (pattern_is row)
+
+-- what a row that stands takes
+record IsApplied (q : Question) (row : Row) : Type 0 where
+  number : (relocation_of q).number ≡ number_of row
+  symbol : takes_symbol row q ≡ true
+  section : takes_section row q ≡ true
+  value : takes_value row q ≡ true
+  thread : (not (is_thread_local row) || is_executable q.kind) ≡ true
+  addend : (not (counts_from_its_end row) || minus_four (relocation_of q).addend) ≡ true
+
+applied : (q : Question) (row : Row) → applies q row ≡ true → IsApplied q row
+unfolding applies
+applied q row h =
+    let addend = parts _ _ (parts _ _ h).0 in
+    let value = parts _ _ addend.0 in
+    let thread = parts _ _ value.0 in
+    let symbol = parts _ _ thread.0 in
+    let section = parts _ _ symbol.0 in
+    let number = parts _ _ section.0 in
+    record { number = eqb-true _ _ number.0; symbol = symbol.1; section = section.1; value = value.1; thread = thread.1; addend = addend.1 }
+
+-- and what its sequence has
+record HasSequence (q : Question) (row : Row) : Type 0 where
+  addend : (not (needs_its_end row) || minus_four (relocation_of q).addend) ≡ true
+  partner : has_partner row q ≡ true
+
+sequence_has : (q : Question) (row : Row) → has_its_sequence q row ≡ true → HasSequence q row
+unfolding has_its_sequence
+sequence_has q row h =
+    let partner = parts _ _ h in
+    let addend = parts _ _ partner.0 in
+    record { addend = addend.1; partner = partner.1 }
+
+joined : (a b m : Bool) → (not a || m) ≡ true → (not b || m) ≡ true → (not (a || b) || m) ≡ true
+joined true b m h k = h
+joined false b m h k = k
+
+pub chosen_stand : ChosenStand
+chosen_stand q row e =
+    let first = chosen_is q is_listed row each_is_listed e in
+    let at = chosen_at q row e in
+    let row_takes = applied q row first.here in
+    let has = sequence_has q row first.whole in
+    record {
+      here = first.here;
+      sequence = first.whole;
+      number = row_takes.number;
+      taken = record {
+        symbol = row_takes.symbol;
+        section = row_takes.section;
+        value = row_takes.value;
+        thread = row_takes.thread;
+        addend = joined (counts_from_its_end row) (needs_its_end row) (minus_four (relocation_of q).addend) row_takes.addend has.addend;
+        partner = has.partner;
+      };
+      before = at.before;
+      inside = at.inside;
+      changing = changes row first.listed;
+    }
 
 pub chosen_are_whole : ChosenAreWhole
 chosen_are_whole q row e = (chosen_at q row e).whole

@@ -24,7 +24,7 @@ pub trait Arch {
     ghost use Rattle.wild_plan.specs.Stub.{Stub};
 
     /// A rewrite of instructions of the machine.
-    type Relaxation: Relaxation;
+    type Relaxation: Relaxation + Copy;
 
     /// The machine.
     ghost machine: { Machine };
@@ -53,6 +53,9 @@ pub trait Arch {
 
     /// What stands between sections of code: so many bytes that are not to be run.
     ghost nop_padding: { ℕ → List ℕ };
+
+    /// That is one byte, over and over.
+    ghost same_padding: { (n : ℕ) → Self.nop_padding n ≡ replicate n 0xcc };
 
     /// The machine (gABI, `e_machine`).
     fn arch_identifier() -> Machine

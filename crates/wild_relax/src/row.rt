@@ -4,7 +4,7 @@ ghost use Rattle.std.specs.Prelude.{◌≡◌, ◌+◌};
 ghost use Rattle.wild_relax.specs.Question.{question, relocation_of};
 ghost use Rattle.wild_relax.specs.First.{first_standing};
 ghost use Rattle.wild_relax.specs.ByNumber.{rows_with};
-ghost use Rattle.wild_relax.specs.Rows.{number_of, always_pattern, needed_pattern, counts_from_its_end, is_held, is_signed_number, is_unsigned_number, is_thread_local, takes_value, takes_symbol, takes_section, is_mandatory, partner_distance, is_call_number, is_call_addend, call_form, is_partner, has_partner, applies, has_its_sequence, standing_x86_64, chosen_x86_64};
+ghost use Rattle.wild_relax.specs.Rows.{number_of, always_pattern, needed_pattern, counts_from_its_end, is_held, is_signed_number, is_unsigned_number, is_thread_local, takes_value, takes_symbol, takes_section, is_mandatory, partner_distance, is_call_number, is_call_addend, call_form, is_partner, has_partner, stands_anywhere, applies, has_its_sequence, standing_x86_64, chosen_x86_64};
 
 use crate::pattern::{GeneralForm, LocalForm, Operation, Pattern, Prefix, is_standing_before};
 use crate::reference::{Reference, RelocationInfo, UnknownSequence, is_minus_four, is_zero};
@@ -340,6 +340,13 @@ pub(crate) fn is_mandatory(row: Row, reference: &Reference) -> bool
     }
 }
 
+// Whether the row stands wherever its relocation is.
+fn stands_anywhere(row: Row) -> bool
+    ensures { result ≡ stands_anywhere row }
+{
+    matches!(row, Row::DescriptorCall)
+}
+
 // Whether the row stands at the relocation.
 #[tactic(auto, unfolding(crate::specs::Rows::applies))]
 fn is_applied(row: Row, reference: &Reference) -> bool
@@ -353,7 +360,7 @@ fn is_applied(row: Row, reference: &Reference) -> bool
         && (!is_thread_local(row) || reference.kind.is_executable())
         && takes_value(row, reference)
         && (!counts_from_its_end(row) || is_minus_four(relocation.addend))
-        && (matches!(row, Row::DescriptorCall)
+        && (stands_anywhere(row)
             || is_standing_before(reference.bytes, relocation.offset, always_pattern(row)))
 }
 
@@ -463,7 +470,6 @@ fn first_of(rows: &[Row], reference: &Reference) -> Option<Row>
 }
 
 // The first row that stands: one of those of the relocation's type.
-#[tactic(auto, unfolding(crate::specs::Rows::standing_x86_64))]
 fn standing(reference: &Reference) -> Option<Row>
     ensures { result ≡ standing_x86_64 (question reference.now) }
 {

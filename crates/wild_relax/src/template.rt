@@ -73,7 +73,8 @@ impl Row {
 fn write_part(row: Row, value: u64, part: &mut [u8])
     requires whole { length part.old ≡ pattern_size row }
     requires changes { keeps_bytes row ≡ false }
-    ensures { part.new ≡ template_of row value part.old }
+    ensures template { part.new ≡ template_of row value part.old }
+    ensures long { length part.new ≡ pattern_size row }
 {
     let start = row.pattern_field().saturating_sub(row.back());
     rewrite::write(row, part, start as usize);
