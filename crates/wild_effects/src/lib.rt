@@ -1,7 +1,7 @@
 //! What makes the references of a section hold beyond their fields: instructions, kept or rewritten, do what is demanded.
 #![tactic(auto)]
 
-ghost use Rattle.wild_effects.specs.Laws.{InstructionsAreKept, ItemsHold, KeptInstructionsDo, OthersAreKept, PartnersHold, RewrittenHold, RewrittenStand, WindowsAreAlone};
+ghost use Rattle.wild_effects.specs.Laws.{InstructionsAreKept, ItemsHold, KeptInstructionsDo, OthersAreKept, PartnersHold, RewrittenHold, RewrittenStand, SequencesAreKept, WindowsAreAlone};
 
 use wild_relax::{rewrites_keep_the_effect, rewrites_stay_in_their_patterns};
 use wild_reloc::{fields_of_x86_64, widths_of_fields};
@@ -26,9 +26,10 @@ pub fn rewritten_instructions_hold()
     rewrites_stay_in_their_patterns();
 }
 
-/// An instruction that is not rewritten keeps its bytes, whatever is rewritten beside it, and so does every byte in no field and
-/// no instruction.
+/// Both relocations of a sequence keep it, or none does. An instruction that is not rewritten keeps its bytes, whatever is
+/// rewritten beside it, and so does every byte in no field and no instruction.
 pub fn other_bytes_are_kept()
+    ensures sequences { SequencesAreKept }
     ensures instructions { InstructionsAreKept }
     ensures others { OthersAreKept }
 {
