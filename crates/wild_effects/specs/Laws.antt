@@ -39,14 +39,15 @@ abbrev pub WindowsAreAlone : Type 0
 WindowsAreAlone = (l : Layout) (s : InputSection) → l.machine ≡ machine.X86_64 → IsDecided l s → (i j : ℕ) (r q : InputRelocation) (row : Row) (v : ℕ) (d : Decision) → HasDecision l s i r (Rewritten row v) → HasDecision l s j q d → (i ≡ j → ⊥) → (j ≡ i + 1 → d ≡ Partner → ⊥)
     → (k : ℕ) → template_start row r ≤ k → k < template_start row r + pattern_size row → IsBesideField l q k
 
--- the reference belongs to an instruction that the reader knows, which has all bytes from start on, so many of them
+-- an instruction that the reader knows has all the bytes from start on, so many of them, and the reference belongs to it; it
+-- begins before them where the reader knows a longer prefix
 pub record StandsAt (l : Layout) (item : Item) (r : InputRelocation) (start size : ℕ) : Type 0 where
+  pub from : ℕ
   pub instruction : Instruction
   pub first : InputRelocation
-  pub from : ℕ
   pub template : IsTemplate l item r from instruction first
-  pub begins : from ≤ start
-  pub ends : start + size ≤ from + size_of instruction
+  pub before : from ≤ start
+  pub behind : start + size ≤ from + size_of instruction
 
 -- all bytes that are rewritten are those of an instruction that the reader knows
 abbrev pub RewrittenStand : Type 0
