@@ -143,6 +143,7 @@ pattern_inside bs o p h = leb-true (o - field_of p + length (cells_of p)) (lengt
 
 -- the row stands at the relocation, before the one behind it; the type of relocations that have no row is another
 pub record IsChosen (l : Layout) (s : InputSection) (r : InputRelocation) (next : Option InputRelocation) (row : Row) : Type 0 where
+  pub choice : choice_of l s r next ≡ Ok (Some row)
   pub machine : l.machine ≡ machine.X86_64
   pub symbol : ℕ
   pub named : r.symbol ≡ Some symbol
@@ -154,14 +155,15 @@ pub record IsChosen (l : Layout) (s : InputSection) (r : InputRelocation) (next 
 
 pub choice_row : (l : Layout) (s : InputSection) (r : InputRelocation) (next : Option InputRelocation) (row : Row) → choice_of l s r next ≡ Ok (Some row) → IsChosen l s r next row
 unfolding choice_by
-choice_row l s r next row h = by_symbol l s r next row r.symbol refl h
+choice_row l s r next row h = by_symbol l s r next row r.symbol h refl h
   where
-    by_machine : (l : Layout) (s : InputSection) (r : InputRelocation) (next : Option InputRelocation) (row : Row) (i : ℕ) (m : Machine) → l.machine ≡ m → r.symbol ≡ Some i → (r.number == abi.r_x86_64_pc32) ≡ false → chosen_of m (question_of l s r i next) ≡ Ok (Some row) → IsChosen l s r next row
-    by_machine l s r next row i machine.AArch64 is named other e = cc
-    by_machine l s r next row i machine.X86_64 is named other e =
+    by_machine : (l : Layout) (s : InputSection) (r : InputRelocation) (next : Option InputRelocation) (row : Row) (i : ℕ) (m : Machine) → choice_of l s r next ≡ Ok (Some row) → l.machine ≡ m → r.symbol ≡ Some i → (r.number == abi.r_x86_64_pc32) ≡ false → chosen_of m (question_of l s r i next) ≡ Ok (Some row) → IsChosen l s r next row
+    by_machine l s r next row i machine.AArch64 all is named other e = cc
+    by_machine l s r next row i machine.X86_64 all is named other e =
         let t = taken_is (question_of l s r i next) row e in
         let stands = whole_stands row s.bytes r.offset (always_stands (question_of l s r i next) row t.first.here) (needed_stands (question_of l s r i next) row t.whole) in
         record {
+          choice = all;
           machine = is;
           symbol = i;
           named = named;
@@ -172,13 +174,13 @@ choice_row l s r next row h = by_symbol l s r next row r.symbol refl h
           inside = pattern_inside s.bytes r.offset (pattern_of row) stands;
         }
 
-    by_number : (l : Layout) (s : InputSection) (r : InputRelocation) (next : Option InputRelocation) (row : Row) (i : ℕ) (b : Bool) → r.symbol ≡ Some i → (r.number == abi.r_x86_64_pc32) ≡ b → (if b then Ok None else chosen_of l.machine (question_of l s r i next)) ≡ Ok (Some row) → IsChosen l s r next row
-    by_number l s r next row i true named is e = cc
-    by_number l s r next row i false named is e = by_machine l s r next row i l.machine refl named is e
+    by_number : (l : Layout) (s : InputSection) (r : InputRelocation) (next : Option InputRelocation) (row : Row) (i : ℕ) (b : Bool) → choice_of l s r next ≡ Ok (Some row) → r.symbol ≡ Some i → (r.number == abi.r_x86_64_pc32) ≡ b → (if b then Ok None else chosen_of l.machine (question_of l s r i next)) ≡ Ok (Some row) → IsChosen l s r next row
+    by_number l s r next row i true all named is e = cc
+    by_number l s r next row i false all named is e = by_machine l s r next row i l.machine all refl named is e
 
-    by_symbol : (l : Layout) (s : InputSection) (r : InputRelocation) (next : Option InputRelocation) (row : Row) (o : Option ℕ) → r.symbol ≡ o → choice_by l s r next o ≡ Ok (Some row) → IsChosen l s r next row
-    by_symbol l s r next row None named e = cc
-    by_symbol l s r next row (Some i) named e = by_number l s r next row i (r.number == abi.r_x86_64_pc32) named refl e
+    by_symbol : (l : Layout) (s : InputSection) (r : InputRelocation) (next : Option InputRelocation) (row : Row) (o : Option ℕ) → choice_of l s r next ≡ Ok (Some row) → r.symbol ≡ o → choice_by l s r next o ≡ Ok (Some row) → IsChosen l s r next row
+    by_symbol l s r next row None all named e = cc
+    by_symbol l s r next row (Some i) all named e = by_number l s r next row i (r.number == abi.r_x86_64_pc32) all named refl e
 
 -- what each row of the table has
 pub chosen_listed : (l : Layout) (s : InputSection) (r : InputRelocation) (next : Option InputRelocation) (row : Row) → IsChosen l s r next row → (p : Row → Bool) → list_all p rows_x86_64 ≡ true → p row ≡ true
