@@ -1,0 +1,4 @@
+mod WindowRows
+mod WindowSites
+mod WindowFields
+mod Windows
