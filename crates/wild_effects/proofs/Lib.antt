@@ -1,3 +1,7 @@
+mod Acts
+mod Right
+mod Fills
+mod Does
 mod WindowRows
 mod WindowSites
 mod WindowFields
