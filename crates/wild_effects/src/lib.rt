@@ -15,10 +15,7 @@ pub fn filled_instructions_do()
 /// No field of another relocation lies among the bytes of an instruction that is rewritten.
 pub fn windows_are_alone()
     ensures { WindowsAreAlone }
-{
-    fields_of_x86_64();
-    rewrites_stay_in_their_patterns();
-}
+{}
 
 /// An instruction that is rewritten is one that the reader knows and does what the input's demands, and so does the call that it
 /// takes along.

@@ -68,7 +68,7 @@ fn write_bytes<A: Arch>(
     ensures faults { Answers result (flat_map_from (group_errors layout.now) 0 layout.now.groups) }
     ensures image { OnOk result (out.new ≡ bytes layout.now) }
 {
-    fill_sections::<A>(layout, out);
+    fill_sections(layout, out);
     append_all(layout, batches, outcomes, starts, out)
 }
 

@@ -54,9 +54,6 @@ pub trait Arch {
     /// What stands between sections of code: so many bytes that are not to be run.
     ghost nop_padding: { ℕ → List ℕ };
 
-    /// That is one byte, over and over.
-    ghost same_padding: { (n : ℕ) → Self.nop_padding n ≡ replicate n 0xcc };
-
     /// The machine (gABI, `e_machine`).
     fn arch_identifier() -> Machine
         ensures { result ≡ Self.machine };

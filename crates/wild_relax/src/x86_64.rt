@@ -47,8 +47,6 @@ impl Arch for ElfX86_64 {
 
     ghost nop_padding = { λ n. replicate n 0xcc };
 
-    ghost same_padding = { λ n. refl };
-
     ghost same_machine = { refl };
 
     ghost same_rows = { λ q. rows_with_duty q (chosen_x86_64 q) };
