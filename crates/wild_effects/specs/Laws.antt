@@ -4,10 +4,11 @@
 --   RewrittenHold        the code that is written in place of an instruction does what that demands
 --   PartnersHold         so it is of the call of a sequence
 --   InstructionsAreKept  an instruction that is not rewritten has its own bytes
+--   SequencesAreKept     both relocations of a sequence keep it, or none does
 --   KeptInstructionsDo   and does what is demanded
 --   OthersAreKept        every byte in no field and no instruction is the input's
 --   ItemsHold            all of this together
-use Rattle.std.specs.Prelude.{◌≡◌, ℕ, ◌+◌, ◌-◌, ◌<◌, ◌≤◌, ◌⊎◌, length, Some, Ok}
+use Rattle.std.specs.Prelude.{◌≡◌, ℕ, ◌+◌, ◌<◌, ◌≤◌, ◌⊎◌, List, length, Some}
 use Rattle.wild_plan.specs.declared.kind.Machine.TheVariants as machine
 use Rattle.wild_plan.specs.declared.input.InputRelocation.{InputRelocation}
 use Rattle.wild_plan.specs.declared.input.InputSection.{InputSection}
@@ -22,10 +23,11 @@ use Rattle.wild_geometry.specs.Loaded.{IsDecided, HasDecision}
 use Rattle.wild_values.specs.Laws.{KeepsInstruction, IsKeptReference, FieldsHold, IsLoadedSection}
 use Rattle.wild_loader.specs.declared.memory.Memory.{Memory}
 use Rattle.wild_loader.specs.declared.world.World.{World}
-use Rattle.wild_meaning.specs.Item.{Item, item_of}
+use Rattle.wild_loader.specs.Memory.{Holds}
+use Rattle.wild_meaning.specs.Item.{Item, item_of, place_at}
 use Rattle.wild_meaning.specs.Field.{formula_of, form_width, IsInputByte}
-use Rattle.wild_meaning.specs.Sequence.{Instruction, size_of, IsOwnByte}
-use Rattle.wild_meaning.specs.Template.{IsTemplate, DoesDemanded}
+use Rattle.wild_meaning.specs.Sequence.{Partner as CallField, Instruction, size_of, IsOwnByte}
+use Rattle.wild_meaning.specs.Template.{IsSequence, IsTemplate, DoesDemanded}
 use Rattle.wild_meaning.specs.Reference.{IsAsked, IsLinkedAlone, HoldsRewritten, IsOther, ItemHolds}
 
 -- byte k lies in no field of the relocation
@@ -37,12 +39,15 @@ abbrev pub WindowsAreAlone : Type 0
 WindowsAreAlone = (l : Layout) (s : InputSection) → l.machine ≡ machine.X86_64 → IsDecided l s → (i j : ℕ) (r q : InputRelocation) (row : Row) (v : ℕ) (d : Decision) → HasDecision l s i r (Rewritten row v) → HasDecision l s j q d → (i ≡ j → ⊥) → (j ≡ i + 1 → d ≡ Partner → ⊥)
     → (k : ℕ) → template_start row r ≤ k → k < template_start row r + pattern_size row → IsBesideField l q k
 
--- an instruction that the reader knows stands at start, with so many bytes, and the reference belongs to it
+-- an instruction that the reader knows has all the bytes from start on, so many of them, and the reference belongs to it; it
+-- begins before them where the reader knows a longer prefix
 pub record StandsAt (l : Layout) (item : Item) (r : InputRelocation) (start size : ℕ) : Type 0 where
+  pub from : ℕ
   pub instruction : Instruction
   pub first : InputRelocation
-  pub template : IsTemplate l item r start instruction first
-  pub whole : size_of instruction ≡ size
+  pub template : IsTemplate l item r from instruction first
+  pub before : from ≤ start
+  pub behind : start + size ≤ from + size_of instruction
 
 -- all bytes that are rewritten are those of an instruction that the reader knows
 abbrev pub RewrittenStand : Type 0
@@ -60,6 +65,21 @@ PartnersHold = (l : Layout) (w : World) (m : Memory) (s : InputSection) → IsLo
 abbrev pub InstructionsAreKept : Type 0
 InstructionsAreKept = (l : Layout) (w : World) (m : Memory) (s : InputSection) → IsLoadedSection l w m s → (i : ℕ) (r : InputRelocation) (d : Decision) → HasDecision l s i r d → KeepsInstruction d
     → (start : ℕ) (o : Instruction) (first : InputRelocation) → IsTemplate l (item_of s) r start o first → (k : ℕ) → IsOwnByte o k → IsInputByte w m (item_of s) (start + k)
+
+-- the first relocation of a sequence keeps its instruction too, and memory has bytes at the field of the call
+pub record SequenceIsKept (l : Layout) (w : World) (m : Memory) (s : InputSection) (first : InputRelocation) (start : ℕ) (p : CallField) : Type 0 where
+  pub index : ℕ
+  pub decision : Decision
+  pub has : HasDecision l s index first decision
+  pub keeps : KeepsInstruction decision
+  pub bytes : List ℕ
+  pub wide : length bytes ≡ p.width
+  pub held : Holds m (place_at w (item_of s) (start + p.field)) bytes
+
+-- so it is where one of its two relocations keeps its instruction
+abbrev pub SequencesAreKept : Type 0
+SequencesAreKept = (l : Layout) (w : World) (m : Memory) (s : InputSection) → IsLoadedSection l w m s → (i : ℕ) (r : InputRelocation) (d : Decision) → HasDecision l s i r d → KeepsInstruction d
+    → (start : ℕ) (o : Instruction) (first second : InputRelocation) → (q : IsSequence l (item_of s) first second start o) → (r ≡ first) ⊎ (r ≡ second) → SequenceIsKept l w m s first start q.partner
 
 -- every byte that is in no field and in no instruction of a reference is the input's
 abbrev pub OthersAreKept : Type 0

@@ -1,18 +1,21 @@
 //! What makes the references of a section hold beyond their fields: instructions, kept or rewritten, do what is demanded.
 #![tactic(auto)]
 
-ghost use Rattle.wild_effects.specs.Laws.{InstructionsAreKept, ItemsHold, KeptInstructionsDo, OthersAreKept, PartnersHold, RewrittenHold, RewrittenStand, WindowsAreAlone};
+ghost use Rattle.wild_effects.specs.Filled.{FilledInstructionsDo};
+ghost use Rattle.wild_effects.specs.Laws.{InstructionsAreKept, ItemsHold, KeptInstructionsDo, OthersAreKept, PartnersHold, RewrittenHold, RewrittenStand, SequencesAreKept, WindowsAreAlone};
 
 use wild_relax::{rewrites_keep_the_effect, rewrites_stay_in_their_patterns};
 use wild_reloc::{fields_of_x86_64, widths_of_fields};
 
+/// An instruction whose fields are filled does what the input's bytes demand, wherever its operand reads as it should.
+pub fn filled_instructions_do()
+    ensures { FilledInstructionsDo }
+{}
+
 /// No field of another relocation lies among the bytes of an instruction that is rewritten.
 pub fn windows_are_alone()
     ensures { WindowsAreAlone }
-{
-    fields_of_x86_64();
-    rewrites_stay_in_their_patterns();
-}
+{}
 
 /// An instruction that is rewritten is one that the reader knows and does what the input's demands, and so does the call that it
 /// takes along.
@@ -26,9 +29,10 @@ pub fn rewritten_instructions_hold()
     rewrites_stay_in_their_patterns();
 }
 
-/// An instruction that is not rewritten keeps its bytes, whatever is rewritten beside it, and so does every byte in no field and
-/// no instruction.
+/// Both relocations of a sequence keep it, or none does. An instruction that is not rewritten keeps its bytes, whatever is
+/// rewritten beside it, and so does every byte in no field and no instruction.
 pub fn other_bytes_are_kept()
+    ensures sequences { SequencesAreKept }
     ensures instructions { InstructionsAreKept }
     ensures others { OthersAreKept }
 {
@@ -40,6 +44,7 @@ pub fn other_bytes_are_kept()
 pub fn kept_instructions_do()
     ensures { KeptInstructionsDo }
 {
+    filled_instructions_do();
     other_bytes_are_kept();
 }
 

@@ -15,8 +15,9 @@ use Rattle.wild_plan.specs.Lookups.{is_loaded, is_read}
 use Rattle.wild_layout.specs.Sites.{field_site, site}
 use Rattle.wild_layout.specs.Geometry.{IsLaidOut, FieldLies}
 use Rattle.wild_layout.proofs.DecideLemmas.{field_has_bytes}
-use Rattle.wild_layout.proofs.SiteLemmas.{All-at, decide_listed, site_written, length-field_site, field_lies}
+use Rattle.wild_layout.proofs.SiteLemmas.{All-at, site_written, length-field_site, field_lies}
 use Rattle.wild_meaning.specs.Item.{IsInput, IsKeptSection}
+use Rattle.wild_geometry.specs.Loaded.{HasDecision}
 use Rattle.wild_loaded.specs.Memory.{IsStored, EachDecided}
 use Rattle.wild_loaded.specs.Laws.{SectionsAreCarried}
 use Rattle.wild_filled.proofs.PairLemmas.{AllPairs-joined, AllPairs-joining, AllPairs-none, Across, Contains-from_flat_map}
@@ -25,7 +26,7 @@ use Rattle.wild_filled.proofs.KeptSections.{IsKeptWell, bit_alloc, kept_well}
 use Rattle.wild_filled.proofs.SectionsApart.{all_sections, sections_of, section_home}
 use Rattle.wild_filled.proofs.Homes.{LiesIn}
 use Rattle.wild_filled.proofs.PlacesApart.{HavePlaces, get_or-any}
-use Rattle.wild_filled.proofs.SectionFillings.{section_filling, section_fillings, IsFilledBy, filled_by}
+use Rattle.wild_filled.proofs.SectionFillings.{section_filling, section_fillings, IsFilledBy, filled_by, filling_decided}
 
 -- ---- the section of a filling
 
@@ -80,6 +81,7 @@ pub record IsFilledThere (l : Layout) (s : InputSection) (x : Filling) : Type 0 
   pub filling : IsFillingOf l s x
   pub well : IsKeptWell l s
   pub by : IsFilledBy l s filling.relocation x
+  pub has : HasDecision l s filling.index filling.relocation by.decision
   pub ends : filling.relocation.offset + x.width ≤ length s.bytes
 
 pub filled_there : (l : Layout) (s : InputSection) (x : Filling) → IsLaidOut l → EachDecided l → Contains (all_sections l) s → IsFillingOf l s x → IsFilledThere l s x
@@ -87,14 +89,15 @@ filled_there l s x laid decided c k =
     let input = input_of l s c in
     let loaded = both_of (is_loaded s.slot) (not s.nobits) k.reads in
     let d = (decided s input k.reads).each k.index k.within in
-    let made = sym (decide_listed l s k.relocation k.index k.listed) ∙ d.1 in
+    let same = filling_decided l s k.index k.relocation x k.listed k.given in
+    let made = sym same ∙ d.1 in
     let by = filled_by l s k.relocation x d.0 made k.given in
     let kept : IsKeptSection l s = record { input = input; loaded = loaded_slot s.slot loaded.0; room = bit_alloc s.flags by.room; has_data = not_false s.nobits loaded.1 } in
     let well = kept_well l s laid decided kept in
     let lies = All-at (FieldLies l.machine s.size) s.relocations k.index k.relocation well.lies.fields k.listed in
     let ends = field_lies l s k.relocation by.written.size by.field well.full lies in
     let width = by.width in
-    record { filling = k; well = well; by = by; ends = omega (arith, ends, width) }
+    record { filling = k; well = well; by = by; has = record { listed = k.listed; decided = same ∙ by.made }; ends = omega (arith, ends, width) }
 
 -- ---- all fillings
 
@@ -142,8 +145,8 @@ filled_site l s r x b = field_site s r.offset b.written.size b.written.value
 pub site_width : (l : Layout) (s : InputSection) (r : InputRelocation) (x : Filling) → (b : IsFilledBy l s r x) → length (filled_site l s r x b).bytes ≡ x.width
 site_width l s r x b = length-field_site s r.offset b.written.size b.written.value ∙ sym b.width
 
-pub site_there : (l : Layout) (s : InputSection) (r : InputRelocation) (x : Filling) (i : ℕ) (b : IsFilledBy l s r x) → slice_get s.relocations i ≡ Some r → site l s i ≡ filled_site l s r x b ∷ []
-site_there l s r x i b listed = site_written l s i r b.decision b.written listed b.made b.by
+pub site_there : (l : Layout) (s : InputSection) (r : InputRelocation) (x : Filling) (i : ℕ) (b : IsFilledBy l s r x) → HasDecision l s i r b.decision → site l s i ≡ filled_site l s r x b ∷ []
+site_there l s r x i b h = site_written l s i r b.decision b.written h.listed h.decided b.by
 
 shifted : (a b n m at : ℕ) (x y : Filling) → n ≡ x.width → m ≡ y.width → x.entry.offset ≡ at + a → y.entry.offset ≡ at + b → (a + n ≤ b) ⊎ (b + m ≤ a) → AreBeside x y
 shifted a b n m at x y en em ex ey (inl h) = λ k lk j lj e. omega (arith, en, em, ex, ey, h, lk, lj, e)
@@ -155,7 +158,7 @@ beside_there l s x y hx hy lt =
     let q = hy.filling.relocation in
     let p = filled_site l s r x hx.by in
     let o = filled_site l s q y hy.by in
-    let apart = sites_apart_at l s hx.filling.index hy.filling.index p o hx.well lt hy.filling.within (site_there l s r x hx.filling.index hx.by hx.filling.listed) (site_there l s q y hy.filling.index hy.by hy.filling.listed) in
+    let apart = sites_apart_at l s hx.filling.index hy.filling.index p o hx.well lt hy.filling.within (site_there l s r x hx.filling.index hx.by hx.has) (site_there l s q y hy.filling.index hy.by hy.has) in
     shifted r.offset q.offset (length p.bytes) (length o.bytes) s.address x y (site_width l s r x hx.by) (site_width l s q y hy.by) (place_sum l s x hx) (place_sum l s y hy) apart
 
 one_filling : (l : Layout) (s : InputSection) (r : InputRelocation) → AllPairs AreBeside (option_to_list (section_filling l s r))

@@ -1,6 +1,6 @@
 -- What relocations have tables fill: addresses that move with the base, and fields that are left to entries.
 use Rattle.std.proofs.Common.{◌≡◌, ℕ, inl, inr, Bool, true, false, not, List, [], ◌∷◌, map, refl, sym, ap, ◌∙◌}
-use Rattle.std.specs.Prelude.{Option, Some, None, Result, Ok, Err, option_to_list, option_map, if◌then◌else◌, ◌&&◌, ◌==◌}
+use Rattle.std.specs.Prelude.{Option, Some, None, Result, Ok, Err, option_to_list, option_map, if◌then◌else◌, ◌&&◌, ◌==◌, slice_get}
 use Rattle.std.specs.List.{flat_map, filter}
 use Rattle.std.proofs.lemmas.Bool.{cases_Bool}
 use Rattle.wild_records.specs.declared.relocations.Rela.{Rela}
@@ -25,12 +25,13 @@ use Rattle.wild_reloc.specs.declared.info.Width.TheVariants.{Eight}
 use Rattle.wild_layout.specs.declared.decision.Decision.{Decision}
 use Rattle.wild_layout.specs.declared.decision.Decision.TheVariants.{Moved, Left}
 use Rattle.wild_layout.specs.Values.{sum, decided_address, address_of, index_of}
-use Rattle.wild_layout.specs.Decide.{added, moved_to, left_to, chosen_to, decide_by, decided}
+use Rattle.wild_layout.specs.Decide.{added, moved_to, left_to, chosen_to, decide_by, decided, decide}
 use Rattle.wild_layout.specs.Left.{entry_for, left_by, left_entry, section_generals}
 use Rattle.wild_layout.specs.Moved.{moved_value, listed_entry, section_entries}
 use Rattle.wild_layout.specs.Sites.{Written, written_by}
 use Rattle.wild_layout.proofs.TreatmentLemmas.{row_moved}
 use Rattle.wild_layout.proofs.DecideLemmas.{HasField, IsMoved, decided_moved, decided_left, moved_has}
+use Rattle.wild_layout.proofs.DecisionLemmas.{decide_base_relative, decide_symbolic, decide_indirect, decide_extent}
 use Rattle.wild_tables.specs.Tables.{relative_entry}
 use Rattle.wild_loaded.proofs.SlotSites.{flat_map-flat_map, flat_map-same}
 use Rattle.wild_filled.proofs.Fillings.{Filling, packed_at, relative_of, general_of, packed_in, relative_in, general_in, jump_in}
@@ -308,6 +309,20 @@ treated_filling l s r x d treatments.Unsupported is made by e = cc
 pub filled_by : (l : Layout) (s : InputSection) (r : InputRelocation) (x : Filling) (d : Decision) → decided l s r ≡ Ok d → section_filling l s r ≡ Some x → IsFilledBy l s r x
 unfolding decided
 filled_by l s r x d made given = treated_filling l s r x d (treatment l s r) refl made made given
+
+-- no instruction is rewritten at a relocation with a filling
+pub filling_decided : (l : Layout) (s : InputSection) (i : ℕ) (r : InputRelocation) (x : Filling) → slice_get s.relocations i ≡ Some r → section_filling l s r ≡ Some x → decide l s i ≡ decided l s r
+filling_decided l s i r x listed given = by_treatment (treatment l s r) refl given
+  where
+    by_treatment : (t : Treatment) → treatment l s r ≡ t → filling_by l s r t ≡ Some x → decide l s i ≡ decided l s r
+    by_treatment treatments.Nothing is e = cc
+    by_treatment (treatments.Value row) is e = cc
+    by_treatment treatments.BaseRelative is e = decide_base_relative l s i r listed is
+    by_treatment (treatments.Symbolic n) is e = decide_symbolic l s i r n listed is
+    by_treatment (treatments.Indirect n) is e = decide_indirect l s i r n listed is
+    by_treatment (treatments.Extent row n) is e = decide_extent l s i r row n listed is
+    by_treatment treatments.Recompile is e = cc
+    by_treatment treatments.Unsupported is e = cc
 
 -- ---- the filling of a decision
 

@@ -15,7 +15,7 @@ use Rattle.wild_plan.specs.declared.input.InputSection.{InputSection}
 use Rattle.wild_plan.specs.declared.layout.Layout.{Layout}
 use Rattle.wild_plan.specs.Entries.{place_of}
 use Rattle.wild_layout.specs.declared.decision.Decision.{Decision}
-use Rattle.wild_layout.specs.declared.decision.Decision.TheVariants.{Nothing, Field, Moved, Left}
+use Rattle.wild_layout.specs.declared.decision.Decision.TheVariants.{Nothing, Field, Moved, Left, Rewritten, Partner}
 use Rattle.wild_layout.specs.Numbers.{NumbersFit}
 use Rattle.wild_layout.specs.Geometry.{IsLaidOut}
 use Rattle.wild_layout.specs.Decide.{decided}
@@ -35,7 +35,7 @@ use Rattle.wild_loader.specs.Changes.{kind_of, change_of, size_of}
 use Rattle.wild_loader.specs.Memory.{Holds}
 use Rattle.wild_loader.specs.Relocate.{loaded_at}
 use Rattle.wild_loader.specs.EntryLaws.{RelativesStoreWords}
-use Rattle.wild_geometry.specs.Loaded.{number_at, entry_with, MakesChange, stored_bytes, HasSection, InFile}
+use Rattle.wild_geometry.specs.Loaded.{HasDecision, number_at, entry_with, MakesChange, stored_bytes, HasSection, InFile}
 use Rattle.wild_loaded.specs.Memory.{image_memory, EachDecided}
 use Rattle.wild_loaded.specs.Stored.{FillsField}
 use Rattle.wild_loaded.specs.Laws.{SectionsAreStored, EntriesHaveChanges}
@@ -131,7 +131,7 @@ number_low w true n h = h
 number_low w false n h = omega arith
 
 filling_there : (l : Layout) (w : World) (s : InputSection) (x : Filling) → SectionLaws → l.machine ≡ machine.X86_64 → NumbersFit l → IsLegal l w → IsLaidOut l → IsFilledThere l s x → IsKnown w (image_memory l w) x
-filling_there l w s x laws x86 numbers legal laid h = by_decision h.by.decision h.by.made h.by.fills
+filling_there l w s x laws x86 numbers legal laid h = by_decision h.by.decision h.by.made h.has h.by.fills
   where
     here : Contains s.relocations h.filling.relocation
     here = listed_at s.relocations h.filling.index h.filling.relocation h.filling.listed
@@ -150,40 +150,42 @@ filling_there l w s x laws x86 numbers legal laid h = by_decision h.by.decision 
         let at = place_loaded w x.entry.offset x.width some (low some) in
         omega (arith, sum, at)
 
-    moved : (v : ℕ) (packed : Bool) → decided l s h.filling.relocation ≡ Ok (Moved v packed) → x ≡ moved_filling l s h.filling.relocation packed → IsMoved l s h.filling.relocation v packed → IsKnown w (image_memory l w) x
-    moved v true made e f =
+    moved : (v : ℕ) (packed : Bool) → HasDecision l s h.filling.index h.filling.relocation (Moved v packed) → x ≡ moved_filling l s h.filling.relocation packed → IsMoved l s h.filling.relocation v packed → IsKnown w (image_memory l w) x
+    moved v true has e f =
         let low_v = value_low l s h.filling.relocation v true f in
         let eight : x.width ≡ 8 = ap (λ (y : Filling). y.width) e in
-        let held = subst (λ (a : ℕ). Holds (image_memory l w) a (word 8 v)) (place_is (omega (arith, eight))) ((before l w s laws.stored legal laid h.well).addresses h.filling.relocation v true here made) in
+        let held = subst (λ (a : ℕ). Holds (image_memory l w) a (word 8 v)) (place_is (omega (arith, eight))) ((before l w s laws.stored legal laid h.well).addresses h.filling.index h.filling.relocation v true has) in
         let word_held : HasWord w (image_memory l w) x.entry.offset = record { value = v; fits = low_v; held = held } in
         let P : Filling → Type 0 = λ y. (1 ≤ y.width → w.base + y.entry.offset + y.width ≤ 2 ^ 64) → HasWord w (image_memory l w) y.entry.offset → IsKnown w (image_memory l w) y in
-        subst P (sym e) (λ below has. record { low = below; old = word 8 has.value; wide = length-word 8 has.value; held = has.held; makes = (refl, has) }) low word_held
-    moved v false made e f =
+        subst P (sym e) (λ below there. record { low = below; old = word 8 there.value; wide = length-word 8 there.value; held = there.held; makes = (refl, there) }) low word_held
+    moved v false has e f =
         let eight : x.width ≡ 8 = ap (λ (y : Filling). y.width) e in
-        let held = subst (λ (a : ℕ). Holds (image_memory l w) a (word 8 0)) (place_is (omega (arith, eight))) ((before l w s laws.stored legal laid h.well).addresses h.filling.relocation v false here made) in
+        let held = subst (λ (a : ℕ). Holds (image_memory l w) a (word 8 0)) (place_is (omega (arith, eight))) ((before l w s laws.stored legal laid h.well).addresses h.filling.index h.filling.relocation v false has) in
         let small : moved_value l h.filling.relocation < 2 ^ 64 = omega arith in
         let made' = relative_makes l w (place_of s h.filling.relocation) (moved_value l h.filling.relocation) laws.relative x86 small in
         let change : HasChange w (relative_entry l (place_of s h.filling.relocation) (moved_value l h.filling.relocation)) 8 = has_change w _ _ 8 made' refl in
         let P : Filling → Type 0 = λ y. (1 ≤ y.width → w.base + y.entry.offset + y.width ≤ 2 ^ 64) → Holds (image_memory l w) (loaded_at w y.entry.offset) (word 8 0) → IsKnown w (image_memory l w) y in
-        subst P (sym e) (λ below has. record { low = below; old = word 8 0; wide = length-word 8 0; held = has; makes = change }) low held
+        subst P (sym e) (λ below there. record { low = below; old = word 8 0; wide = length-word 8 0; held = there; makes = change }) low held
 
-    left : (z : RelocationSize) (n symbol addend : ℕ) → decided l s h.filling.relocation ≡ Ok (Left z n symbol addend) → x ≡ general_of (entry_for (place_of s h.filling.relocation) n symbol addend) (size_width z) → IsKnown w (image_memory l w) x
-    left z n symbol addend made e =
+    left : (z : RelocationSize) (n symbol addend : ℕ) → decided l s h.filling.relocation ≡ Ok (Left z n symbol addend) → HasDecision l s h.filling.index h.filling.relocation (Left z n symbol addend) → x ≡ general_of (entry_for (place_of s h.filling.relocation) n symbol addend) (size_width z) → IsKnown w (image_memory l w) x
+    left z n symbol addend made has e =
         let some = width_some l s x h in
-        let b = (before l w s laws.stored legal laid h.well).left h.filling.relocation z n symbol addend here made in
+        let b = (before l w s laws.stored legal laid h.well).left h.filling.index h.filling.relocation z n symbol addend has in
         let width : x.width ≡ size_width z = ap (λ (y : Filling). y.width) e in
         let zeros = subst (λ (bs : List ℕ). Holds (image_memory l w) (w.base + s.address + h.filling.relocation.offset) bs) b.2 b.1 in
         let held = subst (λ (a : ℕ). Holds (image_memory l w) a (replicate (size_width z) 0)) (place_is some) zeros in
         let fills = laws.changes.left l w s h.filling.relocation z n symbol addend x86 numbers legal laid here h.well.kept.input made in
         let change = has_change w _ fills.change (size_width z) (field_makes w (place_of s h.filling.relocation) n symbol addend z fills) (stored_size fills.change (size_width z) (omega (arith, some, width)) fills.width) in
         let P : Filling → Type 0 = λ y. (1 ≤ y.width → w.base + y.entry.offset + y.width ≤ 2 ^ 64) → Holds (image_memory l w) (loaded_at w y.entry.offset) (replicate (size_width z) 0) → IsKnown w (image_memory l w) y in
-        subst P (sym e) (λ below has. record { low = below; old = replicate (size_width z) 0; wide = length-replicate (size_width z) 0; held = has; makes = change }) low held
+        subst P (sym e) (λ below there. record { low = below; old = replicate (size_width z) 0; wide = length-replicate (size_width z) 0; held = there; makes = change }) low held
 
-    by_decision : (d : Decision) → decided l s h.filling.relocation ≡ Ok d → Fills l s h.filling.relocation x d → IsKnown w (image_memory l w) x
-    by_decision Nothing made f = absurd f
-    by_decision (Field z v) made f = absurd f
-    by_decision (Moved v packed) made f = moved v packed made f.0 f.1
-    by_decision (Left z n symbol addend) made f = left z n symbol addend made f
+    by_decision : (d : Decision) → decided l s h.filling.relocation ≡ Ok d → HasDecision l s h.filling.index h.filling.relocation d → Fills l s h.filling.relocation x d → IsKnown w (image_memory l w) x
+    by_decision Nothing made has f = absurd f
+    by_decision (Field z v) made has f = absurd f
+    by_decision (Moved v packed) made has f = moved v packed has f.0 f.1
+    by_decision (Left z n symbol addend) made has f = left z n symbol addend made has f
+    by_decision (Rewritten row v) made has f = absurd f
+    by_decision Partner made has f = absurd f
 
 -- so it is with all of them
 pub sections_known : (l : Layout) (w : World) → SectionLaws → l.machine ≡ machine.X86_64 → NumbersFit l → IsLegal l w → IsLaidOut l → EachDecided l → All (IsKnown w (image_memory l w)) (all_places l (section_fillings l))

@@ -3,10 +3,11 @@
 --   decided_extents rs ds   where that stands
 --   ascends reach es        each extent begins where those before it end, or behind
 --   put_decision old r d    bytes after one relocation was written over them
---   reach_behind n r d      where a field that begins at n or behind ends; none where it begins before
---   IsNext l s r n e a b    relocation r was decided and written behind n
+--   reach_behind n r d      where what a relocation writes ends, if it begins at n or behind; none where it begins before
+--   DecisionsLie n rs ds    what the relocations write lies in n bytes
+--   IsNext l s i n e a b    relocation i was decided and written behind n
 --   AreDecided l s ds       the decisions are those of the section's relocations
-use Rattle.std.specs.Prelude.{◌≡◌, ℕ, ◌+◌, ◌≤◌, Bool, true, ◌&&◌, nat_le, nat_lt, if◌then◌else◌, max, List, [], ◌∷◌, ◌++◌, length, Option, Some, None, Ok, option_to_list, slice_range}
+use Rattle.std.specs.Prelude.{◌≡◌, ℕ, ◌+◌, ◌<◌, ◌≤◌, Bool, true, ◌&&◌, nat_le, nat_lt, if◌then◌else◌, max, List, [], ◌∷◌, ◌++◌, length, Option, Some, None, Ok, option_to_list, slice_get, slice_range}
 use Rattle.wild_words.specs.Words.{place}
 use Rattle.wild_words.specs.Overlay.{Piece}
 use Rattle.wild_words.specs.declared.extents.Extent.{Extent}
@@ -16,8 +17,11 @@ use Rattle.wild_plan.specs.declared.layout.Layout.{Layout}
 use Rattle.wild_reloc.specs.Field.{size_width, size_written}
 use Rattle.wild_layout.specs.declared.decision.Decision.{Decision}
 use Rattle.wild_reloc.specs.declared.info.RelocationSize.{RelocationSize}
-use Rattle.wild_layout.specs.Decide.{decided}
-use Rattle.wild_layout.specs.Sites.{Written, written_by, site_of, sites}
+use Rattle.wild_layout.specs.declared.decision.Decision.TheVariants.{Rewritten}
+use Rattle.wild_relax.specs.declared.row.Row.{Row}
+use Rattle.wild_relax.specs.Linked.{IsChanging, pattern_size, template_of}
+use Rattle.wild_layout.specs.Decide.{decide}
+use Rattle.wild_layout.specs.Sites.{Written, written_by, template_start, site_of, sites}
 
 -- what relocations write, as they were decided
 unfoldable pub decided_sites : InputSection → List InputRelocation → List Decision → List Piece
@@ -29,12 +33,17 @@ decided_sites s (r ∷ rs) (d ∷ ds) = site_of s r (Ok d) ++ decided_sites s rs
 abbrev pub field_extent : ℕ → RelocationSize → Extent
 field_extent at size = record { start = at; end = at + size_width size }
 
+-- where the instruction of a row stands
+abbrev pub template_extent : InputRelocation → Row → Extent
+template_extent r row = record { start = template_start row r; end = template_start row r + pattern_size row }
+
 abbrev pub written_extent : ℕ → Option Written → Option Extent
 written_extent at None = None
 written_extent at (Some w) = Some (field_extent at w.size)
 
 -- where one stands that writes something
 abbrev pub decided_extent : InputRelocation → Decision → Option Extent
+decided_extent r (Rewritten row v) = Some (template_extent r row)
 decided_extent r d = written_extent r.offset (written_by d)
 
 -- where they stand
@@ -56,8 +65,13 @@ abbrev pub put_written : List ℕ → ℕ → Option Written → List ℕ
 put_written old at None = old
 put_written old at (Some w) = put_field old at w.size w.value
 
+-- bytes after the instruction of a row was written over them
+abbrev pub put_template : List ℕ → ℕ → Row → ℕ → List ℕ
+put_template old at row v = place at (template_of row v (slice_range old at (at + pattern_size row))) old
+
 -- bytes after one relocation was written over them
 abbrev pub put_decision : List ℕ → InputRelocation → Decision → List ℕ
+put_decision old r (Rewritten row v) = put_template old (template_start row r) row v
 put_decision old r d = put_written old r.offset (written_by d)
 
 -- where a field ends that begins at `reach` or behind; none where it begins before
@@ -68,26 +82,45 @@ abbrev pub reach_of : ℕ → ℕ → Option Written → Option ℕ
 reach_of reach at None = Some reach
 reach_of reach at (Some w) = reach_of_field reach at w.size
 
+-- the same of the instruction of a row
+abbrev pub reach_of_template : ℕ → ℕ → Row → Option ℕ
+reach_of_template reach at row = if nat_lt at reach then None else Some (at + pattern_size row)
+
 -- the same of what a relocation writes
 abbrev pub reach_behind : ℕ → InputRelocation → Decision → Option ℕ
+reach_behind reach r (Rewritten row v) = reach_of_template reach (template_start row r) row
 reach_behind reach r d = reach_of reach r.offset (written_by d)
 
 abbrev pub WrittenLies : ℕ → ℕ → Option Written → Type 0
 WrittenLies n at None = Unit {0}
 WrittenLies n at (Some w) = at + size_width w.size ≤ n
 
+-- the row writes a whole instruction, which lies in n bytes
+pub record TemplateLies (n : ℕ) (r : InputRelocation) (row : Row) : Type 0 where
+  pub changes : IsChanging row
+  pub ends : template_start row r + pattern_size row ≤ n
+  pub some : 0 < pattern_size row
+
 -- what a relocation writes lies in n bytes
 abbrev pub DecisionLies : ℕ → InputRelocation → Decision → Type 0
+DecisionLies n r (Rewritten row v) = TemplateLies n r row
 DecisionLies n r d = WrittenLies n r.offset (written_by d)
 
--- a relocation was decided and written, where its field begins at `reach` or behind
-pub record IsNext (l : Layout) (s : InputSection) (r : InputRelocation) (reach : ℕ) (next : Option ℕ) (old new : List ℕ) : Type 0 where
+-- what the relocations write does
+abbrev pub DecisionsLie : ℕ → List InputRelocation → List Decision → Type 0
+DecisionsLie n rs ds = (i : ℕ) (r : InputRelocation) (d : Decision) → slice_get rs i ≡ Some r → slice_get ds i ≡ Some d → DecisionLies n r d
+
+-- relocation i was decided and written, where its bytes begin at `reach` or behind
+pub record IsNext (l : Layout) (s : InputSection) (i reach : ℕ) (next : Option ℕ) (old new : List ℕ) : Type 0 where
+  pub relocation : InputRelocation
+  pub listed : slice_get s.relocations i ≡ Some relocation
   pub decision : Decision
-  pub is : decided l s r ≡ Ok decision
-  pub reached : next ≡ reach_behind reach r decision
-  pub written : (end : ℕ) → next ≡ Some end → new ≡ put_decision old r decision
+  pub is : decide l s i ≡ Ok decision
+  pub reached : next ≡ reach_behind reach relocation decision
+  pub written : (end : ℕ) → next ≡ Some end → new ≡ put_decision old relocation decision
 
 -- the decisions are those of the section's relocations
 pub record AreDecided (l : Layout) (s : InputSection) (ds : List Decision) : Type 0 where
   pub count : length ds ≡ length s.relocations
+  pub each : (i : ℕ) (d : Decision) → slice_get ds i ≡ Some d → decide l s i ≡ Ok d
   pub same : decided_sites s s.relocations ds ≡ sites l s

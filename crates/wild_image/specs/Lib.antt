@@ -1,5 +1,6 @@
 pub mod Append
 pub mod Batches
+pub mod Choice
 pub mod Counts
 pub mod Decided
 pub mod General

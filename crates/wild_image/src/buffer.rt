@@ -9,7 +9,6 @@ ghost use Rattle.wild_layout.specs.Geometry.{SectionLies};
 ghost use Rattle.wild_image.specs.Pieces.{section_owned, file_sections, group_sections, group_tables, group_bytes};
 ghost use Rattle.wild_image.specs.Batches.{batch_errors, batch_bytes};
 
-use crate::arch::Arch;
 use crate::batch::Batch;
 use crate::copies::check_entries;
 use crate::listed::check_listed;
@@ -20,6 +19,7 @@ use crate::take::{check_data, zeros};
 use crate::values::Resolved;
 use std::alloc::{AllocError, Global};
 use wild_plan::{Error, File, Group, InputSection, Layout, is_plain_group};
+use wild_relax::Arch;
 
 /// Adds what a group gives to the tables, part by part.
 fn add_group_tables<A: Arch>(

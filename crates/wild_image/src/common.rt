@@ -1,17 +1,18 @@
 //! The most common relocations, which are decided without a look at anything else.
-ghost use Rattle.std.specs.Prelude.{◌≡◌, ℕ, Ok, Some};
+ghost use Rattle.std.specs.Prelude.{◌≡◌, ℕ, ◌<◌, length, Ok, Some};
 ghost use Rattle.wild_records.specs.Abi.Relocation.{r_x86_64_pc32};
 ghost use Rattle.wild_reloc.specs.declared.info.RelocationSize.TheVariants.{ByteSize};
 ghost use Rattle.wild_reloc.specs.declared.info.Width.TheVariants.{Four};
 ghost use Rattle.wild_layout.specs.declared.decision.Decision.TheVariants.{Field};
-ghost use Rattle.wild_layout.specs.Decide.{decided};
+ghost use Rattle.wild_layout.specs.Decide.{decided, decide};
 
-use crate::arch::Arch;
+use crate::choice::may_be_partner;
 use crate::relocation::{distance_for, is_fixed_distance};
 use crate::values::Resolved;
 use wild_layout::Decision;
 use wild_plan::{Fault, InputRelocation, InputSection};
 use wild_records::abi::relocation::R_X86_64_PC32;
+use wild_relax::Arch;
 use wild_reloc::{RelocationSize, Width};
 
 /// The type of most relocations of x86-64 code. It is asked for first, so that where it is met its row is known.
@@ -58,12 +59,14 @@ fn value_of_common<A: Arch>(
 pub(crate) fn common_value<A: Arch>(
     resolved: &Resolved<A>,
     section: &InputSection,
-    relocation: &InputRelocation,
+    index: usize,
 ) -> Option<u64>
-    ensures { (value : ℕ) → result ≡ Some value → decided resolved.now.layout.now section.now relocation.now ≡ Ok (Field (ByteSize Four) value) }
+    requires index { index < length section.now.relocations }
+    ensures { (value : ℕ) → result ≡ Some value → decide resolved.now.layout.now section.now index ≡ Ok (Field (ByteSize Four) value) }
 {
-    if relocation.number == COMMON {
-        value_of_common(resolved, section, relocation)
+    let relocations = section.relocations.as_slice();
+    if relocations[index].number == COMMON && !may_be_partner(relocations, index) {
+        value_of_common(resolved, section, &relocations[index])
     } else {
         None
     }

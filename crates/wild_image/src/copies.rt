@@ -6,13 +6,13 @@ ghost use Rattle.wild_plan.specs.Faults.{Answers};
 ghost use Rattle.wild_layout.specs.Faults.{copy_fault, copy_errors, slot_errors};
 ghost use Rattle.wild_layout.specs.Values.{raw_address, index_of};
 
-use crate::arch::Arch;
 use crate::indirect::index_of;
 use crate::place::InputPlace;
 use crate::resolve::raw_address;
 use crate::slot_faults::check_slots;
 use crate::values::Resolved;
 use wild_plan::{Error, Fault, File, Missing, SymbolIndex};
+use wild_relax::Arch;
 
 /// What a symbol lacks of an entry that copies it.
 fn copy_fault<A: Arch>(resolved: &Resolved<A>, symbol: SymbolIndex) -> Option<Fault>

@@ -7,13 +7,13 @@ ghost use Rattle.wild_tables.specs.Entries.{rela_bytes};
 ghost use Rattle.wild_layout.specs.Moved.{file_entries};
 ghost use Rattle.wild_image.specs.Own.{entry_bytes, section_entry_bytes};
 
-use crate::arch::Arch;
 use crate::part_bytes::PartBytes;
 use crate::resolve::moved_value;
 use crate::values::Resolved;
 use std::alloc::AllocError;
 use wild_plan::{File, InputRelocation, InputSection, Layout, is_moved};
 use wild_records::Rela;
+use wild_relax::Arch;
 use wild_tables::relative_entry;
 
 /// The place of a relocation, where that has an entry.

@@ -1,14 +1,16 @@
-//! The writing of one relocation, as it was decided: its field, or 0 where that is left to a loader.
+//! The writing of one relocation, as it was decided: its field, 0 where that is left to a loader, or a whole instruction.
 ghost use Rattle.std.specs.Prelude.{◌≡◌, ℕ, ◌+◌, ◌≤◌, Some, length, if◌then◌else◌};
 ghost use Rattle.wild_words.specs.Words.{word, place};
 ghost use Rattle.wild_reloc.specs.declared.info.RelocationSize.TheVariants.{ByteSize};
 ghost use Rattle.wild_reloc.specs.declared.info.Width.TheVariants.{Four};
 ghost use Rattle.wild_reloc.specs.Field.{size_width};
-ghost use Rattle.wild_image.specs.Decided.{put_field, reach_of_field, put_decision, DecisionLies, reach_behind};
+ghost use Rattle.wild_layout.specs.Sites.{template_start};
+ghost use Rattle.wild_image.specs.Decided.{put_field, reach_of_field, put_template, TemplateLies, reach_of_template, put_decision, DecisionLies, reach_behind};
 
 use crate::relocation::ADDRESS;
 use wild_layout::Decision;
 use wild_plan::InputRelocation;
+use wild_relax::Row;
 use wild_reloc::RelocationSize;
 use wild_words::put;
 
@@ -20,6 +22,23 @@ fn standing(value: u64, packed: bool) -> u64
     if packed { value } else { 0 }
 }
 
+/// Where the instruction of a row begins.
+#[inline]
+pub(crate) fn template_start(row: Row, relocation: &InputRelocation) -> u64
+    ensures { result ≡ template_start row relocation.now }
+{
+    relocation.offset.saturating_sub(row.pattern_field())
+}
+
+/// Writes a whole instruction by its row, with a value in the field.
+fn write_template(relocation: &InputRelocation, row: Row, value: u64, room: &mut [u8])
+    requires lies { TemplateLies (length room.old) relocation.now row }
+    ensures { room.new ≡ put_template room.old (template_start row relocation.now) row value }
+{
+    let start = template_start(row, relocation);
+    row.write_template(value, room, start as usize);
+}
+
 /// Writes a relocation over the bytes of its section, as it was decided.
 #[inline]
 pub(crate) fn write_decision(relocation: &InputRelocation, decision: Decision, room: &mut [u8])
@@ -28,12 +47,13 @@ pub(crate) fn write_decision(relocation: &InputRelocation, decision: Decision, r
 {
     let at = relocation.offset as usize;
     match decision {
-        Decision::Nothing => {}
+        Decision::Nothing | Decision::Partner => {}
         Decision::Field { size, value } => size.write_at(value, room, at),
         Decision::Left { size, .. } => size.write_at(0, room, at),
         Decision::Moved { value, packed } => {
             ADDRESS.write_at(standing(value, packed), room, at);
         }
+        Decision::Rewritten { row, value } => write_template(relocation, row, value, room),
     }
 }
 
@@ -55,6 +75,26 @@ fn field_behind(
     }
     size.write_at(value, room, offset as usize);
     Some(offset + size.width() as u64)
+}
+
+/// Writes a whole instruction, where it begins at `reach` or behind: where it ends then; none where it begins before.
+fn template_behind(
+    reach: u64,
+    relocation: &InputRelocation,
+    row: Row,
+    value: u64,
+    room: &mut [u8],
+) -> Option<u64>
+    requires lies { TemplateLies (length room.old) relocation.now row }
+    ensures reach { result ≡ reach_of_template reach (template_start row relocation.now) row }
+    ensures written { (end : ℕ) → result ≡ Some end → room.new ≡ put_template room.old (template_start row relocation.now) row value }
+{
+    let start = template_start(row, relocation);
+    if start < reach {
+        return None;
+    }
+    write_template(relocation, row, value, room);
+    Some(start + row.pattern_size() as u64)
 }
 
 /// The four low bytes of a value, into the room.
@@ -96,11 +136,12 @@ pub(crate) fn write_behind(
 {
     let offset = relocation.offset;
     match decision {
-        Decision::Nothing => Some(reach),
+        Decision::Nothing | Decision::Partner => Some(reach),
         Decision::Field { size, value } => field_behind(reach, offset, size, value, room),
         Decision::Left { size, .. } => field_behind(reach, offset, size, 0, room),
         Decision::Moved { value, packed } => {
             field_behind(reach, offset, ADDRESS, standing(value, packed), room)
         }
+        Decision::Rewritten { row, value } => template_behind(reach, relocation, row, value, room),
     }
 }

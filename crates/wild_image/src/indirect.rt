@@ -1,7 +1,7 @@
 //! Addresses of stubs and slots, by which relocations reach a symbol (x86-64 psABI, "Procedure Linkage Table", "Global
 //! Offset Table (GOT)").
 ghost use Rattle.std.specs.Prelude.{◌≡◌};
-ghost use Rattle.wild_layout.specs.Values.{address_or, resolution_of, index_of, decided_address, stub_of, is_chosen, stub_address, has_second_slot, behind_word, slot_among, slot_decided, slot_of, slot_address};
+ghost use Rattle.wild_layout.specs.Values.{address_or, resolution_of, index_of, decided_address, stub_of, is_chosen, stub_address, has_second_slot, behind_word, behind_pair, slot_among, slot_decided, slot_of, slot_address};
 
 use wild_plan::{
     Fault, Layout, Missing, Resolution, SymbolIndex, ValueFlags, flags_at, has_thread_slot,
@@ -100,15 +100,26 @@ fn behind_word(word: bool, place: u64) -> u64
     if word { next_word(place) } else { place }
 }
 
+/// The place, behind a pair of words where there is one.
+fn behind_pair(pair: bool, place: u64) -> u64
+    ensures { result ≡ behind_pair pair place }
+{
+    if pair { place.wrapping_add(16) } else { place }
+}
+
 /// Where the slot of a kind stands among those of a symbol with these flags, whose first is there.
 fn slot_among(kind: RelocationKind, flags: ValueFlags, first: u64) -> Option<u64>
     ensures { result ≡ slot_among kind flags first }
 {
     let offset = flags.needs_got_tls_offset();
+    let module = flags.needs_got_tls_module();
     match kind {
         RelocationKind::GotTpOff if offset => Some(first),
-        RelocationKind::TlsGd if flags.needs_got_tls_module() => Some(behind_word(offset, first)),
-        RelocationKind::GotTpOff | RelocationKind::TlsGd => None,
+        RelocationKind::TlsGd if module => Some(behind_word(offset, first)),
+        RelocationKind::TlsDesc if flags.needs_got_tls_descriptor() => {
+            Some(behind_pair(module, behind_word(offset, first)))
+        }
+        RelocationKind::GotTpOff | RelocationKind::TlsGd | RelocationKind::TlsDesc => None,
         _ if has_thread_slot(flags) => None,
         _ => Some(behind_word(has_second_slot(flags), first)),
     }

@@ -4,7 +4,6 @@ ghost use Rattle.wild_plan.specs.WellFormed.{first_clause};
 ghost use Rattle.wild_layout.specs.Faults.{flat_map_from, part_errors};
 ghost use Rattle.wild_image.specs.Batches.{AreBatches};
 
-use crate::arch::Arch;
 use crate::batch::Batch;
 use crate::buffer::bytes_of_batch;
 use crate::pairs::{Pairs, pairs_of_groups};
@@ -14,6 +13,7 @@ use std::alloc::{AllocError, Global};
 use wild_crew::{Counted, Job};
 use wild_geometry::layouts_are_laid_out;
 use wild_plan::Error;
+use wild_relax::Arch;
 
 /// What came of a batch: all its bytes, or its first fault; and what it counted.
 #[derive(Drop)]

@@ -8,7 +8,6 @@ ghost use Rattle.wild_tables.specs.Entries.{rela_bytes};
 ghost use Rattle.wild_layout.specs.Left.{entry_for, index_or_zero, copy_entry, file_generals};
 ghost use Rattle.wild_image.specs.General.{left_in, left_bytes, section_general_bytes, copy_bytes};
 
-use crate::arch::Arch;
 use crate::entries::add_entry;
 use crate::indirect::{decided_address, index_of};
 use crate::part_bytes::PartBytes;
@@ -20,6 +19,7 @@ use wild_plan::{
     File, InputRelocation, InputSection, Layout, SymbolIndex, Treatment, treatment_of, type_of,
 };
 use wild_records::Rela;
+use wild_relax::Arch;
 use wild_reloc::DynamicRelocationKind;
 
 /// An entry for a place, with the low 32 bits of an index in the dynamic symbol table and an addend modulo 2^64.

@@ -2,9 +2,9 @@
 #![tactic(auto)]
 
 mod append;
-mod arch;
 mod batch;
 mod buffer;
+mod choice;
 mod common;
 mod copies;
 mod dynamic;
@@ -26,6 +26,7 @@ mod place;
 mod placed;
 mod relocation;
 mod resolve;
+mod rewritten;
 mod section;
 mod shares;
 mod slot_faults;
@@ -41,10 +42,10 @@ mod tests;
 mod values;
 mod words;
 
-pub use arch::{Arch, ElfX86_64};
 pub use output::{SizedOutput, write, write_gated};
 pub use padding::fill_padding_for_sections;
 pub use part_bytes::PartBytes;
 pub use piece::{GroupPiece, write_group};
 pub use shares::check_shares;
 pub use wild_headers::{populate_file_header, write_program_headers, write_section_headers};
+pub use wild_relax::{Arch, ElfX86_64};

@@ -6,10 +6,10 @@ ghost use Rattle.wild_plan.specs.Kinds.{needs_dynsym};
 ghost use Rattle.wild_symbols.specs.DynamicEntries.{listed_of, or_none};
 ghost use Rattle.wild_layout.specs.Faults.{at_file, flat_map_from, listed_error, listed_errors};
 
-use crate::arch::Arch;
 use crate::place::InputPlace;
 use crate::values::Resolved;
 use wild_plan::{DynamicSymbol, Error, Fault, File};
+use wild_relax::Arch;
 use wild_symbols::{SymbolFields, listed_fields, no_fields};
 
 /// What the entry of a listed symbol says, or what the symbol lacks of it.

@@ -12,7 +12,6 @@ ghost use Rattle.wild_image.specs.Batches.{AreBatches, GivesBatch};
 ghost use Rattle.wild_image.specs.declared.job.Outcome.{Outcome};
 
 use crate::append::append_all;
-use crate::arch::Arch;
 use crate::batch::{Batch, batch_size, batches_of};
 use crate::job::{GroupJob, Outcome};
 use crate::padding::fill_sections;
@@ -23,6 +22,7 @@ use std::thread::Threads;
 use wild_crew::{Gate, OpenGate, gather};
 use wild_geometry::layouts_are_laid_out;
 use wild_plan::{At, EntryWarning, Error, Fault, Layout, well_formed};
+use wild_relax::Arch;
 use wild_words::{Bytes, Items};
 
 /// An image, what is said beside it, and how many relocations of each section were read for it.
@@ -68,7 +68,7 @@ fn write_bytes<A: Arch>(
     ensures faults { Answers result (flat_map_from (group_errors layout.now) 0 layout.now.groups) }
     ensures image { OnOk result (out.new ≡ bytes layout.now) }
 {
-    fill_sections::<A>(layout, out);
+    fill_sections(layout, out);
     append_all(layout, batches, outcomes, starts, out)
 }
 

@@ -2,7 +2,6 @@
 ghost use Rattle.std.specs.Prelude.{◌≡◌, ◌++◌, OnOk};
 ghost use Rattle.wild_layout.specs.Content.{own_bytes};
 
-use crate::arch::Arch;
 use crate::entries::add_entries;
 use crate::left::add_generals;
 use crate::part_bytes::PartBytes;
@@ -11,6 +10,7 @@ use crate::values::Resolved;
 use crate::words::add_words;
 use std::alloc::{AllocError, Global};
 use wild_plan::{File, Role};
+use wild_relax::Arch;
 
 /// Adds what a file gives to a part of that role that a loader reads.
 pub(crate) fn add_own<A: Arch>(

@@ -6,13 +6,13 @@ ghost use Rattle.wild_layout.specs.Sites.{section_bytes};
 ghost use Rattle.wild_layout.specs.Faults.{section_errors};
 ghost use Rattle.wild_layout.specs.Geometry.{SectionLies};
 
-use crate::arch::Arch;
 use crate::place::InputPlace;
 use crate::section::write_data;
 use crate::values::Resolved;
 use std::alloc::{AllocError, Global};
 use std::marker::Model;
 use wild_plan::{Error, InputSection};
+use wild_relax::Arch;
 
 /// Bytes that grow at their end, which contracts see as a list of numbers.
 #[derive(Drop)]

@@ -9,7 +9,6 @@ ghost use Rattle.wild_layout.specs.Geometry.{SectionLies};
 ghost use Rattle.wild_image.specs.Pieces.{group_parts, group_pairs};
 ghost use Rattle.wild_image.specs.Jobs.{GivesPiece};
 
-use crate::arch::Arch;
 use crate::pairs::pairs_of_group;
 use crate::part_bytes::PartBytes;
 use crate::tables::add_tables;
@@ -18,6 +17,7 @@ use crate::values::Resolved;
 use std::alloc::{AllocError, Global};
 use wild_geometry::layouts_are_laid_out;
 use wild_plan::{Error, Group, Layout};
+use wild_relax::Arch;
 use wild_words::Items;
 
 /// How many bytes a group has of a part that stands in the file.

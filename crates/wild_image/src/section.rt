@@ -5,23 +5,23 @@ ghost use Rattle.wild_words.specs.Overlay.{overlay, AreApart};
 ghost use Rattle.wild_words.specs.Extents.{least_extent};
 ghost use Rattle.wild_plan.specs.Faults.{Answers, Refuses};
 ghost use Rattle.wild_plan.specs.Lookups.{is_read};
-ghost use Rattle.wild_layout.specs.Decide.{decided};
+ghost use Rattle.wild_layout.specs.Decide.{decide};
 ghost use Rattle.wild_layout.specs.Sites.{section_bytes};
 ghost use Rattle.wild_layout.specs.Image.{offset_in};
-ghost use Rattle.wild_layout.specs.Faults.{at_offset, at_section, refusal_of, relocation_errors, overlap_errors, section_errors};
+ghost use Rattle.wild_layout.specs.Faults.{at_section, relocation_errors, overlap_errors, section_errors};
 ghost use Rattle.wild_layout.specs.Geometry.{FieldLies};
-ghost use Rattle.wild_image.specs.Decided.{AreDecided, IsNext, decided_sites, decided_extents};
+ghost use Rattle.wild_image.specs.Decided.{AreDecided, DecisionsLie, IsNext, decided_sites, decided_extents};
 
-use crate::arch::Arch;
 use crate::common::common_value;
 use crate::fields::{four_behind, write_behind, write_decision};
 use crate::overlap::shared_byte;
 use crate::place::InputPlace;
-use crate::relocation::decide;
+use crate::rewritten::decide;
 use crate::values::Resolved;
 use std::alloc::Global;
 use wild_layout::Decision;
-use wild_plan::{Error, Fault, InputRelocation, InputSection, Part};
+use wild_plan::{Error, Fault, InputSection, Part};
+use wild_relax::Arch;
 
 /// What is decided of a relocation of the section at that place, or its fault.
 #[inline(always)]
@@ -29,16 +29,17 @@ fn decide_at<A: Arch>(
     resolved: &Resolved<A>,
     place: InputPlace,
     section: &InputSection,
-    relocation: &InputRelocation,
+    index: usize,
 ) -> Result<Decision, Error>
-    ensures faults { Answers result (refusal_of (at_offset place.group place.file place.section relocation.now.offset) (decided resolved.now.layout.now section.now relocation.now)) }
-    ensures decision { IfOk result (λ d. decided resolved.now.layout.now section.now relocation.now ≡ Ok d) }
+    requires index { index < length section.now.relocations }
+    ensures faults { Answers result (relocation_errors resolved.now.layout.now place.group place.file place.section section.now index) }
+    ensures decision { IfOk result (λ d. decide resolved.now.layout.now section.now index ≡ Ok d) }
 {
-    match decide(resolved, section, relocation) {
+    match decide(resolved, section, index) {
         Ok(decision) => Ok(decision),
         Err(fault) => Err(Error {
             fault,
-            at: place.offset(relocation.offset),
+            at: place.offset(section.relocations.as_slice()[index].offset),
         }),
     }
 }
@@ -53,9 +54,10 @@ fn decide_all<A: Arch>(
     ensures faults { Answers result (flat_map (relocation_errors resolved.now.layout.now place.group place.file place.section section.now) (range_with_len 0 (length section.now.relocations))) }
     ensures decisions { IfOk result (λ v. AreDecided resolved.now.layout.now section.now v.items) }
 {
-    let mut decisions = Vec::with_capacity(alloc, section.relocations.len())?;
-    for relocation in section.relocations.as_slice() {
-        decisions.push(decide_at(resolved, place, section, relocation)?)?;
+    let count = section.relocations.len();
+    let mut decisions = Vec::with_capacity(alloc, count)?;
+    for index in 0..count {
+        decisions.push(decide_at(resolved, place, section, index)?)?;
     }
     Ok(decisions)
 }
@@ -84,6 +86,7 @@ fn check_overlap(
 fn write_decisions(section: &InputSection, decisions: &[Decision], room: &mut [u8])
     requires count { length decisions.now ≡ length section.now.relocations }
     requires bytes { room.old ≡ section.now.bytes }
+    requires lie { DecisionsLie (length room.old) section.now.relocations decisions.now }
     requires apart { AreApart (length room.old) (decided_sites section.now section.now.relocations decisions.now) }
     ensures { room.new ≡ overlay (decided_sites section.now section.now.relocations decisions.now) room.old }
 {
@@ -93,21 +96,24 @@ fn write_decisions(section: &InputSection, decisions: &[Decision], room: &mut [u
     }
 }
 
-/// Decides a relocation and writes it, where its field begins at `reach` or behind: where it ends then; none where it
-/// begins before.
+/// Decides a relocation and writes it, where its bytes begin at `reach` or behind: where they end then; none where they
+/// begin before.
 fn write_decided<A: Arch>(
     resolved: &Resolved<A>,
     place: InputPlace,
     section: &InputSection,
-    relocation: &InputRelocation,
+    index: usize,
     reach: u64,
     room: &mut [u8],
 ) -> Result<Option<u64>, Error>
-    requires lies { FieldLies resolved.now.layout.now.machine (length room.old) relocation.now }
-    ensures faults { Answers result (refusal_of (at_offset place.group place.file place.section relocation.now.offset) (decided resolved.now.layout.now section.now relocation.now)) }
-    ensures next { IfOk result (λ next. IsNext resolved.now.layout.now section.now relocation.now reach next room.old room.new) }
+    requires index { index < length section.now.relocations }
+    requires lies { All (FieldLies resolved.now.layout.now.machine (length room.old)) section.now.relocations }
+    requires whole { length room.old ≡ length section.now.bytes }
+    ensures faults { Answers result (relocation_errors resolved.now.layout.now place.group place.file place.section section.now index) }
+    ensures next { IfOk result (λ next. IsNext resolved.now.layout.now section.now index reach next room.old room.new) }
 {
-    let decision = decide_at(resolved, place, section, relocation)?;
+    let decision = decide_at(resolved, place, section, index)?;
+    let relocation = &section.relocations.as_slice()[index];
     Ok(write_behind(reach, relocation, decision, room))
 }
 
@@ -117,22 +123,27 @@ fn write_next<A: Arch>(
     resolved: &Resolved<A>,
     place: InputPlace,
     section: &InputSection,
-    relocation: &InputRelocation,
+    index: usize,
     reach: u64,
     room: &mut [u8],
 ) -> Result<Option<u64>, Error>
-    requires lies { FieldLies resolved.now.layout.now.machine (length room.old) relocation.now }
-    ensures faults { Answers result (refusal_of (at_offset place.group place.file place.section relocation.now.offset) (decided resolved.now.layout.now section.now relocation.now)) }
-    ensures next { IfOk result (λ next. IsNext resolved.now.layout.now section.now relocation.now reach next room.old room.new) }
+    requires index { index < length section.now.relocations }
+    requires lies { All (FieldLies resolved.now.layout.now.machine (length room.old)) section.now.relocations }
+    requires whole { length room.old ≡ length section.now.bytes }
+    ensures faults { Answers result (relocation_errors resolved.now.layout.now place.group place.file place.section section.now index) }
+    ensures next { IfOk result (λ next. IsNext resolved.now.layout.now section.now index reach next room.old room.new) }
 {
-    match common_value(resolved, section, relocation) {
-        Some(value) => Ok(four_behind(reach, relocation.offset, value, room)),
-        None => write_decided(resolved, place, section, relocation, reach, room),
+    match common_value(resolved, section, index) {
+        Some(value) => {
+            let offset = section.relocations.as_slice()[index].offset;
+            Ok(four_behind(reach, offset, value, room))
+        }
+        None => write_decided(resolved, place, section, index, reach, room),
     }
 }
 
-/// Writes the relocations of a section over its bytes, as long as each field begins where those before it end, or
-/// behind: tells whether all did, or answers the first fault of a relocation.
+/// Writes the relocations of a section over its bytes, as long as what each writes begins where those before it
+/// end, or behind: tells whether all did, or answers the first fault of a relocation.
 #[tactic(auto, unfolding(wild_layout::specs::Faults::section_errors, wild_layout::specs::Sites::section_bytes))]
 fn write_ascending<A: Arch>(
     resolved: &Resolved<A>,
@@ -148,8 +159,8 @@ fn write_ascending<A: Arch>(
     ensures bytes { IfOk result (λ all. all ≡ true → room.new ≡ section_bytes resolved.now.layout.now section.now) }
 {
     let mut reach = 0;
-    for relocation in section.relocations.as_slice() {
-        match write_next(resolved, place, section, relocation, reach, room)? {
+    for index in 0..section.relocations.len() {
+        match write_next(resolved, place, section, index, reach, room)? {
             Some(end) => reach = end,
             None => return Ok(false),
         }

@@ -9,7 +9,6 @@ ghost use Rattle.wild_plan.specs.Kinds.{needs_dynsym};
 ghost use Rattle.wild_symbols.specs.Symbols.{symbol_bytes};
 ghost use Rattle.wild_symbols.specs.DynamicEntries.{NamedFields, undefined, listed, file_symbols, entry_at, entries_at, null_entries, behind_lead, file_entries, group_symbols};
 
-use crate::arch::Arch;
 use crate::listed::listed_or_none;
 use crate::part_bytes::PartBytes;
 use crate::values::Resolved;
@@ -19,6 +18,7 @@ use wild_plan::{
     lead_room,
 };
 use wild_records::SymtabEntry;
+use wild_relax::Arch;
 use wild_symbols::{SymbolFields, entry_at, no_fields, undefined_fields};
 
 /// Adds an entry.

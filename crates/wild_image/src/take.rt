@@ -7,7 +7,6 @@ ghost use Rattle.wild_layout.specs.Faults.{flat_map_from, section_errors, file_e
 ghost use Rattle.wild_layout.specs.Geometry.{SectionLies};
 ghost use Rattle.wild_image.specs.Pieces.{owned_in, file_owned, group_owned};
 
-use crate::arch::Arch;
 use crate::copies::check_entries;
 use crate::listed::check_listed;
 use crate::part_bytes::PartBytes;
@@ -16,6 +15,7 @@ use crate::section::write_data;
 use crate::values::Resolved;
 use std::alloc::{AllocError, Global};
 use wild_plan::{Error, File, Group, InputSection};
+use wild_relax::Arch;
 
 /// Answers the first fault of a section whose relocations are read and that owns no bytes.
 pub(crate) fn check_data<A: Arch>(

@@ -5,7 +5,7 @@ ghost use Rattle.wild_image.specs.Steps.{FieldsFit};
 
 use super::*;
 use crate::entries::add_entries;
-use crate::relocation::decide;
+use crate::relocation::decided;
 use crate::values::Resolved;
 use crate::words::add_words;
 use std::alloc::{AllocError, Global};
@@ -500,7 +500,7 @@ fn odd_places_have_entries(rt: HostRuntime) -> Result<(), Fail> {
     let layout = movable(rt.alloc())?;
     let resolved = Resolved::<ElfX86_64>::new(rt.alloc(), &layout)?;
     let section = data(rt.alloc(), 0x3000, &[1])?;
-    let decision = decide(&resolved, &section, &address(1));
+    let decision = decided(&resolved, &section, &address(1));
     let beside = Decision::Moved {
         value: 0x1040,
         packed: false,

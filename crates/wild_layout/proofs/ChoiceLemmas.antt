@@ -5,11 +5,10 @@
 --   partner_is_taken          a relocation that is taken along is behind such a one
 --   loads k                   a loader may fill a field of that kind
 --   no_row, no_partner        a relocation of such a kind has no row, and is taken along by none
-use Rattle.std.proofs.Common.{◌≡◌, ℕ, zero, suc, ◌+◌, ◌-◌, ◌≤◌, ◌⊎◌, inl, inr, Bool, true, false, List, [], ◌∷◌, length, refl, sym, ap, ◌∙◌, arith, subst}
-use Rattle.std.specs.Prelude.{Option, Some, None, Result, Ok, Err, ◌&&◌, ◌||◌, ◌==◌, not, if◌then◌else◌, cond, nat_le, slice_get, slice_range}
+use Rattle.std.proofs.Common.{◌≡◌, ℕ, zero, suc, ◌+◌, ◌-◌, ◌≤◌, inl, inr, Bool, true, false, List, [], ◌∷◌, length, refl, sym, ◌∙◌, arith, subst}
+use Rattle.std.specs.Prelude.{Option, Some, None, Result, Ok, Err, ◌&&◌, ◌||◌, ◌==◌, not, if◌then◌else◌, nat_le, slice_get, slice_range}
 use Rattle.std.specs.List.{list_all}
 use Rattle.std.proofs.lemmas.Bool.{cases_Bool, eqb-true, leb-true, or_cases}
-use Rattle.std.proofs.lemmas.Bool.Decides.{nat_tests}
 use Rattle.wild_words.specs.Words.{place}
 use Rattle.wild_words.proofs.OverlayLemmas.{length-place}
 use Rattle.wild_records.specs.Abi.Relocation as abi
@@ -43,7 +42,7 @@ use Rattle.wild_relax.specs.Rewrite.{rewritten}
 use Rattle.wild_relax.specs.RewriteX86_64.{rewrite_of}
 use Rattle.wild_relax.specs.Linked.{pattern_of, pattern_size, keeps_bytes, field_in, linked, template_by, template_of}
 use Rattle.wild_relax.specs.Relaxation.{chosen_of}
-use Rattle.wild_layout.specs.Choice.{info_of, question_of, choice_by, choice_of, choice_at, choice, takes_next, is_partner}
+use Rattle.wild_layout.specs.Choice.{info_of, question_of, choice_by, choice_of, choice_at, takes_next, is_partner}
 
 both : (a b : Bool) → (a && b) ≡ true → (a ≡ true) × (b ≡ true)
 both true b h = (refl, h)
@@ -143,6 +142,7 @@ pattern_inside bs o p h = leb-true (o - field_of p + length (cells_of p)) (lengt
 
 -- the row stands at the relocation, before the one behind it; the type of relocations that have no row is another
 pub record IsChosen (l : Layout) (s : InputSection) (r : InputRelocation) (next : Option InputRelocation) (row : Row) : Type 0 where
+  pub choice : choice_of l s r next ≡ Ok (Some row)
   pub machine : l.machine ≡ machine.X86_64
   pub symbol : ℕ
   pub named : r.symbol ≡ Some symbol
@@ -154,14 +154,15 @@ pub record IsChosen (l : Layout) (s : InputSection) (r : InputRelocation) (next 
 
 pub choice_row : (l : Layout) (s : InputSection) (r : InputRelocation) (next : Option InputRelocation) (row : Row) → choice_of l s r next ≡ Ok (Some row) → IsChosen l s r next row
 unfolding choice_by
-choice_row l s r next row h = by_symbol l s r next row r.symbol refl h
+choice_row l s r next row h = by_symbol l s r next row r.symbol h refl h
   where
-    by_machine : (l : Layout) (s : InputSection) (r : InputRelocation) (next : Option InputRelocation) (row : Row) (i : ℕ) (m : Machine) → l.machine ≡ m → r.symbol ≡ Some i → (r.number == abi.r_x86_64_pc32) ≡ false → chosen_of m (question_of l s r i next) ≡ Ok (Some row) → IsChosen l s r next row
-    by_machine l s r next row i machine.AArch64 is named other e = cc
-    by_machine l s r next row i machine.X86_64 is named other e =
+    by_machine : (l : Layout) (s : InputSection) (r : InputRelocation) (next : Option InputRelocation) (row : Row) (i : ℕ) (m : Machine) → choice_of l s r next ≡ Ok (Some row) → l.machine ≡ m → r.symbol ≡ Some i → (r.number == abi.r_x86_64_pc32) ≡ false → chosen_of m (question_of l s r i next) ≡ Ok (Some row) → IsChosen l s r next row
+    by_machine l s r next row i machine.AArch64 all is named other e = cc
+    by_machine l s r next row i machine.X86_64 all is named other e =
         let t = taken_is (question_of l s r i next) row e in
         let stands = whole_stands row s.bytes r.offset (always_stands (question_of l s r i next) row t.first.here) (needed_stands (question_of l s r i next) row t.whole) in
         record {
+          choice = all;
           machine = is;
           symbol = i;
           named = named;
@@ -172,13 +173,13 @@ choice_row l s r next row h = by_symbol l s r next row r.symbol refl h
           inside = pattern_inside s.bytes r.offset (pattern_of row) stands;
         }
 
-    by_number : (l : Layout) (s : InputSection) (r : InputRelocation) (next : Option InputRelocation) (row : Row) (i : ℕ) (b : Bool) → r.symbol ≡ Some i → (r.number == abi.r_x86_64_pc32) ≡ b → (if b then Ok None else chosen_of l.machine (question_of l s r i next)) ≡ Ok (Some row) → IsChosen l s r next row
-    by_number l s r next row i true named is e = cc
-    by_number l s r next row i false named is e = by_machine l s r next row i l.machine refl named is e
+    by_number : (l : Layout) (s : InputSection) (r : InputRelocation) (next : Option InputRelocation) (row : Row) (i : ℕ) (b : Bool) → choice_of l s r next ≡ Ok (Some row) → r.symbol ≡ Some i → (r.number == abi.r_x86_64_pc32) ≡ b → (if b then Ok None else chosen_of l.machine (question_of l s r i next)) ≡ Ok (Some row) → IsChosen l s r next row
+    by_number l s r next row i true all named is e = cc
+    by_number l s r next row i false all named is e = by_machine l s r next row i l.machine all refl named is e
 
-    by_symbol : (l : Layout) (s : InputSection) (r : InputRelocation) (next : Option InputRelocation) (row : Row) (o : Option ℕ) → r.symbol ≡ o → choice_by l s r next o ≡ Ok (Some row) → IsChosen l s r next row
-    by_symbol l s r next row None named e = cc
-    by_symbol l s r next row (Some i) named e = by_number l s r next row i (r.number == abi.r_x86_64_pc32) named refl e
+    by_symbol : (l : Layout) (s : InputSection) (r : InputRelocation) (next : Option InputRelocation) (row : Row) (o : Option ℕ) → choice_of l s r next ≡ Ok (Some row) → r.symbol ≡ o → choice_by l s r next o ≡ Ok (Some row) → IsChosen l s r next row
+    by_symbol l s r next row None all named e = cc
+    by_symbol l s r next row (Some i) all named e = by_number l s r next row i (r.number == abi.r_x86_64_pc32) all named refl e
 
 -- what each row of the table has
 pub chosen_listed : (l : Layout) (s : InputSection) (r : InputRelocation) (next : Option InputRelocation) (row : Row) → IsChosen l s r next row → (p : Row → Bool) → list_all p rows_x86_64 ≡ true → p row ≡ true

@@ -1,26 +1,37 @@
 -- The sites of an input section: what each relocation writes, where it lies, and that they are apart.
-use Rattle.std.proofs.Common.{◌≡◌, ℕ, zero, suc, ◌+◌, ◌<◌, ◌≤◌, ◌⊎◌, inl, inr, List, [], ◌∷◌, ◌++◌, length, get_or, slice_range, refl, sym, arith, subst}
+use Rattle.std.proofs.Common.{◌≡◌, ℕ, zero, suc, ◌+◌, ◌<◌, ◌≤◌, ◌⊎◌, inl, inr, List, [], ◌∷◌, ◌++◌, length, get_or, slice_range, drop, ◌-◌, refl, sym, ap, ◌∙◌, arith, subst}
 use Rattle.std.specs.Prelude.{Option, Some, None, Result, Ok, Err, All, Contains, slice_get, if◌then◌else◌}
 use Rattle.std.specs.List.{flat_map, range_with_len}
 use Rattle.std.proofs.lemmas.Option.{get_or_from_slice_get, slice_get_within}
+use Rattle.std.proofs.lemmas.List.{length-take-le, length-drop}
 use Rattle.std.proofs.lemmas.List.Elements.{Contains-append_left, Contains-append_right, All-nil}
 use Rattle.wild_words.specs.Overlay.{Piece, AreApart}
 use Rattle.wild_words.proofs.ListLemmas.{All-flat_map}
 use Rattle.wild_plan.specs.declared.fault.Fault.{Fault}
+use Rattle.wild_plan.specs.declared.kind.Machine.{Machine}
+use Rattle.wild_plan.specs.declared.kind.Machine.TheVariants as machine
+use Rattle.wild_plan.specs.Rows.{row_of}
 use Rattle.wild_plan.specs.declared.input.InputRelocation.{InputRelocation}
 use Rattle.wild_plan.specs.declared.input.InputSection.{InputSection}
 use Rattle.wild_plan.specs.declared.layout.Layout.{Layout}
 use Rattle.wild_reloc.specs.Field.{size_width}
+use Rattle.wild_reloc.specs.TableX86_64.{x86_64_row}
+use Rattle.wild_reloc.specs.declared.info.RelocationKindInfo.{RelocationKindInfo}
 use Rattle.wild_reloc.specs.declared.info.RelocationSize.{RelocationSize}
 use Rattle.wild_reloc.specs.declared.info.RelocationSize.TheVariants.{ByteSize}
 use Rattle.wild_reloc.specs.declared.info.Width.TheVariants.{Eight}
 use Rattle.wild_reloc.proofs.PlaceLemmas.{length-size_written}
 use Rattle.wild_layout.specs.declared.decision.Decision.{Decision}
-use Rattle.wild_layout.specs.declared.decision.Decision.TheVariants.{Nothing, Field, Moved, Left}
-use Rattle.wild_layout.specs.Decide.{decided, decide}
-use Rattle.wild_layout.specs.Sites.{Written, written_by, field_site, site_of, site_at, site, sites, shared_byte}
+use Rattle.wild_layout.specs.declared.decision.Decision.TheVariants.{Nothing, Field, Moved, Left, Rewritten, Partner}
+use Rattle.wild_relax.specs.declared.row.Row.{Row}
+use Rattle.wild_relax.specs.RewriteX86_64.{rewrite_of}
+use Rattle.wild_relax.specs.Linked.{pattern_size}
+use Rattle.wild_layout.specs.Decide.{decide}
+use Rattle.wild_layout.specs.Sites.{Written, written_by, field_site, template_start, template_site, site_by, site_for, site_of, site_at, site, sites, shared_byte}
 use Rattle.wild_layout.specs.Geometry.{FieldLies}
 use Rattle.wild_layout.proofs.DecideLemmas.{HasField, decided_field, decided_moved, decided_left, field_has, moved_has, left_has, field_has_bytes, field_ends}
+use Rattle.wild_layout.proofs.ChoiceLemmas.{chosen_lies, length-template}
+use Rattle.wild_layout.proofs.DecisionLemmas.{decide_moved, decide_left, decide_field, IsRewritten, decide_rewritten}
 use Rattle.wild_layout.proofs.SitesApart.{IsFieldIn, fields_apart}
 
 pub All-one : {X : Type 0} (P : X → Type 0) (x : X) → P x → All P (x ∷ [])
@@ -47,39 +58,70 @@ pub record IsSite (l : Layout) (s : InputSection) (i : ℕ) : Type 0 where
   pub relocation : InputRelocation
   pub listed : slice_get s.relocations i ≡ Some relocation
   pub decision : Decision
-  pub made : decided l s relocation ≡ Ok decision
+  pub made : decide l s i ≡ Ok decision
   pub written : Written
   pub by : written_by decision ≡ Some written
   pub field : HasField l relocation written.size
   pub is : site l s i ≡ field_site s relocation.offset written.size written.value ∷ []
 
-pub decide_listed : (l : Layout) (s : InputSection) (r : InputRelocation) (i : ℕ) → slice_get s.relocations i ≡ Some r → decide l s i ≡ decided l s r
-unfolding decide
-decide_listed l s r i e = rw e refl
+-- relocation i writes an instruction
+pub record IsTemplateSite (l : Layout) (s : InputSection) (i : ℕ) : Type 0 where
+  pub relocation : InputRelocation
+  pub listed : slice_get s.relocations i ≡ Some relocation
+  pub row : Row
+  pub value : ℕ
+  pub made : decide l s i ≡ Ok (Rewritten row value)
+  pub rewritten : IsRewritten l s relocation (slice_get s.relocations (i + 1)) row value
+  pub is : site l s i ≡ template_site s relocation row value ∷ []
+
+site_for_field : (s : InputSection) (r : InputRelocation) (d : Decision) (w : Written) → written_by d ≡ Some w → site_for s r d ≡ field_site s r.offset w.size w.value ∷ []
+site_for_field s r Nothing w by = cc
+site_for_field s r (Field z v) w by = ap (site_by s r) by
+site_for_field s r (Moved v packed) w by = ap (site_by s r) by
+site_for_field s r (Left z number symbol addend) w by = ap (site_by s r) by
+site_for_field s r (Rewritten row v) w by = cc
+site_for_field s r Partner w by = cc
+
+site_decided : (l : Layout) (s : InputSection) (i : ℕ) (r : InputRelocation) (d : Decision) → slice_get s.relocations i ≡ Some r → decide l s i ≡ Ok d → site l s i ≡ site_for s r d
+unfolding site
+site_decided l s i r d listed is = rw (listed, is) refl
 
 -- the site of a decision
-pub site_written : (l : Layout) (s : InputSection) (i : ℕ) (r : InputRelocation) (d : Decision) (w : Written) → slice_get s.relocations i ≡ Some r → decided l s r ≡ Ok d → written_by d ≡ Some w → site l s i ≡ field_site s r.offset w.size w.value ∷ []
-unfolding site
-site_written l s i r d w listed is by = let e = decide_listed l s r i listed in rw (listed, e, is, by) refl
+pub site_written : (l : Layout) (s : InputSection) (i : ℕ) (r : InputRelocation) (d : Decision) (w : Written) → slice_get s.relocations i ≡ Some r → decide l s i ≡ Ok d → written_by d ≡ Some w → site l s i ≡ field_site s r.offset w.size w.value ∷ []
+site_written l s i r d w listed is by = site_decided l s i r d listed is ∙ site_for_field s r d w by
 
--- a relocation writes nothing, or a field
-pub site_cases : (l : Layout) (s : InputSection) (i : ℕ) → (site l s i ≡ []) ⊎ IsSite l s i
+-- that of an instruction
+pub site_rewritten : (l : Layout) (s : InputSection) (i : ℕ) (r : InputRelocation) (row : Row) (v : ℕ) → slice_get s.relocations i ≡ Some r → decide l s i ≡ Ok (Rewritten row v) → site l s i ≡ template_site s r row v ∷ []
+site_rewritten l s i r row v listed is = site_decided l s i r (Rewritten row v) listed is
+
+-- the field of a relocation that a value is written into
+pub decide_field_has : (l : Layout) (s : InputSection) (i : ℕ) (r : InputRelocation) (z : RelocationSize) (v : ℕ) → slice_get s.relocations i ≡ Some r → decide l s i ≡ Ok (Field z v) → HasField l r z
+decide_field_has l s i r z v listed is =
+    elim (decide_field l s i r z v listed is) [
+      | inl own ↦ field_has l s r z v (decided_field l s r z v own.made)
+      | inr kept ↦ kept.field
+    ]
+
+-- a relocation writes nothing, or a field, or an instruction
+pub site_cases : (l : Layout) (s : InputSection) (i : ℕ) → (site l s i ≡ []) ⊎ (IsSite l s i ⊎ IsTemplateSite l s i)
 unfolding site
 site_cases l s i = listed l s i (slice_get s.relocations i) refl
   where
-    site_for : (l : Layout) (s : InputSection) (i : ℕ) (r : InputRelocation) (d : Decision) (w : Written) → slice_get s.relocations i ≡ Some r → decided l s r ≡ Ok d → written_by d ≡ Some w → HasField l r w.size → IsSite l s i
-    site_for l s i r d w e is by f = record { relocation = r; listed = e; decision = d; made = is; written = w; by = by; field = f; is = site_written l s i r d w e is by }
+    field_of : (l : Layout) (s : InputSection) (i : ℕ) (r : InputRelocation) (d : Decision) (w : Written) → slice_get s.relocations i ≡ Some r → decide l s i ≡ Ok d → written_by d ≡ Some w → HasField l r w.size → (site_for s r d ≡ []) ⊎ (IsSite l s i ⊎ IsTemplateSite l s i)
+    field_of l s i r d w e is by f = inr (inl (record { relocation = r; listed = e; decision = d; made = is; written = w; by = by; field = f; is = site_written l s i r d w e is by }))
 
-    decision : (l : Layout) (s : InputSection) (i : ℕ) (r : InputRelocation) (d : Result Decision Fault) → slice_get s.relocations i ≡ Some r → decided l s r ≡ d → (site_of s r d ≡ []) ⊎ IsSite l s i
+    decision : (l : Layout) (s : InputSection) (i : ℕ) (r : InputRelocation) (d : Result Decision Fault) → slice_get s.relocations i ≡ Some r → decide l s i ≡ d → (site_of s r d ≡ []) ⊎ (IsSite l s i ⊎ IsTemplateSite l s i)
     decision l s i r (Err f) e is = inl refl
     decision l s i r (Ok Nothing) e is = inl refl
-    decision l s i r (Ok (Field z v)) e is = inr (site_for l s i r (Field z v) (record { size = z; value = v }) e is refl (field_has l s r z v (decided_field l s r z v is)))
-    decision l s i r (Ok (Moved v packed)) e is = inr (site_for l s i r (Moved v packed) (record { size = ByteSize Eight; value = if packed then v else 0 }) e is refl (moved_has l s r v packed (decided_moved l s r v packed is)))
-    decision l s i r (Ok (Left z n symbol addend)) e is = inr (site_for l s i r (Left z n symbol addend) (record { size = z; value = 0 }) e is refl (left_has l s r z n symbol addend (decided_left l s r z n symbol addend is)))
+    decision l s i r (Ok Partner) e is = inl refl
+    decision l s i r (Ok (Field z v)) e is = field_of l s i r (Field z v) (record { size = z; value = v }) e is refl (decide_field_has l s i r z v e is)
+    decision l s i r (Ok (Moved v packed)) e is = field_of l s i r (Moved v packed) (record { size = ByteSize Eight; value = if packed then v else 0 }) e is refl (moved_has l s r v packed (decided_moved l s r v packed (decide_moved l s i r v packed e is).made))
+    decision l s i r (Ok (Left z number symbol addend)) e is = field_of l s i r (Left z number symbol addend) (record { size = z; value = 0 }) e is refl (left_has l s r z number symbol addend (decided_left l s r z number symbol addend (decide_left l s i r z number symbol addend e is).made))
+    decision l s i r (Ok (Rewritten row v)) e is = inr (inr (record { relocation = r; listed = e; row = row; value = v; made = is; rewritten = decide_rewritten l s i r row v e is; is = site_rewritten l s i r row v e is }))
 
-    listed : (l : Layout) (s : InputSection) (i : ℕ) (o : Option InputRelocation) → slice_get s.relocations i ≡ o → (site_at s (decide l s i) o ≡ []) ⊎ IsSite l s i
+    listed : (l : Layout) (s : InputSection) (i : ℕ) (o : Option InputRelocation) → slice_get s.relocations i ≡ o → (site_at s (decide l s i) o ≡ []) ⊎ (IsSite l s i ⊎ IsTemplateSite l s i)
     listed l s i None e = inl refl
-    listed l s i (Some r) e = let same = decide_listed l s r i e in subst (λ (d : Result Decision Fault). (site_of s r d ≡ []) ⊎ IsSite l s i) (sym same) (decision l s i r (decided l s r) e refl)
+    listed l s i (Some r) e = decision l s i r (decide l s i) e refl
 
 pub All-of : (P : Piece → Type 0) (ps qs : List Piece) → ps ≡ qs → All P qs → All P ps
 All-of P ps qs e h = subst (λ (xs : List Piece). All P xs) (sym e) h
@@ -94,11 +136,37 @@ length-field_site s at z v = length-size_written z v (slice_range s.bytes at (at
 pub field_lies : (l : Layout) (s : InputSection) (r : InputRelocation) (z : RelocationSize) → HasField l r z → length s.bytes ≡ s.size → FieldLies l.machine s.size r → r.offset + size_width z ≤ length s.bytes
 field_lies l s r z f full lies = let e = field_ends l r z s.size f lies in omega (arith, e, full)
 
+-- how many bytes a window inside the bytes has
+length-window : (bs : List ℕ) (start n : ℕ) → start + n ≤ length bs → length (slice_range bs start (start + n)) ≡ n
+length-window bs start n h =
+    let e : start + n - start ≡ n = omega arith in
+    let d = length-drop start bs in
+    rw e (length-take-le n (drop start bs) (omega (arith, d)))
+
+row_here : (m : Machine) (n : ℕ) (info : RelocationKindInfo) → m ≡ machine.X86_64 → row_of m n ≡ Some info → x86_64_row n ≡ Some info
+unfolding row_of
+row_here machine.AArch64 n info is h = cc
+row_here machine.X86_64 n info is h = h
+
+-- an instruction that is rewritten has the bytes of its pattern
+pub length-template_site : (l : Layout) (s : InputSection) (r : InputRelocation) (next : Option InputRelocation) (row : Row) (v : ℕ) → IsRewritten l s r next row v → length (template_site s r row v).bytes ≡ pattern_size row
+length-template_site l s r next row v w =
+    let known = row_here l.machine (rewrite_of row).number w.written.info w.chosen.machine w.written.known in
+    length-template row w.written.info v (slice_range s.bytes (template_start row r) (template_start row r + pattern_size row)) (chosen_lies l s r next row w.chosen w.changes) known (length-window s.bytes (template_start row r) (pattern_size row) w.chosen.inside)
+
+-- and lies in the section
+pub template_lies : (l : Layout) (s : InputSection) (r : InputRelocation) (next : Option InputRelocation) (row : Row) (v : ℕ) → IsRewritten l s r next row v → IsFieldIn (length s.bytes) (template_site s r row v)
+template_lies l s r next row v w =
+    let long = length-template_site l s r next row v w in
+    let some = (chosen_lies l s r next row w.chosen w.changes).some in
+    let inside = w.chosen.inside in
+    record { ends = omega (arith, long, inside); some = omega (arith, long, some) }
+
 site_is_field : (l : Layout) (s : InputSection) (i : ℕ) → All (FieldLies l.machine (length s.bytes)) s.relocations → All (IsFieldIn (length s.bytes)) (site l s i)
 site_is_field l s i lies =
     elim (site_cases l s i) [
       | inl none ↦ All-of (IsFieldIn (length s.bytes)) _ [] none (All-nil (IsFieldIn (length s.bytes)))
-      | inr some ↦ All-of (IsFieldIn (length s.bytes)) _ _ some.is (All-one (IsFieldIn (length s.bytes)) (field_site s some.relocation.offset some.written.size some.written.value) (is_field l s some.relocation some.written.size some.written.value some.field (All-at (FieldLies l.machine (length s.bytes)) s.relocations i some.relocation lies some.listed)))
+      | inr some ↦ by_site l s i lies some
     ]
   where
     is_field : (l : Layout) (s : InputSection) (r : InputRelocation) (z : RelocationSize) (v : ℕ) → HasField l r z → FieldLies l.machine (length s.bytes) r → IsFieldIn (length s.bytes) (field_site s r.offset z v)
@@ -107,6 +175,14 @@ site_is_field l s i lies =
         let lie = field_ends l r z (length s.bytes) f lies in
         let some = field_has_bytes l r z f in
         record { ends = omega (arith, w, lie); some = omega (arith, w, some) }
+
+    by_site : (l : Layout) (s : InputSection) (i : ℕ) → All (FieldLies l.machine (length s.bytes)) s.relocations → IsSite l s i ⊎ IsTemplateSite l s i → All (IsFieldIn (length s.bytes)) (site l s i)
+    by_site l s i lies (inl x) =
+        let P = IsFieldIn (length s.bytes) in
+        All-of P _ _ x.is (All-one P (field_site s x.relocation.offset x.written.size x.written.value) (is_field l s x.relocation x.written.size x.written.value x.field (All-at (FieldLies l.machine (length s.bytes)) s.relocations i x.relocation lies x.listed)))
+    by_site l s i lies (inr x) =
+        let P = IsFieldIn (length s.bytes) in
+        All-of P _ _ x.is (All-one P (template_site s x.relocation x.row x.value) (template_lies l s x.relocation (slice_get s.relocations (i + 1)) x.row x.value x.rewritten))
 
 -- the sites of a section lie in its bytes, each apart from the others
 pub sites_apart_in : (l : Layout) (s : InputSection) → All (FieldLies l.machine (length s.bytes)) s.relocations → shared_byte l s ≡ None → AreApart (length s.bytes) (sites l s)

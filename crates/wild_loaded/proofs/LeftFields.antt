@@ -163,6 +163,8 @@ kind_tells l s n symbol row row_kinds.GotRelGotBase e = value_tells l n row symb
 kind_tells l s n symbol row row_kinds.TlsGd e = value_tells l n row symbol
 kind_tells l s n symbol row row_kinds.TlsLd e = value_tells l n row symbol
 kind_tells l s n symbol row row_kinds.GotTpOff e = value_tells l n row symbol
+kind_tells l s n symbol row row_kinds.TlsDesc e = value_tells l n row symbol
+kind_tells l s n symbol row row_kinds.TlsDescCall e = told_named (Tells l n (Some row)) symbol (λ i. treatments.Nothing) tt (λ i. tt)
 kind_tells l s n symbol row other e = tt
 
 row_tells : (l : Layout) (s : InputSection) (n : ℕ) (symbol : Option ℕ) (o : Option RelocationKindInfo) → Tells l n o (row_treatment l s symbol o)

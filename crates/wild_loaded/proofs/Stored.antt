@@ -1,8 +1,8 @@
--- Kept sections in the memory of an image that no entry has changed: their fields, their other bytes, and zeros.
+-- Kept sections in the memory of an image that no entry has changed: their fields, what is rewritten, their other bytes, and zeros.
 use Rattle.std.proofs.Common.{◌≡◌, ℕ, ◌+◌, ◌<◌, ◌≤◌, List, [], ◌∷◌, length, refl, sym, ap, ◌∙◌, arith, subst}
-use Rattle.std.specs.Prelude.{Some, Ok, Contains, if◌then◌else◌, slice_get, slice_range}
+use Rattle.std.specs.Prelude.{Some, Contains, if◌then◌else◌, slice_get, slice_range}
 use Rattle.std.specs.List.{range_with_len}
-use Rattle.std.proofs.lemmas.Option.{slice_get-get_or}
+use Rattle.std.proofs.lemmas.Option.{slice_get_within}
 use Rattle.std.proofs.lemmas.List.FromFn.{get_or-range_with_len, length-range_with_len}
 use Rattle.wild_words.specs.Words.{word, Stands}
 use Rattle.wild_words.specs.Overlay.{Piece, overlay, AreApart}
@@ -17,14 +17,15 @@ use Rattle.wild_reloc.specs.declared.info.Width.TheVariants.{Eight}
 use Rattle.wild_headers.specs.Headers.{file_header, program_header}
 use Rattle.wild_layout.specs.declared.decision.Decision.{Decision}
 use Rattle.wild_layout.specs.declared.decision.Decision.TheVariants.{Field, Moved, Left}
-use Rattle.wild_layout.specs.Decide.{decided}
-use Rattle.wild_layout.specs.Sites.{Written, written_by, field_site, site, sites}
+use Rattle.wild_layout.specs.Sites.{Written, written_by, field_site, template_site, site, sites}
 use Rattle.wild_layout.specs.Image.{bytes}
 use Rattle.wild_layout.specs.Geometry.{SectionLies}
-use Rattle.wild_layout.proofs.SiteLemmas.{Contains-flat_map, site_written}
+use Rattle.wild_layout.proofs.DecisionLemmas.{decide_left}
+use Rattle.wild_layout.proofs.SiteLemmas.{Contains-flat_map, site_written, site_rewritten}
 use Rattle.wild_loader.specs.Headers.{machine_of}
 use Rattle.wild_loader.specs.Memory.{byte_in}
 use Rattle.wild_loader.specs.Laws.{BytesAreLoaded, ZerosAreLoaded}
+use Rattle.wild_geometry.specs.Loaded.{HasDecision}
 use Rattle.wild_loaded.specs.Memory.{image_memory, headers_of}
 use Rattle.wild_loaded.specs.Laws.{SectionsAreStored, ZerosAreStored}
 use Rattle.wild_loaded.proofs.LeftFields.{left_zeroed}
@@ -37,14 +38,16 @@ use Rattle.wild_loaded.proofs.Loads.{are_loadable, kind_is, Contains-map}
 range-Contains : (n i : ℕ) → i < n → Contains (range_with_len 0 n) i
 range-Contains n i h = let e = length-range_with_len 0 n in let g = get_or-range_with_len 0 n i i h in (i, omega (arith, e, h), omega (arith, g))
 
--- the field of a relocation stands in the section's bytes
-field_stands : (l : Layout) (s : InputSection) (r : InputRelocation) (d : Decision) (x : Written) → AreApart (length s.bytes) (sites l s) → Contains s.relocations r → decided l s r ≡ Ok d → written_by d ≡ Some x → Stands (overlay (sites l s) s.bytes) r.offset (field_site s r.offset x.size x.value).bytes
-field_stands l s r d x apart c made by =
-    let p = field_site s r.offset x.size x.value in
-    let listed : slice_get s.relocations c.0 ≡ Some r = slice_get-get_or s.relocations c.0 r c.1 ∙ ap Some c.2 in
+-- what a relocation writes stands in the section's bytes
+site_stands : (l : Layout) (s : InputSection) (i : ℕ) (r : InputRelocation) (p : Piece) → AreApart (length s.bytes) (sites l s) → slice_get s.relocations i ≡ Some r → site l s i ≡ p ∷ [] → Stands (overlay (sites l s) s.bytes) p.at p.bytes
+site_stands l s i r p apart listed is =
     let one : Contains (p ∷ []) p = (0, omega arith, refl) in
-    let here : Contains (site l s c.0) p = subst (λ (ps : List Piece). Contains ps p) (sym (site_written l s c.0 r d x listed made by)) one in
-    Stands-overlay p (sites l s) s.bytes apart (Contains-flat_map (site l s) (range_with_len 0 (length s.relocations)) c.0 p (range-Contains (length s.relocations) c.0 c.1) here)
+    let here : Contains (site l s i) p = subst (λ (ps : List Piece). Contains ps p) (sym is) one in
+    Stands-overlay p (sites l s) s.bytes apart (Contains-flat_map (site l s) (range_with_len 0 (length s.relocations)) i p (range-Contains (length s.relocations) i (slice_get_within s.relocations i r listed)) here)
+
+-- so does its field
+field_stands : (l : Layout) (s : InputSection) (i : ℕ) (r : InputRelocation) (d : Decision) (x : Written) → AreApart (length s.bytes) (sites l s) → HasDecision l s i r d → written_by d ≡ Some x → Stands (overlay (sites l s) s.bytes) r.offset (field_site s r.offset x.size x.value).bytes
+field_stands l s i r d x apart h by = site_stands l s i r (field_site s r.offset x.size x.value) apart h.listed (site_written l s i r d x h.listed h.decided by)
 
 pub sections_stored : BytesAreLoaded → SectionsAreStored
 sections_stored law = λ l w s legal laid k decisions.
@@ -54,9 +57,15 @@ sections_stored law = λ l w s legal laid k decisions.
     let len = length-overlay (sites l s) s.bytes decisions.apart in
     record {
       ends = section_ends l w s legal laid k lies;
-      values = λ r z v c made. Holds-inner (image_memory l w) (w.base + s.address) r.offset whole (field_site s r.offset z v).bytes held (field_stands l s r (Field z v) (record { size = z; value = v }) decisions.apart c made refl);
-      addresses = λ r v packed c made. Holds-inner (image_memory l w) (w.base + s.address) r.offset whole (word 8 (if packed then v else 0)) held (field_stands l s r (Moved v packed) (record { size = ByteSize Eight; value = if packed then v else 0 }) decisions.apart c made refl);
-      left = λ r z number symbol addend c made. (let p = field_site s r.offset z 0 in (p.bytes, Holds-inner (image_memory l w) (w.base + s.address) r.offset whole p.bytes held (field_stands l s r (Left z number symbol addend) (record { size = z; value = 0 }) decisions.apart c made refl), left_zeroed l s r z number symbol addend (slice_range s.bytes r.offset (r.offset + size_width z)) made));
+      values = λ i r z v h. Holds-inner (image_memory l w) (w.base + s.address) r.offset whole (field_site s r.offset z v).bytes held (field_stands l s i r (Field z v) (record { size = z; value = v }) decisions.apart h refl);
+      addresses = λ i r v packed h. Holds-inner (image_memory l w) (w.base + s.address) r.offset whole (word 8 (if packed then v else 0)) held (field_stands l s i r (Moved v packed) (record { size = ByteSize Eight; value = if packed then v else 0 }) decisions.apart h refl);
+      left = λ i r z number symbol addend h. (
+        let p = field_site s r.offset z 0 in
+        let made = (decide_left l s i r z number symbol addend h.listed h.decided).made in
+        (p.bytes, Holds-inner (image_memory l w) (w.base + s.address) r.offset whole p.bytes held (field_stands l s i r (Left z number symbol addend) (record { size = z; value = 0 }) decisions.apart h refl), left_zeroed l s r z number symbol addend (slice_range s.bytes r.offset (r.offset + size_width z)) made));
+      rewritten = λ i r row v h. (
+        let p = template_site s r row v in
+        Holds-inner (image_memory l w) (w.base + s.address) p.at whole p.bytes held (site_stands l s i r p decisions.apart h.listed (site_rewritten l s i r row v h.listed h.decided)));
       others = λ i lt out. held i (omega (arith, len, lt)) ∙ ap Some (overlay-outside i (sites l s) s.bytes decisions.apart out);
     }
 

@@ -141,7 +141,7 @@ pub record IsBranchTarget (l : Layout) (w : World) (m : Memory) (r : InputReloca
 
 -- the value of a descriptor's reference: the offset itself, or the address of a descriptor
 abbrev pub IsDescribed : Layout → World → Memory → Item → InputRelocation → ℕ → Type 0
-IsDescribed l w m item r v = (HasOffsetMode l item × IsOffset l w r.symbol v) ⊎ ((HasOffsetMode l item → ⊥) × IsSlot Descriptor l w m r.symbol v)
+IsDescribed l w m item r v = (HasOffsetMode l item × IsOffset l w r.symbol v) ⊎ ((HasOffsetMode l item → ⊥) × (g : ℕ) × IsSlot Descriptor l w m r.symbol g × (v ≡ g % 2 ^ 64))
 
 -- v is what an operand of that sort is to read as: what comes to S; what stands for S; its offset from the thread pointer; what
 -- offsets in the output's own thread-local data count from; or what a descriptor's reference is

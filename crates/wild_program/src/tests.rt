@@ -144,6 +144,21 @@ fn failing_writes(rt: HostRuntime) -> Result<(), Fail> {
     Ok(())
 }
 
+/// A call of a function by its stub, of which it has none in a program that no loader fills, is written as one of its address.
+#[test]
+fn a_call_without_a_stub(rt: HostRuntime) -> Result<(), Fail> {
+    let alloc = rt.alloc();
+    let plan = String::from_str(alloc, SMALLEST)?.replace(
+        alloc,
+        r#""number":2,"#,
+        r#""number":4,"#,
+    )?;
+    let (status, text) = answer(&rt, alloc, &["link", "1"], plan.as_bytes(), &CALM)?;
+    assert!(rt; status == 0);
+    assert_eq!(rt; text.as_slice(), SMALLEST_TEXT.as_bytes());
+    Ok(())
+}
+
 #[test]
 fn no_plans(rt: HostRuntime) -> Result<(), Fail> {
     let cases = [

@@ -24,7 +24,7 @@ pub trait Arch {
     ghost use Rattle.wild_plan.specs.Stub.{Stub};
 
     /// A rewrite of instructions of the machine.
-    type Relaxation: Relaxation;
+    type Relaxation: Relaxation + Copy;
 
     /// The machine.
     ghost machine: { Machine };

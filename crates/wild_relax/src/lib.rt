@@ -18,7 +18,7 @@ pub use arch::Arch;
 pub use laws::{
     rewrites_keep_the_effect, rewrites_stay_in_their_patterns, stubs_jump_to_their_slots,
 };
-pub use pattern::{GeneralForm, LocalForm, Operation, Prefix};
+pub use pattern::{Cell, GeneralForm, LocalForm, Operation, Prefix};
 pub use reference::{RelocationInfo, UnknownSequence};
 pub use relaxation::{Relaxation, RelaxationKind, RelocationModifier};
 pub use row::{DescriptorUse, Row};

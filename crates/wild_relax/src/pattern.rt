@@ -68,10 +68,10 @@ pub enum Pattern {
     DescriptorCall,
 }
 
-// What one byte may be: a fixed one; a REX prefix, or the payload of a REX2 prefix, for 64 bits without an index or a base; a
-// ModRM byte of `[rip + displacement]`; or any.
+/// What one byte may be: a fixed one; a REX prefix, or the payload of a REX2 prefix, for 64 bits without an index or a base; a
+/// ModRM byte of `[rip + displacement]`; or any.
 #[derive(Clone, Copy, Debug, PartialEq, Eq)]
-pub(crate) enum Cell {
+pub enum Cell {
     Is(u8),
     RexWide,
     Rex2Wide,

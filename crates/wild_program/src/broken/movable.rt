@@ -4,7 +4,7 @@ use crate::moved::MOVED;
 use crate::tests::SMALLEST;
 
 /// A row for each fault that such outputs alone have, and for plans beside them that have none.
-pub(super) const MOVABLE: [Broken; 15] = [
+pub(super) const MOVABLE: [Broken; 18] = [
     // as it is
     Broken {
         plan: MOVED,
@@ -27,6 +27,50 @@ pub(super) const MOVABLE: [Broken; 15] = [
             r#""offset":16,"number":1,"symbol":0},{"offset":9,"number":2}"#,
         )],
         answer: "refused RecompileWithPic number=2 at group=0 file=1 section=1 offset=9",
+    },
+    Broken {
+        plan: MOVED,
+        changes: &[
+            (r#""static_pie""#, r#""shared""#),
+            (
+                r#""offset":16,"number":1,"symbol":0}"#,
+                r#""offset":16,"number":1,"symbol":0},{"offset":9,"number":10,"symbol":0}"#,
+            ),
+        ],
+        answer: "refused RecompileWithPic number=10 at group=0 file=1 section=1 offset=9",
+    },
+    // a resolver's answer, to which nothing can be added
+    Broken {
+        plan: MOVED,
+        changes: &[
+            (r#""rela_dyn_relative""#, r#""rela_dyn_general""#),
+            (
+                r#""flags":["NON_INTERPOSABLE"]}]"#,
+                r#""flags":["NON_INTERPOSABLE"]},{"name":"66","info":10,"place":{"section":0},"flags":["NON_INTERPOSABLE","IFUNC"],"resolution":{"raw_value":4160}}]"#,
+            ),
+            (r#""symbol_count":1"#, r#""symbol_count":2"#),
+            (
+                r#""offset":1,"number":1,"symbol":0}"#,
+                r#""offset":1,"number":1,"symbol":1}"#,
+            ),
+        ],
+        answer: "image 5008",
+    },
+    Broken {
+        plan: MOVED,
+        changes: &[
+            (r#""rela_dyn_relative""#, r#""rela_dyn_general""#),
+            (
+                r#""flags":["NON_INTERPOSABLE"]}]"#,
+                r#""flags":["NON_INTERPOSABLE"]},{"name":"66","info":10,"place":{"section":0},"flags":["NON_INTERPOSABLE","IFUNC"],"resolution":{"raw_value":4160}}]"#,
+            ),
+            (r#""symbol_count":1"#, r#""symbol_count":2"#),
+            (
+                r#""offset":1,"number":1,"symbol":0}"#,
+                r#""offset":1,"number":1,"symbol":1,"addend":8}"#,
+            ),
+        ],
+        answer: "refused IfuncAddend addend=8 at group=0 file=1 section=1 offset=1",
     },
     // clause 4: roles
     Broken {

@@ -7,12 +7,12 @@ const WIDE: &str =
     r#"{"machine":"x86_64","kind":"static","options":{"relax":true,"strip_all":true},"page_size":4096,"parts":[{"role":"file_header","size":64,"address":4194304,"align":8},{"role":"program_headers","offset":64,"address":4194368,"size":56,"align":8},{"role":"raw","section":1,"offset":128,"address":4194432,"size":16,"align":16},{"role":"shstrtab","section":2,"offset":144,"size":17,"align":1},{"role":"section_headers","offset":168,"size":192,"align":8}],"sections":[{},{"name":"2e74657874","kind":1,"flags":6,"address":4194432,"offset":128,"size":16,"align":16},{"name":"2e7368737472746162","kind":3,"offset":144,"size":17,"align":1}],"segments":[{"kind":1,"flags":5,"address":4194304,"physical":4194304,"file_size":144,"mem_size":144,"align":4096}],"symbols":[{"name":"66","info":2,"place":{"section":0},"value":6,"flags":["NON_INTERPOSABLE"],"resolution":{"raw_value":4194438}}],"groups":[{"files":[{"role":"prelude"},{"role":"object","symbol_count":1,"sections":[{"slot":"loaded","part":2,"address":4194432,"size":16,"flags":6,"bytes":"e800000000c3c3909090909090909090","relocations":[{"offset":1,"number":2,"symbol":0,"addend":-4}]}]},{"role":"epilogue"}],"part_sizes":[64,56,16,17,192]}],"entry":{"address":4194432}}"#;
 
 /// A row for each fault of a relocation.
-pub(super) const REFERENCES: [Broken; 35] = [
+pub(super) const REFERENCES: [Broken; 41] = [
     // relocations
     Broken {
         plan: SMALLEST,
-        changes: &[(r#""number":2,"#, r#""number":34,"#)],
-        answer: "refused UnsupportedRelocation number=34 at group=0 file=1 section=0 offset=1",
+        changes: &[(r#""number":2,"#, r#""number":6,"#)],
+        answer: "refused UnsupportedRelocation number=6 at group=0 file=1 section=0 offset=1",
     },
     Broken {
         plan: SMALLEST,
@@ -62,6 +62,58 @@ pub(super) const REFERENCES: [Broken; 35] = [
             r#""place":"undefined","value":6,"flags":["NON_INTERPOSABLE"],"resolution":null"#,
         )],
         answer: "refused MissingResolution what=address symbol=0 at group=0 file=1 section=0 offset=1",
+    },
+    // instructions that are rewritten: their bytes, and the call of a sequence
+    Broken {
+        plan: SMALLEST,
+        changes: &[(r#""number":2,"#, r#""number":4,"#)],
+        answer: "image 344",
+    },
+    Broken {
+        plan: SMALLEST,
+        changes: &[(r#""number":2,"#, r#""number":34,"#)],
+        answer: "refused UnknownSequence number=34 at group=0 file=1 section=0 offset=1",
+    },
+    Broken {
+        plan: WIDE,
+        changes: &[
+            (
+                r#""e800000000c3c3909090909090909090""#,
+                r#""66488d3d00000000666648e800000000""#,
+            ),
+            (r#""offset":1,"number":2,"#, r#""offset":4,"number":19,"#),
+        ],
+        answer: "refused UnknownSequence number=19 at group=0 file=1 section=0 offset=4",
+    },
+    Broken {
+        plan: WIDE,
+        changes: &[
+            (r#""e800000000c3c390"#, r#""ff10909090c3c390"#),
+            (
+                r#""offset":1,"number":2,"symbol":0,"addend":-4}"#,
+                r#""number":35,"symbol":0}"#,
+            ),
+        ],
+        answer: "image 360",
+    },
+    Broken {
+        plan: WIDE,
+        changes: &[
+            (r#""e800000000c3c390"#, r#""ff11909090c3c390"#),
+            (
+                r#""offset":1,"number":2,"symbol":0,"addend":-4}"#,
+                r#""number":35,"symbol":0}"#,
+            ),
+        ],
+        answer: "refused UnknownSequence number=35 at group=0 file=1 section=0 offset=0",
+    },
+    Broken {
+        plan: WIDE,
+        changes: &[(
+            r#""offset":1,"number":2,"symbol":0,"addend":-4}"#,
+            r#""offset":100,"number":35,"symbol":0}"#,
+        )],
+        answer: "refused UnknownSequence number=35 at group=0 file=1 section=0 offset=100",
     },
     // out of range, at both ends
     Broken {

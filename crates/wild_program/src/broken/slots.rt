@@ -3,7 +3,7 @@ use super::Broken;
 use crate::slots::SLOTTED;
 
 /// A row for each fault that slots and stubs bring.
-pub(super) const SLOTS: [Broken; 13] = [
+pub(super) const SLOTS: [Broken; 16] = [
     // as it is
     Broken {
         plan: SLOTTED,
@@ -64,13 +64,30 @@ pub(super) const SLOTS: [Broken; 13] = [
     },
     Broken {
         plan: SLOTTED,
+        changes: &[(
+            r#""bytes":"11111111111111111111111111111111"}"#,
+            r#""bytes":"11111111111111111111111111111111","relocations":[{"number":22,"symbol":1}]}"#,
+        )],
+        answer: "refused MissingResolution what=slot symbol=1 at group=0 file=1 section=1 offset=0",
+    },
+    Broken {
+        plan: SLOTTED,
+        changes: &[(
+            r#""bytes":"11111111111111111111111111111111"}"#,
+            r#""bytes":"11111111111111111111111111111111","relocations":[{"number":4,"symbol":1}]}"#,
+        )],
+        answer: "refused MissingResolution what=stub symbol=1 at group=0 file=1 section=1 offset=0",
+    },
+    // code that needs none of them in a program that no loader fills
+    Broken {
+        plan: SLOTTED,
         changes: &[(r#""number":22,"symbol":2"#, r#""number":22,"symbol":1"#)],
-        answer: "refused MissingResolution what=slot symbol=1 at group=0 file=1 section=0 offset=29",
+        answer: "image 4672",
     },
     Broken {
         plan: SLOTTED,
         changes: &[(r#""number":4,"symbol":0"#, r#""number":4,"symbol":1"#)],
-        answer: "refused MissingResolution what=stub symbol=1 at group=0 file=1 section=0 offset=1",
+        answer: "image 4672",
     },
     Broken {
         plan: SLOTTED,
@@ -108,6 +125,28 @@ pub(super) const SLOTS: [Broken; 13] = [
             ),
             (r#""number":19,"symbol":2"#, r#""number":20,"symbol":2"#),
             (r#""number":22,"symbol":2"#, r#""number":20,"symbol":2"#),
+            (r#""size":72"#, r#""size":48"#),
+            (
+                r#""file_size":88,"mem_size":88"#,
+                r#""file_size":64,"mem_size":64"#,
+            ),
+            (r#"16,72,40"#, r#"16,48,40"#),
+        ],
+        answer: "refused StaticTlsDesc symbol=2 at group=0 file=1",
+    },
+    Broken {
+        plan: SLOTTED,
+        changes: &[
+            (
+                r#""GOT_TLS_OFFSET","GOT_TLS_MODULE""#,
+                r#""GOT_TLS_DESCRIPTOR""#,
+            ),
+            (r#""number":19,"symbol":2"#, r#""number":20,"symbol":2"#),
+            (r#""number":22,"symbol":2"#, r#""number":20,"symbol":2"#),
+            (
+                r#""bytes":"11111111111111111111111111111111"}"#,
+                r#""bytes":"11111111111111111111111111111111","relocations":[{"number":34,"symbol":2}]}"#,
+            ),
             (r#""size":72"#, r#""size":48"#),
             (
                 r#""file_size":88,"mem_size":88"#,

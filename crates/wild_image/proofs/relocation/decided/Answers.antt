@@ -3,7 +3,7 @@ use Rattle.std.specs.Prelude.{Some}
 use Rattle.wild_plan.specs.declared.kind.Machine.{Machine}
 use Rattle.wild_plan.specs.Rows.{row_of}
 use Rattle.wild_image.proofs.DistanceLemmas.{fixed_decided}
-use Rattle.wild_image.proofs.relocation.decide.Goals as goal
+use Rattle.wild_image.proofs.relocation.decided.Goals as goal
 
 pub returns-in-Some : goal.returns-in-Some
 returns-in-Some g c =

@@ -1,0 +1,425 @@
+-- An instruction whose fields read as their formulas, and which keeps its own bytes, does in memory what it demands.
+use Rattle.std.proofs.Common.{◌≡◌, ℕ, zero, suc, ◌+◌, ◌-◌, ◌*◌, ◌/◌, ◌%◌, ◌^◌, ◌<◌, ◌≤◌, ◌⊎◌, inl, inr, Bool, true, false, List, [], ◌∷◌, length, get_or, slice_range, refl, sym, ap, ◌∙◌, arith, subst}
+use Rattle.std.specs.Prelude.{◌&&◌, ◌||◌, ◌++◌, nat_le, nat_lt, Some, Option, None, Ok, Result, option_map, option_and_then, unwrap_or, Contains, slice_index, ⊤}
+use Rattle.std.specs.Int.{w64, cast_unsigned}
+use Rattle.std.proofs.lemmas.Bool.{cases_Bool, cases_lt, ltb-true, leb-true}
+use Rattle.std.proofs.lemmas.List.{get_or-take, get_or-drop}
+use Rattle.wild_words.specs.Words.{number, number_at, Stands}
+use Rattle.wild_words.proofs.RecordLemmas.{Stands-slice}
+use Rattle.wild_words.proofs.OrderLemmas.{length-range}
+use Rattle.wild_plan.specs.declared.kind.Machine.{Machine}
+use Rattle.wild_plan.specs.declared.kind.Machine.TheVariants as machine
+use Rattle.wild_plan.specs.declared.input.InputRelocation.{InputRelocation}
+use Rattle.wild_plan.specs.declared.layout.Layout.{Layout}
+use Rattle.wild_reloc.specs.Formula.{Value, Formula, formula, NoValue, Distance, StubDistance, SlotDistance, AddressSlot, ModulePair, OwnModulePair, ThreadOffset, Descriptor, Form, NoField, Plain, Signed, Reads, sign_extended}
+use Rattle.wild_reloc.specs.FormulaX86_64.{x86_64_formula}
+use Rattle.wild_loader.specs.declared.fault.LoadFault.{LoadFault}
+use Rattle.wild_loader.specs.declared.world.World.{World}
+use Rattle.wild_loader.specs.declared.memory.Memory.{Memory}
+use Rattle.wild_loader.specs.Memory.{Holds, byte_in, number_in}
+use Rattle.wild_loader.specs.Changes.{distance_of}
+use Rattle.wild_records.specs.Abi.Relocation.{r_x86_64_pc32, r_x86_64_plt32, r_x86_64_gotpcrel, r_x86_64_gotpcrelx, r_x86_64_rex_gotpcrelx, r_x86_64_code_4_gotpcrelx, r_x86_64_gottpoff, r_x86_64_code_4_gottpoff, r_x86_64_gotpc32_tlsdesc, r_x86_64_code_4_gotpc32_tlsdesc, r_x86_64_tlsdesc_call, r_x86_64_tlsgd, r_x86_64_tlsld}
+use Rattle.wild_meaning.specs.Instruction.{Operand, Number, Word, Pair, Set, Add, Subtract, Compare, Call, Jump, Reader, Effect, signed_32, signed_at, sum_64}
+use Rattle.wild_meaning.specs.InstructionX86_64.{bare, rex, rex2, branch, with_slot, descriptor_call, general_call, general_slot_call, far_pair_call, local_call, local_slot_call}
+use Rattle.wild_meaning.specs.Sequence.{Sort, Target, TargetInSlot, AddressInSlot, OffsetInSlot, SymbolPair, OwnPair, Described, DescribedCall, Instruction, Partner, size_of, IsBesidePartner, IsOwnByte, of_field, of_sequence, by_call, by_slot, by_distance, instructions_of}
+use Rattle.wild_meaning.specs.Item.{Item, place_at}
+use Rattle.wild_meaning.specs.Field.{formula_of, form_width, FieldReads, IsInputByte}
+use Rattle.wild_meaning.specs.Slot.{HasWord, IsPair, IsSlot}
+use Rattle.wild_meaning.specs.Formula.{Gives, IsTarget, IsGoal, IsOffset, HasOffsetMode}
+use Rattle.wild_meaning.specs.Template.{CountsFromItsEnd, IsInstruction, reads, pair_in, effect_of, Demands, IsDemanded, old_bytes, DoesDemanded}
+use Rattle.wild_effects.specs.Filled.{IsFilled, HasEffect}
+use Rattle.wild_effects.proofs.Fills.{Each, each_at, instructions_do}
+
+-- ---- what memory has
+
+abbrev read_all : Memory → ℕ → ℕ → List ℕ
+read_all m a zero = []
+read_all m a (suc n) = unwrap_or (byte_in m a) 0 ∷ read_all m (a + 1) n
+
+pub length_read : (m : Memory) (n a : ℕ) → length (read_all m a n) ≡ n
+length_read m zero a = refl
+length_read m (suc n) a = ap suc (length_read m n (a + 1))
+
+get_read : (m : Memory) (n a k : ℕ) → k < n → get_or (read_all m a n) k 0 ≡ unwrap_or (byte_in m (a + k)) 0
+get_read m zero a k lt = absurd (omega arith)
+get_read m (suc n) a zero lt = let e : a + 0 ≡ a = omega arith in rw e refl
+get_read m (suc n) a (suc k) lt = let e : a + suc k ≡ a + 1 + k = omega arith in rw e (get_read m n (a + 1) k (omega arith))
+
+-- each of n bytes is loaded
+abbrev AreThere : Memory → ℕ → ℕ → Type 0
+AreThere m a n = (k : ℕ) → k < n → (b : ℕ) × (byte_in m (a + k) ≡ Some b)
+
+read_there : (m : Memory) (a n k b : ℕ) → k < n → byte_in m (a + k) ≡ Some b → get_or (read_all m a n) k 0 ≡ b
+read_there m a n k b lt e = get_read m n a k lt ∙ ap (λ (o : Option ℕ). unwrap_or o 0) e
+
+pub read_holds : (m : Memory) (a n : ℕ) → AreThere m a n → Holds m a (read_all m a n)
+read_holds m a n h k lt =
+    let l = length_read m n a in
+    let below : k < n = omega (arith, lt, l) in
+    let b = h k below in
+    b.1 ∙ ap (λ (x : ℕ). Some x) (sym (read_there m a n k b.0 below b.1))
+
+pub read_stands : (m : Memory) (a n f : ℕ) (bs : List ℕ) → f + length bs ≤ n → Holds m (a + f) bs → Stands (read_all m a n) f bs
+read_stands m a n f bs fits h = stands (length_read m n a)
+  where
+    stands : length (read_all m a n) ≡ n → Stands (read_all m a n) f bs
+    stands l = record {
+      fits = omega (arith, fits, l);
+      same = λ k lt. (let e : a + f + k ≡ a + (f + k) = omega arith in read_there m a n (f + k) (get_or bs k 0) (omega (arith, fits, lt)) (subst (λ (x : ℕ). byte_in m x ≡ Some (get_or bs k 0)) e (h k lt)));
+    }
+
+-- ---- what is known of each instruction
+
+-- where its operand is: at a place that counts from its field's end; the call through a descriptor has none
+abbrev pub operand_by : Sort → ℕ → Operand
+operand_by Target x = Number x
+operand_by TargetInSlot x = Word x
+operand_by AddressInSlot x = Word x
+operand_by OffsetInSlot x = Word x
+operand_by SymbolPair x = Pair x
+operand_by OwnPair x = Pair x
+operand_by Described x = Number x
+operand_by DescribedCall x = Number 0
+
+abbrev pub named_by : Instruction → ℕ → List ℕ → ℕ
+named_by o a bs = sum_64 (a + (o.field + 4)) (signed_at bs o.field)
+
+abbrev pub displaced : Value → Formula
+displaced v = formula v (Plain 32 Signed)
+
+-- what the relocation types of a sort have for their formula
+abbrev pub FormulaIs : Sort → Formula → Type 0
+FormulaIs Target f = (f ≡ displaced Distance) ⊎ (f ≡ displaced StubDistance)
+FormulaIs TargetInSlot f = f ≡ displaced (SlotDistance AddressSlot)
+FormulaIs AddressInSlot f = f ≡ displaced (SlotDistance AddressSlot)
+FormulaIs OffsetInSlot f = f ≡ displaced (SlotDistance ThreadOffset)
+FormulaIs SymbolPair f = f ≡ displaced (SlotDistance ModulePair)
+FormulaIs OwnPair f = f ≡ displaced (SlotDistance OwnModulePair)
+FormulaIs Described f = f ≡ displaced (SlotDistance Descriptor)
+FormulaIs DescribedCall f = f ≡ formula NoValue NoField
+
+abbrev HasFormula : Sort → ℕ → Type 0
+HasFormula sort n = (f : Formula) × (x86_64_formula n ≡ Some f) × FormulaIs sort f
+
+abbrev EachNumber : Sort → List ℕ → Type 0
+EachNumber sort [] = ⊤
+EachNumber sort (n ∷ ns) = HasFormula sort n × EachNumber sort ns
+
+number_at_place : (sort : Sort) (ns : List ℕ) (n : ℕ) → EachNumber sort ns → (k : ℕ) → k < length ns → get_or ns k n ≡ n → HasFormula sort n
+number_at_place sort [] n h k lt e = absurd (omega arith)
+number_at_place sort (x ∷ ns) n h zero lt e = subst (λ (y : ℕ). HasFormula sort y) e h.0
+number_at_place sort (x ∷ ns) n h (suc k) lt e = number_at_place sort ns n h.1 k (omega arith) e
+
+-- a field of four bytes, but of the call through a descriptor
+abbrev pub WidthIs : Sort → ℕ → Type 0
+WidthIs DescribedCall width = width ≡ 0
+WidthIs other width = width ≡ 4
+
+pub record IsTold (o : Instruction) : Type 0 where
+  pub operand : (a : ℕ) (bs : List ℕ) → (o.template.action a bs).operand ≡ operand_by o.sort (named_by o a bs)
+  pub numbers : EachNumber o.sort o.numbers
+  pub width : WidthIs o.sort o.width
+  pub fits : nat_le (o.field + o.width) (size_of o) ≡ true
+
+told : (o : Instruction) → ((a : ℕ) (bs : List ℕ) → (o.template.action a bs).operand ≡ operand_by o.sort (named_by o a bs)) → EachNumber o.sort o.numbers → WidthIs o.sort o.width → nat_le (o.field + o.width) (size_of o) ≡ true → IsTold o
+told o p n w f = record { operand = p; numbers = n; width = w; fits = f }
+
+pc32_is : HasFormula Target r_x86_64_pc32
+unfolding x86_64_formula
+pc32_is = (displaced Distance, refl, inl refl)
+
+plt32_is : HasFormula Target r_x86_64_plt32
+unfolding x86_64_formula
+plt32_is = (displaced StubDistance, refl, inr refl)
+
+slot_is : HasFormula TargetInSlot r_x86_64_gotpcrel
+unfolding x86_64_formula
+slot_is = (displaced (SlotDistance AddressSlot), refl, refl)
+
+slotx_is : HasFormula TargetInSlot r_x86_64_gotpcrelx
+unfolding x86_64_formula
+slotx_is = (displaced (SlotDistance AddressSlot), refl, refl)
+
+bare_is : HasFormula AddressInSlot r_x86_64_gotpcrelx
+unfolding x86_64_formula
+bare_is = (displaced (SlotDistance AddressSlot), refl, refl)
+
+rex_is : HasFormula AddressInSlot r_x86_64_rex_gotpcrelx
+unfolding x86_64_formula
+rex_is = (displaced (SlotDistance AddressSlot), refl, refl)
+
+rex2_is : HasFormula AddressInSlot r_x86_64_code_4_gotpcrelx
+unfolding x86_64_formula
+rex2_is = (displaced (SlotDistance AddressSlot), refl, refl)
+
+load_is : HasFormula AddressInSlot r_x86_64_gotpcrel
+unfolding x86_64_formula
+load_is = (displaced (SlotDistance AddressSlot), refl, refl)
+
+offset_is : HasFormula OffsetInSlot r_x86_64_gottpoff
+unfolding x86_64_formula
+offset_is = (displaced (SlotDistance ThreadOffset), refl, refl)
+
+offset2_is : HasFormula OffsetInSlot r_x86_64_code_4_gottpoff
+unfolding x86_64_formula
+offset2_is = (displaced (SlotDistance ThreadOffset), refl, refl)
+
+descriptor_is : HasFormula Described r_x86_64_gotpc32_tlsdesc
+unfolding x86_64_formula
+descriptor_is = (displaced (SlotDistance Descriptor), refl, refl)
+
+descriptor2_is : HasFormula Described r_x86_64_code_4_gotpc32_tlsdesc
+unfolding x86_64_formula
+descriptor2_is = (displaced (SlotDistance Descriptor), refl, refl)
+
+call_is : HasFormula DescribedCall r_x86_64_tlsdesc_call
+unfolding x86_64_formula
+call_is = (formula NoValue NoField, refl, refl)
+
+pair_is : HasFormula SymbolPair r_x86_64_tlsgd
+unfolding x86_64_formula
+pair_is = (displaced (SlotDistance ModulePair), refl, refl)
+
+own_is : HasFormula OwnPair r_x86_64_tlsld
+unfolding x86_64_formula
+own_is = (displaced (SlotDistance OwnModulePair), refl, refl)
+
+every_told : Each IsTold (instructions_of machine.X86_64)
+every_told =
+    (told (of_field (branch (0xe8 ∷ []) Number Call) 1 Target (r_x86_64_pc32 ∷ r_x86_64_plt32 ∷ [])) (λ a bs. refl) (pc32_is, (plt32_is, tt)) refl refl,
+    (told (of_field (branch (0xe9 ∷ []) Number Jump) 1 Target (r_x86_64_pc32 ∷ r_x86_64_plt32 ∷ [])) (λ a bs. refl) (pc32_is, (plt32_is, tt)) refl refl,
+    (told (of_field (branch (0xff ∷ 0x15 ∷ []) Word Call) 2 TargetInSlot (r_x86_64_gotpcrel ∷ r_x86_64_gotpcrelx ∷ [])) (λ a bs. refl) (slot_is, (slotx_is, tt)) refl refl,
+    (told (of_field (branch (0xff ∷ 0x25 ∷ []) Word Jump) 2 TargetInSlot (r_x86_64_gotpcrel ∷ r_x86_64_gotpcrelx ∷ [])) (λ a bs. refl) (slot_is, (slotx_is, tt)) refl refl,
+    (told (of_field (with_slot 0x8b Word Set bare) 2 AddressInSlot (r_x86_64_gotpcrelx ∷ [])) (λ a bs. refl) (bare_is, tt) refl refl,
+    (told (of_field (with_slot 0x03 Word Add bare) 2 AddressInSlot (r_x86_64_gotpcrelx ∷ [])) (λ a bs. refl) (bare_is, tt) refl refl,
+    (told (of_field (with_slot 0x2b Word Subtract bare) 2 AddressInSlot (r_x86_64_gotpcrelx ∷ [])) (λ a bs. refl) (bare_is, tt) refl refl,
+    (told (of_field (with_slot 0x3b Word Compare bare) 2 AddressInSlot (r_x86_64_gotpcrelx ∷ [])) (λ a bs. refl) (bare_is, tt) refl refl,
+    (told (of_field (with_slot 0x8b Word Set rex) 3 AddressInSlot (r_x86_64_rex_gotpcrelx ∷ [])) (λ a bs. refl) (rex_is, tt) refl refl,
+    (told (of_field (with_slot 0x03 Word Add rex) 3 AddressInSlot (r_x86_64_rex_gotpcrelx ∷ [])) (λ a bs. refl) (rex_is, tt) refl refl,
+    (told (of_field (with_slot 0x2b Word Subtract rex) 3 AddressInSlot (r_x86_64_rex_gotpcrelx ∷ [])) (λ a bs. refl) (rex_is, tt) refl refl,
+    (told (of_field (with_slot 0x3b Word Compare rex) 3 AddressInSlot (r_x86_64_rex_gotpcrelx ∷ [])) (λ a bs. refl) (rex_is, tt) refl refl,
+    (told (of_field (with_slot 0x8b Word Set rex2) 4 AddressInSlot (r_x86_64_code_4_gotpcrelx ∷ [])) (λ a bs. refl) (rex2_is, tt) refl refl,
+    (told (of_field (with_slot 0x03 Word Add rex2) 4 AddressInSlot (r_x86_64_code_4_gotpcrelx ∷ [])) (λ a bs. refl) (rex2_is, tt) refl refl,
+    (told (of_field (with_slot 0x2b Word Subtract rex2) 4 AddressInSlot (r_x86_64_code_4_gotpcrelx ∷ [])) (λ a bs. refl) (rex2_is, tt) refl refl,
+    (told (of_field (with_slot 0x3b Word Compare rex2) 4 AddressInSlot (r_x86_64_code_4_gotpcrelx ∷ [])) (λ a bs. refl) (rex2_is, tt) refl refl,
+    (told (of_field (with_slot 0x8b Word Set rex) 3 OffsetInSlot (r_x86_64_gottpoff ∷ [])) (λ a bs. refl) (offset_is, tt) refl refl,
+    (told (of_field (with_slot 0x03 Word Add rex) 3 OffsetInSlot (r_x86_64_gottpoff ∷ [])) (λ a bs. refl) (offset_is, tt) refl refl,
+    (told (of_field (with_slot 0x8b Word Set rex2) 4 OffsetInSlot (r_x86_64_code_4_gottpoff ∷ [])) (λ a bs. refl) (offset2_is, tt) refl refl,
+    (told (of_field (with_slot 0x03 Word Add rex2) 4 OffsetInSlot (r_x86_64_code_4_gottpoff ∷ [])) (λ a bs. refl) (offset2_is, tt) refl refl,
+    (told (of_field (with_slot 0x8b Word Set rex) 3 AddressInSlot (r_x86_64_gotpcrel ∷ [])) (λ a bs. refl) (load_is, tt) refl refl,
+    (told (of_field (with_slot 0x8b Word Set rex2) 4 AddressInSlot (r_x86_64_gotpcrel ∷ [])) (λ a bs. refl) (load_is, tt) refl refl,
+    (told (of_field (with_slot 0x8d Number Set rex) 3 Described (r_x86_64_gotpc32_tlsdesc ∷ [])) (λ a bs. refl) (descriptor_is, tt) refl refl,
+    (told (of_field (with_slot 0x8d Number Set rex2) 4 Described (r_x86_64_code_4_gotpc32_tlsdesc ∷ [])) (λ a bs. refl) (descriptor2_is, tt) refl refl,
+    (told (record { template = descriptor_call; field = 0; width = 0; sort = DescribedCall; numbers = r_x86_64_tlsdesc_call ∷ []; partner = None }) (λ a bs. refl) (call_is, tt) refl refl,
+    (told (of_sequence general_call 4 SymbolPair r_x86_64_tlsgd (by_call 12)) (λ a bs. refl) (pair_is, tt) refl refl,
+    (told (of_sequence general_slot_call 4 SymbolPair r_x86_64_tlsgd (by_slot 12)) (λ a bs. refl) (pair_is, tt) refl refl,
+    (told (of_sequence far_pair_call 3 SymbolPair r_x86_64_tlsgd (by_distance 9)) (λ a bs. refl) (pair_is, tt) refl refl,
+    (told (of_sequence local_call 3 OwnPair r_x86_64_tlsld (by_call 8)) (λ a bs. refl) (own_is, tt) refl refl,
+    (told (of_sequence local_slot_call 3 OwnPair r_x86_64_tlsld (by_slot 9)) (λ a bs. refl) (own_is, tt) refl refl,
+    (told (of_sequence far_pair_call 3 OwnPair r_x86_64_tlsld (by_distance 9)) (λ a bs. refl) (own_is, tt) refl refl,
+    tt)))))))))))))))))))))))))))))))
+
+pub told_of : (o : Instruction) → Contains (instructions_of machine.X86_64) o → IsTold o
+told_of o listed = each_at IsTold (instructions_of machine.X86_64) o every_told listed.0 listed.1 listed.2
+
+-- ---- the reference
+
+-- the field reads as the formula of the relocation's type
+pub record HasField (l : Layout) (w : World) (m : Memory) (item : Item) (r : InputRelocation) : Type 0 where
+  pub formula : Formula
+  pub known : formula_of l.machine r.number ≡ Some formula
+  pub value : ℕ
+  pub gives : Gives formula.value l w m item r value
+  pub field : FieldReads w m item r formula.form value
+
+-- memory has some bytes at the field of a sequence's call
+abbrev pub PartnerThere : World → Memory → Item → ℕ → Option Partner → Type 0
+PartnerThere w m item start None = ⊤
+PartnerThere w m item start (Some p) = (bs : List ℕ) × (length bs ≡ p.width) × Holds m (place_at w item (start + p.field)) bs
+
+-- what is known of an instruction that stands in the input: its first field, its own bytes and its second field
+pub record IsThere (l : Layout) (w : World) (m : Memory) (item : Item) (r : InputRelocation) (start : ℕ) (o : Instruction) : Type 0 where
+  pub x86 : l.machine ≡ machine.X86_64
+  pub stands : IsInstruction l item r start o
+  pub field : HasField l w m item r
+  pub own : (k : ℕ) → IsOwnByte o k → IsInputByte w m item (start + k)
+  pub partner : PartnerThere w m item start o.partner
+  pub ends : place_at w item start + size_of o ≤ 2 ^ 64
+
+-- the formula is that of the sort
+pub formula_is : (l : Layout) (r : InputRelocation) (o : Instruction) (f : Formula) → l.machine ≡ machine.X86_64 → Contains (instructions_of l.machine) o → Contains o.numbers r.number → formula_of l.machine r.number ≡ Some f → FormulaIs o.sort f
+formula_is l r o f x listed number known =
+    let t = told_of o (subst (λ (k : Machine). Contains (instructions_of k) o) x listed) in
+    let h = number_at_place o.sort o.numbers r.number t.numbers number.0 number.1 number.2 in
+    let k : x86_64_formula r.number ≡ Some f = subst (λ (n : Machine). formula_of n r.number ≡ Some f) x known in
+    let both : Some h.0 ≡ Some f = sym h.1 ∙ k in
+    let same : h.0 ≡ f = cc in
+    subst (λ (g : Formula). FormulaIs o.sort g) same h.2
+
+-- ---- all bytes are loaded
+
+byte_own : (l : Layout) (w : World) (m : Memory) (item : Item) (r : InputRelocation) (start : ℕ) (o : Instruction) → IsThere l w m item r start o → (k : ℕ) → IsOwnByte o k → byte_in m (place_at w item start + k) ≡ Some (slice_index item.bytes (start + k))
+byte_own l w m item r start o h k own =
+    let e : place_at w item (start + k) ≡ place_at w item start + k = omega arith in
+    subst (λ (x : ℕ). byte_in m x ≡ Some (slice_index item.bytes (start + k))) e (h.own k own)
+
+-- where a byte is: of the field, of the call's, or the instruction's own
+data IsOf (o : Instruction) (k : ℕ) : Type 0 where
+  OfField : o.field ≤ k → k < o.field + o.width → IsOf o k
+  OfPartner : (p : Partner) → o.partner ≡ Some p → p.field ≤ k → k < p.field + p.width → IsOf o k
+  OfItself : IsOwnByte o k → IsOf o k
+
+abbrev InPartner : ℕ → Option Partner → Type 0
+InPartner k None = ⊥
+InPartner k (Some p) = (p.field ≤ k) × (k < p.field + p.width)
+
+partner_cases : (k : ℕ) (p : Option Partner) → IsBesidePartner k p ⊎ ((q : Partner) × (p ≡ Some q) × (q.field ≤ k) × (k < q.field + q.width))
+partner_cases k None = inl tt
+partner_cases k (Some p) =
+    elim (cases_lt k p.field) [
+      | inl low ↦ inl (inl low)
+      | inr high ↦ elim (cases_lt k (p.field + p.width)) [ inl inside ↦ inr (p, refl, omega arith, inside) | inr above ↦ inl (inr (omega arith)) ]
+    ]
+
+field_cases : (k a b : ℕ) → ((k < a) ⊎ (b ≤ k)) ⊎ ((a ≤ k) × (k < b))
+field_cases k a b =
+    elim (cases_lt k a) [
+      | inl low ↦ inl (inl low)
+      | inr high ↦ elim (cases_lt k b) [ inl inside ↦ inr (omega arith, inside) | inr above ↦ inl (inr (omega arith)) ]
+    ]
+
+byte_of : (o : Instruction) (k : ℕ) → k < size_of o → IsOf o k
+byte_of o k lt =
+    elim (field_cases k o.field (o.field + o.width)) [
+      | inr f ↦ OfField f.0 f.1
+      | inl beside ↦
+          elim (partner_cases k o.partner) [
+            | inl apart ↦ OfItself (record { inside = lt; beside = beside; apart = apart })
+            | inr p ↦ OfPartner p.0 p.1 p.2 p.3
+          ]
+    ]
+
+-- a byte of what memory has at a place
+part_there : (m : Memory) (a f k : ℕ) (bs : List ℕ) → Holds m (a + f) bs → f ≤ k → k < f + length bs → (b : ℕ) × (byte_in m (a + k) ≡ Some b)
+part_there m a f k bs h from to =
+    let e : a + f + (k - f) ≡ a + k = omega (arith, from) in
+    (slice_index bs (k - f), subst (λ (x : ℕ). byte_in m x ≡ Some (slice_index bs (k - f))) e (h (k - f) (omega (arith, from, to))))
+
+-- the field in memory, from the instruction's start
+record FieldHeld (w : World) (m : Memory) (item : Item) (r : InputRelocation) (start : ℕ) (o : Instruction) : Type 0 where
+  bytes : List ℕ
+  wide : length bytes ≡ o.width
+  held : Holds m (place_at w item start + o.field) bytes
+
+wide_of : (sort : Sort) (width : ℕ) (f : Formula) → WidthIs sort width → FormulaIs sort f → form_width f.form ≡ width
+wide_of Target width f e (inl h) = ap (λ (g : Formula). form_width g.form) h ∙ sym e
+wide_of Target width f e (inr h) = ap (λ (g : Formula). form_width g.form) h ∙ sym e
+wide_of TargetInSlot width f e h = ap (λ (g : Formula). form_width g.form) h ∙ sym e
+wide_of AddressInSlot width f e h = ap (λ (g : Formula). form_width g.form) h ∙ sym e
+wide_of OffsetInSlot width f e h = ap (λ (g : Formula). form_width g.form) h ∙ sym e
+wide_of SymbolPair width f e h = ap (λ (g : Formula). form_width g.form) h ∙ sym e
+wide_of OwnPair width f e h = ap (λ (g : Formula). form_width g.form) h ∙ sym e
+wide_of Described width f e h = ap (λ (g : Formula). form_width g.form) h ∙ sym e
+wide_of DescribedCall width f e h = ap (λ (g : Formula). form_width g.form) h ∙ sym e
+
+pub field_place : (w : World) (item : Item) (r : InputRelocation) (start field : ℕ) → r.offset ≡ start + field → place_at w item r.offset ≡ place_at w item start + field
+field_place w item r start field e = omega (arith, e)
+
+field_held : (l : Layout) (w : World) (m : Memory) (item : Item) (r : InputRelocation) (start : ℕ) (o : Instruction) → IsThere l w m item r start o → FieldHeld w m item r start o
+field_held l w m item r start o h =
+    let t = told_of o (subst (λ (k : Machine). Contains (instructions_of k) o) h.x86 h.stands.known) in
+    let f = formula_is l r o h.field.formula h.x86 h.stands.known h.stands.number h.field.known in
+    record {
+      bytes = h.field.field.bytes;
+      wide = h.field.field.wide ∙ wide_of o.sort o.width h.field.formula t.width f;
+      held = subst (λ (x : ℕ). Holds m x h.field.field.bytes) (field_place w item r start o.field h.stands.field) h.field.field.held;
+    }
+
+partner_held : (w : World) (m : Memory) (item : Item) (start k : ℕ) (o : Option Partner) (p : Partner) → PartnerThere w m item start o → o ≡ Some p → p.field ≤ k → k < p.field + p.width → (b : ℕ) × (byte_in m (place_at w item start + k) ≡ Some b)
+partner_held w m item start k None p h e from to = cc
+partner_held w m item start k (Some q) p h e from to =
+    let same : q ≡ p = cc in
+    let g : PartnerThere w m item start (Some p) = subst (λ (x : Partner). PartnerThere w m item start (Some x)) same h in
+    let long = g.1 in
+    let z : place_at w item (start + p.field) ≡ place_at w item start + p.field = omega arith in
+    part_there m (place_at w item start) p.field k g.0 (subst (λ (x : ℕ). Holds m x g.0) z g.2) from (omega (arith, to, long))
+
+pub all_there : (l : Layout) (w : World) (m : Memory) (item : Item) (r : InputRelocation) (start : ℕ) (o : Instruction) → IsThere l w m item r start o → AreThere m (place_at w item start) (size_of o)
+all_there l w m item r start o h k lt = by (byte_of o k lt)
+  where
+    by : IsOf o k → (b : ℕ) × (byte_in m (place_at w item start + k) ≡ Some b)
+    by (OfField from to) = (let f = field_held l w m item r start o h in let wide = f.wide in part_there m (place_at w item start) o.field k f.bytes f.held from (omega (arith, to, wide)))
+    by (OfPartner p e from to) = partner_held w m item start k o.partner p h.partner e from to
+    by (OfItself own) = (slice_index item.bytes (start + k), byte_own l w m item r start o h k own)
+
+-- ---- the bytes in memory
+
+abbrev pub new_bytes : World → Memory → Item → ℕ → Instruction → List ℕ
+new_bytes w m item start o = read_all m (place_at w item start) (size_of o)
+
+range_byte : (bs : List ℕ) (a n k : ℕ) → k < n → get_or (slice_range bs a (a + n)) k 0 ≡ slice_index bs (a + k)
+range_byte bs a n k h =
+    let e : a + n - a ≡ n = omega arith in
+    rw e (get_or-take n _ k 0 h ∙ get_or-drop a bs k 0)
+
+pub is_filled : (l : Layout) (w : World) (m : Memory) (item : Item) (r : InputRelocation) (start : ℕ) (o : Instruction) → IsThere l w m item r start o → IsFilled o (old_bytes item start o) (new_bytes w m item start o)
+is_filled l w m item r start o h = record {
+  stood = h.stands.stands;
+  long = length-range item.bytes start (size_of o) h.stands.inside;
+  whole = length_read m (size_of o) (place_at w item start);
+  same = λ k own. read_there m (place_at w item start) (size_of o) k (slice_index item.bytes (start + k)) own.inside (byte_own l w m item r start o h k own) ∙ sym (range_byte item.bytes start (size_of o) k own.inside);
+}
+
+-- ---- the field's number
+
+same_signs : (n : ℕ) → signed_32 n ≡ sign_extended 32 n
+same_signs n = refl
+
+signed_field : (m : Memory) (a n f : ℕ) (bs : List ℕ) → length bs ≡ 4 → f + 4 ≤ n → Holds m (a + f) bs → signed_at (read_all m a n) f ≡ sign_extended 32 (number bs)
+signed_field m a n f bs four fits h =
+    let s = read_stands m a n f bs (omega (arith, four, fits)) h in
+    let e : slice_range (read_all m a n) f (f + length bs) ≡ bs = Stands-slice (read_all m a n) bs f s in
+    let g : slice_range (read_all m a n) f (f + 4) ≡ bs = subst (λ (k : ℕ). slice_range (read_all m a n) f (f + k) ≡ bs) four e in
+    ap (λ (xs : List ℕ). signed_32 (number xs)) g ∙ same_signs (number bs)
+
+-- memory has the value of a displacement in the field
+pub record IsDisplaced (l : Layout) (w : World) (m : Memory) (item : Item) (r : InputRelocation) (start : ℕ) (o : Instruction) (x : ℕ) : Type 0 where
+  pub is : signed_at (new_bytes w m item start o) o.field ≡ x
+
+pub displaced_by : (l : Layout) (w : World) (m : Memory) (item : Item) (r : InputRelocation) (start : ℕ) (o : Instruction) (v : Value) → IsThere l w m item r start o → (f : HasField l w m item r) → o.width ≡ 4 → f.formula ≡ displaced v → IsDisplaced l w m item r start o f.value
+displaced_by l w m item r start o v h f width e =
+    let t = told_of o (subst (λ (k : Machine). Contains (instructions_of k) o) h.x86 h.stands.known) in
+    let reads : sign_extended 32 (number f.field.bytes) ≡ f.value = subst (λ (g : Formula). Reads g.form f.field.bytes f.value) e f.field.reads in
+    let four : length f.field.bytes ≡ 4 = f.field.wide ∙ ap (λ (g : Formula). form_width g.form) e in
+    let held = subst (λ (x : ℕ). Holds m x f.field.bytes) (field_place w item r start o.field h.stands.field) f.field.held in
+    let inside : o.field + o.width ≤ size_of o = leb-true (o.field + o.width) (size_of o) t.fits in
+    record { is = signed_field m (place_at w item start) (size_of o) o.field f.field.bytes four (omega (arith, width, inside)) held ∙ reads }
+
+-- ---- arithmetic
+
+-- to the slot: the addend takes back the field's bytes
+pub to_slot : (a f p g c : ℕ) → p ≡ a + f → p < 2 ^ 64 → g < 2 ^ 64 → (c + 4) % 2 ^ 64 ≡ 0 → sum_64 (a + (f + 4)) ((g + c + (2 ^ 64 - p)) % 2 ^ 64) ≡ g
+to_slot a f p g c e low small z = omega (arith, e, low, small, z)
+
+-- to a branch's target
+pub to_target : (a f p g c : ℕ) → p ≡ a + f → p < 2 ^ 64 → sum_64 (a + (f + 4)) ((g + c + (2 ^ 64 - p)) % 2 ^ 64) ≡ (g + c + 4) % 2 ^ 64
+to_target a f p g c e low = omega (arith, e, low)
+
+pub distance_sum : (s c p t x : ℕ) → t ≡ (s + c) % 2 ^ 64 → x ≡ (t + (2 ^ 64 - p)) % 2 ^ 64 → x ≡ (s + c + (2 ^ 64 - p)) % 2 ^ 64
+distance_sum s c p t x h e = omega (arith, h, e)
+
+-- ---- operands
+
+-- the operand names that address
+pub named_is : (l : Layout) (w : World) (m : Memory) (item : Item) (r : InputRelocation) (start : ℕ) (o : Instruction) (x y : ℕ) → IsThere l w m item r start o → IsDisplaced l w m item r start o x → sum_64 (place_at w item start + (o.field + 4)) x ≡ y
+    → (o.template.action (place_at w item start) (new_bytes w m item start o)).operand ≡ operand_by o.sort y
+named_is l w m item r start o x y h d e =
+    let t = told_of o (subst (λ (k : Machine). Contains (instructions_of k) o) h.x86 h.stands.known) in
+    t.operand (place_at w item start) (new_bytes w m item start o) ∙ ap (λ (z : ℕ). operand_by o.sort (sum_64 (place_at w item start + (o.field + 4)) z)) d.is ∙ ap (operand_by o.sort) e
+
+-- what is to be shown: the operand reads as what is demanded
+pub record IsRight (l : Layout) (w : World) (m : Memory) (item : Item) (r : InputRelocation) (start : ℕ) (o : Instruction) : Type 0 where
+  pub value : ℕ
+  pub demands : Demands o.sort l w m item r value
+  pub reads : reads w m (o.template.action (place_at w item start) (new_bytes w m item start o)).operand ≡ Some value
+  pub call : o.sort ≡ DescribedCall → HasOffsetMode l item → ⊥

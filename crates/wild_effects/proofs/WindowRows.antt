@@ -1,0 +1,155 @@
+-- The row that stands at a relocation: what was asked of it, and where its field and its bytes lie.
+use Rattle.std.proofs.Common.{◌≡◌, ℕ, ◌+◌, ◌≤◌, ◌⊎◌, inl, inr, Bool, true, false, List, [], ◌∷◌, refl, subst}
+use Rattle.std.specs.Prelude.{Option, Some, None, Ok, Err, not, ◌&&◌, ◌||◌, ◌==◌, nat_le, if◌then◌else◌}
+use Rattle.std.specs.List.{list_all}
+use Rattle.std.proofs.lemmas.Bool.{eqb-true, leb-true}
+use Rattle.wild_plan.specs.Kinds.{is_executable}
+use Rattle.wild_plan.specs.Rows.{row_width}
+use Rattle.wild_reloc.specs.Formula.{Formula}
+use Rattle.wild_reloc.specs.FormulaX86_64.{x86_64_formula}
+use Rattle.wild_reloc.specs.TableX86_64.{x86_64_row}
+use Rattle.wild_relax.specs.declared.reference.UnknownSequence.{UnknownSequence}
+use Rattle.wild_relax.specs.declared.pattern.GeneralForm.{GeneralForm}
+use Rattle.wild_relax.specs.declared.pattern.GeneralForm.TheVariants as general
+use Rattle.wild_relax.specs.declared.row.Row.{Row}
+use Rattle.wild_relax.specs.First.{first_standing, checked}
+use Rattle.wild_relax.specs.Question.{Question, relocation_of, minus_four}
+use Rattle.wild_relax.specs.Pattern.{field_of, stands, stands_before}
+use Rattle.wild_relax.specs.Rows.{rows_x86_64, number_of, always_pattern, counts_from_its_end, is_thread_local, takes_value, takes_symbol, takes_section, is_mandatory, stands_anywhere, applies, partner_distance, call_form, is_call_number, has_partner, has_its_sequence, standing_x86_64, unknown_sequence, chosen_x86_64}
+use Rattle.wild_relax.specs.Rewrite.{is_skip}
+use Rattle.wild_relax.specs.RewriteX86_64.{rewrite_of}
+use Rattle.wild_relax.specs.Linked.{pattern_of, pattern_size, keeps_bytes}
+use Rattle.wild_meaning.specs.Field.{form_width}
+
+pub both : (a b : Bool) → (a && b) ≡ true → (a ≡ true) × (b ≡ true)
+both true b h = (refl, h)
+both false b h = cc
+
+pub either : (a b : Bool) → (a || b) ≡ true → (a ≡ true) ⊎ (b ≡ true)
+either true b h = inl refl
+either false b h = inr h
+
+-- ---- the first row that stands
+
+first_stands : {R : Type 0} (stands : R → Bool) (rows : List R) (r : R) → first_standing stands rows ≡ Some r → stands r ≡ true
+first_stands stands [] r e = cc
+first_stands {R} stands (x ∷ rows) r e = here (stands x) refl (first_stands stands rows r) e
+  where
+    here : (b : Bool) → stands x ≡ b → (first_standing stands rows ≡ Some r → stands r ≡ true) → (if b then Some x else first_standing stands rows) ≡ Some r → stands r ≡ true
+    here true t later e = let same : x ≡ r = cc in subst (λ (y : R). stands y ≡ true) same t
+    here false t later e = later e
+
+checked_is : {R : Type 0} (has : R → Bool) (by : R → UnknownSequence) (o : Option R) (r : R) → checked has by o ≡ Ok (Some r) → (o ≡ Some r) × (has r ≡ true)
+checked_is has by None r e = cc
+checked_is {R} has by (Some x) r e = here (has x) refl e
+  where
+    here : (b : Bool) → has x ≡ b → (if b then Ok (Some x) else Err (by x)) ≡ Ok (Some r) → (Some x ≡ Some r) × (has r ≡ true)
+    here true h e = let same : x ≡ r = cc in subst (λ (y : R). (Some x ≡ Some y) × (has y ≡ true)) same (refl, h)
+    here false h e = cc
+
+-- a row that is chosen stands, with its sequence
+pub chosen_stands : (q : Question) (row : Row) → chosen_x86_64 q ≡ Ok (Some row) → (applies q row ≡ true) × (has_its_sequence q row ≡ true)
+unfolding chosen_x86_64 standing_x86_64
+chosen_stands q row e =
+    let c = checked_is (has_its_sequence q) (unknown_sequence q) (standing_x86_64 q) row e in
+    (first_stands (applies q) rows_x86_64 row c.0, c.1)
+
+-- ---- what is asked
+
+pub record Applied (q : Question) (row : Row) : Type 0 where
+  pub number : ((relocation_of q).number == number_of row) ≡ true
+  pub taken : (q.relax || is_mandatory row q) ≡ true
+  pub code : takes_section row q ≡ true
+  pub symbol : takes_symbol row q ≡ true
+  pub thread : (not (is_thread_local row) || is_executable q.kind) ≡ true
+  pub value : takes_value row q ≡ true
+  pub counts : (not (counts_from_its_end row) || minus_four (relocation_of q).addend) ≡ true
+  pub stands : (stands_anywhere row || stands_before q.bytes (relocation_of q).offset (always_pattern row)) ≡ true
+
+pub applied : (q : Question) (row : Row) → applies q row ≡ true → Applied q row
+unfolding applies
+applied q row h =
+    let a = both _ _ h in
+    let b = both _ _ a.0 in
+    let c = both _ _ b.0 in
+    let d = both _ _ c.0 in
+    let e = both _ _ d.0 in
+    let f = both _ _ e.0 in
+    let g = both _ _ f.0 in
+    record { number = g.0; taken = g.1; code = f.1; symbol = e.1; thread = d.1; value = c.1; counts = b.1; stands = a.1 }
+
+pub partner_asked : (q : Question) (row : Row) → has_its_sequence q row ≡ true → has_partner row q ≡ true
+unfolding has_its_sequence
+partner_asked q row h = (both _ _ h).1
+
+-- ---- its field
+
+abbrev pub width_by : Option Formula → ℕ
+width_by None = 0
+width_by (Some f) = form_width f.form
+
+-- how many bytes the field of a relocation type has, by its formula
+abbrev pub width_of : ℕ → ℕ
+width_of n = width_by (x86_64_formula n)
+
+-- the field lies among the bytes of the pattern; a row that keeps these bytes keeps the width
+abbrev lies : Row → Bool
+lies row = nat_le (field_of (pattern_of row) + width_of (number_of row)) (pattern_size row)
+
+abbrev same_width : Row → Bool
+same_width row = width_of (number_of row) == row_width (x86_64_row (rewrite_of row).number)
+
+-- how many bytes the field of a call has
+abbrev pub call_width : GeneralForm → ℕ
+call_width general.Large = 8
+call_width other = 4
+
+abbrev call_lies : Row → Option ℕ → Bool
+call_lies row None = false
+call_lies row (Some distance) = nat_le (field_of (pattern_of row) + distance + call_width (call_form row)) (pattern_size row)
+
+-- the field of a sequence's call lies there too
+abbrev calls_well : Row → Bool
+calls_well row = if is_skip (rewrite_of row).next then call_lies row (partner_distance row) else true
+
+abbrev pub is_well : Row → Bool
+is_well row = (if keeps_bytes row then same_width row else lies row) && calls_well row
+
+pub each_is_well : list_all is_well rows_x86_64 ≡ true
+unfolding x86_64_formula x86_64_row
+each_is_well = refl
+
+-- ---- what each row has
+
+pub field_lies : (row : Row) → is_well row ≡ true → keeps_bytes row ≡ false → field_of (pattern_of row) + width_of (number_of row) ≤ pattern_size row
+field_lies row h k = let a = both (lies row) (calls_well row) (rw k at h) in leb-true _ _ a.0
+
+pub width_is_kept : (row : Row) → is_well row ≡ true → keeps_bytes row ≡ true → width_of (number_of row) ≡ row_width (x86_64_row (rewrite_of row).number)
+width_is_kept row h k =
+    let a = both (same_width row) (calls_well row) (rw k at h) in
+    eqb-true _ _ a.0
+
+-- of a sequence
+pub record CallsWell (row : Row) : Type 0 where
+  pub distance : ℕ
+  pub known : partner_distance row ≡ Some distance
+  pub lies : field_of (pattern_of row) + distance + call_width (call_form row) ≤ pattern_size row
+
+pub calls_are_well : (row : Row) → is_well row ≡ true → is_skip (rewrite_of row).next ≡ true → CallsWell row
+calls_are_well row h k =
+    let a = both (if keeps_bytes row then same_width row else lies row) (calls_well row) h in
+    distance_is (partner_distance row) refl (rw k at a.1)
+  where
+    distance_is : (o : Option ℕ) → partner_distance row ≡ o → call_lies row o ≡ true → CallsWell row
+    distance_is None e l = cc
+    distance_is (Some n) e l = record { distance = n; known = e; lies = leb-true _ _ l }
+
+two_or : (n a b : ℕ) → (n == a || n == b) ≡ true → (n ≡ a) ⊎ (n ≡ b)
+two_or n a b h = elim (either (n == a) (n == b) h) [ inl x ↦ inl (eqb-true n a x) | inr x ↦ inr (eqb-true n b x) ]
+
+-- how wide the field of a call is
+pub call_width_is : (f : GeneralForm) (n : ℕ) → is_call_number f n ≡ true → width_of n ≡ call_width f
+unfolding x86_64_formula
+call_width_is general.Regular n h = elim (two_or n 2 4 h) [ inl e ↦ rw e refl | inr e ↦ rw e refl ]
+call_width_is general.NoPlt n h = elim (either (n == 9 || n == 41) (n == 42) h) [ inl x ↦ elim (two_or n 9 41 x) [ inl e ↦ rw e refl | inr e ↦ rw e refl ] | inr x ↦ rw (eqb-true n 42 x) refl ]
+call_width_is general.Large n h = rw (eqb-true n 31 h) refl

@@ -1,0 +1,470 @@
+-- What is decided of relocation i of a section, taken apart: as of one that keeps its instruction, by a row, or with the relocation
+-- before it.
+--   IsOwn l s i r d                 no row stands at the relocation, and none takes it along: d is decided of it alone
+--   decide_nothing, decide_moved, decide_left    decisions that are so in any case
+--   IsWrittenBy l s r row v         v is the value of the kind that the row writes
+--   IsKept l s r next z v           a row writes a value into the field, and keeps the bytes around it
+--   decide_field                    a field is written by itself or by such a row
+--   IsRewritten l s r next row v    a row writes the whole instruction
+--   decide_rewritten                it is decided so
+--   decide_partner                  a relocation that is taken along is behind one whose row writes a sequence
+--   sequence_is_rewritten           what is decided of that one
+--   decide_alone                    without a row, and taken along by none, a relocation is decided of by itself
+--   decide_loads, decide_base_relative, decide_symbolic, decide_indirect, decide_extent    a field that a loader may fill is decided of by itself
+use Rattle.std.proofs.Common.{◌≡◌, ℕ, ◌+◌, ◌%◌, ◌^◌, ◌⊎◌, inl, inr, Bool, true, false, refl, sym, ap, ◌∙◌, arith, subst}
+use Rattle.std.specs.Prelude.{⊤, Option, Some, None, Result, Ok, Err, ◌==◌, if◌then◌else◌, slice_get}
+use Rattle.std.proofs.lemmas.Bool.{cases_Bool}
+use Rattle.wild_records.specs.Abi.Relocation as abi
+use Rattle.wild_reloc.specs.Field.{allows}
+use Rattle.wild_reloc.specs.Table.{plain}
+use Rattle.wild_reloc.specs.TableX86_64.{x86_64_row}
+use Rattle.wild_reloc.specs.declared.range.Sign.TheVariants.{Signed}
+use Rattle.wild_reloc.specs.declared.info.Width.TheVariants.{Zero, Four, Eight}
+use Rattle.wild_reloc.specs.declared.info.RelocationKind.{RelocationKind}
+use Rattle.wild_reloc.specs.declared.info.RelocationKind.TheVariants as kinds
+use Rattle.wild_reloc.specs.declared.info.RelocationKindInfo.{RelocationKindInfo}
+use Rattle.wild_reloc.specs.declared.info.RelocationSize.{RelocationSize}
+use Rattle.wild_reloc.specs.declared.info.RelocationSize.TheVariants.{ByteSize}
+use Rattle.wild_reloc.specs.declared.dynamic.DynamicRelocationKind.TheVariants.{Absolute, Irelative}
+use Rattle.wild_plan.specs.declared.kind.Machine.{Machine}
+use Rattle.wild_plan.specs.declared.kind.Machine.TheVariants as machine
+use Rattle.wild_plan.specs.declared.fault.Fault.{Fault}
+use Rattle.wild_plan.specs.declared.fault.Fault.TheVariants as faults
+use Rattle.wild_plan.specs.declared.input.InputRelocation.{InputRelocation}
+use Rattle.wild_plan.specs.declared.input.InputSection.{InputSection}
+use Rattle.wild_plan.specs.declared.layout.Layout.{Layout}
+use Rattle.wild_plan.specs.declared.treatment.Treatment.{Treatment}
+use Rattle.wild_plan.specs.declared.treatment.Treatment.TheVariants as treatments
+use Rattle.wild_plan.specs.Rows.{row_of}
+use Rattle.wild_plan.specs.SlotParts.{type_of}
+use Rattle.wild_plan.specs.Treatment.{treatment}
+use Rattle.wild_relax.specs.declared.reference.UnknownSequence.{UnknownSequence}
+use Rattle.wild_relax.specs.declared.pattern.GeneralForm.{GeneralForm}
+use Rattle.wild_relax.specs.declared.pattern.GeneralForm.TheVariants as general
+use Rattle.wild_relax.specs.declared.pattern.LocalForm.TheVariants as local
+use Rattle.wild_relax.specs.declared.row.DescriptorUse.TheVariants.{LocalExec, InitialExec}
+use Rattle.wild_relax.specs.declared.row.Row.{Row}
+use Rattle.wild_relax.specs.declared.row.Row.TheVariants.{IfuncThroughStub, RexGotToImmediate, RexGotMovToLea, GotMovToImmediate, GotMovToLea, IndirectCallToDirect, IndirectJumpToDirect, PlainGotMovToLea, InitialExecToLocalExec, Plt32ToPc32, PltOffToGotOff, GeneralDynamicToLocalExec, GeneralDynamicToInitialExec, LocalDynamicToLocalExec, DescriptorLea, DescriptorCall}
+use Rattle.wild_relax.specs.Rows.{number_of, call_form, is_call_number}
+use Rattle.wild_relax.specs.RewriteX86_64.{rewrite_of}
+use Rattle.wild_relax.specs.Linked.{keeps_bytes}
+use Rattle.wild_layout.specs.declared.decision.Decision.{Decision}
+use Rattle.wild_layout.specs.declared.decision.Decision.TheVariants.{Nothing, Field, Moved, Left, Rewritten, Partner}
+use Rattle.wild_layout.specs.Values.{place_of, address_of, index_of, decided_address, term_of, value_by}
+use Rattle.wild_layout.specs.Choice.{choice_of, takes_next, is_partner}
+use Rattle.wild_layout.specs.Decide.{field, field_for, moved_to, added, left_to, chosen_to, decide_by, decided, field_at, value_to, term_to, rewritten_by, rewritten_to, refused_with, decide_with, decide_at, decide}
+use Rattle.wild_layout.proofs.TreatmentLemmas.{HasValue, row_moved, row_symbolic, row_indirect, row_extent}
+use Rattle.wild_layout.proofs.ChoiceLemmas.{IsChosen, choice_row, IsSequence, partner_is_taken, partner_number, loads, no_row, no_partner}
+use Rattle.wild_layout.proofs.DecideLemmas.{HasField}
+
+-- ---- which decisions come from where
+
+-- a relocation that keeps its instruction
+abbrev KeepsInstruction : Decision → Type 0
+KeepsInstruction (Rewritten row v) = ⊥
+KeepsInstruction Partner = ⊥
+KeepsInstruction other = ⊤
+
+field_keeps : (row : RelocationKindInfo) (w : ℕ) (d : Decision) → field row w ≡ Ok d → KeepsInstruction d
+field_keeps row w d h =
+    elim (cases_Bool (allows row w)) [
+      | inr f ↦ cc (rw f at h)
+      | inl t ↦ (let e : Ok (Field row.size w) ≡ Ok d = rw t at h in let same : Field row.size w ≡ d = cc in subst KeepsInstruction same tt)
+    ]
+
+value_keeps : (l : Layout) (s : InputSection) (r : InputRelocation) (row : RelocationKindInfo) (a : Result ℕ Fault) (d : Decision) → field_for l s r row a ≡ Ok d → KeepsInstruction d
+value_keeps l s r row (Err f) d h = cc
+value_keeps l s r row (Ok a) d h = field_keeps row (value_by l row.kind a r.addend (place_of s r)) d h
+
+moved_keeps : (l : Layout) (s : InputSection) (r : InputRelocation) (a : Result ℕ Fault) (d : Decision) → moved_to l s r a ≡ Ok d → KeepsInstruction d
+moved_keeps l s r (Err f) d h = cc
+moved_keeps l s r (Ok a) (Moved v packed) h = tt
+moved_keeps l s r (Ok a) Nothing h = tt
+moved_keeps l s r (Ok a) (Field z v) h = tt
+moved_keeps l s r (Ok a) (Left z number symbol addend) h = tt
+moved_keeps l s r (Ok a) (Rewritten row v) h = cc
+moved_keeps l s r (Ok a) Partner h = cc
+
+left_keeps : (z : RelocationSize) (number : ℕ) (r : InputRelocation) (i : ℕ) (o : Option ℕ) (d : Decision) → left_to z number r i o ≡ Ok d → KeepsInstruction d
+left_keeps z number r i None d h = cc
+left_keeps z number r i (Some index) d h = let same : Left z number index (added r) ≡ d = cc in subst KeepsInstruction same tt
+
+chosen_keeps : (l : Layout) (r : InputRelocation) (a : Result ℕ Fault) (d : Decision) → chosen_to l r a ≡ Ok d → KeepsInstruction d
+chosen_keeps l r (Err f) d h = cc
+chosen_keeps l r (Ok resolver) d h =
+    elim (cases_Bool (added r == 0)) [
+      | inr f ↦ cc (rw f at h)
+      | inl t ↦
+          (let e : Ok (Left (ByteSize Eight) (type_of l.machine Irelative) 0 resolver) ≡ Ok d = rw t at h in
+          let same : Left (ByteSize Eight) (type_of l.machine Irelative) 0 resolver ≡ d = cc in
+          subst KeepsInstruction same tt)
+    ]
+
+treated_keeps : (l : Layout) (s : InputSection) (r : InputRelocation) (t : Treatment) (d : Decision) → decide_by l s r t ≡ Ok d → KeepsInstruction d
+treated_keeps l s r treatments.Nothing d h = let same : Nothing ≡ d = cc in subst KeepsInstruction same tt
+treated_keeps l s r (treatments.Value row) d h = value_keeps l s r row (term_of l r.symbol row.kind) d h
+treated_keeps l s r treatments.BaseRelative d h = moved_keeps l s r (address_of l r.symbol) d h
+treated_keeps l s r (treatments.Symbolic i) d h = left_keeps (ByteSize Eight) (type_of l.machine Absolute) r i (index_of l i) d h
+treated_keeps l s r (treatments.Indirect i) d h = chosen_keeps l r (decided_address l i) d h
+treated_keeps l s r (treatments.Extent row i) d h = left_keeps row.size r.number r i (index_of l i) d h
+treated_keeps l s r treatments.Recompile d h = cc
+treated_keeps l s r treatments.Unsupported d h = cc
+
+decided_keeps : (l : Layout) (s : InputSection) (r : InputRelocation) (d : Decision) → decided l s r ≡ Ok d → KeepsInstruction d
+unfolding decided
+decided_keeps l s r d h = treated_keeps l s r (treatment l s r) d h
+
+-- a row
+abbrev IsOfRow : Decision → Type 0
+IsOfRow (Field z v) = ⊤
+IsOfRow (Rewritten row v) = ⊤
+IsOfRow other = ⊥
+
+of_row : (b : Bool) (z : RelocationSize) (row : Row) (v : ℕ) (d : Decision) → (if b then Field z v else Rewritten row v) ≡ d → IsOfRow d
+of_row true z row v d h = subst IsOfRow h tt
+of_row false z row v d h = subst IsOfRow h tt
+
+-- ---- what a row writes
+
+-- v is the value of the kind that is written, at the field's new place and with its new addend, and the field takes it
+pub record IsWrittenBy (l : Layout) (s : InputSection) (r : InputRelocation) (row : Row) (v : ℕ) : Type 0 where
+  pub info : RelocationKindInfo
+  pub known : row_of l.machine (rewrite_of row).number ≡ Some info
+  pub term : ℕ
+  pub given : term_to l r info ≡ Ok term
+  pub value : value_by l info.kind term ((rewrite_of row).addend r.addend) ((s.address + field_at row r) % 2 ^ 64) ≡ v
+  pub allowed : allows info v ≡ true
+
+-- of a kind that has a value, the term is what that needs of the symbol
+pub term_has_value : (l : Layout) (r : InputRelocation) (info : RelocationKindInfo) (a : ℕ) → HasValue info.kind → term_to l r info ≡ Ok a → term_of l r.symbol info.kind ≡ Ok a
+term_has_value l r info a has h = by_kind l r a info.kind has h
+  where
+    by_kind : (l : Layout) (r : InputRelocation) (a : ℕ) (k : RelocationKind) → HasValue k → term_to l r (plain k Zero Signed) ≡ Ok a → term_of l r.symbol k ≡ Ok a
+    by_kind l r a kinds.None has h = cc
+    by_kind l r a other has h = h
+
+-- a row that writes, and what it comes to
+record IsMade (l : Layout) (s : InputSection) (r : InputRelocation) (row : Row) (d : Decision) : Type 0 where
+  value : ℕ
+  by : IsWrittenBy l s r row value
+  is : (if keeps_bytes row then Field by.info.size value else Rewritten row value) ≡ d
+
+row_makes : (l : Layout) (s : InputSection) (r : InputRelocation) (row : Row) (d : Decision) → rewritten_to l s r row ≡ Ok d → IsMade l s r row d
+row_makes l s r row d h = by_info l s r row d (row_of l.machine (rewrite_of row).number) refl h
+  where
+    by_test : (l : Layout) (s : InputSection) (r : InputRelocation) (row : Row) (d : Decision) (info : RelocationKindInfo) (a v : ℕ) (b : Bool) → row_of l.machine (rewrite_of row).number ≡ Some info → term_to l r info ≡ Ok a → value_by l info.kind a ((rewrite_of row).addend r.addend) ((s.address + field_at row r) % 2 ^ 64) ≡ v → allows info v ≡ b → (if b then Ok (if keeps_bytes row then Field info.size v else Rewritten row v) else Err (faults.OutOfRange v)) ≡ Ok d → IsMade l s r row d
+    by_test l s r row d info a v false known given value allowed h = cc
+    by_test l s r row d info a v true known given value allowed h =
+        let same : (if keeps_bytes row then Field info.size v else Rewritten row v) ≡ d = cc in
+        record { value = v; by = record { info = info; known = known; term = a; given = given; value = value; allowed = allowed }; is = same }
+
+    by_term : (l : Layout) (s : InputSection) (r : InputRelocation) (row : Row) (d : Decision) (info : RelocationKindInfo) (t : Result ℕ Fault) → row_of l.machine (rewrite_of row).number ≡ Some info → term_to l r info ≡ t → value_to l s r row info t ≡ Ok d → IsMade l s r row d
+    by_term l s r row d info (Err f) known given h = cc
+    by_term l s r row d info (Ok a) known given h =
+        let v = value_by l info.kind a ((rewrite_of row).addend r.addend) ((s.address + field_at row r) % 2 ^ 64) in
+        by_test l s r row d info a v (allows info v) known given refl refl h
+
+    by_info : (l : Layout) (s : InputSection) (r : InputRelocation) (row : Row) (d : Decision) (o : Option RelocationKindInfo) → row_of l.machine (rewrite_of row).number ≡ o → rewritten_by l s r row o ≡ Ok d → IsMade l s r row d
+    by_info l s r row d None known h = cc
+    by_info l s r row d (Some info) known h = by_term l s r row d info (term_to l r info) known refl h
+
+-- ---- the three ways
+
+-- no row stands at relocation i, and it is not taken along: d is decided of it alone
+pub record IsOwn (l : Layout) (s : InputSection) (i : ℕ) (r : InputRelocation) (d : Decision) : Type 0 where
+  pub made : decided l s r ≡ Ok d
+  pub choice : choice_of l s r (slice_get s.relocations (i + 1)) ≡ Ok None
+  pub alone : is_partner l s i ≡ false
+
+refused_term : (l : Layout) (r : InputRelocation) (e : UnknownSequence) (info : RelocationKindInfo) (t : Result ℕ Fault) (d : Decision) → term_to l r info ≡ t → refused_with l r e (Some info) ≡ Ok d → ⊥
+refused_term l r e info (Err f) d is h = cc (rw is at h)
+refused_term l r e info (Ok a) d is h = cc (rw is at h)
+
+-- a sequence that is not there has no decision
+refused : (l : Layout) (r : InputRelocation) (e : UnknownSequence) (o : Option RelocationKindInfo) (d : Decision) → refused_with l r e o ≡ Ok d → ⊥
+refused l r e None d h = cc
+refused l r e (Some info) d h = refused_term l r e info (term_to l r info) d refl h
+
+decide_cases : {P : Type 0} (l : Layout) (s : InputSection) (i : ℕ) (r : InputRelocation) (d : Decision) → slice_get s.relocations i ≡ Some r → decide l s i ≡ Ok d → (IsOwn l s i r d → P) → ((row : Row) → IsChosen l s r (slice_get s.relocations (i + 1)) row → IsMade l s r row d → P) → (is_partner l s i ≡ true → Partner ≡ d → P) → P
+unfolding decide
+decide_cases {P} l s i r d listed h own made taken = by_partner l s i r d (is_partner l s i) refl listed h own made taken
+  where
+    by_choice : {P : Type 0} (l : Layout) (s : InputSection) (i : ℕ) (r : InputRelocation) (d : Decision) (c : Result (Option Row) UnknownSequence) → is_partner l s i ≡ false → choice_of l s r (slice_get s.relocations (i + 1)) ≡ c → decide_with l s r c ≡ Ok d → (IsOwn l s i r d → P) → ((row : Row) → IsChosen l s r (slice_get s.relocations (i + 1)) row → IsMade l s r row d → P) → P
+    by_choice l s i r d (Ok None) alone is h own made = own (record { made = h; choice = is; alone = alone })
+    by_choice l s i r d (Ok (Some row)) alone is h own made = made row (choice_row l s r (slice_get s.relocations (i + 1)) row is) (row_makes l s r row d h)
+    by_choice l s i r d (Err e) alone is h own made = absurd (refused l r e (row_of l.machine e.written) d h)
+
+    by_partner : {P : Type 0} (l : Layout) (s : InputSection) (i : ℕ) (r : InputRelocation) (d : Decision) (b : Bool) → is_partner l s i ≡ b → slice_get s.relocations i ≡ Some r → (if b then Ok Partner else decide_at l s (slice_get s.relocations i) (slice_get s.relocations (i + 1))) ≡ Ok d → (IsOwn l s i r d → P) → ((row : Row) → IsChosen l s r (slice_get s.relocations (i + 1)) row → IsMade l s r row d → P) → (is_partner l s i ≡ true → Partner ≡ d → P) → P
+    by_partner l s i r d true is listed h own made taken = taken is cc
+    by_partner l s i r d false is listed h own made taken =
+        by_choice l s i r d (choice_of l s r (slice_get s.relocations (i + 1))) is refl (subst (λ (o : Option InputRelocation). decide_at l s o (slice_get s.relocations (i + 1)) ≡ Ok d) listed h) own made
+
+-- ---- decisions of a relocation alone
+
+own_alone : (l : Layout) (s : InputSection) (i : ℕ) (r : InputRelocation) (d : Decision) → slice_get s.relocations i ≡ Some r → decide l s i ≡ Ok d → (IsOfRow d → ⊥) → (Partner ≡ d → ⊥) → IsOwn l s i r d
+own_alone l s i r d listed h no_row no_call =
+    decide_cases l s i r d listed h
+    (λ own. own)
+    (λ row c m. absurd (no_row (of_row (keeps_bytes row) m.by.info.size row m.value d m.is)))
+    (λ t e. absurd (no_call e))
+
+pub decide_nothing : (l : Layout) (s : InputSection) (i : ℕ) (r : InputRelocation) → slice_get s.relocations i ≡ Some r → decide l s i ≡ Ok Nothing → IsOwn l s i r Nothing
+decide_nothing l s i r listed h = own_alone l s i r Nothing listed h (λ x. x) (λ e. cc)
+
+pub decide_moved : (l : Layout) (s : InputSection) (i : ℕ) (r : InputRelocation) (v : ℕ) (packed : Bool) → slice_get s.relocations i ≡ Some r → decide l s i ≡ Ok (Moved v packed) → IsOwn l s i r (Moved v packed)
+decide_moved l s i r v packed listed h = own_alone l s i r (Moved v packed) listed h (λ x. x) (λ e. cc)
+
+pub decide_left : (l : Layout) (s : InputSection) (i : ℕ) (r : InputRelocation) (z : RelocationSize) (number symbol addend : ℕ) → slice_get s.relocations i ≡ Some r → decide l s i ≡ Ok (Left z number symbol addend) → IsOwn l s i r (Left z number symbol addend)
+decide_left l s i r z number symbol addend listed h = own_alone l s i r (Left z number symbol addend) listed h (λ x. x) (λ e. cc)
+
+-- ---- values of rows that keep the bytes around their field
+
+-- such a row writes v into the relocation's own field
+pub record IsKept (l : Layout) (s : InputSection) (r : InputRelocation) (next : Option InputRelocation) (z : RelocationSize) (v : ℕ) : Type 0 where
+  pub row : Row
+  pub keeps : (row ≡ Plt32ToPc32) ⊎ (row ≡ PltOffToGotOff)
+  pub chosen : IsChosen l s r next row
+  pub info : RelocationKindInfo
+  pub known : row_of l.machine (rewrite_of row).number ≡ Some info
+  pub kind : HasValue info.kind
+  pub size : info.size ≡ z
+  pub term : ℕ
+  pub given : term_of l r.symbol info.kind ≡ Ok term
+  pub value : value_by l info.kind term r.addend (place_of s r) ≡ v
+  pub allowed : allows info v ≡ true
+  pub field : HasField l r z
+
+other_number : (n k : ℕ) → n ≡ k → (n == abi.r_x86_64_pc32) ≡ false → (k == abi.r_x86_64_pc32) ≡ false
+other_number n k e h = subst (λ (x : ℕ). (x == abi.r_x86_64_pc32) ≡ false) e h
+
+kept_rows : (row : Row) → keeps_bytes row ≡ true → (number_of row == abi.r_x86_64_pc32) ≡ false → (row ≡ Plt32ToPc32) ⊎ (row ≡ PltOffToGotOff)
+kept_rows IfuncThroughStub k n = cc
+kept_rows (RexGotToImmediate p o) k n = cc
+kept_rows (RexGotMovToLea p) k n = cc
+kept_rows GotMovToImmediate k n = cc
+kept_rows GotMovToLea k n = cc
+kept_rows IndirectCallToDirect k n = cc
+kept_rows IndirectJumpToDirect k n = cc
+kept_rows PlainGotMovToLea k n = cc
+kept_rows (InitialExecToLocalExec p o) k n = cc
+kept_rows Plt32ToPc32 k n = inl refl
+kept_rows PltOffToGotOff k n = inr refl
+kept_rows (GeneralDynamicToLocalExec general.Regular) k n = cc
+kept_rows (GeneralDynamicToLocalExec general.NoPlt) k n = cc
+kept_rows (GeneralDynamicToLocalExec general.Large) k n = cc
+kept_rows (GeneralDynamicToInitialExec f) k n = cc
+kept_rows (LocalDynamicToLocalExec local.Regular) k n = cc
+kept_rows (LocalDynamicToLocalExec local.Large) k n = cc
+kept_rows (LocalDynamicToLocalExec local.NoPlt) k n = cc
+kept_rows (DescriptorLea p LocalExec) k n = cc
+kept_rows (DescriptorLea p InitialExec) k n = cc
+kept_rows DescriptorCall k n = cc
+
+-- the row of a number, by the table
+at_number : (m : Machine) (n k : ℕ) (row : RelocationKindInfo) → m ≡ machine.X86_64 → n ≡ k → x86_64_row k ≡ Some row → row_of m n ≡ Some row
+unfolding row_of
+at_number machine.AArch64 n k row is e h = cc
+at_number machine.X86_64 n k row is e h = ap x86_64_row e ∙ h
+
+known_info : (m : Machine) (n : ℕ) (info row : RelocationKindInfo) → m ≡ machine.X86_64 → row_of m n ≡ Some info → x86_64_row n ≡ Some row → info ≡ row
+known_info m n info row is known h = let e : Some info ≡ Some row = sym known ∙ at_number m n n row is refl h in cc
+
+kept_field : (l : Layout) (s : InputSection) (r : InputRelocation) (next : Option InputRelocation) (row : Row) (z : RelocationSize) (v : ℕ) (old new : RelocationKindInfo) → IsChosen l s r next row → (m : IsWrittenBy l s r row v) → m.info.size ≡ z → (row ≡ Plt32ToPc32) ⊎ (row ≡ PltOffToGotOff) → x86_64_row (number_of row) ≡ Some old → HasValue old.kind → x86_64_row (rewrite_of row).number ≡ Some new → HasValue new.kind → old.size ≡ new.size → (rewrite_of row).addend r.addend ≡ r.addend → field_at row r ≡ r.offset → IsKept l s r next z v
+kept_field l s r next row z v old new c m size keeps before old_kind behind new_kind sizes addend at =
+    let same : m.info ≡ new = known_info l.machine (rewrite_of row).number m.info new c.machine m.known behind in
+    let kind : HasValue m.info.kind = subst (λ (x : RelocationKindInfo). HasValue x.kind) (sym same) new_kind in
+    record {
+      row = row;
+      keeps = keeps;
+      chosen = c;
+      info = m.info;
+      known = m.known;
+      kind = kind;
+      size = size;
+      term = m.term;
+      given = term_has_value l r m.info m.term kind m.given;
+      value = ap (λ a. value_by l m.info.kind m.term a (place_of s r)) (sym addend) ∙ ap (λ (p : ℕ). value_by l m.info.kind m.term ((rewrite_of row).addend r.addend) ((s.address + p) % 2 ^ 64)) (sym at) ∙ m.value;
+      allowed = m.allowed;
+      field = record { row = old; known = at_number l.machine r.number (number_of row) old c.machine c.number before; kind = old_kind; size = sizes ∙ ap (λ (x : RelocationKindInfo). x.size) (sym same) ∙ size };
+    }
+
+kept_plt : (l : Layout) (s : InputSection) (r : InputRelocation) (next : Option InputRelocation) (z : RelocationSize) (v : ℕ) → IsChosen l s r next Plt32ToPc32 → (m : IsWrittenBy l s r Plt32ToPc32 v) → m.info.size ≡ z → IsKept l s r next z v
+unfolding x86_64_row
+kept_plt l s r next z v c m size = kept_field l s r next Plt32ToPc32 z v (plain kinds.PltRelative Four Signed) (plain kinds.Relative Four Signed) c m size (inl refl) refl refl refl refl refl refl (omega arith)
+
+kept_offset : (l : Layout) (s : InputSection) (r : InputRelocation) (next : Option InputRelocation) (z : RelocationSize) (v : ℕ) → IsChosen l s r next PltOffToGotOff → (m : IsWrittenBy l s r PltOffToGotOff v) → m.info.size ≡ z → IsKept l s r next z v
+unfolding x86_64_row
+kept_offset l s r next z v c m size = kept_field l s r next PltOffToGotOff z v (plain kinds.PltRelGotBase Eight Signed) (plain kinds.SymRelGotBase Eight Signed) c m size (inr refl) refl refl refl refl refl refl (omega arith)
+
+made_kept : (l : Layout) (s : InputSection) (r : InputRelocation) (next : Option InputRelocation) (z : RelocationSize) (v : ℕ) (row : Row) → IsChosen l s r next row → (row ≡ Plt32ToPc32) ⊎ (row ≡ PltOffToGotOff) → (m : IsWrittenBy l s r row v) → m.info.size ≡ z → IsKept l s r next z v
+made_kept l s r next z v row c (inl e) =
+    let P : Row → Type 0 = λ x. IsChosen l s r next x → (m : IsWrittenBy l s r x v) → m.info.size ≡ z → IsKept l s r next z v in
+    subst P (sym e) (kept_plt l s r next z v) c
+made_kept l s r next z v row c (inr e) =
+    let P : Row → Type 0 = λ x. IsChosen l s r next x → (m : IsWrittenBy l s r x v) → m.info.size ≡ z → IsKept l s r next z v in
+    subst P (sym e) (kept_offset l s r next z v) c
+
+-- a field that is written into what the input has there
+pub decide_field : (l : Layout) (s : InputSection) (i : ℕ) (r : InputRelocation) (z : RelocationSize) (v : ℕ) → slice_get s.relocations i ≡ Some r → decide l s i ≡ Ok (Field z v) → IsOwn l s i r (Field z v) ⊎ IsKept l s r (slice_get s.relocations (i + 1)) z v
+decide_field l s i r z v listed h = decide_cases l s i r (Field z v) listed h (λ own. inl own) (λ row c m. inr (by_row l s r (slice_get s.relocations (i + 1)) row z v c m)) (λ t e. cc)
+  where
+    by_test : (b : Bool) (row : Row) (size z : RelocationSize) (w v : ℕ) → (if b then Field size w else Rewritten row w) ≡ Field z v → (b ≡ true) × (size ≡ z) × (w ≡ v)
+    by_test true row size z w v h =
+        let a : size ≡ z = cc in
+        let e : w ≡ v = cc in
+        (refl, a, e)
+    by_test false row size z w v h = cc
+
+    by_row : (l : Layout) (s : InputSection) (r : InputRelocation) (next : Option InputRelocation) (row : Row) (z : RelocationSize) (v : ℕ) → IsChosen l s r next row → IsMade l s r row (Field z v) → IsKept l s r next z v
+    by_row l s r next row z v c m =
+        let t = by_test (keeps_bytes row) row m.by.info.size z m.value v m.is in
+        let keeps = kept_rows row t.0 (other_number r.number (number_of row) c.number c.other) in
+        subst (λ (x : ℕ). IsKept l s r next z x) t.2 (made_kept l s r next z m.value row c keeps m.by t.1)
+
+-- ---- instructions
+
+-- a row writes all of its pattern, with v in the field
+pub record IsRewritten (l : Layout) (s : InputSection) (r : InputRelocation) (next : Option InputRelocation) (row : Row) (v : ℕ) : Type 0 where
+  pub chosen : IsChosen l s r next row
+  pub changes : keeps_bytes row ≡ false
+  pub written : IsWrittenBy l s r row v
+
+pub decide_rewritten : (l : Layout) (s : InputSection) (i : ℕ) (r : InputRelocation) (row : Row) (v : ℕ) → slice_get s.relocations i ≡ Some r → decide l s i ≡ Ok (Rewritten row v) → IsRewritten l s r (slice_get s.relocations (i + 1)) row v
+decide_rewritten l s i r row v listed h = decide_cases l s i r (Rewritten row v) listed h (λ own. absurd (decided_keeps l s r (Rewritten row v) own.made)) (λ w c m. by_row l s r (slice_get s.relocations (i + 1)) w row v c m) (λ t e. cc)
+  where
+    by_test : (b : Bool) (w row : Row) (size : RelocationSize) (x v : ℕ) → (if b then Field size x else Rewritten w x) ≡ Rewritten row v → (b ≡ false) × (w ≡ row) × (x ≡ v)
+    by_test true w row size x v h = cc
+    by_test false w row size x v h =
+        let a : w ≡ row = cc in
+        let e : x ≡ v = cc in
+        (refl, a, e)
+
+    by_row : (l : Layout) (s : InputSection) (r : InputRelocation) (next : Option InputRelocation) (w row : Row) (v : ℕ) → IsChosen l s r next w → IsMade l s r w (Rewritten row v) → IsRewritten l s r next row v
+    by_row l s r next w row v c m =
+        let t = by_test (keeps_bytes w) w row m.by.info.size m.value v m.is in
+        let P : Row → Type 0 = λ y. IsRewritten l s r next y v in
+        subst P t.1 (record { chosen = c; changes = t.0; written = subst (λ (x : ℕ). IsWrittenBy l s r w x) t.2 m.by })
+
+-- ---- relocations that are taken along
+
+pub decide_partner : (l : Layout) (s : InputSection) (i : ℕ) (r : InputRelocation) → slice_get s.relocations i ≡ Some r → decide l s i ≡ Ok Partner → (j : ℕ) × (i ≡ j + 1) × (row : Row) × IsSequence l s j row
+decide_partner l s i r listed h = decide_cases l s i r Partner listed h (λ own. absurd (decided_keeps l s r Partner own.made)) (λ row c m. absurd (of_row (keeps_bytes row) m.by.info.size row m.value Partner m.is)) (λ t e. partner_is_taken l s i t)
+
+-- the relocation of such a row is no call
+sequence_is_no_call : (row : Row) (f : GeneralForm) → takes_next (Ok (Some row)) ≡ true → is_call_number f (number_of row) ≡ true → ⊥
+sequence_is_no_call IfuncThroughStub f t h = cc
+sequence_is_no_call (RexGotToImmediate p o) f t h = cc
+sequence_is_no_call (RexGotMovToLea p) f t h = cc
+sequence_is_no_call GotMovToImmediate f t h = cc
+sequence_is_no_call GotMovToLea f t h = cc
+sequence_is_no_call IndirectCallToDirect f t h = cc
+sequence_is_no_call IndirectJumpToDirect f t h = cc
+sequence_is_no_call PlainGotMovToLea f t h = cc
+sequence_is_no_call (InitialExecToLocalExec p o) f t h = cc
+sequence_is_no_call Plt32ToPc32 f t h = cc
+sequence_is_no_call PltOffToGotOff f t h = cc
+sequence_is_no_call (GeneralDynamicToLocalExec g) general.Regular t h = cc
+sequence_is_no_call (GeneralDynamicToLocalExec g) general.NoPlt t h = cc
+sequence_is_no_call (GeneralDynamicToLocalExec g) general.Large t h = cc
+sequence_is_no_call (GeneralDynamicToInitialExec g) general.Regular t h = cc
+sequence_is_no_call (GeneralDynamicToInitialExec g) general.NoPlt t h = cc
+sequence_is_no_call (GeneralDynamicToInitialExec g) general.Large t h = cc
+sequence_is_no_call (LocalDynamicToLocalExec g) general.Regular t h = cc
+sequence_is_no_call (LocalDynamicToLocalExec g) general.NoPlt t h = cc
+sequence_is_no_call (LocalDynamicToLocalExec g) general.Large t h = cc
+sequence_is_no_call (DescriptorLea p LocalExec) f t h = cc
+sequence_is_no_call (DescriptorLea p InitialExec) f t h = cc
+sequence_is_no_call DescriptorCall f t h = cc
+
+-- and so it is not taken along itself
+pub sequence_is_alone : (l : Layout) (s : InputSection) (j : ℕ) (row : Row) → IsSequence l s j row → is_partner l s j ≡ false
+sequence_is_alone l s j row q =
+    elim (cases_Bool (is_partner l s j)) [
+      | inr f ↦ f
+      | inl t ↦ (let p = partner_is_taken l s j t in absurd (taken l s p.0 p.2 q.relocation (slice_get s.relocations (j + 1)) row p.3 (subst (λ (k : ℕ). slice_get s.relocations k ≡ Some q.relocation) p.1 q.listed) q.is q.takes))
+    ]
+  where
+    taken : (l : Layout) (s : InputSection) (k : ℕ) (w : Row) (r : InputRelocation) (next : Option InputRelocation) (row : Row) → IsSequence l s k w → slice_get s.relocations (k + 1) ≡ Some r → choice_of l s r next ≡ Ok (Some row) → takes_next (Ok (Some row)) ≡ true → ⊥
+    taken l s k w r next row p listed is takes =
+        let before = choice_row l s p.relocation (Some r) w (subst (λ (o : Option InputRelocation). choice_of l s p.relocation o ≡ Ok (Some w)) listed p.is) in
+        let c = choice_row l s r next row is in
+        let n = partner_number l s p.relocation r w before p.takes in
+        sequence_is_no_call row (call_form w) takes (subst (λ (x : ℕ). is_call_number (call_form w) x ≡ true) c.number n)
+
+sequence_changes : (row : Row) → takes_next (Ok (Some row)) ≡ true → keeps_bytes row ≡ false
+sequence_changes IfuncThroughStub t = cc
+sequence_changes (RexGotToImmediate p o) t = refl
+sequence_changes (RexGotMovToLea p) t = refl
+sequence_changes GotMovToImmediate t = refl
+sequence_changes GotMovToLea t = refl
+sequence_changes IndirectCallToDirect t = refl
+sequence_changes IndirectJumpToDirect t = refl
+sequence_changes PlainGotMovToLea t = refl
+sequence_changes (InitialExecToLocalExec p o) t = refl
+sequence_changes Plt32ToPc32 t = cc
+sequence_changes PltOffToGotOff t = cc
+sequence_changes (GeneralDynamicToLocalExec general.Regular) t = refl
+sequence_changes (GeneralDynamicToLocalExec general.NoPlt) t = refl
+sequence_changes (GeneralDynamicToLocalExec general.Large) t = refl
+sequence_changes (GeneralDynamicToInitialExec f) t = refl
+sequence_changes (LocalDynamicToLocalExec local.Regular) t = refl
+sequence_changes (LocalDynamicToLocalExec local.Large) t = refl
+sequence_changes (LocalDynamicToLocalExec local.NoPlt) t = refl
+sequence_changes (DescriptorLea p LocalExec) t = refl
+sequence_changes (DescriptorLea p InitialExec) t = refl
+sequence_changes DescriptorCall t = refl
+
+-- what is decided of the relocation of such a row is its rewrite
+pub sequence_is_rewritten : (l : Layout) (s : InputSection) (j : ℕ) (row : Row) (d : Decision) → IsSequence l s j row → decide l s j ≡ Ok d → (v : ℕ) × (d ≡ Rewritten row v)
+sequence_is_rewritten l s j row d q h =
+    decide_cases l s j q.relocation d q.listed h
+    (λ own. absurd (no_other (choice_of l s q.relocation (slice_get s.relocations (j + 1))) row own.choice q.is))
+    (λ w c m. by_row l s q.relocation (slice_get s.relocations (j + 1)) w row d c q.is q.takes m)
+    (λ t e. absurd (no_both (is_partner l s j) t (sequence_is_alone l s j row q)))
+  where
+    no_other : (c : Result (Option Row) UnknownSequence) (row : Row) → c ≡ Ok None → c ≡ Ok (Some row) → ⊥
+    no_other c row e h = let b : Ok None ≡ Ok (Some row) = sym e ∙ h in cc
+
+    no_both : (b : Bool) → b ≡ true → b ≡ false → ⊥
+    no_both true t f = cc
+    no_both false t f = cc
+
+    same_row : (c : Result (Option Row) UnknownSequence) (w row : Row) → c ≡ Ok (Some w) → c ≡ Ok (Some row) → w ≡ row
+    same_row c w row e h = let b : Ok (Some w) ≡ Ok (Some row) = sym e ∙ h in cc
+
+    by_test : (b : Bool) (z : RelocationSize) (w : Row) (x : ℕ) (d : Decision) → b ≡ false → (if b then Field z x else Rewritten w x) ≡ d → d ≡ Rewritten w x
+    by_test true z w x d f h = cc
+    by_test false z w x d f h = sym h
+
+    by_row : (l : Layout) (s : InputSection) (r : InputRelocation) (next : Option InputRelocation) (w row : Row) (d : Decision) → IsChosen l s r next w → choice_of l s r next ≡ Ok (Some row) → takes_next (Ok (Some row)) ≡ true → IsMade l s r w d → (v : ℕ) × (d ≡ Rewritten row v)
+    by_row l s r next w row d c is takes m =
+        let same = same_row (choice_of l s r next) w row c.choice is in
+        let changes = subst (λ (x : Row). keeps_bytes x ≡ false) (sym same) (sequence_changes row takes) in
+        (m.value, by_test (keeps_bytes w) m.by.info.size w m.value d changes m.is ∙ ap (λ (x : Row). Rewritten x m.value) same)
+
+-- ---- relocations that are decided of by themselves
+
+-- no row stands there, and none takes it along
+pub decide_alone : (l : Layout) (s : InputSection) (i : ℕ) (r : InputRelocation) → slice_get s.relocations i ≡ Some r → is_partner l s i ≡ false → choice_of l s r (slice_get s.relocations (i + 1)) ≡ Ok None → decide l s i ≡ decided l s r
+unfolding decide
+decide_alone l s i r listed alone none = rw (alone, listed, none) refl
+
+-- a field that a loader may fill is of no row's kind, and of no call's
+pub decide_loads : (l : Layout) (s : InputSection) (i : ℕ) (r : InputRelocation) (row : RelocationKindInfo) → slice_get s.relocations i ≡ Some r → row_of l.machine r.number ≡ Some row → loads row.kind ≡ true → decide l s i ≡ decided l s r
+decide_loads l s i r row listed known h = decide_alone l s i r listed (no_partner l s i r row listed known h) (no_row l s r (slice_get s.relocations (i + 1)) row known h)
+
+pub decide_base_relative : (l : Layout) (s : InputSection) (i : ℕ) (r : InputRelocation) → slice_get s.relocations i ≡ Some r → treatment l s r ≡ treatments.BaseRelative → decide l s i ≡ decided l s r
+unfolding treatment
+decide_base_relative l s i r listed is = let k = row_moved l s r.symbol (row_of l.machine r.number) is in decide_loads l s i r k.0 listed k.1 (ap loads k.2.kind)
+
+pub decide_symbolic : (l : Layout) (s : InputSection) (i : ℕ) (r : InputRelocation) (n : ℕ) → slice_get s.relocations i ≡ Some r → treatment l s r ≡ treatments.Symbolic n → decide l s i ≡ decided l s r
+unfolding treatment
+decide_symbolic l s i r n listed is = let k = row_symbolic l s r.symbol (row_of l.machine r.number) n is in decide_loads l s i r k.0 listed k.1 (ap loads k.2.kind)
+
+pub decide_indirect : (l : Layout) (s : InputSection) (i : ℕ) (r : InputRelocation) (n : ℕ) → slice_get s.relocations i ≡ Some r → treatment l s r ≡ treatments.Indirect n → decide l s i ≡ decided l s r
+unfolding treatment
+decide_indirect l s i r n listed is = let k = row_indirect l s r.symbol (row_of l.machine r.number) n is in decide_loads l s i r k.0 listed k.1 (ap loads k.2.kind)
+
+pub decide_extent : (l : Layout) (s : InputSection) (i : ℕ) (r : InputRelocation) (row : RelocationKindInfo) (n : ℕ) → slice_get s.relocations i ≡ Some r → treatment l s r ≡ treatments.Extent row n → decide l s i ≡ decided l s r
+unfolding treatment
+decide_extent l s i r row n listed is = let k = row_extent l s r.symbol (row_of l.machine r.number) row n is in decide_loads l s i r row listed k.0 (ap loads k.1.kind)
