@@ -1,6 +1,6 @@
 -- The field of a relocation lies in what that writes, or in the sequence that takes it along.
 use Rattle.std.proofs.Common.{◌≡◌, ℕ, ◌+◌, ◌-◌, ◌≤◌, ◌⊎◌, inl, inr, Bool, true, false, List, [], ◌∷◌, length, drop, slice_range, refl, sym, ap, ◌∙◌, arith, subst}
-use Rattle.std.specs.Prelude.{Option, Some, Ok, ◌==◌, if◌then◌else◌, slice_get}
+use Rattle.std.specs.Prelude.{Option, Some, Ok, ◌==◌, if◌then◌else◌, slice_get, None}
 use Rattle.std.specs.List.{list_all}
 use Rattle.std.proofs.lemmas.Bool.{eqb-true}
 use Rattle.std.proofs.lemmas.Option.{slice_get_within}
@@ -76,6 +76,23 @@ call_is l s r q row distance is known =
     let has = partner_asked (question_of l s r is.chosen.symbol (Some q)) row is.whole in
     let p = partner_is row distance (info_of l r) (info_of l q) (rw known at has) in
     record { offset = p.0; number = p.1 }
+
+-- the relocation behind is that of the call
+pub record HasCall (l : Layout) (s : InputSection) (i : ℕ) (r : InputRelocation) (row : Row) (distance : ℕ) : Type 0 where
+  pub next : InputRelocation
+  pub listed : slice_get s.relocations (i + 1) ≡ Some next
+  pub call : IsCall r next row distance
+
+pub partner_there : (l : Layout) (s : InputSection) (i : ℕ) (r : InputRelocation) (row : Row) (distance : ℕ) → IsChosen l s r (slice_get s.relocations (i + 1)) row → partner_distance row ≡ Some distance → HasCall l s i r row distance
+partner_there l s i r row distance c known = by (slice_get s.relocations (i + 1)) refl c
+  where
+    by : (o : Option InputRelocation) → slice_get s.relocations (i + 1) ≡ o → IsChosen l s r o row → HasCall l s i r row distance
+    by None e c =
+        let is = row_at l s r None row c in
+        let has = partner_asked (question_of l s r is.chosen.symbol None) row is.whole in
+        let none : false ≡ true = rw known at has in
+        cc
+    by (Some q) e c = record { next = q; listed = e; call = call_is l s r q row distance (row_at l s r (Some q) row c) known }
 
 -- ---- how wide a field is
 
@@ -158,7 +175,6 @@ length-window bs a n h =
 -- a row writes all bytes of its pattern, and these lie around the field
 pub record IsWindow (l : Layout) (s : InputSection) (r : InputRelocation) (row : Row) (v : ℕ) : Type 0 where
   pub before : field_of (pattern_of row) ≤ r.offset
-  pub inside : template_start row r + pattern_size row ≤ length s.bytes
   pub long : length (template_site s r row v).bytes ≡ pattern_size row
   pub field : field_of (pattern_of row) + width_of r.number ≤ pattern_size row
 
@@ -172,7 +188,6 @@ window_is l s i r row v x86 h =
     let old = length-window s.bytes (template_start row r) (pattern_size row) w.chosen.inside in
     record {
       before = w.chosen.before;
-      inside = w.chosen.inside;
       long = length-template row w.written.info v (slice_range s.bytes (template_start row r) (template_start row r + pattern_size row)) lies (row_here l (rewrite_of row).number (Some w.written.info) x86 w.written.known) old;
       field = omega (arith, field, number);
     }

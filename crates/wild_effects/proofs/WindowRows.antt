@@ -4,10 +4,8 @@ use Rattle.std.specs.Prelude.{Option, Some, None, Ok, Err, not, ◌&&◌, ◌||�
 use Rattle.std.specs.List.{list_all}
 use Rattle.std.proofs.lemmas.Bool.{eqb-true, leb-true}
 use Rattle.wild_plan.specs.Kinds.{is_executable}
-use Rattle.wild_plan.specs.Rows.{row_width}
 use Rattle.wild_reloc.specs.Formula.{Formula}
 use Rattle.wild_reloc.specs.FormulaX86_64.{x86_64_formula}
-use Rattle.wild_reloc.specs.TableX86_64.{x86_64_row}
 use Rattle.wild_relax.specs.declared.reference.UnknownSequence.{UnknownSequence}
 use Rattle.wild_relax.specs.declared.pattern.GeneralForm.{GeneralForm}
 use Rattle.wild_relax.specs.declared.pattern.GeneralForm.TheVariants as general
@@ -78,6 +76,13 @@ applied q row h =
     let g = both _ _ f.0 in
     record { number = g.0; taken = g.1; code = f.1; symbol = e.1; thread = d.1; value = c.1; counts = b.1; stands = a.1 }
 
+joined : {a b : Bool} → a ≡ true → b ≡ true → (a && b) ≡ true
+joined h k = rw (h, k) refl
+
+pub applied_by : (q : Question) (row : Row) → Applied q row → applies q row ≡ true
+unfolding applies
+applied_by q row a = joined (joined (joined (joined (joined (joined (joined a.number a.taken) a.code) a.symbol) a.thread) a.value) a.counts) a.stands
+
 pub partner_asked : (q : Question) (row : Row) → has_its_sequence q row ≡ true → has_partner row q ≡ true
 unfolding has_its_sequence
 partner_asked q row h = (both _ _ h).1
@@ -92,12 +97,9 @@ width_by (Some f) = form_width f.form
 abbrev pub width_of : ℕ → ℕ
 width_of n = width_by (x86_64_formula n)
 
--- the field lies among the bytes of the pattern; a row that keeps these bytes keeps the width
+-- the field lies among the bytes of the pattern
 abbrev lies : Row → Bool
 lies row = nat_le (field_of (pattern_of row) + width_of (number_of row)) (pattern_size row)
-
-abbrev same_width : Row → Bool
-same_width row = width_of (number_of row) == row_width (x86_64_row (rewrite_of row).number)
 
 -- how many bytes the field of a call has
 abbrev pub call_width : GeneralForm → ℕ
@@ -113,23 +115,18 @@ abbrev calls_well : Row → Bool
 calls_well row = if is_skip (rewrite_of row).next then call_lies row (partner_distance row) else true
 
 abbrev pub is_well : Row → Bool
-is_well row = (if keeps_bytes row then same_width row else lies row) && calls_well row
+is_well row = (keeps_bytes row || lies row) && calls_well row
 
 pub each_is_well : list_all is_well rows_x86_64 ≡ true
-unfolding x86_64_formula x86_64_row
+unfolding x86_64_formula
 each_is_well = refl
 
 -- ---- what each row has
 
 pub field_lies : (row : Row) → is_well row ≡ true → keeps_bytes row ≡ false → field_of (pattern_of row) + width_of (number_of row) ≤ pattern_size row
-field_lies row h k = let a = both (lies row) (calls_well row) (rw k at h) in leb-true _ _ a.0
+field_lies row h k = let a = both (false || lies row) (calls_well row) (rw k at h) in leb-true _ _ a.0
 
-pub width_is_kept : (row : Row) → is_well row ≡ true → keeps_bytes row ≡ true → width_of (number_of row) ≡ row_width (x86_64_row (rewrite_of row).number)
-width_is_kept row h k =
-    let a = both (same_width row) (calls_well row) (rw k at h) in
-    eqb-true _ _ a.0
-
--- of a sequence
+-- what a row that writes a sequence has
 pub record CallsWell (row : Row) : Type 0 where
   pub distance : ℕ
   pub known : partner_distance row ≡ Some distance
@@ -137,7 +134,7 @@ pub record CallsWell (row : Row) : Type 0 where
 
 pub calls_are_well : (row : Row) → is_well row ≡ true → is_skip (rewrite_of row).next ≡ true → CallsWell row
 calls_are_well row h k =
-    let a = both (if keeps_bytes row then same_width row else lies row) (calls_well row) h in
+    let a = both (keeps_bytes row || lies row) (calls_well row) h in
     distance_is (partner_distance row) refl (rw k at a.1)
   where
     distance_is : (o : Option ℕ) → partner_distance row ≡ o → call_lies row o ≡ true → CallsWell row

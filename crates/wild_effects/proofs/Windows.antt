@@ -25,7 +25,7 @@ beside l q k x86 (inl low) f known = inl low
 beside l q k x86 (inr high) f known = let w = formula_width l q.number f x86 known in inr (omega (arith, w, high))
 
 -- a byte lies before a number or not
-order : (k n : ℕ) → (k < n) ⊎ (n + 0 ≤ k)
+pub order : (k n : ℕ) → (k < n) ⊎ (n + 0 ≤ k)
 order k n = elim (cases_lt k n) [ inl low ↦ inl low | inr high ↦ inr (omega (arith, high)) ]
 
 apart_from : (k at size from width : ℕ) (p q : Piece) → p.at ≡ at → length p.bytes ≡ size → at ≤ k → k < at + size → q.at ≤ from → from + width ≤ q.at + length q.bytes → Apart p q → (k < from) ⊎ (from + width ≤ k)
