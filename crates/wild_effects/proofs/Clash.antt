@@ -3,7 +3,7 @@
 use Rattle.std.proofs.Common.{◌≡◌, ℕ, zero, suc, ◌+◌, ◌-◌, ◌<◌, ◌≤◌, ◌⊎◌, inl, inr, Bool, true, false, List, [], ◌∷◌, length, get_or, refl, sym, ap, ◌∙◌, arith, subst, drop, take, slice_range}
 use Rattle.std.specs.Prelude.{not, ◌&&◌, ◌||◌, ◌==◌}
 use Rattle.std.specs.List.{list_all}
-use Rattle.std.proofs.lemmas.Bool.{cases_lt, eqb-true}
+use Rattle.std.proofs.lemmas.Bool.{and_parts, cases_lt, eqb-true, or_cases}
 use Rattle.std.proofs.lemmas.List.{get_or-drop, drop-drop, length-drop}
 use Rattle.wild_plan.specs.declared.kind.Machine.TheVariants as machine
 use Rattle.wild_relax.specs.declared.pattern.Cell.{Cell}
@@ -16,9 +16,8 @@ use Rattle.wild_relax.specs.Linked.{pattern_of, keeps_bytes}
 use Rattle.wild_meaning.specs.Instruction as own
 use Rattle.wild_meaning.specs.Instruction.{Is, From, Slot, Digit, Any, fits, stands}
 use Rattle.wild_meaning.specs.Sequence.{Instruction, instructions_of}
-use Rattle.wild_effects.proofs.WindowRows.{both, either}
 
--- ---- no byte fits both cells
+-- ---- no byte fits and_parts cells
 
 abbrev pub clashes : own.Cell → Cell → Bool
 clashes c (its.Is n) = not (fits c n)
@@ -36,19 +35,19 @@ at c b n h e f = not_both (fits c n) h (subst (λ (x : ℕ). fits c x ≡ true) 
 
 one_of : (c : own.Cell) (b m n : ℕ) → (not (fits c m) && not (fits c n)) ≡ true → (b == m || b == n) ≡ true → fits c b ≡ true → ⊥
 one_of c b m n h e f =
-    let two = both (not (fits c m)) (not (fits c n)) h in
-    elim (either (b == m) (b == n) e) [ inl k ↦ at c b m two.0 k f | inr k ↦ at c b n two.1 k f ]
+    let two = and_parts (not (fits c m)) (not (fits c n)) h in
+    elim (or_cases (b == m) (b == n) e) [ inl k ↦ at c b m two.0 k f | inr k ↦ at c b n two.1 k f ]
 
 one_of_four : (c : own.Cell) (b m n o p : ℕ) → ((not (fits c m) && not (fits c n)) && (not (fits c o) && not (fits c p))) ≡ true → (b == m || b == n || b == o || b == p) ≡ true → fits c b ≡ true → ⊥
 one_of_four c b m n o p h e f =
-    let two = both (not (fits c m) && not (fits c n)) (not (fits c o) && not (fits c p)) h in
-    let low = both (not (fits c m)) (not (fits c n)) two.0 in
-    let high = both (not (fits c o)) (not (fits c p)) two.1 in
-    elim (either (b == m || b == n || b == o) (b == p) e) [
+    let two = and_parts (not (fits c m) && not (fits c n)) (not (fits c o) && not (fits c p)) h in
+    let low = and_parts (not (fits c m)) (not (fits c n)) two.0 in
+    let high = and_parts (not (fits c o)) (not (fits c p)) two.1 in
+    elim (or_cases (b == m || b == n || b == o) (b == p) e) [
       | inr k ↦ at c b p high.1 k f
-      | inl x ↦ elim (either (b == m || b == n) (b == o) x) [
+      | inl x ↦ elim (or_cases (b == m || b == n) (b == o) x) [
         | inr k ↦ at c b o high.0 k f
-        | inl y ↦ elim (either (b == m) (b == n) y) [ inl k ↦ at c b m low.0 k f | inr k ↦ at c b n low.1 k f ]
+        | inl y ↦ elim (or_cases (b == m) (b == n) y) [ inl k ↦ at c b m low.0 k f | inr k ↦ at c b n low.1 k f ]
       ]
     ]
 
@@ -79,9 +78,9 @@ none_stand [] ds bs h e f = cc
 none_stand (c ∷ cs) [] bs h e f = cc
 none_stand (c ∷ cs) (d ∷ ds) [] h e f = cc
 none_stand (c ∷ cs) (d ∷ ds) (b ∷ bs) h e f =
-    let x = both (fits c b) (stands cs bs) e in
-    let y = both (pattern.fits d b) (pattern.stands ds bs) f in
-    elim (either (clashes c d) (clash cs ds) h) [ inl k ↦ none_fits c d b k x.0 y.0 | inr k ↦ none_stand cs ds bs k x.1 y.1 ]
+    let x = and_parts (fits c b) (stands cs bs) e in
+    let y = and_parts (pattern.fits d b) (pattern.stands ds bs) f in
+    elim (or_cases (clashes c d) (clash cs ds) h) [ inl k ↦ none_fits c d b k x.0 y.0 | inr k ↦ none_stand cs ds bs k x.1 y.1 ]
 
 -- any byte may stand there: it is a field's
 abbrev pub is_any : own.Cell → Bool
@@ -92,7 +91,7 @@ abbrev pub is_free : Cell → Bool
 is_free its.Any = true
 is_free other = false
 
--- both fix a byte
+-- and_parts fix a byte
 abbrev pub touch : List own.Cell → List Cell → Bool
 touch [] ds = false
 touch (c ∷ cs) [] = false
@@ -124,7 +123,7 @@ covered : (cs : List own.Cell) (ds : List Cell) → covers cs ds ≡ true → Is
 covered [] ds h = cc
 covered (c ∷ cs) [] h = cc
 covered (c ∷ cs) (d ∷ ds) h =
-    elim (either (is_any c) (covers cs ds) h) [
+    elim (or_cases (is_any c) (covers cs ds) h) [
       | inl k ↦ record { place = 0; first = omega arith; second = omega arith; any = k }
       | inr k ↦ (let r = covered cs ds k in let l = r.first in let m = r.second in record { place = suc r.place; first = omega (arith, l); second = omega (arith, m); any = r.any })
     ]
@@ -141,7 +140,7 @@ below (suc n) f = f n && below n f
 pub below_at : (n : ℕ) (f : ℕ → Bool) (i : ℕ) → i < n → below n f ≡ true → f i ≡ true
 below_at zero f i lt h = absurd (omega arith)
 below_at (suc n) f i lt h =
-    let two = both (f n) (below n f) h in
+    let two = and_parts (f n) (below n f) h in
     elim (cases_lt i n) [ inl low ↦ below_at n f i low two.1 | inr high ↦ (let e : i ≡ n = omega arith in subst (λ (x : ℕ). f x ≡ true) (sym e) two.0) ]
 
 -- the calls through a descriptor alone have two bytes
@@ -166,28 +165,28 @@ stands_more [] n bs h = refl
 stands_more (c ∷ cs) zero bs h = cc
 stands_more (c ∷ cs) (suc n) [] h = cc
 stands_more (c ∷ cs) (suc n) (b ∷ bs) h =
-    let x = both (fits c b) (stands cs (take n bs)) h in
+    let x = and_parts (fits c b) (stands cs (take n bs)) h in
     rw (x.0, stands_more cs n bs x.1) refl
 
 stands_drop : (s : ℕ) (cs : List own.Cell) (bs : List ℕ) → stands cs bs ≡ true → stands (drop s cs) (drop s bs) ≡ true
 stands_drop zero cs bs h = h
 stands_drop (suc s) [] bs h = refl
 stands_drop (suc s) (c ∷ cs) [] h = cc
-stands_drop (suc s) (c ∷ cs) (b ∷ bs) h = stands_drop s cs bs (both (fits c b) (stands cs bs) h).1
+stands_drop (suc s) (c ∷ cs) (b ∷ bs) h = stands_drop s cs bs (and_parts (fits c b) (stands cs bs) h).1
 
 its_more : (ds : List Cell) (n : ℕ) (bs : List ℕ) → pattern.stands ds (take n bs) ≡ true → pattern.stands ds bs ≡ true
 its_more [] n bs h = refl
 its_more (d ∷ ds) zero bs h = cc
 its_more (d ∷ ds) (suc n) [] h = cc
 its_more (d ∷ ds) (suc n) (b ∷ bs) h =
-    let x = both (pattern.fits d b) (pattern.stands ds (take n bs)) h in
+    let x = and_parts (pattern.fits d b) (pattern.stands ds (take n bs)) h in
     rw (x.0, its_more ds n bs x.1) refl
 
 its_drop : (s : ℕ) (ds : List Cell) (bs : List ℕ) → pattern.stands ds bs ≡ true → pattern.stands (drop s ds) (drop s bs) ≡ true
 its_drop zero ds bs h = h
 its_drop (suc s) [] bs h = refl
 its_drop (suc s) (d ∷ ds) [] h = cc
-its_drop (suc s) (d ∷ ds) (b ∷ bs) h = its_drop s ds bs (both (pattern.fits d b) (pattern.stands ds bs) h).1
+its_drop (suc s) (d ∷ ds) (b ∷ bs) h = its_drop s ds bs (and_parts (pattern.fits d b) (pattern.stands ds bs) h).1
 
 -- no byte of a field of the first, at a, is among the bytes of the second, at b
 abbrev pub IsUncovered : List own.Cell → List Cell → ℕ → ℕ → Type 0
@@ -216,7 +215,7 @@ before_not cs ds s a b e u h =
     let n = length-drop s ds in
     elim (u c.place l c.any) [ inl x ↦ absurd (omega (arith, x, e)) | inr x ↦ absurd (omega (arith, x, e, m, n)) ]
 
--- two templates, with a byte that both fix
+-- two templates, with a byte that and_parts fix
 pub record Meet (cs : List own.Cell) (ds : List Cell) (bytes : List ℕ) (a b : ℕ) : Type 0 where
   pub first : stands cs (slice_range bytes a (a + length cs)) ≡ true
   pub second : pattern.stands ds (slice_range bytes b (b + length ds)) ≡ true
@@ -261,10 +260,10 @@ before cs ds bytes a b s e t h =
 
 pub apart_templates : (cs : List own.Cell) (ds : List Cell) (bytes : List ℕ) (a b : ℕ) → pair_ok cs ds ≡ true → (are_calls cs ds ≡ true → ⊥) → Meet cs ds bytes a b → ⊥
 apart_templates cs ds bytes a b h calls t =
-    elim (either (are_calls cs ds) (below (length cs) (λ s. ok (drop s cs) ds) && below (length ds) (λ s. ok cs (drop s ds))) h) [
+    elim (or_cases (are_calls cs ds) (below (length cs) (λ s. ok (drop s cs) ds) && below (length ds) (λ s. ok cs (drop s ds))) h) [
       | inl k ↦ calls k
       | inr k ↦
-          (let two = both (below (length cs) (λ s. ok (drop s cs) ds)) (below (length ds) (λ s. ok cs (drop s ds))) k in
+          (let two = and_parts (below (length cs) (λ s. ok (drop s cs) ds)) (below (length ds) (λ s. ok cs (drop s ds))) k in
           elim (cases_lt b a) [
             | inl low ↦ before cs ds bytes a b (a - b) (omega arith) t two.1
             | inr high ↦ behind cs ds bytes a b (b - a) (omega arith) t two.0

@@ -2,7 +2,7 @@
 use Rattle.std.proofs.Common.{◌≡◌, ℕ, ◌+◌, ◌-◌, ◌<◌, ◌≤◌, ◌⊎◌, inl, inr, Bool, true, false, List, [], ◌∷◌, length, get_or, slice_range, refl, sym, ap, ◌∙◌, arith, subst}
 use Rattle.std.specs.Prelude.{pos, not, ◌||◌, All, Contains, Option, Some, None, ◌==◌, if◌then◌else◌, slice_get}
 use Rattle.std.specs.List.{list_all, range_with_len}
-use Rattle.std.proofs.lemmas.Bool.{cases_lt}
+use Rattle.std.proofs.lemmas.Bool.{and_parts, cases_lt}
 use Rattle.std.proofs.lemmas.Option.{get_or_from_slice_get, slice_get_within, slice_get-get_or}
 use Rattle.std.proofs.lemmas.List.Elements.{All-nil}
 use Rattle.std.proofs.lemmas.List.FromFn.{get_or-range_with_len, length-range_with_len}
@@ -48,7 +48,7 @@ use Rattle.wild_meaning.specs.Field.{formula_of, form_width, InNoField, IsInputB
 use Rattle.wild_meaning.specs.Sequence.{Partner as CallField, Instruction, size_of, IsOwnByte, instructions_of}
 use Rattle.wild_meaning.specs.Template.{IsInstruction, IsSingle, IsDouble, IsTemplate}
 use Rattle.wild_effects.specs.Laws.{IsBesideField, RewrittenStand, InstructionsAreKept, SequencesAreKept, OthersAreKept}
-use Rattle.wild_effects.proofs.WindowRows.{both, width_by, width_of, call_width, call_width_is}
+use Rattle.wild_effects.proofs.WindowRows.{width_by, width_of, call_width, call_width_is}
 use Rattle.wild_effects.proofs.WindowSites.{site_is}
 use Rattle.wild_effects.proofs.WindowFields.{partner_there, kept_width, window_is}
 use Rattle.wild_effects.proofs.Windows.{formula_width, order, windows_are_alone}
@@ -93,7 +93,7 @@ decision_outside l s x j q (Field z v) x86 out windows h = field_outside s x q z
 decision_outside l s x j q (Moved v packed) x86 out windows h = field_outside s x q (ByteSize Eight) (if packed then v else 0) (kept_width l s j q (Moved v packed) x86 h tt) (no_field_at l s x j q x86 out h.listed)
 decision_outside l s x j q (Left z n symbol addend) x86 out windows h = field_outside s x q z 0 (kept_width l s j q (Left z n symbol addend) x86 h tt) (no_field_at l s x j q x86 out h.listed)
 decision_outside l s x j q (Rewritten row v) x86 out windows h =
-    let w = window_is l s j q row v x86 h in
+    let w = window_is l s j q row v h in
     let long = w.long in
     All-one (Outside x) (template_site s q row v) (elim (windows j q row v h) [ inl low ↦ inl low | inr high ↦ inr (omega (arith, high, long)) ])
 
@@ -271,10 +271,10 @@ uncovered l s start o j q row v x86 whole t h k lt any = by (any_in_field o k t.
     by (inl f) = let low = f.0 in let high = f.1 in kept_apart l s (start + o.field) o.width j q row v (start + k) x86 whole t.own h (omega (arith, low)) (omega (arith, high))
     by (inr f) = let low = f.2 in let high = f.3 in kept_apart l s (start + f.0.field) f.0.width j q row v (start + k) x86 whole (t.call f.0 f.1) h (omega (arith, low)) (omega (arith, high))
 
--- both are no calls through a descriptor
+-- and_parts are no calls through a descriptor
 no_calls : (l : Layout) (s : InputSection) (start : ℕ) (o : Instruction) (j : ℕ) (q : InputRelocation) (row : Row) (v : ℕ) → l.machine ≡ machine.X86_64 → IsKeptHere l s start o → Window l s j q row v → are_calls o.template.cells (cells_of (pattern_of row)) ≡ true → ⊥
 no_calls l s start o j q row v x86 t w h =
-    let two = both (size_of o == 2) (pattern_size row == 2) h in
+    let two = and_parts (size_of o == 2) (pattern_size row == 2) h in
     calls_apart l s t.own.index j t.own.relocation q t.own.decision row v x86 t.own.has t.own.keeps (call_number o t.own.relocation.number t.filled t.number two.0) w.has (w.fixed.calls two.1)
 
 own_outside : (l : Layout) (s : InputSection) (start : ℕ) (o : Instruction) (k : ℕ) → l.machine ≡ machine.X86_64 → IsDecided l s → ChosenAreWhole → IsKeptHere l s start o → Contains (instructions_of machine.X86_64) o → IsOwnByte o k → OutOfWindows l s (start + k)

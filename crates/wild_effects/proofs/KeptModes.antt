@@ -2,8 +2,9 @@
 use Rattle.std.proofs.Common.{◌≡◌, ℕ, ◌+◌, ◌*◌, ◌/◌, ◌%◌, ◌⊎◌, inl, inr, Bool, true, false, refl, sym, ap, ◌∙◌, arith, subst}
 use Rattle.std.specs.Prelude.{Option, Some, None, Ok, not, ◌||◌, slice_get}
 use Rattle.std.specs.Int.RustNames.{bit_and}
-use Rattle.std.proofs.lemmas.Bool.{cases_Bool, eq-eqb}
+use Rattle.std.proofs.lemmas.Bool.{and_parts, cases_Bool, eq-eqb, or_cases}
 use Rattle.std.proofs.lemmas.Nat.Bits.{and_pow}
+use Rattle.wild_records.specs.Abi.Relocation.{r_x86_64_tlsgd, r_x86_64_tlsld, r_x86_64_tlsdesc_call}
 use Rattle.wild_records.specs.Abi.Section.{shf_execinstr}
 use Rattle.wild_plan.specs.declared.kind.Machine.TheVariants as machine
 use Rattle.wild_plan.specs.declared.kind.OutputKind.{OutputKind}
@@ -42,7 +43,7 @@ use Rattle.wild_meaning.specs.Value.{IsSymbol, IsDefinedBy, HasFlag}
 use Rattle.wild_meaning.specs.World.{IsExecutable}
 use Rattle.wild_meaning.specs.Sequence.{Instruction}
 use Rattle.wild_meaning.specs.Template.{IsSequence}
-use Rattle.wild_effects.proofs.WindowRows.{both, either, Applied, applied, applied_by}
+use Rattle.wild_effects.proofs.WindowRows.{Applied, applied, applied_by}
 use Rattle.wild_effects.proofs.WindowFields.{row_at}
 use Rattle.wild_effects.proofs.KeptTables.{is_described_call, keeps_all, by_slot, IsAskedFor, asked_for, asked_before, row_fixed, each_row_fixed, is_fixed}
 use Rattle.wild_effects.proofs.KeptRelocations.{kept_cases, no_row_applies}
@@ -51,12 +52,12 @@ use Rattle.wild_effects.proofs.KeptRelocations.{kept_cases, no_row_applies}
 
 mandatory_static : (row : Row) (q : Question) → keeps_bytes row ≡ false → is_mandatory row q ≡ true → is_static_executable q.kind ≡ true
 mandatory_static IfuncThroughStub q k h = cc
-mandatory_static (RexGotToImmediate p o) q k h = (both _ _ h).0
+mandatory_static (RexGotToImmediate p o) q k h = (and_parts _ _ h).0
 mandatory_static (RexGotMovToLea p) q k h = h
 mandatory_static GotMovToImmediate q k h = h
 mandatory_static GotMovToLea q k h = h
-mandatory_static IndirectCallToDirect q k h = (both _ _ h).0
-mandatory_static IndirectJumpToDirect q k h = (both _ _ h).0
+mandatory_static IndirectCallToDirect q k h = (and_parts _ _ h).0
+mandatory_static IndirectJumpToDirect q k h = (and_parts _ _ h).0
 mandatory_static PlainGotMovToLea q k h = cc
 mandatory_static (InitialExecToLocalExec p operation.Mov) q k h = h
 mandatory_static (InitialExecToLocalExec p operation.Sub) q k h = h
@@ -119,12 +120,12 @@ rewritten_on l s j q row v h =
 
 -- ---- the call through a descriptor
 
-unnamed_call : (l : Layout) (s : InputSection) (r : InputRelocation) (d : Decision) → l.machine ≡ machine.X86_64 → r.number ≡ 35 → r.symbol ≡ None → decided l s r ≡ Ok d → ⊥
+unnamed_call : (l : Layout) (s : InputSection) (r : InputRelocation) (d : Decision) → l.machine ≡ machine.X86_64 → r.number ≡ r_x86_64_tlsdesc_call → r.symbol ≡ None → decided l s r ≡ Ok d → ⊥
 unfolding decided treatment row_treatment row_of x86_64_row
 unnamed_call l s r d x86 number none h = cc (rw (x86, number, none) at h)
 
 -- none keeps its instruction where one is rewritten
-pub calls_apart : (l : Layout) (s : InputSection) (i j : ℕ) (r q : InputRelocation) (d : Decision) (row : Row) (v : ℕ) → l.machine ≡ machine.X86_64 → HasDecision l s i r d → KeepsInstruction d → r.number ≡ 35 → HasDecision l s j q (Rewritten row v) → number_of row ≡ 35 → ⊥
+pub calls_apart : (l : Layout) (s : InputSection) (i j : ℕ) (r q : InputRelocation) (d : Decision) (row : Row) (v : ℕ) → l.machine ≡ machine.X86_64 → HasDecision l s i r d → KeepsInstruction d → r.number ≡ r_x86_64_tlsdesc_call → HasDecision l s j q (Rewritten row v) → number_of row ≡ r_x86_64_tlsdesc_call → ⊥
 calls_apart l s i j r q d row v x86 h k number h' number' = by_symbol r.symbol refl
   where
     next : Option InputRelocation
@@ -140,7 +141,7 @@ calls_apart l s i j r q d row v x86 h k number h' number' = by_symbol r.symbol r
 
     applied_call : (symbol : ℕ) → Applied (question_of l s r symbol next) DescriptorCall
     applied_call symbol = record {
-      number = eq-eqb r.number 35 number;
+      number = eq-eqb r.number r_x86_64_tlsdesc_call number;
       taken = on.taken;
       code = on.code;
       symbol = refl;
@@ -198,9 +199,9 @@ code_bit f h =
 -- a sequence whose call goes through a slot does not keep its first instruction where rows stand
 pub slot_not_kept : (l : Layout) (s : InputSection) (i : ℕ) (first second : InputRelocation) (d : Decision) (start : ℕ) (o : Instruction) → l.machine ≡ machine.X86_64 → HasDecision l s i first d → KeepsInstruction d → IsSequence l (item_of s) first second start o → by_slot o ≡ true → (l.options.relax || is_static_executable l.kind) ≡ true → ⊥
 slot_not_kept l s i first second d start o x86 h k q slot taken =
-    elim (either _ _ slot) [
-      | inl x ↦ general_form (asked_for 19 (pattern.General general.NoPlt) o x) (cases_Bool (has_flag (flags_at l q.symbol) non_interposable))
-      | inr x ↦ local_form (asked_for 20 (pattern.LocalStart local.NoPlt) o x)
+    elim (or_cases _ _ slot) [
+      | inl x ↦ general_form (asked_for r_x86_64_tlsgd (pattern.General general.NoPlt) o x) (cases_Bool (has_flag (flags_at l q.symbol) non_interposable))
+      | inr x ↦ local_form (asked_for r_x86_64_tlsld (pattern.LocalStart local.NoPlt) o x)
     ]
   where
     next : Option InputRelocation
@@ -215,18 +216,18 @@ slot_not_kept l s i first second d start o x86 h k q slot taken =
     code : executable s.flags ≡ true
     code = code_bit s.flags q.stands.code
 
-    general_form : IsAskedFor 19 (pattern.General general.NoPlt) o → (has_flag (flags_at l q.symbol) non_interposable ≡ true) ⊎ (has_flag (flags_at l q.symbol) non_interposable ≡ false) → ⊥
+    general_form : IsAskedFor r_x86_64_tlsgd (pattern.General general.NoPlt) o → (has_flag (flags_at l q.symbol) non_interposable ≡ true) ⊎ (has_flag (flags_at l q.symbol) non_interposable ≡ false) → ⊥
     general_form a (inl own) =
         let number = a.number first.number q.stands.number in
         let all : Applied asked (GeneralDynamicToLocalExec general.NoPlt) = record {
-          number = eq-eqb first.number 19 number;
+          number = eq-eqb first.number r_x86_64_tlsgd number;
           taken = taken;
           code = code;
           symbol = plain;
           thread = executable_is l.kind q.executable;
           value = rw own refl;
           counts = refl;
-          stands = asked_before 19 (pattern.General general.NoPlt) o s.bytes start first.offset a q.stands.field q.stands.inside q.stands.stands;
+          stands = asked_before r_x86_64_tlsgd (pattern.General general.NoPlt) o s.bytes start first.offset a q.stands.field q.stands.inside q.stands.stands;
         } in
         no_row_applies l s i first d q.symbol (GeneralDynamicToLocalExec general.NoPlt) x86 h k (ap keeps_all number) q.named (21, omega arith, refl) (applied_by asked (GeneralDynamicToLocalExec general.NoPlt) all)
     general_form a (inr other) =
@@ -234,28 +235,28 @@ slot_not_kept l s i first second d start o x86 h k q slot taken =
         let flag = subst (λ (b : Bool). HasFlag l q.symbol non_interposable b) other (other_flag l q.symbol ifunc non_interposable false q.plain) in
         let relax : l.options.relax ≡ true = q.rewritten number flag in
         let all : Applied asked (GeneralDynamicToInitialExec general.NoPlt) = record {
-          number = eq-eqb first.number 19 number;
+          number = eq-eqb first.number r_x86_64_tlsgd number;
           taken = rw relax refl;
           code = code;
           symbol = plain;
           thread = executable_is l.kind q.executable;
           value = rw other refl;
           counts = refl;
-          stands = asked_before 19 (pattern.General general.NoPlt) o s.bytes start first.offset a q.stands.field q.stands.inside q.stands.stands;
+          stands = asked_before r_x86_64_tlsgd (pattern.General general.NoPlt) o s.bytes start first.offset a q.stands.field q.stands.inside q.stands.stands;
         } in
         no_row_applies l s i first d q.symbol (GeneralDynamicToInitialExec general.NoPlt) x86 h k (ap keeps_all number) q.named (24, omega arith, refl) (applied_by asked (GeneralDynamicToInitialExec general.NoPlt) all)
 
-    local_form : IsAskedFor 20 (pattern.LocalStart local.NoPlt) o → ⊥
+    local_form : IsAskedFor r_x86_64_tlsld (pattern.LocalStart local.NoPlt) o → ⊥
     local_form a =
         let number = a.number first.number q.stands.number in
         let all : Applied asked (LocalDynamicToLocalExec local.NoPlt) = record {
-          number = eq-eqb first.number 20 number;
+          number = eq-eqb first.number r_x86_64_tlsld number;
           taken = taken;
           code = code;
           symbol = plain;
           thread = executable_is l.kind q.executable;
           value = refl;
           counts = refl;
-          stands = asked_before 20 (pattern.LocalStart local.NoPlt) o s.bytes start first.offset a q.stands.field q.stands.inside q.stands.stands;
+          stands = asked_before r_x86_64_tlsld (pattern.LocalStart local.NoPlt) o s.bytes start first.offset a q.stands.field q.stands.inside q.stands.stands;
         } in
         no_row_applies l s i first d q.symbol (LocalDynamicToLocalExec local.NoPlt) x86 h k (ap keeps_all number) q.named (27, omega arith, refl) (applied_by asked (LocalDynamicToLocalExec local.NoPlt) all)

@@ -1,7 +1,7 @@
 -- Relocations that keep their instruction: the place of one tells which it is, no row writes their bytes, and no row stands at
 -- them that would.
 use Rattle.std.proofs.Common.{◌≡◌, ℕ, zero, suc, ◌+◌, ◌<◌, ◌≤◌, ◌⊎◌, inl, inr, Bool, true, false, List, [], ◌∷◌, length, get_or, refl, sym, ap, ◌∙◌, arith, subst}
-use Rattle.std.specs.Prelude.{Contains, Option, Some, None, Ok, Err, ◌||◌, ◌==◌, if◌then◌else◌, slice_get}
+use Rattle.std.specs.Prelude.{Contains, Option, Some, None, Ok, Err, ◌==◌, if◌then◌else◌, slice_get}
 use Rattle.std.proofs.lemmas.Bool.{cases_lt}
 use Rattle.wild_words.specs.Overlay.{Piece, Apart}
 use Rattle.wild_records.specs.Abi.Relocation.{r_x86_64_pc32}
@@ -113,7 +113,7 @@ none_by l s r next symbol x86 other e = subst (λ (m : Machine). chosen_of m (qu
 
 not_pc32 : (n : ℕ) (b : Bool) → (n == r_x86_64_pc32) ≡ b → keeps_all n ≡ false → b ≡ false
 not_pc32 n false f e = refl
-not_pc32 n true f e = let g : (true || (n == 4 || n == 31)) ≡ false = rw f at e in cc
+not_pc32 n true f e = let g : true ≡ false = rw f at e in cc
 
 -- a row that applies to a relocation of another type than those of rows that write the field alone is not refused, so that the
 -- relocation does not keep its instruction

@@ -1,8 +1,9 @@
 -- Both relocations of a sequence keep it, or none does.
 use Rattle.std.proofs.Common.{◌≡◌, ℕ, suc, ◌+◌, ◌<◌, ◌⊎◌, inl, inr, true, false, refl, sym, ap, ◌∙◌, arith, subst}
 use Rattle.std.specs.Prelude.{Contains, Option, Some, Ok, ◌==◌, slice_get}
-use Rattle.std.proofs.lemmas.Bool.{eqb-true}
+use Rattle.std.proofs.lemmas.Bool.{eqb-true, or_cases}
 use Rattle.std.proofs.lemmas.Option.{slice_get_within}
+use Rattle.wild_records.specs.Abi.Relocation.{r_x86_64_tlsgd, r_x86_64_tlsld}
 use Rattle.wild_plan.specs.declared.kind.Machine.{Machine}
 use Rattle.wild_plan.specs.declared.kind.Machine.TheVariants as machine
 use Rattle.wild_plan.specs.declared.input.InputRelocation.{InputRelocation}
@@ -24,7 +25,7 @@ use Rattle.wild_values.specs.Laws.{KeepsInstruction}
 use Rattle.wild_meaning.specs.Item.{item_of}
 use Rattle.wild_meaning.specs.Sequence.{Instruction, instructions_of}
 use Rattle.wild_meaning.specs.Template.{IsSequence}
-use Rattle.wild_effects.proofs.WindowRows.{either, width_of}
+use Rattle.wild_effects.proofs.WindowRows.{width_of}
 use Rattle.wild_effects.proofs.WindowFields.{HasSite, has_site}
 use Rattle.wild_effects.proofs.KeptTables.{is_pair, keeps_all, by_slot, IsFilled, is_filled, partner_width, partner_some, partner_kept, pair_number, row_fixed, each_row_fixed, is_fixed}
 use Rattle.wild_effects.proofs.KeptRelocations.{one_decision, same_owner, kept_takes_none}
@@ -32,8 +33,8 @@ use Rattle.wild_effects.proofs.KeptModes.{rewritten_on, slot_not_kept}
 
 -- ---- relocations that begin a sequence
 
-two_pairs : (n : ℕ) → is_pair n ≡ true → (n ≡ 19) ⊎ (n ≡ 20)
-two_pairs n h = elim (either (n == 19) (n == 20) h) [ inl e ↦ inl (eqb-true n 19 e) | inr e ↦ inr (eqb-true n 20 e) ]
+two_pairs : (n : ℕ) → is_pair n ≡ true → (n ≡ r_x86_64_tlsgd) ⊎ (n ≡ r_x86_64_tlsld)
+two_pairs n h = elim (or_cases (n == r_x86_64_tlsgd) (n == r_x86_64_tlsld) h) [ inl e ↦ inl (eqb-true n r_x86_64_tlsgd e) | inr e ↦ inr (eqb-true n r_x86_64_tlsld e) ]
 
 pair_some : (n : ℕ) → is_pair n ≡ true → 0 < width_of n
 unfolding x86_64_formula
@@ -87,7 +88,7 @@ same_next a b e = omega (arith, e)
 
 -- ---- sequences
 
--- both relocations keep their instruction
+-- and_parts relocations keep their instruction
 pub record AreKept (l : Layout) (s : InputSection) (first second : InputRelocation) (i : ℕ) : Type 0 where
   pub one : Decision
   pub has_one : HasDecision l s i first one

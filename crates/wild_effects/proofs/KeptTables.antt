@@ -2,9 +2,10 @@
 use Rattle.std.proofs.Common.{◌≡◌, ℕ, ◌+◌, ◌-◌, ◌<◌, ◌≤◌, ◌⊎◌, inl, inr, Bool, true, false, List, [], ◌∷◌, length, get_or, take, drop, slice_range, refl, sym, ◌∙◌, arith, subst}
 use Rattle.std.specs.Prelude.{not, ◌&&◌, ◌||◌, ◌==◌, nat_lt, nat_le, Contains, Option, Some, None, if◌then◌else◌}
 use Rattle.std.specs.List.{list_all}
-use Rattle.std.proofs.lemmas.Bool.{eqb-true, leb-true, le-leb, ltb-true}
+use Rattle.std.proofs.lemmas.Bool.{and_parts, eqb-true, le-leb, leb-true, ltb-true, or_cases}
 use Rattle.std.proofs.lemmas.Bool.Decides.{nat_tests}
 use Rattle.wild_words.proofs.ListLemmas.{All-from_list_all}
+use Rattle.wild_records.specs.Abi.Relocation.{r_x86_64_pc32, r_x86_64_plt32, r_x86_64_pltoff64, r_x86_64_tlsgd, r_x86_64_tlsld, r_x86_64_tlsdesc_call}
 use Rattle.wild_plan.specs.declared.kind.Machine.TheVariants as machine
 use Rattle.wild_reloc.specs.FormulaX86_64.{x86_64_formula}
 use Rattle.wild_relax.specs.declared.pattern.Cell.{Cell}
@@ -23,7 +24,7 @@ use Rattle.wild_relax.specs.Linked.{pattern_of, pattern_size, keeps_bytes}
 use Rattle.wild_meaning.specs.Instruction as own
 use Rattle.wild_meaning.specs.Instruction.{Is, From, Slot, Digit, Any, fits, stands}
 use Rattle.wild_meaning.specs.Sequence.{Partner, Instruction, size_of, IsBesidePartner, IsOwnByte, instructions_of}
-use Rattle.wild_effects.proofs.WindowRows.{both, either, width_of, call_width}
+use Rattle.wild_effects.proofs.WindowRows.{width_of, call_width}
 use Rattle.wild_effects.proofs.Clash.{is_any, is_free, below, below_at, stands_more}
 
 pub listed_passes : {X : Type 0} (t : X → Bool) (xs : List X) (x : X) → list_all t xs ≡ true → Contains xs x → t x ≡ true
@@ -54,14 +55,14 @@ partner_widths (Some p) = nat_lt 0 p.width && widths_are p.width p.numbers
 
 -- the types of a descriptor's call, and of what begins a sequence
 abbrev pub is_described_call : ℕ → Bool
-is_described_call n = n == 35
+is_described_call n = n == r_x86_64_tlsdesc_call
 
 abbrev pub is_pair : ℕ → Bool
-is_pair n = n == 19 || n == 20
+is_pair n = n == r_x86_64_tlsgd || n == r_x86_64_tlsld
 
 -- types of which no row writes other bytes than the field's; and rows of other types write them all
 abbrev pub keeps_all : ℕ → Bool
-keeps_all n = n == 2 || (n == 4 || n == 31)
+keeps_all n = n == r_x86_64_pc32 || (n == r_x86_64_plt32 || n == r_x86_64_pltoff64)
 
 -- two bytes has the call through a descriptor alone
 abbrev calls_alone : Instruction → Bool
@@ -88,7 +89,7 @@ is_asked_for n p o = list_all (λ m. m == n) o.numbers && (o.field == field_of p
 
 -- the call of a sequence is of a type by which no row writes other bytes; or it goes through a slot
 abbrev pub by_slot : Instruction → Bool
-by_slot o = is_asked_for 19 (pattern.General general.NoPlt) o || is_asked_for 20 (pattern.LocalStart local.NoPlt) o
+by_slot o = is_asked_for r_x86_64_tlsgd (pattern.General general.NoPlt) o || is_asked_for r_x86_64_tlsld (pattern.LocalStart local.NoPlt) o
 
 abbrev calls_kept : Instruction → Option Partner → Bool
 calls_kept o None = true
@@ -117,11 +118,11 @@ pub record IsFilled (o : Instruction) : Type 0 where
 
 pub is_filled : (o : Instruction) → Contains (instructions_of machine.X86_64) o → IsFilled o
 is_filled o c =
-    let a = both _ _ (listed_passes instruction_ok (instructions_of machine.X86_64) o each_instruction_ok c) in
-    let b = both _ _ a.1 in
-    let d = both _ _ b.1 in
-    let e = both _ _ d.1 in
-    let f = both _ _ e.1 in
+    let a = and_parts _ _ (listed_passes instruction_ok (instructions_of machine.X86_64) o each_instruction_ok c) in
+    let b = and_parts _ _ a.1 in
+    let d = and_parts _ _ b.1 in
+    let e = and_parts _ _ d.1 in
+    let f = and_parts _ _ e.1 in
     record {
       any = λ k lt. below_at (size_of o) (λ k. same (is_any (get_or o.template.cells k Any)) (in_fields o k)) k lt a.0;
       widths = b.0;
@@ -136,7 +137,7 @@ not_in a b k (inl low) = grind (arith, nat_tests, low)
 not_in a b k (inr high) = grind (arith, nat_tests, high)
 
 pub inside : (a b k : ℕ) → (nat_le a k && nat_lt k b) ≡ true → (a ≤ k) × (k < b)
-inside a b k h = let x = both (nat_le a k) (nat_lt k b) h in (leb-true a k x.0, ltb-true k b x.1)
+inside a b k h = let x = and_parts (nat_le a k) (nat_lt k b) h in (leb-true a k x.0, ltb-true k b x.1)
 
 not_in_partner : (o : Option Partner) (k : ℕ) → IsBesidePartner k o → in_partner o k ≡ false
 not_in_partner None k h = refl
@@ -158,7 +159,7 @@ own_is_fixed o k f own = by (is_any (get_or o.template.cells k Any)) (in_fields 
 pub any_in_field : (o : Instruction) (k : ℕ) → IsFilled o → k < size_of o → is_any (get_or o.template.cells k Any) ≡ true → ((o.field ≤ k) × (k < o.field + o.width)) ⊎ ((p : Partner) × (o.partner ≡ Some p) × (p.field ≤ k) × (k < p.field + p.width))
 any_in_field o k f lt any =
     let there : in_fields o k ≡ true = subst (λ (b : Bool). same b (in_fields o k) ≡ true) any (f.any k lt) in
-    elim (either (nat_le o.field k && nat_lt k (o.field + o.width)) (in_partner o.partner k) there) [
+    elim (or_cases (nat_le o.field k && nat_lt k (o.field + o.width)) (in_partner o.partner k) there) [
       | inl x ↦ inl (inside o.field (o.field + o.width) k x)
       | inr x ↦ inr (by o.partner refl x)
     ]
@@ -173,14 +174,14 @@ number_width o n f c = eqb-true _ _ (listed_passes (λ m. width_of m == o.width)
 pub partner_width : (o : Instruction) (p : Partner) (n : ℕ) → IsFilled o → o.partner ≡ Some p → Contains p.numbers n → width_of n ≡ p.width
 partner_width o p n f e c =
     let t : (nat_lt 0 p.width && widths_are p.width p.numbers) ≡ true = subst (λ (q : Option Partner). partner_widths q ≡ true) e f.partner in
-    eqb-true _ _ (listed_passes (λ m. width_of m == p.width) p.numbers n (both (nat_lt 0 p.width) (widths_are p.width p.numbers) t).1 c)
+    eqb-true _ _ (listed_passes (λ m. width_of m == p.width) p.numbers n (and_parts (nat_lt 0 p.width) (widths_are p.width p.numbers) t).1 c)
 
 pub partner_some : (o : Instruction) (p : Partner) → IsFilled o → o.partner ≡ Some p → 0 < p.width
 partner_some o p f e =
     let t : (nat_lt 0 p.width && widths_are p.width p.numbers) ≡ true = subst (λ (q : Option Partner). partner_widths q ≡ true) e f.partner in
-    ltb-true 0 p.width (both (nat_lt 0 p.width) (widths_are p.width p.numbers) t).0
+    ltb-true 0 p.width (and_parts (nat_lt 0 p.width) (widths_are p.width p.numbers) t).0
 
-pub call_number : (o : Instruction) (n : ℕ) → IsFilled o → Contains o.numbers n → (size_of o == 2) ≡ true → n ≡ 35
+pub call_number : (o : Instruction) (n : ℕ) → IsFilled o → Contains o.numbers n → (size_of o == 2) ≡ true → n ≡ r_x86_64_tlsdesc_call
 call_number o n f c two =
     let t : list_all is_described_call o.numbers ≡ true = rw two at f.calls in
     eqb-true _ _ (listed_passes is_described_call o.numbers n t c)
@@ -191,7 +192,7 @@ pair_number o p n f e c = listed_passes is_pair o.numbers n (subst (λ (q : Opti
 pub partner_kept : (o : Instruction) (p : Partner) (n : ℕ) → IsFilled o → o.partner ≡ Some p → Contains p.numbers n → (keeps_all n ≡ true) ⊎ (by_slot o ≡ true)
 partner_kept o p n f e c =
     let t : (list_all keeps_all p.numbers || by_slot o) ≡ true = subst (λ (q : Option Partner). calls_kept o q ≡ true) e f.kept in
-    elim (either (list_all keeps_all p.numbers) (by_slot o) t) [ inl x ↦ inl (listed_passes keeps_all p.numbers n x c) | inr x ↦ inr x ]
+    elim (or_cases (list_all keeps_all p.numbers) (by_slot o) t) [ inl x ↦ inl (listed_passes keeps_all p.numbers n x c) | inr x ↦ inr x ]
 
 -- what a row asks for
 pub record IsAskedFor (n : ℕ) (p : Pattern) (o : Instruction) : Type 0 where
@@ -201,8 +202,8 @@ pub record IsAskedFor (n : ℕ) (p : Pattern) (o : Instruction) : Type 0 where
 
 pub asked_for : (n : ℕ) (p : Pattern) (o : Instruction) → is_asked_for n p o ≡ true → IsAskedFor n p o
 asked_for n p o h =
-    let a = both _ _ h in
-    let b = both _ _ a.1 in
+    let a = and_parts _ _ h in
+    let b = and_parts _ _ a.1 in
     record { number = λ m c. eqb-true _ _ (listed_passes (λ m. m == n) o.numbers m a.0 c); field = eqb-true _ _ b.0; front = b.1 }
 
 cell_fits : (c : own.Cell) (d : Cell) (b : ℕ) → same_cell c d ≡ true → fits c b ≡ true → pattern_fits.fits d b ≡ true
@@ -233,14 +234,14 @@ front cs [] bs h e = refl
 front [] (d ∷ ds) bs h e = cc
 front (c ∷ cs) (d ∷ ds) [] h e = cc
 front (c ∷ cs) (d ∷ ds) (b ∷ bs) h e =
-    let x = both (same_cell c d) (same_front cs ds) h in
-    let y = both (fits c b) (stands cs bs) e in
+    let x = and_parts (same_cell c d) (same_front cs ds) h in
+    let y = and_parts (fits c b) (stands cs bs) e in
     rw (cell_fits c d b x.0 y.0, front cs ds bs x.1 y.1) refl
 
 front_short : (cs : List own.Cell) (ds : List Cell) → same_front cs ds ≡ true → length ds ≤ length cs
 front_short cs [] h = omega arith
 front_short [] (d ∷ ds) h = cc
-front_short (c ∷ cs) (d ∷ ds) h = let r = front_short cs ds (both (same_cell c d) (same_front cs ds) h).1 in omega (arith, r)
+front_short (c ∷ cs) (d ∷ ds) h = let r = front_short cs ds (and_parts (same_cell c d) (same_front cs ds) h).1 in omega (arith, r)
 
 -- it stands before the field
 pub asked_before : (n : ℕ) (p : Pattern) (o : Instruction) (bytes : List ℕ) (start offset : ℕ) → IsAskedFor n p o → offset ≡ start + o.field → start + size_of o ≤ length bytes → stands o.template.cells (slice_range bytes start (start + size_of o)) ≡ true → pattern_fits.stands_before bytes offset p ≡ true
@@ -269,10 +270,10 @@ abbrev pub row_fixed : Row → Bool
 row_fixed row =
     if keeps_bytes row then keeps_all (number_of row) && not (is_skip (rewrite_of row).next)
     else below (pattern_size row) (λ t. not (is_free (get_or (cells_of (pattern_of row)) t its.Any)) || in_row row t)
-        && (not (keeps_all (number_of row))
-        && ((if pattern_size row == 2 then is_described_call (number_of row) else true)
-        && ((if is_described_call (number_of row) then is_thread_local row else true)
-        && (if is_pair (number_of row) then is_skip (rewrite_of row).next else true))))
+    && (not (keeps_all (number_of row))
+    && ((if pattern_size row == 2 then is_described_call (number_of row) else true)
+    && ((if is_described_call (number_of row) then is_thread_local row else true)
+    && (if is_pair (number_of row) then is_skip (rewrite_of row).next else true))))
 
 pub each_row_fixed : list_all row_fixed rows_x86_64 ≡ true
 unfolding x86_64_formula
@@ -281,16 +282,16 @@ each_row_fixed = refl
 pub record IsFixed (row : Row) : Type 0 where
   pub free : (t : ℕ) → t < pattern_size row → is_free (get_or (cells_of (pattern_of row)) t its.Any) ≡ true → in_row row t ≡ true
   pub writes : keeps_all (number_of row) ≡ false
-  pub calls : (pattern_size row == 2) ≡ true → number_of row ≡ 35
+  pub calls : (pattern_size row == 2) ≡ true → number_of row ≡ r_x86_64_tlsdesc_call
   pub thread : is_described_call (number_of row) ≡ true → is_thread_local row ≡ true
   pub skips : is_pair (number_of row) ≡ true → is_skip (rewrite_of row).next ≡ true
 
 pub is_fixed : (row : Row) → row_fixed row ≡ true → keeps_bytes row ≡ false → IsFixed row
 is_fixed row h k =
-    let a = both _ _ (rw k at h) in
-    let b = both _ _ a.1 in
-    let c = both _ _ b.1 in
-    let d = both _ _ c.1 in
+    let a = and_parts _ _ (rw k at h) in
+    let b = and_parts _ _ a.1 in
+    let c = and_parts _ _ b.1 in
+    let d = and_parts _ _ c.1 in
     record {
       free = λ t lt any. free (is_free (get_or (cells_of (pattern_of row)) t its.Any)) (in_row row t) (below_at (pattern_size row) (λ t. not (is_free (get_or (cells_of (pattern_of row)) t its.Any)) || in_row row t) t lt a.0) any;
       writes = not_is (keeps_all (number_of row)) b.0;
@@ -313,7 +314,7 @@ is_fixed row h k =
 
 -- rows that keep bytes are of few types
 pub kept_number : (row : Row) → row_fixed row ≡ true → keeps_bytes row ≡ true → keeps_all (number_of row) ≡ true
-kept_number row h k = (both _ _ (rw k at h)).0
+kept_number row h k = (and_parts _ _ (rw k at h)).0
 
 -- and they write no sequence
 pub calls_are_alone : (row : Row) → row_fixed row ≡ true → is_skip (rewrite_of row).next ≡ true → keeps_bytes row ≡ false
@@ -323,13 +324,13 @@ calls_are_alone row h skips = by (keeps_bytes row) refl
     by false e = refl
     by true e =
         let t : (keeps_all (number_of row) && not (is_skip (rewrite_of row).next)) ≡ true = rw e at h in
-        let n : not true ≡ true = rw skips at (both (keeps_all (number_of row)) (not (is_skip (rewrite_of row).next)) t).1 in
+        let n : not true ≡ true = rw skips at (and_parts (keeps_all (number_of row)) (not (is_skip (rewrite_of row).next)) t).1 in
         cc
 
 -- a byte of the pattern that may be any is in the field of the row, or of its call
 pub free_in_field : (row : Row) (t : ℕ) → in_row row t ≡ true → ((field_of (pattern_of row) ≤ t) × (t < field_of (pattern_of row) + width_of (number_of row))) ⊎ ((d : ℕ) × (partner_distance row ≡ Some d) × (field_of (pattern_of row) + d ≤ t) × (t < field_of (pattern_of row) + d + call_width (call_form row)))
 free_in_field row t h =
-    elim (either (nat_le (field_of (pattern_of row)) t && nat_lt t (field_of (pattern_of row) + width_of (number_of row))) (in_call row (partner_distance row) t) h) [
+    elim (or_cases (nat_le (field_of (pattern_of row)) t && nat_lt t (field_of (pattern_of row) + width_of (number_of row))) (in_call row (partner_distance row) t) h) [
       | inl x ↦ inl (inside (field_of (pattern_of row)) (field_of (pattern_of row) + width_of (number_of row)) t x)
       | inr x ↦ inr (by (partner_distance row) refl x)
     ]

@@ -42,6 +42,6 @@ windows_are_alone l s x86 whole i j r q row v d hi hj other no_call k low high =
     by : (width_of q.number ≡ 0) ⊎ HasSite l s j q d → IsBesideField l q k
     by (inl none) = beside l q k x86 (subst (λ (n : ℕ). (k < q.offset) ⊎ (q.offset + n ≤ k)) (sym none) (order k q.offset))
     by (inr h) =
-        let w = window_is l s i r row v x86 hi in
+        let w = window_is l s i r row v hi in
         let a = sites_apart l s whole i h.index r h.owner (Rewritten row v) h.decision (template_site s r row v) h.piece hi h.has (not_own h h.own) refl h.only in
         beside l q k x86 (apart_from k (template_start row r) (pattern_size row) q.offset (width_of q.number) (template_site s r row v) h.piece refl w.long low high h.from h.to a)
