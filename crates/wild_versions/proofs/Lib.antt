@@ -1,0 +1,4 @@
+pub mod ChainLemmas
+pub mod LawLemmas
+pub mod WalkLemmas
+pub mod BesideLemmas

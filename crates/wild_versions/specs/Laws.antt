@@ -1,0 +1,115 @@
+-- What a reader of the tables finds in those that are written here.
+--   LengthsOfVersions, LengthsOfDefinitions, LengthsOfNeeds   how many bytes they have
+--   VersionsAreBesideSymbols   a group has a version for each entry of its dynamic symbol table
+--   VersionsAreRead            the version of symbol k is read at 2 k
+--   DefinitionsAreRead         a reader finds just the versions that the output defines, in their order
+--   NeedsAreRead               a reader finds just the libraries, and the versions that are needed of each
+use Rattle.std.specs.Prelude.{◌≡◌, ℕ, ◌+◌, ◌*◌, ◌^◌, ◌<◌, ◌≤◌, ◌==◌, true, false, if◌then◌else◌, List, [], ◌∷◌, length, map, Option, Some, None, All, slice_index_or}
+use Rattle.std.specs.List.{flat_map}
+use Rattle.wild_words.specs.Words.{Stands}
+use Rattle.wild_records.specs.Abi.Version.{ver_flg_base}
+use Rattle.wild_records.specs.Hashes.{sysv_hash}
+use Rattle.wild_records.specs.Versyms.{versym_size, versym_at}
+use Rattle.wild_plan.specs.declared.file.Group.{Group}
+use Rattle.wild_plan.specs.declared.layout.Layout.{Layout}
+use Rattle.wild_plan.specs.declared.file.NeededVersion.{NeededVersion}
+use Rattle.wild_plan.specs.declared.file.VersionNeeds.{VersionNeeds}
+use Rattle.wild_plan.specs.declared.layout.VersionDefinition.{VersionDefinition}
+use Rattle.wild_versions.specs.Chain.{name_at}
+use Rattle.wild_symbols.specs.DynamicEntries.{group_symbols}
+use Rattle.wild_versions.specs.Symbols.{version_bytes, group_versions}
+use Rattle.wild_versions.specs.Definitions.{known_as, definition_table, definitions_size}
+use Rattle.wild_versions.specs.Needs.{need_size, need_bytes}
+use Rattle.wild_versions.specs.Reading.{Defined, Needed, Library, definitions_from, needs_from}
+
+-- ---- lengths
+
+-- versions of symbols have 2 bytes each
+abbrev pub LengthsOfVersions : Type 0
+LengthsOfVersions = (vs : List ℕ) → length (version_bytes vs) ≡ versym_size * length vs
+
+-- versions that are defined have 28 bytes each, or 36 with a parent
+abbrev pub LengthsOfDefinitions : Type 0
+LengthsOfDefinitions = (names : List ℕ) (soname : Option (List ℕ)) (ds : List VersionDefinition) → length (definition_table names soname ds) ≡ definitions_size ds
+
+-- a library has 16 bytes, and each version that is needed of it 16
+abbrev pub LengthsOfNeeds : Type 0
+LengthsOfNeeds = (file : ℕ) (names : List ℕ) (n : VersionNeeds) → length (need_bytes file names n) ≡ need_size n
+
+-- ---- symbols
+
+-- a group has a version for each entry of its dynamic symbol table
+abbrev pub VersionsAreBesideSymbols : Type 0
+VersionsAreBesideSymbols = (l : Layout) (g : Group) → length (group_symbols l g) ≡ length (group_versions l g)
+
+-- where versions stand, that of symbol k is read at 2 k
+abbrev pub VersionsAreRead : Type 0
+VersionsAreRead = (whole vs : List ℕ) (at k d : ℕ) → All (λ v. v < 2 ^ 16) vs → Stands whole at (version_bytes vs) → k < length vs → (versym_at whole (at + versym_size * k)).version ≡ slice_index_or vs k d
+
+-- ---- definitions
+
+-- a parent's name behind the own
+abbrev pub name_offsets : List ℕ → ℕ → Option ℕ → List ℕ
+name_offsets names i None = name_at names i ∷ []
+name_offsets names i (Some p) = name_at names i ∷ name_at names p ∷ []
+
+-- version i, as a reader is to find it
+abbrev pub defined_as : List ℕ → Option (List ℕ) → ℕ → VersionDefinition → Defined
+defined_as names soname i d = record {
+  flags = if i == 0 then ver_flg_base else 0;
+  index = i + 1;
+  hash = sysv_hash (known_as soname i d.name);
+  names = name_offsets names i d.parent;
+}
+
+-- versions from place i on
+abbrev pub all_defined : List ℕ → Option (List ℕ) → ℕ → List VersionDefinition → List Defined
+all_defined names soname i [] = []
+all_defined names soname i (d ∷ ds) = defined_as names soname i d ∷ all_defined names soname (i + 1) ds
+
+-- a reader that may take n versions finds just those that are defined, where the table stands; the last ends it
+abbrev pub DefinitionsAreRead : Type 0
+DefinitionsAreRead = (whole names : List ℕ) (soname : Option (List ℕ)) (ds : List VersionDefinition) (at n : ℕ) → All (λ x. x < 2 ^ 32) names → length ds < 2 ^ 16 → 1 ≤ length ds → length ds ≤ n
+    → Stands whole at (definition_table names soname ds) → definitions_from whole n at ≡ all_defined names soname 0 ds
+
+-- ---- needs
+
+-- a library's needs, with the offsets of its name and of those of its versions
+pub record Need : Type 0 where
+  pub file : ℕ
+  pub names : List ℕ
+  pub needs : VersionNeeds
+
+-- numbers that have their fields
+pub record NeedFits (n : Need) : Type 0 where
+  pub file : n.file < 2 ^ 32
+  pub names : All (λ x. x < 2 ^ 32) n.names
+  pub indexes : All (λ (v : NeededVersion). v.index < 2 ^ 16) n.needs.versions
+  pub few : length n.needs.versions < 2 ^ 16
+
+-- their bytes
+abbrev pub needs_bytes : List Need → List ℕ
+needs_bytes ns = flat_map (λ (n : Need). need_bytes n.file n.names n.needs) ns
+
+-- the last library is told as such, and no other is
+abbrev pub EndsOnce : List Need → Type 0
+EndsOnce [] = Unit {0}
+EndsOnce (n ∷ []) = n.needs.last ≡ true
+EndsOnce (n ∷ m ∷ ns) = (n.needs.last ≡ false) × EndsOnce (m ∷ ns)
+
+-- version i of a library, as a reader is to find it
+abbrev pub needed_as : List ℕ → ℕ → NeededVersion → Needed
+needed_as names i v = record { hash = sysv_hash v.name; flags = 0; index = v.index; name = name_at names i }
+
+-- versions from place i on
+abbrev pub all_needed : List ℕ → ℕ → List NeededVersion → List Needed
+all_needed names i [] = []
+all_needed names i (v ∷ vs) = needed_as names i v ∷ all_needed names (i + 1) vs
+
+abbrev pub library_of : Need → Library
+library_of n = record { file = n.file; versions = all_needed n.names 0 n.needs.versions }
+
+-- a reader that may take n libraries finds just these, each with its versions, where the table stands; the last ends it
+abbrev pub NeedsAreRead : Type 0
+NeedsAreRead = (whole : List ℕ) (ns : List Need) (at n : ℕ) → All NeedFits ns → EndsOnce ns → 1 ≤ length ns → length ns ≤ n
+    → Stands whole at (needs_bytes ns) → needs_from whole n at ≡ map library_of ns

@@ -1,0 +1,47 @@
+-- The versions that are needed of libraries (LSB, "Version Requirements").
+--   need_size n               how many bytes the record of a library has, with its versions
+--   verneed_of file n         the record of a library
+--   vernaux_of names i last v   the record of version i that is needed of it
+--   need_bytes file names n   the bytes of both
+use Rattle.std.specs.Prelude.{ℕ, ◌+◌, ◌*◌, Bool, List, ◌++◌, length}
+use Rattle.wild_words.specs.Record.{spell}
+use Rattle.wild_records.specs.Abi.Version.{ver_need_current}
+use Rattle.wild_records.specs.Hashes.{sysv_hash}
+use Rattle.wild_records.specs.Verneeds.{verneed_size, vernaux_size, verneed_fields, vernaux_fields}
+use Rattle.wild_records.specs.declared.verneeds.Verneed.{Verneed}
+use Rattle.wild_records.specs.declared.verneeds.Vernaux.{Vernaux}
+use Rattle.wild_plan.specs.declared.file.NeededVersion.{NeededVersion}
+use Rattle.wild_plan.specs.declared.file.VersionNeeds.{VersionNeeds}
+use Rattle.wild_versions.specs.Chain.{chain, next_of, name_at}
+
+-- the record and its versions
+abbrev pub need_size : VersionNeeds → ℕ
+need_size n = verneed_size + vernaux_size * length n.versions
+
+-- a library, whose name stands at an offset of the string table
+abbrev pub verneed_of : ℕ → VersionNeeds → Verneed
+verneed_of file n = record {
+  version = ver_need_current;
+  count = length n.versions;
+  file = file;
+  aux = verneed_size;
+  next = next_of n.last (need_size n);
+}
+
+-- version i that is needed
+abbrev pub vernaux_of : List ℕ → ℕ → Bool → NeededVersion → Vernaux
+vernaux_of names i last v = record {
+  hash = sysv_hash v.name;
+  flags = 0;
+  index = v.index;
+  name = name_at names i;
+  next = next_of last vernaux_size;
+}
+
+-- its bytes
+abbrev pub needed_bytes : List ℕ → ℕ → Bool → NeededVersion → List ℕ
+needed_bytes names i last v = spell (vernaux_fields (vernaux_of names i last v))
+
+-- the bytes of a library and of its versions, whose names stand at offsets of the string table
+abbrev pub need_bytes : ℕ → List ℕ → VersionNeeds → List ℕ
+need_bytes file names n = spell (verneed_fields (verneed_of file n)) ++ chain (needed_bytes names) 0 n.versions

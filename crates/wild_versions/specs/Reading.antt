@@ -1,0 +1,70 @@
+-- What a reader of the tables finds (LSB, "Symbol Versioning").
+--   names_from whole n at         n names of a version, from an offset on
+--   definitions_from whole n at   at most n versions that are defined, from an offset on
+--   needed_from whole n at        n versions that are needed of a library
+--   needs_from whole n at         at most n libraries
+-- The reader goes from a record to the next one by what the record tells, and ends where that is 0.
+use Rattle.std.specs.Prelude.{ℕ, zero, suc, ◌+◌, ◌==◌, if◌then◌else◌, List, [], ◌∷◌}
+use Rattle.wild_records.specs.Verdefs.{verdef_at, verdaux_at}
+use Rattle.wild_records.specs.Verneeds.{verneed_at, vernaux_at}
+use Rattle.wild_records.specs.declared.verdefs.Verdef.{Verdef}
+use Rattle.wild_records.specs.declared.verneeds.Vernaux.{Vernaux}
+
+-- ---- definitions
+
+-- a version that is defined: what it is, its index, the hash of its name, and where its names stand in the string table
+pub record Defined : Type 0 where
+  pub flags : ℕ
+  pub index : ℕ
+  pub hash : ℕ
+  pub names : List ℕ
+
+-- a name, and those behind it
+unfoldable pub names_from : List ℕ → ℕ → ℕ → List ℕ
+names_from whole zero at = []
+names_from whole (suc n) at =
+    (verdaux_at whole at).name ∷ (if (verdaux_at whole at).next == 0 then [] else names_from whole n (at + (verdaux_at whole at).next))
+
+abbrev pub defined : Verdef → List ℕ → Defined
+defined d names = record { flags = d.flags; index = d.index; hash = d.hash; names = names }
+
+abbrev pub defined_at : List ℕ → ℕ → Defined
+defined_at whole at = defined (verdef_at whole at) (names_from whole (verdef_at whole at).count (at + (verdef_at whole at).aux))
+
+-- a version, and those behind it
+unfoldable pub definitions_from : List ℕ → ℕ → ℕ → List Defined
+definitions_from whole zero at = []
+definitions_from whole (suc n) at =
+    defined_at whole at ∷ (if (verdef_at whole at).next == 0 then [] else definitions_from whole n (at + (verdef_at whole at).next))
+
+-- ---- needs
+
+-- a version that is needed: the hash of its name, its flags, its index, and where its name stands in the string table
+pub record Needed : Type 0 where
+  pub hash : ℕ
+  pub flags : ℕ
+  pub index : ℕ
+  pub name : ℕ
+
+-- a library: where its name stands, and the versions that are needed of it
+pub record Library : Type 0 where
+  pub file : ℕ
+  pub versions : List Needed
+
+abbrev pub needed : Vernaux → Needed
+needed v = record { hash = v.hash; flags = v.flags; index = v.index; name = v.name }
+
+-- a version, and those behind it
+unfoldable pub needed_from : List ℕ → ℕ → ℕ → List Needed
+needed_from whole zero at = []
+needed_from whole (suc n) at =
+    needed (vernaux_at whole at) ∷ (if (vernaux_at whole at).next == 0 then [] else needed_from whole n (at + (vernaux_at whole at).next))
+
+abbrev pub library_at : List ℕ → ℕ → Library
+library_at whole at = record { file = (verneed_at whole at).file; versions = needed_from whole (verneed_at whole at).count (at + (verneed_at whole at).aux) }
+
+-- a library, and those behind it
+unfoldable pub needs_from : List ℕ → ℕ → ℕ → List Library
+needs_from whole zero at = []
+needs_from whole (suc n) at =
+    library_at whole at ∷ (if (verneed_at whole at).next == 0 then [] else needs_from whole n (at + (verneed_at whole at).next))

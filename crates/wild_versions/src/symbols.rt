@@ -1,0 +1,31 @@
+//! The versions of dynamic symbols (LSB, "Symbol Version Table").
+ghost use Rattle.std.specs.Prelude.{◌≡◌, ◌+◌, ◌≤◌, length};
+ghost use Rattle.wild_records.specs.Versyms.{versym_size};
+ghost use Rattle.wild_versions.specs.Table.{with_bytes};
+ghost use Rattle.wild_versions.specs.Symbols.{spelled, version_of};
+
+use crate::table::VersionTable;
+use wild_plan::{FileRole, Symbol};
+use wild_records::Versym;
+use wild_records::abi::version::VER_NDX_GLOBAL;
+
+/// The version of a symbol that an entry of a file of that role names.
+pub(crate) fn version_of(role: FileRole, symbol: &Symbol) -> u16
+    ensures { result ≡ version_of role symbol.now }
+{
+    if role.is_library() {
+        symbol.version
+    } else {
+        VER_NDX_GLOBAL
+    }
+}
+
+/// Adds the version of a symbol.
+pub(crate) fn push_version(table: &mut VersionTable, version: u16)
+    requires { length table.old.bytes + versym_size ≤ table.old.room }
+    ensures { table.new ≡ with_bytes (spelled version) table.old }
+{
+    let mut bytes = [0; Versym::SIZE];
+    Versym { version }.put(&mut bytes);
+    table.push(&bytes);
+}
