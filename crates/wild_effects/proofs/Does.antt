@@ -18,7 +18,7 @@ use Rattle.wild_loader.specs.declared.world.World.{World}
 use Rattle.wild_loader.specs.declared.memory.Memory.{Memory}
 use Rattle.wild_loader.specs.Memory.{Holds, byte_in, number_in}
 use Rattle.wild_loader.specs.Changes.{distance_of}
-use Rattle.wild_records.specs.Abi.Relocation.{r_x86_64_pc32, r_x86_64_plt32, r_x86_64_gotpcrel, r_x86_64_gotpcrelx, r_x86_64_rex_gotpcrelx, r_x86_64_code_4_gotpcrelx, r_x86_64_gottpoff, r_x86_64_code_4_gottpoff, r_x86_64_gotpc32_tlsdesc, r_x86_64_code_4_gotpc32_tlsdesc, r_x86_64_tlsdesc_call, r_x86_64_tlsgd, r_x86_64_tlsld}
+use Rattle.wild_records.specs.Abi.Relocation.{r_x86_64_none, r_x86_64_pc32, r_x86_64_plt32, r_x86_64_gotpcrel, r_x86_64_gotpcrelx, r_x86_64_rex_gotpcrelx, r_x86_64_code_4_gotpcrelx, r_x86_64_gottpoff, r_x86_64_code_4_gottpoff, r_x86_64_gotpc32_tlsdesc, r_x86_64_code_4_gotpc32_tlsdesc, r_x86_64_tlsdesc_call, r_x86_64_tlsgd, r_x86_64_tlsld}
 use Rattle.wild_meaning.specs.Instruction.{Operand, Number, Word, Pair, Set, Add, Subtract, Compare, Call, Jump, Reader, Effect, signed_32, signed_at, sum_64}
 use Rattle.wild_meaning.specs.InstructionX86_64.{bare, rex, rex2, branch, with_slot, descriptor_call, general_call, general_slot_call, far_pair_call, local_call, local_slot_call}
 use Rattle.wild_meaning.specs.Sequence.{Sort, Target, TargetInSlot, AddressInSlot, OffsetInSlot, SymbolPair, OwnPair, Described, DescribedCall, Instruction, Partner, size_of, IsBesidePartner, IsOwnByte, of_field, of_sequence, by_call, by_slot, by_distance, instructions_of}
@@ -110,6 +110,21 @@ number_at_place sort [] n h k lt e = absurd (omega arith)
 number_at_place sort (x ∷ ns) n h zero lt e = subst (λ (y : ℕ). HasFormula sort y) e h.0
 number_at_place sort (x ∷ ns) n h (suc k) lt e = number_at_place sort ns n h.1 k (omega arith) e
 
+-- none of the types is the one that refers to nothing
+abbrev EachRefers : List ℕ → Type 0
+EachRefers [] = ⊤
+EachRefers (n ∷ ns) = (n ≡ r_x86_64_none → ⊥) × EachRefers ns
+
+refers_at : (ns : List ℕ) (n : ℕ) → EachRefers ns → (k : ℕ) → k < length ns → get_or ns k n ≡ n → n ≡ r_x86_64_none → ⊥
+refers_at [] n h k lt e z = absurd (omega arith)
+refers_at (x ∷ ns) n h zero lt e z = h.0 (e ∙ z)
+refers_at (x ∷ ns) n h (suc k) lt e z = refers_at ns n h.1 k (omega arith) e z
+
+-- a sequence asks for a pair
+abbrev PairIs : Option Partner → Sort → Type 0
+PairIs None sort = ⊤
+PairIs (Some p) sort = (sort ≡ SymbolPair) ⊎ (sort ≡ OwnPair)
+
 -- a field of four bytes, but of the call through a descriptor
 abbrev pub WidthIs : Sort → ℕ → Type 0
 WidthIs DescribedCall width = width ≡ 0
@@ -120,9 +135,11 @@ pub record IsTold (o : Instruction) : Type 0 where
   pub numbers : EachNumber o.sort o.numbers
   pub width : WidthIs o.sort o.width
   pub fits : nat_le (o.field + o.width) (size_of o) ≡ true
+  pub refers : EachRefers o.numbers
+  pub pair : PairIs o.partner o.sort
 
-told : (o : Instruction) → ((a : ℕ) (bs : List ℕ) → (o.template.action a bs).operand ≡ operand_by o.sort (named_by o a bs)) → EachNumber o.sort o.numbers → WidthIs o.sort o.width → nat_le (o.field + o.width) (size_of o) ≡ true → IsTold o
-told o p n w f = record { operand = p; numbers = n; width = w; fits = f }
+told : (o : Instruction) → ((a : ℕ) (bs : List ℕ) → (o.template.action a bs).operand ≡ operand_by o.sort (named_by o a bs)) → EachNumber o.sort o.numbers → WidthIs o.sort o.width → nat_le (o.field + o.width) (size_of o) ≡ true → EachRefers o.numbers → PairIs o.partner o.sort → IsTold o
+told o p n w f g q = record { operand = p; numbers = n; width = w; fits = f; refers = g; pair = q }
 
 pc32_is : HasFormula Target r_x86_64_pc32
 unfolding x86_64_formula
@@ -186,37 +203,37 @@ own_is = (displaced (SlotDistance OwnModulePair), refl, refl)
 
 every_told : Each IsTold (instructions_of machine.X86_64)
 every_told =
-    (told (of_field (branch (0xe8 ∷ []) Number Call) 1 Target (r_x86_64_pc32 ∷ r_x86_64_plt32 ∷ [])) (λ a bs. refl) (pc32_is, (plt32_is, tt)) refl refl,
-    (told (of_field (branch (0xe9 ∷ []) Number Jump) 1 Target (r_x86_64_pc32 ∷ r_x86_64_plt32 ∷ [])) (λ a bs. refl) (pc32_is, (plt32_is, tt)) refl refl,
-    (told (of_field (branch (0xff ∷ 0x15 ∷ []) Word Call) 2 TargetInSlot (r_x86_64_gotpcrel ∷ r_x86_64_gotpcrelx ∷ [])) (λ a bs. refl) (slot_is, (slotx_is, tt)) refl refl,
-    (told (of_field (branch (0xff ∷ 0x25 ∷ []) Word Jump) 2 TargetInSlot (r_x86_64_gotpcrel ∷ r_x86_64_gotpcrelx ∷ [])) (λ a bs. refl) (slot_is, (slotx_is, tt)) refl refl,
-    (told (of_field (with_slot 0x8b Word Set bare) 2 AddressInSlot (r_x86_64_gotpcrelx ∷ [])) (λ a bs. refl) (bare_is, tt) refl refl,
-    (told (of_field (with_slot 0x03 Word Add bare) 2 AddressInSlot (r_x86_64_gotpcrelx ∷ [])) (λ a bs. refl) (bare_is, tt) refl refl,
-    (told (of_field (with_slot 0x2b Word Subtract bare) 2 AddressInSlot (r_x86_64_gotpcrelx ∷ [])) (λ a bs. refl) (bare_is, tt) refl refl,
-    (told (of_field (with_slot 0x3b Word Compare bare) 2 AddressInSlot (r_x86_64_gotpcrelx ∷ [])) (λ a bs. refl) (bare_is, tt) refl refl,
-    (told (of_field (with_slot 0x8b Word Set rex) 3 AddressInSlot (r_x86_64_rex_gotpcrelx ∷ [])) (λ a bs. refl) (rex_is, tt) refl refl,
-    (told (of_field (with_slot 0x03 Word Add rex) 3 AddressInSlot (r_x86_64_rex_gotpcrelx ∷ [])) (λ a bs. refl) (rex_is, tt) refl refl,
-    (told (of_field (with_slot 0x2b Word Subtract rex) 3 AddressInSlot (r_x86_64_rex_gotpcrelx ∷ [])) (λ a bs. refl) (rex_is, tt) refl refl,
-    (told (of_field (with_slot 0x3b Word Compare rex) 3 AddressInSlot (r_x86_64_rex_gotpcrelx ∷ [])) (λ a bs. refl) (rex_is, tt) refl refl,
-    (told (of_field (with_slot 0x8b Word Set rex2) 4 AddressInSlot (r_x86_64_code_4_gotpcrelx ∷ [])) (λ a bs. refl) (rex2_is, tt) refl refl,
-    (told (of_field (with_slot 0x03 Word Add rex2) 4 AddressInSlot (r_x86_64_code_4_gotpcrelx ∷ [])) (λ a bs. refl) (rex2_is, tt) refl refl,
-    (told (of_field (with_slot 0x2b Word Subtract rex2) 4 AddressInSlot (r_x86_64_code_4_gotpcrelx ∷ [])) (λ a bs. refl) (rex2_is, tt) refl refl,
-    (told (of_field (with_slot 0x3b Word Compare rex2) 4 AddressInSlot (r_x86_64_code_4_gotpcrelx ∷ [])) (λ a bs. refl) (rex2_is, tt) refl refl,
-    (told (of_field (with_slot 0x8b Word Set rex) 3 OffsetInSlot (r_x86_64_gottpoff ∷ [])) (λ a bs. refl) (offset_is, tt) refl refl,
-    (told (of_field (with_slot 0x03 Word Add rex) 3 OffsetInSlot (r_x86_64_gottpoff ∷ [])) (λ a bs. refl) (offset_is, tt) refl refl,
-    (told (of_field (with_slot 0x8b Word Set rex2) 4 OffsetInSlot (r_x86_64_code_4_gottpoff ∷ [])) (λ a bs. refl) (offset2_is, tt) refl refl,
-    (told (of_field (with_slot 0x03 Word Add rex2) 4 OffsetInSlot (r_x86_64_code_4_gottpoff ∷ [])) (λ a bs. refl) (offset2_is, tt) refl refl,
-    (told (of_field (with_slot 0x8b Word Set rex) 3 AddressInSlot (r_x86_64_gotpcrel ∷ [])) (λ a bs. refl) (load_is, tt) refl refl,
-    (told (of_field (with_slot 0x8b Word Set rex2) 4 AddressInSlot (r_x86_64_gotpcrel ∷ [])) (λ a bs. refl) (load_is, tt) refl refl,
-    (told (of_field (with_slot 0x8d Number Set rex) 3 Described (r_x86_64_gotpc32_tlsdesc ∷ [])) (λ a bs. refl) (descriptor_is, tt) refl refl,
-    (told (of_field (with_slot 0x8d Number Set rex2) 4 Described (r_x86_64_code_4_gotpc32_tlsdesc ∷ [])) (λ a bs. refl) (descriptor2_is, tt) refl refl,
-    (told (record { template = descriptor_call; field = 0; width = 0; sort = DescribedCall; numbers = r_x86_64_tlsdesc_call ∷ []; partner = None }) (λ a bs. refl) (call_is, tt) refl refl,
-    (told (of_sequence general_call 4 SymbolPair r_x86_64_tlsgd (by_call 12)) (λ a bs. refl) (pair_is, tt) refl refl,
-    (told (of_sequence general_slot_call 4 SymbolPair r_x86_64_tlsgd (by_slot 12)) (λ a bs. refl) (pair_is, tt) refl refl,
-    (told (of_sequence far_pair_call 3 SymbolPair r_x86_64_tlsgd (by_distance 9)) (λ a bs. refl) (pair_is, tt) refl refl,
-    (told (of_sequence local_call 3 OwnPair r_x86_64_tlsld (by_call 8)) (λ a bs. refl) (own_is, tt) refl refl,
-    (told (of_sequence local_slot_call 3 OwnPair r_x86_64_tlsld (by_slot 9)) (λ a bs. refl) (own_is, tt) refl refl,
-    (told (of_sequence far_pair_call 3 OwnPair r_x86_64_tlsld (by_distance 9)) (λ a bs. refl) (own_is, tt) refl refl,
+    (told (of_field (branch (0xe8 ∷ []) Number Call) 1 Target (r_x86_64_pc32 ∷ r_x86_64_plt32 ∷ [])) (λ a bs. refl) (pc32_is, (plt32_is, tt)) refl refl ((λ e. cc), ((λ e. cc), tt)) tt,
+    (told (of_field (branch (0xe9 ∷ []) Number Jump) 1 Target (r_x86_64_pc32 ∷ r_x86_64_plt32 ∷ [])) (λ a bs. refl) (pc32_is, (plt32_is, tt)) refl refl ((λ e. cc), ((λ e. cc), tt)) tt,
+    (told (of_field (branch (0xff ∷ 0x15 ∷ []) Word Call) 2 TargetInSlot (r_x86_64_gotpcrel ∷ r_x86_64_gotpcrelx ∷ [])) (λ a bs. refl) (slot_is, (slotx_is, tt)) refl refl ((λ e. cc), ((λ e. cc), tt)) tt,
+    (told (of_field (branch (0xff ∷ 0x25 ∷ []) Word Jump) 2 TargetInSlot (r_x86_64_gotpcrel ∷ r_x86_64_gotpcrelx ∷ [])) (λ a bs. refl) (slot_is, (slotx_is, tt)) refl refl ((λ e. cc), ((λ e. cc), tt)) tt,
+    (told (of_field (with_slot 0x8b Word Set bare) 2 AddressInSlot (r_x86_64_gotpcrelx ∷ [])) (λ a bs. refl) (bare_is, tt) refl refl ((λ e. cc), tt) tt,
+    (told (of_field (with_slot 0x03 Word Add bare) 2 AddressInSlot (r_x86_64_gotpcrelx ∷ [])) (λ a bs. refl) (bare_is, tt) refl refl ((λ e. cc), tt) tt,
+    (told (of_field (with_slot 0x2b Word Subtract bare) 2 AddressInSlot (r_x86_64_gotpcrelx ∷ [])) (λ a bs. refl) (bare_is, tt) refl refl ((λ e. cc), tt) tt,
+    (told (of_field (with_slot 0x3b Word Compare bare) 2 AddressInSlot (r_x86_64_gotpcrelx ∷ [])) (λ a bs. refl) (bare_is, tt) refl refl ((λ e. cc), tt) tt,
+    (told (of_field (with_slot 0x8b Word Set rex) 3 AddressInSlot (r_x86_64_rex_gotpcrelx ∷ [])) (λ a bs. refl) (rex_is, tt) refl refl ((λ e. cc), tt) tt,
+    (told (of_field (with_slot 0x03 Word Add rex) 3 AddressInSlot (r_x86_64_rex_gotpcrelx ∷ [])) (λ a bs. refl) (rex_is, tt) refl refl ((λ e. cc), tt) tt,
+    (told (of_field (with_slot 0x2b Word Subtract rex) 3 AddressInSlot (r_x86_64_rex_gotpcrelx ∷ [])) (λ a bs. refl) (rex_is, tt) refl refl ((λ e. cc), tt) tt,
+    (told (of_field (with_slot 0x3b Word Compare rex) 3 AddressInSlot (r_x86_64_rex_gotpcrelx ∷ [])) (λ a bs. refl) (rex_is, tt) refl refl ((λ e. cc), tt) tt,
+    (told (of_field (with_slot 0x8b Word Set rex2) 4 AddressInSlot (r_x86_64_code_4_gotpcrelx ∷ [])) (λ a bs. refl) (rex2_is, tt) refl refl ((λ e. cc), tt) tt,
+    (told (of_field (with_slot 0x03 Word Add rex2) 4 AddressInSlot (r_x86_64_code_4_gotpcrelx ∷ [])) (λ a bs. refl) (rex2_is, tt) refl refl ((λ e. cc), tt) tt,
+    (told (of_field (with_slot 0x2b Word Subtract rex2) 4 AddressInSlot (r_x86_64_code_4_gotpcrelx ∷ [])) (λ a bs. refl) (rex2_is, tt) refl refl ((λ e. cc), tt) tt,
+    (told (of_field (with_slot 0x3b Word Compare rex2) 4 AddressInSlot (r_x86_64_code_4_gotpcrelx ∷ [])) (λ a bs. refl) (rex2_is, tt) refl refl ((λ e. cc), tt) tt,
+    (told (of_field (with_slot 0x8b Word Set rex) 3 OffsetInSlot (r_x86_64_gottpoff ∷ [])) (λ a bs. refl) (offset_is, tt) refl refl ((λ e. cc), tt) tt,
+    (told (of_field (with_slot 0x03 Word Add rex) 3 OffsetInSlot (r_x86_64_gottpoff ∷ [])) (λ a bs. refl) (offset_is, tt) refl refl ((λ e. cc), tt) tt,
+    (told (of_field (with_slot 0x8b Word Set rex2) 4 OffsetInSlot (r_x86_64_code_4_gottpoff ∷ [])) (λ a bs. refl) (offset2_is, tt) refl refl ((λ e. cc), tt) tt,
+    (told (of_field (with_slot 0x03 Word Add rex2) 4 OffsetInSlot (r_x86_64_code_4_gottpoff ∷ [])) (λ a bs. refl) (offset2_is, tt) refl refl ((λ e. cc), tt) tt,
+    (told (of_field (with_slot 0x8b Word Set rex) 3 AddressInSlot (r_x86_64_gotpcrel ∷ [])) (λ a bs. refl) (load_is, tt) refl refl ((λ e. cc), tt) tt,
+    (told (of_field (with_slot 0x8b Word Set rex2) 4 AddressInSlot (r_x86_64_gotpcrel ∷ [])) (λ a bs. refl) (load_is, tt) refl refl ((λ e. cc), tt) tt,
+    (told (of_field (with_slot 0x8d Number Set rex) 3 Described (r_x86_64_gotpc32_tlsdesc ∷ [])) (λ a bs. refl) (descriptor_is, tt) refl refl ((λ e. cc), tt) tt,
+    (told (of_field (with_slot 0x8d Number Set rex2) 4 Described (r_x86_64_code_4_gotpc32_tlsdesc ∷ [])) (λ a bs. refl) (descriptor2_is, tt) refl refl ((λ e. cc), tt) tt,
+    (told (record { template = descriptor_call; field = 0; width = 0; sort = DescribedCall; numbers = r_x86_64_tlsdesc_call ∷ []; partner = None }) (λ a bs. refl) (call_is, tt) refl refl ((λ e. cc), tt) tt,
+    (told (of_sequence general_call 4 SymbolPair r_x86_64_tlsgd (by_call 12)) (λ a bs. refl) (pair_is, tt) refl refl ((λ e. cc), tt) (inl refl),
+    (told (of_sequence general_slot_call 4 SymbolPair r_x86_64_tlsgd (by_slot 12)) (λ a bs. refl) (pair_is, tt) refl refl ((λ e. cc), tt) (inl refl),
+    (told (of_sequence far_pair_call 3 SymbolPair r_x86_64_tlsgd (by_distance 9)) (λ a bs. refl) (pair_is, tt) refl refl ((λ e. cc), tt) (inl refl),
+    (told (of_sequence local_call 3 OwnPair r_x86_64_tlsld (by_call 8)) (λ a bs. refl) (own_is, tt) refl refl ((λ e. cc), tt) (inr refl),
+    (told (of_sequence local_slot_call 3 OwnPair r_x86_64_tlsld (by_slot 9)) (λ a bs. refl) (own_is, tt) refl refl ((λ e. cc), tt) (inr refl),
+    (told (of_sequence far_pair_call 3 OwnPair r_x86_64_tlsld (by_distance 9)) (λ a bs. refl) (own_is, tt) refl refl ((λ e. cc), tt) (inr refl),
     tt)))))))))))))))))))))))))))))))
 
 pub told_of : (o : Instruction) → Contains (instructions_of machine.X86_64) o → IsTold o
@@ -237,14 +254,13 @@ abbrev pub PartnerThere : World → Memory → Item → ℕ → Option Partner �
 PartnerThere w m item start None = ⊤
 PartnerThere w m item start (Some p) = (bs : List ℕ) × (length bs ≡ p.width) × Holds m (place_at w item (start + p.field)) bs
 
--- what is known of an instruction that stands in the input: its first field, its own bytes and its second field
+-- what is known in memory of an instruction that stands in the input: its first field, its own bytes and its second field
 pub record IsThere (l : Layout) (w : World) (m : Memory) (item : Item) (r : InputRelocation) (start : ℕ) (o : Instruction) : Type 0 where
   pub x86 : l.machine ≡ machine.X86_64
   pub stands : IsInstruction l item r start o
   pub field : HasField l w m item r
   pub own : (k : ℕ) → IsOwnByte o k → IsInputByte w m item (start + k)
   pub partner : PartnerThere w m item start o.partner
-  pub ends : place_at w item start + size_of o ≤ 2 ^ 64
 
 -- the formula is that of the sort
 pub formula_is : (l : Layout) (r : InputRelocation) (o : Instruction) (f : Formula) → l.machine ≡ machine.X86_64 → Contains (instructions_of l.machine) o → Contains o.numbers r.number → formula_of l.machine r.number ≡ Some f → FormulaIs o.sort f
@@ -423,3 +439,15 @@ pub record IsRight (l : Layout) (w : World) (m : Memory) (item : Item) (r : Inpu
   pub demands : Demands o.sort l w m item r value
   pub reads : reads w m (o.template.action (place_at w item start) (new_bytes w m item start o)).operand ≡ Some value
   pub call : o.sort ≡ DescribedCall → HasOffsetMode l item → ⊥
+
+-- no instruction's type is the one that refers to nothing
+pub refers : (o : Instruction) (n : ℕ) → Contains (instructions_of machine.X86_64) o → Contains o.numbers n → n ≡ r_x86_64_none → ⊥
+refers o n listed number z = refers_at o.numbers n (told_of o listed).refers number.0 number.1 number.2 z
+
+-- a sequence's sort
+pub pair_of : (o : Instruction) (p : Partner) → Contains (instructions_of machine.X86_64) o → o.partner ≡ Some p → (o.sort ≡ SymbolPair) ⊎ (o.sort ≡ OwnPair)
+pair_of o p listed e = subst (λ (x : Option Partner). PairIs x o.sort) e (told_of o listed).pair
+
+-- each of its types has a formula
+pub known_formula : (o : Instruction) (n : ℕ) → Contains (instructions_of machine.X86_64) o → Contains o.numbers n → (f : Formula) × (x86_64_formula n ≡ Some f)
+known_formula o n listed number = (let h = number_at_place o.sort o.numbers n (told_of o listed).numbers number.0 number.1 number.2 in (h.0, h.1))

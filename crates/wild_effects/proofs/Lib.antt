@@ -6,3 +6,5 @@ mod WindowRows
 mod WindowSites
 mod WindowFields
 mod Windows
+mod KeptDo
+mod Items

@@ -1,8 +1,8 @@
 -- What the operand of an instruction in memory reads as is what is demanded, by its sort.
 use Rattle.std.proofs.Common.{◌≡◌, ℕ, zero, suc, ◌+◌, ◌-◌, ◌*◌, ◌%◌, ◌^◌, ◌<◌, ◌≤◌, ◌⊎◌, inl, inr, List, length, refl, sym, ap, ◌∙◌, arith, subst}
-use Rattle.std.specs.Prelude.{Option, Some, None, Ok, Result, option_map, option_and_then, Contains, nat_lt}
+use Rattle.std.specs.Prelude.{Option, Some, None, Ok, Result, option_map, option_and_then, Contains, nat_lt, slice_index}
 use Rattle.std.specs.Int.{w64, cast_unsigned}
-use Rattle.std.proofs.lemmas.Bool.{cases_Bool, ltb-true, leb-true}
+use Rattle.std.proofs.lemmas.Bool.{cases_Bool, ltb-true}
 use Rattle.wild_plan.specs.declared.kind.Machine.{Machine}
 use Rattle.wild_plan.specs.declared.kind.Machine.TheVariants as machine
 use Rattle.wild_plan.specs.declared.input.InputRelocation.{InputRelocation}
@@ -17,6 +17,7 @@ use Rattle.wild_meaning.specs.Instruction.{Operand, Number, Word, Pair, Effect, 
 use Rattle.wild_meaning.specs.InstructionX86_64.{demand_x86_64}
 use Rattle.wild_meaning.specs.Sequence.{Sort, Target, TargetInSlot, AddressInSlot, OffsetInSlot, SymbolPair, OwnPair, Described, DescribedCall, Instruction, size_of, instructions_of}
 use Rattle.wild_meaning.specs.Item.{Item, place_at}
+use Rattle.wild_meaning.specs.Field.{form_width}
 use Rattle.wild_meaning.specs.Slot.{HasWord, IsPair, IsSlot}
 use Rattle.wild_meaning.specs.Formula.{Gives, IsTarget, IsGoal, IsOffset, HasOffsetMode}
 use Rattle.wild_meaning.specs.Template.{CountsFromItsEnd, or_none, sum_of, reads, pair_in, effect_of, Demands, IsDemanded, old_bytes, DoesDemanded}
@@ -72,17 +73,18 @@ operand_of w m item start o = (o.template.action (place_at w item start) (new_by
 named : (s : Sort) (l : Layout) (w : World) (m : Memory) (item : Item) (r : InputRelocation) (start : ℕ) (o : Instruction) (x y : ℕ) → o.sort ≡ s → IsThere l w m item r start o → IsDisplaced l w m item r start o x → sum_64 (place_at w item start + (o.field + 4)) x ≡ y → operand_of w m item start o ≡ operand_by s y
 named s l w m item r start o x y e h d n = subst (λ (q : Sort). operand_of w m item start o ≡ operand_by q y) e (named_is l w m item r start o x y h d n)
 
-low_place : (w : World) (item : Item) (start field size p : ℕ) → place_at w item start + size ≤ 2 ^ 64 → field + 4 ≤ size → p ≡ place_at w item start + field → p < 2 ^ 64
-low_place w item start field size p ends fits e = omega (arith, ends, fits, e)
+-- its field lies below the last address, since it is loaded
+low_place : (m : Memory) (p : ℕ) (bs : List ℕ) → length bs ≡ 4 → Holds m p bs → p < 2 ^ 64
+low_place m p bs four held =
+    let z : p + 0 ≡ p = omega arith in
+    loaded_below m p (slice_index bs 0) (subst (λ (x : ℕ). byte_in m x ≡ Some (slice_index bs 0)) z (held 0 (omega (arith, four))))
 
 -- a field of four bytes whose formula is G + A - P names its slot
 slot_named : (s : Sort) (l : Layout) (w : World) (m : Memory) (item : Item) (r : InputRelocation) (start : ℕ) (o : Instruction) (v : Value) (g : ℕ) → o.sort ≡ s → (h : IsThere l w m item r start o) → o.width ≡ 4 → h.field.formula ≡ displaced v → (cast_unsigned w64 r.addend + 4) % 2 ^ 64 ≡ 0 → g < 2 ^ 64
     → h.field.value ≡ (g + cast_unsigned w64 r.addend + (2 ^ 64 - place_at w item r.offset)) % 2 ^ 64 → operand_of w m item start o ≡ operand_by s g
 slot_named s l w m item r start o v g e h width f counts small is =
-    let t = told_of o (subst (λ (k : Machine). Contains (instructions_of k) o) h.x86 h.stands.known) in
-    let fits = leb-true (o.field + o.width) (size_of o) t.fits in
     let place = field_place w item r start o.field h.stands.field in
-    let low = low_place w item start o.field (size_of o) (place_at w item r.offset) h.ends (omega (arith, fits, width)) place in
+    let low = low_place m (place_at w item r.offset) h.field.field.bytes (h.field.field.wide ∙ ap (λ (q : Formula). form_width q.form) f) h.field.field.held in
     let at = to_slot (place_at w item start) o.field (place_at w item r.offset) g (cast_unsigned w64 r.addend) place low small counts in
     named s l w m item r start o h.field.value g e h (displaced_by l w m item r start o v h h.field width f) (ap (λ (x : ℕ). sum_64 (place_at w item start + (o.field + 4)) x) is ∙ at)
 
@@ -90,10 +92,8 @@ slot_named s l w m item r start o v g e h width f counts small is =
 target_named : (l : Layout) (w : World) (m : Memory) (item : Item) (r : InputRelocation) (start : ℕ) (o : Instruction) (v : Value) (g : ℕ) → o.sort ≡ Target → (h : IsThere l w m item r start o) → o.width ≡ 4 → h.field.formula ≡ displaced v
     → h.field.value ≡ (g + cast_unsigned w64 r.addend + (2 ^ 64 - place_at w item r.offset)) % 2 ^ 64 → operand_of w m item start o ≡ Number ((g + cast_unsigned w64 r.addend + 4) % 2 ^ 64)
 target_named l w m item r start o v g e h width f is =
-    let t = told_of o (subst (λ (k : Machine). Contains (instructions_of k) o) h.x86 h.stands.known) in
-    let fits = leb-true (o.field + o.width) (size_of o) t.fits in
     let place = field_place w item r start o.field h.stands.field in
-    let low = low_place w item start o.field (size_of o) (place_at w item r.offset) h.ends (omega (arith, fits, width)) place in
+    let low = low_place m (place_at w item r.offset) h.field.field.bytes (h.field.field.wide ∙ ap (λ (q : Formula). form_width q.form) f) h.field.field.held in
     let at = to_target (place_at w item start) o.field (place_at w item r.offset) g (cast_unsigned w64 r.addend) place low in
     named Target l w m item r start o h.field.value _ e h (displaced_by l w m item r start o v h h.field width f) (ap (λ (x : ℕ). sum_64 (place_at w item start + (o.field + 4)) x) is ∙ at)
 

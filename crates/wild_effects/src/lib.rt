@@ -44,7 +44,6 @@ pub fn other_bytes_are_kept()
 pub fn kept_instructions_do()
     ensures { KeptInstructionsDo }
 {
-    filled_instructions_do();
     other_bytes_are_kept();
 }
 

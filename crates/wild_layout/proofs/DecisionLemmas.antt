@@ -9,6 +9,7 @@
 --   decide_rewritten                it is decided so
 --   decide_partner                  a relocation that is taken along is behind one whose row writes a sequence
 --   sequence_is_rewritten           what is decided of that one
+--   decide_alone                    without a row, and taken along by none, a relocation is decided of by itself
 --   decide_loads, decide_base_relative, decide_symbolic, decide_indirect, decide_extent    a field that a loader may fill is decided of by itself
 use Rattle.std.proofs.Common.{◌≡◌, ℕ, ◌+◌, ◌%◌, ◌^◌, ◌⊎◌, inl, inr, Bool, true, false, refl, sym, ap, ◌∙◌, arith, subst}
 use Rattle.std.specs.Prelude.{⊤, Option, Some, None, Result, Ok, Err, ◌==◌, if◌then◌else◌, slice_get}
@@ -441,15 +442,16 @@ sequence_is_rewritten l s j row d q h =
         let changes = subst (λ (x : Row). keeps_bytes x ≡ false) (sym same) (sequence_changes row takes) in
         (m.value, by_test (keeps_bytes w) m.by.info.size w m.value d changes m.is ∙ ap (λ (x : Row). Rewritten x m.value) same)
 
--- ---- fields that a loader may fill
+-- ---- relocations that are decided of by themselves
 
--- of its kind no row is, and none takes it along
-pub decide_loads : (l : Layout) (s : InputSection) (i : ℕ) (r : InputRelocation) (row : RelocationKindInfo) → slice_get s.relocations i ≡ Some r → row_of l.machine r.number ≡ Some row → loads row.kind ≡ true → decide l s i ≡ decided l s r
+-- no row stands there, and none takes it along
+pub decide_alone : (l : Layout) (s : InputSection) (i : ℕ) (r : InputRelocation) → slice_get s.relocations i ≡ Some r → is_partner l s i ≡ false → choice_of l s r (slice_get s.relocations (i + 1)) ≡ Ok None → decide l s i ≡ decided l s r
 unfolding decide
-decide_loads l s i r row listed known h =
-    let alone = no_partner l s i r row listed known h in
-    let none = no_row l s r (slice_get s.relocations (i + 1)) row known h in
-    rw (alone, listed, none) refl
+decide_alone l s i r listed alone none = rw (alone, listed, none) refl
+
+-- a field that a loader may fill is of no row's kind, and of no call's
+pub decide_loads : (l : Layout) (s : InputSection) (i : ℕ) (r : InputRelocation) (row : RelocationKindInfo) → slice_get s.relocations i ≡ Some r → row_of l.machine r.number ≡ Some row → loads row.kind ≡ true → decide l s i ≡ decided l s r
+decide_loads l s i r row listed known h = decide_alone l s i r listed (no_partner l s i r row listed known h) (no_row l s r (slice_get s.relocations (i + 1)) row known h)
 
 pub decide_base_relative : (l : Layout) (s : InputSection) (i : ℕ) (r : InputRelocation) → slice_get s.relocations i ≡ Some r → treatment l s r ≡ treatments.BaseRelative → decide l s i ≡ decided l s r
 unfolding treatment

@@ -162,7 +162,8 @@ template_lies l s r next row v w =
     let inside = w.chosen.inside in
     record { ends = omega (arith, long, inside); some = omega (arith, long, some) }
 
-site_is_field : (l : Layout) (s : InputSection) (i : ℕ) → All (FieldLies l.machine (length s.bytes)) s.relocations → All (IsFieldIn (length s.bytes)) (site l s i)
+-- a site is bytes of the section
+pub site_is_field : (l : Layout) (s : InputSection) (i : ℕ) → All (FieldLies l.machine (length s.bytes)) s.relocations → All (IsFieldIn (length s.bytes)) (site l s i)
 site_is_field l s i lies =
     elim (site_cases l s i) [
       | inl none ↦ All-of (IsFieldIn (length s.bytes)) _ [] none (All-nil (IsFieldIn (length s.bytes)))

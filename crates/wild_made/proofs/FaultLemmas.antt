@@ -1,10 +1,11 @@
 -- The shares of the plan of n groups are what is needed, and its relocations have no faults.
-use Rattle.std.proofs.Common.{◌≡◌, ℕ, ◌+◌, ◌*◌, ◌-◌, ◌^◌, ◌<◌, ◌≤◌, ◌==◌, ◌%◌, inl, inr, Bool, true, false, if◌then◌else◌, ◌||◌, min, [], ◌∷◌, length, map, refl, sym, ap, ◌∙◌, arith}
-use Rattle.std.specs.Prelude.{Some, None, Ok, nat_le, nat_lt, slice_get, slice_index_or}
+use Rattle.std.proofs.Common.{◌≡◌, ℕ, zero, suc, ◌+◌, ◌*◌, ◌-◌, ◌^◌, ◌<◌, ◌≤◌, ◌==◌, ◌%◌, inl, inr, Bool, true, false, if◌then◌else◌, ◌||◌, min, [], ◌∷◌, length, map, refl, sym, ap, ◌∙◌, arith}
+use Rattle.std.specs.Prelude.{Option, Some, None, Ok, nat_le, nat_lt, slice_get, slice_index_or}
 use Rattle.std.specs.List.{flat_map, range_with_len}
 use lib.IntN.{negsuc}
 use Rattle.std.proofs.lemmas.Bool.{cases_Bool, cases_lt, le-leb, lt-ltb, le-ltb}
 use Rattle.wild_words.specs.Words.{word}
+use Rattle.wild_plan.specs.declared.input.InputRelocation.{InputRelocation}
 use Rattle.wild_plan.specs.declared.part.Part.{Part}
 use Rattle.wild_plan.specs.declared.part.Role.{Role}
 use Rattle.wild_plan.specs.declared.part.Role.TheVariants as role
@@ -23,7 +24,10 @@ use Rattle.wild_reloc.specs.declared.info.Width.TheVariants.{Four}
 use Rattle.wild_words.specs.Extents.{least_extent}
 use Rattle.wild_plan.specs.Treatment.{row_treatment, treatment}
 use Rattle.wild_layout.specs.declared.decision.Decision.TheVariants.{Field}
+use Rattle.wild_layout.specs.Choice.{choice_by, choice_of, is_partner}
 use Rattle.wild_layout.specs.Decide.{decided, decide}
+use Rattle.wild_layout.proofs.DecisionLemmas.{decide_alone}
+use Rattle.wild_layout.proofs.SiteLemmas.{site_written}
 use Rattle.wild_layout.specs.Sites.{field_site, site, extent_of}
 use Rattle.wild_layout.specs.Values.{raw_value, displacement, place_of}
 use Rattle.wild_layout.specs.Faults.{errors, flat_map_from, share_errors, has_spare, part_errors, relocation_errors, section_errors, file_errors, listed_errors, group_errors}
@@ -147,9 +151,23 @@ listed_made : (n i j : ℕ) → j < 8 → slice_get (made_section n i).relocatio
 unfolding made_section
 listed_made n i j call = item_at (made_relocation n i) 0 8 j j call (omega arith)
 
+-- no instruction is rewritten at a call's own type
+choice_made : (n i j : ℕ) (next : Option InputRelocation) → choice_of (made n) (made_section n i) (made_relocation n i j) next ≡ Ok None
+unfolding choice_by
+choice_made n i j next = refl
+
+alone_made : (n i j : ℕ) → j < 8 → is_partner (made n) (made_section n i) j ≡ false
+alone_made n i zero call = refl
+alone_made n i (suc j) call = let next = slice_get (made_section n i).relocations (j + 1) in rw (listed_made n i j (omega arith), choice_made n i j next) refl
+
+decide_made : (n i j : ℕ) → IsCount n → i < n → j < 8 → decide (made n) (made_section n i) j ≡ Ok (Field (ByteSize Four) (call_value n i j))
+decide_made n i j h low call =
+    let next = slice_get (made_section n i).relocations (j + 1) in
+    decide_alone (made n) (made_section n i) j (made_relocation n i j) (listed_made n i j call) (alone_made n i j call) (choice_made n i j next) ∙ decided_made n i j h low call
+
 relocation_clean : (n i j g f k : ℕ) → IsCount n → i < n → j < 8 → relocation_errors (made n) g f k (made_section n i) j ≡ []
-unfolding relocation_errors decide
-relocation_clean n i j g f k h low call = rw (listed_made n i j call, decided_made n i j h low call) refl
+unfolding relocation_errors
+relocation_clean n i j g f k h low call = rw (listed_made n i j call, decide_made n i j h low call) refl
 
 relocations_clean : (n i k : ℕ) (g f : ℕ) → IsCount n → i < n → flat_map (relocation_errors (made n) g f k (made_section n i)) (range_with_len 0 8) ≡ []
 relocations_clean n i k g f h low =
@@ -158,8 +176,7 @@ relocations_clean n i k g f h low =
     simp (c 0 (omega arith), c 1 (omega arith), c 2 (omega arith), c 3 (omega arith), c 4 (omega arith), c 5 (omega arith), c 6 (omega arith), c 7 (omega arith)) refl
 
 site_made : (n i j : ℕ) → IsCount n → i < n → j < 8 → site (made n) (made_section n i) j ≡ field_site (made_section n i) (8 * j + 1) (ByteSize Four) (call_value n i j) ∷ []
-unfolding site decide
-site_made n i j h low call = rw (listed_made n i j call, decided_made n i j h low call) refl
+site_made n i j h low call = site_written (made n) (made_section n i) j (made_relocation n i j) (Field (ByteSize Four) (call_value n i j)) (record { size = ByteSize Four; value = call_value n i j }) (listed_made n i j call) (decide_made n i j h low call) refl
 
 -- eight fields of four bytes
 call_extents : (n i : ℕ) → IsCount n → i < n → map extent_of (flat_map (site (made n) (made_section n i)) (range_with_len 0 8)) ≡ map (λ (j : ℕ). record { start = 8 * j + 1; end = 8 * j + 1 + 4 }) (range_with_len 0 8)

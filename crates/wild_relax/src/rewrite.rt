@@ -57,10 +57,8 @@ impl Row {
         ensures { result ≡ (rewrite_of self).back }
     {
         match self {
-            Row::IfuncThroughStub
-            | Row::Plt32ToPc32
-            | Row::PltOffToGotOff
-            | Row::DescriptorCall => 0,
+            Row::IfuncThroughStub | Row::Plt32ToPc32 | Row::PltOffToGotOff | Row::DescriptorCall =>
+                0,
             Row::RexGotMovToLea(_)
             | Row::GotMovToImmediate
             | Row::GotMovToLea

@@ -82,7 +82,7 @@ fn link(bytes: &mut [u8], relocations: &[RelocationInfo], setting: Setting) -> O
         setting.kind,
         CODE,
         setting.relax,
-        setting.symbol,
+        Some(setting.symbol),
         setting.address,
     );
     match found {
@@ -113,7 +113,8 @@ fn link(bytes: &mut [u8], relocations: &[RelocationInfo], setting: Setting) -> O
 
 #[test]
 fn plt_stubs(rt: HostRuntime) -> Result<(), Fail> {
-    // As `as` 2.40 assembles `endbr64; bnd jmp *0x1ff5(%rip); nopl 0(%rax,%rax,1)`.
+    // As `as` 2.40 assembles `endbr64; bnd jmp *0x1ff5(%rip); {disp8} nopl 0(%rax,%rax,1)`. GNU `ld` 2.40 (`-z ibtplt`) and lld 22
+    // (`-z force-ibt`) write the stub without `bnd`, and one byte more of the `nop`.
     let wanted = [
         0xf3, 0x0f, 0x1e, 0xfa, 0xf2, 0xff, 0x25, 0xf5, 0x1f, 0x00, 0x00, 0x0f, 0x1f, 0x44, 0x00,
         0x00,
@@ -134,6 +135,7 @@ fn plt_stubs(rt: HostRuntime) -> Result<(), Fail> {
     Ok(())
 }
 
+// As GNU `ld -static -pie` 2.40 wrote them at these addresses.
 #[test]
 fn rex_gotpcrelx(rt: HostRuntime) -> Result<(), Fail> {
     let own = with_symbol(MOVABLE, OWN, 0x1007, 0x3008);
@@ -163,6 +165,7 @@ fn rex_gotpcrelx(rt: HostRuntime) -> Result<(), Fail> {
     Ok(())
 }
 
+// As lld 22 wrote the first. It keeps the slot of an absolute symbol: no linker here writes that immediate.
 #[test]
 fn rex2_gotpcrelx(rt: HostRuntime) -> Result<(), Fail> {
     let own = with_symbol(MOVABLE, OWN, 0x1000, 0x3008);
@@ -184,6 +187,7 @@ fn rex2_gotpcrelx(rt: HostRuntime) -> Result<(), Fail> {
     Ok(())
 }
 
+// As GNU `ld -no-pie` 2.40 and lld 22 wrote them.
 #[test]
 fn indirect_call_and_jump(rt: HostRuntime) -> Result<(), Fail> {
     let own = with_symbol(FIXED, OWN, 0x401000, 0x401100);
@@ -510,6 +514,256 @@ fn ld_of_thread_local_data_elsewhere(rt: HostRuntime) -> Result<(), Fail> {
     Ok(())
 }
 
+// Each instruction, whose last four bytes are a field of that type, becomes the other.
+fn all_become(with: Setting, number: u32, cases: &[(&[u8], &[u8])]) -> bool {
+    cases.iter().all(|(input, output)| {
+        let field = input.len().saturating_sub(4) as u64;
+        becomes(with, &[relocation(number, field, -4)], input, output)
+    })
+}
+
+// What stands in a symbol's slot, or in the output's own thread-local data 8 bytes below their end.
+fn through(target: u64, setting: Setting) -> Setting {
+    Setting { target, ..setting }
+}
+
+const LAST: u64 = 0xffff_ffff_ffff_fff8;
+
+// R_X86_64_GOTPCREL, as GNU `ld` 2.40 wrote it at these addresses with `-no-pie`, `-pie`, and of a hidden symbol with `-shared`. It
+// does so with `movl` too, which stays here.
+#[test]
+fn ld_gotpcrel(rt: HostRuntime) -> Result<(), Fail> {
+    let fixed = with_symbol(FIXED, OWN, 0x401020, 0x402008);
+    let near: [(&[u8], &[u8]); 2] = [
+        (b"\x48\x8b\x05\0\0\0\0", b"\x48\x8d\x05\xe1\x0f\0\0"),
+        (b"\x4c\x8b\x05\0\0\0\0", b"\x4c\x8d\x05\xe1\x0f\0\0"),
+    ];
+    assert!(rt; all_become(fixed, 9, &near));
+    let moved: [(&[u8], &[u8]); 2] = [
+        (b"\x48\x8b\x05\0\0\0\0", b"\x48\x8d\x05\xe1\x1f\0\0"),
+        (b"\x4c\x8b\x05\0\0\0\0", b"\x4c\x8d\x05\xe1\x1f\0\0"),
+    ];
+    assert!(rt; all_become(with_symbol(DYNAMIC, OWN, 0x1020, 0x3008), 9, &moved));
+    assert!(rt;
+        all_become(
+            with_symbol(OutputKind::SharedObject, OWN, 0x1020, 0x3008),
+            9,
+            &moved
+        )
+    );
+    let bare: [(&[u8], &[u8]); 1] = [(b"\x8b\x05\0\0\0\0", b"\x8d\x05\xe2\x0f\0\0")];
+    assert!(rt; !all_become(fixed, 9, &bare));
+    Ok(())
+}
+
+// R_X86_64_GOTPCRELX, R_X86_64_REX_GOTPCRELX, as GNU `ld` 2.40 wrote them: an immediate with `-no-pie`, and of absolute symbols; a
+// distance with `-pie`, and of a hidden symbol with `-shared`. Of an absolute symbol with `-pie` it leaves `sub` and `cmp` as they
+// are, which become immediates here.
+#[test]
+fn ld_gotpcrelx(rt: HostRuntime) -> Result<(), Fail> {
+    let fixed = with_symbol(FIXED, OWN, 0x401020, 0x402008);
+    let number: [(&[u8], &[u8]); 1] = [(b"\x8b\x05\0\0\0\0", b"\xc7\xc0\x08\x20\x40\0")];
+    assert!(rt; all_become(fixed, 41, &number));
+    let distance: [(&[u8], &[u8]); 1] = [(b"\x8b\x05\0\0\0\0", b"\x8d\x05\xe2\x1f\0\0")];
+    assert!(rt; all_become(with_symbol(DYNAMIC, OWN, 0x1020, 0x3008), 41, &distance));
+    assert!(rt;
+        all_become(
+            with_symbol(OutputKind::SharedObject, OWN, 0x1020, 0x3008),
+            41,
+            &distance
+        )
+    );
+    let low: [(&[u8], &[u8]); 1] = [(b"\x8b\x05\0\0\0\0", b"\xc7\xc0\x34\x12\0\0")];
+    assert!(rt; all_become(with_symbol(FIXED, absolute(), 0x401020, 0x1234), 41, &low));
+    assert!(rt; all_become(with_symbol(DYNAMIC, absolute(), 0x1020, 0x1234), 41, &low));
+    let unsigned: [(&[u8], &[u8]); 1] = [(b"\x8b\x05\0\0\0\0", b"\xc7\xc0\x34\x12\0\x80")];
+    assert!(rt;
+        all_become(
+            with_symbol(FIXED, absolute(), 0x401020, 0x8000_1234),
+            41,
+            &unsigned
+        )
+    );
+    let others: [(&[u8], &[u8]); 4] = [
+        (b"\x48\x2b\x05\0\0\0\0", b"\x48\x81\xe8\x08\x20\x40\0"),
+        (b"\x4c\x2b\x2d\0\0\0\0", b"\x49\x81\xed\x08\x20\x40\0"),
+        (b"\x48\x3b\x05\0\0\0\0", b"\x48\x81\xf8\x08\x20\x40\0"),
+        (b"\x48\x3b\x2d\0\0\0\0", b"\x48\x81\xfd\x08\x20\x40\0"),
+    ];
+    assert!(rt; all_become(fixed, 42, &others));
+    let still: [(&[u8], &[u8]); 2] = [
+        (b"\x4c\x2b\x2d\0\0\0\0", b"\x49\x81\xed\x34\x12\0\0"),
+        (b"\x48\x3b\x2d\0\0\0\0", b"\x48\x81\xfd\x34\x12\0\0"),
+    ];
+    assert!(rt; all_become(with_symbol(FIXED, absolute(), 0x401020, 0x1234), 42, &still));
+    Ok(())
+}
+
+// R_X86_64_CODE_4_GOTPCRELX, as lld 22 wrote it with `-pie`, and `sub` and `cmp` with `-no-pie`. Its `mov` becomes `lea` with `-no-pie`
+// too, where there is an immediate here.
+#[test]
+fn lld_code_4_gotpcrelx(rt: HostRuntime) -> Result<(), Fail> {
+    let moved: [(&[u8], &[u8]); 3] = [
+        (b"\xd5\x48\x8b\x05\0\0\0\0", b"\xd5\x48\x8d\x05\xab\x20\0\0"),
+        (b"\xd5\x4c\x8b\x05\0\0\0\0", b"\xd5\x4c\x8d\x05\xab\x20\0\0"),
+        (b"\xd5\x48\x8b\x2d\0\0\0\0", b"\xd5\x48\x8d\x2d\xab\x20\0\0"),
+    ];
+    assert!(rt; all_become(with_symbol(DYNAMIC, OWN, 0x1265, 0x3318), 43, &moved));
+    let fixed: [(&[u8], &[u8]); 2] = [
+        (
+            b"\xd5\x48\x2b\x05\0\0\0\0",
+            b"\xd5\x18\x81\xe8\x98\x21\x20\0",
+        ),
+        (
+            b"\xd5\x4c\x3b\x2d\0\0\0\0",
+            b"\xd5\x19\x81\xfd\x98\x21\x20\0",
+        ),
+    ];
+    assert!(rt; all_become(with_symbol(FIXED, OWN, 0x201178, 0x202198), 43, &fixed));
+    Ok(())
+}
+
+// R_X86_64_GOTTPOFF, as GNU `ld` 2.40 wrote it with `-pie`. It makes `lea` of an `add` but of `%rsp` and `%r12`: `48 03 05` becomes
+// `48 8d 80` there, and `48 81 c0` here.
+#[test]
+fn ld_gottpoff(rt: HostRuntime) -> Result<(), Fail> {
+    let own = through(LAST, with_symbol(DYNAMIC, OWN, 0x1020, 0x2f18));
+    let same: [(&[u8], &[u8]); 4] = [
+        (b"\x48\x03\x25\0\0\0\0", b"\x48\x81\xc4\xf8\xff\xff\xff"),
+        (b"\x4c\x03\x25\0\0\0\0", b"\x49\x81\xc4\xf8\xff\xff\xff"),
+        (b"\x48\x8b\x25\0\0\0\0", b"\x48\xc7\xc4\xf8\xff\xff\xff"),
+        (b"\x4c\x8b\x25\0\0\0\0", b"\x49\xc7\xc4\xf8\xff\xff\xff"),
+    ];
+    assert!(rt; all_become(own, 22, &same));
+    let other: [(&[u8], &[u8]); 1] = [(b"\x48\x03\x05\0\0\0\0", b"\x48\x81\xc0\xf8\xff\xff\xff")];
+    assert!(rt; all_become(own, 22, &other));
+    Ok(())
+}
+
+// R_X86_64_CODE_4_GOTTPOFF and R_X86_64_CODE_4_GOTPC32_TLSDESC, as lld 22 wrote them with `-pie`.
+#[test]
+fn lld_code_4_of_thread_local_data(rt: HostRuntime) -> Result<(), Fail> {
+    let own = through(LAST, with_symbol(DYNAMIC, OWN, 0x129d, 0x2f18));
+    let offsets: [(&[u8], &[u8]); 6] = [
+        (
+            b"\xd5\x48\x8b\x05\0\0\0\0",
+            b"\xd5\x18\xc7\xc0\xf8\xff\xff\xff",
+        ),
+        (
+            b"\xd5\x4c\x8b\x05\0\0\0\0",
+            b"\xd5\x19\xc7\xc0\xf8\xff\xff\xff",
+        ),
+        (
+            b"\xd5\x48\x8b\x2d\0\0\0\0",
+            b"\xd5\x18\xc7\xc5\xf8\xff\xff\xff",
+        ),
+        (
+            b"\xd5\x48\x03\x05\0\0\0\0",
+            b"\xd5\x18\x81\xc0\xf8\xff\xff\xff",
+        ),
+        (
+            b"\xd5\x4c\x03\x2d\0\0\0\0",
+            b"\xd5\x19\x81\xc5\xf8\xff\xff\xff",
+        ),
+        (
+            b"\xd5\x48\x03\x25\0\0\0\0",
+            b"\xd5\x18\x81\xc4\xf8\xff\xff\xff",
+        ),
+    ];
+    assert!(rt; all_become(own, 44, &offsets));
+    let descriptors: [(&[u8], &[u8]); 3] = [
+        (
+            b"\xd5\x48\x8d\x05\0\0\0\0",
+            b"\xd5\x18\xc7\xc0\xf8\xff\xff\xff",
+        ),
+        (
+            b"\xd5\x4c\x8d\x05\0\0\0\0",
+            b"\xd5\x19\xc7\xc0\xf8\xff\xff\xff",
+        ),
+        (
+            b"\xd5\x48\x8d\x2d\0\0\0\0",
+            b"\xd5\x18\xc7\xc5\xf8\xff\xff\xff",
+        ),
+    ];
+    assert!(rt; all_become(own, 45, &descriptors));
+    let slot = through(0x2398, with_symbol(DYNAMIC, OTHERS, 0x12b0, 0));
+    let by_slot: [(&[u8], &[u8]); 3] = [
+        (b"\xd5\x48\x8d\x05\0\0\0\0", b"\xd5\x48\x8b\x05\xe0\x10\0\0"),
+        (b"\xd5\x4c\x8d\x05\0\0\0\0", b"\xd5\x4c\x8b\x05\xe0\x10\0\0"),
+        (b"\xd5\x48\x8d\x2d\0\0\0\0", b"\xd5\x48\x8b\x2d\xe0\x10\0\0"),
+    ];
+    assert!(rt; all_become(slot, 45, &by_slot));
+    Ok(())
+}
+
+// `leaq x@tlsgd(%rip), %rdi` with `call *__tls_get_addr@GOTPCREL(%rip)`, `leaq x@tlsdesc(%rip), %rax` and `call *x@tlscall(%rax)`
+// behind it, as GNU `ld` 2.40 wrote them with `-pie` where a shared object has x; and with R_X86_64_GOTPCREL at the call, as lld 22 did.
+#[test]
+fn ld_through_a_slot(rt: HostRuntime) -> Result<(), Fail> {
+    let slot = through(0x2fd8, with_symbol(DYNAMIC, OTHERS, 0x1020, 0));
+    let general = b"\x66\x48\x8d\x3d\0\0\0\0\x66\x48\xff\x15\0\0\0\0";
+    let calls = [relocation(19, 4, -4), call(41, 12, -4)];
+    let wanted = b"\x64\x48\x8b\x04\x25\0\0\0\0\x48\x03\x05\xa8\x1f\0\0";
+    assert!(rt; becomes(slot, &calls, general, wanted));
+    let slot = through(0x23d0, with_symbol(DYNAMIC, OTHERS, 0x12e0, 0));
+    let calls = [relocation(19, 4, -4), call(9, 12, -4)];
+    let wanted = b"\x64\x48\x8b\x04\x25\0\0\0\0\x48\x03\x05\xe0\x10\0\0";
+    assert!(rt; becomes(slot, &calls, general, wanted));
+    let lea: [(&[u8], &[u8]); 1] = [(b"\x48\x8d\x05\0\0\0\0", b"\x48\x8b\x05\xb9\x1f\0\0")];
+    assert!(rt;
+        all_become(
+            through(0x2fe0, with_symbol(DYNAMIC, OTHERS, 0x1020, 0)),
+            34,
+            &lea
+        )
+    );
+    let called = with_symbol(DYNAMIC, OTHERS, 0x1027, 0);
+    assert!(rt; becomes(called, &[relocation(35, 0, 0)], b"\xff\x10", b"\x66\x90"));
+    Ok(())
+}
+
+// The sequences that are longer than what stands in their place, filled with `nop`. GNU `ld` 2.40 writes the same instructions, with
+// `66 0f 1f 44 00 00` behind the first, and in the others with `66 66 66 66 2e 0f 1f 84 00 00 00 00 00`, or four prefixes
+// `66`, before them; lld 22 writes the third as GNU `ld` does.
+#[test]
+fn filled_with_nops(rt: HostRuntime) -> Result<(), Fail> {
+    let own = through(LAST, with_symbol(DYNAMIC, OWN, 0x1040, 0x2f18));
+    let large = b"\x48\x8d\x3d\0\0\0\0\x48\xb8\0\0\0\0\0\0\0\0\x48\x01\xd8\xff\xd0";
+    let general = [relocation(19, 3, -4), call(31, 9, 0)];
+    let number =
+        b"\x64\x48\x8b\x04\x25\0\0\0\0\x48\x8d\x80\xf8\xff\xff\xff\x90\x90\x90\x90\x90\x90";
+    assert!(rt; becomes(own, &general, large, number));
+    let local = [relocation(20, 3, -4), call(31, 9, 0)];
+    let pointer =
+        b"\x64\x48\x8b\x04\x25\0\0\0\0\x90\x90\x90\x90\x90\x90\x90\x90\x90\x90\x90\x90\x90";
+    assert!(rt; becomes(own, &local, large, pointer));
+    let local = [relocation(20, 3, -4), call(41, 9, -4)];
+    let by_slot = b"\x48\x8d\x3d\0\0\0\0\xff\x15\0\0\0\0";
+    let pointer = b"\x64\x48\x8b\x04\x25\0\0\0\0\x90\x90\x90\x90";
+    assert!(rt; becomes(own, &local, by_slot, pointer));
+    Ok(())
+}
+
+// A whole instruction, written over the bytes of the input by its row.
+#[test]
+fn templates(rt: HostRuntime) -> Result<(), Fail> {
+    let row = Row::IndirectJumpToDirect;
+    assert_eq!(rt; row.pattern_field(), 2);
+    assert_eq!(rt; row.pattern_size(), 6);
+    assert!(rt; !row.keeps_bytes() && !row.takes_next());
+    let mut room = *b"\xcc\xff\x25\0\0\0\0\xcc";
+    row.write_template(0x1234, &mut room, 1);
+    assert_eq!(rt; room, *b"\xcc\xe9\x34\x12\0\0\x90\xcc");
+    let row = Row::RexGotToImmediate(Prefix::Rex, Operation::Cmp);
+    let mut room = *b"\x4c\x3b\x2d\0\0\0\0";
+    row.write_template(0x1234, &mut room, 0);
+    assert_eq!(rt; room, *b"\x49\x81\xfd\x34\x12\0\0");
+    let sequence = Row::LocalDynamicToLocalExec(LocalForm::Regular);
+    assert!(rt; sequence.takes_next());
+    assert!(rt; Row::Plt32ToPc32.keeps_bytes());
+    Ok(())
+}
+
 // What is not rewritten: an interposable symbol, a shared object's thread-local data, rewriting turned off.
 #[test]
 fn nothing_stands(rt: HostRuntime) -> Result<(), Fail> {
@@ -526,6 +780,11 @@ fn nothing_stands(rt: HostRuntime) -> Result<(), Fail> {
         ..with_symbol(DYNAMIC, OWN, 0x1000, 0x3000)
     };
     assert_eq!(rt; link(&mut bytes, &REX, off), Outcome::Kept);
+    let elsewhere = with_symbol(DYNAMIC, OWN, 0x1000, 0x3000);
+    assert_eq!(rt;
+        link(&mut bytes, &[relocation(64, 3, -4)], elsewhere),
+        Outcome::Kept
+    );
     assert_eq!(rt; bytes, [0x48, 0x8b, 0x2d, 0, 0, 0, 0]);
     Ok(())
 }

@@ -83,6 +83,7 @@ address_kind kinds.GotRelGotBase v e = cc
 address_kind kinds.GotTpOff v e = cc
 address_kind kinds.TlsGd v e = cc
 address_kind kinds.TlsLd v e = cc
+address_kind kinds.TlsDesc v e = cc
 address_kind other v e = cc
 
 -- so that a field that is written, or moves, is none
@@ -142,8 +143,8 @@ itself_by l s i f v e no_offset (inl offset) = absurd (no_offset (subst TakesOff
 itself_by l s i f v e no_offset (inr t) = (subst TakesAddress e t.0, t.1)
 
 -- none of these is: the field of an address is one that a loader fills, and a size is no address
-pub left_follows : (l : Layout) (w : World) (m : Memory) (s : InputSection) (r : InputRelocation) → IsPlaced l w m → NamesSymbol l r → (f : IsLeftField l s r) → formula_of l.machine r.number ≡ Some f.fits.formula → IsLinkedAlone l (item_of s) r → ⊥
-left_follows l w m s r p listed f known a = by_treatment f.left.treated f.left.left f.left.is
+pub left_follows : (l : Layout) (w : World) (m : Memory) (s : InputSection) (i : ℕ) (r : InputRelocation) → IsPlaced l w m → NamesSymbol l r → (f : IsLeftField l s i r) → formula_of l.machine r.number ≡ Some f.fits.formula → IsLinkedAlone l (item_of s) r → ⊥
+left_follows l w m s index r p listed f known a = by_treatment f.left.treated f.left.left f.left.is
   where
     takes : TakesItself l (item_of s) a.symbol f.fits.formula
     takes = taken l s r f.fits.formula known a

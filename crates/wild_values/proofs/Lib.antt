@@ -2,8 +2,8 @@ mod Tests
 mod Bits
 mod OutputKinds
 mod KnownRows
+mod Rows
 mod Written
-mod Sections
 mod Fields
 mod Moves
 mod Values
@@ -25,7 +25,11 @@ mod SlotTerms
 mod AddressSlots
 mod ThreadSlots
 mod ThreadPlaces
+mod DescriptorSlots
 mod ThreadKinds
+pub mod OwnSymbols
+mod Descriptors
+mod RowFields
 mod AddressKinds
 mod EntryKinds
 mod Alone
