@@ -117,23 +117,6 @@ pub ascended_next : (l : Layout) (g f k : ℕ) (s : InputSection) (i reach next 
     → HasAscended l g f k s i reach now → relocation_errors l g f k s i ≡ [] → IsNext l s i reach o now room → o ≡ Some next → HasAscended l g f k s (i + 1) next room
 ascended_next l g f k s i reach next o now room lies before none step is = ascended_more l g f k s i reach next step.relocation step.decision now room step.listed lies before none step.is (sym step.reached ∙ is) (step.written next is)
 
--- one more relocation, written behind the others
-pub ascended_more : (l : Layout) (g f k : ℕ) (s : InputSection) (items : List InputRelocation) (i reach next : ℕ) (x : InputRelocation) (d : Decision) (now room : List ℕ) → items ≡ s.relocations → i < length items → x ≡ get_or items i x → All (FieldLies l.machine (length s.bytes)) s.relocations
-    → HasAscended l g f k s i reach now → refusal_of (at_offset g f k x.offset) (decided l s x) ≡ [] → decided l s x ≡ Ok d → reach_behind reach x d ≡ Some next → room ≡ put_decision now x d → HasAscended l g f k s (i + 1) next room
-ascended_more l g f k s items i reach next x d now room same h read lies before none is reaches put =
-    let ps = flat_map (site l s) (range_with_len 0 i) in
-    let here = decision_site l s i x d (listed_at s items i x same h read) is in
-    let more : flat_map (site l s) (range_with_len 0 (i + 1)) ≡ ps ++ site_of s x (Ok d) = flat_map-numbers (site l s) i ∙ ap (λ (qs : List Piece). ps ++ qs) here in
-    let lie = decision_lies l s items i (length s.bytes) x d same h read lies is in
-    let behind = site_behind s (length s.bytes) reach next ps x d before.apart before.ends lie reaches in
-    let apart : AreApart (length s.bytes) (ps ++ (site_of s x (Ok d) ++ [])) = subst (λ (qs : List Piece). AreApart (length s.bytes) (ps ++ qs)) (sym (append-nil (site_of s x (Ok d)))) behind.apart in
-    record {
-      none = none_refused l g f k s items i x h same read before.none none;
-      bytes = put ∙ ap (λ (old : List ℕ). put_decision old x d) before.bytes ∙ put_next s ps [] x d apart ∙ ap (λ (qs : List Piece). overlay qs s.bytes) (sym more);
-      apart = subst (AreApart (length s.bytes)) (sym more) behind.apart;
-      ends = subst (λ (qs : List Piece). All (EndsBy next) qs) (sym more) behind.ends;
-    }
-
 -- ---- all of them
 
 beside_all : (p : Piece) (ps : List Piece) → All (Apart p) ps → All (SharesNothing (extent_of p)) (map extent_of ps)

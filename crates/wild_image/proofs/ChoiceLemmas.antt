@@ -1,7 +1,8 @@
 -- Which relocations are asked what of their rows.
-use Rattle.std.proofs.Common.{◌≡◌, ℕ, zero, suc, ◌+◌, ◌-◌, ◌<◌, ◌≤◌, inl, inr, Bool, true, false, List, [], ◌∷◌, refl, sym, ap, ◌∙◌, arith, subst}
+use Rattle.std.proofs.Common.{◌≡◌, ℕ, zero, suc, ◌+◌, ◌-◌, ◌<◌, ◌≤◌, inl, inr, Bool, true, false, List, [], ◌∷◌, length, get_or, refl, sym, ap, ◌∙◌, arith, subst}
 use Rattle.std.specs.Prelude.{Option, Some, None, Result, Ok, Err, ◌&&◌, ◌||◌, ◌==◌, if◌then◌else◌, slice_get}
 use Rattle.std.proofs.lemmas.Bool.{cases_Bool, and_parts, eqb-true}
+use Rattle.std.proofs.lemmas.Option.{slice_get_read}
 use Rattle.wild_records.specs.Abi.Relocation.{r_x86_64_pc32}
 use Rattle.wild_plan.specs.declared.kind.Machine.{Machine}
 use Rattle.wild_plan.specs.declared.kind.Machine.TheVariants as machine
@@ -17,10 +18,15 @@ use Rattle.wild_relax.specs.declared.row.Row.TheVariants.{IfuncThroughStub, RexG
 use Rattle.wild_relax.specs.Question.{Question, relocation_of}
 use Rattle.wild_relax.specs.First.{first_standing, checked}
 use Rattle.wild_relax.specs.Rows.{rows_x86_64, number_of, applies, has_its_sequence, unknown_sequence, standing_x86_64, chosen_x86_64}
-use Rattle.wild_relax.specs.Relaxation.{rows_of, chosen_of}
+use Rattle.wild_relax.specs.Relaxation.{chosen_of}
 use Rattle.wild_layout.specs.Choice.{question_of, choice_by, choice_of, choice_at, choice, takes_next, is_partner}
-use Rattle.wild_layout.specs.Decide.{decided, decide}
+use Rattle.wild_plan.specs.declared.fault.Fault.{Fault}
+use Rattle.wild_plan.specs.Faults.{Refuses}
+use Rattle.wild_layout.specs.declared.decision.Decision.{Decision}
+use Rattle.wild_layout.specs.Decide.{decided, decide_with, decide}
+use Rattle.wild_layout.specs.Faults.{at_offset, refusal_at, relocation_errors}
 use Rattle.wild_layout.proofs.ChoiceLemmas.{choice_row, partner_is_taken}
+use Rattle.wild_image.proofs.FaultLemmas.{Refuses-head}
 use Rattle.wild_image.specs.Choice.{nameless, asked_of, infos_of, infos_from, may_take_next, may_be_partner}
 
 -- ---- rows that write a whole sequence
@@ -75,6 +81,11 @@ partner_behind l s (suc i) h = let e : suc i - 1 ≡ i = omega arith in rw e ref
 
 -- ---- the most common type
 
+no_choice : (l : Layout) (s : InputSection) (r : InputRelocation) (next : Option InputRelocation) (o : Option ℕ) → r.number ≡ r_x86_64_pc32 → choice_by l s r next o ≡ Ok None
+unfolding choice_by
+no_choice l s r next None number = refl
+no_choice l s r next (Some i) number = rw number refl
+
 -- a distance that no sequence takes along keeps its instruction
 pub common_keeps : (l : Layout) (s : InputSection) (i : ℕ) (r : InputRelocation) → slice_get s.relocations i ≡ Some r → r.number ≡ r_x86_64_pc32 → may_be_partner s.relocations i ≡ false → decide l s i ≡ decided l s r
 unfolding decide
@@ -82,11 +93,6 @@ common_keeps l s i r listed number before =
     let alone = none_before l s i before in
     let none = no_choice l s r (slice_get s.relocations (i + 1)) r.symbol number in
     rw (alone, listed, none) refl
-  where
-    no_choice : (l : Layout) (s : InputSection) (r : InputRelocation) (next : Option InputRelocation) (o : Option ℕ) → r.number ≡ r_x86_64_pc32 → choice_by l s r next o ≡ Ok None
-    unfolding choice_by
-    no_choice l s r next None number = refl
-    no_choice l s r next (Some i) number = rw number refl
 
 -- ---- what is asked
 
@@ -124,20 +130,20 @@ first_stands stands (q ∷ rs) r e = by stands q rs r (stands q) refl e (first_s
     by stands q rs r true is e later = let same : q ≡ r = cc in subst (λ x. stands x ≡ true) same is
     by stands q rs r false is e later = later e
 
+number_is : (q : Question) (row : Row) → applies q row ≡ true → (relocation_of q).number ≡ number_of row
+unfolding applies
+number_is q row h =
+    let a = (and_parts _ _ h).0 in
+    let b = (and_parts _ _ a).0 in
+    let c = (and_parts _ _ b).0 in
+    let d = (and_parts _ _ c).0 in
+    let e = (and_parts _ _ d).0 in
+    let f = (and_parts _ _ e).0 in
+    eqb-true (relocation_of q).number (number_of row) (and_parts _ _ f).0
+
 standing_number : (q : Question) (row : Row) → standing_x86_64 q ≡ Some row → (relocation_of q).number ≡ number_of row
 unfolding standing_x86_64
-standing_number q row e = by q row (first_stands (applies q) rows_x86_64 row e)
-  where
-    by : (q : Question) (row : Row) → applies q row ≡ true → (relocation_of q).number ≡ number_of row
-    unfolding applies
-    by q row h =
-        let a = (and_parts _ _ h).0 in
-        let b = (and_parts _ _ a).0 in
-        let c = (and_parts _ _ b).0 in
-        let d = (and_parts _ _ c).0 in
-        let e = (and_parts _ _ d).0 in
-        let f = (and_parts _ _ e).0 in
-        eqb-true (relocation_of q).number (number_of row) (and_parts _ _ f).0
+standing_number q row e = number_is q row (first_stands (applies q) rows_x86_64 row e)
 
 -- what stands does not hang on them
 same_standing : (l : Layout) (s : InputSection) (r : InputRelocation) (n : ℕ) (next : Option InputRelocation) → standing_x86_64 (asked_of l s n (nameless r ∷ [])) ≡ standing_x86_64 (question_of l s r n next)
@@ -189,12 +195,32 @@ alone_choice l s i r n listed named other h = let f = other_number r.number r_x8
     by l s r n next machine.X86_64 h = same_chosen l s r n next h
     by l s r n next machine.AArch64 h = refl
 
--- ---- rows of rewrites
+-- ---- the relocation that is asked about
 
--- rows are of x86-64
-pub row_machine : (l : Layout) (s : InputSection) (i : ℕ) (row : Row) → choice l s i ≡ Ok (Some row) → l.machine ≡ machine.X86_64
-row_machine l s i row e = by l s (slice_get s.relocations i) (slice_get s.relocations (i + 1)) row e
+pub read_at : {X : Type 0} (items xs : List X) (i : ℕ) (x : X) → items ≡ xs → i < length xs → x ≡ get_or items i x → slice_get xs i ≡ Some x
+read_at {X} items xs i x same h read = slice_get_read xs (length xs) i x refl h (subst (λ (ys : List X). x ≡ get_or ys i x) same read)
+
+pub no_symbol : (o : Option ℕ) → ((n : ℕ) → o ≡ Some n → ⊥) → o ≡ None
+no_symbol None h = refl
+no_symbol (Some n) h = absurd (h n refl)
+
+-- ---- what is decided
+
+-- by the row that stands
+pub decided_with : (l : Layout) (s : InputSection) (i : ℕ) (r : InputRelocation) (c : Result (Option Row) UnknownSequence) → is_partner l s i ≡ false → slice_get s.relocations i ≡ Some r → choice l s i ≡ c → decide l s i ≡ decide_with l s r c
+unfolding decide
+decided_with l s i r c alone listed is = rw (alone, listed) (ap (decide_with l s r) (rw listed at is))
+
+-- ---- faults
+
+pub ok_has_none : (l : Layout) (g f k : ℕ) (s : InputSection) (i : ℕ) (d : Decision) → decide l s i ≡ Ok d → relocation_errors l g f k s i ≡ []
+unfolding relocation_errors
+ok_has_none l g f k s i d is = rw is (by g f k d (slice_get s.relocations i))
   where
-    by : (l : Layout) (s : InputSection) (o next : Option InputRelocation) (row : Row) → choice_at l s o next ≡ Ok (Some row) → l.machine ≡ machine.X86_64
-    by l s None next row e = cc
-    by l s (Some r) next row e = (choice_row l s r next row e).machine
+    by : (g f k : ℕ) (d : Decision) (o : Option InputRelocation) → refusal_at g f k (Ok d) o ≡ []
+    by g f k d None = refl
+    by g f k d (Some r) = refl
+
+pub err_is_first : (l : Layout) (g f k : ℕ) (s : InputSection) (i : ℕ) (r : InputRelocation) (fault : Fault) → slice_get s.relocations i ≡ Some r → decide l s i ≡ Err fault → Refuses (record { fault = fault; at = at_offset g f k r.offset }) (relocation_errors l g f k s i)
+unfolding relocation_errors
+err_is_first l g f k s i r fault listed is = rw (listed, is) (Refuses-head (record { fault = fault; at = at_offset g f k r.offset }) [])

@@ -198,6 +198,9 @@ extents_are s (r ∷ rs) (d ∷ ds) lie =
     ∙ ap (λ (es : List Extent). map extent_of (site_of s r (Ok d)) ++ es) (extents_are s rs ds (λ i q e listed made. lie (suc i) q e listed made))
     ∙ ap (λ (es : List Extent). es ++ decided_extents rs ds) (one_extent_is s r d (lie 0 r d refl refl))
 
+pub lies_in_bytes : (l : Layout) (s : InputSection) (n : ℕ) → n ≡ length s.bytes → All (FieldLies l.machine n) s.relocations → All (FieldLies l.machine (length s.bytes)) s.relocations
+lies_in_bytes l s n whole lies = subst (λ (m : ℕ). All (FieldLies l.machine m) s.relocations) whole lies
+
 -- what was decided of the relocations lies where the clauses say
 pub decisions_lie : (l : Layout) (s : InputSection) (ds : List Decision) (n : ℕ) → AreDecided l s ds → n ≡ length s.bytes → All (FieldLies l.machine n) s.relocations → DecisionsLie n s.relocations ds
 decisions_lie l s ds n h whole lies = λ i r d listed made. decision_lies l s i n r d listed whole lies (h.each i d made)
