@@ -6,5 +6,11 @@ mod WindowRows
 mod WindowSites
 mod WindowFields
 mod Windows
+mod Clash
+mod KeptTables
+mod KeptRelocations
+mod KeptModes
+mod KeptSequences
+mod Kept
 mod KeptDo
 mod Items

@@ -1,7 +1,7 @@
 -- Words of packed relocations, counted; no field is left to an entry where the section is not loaded, or the type is none of
 -- those that entries fill.
 use Rattle.std.proofs.Common.{◌≡◌, ℕ, ◌+◌, ◌≤◌, Bool, true, false, List, [], ◌∷◌, length, drop, Option, Some, None, refl, ap, ◌∙◌, arith}
-use Rattle.std.specs.Prelude.{◌==◌, ◌&&◌, ◌||◌, not, if◌then◌else◌}
+use Rattle.std.specs.Prelude.{◌==◌, ◌&&◌, ◌||◌, not, nat_lt, if◌then◌else◌}
 use Rattle.std.specs.List.{flat_map, filter, list_all}
 use Rattle.std.proofs.lemmas.List.{drop_all}
 use Rattle.wild_records.specs.Abi.Relocation.{r_x86_64_64, r_x86_64_size32, r_x86_64_size64}
@@ -19,13 +19,14 @@ use Rattle.wild_plan.specs.declared.input.InputSection.{InputSection}
 use Rattle.wild_plan.specs.declared.kind.Machine.{Machine}
 use Rattle.wild_plan.specs.declared.kind.Machine.TheVariants as machine
 use Rattle.wild_plan.specs.declared.layout.Layout.{Layout}
+use Rattle.wild_plan.specs.declared.treatment.Treatment.{Treatment}
 use Rattle.wild_plan.specs.declared.treatment.Treatment.TheVariants.{Value, BaseRelative, Symbolic, Indirect, Recompile}
 use Rattle.wild_plan.specs.Entries.{is_left_to_entry, may_be_left}
 use Rattle.wild_plan.specs.Lookups.{allocated, writable}
 use Rattle.wild_plan.specs.Rows.{row_of}
 use Rattle.wild_plan.specs.Flags.{has_flag, interposable, ifunc}
 use Rattle.wild_plan.specs.Kinds.{is_position_independent, is_shared_object}
-use Rattle.wild_plan.specs.Treatment.{flags_at, is_barred, is_narrow, moves, kind_treatment, row_treatment, treatment}
+use Rattle.wild_plan.specs.Treatment.{flags_at, is_barred, is_narrow, moves, address_treatment, size_treatment, kind_treatment, row_treatment, treatment}
 
 -- a place more, in front
 pub counted_more : (r : Run) (p : ℕ) (ps : List ℕ) → counted r (p ∷ ps) ≡ new_words (choice r p) + counted (run_after (choice r p) r) ps
@@ -50,15 +51,20 @@ counted_end f r s xs i n end h =
 
 -- ---- fields that are left to entries
 
+-- a symbol that is not there leaves none
+there_keeps : (there : Bool) (t : Treatment) (row : RelocationKindInfo) → is_left_to_entry t ≡ false → is_left_to_entry (if there then t else Value row) ≡ false
+there_keeps true t row h = h
+there_keeps false t row h = refl
+
 kind_keeps : (l : Layout) (s : InputSection) (o : Option ℕ) (row : RelocationKindInfo) (k : RelocationKind) → allocated s.flags ≡ false → is_left_to_entry (kind_treatment l s o row k) ≡ false
 kind_keeps l s None row kinds.Absolute h = refl
-kind_keeps l s (Some i) row kinds.Absolute h = rw h refl
+kind_keeps l s (Some i) row kinds.Absolute h = there_keeps (nat_lt i (length l.symbols)) (address_treatment l s row i) row (rw h refl)
 kind_keeps l s None row kinds.Relative h = rw h refl
 kind_keeps l s (Some i) row kinds.Relative h = rw h refl
 kind_keeps l s None row kinds.TpOff h = refl
 kind_keeps l s (Some i) row kinds.TpOff h = rw h refl
 kind_keeps l s None row kinds.SymbolSize h = refl
-kind_keeps l s (Some i) row kinds.SymbolSize h = rw h refl
+kind_keeps l s (Some i) row kinds.SymbolSize h = there_keeps (nat_lt i (length l.symbols)) (size_treatment l s row i) row (rw h refl)
 kind_keeps l s None row other h = refl
 kind_keeps l s (Some i) row other h = refl
 
@@ -115,7 +121,7 @@ kind_stays : (l : Layout) (s : InputSection) (o : Option ℕ) (row : RelocationK
 kind_stays l s None row kinds.Absolute n h m = refl
 kind_stays l s (Some i) row kinds.Absolute n h m =
     let stays = number_known (writable s.flags) (n == r_x86_64_size32) (n == r_x86_64_size64) (field_width row == 8) (n == r_x86_64_64) h m in
-    address_stays (is_barred l s row i || is_narrow l s row) (allocated s.flags) (writable s.flags) (field_width row == 8) (interposable (flags_at l i)) (is_position_independent l.kind) (has_flag (flags_at l i) ifunc) (moves l i) row i stays
+    there_keeps (nat_lt i (length l.symbols)) (address_treatment l s row i) row (address_stays (is_barred l s row i || is_narrow l s row) (allocated s.flags) (writable s.flags) (field_width row == 8) (interposable (flags_at l i)) (is_position_independent l.kind) (has_flag (flags_at l i) ifunc) (moves l i) row i stays)
 kind_stays l s None row kinds.Relative n h m = refused_stays (allocated s.flags && is_position_independent l.kind) row
 kind_stays l s (Some i) row kinds.Relative n h m = refused_stays (is_barred l s row i) row
 kind_stays l s None row kinds.TpOff n h m = refl

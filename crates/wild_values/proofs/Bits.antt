@@ -3,8 +3,8 @@ use Rattle.std.proofs.Common.{◌≡◌, ℕ, ◌*◌, ◌/◌, ◌%◌, true, r
 use Rattle.std.specs.Int.RustNames.{bit_and}
 use Rattle.std.proofs.lemmas.Nat.Bits.{and_pow}
 use Rattle.std.proofs.lemmas.Bool.{eqb-true}
-use Rattle.wild_records.specs.Abi.Section.{shf_alloc, shf_write}
-use Rattle.wild_plan.specs.Lookups.{bit, allocated, writable}
+use Rattle.wild_records.specs.Abi.Section.{shf_alloc, shf_write, shf_execinstr}
+use Rattle.wild_plan.specs.Lookups.{bit, allocated, writable, executable}
 use Rattle.wild_meaning.specs.Section.{IsSet}
 
 pub alloc_bit : (f : ℕ) → IsSet f shf_alloc → allocated f ≡ true
@@ -19,6 +19,13 @@ unfolding bit
 write_bit f h =
     let a : bit_and f 1 ≡ f / 1 % 2 * 1 = and_pow f 0 in
     let e : bit_and f 1 ≡ 1 = omega (arith, a, h) in
+    rw e refl
+
+pub code_bit : (f : ℕ) → IsSet f shf_execinstr → executable f ≡ true
+unfolding bit
+code_bit f h =
+    let a : bit_and f 4 ≡ f / 4 % 2 * 4 = and_pow f 2 in
+    let e : bit_and f 4 ≡ 4 = omega (arith, a, h) in
     rw e refl
 
 pub bit_write : (f : ℕ) → writable f ≡ true → IsSet f shf_write

@@ -6,11 +6,11 @@ use Rattle.std.proofs.lemmas.Bool.{ne_eqb}
 use Rattle.std.proofs.lemmas.Int.{of_z-to_z}
 use Rattle.wild_reloc.specs.Dynamic.{x86_64_type}
 use Rattle.wild_reloc.specs.declared.dynamic.DynamicRelocationKind.{DynamicRelocationKind}
-use Rattle.wild_reloc.specs.declared.dynamic.DynamicRelocationKind.TheVariants.{GotEntry, JumpSlot, DtpMod, DtpOff, TpOff, Irelative}
+use Rattle.wild_reloc.specs.declared.dynamic.DynamicRelocationKind.TheVariants.{GotEntry, JumpSlot, DtpMod, DtpOff, TpOff, TlsDesc, Irelative}
 use Rattle.wild_geometry.specs.Loaded.{MakesChange, entry_with}
 use Rattle.wild_geometry.specs.Slots.{IsLeft, IsFilledBy}
 use Rattle.wild_loader.specs.Given.{◌>>=◌, known}
-use Rattle.wild_loader.specs.Changes.{kind_of, change_of, answer_of, answer_at, module_and_offset, distance_of}
+use Rattle.wild_loader.specs.Changes.{kind_of, change_of, answer_of, answer_at, first_value, module_and_offset, distance_of, thread_offset}
 use Rattle.wild_loader.specs.declared.change.Change.{Change}
 use Rattle.wild_loader.specs.declared.change.Change.TheVariants as changes
 use Rattle.wild_loader.specs.declared.fault.LoadFault.{LoadFault}
@@ -122,36 +122,78 @@ record IsThreadWord (w : World) (module_number offset a x : ℕ) : Type 0 where
   pub known : distance_of w module_number ≡ Ok distance
   pub is : x ≡ ((distance + offset) % 2 ^ 64 + cast_unsigned w64 (cast_signed w64 a)) % 2 ^ 64
 
-thread_word : (w : World) (m : Memory) (place d a x : ℕ) (f : IsFilledBy w m place (record { kind = TpOff; symbol = d; addend = a }) x) → (p : ℕ × ℕ) × (module_and_offset w d ≡ Ok p) × IsThreadWord w p.0 p.1 a x
-unfolding change_of
-thread_word w m place d a x f =
-    let h = change_by w (x86_64_type TpOff) d a f.change kinds.ThreadOffset thread_is f.makes in
-    let o = after_step _ _ f.change h in
-    let p = after_step (module_and_offset w d) _ o.0 o.1 in
-    let t = after_step (distance_of w p.0.0) _ o.0 p.2 in
-    let same : ((t.0 + p.0.1) % 2 ^ 64 + cast_unsigned w64 (cast_signed w64 a)) % 2 ^ 64 ≡ o.0 = (let e : Ok (((t.0 + p.0.1) % 2 ^ 64 + cast_unsigned w64 (cast_signed w64 a)) % 2 ^ 64) ≡ Ok o.0 = t.2 in cc) in
-    (p.0, p.1, record { distance = t.0; known = t.1; is = stored m place x o.0 f.change o.2 f.leaves ∙ sym same })
+-- what such an entry makes of its symbol and its addend
+abbrev IsThreadStep : World → (d a x : ℕ) → Type 0
+IsThreadStep w d a x = (p : ℕ × ℕ) × (module_and_offset w d ≡ Ok p) × IsThreadWord w p.0 p.1 a x
 
--- TPOFF stores the offset of a symbol
-pub thread_filled : (w : World) (m : Memory) (place d x : ℕ) → d ≢ 0 → IsFilledBy w m place (record { kind = TpOff; symbol = d; addend = 0 }) x → (a : IsAnsweredBy w d) × (t : ℕ) × (distance_of w a.answer.module ≡ Ok t) × (x ≡ ((t + a.answer.offset) % 2 ^ 64 + 0) % 2 ^ 64)
-thread_filled w m place d x some f =
-    let h = thread_word w m place d 0 x f in
+thread_step : (w : World) (n d a o : ℕ) → thread_offset w (entry_with n d a) ≡ Ok o → IsThreadStep w d a o
+thread_step w n d a o h =
+    let p = after_step (module_and_offset w d) _ o h in
+    let t = after_step (distance_of w p.0.0) _ o p.2 in
+    let same : ((t.0 + p.0.1) % 2 ^ 64 + cast_unsigned w64 (cast_signed w64 a)) % 2 ^ 64 ≡ o = (let e : Ok (((t.0 + p.0.1) % 2 ^ 64 + cast_unsigned w64 (cast_signed w64 a)) % 2 ^ 64) ≡ Ok o = t.2 in cc) in
+    (p.0, p.1, record { distance = t.0; known = t.1; is = sym same })
+
+-- of a symbol
+named_thread : (w : World) (d x : ℕ) → d ≢ 0 → IsThreadStep w d 0 x → (a : IsAnsweredBy w d) × (t : ℕ) × (distance_of w a.answer.module ≡ Ok t) × (x ≡ ((t + a.answer.offset) % 2 ^ 64 + 0) % 2 ^ 64)
+named_thread w d x some h =
     let a = named_pair w d h.0 some h.1 in
     let t = h.2 in
     let first : h.0.0 ≡ a.0.answer.module = ap (λ (q : ℕ × ℕ). q.0) a.1 in
     let second : h.0.1 ≡ a.0.answer.offset = ap (λ (q : ℕ × ℕ). q.1) a.1 in
     (a.0, t.distance, subst (λ (n : ℕ). distance_of w n ≡ Ok t.distance) first t.known, t.is ∙ ap (λ (n : ℕ). ((t.distance + n) % 2 ^ 64 + 0) % 2 ^ 64) second)
 
--- or a place in the own module
-pub own_thread_filled : (w : World) (m : Memory) (place a x : ℕ) → a < 2 ^ 64 → IsFilledBy w m place (record { kind = TpOff; symbol = 0; addend = a }) x → (t : ℕ) × (distance_of w w.own_module ≡ Ok t) × (x ≡ ((t + 0) % 2 ^ 64 + a) % 2 ^ 64)
-own_thread_filled w m place a x low f =
-    let h = thread_word w m place 0 a x f in
+-- or of a place in the own module
+own_thread : (w : World) (a x : ℕ) → a < 2 ^ 64 → IsThreadStep w 0 a x → (t : ℕ) × (distance_of w w.own_module ≡ Ok t) × (x ≡ ((t + 0) % 2 ^ 64 + a) % 2 ^ 64)
+own_thread w a x low h =
     let e : Ok (w.own_module, 0) ≡ Ok h.0 = h.1 in
     let same : (w.own_module, 0) ≡ h.0 = cc in
     let first : h.0.0 ≡ w.own_module = ap (λ (q : ℕ × ℕ). q.0) (sym same) in
     let second : h.0.1 ≡ 0 = ap (λ (q : ℕ × ℕ). q.1) (sym same) in
     let t = h.2 in
     (t.distance, subst (λ (n : ℕ). distance_of w n ≡ Ok t.distance) first t.known, t.is ∙ ap (λ (n : ℕ). ((t.distance + n) % 2 ^ 64 + cast_unsigned w64 (cast_signed w64 a)) % 2 ^ 64) second ∙ ap (λ (n : ℕ). ((t.distance + 0) % 2 ^ 64 + n) % 2 ^ 64) (of_z-to_z w64 a low))
+
+-- TPOFF stores it
+thread_word : (w : World) (m : Memory) (place d a x : ℕ) → IsFilledBy w m place (record { kind = TpOff; symbol = d; addend = a }) x → IsThreadStep w d a x
+unfolding change_of
+thread_word w m place d a x f =
+    let h = change_by w (x86_64_type TpOff) d a f.change kinds.ThreadOffset thread_is f.makes in
+    let o = after_step (thread_offset w (entry_with (x86_64_type TpOff) d a)) _ f.change h in
+    subst (λ (n : ℕ). IsThreadStep w d a n) (sym (stored m place x o.0 f.change o.2 f.leaves)) (thread_step w (x86_64_type TpOff) d a o.0 o.1)
+
+pub thread_filled : (w : World) (m : Memory) (place d x : ℕ) → d ≢ 0 → IsFilledBy w m place (record { kind = TpOff; symbol = d; addend = 0 }) x → (a : IsAnsweredBy w d) × (t : ℕ) × (distance_of w a.answer.module ≡ Ok t) × (x ≡ ((t + a.answer.offset) % 2 ^ 64 + 0) % 2 ^ 64)
+thread_filled w m place d x some f = named_thread w d x some (thread_word w m place d 0 x f)
+
+pub own_thread_filled : (w : World) (m : Memory) (place a x : ℕ) → a < 2 ^ 64 → IsFilledBy w m place (record { kind = TpOff; symbol = 0; addend = a }) x → (t : ℕ) × (distance_of w w.own_module ≡ Ok t) × (x ≡ ((t + 0) % 2 ^ 64 + a) % 2 ^ 64)
+own_thread_filled w m place a x low f = own_thread w a x low (thread_word w m place 0 a x f)
+
+-- TLSDESC notes it for a descriptor
+descriptor_notes : kind_of processors.X86_64 (x86_64_type TlsDesc) ≡ Some kinds.Descriptor
+unfolding kind_of
+descriptor_notes = refl
+
+noted : (m : Memory) (place x o : ℕ) (c : Change) → made (changes.Descriptor o) ≡ made c → IsLeft m place c x → first_value m.descriptors place ≡ Some o
+noted m place x o c e h =
+    let same : changes.Descriptor o ≡ c = cc in
+    subst (λ (d : Change). IsLeft m place d x) (sym same) h
+
+descriptor_word : (w : World) (m : Memory) (place d a x : ℕ) → IsFilledBy w m place (record { kind = TlsDesc; symbol = d; addend = a }) x → (o : ℕ) × (first_value m.descriptors place ≡ Some o) × IsThreadStep w d a o
+unfolding change_of
+descriptor_word w m place d a x f =
+    let h = change_by w (x86_64_type TlsDesc) d a f.change kinds.Descriptor descriptor_notes f.makes in
+    let o = after_step (thread_offset w (entry_with (x86_64_type TlsDesc) d a)) _ f.change h in
+    (o.0, noted m place x o.0 f.change o.2 f.leaves, thread_step w (x86_64_type TlsDesc) d a o.0 o.1)
+
+pub descriptor_filled : (w : World) (m : Memory) (place d x : ℕ) → d ≢ 0 → IsFilledBy w m place (record { kind = TlsDesc; symbol = d; addend = 0 }) x → (o : ℕ) × (first_value m.descriptors place ≡ Some o) × (a : IsAnsweredBy w d) × (t : ℕ) × (distance_of w a.answer.module ≡ Ok t) × (o ≡ ((t + a.answer.offset) % 2 ^ 64 + 0) % 2 ^ 64)
+descriptor_filled w m place d x some f =
+    let o = descriptor_word w m place d 0 x f in
+    let a = named_thread w d o.0 some o.2 in
+    (o.0, o.1, a.0, a.1, a.2, a.3)
+
+pub own_descriptor_filled : (w : World) (m : Memory) (place a x : ℕ) → a < 2 ^ 64 → IsFilledBy w m place (record { kind = TlsDesc; symbol = 0; addend = a }) x → (o : ℕ) × (first_value m.descriptors place ≡ Some o) × (t : ℕ) × (distance_of w w.own_module ≡ Ok t) × (o ≡ ((t + 0) % 2 ^ 64 + a) % 2 ^ 64)
+own_descriptor_filled w m place a x low f =
+    let o = descriptor_word w m place 0 a x f in
+    let t = own_thread w a o.0 low o.2 in
+    (o.0, o.1, t.0, t.1, t.2)
 
 -- ---- resolvers
 

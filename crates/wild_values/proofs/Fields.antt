@@ -1,9 +1,8 @@
 -- A kept section in memory, and the fields of its relocations.
-use Rattle.std.proofs.Common.{◌≡◌, ℕ, ℤ, ◌+◌, ◌-◌, ◌%◌, ◌^◌, ◌<◌, ◌≤◌, ◌⊎◌, Bool, true, false, List, [], ◌∷◌, length, slice_range, refl, sym, ap, ◌∙◌, arith, subst}
-use Rattle.std.specs.Prelude.{Some, All, Contains, slice_index, if◌then◌else◌, ◌==◌}
+use Rattle.std.proofs.Common.{◌≡◌, ℕ, ℤ, ◌+◌, ◌-◌, ◌%◌, ◌^◌, ◌<◌, ◌≤◌, Bool, true, false, List, [], ◌∷◌, length, slice_range, refl, sym, ap, ◌∙◌, arith, subst}
+use Rattle.std.specs.Prelude.{Some, All, slice_get, if◌then◌else◌, ◌==◌}
 use Rattle.std.specs.List.{list_all}
 use Rattle.std.proofs.lemmas.List.{length-take, length-drop}
-use Rattle.std.proofs.lemmas.List.Elements.{All-contains}
 use Rattle.wild_words.specs.Words.{word}
 use Rattle.wild_words.proofs.WordLemmas.{number-word, length-word}
 use Rattle.wild_plan.specs.declared.kind.Machine.{Machine}
@@ -12,35 +11,34 @@ use Rattle.wild_plan.specs.declared.input.InputRelocation.{InputRelocation}
 use Rattle.wild_plan.specs.declared.input.InputSection.{InputSection}
 use Rattle.wild_plan.specs.declared.layout.Layout.{Layout}
 use Rattle.wild_plan.specs.Lookups.{allocated}
-use Rattle.wild_reloc.specs.Field.{field_width, size_width, size_written, written}
+use Rattle.wild_reloc.specs.Field.{field_width, size_width, written}
 use Rattle.wild_reloc.specs.Formula.{Formula, Form, formula_at, NoField, Plain, Full, Bits, Keeps, Reads}
+use Rattle.wild_reloc.specs.Agreement.{X86_64Agrees, WidthsHold}
+use Rattle.wild_reloc.specs.declared.info.RelocationKindInfo.{RelocationKindInfo}
 use Rattle.wild_reloc.specs.FormulaX86_64.{x86_64_formula, x86_64_formulas}
 use Rattle.wild_reloc.specs.declared.info.RelocationKind.{RelocationKind}
 use Rattle.wild_reloc.specs.declared.info.RelocationKind.TheVariants as kinds
 use Rattle.wild_reloc.specs.declared.info.RelocationSize.{RelocationSize}
-use Rattle.wild_layout.specs.declared.decision.Decision.{Decision}
 use Rattle.wild_layout.specs.Values.{place_of, value_by}
 use Rattle.wild_layout.specs.Sites.{field_site}
-use Rattle.wild_layout.proofs.DecideLemmas.{IsField, field_has_bytes}
-use Rattle.wild_layout.proofs.SiteLemmas.{field_lies}
+use Rattle.wild_layout.proofs.DecideLemmas.{HasField, field_has_bytes}
+use Rattle.wild_layout.proofs.SiteLemmas.{All-at, field_lies}
 use Rattle.wild_layout.specs.Geometry.{FieldLies, NamesSymbol}
 use Rattle.wild_layout.specs.Numbers.{AddendFits}
 use Rattle.wild_meaning.specs.Item.{place_at, item_of}
-use Rattle.wild_meaning.specs.Field.{formula_of, form_width, FieldReads, InNoField, IsInputByte}
-use Rattle.wild_meaning.specs.Template.{Operand, IsOwnByte, IsTemplate}
+use Rattle.wild_meaning.specs.Field.{formula_of, form_width, FieldReads}
 use Rattle.wild_loader.specs.declared.world.World.{World}
 use Rattle.wild_loader.specs.declared.memory.Memory.{Memory}
-use Rattle.wild_loader.specs.Memory.{Holds, byte_in}
-use Rattle.wild_geometry.specs.Loaded.{IsDecided, InMemory, ReadsLeft}
+use Rattle.wild_loader.specs.Memory.{Holds}
+use Rattle.wild_geometry.specs.Loaded.{InMemory, ReadsLeft, HasSection}
 use Rattle.wild_values.specs.Terms.{IsPlaced}
-use Rattle.wild_values.specs.Laws.{KindGives, KindGivesLinked, AddressesGive, AddressesGiveLinked, EntriesGive}
+use Rattle.wild_values.specs.Laws.{KindGives, KindGivesLinked, DescriptorsGive, AddressesGive, AddressesGiveLinked, EntriesGive}
 use Rattle.wild_values.proofs.Tests.{both_of}
-use Rattle.wild_values.proofs.Written.{IsWritten, IsValue, IsAddress, IsLeftField}
-use Rattle.wild_values.proofs.Sections.{Tables, OutOfFields}
+use Rattle.wild_values.proofs.Written.{IsValue, IsAddress, IsLeftField}
 
 -- ---- fields of whole bytes
 
-abbrev KeepsAll : Form → Type 0
+abbrev pub KeepsAll : Form → Type 0
 KeepsAll form = (old new : List ℕ) → Keeps form old new
 
 -- the field is whole bytes, without other bits
@@ -65,11 +63,16 @@ keeps_at (e ∷ es) n f h known =
     by_test e es n f h false known again = again known
 
 -- the fields of x86-64 are
-whole_bytes : (n : ℕ) (f : Formula) → x86_64_formula n ≡ Some f → KeepsAll f.form
+pub whole_bytes : (n : ℕ) (f : Formula) → x86_64_formula n ≡ Some f → KeepsAll f.form
 unfolding x86_64_formula
 whole_bytes n f known = keeps_at x86_64_formulas n f refl known
 
 -- ---- one section in memory
+
+-- what the tables owe
+pub record Tables : Type 0 where
+  pub agree : X86_64Agrees
+  pub widths : WidthsHold
 
 -- the laws of the kinds
 pub record KindLaws : Type 0 where
@@ -87,6 +90,7 @@ pub record KindLaws : Type 0 where
   pub thread_slot : KindGives kinds.GotTpOff
   pub pair : KindGives kinds.TlsGd
   pub own_pair : KindGives kinds.TlsLd
+  pub descriptor : DescriptorsGive
   pub address : AddressesGive
   pub entry : EntriesGive
 
@@ -99,24 +103,19 @@ pub record LinkedLaws : Type 0 where
   pub own : KindGivesLinked kinds.DtpOff
   pub address : AddressesGiveLinked
 
--- a kept section in a legal world, whose bytes are loaded: each value, each address and each other byte is there
+-- a kept section in a legal world, which memory has as it was decided
 pub record IsSectionLoaded (l : Layout) (w : World) (m : Memory) (s : InputSection) : Type 0 where
   pub tables : Tables
   pub kinds : KindLaws
   pub linked : LinkedLaws
   pub placed : IsPlaced l w m
   pub room : allocated s.flags ≡ true
-  pub clean : IsDecided l s
   pub symbols : All (NamesSymbol l) s.relocations
   pub addends : All AddendFits s.relocations
   pub full : length s.bytes ≡ s.size
   pub low : s.address + s.size ≤ 2 ^ 62
-  pub ends : 1 ≤ length s.bytes → w.base + s.address + s.size ≤ 2 ^ 64
   pub lies : All (FieldLies l.machine s.size) s.relocations
-  pub values : (r : InputRelocation) (v : IsValue l s r) → Holds m (place_at w (item_of s) r.offset) (field_site s r.offset v.size v.value).bytes
-  pub addresses : (r : InputRelocation) (a : IsAddress l s r) → Holds m (place_at w (item_of s) r.offset) (word 8 ((a.value + w.base) % 2 ^ 64))
-  pub left : (r : InputRelocation) (f : IsLeftField l s r) → (bs : List ℕ) × Holds m (place_at w (item_of s) r.offset) bs × ReadsLeft InMemory w f.size f.number f.symbol f.addend bs
-  pub others : (k : ℕ) → k < length s.bytes → OutOfFields s k → byte_in m (place_at w (item_of s) k) ≡ Some (slice_index s.bytes k)
+  pub section : HasSection l w m s InMemory
 
 length-range : (bs : List ℕ) (a n : ℕ) → a + n ≤ length bs → length (slice_range bs a (a + n)) ≡ n
 length-range bs a n h =
@@ -124,25 +123,25 @@ length-range bs a n h =
     rw e (simp (length-take, length-drop) (omega arith))
 
 -- the field lies in the section
-field_within : (l : Layout) (w : World) (m : Memory) (s : InputSection) (r : InputRelocation) (d : Decision) → IsSectionLoaded l w m s → Contains s.relocations r → (wr : IsWritten l s r d) → r.offset + size_width wr.written.size ≤ length s.bytes
-field_within l w m s r d h c wr = field_lies l s r wr.written.size wr.field h.full (All-contains (FieldLies l.machine s.size) s.relocations r h.lies c)
+pub field_within : (l : Layout) (w : World) (m : Memory) (s : InputSection) (i : ℕ) (r : InputRelocation) (z : RelocationSize) → IsSectionLoaded l w m s → slice_get s.relocations i ≡ Some r → HasField l r z → r.offset + size_width z ≤ length s.bytes
+field_within l w m s i r z h listed f = field_lies l s r z f h.full (All-at (FieldLies l.machine s.size) s.relocations i r h.lies listed)
 
 -- the place of a field in memory, which does not wrap
-pub place_is : (l : Layout) (w : World) (m : Memory) (s : InputSection) (r : InputRelocation) (d : Decision) → IsSectionLoaded l w m s → Contains s.relocations r → (wr : IsWritten l s r d) → place_at w (item_of s) r.offset ≡ w.base + place_of s r
-place_is l w m s r d h c wr =
-    let e = field_within l w m s r d h c wr in
-    let some = field_has_bytes l r wr.written.size wr.field in
+pub place_is : (l : Layout) (w : World) (m : Memory) (s : InputSection) (i : ℕ) (r : InputRelocation) (z : RelocationSize) → IsSectionLoaded l w m s → slice_get s.relocations i ≡ Some r → HasField l r z → place_at w (item_of s) r.offset ≡ w.base + place_of s r
+place_is l w m s i r z h listed f =
+    let e = field_within l w m s i r z h listed f in
+    let some = field_has_bytes l r z f in
     let full = h.full in
     let low = h.low in
     omega (arith, e, some, full, low)
 
-pub place_ends : (l : Layout) (w : World) (m : Memory) (s : InputSection) (r : InputRelocation) (d : Decision) → IsSectionLoaded l w m s → Contains s.relocations r → (wr : IsWritten l s r d) → w.base + place_of s r ≤ 2 ^ 64
-place_ends l w m s r d h c wr =
-    let e = field_within l w m s r d h c wr in
-    let some = field_has_bytes l r wr.written.size wr.field in
+pub place_ends : (l : Layout) (w : World) (m : Memory) (s : InputSection) (i : ℕ) (r : InputRelocation) (z : RelocationSize) → IsSectionLoaded l w m s → slice_get s.relocations i ≡ Some r → HasField l r z → w.base + place_of s r ≤ 2 ^ 64
+place_ends l w m s i r z h listed f =
+    let e = field_within l w m s i r z h listed f in
+    let some = field_has_bytes l r z f in
     let full = h.full in
     let low = h.low in
-    let ends = h.ends (omega (arith, e, some)) in
+    let ends = h.section.ends (omega (arith, e, some)) in
     omega (arith, e, some, full, low, ends)
 
 -- ---- fields
@@ -158,45 +157,62 @@ value_below l kinds.GotRelGotBase s p a = omega arith
 value_below l kinds.TlsGd s p a = omega arith
 value_below l kinds.TlsLd s p a = omega arith
 value_below l kinds.GotTpOff s p a = omega arith
+value_below l kinds.TlsDesc s p a = omega arith
 value_below l other s p a = omega arith
 
-field_below : (l : Layout) (s : InputSection) (r : InputRelocation) (z : RelocationSize) (v : ℕ) → IsField l s r z v → v < 2 ^ 64
-field_below l s r z v f = subst (λ (n : ℕ). n < 2 ^ 64) f.value (value_below l f.row.kind f.term (place_of s r) r.addend)
+-- what a field of a row reads as, in the form of a formula
+pub record ReadsForm (row : RelocationKindInfo) (form : Form) (v : ℕ) : Type 0 where
+  pub width : field_width row ≡ form_width form
+  pub reads : (old : List ℕ) → length old ≡ field_width row → Reads form (written row v old) v
+  pub keeps : KeepsAll form
 
-pub value_reads : (l : Layout) (w : World) (m : Memory) (s : InputSection) (r : InputRelocation) → (h : IsSectionLoaded l w m s) → Contains s.relocations r → (v : IsValue l s r) → FieldReads w m (item_of s) r v.fits.formula.form v.value
-value_reads l w m s r h c v =
-    let row = v.field.row in
-    let size = v.field.size in
-    let old = slice_range s.bytes r.offset (r.offset + size_width v.size) in
-    let here : r.offset + size_width v.size ≤ length s.bytes = field_lies l s r v.size (record { row = row; known = v.field.known; kind = v.field.kind; size = size }) h.full (All-contains (FieldLies l.machine s.size) s.relocations r h.lies c) in
-    let same : written row v.value old ≡ (field_site s r.offset v.size v.value).bytes = ap (λ (z : RelocationSize). size_written z v.value old) size in
-    let width : size_width v.size ≡ field_width row = sym (ap size_width size) in
+pub row_reads : (l : Layout) (w : World) (m : Memory) (s : InputSection) (i : ℕ) (r : InputRelocation) (row : RelocationKindInfo) (form : Form) (v : ℕ) → (h : IsSectionLoaded l w m s) → slice_get s.relocations i ≡ Some r → HasField l r row.size → ReadsForm row form v
+    → Holds m (place_at w (item_of s) r.offset) (field_site s r.offset row.size v).bytes → FieldReads w m (item_of s) r form v
+row_reads l w m s i r row form v h listed f reads held =
+    let old = slice_range s.bytes r.offset (r.offset + size_width row.size) in
+    let here = field_within l w m s i r row.size h listed f in
     record {
-      bytes = written row v.value old;
-      wide = h.tables.widths row v.value old ∙ v.fits.width;
-      held = subst (λ (bs : List ℕ). Holds m (place_at w (item_of s) r.offset) bs) (sym same) (h.values r v);
-      reads = v.fits.reads v.value old (field_below l s r v.size v.value v.field) (length-range s.bytes r.offset (size_width v.size) here ∙ width) v.field.allowed;
-      keeps = whole_bytes r.number v.fits.formula v.fits.known (slice_range s.bytes r.offset (r.offset + form_width v.fits.formula.form)) (written row v.value old);
+      bytes = written row v old;
+      wide = h.tables.widths row v old ∙ reads.width;
+      held = held;
+      reads = reads.reads old (length-range s.bytes r.offset (size_width row.size) here);
+      keeps = reads.keeps (slice_range s.bytes r.offset (r.offset + form_width form)) (written row v old);
     }
 
+pub below_all : (l : Layout) (kind : RelocationKind) (s p v : ℕ) (a : ℤ) → value_by l kind s a p ≡ v → v < 2 ^ 64
+below_all l kind s p v a e = subst (λ (n : ℕ). n < 2 ^ 64) e (value_below l kind s p a)
+
+pub value_reads : (l : Layout) (w : World) (m : Memory) (s : InputSection) (i : ℕ) (r : InputRelocation) → (h : IsSectionLoaded l w m s) → (v : IsValue l s i r) → FieldReads w m (item_of s) r v.fits.formula.form v.value
+value_reads l w m s i r h v =
+    let f = v.field in
+    let low = below_all l f.row.kind f.term (place_of s r) v.value r.addend f.value in
+    let held = h.section.values i r v.size v.value v.plain.has in
+    row_reads l w m s i r f.row v.fits.formula.form v.value h v.plain.has.listed (record { row = f.row; known = f.known; kind = f.kind; size = refl })
+    (record { width = v.fits.width; reads = λ old long. v.fits.reads v.value old low long f.allowed; keeps = whole_bytes r.number v.fits.formula v.fits.known })
+    (subst (λ (z : RelocationSize). Holds m (place_at w (item_of s) r.offset) (field_site s r.offset z v.value).bytes) (sym f.size) held)
+
 -- an address that moves is more by the base, in all its eight bytes
-pub address_reads : (l : Layout) (w : World) (m : Memory) (s : InputSection) (r : InputRelocation) → (h : IsSectionLoaded l w m s) → (a : IsAddress l s r) → FieldReads w m (item_of s) r a.fits.formula.form ((a.value + w.base) % 2 ^ 64)
-address_reads l w m s r h a =
+pub address_reads : (l : Layout) (w : World) (m : Memory) (s : InputSection) (i : ℕ) (r : InputRelocation) → (h : IsSectionLoaded l w m s) → (a : IsAddress l s i r) → FieldReads w m (item_of s) r a.fits.formula.form ((a.value + w.base) % 2 ^ 64)
+address_reads l w m s i r h a =
     let x = (a.value + w.base) % 2 ^ 64 in
     let full = a.fits.full a.moved.by.kind a.moved.by.width in
     let low : x < 2 ^ 64 = omega arith in
     record {
       bytes = word 8 x;
       wide = length-word 8 x ∙ sym (ap form_width full);
-      held = h.addresses r a;
+      held = h.section.addresses i r a.value a.packed a.plain.has;
       reads = subst (λ (f : Form). Reads f (word 8 x) x) (sym full) (number-word 8 x low);
       keeps = whole_bytes r.number a.fits.formula a.fits.known (slice_range s.bytes r.offset (r.offset + form_width a.fits.formula.form)) (word 8 x);
     }
 
+-- the bytes of a field that is left to an entry
+pub left_bytes : (l : Layout) (w : World) (m : Memory) (s : InputSection) (i : ℕ) (r : InputRelocation) → IsSectionLoaded l w m s → (f : IsLeftField l s i r) → (bs : List ℕ) × Holds m (place_at w (item_of s) r.offset) bs × ReadsLeft InMemory w f.size f.number f.symbol f.addend bs
+left_bytes l w m s i r h f = h.section.left i r f.size f.number f.symbol f.addend f.plain.has
+
 -- what an entry stores fills the field
-pub left_reads : (l : Layout) (w : World) (m : Memory) (s : InputSection) (r : InputRelocation) (x : ℕ) → (h : IsSectionLoaded l w m s) → (f : IsLeftField l s r) → (form : Form) → form ≡ f.fits.formula.form → Reads form (h.left r f).0 x → FieldReads w m (item_of s) r form x
-left_reads l w m s r x h f form same reads =
-    let b = h.left r f in
+pub left_reads : (l : Layout) (w : World) (m : Memory) (s : InputSection) (i : ℕ) (r : InputRelocation) (x : ℕ) → (h : IsSectionLoaded l w m s) → (f : IsLeftField l s i r) → (form : Form) → form ≡ f.fits.formula.form → Reads form (left_bytes l w m s i r h f).0 x → FieldReads w m (item_of s) r form x
+left_reads l w m s i r x h f form same reads =
+    let b = left_bytes l w m s i r h f in
     let size : size_width f.size ≡ field_width f.left.field.row = sym (ap size_width f.left.field.size) in
     record {
       bytes = b.0;
@@ -206,22 +222,6 @@ left_reads l w m s r x h f form same reads =
       keeps = subst (λ (k : Form). Keeps k (slice_range s.bytes r.offset (r.offset + form_width form)) b.0) (sym same) (whole_bytes r.number f.fits.formula f.fits.known (slice_range s.bytes r.offset (r.offset + form_width form)) b.0);
     }
 
--- ---- other bytes
-
 -- the formulas of x86-64 are the machine's
 pub formula_known : (l : Layout) (n : ℕ) (f : Formula) → l.machine ≡ machine.X86_64 → x86_64_formula n ≡ Some f → formula_of l.machine n ≡ Some f
 formula_known l n f x known = subst (λ (k : Machine). formula_of k n ≡ Some f) (sym x) known
-
-no_field : (l : Layout) (s : InputSection) (k : ℕ) → l.machine ≡ machine.X86_64 → InNoField l (item_of s) k → OutOfFields s k
-no_field l s k x out =
-    let P : Machine → Type 0 = λ mach. All (λ (r : InputRelocation). (f : Formula) → formula_of mach r.number ≡ Some f → (k < r.offset) ⊎ (r.offset + form_width f.form ≤ k)) s.relocations in
-    subst P x out
-
-pub other_byte : (l : Layout) (w : World) (m : Memory) (s : InputSection) (k : ℕ) → IsSectionLoaded l w m s → k < length s.bytes → InNoField l (item_of s) k → IsInputByte w m (item_of s) k
-other_byte l w m s k h lt out = h.others k lt (no_field l s k h.placed.x86 out)
-
-pub own_byte : (l : Layout) (w : World) (m : Memory) (s : InputSection) (r : InputRelocation) (start : ℕ) (o : Operand) (k : ℕ) → IsSectionLoaded l w m s → IsTemplate l (item_of s) r start o → IsOwnByte o k → IsInputByte w m (item_of s) (start + k)
-own_byte l w m s r start o k h t own =
-    let inside = t.inside in
-    let below = own.0 in
-    other_byte l w m s (start + k) h (omega (arith, inside, below)) (t.alone k own)

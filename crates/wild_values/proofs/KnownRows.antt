@@ -1,9 +1,9 @@
 -- The rows of the kinds that the writer knows, beside the formulas that the reader knows.
-use Rattle.std.proofs.Common.{◌≡◌, ℕ, ◌^◌, ◌<◌, Bool, true, false, List, length, refl, subst}
-use Rattle.std.specs.Prelude.{◌==◌, ◌&&◌, if◌then◌else◌, Option, Some, None}
+use Rattle.std.proofs.Common.{◌≡◌, ℕ, ◌^◌, ◌<◌, ◌⊎◌, inl, inr, Bool, true, false, List, length, refl, subst}
+use Rattle.std.specs.Prelude.{◌==◌, ◌&&◌, ◌||◌, if◌then◌else◌, Option, Some, None}
 use Rattle.std.specs.List.{list_all}
 use Rattle.std.proofs.lemmas.Bool.{eqb-true}
-use Rattle.wild_records.specs.Abi.Relocation.{r_x86_64_none}
+use Rattle.wild_records.specs.Abi.Relocation.{r_x86_64_none, r_x86_64_gotpc32_tlsdesc, r_x86_64_code_4_gotpc32_tlsdesc, r_x86_64_tlsdesc_call}
 use Rattle.wild_plan.specs.declared.kind.Machine.TheVariants as machine
 use Rattle.wild_reloc.specs.TableX86_64.{x86_64_rows, x86_64_row}
 use Rattle.wild_reloc.specs.Field.{field_width, allows, written}
@@ -19,7 +19,7 @@ use Rattle.wild_plan.specs.Rows.{row_of}
 use Rattle.wild_layout.proofs.DecideLemmas.{value_has_field}
 use Rattle.wild_layout.proofs.TreatmentLemmas.{HasValue}
 use Rattle.wild_meaning.specs.Field.{form_width}
-use Rattle.wild_values.proofs.Tests.{both_of}
+use Rattle.wild_values.proofs.Tests.{both_of, either_of}
 
 -- what ties the row of a number that has a value to its formula
 pub record RowFits (n : ℕ) (row : RelocationKindInfo) : Type 0 where
@@ -42,10 +42,12 @@ abbrev same_width : Option Formula → ℕ → Bool
 same_width None width = true
 same_width (Some f) width = width == form_width f.form
 
--- only the type that is for nothing has no value
-abbrev none_number : RelocationKind → ℕ → Bool
-none_number kinds.None n = n == r_x86_64_none
-none_number other n = true
+-- the types of the kinds that few types have: for nothing, a descriptor, and the call through one
+abbrev few_numbers : RelocationKind → ℕ → Bool
+few_numbers kinds.None n = n == r_x86_64_none
+few_numbers kinds.TlsDesc n = n == r_x86_64_gotpc32_tlsdesc || n == r_x86_64_code_4_gotpc32_tlsdesc
+few_numbers kinds.TlsDescCall n = n == r_x86_64_tlsdesc_call
+few_numbers other n = true
 
 abbrev is_full : Form → Bool
 is_full Full = true
@@ -61,7 +63,7 @@ full_address kinds.Absolute width o = if width == 8 then full_form o else true
 full_address other width o = true
 
 abbrev row_test : ℕ → RelocationKindInfo → Bool
-row_test n row = no_mask row.mask && (same_width (x86_64_formula n) (field_width row) && (none_number row.kind n && full_address row.kind (field_width row) (x86_64_formula n)))
+row_test n row = no_mask row.mask && (same_width (x86_64_formula n) (field_width row) && (few_numbers row.kind n && full_address row.kind (field_width row) (x86_64_formula n)))
 
 each_passes : list_all (λ (e : ℕ × RelocationKindInfo). row_test e.0 e.1) x86_64_rows ≡ true
 unfolding x86_64_formula
@@ -113,10 +115,26 @@ row_fits n row agrees is kind =
     let last = both_of _ _ rest.1 in
     fits_formula n row (x86_64_formula n) kind is refl (mask_none row.mask tests.0) rest.0 last.1 (agrees n row is)
 
--- a type without a value is for nothing
-pub none_is : (n : ℕ) (row : RelocationKindInfo) → row_of machine.X86_64 n ≡ Some row → row.kind ≡ kinds.None → n ≡ r_x86_64_none
-none_is n row is kind =
+-- the type of a row of such a kind
+few_at : (n : ℕ) (row : RelocationKindInfo) (k : RelocationKind) → row_of machine.X86_64 n ≡ Some row → row.kind ≡ k → few_numbers k n ≡ true
+few_at n row k is kind =
     let tests = both_of _ _ (passes n row is) in
     let rest = both_of _ _ tests.1 in
     let last = both_of _ _ rest.1 in
-    eqb-true _ _ (subst (λ (k : RelocationKind). none_number k n ≡ true) kind last.0)
+    subst (λ (k : RelocationKind). few_numbers k n ≡ true) kind last.0
+
+-- a type without a value is for nothing
+pub none_is : (n : ℕ) (row : RelocationKindInfo) → row_of machine.X86_64 n ≡ Some row → row.kind ≡ kinds.None → n ≡ r_x86_64_none
+none_is n row is kind = eqb-true _ _ (few_at n row kinds.None is kind)
+
+-- or the call through a descriptor
+pub call_is : (n : ℕ) (row : RelocationKindInfo) → row_of machine.X86_64 n ≡ Some row → row.kind ≡ kinds.TlsDescCall → n ≡ r_x86_64_tlsdesc_call
+call_is n row is kind = eqb-true _ _ (few_at n row kinds.TlsDescCall is kind)
+
+-- a descriptor has two types
+pub descriptor_is : (n : ℕ) (row : RelocationKindInfo) → row_of machine.X86_64 n ≡ Some row → row.kind ≡ kinds.TlsDesc → (n ≡ r_x86_64_gotpc32_tlsdesc) ⊎ (n ≡ r_x86_64_code_4_gotpc32_tlsdesc)
+descriptor_is n row is kind =
+    elim (either_of _ _ (few_at n row kinds.TlsDesc is kind)) [
+      | inl a ↦ inl (eqb-true _ _ a)
+      | inr b ↦ inr (eqb-true _ _ b)
+    ]

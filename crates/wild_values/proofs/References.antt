@@ -1,117 +1,136 @@
--- The references of a kept section hold in memory.
-use Rattle.std.proofs.Common.{◌≡◌, ℕ, ◌+◌, ◌%◌, ◌^◌, ◌⊎◌, inl, inr, Some, sym, ap, ◌∙◌, subst}
-use Rattle.std.specs.Prelude.{Contains}
-use Rattle.std.proofs.lemmas.List.Elements.{All-contains}
+-- The references of a kept section that keep their instructions hold in memory.
+use Rattle.std.proofs.Common.{◌≡◌, ℕ, ◌+◌, ◌%◌, ◌^◌, ◌⊎◌, inl, inr, [], Some, refl, sym, ap, ◌∙◌, arith, subst}
+use Rattle.std.specs.Prelude.{Ok, slice_get}
+use Rattle.wild_records.specs.Abi.Relocation.{r_x86_64_tlsdesc_call}
 use Rattle.wild_plan.specs.declared.input.InputRelocation.{InputRelocation}
 use Rattle.wild_plan.specs.declared.input.InputSection.{InputSection}
 use Rattle.wild_plan.specs.declared.layout.Layout.{Layout}
-use Rattle.wild_reloc.specs.Agreement.{plain_value}
 use Rattle.wild_plan.specs.declared.treatment.Treatment.TheVariants as treatments
-use Rattle.wild_reloc.specs.Formula.{Formula, Value}
+use Rattle.wild_plan.specs.Treatment.{kind_treatment}
+use Rattle.wild_reloc.specs.Agreement.{plain_value}
+use Rattle.wild_reloc.specs.Formula.{Formula, Value, formula, NoValue, NoField}
+use Rattle.wild_reloc.specs.FormulaX86_64.{x86_64_formula}
 use Rattle.wild_reloc.specs.declared.info.RelocationKind.{RelocationKind}
 use Rattle.wild_reloc.specs.declared.info.RelocationKind.TheVariants as kinds
-use Rattle.wild_layout.specs.declared.decision.Decision.TheVariants.{Field}
 use Rattle.wild_layout.specs.Geometry.{NamesSymbol}
 use Rattle.wild_layout.specs.Numbers.{AddendFits}
+use Rattle.wild_layout.specs.Values.{term_of}
+use Rattle.wild_layout.proofs.DecideLemmas.{field_has}
+use Rattle.wild_layout.proofs.SiteLemmas.{All-at}
 use Rattle.wild_layout.proofs.TreatmentLemmas.{has_value, HasValue}
 use Rattle.wild_loader.specs.declared.world.World.{World}
 use Rattle.wild_loader.specs.declared.memory.Memory.{Memory}
-use Rattle.wild_meaning.specs.Item.{item_of, IsReference}
-use Rattle.wild_meaning.specs.Formula.{Gives, GivesLinked, IsPlaceRelative, TakesAddress, TakesOffset}
-use Rattle.wild_meaning.specs.Reference.{IsAsked, IsStubbed, TakesItself, IsLinkedAlone, HoldsPlain, HoldsLinked}
-use Rattle.wild_values.proofs.Alone.{not_left, followed, taken, left_follows}
-use Rattle.wild_values.proofs.Written.{IsValue, IsAddress, IsLeftField, relocation_written}
+use Rattle.wild_meaning.specs.Field.{formula_of, FieldReads}
+use Rattle.wild_meaning.specs.Item.{item_of}
+use Rattle.wild_meaning.specs.Formula.{HasOffsetMode, Gives, GivesLinked, IsPlaceRelative, TakesAddress, TakesOffset}
+use Rattle.wild_meaning.specs.Reference.{IsAsked, IsStubbed, TakesItself, IsLinkedAlone}
+use Rattle.wild_values.specs.Laws.{FieldHolds, FieldIsLinked, IsKeptReference}
 use Rattle.wild_values.specs.Terms.{HasTerm, IsFollowed}
-use Rattle.wild_values.proofs.Treated.{treated_by}
-use Rattle.wild_values.proofs.Fields.{KindLaws, LinkedLaws, IsSectionLoaded, place_is, place_ends, value_reads, address_reads, left_reads, formula_known, own_byte}
+use Rattle.wild_values.proofs.Alone.{not_left, followed, taken, left_follows}
+use Rattle.wild_values.proofs.Descriptors.{descriptor_kept, call_kept}
+use Rattle.wild_values.proofs.Fields.{KindLaws, LinkedLaws, IsSectionLoaded, field_within, place_is, place_ends, value_reads, address_reads, left_bytes, left_reads, formula_known}
+use Rattle.wild_values.proofs.KnownRows.{descriptor_is}
+use Rattle.wild_values.proofs.RowFields.{row_holds}
+use Rattle.wild_values.proofs.Treated.{treated_by, symbol_named}
+use Rattle.wild_values.proofs.Written.{IsValue, IsAddress, IsLeftField, IsCall, Writes, row_here, relocation_written}
 
 -- ---- values
 
-gives_by : (l : Layout) (w : World) (m : Memory) (s : InputSection) (r : InputRelocation) (k : RelocationKind) (x : ℕ) → KindLaws → HasValue k → HasTerm l w m s r k x → IsFollowed l r k → Gives (plain_value k) l w m (item_of s) r x
-gives_by l w m s r kinds.Absolute x laws v h f = laws.sum l w m s r x h f
-gives_by l w m s r kinds.Relative x laws v h f = laws.distance l w m s r x h f
-gives_by l w m s r kinds.GotBaseRelative x laws v h f = laws.table l w m s r x h f
-gives_by l w m s r kinds.SymRelGotBase x laws v h f = laws.from_table l w m s r x h f
-gives_by l w m s r kinds.DtpOff x laws v h f = laws.own l w m s r x h f
-gives_by l w m s r kinds.TpOff x laws v h f = laws.pointer l w m s r x h f
-gives_by l w m s r kinds.SymbolSize x laws v h f = laws.size l w m s r x h f
-gives_by l w m s r kinds.PltRelative x laws v h f = laws.stub_distance l w m s r x h f
-gives_by l w m s r kinds.PltRelGotBase x laws v h f = laws.stub_offset l w m s r x h f
-gives_by l w m s r kinds.GotRelative x laws v h f = laws.slot_distance l w m s r x h f
-gives_by l w m s r kinds.GotRelGotBase x laws v h f = laws.slot_offset l w m s r x h f
-gives_by l w m s r kinds.GotTpOff x laws v h f = laws.thread_slot l w m s r x h f
-gives_by l w m s r kinds.TlsGd x laws v h f = laws.pair l w m s r x h f
-gives_by l w m s r kinds.TlsLd x laws v h f = laws.own_pair l w m s r x h f
-gives_by l w m s r other x laws v h f = cc
+gives_by : (l : Layout) (w : World) (m : Memory) (s : InputSection) (r : InputRelocation) (k : RelocationKind) (x : ℕ) → KindLaws → HasValue k → HasTerm l w m s r k x → IsFollowed l r k → (k ≡ kinds.TlsDesc → HasOffsetMode l (item_of s) → ⊥) → Gives (plain_value k) l w m (item_of s) r x
+gives_by l w m s r kinds.Absolute x laws v h f none = laws.sum l w m s r x h f
+gives_by l w m s r kinds.Relative x laws v h f none = laws.distance l w m s r x h f
+gives_by l w m s r kinds.GotBaseRelative x laws v h f none = laws.table l w m s r x h f
+gives_by l w m s r kinds.SymRelGotBase x laws v h f none = laws.from_table l w m s r x h f
+gives_by l w m s r kinds.DtpOff x laws v h f none = laws.own l w m s r x h f
+gives_by l w m s r kinds.TpOff x laws v h f none = laws.pointer l w m s r x h f
+gives_by l w m s r kinds.SymbolSize x laws v h f none = laws.size l w m s r x h f
+gives_by l w m s r kinds.PltRelative x laws v h f none = laws.stub_distance l w m s r x h f
+gives_by l w m s r kinds.PltRelGotBase x laws v h f none = laws.stub_offset l w m s r x h f
+gives_by l w m s r kinds.GotRelative x laws v h f none = laws.slot_distance l w m s r x h f
+gives_by l w m s r kinds.GotRelGotBase x laws v h f none = laws.slot_offset l w m s r x h f
+gives_by l w m s r kinds.GotTpOff x laws v h f none = laws.thread_slot l w m s r x h f
+gives_by l w m s r kinds.TlsGd x laws v h f none = laws.pair l w m s r x h f
+gives_by l w m s r kinds.TlsLd x laws v h f none = laws.own_pair l w m s r x h f
+gives_by l w m s r kinds.TlsDesc x laws v h f none = laws.descriptor l w m s r x h (none refl)
+gives_by l w m s r other x laws v h f none = cc
 
 -- what the writer computes for it, where an excepted one is asked
-term_is : (l : Layout) (w : World) (m : Memory) (s : InputSection) (r : InputRelocation) → IsSectionLoaded l w m s → Contains s.relocations r → IsAsked l w (item_of s) r → (v : IsValue l s r) → HasTerm l w m s r v.field.row.kind v.value
-term_is l w m s r h c asked v = record {
-  placed = h.placed;
-  room = h.room;
-  listed = All-contains (NamesSymbol l) s.relocations r h.symbols c;
-  row = v.field.row;
-  treated = sym (treated_by l s r v.field.row v.field.known) ∙ v.field.treated;
-  term = v.field.term;
-  given = v.field.given;
-  value = v.field.value;
-  place = place_is l w m s r (Field v.size v.value) h c v.written;
-  ends = place_ends l w m s r (Field v.size v.value) h c v.written;
-  asked = λ relative movable i named absolute. asked (record {
-    movable = movable;
-    symbol = i;
-    named = named;
-    absolute = absolute;
-    relative = inl (record { formula = v.fits.formula; known = formula_known l r.number v.fits.formula h.placed.x86 v.fits.known; relative = subst IsPlaceRelative v.fits.value relative });
-  });
-}
+term_is : (l : Layout) (w : World) (m : Memory) (s : InputSection) (i : ℕ) (r : InputRelocation) → IsSectionLoaded l w m s → IsAsked l w (item_of s) r → (v : IsValue l s i r) → HasTerm l w m s r v.field.row.kind v.value
+term_is l w m s i r h asked v =
+    let field = field_has l s r v.size v.value v.field in
+    record {
+      placed = h.placed;
+      room = h.room;
+      listed = All-at (NamesSymbol l) s.relocations i r h.symbols v.plain.has.listed;
+      row = v.field.row;
+      treated = sym (treated_by l s r v.field.row v.field.known) ∙ v.field.treated;
+      term = v.field.term;
+      given = v.field.given;
+      value = v.field.value;
+      place = place_is l w m s i r v.size h v.plain.has.listed field;
+      ends = place_ends l w m s i r v.size h v.plain.has.listed field;
+      asked = λ relative movable k named absolute. asked (record {
+        movable = movable;
+        symbol = k;
+        named = named;
+        absolute = absolute;
+        relative = inl (record { formula = v.fits.formula; known = formula_known l r.number v.fits.formula h.placed.x86 v.fits.known; relative = subst IsPlaceRelative v.fits.value relative });
+      });
+    }
 
-value_followed : (l : Layout) (w : World) (m : Memory) (s : InputSection) (r : InputRelocation) → IsSectionLoaded l w m s → Contains s.relocations r → (v : IsValue l s r) → (IsLinkedAlone l (item_of s) r → ⊥) → IsFollowed l r v.field.row.kind
-value_followed l w m s r h c v alone =
-    followed l w m s r v.field.row.kind v.fits.formula h.placed (All-contains (NamesSymbol l) s.relocations r h.symbols c) (formula_known l r.number v.fits.formula h.placed.x86 v.fits.known) v.fits.value (λ i named left. not_left l s r v.field.row i (treatments.Value v.field.row) v.fits v.field.kind h.room v.field.treated (λ e. cc) (λ e. cc) v.field.known named left) alone
+value_followed : (l : Layout) (w : World) (m : Memory) (s : InputSection) (i : ℕ) (r : InputRelocation) → IsSectionLoaded l w m s → (v : IsValue l s i r) → (IsLinkedAlone l (item_of s) r → ⊥) → IsFollowed l r v.field.row.kind
+value_followed l w m s i r h v alone =
+    followed l w m s r v.field.row.kind v.fits.formula h.placed (All-at (NamesSymbol l) s.relocations i r h.symbols v.plain.has.listed) (formula_known l r.number v.fits.formula h.placed.x86 v.fits.known) v.fits.value (λ k named left. not_left l s r v.field.row k (treatments.Value v.field.row) v.fits v.field.kind h.room v.field.treated (λ e. cc) (λ e. cc) v.field.known named left) alone
 
-gives_value : (l : Layout) (w : World) (m : Memory) (s : InputSection) (r : InputRelocation) → IsSectionLoaded l w m s → Contains s.relocations r → IsAsked l w (item_of s) r → (v : IsValue l s r) → (IsLinkedAlone l (item_of s) r → ⊥) → Gives v.fits.formula.value l w m (item_of s) r v.value
-gives_value l w m s r h c asked v alone =
+-- a descriptor's reference that is kept is no offset
+no_offset : (l : Layout) (w : World) (m : Memory) (s : InputSection) (i : ℕ) (r : InputRelocation) → IsSectionLoaded l w m s → (v : IsValue l s i r) → v.field.row.kind ≡ kinds.TlsDesc → HasOffsetMode l (item_of s) → ⊥
+no_offset l w m s i r h v kind mode =
+    let f = v.field in
+    let named = symbol_named r.symbol (λ k. treatments.Value f.row) f.row (subst (λ (k : RelocationKind). kind_treatment l s r.symbol f.row k ≡ treatments.Value f.row) kind (sym (treated_by l s r f.row f.known) ∙ f.treated)) in
+    let number = descriptor_is r.number f.row (row_here l r.number f.row h.placed.x86 f.known) kind in
+    let inside = field_within l w m s i r v.size h v.plain.has.listed (field_has l s r v.size v.value f) in
+    descriptor_kept l s r (slice_get s.relocations (i + 1)) named.0 f.term v.plain.own.choice h.placed.x86 h.placed.symbols named.1 number (subst (λ (k : RelocationKind). term_of l r.symbol k ≡ Ok f.term) kind f.given) (omega (arith, inside)) mode
+
+gives_value : (l : Layout) (w : World) (m : Memory) (s : InputSection) (i : ℕ) (r : InputRelocation) → IsSectionLoaded l w m s → IsAsked l w (item_of s) r → (v : IsValue l s i r) → (IsLinkedAlone l (item_of s) r → ⊥) → Gives v.fits.formula.value l w m (item_of s) r v.value
+gives_value l w m s i r h asked v alone =
     subst (λ (q : Value). Gives q l w m (item_of s) r v.value) v.fits.value
-    (gives_by l w m s r v.field.row.kind v.value h.kinds v.field.kind (term_is l w m s r h c asked v) (value_followed l w m s r h c v alone))
+    (gives_by l w m s r v.field.row.kind v.value h.kinds v.field.kind (term_is l w m s i r h asked v) (value_followed l w m s i r h v alone) (no_offset l w m s i r h v))
 
-gives_address : (l : Layout) (w : World) (m : Memory) (s : InputSection) (r : InputRelocation) → IsSectionLoaded l w m s → Contains s.relocations r → (a : IsAddress l s r) → (IsLinkedAlone l (item_of s) r → ⊥) → Gives a.fits.formula.value l w m (item_of s) r ((a.value + w.base) % 2 ^ 64)
-gives_address l w m s r h c a alone =
-    let listed = All-contains (NamesSymbol l) s.relocations r h.symbols c in
+gives_address : (l : Layout) (w : World) (m : Memory) (s : InputSection) (i : ℕ) (r : InputRelocation) → IsSectionLoaded l w m s → (a : IsAddress l s i r) → (IsLinkedAlone l (item_of s) r → ⊥) → Gives a.fits.formula.value l w m (item_of s) r ((a.value + w.base) % 2 ^ 64)
+gives_address l w m s i r h a alone =
+    let listed = All-at (NamesSymbol l) s.relocations i r h.symbols a.plain.has.listed in
     let known = formula_known l r.number a.fits.formula h.placed.x86 a.fits.known in
     let kind = a.moved.by.kind in
     let value : plain_value kinds.Absolute ≡ a.fits.formula.value = sym (ap plain_value kind) ∙ a.fits.value in
-    let f = followed l w m s r kinds.Absolute a.fits.formula h.placed listed known value (λ i named left. not_left l s r a.moved.row i treatments.BaseRelative a.fits (ap has_value kind) h.room a.moved.treated (λ e. cc) (λ e. cc) a.moved.known named left) alone in
-    subst (λ (q : Value). Gives q l w m (item_of s) r ((a.value + w.base) % 2 ^ 64)) value (h.kinds.address l w m s r a.value a.packed h.placed listed a.written.made f)
+    let f = followed l w m s r kinds.Absolute a.fits.formula h.placed listed known value (λ k named left. not_left l s r a.moved.row k treatments.BaseRelative a.fits (ap has_value kind) h.room a.moved.treated (λ e. cc) (λ e. cc) a.moved.known named left) alone in
+    subst (λ (q : Value). Gives q l w m (item_of s) r ((a.value + w.base) % 2 ^ 64)) value (h.kinds.address l w m s r a.value a.packed h.placed listed a.plain.own.made f)
 
 -- ---- the reference
 
-value_holds : (l : Layout) (w : World) (m : Memory) (s : InputSection) (r : InputRelocation) → IsSectionLoaded l w m s → IsReference (item_of s) r → IsAsked l w (item_of s) r → (IsLinkedAlone l (item_of s) r → ⊥) → IsValue l s r → HoldsPlain l w m (item_of s) r
-value_holds l w m s r h ref asked alone v = record {
+value_holds : (l : Layout) (w : World) (m : Memory) (s : InputSection) (i : ℕ) (r : InputRelocation) → IsSectionLoaded l w m s → IsAsked l w (item_of s) r → (IsLinkedAlone l (item_of s) r → ⊥) → IsValue l s i r → FieldHolds l w m (item_of s) r
+value_holds l w m s i r h asked alone v = record {
   formula = v.fits.formula;
   known = formula_known l r.number v.fits.formula h.placed.x86 v.fits.known;
   value = v.value;
-  gives = gives_value l w m s r h ref.listed asked v alone;
-  field = value_reads l w m s r h ref.listed v;
-  kept = λ start o t k own. own_byte l w m s r start o k h t own;
+  gives = gives_value l w m s i r h asked v alone;
+  field = value_reads l w m s i r h v;
 }
 
-address_holds : (l : Layout) (w : World) (m : Memory) (s : InputSection) (r : InputRelocation) → IsSectionLoaded l w m s → IsReference (item_of s) r → (IsLinkedAlone l (item_of s) r → ⊥) → IsAddress l s r → HoldsPlain l w m (item_of s) r
-address_holds l w m s r h ref alone a = record {
+address_holds : (l : Layout) (w : World) (m : Memory) (s : InputSection) (i : ℕ) (r : InputRelocation) → IsSectionLoaded l w m s → (IsLinkedAlone l (item_of s) r → ⊥) → IsAddress l s i r → FieldHolds l w m (item_of s) r
+address_holds l w m s i r h alone a = record {
   formula = a.fits.formula;
   known = formula_known l r.number a.fits.formula h.placed.x86 a.fits.known;
   value = (a.value + w.base) % 2 ^ 64;
-  gives = gives_address l w m s r h ref.listed a alone;
-  field = address_reads l w m s r h a;
-  kept = λ start o t k own. own_byte l w m s r start o k h t own;
+  gives = gives_address l w m s i r h a alone;
+  field = address_reads l w m s i r h a;
 }
 
-left_holds : (l : Layout) (w : World) (m : Memory) (s : InputSection) (r : InputRelocation) → IsSectionLoaded l w m s → IsReference (item_of s) r → IsLeftField l s r → HoldsPlain l w m (item_of s) r
-left_holds l w m s r h ref f =
-    let listed = All-contains (NamesSymbol l) s.relocations r h.symbols ref.listed in
-    let fits = All-contains AddendFits s.relocations r h.addends ref.listed in
-    let b = h.left r f in
-    let g = h.kinds.entry l w m s r f.size f.number f.symbol f.addend b.0 h.placed listed fits f.written.made b.2 in
+left_holds : (l : Layout) (w : World) (m : Memory) (s : InputSection) (i : ℕ) (r : InputRelocation) → IsSectionLoaded l w m s → IsLeftField l s i r → FieldHolds l w m (item_of s) r
+left_holds l w m s i r h f =
+    let listed = All-at (NamesSymbol l) s.relocations i r h.symbols f.plain.has.listed in
+    let fits = All-at AddendFits s.relocations i r h.addends f.plain.has.listed in
+    let b = left_bytes l w m s i r h f in
+    let g = h.kinds.entry l w m s r f.size f.number f.symbol f.addend b.0 h.placed listed fits f.plain.own.made b.2 in
     let known = formula_known l r.number f.fits.formula h.placed.x86 f.fits.known in
     let same : g.0 ≡ f.fits.formula = (let e : Some g.0 ≡ Some f.fits.formula = sym g.1 ∙ known in cc) in
     record {
@@ -119,17 +138,38 @@ left_holds l w m s r h ref f =
       known = g.1;
       value = g.2;
       gives = g.3;
-      field = left_reads l w m s r g.2 h f g.0.form (ap (λ (x : Formula). x.form) same) g.4;
-      kept = λ start o t k own. own_byte l w m s r start o k h t own;
+      field = left_reads l w m s i r g.2 h f g.0.form (ap (λ (x : Formula). x.form) same) g.4;
     }
 
-pub holds_plain : (l : Layout) (w : World) (m : Memory) (s : InputSection) (r : InputRelocation) → IsSectionLoaded l w m s → IsReference (item_of s) r → IsAsked l w (item_of s) r → (IsLinkedAlone l (item_of s) r → ⊥) → HoldsPlain l w m (item_of s) r
-holds_plain l w m s r h ref asked alone =
-    elim (relocation_written l s r h.tables.agree h.placed.x86 h.clean ref.listed ref.refers) [
-      | inl v ↦ value_holds l w m s r h ref asked alone v
-      | inr (inl a) ↦ address_holds l w m s r h ref alone a
-      | inr (inr f) ↦ left_holds l w m s r h ref f
-    ]
+-- the call has no field, and stands in no code whose references are offsets
+call_formula : x86_64_formula r_x86_64_tlsdesc_call ≡ Some (formula NoValue NoField)
+unfolding x86_64_formula
+call_formula = refl
+
+call_known : (l : Layout) (w : World) (m : Memory) (s : InputSection) (i : ℕ) (r : InputRelocation) → IsSectionLoaded l w m s → IsCall l s i r → formula_of l.machine r.number ≡ Some (formula NoValue NoField)
+call_known l w m s i r h c = formula_known l r.number (formula NoValue NoField) h.placed.x86 (ap x86_64_formula c.number ∙ call_formula)
+
+no_bytes : (w : World) (m : Memory) (s : InputSection) (r : InputRelocation) → FieldReads w m (item_of s) r NoField 0
+no_bytes w m s r = record { bytes = []; wide = refl; held = λ k less. absurd (omega (arith, less)); reads = tt; keeps = tt }
+
+call_holds : (l : Layout) (w : World) (m : Memory) (s : InputSection) (i : ℕ) (r : InputRelocation) → IsSectionLoaded l w m s → IsCall l s i r → FieldHolds l w m (item_of s) r
+call_holds l w m s i r h c = record {
+  formula = formula NoValue NoField;
+  known = call_known l w m s i r h c;
+  value = 0;
+  gives = λ mode. call_kept l s r (slice_get s.relocations (i + 1)) c.symbol c.plain.own.choice h.placed.x86 c.named c.number mode;
+  field = no_bytes w m s r;
+}
+
+written_holds : (l : Layout) (w : World) (m : Memory) (s : InputSection) (i : ℕ) (r : InputRelocation) → IsSectionLoaded l w m s → IsAsked l w (item_of s) r → (IsLinkedAlone l (item_of s) r → ⊥) → Writes l s i r → FieldHolds l w m (item_of s) r
+written_holds l w m s i r h asked alone (inl v) = value_holds l w m s i r h asked alone v
+written_holds l w m s i r h asked alone (inr (inl a)) = address_holds l w m s i r h alone a
+written_holds l w m s i r h asked alone (inr (inr (inl f))) = left_holds l w m s i r h f
+written_holds l w m s i r h asked alone (inr (inr (inr (inl c)))) = call_holds l w m s i r h c
+written_holds l w m s i r h asked alone (inr (inr (inr (inr f)))) = (row_holds l w m s i r h asked f).holds
+
+pub field_holds : (l : Layout) (w : World) (m : Memory) (s : InputSection) (i : ℕ) (r : InputRelocation) → IsSectionLoaded l w m s → IsKeptReference l s i r → IsAsked l w (item_of s) r → (IsLinkedAlone l (item_of s) r → ⊥) → FieldHolds l w m (item_of s) r
+field_holds l w m s i r h k asked alone = written_holds l w m s i r h asked alone (relocation_written l s i r k.decision h.tables.agree h.placed.x86 k.has k.keeps k.refers)
 
 -- ---- with the output's own symbol, at base 0
 
@@ -152,6 +192,7 @@ links_by l w m s r kinds.GotRelGotBase x i laws v h zero named alone t = absurd 
 links_by l w m s r kinds.GotTpOff x i laws v h zero named alone t = absurd (none_taken (plain_value kinds.GotTpOff) t (λ o. o) (λ o. o))
 links_by l w m s r kinds.TlsGd x i laws v h zero named alone t = absurd (none_taken (plain_value kinds.TlsGd) t (λ o. o) (λ o. o))
 links_by l w m s r kinds.TlsLd x i laws v h zero named alone t = absurd (none_taken (plain_value kinds.TlsLd) t (λ o. o) (λ o. o))
+links_by l w m s r kinds.TlsDesc x i laws v h zero named alone t = absurd (none_taken (plain_value kinds.TlsDesc) t (λ o. o) (λ o. o))
 links_by l w m s r other x i laws v h zero named alone t = cc
 
 -- what it takes
@@ -163,18 +204,17 @@ takes_by : (l : Layout) (s : InputSection) (i : ℕ) (f : Formula) (v : Value) �
 takes_by l s i f v e (inl offset) = inl (subst TakesOffset (sym e) offset)
 takes_by l s i f v e (inr t) = inr (subst TakesAddress (sym e) t.0)
 
-value_links : (l : Layout) (w : World) (m : Memory) (s : InputSection) (r : InputRelocation) → IsSectionLoaded l w m s → IsReference (item_of s) r → (a : IsLinkedAlone l (item_of s) r) → w.base ≡ 0 → IsValue l s r → HoldsLinked l w m (item_of s) r
-value_links l w m s r h ref a zero v =
+value_links : (l : Layout) (w : World) (m : Memory) (s : InputSection) (i : ℕ) (r : InputRelocation) → IsSectionLoaded l w m s → (a : IsLinkedAlone l (item_of s) r) → w.base ≡ 0 → IsValue l s i r → FieldIsLinked l w m (item_of s) r
+value_links l w m s i r h a zero v =
     let known = formula_known l r.number v.fits.formula h.placed.x86 v.fits.known in
     let t = taken l s r v.fits.formula known a in
-    let given = links_by l w m s r v.field.row.kind v.value a.symbol h.linked v.field.kind (term_is l w m s r h ref.listed (λ e. zero) v) zero a.named (alone_by l s a.symbol v.fits.formula (plain_value v.field.row.kind) v.fits.value t) (takes_by l s a.symbol v.fits.formula (plain_value v.field.row.kind) v.fits.value t) in
+    let given = links_by l w m s r v.field.row.kind v.value a.symbol h.linked v.field.kind (term_is l w m s i r h (λ e. zero) v) zero a.named (alone_by l s a.symbol v.fits.formula (plain_value v.field.row.kind) v.fits.value t) (takes_by l s a.symbol v.fits.formula (plain_value v.field.row.kind) v.fits.value t) in
     record {
       formula = v.fits.formula;
       known = known;
       value = v.value;
       gives = subst (λ (q : Value). GivesLinked q l w (item_of s) r v.value) v.fits.value given;
-      field = value_reads l w m s r h ref.listed v;
-      kept = λ start o t k own. own_byte l w m s r start o k h t own;
+      field = value_reads l w m s i r h v;
     }
 
 -- an address has no offset, so that it takes the symbol's own
@@ -182,26 +222,35 @@ bare_by : (l : Layout) (s : InputSection) (i : ℕ) (f : Formula) → plain_valu
 bare_by l s i f e (inl offset) = absurd (subst TakesOffset (sym e) offset)
 bare_by l s i f e (inr t) = t.2
 
-address_links : (l : Layout) (w : World) (m : Memory) (s : InputSection) (r : InputRelocation) → IsSectionLoaded l w m s → IsReference (item_of s) r → (a : IsLinkedAlone l (item_of s) r) → w.base ≡ 0 → IsAddress l s r → HoldsLinked l w m (item_of s) r
-address_links l w m s r h ref a zero v =
+address_links : (l : Layout) (w : World) (m : Memory) (s : InputSection) (i : ℕ) (r : InputRelocation) → IsSectionLoaded l w m s → (a : IsLinkedAlone l (item_of s) r) → w.base ≡ 0 → IsAddress l s i r → FieldIsLinked l w m (item_of s) r
+address_links l w m s i r h a zero v =
     let known = formula_known l r.number v.fits.formula h.placed.x86 v.fits.known in
     let value : plain_value kinds.Absolute ≡ v.fits.formula.value = sym (ap plain_value v.moved.by.kind) ∙ v.fits.value in
     let bare = bare_by l s a.symbol v.fits.formula value (taken l s r v.fits.formula known a) in
-    let listed = All-contains (NamesSymbol l) s.relocations r h.symbols ref.listed in
+    let listed = All-at (NamesSymbol l) s.relocations i r h.symbols v.plain.has.listed in
     let x = (v.value + w.base) % 2 ^ 64 in
     record {
       formula = v.fits.formula;
       known = known;
       value = x;
-      gives = subst (λ (q : Value). GivesLinked q l w (item_of s) r x) value (h.linked.address l w m s r v.value a.symbol v.packed h.placed listed v.written.made zero a.named bare);
-      field = address_reads l w m s r h v;
-      kept = λ start o t k own. own_byte l w m s r start o k h t own;
+      gives = subst (λ (q : Value). GivesLinked q l w (item_of s) r x) value (h.linked.address l w m s r v.value a.symbol v.packed h.placed listed v.plain.own.made zero a.named bare);
+      field = address_reads l w m s i r h v;
     }
 
-pub holds_linked : (l : Layout) (w : World) (m : Memory) (s : InputSection) (r : InputRelocation) → IsSectionLoaded l w m s → IsReference (item_of s) r → IsLinkedAlone l (item_of s) r → w.base ≡ 0 → HoldsLinked l w m (item_of s) r
-holds_linked l w m s r h ref a zero =
-    elim (relocation_written l s r h.tables.agree h.placed.x86 h.clean ref.listed ref.refers) [
-      | inl v ↦ value_links l w m s r h ref a zero v
-      | inr (inl v) ↦ address_links l w m s r h ref a zero v
-      | inr (inr f) ↦ absurd (left_follows l w m s r h.placed (All-contains (NamesSymbol l) s.relocations r h.symbols ref.listed) f (formula_known l r.number f.fits.formula h.placed.x86 f.fits.known) a)
-    ]
+-- an expression that takes neither is none of these
+takes_none : (l : Layout) (s : InputSection) (r : InputRelocation) (f : Formula) → formula_of l.machine r.number ≡ Some f → (TakesOffset f.value → ⊥) → (TakesAddress f.value → ⊥) → IsLinkedAlone l (item_of s) r → ⊥
+takes_none l s r f known offset address a = by_takes (taken l s r f known a)
+  where
+    by_takes : TakesItself l (item_of s) a.symbol f → ⊥
+    by_takes (inl o) = offset o
+    by_takes (inr t) = address t.0
+
+written_links : (l : Layout) (w : World) (m : Memory) (s : InputSection) (i : ℕ) (r : InputRelocation) → IsSectionLoaded l w m s → (a : IsLinkedAlone l (item_of s) r) → w.base ≡ 0 → Writes l s i r → FieldIsLinked l w m (item_of s) r
+written_links l w m s i r h a zero (inl v) = value_links l w m s i r h a zero v
+written_links l w m s i r h a zero (inr (inl v)) = address_links l w m s i r h a zero v
+written_links l w m s i r h a zero (inr (inr (inl f))) = absurd (left_follows l w m s i r h.placed (All-at (NamesSymbol l) s.relocations i r h.symbols f.plain.has.listed) f (formula_known l r.number f.fits.formula h.placed.x86 f.fits.known) a)
+written_links l w m s i r h a zero (inr (inr (inr (inl c)))) = absurd (takes_none l s r (formula NoValue NoField) (call_known l w m s i r h c) (λ o. o) (λ o. o) a)
+written_links l w m s i r h a zero (inr (inr (inr (inr f)))) = (let held = row_holds l w m s i r h (λ e. zero) f in absurd (takes_none l s r held.holds.formula held.holds.known held.offset held.address a))
+
+pub field_links : (l : Layout) (w : World) (m : Memory) (s : InputSection) (i : ℕ) (r : InputRelocation) → IsSectionLoaded l w m s → IsKeptReference l s i r → IsLinkedAlone l (item_of s) r → w.base ≡ 0 → FieldIsLinked l w m (item_of s) r
+field_links l w m s i r h k a zero = written_links l w m s i r h a zero (relocation_written l s i r k.decision h.tables.agree h.placed.x86 k.has k.keeps k.refers)

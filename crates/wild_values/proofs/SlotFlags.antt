@@ -118,6 +118,14 @@ plain_stub s p h e = by_tests (has_thread_slot s.flags) (has_flag s.flags ifunc)
     by_tests true false h = cc
     by_tests true true h = cc
 
+-- nor is a symbol with a thread-local slot one that a resolver chooses
+pub thread_not_chosen : (s : Symbol) → thread_slot_alone s ≡ true → has_thread_slot s.flags ≡ true → has_flag s.flags ifunc ≡ false
+thread_not_chosen s h e = by_tests (has_flag s.flags ifunc) (is_some (plt_of s)) (rw e at h)
+  where
+    by_tests : (chosen stub : Bool) → (not true || (not chosen && not stub)) ≡ true → chosen ≡ false
+    by_tests false stub h = refl
+    by_tests true stub h = cc
+
 -- a resolver's address moves
 pub resolver_not_absolute : (s : Symbol) → resolver_moves s ≡ true → has_flag s.flags ifunc ≡ true → has_flag s.flags absolute ≡ false
 resolver_not_absolute s h e = by_tests (has_flag s.flags absolute) (rw e at h)

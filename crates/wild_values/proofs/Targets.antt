@@ -41,7 +41,7 @@ pub record IsOwnAddressed (l : Layout) (w : World) (i a : ℕ) : Type 0 where
   pub absolute : still ≡ true → IsAbsolute l i
 
 -- the symbol's own address
-raw_addressed : (l : Layout) (w : World) (m : Memory) (i a : ℕ) → IsPlaced l w m → is_chosen l i ≡ false → raw_address l (Some i) ≡ Ok a → IsOwnAddressed l w i a
+pub raw_addressed : (l : Layout) (w : World) (m : Memory) (i a : ℕ) → IsPlaced l w m → is_chosen l i ≡ false → raw_address l (Some i) ≡ Ok a → IsOwnAddressed l w i a
 raw_addressed l w m i a p chosen h =
     let raw = has_raw l i a (address_given l (Some i) a h) in
     let d = definition_listed l i raw.definition p.symbols.named raw.defined in

@@ -35,13 +35,13 @@ use Rattle.wild_values.proofs.ThreadValues.{known_distance, placed_thread, threa
 
 -- ---- whose symbol it is
 
-whose_own : (l : Layout) (w : World) (m : Memory) (i : ℕ) (r : Resolution) → IsPlaced l w m → IsResolvedBy l i r → may_be_replaced l.kind r.flags ≡ false → IsReplaceable l i false
+pub whose_own : (l : Layout) (w : World) (m : Memory) (i : ℕ) (r : Resolution) → IsPlaced l w m → IsResolvedBy l i r → may_be_replaced l.kind r.flags ≡ false → IsReplaceable l i false
 whose_own l w m i r p d own =
     let flags : r.flags ≡ d.symbol.flags = (symbol_fits l (canonical l i) d.symbol p.symbols d.listed).flags r d.decided in
     subst (λ (b : Bool). IsReplaceable l i b) (ap (λ (f : ValueFlags). may_be_replaced l.kind f) (sym flags) ∙ own) (replaceable_by l i r d)
 
 -- an index that was decided is behind the null symbol
-index_some : (l : Layout) (w : World) (m : Memory) (i d : ℕ) (r : Resolution) → IsPlaced l w m → IsResolvedBy l i r → r.dynamic_symbol_index ≡ Some d → d ≢ 0
+pub index_some : (l : Layout) (w : World) (m : Memory) (i d : ℕ) (r : Resolution) → IsPlaced l w m → IsResolvedBy l i r → r.dynamic_symbol_index ≡ Some d → d ≢ 0
 index_some l w m i d r p by e = (symbol_fits l (canonical l i) by.symbol p.symbols by.listed).index r d by.decided e
 
 -- ---- the offset
@@ -65,13 +65,13 @@ program_offset l w m i t r p d program e =
     inl (subst (λ (n : ℕ). judge.IsThreadPlace l w i n) (sym (e ∙ same)) (thread_place l w i r.raw_value f (resolved_raw l i r d)))
 
 -- a library's own is its place in the module's data
-library_same : (t raw start x : ℕ) → x ≡ ((t + 0) % 2 ^ 64 + (raw + (2 ^ 64 - start)) % 2 ^ 64) % 2 ^ 64 → x ≡ (t + raw + (2 ^ 64 - start)) % 2 ^ 64
+pub library_same : (t raw start x : ℕ) → x ≡ ((t + 0) % 2 ^ 64 + (raw + (2 ^ 64 - start)) % 2 ^ 64) % 2 ^ 64 → x ≡ (t + raw + (2 ^ 64 - start)) % 2 ^ 64
 library_same t raw start x e = omega (arith, e)
 
-less_below : (raw start : ℕ) → less raw start < 2 ^ 64
+pub less_below : (raw start : ℕ) → less raw start < 2 ^ 64
 less_below raw start = omega arith
 
-looked_same : (t offset x : ℕ) → x ≡ ((t + offset) % 2 ^ 64 + 0) % 2 ^ 64 → x ≡ (t + offset) % 2 ^ 64
+pub looked_same : (t offset x : ℕ) → x ≡ ((t + offset) % 2 ^ 64 + 0) % 2 ^ 64 → x ≡ (t + offset) % 2 ^ 64
 looked_same t offset x e = omega (arith, e)
 
 -- of a symbol that a loader looks up
@@ -202,7 +202,7 @@ program_flags l f program none = by_tests (has_flag f dynamic) (has_flag f copy_
     by_tests false copied true seen e f = cc
 
 -- one that none may replace
-fixed_flags : (l : Layout) (f : ValueFlags) → (has_flag f dynamic ≡ true → interposable f ≡ true) → interposable f ≡ false → may_be_replaced l.kind f ≡ false
+pub fixed_flags : (l : Layout) (f : ValueFlags) → (has_flag f dynamic ≡ true → interposable f ≡ true) → interposable f ≡ false → may_be_replaced l.kind f ≡ false
 fixed_flags l f open_one fixed = by_tests (has_flag f dynamic) (has_flag f copy_relocation) (is_library l.kind) (has_flag f export_dynamic) (has_flag f non_interposable) open_one fixed
   where
     by_tests : (a copied library exported b : Bool) → (a ≡ true → not b ≡ true) → not b ≡ false → ((a && not copied) || (library && (exported && not b))) ≡ false

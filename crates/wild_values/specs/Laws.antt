@@ -1,6 +1,7 @@
 -- What the writer's decisions write is what the judge's formulas give.
 --   KindGives k           the value of a kind is what the kind's expression gives
 --   KindGivesLinked k     or what it gives with the output's own symbol
+--   DescriptorsGive       so it is of descriptors, where no reference is the offset itself
 --   AddressesGive, AddressesGiveLinked   an address that moves is S + A, once it is moved
 --   EntriesGive           so is what an entry stores in a field that is left to it
 --   ThreadPlacesAreKnown  a symbol's place in the thread's data, and its distance from the thread pointer
@@ -8,7 +9,7 @@
 --   FieldHolds ..         a field in memory reads as its formula; FieldIsLinked with the output's own symbol
 --   FieldsHold ..         memory has a section's fields as the formulas have them, where they keep their instructions
 --   SectionsHold          so it has each kept section that is there as it was decided
-use Rattle.std.specs.Prelude.{◌≡◌, ℕ, ◌+◌, ◌-◌, ◌%◌, ◌^◌, ◌<◌, ◌≢◌, ◌⊎◌, ⊤, FitsSigned, Bool, List, Some, Ok}
+use Rattle.std.specs.Prelude.{◌≡◌, ℕ, ◌+◌, ◌-◌, ◌%◌, ◌^◌, ◌≢◌, ◌⊎◌, ⊤, FitsSigned, Bool, List, Some, Ok}
 use Rattle.std.specs.Int.{w64, cast_unsigned}
 use Rattle.wild_plan.specs.declared.kind.Machine.TheVariants as machine
 use Rattle.wild_plan.specs.declared.input.InputRelocation.{InputRelocation}
@@ -36,7 +37,7 @@ use Rattle.wild_meaning.specs.Thread.{thread_pointer, HasDistance, IsThreadPlace
 use Rattle.wild_records.specs.Abi.Relocation.{r_x86_64_none}
 use Rattle.wild_meaning.specs.Item.{Item, item_of, IsKeptSection}
 use Rattle.wild_meaning.specs.Field.{formula_of, FieldReads}
-use Rattle.wild_meaning.specs.Formula.{IsSum, Gives, IsOwnSum, GivesLinked, TakesOffset}
+use Rattle.wild_meaning.specs.Formula.{IsSum, HasOffsetMode, Gives, IsOwnSum, GivesLinked, TakesOffset}
 use Rattle.wild_meaning.specs.Reference.{IsAsked, IsStubbed, IsLinkedAlone}
 use Rattle.wild_values.specs.Terms.{IsPlaced, HasTerm, IsFollowed}
 
@@ -49,6 +50,11 @@ KindGives k = (l : Layout) (w : World) (m : Memory) (s : InputSection) (r : Inpu
 -- offset from the thread pointer
 abbrev pub KindGivesLinked : RelocationKind → Type 0
 KindGivesLinked k = (l : Layout) (w : World) (m : Memory) (s : InputSection) (r : InputRelocation) (x i : ℕ) → HasTerm l w m s r k x → w.base ≡ 0 → r.symbol ≡ Some i → (IsStubbed l i → ⊥) ⊎ TakesOffset (plain_value k) → GivesLinked (plain_value k) l w (item_of s) r x
+
+-- of the distance of a descriptor: in code whose references are no offsets ("ELF Handling For Thread-Local Storage", "Linker
+-- Relaxations")
+abbrev pub DescriptorsGive : Type 0
+DescriptorsGive = (l : Layout) (w : World) (m : Memory) (s : InputSection) (r : InputRelocation) (x : ℕ) → HasTerm l w m s r kinds.TlsDesc x → (HasOffsetMode l (item_of s) → ⊥) → Gives (plain_value kinds.TlsDesc) l w m (item_of s) r x
 
 -- an address that is decided to move is S + A of the world, once it is more by the base, where the symbol is followed
 abbrev pub AddressesGive : Type 0

@@ -2,7 +2,7 @@
 #![tactic(auto)]
 
 ghost use Rattle.wild_reloc.specs.declared.info.RelocationKind.TheVariants as kinds;
-ghost use Rattle.wild_values.specs.Laws.{AddressesGive, AddressesGiveLinked, EntriesGive, KindGives, KindGivesLinked, SectionsHold, ThreadPlacesAreKnown};
+ghost use Rattle.wild_values.specs.Laws.{AddressesGive, AddressesGiveLinked, DescriptorsGive, EntriesGive, KindGives, KindGivesLinked, SectionsHold, ThreadPlacesAreKnown};
 
 use wild_loader::stubs_are_read;
 use wild_reloc::{fields_of_x86_64, widths_of_fields};
@@ -96,6 +96,11 @@ pub fn distances_of_the_own_pair_are_given()
     ensures { KindGives kinds.TlsLd }
 {}
 
+/// G + A - P, of a descriptor.
+pub fn distances_of_descriptors_are_given()
+    ensures { DescriptorsGive }
+{}
+
 /// S + A of a symbol that moves with the base: what a loader makes of an address that moves.
 pub fn addresses_are_given()
     ensures gives { AddressesGive }
@@ -116,8 +121,7 @@ pub fn thread_places_are_known()
     ensures { ThreadPlacesAreKnown }
 {}
 
-/// Where memory has a kept section as it was decided, each of its references reads as its formula, and every byte in no
-/// field is the input's.
+/// Where memory has a kept section as it was decided, each of its references that keeps its instruction reads as its formula.
 pub fn sections_hold()
     ensures { SectionsHold }
 {
@@ -137,6 +141,7 @@ pub fn sections_hold()
     distances_of_thread_slots_are_given();
     distances_of_pairs_are_given();
     distances_of_the_own_pair_are_given();
+    distances_of_descriptors_are_given();
     addresses_are_given();
     entries_are_given();
 }

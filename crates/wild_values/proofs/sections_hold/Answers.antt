@@ -20,6 +20,7 @@ returns c =
       thread_slot = c.distances_of_thread_slots_are_given.ensures;
       pair = c.distances_of_pairs_are_given.ensures;
       own_pair = c.distances_of_the_own_pair_are_given.ensures;
+      descriptor = c.distances_of_descriptors_are_given.ensures;
       address = c.addresses_are_given.ensures.gives;
       entry = c.entries_are_given.ensures;
     })
