@@ -10,8 +10,8 @@ those that it can do without. It is told the number `length`, as by the option `
 import os
 
 from make_hello import spelled
-from make_slots import ADDRESS_SLOT, ANY_MODULE, OFFSET_SLOT, OWN_PAIR, plan
 from make_pie import compiled
+from make_slots import ADDRESS_SLOT, ANY_MODULE, OFFSET_SLOT, OWN_PAIR, plan
 
 NUMBERS = {"length": 28}
 
