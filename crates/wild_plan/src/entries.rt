@@ -181,8 +181,23 @@ fn may_be_left(section: &InputSection, number: u32) -> bool
     }
 }
 
+/// Whether the treatment of a relocation leaves its field to such an entry.
+fn is_left_by_treatment(
+    layout: &Layout,
+    section: &InputSection,
+    relocation: &InputRelocation,
+) -> bool
+    ensures { result ≡ is_left_to_entry (treatment layout.now section.now relocation.now) }
+{
+    matches!(
+        treatment_of(layout, section, relocation),
+        Treatment::Symbolic(_) | Treatment::Indirect(_) | Treatment::Extent(_, _)
+    )
+}
+
 /// Whether the field of a relocation is left to an entry that names a symbol or a resolver. Its treatment is asked only
 /// where its type allows that.
+#[inline]
 #[tactic(auto, using(crate::proofs::EntryLemmas::others_stay))]
 pub fn is_left_to_entry(
     layout: &Layout,
@@ -191,11 +206,7 @@ pub fn is_left_to_entry(
 ) -> bool
     ensures { result ≡ is_left_to_entry (treatment layout.now section.now relocation.now) }
 {
-    may_be_left(section, relocation.number)
-        && matches!(
-            treatment_of(layout, section, relocation),
-            Treatment::Symbolic(_) | Treatment::Indirect(_) | Treatment::Extent(_, _)
-        )
+    may_be_left(section, relocation.number) && is_left_by_treatment(layout, section, relocation)
 }
 
 /// How many of some relocations of a section are such: none where it is not loaded into memory.
