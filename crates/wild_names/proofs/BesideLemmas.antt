@@ -1,5 +1,5 @@
 -- Two lists whose items belong together, one by one; and records that stand one behind the other.
-use Rattle.std.proofs.Common.{◌≡◌, ℕ, zero, suc, ◌+◌, ◌*◌, List, [], ◌∷◌, ◌++◌, length, Some, slice_get, flat_map, refl, arith, subst}
+use Rattle.std.proofs.Common.{◌≡◌, ℕ, zero, suc, ◌+◌, ◌*◌, List, [], ◌∷◌, ◌++◌, length, Some, slice_get, flat_map, refl, ap, arith, subst}
 use Rattle.std.proofs.lemmas.Option.{same_Some}
 use Rattle.wild_words.specs.Words.{Stands}
 use Rattle.wild_words.proofs.OverlayLemmas.{Stands-inner}
@@ -18,6 +18,13 @@ Belong R [] [] = Unit {0}
 Belong R [] (y ∷ ys) = ⊥
 Belong R (x ∷ xs) [] = ⊥
 Belong R (x ∷ xs) (y ∷ ys) = FirstAndRest (R x y) (Belong R xs ys)
+
+-- as many of the one as of the other
+pub belong-length : {X Y : Type 0} (R : X → Y → Type 0) (xs : List X) (ys : List Y) → Belong R xs ys → length xs ≡ length ys
+belong-length R [] [] h = refl
+belong-length R [] (y ∷ ys) h = absurd h
+belong-length R (x ∷ xs) [] h = absurd h
+belong-length R (x ∷ xs) (y ∷ ys) h = ap suc (belong-length R xs ys h.rest)
 
 pub belong-append : {X Y : Type 0} (R : X → Y → Type 0) (xs us : List X) (ys vs : List Y) → Belong R xs ys → Belong R us vs → Belong R (xs ++ us) (ys ++ vs)
 belong-append R [] us [] vs h k = k

@@ -1,6 +1,6 @@
 -- Both tables in the image: each entry stands where it is counted, and each name where its entry tells.
 use Rattle.std.proofs.Common.{◌≡◌, ℕ, suc, ◌+◌, ◌*◌, ◌≤◌, true, List, [], ◌∷◌, ◌++◌, length, map, replicate, option_map, Some, None, slice_get, flat_map, refl, sym, ap, ◌∙◌, arith, subst}
-use Rattle.std.proofs.lemmas.List.{length-append}
+use Rattle.std.proofs.lemmas.List.{length-append, length-map}
 use Rattle.std.proofs.lemmas.Option.{slice_get-map}
 use Rattle.wild_words.specs.Words.{Stands, word}
 use Rattle.wild_words.specs.Record.{spell}
@@ -24,14 +24,14 @@ use Rattle.wild_plan.specs.Segments.{part_with}
 use Rattle.wild_symbols.specs.Strings.{string}
 use Rattle.wild_symbols.specs.Symbols.{symbol_bytes}
 use Rattle.wild_symbols.specs.DynamicEntries.{NamedFields, entry_at, no_fields, group_symbols}
-use Rattle.wild_symbols.proofs.SymbolLemmas.{length-symbol}
+use Rattle.wild_symbols.proofs.SymbolLemmas.{length-symbol, length-symbol_bytes}
 use Rattle.wild_tables.proofs.DynamicLemmas.{length_entry}
 use Rattle.wild_tables.specs.Dynamic.{entries_bytes, dynamic_bytes}
 use Rattle.wild_layout.specs.Content.{file_content, dynamic_room, content}
 use Rattle.wild_layout.specs.Geometry.{IsLaidOut, TablesStand, table_bytes, all_needed}
 use Rattle.wild_layout.specs.Image.{bytes}
 use Rattle.wild_names.specs.Laws.{IsNamed, HasEntry, HasLibrary, SymbolsStand, LibrariesStand, table_symbols, libraries}
-use Rattle.wild_names.proofs.BesideLemmas.{Belong, HasBeside, belongs_at, Stands-record}
+use Rattle.wild_names.proofs.BesideLemmas.{Belong, HasBeside, belong-length, belongs_at, Stands-record}
 use Rattle.wild_names.proofs.LibraryLemmas.{NamesLibrary, libraries_belong}
 use Rattle.wild_names.proofs.OrderLemmas.{items_of_all}
 use Rattle.wild_names.proofs.RunLemmas.{nil_if, strings_are_short}
@@ -87,10 +87,18 @@ symbols_stand stand l laid needs table strings found with_strings =
     let items = None ∷ map Some (table_symbols l) in
     let all = subst (Belong (IsEntryOf names) (all_symbols l)) (items_of_all l laid.some_group laid.files) (symbols_belong l laid needs) in
     record {
+      whole = whole_table (belong-length (IsEntryOf names) (all_symbols l) items all);
       null = null_stands (belongs_at (IsEntryOf names) (all_symbols l) items 0 None all refl);
       each = λ k n h. one k n (belongs_at (IsEntryOf names) (all_symbols l) items (suc k) (Some n) all (item k n h));
     }
   where
+    whole_table : length (all_symbols l) ≡ suc (length (map Some (table_symbols l))) → table.size ≡ 24 * (length (table_symbols l) + 1)
+    whole_table n =
+        let size = ((laid.roles role.Dynsym (λ e. absurd (omega arith))).there table found).size in
+        let own : length (table_bytes l role.Dynsym) ≡ 24 * length (all_symbols l) = subst (λ (bs : List ℕ). length bs ≡ 24 * length (all_symbols l)) (symbol_table l) (length-symbol_bytes (all_symbols l)) in
+        let items = length-map (table_symbols l) Some in
+        omega arith
+
     null_stands : HasBeside (IsEntryOf (table_bytes l role.Dynstr)) (all_symbols l) 0 None → Stands (bytes l) table.offset (replicate 24 0)
     null_stands b =
         let z : table.offset + 24 * 0 ≡ table.offset = omega arith in
