@@ -1,10 +1,9 @@
 -- The field of a relocation lies in what that writes, or in the sequence that takes it along.
-use Rattle.std.proofs.Common.{◌≡◌, ℕ, ◌+◌, ◌-◌, ◌≤◌, ◌⊎◌, inl, inr, Bool, true, false, List, [], ◌∷◌, length, drop, slice_range, refl, sym, ap, ◌∙◌, arith, subst}
-use Rattle.std.specs.Prelude.{Option, Some, Ok, ◌==◌, if◌then◌else◌, slice_get}
+use Rattle.std.proofs.Common.{◌≡◌, ℕ, ◌+◌, ◌≤◌, ◌⊎◌, inl, inr, Bool, true, false, [], ◌∷◌, length, slice_range, refl, sym, ap, ◌∙◌, arith, subst}
+use Rattle.std.specs.Prelude.{Option, Some, Ok, ◌==◌, if◌then◌else◌, slice_get, None}
 use Rattle.std.specs.List.{list_all}
-use Rattle.std.proofs.lemmas.Bool.{eqb-true}
+use Rattle.std.proofs.lemmas.Bool.{and_parts, eqb-true}
 use Rattle.std.proofs.lemmas.Option.{slice_get_within}
-use Rattle.std.proofs.lemmas.List.{length-take-le, length-drop}
 use Rattle.wild_words.specs.Overlay.{Piece}
 use Rattle.wild_plan.specs.declared.kind.Machine.TheVariants as machine
 use Rattle.wild_plan.specs.declared.input.InputRelocation.{InputRelocation}
@@ -27,19 +26,19 @@ use Rattle.wild_relax.specs.declared.row.Row.{Row}
 use Rattle.wild_relax.specs.Pattern.{field_of}
 use Rattle.wild_relax.specs.Rows.{applies, has_its_sequence, number_of, partner_distance, call_form, is_call_number, is_partner_at}
 use Rattle.wild_relax.specs.Rows as rows
-use Rattle.wild_relax.specs.RewriteX86_64.{rewrite_of}
 use Rattle.wild_relax.specs.Linked.{pattern_of, pattern_size}
 use Rattle.wild_layout.specs.declared.decision.Decision.{Decision}
 use Rattle.wild_layout.specs.declared.decision.Decision.TheVariants.{Nothing, Field, Moved, Left, Rewritten, Partner}
 use Rattle.wild_layout.specs.Choice.{info_of, question_of, choice_of}
-use Rattle.wild_layout.specs.Sites.{field_site, template_start, template_site, site_for}
+use Rattle.wild_layout.specs.Sites.{field_site, template_site, site_for}
 use Rattle.wild_layout.proofs.DecideLemmas.{HasField, IsNothing, decided_field, decided_moved, decided_left, decided_nothing, field_has, moved_has, left_has}
 use Rattle.wild_layout.proofs.TreatmentLemmas.{IsSilent}
-use Rattle.wild_layout.proofs.ChoiceLemmas.{IsChosen, choice_row, chosen_listed, chosen_lies, length-template, IsSequence}
+use Rattle.wild_layout.proofs.ChoiceLemmas.{IsChosen, choice_row, chosen_listed, IsSequence}
+use Rattle.wild_layout.proofs.SiteLemmas.{length-template_site}
 use Rattle.wild_layout.proofs.DecisionLemmas.{decide_nothing, decide_moved, decide_left, decide_field, decide_rewritten, decide_partner, sequence_is_rewritten}
 use Rattle.wild_geometry.specs.Loaded.{IsDecided, HasDecision}
 use Rattle.wild_values.specs.Laws.{KeepsInstruction}
-use Rattle.wild_effects.proofs.WindowRows.{both, chosen_stands, partner_asked, width_of, is_well, each_is_well, field_lies, calls_are_well, call_width_is}
+use Rattle.wild_effects.proofs.WindowRows.{chosen_stands, partner_asked, width_of, is_well, each_is_well, field_lies, calls_are_well, call_width_is}
 
 -- ---- the row that stands at a relocation
 
@@ -65,10 +64,10 @@ pub record IsCall (r q : InputRelocation) (row : Row) (distance : ℕ) : Type 0 
 partner_is : (row : Row) (distance : ℕ) (r next : RelocationInfo) → is_partner_at row r (Some distance) (Some next) ≡ true → (next.offset ≡ r.offset + distance) × (is_call_number (call_form row) next.number ≡ true)
 unfolding rows.is_partner
 partner_is row distance r next h =
-    let a = both _ _ h in
-    let b = both _ _ a.1 in
-    let c = both _ _ b.0 in
-    let d = both _ _ c.0 in
+    let a = and_parts _ _ h in
+    let b = and_parts _ _ a.1 in
+    let c = and_parts _ _ b.0 in
+    let d = and_parts _ _ c.0 in
     (eqb-true _ _ d.0, c.1)
 
 pub call_is : (l : Layout) (s : InputSection) (r q : InputRelocation) (row : Row) (distance : ℕ) → IsRow l s r (Some q) row → partner_distance row ≡ Some distance → IsCall r q row distance
@@ -76,6 +75,23 @@ call_is l s r q row distance is known =
     let has = partner_asked (question_of l s r is.chosen.symbol (Some q)) row is.whole in
     let p = partner_is row distance (info_of l r) (info_of l q) (rw known at has) in
     record { offset = p.0; number = p.1 }
+
+-- the relocation behind is that of the call
+pub record HasCall (l : Layout) (s : InputSection) (i : ℕ) (r : InputRelocation) (row : Row) (distance : ℕ) : Type 0 where
+  pub next : InputRelocation
+  pub listed : slice_get s.relocations (i + 1) ≡ Some next
+  pub call : IsCall r next row distance
+
+pub partner_there : (l : Layout) (s : InputSection) (i : ℕ) (r : InputRelocation) (row : Row) (distance : ℕ) → IsChosen l s r (slice_get s.relocations (i + 1)) row → partner_distance row ≡ Some distance → HasCall l s i r row distance
+partner_there l s i r row distance c known = by (slice_get s.relocations (i + 1)) refl c
+  where
+    by : (o : Option InputRelocation) → slice_get s.relocations (i + 1) ≡ o → IsChosen l s r o row → HasCall l s i r row distance
+    by None e c =
+        let is = row_at l s r None row c in
+        let has = partner_asked (question_of l s r is.chosen.symbol None) row is.whole in
+        let none : false ≡ true = rw known at has in
+        cc
+    by (Some q) e c = record { next = q; listed = e; call = call_is l s r q row distance (row_at l s r (Some q) row c) known }
 
 -- ---- how wide a field is
 
@@ -149,33 +165,19 @@ pub record HasSite (l : Layout) (s : InputSection) (j : ℕ) (q : InputRelocatio
   pub to : q.offset + width_of q.number ≤ piece.at + length piece.bytes
   pub own : (index ≡ j) ⊎ ((j ≡ index + 1) × (d ≡ Partner))
 
-length-window : (bs : List ℕ) (a n : ℕ) → a + n ≤ length bs → length (slice_range bs a (a + n)) ≡ n
-length-window bs a n h =
-    let e : a + n - a ≡ n = omega arith in
-    let d = length-drop a bs in
-    rw e (length-take-le n (drop a bs) (omega (arith, d)))
-
 -- a row writes all bytes of its pattern, and these lie around the field
 pub record IsWindow (l : Layout) (s : InputSection) (r : InputRelocation) (row : Row) (v : ℕ) : Type 0 where
   pub before : field_of (pattern_of row) ≤ r.offset
-  pub inside : template_start row r + pattern_size row ≤ length s.bytes
   pub long : length (template_site s r row v).bytes ≡ pattern_size row
   pub field : field_of (pattern_of row) + width_of r.number ≤ pattern_size row
 
-pub window_is : (l : Layout) (s : InputSection) (i : ℕ) (r : InputRelocation) (row : Row) (v : ℕ) → l.machine ≡ machine.X86_64 → HasDecision l s i r (Rewritten row v) → IsWindow l s r row v
-window_is l s i r row v x86 h =
+pub window_is : (l : Layout) (s : InputSection) (i : ℕ) (r : InputRelocation) (row : Row) (v : ℕ) → HasDecision l s i r (Rewritten row v) → IsWindow l s r row v
+window_is l s i r row v h =
     let next = slice_get s.relocations (i + 1) in
     let w = decide_rewritten l s i r row v h.listed h.decided in
-    let lies = chosen_lies l s r next row w.chosen w.changes in
     let field = field_lies row (row_at l s r next row w.chosen).well w.changes in
     let number = ap width_of w.chosen.number in
-    let old = length-window s.bytes (template_start row r) (pattern_size row) w.chosen.inside in
-    record {
-      before = w.chosen.before;
-      inside = w.chosen.inside;
-      long = length-template row w.written.info v (slice_range s.bytes (template_start row r) (template_start row r + pattern_size row)) lies (row_here l (rewrite_of row).number (Some w.written.info) x86 w.written.known) old;
-      field = omega (arith, field, number);
-    }
+    record { before = w.chosen.before; long = length-template_site l s r next row v w; field = omega (arith, field, number) }
 
 field_has_site : (l : Layout) (s : InputSection) (j : ℕ) (q : InputRelocation) (d : Decision) (z : RelocationSize) (v : ℕ) → HasDecision l s j q d → width_of q.number ≡ size_width z → site_for s q d ≡ field_site s q.offset z v ∷ [] → HasSite l s j q d
 field_has_site l s j q d z v h width only =
@@ -183,13 +185,13 @@ field_has_site l s j q d z v h width only =
     record { index = j; owner = q; decision = d; has = h; piece = field_site s q.offset z v; only = only; from = omega arith; to = omega (arith, width, long); own = inl refl }
 
 -- the sequence that takes relocation j along is written by the one before
-call_site : (l : Layout) (s : InputSection) (i : ℕ) (q : InputRelocation) (row : Row) (v : ℕ) (d : Decision) → l.machine ≡ machine.X86_64 → (p : IsSequence l s i row) → slice_get s.relocations (i + 1) ≡ Some q → HasDecision l s i p.relocation (Rewritten row v) → Partner ≡ d → HasSite l s (i + 1) q d
-call_site l s i q row v d x86 p listed h is =
+call_site : (l : Layout) (s : InputSection) (i : ℕ) (q : InputRelocation) (row : Row) (v : ℕ) (d : Decision) → (p : IsSequence l s i row) → slice_get s.relocations (i + 1) ≡ Some q → HasDecision l s i p.relocation (Rewritten row v) → Partner ≡ d → HasSite l s (i + 1) q d
+call_site l s i q row v d p listed h is =
     let c = choice_row l s p.relocation (Some q) row (subst (λ (o : Option InputRelocation). choice_of l s p.relocation o ≡ Ok (Some row)) listed p.is) in
     let at_row = row_at l s p.relocation (Some q) row c in
     let well = calls_are_well row at_row.well p.takes in
     let call = call_is l s p.relocation q row well.distance at_row well.known in
-    let w = window_is l s i p.relocation row v x86 h in
+    let w = window_is l s i p.relocation row v h in
     let before = w.before in
     let long = w.long in
     let lies = well.lies in
@@ -213,7 +215,7 @@ has_site l s j q (Field z v) x86 whole h = inr (field_has_site l s j q (Field z 
 has_site l s j q (Moved v packed) x86 whole h = inr (field_has_site l s j q (Moved v packed) (ByteSize Eight) (if packed then v else 0) h (kept_width l s j q (Moved v packed) x86 h tt) refl)
 has_site l s j q (Left z n symbol addend) x86 whole h = inr (field_has_site l s j q (Left z n symbol addend) z 0 h (kept_width l s j q (Left z n symbol addend) x86 h tt) refl)
 has_site l s j q (Rewritten row v) x86 whole h =
-    let w = window_is l s j q row v x86 h in
+    let w = window_is l s j q row v h in
     let before = w.before in
     let long = w.long in
     let field = w.field in
@@ -227,4 +229,4 @@ has_site l s j q Partner x86 whole h =
         let e = whole.each i (slice_get_within s.relocations i seq.relocation seq.listed) in
         let made = sequence_is_rewritten l s i row e.0 seq e.1 in
         let here : HasDecision l s i seq.relocation (Rewritten row made.0) = record { listed = seq.listed; decided = e.1 ∙ ap (λ (d : Decision). Ok d) made.1 } in
-        call_site l s i q row made.0 Partner x86 seq listed here refl
+        call_site l s i q row made.0 Partner seq listed here refl

@@ -2,12 +2,10 @@
 use Rattle.std.proofs.Common.{◌≡◌, ℕ, ◌+◌, ◌≤◌, ◌⊎◌, inl, inr, Bool, true, false, List, [], ◌∷◌, refl, subst}
 use Rattle.std.specs.Prelude.{Option, Some, None, Ok, Err, not, ◌&&◌, ◌||◌, ◌==◌, nat_le, if◌then◌else◌}
 use Rattle.std.specs.List.{list_all}
-use Rattle.std.proofs.lemmas.Bool.{eqb-true, leb-true}
+use Rattle.std.proofs.lemmas.Bool.{and_parts, eqb-true, leb-true, or_cases}
 use Rattle.wild_plan.specs.Kinds.{is_executable}
-use Rattle.wild_plan.specs.Rows.{row_width}
 use Rattle.wild_reloc.specs.Formula.{Formula}
 use Rattle.wild_reloc.specs.FormulaX86_64.{x86_64_formula}
-use Rattle.wild_reloc.specs.TableX86_64.{x86_64_row}
 use Rattle.wild_relax.specs.declared.reference.UnknownSequence.{UnknownSequence}
 use Rattle.wild_relax.specs.declared.pattern.GeneralForm.{GeneralForm}
 use Rattle.wild_relax.specs.declared.pattern.GeneralForm.TheVariants as general
@@ -20,14 +18,6 @@ use Rattle.wild_relax.specs.Rewrite.{is_skip}
 use Rattle.wild_relax.specs.RewriteX86_64.{rewrite_of}
 use Rattle.wild_relax.specs.Linked.{pattern_of, pattern_size, keeps_bytes}
 use Rattle.wild_meaning.specs.Field.{form_width}
-
-pub both : (a b : Bool) → (a && b) ≡ true → (a ≡ true) × (b ≡ true)
-both true b h = (refl, h)
-both false b h = cc
-
-pub either : (a b : Bool) → (a || b) ≡ true → (a ≡ true) ⊎ (b ≡ true)
-either true b h = inl refl
-either false b h = inr h
 
 -- ---- the first row that stands
 
@@ -69,18 +59,25 @@ pub record Applied (q : Question) (row : Row) : Type 0 where
 pub applied : (q : Question) (row : Row) → applies q row ≡ true → Applied q row
 unfolding applies
 applied q row h =
-    let a = both _ _ h in
-    let b = both _ _ a.0 in
-    let c = both _ _ b.0 in
-    let d = both _ _ c.0 in
-    let e = both _ _ d.0 in
-    let f = both _ _ e.0 in
-    let g = both _ _ f.0 in
+    let a = and_parts _ _ h in
+    let b = and_parts _ _ a.0 in
+    let c = and_parts _ _ b.0 in
+    let d = and_parts _ _ c.0 in
+    let e = and_parts _ _ d.0 in
+    let f = and_parts _ _ e.0 in
+    let g = and_parts _ _ f.0 in
     record { number = g.0; taken = g.1; code = f.1; symbol = e.1; thread = d.1; value = c.1; counts = b.1; stands = a.1 }
+
+joined : {a b : Bool} → a ≡ true → b ≡ true → (a && b) ≡ true
+joined h k = rw (h, k) refl
+
+pub applied_by : (q : Question) (row : Row) → Applied q row → applies q row ≡ true
+unfolding applies
+applied_by q row a = joined (joined (joined (joined (joined (joined (joined a.number a.taken) a.code) a.symbol) a.thread) a.value) a.counts) a.stands
 
 pub partner_asked : (q : Question) (row : Row) → has_its_sequence q row ≡ true → has_partner row q ≡ true
 unfolding has_its_sequence
-partner_asked q row h = (both _ _ h).1
+partner_asked q row h = (and_parts _ _ h).1
 
 -- ---- its field
 
@@ -92,12 +89,9 @@ width_by (Some f) = form_width f.form
 abbrev pub width_of : ℕ → ℕ
 width_of n = width_by (x86_64_formula n)
 
--- the field lies among the bytes of the pattern; a row that keeps these bytes keeps the width
+-- the field lies among the bytes of the pattern
 abbrev lies : Row → Bool
 lies row = nat_le (field_of (pattern_of row) + width_of (number_of row)) (pattern_size row)
-
-abbrev same_width : Row → Bool
-same_width row = width_of (number_of row) == row_width (x86_64_row (rewrite_of row).number)
 
 -- how many bytes the field of a call has
 abbrev pub call_width : GeneralForm → ℕ
@@ -113,23 +107,18 @@ abbrev calls_well : Row → Bool
 calls_well row = if is_skip (rewrite_of row).next then call_lies row (partner_distance row) else true
 
 abbrev pub is_well : Row → Bool
-is_well row = (if keeps_bytes row then same_width row else lies row) && calls_well row
+is_well row = (keeps_bytes row || lies row) && calls_well row
 
 pub each_is_well : list_all is_well rows_x86_64 ≡ true
-unfolding x86_64_formula x86_64_row
+unfolding x86_64_formula
 each_is_well = refl
 
 -- ---- what each row has
 
 pub field_lies : (row : Row) → is_well row ≡ true → keeps_bytes row ≡ false → field_of (pattern_of row) + width_of (number_of row) ≤ pattern_size row
-field_lies row h k = let a = both (lies row) (calls_well row) (rw k at h) in leb-true _ _ a.0
+field_lies row h k = let a = and_parts (false || lies row) (calls_well row) (rw k at h) in leb-true _ _ a.0
 
-pub width_is_kept : (row : Row) → is_well row ≡ true → keeps_bytes row ≡ true → width_of (number_of row) ≡ row_width (x86_64_row (rewrite_of row).number)
-width_is_kept row h k =
-    let a = both (same_width row) (calls_well row) (rw k at h) in
-    eqb-true _ _ a.0
-
--- of a sequence
+-- what a row that writes a sequence has
 pub record CallsWell (row : Row) : Type 0 where
   pub distance : ℕ
   pub known : partner_distance row ≡ Some distance
@@ -137,7 +126,7 @@ pub record CallsWell (row : Row) : Type 0 where
 
 pub calls_are_well : (row : Row) → is_well row ≡ true → is_skip (rewrite_of row).next ≡ true → CallsWell row
 calls_are_well row h k =
-    let a = both (if keeps_bytes row then same_width row else lies row) (calls_well row) h in
+    let a = and_parts (keeps_bytes row || lies row) (calls_well row) h in
     distance_is (partner_distance row) refl (rw k at a.1)
   where
     distance_is : (o : Option ℕ) → partner_distance row ≡ o → call_lies row o ≡ true → CallsWell row
@@ -145,11 +134,11 @@ calls_are_well row h k =
     distance_is (Some n) e l = record { distance = n; known = e; lies = leb-true _ _ l }
 
 two_or : (n a b : ℕ) → (n == a || n == b) ≡ true → (n ≡ a) ⊎ (n ≡ b)
-two_or n a b h = elim (either (n == a) (n == b) h) [ inl x ↦ inl (eqb-true n a x) | inr x ↦ inr (eqb-true n b x) ]
+two_or n a b h = elim (or_cases (n == a) (n == b) h) [ inl x ↦ inl (eqb-true n a x) | inr x ↦ inr (eqb-true n b x) ]
 
 -- how wide the field of a call is
 pub call_width_is : (f : GeneralForm) (n : ℕ) → is_call_number f n ≡ true → width_of n ≡ call_width f
 unfolding x86_64_formula
 call_width_is general.Regular n h = elim (two_or n 2 4 h) [ inl e ↦ rw e refl | inr e ↦ rw e refl ]
-call_width_is general.NoPlt n h = elim (either (n == 9 || n == 41) (n == 42) h) [ inl x ↦ elim (two_or n 9 41 x) [ inl e ↦ rw e refl | inr e ↦ rw e refl ] | inr x ↦ rw (eqb-true n 42 x) refl ]
+call_width_is general.NoPlt n h = elim (or_cases (n == 9 || n == 41) (n == 42) h) [ inl x ↦ elim (two_or n 9 41 x) [ inl e ↦ rw e refl | inr e ↦ rw e refl ] | inr x ↦ rw (eqb-true n 42 x) refl ]
 call_width_is general.Large n h = rw (eqb-true n 31 h) refl

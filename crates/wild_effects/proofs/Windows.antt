@@ -25,7 +25,7 @@ beside l q k x86 (inl low) f known = inl low
 beside l q k x86 (inr high) f known = let w = formula_width l q.number f x86 known in inr (omega (arith, w, high))
 
 -- a byte lies before a number or not
-order : (k n : ℕ) → (k < n) ⊎ (n + 0 ≤ k)
+pub order : (k n : ℕ) → (k < n) ⊎ (n + 0 ≤ k)
 order k n = elim (cases_lt k n) [ inl low ↦ inl low | inr high ↦ inr (omega (arith, high)) ]
 
 apart_from : (k at size from width : ℕ) (p q : Piece) → p.at ≡ at → length p.bytes ≡ size → at ≤ k → k < at + size → q.at ≤ from → from + width ≤ q.at + length q.bytes → Apart p q → (k < from) ⊎ (from + width ≤ k)
@@ -42,6 +42,6 @@ windows_are_alone l s x86 whole i j r q row v d hi hj other no_call k low high =
     by : (width_of q.number ≡ 0) ⊎ HasSite l s j q d → IsBesideField l q k
     by (inl none) = beside l q k x86 (subst (λ (n : ℕ). (k < q.offset) ⊎ (q.offset + n ≤ k)) (sym none) (order k q.offset))
     by (inr h) =
-        let w = window_is l s i r row v x86 hi in
+        let w = window_is l s i r row v hi in
         let a = sites_apart l s whole i h.index r h.owner (Rewritten row v) h.decision (template_site s r row v) h.piece hi h.has (not_own h h.own) refl h.only in
         beside l q k x86 (apart_from k (template_start row r) (pattern_size row) q.offset (width_of q.number) (template_site s r row v) h.piece refl w.long low high h.from h.to a)

@@ -1,126 +1,124 @@
--- Bytes in no field are the input's, those of instructions that belong to references too.
-use Rattle.std.proofs.Common.{◌≡◌, ℕ, ◌+◌, ◌-◌, ◌<◌, ◌≤◌, ◌⊎◌, inl, inr, [], ◌∷◌, length, refl, sym, ap, ◌∙◌, arith, subst}
-use Rattle.std.specs.Prelude.{Option, Some, None, Contains, All, slice_index, nat_lt, ◌==◌}
+-- Bytes in no field are the input's, the opcodes of calls and jumps too.
+use Rattle.std.proofs.Common.{◌≡◌, ℕ, ◌+◌, ◌<◌, ◌≤◌, ◌⊎◌, inl, inr, length, get_or, slice_range, refl, sym, ap, ◌∙◌, arith, subst}
+use Rattle.std.specs.Prelude.{Option, Some, None, Contains, slice_index, nat_lt, ◌==◌}
 use Rattle.std.proofs.lemmas.Bool.{cases_Bool, eqb-true, eqb-false, ltb-true, ltb-false}
 use Rattle.std.proofs.lemmas.List.Elements.{All-contains}
-use Rattle.wild_records.specs.Abi.Relocation.{r_x86_64_pc32, r_x86_64_plt32, r_x86_64_gotpcrel, r_x86_64_gotpcrelx}
+use Rattle.wild_records.specs.Abi.Relocation.{r_x86_64_pc32}
 use Rattle.wild_plan.specs.declared.kind.Machine.{Machine}
 use Rattle.wild_plan.specs.declared.kind.Machine.TheVariants as machine
 use Rattle.wild_plan.specs.declared.input.InputRelocation.{InputRelocation}
 use Rattle.wild_plan.specs.declared.input.InputSection.{InputSection}
 use Rattle.wild_plan.specs.declared.layout.Layout.{Layout}
-use Rattle.wild_reloc.specs.Formula.{Value, Formula, Distance, StubDistance, SlotDistance, AddressSlot}
+use Rattle.wild_reloc.specs.Formula.{Formula, formula, Distance, Plain, Signed}
 use Rattle.wild_reloc.specs.FormulaX86_64.{x86_64_formula}
-use Rattle.wild_loader.specs.declared.memory.Machine.TheVariants as machines
 use Rattle.wild_loader.specs.declared.memory.Memory.{Memory}
 use Rattle.wild_loader.specs.declared.world.World.{World}
-use Rattle.wild_loader.specs.declared.effect.EffectKind.{EffectKind}
-use Rattle.wild_loader.specs.declared.effect.EffectKind.TheVariants as kinds
 use Rattle.wild_loader.specs.Memory.{byte_in}
-use Rattle.wild_loader.specs.Effect.{call_near, jump_near, call_indirect, jump_indirect}
+use Rattle.wild_meaning.specs.Instruction.{Deed, Call, Jump, Effect, as_value}
+use Rattle.wild_meaning.specs.Sequence.{Instruction, size_of, IsOwnByte}
 use Rattle.wild_meaning.specs.Item.{item_of, place_at, IsReference}
-use Rattle.wild_meaning.specs.Field.{formula_of, form_width, InNoField, IsInputByte}
-use Rattle.wild_meaning.specs.Template.{Operand, operands_of, size_of, IsOwnByte, IsTemplate, DoesDemanded}
-use Rattle.wild_meaning.specs.Reference.{IsAsked, HoldsLinked, ItemHolds}
-use Rattle.wild_laws.specs.FirstPath.{InNoField as NoField}
-use Rattle.wild_laws.proofs.Operands.{each_operand, each_of_two, displaced, formula_pc32, formula_plt32, formula_gotpcrel, formula_gotpcrelx}
-use Rattle.wild_laws.proofs.Branches.{direct, opcode_input}
-use Rattle.wild_laws.proofs.SlotBranches.{indirect, opcode_input as opcodes_input}
-use Rattle.wild_laws.proofs.Decoded.{Decodes, call_decodes, jump_decodes, slot_call_decodes, slot_jump_decodes, stood_byte}
+use Rattle.wild_meaning.specs.Field.{form_width, IsInputByte}
+use Rattle.wild_meaning.specs.Template.{effect_of, reads, IsInstruction, IsTemplate, DoesDemanded}
+use Rattle.wild_meaning.specs.Reference.{IsAsked, HoldsLinked, HoldsRewritten, ReferenceHolds, ItemHolds}
+use Rattle.wild_laws.specs.FirstPath.{HasFirstTypes, InNoField as NoField, IsBranch}
+use Rattle.wild_laws.proofs.Sequences.{direct}
+use Rattle.wild_laws.proofs.FirstCode.{first_byte, in_no_field, IsCallOrJump, template_direct, is_branch, old_length, DoesDeed, HasOpcode, call_does, jump_does, call_opcode, jump_opcode}
 
 -- ---- fields
 
-pub in_no_field : (l : Layout) (s : InputSection) (k : ℕ) → l.machine ≡ machine.X86_64 → NoField s k → InNoField l (item_of s) k
-in_no_field l s k x out = subst (λ (mach : Machine). All (λ (r : InputRelocation). (f : Formula) → formula_of mach r.number ≡ Some f → (k < r.offset) ⊎ (r.offset + form_width f.form ≤ k)) s.relocations) (sym x) out
+formula_pc32 : x86_64_formula r_x86_64_pc32 ≡ Some (formula Distance (Plain 32 Signed))
+unfolding x86_64_formula
+formula_pc32 = refl
 
 -- the byte is outside the four bytes of a reference's field
-outside : (s : InputSection) (r : InputRelocation) (k : ℕ) (v : Value) → NoField s k → Contains s.relocations r → x86_64_formula r.number ≡ Some (displaced v) → (k < r.offset) ⊎ (r.offset + 4 ≤ k)
-outside s r k v out listed known = All-contains (λ (q : InputRelocation). (f : Formula) → x86_64_formula q.number ≡ Some f → (k < q.offset) ⊎ (q.offset + form_width f.form ≤ k)) s.relocations r out listed (displaced v) known
-
-abbrev IsDisplaced : ℕ → Type 0
-IsDisplaced n = (v : Value) × (x86_64_formula n ≡ Some (displaced v))
-
-direct_number : (n : ℕ) → Contains (r_x86_64_pc32 ∷ r_x86_64_plt32 ∷ []) n → IsDisplaced n
-direct_number n c = each_of_two IsDisplaced r_x86_64_pc32 r_x86_64_plt32 n (Distance, formula_pc32) (StubDistance, formula_plt32) c
-
-indirect_number : (n : ℕ) → Contains (r_x86_64_gotpcrel ∷ r_x86_64_gotpcrelx ∷ []) n → IsDisplaced n
-indirect_number n c = each_of_two IsDisplaced r_x86_64_gotpcrel r_x86_64_gotpcrelx n (SlotDistance AddressSlot, formula_gotpcrel) (SlotDistance AddressSlot, formula_gotpcrelx) c
+outside : (s : InputSection) (r : InputRelocation) (k : ℕ) → NoField s k → Contains s.relocations r → r.number ≡ r_x86_64_pc32 → (k < r.offset) ⊎ (r.offset + 4 ≤ k)
+outside s r k out listed number =
+    All-contains (λ (q : InputRelocation). (f : Formula) → x86_64_formula q.number ≡ Some f → (k < q.offset) ⊎ (q.offset + form_width f.form ≤ k)) s.relocations r out listed (formula Distance (Plain 32 Signed)) (subst (λ (n : ℕ). x86_64_formula n ≡ Some (formula Distance (Plain 32 Signed))) (sym number) formula_pc32)
 
 -- ---- opcodes
 
--- the loaded code does what a template of the input does, so the byte of its opcode is the input's
-abbrev KeepsByte : Layout → World → Memory → InputSection → InputRelocation → ℕ → ℕ → Operand → Type 0
-KeepsByte l w m s r start k o = IsTemplate l (item_of s) r start o → DoesDemanded l w m (item_of s) r start o → start ≤ k → k < start + size_of o → IsInputByte w m (item_of s) k
-
-by_direct : (l : Layout) (w : World) (m : Memory) (s : InputSection) (r : InputRelocation) (start k opcode : ℕ) (kind : Memory → ℕ → Option EffectKind) (does : ℕ → EffectKind) → Decodes (direct opcode kind does) → m.machine ≡ machines.X86_64 → NoField s k → IsReference (item_of s) r → KeepsByte l w m s r start k (direct opcode kind does)
-by_direct l w m s r start k opcode kind does decodes same out ref = λ t d from to.
-    (let one = decodes m (place_at w (item_of s) start) _ same d.effect in
-    let op = stood_byte m (place_at w (item_of s) start) opcode _ one.stood in
-    let first : IsInputByte w m (item_of s) start = op.0 ∙ ap (λ (b : ℕ). Some b) (sym (opcode_input l (item_of s) r start opcode kind does t)) in
-    let n = direct_number r.number t.number in
-    let here : start ≡ k = at start r.offset k t.field from to (outside s r k n.0 out ref.listed n.1) in
-    subst (λ (j : ℕ). IsInputByte w m (item_of s) j) here first)
+-- the effect that a call or a jump demands
+demanded_deed : (l : Layout) (w : World) (m : Memory) (s : InputSection) (r : InputRelocation) (start opcode : ℕ) (deed : Deed) → DoesDeed opcode deed → l.machine ≡ machine.X86_64 → IsBranch s r start opcode → (d : DoesDemanded l w m (item_of s) r start (direct opcode deed)) → d.effect.deed ≡ deed
+demanded_deed l w m s r start opcode deed does x branch d =
+    let old : effect_of machine.X86_64 (as_value d.value) (place_at w (item_of s) start) (slice_range s.bytes start (start + 5)) ≡ Some d.effect = subst (λ (k : Machine). effect_of k (as_value d.value) (place_at w (item_of s) start) (slice_range s.bytes start (start + 5)) ≡ Some d.effect) x d.demanded in
+    let is = does (place_at w (item_of s) start) d.value (slice_range s.bytes start (start + 5)) (old_length s r start opcode branch) (first_byte s.bytes start ∙ branch.begins) in
+    ap deed_in (sym (sym is ∙ old)) ∙ refl
   where
-    at : (start offset k : ℕ) → offset ≡ start + 1 → start ≤ k → k < start + 5 → (k < offset) ⊎ (offset + 4 ≤ k) → start ≡ k
-    at start offset k e from to (inl a) = omega (arith, e, from, a)
-    at start offset k e from to (inr b) = absurd (omega (arith, e, to, b))
+    deed_in : Option Effect → Deed
+    deed_in None = Call
+    deed_in (Some e) = e.deed
 
-by_indirect : (l : Layout) (w : World) (m : Memory) (s : InputSection) (r : InputRelocation) (start k c d : ℕ) (kind : Memory → ℕ → Option EffectKind) (does : ℕ → EffectKind) → Decodes (indirect c d kind does) → m.machine ≡ machines.X86_64 → NoField s k → IsReference (item_of s) r → KeepsByte l w m s r start k (indirect c d kind does)
-by_indirect l w m s r start k c d kind does decodes same out ref = λ t done from to.
-    (let a = place_at w (item_of s) start in
-    let next : a + 1 ≡ place_at w (item_of s) (start + 1) = omega arith in
-    let one = decodes m a _ same done.effect in
-    let input = opcodes_input l (item_of s) r start c d kind does t in
-    let op = stood_byte m a c _ one.stood in
-    let more = stood_byte m (a + 1) d _ op.1 in
-    let first : IsInputByte w m (item_of s) start = op.0 ∙ ap (λ (b : ℕ). Some b) (sym input.first) in
-    let second : IsInputByte w m (item_of s) (start + 1) = subst (λ (p : ℕ). byte_in m p ≡ Some d) next more.0 ∙ ap (λ (b : ℕ). Some b) (sym input.second) in
-    let n = indirect_number r.number t.number in
-    at (λ (j : ℕ). IsInputByte w m (item_of s) j) start r.offset k t.field from to first second (outside s r k n.0 out ref.listed n.1))
-  where
-    at : (P : ℕ → Type 0) (start offset k : ℕ) → offset ≡ start + 2 → start ≤ k → k < start + 6 → P start → P (start + 1) → (k < offset) ⊎ (offset + 4 ≤ k) → P k
-    at P start offset k e from to p q (inr b) = absurd (omega (arith, e, to, b))
-    at P start offset k e from to p q (inl a) =
-        elim (cases_Bool (k == start)) [
-          | inl t ↦ subst P (sym (eqb-true k start t)) p
-          | inr f ↦ (let n = eqb-false k start f in let here : start + 1 ≡ k = omega (arith, e, from, a, n) in subst P here q)
-        ]
+-- the loaded code does what the instruction demands, so it begins with the input's opcode
+opcode_kept : (l : Layout) (w : World) (m : Memory) (s : InputSection) (r : InputRelocation) (start opcode : ℕ) (deed : Deed) → DoesDeed opcode deed → HasOpcode opcode deed → l.machine ≡ machine.X86_64 → IsBranch s r start opcode → DoesDemanded l w m (item_of s) r start (direct opcode deed) → IsInputByte w m (item_of s) start
+opcode_kept l w m s r start opcode deed does has x branch d =
+    let a = place_at w (item_of s) start in
+    let loaded : effect_of machine.X86_64 (reads w m) a d.bytes ≡ Some d.effect = subst (λ (k : Machine). effect_of k (reads w m) a d.bytes ≡ Some d.effect) x d.does in
+    let five = d.whole in
+    let op = has (reads w m) a d.bytes d.effect five loaded (demanded_deed l w m s r start opcode deed does x branch d) in
+    let z : a + 0 ≡ a = omega arith in
+    let held : byte_in m (a + 0) ≡ Some (get_or d.bytes 0 0) = d.held 0 (omega (arith, five)) in
+    subst (λ (p : ℕ). byte_in m p ≡ Some (get_or d.bytes 0 0)) z held ∙ ap (λ (b : ℕ). Some b) (op ∙ sym branch.begins)
 
-keeps_byte : (l : Layout) (w : World) (m : Memory) (s : InputSection) (r : InputRelocation) (start k : ℕ) (o : Operand) → l.machine ≡ machine.X86_64 → m.machine ≡ machines.X86_64 → NoField s k → IsReference (item_of s) r → Contains (operands_of l.machine) o → KeepsByte l w m s r start k o
-keeps_byte l w m s r start k o x same out ref known =
-    each_operand
-    (KeepsByte l w m s r start k)
-    l.machine
-    o
-    (by_direct l w m s r start k 0xe8 call_near.kind kinds.Call call_decodes same out ref)
-    (by_direct l w m s r start k 0xe9 jump_near.kind kinds.Jump jump_decodes same out ref)
-    (by_indirect l w m s r start k 0xff 0x15 call_indirect.kind kinds.Call slot_call_decodes same out ref)
-    (by_indirect l w m s r start k 0xff 0x25 jump_indirect.kind kinds.Jump slot_jump_decodes same out ref)
-    x
-    known
+by_code : (l : Layout) (w : World) (m : Memory) (s : InputSection) (r : InputRelocation) (start : ℕ) (o : Instruction) → l.machine ≡ machine.X86_64 → HasFirstTypes s → IsReference (item_of s) r → IsInstruction l (item_of s) r start o → IsCallOrJump o → DoesDemanded l w m (item_of s) r start o → IsInputByte w m (item_of s) start
+by_code l w m s r start o x types ref t (inl e) d =
+    let branch = is_branch l s r start 0xe8 Call x types ref (subst (λ (p : Instruction). IsInstruction l (item_of s) r start p) e t) in
+    opcode_kept l w m s r start 0xe8 Call call_does call_opcode x branch (subst (λ (p : Instruction). DoesDemanded l w m (item_of s) r start p) e d)
+by_code l w m s r start o x types ref t (inr e) d =
+    let branch = is_branch l s r start 0xe9 Jump x types ref (subst (λ (p : Instruction). IsInstruction l (item_of s) r start p) e t) in
+    opcode_kept l w m s r start 0xe9 Jump jump_does jump_opcode x branch (subst (λ (p : Instruction). DoesDemanded l w m (item_of s) r start p) e d)
 
--- ---- references to the output's own symbols
+-- so it is of each template
+by_template : (l : Layout) (w : World) (m : Memory) (s : InputSection) (r : InputRelocation) (start : ℕ) (o : Instruction) (one : InputRelocation) → l.machine ≡ machine.X86_64 → HasFirstTypes s → IsReference (item_of s) r → IsTemplate l (item_of s) r start o one → DoesDemanded l w m (item_of s) one start o → IsInputByte w m (item_of s) start
+by_template l w m s r start o one x types ref t d =
+    let direct = template_direct l s r start o one x types ref t in
+    by_code l w m s r start o x types ref direct.stands direct.which (subst (λ (q : InputRelocation). DoesDemanded l w m (item_of s) q start o) direct.same d)
 
--- the field of each template has four bytes, and is a displacement
-abbrev IsShort : InputRelocation → Operand → Type 0
-IsShort r o = Contains o.numbers r.number → (o.width ≡ 4) × IsDisplaced r.number
+-- where the instruction begins, and that its other bytes are in its field
+record IsShort (s : InputSection) (r : InputRelocation) (start : ℕ) (o : Instruction) : Type 0 where
+  five : size_of o ≡ 5
+  behind : r.offset ≡ start + 1
+  number : r.number ≡ r_x86_64_pc32
 
-short : (l : Layout) (r : InputRelocation) (o : Operand) → l.machine ≡ machine.X86_64 → Contains (operands_of l.machine) o → IsShort r o
-short l r o x known =
-    each_operand (IsShort r) l.machine o (λ n. (refl, direct_number r.number n)) (λ n. (refl, direct_number r.number n)) (λ n. (refl, indirect_number r.number n)) (λ n. (refl, indirect_number r.number n)) x known
+short : (l : Layout) (s : InputSection) (r : InputRelocation) (start : ℕ) (o : Instruction) → l.machine ≡ machine.X86_64 → HasFirstTypes s → IsReference (item_of s) r → IsInstruction l (item_of s) r start o → IsCallOrJump o → IsShort s r start o
+short l s r start o x types ref t (inl e) =
+    let branch = is_branch l s r start 0xe8 Call x types ref (subst (λ (p : Instruction). IsInstruction l (item_of s) r start p) e t) in
+    record { five = ap size_of e; behind = branch.behind; number = branch.number }
+short l s r start o x types ref t (inr e) =
+    let branch = is_branch l s r start 0xe9 Jump x types ref (subst (λ (p : Instruction). IsInstruction l (item_of s) r start p) e t) in
+    record { five = ap size_of e; behind = branch.behind; number = branch.number }
 
--- a byte of the template that is not in the field
-own_byte : (start k offset field width size : ℕ) → offset ≡ start + field → width ≡ 4 → start ≤ k → k < start + size → (k < offset) ⊎ (offset + 4 ≤ k) → (k - start < size) × ((k - start < field) ⊎ (field + width ≤ k - start))
-own_byte start k offset field width size e four from to (inl a) = (omega (arith, from, to), inl (omega (arith, e, from, a)))
-own_byte start k offset field width size e four from to (inr b) = (omega (arith, from, to), inr (omega (arith, e, four, from, b)))
+-- ---- references that hold
 
--- so it is the input's, where the field reads as the formula with the own symbol
-linked_byte : (l : Layout) (w : World) (m : Memory) (s : InputSection) (r : InputRelocation) (start k : ℕ) (o : Operand) → l.machine ≡ machine.X86_64 → NoField s k → IsReference (item_of s) r → HoldsLinked l w m (item_of s) r → IsTemplate l (item_of s) r start o → start ≤ k → k < start + size_of o → IsInputByte w m (item_of s) k
-linked_byte l w m s r start k o x out ref h t from to =
-    let n = short l r o x t.known t.number in
-    let here : start + (k - start) ≡ k = omega (arith, from) in
-    let own : IsOwnByte o (k - start) = own_byte start k r.offset o.field o.width (size_of o) t.field n.0 from to (outside s r k n.1.0 out ref.listed n.1.1) in
-    subst (λ (j : ℕ). IsInputByte w m (item_of s) j) here (h.kept start o t (k - start) own)
+-- the reference keeps the bytes of its instruction
+abbrev KeepsBytes : Layout → World → Memory → InputSection → InputRelocation → Type 0
+KeepsBytes l w m s r = (start : ℕ) (o : Instruction) (one : InputRelocation) → IsTemplate l (item_of s) r start o one → (k : ℕ) → IsOwnByte o k → IsInputByte w m (item_of s) (start + k)
+
+kept_opcode : (l : Layout) (w : World) (m : Memory) (s : InputSection) (r : InputRelocation) (start : ℕ) (o : Instruction) (one : InputRelocation) → IsCallOrJump o → IsTemplate l (item_of s) r start o one → KeepsBytes l w m s r → IsInputByte w m (item_of s) start
+kept_opcode l w m s r start o one (inl e) t keeps =
+    let z : start + 0 ≡ start = omega arith in
+    subst (λ (k : ℕ). IsInputByte w m (item_of s) k) z (keeps start (direct 0xe8 Call) one (subst (λ (p : Instruction). IsTemplate l (item_of s) r start p one) e t) 0 (record { inside = omega arith; beside = inl (omega arith); apart = tt }))
+kept_opcode l w m s r start o one (inr e) t keeps =
+    let z : start + 0 ≡ start = omega arith in
+    subst (λ (k : ℕ). IsInputByte w m (item_of s) k) z (keeps start (direct 0xe9 Jump) one (subst (λ (p : Instruction). IsTemplate l (item_of s) r start p one) e t) 0 (record { inside = omega arith; beside = inl (omega arith); apart = tt }))
+
+-- or its instruction was rewritten
+opcode_there : (l : Layout) (w : World) (m : Memory) (s : InputSection) (r : InputRelocation) (start : ℕ) (o : Instruction) (one : InputRelocation) → l.machine ≡ machine.X86_64 → HasFirstTypes s → IsReference (item_of s) r → IsTemplate l (item_of s) r start o one → KeepsBytes l w m s r ⊎ HoldsRewritten l w m (item_of s) r → IsInputByte w m (item_of s) start
+opcode_there l w m s r start o one x types ref t (inl keeps) = kept_opcode l w m s r start o one (template_direct l s r start o one x types ref t).which t keeps
+opcode_there l w m s r start o one x types ref t (inr q) =
+    let here = template_direct l s r start o one x types ref t in
+    let there = template_direct l s r q.start q.instruction q.first x types ref q.template in
+    let a = (short l s r start o x types ref here.stands here.which).behind in
+    let b = (short l s r q.start q.instruction x types ref there.stands there.which).behind in
+    let same : q.start ≡ start = omega (arith, a, b) in
+    subst (λ (k : ℕ). IsInputByte w m (item_of s) k) same (by_template l w m s r q.start q.instruction q.first x types ref q.template q.does)
+
+plain_keeps : (l : Layout) (w : World) (m : Memory) (s : InputSection) (r : InputRelocation) → ReferenceHolds l w m (item_of s) r → KeepsBytes l w m s r ⊎ HoldsRewritten l w m (item_of s) r
+plain_keeps l w m s r (inl p) = inl p.kept
+plain_keeps l w m s r (inr q) = inr q
+
+linked_keeps : (l : Layout) (w : World) (m : Memory) (s : InputSection) (r : InputRelocation) → HoldsLinked l w m (item_of s) r ⊎ HoldsRewritten l w m (item_of s) r → KeepsBytes l w m s r ⊎ HoldsRewritten l w m (item_of s) r
+linked_keeps l w m s r (inl p) = inl p.kept
+linked_keeps l w m s r (inr q) = inr q
 
 -- ---- other bytes
 
@@ -144,10 +142,19 @@ beside k start n never =
           ]
     ]
 
-pub other_byte : (l : Layout) (w : World) (m : Memory) (s : InputSection) (k : ℕ) → l.machine ≡ machine.X86_64 → m.machine ≡ machines.X86_64 → w.base ≡ 0 → ((r : InputRelocation) → IsAsked l w (item_of s) r) → ItemHolds l w m (item_of s) → k < length s.bytes → NoField s k → IsInputByte w m (item_of s) k
-other_byte l w m s k x same zero asked holds lt out =
+-- a byte of an instruction that is in no field is its first
+at_start : (k start size offset : ℕ) → size ≡ 5 → offset ≡ start + 1 → start ≤ k → k < start + size → (k < offset) ⊎ (offset + 4 ≤ k) → start ≡ k
+at_start k start size offset five e from to (inl a) = omega (arith, e, from, a)
+at_start k start size offset five e from to (inr b) = absurd (omega (arith, five, e, to, b))
+
+pub other_byte : (l : Layout) (w : World) (m : Memory) (s : InputSection) (k : ℕ) → l.machine ≡ machine.X86_64 → HasFirstTypes s → w.base ≡ 0 → ((r : InputRelocation) → IsAsked l w (item_of s) r) → ItemHolds l w m (item_of s) → k < length s.bytes → NoField s k → IsInputByte w m (item_of s) k
+other_byte l w m s k x types base asked holds lt out =
     stable (byte_in m (place_at w (item_of s) k)) (slice_index s.bytes k) (λ never. holds.others k lt (record {
       fields = in_no_field l s k x out;
-      templates = λ r start o ref t. beside k start (size_of o) (λ from to. never (keeps_byte l w m s r start k o x same out ref t.known t
-          (holds.effects r start o ref (asked r) (λ alone. never (linked_byte l w m s r start k o x out ref (holds.linked r ref alone zero) t from to)) t) from to));
+      templates = λ r start o one ref t. beside k start (size_of o) (λ from to.
+          (let d = template_direct l s r start o one x types ref t in
+          let code = short l s r start o x types ref d.stands d.which in
+          let here : start ≡ k = at_start k start (size_of o) r.offset code.five code.behind from to (outside s r k out ref.listed code.number) in
+          let done : IsInputByte w m (item_of s) start → ⊥ = λ h. never (subst (λ (j : ℕ). IsInputByte w m (item_of s) j) here h) in
+          done (opcode_there l w m s r start o one x types ref t (plain_keeps l w m s r (holds.references r ref (asked r) (λ alone. done (opcode_there l w m s r start o one x types ref t (linked_keeps l w m s r (holds.linked r ref alone base)))))))));
     }))

@@ -1,108 +1,25 @@
--- The meaning of all layouts gives the first path's: fields that read as formulas, calls and jumps, and other bytes.
-use Rattle.std.proofs.Common.{◌≡◌, ℕ, zero, suc, ◌+◌, ◌-◌, ◌<◌, ◌≤◌, ◌⊎◌, inl, inr, true, List, [], ◌∷◌, ◌++◌, length, get_or, slice_range, refl, sym, ap, ◌∙◌, arith, subst, eq-eqb}
-use Rattle.std.specs.Prelude.{Option, Contains, slice_index, ◌==◌}
-use Rattle.std.proofs.lemmas.List.{length-take, length-drop}
+-- The meaning of all layouts gives what is told by fields, calls and jumps, and other bytes.
+use Rattle.std.proofs.Common.{◌≡◌, ℕ, ◌+◌, ◌%◌, ◌^◌, inl, inr, true, false, slice_range, refl, sym, ap, ◌∙◌, arith, subst, eq-eqb}
+use Rattle.std.specs.Prelude.{Some, slice_index, ◌==◌}
+use Rattle.std.specs.Int.{w64, cast_unsigned}
 use Rattle.wild_plan.specs.declared.kind.Machine.{Machine}
 use Rattle.wild_plan.specs.declared.kind.Machine.TheVariants as machine
 use Rattle.wild_plan.specs.declared.input.InputRelocation.{InputRelocation}
 use Rattle.wild_plan.specs.declared.input.InputSection.{InputSection}
 use Rattle.wild_plan.specs.declared.layout.Layout.{Layout}
 use Rattle.wild_loader.specs.declared.memory.Memory.{Memory}
-use Rattle.wild_loader.specs.declared.effect.EffectKind.{EffectKind}
-use Rattle.wild_loader.specs.declared.effect.EffectKind.TheVariants as kinds
-use Rattle.wild_loader.specs.Effect.{exact, field, stands, call_near, jump_near, call_indirect, jump_indirect}
-use Rattle.wild_meaning.specs.Item.{item_of, IsKept}
-use Rattle.wild_meaning.specs.Field.{InNoField}
-use Rattle.wild_meaning.specs.Template.{operands_of, IsOwnByte, IsTemplate}
-use Rattle.wild_meaning.specs.Reference.{IsAsked}
-use Rattle.wild_meaning.specs.Linked.{processor_of}
-use Rattle.wild_laws.specs.FirstPath.{IsLoadedSection, IsBranch, IsSlotBranch, InNoField as NoField, MeaningGivesFields}
-use Rattle.wild_laws.proofs.Bits.{bit_alloc, bit_executable}
-use Rattle.wild_laws.proofs.Operands.{range_byte}
-use Rattle.wild_laws.proofs.Branches.{direct}
-use Rattle.wild_laws.proofs.SlotBranches.{indirect}
+use Rattle.wild_loader.specs.declared.world.World.{World}
+use Rattle.wild_meaning.specs.Instruction.{Deed, Call, Jump, as_value}
+use Rattle.wild_meaning.specs.Sequence.{Instruction}
+use Rattle.wild_meaning.specs.Item.{item_of, place_at, IsReference, IsKept}
+use Rattle.wild_meaning.specs.Template.{effect_of, reads, IsInstruction, DoesDemanded}
+use Rattle.wild_meaning.specs.Reference.{IsAsked, ReferenceHolds}
+use Rattle.wild_laws.specs.FirstPath.{IsLoadedSection, IsRelocated, HasFirstTypes, IsBranch, BranchReaches, MeaningGivesFields}
+use Rattle.wild_laws.proofs.Bits.{bit_alloc}
+use Rattle.wild_laws.proofs.Sequences.{direct}
+use Rattle.wild_laws.proofs.FirstCode.{first_byte, IsCallOrJump, template_direct, is_branch, branch_template, old_length, DoesDeed, call_does, jump_does}
 use Rattle.wild_laws.proofs.FirstFields.{has_formula}
-use Rattle.wild_laws.proofs.FirstBytes.{in_no_field, other_byte}
-
--- ---- bytes
-
--- four bytes are a field
-four : (bs : List ℕ) → length bs ≡ 4 → stands field bs ≡ true
-four [] n = absurd (omega (arith, n))
-four (a ∷ []) n = absurd (omega (arith, n))
-four (a ∷ b ∷ []) n = absurd (omega (arith, n))
-four (a ∷ b ∷ c ∷ []) n = absurd (omega (arith, n))
-four (a ∷ b ∷ c ∷ d ∷ rest) n = refl
-
-length-range : (bs : List ℕ) (k n : ℕ) → k + n ≤ length bs → length (slice_range bs k (k + n)) ≡ n
-length-range bs k n h =
-    let e : k + n - k ≡ n = omega arith in
-    rw e (simp (length-take, length-drop) (omega arith))
-
--- ---- the template of a direct call or jump
-
-stands_from : (opcode : ℕ) (bs : List ℕ) → length bs ≡ 5 → get_or bs 0 0 ≡ opcode → stands (exact (opcode ∷ []) ++ field) bs ≡ true
-stands_from opcode [] n e = absurd (omega (arith, n))
-stands_from opcode (a ∷ bs) n e = let t : (a == opcode) ≡ true = eq-eqb a opcode e in rw t (four bs (omega (arith, n)))
-
-only_first : (opcode : ℕ) (kind : Memory → ℕ → Option EffectKind) (does : ℕ → EffectKind) (k : ℕ) → IsOwnByte (direct opcode kind does) k → k ≡ 0
-only_first opcode kind does k own = by_side k own.1 own.0
-  where
-    by_side : (k : ℕ) → (k < 1) ⊎ (5 ≤ k) → k < 5 → k ≡ 0
-    by_side k (inl a) b = omega (arith, a)
-    by_side k (inr a) b = absurd (omega (arith, a, b))
-
-branch_template : (l : Layout) (s : InputSection) (r : InputRelocation) (k opcode : ℕ) (kind : Memory → ℕ → Option EffectKind) (does : ℕ → EffectKind) → Contains (operands_of machine.X86_64) (direct opcode kind does) → l.machine ≡ machine.X86_64 → IsBranch s r k opcode → NoField s k → IsTemplate l (item_of s) r k (direct opcode kind does)
-branch_template l s r k opcode kind does known x branch out =
-    let behind = branch.behind in
-    let ends = branch.inside in
-    let inside : k + 5 ≤ length s.bytes = omega (arith, behind, ends) in
-    let z : k + 0 ≡ k = omega arith in
-    record {
-      code = bit_executable s.flags branch.code;
-      known = subst (λ (mach : Machine). Contains (operands_of mach) (direct opcode kind does)) (sym x) known;
-      number = branch.number;
-      field = branch.behind;
-      inside = inside;
-      stands = stands_from opcode (slice_range s.bytes k (k + 5)) (length-range s.bytes k 5 inside) (range_byte s.bytes k 5 0 (omega arith) ∙ ap (λ (j : ℕ). slice_index s.bytes j) z ∙ branch.begins);
-      word = λ e. cc;
-      alone = λ j own. subst (λ (n : ℕ). InNoField l (item_of s) n) (let first = only_first opcode kind does j own in let e : k ≡ k + j = omega (arith, first) in e) (in_no_field l s k x out);
-    }
-
--- ---- the template of one through a slot
-
-slot_stands_from : (c d : ℕ) (bs : List ℕ) → length bs ≡ 6 → get_or bs 0 0 ≡ c → get_or bs 1 0 ≡ d → stands (exact (c ∷ d ∷ []) ++ field) bs ≡ true
-slot_stands_from c d [] n e f = absurd (omega (arith, n))
-slot_stands_from c d (a ∷ []) n e f = absurd (omega (arith, n))
-slot_stands_from c d (a ∷ b ∷ bs) n e f = let t : (a == c) ≡ true = eq-eqb a c e in let u : (b == d) ≡ true = eq-eqb b d f in rw (t, u) (four bs (omega (arith, n)))
-
-first_two : (P : ℕ → Type 0) (c d : ℕ) (kind : Memory → ℕ → Option EffectKind) (does : ℕ → EffectKind) (k : ℕ) → IsOwnByte (indirect c d kind does) k → P 0 → P 1 → P k
-first_two P c d kind does k own p q = by_side P k own.1 own.0 p q
-  where
-    by_side : (P : ℕ → Type 0) (k : ℕ) → (k < 2) ⊎ (6 ≤ k) → k < 6 → P 0 → P 1 → P k
-    by_side P zero a b p q = p
-    by_side P (suc zero) a b p q = q
-    by_side P (suc (suc k)) (inl a) b p q = absurd (omega (arith, a))
-    by_side P (suc (suc k)) (inr a) b p q = absurd (omega (arith, a, b))
-
-slot_template : (l : Layout) (s : InputSection) (r : InputRelocation) (k opcode : ℕ) (kind : Memory → ℕ → Option EffectKind) (does : ℕ → EffectKind) → Contains (operands_of machine.X86_64) (indirect 0xff opcode kind does) → l.machine ≡ machine.X86_64 → IsSlotBranch s r k opcode → NoField s k → NoField s (k + 1) → IsTemplate l (item_of s) r k (indirect 0xff opcode kind does)
-slot_template l s r k opcode kind does known x branch out next =
-    let behind = branch.behind in
-    let ends = branch.inside in
-    let inside : k + 6 ≤ length s.bytes = omega (arith, behind, ends) in
-    let z : k + 0 ≡ k = omega arith in
-    record {
-      code = bit_executable s.flags branch.code;
-      known = subst (λ (mach : Machine). Contains (operands_of mach) (indirect 0xff opcode kind does)) (sym x) known;
-      number = branch.number;
-      field = branch.behind;
-      inside = inside;
-      stands = slot_stands_from 0xff opcode (slice_range s.bytes k (k + 6)) (length-range s.bytes k 6 inside) (range_byte s.bytes k 6 0 (omega arith) ∙ ap (λ (j : ℕ). slice_index s.bytes j) z ∙ branch.first) (range_byte s.bytes k 6 1 (omega arith) ∙ branch.second);
-      word = λ e. branch.addend;
-      alone = λ j own. first_two (λ (n : ℕ). InNoField l (item_of s) (k + n)) 0xff opcode kind does j own (subst (λ (n : ℕ). InNoField l (item_of s) n) (sym z) (in_no_field l s k x out)) (in_no_field l s (k + 1) x next);
-    }
-
--- ---- the whole
+use Rattle.wild_laws.proofs.FirstBytes.{other_byte}
 
 -- such a section is kept
 kept : (l : Layout) (s : InputSection) → IsLoadedSection l s → IsKept l (item_of s)
@@ -112,25 +29,82 @@ kept l s h = record {
   is = refl;
 }
 
-pub meaning_gives_fields : MeaningGivesFields
-meaning_gives_fields = λ l w image x zero linked small s loaded.
-    let m = linked.memory in
-    let same = linked.machine ∙ ap processor_of x in
-    let holds = linked.kept (item_of s) (kept l s loaded) in
-    let asked : (r : InputRelocation) → IsAsked l w (item_of s) r = λ r e. zero in
+-- a number that is taken twice modulo 2^64
+once_more : (v x : ℕ) → v ≡ x % 2 ^ 64 → v % 2 ^ 64 ≡ x % 2 ^ 64
+once_more v x e = omega (arith, e)
+
+-- ---- calls and jumps
+
+not_same : (a b : ℕ) → (a == b) ≡ false → a ≡ b → ⊥
+not_same a b n e = let t : (a == b) ≡ true = eq-eqb a b e in let both : true ≡ false = sym t ∙ n in cc
+
+-- bytes are those of one instruction
+same_code : (l : Layout) (s : InputSection) (r : InputRelocation) (k a b start : ℕ) (deed : Deed) → (a ≡ b → ⊥) → l.machine ≡ machine.X86_64 → HasFirstTypes s → IsReference (item_of s) r → IsBranch s r k a → IsInstruction l (item_of s) r start (direct b deed) → ⊥
+same_code l s r k a b start deed apart x types ref branch t =
+    let other = is_branch l s r start b deed x types ref t in
+    let here = branch.behind in
+    let there = other.behind in
+    let same : start ≡ k = omega (arith, here, there) in
+    apart (sym branch.begins ∙ sym (ap (λ (j : ℕ). slice_index s.bytes j) same) ∙ other.begins)
+
+-- a reference that holds has the code of its call or its jump do what that demands
+abbrev Does : Layout → World → Memory → InputSection → InputRelocation → ℕ → ℕ → Deed → Type 0
+Does l w m s r k opcode deed = DoesDemanded l w m (item_of s) r k (direct opcode deed)
+
+moved_here : (l : Layout) (w : World) (m : Memory) (s : InputSection) (r one : InputRelocation) (k start opcode : ℕ) (o : Instruction) (deed : Deed) → IsBranch s r k opcode → IsInstruction l (item_of s) r start (direct opcode deed) → o ≡ direct opcode deed → one ≡ r → DoesDemanded l w m (item_of s) one start o → Does l w m s r k opcode deed
+moved_here l w m s r one k start opcode o deed branch t e same d =
+    let here = branch.behind in
+    let there = t.field in
+    let at : start ≡ k = omega (arith, here, there) in
+    subst (λ (j : ℕ). DoesDemanded l w m (item_of s) r j (direct opcode deed)) at (subst (λ (q : InputRelocation). DoesDemanded l w m (item_of s) q start (direct opcode deed)) same (subst (λ (p : Instruction). DoesDemanded l w m (item_of s) one start p) e d))
+
+as_direct : (l : Layout) (s : InputSection) (r : InputRelocation) (start opcode : ℕ) (o : Instruction) (deed : Deed) → o ≡ direct opcode deed → IsInstruction l (item_of s) r start o → IsInstruction l (item_of s) r start (direct opcode deed)
+as_direct l s r start opcode o deed e t = subst (λ (p : Instruction). IsInstruction l (item_of s) r start p) e t
+
+call_rewritten : (l : Layout) (w : World) (m : Memory) (s : InputSection) (r one : InputRelocation) (k start : ℕ) (o : Instruction) → l.machine ≡ machine.X86_64 → HasFirstTypes s → IsReference (item_of s) r → IsBranch s r k 0xe8 → IsInstruction l (item_of s) r start o → IsCallOrJump o → one ≡ r → DoesDemanded l w m (item_of s) one start o → Does l w m s r k 0xe8 Call
+call_rewritten l w m s r one k start o x types ref branch t (inl e) same d = moved_here l w m s r one k start 0xe8 o Call branch (as_direct l s r start 0xe8 o Call e t) e same d
+call_rewritten l w m s r one k start o x types ref branch t (inr e) same d = absurd (same_code l s r k 0xe8 0xe9 start Jump (not_same 0xe8 0xe9 refl) x types ref branch (as_direct l s r start 0xe9 o Jump e t))
+
+jump_rewritten : (l : Layout) (w : World) (m : Memory) (s : InputSection) (r one : InputRelocation) (k start : ℕ) (o : Instruction) → l.machine ≡ machine.X86_64 → HasFirstTypes s → IsReference (item_of s) r → IsBranch s r k 0xe9 → IsInstruction l (item_of s) r start o → IsCallOrJump o → one ≡ r → DoesDemanded l w m (item_of s) one start o → Does l w m s r k 0xe9 Jump
+jump_rewritten l w m s r one k start o x types ref branch t (inl e) same d = absurd (same_code l s r k 0xe9 0xe8 start Call (not_same 0xe9 0xe8 refl) x types ref branch (as_direct l s r start 0xe8 o Call e t))
+jump_rewritten l w m s r one k start o x types ref branch t (inr e) same d = moved_here l w m s r one k start 0xe9 o Jump branch (as_direct l s r start 0xe9 o Jump e t) e same d
+
+call_does_it : (l : Layout) (w : World) (m : Memory) (s : InputSection) (r : InputRelocation) (k : ℕ) → l.machine ≡ machine.X86_64 → HasFirstTypes s → IsReference (item_of s) r → IsBranch s r k 0xe8 → ReferenceHolds l w m (item_of s) r → Does l w m s r k 0xe8 Call
+call_does_it l w m s r k x types ref branch (inl p) = p.does k (direct 0xe8 Call) r (branch_template l s r k 0xe8 Call (0, omega arith, refl) x types ref branch)
+call_does_it l w m s r k x types ref branch (inr q) = let d = template_direct l s r q.start q.instruction q.first x types ref q.template in call_rewritten l w m s r q.first k q.start q.instruction x types ref branch d.stands d.which d.same q.does
+
+jump_does_it : (l : Layout) (w : World) (m : Memory) (s : InputSection) (r : InputRelocation) (k : ℕ) → l.machine ≡ machine.X86_64 → HasFirstTypes s → IsReference (item_of s) r → IsBranch s r k 0xe9 → ReferenceHolds l w m (item_of s) r → Does l w m s r k 0xe9 Jump
+jump_does_it l w m s r k x types ref branch (inl p) = p.does k (direct 0xe9 Jump) r (branch_template l s r k 0xe9 Jump (1, omega arith, refl) x types ref branch)
+jump_does_it l w m s r k x types ref branch (inr q) = let d = template_direct l s r q.start q.instruction q.first x types ref q.template in jump_rewritten l w m s r q.first k q.start q.instruction x types ref branch d.stands d.which d.same q.does
+
+-- such code goes to what comes to the symbol
+goes : (l : Layout) (w : World) (m : Memory) (s : InputSection) (r : InputRelocation) (k opcode : ℕ) (deed : Deed) → DoesDeed opcode deed → l.machine ≡ machine.X86_64 → IsBranch s r k opcode → DoesDemanded l w m (item_of s) r k (direct opcode deed) → BranchReaches l w m s r k deed
+goes l w m s r k opcode deed does x branch d =
+    let a = place_at w (item_of s) k in
+    let old : effect_of machine.X86_64 (as_value d.value) a (slice_range s.bytes k (k + 5)) ≡ Some d.effect = subst (λ (mach : Machine). effect_of mach (as_value d.value) a (slice_range s.bytes k (k + 5)) ≡ Some d.effect) x d.demanded in
+    let is = does a d.value (slice_range s.bytes k (k + 5)) (old_length s r k opcode branch) (first_byte s.bytes k ∙ branch.begins) in
+    let loaded : effect_of machine.X86_64 (reads w m) a d.bytes ≡ Some d.effect = subst (λ (mach : Machine). effect_of mach (reads w m) a d.bytes ≡ Some d.effect) x d.does in
+    let value = once_more d.value (d.demands.goal + cast_unsigned w64 r.addend + 4) d.demands.is in
     record {
-      references = λ r ref follows address. has_formula l w m s r x same small address (holds.references r (record { listed = ref.listed; refers = ref.refers }) (asked r) follows);
-      calls = λ r k ref follows branch out.
-          (let d = holds.effects r k (direct 0xe8 call_near.kind kinds.Call) (record { listed = ref.listed; refers = ref.refers }) (asked r) follows (branch_template l s r k 0xe8 call_near.kind kinds.Call (0, omega arith, refl) x branch out) in
-          record { target = d.goal; reached = d.reached; goes = d.effect });
-      jumps = λ r k ref follows branch out.
-          (let d = holds.effects r k (direct 0xe9 jump_near.kind kinds.Jump) (record { listed = ref.listed; refers = ref.refers }) (asked r) follows (branch_template l s r k 0xe9 jump_near.kind kinds.Jump (1, omega arith, refl) x branch out) in
-          record { target = d.goal; reached = d.reached; goes = d.effect });
-      slot_calls = λ r k ref follows branch out next.
-          (let d = holds.effects r k (indirect 0xff 0x15 call_indirect.kind kinds.Call) (record { listed = ref.listed; refers = ref.refers }) (asked r) follows (slot_template l s r k 0x15 call_indirect.kind kinds.Call (2, omega arith, refl) x branch out next) in
-          record { target = d.goal; reached = d.reached; goes = d.effect });
-      slot_jumps = λ r k ref follows branch out next.
-          (let d = holds.effects r k (indirect 0xff 0x25 jump_indirect.kind kinds.Jump) (record { listed = ref.listed; refers = ref.refers }) (asked r) follows (slot_template l s r k 0x25 jump_indirect.kind kinds.Jump (3, omega arith, refl) x branch out next) in
-          record { target = d.goal; reached = d.reached; goes = d.effect });
-      others = λ k lt out. other_byte l w m s k x same zero asked holds lt out;
+      target = d.demands.goal;
+      reached = d.demands.reached;
+      bytes = d.bytes;
+      five = d.whole;
+      held = d.held;
+      goes = loaded ∙ sym old ∙ is ∙ ap (λ (n : ℕ). Some (record { deed = deed; width = 64; value = n })) value;
+    }
+
+-- ---- the whole
+
+pub meaning_gives_fields : MeaningGivesFields
+meaning_gives_fields = λ l w image x base linked s loaded types.
+    let m = linked.memory in
+    let holds = linked.kept (item_of s) (kept l s loaded) in
+    let asked : (r : InputRelocation) → IsAsked l w (item_of s) r = λ r e. base in
+    let refers : (r : InputRelocation) → IsRelocated s r → IsReference (item_of s) r = λ r one. record { listed = one.listed; refers = one.refers } in
+    record {
+      references = λ r one follows none. has_formula l w m s r x types (refers r one) none (holds.references r (refers r one) (asked r) follows);
+      calls = λ r k one follows branch. goes l w m s r k 0xe8 Call call_does x branch (call_does_it l w m s r k x types (refers r one) branch (holds.references r (refers r one) (asked r) follows));
+      jumps = λ r k one follows branch. goes l w m s r k 0xe9 Jump jump_does x branch (jump_does_it l w m s r k x types (refers r one) branch (holds.references r (refers r one) (asked r) follows));
+      others = λ k lt out. other_byte l w m s k x types base asked holds lt out;
     }

@@ -1,13 +1,13 @@
--- What an image owes an x86-64 layout at base 0, where each fixed output is, told by fields, calls and jumps alone. It follows from
--- the meaning of all layouts.
+-- What an image owes an x86-64 layout at base 0, where each fixed output is, told by fields, calls and jumps alone, of sections whose
+-- relocations have the first types. It follows from the meaning of all layouts.
+--   HasFirstTypes s      the section's relocations are addresses and distances
 --   HasFormula ..        the field in memory is the formula's
 --   BranchReaches ..     a call or a jump goes to what comes to its symbol
---   WritesAddress r      the relocation's type is one of an address or a distance
---   HoldsByFields ..     each such reference of an input section does
+--   HoldsByFields ..     each reference of an input section does one of these
 --   NamesAreAddresses    what this says of symbols that no resolver answers for
 use Rattle.std.specs.Prelude.{◌≡◌, ◌≢◌, ℕ, ℤ, ◌+◌, ◌-◌, ◌%◌, ◌^◌, ◌<◌, ◌≤◌, ◌⊎◌, true, false, List, [], ◌∷◌, length, Some, All, Contains, slice_index}
 use Rattle.std.specs.Int.{w64, cast_unsigned}
-use Rattle.wild_records.specs.Abi.Relocation.{r_x86_64_none, r_x86_64_pc32, r_x86_64_plt32, r_x86_64_gotpcrel, r_x86_64_gotpcrelx}
+use Rattle.wild_records.specs.Abi.Relocation.{r_x86_64_none, r_x86_64_64, r_x86_64_pc32, r_x86_64_32, r_x86_64_32s}
 use Rattle.wild_plan.specs.declared.kind.Machine.TheVariants as machine
 use Rattle.wild_plan.specs.declared.input.Slot.TheVariants as slot
 use Rattle.wild_plan.specs.declared.input.InputRelocation.{InputRelocation}
@@ -22,13 +22,13 @@ use Rattle.wild_reloc.specs.Formula.{Value, SymbolAddress, Distance, Form, Formu
 use Rattle.wild_reloc.specs.FormulaX86_64.{x86_64_formula}
 use Rattle.wild_loader.specs.declared.world.World.{World}
 use Rattle.wild_loader.specs.declared.memory.Memory.{Memory}
-use Rattle.wild_loader.specs.declared.effect.EffectKind.{EffectKind}
-use Rattle.wild_loader.specs.declared.effect.EffectKind.TheVariants as kinds
 use Rattle.wild_loader.specs.Memory.{Holds, byte_in}
-use Rattle.wild_loader.specs.Effect.{step}
 use Rattle.wild_meaning.specs.Value.{IsSymbol, IsDefinedBy, HasRaw, HasFlag, HasStub, IsReplaceable, Denotes, Reaches, moved}
 use Rattle.wild_meaning.specs.Field.{form_width}
 use Rattle.wild_meaning.specs.Formula.{IsTarget, IsGoal}
+use Rattle.wild_meaning.specs.Instruction.{Deed, Call, Jump}
+use Rattle.wild_meaning.specs.InstructionX86_64.{effect_x86_64}
+use Rattle.wild_meaning.specs.Template.{reads}
 use Rattle.wild_meaning.specs.Item.{item_of}
 use Rattle.wild_meaning.specs.Reference.{IsLinkedAlone}
 use Rattle.wild_meaning.specs.Linked.{IsLinked}
@@ -49,56 +49,51 @@ pub record IsRelocated (s : InputSection) (r : InputRelocation) : Type 0 where
   pub listed : Contains s.relocations r
   pub refers : r.number ≢ r_x86_64_none
 
--- its type writes S + A or S + A - P (x86-64 psABI, "Relocation Types")
-abbrev pub WritesAddress : InputRelocation → Type 0
-WritesAddress r = (f : Formula) → x86_64_formula r.number ≡ Some f → (f.value ≡ SymbolAddress) ⊎ (f.value ≡ Distance)
+-- the types of the section's relocations: none, S + A and S + A - P (x86-64 psABI, "Relocation Types")
+abbrev pub first_types : List ℕ
+first_types = r_x86_64_none ∷ r_x86_64_64 ∷ r_x86_64_pc32 ∷ r_x86_64_32 ∷ r_x86_64_32s ∷ []
+
+pub record HasFirstTypes (s : InputSection) : Type 0 where
+  pub each : (r : InputRelocation) → Contains s.relocations r → Contains first_types r.number
 
 -- the loaded address of a place in an input section
 abbrev pub address_at : World → InputSection → ℕ → ℕ
 address_at w s offset = w.base + s.address + offset
 
+-- the byte lies in no field of the section's relocations
+abbrev pub InNoField : InputSection → ℕ → Type 0
+InNoField s k = All (λ (r : InputRelocation). (f : Formula) → x86_64_formula r.number ≡ Some f → (k < r.offset) ⊎ (r.offset + form_width f.form ≤ k)) s.relocations
+
 -- ---- calls and jumps
 
--- the input's byte at an offset is the opcode of a direct call or jump (Intel SDM, "CALL": e8; "JMP": e9), and the field behind
--- it is a relocation's of type R_X86_64_PC32 or R_X86_64_PLT32
+-- the input's byte at an offset is the opcode of a direct call or jump (Intel SDM, "CALL": e8; "JMP": e9), which no field has, and the
+-- field behind it is the relocation's, of type R_X86_64_PC32
 pub record IsBranch (s : InputSection) (r : InputRelocation) (k opcode : ℕ) : Type 0 where
   pub code : executable s.flags ≡ true
   pub behind : r.offset ≡ k + 1
   pub begins : slice_index s.bytes k ≡ opcode
-  pub number : Contains (r_x86_64_pc32 ∷ r_x86_64_plt32 ∷ []) r.number
+  pub number : r.number ≡ r_x86_64_pc32
   pub inside : r.offset + 4 ≤ length s.bytes
+  pub free : InNoField s k
 
 -- the relocation's field is such an instruction's
 abbrev pub IsBranchField : InputSection → InputRelocation → Type 0
 IsBranchField s r = (k : ℕ) × (IsBranch s r k 0xe8 ⊎ IsBranch s r k 0xe9)
 
--- the input's bytes at an offset are the opcode of a call or a jump through a slot (Intel SDM, "CALL": ff 15; "JMP": ff 25), and
--- the field behind them is a relocation's of type R_X86_64_GOTPCREL or R_X86_64_GOTPCRELX, whose addend takes back its four bytes
-pub record IsSlotBranch (s : InputSection) (r : InputRelocation) (k opcode : ℕ) : Type 0 where
-  pub code : executable s.flags ≡ true
-  pub behind : r.offset ≡ k + 2
-  pub first : slice_index s.bytes k ≡ 0xff
-  pub second : slice_index s.bytes (k + 1) ≡ opcode
-  pub number : Contains (r_x86_64_gotpcrel ∷ r_x86_64_gotpcrelx ∷ []) r.number
-  pub inside : r.offset + 4 ≤ length s.bytes
-  pub addend : (cast_unsigned w64 r.addend + 4) % 2 ^ 64 ≡ 0
-
--- the loaded code of n bytes goes to what comes to the symbol's value
-pub record BranchReaches (l : Layout) (w : World) (m : Memory) (s : InputSection) (r : InputRelocation) (k n : ℕ) (does : ℕ → EffectKind) : Type 0 where
-  pub target : ℕ
-  pub reached : IsGoal l w m r.symbol target
-  pub goes : step m (address_at w s k) ≡ Some (record { length = n; width = 64; kind = does target })
-
--- a direct one goes to S + A + 4 or L + A + 4, that is, to S or L where A takes back the four bytes of the field
+-- S + A + 4: the symbol's value, where A takes back the four bytes of the field
 abbrev pub past_field : InputRelocation → ℕ → ℕ
 past_field r a = (a + cast_unsigned w64 r.addend + 4) % 2 ^ 64
 
--- ---- fields
+-- the five loaded bytes call, or go to, what comes to the symbol's value
+pub record BranchReaches (l : Layout) (w : World) (m : Memory) (s : InputSection) (r : InputRelocation) (k : ℕ) (deed : Deed) : Type 0 where
+  pub target : ℕ
+  pub reached : IsGoal l w m r.symbol target
+  pub bytes : List ℕ
+  pub five : length bytes ≡ 5
+  pub held : Holds m (address_at w s k) bytes
+  pub goes : effect_x86_64 (reads w m) (address_at w s k) bytes ≡ Some (record { deed = deed; width = 64; value = past_field r target })
 
--- a is what the formula's S is: it stands for the symbol, or is 0 without one; in the field of a call or a jump code that goes
--- there comes to it
-abbrev pub IsNamed : Layout → World → Memory → InputSection → InputRelocation → ℕ → Type 0
-IsNamed l w m s r a = IsTarget l w m r.symbol a ⊎ (IsBranchField s r × IsGoal l w m r.symbol a)
+-- ---- fields
 
 -- the formula gives x (x86-64 psABI, "Relocation Types"): S + A, or S + A - P
 abbrev pub Demands : Value → ℕ → ℤ → ℕ → ℕ → Type 0
@@ -118,36 +113,26 @@ pub record HasFormula (l : Layout) (w : World) (m : Memory) (s : InputSection) (
   pub formula : Formula
   pub known : x86_64_formula r.number ≡ Some formula
   pub target : ℕ
-  pub denoted : IsNamed l w m s r target
+  pub denoted : IsTarget l w m r.symbol target
   pub value : ℕ
   pub demanded : Demands formula.value target r.addend (address_at w s r.offset) value
   pub field : HasField m formula.form (address_at w s r.offset) value
-
--- the byte lies in no field of the section's relocations
-abbrev pub InNoField : InputSection → ℕ → Type 0
-InNoField s k = All (λ (r : InputRelocation). (f : Formula) → x86_64_formula r.number ≡ Some f → (k < r.offset) ⊎ (r.offset + form_width f.form ≤ k)) s.relocations
 
 -- whichever module has the relocation's symbol, the reference is not to the output's own alone
 abbrev pub IsFollowed : Layout → InputSection → InputRelocation → Type 0
 IsFollowed l s r = IsLinkedAlone l (item_of s) r → ⊥
 
--- each such reference to an address or a distance holds, each call and jump reaches its symbol where no field has its opcode, and
--- every byte in no field is the input's
+-- each reference in no call and no jump has its field as the formula, each call and each jump reaches its symbol, and every byte in
+-- no field is the input's
 pub record HoldsByFields (l : Layout) (w : World) (m : Memory) (s : InputSection) : Type 0 where
-  pub references : (r : InputRelocation) → IsRelocated s r → IsFollowed l s r → WritesAddress r → HasFormula l w m s r
-  pub calls : (r : InputRelocation) (k : ℕ) → IsRelocated s r → IsFollowed l s r → IsBranch s r k 0xe8 → InNoField s k → BranchReaches l w m s r k 5 (λ a. kinds.Call (past_field r a))
-  pub jumps : (r : InputRelocation) (k : ℕ) → IsRelocated s r → IsFollowed l s r → IsBranch s r k 0xe9 → InNoField s k → BranchReaches l w m s r k 5 (λ a. kinds.Jump (past_field r a))
-  pub slot_calls : (r : InputRelocation) (k : ℕ) → IsRelocated s r → IsFollowed l s r → IsSlotBranch s r k 0x15 → InNoField s k → InNoField s (k + 1) → BranchReaches l w m s r k 6 kinds.Call
-  pub slot_jumps : (r : InputRelocation) (k : ℕ) → IsRelocated s r → IsFollowed l s r → IsSlotBranch s r k 0x25 → InNoField s k → InNoField s (k + 1) → BranchReaches l w m s r k 6 kinds.Jump
+  pub references : (r : InputRelocation) → IsRelocated s r → IsFollowed l s r → (IsBranchField s r → ⊥) → HasFormula l w m s r
+  pub calls : (r : InputRelocation) (k : ℕ) → IsRelocated s r → IsFollowed l s r → IsBranch s r k 0xe8 → BranchReaches l w m s r k Call
+  pub jumps : (r : InputRelocation) (k : ℕ) → IsRelocated s r → IsFollowed l s r → IsBranch s r k 0xe9 → BranchReaches l w m s r k Jump
   pub others : (k : ℕ) → k < length s.bytes → InNoField s k → byte_in m (address_at w s k) ≡ Some (slice_index s.bytes k)
-
--- each byte of memory is one
-abbrev pub AreBytes : Memory → Type 0
-AreBytes m = (a b : ℕ) → byte_in m a ≡ Some b → b < 256
 
 -- an image that meets the meaning of all layouts at base 0 meets this one
 abbrev pub MeaningGivesFields : Type 0
-MeaningGivesFields = (l : Layout) (w : World) (image : List ℕ) → l.machine ≡ machine.X86_64 → w.base ≡ 0 → (linked : IsLinked l w image) → AreBytes linked.memory → (s : InputSection) → IsLoadedSection l s → HoldsByFields l w linked.memory s
+MeaningGivesFields = (l : Layout) (w : World) (image : List ℕ) → l.machine ≡ machine.X86_64 → w.base ≡ 0 → (linked : IsLinked l w image) → (s : InputSection) → IsLoadedSection l s → HasFirstTypes s → HoldsByFields l w linked.memory s
 
 -- ---- symbols
 

@@ -1,6 +1,6 @@
 -- What a treatment says of its relocation.
 use Rattle.std.proofs.Common.{◌≡◌, ℕ, ◌⊎◌, inl, inr, Bool, true, false, Option, Some, None, refl, sym, ap, ◌∙◌, subst}
-use Rattle.std.specs.Prelude.{⊤, if◌then◌else◌, ◌&&◌, ◌||◌, ◌==◌}
+use Rattle.std.specs.Prelude.{⊤, length, nat_lt, if◌then◌else◌, ◌&&◌, ◌||◌, ◌==◌}
 use Rattle.std.proofs.lemmas.Bool.{eqb-true}
 use Rattle.wild_plan.specs.declared.input.InputSection.{InputSection}
 use Rattle.wild_plan.specs.declared.layout.Layout.{Layout}
@@ -9,7 +9,7 @@ use Rattle.wild_plan.specs.declared.treatment.Treatment.TheVariants as treatment
 use Rattle.wild_plan.specs.Flags.{has_flag, dynamic, ifunc, interposable}
 use Rattle.wild_plan.specs.Kinds.{is_position_independent, is_shared_object}
 use Rattle.wild_plan.specs.Lookups.{writable, allocated}
-use Rattle.wild_plan.specs.Treatment.{flags_at, is_left, is_barred, is_narrow, is_chosen, is_sized, moves, address_treatment, distance_treatment, pointer_treatment, size_treatment, named, kind_treatment, row_treatment}
+use Rattle.wild_plan.specs.Treatment.{flags_at, is_left, is_barred, is_narrow, is_chosen, is_sized, moves, address_treatment, distance_treatment, pointer_treatment, size_treatment, named, where_there, kind_treatment, row_treatment}
 use Rattle.wild_reloc.specs.Field.{field_width}
 use Rattle.wild_reloc.specs.declared.info.RelocationKind.{RelocationKind}
 use Rattle.wild_reloc.specs.declared.info.RelocationKind.TheVariants as kinds
@@ -133,13 +133,13 @@ said_value l s row symbol h = said_named l s row symbol (λ i. treatments.Value 
 
 kind_says : (l : Layout) (s : InputSection) (symbol : Option ℕ) (row : RelocationKindInfo) (k : RelocationKind) → row.kind ≡ k → Says l s symbol row (kind_treatment l s symbol row k)
 kind_says l s symbol row kinds.None e = inl e
-kind_says l s symbol row kinds.Absolute e = said_named l s row symbol (address_treatment l s row) (λ i. said_address l s row i e)
+kind_says l s symbol row kinds.Absolute e = said_named l s row symbol (λ i. where_there l row i (address_treatment l s row i)) (λ i. said_if (Says l s (Some i) row) (nat_lt i (length l.symbols)) _ _ (λ there. said_address l s row i e) (λ there. (refl, ap has_value e)))
 kind_says l s symbol row kinds.Relative e = said_distance l s row symbol e
 kind_says l s symbol row kinds.GotBaseRelative e = (refl, ap has_value e)
 kind_says l s symbol row kinds.SymRelGotBase e = said_value l s row symbol (ap has_value e)
 kind_says l s symbol row kinds.DtpOff e = said_value l s row symbol (ap has_value e)
 kind_says l s symbol row kinds.TpOff e = said_named l s row symbol (λ i. pointer_treatment l s row) (λ i. said_if (Says l s (Some i) row) (allocated s.flags && is_shared_object l.kind) _ _ (λ p. tt) (λ p. (refl, ap has_value e)))
-kind_says l s symbol row kinds.SymbolSize e = said_named l s row symbol (size_treatment l s row) (λ i. said_size l s row i e)
+kind_says l s symbol row kinds.SymbolSize e = said_named l s row symbol (λ i. where_there l row i (size_treatment l s row i)) (λ i. said_if (Says l s (Some i) row) (nat_lt i (length l.symbols)) _ _ (λ there. said_size l s row i e) (λ there. (refl, ap has_value e)))
 kind_says l s symbol row kinds.PltRelative e = said_value l s row symbol (ap has_value e)
 kind_says l s symbol row kinds.PltRelGotBase e = said_value l s row symbol (ap has_value e)
 kind_says l s symbol row kinds.GotRelative e = said_value l s row symbol (ap has_value e)

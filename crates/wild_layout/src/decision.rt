@@ -28,7 +28,10 @@ pub enum Decision {
         addend: u64,
     },
     /// All bytes of the input's instruction, as the row writes them, with a value in the field; 0 where the row has none.
-    Rewritten { row: Row, value: u64 },
+    Rewritten {
+        row: Row,
+        value: u64,
+    },
     /// Nothing: the relocation is that of the call of a sequence, which is written with the relocation before.
     Partner,
 }

@@ -1,6 +1,6 @@
 -- What the entries of fields make a loader do in a legal world, and what these fields are in the file.
 use Rattle.std.proofs.Common.{◌≡◌, ℕ, ◌+◌, ◌%◌, ◌^◌, ◌<◌, ◌⊎◌, inl, inr, Bool, true, false, List, replicate, refl, sym, ap, arith, subst}
-use Rattle.std.specs.Prelude.{⊤, Option, Some, None, Result, Ok, Err, option_map, option_and_then, ◌==◌, ◌&&◌, ◌||◌, if◌then◌else◌, slice_get}
+use Rattle.std.specs.Prelude.{⊤, length, nat_lt, Option, Some, None, Result, Ok, Err, option_map, option_and_then, ◌==◌, ◌&&◌, ◌||◌, if◌then◌else◌, slice_get}
 use Rattle.std.specs.List.{list_all}
 use Rattle.std.specs.Int.{w64}
 use Rattle.std.proofs.lemmas.Bool.{cases_Bool, eqb-true}
@@ -27,7 +27,7 @@ use Rattle.wild_plan.specs.Kinds.{is_position_independent, is_shared_object}
 use Rattle.wild_plan.specs.Lookups.{writable, allocated, canonical}
 use Rattle.wild_plan.specs.Rows.{row_of}
 use Rattle.wild_plan.specs.SlotParts.{type_of}
-use Rattle.wild_plan.specs.Treatment.{flags_at, is_left, is_barred, is_narrow, is_chosen, is_sized, moves, address_treatment, distance_treatment, pointer_treatment, size_treatment, named, kind_treatment, row_treatment, treatment}
+use Rattle.wild_plan.specs.Treatment.{flags_at, is_left, is_barred, is_narrow, is_chosen, is_sized, moves, address_treatment, distance_treatment, pointer_treatment, size_treatment, named, where_there, kind_treatment, row_treatment, treatment}
 use Rattle.wild_reloc.specs.Field.{size_width, field_width, size_written}
 use Rattle.wild_reloc.specs.TableX86_64.{x86_64_rows, x86_64_row}
 use Rattle.wild_reloc.proofs.TableLemmas.{entry_passes}
@@ -149,13 +149,13 @@ value_tells l n row symbol = told_named (Tells l n (Some row)) symbol (λ i. tre
 
 kind_tells : (l : Layout) (s : InputSection) (n : ℕ) (symbol : Option ℕ) (row : RelocationKindInfo) (k : RelocationKind) → row.kind ≡ k → Tells l n (Some row) (kind_treatment l s symbol row k)
 kind_tells l s n symbol row row_kinds.None e = tt
-kind_tells l s n symbol row row_kinds.Absolute e = told_named (Tells l n (Some row)) symbol (address_treatment l s row) tt (λ i. address_tells l s n row i)
+kind_tells l s n symbol row row_kinds.Absolute e = told_named (Tells l n (Some row)) symbol (λ i. where_there l row i (address_treatment l s row i)) tt (λ i. told_if (Tells l n (Some row)) (nat_lt i (length l.symbols)) _ _ (λ there. address_tells l s n row i) (λ there. tt))
 kind_tells l s n symbol row row_kinds.Relative e = distance_tells l s n row symbol
 kind_tells l s n symbol row row_kinds.GotBaseRelative e = tt
 kind_tells l s n symbol row row_kinds.SymRelGotBase e = value_tells l n row symbol
 kind_tells l s n symbol row row_kinds.DtpOff e = value_tells l n row symbol
 kind_tells l s n symbol row row_kinds.TpOff e = told_named (Tells l n (Some row)) symbol (λ i. pointer_treatment l s row) tt (λ i. told_if (Tells l n (Some row)) (allocated s.flags && is_shared_object l.kind) _ _ (λ p. tt) (λ p. tt))
-kind_tells l s n symbol row row_kinds.SymbolSize e = told_named (Tells l n (Some row)) symbol (size_treatment l s row) tt (λ i. told_if (Tells l n (Some row)) (is_sized l s i) _ _ (λ p. (refl, e)) (λ p. tt))
+kind_tells l s n symbol row row_kinds.SymbolSize e = told_named (Tells l n (Some row)) symbol (λ i. where_there l row i (size_treatment l s row i)) tt (λ i. told_if (Tells l n (Some row)) (nat_lt i (length l.symbols)) _ _ (λ there. told_if (Tells l n (Some row)) (is_sized l s i) _ _ (λ p. (refl, e)) (λ p. tt)) (λ there. tt))
 kind_tells l s n symbol row row_kinds.PltRelative e = value_tells l n row symbol
 kind_tells l s n symbol row row_kinds.PltRelGotBase e = value_tells l n row symbol
 kind_tells l s n symbol row row_kinds.GotRelative e = value_tells l n row symbol

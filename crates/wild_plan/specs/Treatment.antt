@@ -7,7 +7,7 @@
 --   is_narrow l s row     the field is too narrow for an address of a library
 --   is_sized l s i        the size of symbol i is left to a dynamic entry
 --   treatment l s r       what is done with relocation r of section s
-use Rattle.std.specs.Prelude.{ℕ, Bool, not, ◌&&◌, ◌||◌, ◌==◌, if◌then◌else◌, Option, Some, None, option_map, unwrap_or, slice_get}
+use Rattle.std.specs.Prelude.{ℕ, Bool, not, ◌&&◌, ◌||◌, ◌==◌, nat_lt, if◌then◌else◌, length, Option, Some, None, option_map, unwrap_or, slice_get}
 use Rattle.wild_plan.specs.declared.symbol.Symbol.{Symbol}
 use Rattle.wild_plan.specs.declared.symbol.ValueFlags.{ValueFlags}
 use Rattle.wild_plan.specs.declared.input.InputRelocation.{InputRelocation}
@@ -96,17 +96,21 @@ is_sized l s i = allocated s.flags && interposable (flags_at l i) && (has_flag (
 abbrev pub size_treatment : Layout → InputSection → RelocationKindInfo → ℕ → Treatment
 size_treatment l s row i = if is_sized l s i then Extent row i else Value row
 
+-- a symbol that is not there has no share of what is left to a loader: clauses refuse it later than shares
+abbrev pub where_there : Layout → RelocationKindInfo → ℕ → Treatment → Treatment
+where_there l row i t = if nat_lt i (length l.symbols) then t else Value row
+
 -- the kinds that are known: no value; S + A; S + A - P; GOT + A - P; S + A - GOT; offsets in thread storage; sizes; L + A - P and
 -- L + A - GOT; G + A - P and G + A - GOT, of slots; and the call through a descriptor, which has no value
 abbrev pub kind_treatment : Layout → InputSection → Option ℕ → RelocationKindInfo → RelocationKind → Treatment
 kind_treatment l s symbol row kinds.None = Nothing
-kind_treatment l s symbol row kinds.Absolute = named symbol (address_treatment l s row)
+kind_treatment l s symbol row kinds.Absolute = named symbol (λ i. where_there l row i (address_treatment l s row i))
 kind_treatment l s symbol row kinds.Relative = distance_treatment l s row symbol
 kind_treatment l s symbol row kinds.GotBaseRelative = Value row
 kind_treatment l s symbol row kinds.SymRelGotBase = named symbol (λ i. Value row)
 kind_treatment l s symbol row kinds.DtpOff = named symbol (λ i. Value row)
 kind_treatment l s symbol row kinds.TpOff = named symbol (λ i. pointer_treatment l s row)
-kind_treatment l s symbol row kinds.SymbolSize = named symbol (size_treatment l s row)
+kind_treatment l s symbol row kinds.SymbolSize = named symbol (λ i. where_there l row i (size_treatment l s row i))
 kind_treatment l s symbol row kinds.PltRelative = named symbol (λ i. Value row)
 kind_treatment l s symbol row kinds.PltRelGotBase = named symbol (λ i. Value row)
 kind_treatment l s symbol row kinds.GotRelative = named symbol (λ i. Value row)

@@ -1,6 +1,6 @@
 //! What is done with a relocation, as far as the layout alone says it: no value is taken.
 ghost use Rattle.std.specs.Prelude.{◌≡◌};
-ghost use Rattle.wild_plan.specs.Treatment.{flags_at, is_left, is_elsewhere, is_barred, is_narrow, is_chosen, chosen_treatment, moves, moved_treatment, address_treatment, distance_treatment, pointer_treatment, is_sized, size_treatment, row_treatment, treatment};
+ghost use Rattle.wild_plan.specs.Treatment.{flags_at, is_left, is_elsewhere, is_barred, is_narrow, is_chosen, chosen_treatment, moves, moved_treatment, address_treatment, distance_treatment, pointer_treatment, is_sized, size_treatment, where_there, row_treatment, treatment};
 
 use crate::index::SymbolIndex;
 use crate::input::{InputRelocation, InputSection};
@@ -216,6 +216,23 @@ fn size_treatment(
     }
 }
 
+/// What is done with a relocation that names that symbol, where it is there; else its value is written, which it has not.
+#[inline]
+fn where_there(
+    layout: &Layout,
+    row: RelocationKindInfo,
+    symbol: SymbolIndex,
+    treatment: Treatment,
+) -> Treatment
+    ensures { result ≡ where_there layout.now row symbol treatment }
+{
+    if symbol.0 < layout.symbols.len() {
+        treatment
+    } else {
+        Treatment::Value(row)
+    }
+}
+
 /// What is done with a relocation that names that symbol, by the row of its type.
 #[inline]
 #[tactic(auto, unfolding(crate::specs::Treatment::row_treatment))]
@@ -232,10 +249,24 @@ pub fn row_treatment(
     };
     match (row.kind, symbol) {
         (RelocationKind::None, _) | (RelocationKind::TlsDescCall, Some(_)) => Treatment::Nothing,
-        (RelocationKind::Absolute, Some(symbol)) => address_treatment(layout, section, row, symbol),
+        (RelocationKind::Absolute, Some(symbol)) => {
+            where_there(
+                layout,
+                row,
+                symbol,
+                address_treatment(layout, section, row, symbol),
+            )
+        }
         (RelocationKind::Relative, symbol) => distance_treatment(layout, section, row, symbol),
         (RelocationKind::TpOff, Some(_)) => pointer_treatment(layout, section, row),
-        (RelocationKind::SymbolSize, Some(symbol)) => size_treatment(layout, section, row, symbol),
+        (RelocationKind::SymbolSize, Some(symbol)) => {
+            where_there(
+                layout,
+                row,
+                symbol,
+                size_treatment(layout, section, row, symbol),
+            )
+        }
         (RelocationKind::GotBaseRelative, _)
         | (RelocationKind::SymRelGotBase, Some(_))
         | (RelocationKind::DtpOff, Some(_))

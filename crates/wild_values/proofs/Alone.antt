@@ -2,6 +2,7 @@
 use Rattle.std.proofs.Common.{◌≡◌, ℕ, ◌⊎◌, inl, inr, Bool, true, false, Some, refl, sym, ap, ◌∙◌, subst}
 use Rattle.std.specs.Prelude.{not, ◌&&◌, ◌==◌}
 use Rattle.std.proofs.lemmas.Bool.{eq-eqb}
+use Rattle.std.proofs.lemmas.Option.{slice_get_within}
 use Rattle.wild_records.specs.Abi.Section.{shf_write}
 use Rattle.wild_plan.specs.declared.input.InputRelocation.{InputRelocation}
 use Rattle.wild_plan.specs.declared.input.InputSection.{InputSection}
@@ -90,7 +91,7 @@ address_kind other v e = cc
 pub not_left : (l : Layout) (s : InputSection) (r : InputRelocation) (row : RelocationKindInfo) (i : ℕ) (t : Treatment) (fits : RowFits r.number row) → HasValue row.kind → allocated s.flags ≡ true → treatment l s r ≡ t → (treatments.Recompile ≡ t → ⊥) → (treatments.Symbolic i ≡ t → ⊥) → row_of l.machine r.number ≡ Some row → r.symbol ≡ Some i → IsLeftToLoader l (item_of s) i fits.formula → ⊥
 not_left l s r row i t fits value room is no_recompile no_entry known named left =
     let kind = address_kind row.kind value (fits.value ∙ left.value) in
-    let treated = address_by l s r row i t is known kind named in
+    let treated = address_by l s r row i t (slice_get_within l.symbols i left.interposable.defined.symbol left.interposable.defined.listed) is known kind named in
     let kept = address_kept l s row i t treated no_recompile no_entry in
     let asked = left_asked l s row i room left.writable (fits.width ∙ left.wide) left.interposable in
     let e : true ≡ false = sym asked ∙ kept in
@@ -162,7 +163,7 @@ left_follows l w m s index r p listed f known a = by_treatment f.left.treated f.
     by_symbolic i is kind width named =
         let value : f.fits.formula.value ≡ SymbolAddress = sym f.fits.value ∙ ap plain_value kind in
         let t = itself_by l s a.symbol f.fits.formula SymbolAddress value (λ o. o) takes in
-        let left = address_left l s row i i (address_by l s r row i (treatments.Symbolic i) is f.left.field.known kind named) in
+        let left = address_left l s row i i (address_by l s r row i (treatments.Symbolic i) (listed i named) is f.left.field.known kind named) in
         let open_one = left_open l s row i left in
         let z = slice_get_inside l.symbols i (listed i named) in
         let flag = subst (λ (b : Bool). HasFlag l i non_interposable b) open_one.interposable (flag_at l i non_interposable z.0 p.symbols.named z.1) in
@@ -170,7 +171,7 @@ left_follows l w m s index r p listed f known a = by_treatment f.left.treated f.
 
     by_resolver : (i : ℕ) → treatment l s r ≡ treatments.Indirect i → row.kind ≡ kinds.Absolute → field_width row ≡ 8 → r.symbol ≡ Some i → ⊥
     by_resolver i is kind width named =
-        let own = chosen_own l w m s row i p (listed i named) width (address_chosen l s row i i (address_by l s r row i (treatments.Indirect i) is f.left.field.known kind named)) in
+        let own = chosen_own l w m s row i p (listed i named) width (address_chosen l s row i i (address_by l s r row i (treatments.Indirect i) (listed i named) is f.left.field.known kind named)) in
         let none = replaceable_is l i false own.own in
         let some = replaceable_is l a.symbol true a.replaceable in
         let e : false ≡ true = sym none ∙ (ap (λ (k : ℕ). may_be_replaced l.kind (flags_at l k)) (one_symbol i named) ∙ some) in

@@ -68,7 +68,7 @@ use Rattle.wild_values.proofs.KnownRows.{RowFits, row_fits}
 use Rattle.wild_values.proofs.SlotFlags.{symbol_fits, resolver_own}
 use Rattle.wild_values.proofs.Symbols.{IsResolvedBy, resolved, resolved_raw, flags_are, replaceable_at, flag_at}
 use Rattle.wild_values.proofs.Tests.{either_of}
-use Rattle.wild_values.proofs.Treated.{IsLeftToResolver, treated_by, address_chosen}
+use Rattle.wild_values.proofs.Treated.{IsLeftToResolver, treated_by, address_chosen, peeled}
 use Rattle.wild_values.proofs.ValueKinds.{more}
 use Rattle.wild_values.proofs.Written.{row_here, given_some, slice_get_inside}
 
@@ -415,18 +415,18 @@ unfolding treatment
 extent_row l s r row i is = row_extent l s r.symbol (row_of l.machine r.number) row i is
 
 -- the treatment of an address is that of its symbol
-pub address_by : (l : Layout) (s : InputSection) (r : InputRelocation) (row : RelocationKindInfo) (i : ℕ) (t : Treatment) → treatment l s r ≡ t → row_of l.machine r.number ≡ Some row → row.kind ≡ kinds.Absolute → r.symbol ≡ Some i → address_treatment l s row i ≡ t
-address_by l s r row i t is known kind named =
+pub address_by : (l : Layout) (s : InputSection) (r : InputRelocation) (row : RelocationKindInfo) (i : ℕ) (t : Treatment) → i < length l.symbols → treatment l s r ≡ t → row_of l.machine r.number ≡ Some row → row.kind ≡ kinds.Absolute → r.symbol ≡ Some i → address_treatment l s row i ≡ t
+address_by l s r row i t inside is known kind named =
     let a : kind_treatment l s r.symbol row row.kind ≡ t = sym (treated_by l s r row known) ∙ is in
     let b : kind_treatment l s r.symbol row kinds.Absolute ≡ t = subst (λ (k : RelocationKind). kind_treatment l s r.symbol row k ≡ t) kind a in
-    subst (λ (o : Option ℕ). kind_treatment l s o row kinds.Absolute ≡ t) named b
+    peeled l row i (address_treatment l s row i) t inside (subst (λ (o : Option ℕ). kind_treatment l s o row kinds.Absolute ≡ t) named b)
 
 -- that of a size is its symbol's too
-size_by : (l : Layout) (s : InputSection) (r : InputRelocation) (row : RelocationKindInfo) (i : ℕ) (t : Treatment) → treatment l s r ≡ t → row_of l.machine r.number ≡ Some row → row.kind ≡ kinds.SymbolSize → r.symbol ≡ Some i → size_treatment l s row i ≡ t
-size_by l s r row i t is known kind named =
+size_by : (l : Layout) (s : InputSection) (r : InputRelocation) (row : RelocationKindInfo) (i : ℕ) (t : Treatment) → i < length l.symbols → treatment l s r ≡ t → row_of l.machine r.number ≡ Some row → row.kind ≡ kinds.SymbolSize → r.symbol ≡ Some i → size_treatment l s row i ≡ t
+size_by l s r row i t inside is known kind named =
     let a : kind_treatment l s r.symbol row row.kind ≡ t = sym (treated_by l s r row known) ∙ is in
     let b : kind_treatment l s r.symbol row kinds.SymbolSize ≡ t = subst (λ (k : RelocationKind). kind_treatment l s r.symbol row k ≡ t) kind a in
-    subst (λ (o : Option ℕ). kind_treatment l s o row kinds.SymbolSize ≡ t) named b
+    peeled l row i (size_treatment l s row i) t inside (subst (λ (o : Option ℕ). kind_treatment l s o row kinds.SymbolSize ≡ t) named b)
 
 -- a field with its formula
 pub record FieldGiven (l : Layout) (w : World) (m : Memory) (s : InputSection) (r : InputRelocation) (bs : List ℕ) : Type 0 where
@@ -448,13 +448,13 @@ left_given agrees l w m s r z number symbol addend bs p listed fits made reads =
         let k = indirect_row l s r i is in
         let f = row_fits r.number k.0 agrees (row_here l r.number k.0 p.x86 k.1) (ap has_value k.2.kind) in
         let inside = listed i k.2.named in
-        let chosen = chosen_own l w m s k.0 i p inside k.2.width (address_chosen l s k.0 i i (address_by l s r k.0 i (treatments.Indirect i) is k.1 k.2.kind k.2.named)) in
+        let chosen = chosen_own l w m s k.0 i p inside k.2.width (address_chosen l s k.0 i i (address_by l s r k.0 i (treatments.Indirect i) inside is k.1 k.2.kind k.2.named)) in
         record { formula = f.formula; known = formula_here l r k.0 p.x86 f; given = indirect_given l w m s r i number symbol addend z bs f.formula p inside chosen k.2.named (sym f.value ∙ ap plain_value k.2.kind) (f.full k.2.kind k.2.width) h reads }
     by_treatment (treatments.Extent row i) left is h =
         let k = extent_row l s r row i is in
         let here = row_here l r.number row p.x86 k.0 in
         let f = row_fits r.number row agrees here (ap has_value k.1.kind) in
-        let opened = open_symbol l w m i p (listed i k.1.named) (open_flag l s row row i i (size_by l s r row i (treatments.Extent row i) is k.0 k.1.kind k.1.named)) in
+        let opened = open_symbol l w m i p (listed i k.1.named) (open_flag l s row row i i (size_by l s r row i (treatments.Extent row i) (listed i k.1.named) is k.0 k.1.kind k.1.named)) in
         record { formula = f.formula; known = formula_here l r row p.x86 f; given = extent_given l w m s r row i number symbol addend z bs f p fits opened k.1.named (size_types r.number row here k.1.kind) h reads }
     by_treatment other left is h = cc
 

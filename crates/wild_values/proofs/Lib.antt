@@ -1,13 +1,13 @@
 mod Tests
 mod Bits
-mod OutputKinds
+pub mod OutputKinds
 mod KnownRows
 mod Rows
 mod Written
 mod Fields
 mod Moves
 mod Values
-mod Symbols
+pub mod Symbols
 mod SlotFlags
 mod SlotContents
 mod StubCode
@@ -15,7 +15,7 @@ mod EntryWords
 mod Answered
 mod FirstSlots
 mod SymbolStubs
-mod Stubbed
+pub mod Stubbed
 mod Targets
 mod ThreadValues
 mod Treated
@@ -34,4 +34,4 @@ mod AddressKinds
 mod EntryKinds
 mod Alone
 mod References
-mod WholeSections
+pub mod WholeSections

@@ -1,20 +1,17 @@
--- The symbols that no other module may replace: their values and offsets are the output's own.
-use Rattle.std.proofs.Common.{◌≡◌, ℕ, ◌+◌, ◌%◌, ◌^◌, ◌<◌, inr, Bool, true, false, Some, Ok, length, sym, ap, ◌∙◌, subst}
+-- The symbols that no other module may replace: their values are the output's own.
+use Rattle.std.proofs.Common.{◌≡◌, ℕ, ◌<◌, inr, Bool, true, false, Some, Ok, length, sym, ap, ◌∙◌, subst}
 use Rattle.wild_plan.specs.declared.symbol.ValueFlags.{ValueFlags}
 use Rattle.wild_plan.specs.declared.layout.Layout.{Layout}
 use Rattle.wild_plan.specs.Flags.{has_flag, interposable, absolute, dynamic}
 use Rattle.wild_plan.specs.Treatment.{flags_at}
-use Rattle.wild_layout.specs.Values.{is_chosen, address_of, raw_address, pointer_offset}
+use Rattle.wild_layout.specs.Values.{is_chosen, address_of, raw_address}
 use Rattle.wild_loader.specs.declared.memory.Memory.{Memory}
 use Rattle.wild_loader.specs.declared.world.World.{World}
-use Rattle.wild_meaning.specs.Thread.{HasThreadOffset}
 use Rattle.wild_meaning.specs.Value.{HasValue, IsAbsolute, IsReplaceable, moved}
-use Rattle.wild_meaning.specs.World.{IsFirstModule}
 use Rattle.wild_values.specs.Terms.{SymbolsFit, IsPlaced}
 use Rattle.wild_values.proofs.SlotFlags.{symbol_fits, dynamic_interposable}
 use Rattle.wild_values.proofs.Symbols.{replaceable_at, flags_are}
 use Rattle.wild_values.proofs.Targets.{raw_addressed}
-use Rattle.wild_values.proofs.ThreadKinds.{pointer_place}
 use Rattle.wild_values.proofs.ThreadSlots.{fixed_flags}
 use Rattle.wild_values.proofs.Written.{slice_get_inside}
 
@@ -41,14 +38,3 @@ own_value l w m i a p listed own direct given =
     let raw : raw_address l (Some i) ≡ Ok a = rw direct at given in
     let t = raw_addressed l w m i a p direct raw in
     record { still = t.still; value = inr (own_symbol l i p.symbols listed own, t.value); flag = t.flag; absolute = t.absolute }
-
--- its offset from the thread pointer: what the writer takes for it
-pub record IsOwnPointerOffset (l : Layout) (w : World) (i term : ℕ) : Type 0 where
-  pub offset : ℕ
-  pub is : HasThreadOffset l w i offset
-  pub sum : (a : ℕ) → (offset + a) % 2 ^ 64 ≡ (term + a) % 2 ^ 64
-
-pub own_pointer_offset : (l : Layout) (w : World) (m : Memory) (i term : ℕ) → IsPlaced l w m → IsFirstModule l w → i < length l.symbols → interposable (flags_at l i) ≡ false → pointer_offset l (Some i) ≡ Ok term → IsOwnPointerOffset l w i term
-own_pointer_offset l w m i term p first listed own given =
-    let t = pointer_place l w m i term p first listed given in
-    record { offset = t.offset; is = inr (own_symbol l i p.symbols listed own, t.is); sum = t.sum }

@@ -72,7 +72,7 @@ own_followed l r k takes f i named = by_case (f i named)
 -- ---- from the thread pointer
 
 -- of a symbol that nothing defines the offset is 0
-pub pointer_place : (l : Layout) (w : World) (m : Memory) (i term : ℕ) → IsPlaced l w m → IsFirstModule l w → i < length l.symbols → pointer_offset l (Some i) ≡ Ok term → HasPlace l w i term
+pointer_place : (l : Layout) (w : World) (m : Memory) (i term : ℕ) → IsPlaced l w m → IsFirstModule l w → i < length l.symbols → pointer_offset l (Some i) ≡ Ok term → HasPlace l w i term
 pointer_place l w m i term p f listed given =
     let z = slice_get_inside l.symbols i listed in
     elim (cases_Bool (is_undefined l i)) [

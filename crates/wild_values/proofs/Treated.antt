@@ -1,7 +1,7 @@
 -- What is known of a relocation that writes a value: whether its symbol moves.
-use Rattle.std.proofs.Common.{◌≡◌, ℕ, ◌⊎◌, inl, inr, Bool, true, false, refl}
+use Rattle.std.proofs.Common.{◌≡◌, ℕ, ◌<◌, ◌⊎◌, inl, inr, Bool, true, false, refl, sym, ◌∙◌, length}
 use Rattle.std.specs.Prelude.{Option, Some, None, if◌then◌else◌, not, ◌&&◌, ◌||◌, ◌==◌}
-use Rattle.std.proofs.lemmas.Bool.{cases_Bool}
+use Rattle.std.proofs.lemmas.Bool.{cases_Bool, lt-ltb}
 use Rattle.wild_plan.specs.declared.input.InputRelocation.{InputRelocation}
 use Rattle.wild_plan.specs.declared.input.InputSection.{InputSection}
 use Rattle.wild_plan.specs.declared.layout.Layout.{Layout}
@@ -11,7 +11,7 @@ use Rattle.wild_plan.specs.Flags.{has_flag, absolute}
 use Rattle.wild_plan.specs.Kinds.{is_position_independent, is_shared_object}
 use Rattle.wild_plan.specs.Lookups.{allocated}
 use Rattle.wild_plan.specs.Rows.{row_of}
-use Rattle.wild_plan.specs.Treatment.{is_left, is_barred, is_narrow, is_chosen, is_sized, flags_at, moves, moved_treatment, chosen_treatment, address_treatment, distance_treatment, pointer_treatment, size_treatment, named, kind_treatment, row_treatment, treatment}
+use Rattle.wild_plan.specs.Treatment.{is_left, is_barred, is_narrow, is_chosen, is_sized, flags_at, moves, moved_treatment, chosen_treatment, address_treatment, distance_treatment, pointer_treatment, size_treatment, named, where_there, kind_treatment, row_treatment, treatment}
 use Rattle.wild_reloc.specs.Field.{field_width}
 use Rattle.wild_reloc.specs.declared.info.RelocationKindInfo.{RelocationKindInfo}
 
@@ -125,3 +125,12 @@ pointer_kept l s row room h = by_tests (allocated s.flags) (is_shared_object l.k
     by_tests a false e h = refl
     by_tests true true e h = cc
     by_tests false true e h = cc
+
+-- ---- symbols that are there
+
+-- of a symbol that is there the treatment is its own
+pub there : (l : Layout) (row : RelocationKindInfo) (i : ℕ) (t : Treatment) → i < length l.symbols → where_there l row i t ≡ t
+there l row i t h = let e = lt-ltb i (length l.symbols) h in rw e refl
+
+pub peeled : (l : Layout) (row : RelocationKindInfo) (i : ℕ) (t u : Treatment) → i < length l.symbols → where_there l row i t ≡ u → t ≡ u
+peeled l row i t u h e = sym (there l row i t h) ∙ e

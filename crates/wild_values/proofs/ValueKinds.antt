@@ -12,7 +12,7 @@ use Rattle.wild_plan.specs.declared.symbol.ValueFlags.{ValueFlags}
 use Rattle.wild_plan.specs.Flags.{has_flag, interposable, dynamic, non_interposable, copy_relocation, export_dynamic}
 use Rattle.wild_plan.specs.Kinds.{is_position_independent, is_shared_object}
 use Rattle.wild_plan.specs.Lookups.{allocated}
-use Rattle.wild_plan.specs.Treatment.{flags_at, is_sized, address_treatment, size_treatment, kind_treatment}
+use Rattle.wild_plan.specs.Treatment.{flags_at, is_sized, where_there, address_treatment, size_treatment, kind_treatment}
 use Rattle.wild_reloc.specs.Agreement.{plain_value}
 use Rattle.wild_reloc.specs.declared.info.RelocationKind.{RelocationKind}
 use Rattle.wild_reloc.specs.declared.info.RelocationKind.TheVariants as kinds
@@ -30,7 +30,7 @@ use Rattle.wild_values.proofs.SlotFlags.{symbol_fits, dynamic_interposable}
 use Rattle.wild_values.proofs.Symbols.{sized, replaceable_at, flags_are}
 use Rattle.wild_values.proofs.Targets.{IsAddressed, IsOwnAddressed, Follows, addressed, linked}
 use Rattle.wild_values.proofs.Moves.{sum_is, distance_is, table_is, moved_distance}
-use Rattle.wild_values.proofs.Treated.{symbol_named, address_still, distance_still, size_kept}
+use Rattle.wild_values.proofs.Treated.{symbol_named, address_still, distance_still, size_kept, peeled}
 use Rattle.wild_values.specs.Terms.{IsPlaced, HasTerm, IsFollowed}
 
 -- A as it is added
@@ -64,8 +64,8 @@ sum_of l w m s r a t = record { symbol = moved t.still w.base a; denoted = t.den
 
 right_sum : (l : Layout) (w : World) (m : Memory) (s : InputSection) (r : InputRelocation) (x : ℕ) → (h : HasTerm l w m s r kinds.Absolute x) → (t : IsAddressed l w m r.symbol h.term) → (w.base ≡ 0) ⊎ (t.still ≡ true)
 right_sum l w m s r x h t =
-    let i = symbol_named r.symbol (address_treatment l s h.row) h.row h.treated in
-    elim (address_still l s h.row i.0 h.room i.2) [
+    let i = symbol_named r.symbol (λ k. where_there l h.row k (address_treatment l s h.row k)) h.row h.treated in
+    elim (address_still l s h.row i.0 h.room (peeled l h.row i.0 (address_treatment l s h.row i.0) (treatments.Value h.row) (h.listed i.0 i.1) i.2)) [
       | inl fixed ↦ inl (h.placed.still fixed)
       | inr flag ↦ inr (sym (t.flag i.0 i.1) ∙ flag)
     ]
@@ -168,9 +168,9 @@ own_size l w m s i symbol p listed room kept =
 
 pub gives_size : (l : Layout) (w : World) (m : Memory) (s : InputSection) (r : InputRelocation) (x : ℕ) → HasTerm l w m s r kinds.SymbolSize x → Gives (plain_value kinds.SymbolSize) l w m (item_of s) r x
 gives_size l w m s r x h =
-    let i = symbol_named r.symbol (size_treatment l s h.row) h.row h.treated in
+    let i = symbol_named r.symbol (λ k. where_there l h.row k (size_treatment l s h.row k)) h.row h.treated in
     let z = slice_get_inside l.symbols i.0 (h.listed i.0 i.1) in
-    let own = own_size l w m s i.0 z.0 h.placed z.1 h.room (size_kept l s h.row i.0 i.2) in
+    let own = own_size l w m s i.0 z.0 h.placed z.1 h.room (size_kept l s h.row i.0 (peeled l h.row i.0 (size_treatment l s h.row i.0) (treatments.Value h.row) (h.listed i.0 i.1) i.2)) in
     let given : term_of l (Some i.0) kinds.SymbolSize ≡ Ok h.term = subst (λ (o : Option ℕ). term_of l o kinds.SymbolSize ≡ Ok h.term) i.1 h.given in
     let g : symbol_size l i.0 ≡ h.term = cc in
     let size : IsExtent l w (Some i.0) h.term = inr (own, subst (λ (n : ℕ). HasOwnSize l i.0 n) g (sized l i.0 z.0 h.placed.symbols.named z.1)) in

@@ -2,7 +2,6 @@
 use Rattle.std.proofs.Common.{◌≡◌, true, false, refl}
 use Rattle.std.specs.Prelude.{All}
 use Rattle.std.proofs.lemmas.List.Elements.{All-contains}
-use Rattle.wild_plan.specs.declared.kind.Machine.TheVariants as machine
 use Rattle.wild_plan.specs.declared.input.Slot.{Slot}
 use Rattle.wild_plan.specs.declared.input.InputSection.{InputSection}
 use Rattle.wild_plan.specs.declared.file.File.{File}
@@ -12,11 +11,8 @@ use Rattle.wild_plan.specs.Lookups.{is_loaded, is_read}
 use Rattle.wild_plan.specs.ResolvedFlags.{HaveTheirFlags}
 use Rattle.wild_layout.specs.Numbers.{AddendFits, NumbersFit}
 use Rattle.wild_layout.specs.Geometry.{IsLaidOut, SectionLies, NamesSymbol, EachSection}
-use Rattle.wild_geometry.specs.Slots.{HasSlots}
-use Rattle.wild_loader.specs.declared.memory.Machine.TheVariants as machines
 use Rattle.wild_loader.specs.declared.memory.Memory.{Memory}
 use Rattle.wild_loader.specs.declared.world.World.{World}
-use Rattle.wild_meaning.specs.World.{IsLoadable, IsLegal}
 use Rattle.wild_meaning.specs.Item.{IsInput}
 use Rattle.wild_values.specs.Terms.{SymbolsFit, IsPlaced}
 use Rattle.wild_values.specs.Laws.{IsLoadedSection, SectionsHold}
@@ -30,19 +26,19 @@ use Rattle.wild_values.proofs.References.{field_holds, field_links}
 symbols_fit : (l : Layout) → HaveTheirFlags l → NumbersFit l → IsLaidOut l → SymbolsFit l
 symbols_fit l own numbers laid = record { named = laid.definitions; own = own; flags = laid.slot_flags; dynsyms = laid.dynsyms; numbers = numbers.symbols }
 
-placed : (l : Layout) (w : World) (m : Memory) → l.machine ≡ machine.X86_64 → IsLoadable l.kind → NumbersFit l → IsLegal l w → SymbolsFit l → m.machine ≡ machines.X86_64 → HasSlots l w m → IsPlaced l w m
-placed l w m x86 loadable numbers legal symbols loaded slots = record {
-  x86 = x86;
-  loadable = loadable;
-  still = λ e. legal.fixed (still_fixed l.kind loadable e);
+pub placed : (l : Layout) (w : World) (m : Memory) (s : InputSection) → IsLoadedSection l w m s → IsPlaced l w m
+placed l w m s h = record {
+  x86 = h.x86;
+  loadable = h.loadable;
+  still = λ e. h.legal.fixed (still_fixed l.kind h.loadable e);
   movable = moving_movable l.kind;
-  legal = legal;
-  got = numbers.got;
-  tls_start = numbers.tls.start;
-  tls_end = numbers.tls.end;
-  symbols = symbols;
-  loaded = loaded;
-  slots = slots;
+  legal = h.legal;
+  got = h.numbers.got;
+  tls_start = h.numbers.tls.start;
+  tls_end = h.numbers.tls.end;
+  symbols = symbols_fit l h.flags h.numbers h.laid;
+  loaded = h.loaded;
+  slots = h.slots;
 }
 
 -- ---- a kept section
@@ -61,7 +57,7 @@ section_loaded l w m s tables kinds linked h =
       tables = tables;
       kinds = kinds;
       linked = linked;
-      placed = placed l w m h.x86 h.loadable h.numbers h.legal (symbols_fit l h.flags h.numbers h.laid) h.loaded h.slots;
+      placed = placed l w m s h;
       room = alloc_bit s.flags h.kept.room;
       symbols = each_at (λ (s : InputSection). All (NamesSymbol l) s.relocations) l s h.laid.symbols h.kept.input;
       addends = each_at (λ (s : InputSection). All AddendFits s.relocations) l s h.numbers.addends h.kept.input;

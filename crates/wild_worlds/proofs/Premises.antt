@@ -1,10 +1,14 @@
 -- The premises of the headline are met: kinds, kept items, references and symbols.
-use Rattle.std.proofs.Common.{◌≡◌, ℕ, ◌+◌, ◌%◌, ◌^◌, ◌⊎◌, inl, inr, true, false, [], ◌∷◌, refl, sym, ◌∙◌, subst}
-use Rattle.std.specs.Prelude.{Some, None, Contains, ◌≢◌}
+use Rattle.std.proofs.Common.{◌≡◌, ℕ, ◌+◌, ◌%◌, ◌^◌, ◌⊎◌, inl, inr, Bool, true, false, [], ◌∷◌, refl, sym, ap, ◌∙◌, arith, subst}
+use Rattle.std.specs.Prelude.{Option, Some, None, Contains, ◌≢◌, not, ◌&&◌, ◌||◌, ◌==◌}
+use Rattle.std.specs.List.{list_all}
+use Rattle.std.proofs.lemmas.Bool.{cases_Bool, and_parts, eqb-true}
 use Rattle.wild_records.specs.Abi.Relocation.{r_x86_64_gotpcrel, r_x86_64_gotpcrelx}
+use Rattle.wild_records.specs.Abi.Section.{shf_execinstr}
 use Rattle.wild_plan.specs.declared.kind.RelocationModel.TheVariants as model
 use Rattle.wild_plan.specs.declared.kind.OutputKind.{OutputKind}
 use Rattle.wild_plan.specs.declared.kind.OutputKind.TheVariants as output
+use Rattle.wild_plan.specs.declared.kind.Machine.{Machine}
 use Rattle.wild_plan.specs.declared.kind.Machine.TheVariants as machine
 use Rattle.wild_plan.specs.declared.input.InputRelocation.{InputRelocation}
 use Rattle.wild_plan.specs.declared.layout.Layout.{Layout}
@@ -17,11 +21,13 @@ use Rattle.wild_meaning.specs.Value.{HasRaw, HasFlag, HasStub, HasOwnValue, IsRe
 use Rattle.wild_meaning.specs.Item.{Item}
 use Rattle.wild_meaning.specs.Field.{formula_of}
 use Rattle.wild_meaning.specs.Formula.{IsPlaceRelative, TakesAddress, TakesOffset}
-use Rattle.wild_meaning.specs.Template.{Operand}
+use Rattle.wild_meaning.specs.Section.{IsSet}
+use Rattle.wild_meaning.specs.Sequence.{Sort, TargetInSlot, Partner, Instruction, instructions_of}
+use Rattle.wild_meaning.specs.Template.{IsTemplate}
 use Rattle.wild_meaning.specs.Reference.{HasPlace, GoesThroughSlot, IsExcepted, IsAsked, IsLeftToLoader, IsStubbed, TakesItself, IsLinkedAlone}
 use Rattle.wild_worlds.specs.Premises.{KindsAreLoaded, SectionsAreKept, RelocationsRefer, ReferencesAreAsked, SlotsAreAsked, FewAreLinkedAlone, BlanksAreAsked, AddressesMove, ResolversAreNotAbsolute}
 use Rattle.wild_laws.proofs.Bits.{bit_alloc, thread_local_bit}
-use Rattle.wild_laws.proofs.Operands.{each_operand}
+use Rattle.wild_laws.proofs.Sequences.{passes}
 use Rattle.wild_laws.proofs.Symbols.{not_both, not_replaceable, own_value, moved_value}
 
 -- ---- kinds
@@ -84,13 +90,63 @@ references_asked law = record {
 no_place : (l : Layout) (r : InputRelocation) (f : Formula) → formula_of l.machine r.number ≡ Some f → (IsPlaceRelative f.value → ⊥) → HasPlace l r → ⊥
 no_place l r f known none h = none (subst (λ (g : Formula). IsPlaceRelative g.value) (let both : Some h.formula ≡ Some f = sym h.known ∙ known in let same : h.formula ≡ f = cc in same) h.relative)
 
+abbrev is_through : Sort → Bool
+is_through TargetInSlot = true
+is_through other = false
+
+abbrev is_alone : Option Partner → Bool
+is_alone None = true
+is_alone (Some p) = false
+
+abbrev is_slot_number : ℕ → Bool
+is_slot_number n = n == r_x86_64_gotpcrel || n == r_x86_64_gotpcrelx
+
+-- instructions that go through a slot have one field, of one of two types
+abbrev goes_alone : Instruction → Bool
+goes_alone o = not (is_through o.sort) || (is_alone o.partner && list_all is_slot_number o.numbers)
+
+all_go_alone : list_all goes_alone (instructions_of machine.X86_64) ≡ true
+all_go_alone = refl
+
+through_parts : (o : Instruction) → goes_alone o ≡ true → o.sort ≡ TargetInSlot → (is_alone o.partner ≡ true) × (list_all is_slot_number o.numbers ≡ true)
+through_parts o h e = by_sort (is_through o.sort) (is_alone o.partner) (list_all is_slot_number o.numbers) h (ap is_through e)
+  where
+    by_sort : (t a n : Bool) → (not t || (a && n)) ≡ true → t ≡ true → (a ≡ true) × (n ≡ true)
+    by_sort true a n h e = and_parts a n h
+    by_sort false a n h e = cc
+
+slot_numbers : (n : ℕ) → is_slot_number n ≡ true → Contains (r_x86_64_gotpcrel ∷ r_x86_64_gotpcrelx ∷ []) n
+slot_numbers n h =
+    elim (cases_Bool (n == r_x86_64_gotpcrel)) [
+      | inl t ↦ (0, omega arith, sym (eqb-true n r_x86_64_gotpcrel t))
+      | inr f ↦ (1, omega arith, sym (eqb-true n r_x86_64_gotpcrelx (other (n == r_x86_64_gotpcrel) (n == r_x86_64_gotpcrelx) h f)))
+    ]
+  where
+    other : (a b : Bool) → (a || b) ≡ true → a ≡ false → b ≡ true
+    other true b h f = cc
+    other false b h f = h
+
+-- such an instruction of a reference
 slot_number : (l : Layout) (item : Item) (r : InputRelocation) → l.machine ≡ machine.X86_64 → GoesThroughSlot l item r → Contains (r_x86_64_gotpcrel ∷ r_x86_64_gotpcrelx ∷ []) r.number
-slot_number l item r x h = each_operand (λ (o : Operand). Contains o.numbers r.number → o.through ≡ true → Contains (r_x86_64_gotpcrel ∷ r_x86_64_gotpcrelx ∷ []) r.number) l.machine h.operand (λ n t. cc) (λ n t. cc) (λ n t. n) (λ n t. n) x h.template.known h.template.number h.through
+slot_number l item r x h = by_template l item r h.start h.instruction h.first x h.through h.template
+  where
+    parts : (l : Layout) (o : Instruction) → l.machine ≡ machine.X86_64 → Contains (instructions_of l.machine) o → o.sort ≡ TargetInSlot → (is_alone o.partner ≡ true) × (list_all is_slot_number o.numbers ≡ true)
+    parts l o x known e = through_parts o (passes goes_alone (instructions_of machine.X86_64) o all_go_alone (subst (λ (m : Machine). Contains (instructions_of m) o) x known)) e
+
+    by_template : (l : Layout) (item : Item) (r : InputRelocation) (start : ℕ) (o : Instruction) (one : InputRelocation) → l.machine ≡ machine.X86_64 → o.sort ≡ TargetInSlot → IsTemplate l item r start o one → Contains (r_x86_64_gotpcrel ∷ r_x86_64_gotpcrelx ∷ []) r.number
+    by_template l item r start o one x e (inl t) = slot_numbers r.number (passes is_slot_number o.numbers r.number (parts l o x t.0.stands.known e).1 t.0.stands.number)
+    by_template l item r start o one x e (inr t) =
+        let alone : is_alone (Some t.sequence.partner) ≡ true = subst (λ (p : Option Partner). is_alone p ≡ true) t.sequence.calls (parts l o x t.sequence.stands.known e).0 in
+        cc
+
+template_code : (l : Layout) (item : Item) (r : InputRelocation) (start : ℕ) (o : Instruction) (one : InputRelocation) → IsTemplate l item r start o one → IsSet item.flags shf_execinstr
+template_code l item r start o one (inl t) = t.0.stands.code
+template_code l item r start o one (inr t) = t.sequence.stands.code
 
 pub slots_asked : SlotsAreAsked
 slots_asked = record {
   numbers = λ l w item r f x known none other. placeless_asked l w item r (no_place l r f known none) (λ h. other (slot_number l item r x h));
-  elsewhere = λ l w item r f known none code. placeless_asked l w item r (no_place l r f known none) (λ h. code h.template.code);
+  elsewhere = λ l w item r f known none code. placeless_asked l w item r (no_place l r f known none) (λ h. code (template_code l item r h.start h.instruction h.first h.template));
 }
 
 -- ---- references to the output's own symbols

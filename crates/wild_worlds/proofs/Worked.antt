@@ -1,19 +1,29 @@
--- The worked example's code has references with each template.
-use Rattle.std.proofs.Common.{◌≡◌, ℕ, zero, suc, ◌+◌, ◌<◌, ◌≤◌, ◌⊎◌, inl, inr, true, List, [], ◌∷◌, length, get_or, refl, sym, arith, subst}
-use Rattle.std.specs.Prelude.{Contains, slice_range, ◌≢◌}
-use Rattle.wild_records.specs.Abi.Relocation.{r_x86_64_none, r_x86_64_pc32, r_x86_64_plt32, r_x86_64_gotpcrel, r_x86_64_gotpcrelx}
+-- The worked examples' code is that of the instructions that it should be.
+use Rattle.std.proofs.Common.{◌≡◌, ℕ, zero, suc, ◌+◌, ◌<◌, ◌≤◌, ◌⊎◌, inl, inr, Bool, true, false, List, [], ◌∷◌, length, get_or, refl, sym, ap, ◌∙◌, arith, subst, eq-eqb}
+use Rattle.std.specs.Prelude.{Some, None, Contains, slice_range, slice_get, ◌≢◌, not, ◌||◌, ◌==◌, nat_le}
+use Rattle.std.specs.List.{list_all}
+use Rattle.std.proofs.lemmas.Bool.{leb-true, le-leb}
+use Rattle.std.proofs.lemmas.Option.{slice_get_past}
+use Rattle.wild_records.specs.Abi.Relocation.{r_x86_64_none, r_x86_64_pc32, r_x86_64_plt32, r_x86_64_gotpcrel, r_x86_64_gotpcrelx, r_x86_64_rex_gotpcrelx, r_x86_64_tlsgd}
 use Rattle.wild_plan.specs.declared.kind.Machine.{Machine}
 use Rattle.wild_plan.specs.declared.kind.Machine.TheVariants as machine
 use Rattle.wild_plan.specs.declared.input.InputRelocation.{InputRelocation}
 use Rattle.wild_plan.specs.declared.layout.Layout.{Layout}
-use Rattle.wild_reloc.specs.Formula.{Formula}
-use Rattle.wild_loader.specs.Effect.{stands}
-use Rattle.wild_meaning.specs.Field.{form_width, InNoField}
-use Rattle.wild_meaning.specs.Template.{Operand, call_operand, jump_operand, slot_call_operand, slot_jump_operand, operands_of, size_of, IsOwnByte, TakesWord}
-use Rattle.wild_worlds.specs.Premises.{WorkedBranchesAreAsked, IsWorked, worked_relocation, worked_item, direct_code, indirect_code}
+use Rattle.wild_plan.specs.Flags.{non_interposable}
+use Rattle.wild_reloc.specs.Formula.{Formula, formula, Plain, Signed, StubDistance, SlotDistance, ModulePair}
+use Rattle.wild_reloc.specs.FormulaX86_64.{x86_64_formula}
+use Rattle.wild_meaning.specs.Instruction.{stands, Call, Jump}
+use Rattle.wild_meaning.specs.Field.{formula_of, form_width, InNoField}
+use Rattle.wild_meaning.specs.Sequence.{Instruction, size_of, instructions_of, IsOwnByte, by_call}
+use Rattle.wild_meaning.specs.Template.{CountsFromItsEnd, IsInstruction, IsSequence}
+use Rattle.wild_laws.proofs.Sequences.{passes}
+use Rattle.wild_laws.proofs.Symbols.{not_both}
+use Rattle.wild_worlds.specs.Premises.{WorkedCodeIsAsked, IsWorked, IsPaired, AsksForThreadAddress, worked_relocation, worked_item, direct_code, indirect_code, load_code, direct_branch, indirect_branch, load, general, pair_relocation, getter_relocation, general_item}
+
+-- ---- one instruction
 
 -- the bytes before the one field are in none
-before : (l : Layout) (address : ℕ) (bytes : List ℕ) (r : InputRelocation) (k : ℕ) → k < r.offset → InNoField l (worked_item address bytes r) k
+before : (l : Layout) (address : ℕ) (bytes : List ℕ) (r : InputRelocation) (k : ℕ) → k < r.offset → InNoField l (worked_item address bytes (r ∷ [])) k
 before l address bytes r k low = λ i d lt f known. at r i k d f lt low
   where
     at : (r : InputRelocation) (i k : ℕ) (d : InputRelocation) (f : Formula) → i < 1 → k < r.offset → (k < (get_or (r ∷ []) i d).offset) ⊎ ((get_or (r ∷ []) i d).offset + form_width f.form ≤ k)
@@ -21,37 +31,152 @@ before l address bytes r k low = λ i d lt f known. at r i k d f lt low
     at r (suc i) k d f lt low = absurd (omega (arith, lt))
 
 -- nothing stands behind the field
-own_before : (k field size : ℕ) → size ≡ field + 4 → (k < size) × ((k < field) ⊎ (field + 4 ≤ k)) → k < field
-own_before k field size e h = by_side k field size e h.0 h.1
-  where
-    by_side : (k field size : ℕ) → size ≡ field + 4 → k < size → (k < field) ⊎ (field + 4 ≤ k) → k < field
-    by_side k field size e lt (inl a) = a
-    by_side k field size e lt (inr b) = absurd (omega (arith, e, lt, b))
+own_before : (k field size : ℕ) → size ≡ field + 4 → k < size → (k < field) ⊎ (field + 4 ≤ k) → k < field
+own_before k field size e lt (inl a) = a
+own_before k field size e lt (inr b) = absurd (omega (arith, e, lt, b))
 
--- code of an operand at its beginning
-worked : (l : Layout) (address : ℕ) (bytes : List ℕ) (r : InputRelocation) (o : Operand) → l.machine ≡ machine.X86_64 → r.number ≢ r_x86_64_none → Contains (operands_of machine.X86_64) o → Contains o.numbers r.number → r.offset ≡ 0 + o.field → 0 + size_of o ≤ length bytes → stands o.template.cells (slice_range bytes 0 (0 + size_of o)) ≡ true → TakesWord o r
-    → ((k : ℕ) → IsOwnByte o k → k < r.offset) → IsWorked l address bytes r o
-worked l address bytes r o x refers known number field inside stood word own = (
+-- an instruction that the relocation fills, with its field no farther from its beginning, has at most n bytes
+abbrev is_within : ℕ → ℕ → ℕ → Instruction → Bool
+is_within number offset n o = list_all (λ m. not (m == number)) o.numbers || (not (nat_le o.field offset) || nat_le (size_of o) n)
+
+within : (number offset n from : ℕ) (o : Instruction) → list_all (is_within number offset n) (instructions_of machine.X86_64) ≡ true → Contains (instructions_of machine.X86_64) o → Contains o.numbers number → offset ≡ from + o.field → size_of o ≤ n
+within number offset n from o all known filled e =
+    let near : nat_le o.field offset ≡ true = le-leb o.field offset (omega (arith, e)) in
+    leb-true (size_of o) n (third (list_all (λ (m : ℕ). not (m == number)) o.numbers) (nat_le o.field offset) (nat_le (size_of o) n) (passes (is_within number offset n) (instructions_of machine.X86_64) o all known) (λ none. not_itself number (passes (λ (m : ℕ). not (m == number)) o.numbers number none filled)) near)
+  where
+    third : (a b c : Bool) → (a || (not b || c)) ≡ true → (a ≡ true → ⊥) → b ≡ true → c ≡ true
+    third true b c h never e = absurd (never refl)
+    third false true c h never e = h
+    third false false c h never e = cc
+
+    not_itself : (m : ℕ) → not (m == m) ≡ true → ⊥
+    not_itself m h = let same : (m == m) ≡ true = eq-eqb m m refl in cc (rw same at h)
+
+-- code of an instruction at its beginning
+at_start : (l : Layout) (address : ℕ) (bytes : List ℕ) (r : InputRelocation) (o : Instruction) → l.machine ≡ machine.X86_64 → Contains (instructions_of machine.X86_64) o → Contains o.numbers r.number → r.offset ≡ 0 + o.field → 0 + size_of o ≤ length bytes → stands o.template.cells (slice_range bytes 0 (0 + size_of o)) ≡ true → CountsFromItsEnd o.sort r
+    → ((k : ℕ) → IsOwnByte o k → k < r.offset) → IsInstruction l (worked_item address bytes (r ∷ [])) r 0 o
+at_start l address bytes r o x known number field inside standing counts own = record {
+  code = refl;
+  known = subst (λ (m : Machine). Contains (instructions_of m) o) (sym x) known;
+  number = number;
+  field = field;
+  inside = inside;
+  stands = standing;
+  counts = counts;
+  alone = λ k h. subst (λ (j : ℕ). InNoField l (worked_item address bytes (r ∷ [])) j) (let e : k ≡ 0 + k = omega arith in e) (before l address bytes r k (own k h));
+}
+
+-- one relocation is no sequence's
+no_next : (l : Layout) (address : ℕ) (bytes : List ℕ) (a r : InputRelocation) (from : ℕ) (p : Instruction) → IsSequence l (worked_item address bytes (r ∷ [])) a r from p → ⊥
+no_next l address bytes a r from p q = at r q.has.index q.has.next
+  where
+    at : (r : InputRelocation) (i : ℕ) → slice_get (r ∷ []) (i + 1) ≡ Some r → ⊥
+    at r i h = let none = slice_get_past (r ∷ []) (i + 1) (omega arith) in let both : None ≡ Some r = sym none ∙ h in cc
+
+worked : (l : Layout) (address : ℕ) (bytes : List ℕ) (r : InputRelocation) (o : Instruction) → l.machine ≡ machine.X86_64 → r.number ≢ r_x86_64_none → o.partner ≡ None → list_all (is_within r.number r.offset (size_of o)) (instructions_of machine.X86_64) ≡ true → IsInstruction l (worked_item address bytes (r ∷ [])) r 0 o → IsWorked l address bytes r o
+worked l address bytes r o x refers single all t = (
   record { listed = (0, omega arith, refl); refers = refers },
-  record {
-    code = refl;
-    known = subst (λ (m : Machine). Contains (operands_of m) o) (sym x) known;
-    number = number;
-    field = field;
-    inside = inside;
-    stands = stood;
-    word = word;
-    alone = λ k h. subst (λ (j : ℕ). InNoField l (worked_item address bytes r) j) (let e : k ≡ 0 + k = omega arith in e) (before l address bytes r k (own k h));
-  },
+  inl (
+    record {
+      single = single;
+      stands = t;
+      longest = λ from p none s. within r.number r.offset (size_of o) from p all (subst (λ (m : Machine). Contains (instructions_of m) p) x s.known) s.number s.field;
+      free = λ a from p q. no_next l address bytes a r from p q;
+    },
+    refl,
+  ),
 )
 
 not_none : (n : ℕ) → 0 < n → n ≢ r_x86_64_none
 not_none n h = λ e. absurd (let z : n ≡ 0 = e in omega (arith, h, z))
 
-pub worked_asked : WorkedBranchesAreAsked
-worked_asked = record {
-  call = λ l address x. worked l address (direct_code 0xe8) (worked_relocation 1 r_x86_64_pc32) call_operand x (not_none r_x86_64_pc32 (omega arith)) (0, omega arith, refl) (0, omega arith, refl) refl (omega arith) refl (λ e. cc) (λ k h. own_before k 1 5 refl h);
-  jump = λ l address x. worked l address (direct_code 0xe9) (worked_relocation 1 r_x86_64_plt32) jump_operand x (not_none r_x86_64_plt32 (omega arith)) (1, omega arith, refl) (1, omega arith, refl) refl (omega arith) refl (λ e. cc) (λ k h. own_before k 1 5 refl h);
-  slot_call = λ l address x. worked l address (indirect_code 0x15) (worked_relocation 2 r_x86_64_gotpcrelx) slot_call_operand x (not_none r_x86_64_gotpcrelx (omega arith)) (2, omega arith, refl) (1, omega arith, refl) refl (omega arith) refl (λ e. refl) (λ k h. own_before k 2 6 refl h);
-  slot_jump = λ l address x. worked l address (indirect_code 0x25) (worked_relocation 2 r_x86_64_gotpcrel) slot_jump_operand x (not_none r_x86_64_gotpcrel (omega arith)) (3, omega arith, refl) (0, omega arith, refl) refl (omega arith) refl (λ e. refl) (λ k h. own_before k 2 6 refl h);
+worked_call : (l : Layout) (address : ℕ) → l.machine ≡ machine.X86_64 → IsWorked l address (direct_code 0xe8) (worked_relocation 1 r_x86_64_pc32 0) (direct_branch 0xe8 Call)
+worked_call l address x =
+    worked l address (direct_code 0xe8) (worked_relocation 1 r_x86_64_pc32 0) (direct_branch 0xe8 Call) x (not_none r_x86_64_pc32 (omega arith)) refl refl
+    (at_start l address (direct_code 0xe8) (worked_relocation 1 r_x86_64_pc32 0) (direct_branch 0xe8 Call) x (0, omega arith, refl) (0, omega arith, refl) refl (omega arith) refl tt (λ k h. own_before k 1 5 refl h.inside h.beside))
+
+worked_jump : (l : Layout) (address : ℕ) → l.machine ≡ machine.X86_64 → IsWorked l address (direct_code 0xe9) (worked_relocation 1 r_x86_64_plt32 0) (direct_branch 0xe9 Jump)
+worked_jump l address x =
+    worked l address (direct_code 0xe9) (worked_relocation 1 r_x86_64_plt32 0) (direct_branch 0xe9 Jump) x (not_none r_x86_64_plt32 (omega arith)) refl refl
+    (at_start l address (direct_code 0xe9) (worked_relocation 1 r_x86_64_plt32 0) (direct_branch 0xe9 Jump) x (1, omega arith, refl) (1, omega arith, refl) refl (omega arith) refl tt (λ k h. own_before k 1 5 refl h.inside h.beside))
+
+worked_slot_call : (l : Layout) (address : ℕ) → l.machine ≡ machine.X86_64 → IsWorked l address (indirect_code 0x15) (worked_relocation 2 r_x86_64_gotpcrelx 0) (indirect_branch 0x15 Call)
+worked_slot_call l address x =
+    worked l address (indirect_code 0x15) (worked_relocation 2 r_x86_64_gotpcrelx 0) (indirect_branch 0x15 Call) x (not_none r_x86_64_gotpcrelx (omega arith)) refl refl
+    (at_start l address (indirect_code 0x15) (worked_relocation 2 r_x86_64_gotpcrelx 0) (indirect_branch 0x15 Call) x (2, omega arith, refl) (1, omega arith, refl) refl (omega arith) refl refl (λ k h. own_before k 2 6 refl h.inside h.beside))
+
+worked_slot_jump : (l : Layout) (address : ℕ) → l.machine ≡ machine.X86_64 → IsWorked l address (indirect_code 0x25) (worked_relocation 2 r_x86_64_gotpcrel 0) (indirect_branch 0x25 Jump)
+worked_slot_jump l address x =
+    worked l address (indirect_code 0x25) (worked_relocation 2 r_x86_64_gotpcrel 0) (indirect_branch 0x25 Jump) x (not_none r_x86_64_gotpcrel (omega arith)) refl refl
+    (at_start l address (indirect_code 0x25) (worked_relocation 2 r_x86_64_gotpcrel 0) (indirect_branch 0x25 Jump) x (3, omega arith, refl) (0, omega arith, refl) refl (omega arith) refl refl (λ k h. own_before k 2 6 refl h.inside h.beside))
+
+worked_load : (l : Layout) (address : ℕ) → l.machine ≡ machine.X86_64 → IsWorked l address load_code (worked_relocation 3 r_x86_64_rex_gotpcrelx 0) load
+worked_load l address x =
+    worked l address load_code (worked_relocation 3 r_x86_64_rex_gotpcrelx 0) load x (not_none r_x86_64_rex_gotpcrelx (omega arith)) refl refl
+    (at_start l address load_code (worked_relocation 3 r_x86_64_rex_gotpcrelx 0) load x (8, omega arith, refl) (0, omega arith, refl) refl (omega arith) refl refl (λ k h. own_before k 3 7 refl h.inside h.beside))
+
+-- ---- a sequence
+
+-- both fields have four bytes
+tlsgd_formula : x86_64_formula r_x86_64_tlsgd ≡ Some (formula (SlotDistance ModulePair) (Plain 32 Signed))
+unfolding x86_64_formula
+tlsgd_formula = refl
+
+plt32_formula : x86_64_formula r_x86_64_plt32 ≡ Some (formula StubDistance (Plain 32 Signed))
+unfolding x86_64_formula
+plt32_formula = refl
+
+width : (m : Machine) (n : ℕ) (f g : Formula) → m ≡ machine.X86_64 → x86_64_formula n ≡ Some g → formula_of m n ≡ Some f → form_width f.form ≡ form_width g.form
+width m n f g x is h =
+    let known : x86_64_formula n ≡ Some f = subst (λ (k : Machine). formula_of k n ≡ Some f) x h in
+    let both : Some g ≡ Some f = sym is ∙ known in
+    let same : g ≡ f = cc in
+    ap (λ (e : Formula). form_width e.form) (sym same)
+
+-- a byte beside both fields is in none
+beside_both : (l : Layout) (address k : ℕ) → l.machine ≡ machine.X86_64 → (k < 4) ⊎ (8 ≤ k) → (k < 12) ⊎ (16 ≤ k) → InNoField l (general_item address) k
+beside_both l address k x a b = λ i d lt f known. at l i k d f x lt known a b
+  where
+    past : (k offset width : ℕ) → width ≡ 4 → (k < offset) ⊎ (offset + 4 ≤ k) → (k < offset) ⊎ (offset + width ≤ k)
+    past k offset width e (inl h) = inl h
+    past k offset width e (inr h) = inr (omega (arith, e, h))
+
+    at : (l : Layout) (i k : ℕ) (d : InputRelocation) (f : Formula) → l.machine ≡ machine.X86_64 → i < 2 → formula_of l.machine (get_or (pair_relocation ∷ getter_relocation ∷ []) i d).number ≡ Some f → (k < 4) ⊎ (8 ≤ k) → (k < 12) ⊎ (16 ≤ k)
+        → (k < (get_or (pair_relocation ∷ getter_relocation ∷ []) i d).offset) ⊎ ((get_or (pair_relocation ∷ getter_relocation ∷ []) i d).offset + form_width f.form ≤ k)
+    at l zero k d f x lt known a b = past k 4 (form_width f.form) (width l.machine r_x86_64_tlsgd f _ x tlsgd_formula known) a
+    at l (suc zero) k d f x lt known a b = past k 12 (form_width f.form) (width l.machine r_x86_64_plt32 f _ x plt32_formula known) b
+    at l (suc (suc i)) k d f x lt known a b = absurd (omega (arith, lt))
+
+general_stands : (l : Layout) (address : ℕ) → l.machine ≡ machine.X86_64 → IsInstruction l (general_item address) pair_relocation 0 general
+general_stands l address x = record {
+  code = refl;
+  known = subst (λ (m : Machine). Contains (instructions_of m) general) (sym x) (25, omega arith, refl);
+  number = (0, omega arith, refl);
+  field = refl;
+  inside = omega arith;
+  stands = refl;
+  counts = refl;
+  alone = λ k h. subst (λ (j : ℕ). InNoField l (general_item address) j) (let e : k ≡ 0 + k = omega arith in e) (beside_both l address k x h.beside h.apart);
 }
+
+general_sequence : (l : Layout) (address : ℕ) → AsksForThreadAddress l → IsSequence l (general_item address) pair_relocation getter_relocation 0 general
+general_sequence l address h = record {
+  executable = h.executable;
+  stands = general_stands l address h.x86;
+  partner = by_call 12;
+  calls = refl;
+  has = record { index = 0; listed = refl; next = refl; field = refl; number = (1, omega arith, refl); getter = h.getter };
+  symbol = 0;
+  named = refl;
+  plain = h.plain;
+  rewritten = λ e other. absurd (not_both l 0 non_interposable h.own other);
+}
+
+paired : (l : Layout) (address : ℕ) → AsksForThreadAddress l → IsPaired l address pair_relocation
+paired l address h = (record { listed = (0, omega arith, refl); refers = not_none r_x86_64_tlsgd (omega arith) }, inr (record { second = getter_relocation; sequence = general_sequence l address h; one = inl refl }))
+
+getter : (l : Layout) (address : ℕ) → AsksForThreadAddress l → IsPaired l address getter_relocation
+getter l address h = (record { listed = (1, omega arith, refl); refers = not_none r_x86_64_plt32 (omega arith) }, inr (record { second = getter_relocation; sequence = general_sequence l address h; one = inr refl }))
+
+pub worked_asked : WorkedCodeIsAsked
+worked_asked = record { call = worked_call; jump = worked_jump; slot_call = worked_slot_call; slot_jump = worked_slot_jump; loads = worked_load; pairs = paired; getters = getter }

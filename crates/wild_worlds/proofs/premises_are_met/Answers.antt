@@ -23,5 +23,5 @@ returns c = record {
   resolvers = resolvers_answer;
   answers = worlds_answer;
   offsets = offsets_count c.thread_places_are_known.ensures;
-  branches = worked_asked;
+  code = worked_asked;
 }

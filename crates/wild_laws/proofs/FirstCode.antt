@@ -1,0 +1,262 @@
+-- The call or the jump that a reference of a first type fills, in the input and in memory.
+use Rattle.std.proofs.Common.{◌≡◌, ℕ, zero, suc, ◌+◌, ◌-◌, ◌%◌, ◌^◌, ◌<◌, ◌≤◌, ◌⊎◌, inl, inr, Bool, true, false, List, [], ◌∷◌, ◌++◌, length, get_or, slice_range, refl, sym, ap, ◌∙◌, arith, subst, eq-eqb}
+use Rattle.std.specs.Prelude.{Option, Some, None, Contains, All, slice_index, option_map, option_and_then, not, ◌||◌, ◌==◌, nat_le}
+use Rattle.std.specs.List.{list_all}
+use Rattle.std.proofs.lemmas.Bool.{cases_Bool, and_parts, eqb-true}
+use Rattle.std.proofs.lemmas.List.{length-take, length-drop, get_or-take, get_or-drop}
+use Rattle.wild_records.specs.Abi.Relocation.{r_x86_64_pc32, r_x86_64_plt32}
+use Rattle.wild_plan.specs.declared.kind.Machine.{Machine}
+use Rattle.wild_plan.specs.declared.kind.Machine.TheVariants as machine
+use Rattle.wild_plan.specs.declared.input.InputRelocation.{InputRelocation}
+use Rattle.wild_plan.specs.declared.input.InputSection.{InputSection}
+use Rattle.wild_plan.specs.declared.layout.Layout.{Layout}
+use Rattle.wild_reloc.specs.Formula.{Formula}
+use Rattle.wild_meaning.specs.Instruction.{Cell, Is, Deed, Call, Jump, Template, Action, Reader, Effect, exact, field, stands, fills, meaning, effect, with_value, as_value}
+use Rattle.wild_meaning.specs.InstructionX86_64.{nop_byte, templates_x86_64, meaning_x86_64, effect_x86_64}
+use Rattle.wild_meaning.specs.Sequence.{Instruction, Partner, size_of, IsOwnByte, instructions_of}
+use Rattle.wild_meaning.specs.Item.{item_of, IsReference}
+use Rattle.wild_meaning.specs.Field.{formula_of, form_width, InNoField}
+use Rattle.wild_meaning.specs.Template.{IsInstruction, IsSequence, IsTemplate}
+use Rattle.wild_laws.specs.FirstPath.{HasFirstTypes, InNoField as NoField, IsBranch}
+use Rattle.wild_laws.proofs.Bits.{bit_executable, executable_bit}
+use Rattle.wild_laws.proofs.Sequences.{listed_at, is_first, first, direct, by_instruction}
+
+-- ---- bytes
+
+-- a byte of a range of bytes
+range_byte : (bs : List ℕ) (a n k : ℕ) → k < n → get_or (slice_range bs a (a + n)) k 0 ≡ slice_index bs (a + k)
+range_byte bs a n k h =
+    let e : a + n - a ≡ n = omega arith in
+    rw e (get_or-take n _ k 0 h ∙ get_or-drop a bs k 0)
+
+length-range : (bs : List ℕ) (k n : ℕ) → k + n ≤ length bs → length (slice_range bs k (k + n)) ≡ n
+length-range bs k n h =
+    let e : k + n - k ≡ n = omega arith in
+    rw e (simp (length-take, length-drop) (omega arith))
+
+pub first_byte : (bs : List ℕ) (k : ℕ) → get_or (slice_range bs k (k + 5)) 0 0 ≡ slice_index bs k
+first_byte bs k = let z : k + 0 ≡ k = omega arith in range_byte bs k 5 0 (omega arith) ∙ ap (λ (j : ℕ). slice_index bs j) z
+
+-- five bytes
+pub five : (P : List ℕ → Type 0) → ((b c d e f : ℕ) → P (b ∷ c ∷ d ∷ e ∷ f ∷ [])) → (bs : List ℕ) → length bs ≡ 5 → P bs
+five P h [] n = absurd (omega (arith, n))
+five P h (b ∷ []) n = absurd (omega (arith, n))
+five P h (b ∷ c ∷ []) n = absurd (omega (arith, n))
+five P h (b ∷ c ∷ d ∷ []) n = absurd (omega (arith, n))
+five P h (b ∷ c ∷ d ∷ e ∷ []) n = absurd (omega (arith, n))
+five P h (b ∷ c ∷ d ∷ e ∷ f ∷ []) n = h b c d e f
+five P h (b ∷ c ∷ d ∷ e ∷ f ∷ g ∷ bs) n = absurd (omega (arith, n))
+
+-- ---- fields
+
+pub in_no_field : (l : Layout) (s : InputSection) (k : ℕ) → l.machine ≡ machine.X86_64 → NoField s k → InNoField l (item_of s) k
+in_no_field l s k x out = subst (λ (mach : Machine). All (λ (r : InputRelocation). (f : Formula) → formula_of mach r.number ≡ Some f → (k < r.offset) ⊎ (r.offset + form_width f.form ≤ k)) s.relocations) (sym x) out
+
+no_field : (l : Layout) (s : InputSection) (k : ℕ) → l.machine ≡ machine.X86_64 → InNoField l (item_of s) k → NoField s k
+no_field l s k x out = subst (λ (mach : Machine). All (λ (r : InputRelocation). (f : Formula) → formula_of mach r.number ≡ Some f → (k < r.offset) ⊎ (r.offset + form_width f.form ≤ k)) s.relocations) x out
+
+-- ---- the template of a reference
+
+abbrev pub IsCallOrJump : Instruction → Type 0
+IsCallOrJump o = (o ≡ direct 0xe8 Call) ⊎ (o ≡ direct 0xe9 Jump)
+
+-- the instruction of a relocation of a first type is one of the two
+which_of : (l : Layout) (s : InputSection) (r : InputRelocation) (start : ℕ) (o : Instruction) → l.machine ≡ machine.X86_64 → HasFirstTypes s → Contains s.relocations r → IsInstruction l (item_of s) r start o → IsCallOrJump o
+which_of l s r start o x types listed t = by_instruction IsCallOrJump o r.number (inl refl) (inr refl) (subst (λ (m : Machine). Contains (instructions_of m) o) x t.known) t.number (first r.number (types.each r listed))
+
+no_partner : (o : Instruction) (p : Partner) → IsCallOrJump o → o.partner ≡ Some p → ⊥
+no_partner o p (inl e) h = let none : None ≡ Some p = subst (λ (q : Instruction). q.partner ≡ Some p) e h in cc
+no_partner o p (inr e) h = let none : None ≡ Some p = subst (λ (q : Instruction). q.partner ≡ Some p) e h in cc
+
+no_sequence : (l : Layout) (s : InputSection) (a b : InputRelocation) (start : ℕ) (o : Instruction) → l.machine ≡ machine.X86_64 → HasFirstTypes s → IsSequence l (item_of s) a b start o → ⊥
+no_sequence l s a b start o x types q = no_partner o q.partner (which_of l s a start o x types (listed_at s.relocations q.has.index a q.has.listed) q.stands) q.calls
+
+pub record IsDirect (l : Layout) (s : InputSection) (r : InputRelocation) (start : ℕ) (o : Instruction) (one : InputRelocation) : Type 0 where
+  pub same : one ≡ r
+  pub stands : IsInstruction l (item_of s) r start o
+  pub which : IsCallOrJump o
+
+pub template_direct : (l : Layout) (s : InputSection) (r : InputRelocation) (start : ℕ) (o : Instruction) (one : InputRelocation) → l.machine ≡ machine.X86_64 → HasFirstTypes s → IsReference (item_of s) r → IsTemplate l (item_of s) r start o one → IsDirect l s r start o one
+template_direct l s r start o one x types ref (inl t) = record { same = t.1; stands = t.0.stands; which = which_of l s r start o x types ref.listed t.0.stands }
+template_direct l s r start o one x types ref (inr t) = absurd (no_sequence l s one t.second start o x types t.sequence)
+
+-- ---- the input's bytes
+
+number_is : (n : ℕ) → Contains (r_x86_64_pc32 ∷ r_x86_64_plt32 ∷ []) n → is_first n ≡ true → n ≡ r_x86_64_pc32
+number_is n c f = at n c.0 c.1 c.2 f
+  where
+    at : (n k : ℕ) → k < length (r_x86_64_pc32 ∷ r_x86_64_plt32 ∷ []) → get_or (r_x86_64_pc32 ∷ r_x86_64_plt32 ∷ []) k n ≡ n → is_first n ≡ true → n ≡ r_x86_64_pc32
+    at n zero l e f = sym e
+    at n (suc zero) l e f = let g : is_first r_x86_64_plt32 ≡ true = subst (λ (m : ℕ). is_first m ≡ true) (sym e) f in cc
+    at n (suc (suc k)) l e f = absurd (omega (arith, l))
+
+starts : (opcode : ℕ) (cs : List Cell) (bs : List ℕ) → stands (Is opcode ∷ cs) bs ≡ true → get_or bs 0 0 ≡ opcode
+starts opcode cs [] h = cc
+starts opcode cs (b ∷ bs) h = eqb-true b opcode (and_parts (b == opcode) (stands cs bs) h).0
+
+-- such an instruction's bytes are those of a call or a jump
+pub is_branch : (l : Layout) (s : InputSection) (r : InputRelocation) (start opcode : ℕ) (deed : Deed) → l.machine ≡ machine.X86_64 → HasFirstTypes s → IsReference (item_of s) r → IsInstruction l (item_of s) r start (direct opcode deed) → IsBranch s r start opcode
+is_branch l s r start opcode deed x types ref t =
+    let behind = t.field in
+    let inside = t.inside in
+    let z : start + 0 ≡ start = omega arith in
+    record {
+      code = executable_bit s.flags t.code;
+      behind = behind;
+      begins = sym (first_byte s.bytes start) ∙ starts opcode field (slice_range s.bytes start (start + 5)) t.stands;
+      number = number_is r.number t.number (first r.number (types.each r ref.listed));
+      inside = omega (arith, behind, inside);
+      free = subst (λ (k : ℕ). NoField s k) z (no_field l s (start + 0) x (t.alone 0 (record { inside = omega arith; beside = inl (omega arith); apart = tt })));
+    }
+
+-- and a call or a jump is one
+
+four : (bs : List ℕ) → length bs ≡ 4 → stands field bs ≡ true
+four [] n = absurd (omega (arith, n))
+four (a ∷ []) n = absurd (omega (arith, n))
+four (a ∷ b ∷ []) n = absurd (omega (arith, n))
+four (a ∷ b ∷ c ∷ []) n = absurd (omega (arith, n))
+four (a ∷ b ∷ c ∷ d ∷ rest) n = refl
+
+stands_from : (opcode : ℕ) (bs : List ℕ) → length bs ≡ 5 → get_or bs 0 0 ≡ opcode → stands (exact (opcode ∷ []) ++ field) bs ≡ true
+stands_from opcode [] n e = absurd (omega (arith, n))
+stands_from opcode (a ∷ bs) n e = let t : (a == opcode) ≡ true = eq-eqb a opcode e in rw t (four bs (omega (arith, n)))
+
+only_first : (opcode k : ℕ) (deed : Deed) → IsOwnByte (direct opcode deed) k → k ≡ 0
+only_first opcode k deed own = by_side k own.beside own.inside
+  where
+    by_side : (k : ℕ) → (k < 1) ⊎ (5 ≤ k) → k < 5 → k ≡ 0
+    by_side k (inl a) b = omega (arith, a)
+    by_side k (inr a) b = absurd (omega (arith, a, b))
+
+pub old_length : (s : InputSection) (r : InputRelocation) (k opcode : ℕ) → IsBranch s r k opcode → length (slice_range s.bytes k (k + 5)) ≡ 5
+old_length s r k opcode branch = let behind = branch.behind in let inside = branch.inside in length-range s.bytes k 5 (omega (arith, behind, inside))
+
+branch_instruction : (l : Layout) (s : InputSection) (r : InputRelocation) (k opcode : ℕ) (deed : Deed) → Contains (instructions_of machine.X86_64) (direct opcode deed) → l.machine ≡ machine.X86_64 → IsBranch s r k opcode → IsInstruction l (item_of s) r k (direct opcode deed)
+branch_instruction l s r k opcode deed known x branch =
+    let behind = branch.behind in
+    let ends = branch.inside in
+    record {
+      code = bit_executable s.flags branch.code;
+      known = subst (λ (m : Machine). Contains (instructions_of m) (direct opcode deed)) (sym x) known;
+      number = (0, omega arith, sym branch.number);
+      field = behind;
+      inside = omega (arith, behind, ends);
+      stands = stands_from opcode (slice_range s.bytes k (k + 5)) (old_length s r k opcode branch) (first_byte s.bytes k ∙ branch.begins);
+      counts = tt;
+      alone = λ j own. subst (λ (n : ℕ). InNoField l (item_of s) n) (let z = only_first opcode j deed own in let e : k ≡ k + j = omega (arith, z) in e) (in_no_field l s k x branch.free);
+    }
+
+short : (o : Instruction) → IsCallOrJump o → size_of o ≤ 5
+short o (inl e) = subst (λ (p : Instruction). size_of p ≤ 5) (sym e) (omega arith)
+short o (inr e) = subst (λ (p : Instruction). size_of p ≤ 5) (sym e) (omega arith)
+
+pub branch_template : (l : Layout) (s : InputSection) (r : InputRelocation) (k opcode : ℕ) (deed : Deed) → Contains (instructions_of machine.X86_64) (direct opcode deed) → l.machine ≡ machine.X86_64 → HasFirstTypes s → IsReference (item_of s) r → IsBranch s r k opcode → IsTemplate l (item_of s) r k (direct opcode deed) r
+branch_template l s r k opcode deed known x types ref branch = inl (
+  record {
+    single = refl;
+    stands = branch_instruction l s r k opcode deed known x branch;
+    longest = λ from p none t. short p (which_of l s r from p x types ref.listed t);
+    free = λ a from p q. no_sequence l s a r from p x types q;
+  },
+  refl,
+)
+
+-- ---- code that has the effect
+
+-- an opcode that does that, whatever its operand reads as
+abbrev pub DoesDeed : ℕ → Deed → Type 0
+DoesDeed opcode deed = (a v : ℕ) (bs : List ℕ) → length bs ≡ 5 → get_or bs 0 0 ≡ opcode → effect_x86_64 (as_value v) a bs ≡ Some (record { deed = deed; width = 64; value = v % 2 ^ 64 })
+
+call_bytes : (a v c d e f : ℕ) → effect_x86_64 (as_value v) a (0xe8 ∷ c ∷ d ∷ e ∷ f ∷ []) ≡ Some (record { deed = Call; width = 64; value = v % 2 ^ 64 })
+unfolding meaning_x86_64
+call_bytes a v c d e f = refl
+
+jump_bytes : (a v c d e f : ℕ) → effect_x86_64 (as_value v) a (0xe9 ∷ c ∷ d ∷ e ∷ f ∷ []) ≡ Some (record { deed = Jump; width = 64; value = v % 2 ^ 64 })
+unfolding meaning_x86_64
+jump_bytes a v c d e f = refl
+
+pub call_does : DoesDeed 0xe8 Call
+call_does = λ a v bs n h. five
+    (λ (xs : List ℕ). get_or xs 0 0 ≡ 0xe8 → effect_x86_64 (as_value v) a xs ≡ Some (record { deed = Call; width = 64; value = v % 2 ^ 64 }))
+    (λ b c d e f is. subst (λ (k : ℕ). effect_x86_64 (as_value v) a (k ∷ c ∷ d ∷ e ∷ f ∷ []) ≡ Some (record { deed = Call; width = 64; value = v % 2 ^ 64 })) (sym is) (call_bytes a v c d e f))
+    bs n h
+
+pub jump_does : DoesDeed 0xe9 Jump
+jump_does = λ a v bs n h. five
+    (λ (xs : List ℕ). get_or xs 0 0 ≡ 0xe9 → effect_x86_64 (as_value v) a xs ≡ Some (record { deed = Jump; width = 64; value = v % 2 ^ 64 }))
+    (λ b c d e f is. subst (λ (k : ℕ). effect_x86_64 (as_value v) a (k ∷ c ∷ d ∷ e ∷ f ∷ []) ≡ Some (record { deed = Jump; width = 64; value = v % 2 ^ 64 })) (sym is) (jump_bytes a v c d e f))
+    bs n h
+
+-- five bytes that do that begin with that opcode
+abbrev pub HasOpcode : ℕ → Deed → Type 0
+HasOpcode opcode deed = (read : Reader) (a : ℕ) (bs : List ℕ) (e : Effect) → length bs ≡ 5 → effect_x86_64 read a bs ≡ Some e → e.deed ≡ deed → get_or bs 0 0 ≡ opcode
+
+abbrev starts_with : ℕ → List Cell → Bool
+starts_with opcode (Is b ∷ cs) = b == opcode
+starts_with opcode other = false
+
+begins : (opcode : ℕ) (cs : List Cell) (bs : List ℕ) → starts_with opcode cs ≡ true → stands cs bs ≡ true → get_or bs 0 0 ≡ opcode
+begins opcode (Is b ∷ cs) bs h s = starts b cs bs s ∙ eqb-true b opcode h
+begins opcode other bs h s = cc
+
+-- a template of at most five bytes that does that begins with that opcode
+abbrev fits_deed : (Deed → Bool) → ℕ → ℕ → List ℕ → Template → Bool
+fits_deed is opcode a bs t = not (nat_le (length t.cells) 5) || (not (is (t.action a bs).deed) || starts_with opcode t.cells)
+
+third : (a b c : Bool) → (not a || (not b || c)) ≡ true → a ≡ true → b ≡ true → c ≡ true
+third true true c h x y = h
+third true false c h x y = cc
+third false b c h x y = cc
+
+here : (is : Deed → Bool) (opcode a : ℕ) (bs : List ℕ) (t : Template) (act : Action) → length bs ≡ 5 → fits_deed is opcode a bs t ≡ true → fills nop_byte t bs ≡ true → Some (t.action a bs) ≡ Some act → is act.deed ≡ true → get_or bs 0 0 ≡ opcode
+here is opcode a bs t act n fit full same does =
+    let one : t.action a bs ≡ act = cc in
+    let parts = and_parts _ _ full in
+    let stood = and_parts _ _ parts.1 in
+    let size : nat_le (length t.cells) 5 ≡ true = subst (λ (k : ℕ). nat_le (length t.cells) k ≡ true) n parts.0 in
+    let deed : is (t.action a bs).deed ≡ true = subst (λ (x : Action). is x.deed ≡ true) (sym one) does in
+    begins opcode t.cells bs (third _ _ _ fit size deed) stood.0
+
+opcode_of : (is : Deed → Bool) (opcode a : ℕ) (bs : List ℕ) (ts : List Template) (act : Action) → length bs ≡ 5 → list_all (fits_deed is opcode a bs) ts ≡ true → meaning nop_byte ts a bs ≡ Some act → is act.deed ≡ true → get_or bs 0 0 ≡ opcode
+opcode_of is opcode a bs [] act n fit h does = cc
+opcode_of is opcode a bs (t ∷ ts) act n fit h does =
+    let both = and_parts (fits_deed is opcode a bs t) (list_all (fits_deed is opcode a bs) ts) fit in
+    elim (cases_Bool (fills nop_byte t bs)) [
+      | inl y ↦ here is opcode a bs t act n both.0 y (rw y at h) does
+      | inr f ↦ opcode_of is opcode a bs ts act n both.1 (rw f at h) does
+    ]
+
+-- what an effect does is what its action does
+deed_of : (read : Reader) (act : Action) (e : Effect) → effect read act ≡ Some e → e.deed ≡ act.deed
+deed_of read act e h = by_value act e (read act.operand) h
+  where
+    by_value : (act : Action) (e : Effect) (o : Option ℕ) → option_map (with_value act) o ≡ Some e → e.deed ≡ act.deed
+    by_value act e None h = cc
+    by_value act e (Some v) h = let same : with_value act v ≡ e = cc in ap (λ (x : Effect). x.deed) (sym same)
+
+by_action : (is : Deed → Bool) (opcode : ℕ) (read : Reader) (a : ℕ) (bs : List ℕ) (e : Effect) → length bs ≡ 5 → list_all (fits_deed is opcode a bs) templates_x86_64 ≡ true → (o : Option Action) → meaning nop_byte templates_x86_64 a bs ≡ o → option_and_then (effect read) o ≡ Some e → is e.deed ≡ true → get_or bs 0 0 ≡ opcode
+by_action is opcode read a bs e n fit None m h does = cc
+by_action is opcode read a bs e n fit (Some act) m h does = opcode_of is opcode a bs templates_x86_64 act n fit m (subst (λ (d : Deed). is d ≡ true) (deed_of read act e h) does)
+
+abbrev is_call : Deed → Bool
+is_call Call = true
+is_call other = false
+
+abbrev is_jump : Deed → Bool
+is_jump Jump = true
+is_jump other = false
+
+calls_fit : (a : ℕ) (bs : List ℕ) → list_all (fits_deed is_call 0xe8 a bs) templates_x86_64 ≡ true
+calls_fit a bs = refl
+
+jumps_fit : (a : ℕ) (bs : List ℕ) → list_all (fits_deed is_jump 0xe9 a bs) templates_x86_64 ≡ true
+jumps_fit a bs = refl
+
+pub call_opcode : HasOpcode 0xe8 Call
+unfolding meaning_x86_64
+call_opcode = λ read a bs e n h deed. by_action is_call 0xe8 read a bs e n (calls_fit a bs) (meaning nop_byte templates_x86_64 a bs) refl h (ap is_call deed)
+
+pub jump_opcode : HasOpcode 0xe9 Jump
+unfolding meaning_x86_64
+jump_opcode = λ read a bs e n h deed. by_action is_jump 0xe9 read a bs e n (jumps_fit a bs) (meaning nop_byte templates_x86_64 a bs) refl h (ap is_jump deed)
