@@ -113,12 +113,24 @@ other_number n k h =
     ]
 
 -- else the rows are asked, with the next relocation in sight
-pub asked_choice : (l : Layout) (s : InputSection) (i : ℕ) (r : InputRelocation) (n : ℕ) → slice_get s.relocations i ≡ Some r → r.symbol ≡ Some n → (r.number ≡ r_x86_64_pc32 → ⊥) → choice l s i ≡ chosen_of l.machine (asked_of l s n (infos_from l s.relocations i))
+asked_by : (l : Layout) (s : InputSection) (r : InputRelocation) (next : Option InputRelocation) (n : ℕ) → (r.number == r_x86_64_pc32) ≡ false → choice_by l s r next (Some n) ≡ chosen_of l.machine (question_of l s r n next)
 unfolding choice_by
-asked_choice l s i r n listed named other = let f = other_number r.number r_x86_64_pc32 other in rw (listed, named, f) (by l s r n (slice_get s.relocations (i + 1)))
-  where
-    by : (l : Layout) (s : InputSection) (r : InputRelocation) (n : ℕ) (next : Option InputRelocation) → chosen_of l.machine (question_of l s r n next) ≡ chosen_of l.machine (asked_of l s n (infos_of l (Some r) next))
-    by l s r n next = refl
+asked_by l s r next n f = rw f refl
+
+at_relocation : (l : Layout) (s : InputSection) (o next : Option InputRelocation) (r : InputRelocation) → o ≡ Some r → choice_at l s o next ≡ choice_by l s r next r.symbol
+at_relocation l s o next r e = ap (λ (x : Option InputRelocation). choice_at l s x next) e
+
+named_choice : (l : Layout) (s : InputSection) (i : ℕ) (r : InputRelocation) (n : ℕ) → slice_get s.relocations i ≡ Some r → r.symbol ≡ Some n → (r.number ≡ r_x86_64_pc32 → ⊥) → choice l s i ≡ chosen_of l.machine (question_of l s r n (slice_get s.relocations (i + 1)))
+named_choice l s i r n listed named other =
+    let next = slice_get s.relocations (i + 1) in
+    at_relocation l s (slice_get s.relocations i) next r listed
+    ∙ ap (choice_by l s r next) named
+    ∙ asked_by l s r next n (other_number r.number r_x86_64_pc32 other)
+
+pub asked_choice : (l : Layout) (s : InputSection) (i : ℕ) (r : InputRelocation) (n : ℕ) → slice_get s.relocations i ≡ Some r → r.symbol ≡ Some n → (r.number ≡ r_x86_64_pc32 → ⊥) → choice l s i ≡ chosen_of l.machine (asked_of l s n (infos_from l s.relocations i))
+asked_choice l s i r n listed named other =
+    named_choice l s i r n listed named other
+    ∙ ap (λ (o : Option InputRelocation). chosen_of l.machine (asked_of l s n (infos_of l o (slice_get s.relocations (i + 1))))) (sym listed)
 
 -- ---- rows that ask for no name and no other relocation
 
@@ -188,8 +200,7 @@ same_chosen l s r n next h =
         subst (λ (x : Row). checked (has_its_sequence (asked_of l s n (nameless r ∷ []))) (unknown_sequence (asked_of l s n (nameless r ∷ []))) (Some a) ≡ checked (has_its_sequence (question_of l s r n next)) (unknown_sequence (question_of l s r n next)) (Some x)) same (rw sequence refl)
 
 pub alone_choice : (l : Layout) (s : InputSection) (i : ℕ) (r : InputRelocation) (n : ℕ) → slice_get s.relocations i ≡ Some r → r.symbol ≡ Some n → (r.number ≡ r_x86_64_pc32 → ⊥) → may_take_next r.number ≡ false → choice l s i ≡ chosen_of l.machine (asked_of l s n (nameless r ∷ []))
-unfolding choice_by
-alone_choice l s i r n listed named other h = let f = other_number r.number r_x86_64_pc32 other in rw (listed, named, f) (sym (by l s r n (slice_get s.relocations (i + 1)) l.machine h))
+alone_choice l s i r n listed named other h = named_choice l s i r n listed named other ∙ sym (by l s r n (slice_get s.relocations (i + 1)) l.machine h)
   where
     by : (l : Layout) (s : InputSection) (r : InputRelocation) (n : ℕ) (next : Option InputRelocation) (m : Machine) → may_take_next r.number ≡ false → chosen_of m (asked_of l s n (nameless r ∷ [])) ≡ chosen_of m (question_of l s r n next)
     by l s r n next machine.X86_64 h = same_chosen l s r n next h

@@ -8,7 +8,7 @@ pub returns-in_err-end-clause-faults : goal.returns-in_err-end-clause-faults
 returns-in_err-end-clause-faults g c =
     let r = c.from_residual in
     let p = err_from_is_err_and r.result r.ensures.1 in
-    let count = c.len.ensures in
+    let count = c.len-index-end.ensures in
     let test = c.loop-index-test.true in
     let below : c.loop-index.index < length c.args.section.now.relocations = omega (arith, count, test) in
     rw (p.1, p.2) (ascending_refused c.args.resolved.now.layout.now c.args.place.group c.args.place.file c.args.place.section c.args.section.now c.loop-index.index c.loop-index.reach c.loop-index.room _ c.requires.read below c.loop-index.invariant c.in_err-end.ensures.faults)
@@ -24,5 +24,5 @@ pub returns-clause-none : goal.returns-clause-none
 returns-clause-none g c = λ e.
     let end = c.loop-index.auto.index-end in
     let out = c.loop-index-test.false in
-    let count = c.len.ensures in
+    let count = c.len-index-end.ensures in
     ascending_passes c.args.resolved.now.layout.now c.args.place.group c.args.place.file c.args.place.section c.args.section.now c.loop-index.index c.loop-index.reach c.loop-index.room c.requires.read (omega (arith, end, out, count)) c.loop-index.invariant
