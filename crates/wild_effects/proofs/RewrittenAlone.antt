@@ -23,13 +23,13 @@ use Rattle.wild_layout.specs.declared.decision.Decision.{Decision}
 use Rattle.wild_layout.specs.declared.decision.Decision.TheVariants.{Nothing, Field, Moved, Left, Rewritten, Partner}
 use Rattle.wild_layout.specs.Choice.{is_getter, info_of, question_of, choice_of}
 use Rattle.wild_layout.specs.Sites.{template_start}
-use Rattle.wild_layout.proofs.ChoiceLemmas.{IsSequence, partner_is_taken}
+use Rattle.wild_layout.proofs.ChoiceLemmas.{IsSequence}
+use Rattle.wild_layout.proofs.DecisionLemmas.{decide_partner}
 use Rattle.wild_geometry.specs.Loaded.{IsDecided, HasDecision}
 use Rattle.wild_meaning.specs.Item.{item_of}
 use Rattle.wild_meaning.specs.Field.{formula_of, form_width, InNoField}
 use Rattle.wild_meaning.specs.Sequence.{Partner as Call, IsBesidePartner, IsOwnByte}
 use Rattle.wild_effects.specs.Laws.{IsBesideField, WindowsAreAlone}
-use Rattle.wild_effects.proofs.RewrittenDecisions.{partner}
 use Rattle.wild_effects.proofs.RewrittenForms.{both, instruction_of}
 use Rattle.wild_effects.proofs.RewrittenPairs.{own_width, partner_for, IsPaired, paired}
 use Rattle.wild_effects.proofs.RewrittenPlaces.{IsPlacedRow, size_is}
@@ -111,7 +111,7 @@ call_place l s i r next row v p t =
 -- the row of the relocation before a call is the one that takes it along
 pub skips_next : (l : Layout) (s : InputSection) (i : ℕ) (r next : InputRelocation) (row : Row) (v : ℕ) → IsPlacedRow l s i r row v → HasDecision l s (i + 1) next Partner → is_skip (rewrite_of row).next ≡ true
 skips_next l s i r next row v p h =
-    let t = partner_is_taken l s (i + 1) (partner l s (i + 1) next h.listed h.decided) in
+    let t = decide_partner l s (i + 1) next h.listed h.decided in
     let at : t.0 ≡ i = (let e : i + 1 ≡ t.0 + 1 = t.1 in omega (arith, e)) in
     by_row t.2 (subst (λ (j : ℕ). IsSequence l s j t.2) at t.3)
   where
@@ -119,7 +119,7 @@ skips_next l s i r next row v p h =
     by_row w q =
         let one : q.relocation ≡ r = (let e : Some q.relocation ≡ Some r = sym q.listed ∙ p.has.listed in cc) in
         let is : choice_of l s r (slice_get s.relocations (i + 1)) ≡ Ok (Some w) = subst (λ (x : InputRelocation). choice_of l s x (slice_get s.relocations (i + 1)) ≡ Ok (Some w)) one q.is in
-        let same : w ≡ row = (let e : Ok (Some w) ≡ Ok (Some row) = sym is ∙ p.made.chosen in cc) in
+        let same : w ≡ row = (let e : Ok (Some w) ≡ Ok (Some row) = sym is ∙ p.chosen.choice in cc) in
         subst (λ (x : Row). is_skip (rewrite_of x).next ≡ true) same q.takes
 
 taken_beside : (l : Layout) (s : InputSection) (i : ℕ) (r next : InputRelocation) (row : Row) (v k : ℕ) → l.machine ≡ machine.X86_64 → IsPlacedRow l s i r row v → IsOwnByte (instruction_of row) k → HasDecision l s (i + 1) next Partner → IsBesideField l next (template_start row r + k)

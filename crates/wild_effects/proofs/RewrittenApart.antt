@@ -168,7 +168,7 @@ taken_along l s i r first row v from o x86 decided p q =
     elim (calls_of o (subst (λ (m : Machine). Contains (instructions_of m) o) x86 q.stands.known) q.partner q.calls) [
       | inl e ↦ by_general o e q
       | inr (inl e) ↦ by_local o e q
-      | inr (inr direct) ↦ absurd (no_direct (keeps_bytes row) _ p.made.written.changes (chosen_listed l s r _ row p.chosen is_no_call each_no_call) (subst (λ (n : ℕ). has_number n direct_numbers ≡ true) p.chosen.number (direct r.number q.has.number)))
+      | inr (inr direct) ↦ absurd (no_direct (keeps_bytes row) _ p.made.changes (chosen_listed l s r _ row p.chosen is_no_call each_no_call) (subst (λ (n : ℕ). has_number n direct_numbers ≡ true) p.chosen.number (direct r.number q.has.number)))
     ]
   where
     by_general : (x : Instruction) → x ≡ general_slot → (q : IsSequence l (item_of s) first r from x) → IsTakenAlong l s q.has.index first r
@@ -208,11 +208,11 @@ free law l s i r first row v from o x86 decided p alone q =
     let j = q.has.index in
     let t = taken_along l s i r first row v from o x86 decided p q in
     elim (is_same i (j + 1)) [
-      | inl e ↦ (let a : is_partner l s (j + 1) ≡ false = subst (λ (x : ℕ). is_partner l s x ≡ false) e p.made.alone in (let b : true ≡ false = sym t.taken ∙ a in cc))
+      | inl e ↦ (let a : is_partner l s (j + 1) ≡ false = subst (λ (x : ℕ). is_partner l s x ≡ false) e p.alone in (let b : true ≡ false = sym t.taken ∙ a in cc))
       | inr other ↦
           (let d = decided.each (j + 1) (slice_get_within s.relocations (j + 1) r q.has.next) in
           let before = p.stands.before in
-          let room = ltb-true (field_of (pattern_of row)) (pattern_size row) (room_by _ (keeps_bytes row) p.made.written.changes (chosen_listed l s r _ row p.chosen has_room each_room)) in
+          let room = ltb-true (field_of (pattern_of row)) (pattern_size row) (room_by _ (keeps_bytes row) p.made.changes (chosen_listed l s r _ row p.chosen has_room each_room)) in
           let low : template_start row r ≤ r.offset = omega (arith, before) in
           let high : r.offset < template_start row r + pattern_size row = omega (arith, before, room) in
           let f = slot_formula r.number t.number.0 t.number.1 t.number.2 in

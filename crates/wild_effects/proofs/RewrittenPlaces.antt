@@ -1,5 +1,5 @@
 -- A section whose relocation is rewritten, with all that is known of its row.
-use Rattle.std.proofs.Common.{◌≡◌, ℕ, ◌+◌, ◌-◌, ◌*◌, ◌/◌, ◌%◌, ◌^◌, true, refl, sym, ap, arith, subst}
+use Rattle.std.proofs.Common.{◌≡◌, ℕ, ◌+◌, ◌-◌, ◌*◌, ◌/◌, ◌%◌, ◌^◌, true, false, refl, sym, ap, arith, subst}
 use Rattle.std.specs.Prelude.{ℤ, pos, negsuc, slice_get, slice_range, bit_and}
 use Rattle.std.specs.Int.{w64, cast_unsigned}
 use Rattle.std.specs.List.{list_all}
@@ -20,9 +20,10 @@ use Rattle.wild_relax.specs.Linked.{pattern_of, pattern_size, IsChanging}
 use Rattle.wild_relax.specs.Keep.{RowsKeep, IsWhole}
 use Rattle.wild_relax.specs.Section.{IsStanding, ChosenStand, ChosenAreWhole}
 use Rattle.wild_layout.specs.declared.decision.Decision.TheVariants.{Rewritten}
-use Rattle.wild_layout.specs.Choice.{question_of}
+use Rattle.wild_layout.specs.Choice.{question_of, is_partner}
 use Rattle.wild_layout.specs.Sites.{template_start}
-use Rattle.wild_layout.proofs.ChoiceLemmas.{IsChosen, choice_row, chosen_listed}
+use Rattle.wild_layout.proofs.ChoiceLemmas.{IsChosen, chosen_listed}
+use Rattle.wild_layout.proofs.DecisionLemmas.{IsRewritten, decide_rewritten}
 use Rattle.wild_geometry.specs.Loaded.{HasDecision}
 use Rattle.wild_meaning.specs.Section.{IsSet}
 use Rattle.wild_meaning.specs.Instruction.{stands}
@@ -30,7 +31,7 @@ use Rattle.wild_meaning.specs.Sequence.{Sort, Target, DescribedCall, size_of}
 use Rattle.wild_meaning.specs.Template.{CountsFromItsEnd}
 use Rattle.wild_values.specs.Laws.{KindGives}
 use Rattle.wild_effects.specs.Laws.{WindowsAreAlone}
-use Rattle.wild_effects.proofs.RewrittenDecisions.{IsRewritten, rewritten}
+use Rattle.wild_effects.proofs.RewrittenDecisions.{rewritten_alone}
 use Rattle.wild_effects.proofs.RewrittenForms.{all_long, all_stand, instruction_of, is_listed, RowFits, row_fits}
 
 -- the laws below, as they are called
@@ -47,7 +48,8 @@ pub record LawsBelow : Type 0 where
 -- relocation i of a section is rewritten by a row, with v in the field
 pub record IsPlacedRow (l : Layout) (s : InputSection) (i : ℕ) (r : InputRelocation) (row : Row) (v : ℕ) : Type 0 where
   pub has : HasDecision l s i r (Rewritten row v)
-  pub made : IsRewritten l s i r row v
+  pub alone : is_partner l s i ≡ false
+  pub made : IsRewritten l s r (slice_get s.relocations (i + 1)) row v
   pub chosen : IsChosen l s r (slice_get s.relocations (i + 1)) row
   pub stands : IsStanding (question_of l s r chosen.symbol (slice_get s.relocations (i + 1))) row
   pub whole : IsWhole (cells_of (pattern_of row)) (slice_range s.bytes (template_start row r) (template_start row r + pattern_size row))
@@ -59,13 +61,14 @@ each_listed = refl
 
 pub placed_row : LawsBelow → (l : Layout) (s : InputSection) (i : ℕ) (r : InputRelocation) (row : Row) (v : ℕ) → HasDecision l s i r (Rewritten row v) → IsPlacedRow l s i r row v
 placed_row laws l s i r row v has =
-    let made = rewritten l s i r row v has.listed has.decided in
-    let chosen = choice_row l s r (slice_get s.relocations (i + 1)) row made.chosen in
+    let made = decide_rewritten l s i r row v has.listed has.decided in
+    let chosen = made.chosen in
     let q = question_of l s r chosen.symbol (slice_get s.relocations (i + 1)) in
     let stands = laws.stand q row chosen.chosen in
-    let changing = stands.changing made.written.changes in
+    let changing = stands.changing made.changes in
     record {
       has = has;
+      alone = rewritten_alone l s i row v has.decided;
       made = made;
       chosen = chosen;
       stands = stands;

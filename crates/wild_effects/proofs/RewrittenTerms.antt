@@ -103,10 +103,10 @@ back_by true m n e h = cc
 back_by false m n e h = leb-true m n h
 
 pub back_is : (l : Layout) (s : InputSection) (i : ℕ) (r : InputRelocation) (row : Row) (v : ℕ) → IsPlacedRow l s i r row v → (rewrite_of row).back ≤ field_of (pattern_of row)
-back_is l s i r row v p = back_by (keeps_bytes row) (rewrite_of row).back (field_of (pattern_of row)) p.made.written.changes (chosen_listed l s r _ row p.chosen back_fits each_back)
+back_is l s i r row v p = back_by (keeps_bytes row) (rewrite_of row).back (field_of (pattern_of row)) p.made.changes (chosen_listed l s r _ row p.chosen back_fits each_back)
 
 pub lies_in : (l : Layout) (s : InputSection) (i : ℕ) (r : InputRelocation) (row : Row) (v : ℕ) → IsPlacedRow l s i r row v → LiesInItsPattern row
-lies_in l s i r row v p = chosen_lies l s r _ row p.chosen p.made.written.changes
+lies_in l s i r row v p = chosen_lies l s r _ row p.chosen p.made.changes
 
 -- behind the start, as the field lies among the row's bytes
 pub field_there : (l : Layout) (s : InputSection) (i : ℕ) (r : InputRelocation) (row : Row) (v : ℕ) → IsPlacedRow l s i r row v → field_at row r ≡ template_start row r + field_in row

@@ -1,7 +1,6 @@
 -- Instructions that are rewritten hold, and so do the calls that they take along.
-use Rattle.std.proofs.Common.{◌≡◌, ℕ, ◌+◌, ◌≤◌, inl, inr, Bool, true, false, refl, sym, ap, ◌∙◌, arith, subst}
-use Rattle.std.specs.Prelude.{◌&&◌, ◌||◌, not, Some, Ok, slice_get}
-use Rattle.std.specs.List.{list_all}
+use Rattle.std.proofs.Common.{◌≡◌, ℕ, ◌+◌, ◌≤◌, inl, inr, true, refl, ap, ◌∙◌, arith, subst}
+use Rattle.std.specs.Prelude.{Some, Ok, slice_get}
 use Rattle.std.proofs.lemmas.Bool.{cases_Bool}
 use Rattle.std.proofs.lemmas.Option.{slice_get_within}
 use Rattle.wild_plan.specs.declared.input.InputRelocation.{InputRelocation}
@@ -9,15 +8,14 @@ use Rattle.wild_plan.specs.declared.input.InputSection.{InputSection}
 use Rattle.wild_plan.specs.declared.layout.Layout.{Layout}
 use Rattle.wild_relax.specs.declared.row.Row.{Row}
 use Rattle.wild_relax.specs.declared.row.Row.TheVariants.{PlainGotMovToLea}
-use Rattle.wild_relax.specs.Rows.{rows_x86_64, number_of}
 use Rattle.wild_relax.specs.Rewrite.{is_skip}
 use Rattle.wild_relax.specs.RewriteX86_64.{rewrite_of}
-use Rattle.wild_relax.specs.Linked.{pattern_size, keeps_bytes}
+use Rattle.wild_relax.specs.Linked.{pattern_size}
 use Rattle.wild_layout.specs.declared.decision.Decision.{Decision}
 use Rattle.wild_layout.specs.declared.decision.Decision.TheVariants.{Rewritten, Partner}
-use Rattle.wild_layout.specs.Decide.{decide_with}
 use Rattle.wild_layout.specs.Sites.{template_start}
-use Rattle.wild_layout.proofs.ChoiceLemmas.{choice_row, chosen_listed, IsSequence, partner_is_taken}
+use Rattle.wild_layout.proofs.ChoiceLemmas.{IsSequence}
+use Rattle.wild_layout.proofs.DecisionLemmas.{decide_partner, sequence_is_rewritten}
 use Rattle.wild_geometry.specs.Loaded.{HasDecision}
 use Rattle.wild_loader.specs.declared.memory.Memory.{Memory}
 use Rattle.wild_loader.specs.declared.world.World.{World}
@@ -27,14 +25,12 @@ use Rattle.wild_meaning.specs.Template.{IsSingle, IsTemplate, DoesDemanded}
 use Rattle.wild_meaning.specs.Reference.{IsAsked}
 use Rattle.wild_values.specs.Laws.{IsLoadedSection}
 use Rattle.wild_effects.specs.Laws.{RewrittenStand, RewrittenHold, PartnersHold}
-use Rattle.wild_effects.proofs.RewrittenDecisions.{partner, decided_with, rewritten_with}
 use Rattle.wild_effects.proofs.RewrittenForms.{instruction_of}
 use Rattle.wild_effects.proofs.RewrittenPlaces.{LawsBelow, IsPlacedRow, placed_row, size_is}
 use Rattle.wild_effects.proofs.RewrittenAlone.{called}
 use Rattle.wild_effects.proofs.RewrittenPairs.{paired}
 use Rattle.wild_effects.proofs.RewrittenSingles.{is_told}
 use Rattle.wild_effects.proofs.RewrittenDoes.{GoesWithBase, does_row}
-use Rattle.wild_effects.proofs.RewrittenFree.{is_first, first_alone}
 use Rattle.wild_effects.proofs.RewrittenTemplates.{single_there, double_there, sequence_sort}
 use Rattle.wild_effects.proofs.RewrittenPrefix.{wide_load, wide_single, IsWider, wider_or_not}
 use Rattle.wild_effects.proofs.RewrittenShorter.{plain_single}
@@ -134,19 +130,6 @@ rewritten_hold laws l w m s h i r row v has asked =
 
 -- ---- the calls of sequences
 
--- a row of a sequence stands at a relocation of such a type, and changes bytes
-abbrev is_sequence : Row → Bool
-is_sequence row = not (is_skip (rewrite_of row).next) || (is_first (number_of row) && not (keeps_bytes row))
-
-each_sequence : list_all is_sequence rows_x86_64 ≡ true
-each_sequence = refl
-
-sequence_by : (a b c : Bool) → a ≡ true → (not a || (b && not c)) ≡ true → (b ≡ true) × (c ≡ false)
-sequence_by true true false e h = (refl, refl)
-sequence_by true true true e h = cc
-sequence_by true false c e h = cc
-sequence_by false b c e h = cc
-
 -- the relocation before the call is rewritten by the row that takes it along
 record IsBefore (l : Layout) (s : InputSection) (j : ℕ) (second : InputRelocation) : Type 0 where
   first : InputRelocation
@@ -158,17 +141,13 @@ record IsBefore (l : Layout) (s : InputSection) (j : ℕ) (second : InputRelocat
 
 before_call : (l : Layout) (w : World) (m : Memory) (s : InputSection) (i : ℕ) (r : InputRelocation) → IsLoadedSection l w m s → HasDecision l s i r Partner → (j : ℕ) × IsBefore l s j r
 before_call l w m s i r h has =
-    let t = partner_is_taken l s i (partner l s i r has.listed has.decided) in
+    let t = decide_partner l s i r has.listed has.decided in
     (t.0, by_row t.0 t.2 t.3 (subst (λ (n : ℕ). slice_get s.relocations n ≡ Some r) t.1 has.listed))
   where
     by_row : (j : ℕ) (row : Row) → IsSequence l s j row → slice_get s.relocations (j + 1) ≡ Some r → IsBefore l s j r
     by_row j row q listed =
-        let c = choice_row l s q.relocation (slice_get s.relocations (j + 1)) row q.is in
-        let two = sequence_by _ _ _ q.takes (chosen_listed l s q.relocation (slice_get s.relocations (j + 1)) row c is_sequence each_sequence) in
-        let first : is_first q.relocation.number ≡ true = subst (λ (n : ℕ). is_first n ≡ true) (sym c.number) two.0 in
         let d = h.decided.each j (slice_get_within s.relocations j q.relocation q.listed) in
-        let made = decided_with l s j q.relocation d.0 q.listed (first_alone l s j q.relocation q.listed first) d.1 in
-        let by = rewritten_with l s q.relocation row d.0 two.1 (subst (λ x. decide_with l s q.relocation x ≡ Ok d.0) q.is made) in
+        let by = sequence_is_rewritten l s j row d.0 q d.1 in
         record { first = q.relocation; row = row; value = by.0; has = record { listed = q.listed; decided = d.1 ∙ ap (λ (x : Decision). Ok x) by.1 }; skips = q.takes; listed = listed }
 
 pub partners_hold : LawsBelow → PartnersHold
