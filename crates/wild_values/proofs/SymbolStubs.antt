@@ -16,7 +16,7 @@ use Rattle.wild_loader.specs.StepLaws.{StubsOfValuesAreRead}
 use Rattle.wild_loader.specs.declared.memory.Memory.{Memory}
 use Rattle.wild_loader.specs.declared.world.World.{World}
 use Rattle.wild_meaning.specs.Formula.{IsTarget}
-use Rattle.wild_meaning.specs.Value.{HasValue, HasStub, IsStub, JumpsTo, Reaches}
+use Rattle.wild_meaning.specs.Value.{Denotes, HasValue, HasStub, IsStub, JumpsTo, Reaches}
 use Rattle.wild_values.specs.Terms.{IsPlaced}
 use Rattle.wild_values.proofs.FirstSlots.{HasFirst, first_held, items_behind}
 use Rattle.wild_values.proofs.SlotContents.{ItemsHold}
