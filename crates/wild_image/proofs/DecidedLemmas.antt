@@ -1,6 +1,6 @@
 -- Laws of what the decisions on a section's relocations make.
 use Rattle.std.proofs.Common.{◌≡◌, ℕ, zero, suc, ◌+◌, ◌<◌, ◌≤◌, ◌⊎◌, inl, inr, Bool, true, false, List, [], ◌∷◌, ◌++◌, length, get_or, take, drop, map, max, nat_le, ◌&&◌, slice_get, slice_range, refl, sym, ap, ◌∙◌, arith, subst}
-use Rattle.std.specs.Prelude.{All, AllPairs, Option, Some, None, Ok, Result, option_to_list}
+use Rattle.std.specs.Prelude.{All, AllPairs, Option, Some, None, Ok, option_to_list}
 use Rattle.std.specs.List.{flat_map, range_with_len}
 use Rattle.std.proofs.lemmas.Bool.{and_parts, leb-true, le-leb, lt-leb}
 use Rattle.std.proofs.lemmas.List.{take_more, append-nil, append_assoc, take_all, length-take, length-append}

@@ -1,4 +1,4 @@
-use Rattle.std.proofs.Common.{◌≡◌, ◌∙◌, List, Bool, false, sym, subst}
+use Rattle.std.proofs.Common.{◌≡◌, ◌∙◌, List, false, sym, subst}
 use Rattle.wild_plan.specs.declared.input.InputRelocation.{InputRelocation}
 use Rattle.wild_image.specs.Choice.{may_be_partner}
 use Rattle.wild_image.proofs.ChoiceLemmas.{none_before}

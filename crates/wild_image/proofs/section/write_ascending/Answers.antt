@@ -1,4 +1,4 @@
-use Rattle.std.proofs.Common.{◌∙◌, ◌≡◌, ◌<◌, ap, length, sym, All, subst, ℕ, arith}
+use Rattle.std.proofs.Common.{◌<◌, ap, length, All, subst, ℕ, arith}
 use Rattle.std.proofs.lemmas.Result.{err_from_is_err_and}
 use Rattle.wild_layout.specs.Geometry.{FieldLies}
 use Rattle.wild_image.proofs.AscendingLemmas.{ascended_next, ascending_refused, ascending_passes}

@@ -1,4 +1,3 @@
-use Rattle.std.proofs.Common.{sym}
 use Rattle.wild_image.proofs.ChoiceLemmas.{read_at}
 use Rattle.wild_image.proofs.InstructionLemmas.{decision_lies}
 use Rattle.wild_image.proofs.section.write_decided.Goals as goal
