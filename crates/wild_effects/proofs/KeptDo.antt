@@ -1,23 +1,23 @@
 -- An instruction whose reference keeps it does what it demands.
-use Rattle.std.proofs.Common.{◌≡◌, ℕ, ◌+◌, ◌⊎◌, inl, inr, List, length, refl, sym, ap, ◌∙◌, subst}
-use Rattle.std.specs.Prelude.{⊤, Option, Some, None, Contains}
+use Rattle.std.proofs.Common.{◌≡◌, ℕ, ◌⊎◌, inl, inr, refl, sym, ap, ◌∙◌, subst}
+use Rattle.std.specs.Prelude.{⊤, Option, Some, Contains}
 use Rattle.wild_plan.specs.declared.kind.Machine.{Machine}
 use Rattle.wild_plan.specs.declared.kind.Machine.TheVariants as machine
 use Rattle.wild_plan.specs.declared.input.InputRelocation.{InputRelocation}
 use Rattle.wild_plan.specs.declared.input.InputSection.{InputSection}
 use Rattle.wild_plan.specs.declared.layout.Layout.{Layout}
-use Rattle.wild_reloc.specs.Formula.{Slot, Value, Formula, SlotDistance, AddressSlot, ModulePair, OwnModulePair}
+use Rattle.wild_reloc.specs.Formula.{Slot, Formula, SlotDistance, AddressSlot, ModulePair, OwnModulePair}
 use Rattle.wild_loader.specs.declared.world.World.{World}
 use Rattle.wild_loader.specs.declared.memory.Memory.{Memory}
 use Rattle.wild_values.specs.Laws.{FieldHolds, IsKeptReference, FieldsHold, IsLoadedSection}
-use Rattle.wild_meaning.specs.Sequence.{Sort, Target, TargetInSlot, AddressInSlot, OffsetInSlot, SymbolPair, OwnPair, Described, DescribedCall, Instruction, Partner, instructions_of}
+use Rattle.wild_meaning.specs.Sequence.{Sort, TargetInSlot, SymbolPair, OwnPair, Instruction, Partner, instructions_of}
 use Rattle.wild_meaning.specs.Item.{Item, item_of}
 use Rattle.wild_meaning.specs.Field.{formula_of}
 use Rattle.wild_meaning.specs.Formula.{IsPlaceRelative, TakesAddress, TakesOffset}
-use Rattle.wild_meaning.specs.Template.{IsInstruction, IsSequence, IsSingle, IsDouble, IsTemplate, reads, DoesDemanded}
-use Rattle.wild_meaning.specs.Reference.{IsExcepted, IsAsked, IsLinkedAlone, HasPlace, GoesThroughSlot, TakesItself}
+use Rattle.wild_meaning.specs.Template.{IsSequence, IsSingle, IsDouble, IsTemplate, reads, DoesDemanded}
+use Rattle.wild_meaning.specs.Reference.{IsAsked, IsLinkedAlone, HasPlace, GoesThroughSlot, TakesItself}
 use Rattle.wild_effects.specs.Laws.{SequencesAreKept, InstructionsAreKept, KeptInstructionsDo}
-use Rattle.wild_effects.proofs.Does.{HasField, PartnerThere, IsThere, FormulaIs, displaced, formula_is, refers, pair_of, known_formula}
+use Rattle.wild_effects.proofs.Does.{HasField, PartnerThere, FormulaIs, displaced, formula_is, refers, pair_of, known_formula}
 use Rattle.wild_effects.proofs.Right.{does_demanded}
 
 -- ---- the pair of a sequence is asked everywhere

@@ -1,29 +1,28 @@
 -- What the operand of an instruction in memory reads as is what is demanded, by its sort.
-use Rattle.std.proofs.Common.{◌≡◌, ℕ, zero, suc, ◌+◌, ◌-◌, ◌*◌, ◌%◌, ◌^◌, ◌<◌, ◌≤◌, ◌⊎◌, inl, inr, List, length, refl, sym, ap, ◌∙◌, arith, subst}
-use Rattle.std.specs.Prelude.{Option, Some, None, Ok, Result, option_map, option_and_then, Contains, nat_lt, slice_index}
+use Rattle.std.proofs.Common.{◌≡◌, ℕ, suc, ◌+◌, ◌-◌, ◌*◌, ◌%◌, ◌^◌, ◌<◌, inl, inr, List, length, refl, sym, ap, ◌∙◌, arith, subst}
+use Rattle.std.specs.Prelude.{Option, Some, None, Result, option_map, option_and_then, Contains, nat_lt, slice_index}
 use Rattle.std.specs.Int.{w64, cast_unsigned}
 use Rattle.std.proofs.lemmas.Bool.{cases_Bool, ltb-true}
 use Rattle.wild_plan.specs.declared.kind.Machine.{Machine}
 use Rattle.wild_plan.specs.declared.kind.Machine.TheVariants as machine
 use Rattle.wild_plan.specs.declared.input.InputRelocation.{InputRelocation}
 use Rattle.wild_plan.specs.declared.layout.Layout.{Layout}
-use Rattle.wild_reloc.specs.Formula.{Value, Formula, formula, NoValue, Distance, StubDistance, SlotDistance, AddressSlot, ModulePair, OwnModulePair, ThreadOffset, Descriptor, NoField}
+use Rattle.wild_reloc.specs.Formula.{Value, Formula, Distance, StubDistance, SlotDistance, AddressSlot, ModulePair, OwnModulePair, ThreadOffset, Descriptor}
 use Rattle.wild_loader.specs.declared.fault.LoadFault.{LoadFault}
 use Rattle.wild_loader.specs.declared.world.World.{World}
 use Rattle.wild_loader.specs.declared.memory.Memory.{Memory}
 use Rattle.wild_loader.specs.Memory.{Holds, byte_in, number_in}
 use Rattle.wild_loader.specs.Changes.{distance_of}
-use Rattle.wild_meaning.specs.Instruction.{Operand, Number, Word, Pair, Effect, sum_64, as_value}
+use Rattle.wild_meaning.specs.Instruction.{Operand, Number, Effect, sum_64, as_value}
 use Rattle.wild_meaning.specs.InstructionX86_64.{demand_x86_64}
 use Rattle.wild_meaning.specs.Sequence.{Sort, Target, TargetInSlot, AddressInSlot, OffsetInSlot, SymbolPair, OwnPair, Described, DescribedCall, Instruction, size_of, instructions_of}
 use Rattle.wild_meaning.specs.Item.{Item, place_at}
 use Rattle.wild_meaning.specs.Field.{form_width}
-use Rattle.wild_meaning.specs.Slot.{HasWord, IsPair, IsSlot}
+use Rattle.wild_meaning.specs.Slot.{IsPair, IsSlot}
 use Rattle.wild_meaning.specs.Formula.{Gives, IsTarget, IsGoal, IsOffset, HasOffsetMode}
 use Rattle.wild_meaning.specs.Template.{CountsFromItsEnd, or_none, sum_of, reads, pair_in, effect_of, Demands, IsDemanded, old_bytes, DoesDemanded}
-use Rattle.wild_effects.specs.Filled.{HasEffect}
 use Rattle.wild_effects.proofs.Fills.{instructions_do}
-use Rattle.wild_effects.proofs.Does.{HasField, IsThere, IsDisplaced, FormulaIs, WidthIs, displaced, operand_by, named_by, told_of, formula_is, displaced_by, named_is, field_place, new_bytes, is_filled, all_there, read_holds, length_read, to_slot, to_target, distance_sum}
+use Rattle.wild_effects.proofs.Does.{IsThere, IsDisplaced, FormulaIs, WidthIs, displaced, operand_by, named_by, told_of, formula_is, displaced_by, named_is, field_place, new_bytes, is_filled, all_there, read_holds, length_read, to_slot, to_target, distance_sum}
 
 -- ---- bounds
 
