@@ -30,7 +30,7 @@ use Rattle.wild_meaning.specs.Item.{item_of, place_at}
 use Rattle.wild_meaning.specs.Instruction.{Effect, as_value}
 use Rattle.wild_meaning.specs.InstructionX86_64.{demand_x86_64}
 use Rattle.wild_meaning.specs.Sequence.{Sort, TargetInSlot, AddressInSlot}
-use Rattle.wild_meaning.specs.Template.{reads, effect_of, Demands, IsDemanded, no_effect, DoesDemanded}
+use Rattle.wild_meaning.specs.Template.{reads_alone, effect_of, Demands, IsDemanded, no_effect, DoesDemanded}
 use Rattle.wild_values.specs.Laws.{IsLoadedSection}
 use Rattle.wild_effects.proofs.RewrittenForms.{both, instruction_of}
 use Rattle.wild_effects.proofs.RewrittenPairs.{paired}
@@ -44,17 +44,17 @@ use Rattle.wild_effects.proofs.RewrittenEffects.{old_of, effect_kept, on_machine
 
 -- the row's code does what the instruction demands
 abbrev pub DoesRow : Layout → World → Memory → InputSection → InputRelocation → Row → Type 0
-DoesRow l w m s r row = DoesDemanded l w m (item_of s) r (template_start row r) (instruction_of row)
+DoesRow l w m s r row = DoesDemanded (reads_alone w m) l w m (item_of s) r (template_start row r) (instruction_of row)
 
 -- ---- addresses
 
-does_target : LawsBelow → (l : Layout) (w : World) (m : Memory) (s : InputSection) (i : ℕ) (r : InputRelocation) (row : Row) (v n : ℕ) → IsLoadedSection l w m s → IsPlacedRow l s i r row v → IsOperand l w m r.symbol n → Lands row (reads w m) (place_at w (item_of s) (template_start row r) + field_in row) n v
+does_target : LawsBelow → (l : Layout) (w : World) (m : Memory) (s : InputSection) (i : ℕ) (r : InputRelocation) (row : Row) (v n : ℕ) → IsLoadedSection l w m s → IsPlacedRow l s i r row v → IsOperand l w m r.symbol n → Lands row (reads_alone w m) (place_at w (item_of s) (template_start row r) + field_in row) n v
     → (instruction_of row).sort ≡ AddressInSlot → ((a : ℕ) (old : List ℕ) → demanded row n a old ≡ demand_x86_64 n a old) → DoesRow l w m s r row
 does_target laws l w m s i r row v n h p is lands sort same =
     does_by laws l w m s i r row v n h p (subst (λ (o : Sort). Demands o l w m (item_of s) r n) (sym sort) is.target) is.small lands same
     (λ a old e k. subst (λ (o : Sort). IsDemanded o l (item_of s) n a old e) (sym sort) k)
 
-does_goal : LawsBelow → (l : Layout) (w : World) (m : Memory) (s : InputSection) (i : ℕ) (r : InputRelocation) (row : Row) (v n : ℕ) → IsLoadedSection l w m s → IsPlacedRow l s i r row v → IsOperand l w m r.symbol n → Lands row (reads w m) (place_at w (item_of s) (template_start row r) + field_in row) n v
+does_goal : LawsBelow → (l : Layout) (w : World) (m : Memory) (s : InputSection) (i : ℕ) (r : InputRelocation) (row : Row) (v n : ℕ) → IsLoadedSection l w m s → IsPlacedRow l s i r row v → IsOperand l w m r.symbol n → Lands row (reads_alone w m) (place_at w (item_of s) (template_start row r) + field_in row) n v
     → (instruction_of row).sort ≡ TargetInSlot → ((a : ℕ) (old : List ℕ) → demanded row n a old ≡ demand_x86_64 n a old) → DoesRow l w m s r row
 does_goal laws l w m s i r row v n h p is lands sort same =
     does_by laws l w m s i r row v n h p (subst (λ (o : Sort). Demands o l w m (item_of s) r n) (sym sort) is.goal) is.small lands same
@@ -90,7 +90,7 @@ number_itself laws l w m s i r row v held h p number none plain value =
 
 -- ---- offsets from the thread pointer
 
-does_offset : LawsBelow → (l : Layout) (w : World) (m : Memory) (s : InputSection) (i : ℕ) (r : InputRelocation) (row : Row) (v n : ℕ) → IsLoadedSection l w m s → IsPlacedRow l s i r row v → Demands (instruction_of row).sort l w m (item_of s) r n → n < 2 ^ 64 → Lands row (reads w m) (place_at w (item_of s) (template_start row r) + field_in row) n v
+does_offset : LawsBelow → (l : Layout) (w : World) (m : Memory) (s : InputSection) (i : ℕ) (r : InputRelocation) (row : Row) (v n : ℕ) → IsLoadedSection l w m s → IsPlacedRow l s i r row v → Demands (instruction_of row).sort l w m (item_of s) r n → n < 2 ^ 64 → Lands row (reads_alone w m) (place_at w (item_of s) (template_start row r) + field_in row) n v
     → ((a : ℕ) (old : List ℕ) (e : Effect) → effect_of l.machine (as_value n) a old ≡ Some e → IsDemanded (instruction_of row).sort l (item_of s) n a old e) → ((a : ℕ) (old : List ℕ) → demanded row n a old ≡ demand_x86_64 n a old) → DoesRow l w m s r row
 does_offset laws l w m s i r row v n h p demands small lands told same = does_by laws l w m s i r row v n h p demands small lands same told
 
@@ -163,5 +163,5 @@ does_row laws l w m s i r DescriptorCall v h p asked =
       bytes = template_of DescriptorCall v (old_of s DescriptorCall r);
       whole = whole_is l w m s i r DescriptorCall v h p;
       held = h.section.rewritten i r DescriptorCall v p.has;
-      does = on_machine l.machine (reads w m) _ _ h.x86 ∙ effect_kept laws l w m s i r DescriptorCall v 0 _ h p (omega arith) tt;
+      does = on_machine l.machine (reads_alone w m) _ _ h.x86 ∙ effect_kept laws l w m s i r DescriptorCall v 0 _ h p (omega arith) tt;
     }

@@ -24,7 +24,7 @@ use Rattle.wild_meaning.specs.Item.{item_of, place_at}
 use Rattle.wild_meaning.specs.Instruction.{Template, Action, Effect, stands, fills, meaning, with_value, as_value, Reader}
 use Rattle.wild_meaning.specs.InstructionX86_64.{nop_byte, templates_x86_64, meaning_x86_64, effect_x86_64, demand_x86_64}
 use Rattle.wild_meaning.specs.Sequence.{size_of}
-use Rattle.wild_meaning.specs.Template.{reads, effect_of, Demands, IsDemanded, old_bytes, DoesDemanded}
+use Rattle.wild_meaning.specs.Template.{reads_alone, effect_of, Demands, IsDemanded, old_bytes, DoesDemanded}
 use Rattle.wild_values.specs.Laws.{IsLoadedSection}
 use Rattle.wild_effects.proofs.RewrittenForms.{instruction_of}
 use Rattle.wild_effects.proofs.RewrittenPlaces.{LawsBelow, IsPlacedRow, size_is, cells_stand}
@@ -85,12 +85,12 @@ abbrev pub old_of : InputSection → Row → InputRelocation → List ℕ
 old_of s row r = slice_range s.bytes (template_start row r) (template_start row r + pattern_size row)
 
 -- the effect of what is written, at the row's bytes
-pub effect_kept : LawsBelow → (l : Layout) (w : World) (m : Memory) (s : InputSection) (i : ℕ) (r : InputRelocation) (row : Row) (v n a : ℕ) → IsLoadedSection l w m s → IsPlacedRow l s i r row v → n < 2 ^ 64 → Lands row (reads w m) (a + field_in row) n v → effect_x86_64 (reads w m) a (template_of row v (old_of s row r)) ≡ demanded row n a (old_of s row r)
+pub effect_kept : LawsBelow → (l : Layout) (w : World) (m : Memory) (s : InputSection) (i : ℕ) (r : InputRelocation) (row : Row) (v n a : ℕ) → IsLoadedSection l w m s → IsPlacedRow l s i r row v → n < 2 ^ 64 → Lands row (reads_alone w m) (a + field_in row) n v → effect_x86_64 (reads_alone w m) a (template_of row v (old_of s row r)) ≡ demanded row n a (old_of s row r)
 effect_kept laws l w m s i r row v n a h p small lands =
     let x = p.made.written in
     let known = info_is l w m s i r row v h p in
-    let keeps = laws.keeps row x.info (reads w m) a n v (old_of s row r) p.changing p.whole (record { row_of = sym known; allowed = x.allowed; small = value_small l s i r row v p; operand = small; numbers = λ k. refl; lands = lands }) in
-    ap (λ (bs : List ℕ). effect_x86_64 (reads w m) a bs) (template_linked row x.info v (old_of s row r) known) ∙ keeps
+    let keeps = laws.keeps row x.info (reads_alone w m) a n v (old_of s row r) p.changing p.whole (record { row_of = sym known; allowed = x.allowed; small = value_small l s i r row v p; operand = small; numbers = λ k. refl; lands = lands }) in
+    ap (λ (bs : List ℕ). effect_x86_64 (reads_alone w m) a bs) (template_linked row x.info v (old_of s row r) known) ∙ keeps
 
 pub on_machine : (k : Machine) (read : Reader) (a : ℕ) (bs : List ℕ) → k ≡ machine.X86_64 → effect_of k read a bs ≡ effect_x86_64 read a bs
 on_machine k read a bs e = rw e refl
@@ -102,8 +102,8 @@ pub whole_is : (l : Layout) (w : World) (m : Memory) (s : InputSection) (i : ℕ
 whole_is l w m s i r row v h p = length-template row p.made.written.info v (old_of s row r) (lies_in l s i r row v p) (info_is l w m s i r row v h p) p.whole.long ∙ sym (size_is l s i r row v p)
 
 -- with an operand that lands it does what is demanded, where that is an effect of the input's bytes
-pub does_by : LawsBelow → (l : Layout) (w : World) (m : Memory) (s : InputSection) (i : ℕ) (r : InputRelocation) (row : Row) (v n : ℕ) → IsLoadedSection l w m s → IsPlacedRow l s i r row v → Demands (instruction_of row).sort l w m (item_of s) r n → n < 2 ^ 64 → Lands row (reads w m) (place_at w (item_of s) (template_start row r) + field_in row) n v
-    → ((a : ℕ) (old : List ℕ) → demanded row n a old ≡ demand_x86_64 n a old) → ((a : ℕ) (old : List ℕ) (e : Effect) → effect_of l.machine (as_value n) a old ≡ Some e → IsDemanded (instruction_of row).sort l (item_of s) n a old e) → DoesDemanded l w m (item_of s) r (template_start row r) (instruction_of row)
+pub does_by : LawsBelow → (l : Layout) (w : World) (m : Memory) (s : InputSection) (i : ℕ) (r : InputRelocation) (row : Row) (v n : ℕ) → IsLoadedSection l w m s → IsPlacedRow l s i r row v → Demands (instruction_of row).sort l w m (item_of s) r n → n < 2 ^ 64 → Lands row (reads_alone w m) (place_at w (item_of s) (template_start row r) + field_in row) n v
+    → ((a : ℕ) (old : List ℕ) → demanded row n a old ≡ demand_x86_64 n a old) → ((a : ℕ) (old : List ℕ) (e : Effect) → effect_of l.machine (as_value n) a old ≡ Some e → IsDemanded (instruction_of row).sort l (item_of s) n a old e) → DoesDemanded (reads_alone w m) l w m (item_of s) r (template_start row r) (instruction_of row)
 does_by laws l w m s i r row v n h p demands small lands same told =
     let a = place_at w (item_of s) (template_start row r) in
     let old = old_is l s i r row v p in
@@ -121,5 +121,5 @@ does_by laws l w m s i r row v n h p demands small lands same told =
       bytes = template_of row v (old_of s row r);
       whole = whole_is l w m s i r row v h p;
       held = h.section.rewritten i r row v p.has;
-      does = on_machine l.machine (reads w m) a _ h.x86 ∙ (effect_kept laws l w m s i r row v n a h p small lands ∙ (same a (old_of s row r) ∙ e.1));
+      does = on_machine l.machine (reads_alone w m) a _ h.x86 ∙ (effect_kept laws l w m s i r row v n a h p small lands ∙ (same a (old_of s row r) ∙ e.1));
     }

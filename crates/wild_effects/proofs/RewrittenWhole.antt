@@ -21,7 +21,7 @@ use Rattle.wild_loader.specs.declared.memory.Memory.{Memory}
 use Rattle.wild_loader.specs.declared.world.World.{World}
 use Rattle.wild_meaning.specs.Item.{item_of}
 use Rattle.wild_meaning.specs.Sequence.{TargetInSlot, Instruction, size_of}
-use Rattle.wild_meaning.specs.Template.{IsSingle, IsTemplate, DoesDemanded}
+use Rattle.wild_meaning.specs.Template.{IsSingle, IsTemplate, reads_alone, DoesDemanded}
 use Rattle.wild_meaning.specs.Reference.{IsAsked}
 use Rattle.wild_values.specs.Laws.{IsLoadedSection}
 use Rattle.wild_effects.specs.Laws.{RewrittenStand, RewrittenHold, PartnersHold}
@@ -44,7 +44,7 @@ record IsHeld (l : Layout) (w : World) (m : Memory) (s : InputSection) (r : Inpu
   template : IsTemplate l (item_of s) r from instruction r
   before : from ≤ template_start row r
   behind : template_start row r + pattern_size row ≤ from + size_of instruction
-  does : (instruction.sort ≡ TargetInSlot → IsAsked l w (item_of s) r) → DoesDemanded l w m (item_of s) r from instruction
+  does : (instruction.sort ≡ TargetInSlot → IsAsked l w (item_of s) r) → DoesDemanded (reads_alone w m) l w m (item_of s) r from instruction
 
 -- where code goes through a slot to an absolute symbol of an output that moves, the reference is asked at base 0 alone
 goes_with : (l : Layout) (w : World) (m : Memory) (s : InputSection) (i : ℕ) (r : InputRelocation) (row : Row) (v : ℕ) → (p : IsPlacedRow l s i r row v) → IsSingle l (item_of s) r (template_start row r) (instruction_of row) → ((instruction_of row).sort ≡ TargetInSlot → IsAsked l w (item_of s) r) → GoesWithBase l w row p.chosen.symbol

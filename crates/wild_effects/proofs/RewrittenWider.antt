@@ -35,7 +35,7 @@ use Rattle.wild_meaning.specs.Instruction.{as_value}
 use Rattle.wild_meaning.specs.Instruction as judge
 use Rattle.wild_meaning.specs.InstructionX86_64.{effect_x86_64, demand_x86_64}
 use Rattle.wild_meaning.specs.Sequence.{Instruction, instructions_of}
-use Rattle.wild_meaning.specs.Template.{reads, DoesDemanded}
+use Rattle.wild_meaning.specs.Template.{reads_alone, DoesDemanded}
 use Rattle.wild_values.specs.Laws.{IsLoadedSection}
 use Rattle.wild_effects.proofs.Clash.{is_any, is_free, are_calls, pair_ok, row_ok, each_row_ok, IsUncovered, apart_templates}
 use Rattle.wild_effects.proofs.KeptTables.{listed_passes}
@@ -167,7 +167,7 @@ held_more : (m : Memory) (a b x : ℕ) (bs : List ℕ) → b ≡ a + 1 → byte_
 held_more m a b x bs e first rest zero lt = (let z : a ≡ a + 0 = omega arith in subst (λ (n : ℕ). byte_in m n ≡ Some x) z first)
 held_more m a b x bs e first rest (suc k) lt = (let z : b + k ≡ a + suc k = omega (arith, e) in subst (λ (n : ℕ). byte_in m n ≡ Some (slice_index bs k)) z (rest k (omega (arith, lt))))
 
-pub does_wider : LawsBelow → (l : Layout) (w : World) (m : Memory) (s : InputSection) (i : ℕ) (r : InputRelocation) (v from : ℕ) → IsLoadedSection l w m s → IsWider l s i r v from → DoesDemanded l w m (item_of s) r from wide_load
+pub does_wider : LawsBelow → (l : Layout) (w : World) (m : Memory) (s : InputSection) (i : ℕ) (r : InputRelocation) (v from : ℕ) → IsLoadedSection l w m s → IsWider l s i r v from → DoesDemanded (reads_alone w m) l w m (item_of s) r from wide_load
 does_wider laws l w m s i r v from h t =
     let p = t.plain.row in
     let x = slice_index s.bytes from in
@@ -187,9 +187,9 @@ does_wider laws l w m s i r v from h t =
     let whole : IsWhole (cells_of (pattern_of (RexGotMovToLea Rex2))) (x ∷ old) = record { long = long; same = both_stand (x == 0xd5) _ t.prefix p.whole.same } in
     let place_is : place_at w (item_of s) (template_start PlainGotMovToLea r) + 3 ≡ a + 4 = omega (arith, next) in
     let lands : v ≡ distance n (a + 4) = subst (λ (y : ℕ). v ≡ distance n y) place_is far.lands in
-    let keeps = laws.keeps (RexGotMovToLea Rex2) info (reads w m) a n v (x ∷ old) tt whole (record { row_of = sym known; allowed = p.made.written.allowed; small = value_small l s i r PlainGotMovToLea v p; operand = far.is.small; numbers = λ k. refl; lands = lands }) in
+    let keeps = laws.keeps (RexGotMovToLea Rex2) info (reads_alone w m) a n v (x ∷ old) tt whole (record { row_of = sym known; allowed = p.made.written.allowed; small = value_small l s i r PlainGotMovToLea v p; operand = far.is.small; numbers = λ k. refl; lands = lands }) in
     let written_bytes : linked (RexGotMovToLea Rex2) info v (x ∷ old) ≡ x ∷ template_of PlainGotMovToLea v old = linked_more info v x old ∙ ap (λ (bs : List ℕ). x ∷ bs) (sym (template_linked PlainGotMovToLea info v old known)) in
-    let done : effect_x86_64 (reads w m) a (x ∷ template_of PlainGotMovToLea v old) ≡ Some e.0 = subst (λ (bs : List ℕ). effect_x86_64 (reads w m) a bs ≡ Some e.0) written_bytes (keeps ∙ e.1) in
+    let done : effect_x86_64 (reads_alone w m) a (x ∷ template_of PlainGotMovToLea v old) ≡ Some e.0 = subst (λ (bs : List ℕ). effect_x86_64 (reads_alone w m) a bs ≡ Some e.0) written_bytes (keeps ∙ e.1) in
     record {
       value = n;
       demands = far.is.target;
@@ -198,7 +198,7 @@ does_wider laws l w m s i r v from h t =
       bytes = x ∷ template_of PlainGotMovToLea v old;
       whole = (let z = whole_is l w m s i r PlainGotMovToLea v h p in omega (arith, z));
       held = held_more m a (place_at w (item_of s) (template_start PlainGotMovToLea r)) x (template_of PlainGotMovToLea v old) next (prefix_stays laws l w m s i r v from h t) (h.section.rewritten i r PlainGotMovToLea v p.has);
-      does = on_machine l.machine (reads w m) a (x ∷ template_of PlainGotMovToLea v old) h.x86 ∙ done;
+      does = on_machine l.machine (reads_alone w m) a (x ∷ template_of PlainGotMovToLea v old) h.x86 ∙ done;
     }
   where
     both_stand : (a b : Bool) → a ≡ true → b ≡ true → (a && b) ≡ true

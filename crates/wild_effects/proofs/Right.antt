@@ -106,7 +106,7 @@ right_by Target l w m item r start o e h (inl f) width counts =
     let is = distance_sum gives.1.symbol (cast_unsigned w64 r.addend) (place_at w item r.offset) gives.0 h.field.value gives.1.sum gives.2 in
     record {
       value = (gives.1.symbol + cast_unsigned w64 r.addend + 4) % 2 ^ 64;
-      demands = record { goal = gives.1.symbol; reached = target_reached l w m r.symbol gives.1.symbol gives.1.denoted; is = refl };
+      demands = record { goal = gives.1.symbol; stands = gives.1.denoted; is = refl };
       reads = reads_by w m _ _ _ (target_named l w m item r start o Distance gives.1.symbol e h width f is) refl;
       call = λ no. cc;
     }
@@ -114,7 +114,7 @@ right_by Target l w m item r start o e h (inr f) width counts =
     let gives = subst (λ (x : Formula). Gives x.value l w m item r h.field.value) f h.field.gives in
     record {
       value = (gives.0 + cast_unsigned w64 r.addend + 4) % 2 ^ 64;
-      demands = record { goal = gives.0; reached = gives.1; is = refl };
+      demands = record { goal = gives.0; stands = gives.1; is = refl };
       reads = reads_by w m _ _ _ (target_named l w m item r start o StubDistance gives.0 e h width f gives.2) refl;
       call = λ no. cc;
     }
@@ -223,7 +223,7 @@ as_demanded Described l item v a old e x call h = subst (λ (k : Machine). effec
 as_demanded DescribedCall l item v a old e x call h = inr (call refl, subst (λ (k : Machine). effect_of k (as_value v) a old ≡ Some e) (sym x) h)
 
 -- an instruction that stands in the input, with its field as its formula and its own bytes, does what it demands
-pub does_demanded : (l : Layout) (w : World) (m : Memory) (item : Item) (r : InputRelocation) (start : ℕ) (o : Instruction) → IsThere l w m item r start o → DoesDemanded l w m item r start o
+pub does_demanded : (l : Layout) (w : World) (m : Memory) (item : Item) (r : InputRelocation) (start : ℕ) (o : Instruction) → IsThere l w m item r start o → DoesDemanded (reads w m) l w m item r start o
 does_demanded l w m item r start o h =
     let listed = subst (λ (k : Machine). Contains (instructions_of k) o) h.x86 h.stands.known in
     let t = told_of o listed in
