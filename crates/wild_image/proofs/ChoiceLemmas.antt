@@ -1,5 +1,5 @@
 -- Which relocations are asked what of their rows.
-use Rattle.std.proofs.Common.{◌≡◌, ℕ, zero, suc, ◌+◌, ◌-◌, ◌<◌, inl, inr, Bool, true, false, List, [], ◌∷◌, length, get_or, refl, sym, ap, ◌∙◌, arith, subst}
+use Rattle.std.proofs.Common.{◌≡◌, ℕ, suc, ◌+◌, ◌<◌, inl, inr, Bool, true, false, List, [], ◌∷◌, length, get_or, refl, sym, ap, ◌∙◌, arith, subst}
 use Rattle.std.specs.Prelude.{Option, Some, None, Result, Ok, Err, ◌==◌, if◌then◌else◌, slice_get}
 use Rattle.std.proofs.lemmas.Bool.{cases_Bool, and_parts, eqb-true}
 use Rattle.std.proofs.lemmas.Option.{slice_get_read}
@@ -71,11 +71,6 @@ none_before l s i h =
         let s : j + 1 ≡ suc j = omega arith in
         let f : may_be_partner rs (suc j) ≡ false = subst (λ (k : ℕ). may_be_partner rs k ≡ false) s h in
         not_both (may_take_next r.number) n (rw e at f)
-
--- that of the relocation before
-pub partner_behind : (l : Layout) (s : InputSection) (i : ℕ) → 0 < i → takes_next (choice l s (i - 1)) ≡ is_partner l s i
-partner_behind l s zero h = absurd (omega arith)
-partner_behind l s (suc i) h = let e : suc i - 1 ≡ i = omega arith in rw e refl
 
 -- ---- the most common type
 
