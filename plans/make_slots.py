@@ -7,7 +7,8 @@ executable with slots, a stub and a resolver. Run it as
 As a linker does, it goes by the relocations: which symbols need a slot for their address or for their offset from the
 thread pointer, and by the type of a symbol: an indirect function has a stub and the slot that this jumps to. The slots
 stand in the order of the symbols: those of addresses that move with the base in one block, the others ahead of it, and
-ahead of all of them the pair of the program's own thread-local data.
+ahead of all of them the pair of the program's own thread-local data. The assembler does not mark the references to
+addresses as ones that may be rewritten, so that they keep their slots.
 """
 import os
 
@@ -19,16 +20,18 @@ ADDRESS_SLOT, OFFSET_SLOT, OWN_PAIR = {9, 41, 42}, 22, 20  # R_X86_64_GOTPCREL, 
 INDIRECT_FUNCTION = 10  # STT_GNU_IFUNC
 ENTRIES = 15  # of the dynamic section: four on strings and symbols, four on resolvers, three on words, and four more
 SEGMENTS = 6
+# any symbol may be another module's, so that the compiler goes through slots
+ANY_MODULE = FLAGS.replace("-fPIE", "-fPIC")
 
 
-def flags_by_symbol(source, sections):
+def flags_by_symbol(source, sections, rewritten):
     """For each symbol but the first, the flags that tell its slots and stub."""
     numbers = {}
     for section in sections:
         for _, number, symbol, _ in source.relocations(section):
             numbers.setdefault(symbol, set()).add(number)
     for i, (_, info, *_) in enumerate(list(source.symbols())[1:], 1):
-        used = numbers.get(i, set())
+        used = numbers.get(i, set()) - rewritten
         flags = ["NON_INTERPOSABLE"]
         if info % 16 == INDIRECT_FUNCTION:
             flags += ["IFUNC", "GOT", "PLT"] + ["IFUNC_GOT_FOR_ADDRESS"] * bool(used & ADDRESS_SLOT)
@@ -67,16 +70,17 @@ def with_stub_calls(source, inputs, flags):
                 relocation["number"] = PLT32
 
 
-def plan(source):
+def plan(source, rewritten=frozenset()):
+    """The plan, where no reference of the rewritten types keeps its slot."""
     loaded = [i for i, h in enumerate(source.headers) if h[1] == PROGBITS and h[2] & ALLOC and h[5]]
     code = [i for i in loaded if source.headers[i][2] & CODE]
     thread = [i for i in loaded if source.headers[i][2] & TLS]
     data = [i for i in loaded if source.headers[i][2] & WRITE and i not in thread]
     strings = [i for i in loaded if i not in code + thread + data]
     order = strings + code + thread + data
-    flags = list(flags_by_symbol(source, order))
+    flags = list(flags_by_symbol(source, order, rewritten))
     words, moved, stubs = (sum(each) for each in zip(*map(slots, flags)))
-    pair = any(number == OWN_PAIR for i in order for _, number, *_ in source.relocations(i))
+    pair = OWN_PAIR not in rewritten and any(number == OWN_PAIR for i in order for _, number, *_ in source.relocations(i))
 
     # the words that tell where the base is added: one for each address of a stub, and those of the block
     packed_words = sum("IFUNC_GOT_FOR_ADDRESS" in own for own in flags) + len(packed(range(0, 8 * moved, 8)))
@@ -191,5 +195,4 @@ def plan(source):
 
 if __name__ == "__main__":
     here = os.path.dirname(os.path.abspath(__file__))
-    # where any symbol may be another module's, so that the compiler goes through slots
-    print(spelled(plan(compiled(f"{here}/slots.c", FLAGS.replace("-fPIE", "-fPIC")))))
+    print(spelled(plan(compiled(f"{here}/slots.c", f"{ANY_MODULE} -Wa,-mrelax-relocations=no"))))

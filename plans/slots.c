@@ -1,27 +1,17 @@
 /* Prints a line whose halves a function gives that a resolver chooses, and ends with the status that a thread-local variable has: 42
    (Linux on x86-64). The code finds functions and data through slots of the global offset table, and the chosen function by a
-   stub. The program is loaded at a base that the system chooses, and nobody helps it there. So it does first what a loader does,
-   in code that uses no slot: it adds the base at each place that the dynamic section tells of, and stores what the resolvers
-   answer (gABI, "Relocation", "Relative Relocation Table"; x86-64 psABI, "Relocation Types", R_X86_64_IRELATIVE). Then it makes a
-   block of thread-local data for its one thread (ELF Handling For Thread-Local Storage, variant II). */
-#define HIDDEN __attribute__((visibility("hidden")))
-
-typedef unsigned long word;
+   stub. Where it asks for thread-local data it is rewritten, as it has to be in a static executable. The program is loaded at a base
+   that the system chooses, and nobody helps it there. So it does first what a loader does, in code that uses no slot: it adds the base
+   at each place that the dynamic section tells of, and stores what the resolvers answer (gABI, "Relocation", "Relative Relocation
+   Table"; x86-64 psABI, "Relocation Types", R_X86_64_IRELATIVE). Then it makes a block of thread-local data for its one thread. */
+#include "start.h"
 
 struct entry { word tag, value; };
 struct rela { word place, type, addend; };
-struct segment { unsigned kind, flags; word offset, address, physical, file_size, mem_size, align; };
 
-enum { DT_PLTRELSZ = 2, DT_JMPREL = 23, DT_RELRSZ = 35, DT_RELR = 36, PT_TLS = 7 };
+enum { DT_PLTRELSZ = 2, DT_JMPREL = 23, DT_RELRSZ = 35, DT_RELR = 36 };
 
 extern struct entry _DYNAMIC[] HIDDEN; /* the dynamic section */
-extern char __ehdr_start[] HIDDEN;     /* address 0 of the image, where the base is */
-
-static long call(long number, long first, const void *second, long third) {
-    long answer;
-    __asm__ volatile("syscall" : "=a"(answer) : "a"(number), "D"(first), "S"(second), "d"(third) : "rcx", "r11", "memory");
-    return answer;
-}
 
 /* ---- what the program says */
 
@@ -85,17 +75,6 @@ static void ask_resolvers(word base) {
     struct rela *entries = (struct rela *)(base + found(DT_JMPREL));
     for (word i = 0; i < found(DT_PLTRELSZ) / sizeof *entries; i++)
         *(word *)(base + entries[i].place) = ((word(*)(void))(base + entries[i].addend))();
-}
-
-/* fills a block that ends at the thread pointer, a multiple of 8; a word there points to itself, the next one to the block */
-static void make_thread(char *base, word *pointer) {
-    struct segment *s = (struct segment *)(base + *(word *)(base + 32)); /* e_phoff */
-    while (s->kind != PT_TLS) s++;
-    char *block = (char *)pointer - (s->mem_size + s->align - 1) / s->align * s->align;
-    for (word i = 0; i < s->file_size; i++) block[i] = base[s->address + i];
-    pointer[0] = (word)pointer;
-    pointer[1] = (word)block;
-    call(158, 0x1002, pointer, 0); /* arch_prctl, ARCH_SET_FS */
 }
 
 /* the program is module 1 */

@@ -1,12 +1,9 @@
 -- Each instruction that relocations fill is the one that its bytes mean.
-use Rattle.std.proofs.Common.{◌≡◌, ℕ, zero, suc, ◌+◌, ◌-◌, ◌*◌, ◌/◌, ◌%◌, ◌^◌, ◌<◌, ◌≤◌, ◌⊎◌, inl, inr, Bool, true, false, List, [], ◌∷◌, length, get_or, refl, sym, ap, ◌∙◌, arith, subst}
-use Rattle.std.specs.Prelude.{◌&&◌, ◌==◌, ◌++◌, nat_le, bit_and, Some, Option, Contains, All, slice_index}
+use Rattle.std.proofs.Common.{◌≡◌, ℕ, suc, ◌+◌, Bool, true, false, List, [], ◌∷◌, length, get_or, refl, sym, ap, ◌∙◌, arith, subst}
+use Rattle.std.specs.Prelude.{◌&&◌, ◌==◌, nat_le, bit_and, Some}
 use Rattle.std.proofs.lemmas.Bool.Decides.{nat_tests}
-use Rattle.std.proofs.lemmas.List.Elements.{All-contains, All-append, All-cons, All-nil}
-use Rattle.wild_plan.specs.declared.kind.Machine.TheVariants as machine
-use Rattle.wild_meaning.specs.Instruction.{Cell, Is, From, Slot, Digit, Any, fits, stands, Template, Action, Number, Word, Deed, Set, Add, Subtract, Compare, Call, Jump}
+use Rattle.wild_meaning.specs.Instruction.{Cell, Is, From, Slot, Digit, Any, fits, stands, Template, Number, Word, Set, Add, Subtract, Compare, Call, Jump}
 use Rattle.wild_meaning.specs.InstructionX86_64.{meaning_x86_64, bare, rex, rex2, branch, with_slot, descriptor_call, general_call, general_slot_call, far_pair_call, local_call, local_slot_call}
-use Rattle.wild_meaning.specs.Sequence.{Instruction, size_of, branches, of_addresses, of_offsets, of_loads, of_descriptors, sequences, instructions_of}
 
 -- ---- bytes spelled by cells
 

@@ -17,7 +17,7 @@ use Rattle.wild_meaning.specs.Instruction as own
 use Rattle.wild_meaning.specs.Instruction.{Is, From, Slot, Digit, Any, fits, stands}
 use Rattle.wild_meaning.specs.Sequence.{Instruction, instructions_of}
 
--- ---- no byte fits and_parts cells
+-- ---- no byte fits both cells
 
 abbrev pub clashes : own.Cell → Cell → Bool
 clashes c (its.Is n) = not (fits c n)
@@ -91,7 +91,7 @@ abbrev pub is_free : Cell → Bool
 is_free its.Any = true
 is_free other = false
 
--- and_parts fix a byte
+-- both fix a byte
 abbrev pub touch : List own.Cell → List Cell → Bool
 touch [] ds = false
 touch (c ∷ cs) [] = false

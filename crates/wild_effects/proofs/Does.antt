@@ -1,34 +1,30 @@
 -- An instruction whose fields read as their formulas, and which keeps its own bytes, does in memory what it demands.
-use Rattle.std.proofs.Common.{◌≡◌, ℕ, zero, suc, ◌+◌, ◌-◌, ◌*◌, ◌/◌, ◌%◌, ◌^◌, ◌<◌, ◌≤◌, ◌⊎◌, inl, inr, Bool, true, false, List, [], ◌∷◌, length, get_or, slice_range, refl, sym, ap, ◌∙◌, arith, subst}
-use Rattle.std.specs.Prelude.{◌&&◌, ◌||◌, ◌++◌, nat_le, nat_lt, Some, Option, None, Ok, Result, option_map, option_and_then, unwrap_or, Contains, slice_index, ⊤}
-use Rattle.std.specs.Int.{w64, cast_unsigned}
-use Rattle.std.proofs.lemmas.Bool.{cases_Bool, cases_lt, ltb-true, leb-true}
+use Rattle.std.proofs.Common.{◌≡◌, ℕ, zero, suc, ◌+◌, ◌-◌, ◌%◌, ◌^◌, ◌<◌, ◌≤◌, ◌⊎◌, inl, inr, true, List, [], ◌∷◌, length, get_or, slice_range, refl, sym, ap, ◌∙◌, arith, subst}
+use Rattle.std.specs.Prelude.{nat_le, Some, Option, None, unwrap_or, Contains, slice_index, ⊤}
+use Rattle.std.proofs.lemmas.Bool.{cases_lt, leb-true}
 use Rattle.std.proofs.lemmas.List.{get_or-take, get_or-drop}
-use Rattle.wild_words.specs.Words.{number, number_at, Stands}
+use Rattle.wild_words.specs.Words.{number, Stands}
 use Rattle.wild_words.proofs.RecordLemmas.{Stands-slice}
 use Rattle.wild_words.proofs.OrderLemmas.{length-range}
 use Rattle.wild_plan.specs.declared.kind.Machine.{Machine}
 use Rattle.wild_plan.specs.declared.kind.Machine.TheVariants as machine
 use Rattle.wild_plan.specs.declared.input.InputRelocation.{InputRelocation}
 use Rattle.wild_plan.specs.declared.layout.Layout.{Layout}
-use Rattle.wild_reloc.specs.Formula.{Value, Formula, formula, NoValue, Distance, StubDistance, SlotDistance, AddressSlot, ModulePair, OwnModulePair, ThreadOffset, Descriptor, Form, NoField, Plain, Signed, Reads, sign_extended}
+use Rattle.wild_reloc.specs.Formula.{Value, Formula, formula, NoValue, Distance, StubDistance, SlotDistance, AddressSlot, ModulePair, OwnModulePair, ThreadOffset, Descriptor, NoField, Plain, Signed, Reads, sign_extended}
 use Rattle.wild_reloc.specs.FormulaX86_64.{x86_64_formula}
-use Rattle.wild_loader.specs.declared.fault.LoadFault.{LoadFault}
 use Rattle.wild_loader.specs.declared.world.World.{World}
 use Rattle.wild_loader.specs.declared.memory.Memory.{Memory}
-use Rattle.wild_loader.specs.Memory.{Holds, byte_in, number_in}
-use Rattle.wild_loader.specs.Changes.{distance_of}
+use Rattle.wild_loader.specs.Memory.{Holds, byte_in}
 use Rattle.wild_records.specs.Abi.Relocation.{r_x86_64_none, r_x86_64_pc32, r_x86_64_plt32, r_x86_64_gotpcrel, r_x86_64_gotpcrelx, r_x86_64_rex_gotpcrelx, r_x86_64_code_4_gotpcrelx, r_x86_64_gottpoff, r_x86_64_code_4_gottpoff, r_x86_64_gotpc32_tlsdesc, r_x86_64_code_4_gotpc32_tlsdesc, r_x86_64_tlsdesc_call, r_x86_64_tlsgd, r_x86_64_tlsld}
-use Rattle.wild_meaning.specs.Instruction.{Operand, Number, Word, Pair, Set, Add, Subtract, Compare, Call, Jump, Reader, Effect, signed_32, signed_at, sum_64}
+use Rattle.wild_meaning.specs.Instruction.{Operand, Number, Word, Pair, Set, Add, Subtract, Compare, Call, Jump, signed_32, signed_at, sum_64}
 use Rattle.wild_meaning.specs.InstructionX86_64.{bare, rex, rex2, branch, with_slot, descriptor_call, general_call, general_slot_call, far_pair_call, local_call, local_slot_call}
 use Rattle.wild_meaning.specs.Sequence.{Sort, Target, TargetInSlot, AddressInSlot, OffsetInSlot, SymbolPair, OwnPair, Described, DescribedCall, Instruction, Partner, size_of, IsBesidePartner, IsOwnByte, of_field, of_sequence, by_call, by_slot, by_distance, instructions_of}
 use Rattle.wild_meaning.specs.Item.{Item, place_at}
 use Rattle.wild_meaning.specs.Field.{formula_of, form_width, FieldReads, IsInputByte}
-use Rattle.wild_meaning.specs.Slot.{HasWord, IsPair, IsSlot}
-use Rattle.wild_meaning.specs.Formula.{Gives, IsTarget, IsGoal, IsOffset, HasOffsetMode}
-use Rattle.wild_meaning.specs.Template.{CountsFromItsEnd, IsInstruction, reads, pair_in, effect_of, Demands, IsDemanded, old_bytes, DoesDemanded}
-use Rattle.wild_effects.specs.Filled.{IsFilled, HasEffect}
-use Rattle.wild_effects.proofs.Fills.{Each, each_at, instructions_do}
+use Rattle.wild_meaning.specs.Formula.{Gives, HasOffsetMode}
+use Rattle.wild_meaning.specs.Template.{IsInstruction, reads, Demands, old_bytes}
+use Rattle.wild_effects.specs.Filled.{IsFilled}
+use Rattle.wild_effects.proofs.Fills.{Each, each_at}
 
 -- ---- what memory has
 
@@ -202,39 +198,100 @@ unfolding x86_64_formula
 own_is = (displaced (SlotDistance OwnModulePair), refl, refl)
 
 every_told : Each IsTold (instructions_of machine.X86_64)
-every_told =
-    (told (of_field (branch (0xe8 ∷ []) Number Call) 1 Target (r_x86_64_pc32 ∷ r_x86_64_plt32 ∷ [])) (λ a bs. refl) (pc32_is, (plt32_is, tt)) refl refl ((λ e. cc), ((λ e. cc), tt)) tt,
-    (told (of_field (branch (0xe9 ∷ []) Number Jump) 1 Target (r_x86_64_pc32 ∷ r_x86_64_plt32 ∷ [])) (λ a bs. refl) (pc32_is, (plt32_is, tt)) refl refl ((λ e. cc), ((λ e. cc), tt)) tt,
-    (told (of_field (branch (0xff ∷ 0x15 ∷ []) Word Call) 2 TargetInSlot (r_x86_64_gotpcrel ∷ r_x86_64_gotpcrelx ∷ [])) (λ a bs. refl) (slot_is, (slotx_is, tt)) refl refl ((λ e. cc), ((λ e. cc), tt)) tt,
-    (told (of_field (branch (0xff ∷ 0x25 ∷ []) Word Jump) 2 TargetInSlot (r_x86_64_gotpcrel ∷ r_x86_64_gotpcrelx ∷ [])) (λ a bs. refl) (slot_is, (slotx_is, tt)) refl refl ((λ e. cc), ((λ e. cc), tt)) tt,
-    (told (of_field (with_slot 0x8b Word Set bare) 2 AddressInSlot (r_x86_64_gotpcrelx ∷ [])) (λ a bs. refl) (bare_is, tt) refl refl ((λ e. cc), tt) tt,
-    (told (of_field (with_slot 0x03 Word Add bare) 2 AddressInSlot (r_x86_64_gotpcrelx ∷ [])) (λ a bs. refl) (bare_is, tt) refl refl ((λ e. cc), tt) tt,
-    (told (of_field (with_slot 0x2b Word Subtract bare) 2 AddressInSlot (r_x86_64_gotpcrelx ∷ [])) (λ a bs. refl) (bare_is, tt) refl refl ((λ e. cc), tt) tt,
-    (told (of_field (with_slot 0x3b Word Compare bare) 2 AddressInSlot (r_x86_64_gotpcrelx ∷ [])) (λ a bs. refl) (bare_is, tt) refl refl ((λ e. cc), tt) tt,
-    (told (of_field (with_slot 0x8b Word Set rex) 3 AddressInSlot (r_x86_64_rex_gotpcrelx ∷ [])) (λ a bs. refl) (rex_is, tt) refl refl ((λ e. cc), tt) tt,
-    (told (of_field (with_slot 0x03 Word Add rex) 3 AddressInSlot (r_x86_64_rex_gotpcrelx ∷ [])) (λ a bs. refl) (rex_is, tt) refl refl ((λ e. cc), tt) tt,
-    (told (of_field (with_slot 0x2b Word Subtract rex) 3 AddressInSlot (r_x86_64_rex_gotpcrelx ∷ [])) (λ a bs. refl) (rex_is, tt) refl refl ((λ e. cc), tt) tt,
-    (told (of_field (with_slot 0x3b Word Compare rex) 3 AddressInSlot (r_x86_64_rex_gotpcrelx ∷ [])) (λ a bs. refl) (rex_is, tt) refl refl ((λ e. cc), tt) tt,
-    (told (of_field (with_slot 0x8b Word Set rex2) 4 AddressInSlot (r_x86_64_code_4_gotpcrelx ∷ [])) (λ a bs. refl) (rex2_is, tt) refl refl ((λ e. cc), tt) tt,
-    (told (of_field (with_slot 0x03 Word Add rex2) 4 AddressInSlot (r_x86_64_code_4_gotpcrelx ∷ [])) (λ a bs. refl) (rex2_is, tt) refl refl ((λ e. cc), tt) tt,
-    (told (of_field (with_slot 0x2b Word Subtract rex2) 4 AddressInSlot (r_x86_64_code_4_gotpcrelx ∷ [])) (λ a bs. refl) (rex2_is, tt) refl refl ((λ e. cc), tt) tt,
-    (told (of_field (with_slot 0x3b Word Compare rex2) 4 AddressInSlot (r_x86_64_code_4_gotpcrelx ∷ [])) (λ a bs. refl) (rex2_is, tt) refl refl ((λ e. cc), tt) tt,
-    (told (of_field (with_slot 0x8b Word Set rex) 3 OffsetInSlot (r_x86_64_gottpoff ∷ [])) (λ a bs. refl) (offset_is, tt) refl refl ((λ e. cc), tt) tt,
-    (told (of_field (with_slot 0x03 Word Add rex) 3 OffsetInSlot (r_x86_64_gottpoff ∷ [])) (λ a bs. refl) (offset_is, tt) refl refl ((λ e. cc), tt) tt,
-    (told (of_field (with_slot 0x8b Word Set rex2) 4 OffsetInSlot (r_x86_64_code_4_gottpoff ∷ [])) (λ a bs. refl) (offset2_is, tt) refl refl ((λ e. cc), tt) tt,
-    (told (of_field (with_slot 0x03 Word Add rex2) 4 OffsetInSlot (r_x86_64_code_4_gottpoff ∷ [])) (λ a bs. refl) (offset2_is, tt) refl refl ((λ e. cc), tt) tt,
-    (told (of_field (with_slot 0x8b Word Set rex) 3 AddressInSlot (r_x86_64_gotpcrel ∷ [])) (λ a bs. refl) (load_is, tt) refl refl ((λ e. cc), tt) tt,
-    (told (of_field (with_slot 0x8b Word Set rex2) 4 AddressInSlot (r_x86_64_gotpcrel ∷ [])) (λ a bs. refl) (load_is, tt) refl refl ((λ e. cc), tt) tt,
-    (told (of_field (with_slot 0x8d Number Set rex) 3 Described (r_x86_64_gotpc32_tlsdesc ∷ [])) (λ a bs. refl) (descriptor_is, tt) refl refl ((λ e. cc), tt) tt,
-    (told (of_field (with_slot 0x8d Number Set rex2) 4 Described (r_x86_64_code_4_gotpc32_tlsdesc ∷ [])) (λ a bs. refl) (descriptor2_is, tt) refl refl ((λ e. cc), tt) tt,
-    (told (record { template = descriptor_call; field = 0; width = 0; sort = DescribedCall; numbers = r_x86_64_tlsdesc_call ∷ []; partner = None }) (λ a bs. refl) (call_is, tt) refl refl ((λ e. cc), tt) tt,
-    (told (of_sequence general_call 4 SymbolPair r_x86_64_tlsgd (by_call 12)) (λ a bs. refl) (pair_is, tt) refl refl ((λ e. cc), tt) (inl refl),
-    (told (of_sequence general_slot_call 4 SymbolPair r_x86_64_tlsgd (by_slot 12)) (λ a bs. refl) (pair_is, tt) refl refl ((λ e. cc), tt) (inl refl),
-    (told (of_sequence far_pair_call 3 SymbolPair r_x86_64_tlsgd (by_distance 9)) (λ a bs. refl) (pair_is, tt) refl refl ((λ e. cc), tt) (inl refl),
-    (told (of_sequence local_call 3 OwnPair r_x86_64_tlsld (by_call 8)) (λ a bs. refl) (own_is, tt) refl refl ((λ e. cc), tt) (inr refl),
-    (told (of_sequence local_slot_call 3 OwnPair r_x86_64_tlsld (by_slot 9)) (λ a bs. refl) (own_is, tt) refl refl ((λ e. cc), tt) (inr refl),
-    (told (of_sequence far_pair_call 3 OwnPair r_x86_64_tlsld (by_distance 9)) (λ a bs. refl) (own_is, tt) refl refl ((λ e. cc), tt) (inr refl),
-    tt)))))))))))))))))))))))))))))))
+every_told = (
+  told (of_field (branch (0xe8 ∷ []) Number Call) 1 Target (r_x86_64_pc32 ∷ r_x86_64_plt32 ∷ [])) (λ a bs. refl) (pc32_is, (plt32_is, tt)) refl refl ((λ e. cc), ((λ e. cc), tt)) tt,
+  (
+    told (of_field (branch (0xe9 ∷ []) Number Jump) 1 Target (r_x86_64_pc32 ∷ r_x86_64_plt32 ∷ [])) (λ a bs. refl) (pc32_is, (plt32_is, tt)) refl refl ((λ e. cc), ((λ e. cc), tt)) tt,
+    (
+      told (of_field (branch (0xff ∷ 0x15 ∷ []) Word Call) 2 TargetInSlot (r_x86_64_gotpcrel ∷ r_x86_64_gotpcrelx ∷ [])) (λ a bs. refl) (slot_is, (slotx_is, tt)) refl refl ((λ e. cc), ((λ e. cc), tt)) tt,
+      (
+        told (of_field (branch (0xff ∷ 0x25 ∷ []) Word Jump) 2 TargetInSlot (r_x86_64_gotpcrel ∷ r_x86_64_gotpcrelx ∷ [])) (λ a bs. refl) (slot_is, (slotx_is, tt)) refl refl ((λ e. cc), ((λ e. cc), tt)) tt,
+        (
+          told (of_field (with_slot 0x8b Word Set bare) 2 AddressInSlot (r_x86_64_gotpcrelx ∷ [])) (λ a bs. refl) (bare_is, tt) refl refl ((λ e. cc), tt) tt,
+          (
+            told (of_field (with_slot 0x03 Word Add bare) 2 AddressInSlot (r_x86_64_gotpcrelx ∷ [])) (λ a bs. refl) (bare_is, tt) refl refl ((λ e. cc), tt) tt,
+            (
+              told (of_field (with_slot 0x2b Word Subtract bare) 2 AddressInSlot (r_x86_64_gotpcrelx ∷ [])) (λ a bs. refl) (bare_is, tt) refl refl ((λ e. cc), tt) tt,
+              (
+                told (of_field (with_slot 0x3b Word Compare bare) 2 AddressInSlot (r_x86_64_gotpcrelx ∷ [])) (λ a bs. refl) (bare_is, tt) refl refl ((λ e. cc), tt) tt,
+                (
+                  told (of_field (with_slot 0x8b Word Set rex) 3 AddressInSlot (r_x86_64_rex_gotpcrelx ∷ [])) (λ a bs. refl) (rex_is, tt) refl refl ((λ e. cc), tt) tt,
+                  (
+                    told (of_field (with_slot 0x03 Word Add rex) 3 AddressInSlot (r_x86_64_rex_gotpcrelx ∷ [])) (λ a bs. refl) (rex_is, tt) refl refl ((λ e. cc), tt) tt,
+                    (
+                      told (of_field (with_slot 0x2b Word Subtract rex) 3 AddressInSlot (r_x86_64_rex_gotpcrelx ∷ [])) (λ a bs. refl) (rex_is, tt) refl refl ((λ e. cc), tt) tt,
+                      (
+                        told (of_field (with_slot 0x3b Word Compare rex) 3 AddressInSlot (r_x86_64_rex_gotpcrelx ∷ [])) (λ a bs. refl) (rex_is, tt) refl refl ((λ e. cc), tt) tt,
+                        (
+                          told (of_field (with_slot 0x8b Word Set rex2) 4 AddressInSlot (r_x86_64_code_4_gotpcrelx ∷ [])) (λ a bs. refl) (rex2_is, tt) refl refl ((λ e. cc), tt) tt,
+                          (
+                            told (of_field (with_slot 0x03 Word Add rex2) 4 AddressInSlot (r_x86_64_code_4_gotpcrelx ∷ [])) (λ a bs. refl) (rex2_is, tt) refl refl ((λ e. cc), tt) tt,
+                            (
+                              told (of_field (with_slot 0x2b Word Subtract rex2) 4 AddressInSlot (r_x86_64_code_4_gotpcrelx ∷ [])) (λ a bs. refl) (rex2_is, tt) refl refl ((λ e. cc), tt) tt,
+                              (
+                                told (of_field (with_slot 0x3b Word Compare rex2) 4 AddressInSlot (r_x86_64_code_4_gotpcrelx ∷ [])) (λ a bs. refl) (rex2_is, tt) refl refl ((λ e. cc), tt) tt,
+                                (
+                                  told (of_field (with_slot 0x8b Word Set rex) 3 OffsetInSlot (r_x86_64_gottpoff ∷ [])) (λ a bs. refl) (offset_is, tt) refl refl ((λ e. cc), tt) tt,
+                                  (
+                                    told (of_field (with_slot 0x03 Word Add rex) 3 OffsetInSlot (r_x86_64_gottpoff ∷ [])) (λ a bs. refl) (offset_is, tt) refl refl ((λ e. cc), tt) tt,
+                                    (
+                                      told (of_field (with_slot 0x8b Word Set rex2) 4 OffsetInSlot (r_x86_64_code_4_gottpoff ∷ [])) (λ a bs. refl) (offset2_is, tt) refl refl ((λ e. cc), tt) tt,
+                                      (
+                                        told (of_field (with_slot 0x03 Word Add rex2) 4 OffsetInSlot (r_x86_64_code_4_gottpoff ∷ [])) (λ a bs. refl) (offset2_is, tt) refl refl ((λ e. cc), tt) tt,
+                                        (
+                                          told (of_field (with_slot 0x8b Word Set rex) 3 AddressInSlot (r_x86_64_gotpcrel ∷ [])) (λ a bs. refl) (load_is, tt) refl refl ((λ e. cc), tt) tt,
+                                          (
+                                            told (of_field (with_slot 0x8b Word Set rex2) 4 AddressInSlot (r_x86_64_gotpcrel ∷ [])) (λ a bs. refl) (load_is, tt) refl refl ((λ e. cc), tt) tt,
+                                            (
+                                              told (of_field (with_slot 0x8d Number Set rex) 3 Described (r_x86_64_gotpc32_tlsdesc ∷ [])) (λ a bs. refl) (descriptor_is, tt) refl refl ((λ e. cc), tt) tt,
+                                              (
+                                                told (of_field (with_slot 0x8d Number Set rex2) 4 Described (r_x86_64_code_4_gotpc32_tlsdesc ∷ [])) (λ a bs. refl) (descriptor2_is, tt) refl refl ((λ e. cc), tt) tt,
+                                                (
+                                                  told (record { template = descriptor_call; field = 0; width = 0; sort = DescribedCall; numbers = r_x86_64_tlsdesc_call ∷ []; partner = None }) (λ a bs. refl) (call_is, tt) refl refl ((λ e. cc), tt) tt,
+                                                  (
+                                                    told (of_sequence general_call 4 SymbolPair r_x86_64_tlsgd (by_call 12)) (λ a bs. refl) (pair_is, tt) refl refl ((λ e. cc), tt) (inl refl),
+                                                    (
+                                                      told (of_sequence general_slot_call 4 SymbolPair r_x86_64_tlsgd (by_slot 12)) (λ a bs. refl) (pair_is, tt) refl refl ((λ e. cc), tt) (inl refl),
+                                                      (
+                                                        told (of_sequence far_pair_call 3 SymbolPair r_x86_64_tlsgd (by_distance 9)) (λ a bs. refl) (pair_is, tt) refl refl ((λ e. cc), tt) (inl refl),
+                                                        (
+                                                          told (of_sequence local_call 3 OwnPair r_x86_64_tlsld (by_call 8)) (λ a bs. refl) (own_is, tt) refl refl ((λ e. cc), tt) (inr refl),
+                                                          (
+                                                            told (of_sequence local_slot_call 3 OwnPair r_x86_64_tlsld (by_slot 9)) (λ a bs. refl) (own_is, tt) refl refl ((λ e. cc), tt) (inr refl),
+                                                            (
+                                                              told (of_sequence far_pair_call 3 OwnPair r_x86_64_tlsld (by_distance 9)) (λ a bs. refl) (own_is, tt) refl refl ((λ e. cc), tt) (inr refl),
+                                                              tt,
+                                                            ),
+                                                          ),
+                                                        ),
+                                                      ),
+                                                    ),
+                                                  ),
+                                                ),
+                                              ),
+                                            ),
+                                          ),
+                                        ),
+                                      ),
+                                    ),
+                                  ),
+                                ),
+                              ),
+                            ),
+                          ),
+                        ),
+                      ),
+                    ),
+                  ),
+                ),
+              ),
+            ),
+          ),
+        ),
+      ),
+    ),
+  ),
+)
 
 pub told_of : (o : Instruction) → Contains (instructions_of machine.X86_64) o → IsTold o
 told_of o listed = each_at IsTold (instructions_of machine.X86_64) o every_told listed.0 listed.1 listed.2

@@ -1,11 +1,10 @@
 -- An instruction with its fields filled does what its input's bytes demand.
 use Rattle.std.proofs.Common.{◌≡◌, ℕ, zero, suc, ◌+◌, ◌*◌, ◌/◌, ◌%◌, ◌^◌, ◌<◌, ◌≤◌, ◌⊎◌, inl, inr, Bool, true, false, List, [], ◌∷◌, length, get_or, refl, sym, ap, ◌∙◌, arith, subst}
-use Rattle.std.specs.Prelude.{◌&&◌, ◌||◌, ◌++◌, nat_le, nat_lt, Some, Option, None, option_map, option_and_then, Contains, slice_index, ⊤}
-use Rattle.std.proofs.lemmas.Bool.Decides.{nat_tests}
-use Rattle.std.proofs.lemmas.Bool.{cases_Bool, leb-true, ltb-true}
+use Rattle.std.specs.Prelude.{◌&&◌, ◌||◌, nat_le, nat_lt, Some, Option, None, option_map, option_and_then, slice_index, ⊤}
+use Rattle.std.proofs.lemmas.Bool.{leb-true, ltb-true}
 use Rattle.wild_plan.specs.declared.kind.Machine.TheVariants as machine
-use Rattle.wild_meaning.specs.Instruction.{Cell, Is, From, Slot, Digit, Any, fits, stands, Template, Action, Operand, Number, Word, Deed, Set, Add, Subtract, Compare, Call, Jump, Reader, Effect, effect, with_value, as_value}
-use Rattle.wild_meaning.specs.InstructionX86_64.{Prefix, meaning_x86_64, effect_x86_64, demand_x86_64, bare, rex, rex2, branch, with_slot, descriptor_call, general_call, general_slot_call, far_pair_call, local_call, local_slot_call}
+use Rattle.wild_meaning.specs.Instruction.{Cell, Is, From, Slot, Digit, Any, fits, stands, Action, Operand, Number, Word, Deed, Set, Add, Subtract, Compare, Call, Jump, Reader, Effect, effect, with_value, as_value}
+use Rattle.wild_meaning.specs.InstructionX86_64.{bare, rex, rex2, branch, with_slot, descriptor_call, general_call, general_slot_call, far_pair_call, local_call, local_slot_call}
 use Rattle.wild_records.specs.Abi.Relocation.{r_x86_64_pc32, r_x86_64_plt32, r_x86_64_gotpcrel, r_x86_64_gotpcrelx, r_x86_64_rex_gotpcrelx, r_x86_64_code_4_gotpcrelx, r_x86_64_gottpoff, r_x86_64_code_4_gottpoff, r_x86_64_gotpc32_tlsdesc, r_x86_64_code_4_gotpc32_tlsdesc, r_x86_64_tlsdesc_call, r_x86_64_tlsgd, r_x86_64_tlsld}
 use Rattle.wild_meaning.specs.Sequence.{Target, TargetInSlot, AddressInSlot, OffsetInSlot, SymbolPair, OwnPair, Described, DescribedCall, Instruction, Partner, size_of, IsBesidePartner, IsOwnByte, of_field, of_sequence, by_call, by_slot, by_distance, instructions_of}
 use Rattle.wild_effects.specs.Filled.{IsFilled, HasEffect, FilledInstructionsDo}
@@ -70,10 +69,10 @@ stands_too own (c ∷ cs) (b ∷ old) (d ∷ new) wo wn k so sn long same h s =
     let ob : get_or wo k 0 ≡ b = subst (λ (j : ℕ). get_or wo j 0 ≡ b) z (so 0) in
     let nd : get_or wn k 0 ≡ d = subst (λ (j : ℕ). get_or wn j 0 ≡ d) z (sn 0) in
     let first : fits c d ≡ true =
-        elim (either (is_any c) (own k) two.0) [
-          | inl any ↦ fits_any c b d any
-          | inr is ↦ (let e : d ≡ b = sym nd ∙ same k (omega arith) is ∙ ob in subst (λ (x : ℕ). fits c x ≡ true) (sym e) one.0)
-        ] in
+    elim (either (is_any c) (own k) two.0) [
+      | inl any ↦ fits_any c b d any
+      | inr is ↦ (let e : d ≡ b = sym nd ∙ same k (omega arith) is ∙ ob in subst (λ (x : ℕ). fits c x ≡ true) (sym e) one.0)
+    ] in
     let no : (i : ℕ) → get_or wo (k + 1 + i) 0 ≡ get_or old i 0 = λ i. subst (λ (j : ℕ). get_or wo j 0 ≡ get_or old i 0) (omega arith) (so (suc i)) in
     let nn : (i : ℕ) → get_or wn (k + 1 + i) 0 ≡ get_or new i 0 = λ i. subst (λ (j : ℕ). get_or wn j 0 ≡ get_or new i 0) (omega arith) (sn (suc i)) in
     let rest = stands_too own cs old new wo wn (k + 1) no nn (omega arith) (λ i lt is. same i (omega arith) is) two.1 one.1 in

@@ -1,19 +1,18 @@
 -- Each reference of a loaded section holds.
-use Rattle.std.proofs.Common.{◌≡◌, ℕ, ◌<◌, ◌⊎◌, inl, inr, List, length, get_or, refl, sym, ap, ◌∙◌}
-use Rattle.std.specs.Prelude.{Some, Ok, Contains, slice_get}
+use Rattle.std.proofs.Common.{◌≡◌, ℕ, ◌⊎◌, inl, inr, ap, ◌∙◌}
+use Rattle.std.specs.Prelude.{Some, Contains}
 use Rattle.std.proofs.lemmas.Option.{slice_get-get_or}
 use Rattle.wild_plan.specs.declared.input.InputRelocation.{InputRelocation}
 use Rattle.wild_plan.specs.declared.input.InputSection.{InputSection}
 use Rattle.wild_plan.specs.declared.layout.Layout.{Layout}
 use Rattle.wild_layout.specs.declared.decision.Decision.{Decision}
 use Rattle.wild_layout.specs.declared.decision.Decision.TheVariants.{Nothing, Field, Moved, Left, Rewritten, Partner}
-use Rattle.wild_layout.specs.Decide.{decide}
 use Rattle.wild_geometry.specs.Loaded.{HasDecision}
 use Rattle.wild_loader.specs.declared.world.World.{World}
 use Rattle.wild_loader.specs.declared.memory.Memory.{Memory}
 use Rattle.wild_values.specs.Laws.{KeepsInstruction, IsKeptReference, FieldsHold, IsLoadedSection}
 use Rattle.wild_meaning.specs.Item.{item_of, IsReference}
-use Rattle.wild_meaning.specs.Reference.{IsAsked, IsExcepted, IsLinkedAlone, HoldsPlain, HoldsRewritten, HoldsLinked, ReferenceHolds}
+use Rattle.wild_meaning.specs.Reference.{IsAsked, IsLinkedAlone, HoldsRewritten, HoldsLinked, ReferenceHolds}
 use Rattle.wild_effects.specs.Laws.{RewrittenHold, PartnersHold, InstructionsAreKept, OthersAreKept, KeptInstructionsDo, ItemsHold}
 
 record AreKnown : Type 0 where

@@ -83,7 +83,7 @@ field_outside s x q z v width out =
     All-one (Outside x) (field_site s q.offset z v) (elim out [ inl low ↦ inl low | inr high ↦ inr (omega (arith, high, width, long)) ])
 
 -- each instruction that is rewritten leaves the byte out
-abbrev OutOfWindows : Layout → InputSection → ℕ → Type 0
+abbrev pub OutOfWindows : Layout → InputSection → ℕ → Type 0
 OutOfWindows l s x = (j : ℕ) (q : InputRelocation) (row : Row) (v : ℕ) → HasDecision l s j q (Rewritten row v) → (x < template_start row q) ⊎ (template_start row q + pattern_size row ≤ x)
 
 decision_outside : (l : Layout) (s : InputSection) (x j : ℕ) (q : InputRelocation) (d : Decision) → l.machine ≡ machine.X86_64 → InNoField l (item_of s) x → OutOfWindows l s x → HasDecision l s j q d → All (Outside x) (site_for s q d)
@@ -117,7 +117,7 @@ in_no_site l s x x86 whole out windows = All-flat_map (Outside x) (site l s) (ra
         subst (λ (j : ℕ). All (Outside x) (site l s j)) (sym is) (at n (omega (arith, lt, long)))
 
 -- such a byte is the input's
-input_byte : (l : Layout) (w : World) (m : Memory) (s : InputSection) (x : ℕ) → IsLoadedSection l w m s → x < length s.bytes → InNoField l (item_of s) x → OutOfWindows l s x → IsInputByte w m (item_of s) x
+pub input_byte : (l : Layout) (w : World) (m : Memory) (s : InputSection) (x : ℕ) → IsLoadedSection l w m s → x < length s.bytes → InNoField l (item_of s) x → OutOfWindows l s x → IsInputByte w m (item_of s) x
 input_byte l w m s x h lt out windows = h.section.others x lt (in_no_site l s x h.x86 h.decided out windows)
 
 -- ---- the bytes of a row's pattern that it leaves free are in fields
@@ -127,17 +127,17 @@ not_between x from width low high (inl before) = absurd (omega (arith, low, befo
 not_between x from width low high (inr behind) = absurd (omega (arith, high, behind))
 
 -- a window of the section
-record Window (l : Layout) (s : InputSection) (j : ℕ) (q : InputRelocation) (row : Row) (v : ℕ) : Type 0 where
-  has : HasDecision l s j q (Rewritten row v)
-  made : IsRewritten l s q (slice_get s.relocations (j + 1)) row v
-  fixed : IsFixed row
+pub record Window (l : Layout) (s : InputSection) (j : ℕ) (q : InputRelocation) (row : Row) (v : ℕ) : Type 0 where
+  pub has : HasDecision l s j q (Rewritten row v)
+  pub made : IsRewritten l s q (slice_get s.relocations (j + 1)) row v
+  pub fixed : IsFixed row
 
-window : (l : Layout) (s : InputSection) (j : ℕ) (q : InputRelocation) (row : Row) (v : ℕ) → HasDecision l s j q (Rewritten row v) → Window l s j q row v
+pub window : (l : Layout) (s : InputSection) (j : ℕ) (q : InputRelocation) (row : Row) (v : ℕ) → HasDecision l s j q (Rewritten row v) → Window l s j q row v
 window l s j q row v h =
     let made = decide_rewritten l s j q row v h.listed h.decided in
     record { has = h; made = made; fixed = is_fixed row (chosen_listed l s q (slice_get s.relocations (j + 1)) row made.chosen row_fixed each_row_fixed) made.changes }
 
-free_not : (l : Layout) (s : InputSection) (j : ℕ) (q : InputRelocation) (row : Row) (v x t : ℕ) → l.machine ≡ machine.X86_64 → Window l s j q row v → InNoField l (item_of s) x → x ≡ template_start row q + t → t < pattern_size row → is_free (get_or (cells_of (pattern_of row)) t its.Any) ≡ true → ⊥
+pub free_not : (l : Layout) (s : InputSection) (j : ℕ) (q : InputRelocation) (row : Row) (v x t : ℕ) → l.machine ≡ machine.X86_64 → Window l s j q row v → InNoField l (item_of s) x → x ≡ template_start row q + t → t < pattern_size row → is_free (get_or (cells_of (pattern_of row)) t its.Any) ≡ true → ⊥
 free_not l s j q row v x t x86 w out at lt free = by (free_in_field row t (w.fixed.free t lt free))
   where
     by : ((field_of (pattern_of row) ≤ t) × (t < field_of (pattern_of row) + width_of (number_of row))) ⊎ ((d : ℕ) × (partner_distance row ≡ Some d) × (field_of (pattern_of row) + d ≤ t) × (t < field_of (pattern_of row) + d + call_width (call_form row))) → ⊥

@@ -1,23 +1,23 @@
 -- An instruction whose reference keeps it does what it demands.
-use Rattle.std.proofs.Common.{◌≡◌, ℕ, ◌+◌, ◌⊎◌, inl, inr, List, length, refl, sym, ap, ◌∙◌, subst}
-use Rattle.std.specs.Prelude.{⊤, Option, Some, None, Contains}
+use Rattle.std.proofs.Common.{◌≡◌, ℕ, ◌⊎◌, inl, inr, refl, sym, ap, ◌∙◌, subst}
+use Rattle.std.specs.Prelude.{⊤, Option, Some, Contains}
 use Rattle.wild_plan.specs.declared.kind.Machine.{Machine}
 use Rattle.wild_plan.specs.declared.kind.Machine.TheVariants as machine
 use Rattle.wild_plan.specs.declared.input.InputRelocation.{InputRelocation}
 use Rattle.wild_plan.specs.declared.input.InputSection.{InputSection}
 use Rattle.wild_plan.specs.declared.layout.Layout.{Layout}
-use Rattle.wild_reloc.specs.Formula.{Slot, Value, Formula, SlotDistance, AddressSlot, ModulePair, OwnModulePair}
+use Rattle.wild_reloc.specs.Formula.{Slot, Formula, SlotDistance, AddressSlot, ModulePair, OwnModulePair}
 use Rattle.wild_loader.specs.declared.world.World.{World}
 use Rattle.wild_loader.specs.declared.memory.Memory.{Memory}
 use Rattle.wild_values.specs.Laws.{FieldHolds, IsKeptReference, FieldsHold, IsLoadedSection}
-use Rattle.wild_meaning.specs.Sequence.{Sort, Target, TargetInSlot, AddressInSlot, OffsetInSlot, SymbolPair, OwnPair, Described, DescribedCall, Instruction, Partner, instructions_of}
+use Rattle.wild_meaning.specs.Sequence.{Sort, TargetInSlot, SymbolPair, OwnPair, Instruction, Partner, instructions_of}
 use Rattle.wild_meaning.specs.Item.{Item, item_of}
 use Rattle.wild_meaning.specs.Field.{formula_of}
 use Rattle.wild_meaning.specs.Formula.{IsPlaceRelative, TakesAddress, TakesOffset}
-use Rattle.wild_meaning.specs.Template.{IsInstruction, IsSequence, IsSingle, IsDouble, IsTemplate, DoesDemanded}
-use Rattle.wild_meaning.specs.Reference.{IsExcepted, IsAsked, IsLinkedAlone, HasPlace, GoesThroughSlot, TakesItself}
+use Rattle.wild_meaning.specs.Template.{IsSequence, IsSingle, IsDouble, IsTemplate, reads, DoesDemanded}
+use Rattle.wild_meaning.specs.Reference.{IsAsked, IsLinkedAlone, HasPlace, GoesThroughSlot, TakesItself}
 use Rattle.wild_effects.specs.Laws.{SequencesAreKept, InstructionsAreKept, KeptInstructionsDo}
-use Rattle.wild_effects.proofs.Does.{HasField, PartnerThere, IsThere, FormulaIs, displaced, formula_is, refers, pair_of, known_formula}
+use Rattle.wild_effects.proofs.Does.{HasField, PartnerThere, FormulaIs, displaced, formula_is, refers, pair_of, known_formula}
 use Rattle.wild_effects.proofs.Right.{does_demanded}
 
 -- ---- the pair of a sequence is asked everywhere
@@ -108,7 +108,7 @@ as_field : (l : Layout) (w : World) (m : Memory) (item : Item) (r : InputRelocat
 as_field l w m item r f = record { formula = f.formula; known = f.known; value = f.value; gives = f.gives; field = f.field }
 
 single_does : InstructionsAreKept → (l : Layout) (w : World) (m : Memory) (s : InputSection) → IsLoadedSection l w m s → FieldsHold l w m s → (i : ℕ) (r : InputRelocation) → IsKeptReference l s i r → IsAsked l w (item_of s) r → (IsLinkedAlone l (item_of s) r → ⊥)
-    → (start : ℕ) (o : Instruction) → IsSingle l (item_of s) r start o → DoesDemanded l w m (item_of s) r start o
+    → (start : ℕ) (o : Instruction) → IsSingle l (item_of s) r start o → DoesDemanded (reads w m) l w m (item_of s) r start o
 single_does kept l w m s g f i r k asked alone start o t =
     does_demanded l w m (item_of s) r start o (record {
       x86 = g.x86;
@@ -119,7 +119,7 @@ single_does kept l w m s g f i r k asked alone start o t =
     })
 
 double_does : SequencesAreKept → InstructionsAreKept → (l : Layout) (w : World) (m : Memory) (s : InputSection) → IsLoadedSection l w m s → FieldsHold l w m s → (i : ℕ) (r : InputRelocation) → IsKeptReference l s i r
-    → (start : ℕ) (o : Instruction) (first : InputRelocation) → IsDouble l (item_of s) r start o first → DoesDemanded l w m (item_of s) first start o
+    → (start : ℕ) (o : Instruction) (first : InputRelocation) → IsDouble l (item_of s) r start o first → DoesDemanded (reads w m) l w m (item_of s) first start o
 double_does sequences kept l w m s g f i r k start o first t =
     let q = sequences l w m s g i r k.decision k.has k.keeps start o first t.second t.sequence t.one in
     let p = has_pair l (item_of s) first t.second start o g.x86 t.sequence in
@@ -137,5 +137,5 @@ double_does sequences kept l w m s g f i r k start o first t =
 
 pub kept_do : SequencesAreKept → InstructionsAreKept → KeptInstructionsDo
 kept_do sequences kept l w m s g f i r k asked alone start o first (inl t) =
-    subst (λ (x : InputRelocation). DoesDemanded l w m (item_of s) x start o) (sym t.1) (single_does kept l w m s g f i r k asked alone start o t.0)
+    subst (λ (x : InputRelocation). DoesDemanded (reads w m) l w m (item_of s) x start o) (sym t.1) (single_does kept l w m s g f i r k asked alone start o t.0)
 kept_do sequences kept l w m s g f i r k asked alone start o first (inr t) = double_does sequences kept l w m s g f i r k start o first t

@@ -1,29 +1,28 @@
 -- What the operand of an instruction in memory reads as is what is demanded, by its sort.
-use Rattle.std.proofs.Common.{◌≡◌, ℕ, zero, suc, ◌+◌, ◌-◌, ◌*◌, ◌%◌, ◌^◌, ◌<◌, ◌≤◌, ◌⊎◌, inl, inr, List, length, refl, sym, ap, ◌∙◌, arith, subst}
-use Rattle.std.specs.Prelude.{Option, Some, None, Ok, Result, option_map, option_and_then, Contains, nat_lt, slice_index}
+use Rattle.std.proofs.Common.{◌≡◌, ℕ, suc, ◌+◌, ◌-◌, ◌*◌, ◌%◌, ◌^◌, ◌<◌, inl, inr, List, length, refl, sym, ap, ◌∙◌, arith, subst}
+use Rattle.std.specs.Prelude.{Option, Some, None, Result, option_map, option_and_then, Contains, nat_lt, slice_index}
 use Rattle.std.specs.Int.{w64, cast_unsigned}
 use Rattle.std.proofs.lemmas.Bool.{cases_Bool, ltb-true}
 use Rattle.wild_plan.specs.declared.kind.Machine.{Machine}
 use Rattle.wild_plan.specs.declared.kind.Machine.TheVariants as machine
 use Rattle.wild_plan.specs.declared.input.InputRelocation.{InputRelocation}
 use Rattle.wild_plan.specs.declared.layout.Layout.{Layout}
-use Rattle.wild_reloc.specs.Formula.{Value, Formula, formula, NoValue, Distance, StubDistance, SlotDistance, AddressSlot, ModulePair, OwnModulePair, ThreadOffset, Descriptor, NoField}
+use Rattle.wild_reloc.specs.Formula.{Value, Formula, Distance, StubDistance, SlotDistance, AddressSlot, ModulePair, OwnModulePair, ThreadOffset, Descriptor}
 use Rattle.wild_loader.specs.declared.fault.LoadFault.{LoadFault}
 use Rattle.wild_loader.specs.declared.world.World.{World}
 use Rattle.wild_loader.specs.declared.memory.Memory.{Memory}
 use Rattle.wild_loader.specs.Memory.{Holds, byte_in, number_in}
 use Rattle.wild_loader.specs.Changes.{distance_of}
-use Rattle.wild_meaning.specs.Instruction.{Operand, Number, Word, Pair, Effect, sum_64, as_value}
+use Rattle.wild_meaning.specs.Instruction.{Operand, Number, Effect, sum_64, as_value}
 use Rattle.wild_meaning.specs.InstructionX86_64.{demand_x86_64}
 use Rattle.wild_meaning.specs.Sequence.{Sort, Target, TargetInSlot, AddressInSlot, OffsetInSlot, SymbolPair, OwnPair, Described, DescribedCall, Instruction, size_of, instructions_of}
 use Rattle.wild_meaning.specs.Item.{Item, place_at}
 use Rattle.wild_meaning.specs.Field.{form_width}
-use Rattle.wild_meaning.specs.Slot.{HasWord, IsPair, IsSlot}
+use Rattle.wild_meaning.specs.Slot.{IsPair, IsSlot}
 use Rattle.wild_meaning.specs.Formula.{Gives, IsTarget, IsGoal, IsOffset, HasOffsetMode}
 use Rattle.wild_meaning.specs.Template.{CountsFromItsEnd, or_none, sum_of, reads, pair_in, effect_of, Demands, IsDemanded, old_bytes, DoesDemanded}
-use Rattle.wild_effects.specs.Filled.{HasEffect}
 use Rattle.wild_effects.proofs.Fills.{instructions_do}
-use Rattle.wild_effects.proofs.Does.{HasField, IsThere, IsDisplaced, FormulaIs, WidthIs, displaced, operand_by, named_by, told_of, formula_is, displaced_by, named_is, field_place, new_bytes, is_filled, all_there, read_holds, length_read, to_slot, to_target, distance_sum}
+use Rattle.wild_effects.proofs.Does.{IsThere, IsDisplaced, FormulaIs, WidthIs, displaced, operand_by, named_by, told_of, formula_is, displaced_by, named_is, field_place, new_bytes, is_filled, all_there, read_holds, length_read, to_slot, to_target, distance_sum}
 
 -- ---- bounds
 
@@ -106,7 +105,7 @@ right_by Target l w m item r start o e h (inl f) width counts =
     let is = distance_sum gives.1.symbol (cast_unsigned w64 r.addend) (place_at w item r.offset) gives.0 h.field.value gives.1.sum gives.2 in
     record {
       value = (gives.1.symbol + cast_unsigned w64 r.addend + 4) % 2 ^ 64;
-      demands = record { goal = gives.1.symbol; reached = target_reached l w m r.symbol gives.1.symbol gives.1.denoted; is = refl };
+      demands = record { goal = gives.1.symbol; stands = gives.1.denoted; is = refl };
       reads = reads_by w m _ _ _ (target_named l w m item r start o Distance gives.1.symbol e h width f is) refl;
       call = λ no. cc;
     }
@@ -114,7 +113,7 @@ right_by Target l w m item r start o e h (inr f) width counts =
     let gives = subst (λ (x : Formula). Gives x.value l w m item r h.field.value) f h.field.gives in
     record {
       value = (gives.0 + cast_unsigned w64 r.addend + 4) % 2 ^ 64;
-      demands = record { goal = gives.0; reached = gives.1; is = refl };
+      demands = record { goal = gives.0; stands = gives.1; is = refl };
       reads = reads_by w m _ _ _ (target_named l w m item r start o StubDistance gives.0 e h width f gives.2) refl;
       call = λ no. cc;
     }
@@ -223,7 +222,7 @@ as_demanded Described l item v a old e x call h = subst (λ (k : Machine). effec
 as_demanded DescribedCall l item v a old e x call h = inr (call refl, subst (λ (k : Machine). effect_of k (as_value v) a old ≡ Some e) (sym x) h)
 
 -- an instruction that stands in the input, with its field as its formula and its own bytes, does what it demands
-pub does_demanded : (l : Layout) (w : World) (m : Memory) (item : Item) (r : InputRelocation) (start : ℕ) (o : Instruction) → IsThere l w m item r start o → DoesDemanded l w m item r start o
+pub does_demanded : (l : Layout) (w : World) (m : Memory) (item : Item) (r : InputRelocation) (start : ℕ) (o : Instruction) → IsThere l w m item r start o → DoesDemanded (reads w m) l w m item r start o
 does_demanded l w m item r start o h =
     let listed = subst (λ (k : Machine). Contains (instructions_of k) o) h.x86 h.stands.known in
     let t = told_of o listed in

@@ -27,7 +27,7 @@ use Rattle.wild_loader.specs.Memory.{Holds}
 use Rattle.wild_meaning.specs.Item.{Item, item_of, place_at}
 use Rattle.wild_meaning.specs.Field.{formula_of, form_width, IsInputByte}
 use Rattle.wild_meaning.specs.Sequence.{Partner as CallField, Instruction, size_of, IsOwnByte}
-use Rattle.wild_meaning.specs.Template.{IsSequence, IsTemplate, DoesDemanded}
+use Rattle.wild_meaning.specs.Template.{IsSequence, IsTemplate, reads, DoesDemanded}
 use Rattle.wild_meaning.specs.Reference.{IsAsked, IsLinkedAlone, HoldsRewritten, IsOther, ItemHolds}
 
 -- byte k lies in no field of the relocation
@@ -88,7 +88,7 @@ OthersAreKept = (l : Layout) (w : World) (m : Memory) (s : InputSection) → IsL
 -- an instruction that is kept, with its fields as their formulas have them, does what is demanded
 abbrev pub KeptInstructionsDo : Type 0
 KeptInstructionsDo = (l : Layout) (w : World) (m : Memory) (s : InputSection) → IsLoadedSection l w m s → FieldsHold l w m s → (i : ℕ) (r : InputRelocation) → IsKeptReference l s i r → IsAsked l w (item_of s) r → (IsLinkedAlone l (item_of s) r → ⊥)
-    → (start : ℕ) (o : Instruction) (first : InputRelocation) → IsTemplate l (item_of s) r start o first → DoesDemanded l w m (item_of s) first start o
+    → (start : ℕ) (o : Instruction) (first : InputRelocation) → IsTemplate l (item_of s) r start o first → DoesDemanded (reads w m) l w m (item_of s) first start o
 
 -- each reference of a loaded section holds, its instruction does what is demanded, and other bytes are the input's
 abbrev pub ItemsHold : Type 0

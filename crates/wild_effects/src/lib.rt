@@ -5,7 +5,10 @@ ghost use Rattle.wild_effects.specs.Filled.{FilledInstructionsDo};
 ghost use Rattle.wild_effects.specs.Laws.{InstructionsAreKept, ItemsHold, KeptInstructionsDo, OthersAreKept, PartnersHold, RewrittenHold, RewrittenStand, SequencesAreKept, WindowsAreAlone};
 
 use wild_relax::{rewrites_keep_the_effect, rewrites_stay_in_their_patterns};
-use wild_reloc::{fields_of_x86_64, widths_of_fields};
+use wild_values::{
+    distances_are_given, distances_of_thread_slots_are_given,
+    offsets_from_the_thread_pointer_are_given, sums_are_given,
+};
 
 /// An instruction whose fields are filled does what the input's bytes demand, wherever its operand reads as it should.
 pub fn filled_instructions_do()
@@ -27,6 +30,10 @@ pub fn rewritten_instructions_hold()
     windows_are_alone();
     rewrites_keep_the_effect();
     rewrites_stay_in_their_patterns();
+    sums_are_given();
+    distances_are_given();
+    offsets_from_the_thread_pointer_are_given();
+    distances_of_thread_slots_are_given();
 }
 
 /// Both relocations of a sequence keep it, or none does. An instruction that is not rewritten keeps its bytes, whatever is

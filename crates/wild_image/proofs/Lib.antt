@@ -10,6 +10,8 @@ pub mod OwnedLemmas
 pub mod JobLemmas
 pub mod AppendLemmas
 pub mod GatherLemmas
+pub mod ChoiceLemmas
+pub mod InstructionLemmas
 pub mod DecidedLemmas
 pub mod AscendingLemmas
 pub mod OwnLemmas

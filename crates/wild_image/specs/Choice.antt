@@ -4,7 +4,7 @@
 --   infos_from l rs i       relocation i and the one behind it
 --   may_take_next n         rows of that relocation type write a whole sequence
 --   may_be_partner rs i     the relocation before is of such a type
-use Rattle.std.specs.Prelude.{ℕ, zero, suc, ◌+◌, ◌==◌, Bool, false, ◌||◌, List, ◌∷◌, ◌++◌, Option, Some, None, option_to_list, option_map, unwrap_or, slice_get}
+use Rattle.std.specs.Prelude.{ℕ, zero, suc, ◌+◌, ◌==◌, Bool, false, ◌||◌, List, ◌++◌, Option, option_to_list, option_map, unwrap_or, slice_get}
 use Rattle.wild_records.specs.Abi.Relocation.{r_x86_64_tlsgd, r_x86_64_tlsld}
 use Rattle.wild_plan.specs.declared.input.InputRelocation.{InputRelocation}
 use Rattle.wild_plan.specs.declared.input.InputSection.{InputSection}

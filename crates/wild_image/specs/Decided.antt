@@ -7,7 +7,7 @@
 --   DecisionsLie n rs ds    what the relocations write lies in n bytes
 --   IsNext l s i n e a b    relocation i was decided and written behind n
 --   AreDecided l s ds       the decisions are those of the section's relocations
-use Rattle.std.specs.Prelude.{◌≡◌, ℕ, ◌+◌, ◌<◌, ◌≤◌, Bool, true, ◌&&◌, nat_le, nat_lt, if◌then◌else◌, max, List, [], ◌∷◌, ◌++◌, length, Option, Some, None, Ok, option_to_list, slice_get, slice_range}
+use Rattle.std.specs.Prelude.{◌≡◌, ℕ, ◌+◌, ◌≤◌, Bool, true, false, ◌&&◌, nat_le, nat_lt, if◌then◌else◌, max, List, [], ◌∷◌, ◌++◌, length, Option, Some, None, Ok, option_to_list, slice_get, slice_range}
 use Rattle.wild_words.specs.Words.{place}
 use Rattle.wild_words.specs.Overlay.{Piece}
 use Rattle.wild_words.specs.declared.extents.Extent.{Extent}
@@ -19,7 +19,7 @@ use Rattle.wild_layout.specs.declared.decision.Decision.{Decision}
 use Rattle.wild_reloc.specs.declared.info.RelocationSize.{RelocationSize}
 use Rattle.wild_layout.specs.declared.decision.Decision.TheVariants.{Rewritten}
 use Rattle.wild_relax.specs.declared.row.Row.{Row}
-use Rattle.wild_relax.specs.Linked.{IsChanging, pattern_size, template_of}
+use Rattle.wild_relax.specs.Linked.{pattern_size, keeps_bytes, template_of}
 use Rattle.wild_layout.specs.Decide.{decide}
 use Rattle.wild_layout.specs.Sites.{Written, written_by, template_start, site_of, sites}
 
@@ -97,9 +97,8 @@ WrittenLies n at (Some w) = at + size_width w.size ≤ n
 
 -- the row writes a whole instruction, which lies in n bytes
 pub record TemplateLies (n : ℕ) (r : InputRelocation) (row : Row) : Type 0 where
-  pub changes : IsChanging row
+  pub changes : keeps_bytes row ≡ false
   pub ends : template_start row r + pattern_size row ≤ n
-  pub some : 0 < pattern_size row
 
 -- what a relocation writes lies in n bytes
 abbrev pub DecisionLies : ℕ → InputRelocation → Decision → Type 0

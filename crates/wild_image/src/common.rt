@@ -65,8 +65,9 @@ pub(crate) fn common_value<A: Arch>(
     ensures { (value : ℕ) → result ≡ Some value → decide resolved.now.layout.now section.now index ≡ Ok (Field (ByteSize Four) value) }
 {
     let relocations = section.relocations.as_slice();
-    if relocations[index].number == COMMON && !may_be_partner(relocations, index) {
-        value_of_common(resolved, section, &relocations[index])
+    let relocation = &relocations[index];
+    if relocation.number == COMMON && !may_be_partner(relocations, index) {
+        value_of_common(resolved, section, relocation)
     } else {
         None
     }

@@ -80,6 +80,8 @@ fn write_laid_out<A: Arch + Sync, G: Gate + Sync, R: Threads + Sync>(
     workers: u8,
     gate: &G,
 ) -> Result<SizedOutput, Error>
+where
+    A::Relaxation: Sync,
     requires machine { layout.now.machine ≡ A.machine }
     requires workers { (1 ≤ workers) × (workers ≤ 64) }
     requires clauses { first_clause layout.now ≡ Ok tt }
@@ -122,6 +124,8 @@ pub fn write_gated<A: Arch + Sync>(
     workers: u8,
     gate: &(impl Gate + Sync),
 ) -> Result<SizedOutput, Error>
+where
+    A::Relaxation: Sync,
     requires machine { layout.now.machine ≡ A.machine }
     requires workers { (1 ≤ workers) × (workers ≤ 64) }
     ensures faults { Answers result (errors layout.now) }
@@ -142,6 +146,8 @@ pub fn write<A: Arch + Sync>(
     layout: &Layout,
     workers: u8,
 ) -> Result<SizedOutput, Error>
+where
+    A::Relaxation: Sync,
     requires machine { layout.now.machine ≡ A.machine }
     requires workers { (1 ≤ workers) × (workers ≤ 64) }
     ensures faults { Answers result (errors layout.now) }

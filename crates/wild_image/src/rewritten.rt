@@ -1,7 +1,6 @@
 //! What is decided of the relocations of a section: of one whose instruction is rewritten by the row that stands, of the call
 //! that a rewritten sequence takes along nothing, and of each other by itself.
 ghost use Rattle.std.specs.Prelude.{◌≡◌, ◌<◌, ◌+◌, ◌%◌, ◌^◌, length, Ok};
-ghost use Rattle.wild_plan.specs.declared.kind.Machine.TheVariants.{X86_64};
 ghost use Rattle.wild_plan.specs.Rows.{row_of};
 ghost use Rattle.wild_layout.specs.Decide.{field_at, value_to, term_to, rewritten_to, refused_with, decide};
 
@@ -74,10 +73,13 @@ fn rewritten_to<A: Arch>(
     relocation: &InputRelocation,
     row: Row,
 ) -> Result<Decision, Fault>
-    requires machine { resolved.now.layout.now.machine ≡ X86_64 }
     ensures { result ≡ rewritten_to resolved.now.layout.now section.now relocation.now row }
 {
-    let info = row.row_written();
+    let Some(info) = A::relocation_from_raw(row.number_written()) else {
+        return Err(Fault::UnsupportedRelocation {
+            number: relocation.number,
+        });
+    };
     let term = term_to(resolved, relocation, &info)?;
     value_to(resolved, section, relocation, row, &info, term)
 }

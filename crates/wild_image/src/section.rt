@@ -35,11 +35,12 @@ fn decide_at<A: Arch>(
     ensures faults { Answers result (relocation_errors resolved.now.layout.now place.group place.file place.section section.now index) }
     ensures decision { IfOk result (λ d. decide resolved.now.layout.now section.now index ≡ Ok d) }
 {
+    let relocation = &section.relocations.as_slice()[index];
     match decide(resolved, section, index) {
         Ok(decision) => Ok(decision),
         Err(fault) => Err(Error {
             fault,
-            at: place.offset(section.relocations.as_slice()[index].offset),
+            at: place.offset(relocation.offset),
         }),
     }
 }
@@ -133,11 +134,9 @@ fn write_next<A: Arch>(
     ensures faults { Answers result (relocation_errors resolved.now.layout.now place.group place.file place.section section.now index) }
     ensures next { IfOk result (λ next. IsNext resolved.now.layout.now section.now index reach next room.old room.new) }
 {
+    let relocation = &section.relocations.as_slice()[index];
     match common_value(resolved, section, index) {
-        Some(value) => {
-            let offset = section.relocations.as_slice()[index].offset;
-            Ok(four_behind(reach, offset, value, room))
-        }
+        Some(value) => Ok(four_behind(reach, relocation.offset, value, room)),
         None => write_decided(resolved, place, section, index, reach, room),
     }
 }

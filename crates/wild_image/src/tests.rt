@@ -1,11 +1,12 @@
 //! The smallest fixed executable: a call and two returns.
-ghost use Rattle.std.specs.Prelude.{◌≡◌, ◌<◌, ◌≤◌, IfOk};
+ghost use Rattle.std.specs.Prelude.{◌≡◌, ◌<◌, ◌≤◌, length, IfOk};
 ghost use Rattle.wild_plan.specs.declared.kind.Machine.TheVariants as machine;
 ghost use Rattle.wild_image.specs.Steps.{FieldsFit};
 
 use super::*;
 use crate::entries::add_entries;
 use crate::relocation::decided;
+use crate::rewritten::decide;
 use crate::values::Resolved;
 use crate::words::add_words;
 use std::alloc::{AllocError, Global};
@@ -16,12 +17,15 @@ use wild_crew::Gate;
 use wild_layout::Decision;
 use wild_made::make_plan;
 use wild_plan::*;
-use wild_records::abi::relocation::{R_X86_64_64, R_X86_64_PC32};
+use wild_records::abi::relocation::{
+    R_X86_64_64, R_X86_64_GOTPCRELX, R_X86_64_PC32, R_X86_64_PLT32, R_X86_64_TLSGD,
+};
 use wild_records::abi::section::{
     SHF_ALLOC, SHF_EXECINSTR, SHF_WRITE, SHT_NULL, SHT_PROGBITS, SHT_STRTAB,
 };
 use wild_records::abi::segment::{PF_R, PF_X, PT_LOAD};
 use wild_records::abi::symbol::STT_FUNC;
+use wild_relax::{GeneralForm, Row};
 use wild_words::{Bytes, Items};
 
 /// The bytes that the layout asks for, by hand from the gABI and the psABI.
@@ -167,7 +171,14 @@ pub(crate) fn file(alloc: Global, role: FileRole) -> File {
     }
 }
 
-fn text(alloc: Global, relocations: &[InputRelocation]) -> Result<InputSection, AllocError> {
+/// Code of seven bytes.
+fn code(
+    alloc: Global,
+    entries: &[u8],
+    relocations: &[InputRelocation],
+) -> Result<InputSection, AllocError>
+    ensures { IfOk result (λ s. length s.relocations ≡ length relocations.now) }
+{
     Ok(InputSection {
         slot: Slot::Loaded,
         name: Bytes::new(alloc),
@@ -180,16 +191,27 @@ fn text(alloc: Global, relocations: &[InputRelocation]) -> Result<InputSection, 
         singleton: None,
         target: 0,
         members: Items::new(alloc),
-        bytes: bytes(alloc, &[0xe8, 0, 0, 0, 0, 0xc3, 0xc3])?,
+        bytes: bytes(alloc, entries)?,
         strings: Items::new(alloc),
         relocations: Items::from_vec(Vec::from_slice(alloc, relocations)?),
     })
 }
 
-fn groups(alloc: Global, relocations: &[InputRelocation]) -> Result<Items<Group>, AllocError> {
+/// A call and two returns.
+const CALL: [u8; 7] = [0xe8, 0, 0, 0, 0, 0xc3, 0xc3];
+
+fn text(alloc: Global, relocations: &[InputRelocation]) -> Result<InputSection, AllocError> {
+    code(alloc, &CALL, relocations)
+}
+
+fn groups(
+    alloc: Global,
+    entries: &[u8],
+    relocations: &[InputRelocation],
+) -> Result<Items<Group>, AllocError> {
     let mut object = file(alloc, FileRole::Object);
     object.symbol_count = 1;
-    object.sections.push(text(alloc, relocations)?)?;
+    object.sections.push(code(alloc, entries, relocations)?)?;
     let mut files = Items::new(alloc);
     files.push(file(alloc, FileRole::Prelude))?;
     files.push(object)?;
@@ -210,14 +232,29 @@ fn groups(alloc: Global, relocations: &[InputRelocation]) -> Result<Items<Group>
 fn layout(alloc: Global, relocations: &[InputRelocation]) -> Result<Layout, AllocError>
     ensures { IfOk result (λ l. l.machine ≡ machine.X86_64) }
 {
+    layout_of(alloc, &CALL, relocations)
+}
+
+/// The smallest executable, of that code; instructions are rewritten.
+fn layout_of(
+    alloc: Global,
+    entries: &[u8],
+    relocations: &[InputRelocation],
+) -> Result<Layout, AllocError>
+    ensures { IfOk result (λ l. l.machine ≡ machine.X86_64) }
+{
     Ok(Layout {
+        options: Options {
+            relax: true,
+            ..Options::none(alloc)
+        },
         machine: Machine::X86_64,
         page_size: 4096,
         parts: parts(alloc)?,
         sections: sections(alloc)?,
         segments: segments(alloc)?,
         symbols: symbols(alloc, 0x40_0086)?,
-        groups: groups(alloc, relocations)?,
+        groups: groups(alloc, entries, relocations)?,
         entry: Some(Entry::Address(0x40_0080)),
         ..Layout::empty(alloc)
     })
@@ -252,6 +289,20 @@ fn writes_the_smallest_executable(rt: HostRuntime) -> Result<(), Fail> {
     let image = write::<ElfX86_64>(&rt, rt.alloc(), &layout, 1)?;
     assert_eq!(rt; image.out.as_slice(), IMAGE.as_slice());
     assert_eq!(rt; image.counts.as_slice(), [0, 1, 0].as_slice());
+    Ok(())
+}
+
+/// `call *f@GOTPCREL(%rip)` becomes `addr32 call f` (x86-64 psABI, "Linker Optimization").
+#[test]
+fn rewrites_a_call_through_a_slot(rt: HostRuntime) -> Result<(), Fail> {
+    let call = [0xff, 0x15, 0, 0, 0, 0, 0xc3];
+    let layout = layout_of(rt.alloc(), &call, &[relocation(2, R_X86_64_GOTPCRELX)])?;
+    let image = write::<ElfX86_64>(&rt, rt.alloc(), &layout, 1)?;
+    let mut wanted = IMAGE;
+    wanted[128] = 0x67;
+    wanted[129] = 0xe8;
+    wanted[133] = 0;
+    assert_eq!(rt; image.out.as_slice(), wanted.as_slice());
     Ok(())
 }
 
@@ -458,16 +509,25 @@ pub(crate) fn movable(alloc: Global) -> Result<Layout, AllocError>
     ensures machine { IfOk result (λ l. l.machine ≡ machine.X86_64) }
     ensures fits { IfOk result (λ l. FieldsFit l) }
 {
+    movable_with(alloc, symbols(alloc, 0x1040)?)
+}
+
+/// The same with those symbols; instructions are rewritten.
+fn movable_with(alloc: Global, symbols: Items<Symbol>) -> Result<Layout, AllocError>
+    ensures machine { IfOk result (λ l. l.machine ≡ machine.X86_64) }
+    ensures fits { IfOk result (λ l. FieldsFit l) }
+{
     Ok(Layout {
         kind: OutputKind::StaticExecutable(RelocationModel::Relocatable),
         options: Options {
             relr: true,
+            relax: true,
             ..Options::none(alloc)
         },
         parts: Items::new(alloc),
         sections: Items::new(alloc),
         segments: Items::new(alloc),
-        symbols: symbols(alloc, 0x1040)?,
+        symbols,
         ..layout(alloc, &[])?
     })
 }
@@ -532,5 +592,52 @@ fn even_places_are_packed_section_by_section(rt: HostRuntime) -> Result<(), Fail
         0x08, 0x32, 0, 0, 0, 0, 0, 0,
     ];
     assert_eq!(rt; words.as_slice(), wanted.as_slice());
+    Ok(())
+}
+
+/// Symbol 0 at 0x1040, and `__tls_get_addr`, which is not there.
+fn symbols_of_threads(alloc: Global) -> Result<Items<Symbol>, AllocError> {
+    let mut all = symbols(alloc, 0x1040)?;
+    all.push(Symbol {
+        name: bytes(alloc, b"__tls_get_addr")?,
+        definition: None,
+        info: STT_FUNC,
+        other: 0,
+        size: 0,
+        value: 0,
+        place: Place::Undefined,
+        flags: ValueFlags(0),
+        version: 0,
+        emit: false,
+        resolution: None,
+    })?;
+    Ok(all)
+}
+
+/// `data16 lea x@tlsgd(%rip), %rdi; data16 data16 rex.W call __tls_get_addr@PLT` ("ELF Handling For Thread-Local Storage").
+const GENERAL_DYNAMIC: [u8; 16] = [
+    0x66, 0x48, 0x8d, 0x3d, 0, 0, 0, 0, 0x66, 0x66, 0x48, 0xe8, 0, 0, 0, 0,
+];
+
+/// The sequence is one instruction to the writer: its call writes nothing, whatever that would lack.
+#[test]
+fn a_sequence_takes_its_call_along(rt: HostRuntime) -> Result<(), Fail> {
+    let layout = movable_with(rt.alloc(), symbols_of_threads(rt.alloc())?)?;
+    let resolved = Resolved::<ElfX86_64>::new(rt.alloc(), &layout)?;
+    let call = InputRelocation {
+        symbol: Some(SymbolIndex(1)),
+        ..relocation(12, R_X86_64_PLT32)
+    };
+    let section = code(
+        rt.alloc(),
+        &GENERAL_DYNAMIC,
+        &[relocation(4, R_X86_64_TLSGD), call],
+    )?;
+    let rewritten = Decision::Rewritten {
+        row: Row::GeneralDynamicToLocalExec(GeneralForm::Regular),
+        value: 0x1040,
+    };
+    assert_eq!(rt; decide(&resolved, &section, 0), Ok(rewritten));
+    assert_eq!(rt; decide(&resolved, &section, 1), Ok(Decision::Partner));
     Ok(())
 }

@@ -7,13 +7,6 @@ use Rattle.wild_records.specs.Abi.Section.{shf_alloc, shf_execinstr, shf_tls}
 use Rattle.wild_plan.specs.Lookups.{bit, allocated, executable, thread_local}
 use Rattle.wild_meaning.specs.Section.{IsSet}
 
-pub alloc_bit : (f : ℕ) → IsSet f shf_alloc → allocated f ≡ true
-unfolding bit
-alloc_bit f h =
-    let a : bit_and f 2 ≡ f / 2 % 2 * 2 = and_pow f 1 in
-    let e : bit_and f 2 ≡ 2 = omega (arith, a, h) in
-    rw e refl
-
 pub bit_alloc : (f : ℕ) → allocated f ≡ true → IsSet f shf_alloc
 unfolding bit
 bit_alloc f h =

@@ -1,6 +1,6 @@
 -- Bytes in no field are the input's, the opcodes of calls and jumps too.
-use Rattle.std.proofs.Common.{◌≡◌, ℕ, ◌+◌, ◌<◌, ◌≤◌, ◌⊎◌, inl, inr, length, get_or, slice_range, refl, sym, ap, ◌∙◌, arith, subst}
-use Rattle.std.specs.Prelude.{Option, Some, None, Contains, slice_index, nat_lt, ◌==◌}
+use Rattle.std.proofs.Common.{◌≡◌, ℕ, ◌+◌, ◌<◌, ◌≤◌, ◌⊎◌, inl, inr, List, length, get_or, slice_range, refl, sym, ap, ◌∙◌, arith, subst}
+use Rattle.std.specs.Prelude.{Option, Some, None, Contains, slice_index, option_map, option_and_then, nat_lt, ◌==◌}
 use Rattle.std.proofs.lemmas.Bool.{cases_Bool, eqb-true, eqb-false, ltb-true, ltb-false}
 use Rattle.std.proofs.lemmas.List.Elements.{All-contains}
 use Rattle.wild_records.specs.Abi.Relocation.{r_x86_64_pc32}
@@ -14,11 +14,12 @@ use Rattle.wild_reloc.specs.FormulaX86_64.{x86_64_formula}
 use Rattle.wild_loader.specs.declared.memory.Memory.{Memory}
 use Rattle.wild_loader.specs.declared.world.World.{World}
 use Rattle.wild_loader.specs.Memory.{byte_in}
-use Rattle.wild_meaning.specs.Instruction.{Deed, Call, Jump, Effect, as_value}
+use Rattle.wild_meaning.specs.Instruction.{Operand, Number, Word, Pair, Deed, Call, Jump, Action, Effect, effect, with_value, as_value}
+use Rattle.wild_meaning.specs.InstructionX86_64.{meaning_x86_64}
 use Rattle.wild_meaning.specs.Sequence.{Instruction, size_of, IsOwnByte}
-use Rattle.wild_meaning.specs.Item.{item_of, place_at, IsReference}
+use Rattle.wild_meaning.specs.Item.{Item, item_of, place_at, IsReference}
 use Rattle.wild_meaning.specs.Field.{form_width, IsInputByte}
-use Rattle.wild_meaning.specs.Template.{effect_of, reads, IsInstruction, IsTemplate, DoesDemanded}
+use Rattle.wild_meaning.specs.Template.{effect_of, reads, reads_alone, IsInstruction, IsTemplate, DoesDemanded}
 use Rattle.wild_meaning.specs.Reference.{IsAsked, HoldsLinked, HoldsRewritten, ReferenceHolds, ItemHolds}
 use Rattle.wild_laws.specs.FirstPath.{HasFirstTypes, InNoField as NoField, IsBranch}
 use Rattle.wild_laws.proofs.Sequences.{direct}
@@ -35,10 +36,30 @@ outside : (s : InputSection) (r : InputRelocation) (k : ℕ) → NoField s k →
 outside s r k out listed number =
     All-contains (λ (q : InputRelocation). (f : Formula) → x86_64_formula q.number ≡ Some f → (k < q.offset) ⊎ (q.offset + form_width f.form ≤ k)) s.relocations r out listed (formula Distance (Plain 32 Signed)) (subst (λ (n : ℕ). x86_64_formula n ≡ Some (formula Distance (Plain 32 Signed))) (sym number) formula_pc32)
 
+-- ---- code that calls no function
+
+-- what such code reads, other code reads too
+read_too : (w : World) (m : Memory) (p : Operand) (f : ℕ → Effect) (e : Effect) → option_map f (reads_alone w m p) ≡ Some e → option_map f (reads w m p) ≡ Some e
+read_too w m (Number n) f e h = h
+read_too w m (Word a) f e h = h
+read_too w m (Pair a) f e h = cc
+
+acts_too : (w : World) (m : Memory) (act : Option Action) (e : Effect) → option_and_then (effect (reads_alone w m)) act ≡ Some e → option_and_then (effect (reads w m)) act ≡ Some e
+acts_too w m None e h = h
+acts_too w m (Some act) e h = read_too w m act.operand (with_value act) e h
+
+does_too : (k : Machine) (w : World) (m : Memory) (a : ℕ) (bs : List ℕ) (e : Effect) → effect_of k (reads_alone w m) a bs ≡ Some e → effect_of k (reads w m) a bs ≡ Some e
+does_too machine.X86_64 w m a bs e h = acts_too w m (meaning_x86_64 a bs) e h
+does_too machine.AArch64 w m a bs e h = h
+
+pub does_so : (l : Layout) (w : World) (m : Memory) (item : Item) (r : InputRelocation) (start : ℕ) (o : Instruction) → DoesDemanded (reads_alone w m) l w m item r start o → DoesDemanded (reads w m) l w m item r start o
+does_so l w m item r start o d =
+    record { value = d.value; demands = d.demands; effect = d.effect; demanded = d.demanded; bytes = d.bytes; whole = d.whole; held = d.held; does = does_too l.machine w m (place_at w item start) d.bytes d.effect d.does }
+
 -- ---- opcodes
 
 -- the effect that a call or a jump demands
-demanded_deed : (l : Layout) (w : World) (m : Memory) (s : InputSection) (r : InputRelocation) (start opcode : ℕ) (deed : Deed) → DoesDeed opcode deed → l.machine ≡ machine.X86_64 → IsBranch s r start opcode → (d : DoesDemanded l w m (item_of s) r start (direct opcode deed)) → d.effect.deed ≡ deed
+demanded_deed : (l : Layout) (w : World) (m : Memory) (s : InputSection) (r : InputRelocation) (start opcode : ℕ) (deed : Deed) → DoesDeed opcode deed → l.machine ≡ machine.X86_64 → IsBranch s r start opcode → (d : DoesDemanded (reads w m) l w m (item_of s) r start (direct opcode deed)) → d.effect.deed ≡ deed
 demanded_deed l w m s r start opcode deed does x branch d =
     let old : effect_of machine.X86_64 (as_value d.value) (place_at w (item_of s) start) (slice_range s.bytes start (start + 5)) ≡ Some d.effect = subst (λ (k : Machine). effect_of k (as_value d.value) (place_at w (item_of s) start) (slice_range s.bytes start (start + 5)) ≡ Some d.effect) x d.demanded in
     let is = does (place_at w (item_of s) start) d.value (slice_range s.bytes start (start + 5)) (old_length s r start opcode branch) (first_byte s.bytes start ∙ branch.begins) in
@@ -49,7 +70,7 @@ demanded_deed l w m s r start opcode deed does x branch d =
     deed_in (Some e) = e.deed
 
 -- the loaded code does what the instruction demands, so it begins with the input's opcode
-opcode_kept : (l : Layout) (w : World) (m : Memory) (s : InputSection) (r : InputRelocation) (start opcode : ℕ) (deed : Deed) → DoesDeed opcode deed → HasOpcode opcode deed → l.machine ≡ machine.X86_64 → IsBranch s r start opcode → DoesDemanded l w m (item_of s) r start (direct opcode deed) → IsInputByte w m (item_of s) start
+opcode_kept : (l : Layout) (w : World) (m : Memory) (s : InputSection) (r : InputRelocation) (start opcode : ℕ) (deed : Deed) → DoesDeed opcode deed → HasOpcode opcode deed → l.machine ≡ machine.X86_64 → IsBranch s r start opcode → DoesDemanded (reads w m) l w m (item_of s) r start (direct opcode deed) → IsInputByte w m (item_of s) start
 opcode_kept l w m s r start opcode deed does has x branch d =
     let a = place_at w (item_of s) start in
     let loaded : effect_of machine.X86_64 (reads w m) a d.bytes ≡ Some d.effect = subst (λ (k : Machine). effect_of k (reads w m) a d.bytes ≡ Some d.effect) x d.does in
@@ -59,19 +80,19 @@ opcode_kept l w m s r start opcode deed does has x branch d =
     let held : byte_in m (a + 0) ≡ Some (get_or d.bytes 0 0) = d.held 0 (omega (arith, five)) in
     subst (λ (p : ℕ). byte_in m p ≡ Some (get_or d.bytes 0 0)) z held ∙ ap (λ (b : ℕ). Some b) (op ∙ sym branch.begins)
 
-by_code : (l : Layout) (w : World) (m : Memory) (s : InputSection) (r : InputRelocation) (start : ℕ) (o : Instruction) → l.machine ≡ machine.X86_64 → HasFirstTypes s → IsReference (item_of s) r → IsInstruction l (item_of s) r start o → IsCallOrJump o → DoesDemanded l w m (item_of s) r start o → IsInputByte w m (item_of s) start
+by_code : (l : Layout) (w : World) (m : Memory) (s : InputSection) (r : InputRelocation) (start : ℕ) (o : Instruction) → l.machine ≡ machine.X86_64 → HasFirstTypes s → IsReference (item_of s) r → IsInstruction l (item_of s) r start o → IsCallOrJump o → DoesDemanded (reads w m) l w m (item_of s) r start o → IsInputByte w m (item_of s) start
 by_code l w m s r start o x types ref t (inl e) d =
     let branch = is_branch l s r start 0xe8 Call x types ref (subst (λ (p : Instruction). IsInstruction l (item_of s) r start p) e t) in
-    opcode_kept l w m s r start 0xe8 Call call_does call_opcode x branch (subst (λ (p : Instruction). DoesDemanded l w m (item_of s) r start p) e d)
+    opcode_kept l w m s r start 0xe8 Call call_does call_opcode x branch (subst (λ (p : Instruction). DoesDemanded (reads w m) l w m (item_of s) r start p) e d)
 by_code l w m s r start o x types ref t (inr e) d =
     let branch = is_branch l s r start 0xe9 Jump x types ref (subst (λ (p : Instruction). IsInstruction l (item_of s) r start p) e t) in
-    opcode_kept l w m s r start 0xe9 Jump jump_does jump_opcode x branch (subst (λ (p : Instruction). DoesDemanded l w m (item_of s) r start p) e d)
+    opcode_kept l w m s r start 0xe9 Jump jump_does jump_opcode x branch (subst (λ (p : Instruction). DoesDemanded (reads w m) l w m (item_of s) r start p) e d)
 
 -- so it is of each template
-by_template : (l : Layout) (w : World) (m : Memory) (s : InputSection) (r : InputRelocation) (start : ℕ) (o : Instruction) (one : InputRelocation) → l.machine ≡ machine.X86_64 → HasFirstTypes s → IsReference (item_of s) r → IsTemplate l (item_of s) r start o one → DoesDemanded l w m (item_of s) one start o → IsInputByte w m (item_of s) start
+by_template : (l : Layout) (w : World) (m : Memory) (s : InputSection) (r : InputRelocation) (start : ℕ) (o : Instruction) (one : InputRelocation) → l.machine ≡ machine.X86_64 → HasFirstTypes s → IsReference (item_of s) r → IsTemplate l (item_of s) r start o one → DoesDemanded (reads w m) l w m (item_of s) one start o → IsInputByte w m (item_of s) start
 by_template l w m s r start o one x types ref t d =
     let direct = template_direct l s r start o one x types ref t in
-    by_code l w m s r start o x types ref direct.stands direct.which (subst (λ (q : InputRelocation). DoesDemanded l w m (item_of s) q start o) direct.same d)
+    by_code l w m s r start o x types ref direct.stands direct.which (subst (λ (q : InputRelocation). DoesDemanded (reads w m) l w m (item_of s) q start o) direct.same d)
 
 -- where the instruction begins, and that its other bytes are in its field
 record IsShort (s : InputSection) (r : InputRelocation) (start : ℕ) (o : Instruction) : Type 0 where
@@ -110,7 +131,7 @@ opcode_there l w m s r start o one x types ref t (inr q) =
     let a = (short l s r start o x types ref here.stands here.which).behind in
     let b = (short l s r q.start q.instruction x types ref there.stands there.which).behind in
     let same : q.start ≡ start = omega (arith, a, b) in
-    subst (λ (k : ℕ). IsInputByte w m (item_of s) k) same (by_template l w m s r q.start q.instruction q.first x types ref q.template q.does)
+    subst (λ (k : ℕ). IsInputByte w m (item_of s) k) same (by_template l w m s r q.start q.instruction q.first x types ref q.template (does_so l w m (item_of s) q.first q.start q.instruction q.does))
 
 plain_keeps : (l : Layout) (w : World) (m : Memory) (s : InputSection) (r : InputRelocation) → ReferenceHolds l w m (item_of s) r → KeepsBytes l w m s r ⊎ HoldsRewritten l w m (item_of s) r
 plain_keeps l w m s r (inl p) = inl p.kept

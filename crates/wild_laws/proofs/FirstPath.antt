@@ -19,7 +19,7 @@ use Rattle.wild_laws.proofs.Bits.{bit_alloc}
 use Rattle.wild_laws.proofs.Sequences.{direct}
 use Rattle.wild_laws.proofs.FirstCode.{first_byte, IsCallOrJump, template_direct, is_branch, branch_template, old_length, DoesDeed, call_does, jump_does}
 use Rattle.wild_laws.proofs.FirstFields.{has_formula}
-use Rattle.wild_laws.proofs.FirstBytes.{other_byte}
+use Rattle.wild_laws.proofs.FirstBytes.{does_so, other_byte}
 
 -- such a section is kept
 kept : (l : Layout) (s : InputSection) → IsLoadedSection l s → IsKept l (item_of s)
@@ -49,36 +49,36 @@ same_code l s r k a b start deed apart x types ref branch t =
 
 -- a reference that holds has the code of its call or its jump do what that demands
 abbrev Does : Layout → World → Memory → InputSection → InputRelocation → ℕ → ℕ → Deed → Type 0
-Does l w m s r k opcode deed = DoesDemanded l w m (item_of s) r k (direct opcode deed)
+Does l w m s r k opcode deed = DoesDemanded (reads w m) l w m (item_of s) r k (direct opcode deed)
 
-moved_here : (l : Layout) (w : World) (m : Memory) (s : InputSection) (r one : InputRelocation) (k start opcode : ℕ) (o : Instruction) (deed : Deed) → IsBranch s r k opcode → IsInstruction l (item_of s) r start (direct opcode deed) → o ≡ direct opcode deed → one ≡ r → DoesDemanded l w m (item_of s) one start o → Does l w m s r k opcode deed
+moved_here : (l : Layout) (w : World) (m : Memory) (s : InputSection) (r one : InputRelocation) (k start opcode : ℕ) (o : Instruction) (deed : Deed) → IsBranch s r k opcode → IsInstruction l (item_of s) r start (direct opcode deed) → o ≡ direct opcode deed → one ≡ r → DoesDemanded (reads w m) l w m (item_of s) one start o → Does l w m s r k opcode deed
 moved_here l w m s r one k start opcode o deed branch t e same d =
     let here = branch.behind in
     let there = t.field in
     let at : start ≡ k = omega (arith, here, there) in
-    subst (λ (j : ℕ). DoesDemanded l w m (item_of s) r j (direct opcode deed)) at (subst (λ (q : InputRelocation). DoesDemanded l w m (item_of s) q start (direct opcode deed)) same (subst (λ (p : Instruction). DoesDemanded l w m (item_of s) one start p) e d))
+    subst (λ (j : ℕ). DoesDemanded (reads w m) l w m (item_of s) r j (direct opcode deed)) at (subst (λ (q : InputRelocation). DoesDemanded (reads w m) l w m (item_of s) q start (direct opcode deed)) same (subst (λ (p : Instruction). DoesDemanded (reads w m) l w m (item_of s) one start p) e d))
 
 as_direct : (l : Layout) (s : InputSection) (r : InputRelocation) (start opcode : ℕ) (o : Instruction) (deed : Deed) → o ≡ direct opcode deed → IsInstruction l (item_of s) r start o → IsInstruction l (item_of s) r start (direct opcode deed)
 as_direct l s r start opcode o deed e t = subst (λ (p : Instruction). IsInstruction l (item_of s) r start p) e t
 
-call_rewritten : (l : Layout) (w : World) (m : Memory) (s : InputSection) (r one : InputRelocation) (k start : ℕ) (o : Instruction) → l.machine ≡ machine.X86_64 → HasFirstTypes s → IsReference (item_of s) r → IsBranch s r k 0xe8 → IsInstruction l (item_of s) r start o → IsCallOrJump o → one ≡ r → DoesDemanded l w m (item_of s) one start o → Does l w m s r k 0xe8 Call
+call_rewritten : (l : Layout) (w : World) (m : Memory) (s : InputSection) (r one : InputRelocation) (k start : ℕ) (o : Instruction) → l.machine ≡ machine.X86_64 → HasFirstTypes s → IsReference (item_of s) r → IsBranch s r k 0xe8 → IsInstruction l (item_of s) r start o → IsCallOrJump o → one ≡ r → DoesDemanded (reads w m) l w m (item_of s) one start o → Does l w m s r k 0xe8 Call
 call_rewritten l w m s r one k start o x types ref branch t (inl e) same d = moved_here l w m s r one k start 0xe8 o Call branch (as_direct l s r start 0xe8 o Call e t) e same d
 call_rewritten l w m s r one k start o x types ref branch t (inr e) same d = absurd (same_code l s r k 0xe8 0xe9 start Jump (not_same 0xe8 0xe9 refl) x types ref branch (as_direct l s r start 0xe9 o Jump e t))
 
-jump_rewritten : (l : Layout) (w : World) (m : Memory) (s : InputSection) (r one : InputRelocation) (k start : ℕ) (o : Instruction) → l.machine ≡ machine.X86_64 → HasFirstTypes s → IsReference (item_of s) r → IsBranch s r k 0xe9 → IsInstruction l (item_of s) r start o → IsCallOrJump o → one ≡ r → DoesDemanded l w m (item_of s) one start o → Does l w m s r k 0xe9 Jump
+jump_rewritten : (l : Layout) (w : World) (m : Memory) (s : InputSection) (r one : InputRelocation) (k start : ℕ) (o : Instruction) → l.machine ≡ machine.X86_64 → HasFirstTypes s → IsReference (item_of s) r → IsBranch s r k 0xe9 → IsInstruction l (item_of s) r start o → IsCallOrJump o → one ≡ r → DoesDemanded (reads w m) l w m (item_of s) one start o → Does l w m s r k 0xe9 Jump
 jump_rewritten l w m s r one k start o x types ref branch t (inl e) same d = absurd (same_code l s r k 0xe9 0xe8 start Call (not_same 0xe9 0xe8 refl) x types ref branch (as_direct l s r start 0xe8 o Call e t))
 jump_rewritten l w m s r one k start o x types ref branch t (inr e) same d = moved_here l w m s r one k start 0xe9 o Jump branch (as_direct l s r start 0xe9 o Jump e t) e same d
 
 call_does_it : (l : Layout) (w : World) (m : Memory) (s : InputSection) (r : InputRelocation) (k : ℕ) → l.machine ≡ machine.X86_64 → HasFirstTypes s → IsReference (item_of s) r → IsBranch s r k 0xe8 → ReferenceHolds l w m (item_of s) r → Does l w m s r k 0xe8 Call
 call_does_it l w m s r k x types ref branch (inl p) = p.does k (direct 0xe8 Call) r (branch_template l s r k 0xe8 Call (0, omega arith, refl) x types ref branch)
-call_does_it l w m s r k x types ref branch (inr q) = let d = template_direct l s r q.start q.instruction q.first x types ref q.template in call_rewritten l w m s r q.first k q.start q.instruction x types ref branch d.stands d.which d.same q.does
+call_does_it l w m s r k x types ref branch (inr q) = let d = template_direct l s r q.start q.instruction q.first x types ref q.template in call_rewritten l w m s r q.first k q.start q.instruction x types ref branch d.stands d.which d.same (does_so l w m (item_of s) q.first q.start q.instruction q.does)
 
 jump_does_it : (l : Layout) (w : World) (m : Memory) (s : InputSection) (r : InputRelocation) (k : ℕ) → l.machine ≡ machine.X86_64 → HasFirstTypes s → IsReference (item_of s) r → IsBranch s r k 0xe9 → ReferenceHolds l w m (item_of s) r → Does l w m s r k 0xe9 Jump
 jump_does_it l w m s r k x types ref branch (inl p) = p.does k (direct 0xe9 Jump) r (branch_template l s r k 0xe9 Jump (1, omega arith, refl) x types ref branch)
-jump_does_it l w m s r k x types ref branch (inr q) = let d = template_direct l s r q.start q.instruction q.first x types ref q.template in jump_rewritten l w m s r q.first k q.start q.instruction x types ref branch d.stands d.which d.same q.does
+jump_does_it l w m s r k x types ref branch (inr q) = let d = template_direct l s r q.start q.instruction q.first x types ref q.template in jump_rewritten l w m s r q.first k q.start q.instruction x types ref branch d.stands d.which d.same (does_so l w m (item_of s) q.first q.start q.instruction q.does)
 
 -- such code goes to what comes to the symbol
-goes : (l : Layout) (w : World) (m : Memory) (s : InputSection) (r : InputRelocation) (k opcode : ℕ) (deed : Deed) → DoesDeed opcode deed → l.machine ≡ machine.X86_64 → IsBranch s r k opcode → DoesDemanded l w m (item_of s) r k (direct opcode deed) → BranchReaches l w m s r k deed
+goes : (l : Layout) (w : World) (m : Memory) (s : InputSection) (r : InputRelocation) (k opcode : ℕ) (deed : Deed) → DoesDeed opcode deed → l.machine ≡ machine.X86_64 → IsBranch s r k opcode → DoesDemanded (reads w m) l w m (item_of s) r k (direct opcode deed) → BranchReaches l w m s r k deed
 goes l w m s r k opcode deed does x branch d =
     let a = place_at w (item_of s) k in
     let old : effect_of machine.X86_64 (as_value d.value) a (slice_range s.bytes k (k + 5)) ≡ Some d.effect = subst (λ (mach : Machine). effect_of mach (as_value d.value) a (slice_range s.bytes k (k + 5)) ≡ Some d.effect) x d.demanded in
@@ -87,7 +87,7 @@ goes l w m s r k opcode deed does x branch d =
     let value = once_more d.value (d.demands.goal + cast_unsigned w64 r.addend + 4) d.demands.is in
     record {
       target = d.demands.goal;
-      reached = d.demands.reached;
+      stands = d.demands.stands;
       bytes = d.bytes;
       five = d.whole;
       held = d.held;

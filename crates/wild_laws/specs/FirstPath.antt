@@ -84,10 +84,10 @@ IsBranchField s r = (k : ℕ) × (IsBranch s r k 0xe8 ⊎ IsBranch s r k 0xe9)
 abbrev pub past_field : InputRelocation → ℕ → ℕ
 past_field r a = (a + cast_unsigned w64 r.addend + 4) % 2 ^ 64
 
--- the five loaded bytes call, or go to, what comes to the symbol's value
+-- the five loaded bytes call, or go to, what stands for the symbol, with what the addend has past the field
 pub record BranchReaches (l : Layout) (w : World) (m : Memory) (s : InputSection) (r : InputRelocation) (k : ℕ) (deed : Deed) : Type 0 where
   pub target : ℕ
-  pub reached : IsGoal l w m r.symbol target
+  pub stands : IsTarget l w m r.symbol target
   pub bytes : List ℕ
   pub five : length bytes ≡ 5
   pub held : Holds m (address_at w s k) bytes

@@ -60,12 +60,12 @@ sections_stored law = λ l w s legal laid k decisions.
       values = λ i r z v h. Holds-inner (image_memory l w) (w.base + s.address) r.offset whole (field_site s r.offset z v).bytes held (field_stands l s i r (Field z v) (record { size = z; value = v }) decisions.apart h refl);
       addresses = λ i r v packed h. Holds-inner (image_memory l w) (w.base + s.address) r.offset whole (word 8 (if packed then v else 0)) held (field_stands l s i r (Moved v packed) (record { size = ByteSize Eight; value = if packed then v else 0 }) decisions.apart h refl);
       left = λ i r z number symbol addend h. (
-        let p = field_site s r.offset z 0 in
-        let made = (decide_left l s i r z number symbol addend h.listed h.decided).made in
-        (p.bytes, Holds-inner (image_memory l w) (w.base + s.address) r.offset whole p.bytes held (field_stands l s i r (Left z number symbol addend) (record { size = z; value = 0 }) decisions.apart h refl), left_zeroed l s r z number symbol addend (slice_range s.bytes r.offset (r.offset + size_width z)) made));
+          let p = field_site s r.offset z 0 in
+          let made = (decide_left l s i r z number symbol addend h.listed h.decided).made in
+          (p.bytes, Holds-inner (image_memory l w) (w.base + s.address) r.offset whole p.bytes held (field_stands l s i r (Left z number symbol addend) (record { size = z; value = 0 }) decisions.apart h refl), left_zeroed l s r z number symbol addend (slice_range s.bytes r.offset (r.offset + size_width z)) made));
       rewritten = λ i r row v h. (
-        let p = template_site s r row v in
-        Holds-inner (image_memory l w) (w.base + s.address) p.at whole p.bytes held (site_stands l s i r p decisions.apart h.listed (site_rewritten l s i r row v h.listed h.decided)));
+          let p = template_site s r row v in
+          Holds-inner (image_memory l w) (w.base + s.address) p.at whole p.bytes held (site_stands l s i r p decisions.apart h.listed (site_rewritten l s i r row v h.listed h.decided)));
       others = λ i lt out. held i (omega (arith, len, lt)) ∙ ap Some (overlay-outside i (sites l s) s.bytes decisions.apart out);
     }
 

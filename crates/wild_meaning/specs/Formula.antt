@@ -1,11 +1,11 @@
 -- What a formula gives for a relocation of an item, in a world and a memory.
---   IsTarget l w m symbol a  a is what S is
+--   IsTarget l w m symbol a  a is what S is, its value or its stub: so it is what L is
 --   IsSum l w m r x          x is S + A
 --   table_at l w             GOT
 --   IsOffset l w symbol t    t is S's offset from the thread pointer
 --   IsExtent l w symbol z    z is Z
 --   IsWhole l w r n x        x is Z + A, or of an answer in a field of four bytes its low half
---   IsGoal l w m symbol a    a is L: code that goes there comes to S
+--   IsGoal l w m symbol a    code that goes to a comes to S
 --   HasOffsetMode l item     a descriptor's reference in the item is the offset itself
 --   Gives value l w m item r x   x is the value of the expression
 --   IsPlaceRelative value    the expression takes a place from an address
@@ -40,7 +40,7 @@ pub record IsSum (l : Layout) (w : World) (m : Memory) (r : InputRelocation) (x 
   pub denoted : IsTarget l w m r.symbol symbol
   pub sum : x ≡ (symbol + cast_unsigned w64 r.addend) % 2 ^ 64
 
--- a is L: code that goes to a comes to what S is
+-- code that goes to a comes to what S is
 abbrev pub IsGoal : Layout → World → Memory → Option ℕ → ℕ → Type 0
 IsGoal l w m None a = a ≡ 0
 IsGoal l w m (Some i) a = (v : ℕ) × HasValue l w i v × Reaches m a v
@@ -94,8 +94,8 @@ Gives NoValue l w m item r x = HasOffsetMode l item → ⊥
 Gives SymbolAddress l w m item r x = IsSum l w m r x
 Gives Distance l w m item r x = (t : ℕ) × IsSum l w m r t × (x ≡ (t + (2 ^ 64 - place_at w item r.offset)) % 2 ^ 64)
 Gives FromTable l w m item r x = (t : ℕ) × IsSum l w m r t × (x ≡ (t + (2 ^ 64 - table_at l w)) % 2 ^ 64)
-Gives StubDistance l w m item r x = (a : ℕ) × IsGoal l w m r.symbol a × (x ≡ (a + cast_unsigned w64 r.addend + (2 ^ 64 - place_at w item r.offset)) % 2 ^ 64)
-Gives StubFromTable l w m item r x = (a : ℕ) × IsGoal l w m r.symbol a × (x ≡ (a + cast_unsigned w64 r.addend + (2 ^ 64 - table_at l w)) % 2 ^ 64)
+Gives StubDistance l w m item r x = (a : ℕ) × IsTarget l w m r.symbol a × (x ≡ (a + cast_unsigned w64 r.addend + (2 ^ 64 - place_at w item r.offset)) % 2 ^ 64)
+Gives StubFromTable l w m item r x = (a : ℕ) × IsTarget l w m r.symbol a × (x ≡ (a + cast_unsigned w64 r.addend + (2 ^ 64 - table_at l w)) % 2 ^ 64)
 Gives (SlotDistance Descriptor) l w m item r x = (g : ℕ) × IsSlot Descriptor l w m r.symbol g × (HasOffsetMode l item → ⊥) × (x ≡ (g + cast_unsigned w64 r.addend + (2 ^ 64 - place_at w item r.offset)) % 2 ^ 64)
 Gives (SlotDistance sort) l w m item r x = (g : ℕ) × IsSlot sort l w m r.symbol g × (x ≡ (g + cast_unsigned w64 r.addend + (2 ^ 64 - place_at w item r.offset)) % 2 ^ 64)
 Gives SlotFromTable l w m item r x = (g : ℕ) × IsSlot AddressSlot l w m r.symbol g × (x ≡ (g + cast_unsigned w64 r.addend + (2 ^ 64 - table_at l w)) % 2 ^ 64)

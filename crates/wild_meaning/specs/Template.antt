@@ -2,10 +2,10 @@
 --   IsInstruction ..     an instruction stands in the input's bytes, with a relocation at its field
 --   IsSequence ..        it is a sequence with a call, whose relocation is the next one
 --   IsTemplate ..        it is the one that a reference belongs to; `first` is the relocation of its field
---   reads w m            what operands read as in memory
+--   reads w m            what operands read as in memory; `reads_alone` in code that calls no function
 --   Demands ..           v is what the operand of the instruction is to read as
 --   IsDemanded ..        e is the effect that the input's bytes are to have
---   DoesDemanded ..      the loaded code has that effect
+--   DoesDemanded ..      the loaded code has that effect, as a reader has it
 use Rattle.std.specs.Prelude.{◌≡◌, ℕ, ◌+◌, ◌%◌, ◌^◌, ◌≤◌, ◌⊎◌, ⊤, true, false, List, [], ◌∷◌, length, slice_get, slice_range, Option, Some, None, Result, Ok, Err, option_and_then, option_map, Contains}
 use Rattle.std.specs.Int.{w64, cast_unsigned}
 use Rattle.wild_records.specs.Abi.Relocation.{r_x86_64_tlsgd}
@@ -77,7 +77,7 @@ pub record HasPartner (l : Layout) (item : Item) (first second : InputRelocation
   pub getter : NamesGetter l second
 
 -- a sequence of an executable that asks for a thread address, whose symbol no resolver answers for; of a symbol that others may
--- define it is one where instructions are rewritten. Else the two are instructions of their own
+-- define it is one where instructions are rewritten. Else the call is an instruction of its own
 pub record IsSequence (l : Layout) (item : Item) (first second : InputRelocation) (start : ℕ) (o : Instruction) : Type 0 where
   pub executable : IsExecutable l.kind
   pub stands : IsInstruction l item first start o
@@ -126,6 +126,11 @@ reads w m (Number n) = Some n
 reads w m (Word a) = number_in m a 8
 reads w m (Pair a) = pair_in w m a
 
+-- the same for code that calls no function: a pair is read by one alone
+abbrev pub reads_alone : World → Memory → Reader
+reads_alone w m (Pair a) = None
+reads_alone w m other = reads w m other
+
 -- the effect of bytes at an address, by the instructions of the machine
 abbrev pub effect_of : Machine → Reader → ℕ → List ℕ → Option Effect
 effect_of machine.X86_64 read a bs = effect_x86_64 read a bs
@@ -133,10 +138,10 @@ effect_of machine.AArch64 read a bs = None
 
 -- ---- what is demanded
 
--- where code goes that goes to L + A, past the four bytes of the field
+-- where code goes that goes to S + A or L + A, past the four bytes of the field
 pub record IsBranchTarget (l : Layout) (w : World) (m : Memory) (r : InputRelocation) (v : ℕ) : Type 0 where
   pub goal : ℕ
-  pub reached : IsGoal l w m r.symbol goal
+  pub stands : IsTarget l w m r.symbol goal
   pub is : v ≡ (goal + cast_unsigned w64 r.addend + 4) % 2 ^ 64
 
 -- the value of a descriptor's reference: the offset itself, or the address of a descriptor
@@ -170,7 +175,7 @@ abbrev pub old_bytes : Item → ℕ → Instruction → List ℕ
 old_bytes item start o = slice_range item.bytes start (start + size_of o)
 
 -- the loaded code does what the input's instruction does where its operand reads as is demanded
-pub record DoesDemanded (l : Layout) (w : World) (m : Memory) (item : Item) (first : InputRelocation) (start : ℕ) (o : Instruction) : Type 0 where
+pub record DoesDemanded (read : Reader) (l : Layout) (w : World) (m : Memory) (item : Item) (first : InputRelocation) (start : ℕ) (o : Instruction) : Type 0 where
   pub value : ℕ
   pub demands : Demands o.sort l w m item first value
   pub effect : Effect
@@ -178,4 +183,4 @@ pub record DoesDemanded (l : Layout) (w : World) (m : Memory) (item : Item) (fir
   pub bytes : List ℕ
   pub whole : length bytes ≡ size_of o
   pub held : Holds m (place_at w item start) bytes
-  pub does : effect_of l.machine (reads w m) (place_at w item start) bytes ≡ Some effect
+  pub does : effect_of l.machine read (place_at w item start) bytes ≡ Some effect

@@ -1,0 +1,6 @@
+pub mod BesideLemmas
+pub mod RunLemmas
+pub mod SymbolLemmas
+pub mod OrderLemmas
+pub mod LibraryLemmas
+pub mod ImageLemmas

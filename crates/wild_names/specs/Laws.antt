@@ -4,7 +4,7 @@
 --   HasEntry ..            an entry of the table says that of a symbol, and its name stands where it tells
 --   SymbolsStand           each symbol has its entry, behind a null one
 --   LibrariesStand         each library's name stands where the dynamic section tells
-use Rattle.std.specs.Prelude.{◌≡◌, ℕ, ◌+◌, ◌*◌, ◌^◌, ◌<◌, true, List, [], ◌∷◌, ◌++◌, map, replicate, Some, slice_get}
+use Rattle.std.specs.Prelude.{◌≡◌, ℕ, ◌+◌, ◌*◌, ◌^◌, ◌<◌, true, List, [], ◌∷◌, ◌++◌, length, map, replicate, Some, slice_get}
 use Rattle.std.specs.List.{flat_map, filter}
 use Rattle.wild_words.specs.Words.{Stands}
 use Rattle.wild_words.specs.Record.{spell}
@@ -39,8 +39,9 @@ pub record HasEntry (l : Layout) (table strings : Part) (k : ℕ) (n : NamedFiel
   pub entry : Stands (bytes l) (table.offset + symtab_entry_size * k) (spell (symtab_entry_fields (entry_at at n.fields)))
   pub name : IsNamed l strings at n.name
 
--- each symbol of the table has its entry, behind one of zeros
+-- each symbol of the table has its entry, behind one of zeros, and there are no others
 pub record SymbolsAreThere (l : Layout) (table strings : Part) : Type 0 where
+  pub whole : table.size ≡ symtab_entry_size * (length (table_symbols l) + 1)
   pub null : Stands (bytes l) table.offset (replicate symtab_entry_size 0)
   pub each : (k : ℕ) (n : NamedFields) → slice_get (table_symbols l) k ≡ Some n → HasEntry l table strings (k + 1) n
 

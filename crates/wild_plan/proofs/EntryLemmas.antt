@@ -1,5 +1,5 @@
--- Words of packed relocations, counted; no field is left to an entry where the section is not loaded, or the type is none of
--- those that entries fill.
+-- Words of packed relocations, counted; no field is left to an entry where the section is not loaded, the type is none of
+-- those that entries fill, or the symbol is none that entries name.
 use Rattle.std.proofs.Common.{◌≡◌, ℕ, ◌+◌, ◌≤◌, Bool, true, false, List, [], ◌∷◌, length, drop, Option, Some, None, refl, ap, ◌∙◌, arith}
 use Rattle.std.specs.Prelude.{◌==◌, ◌&&◌, ◌||◌, not, nat_lt, if◌then◌else◌}
 use Rattle.std.specs.List.{flat_map, filter, list_all}
@@ -20,11 +20,11 @@ use Rattle.wild_plan.specs.declared.kind.Machine.{Machine}
 use Rattle.wild_plan.specs.declared.kind.Machine.TheVariants as machine
 use Rattle.wild_plan.specs.declared.layout.Layout.{Layout}
 use Rattle.wild_plan.specs.declared.treatment.Treatment.{Treatment}
-use Rattle.wild_plan.specs.declared.treatment.Treatment.TheVariants.{Value, BaseRelative, Symbolic, Indirect, Recompile}
-use Rattle.wild_plan.specs.Entries.{is_left_to_entry, may_be_left}
+use Rattle.wild_plan.specs.declared.treatment.Treatment.TheVariants.{Value, BaseRelative, Symbolic, Indirect, Extent, Recompile}
+use Rattle.wild_plan.specs.Entries.{is_left_to_entry, may_be_left, may_have_entry}
 use Rattle.wild_plan.specs.Lookups.{allocated, writable}
 use Rattle.wild_plan.specs.Rows.{row_of}
-use Rattle.wild_plan.specs.Flags.{has_flag, interposable, ifunc}
+use Rattle.wild_plan.specs.Flags.{has_flag, interposable, dynamic, ifunc}
 use Rattle.wild_plan.specs.Kinds.{is_position_independent, is_shared_object}
 use Rattle.wild_plan.specs.Treatment.{flags_at, is_barred, is_narrow, moves, address_treatment, size_treatment, kind_treatment, row_treatment, treatment}
 
@@ -150,3 +150,52 @@ machine_stays l s o machine.X86_64 n m = row_stays l s o n (x86_64_row n) refl m
 pub others_stay : (l : Layout) (s : InputSection) (r : InputRelocation) → may_be_left s r.number ≡ false → is_left_to_entry (treatment l s r) ≡ false
 unfolding treatment
 others_stay l s r m = machine_stays l s r.symbol l.machine r.number m
+
+-- ---- symbols that entries do not name
+
+plain_address : (refused loaded writes eight left fixed ifunc moved : Bool) (row : RelocationKindInfo) (i : ℕ) → (left || ifunc) ≡ false → is_left_to_entry (if refused then Recompile else if loaded && writes && eight && left then Symbolic i else if loaded && writes && fixed && ifunc then (if eight then Indirect i else Recompile) else if loaded && moved then (if eight then BaseRelative else Recompile) else Value row) ≡ false
+plain_address true loaded writes eight left fixed ifunc moved row i h = refl
+plain_address false false writes eight left fixed ifunc moved row i h = refl
+plain_address false true writes eight true fixed ifunc moved row i h = cc
+plain_address false true writes eight false fixed true moved row i h = cc
+plain_address false true false true false fixed false true row i h = refl
+plain_address false true false false false fixed false true row i h = refl
+plain_address false true false true false fixed false false row i h = refl
+plain_address false true false false false fixed false false row i h = refl
+plain_address false true true true false true false true row i h = refl
+plain_address false true true true false false false true row i h = refl
+plain_address false true true false false true false true row i h = refl
+plain_address false true true false false false false true row i h = refl
+plain_address false true true true false true false false row i h = refl
+plain_address false true true true false false false false row i h = refl
+plain_address false true true false false true false false row i h = refl
+plain_address false true true false false false false false row i h = refl
+
+plain_size : (loaded left other ifunc : Bool) (row : RelocationKindInfo) (i : ℕ) → (left || ifunc) ≡ false → is_left_to_entry (if loaded && left && other then Extent row i else Value row) ≡ false
+plain_size false left other ifunc row i h = refl
+plain_size true true other ifunc row i h = cc
+plain_size true false other ifunc row i h = refl
+
+kind_plain : (l : Layout) (s : InputSection) (o : Option ℕ) (row : RelocationKindInfo) (k : RelocationKind) → may_have_entry l o ≡ false → is_left_to_entry (kind_treatment l s o row k) ≡ false
+kind_plain l s None row kinds.Absolute h = refl
+kind_plain l s (Some i) row kinds.Absolute h =
+    there_keeps (nat_lt i (length l.symbols)) (address_treatment l s row i) row (plain_address (is_barred l s row i || is_narrow l s row) (allocated s.flags) (writable s.flags) (field_width row == 8) (interposable (flags_at l i)) (is_position_independent l.kind) (has_flag (flags_at l i) ifunc) (moves l i) row i h)
+kind_plain l s None row kinds.Relative h = refused_stays (allocated s.flags && is_position_independent l.kind) row
+kind_plain l s (Some i) row kinds.Relative h = refused_stays (is_barred l s row i) row
+kind_plain l s None row kinds.TpOff h = refl
+kind_plain l s (Some i) row kinds.TpOff h = refused_stays (allocated s.flags && is_shared_object l.kind) row
+kind_plain l s None row kinds.SymbolSize h = refl
+kind_plain l s (Some i) row kinds.SymbolSize h =
+    there_keeps (nat_lt i (length l.symbols)) (size_treatment l s row i) row (plain_size (allocated s.flags) (interposable (flags_at l i)) (has_flag (flags_at l i) dynamic || is_shared_object l.kind) (has_flag (flags_at l i) ifunc) row i h)
+kind_plain l s None row other h = refl
+kind_plain l s (Some i) row other h = refl
+
+row_plain : (l : Layout) (s : InputSection) (o : Option ℕ) (row : Option RelocationKindInfo) → may_have_entry l o ≡ false → is_left_to_entry (row_treatment l s o row) ≡ false
+unfolding row_treatment
+row_plain l s o None h = refl
+row_plain l s o (Some row) h = kind_plain l s o row row.kind h
+
+-- the field of a relocation of another symbol is left to none
+pub plain_stay : (l : Layout) (s : InputSection) (r : InputRelocation) → may_have_entry l r.symbol ≡ false → is_left_to_entry (treatment l s r) ≡ false
+unfolding treatment
+plain_stay l s r h = row_plain l s r.symbol (row_of l.machine r.number) h

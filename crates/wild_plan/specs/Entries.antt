@@ -6,6 +6,7 @@
 --                                   that are packed
 --   entry_count l f, word_count l f   how many entries, and how many words, a file has
 --   may_be_left s n                 an entry that names a symbol or a resolver can fill the field of a relocation of type n
+--   may_have_entry l symbol         it can name that symbol, or its resolver
 --   left_relocations l s            the relocations of a section whose fields are left to entries that name a symbol or a resolver
 --   general_count l f               how many entries a file has for these, and for the symbols that it has copied
 use Rattle.std.specs.Prelude.{ℕ, ◌+◌, ◌%◌, ◌^◌, ◌==◌, ◌&&◌, ◌||◌, Bool, true, false, not, if◌then◌else◌, List, [], length, Option, Some, None, option_to_list}
@@ -19,10 +20,11 @@ use Rattle.wild_plan.specs.declared.layout.Layout.{Layout}
 use Rattle.wild_plan.specs.declared.treatment.Treatment.{Treatment}
 use Rattle.wild_plan.specs.declared.treatment.Treatment.TheVariants.{BaseRelative, Symbolic, Indirect, Extent}
 use Rattle.wild_plan.specs.FileRoles.{is_library}
+use Rattle.wild_plan.specs.Flags.{has_flag, interposable, ifunc}
 use Rattle.wild_plan.specs.Kinds.{is_position_independent}
 use Rattle.wild_plan.specs.Lists.{total}
 use Rattle.wild_plan.specs.Lookups.{is_read, writable}
-use Rattle.wild_plan.specs.Treatment.{treatment}
+use Rattle.wild_plan.specs.Treatment.{flags_at, treatment}
 
 -- the address of the field
 abbrev pub place_of : InputSection → InputRelocation → ℕ
@@ -88,6 +90,11 @@ is_left_to_entry other = false
 -- no other type has a field that such an entry fills: an address of 8 bytes, where the program may write, and a size
 abbrev pub may_be_left : InputSection → ℕ → Bool
 may_be_left s n = n == r_x86_64_64 && writable s.flags || (n == r_x86_64_size32 || n == r_x86_64_size64)
+
+-- nor is a field of a symbol that only this output defines, which is no IFUNC
+abbrev pub may_have_entry : Layout → Option ℕ → Bool
+may_have_entry l None = false
+may_have_entry l (Some i) = interposable (flags_at l i) || has_flag (flags_at l i) ifunc
 
 -- the relocations of an input section whose fields are left to entries, in order
 unfoldable pub left_relocations : Layout → InputSection → List InputRelocation

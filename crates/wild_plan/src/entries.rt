@@ -3,7 +3,7 @@
 ghost use Rattle.std.specs.Prelude.{◌≡◌, ℕ, ◌+◌, ◌-◌, ◌^◌, ◌%◌, ◌≤◌, true, min, List, length, ◌++◌, is_some, option_to_list, IfSome};
 ghost use Rattle.std.specs.List.{flat_map, filter};
 ghost use Rattle.wild_relr.specs.Packed.{counted, packed};
-ghost use Rattle.wild_plan.specs.Entries.{place_of, packs, is_moved, listed_place, packed_place, has_moved, listed_places, words_of, entry_count, word_count, is_left_to_entry, may_be_left, left_relocations, copies_of, general_count};
+ghost use Rattle.wild_plan.specs.Entries.{place_of, packs, is_moved, listed_place, packed_place, has_moved, listed_places, words_of, entry_count, word_count, is_left_to_entry, may_be_left, may_have_entry, left_relocations, copies_of, general_count};
 ghost use Rattle.wild_plan.specs.Treatment.{treatment};
 
 use crate::file::File;
@@ -11,7 +11,7 @@ use crate::index::SymbolIndex;
 use crate::input::{InputRelocation, InputSection};
 use crate::layout::Layout;
 use crate::lookups::{is_allocated, is_writable};
-use crate::treatment::{Treatment, treatment_of};
+use crate::treatment::{Treatment, flags_at, treatment_of};
 use wild_records::abi::relocation::{R_X86_64_64, R_X86_64_SIZE32, R_X86_64_SIZE64};
 use wild_relr::{Choice, Run, choice, runs_are_counted};
 
@@ -181,9 +181,38 @@ fn may_be_left(section: &InputSection, number: u32) -> bool
     }
 }
 
+/// Whether such an entry can name a symbol, or its resolver.
+#[inline]
+fn may_have_entry(layout: &Layout, symbol: Option<SymbolIndex>) -> bool
+    ensures { result ≡ may_have_entry layout.now symbol }
+{
+    match symbol {
+        Some(symbol) => {
+            let flags = flags_at(layout, symbol);
+            flags.is_interposable() || flags.is_ifunc()
+        }
+        None => false,
+    }
+}
+
+/// Whether the treatment of a relocation leaves its field to such an entry.
+fn is_left_by_treatment(
+    layout: &Layout,
+    section: &InputSection,
+    relocation: &InputRelocation,
+) -> bool
+    ensures { result ≡ is_left_to_entry (treatment layout.now section.now relocation.now) }
+{
+    matches!(
+        treatment_of(layout, section, relocation),
+        Treatment::Symbolic(_) | Treatment::Indirect(_) | Treatment::Extent(_, _)
+    )
+}
+
 /// Whether the field of a relocation is left to an entry that names a symbol or a resolver. Its treatment is asked only
-/// where its type allows that.
-#[tactic(auto, using(crate::proofs::EntryLemmas::others_stay))]
+/// where its type and its symbol allow that.
+#[inline]
+#[tactic(auto, using(crate::proofs::EntryLemmas::others_stay, crate::proofs::EntryLemmas::plain_stay))]
 pub fn is_left_to_entry(
     layout: &Layout,
     section: &InputSection,
@@ -192,10 +221,8 @@ pub fn is_left_to_entry(
     ensures { result ≡ is_left_to_entry (treatment layout.now section.now relocation.now) }
 {
     may_be_left(section, relocation.number)
-        && matches!(
-            treatment_of(layout, section, relocation),
-            Treatment::Symbolic(_) | Treatment::Indirect(_) | Treatment::Extent(_, _)
-        )
+        && may_have_entry(layout, relocation.symbol)
+        && is_left_by_treatment(layout, section, relocation)
 }
 
 /// How many of some relocations of a section are such: none where it is not loaded into memory.

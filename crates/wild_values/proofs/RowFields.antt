@@ -38,7 +38,7 @@ use Rattle.wild_loader.specs.declared.memory.Memory.{Memory}
 use Rattle.wild_loader.specs.declared.world.World.{World}
 use Rattle.wild_loader.specs.Memory.{Holds}
 use Rattle.wild_meaning.specs.Field.{formula_of, form_width}
-use Rattle.wild_meaning.specs.Formula.{IsGoal, Gives, IsPlaceRelative, TakesAddress, TakesOffset, table_at}
+use Rattle.wild_meaning.specs.Formula.{IsTarget, Gives, IsPlaceRelative, TakesAddress, TakesOffset, table_at}
 use Rattle.wild_meaning.specs.Item.{place_at, item_of}
 use Rattle.wild_meaning.specs.Reference.{IsAsked}
 use Rattle.wild_meaning.specs.Value.{moved}
@@ -65,9 +65,9 @@ right l w m s r f i a h asked known relative named t =
       ]
     ]
 
--- code that goes to the symbol itself is there
-goal_is : (l : Layout) (w : World) (m : Memory) (r : InputRelocation) (i a : ℕ) → r.symbol ≡ Some i → (t : IsOwnValue l w i a) → IsGoal l w m r.symbol (moved t.still w.base a)
-goal_is l w m r i a named t = subst (λ (o : Option ℕ). IsGoal l w m o (moved t.still w.base a)) (sym named) (moved t.still w.base a, t.value, inl refl)
+-- the symbol itself is what L is
+goal_is : (l : Layout) (w : World) (m : Memory) (r : InputRelocation) (i a : ℕ) → r.symbol ≡ Some i → (t : IsOwnValue l w i a) → IsTarget l w m r.symbol (moved t.still w.base a)
+goal_is l w m r i a named t = subst (λ (o : Option ℕ). IsTarget l w m o (moved t.still w.base a)) (sym named) (inl t.value)
 
 flat : (x c q : ℕ) → ((x + c) % 2 ^ 64 + q) % 2 ^ 64 ≡ (x + c + q) % 2 ^ 64
 flat x c q = omega arith

@@ -15,8 +15,8 @@ use Rattle.wild_layout.specs.Values.{resolution_of, stub_of, stub_address}
 use Rattle.wild_loader.specs.StepLaws.{StubsOfValuesAreRead}
 use Rattle.wild_loader.specs.declared.memory.Memory.{Memory}
 use Rattle.wild_loader.specs.declared.world.World.{World}
-use Rattle.wild_meaning.specs.Formula.{IsGoal}
-use Rattle.wild_meaning.specs.Value.{HasValue, HasStub, IsStub, JumpsTo, Reaches}
+use Rattle.wild_meaning.specs.Formula.{IsTarget}
+use Rattle.wild_meaning.specs.Value.{Denotes, HasValue, HasStub, IsStub, JumpsTo, Reaches}
 use Rattle.wild_values.specs.Terms.{IsPlaced}
 use Rattle.wild_values.proofs.FirstSlots.{HasFirst, first_held, items_behind}
 use Rattle.wild_values.proofs.SlotContents.{ItemsHold}
@@ -95,17 +95,13 @@ stub_fits l w m i stub h = let low = h.below in omega (arith, low)
 pub stub_reaches : (l : Layout) (w : World) (m : Memory) (i stub : ℕ) → (h : StubStands l w m i stub) → Reaches m ((w.base + stub) % 2 ^ 64) h.value
 stub_reaches l w m i stub h = subst (λ (a : ℕ). Reaches m a h.value) (sym (stub_fits l w m i stub h)) (inr (h.value, h.jumps, inl refl))
 
--- so it is L
-pub stub_is_goal : (l : Layout) (w : World) (m : Memory) (i stub : ℕ) → StubStands l w m i stub → IsGoal l w m (Some i) ((w.base + stub) % 2 ^ 64)
-stub_is_goal l w m i stub h = (h.value, h.is, stub_reaches l w m i stub h)
-
--- and stands for the symbol
+-- so it stands for the symbol
 pub stub_is : (l : Layout) (w : World) (m : Memory) (i stub : ℕ) → StubStands l w m i stub → IsStub l w m i ((w.base + stub) % 2 ^ 64)
 stub_is l w m i stub h = record { stub = stub; given = h.given; moves = refl; value = h.value; is = h.is; reaches = stub_reaches l w m i stub h }
 
 -- the writer's L is the reader's
-pub goal_given : StubsOfValuesAreRead → (l : Layout) (w : World) (m : Memory) (symbol : Option ℕ) (i term : ℕ) → IsPlaced l w m → symbol ≡ Some i → stub_address l symbol ≡ Ok term → IsGoal l w m symbol ((w.base + term) % 2 ^ 64)
+pub goal_given : StubsOfValuesAreRead → (l : Layout) (w : World) (m : Memory) (symbol : Option ℕ) (i term : ℕ) → IsPlaced l w m → symbol ≡ Some i → stub_address l symbol ≡ Ok term → IsTarget l w m symbol ((w.base + term) % 2 ^ 64)
 goal_given law l w m symbol i term p named given =
     let here : stub_address l (Some i) ≡ Ok term = subst (λ (o : Option ℕ). stub_address l o ≡ Ok term) named given in
-    let goal = stub_is_goal l w m i term (stub_stands law l w m i term p (given_some missing.Stub i (stub_of l i) term here)) in
-    subst (λ (o : Option ℕ). IsGoal l w m o ((w.base + term) % 2 ^ 64)) (sym named) goal
+    let goal : Denotes l w m i ((w.base + term) % 2 ^ 64) = inr (stub_is l w m i term (stub_stands law l w m i term p (given_some missing.Stub i (stub_of l i) term here))) in
+    subst (λ (o : Option ℕ). IsTarget l w m o ((w.base + term) % 2 ^ 64)) (sym named) goal

@@ -18,7 +18,7 @@ use Rattle.wild_meaning.specs.Sequence.{Instruction, size_of, instructions_of, I
 use Rattle.wild_meaning.specs.Template.{CountsFromItsEnd, IsInstruction, IsSequence}
 use Rattle.wild_laws.proofs.Sequences.{passes}
 use Rattle.wild_laws.proofs.Symbols.{not_both}
-use Rattle.wild_worlds.specs.Premises.{WorkedCodeIsAsked, IsWorked, IsPaired, AsksForThreadAddress, worked_relocation, worked_item, direct_code, indirect_code, load_code, direct_branch, indirect_branch, load, general, pair_relocation, getter_relocation, general_item}
+use Rattle.wild_worlds.specs.Premises.{WorkedBranchesAreAsked, WorkedAddressesAreAsked, IsWorked, IsPaired, AsksForThreadAddress, worked_relocation, worked_item, direct_code, indirect_code, load_code, direct_branch, indirect_branch, load, general, pair_relocation, getter_relocation, general_item}
 
 -- ---- one instruction
 
@@ -178,5 +178,8 @@ paired l address h = (record { listed = (0, omega arith, refl); refers = not_non
 getter : (l : Layout) (address : ℕ) → AsksForThreadAddress l → IsPaired l address getter_relocation
 getter l address h = (record { listed = (1, omega arith, refl); refers = not_none r_x86_64_plt32 (omega arith) }, inr (record { second = getter_relocation; sequence = general_sequence l address h; one = inr refl }))
 
-pub worked_asked : WorkedCodeIsAsked
-worked_asked = record { call = worked_call; jump = worked_jump; slot_call = worked_slot_call; slot_jump = worked_slot_jump; loads = worked_load; pairs = paired; getters = getter }
+pub branches_asked : WorkedBranchesAreAsked
+branches_asked = record { call = worked_call; jump = worked_jump; slot_call = worked_slot_call; slot_jump = worked_slot_jump }
+
+pub addresses_asked : WorkedAddressesAreAsked
+addresses_asked = record { loads = worked_load; pairs = paired; getters = getter }

@@ -259,6 +259,12 @@ general = of_sequence general_call 4 SymbolPair r_x86_64_tlsgd (by_call 12)
 abbrev pub IsWorked : Layout → ℕ → List ℕ → InputRelocation → Instruction → Type 0
 IsWorked l address bytes r o = IsReference (worked_item address bytes (r ∷ [])) r × IsTemplate l (worked_item address bytes (r ∷ [])) r 0 o r
 
+pub record WorkedBranchesAreAsked : Type 0 where
+  pub call : (l : Layout) (address : ℕ) → l.machine ≡ machine.X86_64 → IsWorked l address (direct_code 0xe8) (worked_relocation 1 r_x86_64_pc32 0) (direct_branch 0xe8 Call)
+  pub jump : (l : Layout) (address : ℕ) → l.machine ≡ machine.X86_64 → IsWorked l address (direct_code 0xe9) (worked_relocation 1 r_x86_64_plt32 0) (direct_branch 0xe9 Jump)
+  pub slot_call : (l : Layout) (address : ℕ) → l.machine ≡ machine.X86_64 → IsWorked l address (indirect_code 0x15) (worked_relocation 2 r_x86_64_gotpcrelx 0) (indirect_branch 0x15 Call)
+  pub slot_jump : (l : Layout) (address : ℕ) → l.machine ≡ machine.X86_64 → IsWorked l address (indirect_code 0x25) (worked_relocation 2 r_x86_64_gotpcrel 0) (indirect_branch 0x25 Jump)
+
 -- the two relocations of the sequence
 abbrev pub pair_relocation : InputRelocation
 pair_relocation = worked_relocation 4 r_x86_64_tlsgd 0
@@ -281,11 +287,8 @@ pub record AsksForThreadAddress (l : Layout) : Type 0 where
 abbrev pub IsPaired : Layout → ℕ → InputRelocation → Type 0
 IsPaired l address r = IsReference (general_item address) r × IsTemplate l (general_item address) r 0 general pair_relocation
 
-pub record WorkedCodeIsAsked : Type 0 where
-  pub call : (l : Layout) (address : ℕ) → l.machine ≡ machine.X86_64 → IsWorked l address (direct_code 0xe8) (worked_relocation 1 r_x86_64_pc32 0) (direct_branch 0xe8 Call)
-  pub jump : (l : Layout) (address : ℕ) → l.machine ≡ machine.X86_64 → IsWorked l address (direct_code 0xe9) (worked_relocation 1 r_x86_64_plt32 0) (direct_branch 0xe9 Jump)
-  pub slot_call : (l : Layout) (address : ℕ) → l.machine ≡ machine.X86_64 → IsWorked l address (indirect_code 0x15) (worked_relocation 2 r_x86_64_gotpcrelx 0) (indirect_branch 0x15 Call)
-  pub slot_jump : (l : Layout) (address : ℕ) → l.machine ≡ machine.X86_64 → IsWorked l address (indirect_code 0x25) (worked_relocation 2 r_x86_64_gotpcrel 0) (indirect_branch 0x25 Jump)
+-- a register is set to an address, and a thread address is asked for
+pub record WorkedAddressesAreAsked : Type 0 where
   pub loads : (l : Layout) (address : ℕ) → l.machine ≡ machine.X86_64 → IsWorked l address load_code (worked_relocation 3 r_x86_64_rex_gotpcrelx 0) load
   pub pairs : (l : Layout) (address : ℕ) → AsksForThreadAddress l → IsPaired l address pair_relocation
   pub getters : (l : Layout) (address : ℕ) → AsksForThreadAddress l → IsPaired l address getter_relocation

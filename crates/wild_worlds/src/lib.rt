@@ -1,7 +1,7 @@
 //! The premises of soundness are met: there are legal worlds, and references that are asked in them.
 #![tactic(auto)]
 
-ghost use Rattle.wild_worlds.specs.Premises.{ZeroIsLegal, MovedIsLegal, NoneHasNone, WorldsAreThere, KindsAreLoaded, SectionsAreKept, RelocationsRefer, ReferencesAreAsked, SlotsAreAsked, FewAreLinkedAlone, BlanksAreAsked, AddressesMove, ResolversAnswer, WorldsAnswer, OffsetsCount, WorkedCodeIsAsked};
+ghost use Rattle.wild_worlds.specs.Premises.{ZeroIsLegal, MovedIsLegal, NoneHasNone, WorldsAreThere, KindsAreLoaded, SectionsAreKept, RelocationsRefer, ReferencesAreAsked, SlotsAreAsked, FewAreLinkedAlone, BlanksAreAsked, AddressesMove, ResolversAnswer, WorldsAnswer, OffsetsCount, WorkedAddressesAreAsked, WorkedBranchesAreAsked};
 
 use wild_geometry::layouts_are_laid_out;
 use wild_values::thread_places_are_known;
@@ -12,7 +12,8 @@ use wild_values::thread_places_are_known;
 /// is a reference, and is asked unless its symbol is absolute and its value takes a place from it, or its instruction goes
 /// through a slot; few take the output's own symbol alone; the address of an own symbol that is not absolute moves with the base,
 /// an IFUNC's value is what its resolver answers, a replaceable symbol's what the world does; an offset from the thread pointer is
-/// an address less that; the code of the worked examples is that of instructions, and of a sequence of them.
+/// an address less that; the worked examples have calls and jumps, an address that is loaded from a slot, and a sequence that asks
+/// for a thread address.
 pub fn premises_are_met()
     ensures zero { ZeroIsLegal }
     ensures elsewhere { MovedIsLegal }
@@ -29,7 +30,8 @@ pub fn premises_are_met()
     ensures resolvers { ResolversAnswer }
     ensures answers { WorldsAnswer }
     ensures offsets { OffsetsCount }
-    ensures code { WorkedCodeIsAsked }
+    ensures branches { WorkedBranchesAreAsked }
+    ensures loads { WorkedAddressesAreAsked }
 {
     layouts_are_laid_out();
     thread_places_are_known();

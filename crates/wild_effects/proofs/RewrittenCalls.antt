@@ -1,0 +1,285 @@
+-- Sequences whose call goes through a slot: where the reader knows one, a row stands at its first relocation.
+use Rattle.std.proofs.Common.{◌≡◌, ℕ, zero, suc, ◌+◌, ◌-◌, ◌*◌, ◌/◌, ◌%◌, ◌<◌, ◌≤◌, ◌⊎◌, inl, inr, Bool, true, false, List, [], ◌∷◌, length, get_or, take, drop, refl, sym, ◌∙◌, arith, subst}
+use Rattle.std.specs.Prelude.{⊤, ◌&&◌, ◌||◌, ◌==◌, nat_le, Option, Some, None, Contains, slice_range, bit_and}
+use Rattle.std.proofs.lemmas.Bool.{eqb-true, le-leb, eq-eqb}
+use Rattle.std.proofs.lemmas.List.{take-take}
+use Rattle.std.proofs.lemmas.Nat.Bits.{and_pow}
+use Rattle.wild_records.specs.Abi.Relocation as abi
+use Rattle.wild_records.specs.Abi.Section.{shf_execinstr}
+use Rattle.wild_plan.specs.declared.kind.Machine.TheVariants as machine
+use Rattle.wild_plan.specs.declared.input.InputRelocation.{InputRelocation}
+use Rattle.wild_plan.specs.declared.input.InputSection.{InputSection}
+use Rattle.wild_plan.specs.declared.layout.Layout.{Layout}
+use Rattle.wild_plan.specs.Flags.{has_flag, interposable, ifunc}
+use Rattle.wild_plan.specs.Kinds.{is_executable, is_static_executable}
+use Rattle.wild_plan.specs.Lookups.{bit, executable}
+use Rattle.wild_plan.specs.Treatment.{flags_at}
+use Rattle.wild_relax.specs.declared.pattern.GeneralForm.TheVariants as general
+use Rattle.wild_relax.specs.declared.pattern.LocalForm.TheVariants as local
+use Rattle.wild_relax.specs.declared.pattern.Cell.{Cell}
+use Rattle.wild_relax.specs.declared.pattern.Cell.TheVariants as cells
+use Rattle.wild_relax.specs.declared.pattern.Pattern.{Pattern}
+use Rattle.wild_relax.specs.declared.pattern.Pattern.TheVariants as pattern
+use Rattle.wild_relax.specs.declared.row.Row.TheVariants.{GeneralDynamicToLocalExec, GeneralDynamicToInitialExec, LocalDynamicToLocalExec}
+use Rattle.wild_relax.specs.Pattern as writer
+use Rattle.wild_relax.specs.Pattern.{stands_before, stands_at}
+use Rattle.wild_relax.specs.Rows.{applies}
+use Rattle.wild_layout.specs.Choice.{question_of}
+use Rattle.wild_meaning.specs.Section.{IsSet}
+use Rattle.wild_meaning.specs.Instruction as judge
+use Rattle.wild_meaning.specs.InstructionX86_64.{general_slot_call, local_slot_call}
+use Rattle.wild_meaning.specs.Sequence.{Partner, Instruction, instructions_of}
+use Rattle.wild_effects.proofs.RewrittenForms.{both, instruction_of}
+use Rattle.wild_effects.proofs.RewrittenSingles.{has_number}
+
+-- ---- each instruction that the reader knows
+
+abbrev pub EachOf : {X : Type 0} → (X → Type 0) → List X → Type 0
+EachOf P [] = ⊤
+EachOf P (x ∷ xs) = P x × EachOf P xs
+
+pub each_of : {X : Type 0} (P : X → Type 0) (xs : List X) (o : X) (k : ℕ) → EachOf P xs → k < length xs → get_or xs k o ≡ o → P o
+each_of P [] o k h lt e = absurd (omega (arith, lt))
+each_of P (x ∷ xs) o zero h lt e = subst P e h.0
+each_of P (x ∷ xs) o (suc k) h lt e = each_of P xs o k h.1 (omega (arith, lt)) e
+
+abbrev pub general_slot : Instruction
+general_slot = instruction_of (GeneralDynamicToLocalExec general.NoPlt)
+
+abbrev pub local_slot : Instruction
+local_slot = instruction_of (LocalDynamicToLocalExec local.NoPlt)
+
+-- types of direct calls
+abbrev pub direct_numbers : List ℕ
+direct_numbers = abi.r_x86_64_pc32 ∷ abi.r_x86_64_plt32 ∷ abi.r_x86_64_pltoff64 ∷ []
+
+-- a sequence is one of the two, or calls directly
+abbrev pub IsCallOf : Instruction → Type 0
+IsCallOf o = (c : Partner) → o.partner ≡ Some c → (o ≡ general_slot) ⊎ ((o ≡ local_slot) ⊎ ((n : ℕ) → Contains c.numbers n → has_number n direct_numbers ≡ true))
+
+none_of : (o : Instruction) → o.partner ≡ None → IsCallOf o
+none_of o e c h = (let f : None ≡ Some c = sym e ∙ h in cc)
+
+one_number : (a n k : ℕ) → k < 1 → get_or (a ∷ []) k n ≡ n → n ≡ a
+one_number a n zero lt e = sym e
+one_number a n (suc k) lt e = absurd (omega (arith, lt))
+
+-- the only relocation type of a sequence's first field
+pub only_number : (a n : ℕ) → Contains (a ∷ []) n → n ≡ a
+only_number a n c = one_number a n c.0 c.1 c.2
+
+near_number : (n k : ℕ) → k < 2 → get_or (abi.r_x86_64_pc32 ∷ abi.r_x86_64_plt32 ∷ []) k n ≡ n → has_number n direct_numbers ≡ true
+near_number n zero lt e = subst (λ (x : ℕ). has_number x direct_numbers ≡ true) e refl
+near_number n (suc zero) lt e = subst (λ (x : ℕ). has_number x direct_numbers ≡ true) e refl
+near_number n (suc (suc k)) lt e = absurd (omega (arith, lt))
+
+near : (o : Instruction) (at : ℕ) → o.partner ≡ Some (record { field = at; width = 4; numbers = abi.r_x86_64_pc32 ∷ abi.r_x86_64_plt32 ∷ [] }) → IsCallOf o
+near o at e c h = (let f : Some (record { field = at; width = 4; numbers = abi.r_x86_64_pc32 ∷ abi.r_x86_64_plt32 ∷ [] }) ≡ Some c = sym e ∙ h in inr (inr (λ n listed. by_same c f n listed)))
+  where
+    by_same : (c : Partner) → Some (record { field = at; width = 4; numbers = abi.r_x86_64_pc32 ∷ abi.r_x86_64_plt32 ∷ [] }) ≡ Some c → (n : ℕ) → Contains c.numbers n → has_number n direct_numbers ≡ true
+    by_same c f n listed =
+        let same : c ≡ record { field = at; width = 4; numbers = abi.r_x86_64_pc32 ∷ abi.r_x86_64_plt32 ∷ [] } = cc in
+        let t = subst (λ (p : Partner). Contains p.numbers n) same listed in
+        near_number n t.0 t.1 t.2
+
+far : (o : Instruction) (at : ℕ) → o.partner ≡ Some (record { field = at; width = 8; numbers = abi.r_x86_64_pltoff64 ∷ [] }) → IsCallOf o
+far o at e c h = (let f : Some (record { field = at; width = 8; numbers = abi.r_x86_64_pltoff64 ∷ [] }) ≡ Some c = sym e ∙ h in inr (inr (λ n listed. by_same c f n listed)))
+  where
+    by_same : (c : Partner) → Some (record { field = at; width = 8; numbers = abi.r_x86_64_pltoff64 ∷ [] }) ≡ Some c → (n : ℕ) → Contains c.numbers n → has_number n direct_numbers ≡ true
+    by_same c f n listed =
+        let same : c ≡ record { field = at; width = 8; numbers = abi.r_x86_64_pltoff64 ∷ [] } = cc in
+        let t = subst (λ (p : Partner). Contains p.numbers n) same listed in
+        subst (λ (x : ℕ). has_number x direct_numbers ≡ true) (sym (only_number abi.r_x86_64_pltoff64 n t)) refl
+
+each_call : EachOf IsCallOf (instructions_of machine.X86_64)
+each_call = (
+  none_of _ refl,
+  (
+    none_of _ refl,
+    (
+      none_of _ refl,
+      (
+        none_of _ refl,
+        (
+          none_of _ refl,
+          (
+            none_of _ refl,
+            (
+              none_of _ refl,
+              (
+                none_of _ refl,
+                (
+                  none_of _ refl,
+                  (
+                    none_of _ refl,
+                    (
+                      none_of _ refl,
+                      (
+                        none_of _ refl,
+                        (
+                          none_of _ refl,
+                          (
+                            none_of _ refl,
+                            (
+                              none_of _ refl,
+                              (
+                                none_of _ refl,
+                                (
+                                  none_of _ refl,
+                                  (
+                                    none_of _ refl,
+                                    (
+                                      none_of _ refl,
+                                      (
+                                        none_of _ refl,
+                                        (
+                                          none_of _ refl,
+                                          (
+                                            none_of _ refl,
+                                            (
+                                              none_of _ refl,
+                                              (
+                                                none_of _ refl,
+                                                (
+                                                  none_of _ refl,
+                                                  (
+                                                    near _ 12 refl,
+                                                    (
+                                                      (λ c h. inl refl),
+                                                      (
+                                                        far _ 9 refl,
+                                                        (
+                                                          near _ 8 refl,
+                                                          (
+                                                            (λ c h. inr (inl refl)),
+                                                            (far _ 9 refl, tt),
+                                                          ),
+                                                        ),
+                                                      ),
+                                                    ),
+                                                  ),
+                                                ),
+                                              ),
+                                            ),
+                                          ),
+                                        ),
+                                      ),
+                                    ),
+                                  ),
+                                ),
+                              ),
+                            ),
+                          ),
+                        ),
+                      ),
+                    ),
+                  ),
+                ),
+              ),
+            ),
+          ),
+        ),
+      ),
+    ),
+  ),
+)
+
+pub calls_of : (o : Instruction) → Contains (instructions_of machine.X86_64) o → IsCallOf o
+calls_of o c = each_of IsCallOf (instructions_of machine.X86_64) o c.0 each_call c.1 c.2
+
+-- ---- the pattern stands
+
+-- what fits the reader's cell fits the writer's
+abbrev backs : judge.Cell → Cell → Bool
+backs (judge.Is n) (cells.Is k) = n == k
+backs c cells.Any = true
+backs c d = false
+
+backed : (c : judge.Cell) (d : Cell) (b : ℕ) → backs c d ≡ true → judge.fits c b ≡ true → writer.fits d b ≡ true
+backed c cells.Any b h e = refl
+backed (judge.Is n) (cells.Is k) b h e = subst (λ (x : ℕ). (b == x) ≡ true) (eqb-true n k h) e
+backed (judge.From low high) (cells.Is k) b h e = cc
+backed judge.Slot (cells.Is k) b h e = cc
+backed (judge.Digit d) (cells.Is k) b h e = cc
+backed judge.Any (cells.Is k) b h e = cc
+backed (judge.Is n) cells.RexWide b h e = cc
+backed (judge.From low high) cells.RexWide b h e = cc
+backed judge.Slot cells.RexWide b h e = cc
+backed (judge.Digit d) cells.RexWide b h e = cc
+backed judge.Any cells.RexWide b h e = cc
+backed (judge.Is n) cells.Rex2Wide b h e = cc
+backed (judge.From low high) cells.Rex2Wide b h e = cc
+backed judge.Slot cells.Rex2Wide b h e = cc
+backed (judge.Digit d) cells.Rex2Wide b h e = cc
+backed judge.Any cells.Rex2Wide b h e = cc
+backed (judge.Is n) cells.Slot b h e = cc
+backed (judge.From low high) cells.Slot b h e = cc
+backed judge.Slot cells.Slot b h e = cc
+backed (judge.Digit d) cells.Slot b h e = cc
+backed judge.Any cells.Slot b h e = cc
+
+-- the writer's cells are the first of the reader's
+abbrev backs_all : List judge.Cell → List Cell → Bool
+backs_all cs [] = true
+backs_all [] (d ∷ ds) = false
+backs_all (c ∷ cs) (d ∷ ds) = backs c d && backs_all cs ds
+
+all_backed : (cs : List judge.Cell) (ds : List Cell) (bs : List ℕ) → backs_all cs ds ≡ true → judge.stands cs bs ≡ true → writer.stands ds (take (length ds) bs) ≡ true
+all_backed cs [] bs h e = refl
+all_backed [] (d ∷ ds) bs h e = cc
+all_backed (c ∷ cs) (d ∷ ds) [] h e = cc
+all_backed (c ∷ cs) (d ∷ ds) (b ∷ bs) h e =
+    let x = both (backs c d) (backs_all cs ds) h in
+    let y = both (judge.fits c b) (judge.stands cs bs) e in
+    rw (backed c d b x.0 y.0, all_backed cs ds bs x.1 y.1) refl
+
+front : (bs : List ℕ) (a k n : ℕ) → k ≤ n → take k (slice_range bs a (a + n)) ≡ slice_range bs a (a + k)
+front bs a k n h =
+    let e : a + n - a ≡ n = omega arith in
+    let f : a + k - a ≡ k = omega arith in
+    rw (e, f) (take-take k n (drop a bs) h)
+
+-- a pattern with its field stands where the first cells of an instruction do
+pub stands_so : (cs : List judge.Cell) (p : Pattern) (bs : List ℕ) (offset from : ℕ) → backs_all cs (writer.cells_of p) ≡ true → length (writer.cells_of p) ≤ length cs → offset ≡ from + writer.field_of p → from + length cs ≤ length bs → judge.stands cs (slice_range bs from (from + length cs)) ≡ true → stands_before bs offset p ≡ true
+unfolding stands_before stands_at
+stands_so cs p bs offset from h short place inside e =
+    let n = length (writer.cells_of p) in
+    let start : offset - writer.field_of p ≡ from = omega (arith, place) in
+    let low : nat_le (writer.field_of p) offset ≡ true = le-leb _ _ (omega (arith, place)) in
+    let room : nat_le (from + n) (length bs) ≡ true = le-leb _ _ (omega (arith, short, inside)) in
+    let same = subst (λ (xs : List ℕ). writer.stands (writer.cells_of p) xs ≡ true) (front bs from n (length cs) short) (all_backed cs (writer.cells_of p) (slice_range bs from (from + length cs)) h e) in
+    rw (start, low, room, same) refl
+
+pub general_backed : backs_all general_slot_call.cells (writer.cells_of (pattern.General general.NoPlt)) ≡ true
+general_backed = refl
+
+pub local_backed : backs_all local_slot_call.cells (writer.cells_of (pattern.LocalStart local.NoPlt)) ≡ true
+local_backed = refl
+
+-- ---- a row that stands
+
+pub exec_bit : (f : ℕ) → IsSet f shf_execinstr → executable f ≡ true
+unfolding bit
+exec_bit f h =
+    let a : bit_and f 4 ≡ f / 4 % 2 * 4 = and_pow f 2 in
+    let e : bit_and f 4 ≡ 4 = omega (arith, a, h) in
+    rw e refl
+
+-- a relocation whose sequence goes through a slot, where rewriting is on or there is no other way
+pub record IsAskedFor (l : Layout) (s : InputSection) (k : ℕ) : Type 0 where
+  pub on : (l.options.relax || is_static_executable l.kind) ≡ true
+  pub code : executable s.flags ≡ true
+  pub plain : has_flag (flags_at l k) ifunc ≡ false
+  pub program : is_executable l.kind ≡ true
+
+pub local_applies : (l : Layout) (s : InputSection) (r : InputRelocation) (k : ℕ) (next : Option InputRelocation) → IsAskedFor l s k → r.number ≡ abi.r_x86_64_tlsld → stands_before s.bytes r.offset (pattern.LocalStart local.NoPlt) ≡ true → applies (question_of l s r k next) (LocalDynamicToLocalExec local.NoPlt) ≡ true
+unfolding applies
+local_applies l s r k next h number stands = rw (eq-eqb r.number abi.r_x86_64_tlsld number, h.on, h.code, h.plain, h.program, stands) refl
+
+pub own_applies : (l : Layout) (s : InputSection) (r : InputRelocation) (k : ℕ) (next : Option InputRelocation) → IsAskedFor l s k → interposable (flags_at l k) ≡ false → r.number ≡ abi.r_x86_64_tlsgd → stands_before s.bytes r.offset (pattern.General general.NoPlt) ≡ true → applies (question_of l s r k next) (GeneralDynamicToLocalExec general.NoPlt) ≡ true
+unfolding applies
+own_applies l s r k next h own number stands = rw (eq-eqb r.number abi.r_x86_64_tlsgd number, h.on, h.code, h.plain, h.program, own, stands) refl
+
+pub open_applies : (l : Layout) (s : InputSection) (r : InputRelocation) (k : ℕ) (next : Option InputRelocation) → IsAskedFor l s k → l.options.relax ≡ true → interposable (flags_at l k) ≡ true → r.number ≡ abi.r_x86_64_tlsgd → stands_before s.bytes r.offset (pattern.General general.NoPlt) ≡ true → applies (question_of l s r k next) (GeneralDynamicToInitialExec general.NoPlt) ≡ true
+unfolding applies
+open_applies l s r k next h on open_one number stands = rw (eq-eqb r.number abi.r_x86_64_tlsgd number, on, h.code, h.plain, h.program, open_one, stands) refl

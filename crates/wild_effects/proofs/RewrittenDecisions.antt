@@ -1,0 +1,63 @@
+-- What is decided where a row stands: no sequence before takes the relocation along, and none is refused.
+use Rattle.std.proofs.Common.{◌≡◌, ℕ, suc, ◌+◌, inl, inr, true, false, refl, arith, subst}
+use Rattle.std.specs.Prelude.{◌==◌, Option, Some, None, Result, Ok, Err, slice_get}
+use Rattle.std.proofs.lemmas.Bool.{cases_Bool}
+use Rattle.wild_records.specs.Abi.Relocation.{r_x86_64_pc32}
+use Rattle.wild_plan.specs.declared.fault.Fault.{Fault}
+use Rattle.wild_plan.specs.declared.kind.Machine.TheVariants as machine
+use Rattle.wild_plan.specs.declared.input.InputRelocation.{InputRelocation}
+use Rattle.wild_plan.specs.declared.input.InputSection.{InputSection}
+use Rattle.wild_plan.specs.declared.layout.Layout.{Layout}
+use Rattle.wild_plan.specs.Rows.{row_of}
+use Rattle.wild_reloc.specs.declared.info.RelocationKindInfo.{RelocationKindInfo}
+use Rattle.wild_relax.specs.declared.reference.UnknownSequence.{UnknownSequence}
+use Rattle.wild_relax.specs.declared.row.Row.{Row}
+use Rattle.wild_relax.specs.RewriteX86_64.{rewrite_of}
+use Rattle.wild_relax.specs.Rows.{chosen_x86_64}
+use Rattle.wild_layout.specs.declared.decision.Decision.{Decision}
+use Rattle.wild_layout.specs.declared.decision.Decision.TheVariants.{Rewritten}
+use Rattle.wild_relax.specs.Rewrite.{is_skip}
+use Rattle.wild_layout.specs.Choice.{question_of, choice_by, choice_of, is_partner}
+use Rattle.wild_layout.specs.Decide.{term_to, refused_with, decide_with, decide}
+
+-- ---- decisions
+
+-- what is rewritten by itself is no sequence's call
+pub rewritten_alone : (l : Layout) (s : InputSection) (i : ℕ) (row : Row) (v : ℕ) → decide l s i ≡ Ok (Rewritten row v) → is_partner l s i ≡ false
+unfolding decide
+rewritten_alone l s i row v h =
+    elim (cases_Bool (is_partner l s i)) [
+      | inl t ↦ cc (rw t at h)
+      | inr f ↦ f
+    ]
+
+-- a row that stands without its sequence has no decision
+refused : (l : Layout) (r : InputRelocation) (e : UnknownSequence) (o : Option RelocationKindInfo) (d : Decision) → refused_with l r e o ≡ Ok d → ⊥
+refused l r e None d h = cc
+refused l r e (Some info) d h = by_term (term_to l r info) refl
+  where
+    by_term : (a : Result ℕ Fault) → term_to l r info ≡ a → ⊥
+    by_term (Err f) is = cc (rw is at h)
+    by_term (Ok a) is = cc (rw is at h)
+
+-- a relocation whose row stands, and that belongs to no sequence before it, has a decision by that row
+pub decided_with : (l : Layout) (s : InputSection) (i : ℕ) (r : InputRelocation) (d : Decision) → slice_get s.relocations i ≡ Some r → is_partner l s i ≡ false → decide l s i ≡ Ok d → decide_with l s r (choice_of l s r (slice_get s.relocations (i + 1))) ≡ Ok d
+unfolding decide
+decided_with l s i r d listed alone h = rw (alone, listed) at h
+
+pub not_refused : (l : Layout) (s : InputSection) (r : InputRelocation) (e : UnknownSequence) (d : Decision) → decide_with l s r (Err e) ≡ Ok d → ⊥
+not_refused l s r e d h = refused l r e (row_of l.machine e.written) d h
+
+-- ---- the choice
+
+-- the choice of a relocation of another type than R_X86_64_PC32
+pub choice_is : (l : Layout) (s : InputSection) (r : InputRelocation) (next : Option InputRelocation) (k : ℕ) → l.machine ≡ machine.X86_64 → r.symbol ≡ Some k → (r.number == r_x86_64_pc32) ≡ false → choice_of l s r next ≡ chosen_x86_64 (question_of l s r k next)
+unfolding choice_by
+choice_is l s r next k x86 named other = rw (named, other, x86) refl
+
+-- a relocation whose row writes a sequence takes the next one along
+pub takes_along : (l : Layout) (s : InputSection) (j : ℕ) (r : InputRelocation) (row : Row) → slice_get s.relocations j ≡ Some r → choice_of l s r (slice_get s.relocations (j + 1)) ≡ Ok (Some row) → is_skip (rewrite_of row).next ≡ true → is_partner l s (j + 1) ≡ true
+takes_along l s j r row listed chosen skips =
+    let here : is_partner l s (suc j) ≡ true = rw (listed, chosen) skips in
+    let e : suc j ≡ j + 1 = omega arith in
+    subst (λ (k : ℕ). is_partner l s k ≡ true) e here

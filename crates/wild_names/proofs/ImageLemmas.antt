@@ -1,0 +1,146 @@
+-- Both tables in the image: each entry stands where it is counted, and each name where its entry tells.
+use Rattle.std.proofs.Common.{◌≡◌, ℕ, suc, ◌+◌, ◌*◌, ◌≤◌, true, List, [], ◌∷◌, ◌++◌, length, map, replicate, option_map, Some, None, slice_get, flat_map, refl, sym, ap, ◌∙◌, arith, subst}
+use Rattle.std.proofs.lemmas.List.{length-append, length-map}
+use Rattle.std.proofs.lemmas.Option.{slice_get-map}
+use Rattle.wild_words.specs.Words.{Stands, word}
+use Rattle.wild_words.specs.Record.{spell}
+use Rattle.wild_words.proofs.OverlayLemmas.{Stands-inner}
+use Rattle.wild_words.proofs.RecordLemmas.{Stands-left}
+use Rattle.wild_words.proofs.ListLemmas.{flat_map-same, flat_map-flat_map}
+use Rattle.wild_records.specs.declared.symtab_entry.SymtabEntry.{SymtabEntry}
+use Rattle.wild_records.specs.declared.dynamic.DynamicEntry.{DynamicEntry}
+use Rattle.wild_records.specs.Dynamic.{dynamic_entry_fields}
+use Rattle.wild_records.specs.SymtabEntry.{symtab_entry_fields}
+use Rattle.wild_plan.specs.declared.part.Part.{Part}
+use Rattle.wild_plan.specs.declared.part.Role.{Role}
+use Rattle.wild_plan.specs.declared.part.Role.TheVariants as role
+use Rattle.wild_plan.specs.declared.file.File.{File}
+use Rattle.wild_plan.specs.declared.file.Group.{Group}
+use Rattle.wild_plan.specs.declared.layout.Layout.{Layout}
+use Rattle.wild_plan.specs.FileRoles.{is_prelude}
+use Rattle.wild_plan.specs.Kinds.{needs_dynamic}
+use Rattle.wild_plan.specs.Places.{role_place}
+use Rattle.wild_plan.specs.Segments.{part_with}
+use Rattle.wild_symbols.specs.Strings.{string}
+use Rattle.wild_symbols.specs.Symbols.{symbol_bytes}
+use Rattle.wild_symbols.specs.DynamicEntries.{NamedFields, entry_at, no_fields, group_symbols}
+use Rattle.wild_symbols.proofs.SymbolLemmas.{length-symbol, length-symbol_bytes}
+use Rattle.wild_tables.proofs.DynamicLemmas.{length_entry}
+use Rattle.wild_tables.specs.Dynamic.{entries_bytes, dynamic_bytes}
+use Rattle.wild_layout.specs.Content.{file_content, dynamic_room, content}
+use Rattle.wild_layout.specs.Geometry.{IsLaidOut, TablesStand, table_bytes, all_needed}
+use Rattle.wild_layout.specs.Image.{bytes}
+use Rattle.wild_names.specs.Laws.{IsNamed, HasEntry, HasLibrary, SymbolsStand, LibrariesStand, table_symbols, libraries}
+use Rattle.wild_names.proofs.BesideLemmas.{Belong, HasBeside, belong-length, belongs_at, Stands-record}
+use Rattle.wild_names.proofs.LibraryLemmas.{NamesLibrary, libraries_belong}
+use Rattle.wild_names.proofs.OrderLemmas.{items_of_all}
+use Rattle.wild_names.proofs.RunLemmas.{nil_if, strings_are_short}
+use Rattle.wild_names.proofs.SymbolLemmas.{IsEntryOf, Tells, symbols_belong}
+
+-- bytes in the table of a role stand in the image
+in_image : TablesStand → (l : Layout) → IsLaidOut l → (r : Role) → (role_place r ≡ 0 → ⊥) → (p : Part) → part_with r l.parts ≡ Some p → (k : ℕ) (part : List ℕ) → 1 ≤ length part → Stands (table_bytes l r) k part → Stands (bytes l) (p.offset + k) part
+in_image stand l laid r loaded p found k part some s =
+    let size = ((laid.roles r loaded).there p found).size in
+    let ends = s.fits in
+    Stands-inner (bytes l) (table_bytes l r) part p.offset k (stand l laid r loaded p found (omega arith)) s
+
+-- so do strings, each with its zero
+named : TablesStand → (l : Layout) → IsLaidOut l → (strings : Part) → part_with role.Dynstr l.parts ≡ Some strings → (at : ℕ) (name : List ℕ) → Stands (table_bytes l role.Dynstr) at (string name) → IsNamed l strings at name
+named stand l laid strings found at name s =
+    let short = strings_are_short l laid in
+    let long = length-append name (0 ∷ []) in
+    let ends = s.fits in
+    record { small = omega arith; stands = in_image stand l laid role.Dynstr (λ e. absurd (omega arith)) strings found at (string name) (omega arith) s }
+
+-- ---- symbols
+
+null_bytes : spell (symtab_entry_fields (entry_at 0 no_fields)) ≡ replicate 24 0
+unfolding symtab_entry_fields word
+null_bytes = refl
+
+none_joined : (f : File → List ℕ) (fs : List File) → ((x : File) → f x ≡ []) → flat_map f fs ≡ []
+none_joined f [] h = refl
+none_joined f (x ∷ fs) h = rw (h x) (none_joined f fs h)
+
+no_symbols : (l : Layout) (f : File) → file_content l role.Dynsym f ≡ []
+no_symbols l f = rw (nil_if (is_prelude f.role)) refl
+
+symbols_given : (l : Layout) (g : Group) → content l role.Dynsym g ≡ symbol_bytes (group_symbols l g)
+symbols_given l g = rw (none_joined (file_content l role.Dynsym) g.files (no_symbols l)) refl
+
+abbrev all_symbols : Layout → List SymtabEntry
+all_symbols l = flat_map (group_symbols l) l.groups
+
+symbol_table : (l : Layout) → symbol_bytes (all_symbols l) ≡ table_bytes l role.Dynsym
+symbol_table l = flat_map-flat_map (λ (e : SymtabEntry). spell (symtab_entry_fields e)) (group_symbols l) l.groups ∙ sym (flat_map-same (content l role.Dynsym) (λ (g : Group). symbol_bytes (group_symbols l g)) l.groups (symbols_given l))
+
+-- entry k of the table
+entry_stands : TablesStand → (l : Layout) → IsLaidOut l → (table : Part) → part_with role.Dynsym l.parts ≡ Some table → (k : ℕ) (e : SymtabEntry) → slice_get (all_symbols l) k ≡ Some e → Stands (bytes l) (table.offset + 24 * k) (spell (symtab_entry_fields e))
+entry_stands stand l laid table found k e h =
+    let long = length-symbol e in
+    let here = Stands-record (λ (x : SymtabEntry). spell (symtab_entry_fields x)) 24 length-symbol (all_symbols l) k e h in
+    in_image stand l laid role.Dynsym (λ z. absurd (omega arith)) table found (24 * k) (spell (symtab_entry_fields e)) (omega arith) (subst (λ (bs : List ℕ). Stands bs (24 * k) (spell (symtab_entry_fields e))) (symbol_table l) here)
+
+pub symbols_stand : TablesStand → SymbolsStand
+symbols_stand stand l laid needs table strings found with_strings =
+    let names = table_bytes l role.Dynstr in
+    let items = None ∷ map Some (table_symbols l) in
+    let all = subst (Belong (IsEntryOf names) (all_symbols l)) (items_of_all l laid.some_group laid.files) (symbols_belong l laid needs) in
+    record {
+      whole = whole_table (belong-length (IsEntryOf names) (all_symbols l) items all);
+      null = null_stands (belongs_at (IsEntryOf names) (all_symbols l) items 0 None all refl);
+      each = λ k n h. one k n (belongs_at (IsEntryOf names) (all_symbols l) items (suc k) (Some n) all (item k n h));
+    }
+  where
+    whole_table : length (all_symbols l) ≡ suc (length (map Some (table_symbols l))) → table.size ≡ 24 * (length (table_symbols l) + 1)
+    whole_table n =
+        let size = ((laid.roles role.Dynsym (λ e. absurd (omega arith))).there table found).size in
+        let own : length (table_bytes l role.Dynsym) ≡ 24 * length (all_symbols l) = subst (λ (bs : List ℕ). length bs ≡ 24 * length (all_symbols l)) (symbol_table l) (length-symbol_bytes (all_symbols l)) in
+        let items = length-map (table_symbols l) Some in
+        omega arith
+
+    null_stands : HasBeside (IsEntryOf (table_bytes l role.Dynstr)) (all_symbols l) 0 None → Stands (bytes l) table.offset (replicate 24 0)
+    null_stands b =
+        let z : table.offset + 24 * 0 ≡ table.offset = omega arith in
+        let same : spell (symtab_entry_fields b.item) ≡ replicate 24 0 = ap (λ (e : SymtabEntry). spell (symtab_entry_fields e)) b.belongs ∙ null_bytes in
+        subst (λ (n : ℕ). Stands (bytes l) n (replicate 24 0)) z (subst (λ (bs : List ℕ). Stands (bytes l) (table.offset + 24 * 0) bs) same (entry_stands stand l laid table found 0 b.item b.is))
+
+    item : (k : ℕ) (n : NamedFields) → slice_get (table_symbols l) k ≡ Some n → slice_get (map Some (table_symbols l)) k ≡ Some (Some n)
+    item k n h = slice_get-map Some (table_symbols l) k ∙ ap (option_map Some) h
+
+    one : (k : ℕ) (n : NamedFields) → HasBeside (IsEntryOf (table_bytes l role.Dynstr)) (all_symbols l) (suc k) (Some n) → HasEntry l table strings (k + 1) n
+    one k n b =
+        let told : Tells (table_bytes l role.Dynstr) b.item n = b.belongs in
+        let z : table.offset + 24 * suc k ≡ table.offset + 24 * (k + 1) = omega arith in
+        let here = subst (λ (m : ℕ). Stands (bytes l) m (spell (symtab_entry_fields b.item))) z (entry_stands stand l laid table found (suc k) b.item b.is) in
+        record {
+          at = told.at;
+          entry = subst (λ (e : SymtabEntry). Stands (bytes l) (table.offset + 24 * (k + 1)) (spell (symtab_entry_fields e))) told.is here;
+          name = named stand l laid strings with_strings told.at n.name told.stands;
+        }
+
+-- ---- libraries
+
+-- entry j of the dynamic section, of those of libraries
+needed_stands : TablesStand → (l : Layout) → IsLaidOut l → needs_dynamic l.kind ≡ true → (section : Part) → part_with role.Dynamic l.parts ≡ Some section → (j : ℕ) (d : DynamicEntry) → slice_get (all_needed l) j ≡ Some d
+    → Stands (bytes l) (section.offset + 16 * j) (spell (dynamic_entry_fields d))
+needed_stands stand l laid needs section found j d h =
+    let long = length_entry d in
+    let own = Stands-record (λ (x : DynamicEntry). spell (dynamic_entry_fields x)) 16 length_entry (all_needed l) j d h in
+    let front = Stands-left (entries_bytes (all_needed l)) (dynamic_bytes l (dynamic_room l)) in
+    let here = Stands-inner (entries_bytes (all_needed l) ++ dynamic_bytes l (dynamic_room l)) (entries_bytes (all_needed l)) (spell (dynamic_entry_fields d)) 0 (16 * j) front own in
+    let z : 0 + 16 * j ≡ 16 * j = omega arith in
+    let there = subst (λ (m : ℕ). Stands (entries_bytes (all_needed l) ++ dynamic_bytes l (dynamic_room l)) m (spell (dynamic_entry_fields d))) z here in
+    in_image stand l laid role.Dynamic (λ e. absurd (omega arith)) section found (16 * j) (spell (dynamic_entry_fields d)) (omega arith) (subst (λ (bs : List ℕ). Stands bs (16 * j) (spell (dynamic_entry_fields d))) (sym (laid.dynamic needs)) there)
+
+pub libraries_stand : TablesStand → LibrariesStand
+libraries_stand stand l laid needs section strings found with_strings j f h = one (belongs_at (NamesLibrary (table_bytes l role.Dynstr)) (all_needed l) (libraries l) j f (libraries_belong l laid needs) h)
+  where
+    one : HasBeside (NamesLibrary (table_bytes l role.Dynstr)) (all_needed l) j f → HasLibrary l section strings j f
+    one b =
+        let told = b.belongs in
+        record {
+          at = told.at;
+          entry = subst (λ (d : DynamicEntry). Stands (bytes l) (section.offset + 16 * j) (spell (dynamic_entry_fields d))) told.is (needed_stands stand l laid needs section found j b.item b.is);
+          name = named stand l laid strings with_strings told.at f.lib_name told.stands;
+        }

@@ -1,0 +1,105 @@
+-- What files and groups give, whose strings stand one behind the other.
+use Rattle.std.proofs.Common.{◌≡◌, ℕ, suc, ◌+◌, ◌^◌, ◌<◌, ◌≤◌, Bool, true, false, if◌then◌else◌, List, [], ◌∷◌, ◌++◌, length, take, Some, slice_get, flat_map, refl, sym, ap, ◌∙◌, arith, subst}
+use Rattle.std.proofs.lemmas.List.{length-append, append-nil}
+use Rattle.std.proofs.lemmas.Grind.{flat_map-append}
+use Rattle.wild_words.specs.Words.{Stands}
+use Rattle.wild_words.proofs.ListLemmas.{flat_map-same}
+use Rattle.wild_words.proofs.RecordLemmas.{Stands-whole}
+use Rattle.wild_plan.specs.declared.part.Role.TheVariants as role
+use Rattle.wild_plan.specs.declared.file.File.{File}
+use Rattle.wild_plan.specs.declared.file.Group.{Group}
+use Rattle.wild_plan.specs.declared.layout.Layout.{Layout}
+use Rattle.wild_plan.specs.DynamicStrings.{file_strings, behind_file}
+use Rattle.wild_plan.specs.FileRoles.{is_prelude}
+use Rattle.wild_plan.specs.Kinds.{needs_dynsym}
+use Rattle.wild_plan.specs.Lists.{total}
+use Rattle.wild_plan.specs.Lookups.{files_of}
+use Rattle.wild_plan.specs.Needs.{share, group_share}
+use Rattle.wild_layout.specs.Content.{file_content, content}
+use Rattle.wild_layout.specs.Geometry.{IsLaidOut, table_bytes}
+use Rattle.wild_symbols.specs.Strings.{string_bytes}
+use Rattle.wild_symbols.proofs.StringLemmas.{length-string_bytes}
+use Rattle.wild_names.proofs.BesideLemmas.{Belong, belong-append, Stands-front, Stands-behind}
+
+-- the bytes of a file's strings
+abbrev pub strings_of : Layout → File → List ℕ
+strings_of l f = string_bytes (file_strings l f)
+
+-- ---- files
+
+-- what files give, each by the offset of its strings
+abbrev pub gathered : {E : Type 0} → (ℕ → File → List E) → Layout → ℕ → List File → List E
+gathered give l at [] = []
+gathered give l at (f ∷ fs) = give at f ++ gathered give l (behind_file l at f) fs
+
+-- what each file gives where its strings stand belongs to what it has; so for files whose strings stand one behind the other
+pub files_belong : {E N : Type 0} (R : E → N → Type 0) (give : ℕ → File → List E) (have : File → List N) (l : Layout) (whole : List ℕ) → length whole < 2 ^ 32
+    → ((at : ℕ) (f : File) → Stands whole at (strings_of l f) → Belong R (give at f) (have f)) → (at : ℕ) (fs : List File) → Stands whole at (flat_map (strings_of l) fs) → Belong R (gathered give l at fs) (flat_map have fs)
+files_belong R give have l whole small each at [] s = tt
+files_belong R give have l whole small each at (f ∷ fs) s =
+    let long = length-string_bytes (file_strings l f) in
+    let later = Stands-behind whole (strings_of l f) (flat_map (strings_of l) fs) at s in
+    let ends = later.fits in
+    let is : at + length (strings_of l f) ≡ behind_file l at f = omega arith in
+    let rest = files_belong R give have l whole small each (behind_file l at f) fs (subst (λ (n : ℕ). Stands whole n (flat_map (strings_of l) fs)) is later) in
+    belong-append R (give at f) (gathered give l (behind_file l at f) fs) (have f) (flat_map have fs) (each at f (Stands-front whole (strings_of l f) (flat_map (strings_of l) fs) at s)) rest
+
+-- ---- groups
+
+abbrev pub no_bytes : List ℕ
+no_bytes = []
+
+pub nil_if : (b : Bool) → (if b then no_bytes else no_bytes) ≡ []
+nil_if true = refl
+nil_if false = refl
+
+-- a group's strings are those of its files
+file_gives : (l : Layout) (f : File) → file_content l role.Dynstr f ≡ strings_of l f
+file_gives l f = rw (nil_if (is_prelude f.role)) (append-nil (strings_of l f))
+
+pub group_gives : (l : Layout) (g : Group) → content l role.Dynstr g ≡ flat_map (strings_of l) g.files
+group_gives l g = append-nil (flat_map (file_content l role.Dynstr) g.files) ∙ flat_map-same (file_content l role.Dynstr) (strings_of l) g.files (file_gives l)
+
+groups_along : {E N : Type 0} (R : E → N → Type 0) (of : Group → List E) (have : File → List N) (l : Layout) (whole : List ℕ)
+    → ((g : Group) → Stands whole g.dynstr_start (flat_map (strings_of l) g.files) → Belong R (of g) (flat_map have g.files)) → (at : ℕ) (gs : List Group)
+    → ((j : ℕ) (g : Group) → slice_get gs j ≡ Some g → g.dynstr_start ≡ at + total (λ (x : Group). length (content l role.Dynstr x)) (take j gs)) → Stands whole at (flat_map (content l role.Dynstr) gs) → Belong R (flat_map of gs) (flat_map have (files_of gs))
+groups_along R of have l whole each at [] starts s = tt
+groups_along R of have l whole each at (g ∷ gs) starts s =
+    let here = Stands-front whole (content l role.Dynstr g) (flat_map (content l role.Dynstr) gs) at s in
+    let later = Stands-behind whole (content l role.Dynstr g) (flat_map (content l role.Dynstr) gs) at s in
+    let start = starts 0 g refl in
+    let is : at ≡ g.dynstr_start = omega arith in
+    let own = each g (subst (λ (n : ℕ). Stands whole n (flat_map (strings_of l) g.files)) is (subst (λ (bs : List ℕ). Stands whole at bs) (group_gives l g) here)) in
+    let rest = groups_along R of have l whole each (at + length (content l role.Dynstr g)) gs (λ j d found. let e = starts (suc j) d found in omega arith) later in
+    subst (Belong R (of g ++ flat_map of gs)) (sym (flat_map-append have g.files (files_of gs))) (belong-append R (of g) (flat_map of gs) (flat_map have g.files) (flat_map have (files_of gs)) own rest)
+
+-- ---- the string table
+
+-- no group has more strings than its share
+group_fits : (l : Layout) (g : Group) → length (content l role.Dynstr g) ≤ group_share l role.Dynstr g
+group_fits l g = let e = ap length (group_gives l g) in let n = fits g.files in omega arith
+  where
+    fits : (fs : List File) → length (flat_map (strings_of l) fs) ≤ total (share l role.Dynstr) fs
+    fits [] = omega arith
+    fits (f ∷ fs) =
+        let a = length-append (strings_of l f) (flat_map (strings_of l) fs) in
+        let b = length-string_bytes (file_strings l f) in
+        let c = fits fs in
+        omega arith
+
+table_fits : (l : Layout) (gs : List Group) → length (flat_map (content l role.Dynstr) gs) ≤ total (group_share l role.Dynstr) gs
+table_fits l [] = omega arith
+table_fits l (g ∷ gs) =
+    let a = length-append (content l role.Dynstr g) (flat_map (content l role.Dynstr) gs) in
+    let b = group_fits l g in
+    let c = table_fits l gs in
+    omega arith
+
+pub strings_are_short : (l : Layout) → IsLaidOut l → length (table_bytes l role.Dynstr) < 2 ^ 32
+strings_are_short l laid = let a = table_fits l l.groups in let b = laid.strings in omega arith
+
+-- what all groups give belongs to what all files have
+pub groups_belong : {E N : Type 0} (R : E → N → Type 0) (of : Group → List E) (have : File → List N) (l : Layout) → IsLaidOut l → needs_dynsym l.kind ≡ true
+    → ((g : Group) → Stands (table_bytes l role.Dynstr) g.dynstr_start (flat_map (strings_of l) g.files) → Belong R (of g) (flat_map have g.files)) → Belong R (flat_map of l.groups) (flat_map have (files_of l.groups))
+groups_belong R of have l laid needs each =
+    groups_along R of have l (table_bytes l role.Dynstr) each 0 l.groups (λ j g found. let e = laid.starts j g found needs in omega arith) (Stands-whole (table_bytes l role.Dynstr))

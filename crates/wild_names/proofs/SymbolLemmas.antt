@@ -1,0 +1,121 @@
+-- The entries of the dynamic symbol table, and the names that they tell.
+use Rattle.std.proofs.Common.{◌≡◌, ℕ, ◌+◌, ◌^◌, ◌<◌, inl, inr, Bool, true, false, if◌then◌else◌, List, [], ◌∷◌, ◌++◌, length, map, Option, Some, None, flat_map, refl, sym, ap, ◌∙◌, arith, subst}
+use Rattle.std.proofs.lemmas.Bool.{cases_Bool}
+use Rattle.std.proofs.lemmas.List.{length-append}
+use Rattle.std.proofs.lemmas.Grind.{flat_map-append}
+use Rattle.wild_words.specs.Words.{Stands}
+use Rattle.wild_records.specs.declared.symtab_entry.SymtabEntry.{SymtabEntry}
+use Rattle.wild_plan.specs.declared.part.Role.TheVariants as role
+use Rattle.wild_plan.specs.declared.file.FileRole.{FileRole}
+use Rattle.wild_plan.specs.declared.file.File.{File}
+use Rattle.wild_plan.specs.declared.file.Group.{Group}
+use Rattle.wild_plan.specs.declared.symbol.Symbol.{Symbol}
+use Rattle.wild_plan.specs.declared.layout.DynamicSymbol.{DynamicSymbol}
+use Rattle.wild_plan.specs.declared.layout.Layout.{Layout}
+use Rattle.wild_plan.specs.DynamicStrings.{behind_text, behind_file, lead_strings, entry_names, file_strings, listed_names, symbol_names, undefined_symbols}
+use Rattle.wild_plan.specs.FileRoles.{is_prelude, is_epilogue}
+use Rattle.wild_plan.specs.Kinds.{needs_dynsym}
+use Rattle.wild_plan.specs.Lookups.{files_of}
+use Rattle.wild_symbols.specs.Strings.{string, string_bytes}
+use Rattle.wild_symbols.proofs.StringLemmas.{length-string_bytes}
+use Rattle.wild_symbols.specs.DynamicEntries.{NamedFields, listed, undefined, file_symbols, entry_at, no_fields, entries_at, null_entries, behind_lead, file_entries, entries_from, group_symbols}
+use Rattle.wild_layout.specs.Geometry.{IsLaidOut, table_bytes}
+use Rattle.wild_names.proofs.BesideLemmas.{Belong, belong-append, Stands-front, Stands-behind}
+use Rattle.wild_names.proofs.RunLemmas.{strings_of, gathered, files_belong, groups_belong, strings_are_short}
+
+-- the entry says that of the symbol, and its name stands where the entry tells
+pub record Tells (strings : List ℕ) (e : SymtabEntry) (n : NamedFields) : Type 0 where
+  pub at : ℕ
+  pub is : e ≡ entry_at at n.fields
+  pub stands : Stands strings at (string n.name)
+
+-- the same of an entry of the table: the first one is of no symbol
+abbrev pub IsEntryOf : List ℕ → SymtabEntry → Option NamedFields → Type 0
+IsEntryOf strings e None = e ≡ entry_at 0 no_fields
+IsEntryOf strings e (Some n) = Tells strings e n
+
+abbrev names_of : List NamedFields → List (List ℕ)
+names_of ns = map (λ (n : NamedFields). n.name) ns
+
+entries_belong : (whole : List ℕ) → length whole < 2 ^ 32 → (at : ℕ) (ns : List NamedFields) → Stands whole at (string_bytes (names_of ns)) → Belong (IsEntryOf whole) (entries_at at ns) (map Some ns)
+unfolding entries_at
+entries_belong whole small at [] s = tt
+entries_belong whole small at (n ∷ ns) s =
+    let here = Stands-front whole (string n.name) (string_bytes (names_of ns)) at s in
+    let later = Stands-behind whole (string n.name) (string_bytes (names_of ns)) at s in
+    let long = length-append n.name (0 ∷ []) in
+    let ends = here.fits in
+    let is : at + length (string n.name) ≡ behind_text at n.name = omega arith in
+    record {
+      first = record { at = at; is = refl; stands = here };
+      rest = entries_belong whole small (behind_text at n.name) ns (subst (λ (m : ℕ). Stands whole m (string_bytes (names_of ns))) is later);
+    }
+
+-- ---- files
+
+listed_are : (l : Layout) (ds : List DynamicSymbol) → listed_names ds ≡ names_of (map (listed l) ds)
+listed_are l [] = refl
+listed_are l (d ∷ ds) = ap (λ (ns : List (List ℕ)). d.name ∷ ns) (listed_are l ds)
+
+undefined_are : (r : FileRole) (ss : List Symbol) → symbol_names ss ≡ names_of (map (undefined r) ss)
+undefined_are r [] = refl
+undefined_are r (s ∷ ss) = ap (λ (ns : List (List ℕ)). s.name ∷ ns) (undefined_are r ss)
+
+names_are : (l : Layout) (f : File) → entry_names l f ≡ names_of (file_symbols l f)
+names_are l f =
+    elim (cases_Bool (is_epilogue f.role)) [
+      | inl t ↦ rw t (listed_are l l.dynsyms)
+      | inr n ↦ rw n (undefined_are f.role (undefined_symbols l.symbols f))
+    ]
+
+strings_are : (l : Layout) (f : File) → needs_dynsym l.kind ≡ true → strings_of l f ≡ string_bytes (lead_strings l f) ++ string_bytes (names_of (file_symbols l f))
+unfolding file_strings
+strings_are l f needs =
+    let P : Bool → Type 0 = λ b. string_bytes (if b then lead_strings l f ++ entry_names l f else []) ≡ string_bytes (lead_strings l f) ++ string_bytes (names_of (file_symbols l f)) in
+    subst P (sym needs) (flat_map-append string (lead_strings l f) (entry_names l f) ∙ ap (λ (ns : List (List ℕ)). string_bytes (lead_strings l f) ++ string_bytes ns) (names_are l f))
+
+-- the table's first entry is of no symbol
+abbrev pub none_of : File → List (Option NamedFields)
+none_of f = if is_prelude f.role then None ∷ [] else []
+
+-- what the entries of a file are of
+abbrev pub file_items : Layout → File → List (Option NamedFields)
+file_items l f = none_of f ++ map Some (file_symbols l f)
+
+null_belongs : (strings : List ℕ) (f : File) → Belong (IsEntryOf strings) (null_entries f) (none_of f)
+null_belongs strings f = by (is_prelude f.role)
+  where
+    by : (b : Bool) → Belong (IsEntryOf strings) (if b then entry_at 0 no_fields ∷ [] else []) (if b then None ∷ [] else [])
+    by true = record { first = refl; rest = tt }
+    by false = tt
+
+file_belongs : (l : Layout) (whole : List ℕ) → length whole < 2 ^ 32 → needs_dynsym l.kind ≡ true → (at : ℕ) (f : File) → Stands whole at (strings_of l f) → Belong (IsEntryOf whole) (file_entries l at f) (file_items l f)
+file_belongs l whole small needs at f s =
+    let cut = subst (λ (bs : List ℕ). Stands whole at bs) (strings_are l f needs) s in
+    let names = string_bytes (names_of (file_symbols l f)) in
+    let later = Stands-behind whole (string_bytes (lead_strings l f)) names at cut in
+    let long = length-string_bytes (lead_strings l f) in
+    let ends = later.fits in
+    let is : at + length (string_bytes (lead_strings l f)) ≡ behind_lead l at f = omega arith in
+    let rest = entries_belong whole small (behind_lead l at f) (file_symbols l f) (subst (λ (n : ℕ). Stands whole n names) is later) in
+    belong-append (IsEntryOf whole) (null_entries f) (entries_at (behind_lead l at f) (file_symbols l f)) (none_of f) (map Some (file_symbols l f)) (null_belongs whole f) rest
+
+-- ---- groups
+
+entries_are_gathered : (l : Layout) (at : ℕ) (fs : List File) → gathered (file_entries l) l at fs ≡ entries_from l at fs
+entries_are_gathered l at [] = refl
+entries_are_gathered l at (f ∷ fs) = ap (λ (es : List SymtabEntry). file_entries l at f ++ es) (entries_are_gathered l (behind_file l at f) fs)
+
+symbols_of_group : (l : Layout) (g : Group) → needs_dynsym l.kind ≡ true → gathered (file_entries l) l g.dynstr_start g.files ≡ group_symbols l g
+unfolding group_symbols
+symbols_of_group l g needs =
+    let P : Bool → Type 0 = λ b. entries_from l g.dynstr_start g.files ≡ (if b then entries_from l g.dynstr_start g.files else []) in
+    entries_are_gathered l g.dynstr_start g.files ∙ subst P (sym needs) refl
+
+-- each entry of the table is of its item
+pub symbols_belong : (l : Layout) → IsLaidOut l → needs_dynsym l.kind ≡ true → Belong (IsEntryOf (table_bytes l role.Dynstr)) (flat_map (group_symbols l) l.groups) (flat_map (file_items l) (files_of l.groups))
+symbols_belong l laid needs =
+    let whole = table_bytes l role.Dynstr in
+    let small = strings_are_short l laid in
+    groups_belong (IsEntryOf whole) (group_symbols l) (file_items l) l laid needs (λ g s.
+    subst (λ (es : List SymtabEntry). Belong (IsEntryOf whole) es (flat_map (file_items l) g.files)) (symbols_of_group l g needs) (files_belong (IsEntryOf whole) (file_entries l) (file_items l) l whole small (file_belongs l whole small needs) g.dynstr_start g.files s))
