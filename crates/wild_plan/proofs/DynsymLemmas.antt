@@ -16,8 +16,9 @@ use Rattle.std.specs.Prelude.{min, ◌^◌}
 use Rattle.std.proofs.lemmas.Bool.{leb-true}
 use Rattle.std.proofs.lemmas.Grind.{flat_map-append}
 use Rattle.wild_plan.specs.Astray.{range_of}
-use Rattle.wild_plan.specs.Lists.{first_failing, through, total}
-use Rattle.wild_plan.specs.Indexes.{part_index_fits, symbol_misfit, symbol_is_there, section_indexes_fit, file_indexes_fit, group_indexes_fit, listed_misfit, copied_again, definition_is_own, range_follows, or_place, range_out_of_order}
+use Rattle.wild_plan.specs.Lists.{first_failing, unless, through, total}
+use Rattle.wild_plan.specs.Indexes.{part_index_fits, symbol_misfit, symbol_is_there, section_indexes_fit, file_indexes_fit, group_indexes_fit, listed_misfit, entry_is_there, copied_again, definition_is_own, range_follows, or_place, range_out_of_order}
+use Rattle.wild_plan.specs.VersionTables.{parent_is_there}
 use Rattle.wild_plan.specs.WellFormed.{fails, first_error, check_indexes}
 use Rattle.wild_plan.specs.declared.fault.Clause.{Clause}
 use Rattle.wild_plan.specs.Lookups.{section_of, section_of_part, files_of, file_of}
@@ -448,13 +449,17 @@ ranges_ascend l h =
     let own = fails 9 (first_failing (definition_is_own l) 0 l.symbols) in
     let behind = first_error own order in
     let copied = fails 9 (copied_again l [] 0 l.groups) in
+    let entry = fails 9 (unless (entry_is_there l l.entry)) in
+    let parents = fails 9 (first_failing (parent_is_there l) 0 l.verdefs) in
     let listed = fails 9 (listed_misfit l) in
-    let later = first_error listed (first_error copied behind) in
+    let beside = first_error entry (first_error copied behind) in
+    let later = first_error listed (first_error parents beside) in
     let groups = fails 9 (first_failing (group_indexes_fit l) 0 l.groups) in
     let symbols = fails 9 (symbol_misfit l (files_of l.groups) 0 l.symbols) in
     let a = behind_first (fails 9 (first_failing (part_index_fits l) 0 l.parts)) (first_error symbols (first_error groups later)) h in
     let b = behind_first symbols (first_error groups later) a in
-    let c = behind_first copied behind (behind_first listed (first_error copied behind) (behind_first groups later b)) in
+    let e = behind_first parents beside (behind_first listed (first_error parents beside) (behind_first groups later b)) in
+    let c = behind_first copied behind (behind_first entry (first_error copied behind) e) in
     let d = behind_first own order c in
     let fit = each_weaker (λ (g : Group). group_indexes_fit l g ≡ true) (λ (g : Group). Each (Fits (length l.symbols)) g.files) l.groups (λ g k. group_fits l g k) (each_passes (group_indexes_fit l) 0 l.groups (nowhere 9 (first_failing (group_indexes_fit l) 0 l.groups) (first_of groups later b))) in
     groups_ascend (length l.symbols) 0 0 l.groups fit (nowhere 9 (range_out_of_order 0 0 l.groups) d)

@@ -19,7 +19,8 @@ use Rattle.wild_plan.specs.declared.kind.OutputKind.{OutputKind}
 use Rattle.wild_plan.specs.declared.kind.OutputKind.TheVariants.{StaticExecutable, DynamicExecutable, SharedObject, PartialObject}
 use Rattle.wild_plan.specs.declared.kind.RelocationModel.TheVariants.{NonRelocatable, Relocatable}
 use Rattle.wild_plan.specs.Lists.{total}
-use Rattle.wild_plan.specs.Needs.{whole_of, own_of, share, group_share, has_plain_role, is_plain}
+use Rattle.wild_plan.specs.TableSymbols.{has_table, has_long, file_items, local_count, global_count, table_strings}
+use Rattle.wild_plan.specs.Needs.{whole_of, long_room, own_of, share, group_share, has_plain_role, is_plain}
 use Rattle.wild_plan.specs.FileRoles.{is_prelude, is_epilogue}
 use Rattle.wild_plan.specs.SlotPlaces.{is_without}
 use Rattle.wild_plan.specs.SlotShares.{own_symbols, is_of_slots, header_share, block_places, group_block, block_share}
@@ -63,6 +64,29 @@ is_fixed (DynamicExecutable model) h = cc
 is_fixed SharedObject h = cc
 is_fixed PartialObject h = refl
 
+-- ---- one without a table of all symbols has no entries there
+
+no_items : (l : Layout) (f : File) → has_table l ≡ false → file_items l f ≡ []
+unfolding file_items
+no_items l f h = rw h refl
+
+no_locals : (l : Layout) (f : File) → has_table l ≡ false → local_count l f ≡ 0
+no_locals l f h = let e = no_items l f h in rw (h, e) refl
+
+no_globals : (l : Layout) (f : File) → has_table l ≡ false → global_count l f ≡ 0
+no_globals l f h = let e = no_items l f h in rw e refl
+
+no_names : (l : Layout) (f : File) → has_table l ≡ false → table_strings l f ≡ []
+unfolding table_strings
+no_names l f h = let e = no_items l f h in rw (h, e) refl
+
+no_indexes : (l : Layout) (r : Role) (n : ℕ) → n ≡ 0 → long_room l r n ≡ 0
+no_indexes l r n h =
+    elim (cases_Bool (has_long l r)) [
+      | inl t ↦ rw (t, h) refl
+      | inr f ↦ rw f refl
+    ]
+
 -- ---- shares
 
 -- the entries of a file that name symbols or resolvers, where they stand in parts of the role
@@ -70,19 +94,33 @@ abbrev general_of : Layout → Role → File → ℕ
 general_of l role.RelaDynGeneral f = general_count l f
 general_of l other f = 0
 
--- without these an output without a dynamic section has nothing for a loader
-own_none : (l : Layout) (r : Role) (f : File) → needs_dynamic l.kind ≡ false → general_of l r f ≡ 0 → own_of l r f ≡ 0
-own_none l role.RelaDynRelative f d g = let e = no_entries l f (is_fixed l.kind d) in rw e refl
-own_none l role.RelaDynGeneral f d g = rw g refl
-own_none l role.RelrDyn f d g = let e = no_words l f (is_fixed l.kind d) in rw e refl
-own_none l role.Dynsym f d g = rw d refl
-own_none l role.Dynstr f d g = no_strings l f d
-own_none l role.Dynamic f d g = let e = no_dynamic l d in by_end (is_epilogue f.role) e
+-- without these an output without a dynamic section and a table of all symbols has nothing of its own
+own_none : (l : Layout) (r : Role) (f : File) → needs_dynamic l.kind ≡ false → has_table l ≡ false → general_of l r f ≡ 0 → own_of l r f ≡ 0
+own_none l role.RelaDynRelative f d t g = let e = no_entries l f (is_fixed l.kind d) in rw e refl
+own_none l role.RelaDynGeneral f d t g = rw g refl
+own_none l role.RelrDyn f d t g = let e = no_words l f (is_fixed l.kind d) in rw e refl
+own_none l role.Dynsym f d t g = rw d refl
+own_none l role.Dynstr f d t g = no_strings l f d
+own_none l role.GnuVersion f d t g =
+    elim (cases_Bool l.options.versions) [
+      | inl v ↦ rw (v, d) refl
+      | inr n ↦ rw n refl
+    ]
+own_none l role.GnuVersionD f d t g = rw d refl
+own_none l role.GnuVersionR f d t g = rw d refl
+own_none l role.SysvHash f d t g = rw d refl
+own_none l role.GnuHash f d t g = rw d refl
+own_none l role.Dynamic f d t g = let e = no_dynamic l d in by_end (is_epilogue f.role) e
   where
     by_end : (b : Bool) → dynamic_count l ≡ 0 → 16 * (needed_count l f + (if b then dynamic_count l else 0)) ≡ 0
     by_end true e = rw (d, e) refl
     by_end false e = rw d refl
-own_none l other f d g = refl
+own_none l role.SymtabLocal f d t g = let e = no_locals l f t in rw e refl
+own_none l role.SymtabGlobal f d t g = let e = no_globals l f t in rw e refl
+own_none l role.SymtabShndxLocal f d t g = no_indexes l role.SymtabShndxLocal (local_count l f) (no_locals l f t)
+own_none l role.SymtabShndxGlobal f d t g = no_indexes l role.SymtabShndxGlobal (global_count l f) (no_globals l f t)
+own_none l role.Strtab f d t g = let e = no_names l f t in rw e refl
+own_none l other f d t g = refl
 
 -- parts of other roles have none of them
 none_of_others : (l : Layout) (r : Role) (f : File) → is_of_slots r ≡ false → general_of l r f ≡ 0
@@ -99,21 +137,21 @@ no_block : (l : Layout) (r : Role) (g : Group) → is_of_slots r ≡ false → b
 no_block l role.RelrDyn g h = cc
 no_block l other g h = refl
 
-share_none : (l : Layout) (r : Role) (f : File) → needs_dynamic l.kind ≡ false → is_of_slots r ≡ false → whole_of l r ≡ 0 → share l r f ≡ 0
-share_none l r f d s w =
-    let own = own_none l r f d (none_of_others l r f s) in
+share_none : (l : Layout) (r : Role) (f : File) → needs_dynamic l.kind ≡ false → has_table l ≡ false → is_of_slots r ≡ false → whole_of l r ≡ 0 → share l r f ≡ 0
+share_none l r f d t s w =
+    let own = own_none l r f d t (none_of_others l r f s) in
     let slots = others_share l r f s in
     let header = no_header l r s in
     elim (cases_Bool (is_prelude f.role)) [
-      | inl t ↦ rw (t, w, own, slots, header) refl
-      | inr n ↦ rw (n, own, slots) refl
+      | inl first ↦ rw (first, w, own, slots, header) refl
+      | inr later ↦ rw (later, own, slots) refl
     ]
 
--- where nothing stands once in the image, an output without a dynamic section needs nothing but for slots
-pub no_share : (l : Layout) (r : Role) (n : ℕ) → n ≡ min (2 ^ 64 - 1) (whole_of l r) → needs_dynamic l.kind ≡ false → is_of_slots r ≡ false → n ≡ 0 → total_share l r ≡ 0
-no_share l r n is d s none =
+-- where nothing stands once in the image, an output without a dynamic section and a table of all symbols needs nothing but for slots
+pub no_share : (l : Layout) (r : Role) (n : ℕ) → n ≡ min (2 ^ 64 - 1) (whole_of l r) → needs_dynamic l.kind ≡ false → has_table l ≡ false → is_of_slots r ≡ false → n ≡ 0 → total_share l r ≡ 0
+no_share l r n is d t s none =
     let w : whole_of l r ≡ 0 = least (whole_of l r) n is none in
-    total_none (group_share l r) l.groups (λ g. let files = total_none (share l r) g.files (λ f. share_none l r f d s w) in let block = no_block l r g s in rw (files, block) refl)
+    total_none (group_share l r) l.groups (λ g. let files = total_none (share l r) g.files (λ f. share_none l r f d t s w) in let block = no_block l r g s in rw (files, block) refl)
   where
     least : (k n : ℕ) → n ≡ min (2 ^ 64 - 1) k → n ≡ 0 → k ≡ 0
     least k n e z = omega (arith, e, z)
@@ -123,6 +161,7 @@ no_share l r n is d s none =
 -- the tests of a plain file
 pub record Tests (l : Layout) (f : File) : Type 0 where
   pub static : needs_dynamic l.kind ≡ false
+  pub stripped : has_table l ≡ false
   pub first : is_prelude f.role ≡ false
   pub without : list_all is_without (own_symbols l f) ≡ true
   pub none : general_count l f ≡ 0
@@ -131,9 +170,10 @@ tests_of : (l : Layout) (f : File) → is_plain l f ≡ true → Tests l f
 tests_of l f h =
     let p = and_parts (has_plain_role l f) (list_all is_without (own_symbols l f) && general_count l f == 0) h in
     let q = and_parts (list_all is_without (own_symbols l f)) (general_count l f == 0) p.1 in
-    let a = and_parts (not (needs_dynamic l.kind) && not (is_prelude f.role)) (not (is_epilogue f.role)) p.0 in
-    let b = and_parts (not (needs_dynamic l.kind)) (not (is_prelude f.role)) a.0 in
-    record { static = no (needs_dynamic l.kind) b.0; first = no (is_prelude f.role) b.1; without = q.0; none = eqb-true _ _ q.1 }
+    let a = and_parts (not (needs_dynamic l.kind) && not (has_table l) && not (is_prelude f.role)) (not (is_epilogue f.role)) p.0 in
+    let b = and_parts (not (needs_dynamic l.kind) && not (has_table l)) (not (is_prelude f.role)) a.0 in
+    let c = and_parts (not (needs_dynamic l.kind)) (not (has_table l)) b.0 in
+    record { static = no (needs_dynamic l.kind) c.0; stripped = no (has_table l) c.1; first = no (is_prelude f.role) b.1; without = q.0; none = eqb-true _ _ q.1 }
   where
     no : (b : Bool) → not b ≡ true → b ≡ false
     no true h = cc
@@ -146,7 +186,7 @@ general_none l other f h = refl
 share_plain : (l : Layout) (r : Role) (f : File) → is_plain l f ≡ true → share l r f ≡ 0
 share_plain l r f h =
     let t = tests_of l f h in
-    let own = own_none l r f t.static (general_none l r f t.none) in
+    let own = own_none l r f t.static t.stripped (general_none l r f t.none) in
     let slots = slots_plain l r f t.without in
     rw (t.first, own, slots) refl
 

@@ -1,11 +1,13 @@
 -- How many bytes strings have, and how many names there are.
-use Rattle.std.proofs.Common.{inl, inr, ◌≡◌, ℕ, ◌+◌, List, [], ◌∷◌, ◌++◌, length, map, Option, Some, None, refl, arith}
+use Rattle.std.proofs.Common.{inl, inr, ◌≡◌, ℕ, ◌+◌, List, [], ◌∷◌, ◌++◌, length, map, Option, Some, None, refl, ap, ◌∙◌, arith}
 use Rattle.std.specs.Prelude.{flat_map}
 use Rattle.std.specs.List.{filter}
 use Rattle.std.proofs.lemmas.Bool.{cases_Bool}
 use Rattle.std.proofs.lemmas.List.{length-append, length-map}
+use Rattle.std.proofs.lemmas.List.Elements.{filter-append}
 use Rattle.wild_records.specs.Abi.Dynamic.{dt_soname}
 use Rattle.wild_plan.specs.declared.file.FileRole.{FileRole}
+use Rattle.wild_plan.specs.declared.file.File.{File}
 use Rattle.wild_plan.specs.declared.layout.DynamicSymbol.{DynamicSymbol}
 use Rattle.wild_plan.specs.declared.options.Options.{Options}
 use Rattle.wild_plan.specs.declared.symbol.Symbol.{Symbol}
@@ -13,6 +15,7 @@ use Rattle.wild_plan.specs.DynamicStrings.{NamedString, named, texts_of, text_ro
 use Rattle.wild_plan.specs.DynamicSymbols.{is_undefined_entry}
 use Rattle.wild_plan.specs.Lists.{total}
 use Rattle.wild_plan.specs.Positions.{count_in}
+use Rattle.wild_plan.specs.Versions.{has_needs}
 use Rattle.wild_plan.proofs.ListLemmas.{total-append}
 
 total-texts : (xs ys : List NamedString) → total text_room (texts_of (xs ++ ys)) ≡ total text_room (texts_of xs) + total text_room (texts_of ys)
@@ -64,3 +67,9 @@ length_undefined role (s ∷ ss) =
 
 pub length_listed : (ds : List DynamicSymbol) → length (listed_names ds) ≡ length ds
 length_listed ds = length-map ds _
+
+-- ---- versions
+
+-- of how many files versions are needed
+pub length_needed : (fs gs : List File) → length (filter has_needs (fs ++ gs)) ≡ length (filter has_needs fs) + length (filter has_needs gs)
+length_needed fs gs = ap length (filter-append has_needs fs gs) ∙ length-append (filter has_needs fs) (filter has_needs gs)

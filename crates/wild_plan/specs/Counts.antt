@@ -1,6 +1,7 @@
 -- Clause 2: counts; and the roles of clause 4 that have to be there.
 --   total_share l r   what all groups have to write in a part of role r
---   counts_fit l      no list is too long, and no string table
+--   lists_fit l       no list is too long
+--   counts_fit l      and no string table
 --   role_given l r    a part of role r is there, or nothing has to be written in one
 use Rattle.std.specs.Prelude.{ℕ, ◌-◌, ◌^◌, ◌==◌, Bool, ◌&&◌, ◌||◌, nat_lt, nat_le, length}
 use Rattle.std.specs.List.{list_any}
@@ -11,18 +12,24 @@ use Rattle.wild_plan.specs.DynamicSymbols.{dynamic_symbols}
 use Rattle.wild_plan.specs.Lists.{total}
 use Rattle.wild_plan.specs.Needs.{name_bytes, group_share}
 use Rattle.wild_plan.specs.Places.{has_role, relocation_count}
+use Rattle.wild_plan.specs.VersionTables.{versions_fit}
 
 -- what all groups have to write in a part of that role
 abbrev pub total_share : Layout → Role → ℕ
 total_share l r = total (group_share l r) l.groups
 
--- no list is too long, and each string table ends below 2^32 (gABI, "Symbol Table": st_name)
-abbrev pub counts_fit : Layout → Bool
-counts_fit l =
+-- no list is too long
+abbrev pub lists_fit : Layout → Bool
+lists_fit l =
     nat_le 1 (length l.sections) && nat_lt (length l.sections) (2 ^ 31) && nat_le (length l.segments) 65534
     && nat_lt (length l.symbols) (2 ^ 32 - 1) && nat_lt (length (dynamic_symbols l)) (2 ^ 32 - 1) && nat_lt (relocation_count l) (2 ^ 32 - 1)
-    && nat_le 1 (length l.groups) && nat_lt (length l.groups) (2 ^ 32 - 1) && nat_lt (name_bytes l) (2 ^ 32)
-    && nat_lt (total_share l role.Dynstr) (2 ^ 32)
+    && nat_le 1 (length l.groups) && nat_lt (length l.groups) (2 ^ 32 - 1)
+
+-- and each string table ends below 2^32 (gABI, "Symbol Table": st_name)
+abbrev pub counts_fit : Layout → Bool
+counts_fit l =
+    lists_fit l && nat_lt (name_bytes l) (2 ^ 32)
+    && nat_lt (total_share l role.Dynstr) (2 ^ 32) && nat_lt (total_share l role.Strtab) (2 ^ 32) && versions_fit l
 
 -- a part of that role is there, or nothing has to be written in one
 abbrev pub role_given : Layout → Role → Bool

@@ -5,7 +5,7 @@
 --   dynamic_count l           how many they are
 use Rattle.std.specs.Prelude.{ℕ, ◌+◌, ◌-◌, ◌/◌, ◌^◌, ◌==◌, Bool, not, ◌&&◌, if◌then◌else◌, min, List, [], ◌∷◌, ◌++◌, length, All, find, flat_map, bytes_eq, codes, bit_or, Option, Some, None, option_map}
 use Rattle.std.specs.Option.{option_or}
-use Rattle.wild_records.specs.Abi.Dynamic.{dt_null, dt_pltrelsz, dt_pltgot, dt_pltrel, dt_jmprel, dt_strtab, dt_symtab, dt_rela, dt_relasz, dt_relaent, dt_strsz, dt_syment, dt_init, dt_fini, dt_debug, dt_textrel, dt_init_array, dt_fini_array, dt_init_arraysz, dt_fini_arraysz, dt_flags, dt_preinit_array, dt_preinit_arraysz, dt_relrsz, dt_relr, dt_relrent, dt_relacount, dt_flags_1, df_origin, df_textrel, df_bind_now, df_static_tls, df_1_now, df_1_nodelete, df_1_origin, df_1_interpose, df_1_pie}
+use Rattle.wild_records.specs.Abi.Dynamic.{dt_null, dt_pltrelsz, dt_pltgot, dt_pltrel, dt_hash, dt_jmprel, dt_strtab, dt_symtab, dt_rela, dt_relasz, dt_relaent, dt_strsz, dt_syment, dt_init, dt_fini, dt_debug, dt_textrel, dt_aarch64_variant_pcs, dt_init_array, dt_fini_array, dt_init_arraysz, dt_fini_arraysz, dt_flags, dt_preinit_array, dt_preinit_arraysz, dt_relrsz, dt_relr, dt_relrent, dt_gnu_hash, dt_versym, dt_relacount, dt_flags_1, dt_verdef, dt_verdefnum, dt_verneed, dt_verneednum, df_origin, df_textrel, df_bind_now, df_static_tls, df_1_now, df_1_nodelete, df_1_origin, df_1_interpose, df_1_pie}
 use Rattle.wild_records.specs.Abi.Section.{sht_nobits}
 use Rattle.wild_records.specs.Dynamic.{DynamicEntryFits}
 use Rattle.wild_records.specs.Relocations.{rela_size, relr_size}
@@ -23,6 +23,7 @@ use Rattle.wild_plan.specs.declared.layout.Layout.{Layout}
 use Rattle.wild_plan.specs.Kinds.{is_executable, is_shared_object, is_position_independent, needs_dynamic}
 use Rattle.wild_plan.specs.DynamicStrings.{named_strings, string_entries, string_start}
 use Rattle.wild_plan.specs.Segments.{part_with}
+use Rattle.wild_plan.specs.Versions.{need_count}
 
 -- the number of an entry
 unfoldable pub dynamic_number : DynamicTag → ℕ
@@ -49,10 +50,18 @@ dynamic_number tags.RelaCount = dt_relacount
 dynamic_number tags.Relr = dt_relr
 dynamic_number tags.RelrSize = dt_relrsz
 dynamic_number tags.RelrEntry = dt_relrent
+dynamic_number tags.SysvHash = dt_hash
+dynamic_number tags.GnuHash = dt_gnu_hash
+dynamic_number tags.SymbolVersions = dt_versym
+dynamic_number tags.VersionDefinitions = dt_verdef
+dynamic_number tags.VersionDefinitionCount = dt_verdefnum
+dynamic_number tags.VersionNeeds = dt_verneed
+dynamic_number tags.VersionNeedCount = dt_verneednum
 dynamic_number tags.Debug = dt_debug
 dynamic_number tags.Textrel = dt_textrel
 dynamic_number tags.Flags = dt_flags
 dynamic_number tags.Flags1 = dt_flags_1
+dynamic_number tags.VariantPcs = dt_aarch64_variant_pcs
 dynamic_number tags.Null = dt_null
 
 -- ---- where a table or a function stands
@@ -105,6 +114,10 @@ entries_bytes l = min (2 ^ 64 - 1) (bytes_of (part_with role.RelaDynRelative l.p
 abbrev pub relative_count : Layout → Option ℕ
 relative_count l = option_map (λ (p : Part). p.size / rela_size) (filled_part l role.RelaDynRelative)
 
+-- of how many libraries versions are needed, at most 2^64 - 1
+unfoldable pub need_number : Layout → ℕ
+need_number l = min (2 ^ 64 - 1) (need_count l)
+
 -- ---- flags
 
 abbrev pub only : Bool → ℕ → Option ℕ
@@ -150,20 +163,29 @@ dynamic_entry l tags.RelaCount = relative_count l
 dynamic_entry l tags.Relr = part_address (part_with role.RelrDyn l.parts)
 dynamic_entry l tags.RelrSize = part_size (part_with role.RelrDyn l.parts)
 dynamic_entry l tags.RelrEntry = beside relr_size (part_with role.RelrDyn l.parts)
+dynamic_entry l tags.SysvHash = part_address (part_with role.SysvHash l.parts)
+dynamic_entry l tags.GnuHash = part_address (part_with role.GnuHash l.parts)
+dynamic_entry l tags.SymbolVersions = part_address (part_with role.GnuVersion l.parts)
+dynamic_entry l tags.VersionDefinitions = part_address (part_with role.GnuVersionD l.parts)
+dynamic_entry l tags.VersionDefinitionCount = beside (length l.verdefs) (part_with role.GnuVersionD l.parts)
+dynamic_entry l tags.VersionNeeds = part_address (part_with role.GnuVersionR l.parts)
+dynamic_entry l tags.VersionNeedCount = beside (need_number l) (part_with role.GnuVersionR l.parts)
 dynamic_entry l tags.Debug = only (is_executable l.kind) 0
 dynamic_entry l tags.Textrel = only l.options.textrel 0
 dynamic_entry l tags.Flags = Some (dynamic_flags l.kind l.options)
 dynamic_entry l tags.Flags1 = Some (dynamic_flags_1 l.kind l.options)
+dynamic_entry l tags.VariantPcs = only l.options.variant_pcs 0
 dynamic_entry l tags.Null = Some 0
 
--- the entries in their order; those of hash tables and of versions stand before Debug, those of AArch64 before Null
+-- the entries in their order; that of AArch64 stands before Null
 unfoldable pub all_tags : List DynamicTag
 all_tags =
     tags.Init ∷ tags.Fini ∷ tags.InitArray ∷ tags.InitArraySize ∷ tags.FiniArray ∷ tags.FiniArraySize ∷ tags.PreinitArray ∷ tags.PreinitArraySize
     ∷ tags.StringTable ∷ tags.StringSize ∷ tags.SymbolTable ∷ tags.SymbolSize
     ∷ tags.PltGot ∷ tags.PltRelSize ∷ tags.PltRel ∷ tags.JmpRel
     ∷ tags.Rela ∷ tags.RelaSize ∷ tags.RelaEntry ∷ tags.RelaCount ∷ tags.Relr ∷ tags.RelrSize ∷ tags.RelrEntry
-    ∷ tags.Debug ∷ tags.Textrel ∷ tags.Flags ∷ tags.Flags1 ∷ tags.Null ∷ []
+    ∷ tags.SysvHash ∷ tags.GnuHash ∷ tags.SymbolVersions ∷ tags.VersionDefinitions ∷ tags.VersionDefinitionCount ∷ tags.VersionNeeds ∷ tags.VersionNeedCount
+    ∷ tags.Debug ∷ tags.Textrel ∷ tags.Flags ∷ tags.Flags1 ∷ tags.VariantPcs ∷ tags.Null ∷ []
 
 -- an entry, where it has a value
 abbrev pub entry_with : ℕ → Option ℕ → List DynamicEntry

@@ -4,7 +4,7 @@
 --   epilogue_strings l        their bytes in the string table, each with a zero behind it
 --   undefined_symbols ss f    the symbols of a file that other modules define and its entries name
 --   entry_names l f           the names of a file's entries in the dynamic symbol table
---   file_strings l f          the strings of a file: those that no symbol has for its name, and these names
+--   file_strings l f          the strings of a file: those that no symbol has for its name, these names, and those of its versions
 --   strings_room l f          how many bytes they are
 --   needed_entries l g        the entries of a group's libraries in the dynamic section
 --   string_start l            where the strings of the last file begin in the table
@@ -25,6 +25,7 @@ use Rattle.wild_plan.specs.DynamicSymbols.{is_undefined_entry}
 use Rattle.wild_plan.specs.FileRoles.{is_epilogue, is_library}
 use Rattle.wild_plan.specs.Kinds.{needs_dynamic, needs_dynsym}
 use Rattle.wild_plan.specs.Lists.{total}
+use Rattle.wild_plan.specs.Versions.{version_names}
 
 -- ---- strings that entries of the last file name
 
@@ -114,7 +115,7 @@ entry_names l f = if is_epilogue f.role then listed_names l.dynsyms else symbol_
 
 -- the strings of a file, in order
 unfoldable pub file_strings : Layout → File → List (List ℕ)
-file_strings l f = if needs_dynsym l.kind then lead_strings l f ++ entry_names l f else []
+file_strings l f = if needs_dynsym l.kind then lead_strings l f ++ (entry_names l f ++ version_names l f) else []
 
 -- how many bytes they are
 abbrev pub strings_room : Layout → File → ℕ

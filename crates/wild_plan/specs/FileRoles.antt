@@ -1,6 +1,7 @@
 -- What a file is, by its role.
 --   is_prelude, is_epilogue   the first file, and the last one
 --   is_library                a shared library
+--   is_loaded_file            one that goes into the output
 use Rattle.std.specs.Prelude.{Bool, true, false}
 use Rattle.wild_plan.specs.declared.file.FileRole.{FileRole}
 use Rattle.wild_plan.specs.declared.file.FileRole.TheVariants as file_role
@@ -19,3 +20,8 @@ is_epilogue other = false
 abbrev pub is_library : FileRole → Bool
 is_library file_role.Dynamic = true
 is_library other = false
+
+-- one that goes into the output
+abbrev pub is_loaded_file : FileRole → Bool
+is_loaded_file file_role.NotLoaded = false
+is_loaded_file other = true

@@ -14,6 +14,8 @@ use Rattle.wild_plan.specs.declared.input.InputRelocation.{InputRelocation}
 use Rattle.wild_plan.specs.declared.input.InputSection.{InputSection}
 use Rattle.wild_plan.specs.declared.file.File.{File}
 use Rattle.wild_plan.specs.declared.file.Group.{Group}
+use Rattle.wild_plan.specs.declared.layout.Entry.{Entry}
+use Rattle.wild_plan.specs.declared.layout.Entry.TheVariants as entry
 use Rattle.wild_plan.specs.declared.layout.Layout.{Layout}
 use Rattle.wild_plan.specs.declared.layout.DynamicSymbol.{DynamicSymbol}
 use Rattle.wild_plan.specs.Lists.{first_failing, through}
@@ -71,6 +73,12 @@ listed_is_there l d = symbol_is_there l d.symbol
 
 abbrev pub listed_misfit : Layout → Option ℕ
 listed_misfit l = first_failing (listed_is_there l) 0 l.dynsyms
+
+-- ---- where the program begins
+
+abbrev pub entry_is_there : Layout → Option Entry → Bool
+entry_is_there l (Some (entry.Symbol i)) = symbol_is_there l i
+entry_is_there l other = true
 
 -- ---- copies
 

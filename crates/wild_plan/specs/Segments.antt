@@ -5,7 +5,7 @@
 --   dynamic_astray p i gs         the first PT_DYNAMIC segment that is not that of the part
 --   holds_entries parts k s       the bytes of the SHT_RELA section k are those of the parts with entries
 --   entries_follow parts q        the part of entries that are not relative begins where that of the relative ones ends
---   table_is_loaded l p           one segment carries the whole table of relative entries to its addresses
+--   table_is_loaded l p           one segment carries the whole of a table that a loader reads to its addresses
 use Rattle.std.specs.Prelude.{ℕ, zero, suc, ◌+◌, ◌%◌, ◌==◌, Bool, true, false, not, ◌&&◌, ◌||◌, if◌then◌else◌, nat_lt, nat_le, List, [], ◌∷◌, find, Option, Some, None}
 use Rattle.std.specs.List.{list_any}
 use Rattle.wild_records.specs.Abi.Section.{sht_nobits, sht_rela}
@@ -166,6 +166,27 @@ is_table_role role.RelaDynGeneral = true
 is_table_role role.RelrDyn = true
 is_table_role other = false
 
+-- the tables in which a name is looked up: a hash table, the dynamic symbols, and their strings
+abbrev pub is_look_up_role : Role → Bool
+is_look_up_role role.SysvHash = true
+is_look_up_role role.GnuHash = true
+is_look_up_role role.Dynsym = true
+is_look_up_role role.Dynstr = true
+is_look_up_role other = false
+
+abbrev pub is_hash_role : Role → Bool
+is_hash_role role.SysvHash = true
+is_hash_role role.GnuHash = true
+is_hash_role other = false
+
+-- the output has a hash table
+abbrev pub has_hashes : Layout → Bool
+has_hashes l = list_any (λ (p : Part). is_hash_role p.role) l.parts
+
+-- the table is read out of one segment: one of entries, or one in which names are looked up where they are
+abbrev pub is_asked_whole : Layout → Role → Bool
+is_asked_whole l r = is_table_role r || (is_look_up_role r && has_hashes l)
+
 -- the file bytes of the segment have those of the part, at equal distance in file and memory
 abbrev pub carries_part : Part → Segment → Bool
 carries_part p g = g.kind == pt_load && within g.offset g.file_size p.offset p.size && p.offset + g.address == p.address + g.offset
@@ -181,4 +202,4 @@ carries_table p rest g = carries_part p g && carries_rest rest g
 -- one segment carries the whole table to its addresses
 abbrev pub table_is_loaded : Layout → Part → Bool
 table_is_loaded l p =
-    not (needs_dynamic l.kind) || not (is_table_role p.role) || p.size == 0 || list_any (carries_table p (rest_of_table l.parts p)) l.segments
+    not (needs_dynamic l.kind) || not (is_asked_whole l p.role) || p.size == 0 || list_any (carries_table p (rest_of_table l.parts p)) l.segments

@@ -9,13 +9,15 @@ use crate::options::Options;
 use crate::part::{Part, Role, part_with};
 use crate::section::Section;
 use crate::strings::{string_count, string_start};
+use crate::versions::need_count;
 use wild_records::abi::dynamic::{
     DF_1_INTERPOSE, DF_1_NODELETE, DF_1_NOW, DF_1_ORIGIN, DF_1_PIE, DF_BIND_NOW, DF_ORIGIN,
-    DF_STATIC_TLS, DF_TEXTREL, DT_DEBUG, DT_FINI, DT_FINI_ARRAY, DT_FINI_ARRAYSZ, DT_FLAGS,
-    DT_FLAGS_1, DT_INIT, DT_INIT_ARRAY, DT_INIT_ARRAYSZ, DT_JMPREL, DT_NULL, DT_PLTGOT, DT_PLTREL,
-    DT_PLTRELSZ, DT_PREINIT_ARRAY, DT_PREINIT_ARRAYSZ, DT_RELA, DT_RELACOUNT, DT_RELAENT,
-    DT_RELASZ, DT_RELR, DT_RELRENT, DT_RELRSZ, DT_STRSZ, DT_STRTAB, DT_SYMENT, DT_SYMTAB,
-    DT_TEXTREL,
+    DF_STATIC_TLS, DF_TEXTREL, DT_AARCH64_VARIANT_PCS, DT_DEBUG, DT_FINI, DT_FINI_ARRAY,
+    DT_FINI_ARRAYSZ, DT_FLAGS, DT_FLAGS_1, DT_GNU_HASH, DT_HASH, DT_INIT, DT_INIT_ARRAY,
+    DT_INIT_ARRAYSZ, DT_JMPREL, DT_NULL, DT_PLTGOT, DT_PLTREL, DT_PLTRELSZ, DT_PREINIT_ARRAY,
+    DT_PREINIT_ARRAYSZ, DT_RELA, DT_RELACOUNT, DT_RELAENT, DT_RELASZ, DT_RELR, DT_RELRENT,
+    DT_RELRSZ, DT_STRSZ, DT_STRTAB, DT_SYMENT, DT_SYMTAB, DT_TEXTREL, DT_VERDEF, DT_VERDEFNUM,
+    DT_VERNEED, DT_VERNEEDNUM, DT_VERSYM,
 };
 use wild_records::abi::section::SHT_NOBITS;
 use wild_records::{Rela, Relr, SymtabEntry};
@@ -55,11 +57,22 @@ pub enum DynamicTag {
     RelrSize,
     /// How many bytes one word of packed relocations has.
     RelrEntry,
+    SysvHash,
+    GnuHash,
+    /// The versions of the dynamic symbols.
+    SymbolVersions,
+    VersionDefinitions,
+    VersionDefinitionCount,
+    VersionNeeds,
+    /// Of how many libraries versions are needed.
+    VersionNeedCount,
     /// A word for debuggers.
     Debug,
     Textrel,
     Flags,
     Flags1,
+    /// Some function has a calling convention of its own (AArch64).
+    VariantPcs,
     /// The end of the entries.
     Null,
 }
@@ -67,7 +80,7 @@ pub enum DynamicTag {
 impl DynamicTag {
     /// All of them, in their order.
     #[tactic(auto, unfolding(crate::specs::Dynamic::all_tags))]
-    pub fn all() -> [DynamicTag; 28]
+    pub fn all() -> [DynamicTag; 36]
         ensures { result ≡ all_tags }
     {
         [
@@ -94,10 +107,18 @@ impl DynamicTag {
             DynamicTag::Relr,
             DynamicTag::RelrSize,
             DynamicTag::RelrEntry,
+            DynamicTag::SysvHash,
+            DynamicTag::GnuHash,
+            DynamicTag::SymbolVersions,
+            DynamicTag::VersionDefinitions,
+            DynamicTag::VersionDefinitionCount,
+            DynamicTag::VersionNeeds,
+            DynamicTag::VersionNeedCount,
             DynamicTag::Debug,
             DynamicTag::Textrel,
             DynamicTag::Flags,
             DynamicTag::Flags1,
+            DynamicTag::VariantPcs,
             DynamicTag::Null,
         ]
     }
@@ -131,10 +152,18 @@ impl DynamicTag {
             DynamicTag::Relr => DT_RELR,
             DynamicTag::RelrSize => DT_RELRSZ,
             DynamicTag::RelrEntry => DT_RELRENT,
+            DynamicTag::SysvHash => DT_HASH,
+            DynamicTag::GnuHash => DT_GNU_HASH,
+            DynamicTag::SymbolVersions => DT_VERSYM,
+            DynamicTag::VersionDefinitions => DT_VERDEF,
+            DynamicTag::VersionDefinitionCount => DT_VERDEFNUM,
+            DynamicTag::VersionNeeds => DT_VERNEED,
+            DynamicTag::VersionNeedCount => DT_VERNEEDNUM,
             DynamicTag::Debug => DT_DEBUG,
             DynamicTag::Textrel => DT_TEXTREL,
             DynamicTag::Flags => DT_FLAGS,
             DynamicTag::Flags1 => DT_FLAGS_1,
+            DynamicTag::VariantPcs => DT_AARCH64_VARIANT_PCS,
             DynamicTag::Null => DT_NULL,
         }
     }
@@ -318,10 +347,30 @@ pub fn dynamic_entry(layout: &Layout, tag: DynamicTag) -> Option<u64>
             Relr::SIZE as u64,
             part_with(Role::RelrDyn, layout.parts.as_slice()),
         ),
+        DynamicTag::SysvHash => part_address(part_with(Role::SysvHash, layout.parts.as_slice())),
+        DynamicTag::GnuHash => part_address(part_with(Role::GnuHash, layout.parts.as_slice())),
+        DynamicTag::SymbolVersions => {
+            part_address(part_with(Role::GnuVersion, layout.parts.as_slice()))
+        }
+        DynamicTag::VersionDefinitions => {
+            part_address(part_with(Role::GnuVersionD, layout.parts.as_slice()))
+        }
+        DynamicTag::VersionDefinitionCount => beside(
+            layout.verdefs.len() as u64,
+            part_with(Role::GnuVersionD, layout.parts.as_slice()),
+        ),
+        DynamicTag::VersionNeeds => {
+            part_address(part_with(Role::GnuVersionR, layout.parts.as_slice()))
+        }
+        DynamicTag::VersionNeedCount => beside(
+            need_count(layout),
+            part_with(Role::GnuVersionR, layout.parts.as_slice()),
+        ),
         DynamicTag::Debug => only(layout.kind.is_executable(), 0),
         DynamicTag::Textrel => only(layout.options.textrel, 0),
         DynamicTag::Flags => Some(dynamic_flags(layout.kind, &layout.options)),
         DynamicTag::Flags1 => Some(dynamic_flags_1(layout.kind, &layout.options)),
+        DynamicTag::VariantPcs => only(layout.options.variant_pcs, 0),
         DynamicTag::Null => Some(0),
     }
 }
@@ -330,7 +379,7 @@ pub fn dynamic_entry(layout: &Layout, tag: DynamicTag) -> Option<u64>
 #[tactic(auto, unfolding(crate::specs::Dynamic::tag_entries, crate::specs::Dynamic::all_tags), using(crate::proofs::DynamicLemmas::length_entry))]
 fn tag_count(layout: &Layout) -> usize
     ensures count { result ≡ length (tag_entries layout.now) }
-    ensures few { result < 29 }
+    ensures few { result < 37 }
 {
     if !layout.kind.needs_dynamic() {
         return 0;

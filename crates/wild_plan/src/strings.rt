@@ -11,6 +11,7 @@ use crate::clauses::{count_undefined, is_undefined_entry, some_from};
 use crate::file::{File, FileRole};
 use crate::layout::{DynamicSymbol, Layout};
 use crate::symbol::Symbol;
+use crate::versions::version_room;
 use wild_words::Bytes;
 
 /// How many entries name strings.
@@ -72,7 +73,8 @@ pub fn strings_have_their_room()
 impl Layout {
     /// The symbols of a file.
     pub fn symbols_of(&self, file: &File) -> &[Symbol]
-        ensures { result.now ≡ range_of self.now.symbols file.now }
+        ensures are { result.now ≡ range_of self.now.symbols file.now }
+        ensures few { file.now.first_symbol + length result.now < 2 ^ 64 }
     {
         some_from(
             self.symbols.as_slice(),
@@ -83,7 +85,7 @@ impl Layout {
 }
 
 /// How many bytes a string has with its zero, at most 2^64 - 1.
-fn text_room(text: &Bytes) -> u64
+pub fn text_room(text: &Bytes) -> u64
     ensures { result ≡ min (2 ^ 64 - 1) (text_room text.now) }
 {
     (text.len() as u64).saturating_add(1)
@@ -127,7 +129,7 @@ pub fn lead_room(layout: &Layout, file: &File) -> u64
 }
 
 /// How many bytes the names of a file's entries in the dynamic symbol table have, at most 2^64 - 1.
-fn entry_room(layout: &Layout, file: &File) -> u64
+pub fn entry_room(layout: &Layout, file: &File) -> u64
     ensures { result ≡ min (2 ^ 64 - 1) (total text_room (entry_names layout.now file.now)) }
 {
     if file.role.is_epilogue() {
@@ -143,7 +145,9 @@ pub fn strings_room(layout: &Layout, file: &File) -> u64
     ensures { result ≡ min (2 ^ 64 - 1) (strings_room layout.now file.now) }
 {
     if layout.kind.needs_dynsym() {
-        lead_room(layout, file).saturating_add(entry_room(layout, file))
+        lead_room(layout, file)
+            .saturating_add(entry_room(layout, file))
+            .saturating_add(version_room(layout, file))
     } else {
         0
     }

@@ -1,5 +1,5 @@
 -- What a reader finds by a tag in the entries of the last file.
-use Rattle.std.proofs.Common.{◌≡◌, ◌≢◌, ℕ, suc, arith, ◌+◌, ◌==◌, Bool, true, false, not, ◌&&◌, if◌then◌else◌, List, [], ◌∷◌, ◌++◌, take, drop, map, replicate, ◌/◌, ◌-◌, Option, Some, None, refl, sym, ap, ◌∙◌, subst}
+use Rattle.std.proofs.Common.{◌≡◌, ◌≢◌, ℕ, suc, arith, ◌+◌, ◌==◌, Bool, true, false, not, ◌&&◌, if◌then◌else◌, List, [], ◌∷◌, ◌++◌, length, take, drop, map, replicate, ◌/◌, ◌-◌, Option, Some, None, refl, sym, ap, ◌∙◌, subst}
 use Rattle.std.specs.Prelude.{All, flat_map}
 use Rattle.std.specs.List.{list_all}
 use Rattle.std.proofs.lemmas.Bool.{and_parts, eq-eqb}
@@ -124,15 +124,10 @@ strings_differ m l n h = rw n (option_strings_differ m l.options h)
 
 -- the tags ahead of Null
 abbrev front_tags : List DynamicTag
-front_tags =
-    tags.Init ∷ tags.Fini ∷ tags.InitArray ∷ tags.InitArraySize ∷ tags.FiniArray ∷ tags.FiniArraySize ∷ tags.PreinitArray ∷ tags.PreinitArraySize
-    ∷ tags.StringTable ∷ tags.StringSize ∷ tags.SymbolTable ∷ tags.SymbolSize
-    ∷ tags.PltGot ∷ tags.PltRelSize ∷ tags.PltRel ∷ tags.JmpRel
-    ∷ tags.Rela ∷ tags.RelaSize ∷ tags.RelaEntry ∷ tags.RelaCount ∷ tags.Relr ∷ tags.RelrSize ∷ tags.RelrEntry
-    ∷ tags.Debug ∷ tags.Textrel ∷ tags.Flags ∷ tags.Flags1 ∷ []
+front_tags = take (length all_tags - 1) all_tags
 
 front_ends : list_all (tag_differs dt_null) front_tags ≡ true
-unfolding dynamic_number
+unfolding dynamic_number all_tags
 front_ends = refl
 
 null_ends : (l : Layout) (rest : List DynamicEntry) → before_null (entry_of l tags.Null ++ rest) ≡ []
@@ -215,39 +210,16 @@ needed_passed n (d ∷ front) rest o h =
     let other : (d.tag == n) ≡ false = ap (λ (t : ℕ). t == n) e ∙ differs_is (dt_needed == n) o in
     rw other (needed_passed n front rest o further)
 
--- how many tags stand ahead of one
+-- how many tags stand ahead of the first of a number
+abbrev place_among : ℕ → List DynamicTag → ℕ
+place_among n [] = 0
+place_among n (t ∷ ts) = if dynamic_number t == n then 0 else suc (place_among n ts)
+
 abbrev place_of : DynamicTag → ℕ
-place_of tags.Init = 0
-place_of tags.Fini = 1
-place_of tags.InitArray = 2
-place_of tags.InitArraySize = 3
-place_of tags.FiniArray = 4
-place_of tags.FiniArraySize = 5
-place_of tags.PreinitArray = 6
-place_of tags.PreinitArraySize = 7
-place_of tags.StringTable = 8
-place_of tags.StringSize = 9
-place_of tags.SymbolTable = 10
-place_of tags.SymbolSize = 11
-place_of tags.PltGot = 12
-place_of tags.PltRelSize = 13
-place_of tags.PltRel = 14
-place_of tags.JmpRel = 15
-place_of tags.Rela = 16
-place_of tags.RelaSize = 17
-place_of tags.RelaEntry = 18
-place_of tags.RelaCount = 19
-place_of tags.Relr = 20
-place_of tags.RelrSize = 21
-place_of tags.RelrEntry = 22
-place_of tags.Debug = 23
-place_of tags.Textrel = 24
-place_of tags.Flags = 25
-place_of tags.Flags1 = 26
-place_of tags.Null = 27
+place_of t = place_among (dynamic_number t) front_tags
 
 among : (t : DynamicTag) → t ≢ tags.Null → IsAmong t (take (place_of t) front_tags) (drop (place_of t + 1) front_tags)
-unfolding dynamic_number
+unfolding dynamic_number all_tags
 among tags.Null h = absurd (h refl)
 among other h = record { whole = refl; strings = refl; ahead = refl; behind = refl }
 

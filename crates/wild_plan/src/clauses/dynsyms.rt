@@ -236,7 +236,7 @@ pub(crate) fn table_length(layout: &Layout) -> usize
 
 /// How many undefined entries all files give.
 #[tactic(auto, using(crate::proofs::DynsymLemmas::count_is_exact))]
-fn exact_count(layout: &Layout) -> usize
+pub(crate) fn exact_count(layout: &Layout) -> usize
     requires indexes { check_indexes layout.now ≡ Ok tt }
     ensures { result ≡ length (undefined_entries layout.now.symbols (files_of layout.now.groups)) }
 {

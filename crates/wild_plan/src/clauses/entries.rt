@@ -1,8 +1,8 @@
 //! Clause 6: what a loader finds by the dynamic section, or by the sections where there is none.
-ghost use Rattle.std.specs.Prelude.{◌≡◌, drop};
+ghost use Rattle.std.specs.Prelude.{◌≡◌};
 ghost use Rattle.std.specs.List.{list_any};
 ghost use Rattle.wild_plan.specs.Lists.{first_failing, total};
-ghost use Rattle.wild_plan.specs.Segments.{is_segment_of, segment_lacking, dynamic_astray, part_with, is_entry_role, entry_parts, bytes_in, holds_entries, entries_astray, stands_in_entries, is_table_role, carries_part, carries_rest, carries_table, rest_of_table, table_is_loaded};
+ghost use Rattle.wild_plan.specs.Segments.{is_segment_of, dynamic_astray, part_with, is_entry_role, entry_parts, bytes_in, holds_entries, entries_astray, stands_in_entries, is_table_role, is_look_up_role, is_hash_role, has_hashes, is_asked_whole, carries_part, carries_rest, carries_table, rest_of_table, table_is_loaded};
 ghost use Rattle.wild_plan.specs.WellFormed.{check_entries};
 
 use crate::clauses::fails;
@@ -144,6 +144,38 @@ fn is_table_role(role: Role) -> bool
     )
 }
 
+/// Whether names are looked up in the part: a hash table, the dynamic symbols, or their strings.
+fn is_look_up_role(role: Role) -> bool
+    ensures { result ≡ is_look_up_role role }
+{
+    is_hash_role(role) || matches!(role, Role::Dynsym | Role::Dynstr)
+}
+
+fn is_hash_role(role: Role) -> bool
+    ensures { result ≡ is_hash_role role }
+{
+    matches!(role, Role::SysvHash | Role::GnuHash)
+}
+
+/// Whether the output has a hash table.
+fn has_hashes(layout: &Layout) -> bool
+    ensures { result ≡ has_hashes layout.now }
+{
+    layout
+        .parts
+        .as_slice()
+        .iter()
+        .any(|part| is_hash_role(part.role))
+}
+
+/// Whether the table is read out of one segment: one of entries, or one in which names are looked up, where they are.
+fn is_asked_whole(layout: &Layout, hashes: bool, role: Role) -> bool
+    requires hashes { hashes ≡ has_hashes layout.now }
+    ensures { result ≡ is_asked_whole layout.now role }
+{
+    is_table_role(role) || is_look_up_role(role) && hashes
+}
+
 /// Whether the file bytes of the segment have those of the part, at equal distance in file and memory.
 fn carries_part(part: &Part, segment: &Segment) -> bool
     ensures { result ≡ carries_part part.now segment.now }
@@ -189,11 +221,12 @@ fn rest_of_table(parts: &[Part], part: &Part) -> Option<Part>
 }
 
 /// Whether one segment carries the table that begins with the part to its addresses, where it has entries.
-fn table_is_loaded(layout: &Layout, part: &Part) -> bool
+fn table_is_loaded(layout: &Layout, hashes: bool, part: &Part) -> bool
+    requires hashes { hashes ≡ has_hashes layout.now }
     ensures { result ≡ table_is_loaded layout.now part.now }
 {
     !layout.kind.needs_dynamic()
-        || !is_table_role(part.role)
+        || !is_asked_whole(layout, hashes, part.role)
         || part.size == 0
         || is_carried(
             layout.segments.as_slice(),
@@ -205,5 +238,8 @@ fn table_is_loaded(layout: &Layout, part: &Part) -> bool
 pub(crate) fn table_not_loaded(layout: &Layout, parts: &[Part]) -> Option<usize>
     ensures { result ≡ first_failing (table_is_loaded layout.now) 0 parts.now }
 {
-    parts.iter().position(|part| !table_is_loaded(layout, part))
+    let hashes = has_hashes(layout);
+    parts
+        .iter()
+        .position(|part| !table_is_loaded(layout, hashes, part))
 }

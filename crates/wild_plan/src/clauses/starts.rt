@@ -1,6 +1,6 @@
-//! Clause 16: where a group's strings begin.
-ghost use Rattle.std.specs.Prelude.{◌≡◌};
-ghost use Rattle.wild_plan.specs.Contents.{given_at, place_with, start_astray};
+//! Clause 16: where a group's strings and symbols begin.
+ghost use Rattle.std.specs.Prelude.{ℕ, ◌≡◌, ◌+◌, ◌-◌, ◌*◌, ◌^◌, ◌≤◌};
+ghost use Rattle.wild_plan.specs.Contents.{AreBelow, given_at, place_with, start_places, no_starts, starts_behind, begins_at, start_astray};
 ghost use Rattle.wild_plan.specs.WellFormed.{check_starts};
 
 use crate::clauses::fails;
@@ -9,11 +9,32 @@ use crate::file::Group;
 use crate::layout::Layout;
 use crate::part::{Part, Role, has_role};
 
+/// Something of each of the parts whose shares have a start.
+#[derive(Clone, Copy)]
+pub struct Starts<T> {
+    pub dynstr: T,
+    pub strtab: T,
+    pub locals: T,
+    pub globals: T,
+}
+
 /// The place of the part of a role.
 fn place_with(role: Role, parts: &[Part]) -> Option<usize>
     ensures { result ≡ place_with role parts.now }
 {
     parts.iter().position(|part| has_role(role, part))
+}
+
+/// The places of the parts whose shares have a start.
+fn start_places(parts: &[Part]) -> Starts<Option<usize>>
+    ensures { result ≡ start_places parts.now }
+{
+    Starts {
+        dynstr: place_with(Role::Dynstr, parts),
+        strtab: place_with(Role::Strtab, parts),
+        locals: place_with(Role::SymtabLocal, parts),
+        globals: place_with(Role::SymtabGlobal, parts),
+    }
 }
 
 /// The group's bytes of the part at that place, where there is one.
@@ -26,16 +47,54 @@ fn given_at(part: Option<usize>, group: &Group) -> u64
     }
 }
 
-/// The first group whose dynamic strings do not begin where those of the groups before it end.
-fn start_astray(dynstr: Option<usize>, groups: &[Group]) -> Option<usize>
-    ensures { result ≡ start_astray dynstr 0 0 groups.now }
+/// Where the group's share of a part ends.
+fn end_behind(from: u128, part: Option<usize>, group: &Group) -> u128
+    requires { from ≤ (2 ^ 64 - 1) * 2 ^ 64 }
+    ensures is { result ≡ from + given_at part group.now }
+    ensures small { result ≤ from + 2 ^ 64 }
 {
-    let mut end: u128 = 0;
+    from + u128::from(given_at(part, group))
+}
+
+/// Where the group's shares end.
+fn starts_behind(places: Starts<Option<usize>>, from: Starts<u128>, group: &Group) -> Starts<u128>
+    requires { AreBelow ((2 ^ 64 - 1) * 2 ^ 64) from }
+    ensures is { result ≡ starts_behind places from group.now }
+    ensures small { (n : ℕ) → AreBelow (n * 2 ^ 64) from → AreBelow ((n + 1) * 2 ^ 64) result }
+{
+    Starts {
+        dynstr: end_behind(from.dynstr, places.dynstr, group),
+        strtab: end_behind(from.strtab, places.strtab, group),
+        locals: end_behind(from.locals, places.locals, group),
+        globals: end_behind(from.globals, places.globals, group),
+    }
+}
+
+/// Whether the group's shares begin there.
+fn begins_at(from: Starts<u128>, group: &Group) -> bool
+    ensures { result ≡ begins_at from group.now }
+{
+    u128::from(group.dynstr_start) == from.dynstr
+        && u128::from(group.strtab_start) == from.strtab
+        && u128::from(group.symtab_local_start) == from.locals
+        && u128::from(group.symtab_global_start) == from.globals
+}
+
+/// The first group whose shares do not begin where those of the groups before it end.
+fn start_astray(places: Starts<Option<usize>>, groups: &[Group]) -> Option<usize>
+    ensures { result ≡ start_astray places no_starts 0 groups.now }
+{
+    let mut from = Starts {
+        dynstr: 0,
+        strtab: 0,
+        locals: 0,
+        globals: 0,
+    };
     for (i, group) in groups.iter().enumerate() {
-        if u128::from(group.dynstr_start) != end {
+        if !begins_at(from, group) {
             return Some(i);
         }
-        end += u128::from(given_at(dynstr, group));
+        from = starts_behind(places, from, group);
     }
     None
 }
@@ -44,6 +103,6 @@ fn start_astray(dynstr: Option<usize>, groups: &[Group]) -> Option<usize>
 pub(crate) fn check_starts(layout: &Layout) -> Result<(), Clause>
     ensures { result ≡ check_starts layout.now }
 {
-    let dynstr = place_with(Role::Dynstr, layout.parts.as_slice());
-    fails(16, start_astray(dynstr, layout.groups.as_slice()))
+    let places = start_places(layout.parts.as_slice());
+    fails(16, start_astray(places, layout.groups.as_slice()))
 }
