@@ -14,7 +14,7 @@ unfolding entries_at
 no_entries w = record { symbols = sym (append-nil w.globals.symbols); strings = refl }
 
 -- where the next string stands behind a name
-offset_behind : (name : List ℕ) (t : Strings) → offset_of t + (length name + 1) < 2 ^ 32 → offset_of (with_string name t) ≡ behind_text (offset_of t) name
+pub offset_behind : (name : List ℕ) (t : Strings) → offset_of t + (length name + 1) < 2 ^ 32 → offset_of (with_string name t) ≡ behind_text (offset_of t) name
 offset_behind name t h =
     let a = length-append t.bytes (string name) in
     let b = length-append name (0 ∷ []) in

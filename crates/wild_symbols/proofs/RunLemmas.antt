@@ -9,40 +9,41 @@ use Rattle.wild_words.specs.Record.{spell}
 use Rattle.wild_words.proofs.OverlayLemmas.{Stands-inner}
 use Rattle.wild_words.proofs.RecordLemmas.{Stands-left, Stands-right}
 use Rattle.wild_records.specs.declared.symtab_entry.SymtabEntry.{SymtabEntry}
-use Rattle.wild_records.specs.declared.symbol_section.SymbolSection.{SymbolSection}
 use Rattle.wild_records.specs.SymtabEntry.{symtab_entry_fields, symtab_entry_at, SymtabEntryFits, SymtabEntryIsRead}
 use Rattle.wild_plan.specs.declared.fault.Error.{Error}
 use Rattle.wild_symbols.specs.Strings.{string, offset_of, with_string}
 use Rattle.wild_symbols.specs.Symbols.{symbol_bytes}
-use Rattle.wild_symbols.specs.Tables.{symbol, list_of, with_symbol, and_then}
-use Rattle.wild_symbols.specs.Runs.{SymbolCall, SymbolCallFits, is_ok, has_room, called_if, called, after, is_in, taken_if, taken, IsOf, RunsCount, RunsStandBehind}
-use Rattle.wild_symbols.specs.declared.writer.SymbolAttributes.{SymbolAttributes}
+use Rattle.wild_symbols.specs.Tables.{placed, list_of, with_fields, and_then}
+use Rattle.wild_symbols.specs.TableEntries.{NamedEntry}
+use Rattle.wild_symbols.specs.TableLaws.{NamedEntryFits, IsEntryOf}
+use Rattle.wild_symbols.specs.Runs.{is_ok, has_room, called_if, called, after, is_in, taken_if, taken, RunsCount, RunsStandBehind}
+use Rattle.wild_symbols.specs.declared.table.TableFields.{TableFields}
 use Rattle.wild_symbols.specs.declared.writer.SymbolTableWriter.{SymbolTableWriter}
 use Rattle.wild_symbols.proofs.SymbolLemmas.{Stands-symbol}
 
 -- ---- one call
 
 -- the symbol that a call gives
-abbrev entry_of : SymbolCall → SymbolTableWriter → SymtabEntry
-entry_of c w = symbol (offset_of w.strtab) c.section c.value c.attributes
+abbrev entry_of : NamedEntry → SymbolTableWriter → SymtabEntry
+entry_of c w = placed (offset_of w.strtab) c.fields.fields
 
-pub symbols_here : (local l : Bool) (name : List ℕ) (s : SymbolSection) (v : ℕ) (a : SymbolAttributes) (w : SymbolTableWriter) → is_in local l ≡ true
-    → (list_of local (with_symbol l name s v a w)).symbols ≡ (list_of local w).symbols ++ symbol (offset_of w.strtab) s v a ∷ []
-symbols_here true true name s v a w h = refl
-symbols_here true false name s v a w h = cc
-symbols_here false true name s v a w h = cc
-symbols_here false false name s v a w h = refl
+pub symbols_here : (local l : Bool) (name : List ℕ) (t : TableFields) (w : SymbolTableWriter) → is_in local l ≡ true
+    → (list_of local (with_fields l name t w)).symbols ≡ (list_of local w).symbols ++ placed (offset_of w.strtab) t.fields ∷ []
+symbols_here true true name t w h = refl
+symbols_here true false name t w h = cc
+symbols_here false true name t w h = cc
+symbols_here false false name t w h = refl
 
-pub symbols_other : (local l : Bool) (name : List ℕ) (s : SymbolSection) (v : ℕ) (a : SymbolAttributes) (w : SymbolTableWriter) → is_in local l ≡ false
-    → (list_of local (with_symbol l name s v a w)).symbols ≡ (list_of local w).symbols
-symbols_other true true name s v a w h = cc
-symbols_other true false name s v a w h = refl
-symbols_other false true name s v a w h = refl
-symbols_other false false name s v a w h = cc
+pub symbols_other : (local l : Bool) (name : List ℕ) (t : TableFields) (w : SymbolTableWriter) → is_in local l ≡ false
+    → (list_of local (with_fields l name t w)).symbols ≡ (list_of local w).symbols
+symbols_other true true name t w h = cc
+symbols_other true false name t w h = refl
+symbols_other false true name t w h = refl
+symbols_other false false name t w h = cc
 
-pub strtab-with_symbol : (l : Bool) (name : List ℕ) (s : SymbolSection) (v : ℕ) (a : SymbolAttributes) (w : SymbolTableWriter) → (with_symbol l name s v a w).strtab ≡ with_string name w.strtab
-strtab-with_symbol true name s v a w = refl
-strtab-with_symbol false name s v a w = refl
+pub strtab-with_symbol : (l : Bool) (name : List ℕ) (t : TableFields) (w : SymbolTableWriter) → (with_fields l name t w).strtab ≡ with_string name w.strtab
+strtab-with_symbol true name t w = refl
+strtab-with_symbol false name t w = refl
 
 -- the name ends within the share
 no_less : (r : Result (Unit {0}) Error) (short : Bool) (e : Error) (n : ℕ) → is_ok (and_then r (if short then Err e else Ok n)) ≡ true → short ≡ false
@@ -51,37 +52,37 @@ no_less (Ok t) false e n h = refl
 no_less (Err f) true e n h = cc
 no_less (Err f) false e n h = cc
 
-name_fits : (c : SymbolCall) (w : SymbolTableWriter) → has_room c w ≡ true → length w.strtab.bytes + (length c.name + 1) ≤ w.strtab.room
+name_fits : (c : NamedEntry) (w : SymbolTableWriter) → has_room c w ≡ true → length w.strtab.bytes + (length c.name + 1) ≤ w.strtab.room
 name_fits c w h =
     ltb-false w.strtab.room (length w.strtab.bytes + (length c.name + 1)) (no_less _ _ _ _ h)
 
 -- ---- growth
 
-symbols_more : (local l : Bool) (name : List ℕ) (s : SymbolSection) (v : ℕ) (a : SymbolAttributes) (w : SymbolTableWriter)
-    → (more : List SymtabEntry) × ((list_of local (with_symbol l name s v a w)).symbols ≡ (list_of local w).symbols ++ more)
-symbols_more true true name s v a w = (symbol (offset_of w.strtab) s v a ∷ [], refl)
-symbols_more true false name s v a w = ([], sym (append-nil w.locals.symbols))
-symbols_more false true name s v a w = ([], sym (append-nil w.globals.symbols))
-symbols_more false false name s v a w = (symbol (offset_of w.strtab) s v a ∷ [], refl)
+symbols_more : (local l : Bool) (name : List ℕ) (t : TableFields) (w : SymbolTableWriter)
+    → (more : List SymtabEntry) × ((list_of local (with_fields l name t w)).symbols ≡ (list_of local w).symbols ++ more)
+symbols_more true true name t w = (placed (offset_of w.strtab) t.fields ∷ [], refl)
+symbols_more true false name t w = ([], sym (append-nil w.locals.symbols))
+symbols_more false true name t w = ([], sym (append-nil w.globals.symbols))
+symbols_more false false name t w = (placed (offset_of w.strtab) t.fields ∷ [], refl)
 
-symbols_more_if : (b local : Bool) (c : SymbolCall) (w : SymbolTableWriter) → (more : List SymtabEntry) × ((list_of local (called_if b c w)).symbols ≡ (list_of local w).symbols ++ more)
-symbols_more_if true local c w = symbols_more local c.local c.name c.section c.value c.attributes w
+symbols_more_if : (b local : Bool) (c : NamedEntry) (w : SymbolTableWriter) → (more : List SymtabEntry) × ((list_of local (called_if b c w)).symbols ≡ (list_of local w).symbols ++ more)
+symbols_more_if true local c w = symbols_more local c.local c.name c.fields w
 symbols_more_if false local c w = ([], sym (append-nil (list_of local w).symbols))
 
 -- a run adds symbols behind those that were there
-pub symbols_after : (cs : List SymbolCall) (w : SymbolTableWriter) (local : Bool) → (more : List SymtabEntry) × ((list_of local (after cs w)).symbols ≡ (list_of local w).symbols ++ more)
+pub symbols_after : (cs : List NamedEntry) (w : SymbolTableWriter) (local : Bool) → (more : List SymtabEntry) × ((list_of local (after cs w)).symbols ≡ (list_of local w).symbols ++ more)
 symbols_after [] w local = ([], sym (append-nil (list_of local w).symbols))
 symbols_after (c ∷ cs) w local =
     let p = symbols_more_if (has_room c w) local c w in
     let q = symbols_after cs (called c w) local in
     (p.0 ++ q.0, q.1 ∙ ap (λ (x : List SymtabEntry). x ++ q.0) p.1 ∙ append_assoc (list_of local w).symbols p.0 q.0)
 
-strings_more_if : (b : Bool) (c : SymbolCall) (w : SymbolTableWriter) → (more : List ℕ) × ((called_if b c w).strtab.bytes ≡ w.strtab.bytes ++ more)
-strings_more_if true c w = (string c.name, ap (λ x. x.bytes) (strtab-with_symbol c.local c.name c.section c.value c.attributes w))
+strings_more_if : (b : Bool) (c : NamedEntry) (w : SymbolTableWriter) → (more : List ℕ) × ((called_if b c w).strtab.bytes ≡ w.strtab.bytes ++ more)
+strings_more_if true c w = (string c.name, ap (λ x. x.bytes) (strtab-with_symbol c.local c.name c.fields w))
 strings_more_if false c w = ([], sym (append-nil w.strtab.bytes))
 
 -- a run adds strings behind those that were there
-pub strings_after : (cs : List SymbolCall) (w : SymbolTableWriter) → (more : List ℕ) × ((after cs w).strtab.bytes ≡ w.strtab.bytes ++ more)
+pub strings_after : (cs : List NamedEntry) (w : SymbolTableWriter) → (more : List ℕ) × ((after cs w).strtab.bytes ≡ w.strtab.bytes ++ more)
 strings_after [] w = ([], sym (append-nil w.strtab.bytes))
 strings_after (c ∷ cs) w =
     let p = strings_more_if (has_room c w) c w in
@@ -129,89 +130,89 @@ stands_after strings before more s all start is st =
     (subst (λ (n : ℕ). Stands (before ++ (string s ++ more)) n (string s)) z inner)
 
 -- what the law says of one place
-abbrev IsReadAfter : List SymbolCall → Bool → ℕ → SymbolTableWriter → List SymbolCall → ℕ → Type 0
+abbrev IsReadAfter : List NamedEntry → Bool → ℕ → SymbolTableWriter → List NamedEntry → ℕ → Type 0
 IsReadAfter cs local n w calls k =
-    (table strings : List ℕ) (at : ℕ) (d : SymbolCall) → All SymbolCallFits cs → w.strtab.start + w.strtab.room < 2 ^ 32
+    (table strings : List ℕ) (at : ℕ) (d : NamedEntry) → All NamedEntryFits cs → w.strtab.start + w.strtab.room < 2 ^ 32
     → Stands table at (symbol_bytes (list_of local (after cs w)).symbols) → Stands strings w.strtab.start (after cs w).strtab.bytes → k < length calls
-    → IsOf strings (get_or calls k d) (symtab_entry_at table (at + 24 * (n + k)))
+    → IsEntryOf strings (get_or calls k d) (symtab_entry_at table (at + 24 * (n + k)))
 
 -- the symbol of a call that was taken first
-first_read : SymtabEntryIsRead → (c : SymbolCall) (cs : List SymbolCall) (w : SymbolTableWriter) (local : Bool) → has_room c w ≡ true → is_in local c.local ≡ true → SymbolCallFits c → w.strtab.start + w.strtab.room < 2 ^ 32
+first_read : SymtabEntryIsRead → (c : NamedEntry) (cs : List NamedEntry) (w : SymbolTableWriter) (local : Bool) → has_room c w ≡ true → is_in local c.local ≡ true → NamedEntryFits c → w.strtab.start + w.strtab.room < 2 ^ 32
     → (table strings : List ℕ) (at : ℕ) → Stands table at (symbol_bytes (list_of local (after cs (called_if true c w))).symbols) → Stands strings w.strtab.start (after cs (called_if true c w)).strtab.bytes
-    → IsOf strings c (symtab_entry_at table (at + 24 * length (list_of local w).symbols))
+    → IsEntryOf strings c (symtab_entry_at table (at + 24 * length (list_of local w).symbols))
 first_read read c cs w local room here fits short table strings at st ss =
     let m = symbols_after cs (called_if true c w) local in
-    let is = m.1 ∙ ap (λ (x : List SymtabEntry). x ++ m.0) (symbols_here local c.local c.name c.section c.value c.attributes w here) in
+    let is = m.1 ∙ ap (λ (x : List SymtabEntry). x ++ m.0) (symbols_here local c.local c.name c.fields w here) in
     let q = strings_after cs (called_if true c w) in
-    let js = q.1 ∙ ap (λ (x : List ℕ). x ++ q.0) (ap (λ x. x.bytes) (strtab-with_symbol c.local c.name c.section c.value c.attributes w)) in
+    let js = q.1 ∙ ap (λ (x : List ℕ). x ++ q.0) (ap (λ x. x.bytes) (strtab-with_symbol c.local c.name c.fields w)) in
     let n = name_fits c w room in
     let e = read_behind read table (list_of local w).symbols m.0 (entry_of c w) _ at is (record { name = omega (arith, n, short); info = fits.info; other = fits.other; section = fits.section; value = fits.value; size = fits.size }) st in
-    subst (IsOf strings c) (sym e) (record { named = stands_after strings w.strtab.bytes q.0 c.name _ w.strtab.start js ss; section = refl; value = refl; info = refl; other = refl; size = refl })
+    subst (IsEntryOf strings c) (sym e) (record { name = stands_after strings w.strtab.bytes q.0 c.name _ w.strtab.start js ss; section = refl; value = refl; info = refl; other = refl; size = refl })
 
 -- a call that gave no symbol of the list
-other_read : (cs : List SymbolCall) (local : Bool) (c : SymbolCall) (w : SymbolTableWriter) (k : ℕ) → is_in local c.local ≡ false
+other_read : (cs : List NamedEntry) (local : Bool) (c : NamedEntry) (w : SymbolTableWriter) (k : ℕ) → is_in local c.local ≡ false
     → ((j : ℕ) → IsReadAfter cs local (length (list_of local (called_if true c w)).symbols) (called_if true c w) (taken local cs (called_if true c w)) j)
-    → (table strings : List ℕ) (at : ℕ) (d : SymbolCall) → All SymbolCallFits cs → w.strtab.start + w.strtab.room < 2 ^ 32
+    → (table strings : List ℕ) (at : ℕ) (d : NamedEntry) → All NamedEntryFits cs → w.strtab.start + w.strtab.room < 2 ^ 32
     → Stands table at (symbol_bytes (list_of local (after cs (called_if true c w))).symbols) → Stands strings w.strtab.start (after cs (called_if true c w)).strtab.bytes → k < length (taken local cs (called_if true c w))
-    → IsOf strings (get_or (taken local cs (called_if true c w)) k d) (symtab_entry_at table (at + 24 * (length (list_of local w).symbols + k)))
+    → IsEntryOf strings (get_or (taken local cs (called_if true c w)) k d) (symtab_entry_at table (at + 24 * (length (list_of local w).symbols + k)))
 other_read cs local c w k other further table strings at d fits short st ss l =
-    let e = symbols_other local c.local c.name c.section c.value c.attributes w other in
-    let t = strtab-with_symbol c.local c.name c.section c.value c.attributes w in
+    let e = symbols_other local c.local c.name c.fields w other in
+    let t = strtab-with_symbol c.local c.name c.fields w in
     let short-on : (called_if true c w).strtab.start + (called_if true c w).strtab.room < 2 ^ 32 = subst (λ x. x.start + x.room < 2 ^ 32) (sym t) short in
     let ss-on : Stands strings (called_if true c w).strtab.start (after cs (called_if true c w)).strtab.bytes = subst (λ x. Stands strings x.start (after cs (called_if true c w)).strtab.bytes) (sym t) ss in
-    subst (λ (x : List SymtabEntry). IsOf strings (get_or (taken local cs (called_if true c w)) k d) (symtab_entry_at table (at + 24 * (length x + k)))) e
+    subst (λ (x : List SymtabEntry). IsEntryOf strings (get_or (taken local cs (called_if true c w)) k d) (symtab_entry_at table (at + 24 * (length x + k)))) e
     (further k table strings at d fits short-on st ss-on l)
 
 -- a call behind one that gave a symbol
-next_read : (cs : List SymbolCall) (local : Bool) (c : SymbolCall) (w : SymbolTableWriter) (k : ℕ) → is_in local c.local ≡ true
+next_read : (cs : List NamedEntry) (local : Bool) (c : NamedEntry) (w : SymbolTableWriter) (k : ℕ) → is_in local c.local ≡ true
     → ((j : ℕ) → IsReadAfter cs local (length (list_of local (called_if true c w)).symbols) (called_if true c w) (taken local cs (called_if true c w)) j)
-    → (table strings : List ℕ) (at : ℕ) (d : SymbolCall) → All SymbolCallFits cs → w.strtab.start + w.strtab.room < 2 ^ 32
+    → (table strings : List ℕ) (at : ℕ) (d : NamedEntry) → All NamedEntryFits cs → w.strtab.start + w.strtab.room < 2 ^ 32
     → Stands table at (symbol_bytes (list_of local (after cs (called_if true c w))).symbols) → Stands strings w.strtab.start (after cs (called_if true c w)).strtab.bytes → k < length (taken local cs (called_if true c w))
-    → IsOf strings (get_or (taken local cs (called_if true c w)) k d) (symtab_entry_at table (at + 24 * (length (list_of local w).symbols + suc k)))
+    → IsEntryOf strings (get_or (taken local cs (called_if true c w)) k d) (symtab_entry_at table (at + 24 * (length (list_of local w).symbols + suc k)))
 next_read cs local c w k here further table strings at d fits short st ss l =
-    let e = symbols_here local c.local c.name c.section c.value c.attributes w here in
-    let t = strtab-with_symbol c.local c.name c.section c.value c.attributes w in
+    let e = symbols_here local c.local c.name c.fields w here in
+    let t = strtab-with_symbol c.local c.name c.fields w in
     let short-on : (called_if true c w).strtab.start + (called_if true c w).strtab.room < 2 ^ 32 = subst (λ x. x.start + x.room < 2 ^ 32) (sym t) short in
     let ss-on : Stands strings (called_if true c w).strtab.start (after cs (called_if true c w)).strtab.bytes = subst (λ x. Stands strings x.start (after cs (called_if true c w)).strtab.bytes) (sym t) ss in
     let n = length-append (list_of local w).symbols (entry_of c w ∷ []) in
     let size = ap length e in
     let place : at + 24 * (length (list_of local (called_if true c w)).symbols + k) ≡ at + 24 * (length (list_of local w).symbols + suc k) = omega (arith, n, size) in
-    subst (λ (x : ℕ). IsOf strings (get_or (taken local cs (called_if true c w)) k d) (symtab_entry_at table x)) place
+    subst (λ (x : ℕ). IsEntryOf strings (get_or (taken local cs (called_if true c w)) k d) (symtab_entry_at table x)) place
     (further k table strings at d fits short-on st ss-on l)
 
 -- one call of a run, by whether it was taken, and whether its symbol is one of the list
-read_next : SymtabEntryIsRead → (cs : List SymbolCall) (local : Bool) (c : SymbolCall) (w : SymbolTableWriter) (k : ℕ) (room here : Bool) → has_room c w ≡ room → is_in local c.local ≡ here → SymbolCallFits c
+read_next : SymtabEntryIsRead → (cs : List NamedEntry) (local : Bool) (c : NamedEntry) (w : SymbolTableWriter) (k : ℕ) (room here : Bool) → has_room c w ≡ room → is_in local c.local ≡ here → NamedEntryFits c
     → ((j : ℕ) → IsReadAfter cs local (length (list_of local (called_if room c w)).symbols) (called_if room c w) (taken local cs (called_if room c w)) j)
-    → (table strings : List ℕ) (at : ℕ) (d : SymbolCall) → All SymbolCallFits cs → w.strtab.start + w.strtab.room < 2 ^ 32
+    → (table strings : List ℕ) (at : ℕ) (d : NamedEntry) → All NamedEntryFits cs → w.strtab.start + w.strtab.room < 2 ^ 32
     → Stands table at (symbol_bytes (list_of local (after cs (called_if room c w))).symbols) → Stands strings w.strtab.start (after cs (called_if room c w)).strtab.bytes
     → k < length (taken_if room here c (taken local cs (called_if room c w)))
-    → IsOf strings (get_or (taken_if room here c (taken local cs (called_if room c w))) k d) (symtab_entry_at table (at + 24 * (length (list_of local w).symbols + k)))
+    → IsEntryOf strings (get_or (taken_if room here c (taken local cs (called_if room c w))) k d) (symtab_entry_at table (at + 24 * (length (list_of local w).symbols + k)))
 read_next read cs local c w k false here r h fit further table strings at d fits short st ss l = further k table strings at d fits short st ss l
 read_next read cs local c w k true false r h fit further table strings at d fits short st ss l = other_read cs local c w k h further table strings at d fits short st ss l
 read_next read cs local c w zero true true r h fit further table strings at d fits short st ss l =
     let z : at + 24 * (length (list_of local w).symbols + 0) ≡ at + 24 * length (list_of local w).symbols = omega arith in
-    subst (λ (x : ℕ). IsOf strings c (symtab_entry_at table x)) (sym z) (first_read read c cs w local r h fit short table strings at st ss)
+    subst (λ (x : ℕ). IsEntryOf strings c (symtab_entry_at table x)) (sym z) (first_read read c cs w local r h fit short table strings at st ss)
 read_next read cs local c w (suc k) true true r h fit further table strings at d fits short st ss l = next_read cs local c w k h further table strings at d fits short st ss (omega (arith, l))
 
-rest_fits : (c : SymbolCall) (cs : List SymbolCall) → All SymbolCallFits (c ∷ cs) → All SymbolCallFits cs
+rest_fits : (c : NamedEntry) (cs : List NamedEntry) → All NamedEntryFits (c ∷ cs) → All NamedEntryFits cs
 rest_fits c cs a i d l = a (suc i) d (omega (arith, l))
 
-pub run_read : SymtabEntryIsRead → (cs : List SymbolCall) (w : SymbolTableWriter) (local : Bool) (k : ℕ) → IsReadAfter cs local (length (list_of local w).symbols) w (taken local cs w) k
+pub run_read : SymtabEntryIsRead → (cs : List NamedEntry) (w : SymbolTableWriter) (local : Bool) (k : ℕ) → IsReadAfter cs local (length (list_of local w).symbols) w (taken local cs w) k
 run_read read [] w local k table strings at d fits short st ss l = absurd (omega (arith, l))
 run_read read (c ∷ cs) w local k table strings at d fits short st ss l =
     read_next read cs local c w k (has_room c w) (is_in local c.local) refl refl (fits 0 c (omega arith)) (λ j. run_read read cs (called c w) local j) table strings at d (rest_fits c cs fits) short st ss l
 
 -- ---- counting
 
-count_next : (cs : List SymbolCall) (local : Bool) (c : SymbolCall) (w : SymbolTableWriter) (room here : Bool) → is_in local c.local ≡ here
+count_next : (cs : List NamedEntry) (local : Bool) (c : NamedEntry) (w : SymbolTableWriter) (room here : Bool) → is_in local c.local ≡ here
     → length (list_of local (after cs (called_if room c w))).symbols ≡ length (list_of local (called_if room c w)).symbols + length (taken local cs (called_if room c w))
     → length (list_of local (after cs (called_if room c w))).symbols ≡ length (list_of local w).symbols + length (taken_if room here c (taken local cs (called_if room c w)))
 count_next cs local c w false here h further = further
 count_next cs local c w true false h further =
-    let e = ap length (symbols_other local c.local c.name c.section c.value c.attributes w h) in
+    let e = ap length (symbols_other local c.local c.name c.fields w h) in
     omega (arith, e, further)
 count_next cs local c w true true h further =
-    let e = ap length (symbols_here local c.local c.name c.section c.value c.attributes w h) in
+    let e = ap length (symbols_here local c.local c.name c.fields w h) in
     let n = length-append (list_of local w).symbols (entry_of c w ∷ []) in
     omega (arith, e, n, further)
 

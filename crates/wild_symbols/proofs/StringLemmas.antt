@@ -3,15 +3,26 @@ use Rattle.std.proofs.Common.{◌≡◌, ℕ, zero, suc, ◌+◌, ◌≤◌, Lis
 use Rattle.std.proofs.lemmas.List.{append_assoc, append-nil, length-append}
 use Rattle.wild_words.specs.Words.{word, place, Stands}
 use Rattle.wild_words.proofs.WordLemmas.{word_1, front-place}
-use Rattle.wild_words.proofs.OverlayLemmas.{Stands-inner}
+use Rattle.wild_words.proofs.OverlayLemmas.{length-place, Stands-inner}
 use Rattle.wild_words.proofs.RecordLemmas.{Stands-left, Stands-right}
 use Rattle.wild_symbols.specs.Strings.{Strings, string, string_bytes, offset_of, with_string, with_strings}
 use Rattle.wild_symbols.specs.Laws.{LengthsOfStrings, StringsAreBehind, StringsStand}
 
--- a string behind what was there, and its zero behind it
-pub front_of_string : (at : ℕ) (xs out : List ℕ) → at ≤ length out → take (at + length xs) (place at xs out) ++ word 1 0 ≡ take at out ++ string xs
-front_of_string at xs out h =
-    rw (← word_1 0 (omega arith)) (ap (λ (f : List ℕ). f ++ 0 ∷ []) (front-place at (at + length xs) out xs refl h) ∙ append_assoc (take at out) xs (0 ∷ []))
+-- a string whose second piece is empty
+pub joined_with_none : (s : List ℕ) → s ++ [] ≡ s
+joined_with_none s = append-nil s
+
+-- a string in two pieces behind what was there, and its zero behind it
+pub front_of_joined : (at : ℕ) (xs ys out : List ℕ) → at + (length xs + length ys) ≤ length out
+    → take (at + (length xs + length ys)) (place (at + length xs) ys (place at xs out)) ++ word 1 0 ≡ take at out ++ string (xs ++ ys)
+front_of_joined at xs ys out h =
+    let kept = length-place at out xs in
+    let n = at + (length xs + length ys) in
+    let a : take n (place (at + length xs) ys (place at xs out)) ≡ take (at + length xs) (place at xs out) ++ ys = front-place (at + length xs) n (place at xs out) ys (omega arith) (omega (arith, h, kept (omega (arith, h)))) in
+    let b = front-place at (at + length xs) out xs refl (omega (arith, h)) in
+    rw (← word_1 0 (omega arith))
+    (ap (λ (f : List ℕ). f ++ 0 ∷ []) (a ∙ ap (λ (f : List ℕ). f ++ ys) b ∙ append_assoc (take at out) xs ys)
+    ∙ append_assoc (take at out) (xs ++ ys) (0 ∷ []))
 
 -- ---- laws
 

@@ -80,9 +80,16 @@ abbrev pub part_section : Option Part → Option ℕ
 part_section None = None
 part_section (Some p) = some_section p.section
 
--- the sections of symbols that no input section has: of data without bytes in the file, of such thread-local data, and of stubs
+-- the sections of symbols that no input section has: of data without bytes in the file, of such thread-local data, of stubs, of
+-- slots, and of the slots whose words are packed
 abbrev pub named_sections : Layout → NamedSections
-named_sections l = record { bss = section_named l (codes ".bss"); tbss = section_named l (codes ".tbss"); stubs = part_section (part_with role.PltGot l.parts) }
+named_sections l = record {
+  bss = section_named l (codes ".bss");
+  tbss = section_named l (codes ".tbss");
+  stubs = part_section (part_with role.PltGot l.parts);
+  got = part_section (part_with role.Got l.parts);
+  block = part_section (part_with role.GotRelr l.parts);
+}
 
 -- in a section, at a value; or that symbol i has none
 abbrev pub in_section : ℕ → Option ℕ → ℕ → SymbolAttributes → Result SymbolFields Fault

@@ -1,7 +1,11 @@
 pub mod Strings
 pub mod Symbols
+pub mod Indexes
 pub mod Tables
 pub mod DynamicEntries
+pub mod TableEntries
 pub mod Lending
+pub mod SlotNames
 pub mod Runs
 pub mod Laws
+pub mod TableLaws

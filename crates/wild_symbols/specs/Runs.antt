@@ -1,17 +1,18 @@
--- Whole runs of a writer: lists of calls of define_symbol and undefined_symbol.
---   SymbolCall            what a call is given; undefined is one of undefined_symbol
+-- Whole runs of a writer: lists of calls that give symbols.
+--   defined .., undefined ..  what calls of define_symbol and undefined_symbol are given
 --   has_room c w          the symbol and its name fit
 --   called c w            what the call leaves; after cs w what calls leave, one after another
 --   taken local cs w      the calls that gave a local symbol, or a global one
---   IsOf strings c e      the symbol is the call's, and its name stands in the strings
 --   RunsAreRead           symbol k of a run is that of the k-th call that gave one
 --   RunsCount             each call that gave a symbol gave one
 --   RunsStandBehind       what stood before a run stands before what it wrote
+--   RunsKeepIndexes       their longer section indexes stand one behind the other
 --   RunsWithRoomAreWhole  where there is room for all, each call gives its symbol
 --   RunsAreEntries        calls with names and fields leave their entries, as `entries_at` has them
+--   RunsAreTables         calls with the entries of `.symtab` leave these, as `side_entries` has them
 --   PrefixesAreTheWriters what calls write through a prefix, the writer itself would have written
 use Rattle.std.specs.Prelude.{◌≡◌, ℕ, ◌+◌, ◌*◌, ◌<◌, ◌≤◌, ◌^◌, Bool, true, false, not, List, [], ◌∷◌, ◌++◌, length, take, map, All, slice_index_or, Result, Ok, Err}
-use Rattle.std.specs.List.{filter}
+use Rattle.std.specs.List.{filter, flat_map}
 use Rattle.wild_words.specs.Words.{Stands}
 use Rattle.wild_records.specs.Abi.Section.{shn_undef}
 use Rattle.wild_records.specs.declared.symtab_entry.SymtabEntry.{SymtabEntry}
@@ -22,33 +23,21 @@ use Rattle.wild_plan.specs.declared.fault.Error.{Error}
 use Rattle.wild_plan.specs.Lists.{total}
 use Rattle.wild_symbols.specs.Strings.{string, offset_of, with_strings}
 use Rattle.wild_symbols.specs.Symbols.{symbol_bytes, symbols_used}
-use Rattle.wild_symbols.specs.Tables.{section_number, list_of, with_symbol, room_for_symbol, room_for_prefix, kept_behind, prefix_of, joined}
+use Rattle.wild_symbols.specs.Indexes.{index_of, index_room}
+use Rattle.wild_symbols.specs.Tables.{told, list_of, indexes_of, with_fields, room_for_fields, room_for_prefix, kept_behind, prefix_of, joined}
 use Rattle.wild_symbols.specs.DynamicEntries.{NamedFields, entries_at}
+use Rattle.wild_symbols.specs.TableEntries.{NamedEntry, short, side_entries, long_indexes, index_bytes}
+use Rattle.wild_symbols.specs.TableLaws.{NamedEntryFits, IsEntryOf, names_of}
 use Rattle.wild_symbols.specs.declared.writer.SymbolAttributes.{SymbolAttributes}
 use Rattle.wild_symbols.specs.declared.writer.SymbolTableWriter.{SymbolTableWriter}
 
--- what a call is given
-pub record SymbolCall : Type 0 where
-  pub local : Bool
-  pub name : List ℕ
-  pub section : SymbolSection
-  pub value : ℕ
-  pub attributes : SymbolAttributes
-
-abbrev pub defined : Bool → List ℕ → SymbolSection → ℕ → SymbolAttributes → SymbolCall
-defined local name s value a = record { local = local; name = name; section = s; value = value; attributes = a }
+-- what a call is given: a name, whether the symbol is local, and what is said of it
+abbrev pub defined : Bool → List ℕ → SymbolSection → ℕ → SymbolAttributes → NamedEntry
+defined local name s value a = record { name = name; local = local; fields = told s value a }
 
 -- a symbol that no section has, of value 0
-abbrev pub undefined : Bool → List ℕ → SymbolAttributes → SymbolCall
+abbrev pub undefined : Bool → List ℕ → SymbolAttributes → NamedEntry
 undefined local name a = defined local name (Raw shn_undef) 0 a
-
--- what it is given fits the fields of a symbol (gABI, "Symbol Table")
-pub record SymbolCallFits (c : SymbolCall) : Type 0 where
-  pub info : c.attributes.info < 2 ^ 8
-  pub other : c.attributes.other < 2 ^ 8
-  pub section : section_number c.section < 2 ^ 16
-  pub value : c.value < 2 ^ 64
-  pub size : c.attributes.size < 2 ^ 64
 
 -- ---- runs
 
@@ -57,19 +46,19 @@ is_ok (Ok x) = true
 is_ok (Err e) = false
 
 -- the symbol and its name fit
-abbrev pub has_room : SymbolCall → SymbolTableWriter → Bool
-has_room c w = is_ok (room_for_symbol c.local c.name w)
+abbrev pub has_room : NamedEntry → SymbolTableWriter → Bool
+has_room c w = is_ok (room_for_fields c.local c.name c.fields.long w)
 
-abbrev pub called_if : Bool → SymbolCall → SymbolTableWriter → SymbolTableWriter
-called_if true c w = with_symbol c.local c.name c.section c.value c.attributes w
+abbrev pub called_if : Bool → NamedEntry → SymbolTableWriter → SymbolTableWriter
+called_if true c w = with_fields c.local c.name c.fields w
 called_if false c w = w
 
 -- what a call leaves: one symbol and its name more; where they do not fit, the writer as it was
-abbrev pub called : SymbolCall → SymbolTableWriter → SymbolTableWriter
+abbrev pub called : NamedEntry → SymbolTableWriter → SymbolTableWriter
 called c w = called_if (has_room c w) c w
 
 -- what calls leave, one after another
-abbrev pub after : List SymbolCall → SymbolTableWriter → SymbolTableWriter
+abbrev pub after : List NamedEntry → SymbolTableWriter → SymbolTableWriter
 after [] w = w
 after (c ∷ cs) w = after cs (called c w)
 
@@ -78,55 +67,51 @@ abbrev pub is_in : Bool → Bool → Bool
 is_in true local = local
 is_in false local = not local
 
-abbrev pub taken_if : Bool → Bool → SymbolCall → List SymbolCall → List SymbolCall
+abbrev pub taken_if : Bool → Bool → NamedEntry → List NamedEntry → List NamedEntry
 taken_if true true c cs = c ∷ cs
 taken_if true false c cs = cs
 taken_if false here c cs = cs
 
 -- the calls that gave a local symbol, or those that gave a global one
-abbrev pub taken : Bool → List SymbolCall → SymbolTableWriter → List SymbolCall
+abbrev pub taken : Bool → List NamedEntry → SymbolTableWriter → List NamedEntry
 taken local [] w = []
 taken local (c ∷ cs) w = taken_if (has_room c w) (is_in local c.local) c (taken local cs (called c w))
 
 -- ---- what is read
 
--- the symbol has the call's fields, and the call's name stands at st_name of the strings, with a zero behind it
--- (gABI, "Symbol Table", "String Table")
-pub record IsOf (strings : List ℕ) (c : SymbolCall) (e : SymtabEntry) : Type 0 where
-  pub named : Stands strings e.name (string c.name)
-  pub section : e.section ≡ section_number c.section
-  pub value : e.value ≡ c.value
-  pub info : e.info ≡ c.attributes.info
-  pub other : e.other ≡ c.attributes.other
-  pub size : e.size ≡ c.attributes.size
-
 -- where the symbols of a list stand, and the group's strings in the output's table, symbol k of a run is that of the
 -- k-th call that gave one, behind those of before
 abbrev pub RunsAreRead : Type 0
-RunsAreRead = (cs : List SymbolCall) (w : SymbolTableWriter) (local : Bool) (k : ℕ) (table strings : List ℕ) (at : ℕ) (d : SymbolCall) → All SymbolCallFits cs → w.strtab.start + w.strtab.room < 2 ^ 32
+RunsAreRead = (cs : List NamedEntry) (w : SymbolTableWriter) (local : Bool) (k : ℕ) (table strings : List ℕ) (at : ℕ) (d : NamedEntry) → All NamedEntryFits cs → w.strtab.start + w.strtab.room < 2 ^ 32
     → Stands table at (symbol_bytes (list_of local (after cs w)).symbols) → Stands strings w.strtab.start (after cs w).strtab.bytes → k < length (taken local cs w)
-    → IsOf strings (slice_index_or (taken local cs w) k d) (symtab_entry_at table (at + symtab_entry_size * (length (list_of local w).symbols + k)))
+    → IsEntryOf strings (slice_index_or (taken local cs w) k d) (symtab_entry_at table (at + symtab_entry_size * (length (list_of local w).symbols + k)))
 
 -- each call that gave a symbol gave one, and no other came
 abbrev pub RunsCount : Type 0
-RunsCount = (cs : List SymbolCall) (w : SymbolTableWriter) (local : Bool) → length (list_of local (after cs w)).symbols ≡ length (list_of local w).symbols + length (taken local cs w)
+RunsCount = (cs : List NamedEntry) (w : SymbolTableWriter) (local : Bool) → length (list_of local (after cs w)).symbols ≡ length (list_of local w).symbols + length (taken local cs w)
 
 -- what stood before a run stands before what it wrote
 abbrev pub RunsStandBehind : Type 0
-RunsStandBehind = (cs : List SymbolCall) (w : SymbolTableWriter) (local : Bool) → (take (length (list_of local w).symbols) (list_of local (after cs w)).symbols ≡ (list_of local w).symbols) × (take (length w.strtab.bytes) (after cs w).strtab.bytes ≡ w.strtab.bytes)
+RunsStandBehind = (cs : List NamedEntry) (w : SymbolTableWriter) (local : Bool) → (take (length (list_of local w).symbols) (list_of local (after cs w)).symbols ≡ (list_of local w).symbols) × (take (length w.strtab.bytes) (after cs w).strtab.bytes ≡ w.strtab.bytes)
 
--- there is room for the symbols of these calls, and for their names
-pub record HasRoomFor (cs : List SymbolCall) (w : SymbolTableWriter) : Type 0 where
+-- there is room for the symbols of these calls, for their longer section indexes, and for their names
+pub record HasRoomFor (cs : List NamedEntry) (w : SymbolTableWriter) : Type 0 where
   pub symbols : (local : Bool) → symbols_used (list_of local w) + symtab_entry_size * length (filter (λ c. is_in local c.local) cs) ≤ (list_of local w).room
+  pub indexes : (local : Bool) → length (indexes_of local w).bytes + total (λ c. index_room (indexes_of local w).each c.fields.long) (filter (λ c. is_in local c.local) cs) ≤ (indexes_of local w).room
   pub names : length w.strtab.bytes + total (λ c. length c.name + 1) cs ≤ w.strtab.room
+
+-- the longer section indexes of the calls that gave a symbol stand behind those that were there, one of each where each has one
+abbrev pub RunsKeepIndexes : Type 0
+RunsKeepIndexes = (cs : List NamedEntry) (w : SymbolTableWriter) (local : Bool)
+    → (indexes_of local (after cs w)).bytes ≡ (indexes_of local w).bytes ++ flat_map (λ (c : NamedEntry). index_of (indexes_of local w).each c.fields.long) (taken local cs w)
 
 -- where there is room for all, each call gives its symbol
 abbrev pub RunsWithRoomAreWhole : Type 0
-RunsWithRoomAreWhole = (cs : List SymbolCall) (w : SymbolTableWriter) (local : Bool) → HasRoomFor cs w → taken local cs w ≡ filter (λ c. is_in local c.local) cs
+RunsWithRoomAreWhole = (cs : List NamedEntry) (w : SymbolTableWriter) (local : Bool) → HasRoomFor cs w → taken local cs w ≡ filter (λ c. is_in local c.local) cs
 
 -- the call that gives a global symbol with these fields
-abbrev pub call_of : NamedFields → SymbolCall
-call_of n = defined false n.name (Raw n.fields.section) n.fields.value n.fields.attributes
+abbrev pub call_of : NamedFields → NamedEntry
+call_of n = record { name = n.name; local = false; fields = short n.fields }
 
 -- the writer has the symbols and the strings of w, behind them these entries, and the names of these one behind the other
 pub record HasEntries (ns : List NamedFields) (w v : SymbolTableWriter) : Type 0 where
@@ -137,8 +122,19 @@ pub record HasEntries (ns : List NamedFields) (w v : SymbolTableWriter) : Type 0
 abbrev pub RunsAreEntries : Type 0
 RunsAreEntries = (ns : List NamedFields) (w : SymbolTableWriter) → HasRoomFor (map call_of ns) w → w.strtab.start + w.strtab.room < 2 ^ 32 → HasEntries ns w (after (map call_of ns) w)
 
+-- the writer has the symbols and the strings of w, behind them these entries of `.symtab`, the longer section index of each where each
+-- has one, and the names of all one behind the other
+pub record HasTable (ns : List NamedEntry) (w v : SymbolTableWriter) : Type 0 where
+  pub symbols : (local : Bool) → (list_of local v).symbols ≡ (list_of local w).symbols ++ side_entries local (offset_of w.strtab) ns
+  pub indexes : (local : Bool) → (indexes_of local w).each ≡ true → (indexes_of local v).bytes ≡ (indexes_of local w).bytes ++ index_bytes (long_indexes local ns)
+  pub strings : v.strtab ≡ with_strings (names_of ns) w.strtab
+
+-- where there is room for all, calls with the entries of `.symtab` leave just these
+abbrev pub RunsAreTables : Type 0
+RunsAreTables = (ns : List NamedEntry) (w : SymbolTableWriter) → HasRoomFor ns w → w.strtab.start + w.strtab.room < 2 ^ 32 → HasTable ns w (after ns w)
+
 -- what calls write through a prefix that has room for them, the writer itself would have written; when the prefix is
 -- let go, the writer has all its room again
 abbrev pub PrefixesAreTheWriters : Type 0
-PrefixesAreTheWriters = (n m : ℕ) (cs : List SymbolCall) (w : SymbolTableWriter) → room_for_prefix n m w ≡ Ok tt → symbols_used w.locals ≤ w.locals.room → HasRoomFor cs (prefix_of n m w)
+PrefixesAreTheWriters = (n m : ℕ) (cs : List NamedEntry) (w : SymbolTableWriter) → room_for_prefix n m w ≡ Ok tt → symbols_used w.locals ≤ w.locals.room → length w.local_indexes.bytes ≤ w.local_indexes.room → HasRoomFor cs (prefix_of n m w)
     → joined (kept_behind n m w) (after cs (prefix_of n m w)) ≡ after cs w

@@ -30,6 +30,10 @@ pub struct NamedSections {
     pub tbss: Option<usize>,
     /// That of the stubs.
     pub stubs: Option<usize>,
+    /// That of the slots.
+    pub got: Option<usize>,
+    /// That of the slots whose words are packed.
+    pub block: Option<usize>,
 }
 
 impl SymbolAttributes {
@@ -46,7 +50,7 @@ impl SymbolAttributes {
 }
 
 /// The binding of `st_info` with another type.
-fn with_type(info: u8, kind: u8) -> u8
+pub(crate) fn with_type(info: u8, kind: u8) -> u8
     requires { kind < 16 }
     ensures { result ≡ with_type info kind }
 {
@@ -76,7 +80,7 @@ fn library_attributes(info: u8) -> SymbolAttributes
 }
 
 /// What is said of a symbol that no section has.
-fn nowhere_with(attributes: SymbolAttributes) -> SymbolFields
+pub(crate) fn nowhere_with(attributes: SymbolAttributes) -> SymbolFields
     ensures { result ≡ nowhere_with attributes }
 {
     SymbolFields {
@@ -109,7 +113,7 @@ fn section_named(layout: &Layout, name: &[u8]) -> Option<usize>
 }
 
 /// Section 0 is none.
-fn some_section(index: usize) -> Option<usize>
+pub(crate) fn some_section(index: usize) -> Option<usize>
     ensures { result ≡ some_section index }
 {
     if index == 0 { None } else { Some(index) }
@@ -136,12 +140,14 @@ impl NamedSections {
             bss: section_named(layout, b".bss"),
             tbss: section_named(layout, b".tbss"),
             stubs: section_of_role(Role::PltGot, layout.parts.as_slice()),
+            got: section_of_role(Role::Got, layout.parts.as_slice()),
+            block: section_of_role(Role::GotRelr, layout.parts.as_slice()),
         }
     }
 }
 
 /// `st_shndx` of a header index.
-fn section_number(index: usize) -> u16
+pub(crate) fn section_number(index: usize) -> u16
     ensures { result ≡ (split_index index).0 }
 {
     match u16::try_from(index) {
@@ -173,7 +179,7 @@ fn in_section(
 }
 
 /// The address of the stub of a symbol.
-fn stub_of(symbol: &Symbol) -> Option<u64>
+pub(crate) fn stub_of(symbol: &Symbol) -> Option<u64>
     ensures { result ≡ plt_of symbol.now }
 {
     match symbol.resolution {
@@ -192,7 +198,7 @@ fn decided_value(symbol: &Symbol) -> u64
     }
 }
 
-fn is_thread_symbol(symbol: &Symbol) -> bool
+pub(crate) fn is_thread_symbol(symbol: &Symbol) -> bool
     ensures { result ≡ is_thread_symbol symbol.now }
 {
     symbol.info % 16 == STT_TLS
@@ -212,7 +218,7 @@ fn value_in(layout: &Layout, symbol: &Symbol) -> u64
 
 /// Whether the symbol, which a resolver chooses, is told as its stub: pointers to it compare equal in a program that does
 /// not move.
-fn stands_as_stub(layout: &Layout, symbol: &Symbol) -> bool
+pub(crate) fn stands_as_stub(layout: &Layout, symbol: &Symbol) -> bool
     ensures { result ≡ stands_as_stub layout.now symbol.now }
 {
     symbol.flags.is_ifunc() && (stub_of(symbol).is_some() && layout.kind.has_fixed_load_address())
@@ -228,7 +234,11 @@ fn as_function(symbol: &Symbol) -> SymbolAttributes
     }
 }
 
-fn common_section(named: NamedSections, layout: &Layout, symbol: &Symbol) -> Option<usize>
+pub(crate) fn common_section(
+    named: NamedSections,
+    layout: &Layout,
+    symbol: &Symbol,
+) -> Option<usize>
     requires { named ≡ named_sections layout.now }
     ensures { result ≡ common_section layout.now symbol.now }
 {

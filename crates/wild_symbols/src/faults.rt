@@ -6,7 +6,7 @@ ghost use Rattle.wild_plan.specs.declared.fault.Fault.TheVariants.{InsufficientA
 use wild_plan::{At, Error, Fault};
 
 /// The share of a part is smaller than what has to be written there.
-pub(crate) fn insufficient(part: usize, group: usize, given: usize, needed: usize) -> Error
+pub fn insufficient(part: usize, group: usize, given: usize, needed: usize) -> Error
     ensures { result ≡ record { fault = InsufficientAllocation part group given needed; at = nowhere } }
 {
     Error {
@@ -21,7 +21,7 @@ pub(crate) fn insufficient(part: usize, group: usize, given: usize, needed: usiz
 }
 
 /// The share of a part is larger.
-pub(crate) fn excessive(part: usize, group: usize, given: usize, needed: usize) -> Error
+pub fn excessive(part: usize, group: usize, given: usize, needed: usize) -> Error
     ensures { result ≡ record { fault = ExcessiveAllocation part group given needed; at = nowhere } }
 {
     Error {

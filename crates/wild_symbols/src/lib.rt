@@ -3,10 +3,12 @@
 
 mod dynamic;
 mod faults;
+mod index_table;
 mod laws;
 mod prefix;
 mod strtab;
 mod symbol_table;
+mod table;
 #[cfg(test)]
 mod tests;
 mod writer;
@@ -14,8 +16,13 @@ mod writer;
 pub use dynamic::{
     NamedSections, SymbolFields, entry_at, listed_fields, no_fields, undefined_fields,
 };
-pub use laws::{strings_stand, symbols_are_read};
+pub use faults::{excessive, insufficient};
+pub use index_table::IndexTable;
+pub use laws::{
+    entries_are_counted, names_are_strings, sides_are_read, strings_stand, symbols_are_read,
+};
 pub use prefix::{KeptBehind, SymbolTablePrefix};
 pub use strtab::StrTabWriter;
 pub use symbol_table::SymbolTable;
-pub use writer::{SymbolAttributes, SymbolTableWriter, dynstr_start};
+pub use table::{TableFields, null_table_fields, table_fields};
+pub use writer::{SymbolAttributes, SymbolTableWriter, dynstr_start, strtab_start};

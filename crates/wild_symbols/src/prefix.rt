@@ -14,6 +14,8 @@ use wild_plan::Error;
 pub struct KeptBehind {
     pub locals: usize,
     pub globals: usize,
+    pub local_indexes: usize,
+    pub global_indexes: usize,
     pub strings: usize,
 }
 
@@ -41,6 +43,7 @@ impl SymbolTableWriter {
         ensures { result ≡ room_for_prefix symbols strings self.now }
     {
         self.globals.check_entries(symbols)?;
+        self.global_indexes.check_indexes(symbols)?;
         self.strtab.check_bytes(strings)
     }
 
@@ -53,6 +56,8 @@ impl SymbolTableWriter {
         KeptBehind {
             locals: self.locals.close(),
             globals: self.globals.take_front(symbols),
+            local_indexes: self.local_indexes.close(),
+            global_indexes: self.global_indexes.take_front(symbols),
             strings: self.strtab.take_front(strings),
         }
     }
@@ -63,6 +68,8 @@ impl SymbolTableWriter {
     {
         self.locals.join(kept.locals);
         self.globals.join(kept.globals);
+        self.local_indexes.join(kept.local_indexes);
+        self.global_indexes.join(kept.global_indexes);
         self.strtab.join(kept.strings);
     }
 
@@ -71,8 +78,8 @@ impl SymbolTableWriter {
     ///
     /// # Errors
     ///
-    /// `InsufficientAllocation` exactly where so many symbols, or else so many bytes, do not fit what is left of their
-    /// share; nothing changes then.
+    /// `InsufficientAllocation` exactly where so many symbols, or else their longer section indexes where each has one, or else so
+    /// many bytes, do not fit what is left of their share; nothing changes then.
     pub fn take_prefix_global(
         &mut self,
         symbols: u32,

@@ -31,14 +31,15 @@ impl Model for StrTabWriter {
     ghost invariant = { λ t. IsStrings t.start t.share.items t.used t.behind };
 }
 
-/// A string and its zero at an offset.
-#[tactic(auto, using(crate::proofs::StringLemmas::front_of_string))]
-fn put_string(out: &mut [u8], at: usize, bytes: &[u8])
-    requires { at + (length bytes.now + 1) ≤ length out.old }
-    ensures { take (at + (length bytes.now + 1)) out.new ≡ take at out.old ++ string bytes.now }
+/// A string, which is given in two pieces, and its zero at an offset.
+#[tactic(auto, using(crate::proofs::StringLemmas::front_of_joined))]
+fn put_string(out: &mut [u8], at: usize, front: &[u8], back: &[u8])
+    requires { at + (length front.now + length back.now + 1) ≤ length out.old }
+    ensures { take (at + (length front.now + length back.now + 1)) out.new ≡ take at out.old ++ string (front.now ++ back.now) }
 {
-    put(out, at, bytes);
-    put_u8(out, at + bytes.len(), 0);
+    put(out, at, front);
+    put(out, at + front.len(), back);
+    put_u8(out, at + (front.len() + back.len()), 0);
 }
 
 impl StrTabWriter {
@@ -68,17 +69,28 @@ impl StrTabWriter {
     /// # Errors
     ///
     /// `InsufficientAllocation` exactly where the two do not fit what is left of the share; nothing changes then.
+    #[tactic(auto, using(crate::proofs::StringLemmas::joined_with_none))]
     pub fn write_str(&mut self, bytes: &[u8]) -> Result<u32, Error>
         ensures answered { result ≡ room_for_string bytes.now self.old }
         ensures written { OnOk result (self.new ≡ with_string bytes.now self.old) }
         ensures kept { OnErr result (self.new ≡ self.old) }
     {
+        self.write_joined(bytes, b"")
+    }
+
+    /// The same of a string with a short suffix.
+    pub(crate) fn write_joined(&mut self, front: &[u8], back: &[u8]) -> Result<u32, Error>
+        requires { length back.now ≤ 4 }
+        ensures answered { result ≡ room_for_string (front.now ++ back.now) self.old }
+        ensures written { OnOk result (self.new ≡ with_string (front.now ++ back.now) self.old) }
+        ensures kept { OnErr result (self.new ≡ self.old) }
+    {
         let room = self.room();
-        let needed = self.used + (bytes.len() + 1);
+        let needed = self.used + (front.len() + back.len() + 1);
         if room < needed {
             return Err(insufficient(self.part, self.group, room, needed));
         }
-        put_string(self.share.as_mut_slice(), self.used, bytes);
+        put_string(self.share.as_mut_slice(), self.used, front, back);
         let offset = self.start + self.used as u32;
         self.used = needed;
         Ok(offset)

@@ -7,7 +7,7 @@
 //! ```
 use super::*;
 use crate::dynamic::entry_at;
-use crate::writer::dynstr_start;
+use crate::writer::{dynstr_start, strtab_start};
 use std::alloc::{AllocError, Global};
 use std::test::Fail;
 use wild_plan::*;
@@ -46,6 +46,18 @@ fn part(role: Role) -> Part {
     }
 }
 
+fn empty_group(alloc: Global) -> Group {
+    Group {
+        files: Items::new(alloc),
+        part_sizes: Items::new(alloc),
+        dynstr_start: 0,
+        strtab_start: 0,
+        eh_frame_start: 0,
+        symtab_local_start: 0,
+        symtab_global_start: 0,
+    }
+}
+
 /// A group with that much room for symbols and for strings.
 fn group(
     alloc: Global,
@@ -54,13 +66,9 @@ fn group(
     dynstr_start: u64,
 ) -> Result<Items<Group>, AllocError> {
     let group = Group {
-        files: Items::new(alloc),
         part_sizes: Items::from_vec(vec![in alloc; symbols, strings]?),
         dynstr_start,
-        strtab_start: 0,
-        eh_frame_start: 0,
-        symtab_local_start: 0,
-        symtab_global_start: 0,
+        ..empty_group(alloc)
     };
     Ok(Items::from_vec(vec![in alloc; group]?))
 }
@@ -231,5 +239,185 @@ fn tells_of_libraries_as_ld(rt: HostRuntime) -> Result<(), Fail> {
     entry_of(rt.alloc(), 1, &value)?.put(&mut bytes[..24]);
     entry_of(rt.alloc(), 7, &call)?.put(&mut bytes[24..]);
     assert!(rt; bytes == OF_LIBRARY);
+    Ok(())
+}
+
+/// What GNU ld 2.40 wrote of the null symbol, `counter`, `limit`, `shared` and `slot` of a program that gcc 12.2 made by
+/// `-fcommon -fno-pic -no-pie -static -O1 -nostdlib -Wl,--defsym=limit=0x1234` of
+///
+/// ```c
+/// static volatile int counter = 3;
+/// __thread int slot = 5;
+/// int shared[2];
+/// extern char limit[];
+/// void _start(void) { counter++; slot = shared[1] + (long)limit; for (;;) {} }
+/// ```
+///
+/// but for where the names stand, since it has more of them.
+#[rattlefmt::skip]
+const OF_PROGRAM: [u8; 120] = [
+    0, 0, 0, 0, 0, 0, 0, 0, 0, 0, 0, 0, 0, 0, 0, 0, 0, 0, 0, 0, 0, 0, 0, 0,
+    0x01, 0, 0, 0, 0x01, 0, 0x03, 0, 0, 0x30, 0x40, 0, 0, 0, 0, 0, 0x04, 0, 0, 0, 0, 0, 0, 0,
+    0x09, 0, 0, 0, 0x10, 0, 0xf1, 0xff, 0x34, 0x12, 0, 0, 0, 0, 0, 0, 0, 0, 0, 0, 0, 0, 0, 0,
+    0x0f, 0, 0, 0, 0x11, 0, 0x04, 0, 0x08, 0x30, 0x40, 0, 0, 0, 0, 0, 0x08, 0, 0, 0, 0, 0, 0, 0,
+    0x16, 0, 0, 0, 0x16, 0, 0x02, 0, 0, 0, 0, 0, 0, 0, 0, 0, 0x04, 0, 0, 0, 0, 0, 0, 0,
+];
+
+/// The symbols of the program, in which `.bss` is section 4.
+fn program(alloc: Global) -> Result<Layout, AllocError> {
+    let symbols = vec![in alloc;
+        of_program(alloc, 0x01, 4, Place::Output(SectionIndex(3)), 0x40_3000),
+        of_program(alloc, 0x10, 0, Place::Absolute, 0x1234),
+        of_program(alloc, 0x11, 8, Place::Common, 0x40_3008),
+        of_program(alloc, 0x16, 4, Place::Output(SectionIndex(2)), 0x40_2ffc),
+    ]?;
+    let bss = Bytes::from_vec(vec![in alloc; b'.', b'b', b's', b's']?);
+    let sections = vec![in alloc;
+        section(Bytes::new(alloc)),
+        section(Bytes::new(alloc)),
+        section(Bytes::new(alloc)),
+        section(Bytes::new(alloc)),
+        section(bss),
+    ]?;
+    Ok(Layout {
+        symbols: Items::from_vec(symbols),
+        sections: Items::from_vec(sections),
+        tls: Tls {
+            start: 0x40_2ffc,
+            end: 0x40_3000,
+            align: 4,
+        },
+        ..Layout::empty(alloc)
+    })
+}
+
+/// A symbol of the program.
+fn of_program(alloc: Global, info: u8, size: u64, place: Place, address: u64) -> Symbol {
+    Symbol {
+        place,
+        value: address,
+        ..of_library(alloc, info, size, decided(ValueFlags(0), address, None))
+    }
+}
+
+fn object(alloc: Global) -> File {
+    File {
+        role: FileRole::Object,
+        first_symbol: SymbolIndex(0),
+        symbol_count: 4,
+        sections: Items::new(alloc),
+        thunk_block: 0,
+        owns_thunk_block: false,
+        lib_name: Bytes::new(alloc),
+        copies: Items::new(alloc),
+        verneed: None,
+    }
+}
+
+/// A writer of all symbols, with room for these and for so many bytes of longer section indexes.
+fn all_symbols(
+    alloc: Global,
+    locals: u64,
+    globals: u64,
+    strings: u64,
+    indexes: u64,
+) -> Result<SymbolTableWriter, Fail> {
+    let parts = vec![in alloc;
+        part(Role::SymtabLocal),
+        part(Role::SymtabGlobal),
+        part(Role::SymtabShndxLocal),
+        part(Role::Strtab),
+    ]?;
+    let group = Group {
+        part_sizes: Items::from_vec(vec![in alloc; locals, globals, indexes, strings]?),
+        ..empty_group(alloc)
+    };
+    let layout = Layout {
+        parts: Items::from_vec(parts),
+        groups: Items::from_vec(vec![in alloc; group]?),
+        ..Layout::empty(alloc)
+    };
+    if strtab_start(&layout, 0) > 100 || share_of(&layout, 0, Role::Strtab) > 100 {
+        return Err("long strings".into());
+    }
+    Ok(SymbolTableWriter::new(alloc, &layout, 0)?)
+}
+
+fn put_one(
+    writer: &mut SymbolTableWriter,
+    layout: &Layout,
+    file: &File,
+    index: usize,
+    name: &[u8],
+) -> Result<(), Error> {
+    let sections = NamedSections::of(layout);
+    let Some(symbol) = layout.symbols.as_slice().get(index) else {
+        return Ok(());
+    };
+    let section = match symbol.place {
+        Place::Output(section) => section.0,
+        Place::Section(_) => return Ok(()),
+        Place::Undefined | Place::Absolute | Place::Common => 0,
+    };
+    let raw = layout.raw_value(SymbolIndex(index));
+    let is_local = is_local(Named::Itself, symbol);
+    match table_fields(
+        layout,
+        file,
+        Named::Itself,
+        index,
+        symbol,
+        section,
+        raw,
+        &sections,
+    ) {
+        Ok(told) => writer.write_entry(is_local, name, told),
+        Err(fault) => Err(Error {
+            fault,
+            at: At::NOWHERE,
+        }),
+    }
+}
+
+fn put_program(writer: &mut SymbolTableWriter, layout: &Layout, file: &File) -> Result<(), Error> {
+    writer.write_entry(true, b"", null_table_fields())?;
+    put_one(writer, layout, file, 0, b"counter")?;
+    put_one(writer, layout, file, 1, b"limit")?;
+    put_one(writer, layout, file, 2, b"shared")?;
+    put_one(writer, layout, file, 3, b"slot")?;
+    writer.check_exhausted()
+}
+
+#[test]
+fn tells_of_all_symbols_as_ld(rt: HostRuntime) -> Result<(), Fail> {
+    let mut writer = all_symbols(rt.alloc(), 48, 72, 27, 8)?;
+    let layout = program(rt.alloc())?;
+    assert!(rt; put_program(&mut writer, &layout, &object(rt.alloc())).is_ok());
+    assert!(rt; writer.local_symbols() == &OF_PROGRAM[..48]);
+    assert!(rt; writer.symbols() == &OF_PROGRAM[48..]);
+    assert!(rt; writer.strings() == b"\0counter\0limit\0shared\0slot\0".as_slice());
+    assert!(rt; writer.local_indexes.bytes() == [0; 8].as_slice());
+    Ok(())
+}
+
+/// A symbol without a value whose section has no room in `st_shndx`.
+#[rattlefmt::skip]
+const FAR: [u8; 24] = [
+    0, 0, 0, 0, 0, 0, 0xff, 0xff, 0, 0, 0, 0, 0, 0, 0, 0, 0, 0, 0, 0, 0, 0, 0, 0,
+];
+
+/// Section 65,280 has its index in the table beside the symbols.
+#[test]
+fn writes_long_indexes(rt: HostRuntime) -> Result<(), Fail> {
+    let mut writer = all_symbols(rt.alloc(), 24, 0, 2, 4)?;
+    let last = SymbolSection::Index(0xff00);
+    assert!(rt;
+        writer
+            .define_symbol(true, b"x", last, 0, attributes(0, 0))
+            .is_ok()
+    );
+    assert!(rt; writer.local_symbols() == FAR.as_slice());
+    assert!(rt; writer.local_indexes.bytes() == [0, 0xff, 0, 0].as_slice());
+    assert!(rt; writer.check_exhausted().is_ok());
     Ok(())
 }

@@ -1,19 +1,28 @@
 //! The writer of a group's symbol tables.
-ghost use Rattle.std.specs.Prelude.{◌≡◌, ℕ, ◌+◌, ◌*◌, ◌^◌, ◌<◌, ◌≤◌, length, take, OnOk, OnErr, IfOk, slice_index_or};
-ghost use Rattle.wild_plan.specs.declared.part.Role.TheVariants.{Dynstr};
+ghost use Rattle.std.specs.Prelude.{false, ◌≡◌, ℕ, ◌+◌, ◌*◌, ◌^◌, ◌<◌, ◌≤◌, true, ◌++◌, length, take, OnOk, OnErr, IfOk, slice_index_or};
+ghost use Rattle.wild_plan.specs.declared.part.Role.TheVariants.{Dynstr, Strtab};
 ghost use Rattle.wild_records.specs.SymtabEntry.{symtab_entry_size, symtab_entry_at};
 ghost use Rattle.wild_records.specs.declared.symtab_entry.SymtabEntry.{SymtabEntry as Entry};
 ghost use Rattle.wild_plan.specs.Shares.{share_of};
+ghost use Rattle.wild_plan.specs.TableSymbols.{has_long};
 ghost use Rattle.wild_records.specs.declared.symbol_section.SymbolSection.TheVariants.{Raw, Index};
-ghost use Rattle.wild_records.specs.Abi.Section.{shn_abs, shn_loreserve};
-ghost use Rattle.wild_symbols.specs.Symbols.{symbol_bytes, symbols_used, room_for_entry};
-ghost use Rattle.wild_symbols.specs.Tables.{dynstr_start, no_dynamic_symbols, section_number, IsInReach, list_of, with_listed, with_symbol, with_undefined, is_local, copied_attributes, with_copied, room_for_symbol, left_over};
+ghost use Rattle.wild_records.specs.Abi.Section.{shn_abs, shn_undef};
+ghost use Rattle.wild_symbols.specs.Symbols.{symbol_bytes, symbols_used};
+ghost use Rattle.wild_symbols.specs.Indexes.{index_room};
+ghost use Rattle.wild_symbols.specs.Tables.{dynstr_start, strtab_start, symbols_with, indexes_with, no_dynamic_symbols, no_symbols, section_number, long_of, told, list_of, indexes_of, room_in_lists, with_listed, with_fields, with_symbol, with_undefined, is_local, copied_attributes, with_copied, room_for_fields, room_for_symbol, left_over};
+ghost use Rattle.wild_symbols.specs.DynamicEntries.{named_sections};
+ghost use Rattle.wild_symbols.specs.SlotNames.{slot_entry, slot_names, offered, given, all_offered, all_given};
 ghost use Rattle.wild_symbols.specs.Runs.{defined, undefined, called};
 
+use crate::dynamic::{NamedSections, SymbolFields};
+use crate::index_table::IndexTable;
 use crate::strtab::StrTabWriter;
 use crate::symbol_table::SymbolTable;
+use crate::table::{TableFields, slot_fields, suffix};
 use std::alloc::{AllocError, Global};
-use wild_plan::{Error, Layout, Role, SectionIndex, Symbol, part_of, share_of};
+use wild_plan::{
+    At, Error, Layout, Named, Role, SectionIndex, Symbol, has_long, part_of, share_of,
+};
 use wild_records::abi::section::{SHN_ABS, SHN_UNDEF};
 use wild_records::abi::symbol::STB_LOCAL;
 use wild_records::{SymbolSection, SymtabEntry};
@@ -37,6 +46,10 @@ pub struct SymbolTableWriter {
     pub locals: SymbolTable,
     /// The global symbols.
     pub globals: SymbolTable,
+    /// The longer section indexes of the local symbols.
+    pub local_indexes: IndexTable,
+    /// Those of the global ones.
+    pub global_indexes: IndexTable,
     /// The names.
     pub strtab: StrTabWriter,
 }
@@ -48,6 +61,40 @@ pub fn dynstr_start(layout: &Layout, group: usize) -> u64
     match layout.groups.as_slice().get(group) {
         Some(found) => found.dynstr_start,
         None => 0,
+    }
+}
+
+/// Where the group's strings begin in the strings of `.symtab`; 0 where there is no such group.
+pub fn strtab_start(layout: &Layout, group: usize) -> u64
+    ensures { result ≡ strtab_start layout.now group }
+{
+    match layout.groups.as_slice().get(group) {
+        Some(found) => found.strtab_start,
+        None => 0,
+    }
+}
+
+/// The longer index of a section, where `st_shndx` has no room for that; else 0.
+fn long_of(section: SymbolSection) -> u32
+    ensures { result ≡ long_of section }
+{
+    match section {
+        SymbolSection::Raw(_) => 0,
+        SymbolSection::Index(index) => SymbolSection::split(index).1,
+    }
+}
+
+/// What is said of a symbol in a section, at a value.
+fn told(section: SymbolSection, value: u64, attributes: SymbolAttributes) -> TableFields
+    ensures { result ≡ told section value attributes }
+{
+    TableFields {
+        fields: SymbolFields {
+            section: section_number(section),
+            value,
+            attributes,
+        },
+        long: long_of(section),
     }
 }
 
@@ -84,9 +131,53 @@ fn copied_attributes(symbol: &Symbol) -> SymbolAttributes
     }
 }
 
+/// No symbols yet, in the group's share of the part of a role.
+fn symbols_of(
+    alloc: Global,
+    layout: &Layout,
+    role: Role,
+    group: usize,
+) -> Result<SymbolTable, AllocError>
+    ensures { IfOk result (λ t. t ≡ symbols_with layout.now group role (share_of layout.now group role)) }
+{
+    let room = share_of(layout, group, role) as usize;
+    SymbolTable::new(alloc, part_of(layout, role), group, room)
+}
+
+/// No longer indexes yet, in the group's share of the part of a role.
+fn indexes_of(
+    alloc: Global,
+    layout: &Layout,
+    role: Role,
+    group: usize,
+) -> Result<IndexTable, AllocError>
+    ensures { IfOk result (λ t. t ≡ indexes_with layout.now group role (share_of layout.now group role) (has_long layout.now role)) }
+{
+    let room = share_of(layout, group, role) as usize;
+    IndexTable::new(
+        alloc,
+        part_of(layout, role),
+        group,
+        room,
+        has_long(layout, role),
+    )
+}
+
+/// No room for longer indexes.
+fn no_indexes(
+    alloc: Global,
+    layout: &Layout,
+    role: Role,
+    group: usize,
+) -> Result<IndexTable, AllocError>
+    ensures { IfOk result (λ t. t ≡ indexes_with layout.now group role 0 false) }
+{
+    IndexTable::new(alloc, part_of(layout, role), group, 0, false)
+}
+
 impl SymbolTableWriter {
-    /// A dynamic symbol table: no symbols yet, with the room of the group's shares of `dynsym` and `dynstr`. Memory
-    /// is taken for these alone, here and never again.
+    /// A dynamic symbol table: no symbols yet, with the room of the group's shares of `dynsym` and `dynstr`, and none for longer
+    /// section indexes. Memory is taken for these alone, here and never again.
     pub fn new_dynamic(alloc: Global, layout: &Layout, group: usize) -> Result<Self, AllocError>
         requires strings { dynstr_start layout.now group + share_of layout.now group Dynstr < 2 ^ 32 }
         ensures { IfOk result (λ w. w ≡ no_dynamic_symbols layout.now group) }
@@ -97,39 +188,164 @@ impl SymbolTableWriter {
         Ok(SymbolTableWriter {
             locals: SymbolTable::new(alloc, part_of(layout, Role::SymtabLocal), group, 0)?,
             globals: SymbolTable::new(alloc, part_of(layout, Role::Dynsym), group, symbols)?,
+            local_indexes: no_indexes(alloc, layout, Role::SymtabShndxLocal, group)?,
+            global_indexes: no_indexes(alloc, layout, Role::SymtabShndxGlobal, group)?,
             strtab: StrTabWriter::new(alloc, part_of(layout, Role::Dynstr), group, start, strings)?,
         })
     }
 
-    /// Whether there is room for one symbol more.
-    fn check_room(&self, is_local: bool) -> Result<(), Error>
-        ensures { result ≡ room_for_entry (list_of is_local self.now) }
+    /// A table of all symbols: no symbols yet, with the room of the group's shares of `symtab_local`, `symtab_global`, `strtab`, and,
+    /// where these are there, of `symtab_shndx_local` and `symtab_shndx_global`. Memory is taken for these alone, here and never
+    /// again.
+    pub fn new(alloc: Global, layout: &Layout, group: usize) -> Result<Self, AllocError>
+        requires strings { strtab_start layout.now group + share_of layout.now group Strtab < 2 ^ 32 }
+        ensures { IfOk result (λ w. w ≡ no_symbols layout.now group) }
+    {
+        let start = strtab_start(layout, group) as u32;
+        let strings = share_of(layout, group, Role::Strtab) as usize;
+        Ok(SymbolTableWriter {
+            locals: symbols_of(alloc, layout, Role::SymtabLocal, group)?,
+            globals: symbols_of(alloc, layout, Role::SymtabGlobal, group)?,
+            local_indexes: indexes_of(alloc, layout, Role::SymtabShndxLocal, group)?,
+            global_indexes: indexes_of(alloc, layout, Role::SymtabShndxGlobal, group)?,
+            strtab: StrTabWriter::new(alloc, part_of(layout, Role::Strtab), group, start, strings)?,
+        })
+    }
+
+    /// Whether there is room for one symbol more, and for its longer index.
+    fn check_room(&self, is_local: bool, long: u32) -> Result<(), Error>
+        ensures { result ≡ room_in_lists is_local long self.now }
     {
         if is_local {
-            self.locals.check_room()
+            self.locals.check_room()?;
+            self.local_indexes.check_room(long)
         } else {
-            self.globals.check_room()
+            self.globals.check_room()?;
+            self.global_indexes.check_room(long)
         }
     }
 
-    /// Adds a symbol behind the others of its list.
-    fn push(&mut self, is_local: bool, entry: SymtabEntry)
-        requires { symbols_used (list_of is_local self.old) + symtab_entry_size ≤ (list_of is_local self.old).room }
-        ensures { self.new ≡ with_listed is_local entry self.old }
+    /// Adds a symbol behind the others of its list, and its longer index.
+    fn push(&mut self, is_local: bool, entry: SymtabEntry, long: u32)
+        requires symbol { symbols_used (list_of is_local self.old) + symtab_entry_size ≤ (list_of is_local self.old).room }
+        requires index { length (indexes_of is_local self.old).bytes + index_room (indexes_of is_local self.old).each long ≤ (indexes_of is_local self.old).room }
+        ensures { self.new ≡ with_listed is_local entry long self.old }
     {
         if is_local {
             self.locals.push(entry);
+            self.local_indexes.push(long);
         } else {
             self.globals.push(entry);
+            self.global_indexes.push(long);
         }
     }
 
-    /// Writes a symbol behind the others of its list, and its name behind the other strings.
+    /// Writes a symbol of which that is said behind the others of its list, and its name with a short suffix behind the other
+    /// strings.
+    fn write_named(
+        &mut self,
+        is_local: bool,
+        name: &[u8],
+        suffix: &[u8],
+        told: TableFields,
+    ) -> Result<(), Error>
+        requires { length suffix.now ≤ 4 }
+        ensures answered { result ≡ room_for_fields is_local (name.now ++ suffix.now) told.long self.old }
+        ensures written { OnOk result (self.new ≡ with_fields is_local (name.now ++ suffix.now) told self.old) }
+        ensures kept { OnErr result (self.new ≡ self.old) }
+    {
+        self.check_room(is_local, told.long)?;
+        let entry = SymtabEntry {
+            name: self.strtab.write_joined(name, suffix)?,
+            info: told.fields.attributes.info,
+            other: told.fields.attributes.other,
+            section: told.fields.section,
+            value: told.fields.value,
+            size: told.fields.attributes.size,
+        };
+        self.push(is_local, entry, told.long);
+        Ok(())
+    }
+
+    /// Writes a symbol of which that is said behind the others of its list, its longer section index, where each symbol has one or
+    /// its section needs it, behind the others of that list, and its name behind the other strings.
     ///
     /// # Errors
     ///
-    /// `InsufficientAllocation` exactly where the symbol, or else its name, does not fit what is left of its share;
-    /// nothing changes then.
+    /// `InsufficientAllocation` exactly where the symbol, or else its longer section index, or else its name, does not fit what is
+    /// left of its share; nothing changes then.
+    #[tactic(auto, using(crate::proofs::StringLemmas::joined_with_none))]
+    pub fn write_entry(
+        &mut self,
+        is_local: bool,
+        name: &[u8],
+        told: TableFields,
+    ) -> Result<(), Error>
+        ensures answered { result ≡ room_for_fields is_local name.now told.long self.old }
+        ensures written { OnOk result (self.new ≡ with_fields is_local name.now told self.old) }
+        ensures kept { OnErr result (self.new ≡ self.old) }
+        ensures call { self.new ≡ called (record { name = name.now; local = is_local; fields = told }) self.old }
+    {
+        self.write_named(is_local, name, b"", told)
+    }
+
+    /// Writes the name of a symbol's stub, or else of its slot, as a local symbol.
+    fn write_slot_name(
+        &mut self,
+        layout: &Layout,
+        sections: &NamedSections,
+        index: usize,
+        symbol: &Symbol,
+        named: Named,
+    ) -> Result<(), Error>
+        requires { sections.now ≡ named_sections layout.now }
+        ensures answered { result ≡ offered (slot_entry layout.now index symbol.now named) self.old }
+        ensures left { self.new ≡ given (slot_entry layout.now index symbol.now named) self.old }
+        ensures kept { OnErr result (self.new ≡ self.old) }
+    {
+        match slot_fields(layout, sections, index, symbol, named) {
+            Ok(told) => self.write_named(true, symbol.name.as_slice(), suffix(named), told),
+            Err(fault) => Err(Error {
+                fault,
+                at: At::NOWHERE,
+            }),
+        }
+    }
+
+    /// Writes the names of the slot and of the stub of the symbol with that index as local symbols, where the layout's options and the
+    /// symbol ask for them: `NAME$got` and `NAME$plt`, with the address for their value, in the section of its part.
+    ///
+    /// # Errors
+    ///
+    /// `MissingResolution` exactly where the part has no section, and `InsufficientAllocation` exactly where a symbol, or else its
+    /// longer section index, or else its name, does not fit what is left of its share; only what stands in front is written then.
+    pub fn write_got_plt_syms(
+        &mut self,
+        layout: &Layout,
+        sections: &NamedSections,
+        index: usize,
+        symbol: &Symbol,
+    ) -> Result<(), Error>
+        requires { sections.now ≡ named_sections layout.now }
+        ensures answered { result ≡ all_offered (slot_names layout.now index symbol.now) self.old }
+        ensures left { self.new ≡ all_given (slot_names layout.now index symbol.now) self.old }
+    {
+        if layout.names_slot(index, symbol) {
+            self.write_slot_name(layout, sections, index, symbol, Named::Slot)?;
+        }
+        if layout.names_stub(index, symbol) {
+            self.write_slot_name(layout, sections, index, symbol, Named::Stub)?;
+        }
+        Ok(())
+    }
+
+    /// Writes a symbol behind the others of its list, its name behind the other strings, and, where each symbol has a longer section
+    /// index or `st_shndx` has no room for its section, that index behind the others of its list.
+    ///
+    /// # Errors
+    ///
+    /// `InsufficientAllocation` exactly where the symbol, or else its longer section index, or else its name, does not fit what is
+    /// left of its share; nothing changes then.
     pub fn define_symbol(
         &mut self,
         is_local: bool,
@@ -138,38 +354,27 @@ impl SymbolTableWriter {
         value: u64,
         attributes: SymbolAttributes,
     ) -> Result<(), Error>
-        requires section { IsInReach section }
-        ensures answered { result ≡ room_for_symbol is_local name.now self.old }
+        ensures answered { result ≡ room_for_symbol is_local name.now section self.old }
         ensures written { OnOk result (self.new ≡ with_symbol is_local name.now section value attributes self.old) }
         ensures kept { OnErr result (self.new ≡ self.old) }
         ensures call { self.new ≡ called (defined is_local name.now section value attributes) self.old }
     {
-        self.check_room(is_local)?;
-        let entry = SymtabEntry {
-            name: self.strtab.write_str(name)?,
-            info: attributes.info,
-            other: attributes.other,
-            section: section_number(section),
-            value,
-            size: attributes.size,
-        };
-        self.push(is_local, entry);
-        Ok(())
+        self.write_entry(is_local, name, told(section, value, attributes))
     }
 
     /// Writes a symbol that no section has, of value 0, and its name.
     ///
     /// # Errors
     ///
-    /// `InsufficientAllocation` exactly where the symbol, or else its name, does not fit what is left of its share;
-    /// nothing changes then.
+    /// `InsufficientAllocation` exactly where the symbol, or else its longer section index, or else its name, does not fit what is
+    /// left of its share; nothing changes then.
     pub fn undefined_symbol(
         &mut self,
         is_local: bool,
         name: &[u8],
         attributes: SymbolAttributes,
     ) -> Result<(), Error>
-        ensures answered { result ≡ room_for_symbol is_local name.now self.old }
+        ensures answered { result ≡ room_for_symbol is_local name.now (Raw shn_undef) self.old }
         ensures written { OnOk result (self.new ≡ with_undefined is_local name.now attributes self.old) }
         ensures kept { OnErr result (self.new ≡ self.old) }
         ensures call { self.new ≡ called (undefined is_local name.now attributes) self.old }
@@ -182,8 +387,8 @@ impl SymbolTableWriter {
     ///
     /// # Errors
     ///
-    /// `InsufficientAllocation` exactly where the symbol, or else its name, does not fit what is left of its share;
-    /// nothing changes then.
+    /// `InsufficientAllocation` exactly where the symbol, or else its longer section index, or else its name, does not fit what is
+    /// left of its share; nothing changes then.
     pub fn copy_symbol_shndx(
         &mut self,
         symbol: &Symbol,
@@ -191,7 +396,7 @@ impl SymbolTableWriter {
         shndx: u16,
         value: u64,
     ) -> Result<(), Error>
-        ensures answered { result ≡ room_for_symbol (is_local symbol.now) name.now self.old }
+        ensures answered { result ≡ room_for_symbol (is_local symbol.now) name.now (Raw shndx) self.old }
         ensures written { OnOk result (self.new ≡ with_copied name.now (Raw shndx) value symbol.now self.old) }
         ensures kept { OnErr result (self.new ≡ self.old) }
         ensures call { self.new ≡ called (defined (is_local symbol.now) name.now (Raw shndx) value (copied_attributes symbol.now)) self.old }
@@ -211,8 +416,8 @@ impl SymbolTableWriter {
     ///
     /// # Errors
     ///
-    /// `InsufficientAllocation` exactly where the symbol, or else its name, does not fit what is left of its share;
-    /// nothing changes then.
+    /// `InsufficientAllocation` exactly where the symbol, or else its longer section index, or else its name, does not fit what is
+    /// left of its share; nothing changes then.
     pub fn copy_symbol(
         &mut self,
         symbol: &Symbol,
@@ -220,8 +425,8 @@ impl SymbolTableWriter {
         section: SectionIndex,
         value: u64,
     ) -> Result<(), Error>
-        requires section { section < shn_loreserve }
-        ensures answered { result ≡ room_for_symbol (is_local symbol.now) name.now self.old }
+        requires section { section < 2 ^ 32 }
+        ensures answered { result ≡ room_for_symbol (is_local symbol.now) name.now (Index section) self.old }
         ensures written { OnOk result (self.new ≡ with_copied name.now (Index section) value symbol.now self.old) }
         ensures kept { OnErr result (self.new ≡ self.old) }
         ensures call { self.new ≡ called (defined (is_local symbol.now) name.now (Index section) value (copied_attributes symbol.now)) self.old }
@@ -236,10 +441,10 @@ impl SymbolTableWriter {
     ///
     /// # Errors
     ///
-    /// `InsufficientAllocation` exactly where the symbol, or else its name, does not fit what is left of its share;
-    /// nothing changes then.
+    /// `InsufficientAllocation` exactly where the symbol, or else its longer section index, or else its name, does not fit what is
+    /// left of its share; nothing changes then.
     pub fn copy_absolute_symbol(&mut self, symbol: &Symbol, name: &[u8]) -> Result<(), Error>
-        ensures answered { result ≡ room_for_symbol (is_local symbol.now) name.now self.old }
+        ensures answered { result ≡ room_for_symbol (is_local symbol.now) name.now (Raw shn_abs) self.old }
         ensures written { OnOk result (self.new ≡ with_copied name.now (Raw shn_abs) symbol.now.value symbol.now self.old) }
         ensures kept { OnErr result (self.new ≡ self.old) }
         ensures call { self.new ≡ called (defined (is_local symbol.now) name.now (Raw shn_abs) symbol.now.value (copied_attributes symbol.now)) self.old }
@@ -257,6 +462,8 @@ impl SymbolTableWriter {
     {
         self.locals.check_exhausted()?;
         self.globals.check_exhausted()?;
+        self.local_indexes.check_exhausted()?;
+        self.global_indexes.check_exhausted()?;
         self.strtab.check_exhausted()
     }
 
@@ -268,6 +475,16 @@ impl SymbolTableWriter {
         ensures room { length result.now ≡ self.now.globals.room + self.now.globals.behind }
     {
         self.globals.bytes()
+    }
+
+    /// The bytes of the group's share of the local symbols: those of the symbols, and then the room that is left.
+    /// Symbol k is read at 24 k.
+    pub fn local_symbols(&self) -> &[u8]
+        ensures written { take (symbols_used self.now.locals) result.now ≡ symbol_bytes self.now.locals.symbols }
+        ensures read { (k : ℕ) (d : Entry) → k < length self.now.locals.symbols → symtab_entry_at result.now (symtab_entry_size * k) ≡ slice_index_or self.now.locals.symbols k d }
+        ensures room { length result.now ≡ self.now.locals.room + self.now.locals.behind }
+    {
+        self.locals.bytes()
     }
 
     /// The bytes of the group's share of the strings: those of the strings, and then the room that is left.

@@ -1,6 +1,7 @@
 use Rattle.wild_symbols.proofs.RunLemmas.{run_read, run_counted, stand_behind}
-use Rattle.wild_symbols.proofs.RoomLemmas.{run_whole}
+use Rattle.wild_symbols.proofs.RoomLemmas.{run_indexes, run_whole}
 use Rattle.wild_symbols.proofs.EntryRunLemmas.{run_entries}
+use Rattle.wild_symbols.proofs.TableRunLemmas.{run_tables}
 use Rattle.wild_symbols.proofs.laws.runs_are_read.Goals as goal
 
 pub returns-clause-read : goal.returns-clause-read
@@ -12,8 +13,14 @@ returns-clause-count c = run_counted
 pub returns-clause-behind : goal.returns-clause-behind
 returns-clause-behind c = stand_behind
 
+pub returns-clause-indexes : goal.returns-clause-indexes
+returns-clause-indexes c = run_indexes
+
 pub returns-clause-whole : goal.returns-clause-whole
 returns-clause-whole c = run_whole
 
 pub returns-clause-entries : goal.returns-clause-entries
 returns-clause-entries c = run_entries
+
+pub returns-clause-tables : goal.returns-clause-tables
+returns-clause-tables c = run_tables

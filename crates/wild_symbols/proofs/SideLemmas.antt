@@ -1,0 +1,115 @@
+-- Where the entries of one side of `.symtab` stand, and their names.
+use Rattle.std.proofs.Common.{◌≡◌, ℕ, zero, suc, ◌+◌, ◌*◌, ◌%◌, ◌<◌, ◌≤◌, ◌^◌, Bool, true, false, cond, if◌then◌else◌, List, [], ◌∷◌, ◌++◌, length, map, get_or, refl, sym, ap, ◌∙◌, arith, subst}
+use Rattle.std.specs.Prelude.{All}
+use Rattle.std.specs.List.{filter}
+use Rattle.std.proofs.lemmas.List.{length-append}
+use Rattle.wild_words.specs.Words.{Stands}
+use Rattle.wild_words.specs.Record.{spell}
+use Rattle.wild_words.proofs.OverlayLemmas.{Stands-inner}
+use Rattle.wild_words.proofs.RecordLemmas.{Stands-left, Stands-right, Stands-whole}
+use Rattle.wild_records.specs.declared.symtab_entry.SymtabEntry.{SymtabEntry}
+use Rattle.wild_records.specs.SymtabEntry.{symtab_entry_fields, symtab_entry_at, SymtabEntryFits, SymtabEntryIsRead}
+use Rattle.wild_plan.specs.DynamicStrings.{behind_text}
+use Rattle.wild_symbols.specs.Strings.{string, string_bytes}
+use Rattle.wild_symbols.specs.Symbols.{symbol_bytes}
+use Rattle.wild_symbols.specs.DynamicEntries.{entry_at}
+use Rattle.wild_symbols.specs.TableEntries.{NamedEntry, is_side, side_entries}
+use Rattle.wild_symbols.specs.TableLaws.{names_of, TellsAt, SidesStand, NamedEntryFits, IsEntryOf, SidesAreRead}
+use Rattle.wild_symbols.proofs.SymbolLemmas.{Stands-symbol}
+use Rattle.wild_symbols.proofs.TableLemmas.{length-side_entries}
+
+-- the entry is that of the symbol, and the symbol's name stands where it tells
+record Tells (strings : List ℕ) (n : NamedEntry) (e : SymtabEntry) : Type 0 where
+  at : ℕ
+  small : at < 2 ^ 32
+  is : e ≡ entry_at at n.fields.fields
+  name : Stands strings at (string n.name)
+
+-- the names behind the first one
+names_behind : (strings : List ℕ) (at : ℕ) (n : NamedEntry) (ns : List NamedEntry) → at + length (string_bytes (names_of (n ∷ ns))) ≤ 2 ^ 32 → Stands strings at (string_bytes (names_of (n ∷ ns)))
+    → Stands strings (behind_text at n.name) (string_bytes (names_of ns))
+names_behind strings at n ns small s =
+    let a = length-append (string n.name) (string_bytes (names_of ns)) in
+    let b = length-append n.name (0 ∷ []) in
+    let is : at + (length (string n.name) + 0) ≡ behind_text at n.name = omega (arith, a, b, small) in
+    subst (λ (m : ℕ). Stands strings m (string_bytes (names_of ns))) is
+    (Stands-inner strings (string_bytes (names_of (n ∷ ns))) (string_bytes (names_of ns)) at (length (string n.name) + 0) s
+    (Stands-right (string n.name) (string_bytes (names_of ns)) (string_bytes (names_of ns)) 0 (Stands-whole (string_bytes (names_of ns)))))
+
+-- and their end
+short_behind : (at : ℕ) (n : NamedEntry) (ns : List NamedEntry) → at + length (string_bytes (names_of (n ∷ ns))) ≤ 2 ^ 32 → behind_text at n.name + length (string_bytes (names_of ns)) ≤ 2 ^ 32
+short_behind at n ns small =
+    let a = length-append (string n.name) (string_bytes (names_of ns)) in
+    let b = length-append n.name (0 ∷ []) in
+    omega (arith, a, b, small)
+
+-- the first symbol
+first_tells : (strings : List ℕ) (at : ℕ) (n : NamedEntry) (ns : List NamedEntry) → at + length (string_bytes (names_of (n ∷ ns))) ≤ 2 ^ 32 → Stands strings at (string_bytes (names_of (n ∷ ns)))
+    → Tells strings n (entry_at at n.fields.fields)
+first_tells strings at n ns small s =
+    let a = length-append (string n.name) (string_bytes (names_of ns)) in
+    let b = length-append n.name (0 ∷ []) in
+    let z : at + 0 ≡ at = omega arith in
+    record {
+      at = at;
+      small = omega (arith, a, b, small);
+      is = refl;
+      name = subst (λ (m : ℕ). Stands strings m (string n.name)) z (Stands-inner strings (string_bytes (names_of (n ∷ ns))) (string n.name) at 0 s (Stands-left (string n.name) (string_bytes (names_of ns))));
+    }
+
+-- symbol k, where the first is of the side or not
+tells_by : (strings : List ℕ) (b : Bool) (n : NamedEntry) (here : SymtabEntry) (ns : List NamedEntry) (es : List SymtabEntry) (k : ℕ) (d : NamedEntry) (e : SymtabEntry) → Tells strings n here
+    → ((j : ℕ) → j < length ns → Tells strings (get_or ns j d) (get_or es j e)) → k < length (cond b (n ∷ ns) ns) → Tells strings (get_or (cond b (n ∷ ns) ns) k d) (get_or ((if b then here ∷ [] else []) ++ es) k e)
+tells_by strings true n here ns es zero d e first rest l = first
+tells_by strings true n here ns es (suc k) d e first rest l = rest k (omega (arith, l))
+tells_by strings false n here ns es k d e first rest l = rest k l
+
+side_tells : (strings : List ℕ) (local : Bool) (at : ℕ) (ns : List NamedEntry) (k : ℕ) (d : NamedEntry) (e : SymtabEntry) → at + length (string_bytes (names_of ns)) ≤ 2 ^ 32 → Stands strings at (string_bytes (names_of ns))
+    → k < length (filter (is_side local) ns) → Tells strings (get_or (filter (is_side local) ns) k d) (get_or (side_entries local at ns) k e)
+unfolding side_entries
+side_tells strings local at [] k d e small s l = absurd (omega (arith, l))
+side_tells strings local at (n ∷ ns) k d e small s l =
+    tells_by strings (is_side local n) n (entry_at at n.fields.fields) (filter (is_side local) ns) (side_entries local (behind_text at n.name) ns) k d e (first_tells strings at n ns small s)
+    (λ j m. side_tells strings local (behind_text at n.name) ns j d e (short_behind at n ns small) (names_behind strings at n ns small s) m) l
+
+-- ---- laws
+
+pub side_stands : SidesStand
+side_stands local at ns table from strings k d small st ss l =
+    let none = entry_at 0 d.fields.fields in
+    let es = side_entries local at ns in
+    let count = length-side_entries local at ns in
+    let t = side_tells strings local at ns k d none small ss l in
+    let here = Stands-inner table (symbol_bytes es) (spell (symtab_entry_fields (get_or es k none))) from (24 * k) st (Stands-symbol es k none (omega (arith, l, count))) in
+    record { at = t.at; small = t.small; entry = subst (λ (e : SymtabEntry). Stands table (from + 24 * k) (spell (symtab_entry_fields e))) t.is here; name = t.name }
+
+-- a member of a filtered list is one of the list
+kept : {X : Type 0} (P : X → Type 0) (b : Bool) (x : X) (xs : List X) → P x → All P xs → All P (cond b (x ∷ xs) xs)
+kept P true x xs p a zero d l = p
+kept P true x xs p a (suc k) d l = a k d (omega (arith, l))
+kept P false x xs p a k d l = a k d l
+
+fits_filtered : (local : Bool) (ns : List NamedEntry) → All NamedEntryFits ns → All NamedEntryFits (filter (is_side local) ns)
+fits_filtered local [] a = a
+fits_filtered local (n ∷ ns) a = kept NamedEntryFits (is_side local n) n (filter (is_side local) ns) (a 0 n (omega arith)) (fits_filtered local ns (λ k d l. a (suc k) d (omega (arith, l))))
+
+entry_fits : (at : ℕ) (n : NamedEntry) → NamedEntryFits n → SymtabEntryFits (entry_at at n.fields.fields)
+entry_fits at n h = record { name = omega arith; info = h.info; other = h.other; section = h.section; value = h.value; size = h.size }
+
+is_read : (strings : List ℕ) (n : NamedEntry) (at : ℕ) (e : SymtabEntry) → at < 2 ^ 32 → Stands strings at (string n.name) → e ≡ entry_at at n.fields.fields → IsEntryOf strings n e
+is_read strings n at e small s is =
+    let low : at % 2 ^ 32 ≡ at = omega (arith, small) in
+    record {
+      name = subst (λ (m : ℕ). Stands strings m (string n.name)) (sym (ap (λ (x : SymtabEntry). x.name) is ∙ low)) s;
+      info = ap (λ (x : SymtabEntry). x.info) is;
+      other = ap (λ (x : SymtabEntry). x.other) is;
+      section = ap (λ (x : SymtabEntry). x.section) is;
+      value = ap (λ (x : SymtabEntry). x.value) is;
+      size = ap (λ (x : SymtabEntry). x.size) is;
+    }
+
+pub side_read : SymtabEntryIsRead → SidesAreRead
+side_read read local at ns table from strings k d fits small st ss l =
+    let n = get_or (filter (is_side local) ns) k d in
+    let t = side_stands local at ns table from strings k d small st ss l in
+    is_read strings n t.at (symtab_entry_at table (from + 24 * k)) t.small t.name (read table (from + 24 * k) (entry_at t.at n.fields.fields) (entry_fits t.at n (fits_filtered local ns fits k d l)) t.entry)

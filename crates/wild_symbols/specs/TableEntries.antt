@@ -1,0 +1,189 @@
+-- What the entries of `.symtab` say of symbols (gABI, "Symbol Table").
+--   table_fields l f x         what is said of a symbol of a file, of its slot or its stub; or what it lacks
+--   file_table l f             the symbols of a file's entries, each with its name, and whether it is local
+--   side_entries local at ns   the entries of the local ones, or of the others; names stand one behind the other from an offset on
+--   group_table l g            the symbols of a group's entries
+--   table_entries l local g    the entries of a group among the local symbols, or the others
+--   long_indexes l local f     the longer section indexes of a file's entries
+use Rattle.std.specs.Prelude.{ℕ, ◌+◌, ◌-◌, ◌/◌, ◌%◌, ◌^◌, ◌==◌, Bool, true, false, not, ◌&&◌, if◌then◌else◌, min, List, [], ◌∷◌, ◌++◌, map, codes, Option, Some, None, option_map, unwrap_or, is_some, Result, Ok, Err, slice_get}
+use Rattle.std.specs.List.{flat_map, filter}
+use Rattle.wild_words.specs.Words.{word}
+use Rattle.wild_records.specs.Abi.Section.{shn_undef, shn_abs}
+use Rattle.wild_records.specs.Abi.Symbol.{stt_func}
+use Rattle.wild_records.specs.SymbolSections.{split_index}
+use Rattle.wild_records.specs.declared.symtab_entry.SymtabEntry.{SymtabEntry}
+use Rattle.wild_plan.specs.declared.fault.Fault.{Fault}
+use Rattle.wild_plan.specs.declared.fault.Fault.TheVariants as faults
+use Rattle.wild_plan.specs.declared.fault.Missing.TheVariants as missing
+use Rattle.wild_plan.specs.declared.part.Part.{Part}
+use Rattle.wild_plan.specs.declared.part.Role.{Role}
+use Rattle.wild_plan.specs.declared.part.Role.TheVariants as role
+use Rattle.wild_plan.specs.declared.symbol.Place.{Place}
+use Rattle.wild_plan.specs.declared.symbol.Place.TheVariants as at
+use Rattle.wild_plan.specs.declared.symbol.Symbol.{Symbol}
+use Rattle.wild_plan.specs.declared.file.FileRole.{FileRole}
+use Rattle.wild_plan.specs.declared.file.File.{File}
+use Rattle.wild_plan.specs.declared.file.Group.{Group}
+use Rattle.wild_plan.specs.declared.table.Named.{Named}
+use Rattle.wild_plan.specs.declared.table.Named.TheVariants as named
+use Rattle.wild_plan.specs.declared.layout.Layout.{Layout}
+use Rattle.wild_plan.specs.Addresses.{raw_value}
+use Rattle.wild_plan.specs.DynamicStrings.{behind_text, text_room}
+use Rattle.wild_plan.specs.DynamicSymbols.{output_section}
+use Rattle.wild_plan.specs.FileRoles.{is_prelude, is_library}
+use Rattle.wild_plan.specs.Flags.{has_flag, copy_relocation, canonical_plt, downgrade_to_local}
+use Rattle.wild_plan.specs.Lists.{total}
+use Rattle.wild_plan.specs.Segments.{part_with}
+use Rattle.wild_plan.specs.SlotPlaces.{begins_block}
+use Rattle.wild_plan.specs.SlotShares.{slots_of}
+use Rattle.wild_plan.specs.SymbolSlots.{got_of, plt_of}
+use Rattle.wild_plan.specs.TableSymbols.{TableSymbol, has_table, file_items, item_name, is_local, null_strings, table_strings}
+use Rattle.wild_symbols.specs.DynamicEntries.{with_type, nowhere_with, section_named, some_section, part_section, is_thread_symbol, stands_as_stub, stub_or_zero, common_section, no_fields, entry_at}
+use Rattle.wild_symbols.specs.declared.writer.SymbolAttributes.{SymbolAttributes}
+use Rattle.wild_symbols.specs.declared.dynamic.SymbolFields.{SymbolFields}
+use Rattle.wild_symbols.specs.declared.table.TableFields.{TableFields}
+
+-- ---- attributes
+
+-- one that was made local has that binding (gABI, STB_LOCAL)
+abbrev pub table_info : Symbol → ℕ
+table_info s = if has_flag s.flags downgrade_to_local then s.info % 16 else s.info
+
+-- of a library's symbol no visibility is told
+abbrev pub table_attributes : FileRole → Symbol → SymbolAttributes
+table_attributes role s = record { info = table_info s; other = if is_library role then 0 else s.other; size = s.size }
+
+abbrev pub with_function : SymbolAttributes → SymbolAttributes
+with_function a = record a { info = with_type a.info stt_func }
+
+-- ---- sections
+
+-- without a longer section index
+abbrev pub short : SymbolFields → TableFields
+short fields = record { fields = fields; long = 0 }
+
+-- in a section, at a value; or that symbol i has none. A longer index is told modulo 2^32
+abbrev pub in_table_section : ℕ → Option ℕ → ℕ → SymbolAttributes → Result TableFields Fault
+in_table_section i None value a = Err (faults.MissingResolution missing.Section i)
+in_table_section i (Some k) value a = Ok (record { fields = record { section = (split_index k).0; value = value; attributes = a }; long = (split_index k).1 % 2 ^ 32 })
+
+-- of thread-local data the value counts from their beginning (gABI, "Symbol Table", st_value)
+abbrev pub counted_from : Layout → Symbol → ℕ → ℕ
+counted_from l s v = if is_thread_symbol s then (v + (2 ^ 64 - l.tls.start)) % 2 ^ 64 else v
+
+-- in a section, where symbol i has an address
+abbrev pub at_address : Layout → ℕ → Symbol → Option ℕ → Option ℕ → SymbolAttributes → Result TableFields Fault
+at_address l i s section None a = Err (faults.MissingResolution missing.Address i)
+at_address l i s section (Some v) a = in_table_section i section (counted_from l s v) a
+
+-- in its section, or as its stub
+abbrev pub table_placed : Layout → ℕ → FileRole → Symbol → Option ℕ → Result TableFields Fault
+table_placed l i r s section =
+    if stands_as_stub l s
+    then in_table_section i (part_section (part_with role.PltGot l.parts)) (stub_or_zero s) (with_function (table_attributes r s))
+    else at_address l i s section (raw_value l i) (table_attributes r s)
+
+-- what stands in the headers, in front of all sections, is told of the first of them
+abbrev pub first_or : ℕ → ℕ
+first_or k = if k == 0 then 1 else k
+
+-- by its place; section is that of its input section
+abbrev pub table_at : Layout → ℕ → FileRole → Symbol → ℕ → Place → Result TableFields Fault
+table_at l i role s section at.Undefined = Ok (short (nowhere_with (table_attributes role s)))
+table_at l i role s section at.Absolute = Ok (short (record { section = shn_abs; value = s.value; attributes = table_attributes role s }))
+table_at l i role s section at.Common = table_placed l i role s (common_section l s)
+table_at l i role s section (at.Output k) = table_placed l i role s (Some (first_or k))
+table_at l i role s section (at.Section k) = table_placed l i role s (some_section section)
+
+-- a library's function whose stub is its address in every module (x86-64 psABI, "Function Addresses")
+abbrev pub table_canonical : ℕ → FileRole → Symbol → Place → Option ℕ → Result TableFields Fault
+table_canonical i role s at.Undefined stub = Ok (short (nowhere_with (table_attributes role s)))
+table_canonical i role s other None = Err (faults.MissingResolution missing.Stub i)
+table_canonical i role s other (Some stub) = Ok (short (record { section = shn_undef; value = stub; attributes = with_function (table_attributes role s) }))
+
+-- what is copied from a library stands in .bss
+abbrev pub table_by : Layout → ℕ → FileRole → Symbol → ℕ → Result TableFields Fault
+table_by l i role s section =
+    if is_library role && has_flag s.flags canonical_plt then table_canonical i role s s.place (plt_of s)
+    else if is_library role && has_flag s.flags copy_relocation then at_address l i s (section_named l (codes ".bss")) (raw_value l i) (table_attributes role s)
+    else table_at l i role s section s.place
+
+-- ---- slots and stubs
+
+-- of a slot and a stub nothing more is told
+abbrev pub no_attributes : SymbolAttributes
+no_attributes = record { info = 0; other = 0; size = 0 }
+
+-- the part in which the symbol's first slot stands
+abbrev pub slot_role : Layout → Symbol → Role
+slot_role l s = if begins_block (slots_of l s).words then role.GotRelr else role.Got
+
+-- the address of a slot or a stub, in the section of its part
+abbrev pub at_part : Layout → ℕ → Role → Option ℕ → Result TableFields Fault
+at_part l i r address = in_table_section i (part_section (part_with r l.parts)) (unwrap_or address 0) no_attributes
+
+-- ---- symbols
+
+abbrev pub fields_of : Layout → File → Named → ℕ → Symbol → Result TableFields Fault
+fields_of l f named.Itself i s = table_by l i f.role s (output_section l (Some f) s.place)
+fields_of l f named.Slot i s = at_part l i (slot_role l s) (got_of s)
+fields_of l f named.Stub i s = at_part l i role.PltGot (plt_of s)
+
+-- what is said of it, or what it lacks
+unfoldable pub table_fields : Layout → File → TableSymbol → Result TableFields Fault
+table_fields l f x = fields_of l f x.named x.index x.symbol
+
+-- ---- entries
+
+-- a name, whether it is local, and what the entry says
+pub record NamedEntry : Type 0 where
+  pub name : List ℕ
+  pub local : Bool
+  pub fields : TableFields
+
+abbrev pub no_table_fields : TableFields
+no_table_fields = short no_fields
+
+abbrev pub or_none_in_table : Result TableFields Fault → TableFields
+or_none_in_table (Ok fields) = fields
+or_none_in_table (Err f) = no_table_fields
+
+abbrev pub named_entry : Layout → File → TableSymbol → NamedEntry
+named_entry l f x = record { name = item_name x; local = is_local x; fields = or_none_in_table (table_fields l f x) }
+
+-- the table begins with an entry of zeros, whose name is the empty string
+abbrev pub null_entry : NamedEntry
+null_entry = record { name = []; local = true; fields = no_table_fields }
+
+abbrev pub null_entries : Layout → File → List NamedEntry
+null_entries l f = if has_table l && is_prelude f.role then null_entry ∷ [] else []
+
+-- the symbols of a file's entries
+abbrev pub file_table : Layout → File → List NamedEntry
+file_table l f = null_entries l f ++ map (named_entry l f) (file_items l f)
+
+-- those of a group
+unfoldable pub group_table : Layout → Group → List NamedEntry
+group_table l g = flat_map (file_table l) g.files
+
+abbrev pub is_side : Bool → NamedEntry → Bool
+is_side true n = n.local
+is_side false n = not n.local
+
+-- the entries of the local ones, or of the others; the names of all stand one behind the other
+unfoldable pub side_entries : Bool → ℕ → List NamedEntry → List SymtabEntry
+side_entries local at [] = []
+side_entries local at (n ∷ ns) = (if is_side local n then entry_at at n.fields.fields ∷ [] else []) ++ side_entries local (behind_text at n.name) ns
+
+-- the entries of a group, whose strings begin where the layout says
+unfoldable pub table_entries : Layout → Bool → Group → List SymtabEntry
+table_entries l local g = side_entries local g.strtab_start (group_table l g)
+
+-- ---- longer section indexes
+
+-- one for each entry; 0 where st_shndx tells it (gABI, SHT_SYMTAB_SHNDX)
+abbrev pub long_indexes : Bool → List NamedEntry → List ℕ
+long_indexes local ns = map (λ (n : NamedEntry). n.fields.long) (filter (is_side local) ns)
+
+abbrev pub index_bytes : List ℕ → List ℕ
+index_bytes ns = flat_map (word 4) ns

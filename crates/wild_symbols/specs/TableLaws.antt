@@ -1,0 +1,109 @@
+-- How long the tables behind `.symtab` are, and what a reader finds in them (gABI, "Symbol Table", "String Table").
+--   side_count local        how many entries a file has among the local symbols, or among the others
+--   LengthsOfSides          as many entries as symbols of that side
+--   SidesOfFiles            a file has as many of them as it is counted for
+--   SidesOfGroups           a group as many as its files
+--   LengthsOfIndexes        as many longer section indexes; IndexesHave4Bytes: of 4 bytes each
+--   NamesOfFiles            the names of a file's entries are its strings; NamesOfGroups: those of a group are its files'
+--   LengthsOfTexts          a file's strings have their bytes and a zero each
+--   SidesStand              entry k of a side stands at 24 k, and its name where it tells
+--   SidesAreRead            there it is read
+use Rattle.std.specs.Prelude.{◌≡◌, ℕ, ◌+◌, ◌*◌, ◌<◌, ◌≤◌, ◌^◌, Bool, true, false, List, length, map, All, slice_index_or}
+use Rattle.std.specs.List.{filter, flat_map}
+use Rattle.wild_words.specs.Words.{Stands}
+use Rattle.wild_words.specs.Record.{spell}
+use Rattle.wild_records.specs.declared.symtab_entry.SymtabEntry.{SymtabEntry}
+use Rattle.wild_records.specs.SymtabEntry.{symtab_entry_size, symtab_entry_fields, symtab_entry_at}
+use Rattle.wild_plan.specs.declared.file.File.{File}
+use Rattle.wild_plan.specs.declared.file.Group.{Group}
+use Rattle.wild_plan.specs.declared.layout.Layout.{Layout}
+use Rattle.wild_plan.specs.DynamicStrings.{text_room}
+use Rattle.wild_plan.specs.Lists.{total}
+use Rattle.wild_plan.specs.TableSymbols.{local_count, global_count, table_strings}
+use Rattle.wild_symbols.specs.Strings.{string, string_bytes}
+use Rattle.wild_symbols.specs.Symbols.{symbol_bytes}
+use Rattle.wild_symbols.specs.DynamicEntries.{entry_at}
+use Rattle.wild_symbols.specs.TableEntries.{NamedEntry, is_side, file_table, group_table, side_entries, table_entries, long_indexes, index_bytes}
+
+-- ---- counts
+
+-- how many entries a file has among the local symbols, or among the others
+abbrev pub side_count : Bool → Layout → File → ℕ
+side_count true = local_count
+side_count false = global_count
+
+-- as many entries as symbols of that side
+abbrev pub LengthsOfSides : Type 0
+LengthsOfSides = (local : Bool) (at : ℕ) (ns : List NamedEntry) → length (side_entries local at ns) ≡ length (filter (is_side local) ns)
+
+-- a file has as many of them as it is counted for
+abbrev pub SidesOfFiles : Type 0
+SidesOfFiles = (local : Bool) (l : Layout) (f : File) → length (filter (is_side local) (file_table l f)) ≡ side_count local l f
+
+-- a group as many as its files
+abbrev pub SidesOfGroups : Type 0
+SidesOfGroups = (local : Bool) (l : Layout) (g : Group) → length (table_entries l local g) ≡ total (side_count local l) g.files
+
+-- as many longer section indexes as symbols of that side
+abbrev pub LengthsOfIndexes : Type 0
+LengthsOfIndexes = (local : Bool) (ns : List NamedEntry) → length (long_indexes local ns) ≡ length (filter (is_side local) ns)
+
+-- each has 4 bytes
+abbrev pub IndexesHave4Bytes : Type 0
+IndexesHave4Bytes = (ns : List ℕ) → length (index_bytes ns) ≡ 4 * length ns
+
+-- ---- names
+
+abbrev pub names_of : List NamedEntry → List (List ℕ)
+names_of ns = map (λ (n : NamedEntry). n.name) ns
+
+-- the names of a file's entries are its strings
+abbrev pub NamesOfFiles : Type 0
+NamesOfFiles = (l : Layout) (f : File) → names_of (file_table l f) ≡ table_strings l f
+
+-- those of a group are its files'
+abbrev pub NamesOfGroups : Type 0
+NamesOfGroups = (l : Layout) (g : Group) → names_of (group_table l g) ≡ flat_map (table_strings l) g.files
+
+-- a file's strings have their bytes and a zero each
+abbrev pub LengthsOfTexts : Type 0
+LengthsOfTexts = (l : Layout) (f : File) → length (string_bytes (table_strings l f)) ≡ total text_room (table_strings l f)
+
+-- ---- reading
+
+-- the entry at an offset says that of a symbol, and the symbol's name stands where it tells, with a zero behind it
+pub record TellsAt (table : List ℕ) (place : ℕ) (strings : List ℕ) (n : NamedEntry) : Type 0 where
+  pub at : ℕ
+  pub small : at < 2 ^ 32
+  pub entry : Stands table place (spell (symtab_entry_fields (entry_at at n.fields.fields)))
+  pub name : Stands strings at (string n.name)
+
+-- where the entries of a side stand, and the names of all from an offset below 2^32 on, entry k stands at 24 k, and its name
+-- where it tells
+abbrev pub SidesStand : Type 0
+SidesStand = (local : Bool) (at : ℕ) (ns : List NamedEntry) (table : List ℕ) (from : ℕ) (strings : List ℕ) (k : ℕ) (d : NamedEntry) → at + length (string_bytes (names_of ns)) ≤ 2 ^ 32
+    → Stands table from (symbol_bytes (side_entries local at ns)) → Stands strings at (string_bytes (names_of ns)) → k < length (filter (is_side local) ns)
+    → TellsAt table (from + symtab_entry_size * k) strings (slice_index_or (filter (is_side local) ns) k d)
+
+-- what is said of a symbol fits the fields of an entry (gABI, "Symbol Table")
+pub record NamedEntryFits (n : NamedEntry) : Type 0 where
+  pub info : n.fields.fields.attributes.info < 2 ^ 8
+  pub other : n.fields.fields.attributes.other < 2 ^ 8
+  pub section : n.fields.fields.section < 2 ^ 16
+  pub value : n.fields.fields.value < 2 ^ 64
+  pub size : n.fields.fields.attributes.size < 2 ^ 64
+
+-- the entry has the fields of the symbol, and the symbol's name stands at st_name, with a zero behind it
+pub record IsEntryOf (strings : List ℕ) (n : NamedEntry) (e : SymtabEntry) : Type 0 where
+  pub name : Stands strings e.name (string n.name)
+  pub info : e.info ≡ n.fields.fields.attributes.info
+  pub other : e.other ≡ n.fields.fields.attributes.other
+  pub section : e.section ≡ n.fields.fields.section
+  pub value : e.value ≡ n.fields.fields.value
+  pub size : e.size ≡ n.fields.fields.attributes.size
+
+-- there it is read
+abbrev pub SidesAreRead : Type 0
+SidesAreRead = (local : Bool) (at : ℕ) (ns : List NamedEntry) (table : List ℕ) (from : ℕ) (strings : List ℕ) (k : ℕ) (d : NamedEntry) → All NamedEntryFits ns → at + length (string_bytes (names_of ns)) ≤ 2 ^ 32
+    → Stands table from (symbol_bytes (side_entries local at ns)) → Stands strings at (string_bytes (names_of ns)) → k < length (filter (is_side local) ns)
+    → IsEntryOf strings (slice_index_or (filter (is_side local) ns) k d) (symtab_entry_at table (from + symtab_entry_size * k))
