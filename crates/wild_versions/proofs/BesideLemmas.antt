@@ -21,7 +21,7 @@ null_beside : (b : Bool) (e : SymtabEntry) (v : ℕ) → length (if b then e ∷
 null_beside true e v = refl
 null_beside false e v = refl
 
-either_beside : {X Y : Type 0} (b : Bool) (xs ys : List X) (us vs : List Y) → length xs ≡ length us → length ys ≡ length vs → length (if b then xs else ys) ≡ length (if b then us else vs)
+pub either_beside : {X Y : Type 0} (b : Bool) (xs ys : List X) (us vs : List Y) → length xs ≡ length us → length ys ≡ length vs → length (if b then xs else ys) ≡ length (if b then us else vs)
 either_beside true xs ys us vs e f = e
 either_beside false xs ys us vs e f = f
 

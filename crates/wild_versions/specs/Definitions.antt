@@ -1,9 +1,7 @@
 -- The versions that the output defines (LSB, "Version Definitions"). The first of them names the output itself.
---   definition_size d           how many bytes the record of a version has, with its names
 --   verdef_of soname i last d   the record of version i
 --   verdauxes_of names d i      the records of its names: its own, and its parent's
 --   definition_table names soname ds   the bytes of versions
---   definitions_size ds         how many these are
 use Rattle.std.specs.Prelude.{ℕ, ◌+◌, ◌==◌, Bool, if◌then◌else◌, List, [], ◌∷◌, ◌++◌, Option, Some, None}
 use Rattle.std.specs.List.{flat_map}
 use Rattle.wild_words.specs.Record.{spell}
@@ -13,25 +11,13 @@ use Rattle.wild_records.specs.Verdefs.{verdef_size, verdaux_size, verdef_fields,
 use Rattle.wild_records.specs.declared.verdefs.Verdef.{Verdef}
 use Rattle.wild_records.specs.declared.verdefs.Verdaux.{Verdaux}
 use Rattle.wild_plan.specs.declared.layout.VersionDefinition.{VersionDefinition}
-use Rattle.wild_plan.specs.Lists.{total}
+use Rattle.wild_plan.specs.Versions.{definition_size}
 use Rattle.wild_versions.specs.Chain.{chain, next_of, name_at}
 
 -- how many names it tells (LSB, vd_cnt)
 abbrev pub names_of : Option ℕ → ℕ
 names_of None = 1
 names_of (Some p) = 2
-
--- the record and its names
-abbrev pub size_with : Option ℕ → ℕ
-size_with None = verdef_size + verdaux_size
-size_with (Some p) = verdef_size + (verdaux_size + verdaux_size)
-
-abbrev pub definition_size : VersionDefinition → ℕ
-definition_size d = size_with d.parent
-
--- how many bytes versions have
-abbrev pub definitions_size : List VersionDefinition → ℕ
-definitions_size ds = total definition_size ds
 
 -- the first version is the output's own name where it has one (LSB, VER_FLG_BASE)
 abbrev pub known_as : Option (List ℕ) → ℕ → List ℕ → List ℕ

@@ -1,25 +1,37 @@
 -- What a reader of the tables finds in those that are written here.
 --   LengthsOfVersions, LengthsOfDefinitions, LengthsOfNeeds   how many bytes they have
+--   LengthsOfSymbolVersions, LengthsOfFileDefinitions, LengthsOfGroupNeeds   so many have the tables of files and groups
 --   VersionsAreBesideSymbols   a group has a version for each entry of its dynamic symbol table
 --   VersionsAreRead            the version of symbol k is read at 2 k
 --   DefinitionsAreRead         a reader finds just the versions that the output defines, in their order
 --   NeedsAreRead               a reader finds just the libraries, and the versions that are needed of each
+--   DefinitionsAreNamed        the names of versions that the output defines stand where their records tell
+--   NeedsAreNamed              so do those of libraries, and of the versions that are needed of each
 use Rattle.std.specs.Prelude.{◌≡◌, ℕ, ◌+◌, ◌*◌, ◌^◌, ◌<◌, ◌≤◌, ◌==◌, true, false, if◌then◌else◌, List, [], ◌∷◌, length, map, Option, Some, None, All, slice_index_or}
 use Rattle.std.specs.List.{flat_map}
 use Rattle.wild_words.specs.Words.{Stands}
 use Rattle.wild_records.specs.Abi.Version.{ver_flg_base}
 use Rattle.wild_records.specs.Hashes.{sysv_hash}
 use Rattle.wild_records.specs.Versyms.{versym_size, versym_at}
+use Rattle.wild_plan.specs.declared.file.File.{File}
 use Rattle.wild_plan.specs.declared.file.Group.{Group}
 use Rattle.wild_plan.specs.declared.layout.Layout.{Layout}
 use Rattle.wild_plan.specs.declared.file.NeededVersion.{NeededVersion}
 use Rattle.wild_plan.specs.declared.file.VersionNeeds.{VersionNeeds}
 use Rattle.wild_plan.specs.declared.layout.VersionDefinition.{VersionDefinition}
+use Rattle.wild_plan.specs.DynamicStrings.{file_strings, string_start}
+use Rattle.wild_plan.specs.FileRoles.{is_epilogue}
+use Rattle.wild_plan.specs.Kinds.{needs_dynsym}
+use Rattle.wild_plan.specs.Lists.{total}
+use Rattle.wild_plan.specs.Needs.{version_count}
+use Rattle.wild_symbols.specs.Strings.{string, string_bytes}
 use Rattle.wild_versions.specs.Chain.{name_at}
 use Rattle.wild_symbols.specs.DynamicEntries.{group_symbols}
 use Rattle.wild_versions.specs.Symbols.{version_bytes, group_versions}
-use Rattle.wild_versions.specs.Definitions.{known_as, definition_table, definitions_size}
-use Rattle.wild_versions.specs.Needs.{need_size, need_bytes}
+use Rattle.wild_versions.specs.Definitions.{known_as, definition_table}
+use Rattle.wild_plan.specs.Versions.{definitions_size, definitions_room, need_size, needs_of, needs_room}
+use Rattle.wild_versions.specs.Needs.{need_bytes}
+use Rattle.wild_versions.specs.Names.{symbol_versions, definition_offsets, file_definitions, library_offset, need_offsets, need_of, group_needs}
 use Rattle.wild_versions.specs.Reading.{Defined, Needed, Library, definitions_from, needs_from}
 
 -- ---- lengths
@@ -35,6 +47,17 @@ LengthsOfDefinitions = (names : List ℕ) (soname : Option (List ℕ)) (ds : Lis
 -- a library has 16 bytes, and each version that is needed of it 16
 abbrev pub LengthsOfNeeds : Type 0
 LengthsOfNeeds = (file : ℕ) (names : List ℕ) (n : VersionNeeds) → length (need_bytes file names n) ≡ need_size n
+
+-- the versions of a file's symbols, those that the output defines, and those that are needed of a group's libraries are as long as
+-- their room
+abbrev pub LengthsOfSymbolVersions : Type 0
+LengthsOfSymbolVersions = (l : Layout) (f : File) → length (version_bytes (symbol_versions l f)) ≡ versym_size * version_count l f
+
+abbrev pub LengthsOfFileDefinitions : Type 0
+LengthsOfFileDefinitions = (l : Layout) (f : File) → length (file_definitions l f) ≡ definitions_room l f
+
+abbrev pub LengthsOfGroupNeeds : Type 0
+LengthsOfGroupNeeds = (l : Layout) (g : Group) → length (group_needs l g) ≡ total (needs_room l) g.files
 
 -- ---- symbols
 
@@ -113,3 +136,24 @@ library_of n = record { file = n.file; versions = all_needed n.names 0 n.needs.v
 abbrev pub NeedsAreRead : Type 0
 NeedsAreRead = (whole : List ℕ) (ns : List Need) (at n : ℕ) → All NeedFits ns → EndsOnce ns → 1 ≤ length ns → length ns ≤ n
     → Stands whole at (needs_bytes ns) → needs_from whole n at ≡ map library_of ns
+
+-- ---- names
+
+-- the strings of a file stand in the string table from an offset on, and the table has fewer than 2^32 bytes
+pub record HasStrings (l : Layout) (f : File) (strings : List ℕ) (at : ℕ) : Type 0 where
+  pub small : length strings < 2 ^ 32
+  pub stand : Stands strings at (string_bytes (file_strings l f))
+
+-- the name of version k, which is the output's own for the first where it has one, stands where its record tells
+abbrev pub DefinitionsAreNamed : Type 0
+DefinitionsAreNamed = (l : Layout) (f : File) (strings : List ℕ) → needs_dynsym l.kind ≡ true → is_epilogue f.role ≡ true → HasStrings l f strings (string_start l)
+    → (k : ℕ) (d : VersionDefinition) → k < length l.verdefs → Stands strings (name_at (definition_offsets l f) k) (string (known_as l.options.soname k (slice_index_or l.verdefs k d).name))
+
+-- the bytes of a library's needs, whose name and whose versions' names stand where they tell
+pub record NeedIsNamed (l : Layout) (f : File) (n : VersionNeeds) (strings : List ℕ) (at : ℕ) : Type 0 where
+  pub bytes : need_of l at f ≡ need_bytes (library_offset l at f) (need_offsets l at f n) n
+  pub library : Stands strings (library_offset l at f) (string f.lib_name)
+  pub versions : (k : ℕ) (v : NeededVersion) → k < length n.versions → Stands strings (name_at (need_offsets l at f n) k) (string (slice_index_or n.versions k v).name)
+
+abbrev pub NeedsAreNamed : Type 0
+NeedsAreNamed = (l : Layout) (f : File) (n : VersionNeeds) (strings : List ℕ) (at : ℕ) → needs_dynsym l.kind ≡ true → needs_of f ≡ Some n → HasStrings l f strings at → NeedIsNamed l f n strings at

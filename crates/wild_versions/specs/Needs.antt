@@ -1,9 +1,8 @@
 -- The versions that are needed of libraries (LSB, "Version Requirements").
---   need_size n               how many bytes the record of a library has, with its versions
 --   verneed_of file n         the record of a library
 --   vernaux_of names i last v   the record of version i that is needed of it
 --   need_bytes file names n   the bytes of both
-use Rattle.std.specs.Prelude.{ℕ, ◌+◌, ◌*◌, Bool, List, ◌++◌, length}
+use Rattle.std.specs.Prelude.{ℕ, Bool, List, ◌++◌, length}
 use Rattle.wild_words.specs.Record.{spell}
 use Rattle.wild_records.specs.Abi.Version.{ver_need_current}
 use Rattle.wild_records.specs.Hashes.{sysv_hash}
@@ -12,11 +11,8 @@ use Rattle.wild_records.specs.declared.verneeds.Verneed.{Verneed}
 use Rattle.wild_records.specs.declared.verneeds.Vernaux.{Vernaux}
 use Rattle.wild_plan.specs.declared.file.NeededVersion.{NeededVersion}
 use Rattle.wild_plan.specs.declared.file.VersionNeeds.{VersionNeeds}
+use Rattle.wild_plan.specs.Versions.{need_size}
 use Rattle.wild_versions.specs.Chain.{chain, next_of, name_at}
-
--- the record and its versions
-abbrev pub need_size : VersionNeeds → ℕ
-need_size n = verneed_size + vernaux_size * length n.versions
 
 -- a library, whose name stands at an offset of the string table
 abbrev pub verneed_of : ℕ → VersionNeeds → Verneed

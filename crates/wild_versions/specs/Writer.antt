@@ -1,6 +1,6 @@
 -- The tables of versions of a group.
 --   no_versions l group           nothing yet, in the group's shares of the three parts
---   with_version v w              the version of one symbol more
+--   with_versions vs w            the versions of symbols more
 --   with_definitions names l w    the versions that the output defines more
 --   with_need file names n w      a library whose versions are needed more
 --   left_over w                   no room is left, or ExcessiveAllocation of the first table that has
@@ -9,7 +9,7 @@ use Rattle.wild_plan.specs.declared.fault.Error.{Error}
 use Rattle.wild_plan.specs.declared.file.VersionNeeds.{VersionNeeds}
 use Rattle.wild_plan.specs.declared.layout.Layout.{Layout}
 use Rattle.wild_plan.specs.declared.part.Role.TheVariants as role
-use Rattle.wild_versions.specs.Table.{empty_table, with_bytes, left_of}
+use Rattle.wild_versions.specs.Table.{empty_table, filled_with, left_of}
 use Rattle.wild_versions.specs.Symbols.{version_bytes}
 use Rattle.wild_versions.specs.Definitions.{definition_table}
 use Rattle.wild_versions.specs.Needs.{need_bytes}
@@ -25,15 +25,15 @@ no_versions l group = record {
 
 -- the versions of symbols more
 abbrev pub with_versions : List ℕ → VersionWriter → VersionWriter
-with_versions vs w = record w { symbols = with_bytes (version_bytes vs) w.symbols }
+with_versions vs w = record w { symbols = filled_with (version_bytes vs) w.symbols }
 
 -- the versions that the output defines more
 abbrev pub with_definitions : List ℕ → Layout → VersionWriter → VersionWriter
-with_definitions names l w = record w { definitions = with_bytes (definition_table names l.options.soname l.verdefs) w.definitions }
+with_definitions names l w = record w { definitions = filled_with (definition_table names l.options.soname l.verdefs) w.definitions }
 
 -- a library whose versions are needed more
 abbrev pub with_need : ℕ → List ℕ → VersionNeeds → VersionWriter → VersionWriter
-with_need file names n w = record w { needs = with_bytes (need_bytes file names n) w.needs }
+with_need file names n w = record w { needs = filled_with (need_bytes file names n) w.needs }
 
 -- the first fault of two tests
 abbrev pub and_then : Result (Unit {0}) Error → Result (Unit {0}) Error → Result (Unit {0}) Error

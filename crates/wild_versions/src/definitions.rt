@@ -3,12 +3,13 @@ ghost use Rattle.std.specs.Prelude.{◌≡◌, ℕ, ◌+◌, ◌*◌, ◌^◌, �
 ghost use Rattle.wild_words.specs.Record.{spell};
 ghost use Rattle.wild_records.specs.Hashes.{sysv_hash};
 ghost use Rattle.wild_records.specs.Verdefs.{verdef_size, verdaux_size, verdef_fields, verdaux_fields};
-ghost use Rattle.wild_versions.specs.Table.{with_bytes};
+ghost use Rattle.wild_versions.specs.Room.{with_bytes};
 ghost use Rattle.wild_versions.specs.Chain.{next_of, name_at};
-ghost use Rattle.wild_versions.specs.Definitions.{definition_size, definitions_size, names_of, known_as, verdef_of, verdauxes_of, verdaux_bytes, definition_bytes, definition_table};
+ghost use Rattle.wild_versions.specs.Definitions.{names_of, known_as, verdef_of, verdauxes_of, verdaux_bytes, definition_bytes, definition_table};
+ghost use Rattle.wild_plan.specs.Versions.{definition_size, definitions_size};
 
-use crate::table::VersionTable;
-use wild_plan::VersionDefinition;
+use crate::room::FilledRoom;
+use wild_plan::{VersionDefinition, definition_size};
 use wild_records::abi::version::{VER_DEF_CURRENT, VER_FLG_BASE};
 use wild_records::{Verdaux, Verdef, sysv_hash};
 use wild_words::Bytes;
@@ -25,30 +26,6 @@ pub(crate) fn name_at(names: &[u32], k: usize) -> u32
     ensures { result ≡ name_at names.now k }
 {
     if k < names.len() { names[k] } else { 0 }
-}
-
-/// How many bytes the record of a version has, with its names.
-fn definition_size(definition: &VersionDefinition) -> usize
-    ensures size { result ≡ definition_size definition.now }
-    ensures small { result ≤ 36 }
-{
-    match definition.parent {
-        None => Verdef::SIZE + Verdaux::SIZE,
-        Some(_) => Verdef::SIZE + (Verdaux::SIZE + Verdaux::SIZE),
-    }
-}
-
-/// How many bytes versions have.
-pub(crate) fn definitions_size(definitions: &[VersionDefinition]) -> usize
-    requires few { length definitions.now < 2 ^ 16 }
-    ensures size { result ≡ definitions_size definitions.now }
-    ensures small { result < 2 ^ 32 }
-{
-    let mut size = 0;
-    for definition in definitions {
-        size += definition_size(definition);
-    }
-    size
 }
 
 /// How many names the record of a version tells.
@@ -88,7 +65,7 @@ fn verdef_of(soname: &Option<Bytes>, i: usize, last: bool, definition: &VersionD
 }
 
 /// Adds the record of a version.
-fn push_verdef(table: &mut VersionTable, entry: Verdef)
+fn push_verdef(table: &mut FilledRoom, entry: Verdef)
     requires { length table.old.bytes + verdef_size ≤ table.old.room }
     ensures added { table.new ≡ with_bytes (spell (verdef_fields entry)) table.old }
     ensures used { length table.new.bytes ≡ length table.old.bytes + verdef_size }
@@ -99,7 +76,7 @@ fn push_verdef(table: &mut VersionTable, entry: Verdef)
 }
 
 /// Adds the record of a name.
-fn push_verdaux(table: &mut VersionTable, entry: Verdaux)
+fn push_verdaux(table: &mut FilledRoom, entry: Verdaux)
     requires { length table.old.bytes + verdaux_size ≤ table.old.room }
     ensures added { table.new ≡ with_bytes (spell (verdaux_fields entry)) table.old }
     ensures used { length table.new.bytes ≡ length table.old.bytes + verdaux_size }
@@ -111,7 +88,7 @@ fn push_verdaux(table: &mut VersionTable, entry: Verdaux)
 
 /// Adds the names of version i: its own, and its parent's.
 #[tactic(auto, using(crate::proofs::ChainLemmas::name_steps))]
-fn push_names(table: &mut VersionTable, names: &[u32], i: usize, definition: &VersionDefinition)
+fn push_names(table: &mut FilledRoom, names: &[u32], i: usize, definition: &VersionDefinition)
     requires { length table.old.bytes + definition_size definition.now ≤ table.old.room + verdef_size }
     ensures added { table.new ≡ with_bytes (verdaux_bytes (verdauxes_of names.now i definition.now)) table.old }
     ensures used { length table.new.bytes + verdef_size ≡ length table.old.bytes + definition_size definition.now }
@@ -131,7 +108,7 @@ fn push_names(table: &mut VersionTable, names: &[u32], i: usize, definition: &Ve
 /// Adds version i with its names.
 #[tactic(auto, using(crate::proofs::ChainLemmas::behind))]
 fn push_definition(
-    table: &mut VersionTable,
+    table: &mut FilledRoom,
     names: &[u32],
     soname: &Option<Bytes>,
     i: usize,
@@ -150,7 +127,7 @@ fn push_definition(
 /// Adds versions, each with its names.
 #[tactic(auto, using(crate::proofs::ChainLemmas::definition_steps))]
 pub(crate) fn push_definitions(
-    table: &mut VersionTable,
+    table: &mut FilledRoom,
     names: &[u32],
     soname: &Option<Bytes>,
     definitions: &[VersionDefinition],

@@ -1,5 +1,5 @@
 //! What a reader finds in the tables.
-ghost use Rattle.wild_versions.specs.Laws.{LengthsOfVersions, LengthsOfDefinitions, LengthsOfNeeds, VersionsAreBesideSymbols, VersionsAreRead, DefinitionsAreRead, NeedsAreRead};
+ghost use Rattle.wild_versions.specs.Laws.{LengthsOfSymbolVersions, LengthsOfFileDefinitions, LengthsOfGroupNeeds, DefinitionsAreNamed, NeedsAreNamed, LengthsOfVersions, LengthsOfDefinitions, LengthsOfNeeds, VersionsAreBesideSymbols, VersionsAreRead, DefinitionsAreRead, NeedsAreRead};
 
 use wild_records::{
     verdaux_is_read, verdef_is_read, vernaux_is_read, verneed_is_read, versym_is_read,
@@ -34,3 +34,16 @@ pub fn needs_are_read()
     verneed_is_read();
     vernaux_is_read();
 }
+
+/// The tables of files and groups are as long as their room.
+pub fn version_tables_have_their_lengths()
+    ensures symbols { LengthsOfSymbolVersions }
+    ensures definitions { LengthsOfFileDefinitions }
+    ensures needs { LengthsOfGroupNeeds }
+{}
+
+/// Where the strings of a file stand in the string table, the names of its versions stand where their records tell.
+pub fn versions_are_named()
+    ensures definitions { DefinitionsAreNamed }
+    ensures needs { NeedsAreNamed }
+{}

@@ -2,15 +2,21 @@
 #![tactic(auto)]
 
 mod definitions;
-mod faults;
+mod files;
 mod laws;
+mod names;
 mod needs;
+mod room;
 mod symbols;
 mod table;
 #[cfg(test)]
 mod tests;
 mod writer;
 
-pub use laws::{definitions_are_read, needs_are_read, symbol_versions_are_read};
+pub use files::{file_definitions, file_versions, group_needs};
+pub use laws::{
+    definitions_are_read, needs_are_read, symbol_versions_are_read,
+    version_tables_have_their_lengths, versions_are_named,
+};
 pub use table::VersionTable;
 pub use writer::VersionWriter;

@@ -2,24 +2,16 @@
 ghost use Rattle.std.specs.Prelude.{◌≡◌, ℕ, ◌+◌, ◌*◌, ◌^◌, ◌<◌, ◌≤◌, length};
 ghost use Rattle.wild_words.specs.Record.{spell};
 ghost use Rattle.wild_records.specs.Verneeds.{verneed_size, vernaux_size, verneed_fields, vernaux_fields};
-ghost use Rattle.wild_versions.specs.Table.{with_bytes};
+ghost use Rattle.wild_versions.specs.Room.{with_bytes};
 ghost use Rattle.wild_versions.specs.Chain.{chain};
-ghost use Rattle.wild_versions.specs.Needs.{need_size, verneed_of, vernaux_of, needed_bytes, need_bytes};
+ghost use Rattle.wild_versions.specs.Needs.{verneed_of, vernaux_of, needed_bytes, need_bytes};
+ghost use Rattle.wild_plan.specs.Versions.{need_size};
 
 use crate::definitions::{name_at, next_of};
-use crate::table::VersionTable;
-use wild_plan::{NeededVersion, VersionNeeds};
+use crate::room::FilledRoom;
+use wild_plan::{NeededVersion, VersionNeeds, need_size};
 use wild_records::abi::version::VER_NEED_CURRENT;
 use wild_records::{Vernaux, Verneed, sysv_hash};
-
-/// How many bytes the record of a library has, with its versions.
-pub(crate) fn need_size(needs: &VersionNeeds) -> usize
-    requires few { length needs.now.versions < 2 ^ 16 }
-    ensures size { result ≡ need_size needs.now }
-    ensures small { result < 2 ^ 32 }
-{
-    Verneed::SIZE + Vernaux::SIZE * needs.versions.len()
-}
 
 /// The record of a library.
 fn verneed_of(file: u32, needs: &VersionNeeds) -> Verneed
@@ -49,7 +41,7 @@ fn vernaux_of(names: &[u32], i: usize, last: bool, version: &NeededVersion) -> V
 }
 
 /// Adds the record of a library.
-fn push_verneed(table: &mut VersionTable, entry: Verneed)
+fn push_verneed(table: &mut FilledRoom, entry: Verneed)
     requires { length table.old.bytes + verneed_size ≤ table.old.room }
     ensures added { table.new ≡ with_bytes (spell (verneed_fields entry)) table.old }
     ensures used { length table.new.bytes ≡ length table.old.bytes + verneed_size }
@@ -60,7 +52,7 @@ fn push_verneed(table: &mut VersionTable, entry: Verneed)
 }
 
 /// Adds the record of a version.
-fn push_vernaux(table: &mut VersionTable, entry: Vernaux)
+fn push_vernaux(table: &mut FilledRoom, entry: Vernaux)
     requires { length table.old.bytes + vernaux_size ≤ table.old.room }
     ensures added { table.new ≡ with_bytes (spell (vernaux_fields entry)) table.old }
     ensures used { length table.new.bytes ≡ length table.old.bytes + vernaux_size }
@@ -72,7 +64,7 @@ fn push_vernaux(table: &mut VersionTable, entry: Vernaux)
 
 /// Adds the versions that are needed of a library.
 #[tactic(auto, using(crate::proofs::ChainLemmas::need_steps))]
-fn push_versions(table: &mut VersionTable, names: &[u32], versions: &[NeededVersion])
+fn push_versions(table: &mut FilledRoom, names: &[u32], versions: &[NeededVersion])
     requires room { length table.old.bytes + vernaux_size * length versions.now ≤ table.old.room }
     ensures { table.new ≡ with_bytes (chain (needed_bytes names.now) 0 versions.now) table.old }
 {
@@ -84,7 +76,7 @@ fn push_versions(table: &mut VersionTable, names: &[u32], versions: &[NeededVers
 
 /// Adds a library and the versions that are needed of it.
 #[tactic(auto, using(crate::proofs::ChainLemmas::behind))]
-pub(crate) fn push_need(table: &mut VersionTable, file: u32, names: &[u32], needs: &VersionNeeds)
+pub(crate) fn push_need(table: &mut FilledRoom, file: u32, names: &[u32], needs: &VersionNeeds)
     requires few { length needs.now.versions < 2 ^ 16 }
     requires room { length table.old.bytes + need_size needs.now ≤ table.old.room }
     ensures { table.new ≡ with_bytes (need_bytes file names.now needs.now) table.old }

@@ -1,10 +1,10 @@
 //! The versions of dynamic symbols (LSB, "Symbol Version Table").
 ghost use Rattle.std.specs.Prelude.{◌≡◌, ◌+◌, ◌≤◌, length};
 ghost use Rattle.wild_records.specs.Versyms.{versym_size};
-ghost use Rattle.wild_versions.specs.Table.{with_bytes};
+ghost use Rattle.wild_versions.specs.Room.{with_bytes};
 ghost use Rattle.wild_versions.specs.Symbols.{spelled, version_of};
 
-use crate::table::VersionTable;
+use crate::room::FilledRoom;
 use wild_plan::{FileRole, Symbol};
 use wild_records::Versym;
 use wild_records::abi::version::VER_NDX_GLOBAL;
@@ -21,7 +21,7 @@ pub(crate) fn version_of(role: FileRole, symbol: &Symbol) -> u16
 }
 
 /// Adds the version of a symbol.
-pub(crate) fn push_version(table: &mut VersionTable, version: u16)
+pub(crate) fn push_version(table: &mut FilledRoom, version: u16)
     requires { length table.old.bytes + versym_size ≤ table.old.room }
     ensures { table.new ≡ with_bytes (spelled version) table.old }
 {

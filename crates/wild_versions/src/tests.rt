@@ -254,6 +254,85 @@ fn refused(alloc: Global) -> Result<bool, Fail> {
     Ok(!is_put(alloc, &mut writer, &layout)? && has_four(&writer))
 }
 
+fn file(alloc: Global, role: FileRole) -> File {
+    File {
+        role,
+        first_symbol: SymbolIndex(0),
+        symbol_count: 0,
+        sections: Items::new(alloc),
+        thunk_block: 0,
+        owns_thunk_block: false,
+        lib_name: Bytes::new(alloc),
+        copies: Items::new(alloc),
+        verneed: None,
+    }
+}
+
+/// The layout of the library with its last file, whose strings begin at 0x0e: the library's name, `V1` and `V2`.
+fn library(alloc: Global) -> Result<Layout, AllocError> {
+    let last = file(alloc, FileRole::Epilogue);
+    let group = Group {
+        files: Items::from_vec(vec![in alloc; last]?),
+        part_sizes: Items::new(alloc),
+        dynstr_start: 0x0e,
+        strtab_start: 0,
+        eh_frame_start: 0,
+        symtab_local_start: 0,
+        symtab_global_start: 0,
+    };
+    Ok(Layout {
+        kind: OutputKind::SharedObject,
+        groups: Items::from_vec(vec![in alloc; group]?),
+        ..layout(alloc, [0; 3])?
+    })
+}
+
+/// Whether the last file's versions are those of GNU ld's library.
+fn defined(alloc: Global) -> Result<bool, Fail> {
+    let layout = library(alloc)?;
+    if layout.verdefs.len() > 100 {
+        return Err("many versions".into());
+    }
+    let last = file(alloc, FileRole::Epilogue);
+    Ok(file_definitions(alloc, &layout, &last)?.as_slice() == DEFINITIONS.as_slice())
+}
+
+/// Whether the first file of an output with versions has the null symbol's alone.
+fn has_null(alloc: Global) -> Result<bool, Fail> {
+    let options = Options {
+        versions: true,
+        ..Options::none(alloc)
+    };
+    let layout = Layout {
+        options,
+        ..library(alloc)?
+    };
+    let first = file(alloc, FileRole::Prelude);
+    Ok(file_versions(alloc, &layout, &first)?.as_slice() == &SYMBOLS[..2])
+}
+
+/// Whether a group without libraries needs nothing.
+fn needs_nothing(alloc: Global) -> Result<bool, Fail> {
+    let group = Group {
+        files: Items::new(alloc),
+        part_sizes: Items::new(alloc),
+        dynstr_start: 0,
+        strtab_start: 0,
+        eh_frame_start: 0,
+        symtab_local_start: 0,
+        symtab_global_start: 0,
+    };
+    Ok(group_needs(alloc, &library(alloc)?, &group)?.is_empty())
+}
+
+#[test]
+fn gives_what_ld_wrote(rt: HostRuntime) -> Result<(), Fail> {
+    assert!(rt; defined(rt.alloc())?);
+    assert!(rt; has_null(rt.alloc())?);
+    assert!(rt; needs_nothing(rt.alloc())?);
+    Ok(())
+}
+
 #[test]
 fn writes_what_ld_wrote(rt: HostRuntime) -> Result<(), Fail> {
     assert!(rt; written(rt.alloc())?);

@@ -3,16 +3,15 @@ ghost use Rattle.std.specs.Prelude.{◌≡◌, ◌∷◌, [], ◌^◌, ◌<◌, 
 ghost use Rattle.wild_records.specs.Versyms.{versym_size};
 ghost use Rattle.wild_versions.specs.Table.{room_for};
 ghost use Rattle.wild_versions.specs.Symbols.{version_of};
-ghost use Rattle.wild_versions.specs.Definitions.{definitions_size};
-ghost use Rattle.wild_versions.specs.Needs.{need_size};
+ghost use Rattle.wild_plan.specs.Versions.{definitions_size, need_size};
 ghost use Rattle.wild_versions.specs.Writer.{no_versions, with_versions, with_definitions, with_need, left_over};
 
-use crate::definitions::{definitions_size, push_definitions};
-use crate::needs::{need_size, push_need};
+use crate::definitions::push_definitions;
+use crate::needs::push_need;
 use crate::symbols::{push_version, version_of};
 use crate::table::VersionTable;
 use std::alloc::{AllocError, Global};
-use wild_plan::{Error, FileRole, Layout, Role, Symbol, VersionNeeds};
+use wild_plan::{Error, FileRole, Layout, Role, Symbol, VersionNeeds, definitions_size, need_size};
 use wild_records::Versym;
 
 /// A group's tables of versions, each filled from the front of the group's share on. It takes no more memory once it
@@ -52,7 +51,7 @@ impl VersionWriter {
         ensures kept { OnErr result (self.new ≡ self.old) }
     {
         self.symbols.check_room(Versym::SIZE)?;
-        push_version(&mut self.symbols, version);
+        push_version(&mut self.symbols.filled, version);
         Ok(())
     }
 
@@ -85,7 +84,7 @@ impl VersionWriter {
         let definitions = layout.verdefs.as_slice();
         self.definitions.check_room(definitions_size(definitions))?;
         push_definitions(
-            &mut self.definitions,
+            &mut self.definitions.filled,
             names,
             &layout.options.soname,
             definitions,
@@ -110,7 +109,7 @@ impl VersionWriter {
         ensures kept { OnErr result (self.new ≡ self.old) }
     {
         self.needs.check_room(need_size(needs))?;
-        push_need(&mut self.needs, file, names, needs);
+        push_need(&mut self.needs.filled, file, names, needs);
         Ok(())
     }
 

@@ -1,0 +1,13 @@
+use Rattle.std.proofs.Common.{◌≡◌, ◌++◌, drop, map}
+use Rattle.std.specs.List.{filter}
+use Rattle.wild_plan.specs.DynamicSymbols.{is_undefined_entry}
+use Rattle.wild_versions.specs.Room.{IsFull}
+use Rattle.wild_versions.specs.Symbols.{version_bytes, version_of}
+use Rattle.wild_versions.proofs.files.add_undefined.Given as goal
+
+abbrev pub invariant-loop-symbol : goal.invariant-loop-symbol
+invariant-loop-symbol l = record {
+  full : IsFull l.filled;
+  rest : l.filled.bytes ++ version_bytes (map (version_of l.role) (filter (is_undefined_entry l.role) (drop l.symbol-index l.symbols)))
+      ≡ l.initial.filled.bytes ++ version_bytes (map (version_of l.role) (filter (is_undefined_entry l.role) l.symbols));
+}

@@ -1,0 +1,179 @@
+//! The tables of versions as files and groups have them.
+ghost use Rattle.std.specs.Prelude.{◌≡◌, ◌^◌, ◌<◌, ◌++◌, All, length, map, IfOk, OnOk};
+ghost use Rattle.std.specs.List.{filter};
+ghost use Rattle.wild_plan.specs.declared.file.File.{File};
+ghost use Rattle.wild_plan.specs.DynamicSymbols.{is_undefined_entry};
+ghost use Rattle.wild_plan.specs.VersionTables.{length_of};
+ghost use Rattle.wild_plan.specs.Versions.{needs_of};
+ghost use Rattle.wild_versions.specs.Needs.{need_bytes};
+ghost use Rattle.wild_versions.specs.Room.{IsFull};
+ghost use Rattle.wild_versions.specs.Symbols.{spelled, version_bytes, version_of, listed_version, null_versions, entry_versions};
+ghost use Rattle.wild_versions.specs.Names.{symbol_versions, file_definitions, need_of, group_needs};
+
+use crate::definitions::push_definitions;
+use crate::names::{behind_entries, behind_text, definition_offsets, needed_offsets, told};
+use crate::needs::push_need;
+use crate::room::FilledRoom;
+use crate::symbols::{push_version, version_of};
+use std::alloc::{AllocError, Global};
+use wild_plan::{
+    DynamicSymbol, File, FileRole, Group, Layout, Symbol, VersionNeeds, behind_file,
+    definitions_size, is_undefined_entry, need_size, needs_of,
+};
+use wild_records::Versym;
+use wild_records::abi::version::VER_NDX_LOCAL;
+
+/// Adds the version of a symbol.
+fn add_version(version: u16, filled: &mut FilledRoom) -> Result<(), AllocError>
+    requires { IsFull filled.old }
+    ensures full { OnOk result (IsFull filled.new) }
+    ensures added { OnOk result (filled.new.bytes ≡ filled.old.bytes ++ spelled version) }
+{
+    filled.make_room(Versym::SIZE)?;
+    push_version(filled, version);
+    Ok(())
+}
+
+/// Adds the versions of the symbols that other modules see.
+#[tactic(auto, using(crate::proofs::NameLemmas::version_steps))]
+fn add_listed(symbols: &[DynamicSymbol], filled: &mut FilledRoom) -> Result<(), AllocError>
+    requires { IsFull filled.old }
+    ensures full { OnOk result (IsFull filled.new) }
+    ensures added { OnOk result (filled.new.bytes ≡ filled.old.bytes ++ version_bytes (map listed_version symbols.now)) }
+{
+    for symbol in symbols {
+        add_version(symbol.version, filled)?;
+    }
+    Ok(())
+}
+
+/// Adds the versions of the symbols that other modules define, of some of a file of that role.
+#[tactic(auto, using(crate::proofs::NameLemmas::version_steps))]
+fn add_undefined(
+    role: FileRole,
+    symbols: &[Symbol],
+    filled: &mut FilledRoom,
+) -> Result<(), AllocError>
+    requires { IsFull filled.old }
+    ensures full { OnOk result (IsFull filled.new) }
+    ensures added { OnOk result (filled.new.bytes ≡ filled.old.bytes ++ version_bytes (map (version_of role) (filter (is_undefined_entry role) symbols.now))) }
+{
+    for symbol in symbols {
+        if is_undefined_entry(role, symbol) {
+            add_version(version_of(role, symbol), filled)?;
+        }
+    }
+    Ok(())
+}
+
+/// Adds the version of symbol 0, where the file is the first one.
+#[tactic(auto, using(crate::proofs::NameLemmas::version_steps))]
+fn add_null(file: &File, filled: &mut FilledRoom) -> Result<(), AllocError>
+    requires { IsFull filled.old }
+    ensures full { OnOk result (IsFull filled.new) }
+    ensures added { OnOk result (filled.new.bytes ≡ filled.old.bytes ++ version_bytes (null_versions file.now)) }
+{
+    if file.role.is_prelude() {
+        add_version(VER_NDX_LOCAL, filled)?;
+    }
+    Ok(())
+}
+
+/// Adds the versions of the entries of a file, but for symbol 0.
+fn add_entries(layout: &Layout, file: &File, filled: &mut FilledRoom) -> Result<(), AllocError>
+    requires { IsFull filled.old }
+    ensures full { OnOk result (IsFull filled.new) }
+    ensures added { OnOk result (filled.new.bytes ≡ filled.old.bytes ++ version_bytes (entry_versions layout.now file.now)) }
+{
+    if file.role.is_epilogue() {
+        add_listed(layout.dynsyms.as_slice(), filled)
+    } else {
+        add_undefined(file.role, layout.symbols_of(file), filled)
+    }
+}
+
+/// The versions of a file's entries in the dynamic symbol table, where the option asks for versions.
+#[tactic(auto, using(crate::proofs::NameLemmas::versions_joined))]
+pub fn file_versions(alloc: Global, layout: &Layout, file: &File) -> Result<Vec<u8>, AllocError>
+    ensures { IfOk result (λ bytes. bytes.items ≡ version_bytes (symbol_versions layout.now file.now)) }
+{
+    let mut filled = FilledRoom::new(alloc, 0)?;
+    if layout.options.versions && layout.kind.needs_dynsym() {
+        add_null(file, &mut filled)?;
+        add_entries(layout, file, &mut filled)?;
+    }
+    Ok(filled.into_bytes())
+}
+
+/// The versions that the output defines, which the last file has, where the output has dynamic symbols.
+#[tactic(auto, unfolding(crate::specs::Names::file_definitions), using(crate::proofs::NameLemmas::sizes))]
+pub fn file_definitions(alloc: Global, layout: &Layout, file: &File) -> Result<Vec<u8>, AllocError>
+    requires few { length layout.now.verdefs < 2 ^ 16 }
+    ensures { IfOk result (λ bytes. bytes.items ≡ file_definitions layout.now file.now) }
+{
+    let definitions = layout.verdefs.as_slice();
+    let soname = &layout.options.soname;
+    if !(layout.kind.needs_dynsym() && file.role.is_epilogue()) {
+        return Ok(Vec::new(alloc));
+    }
+    let names = definition_offsets(alloc, layout, file)?;
+    let mut filled = FilledRoom::new(alloc, definitions_size(definitions))?;
+    push_definitions(&mut filled, names.as_slice(), soname, definitions);
+    Ok(filled.into_bytes())
+}
+
+/// Adds the record of a library, and the versions that are needed of it.
+fn add_library(
+    file: u32,
+    names: &[u32],
+    needs: &VersionNeeds,
+    filled: &mut FilledRoom,
+) -> Result<(), AllocError>
+    requires few { length needs.now.versions < 2 ^ 16 }
+    requires full { IsFull filled.old }
+    ensures full { OnOk result (IsFull filled.new) }
+    ensures added { OnOk result (filled.new.bytes ≡ filled.old.bytes ++ need_bytes file names.now needs.now) }
+{
+    filled.make_room(need_size(needs))?;
+    push_need(filled, file, names, needs);
+    Ok(())
+}
+
+/// Adds the versions that are needed of a file, whose strings begin at an offset.
+fn add_need(
+    alloc: Global,
+    layout: &Layout,
+    at: u64,
+    file: &File,
+    filled: &mut FilledRoom,
+) -> Result<(), AllocError>
+    requires few { length_of (needs_of file.now) < 2 ^ 16 }
+    requires full { IsFull filled.old }
+    ensures full { OnOk result (IsFull filled.new) }
+    ensures added { OnOk result (filled.new.bytes ≡ filled.old.bytes ++ need_of layout.now at file.now) }
+{
+    if let Some(needs) = needs_of(file) {
+        let at = behind_entries(layout, at, file);
+        let versions = needs.versions.as_slice();
+        let names = needed_offsets(alloc, behind_text(at, &file.lib_name), versions)?;
+        add_library(told(at), names.as_slice(), needs, filled)?;
+    }
+    Ok(())
+}
+
+/// The versions that are needed of a group's libraries, where the output has dynamic symbols.
+#[tactic(auto, unfolding(crate::specs::Names::group_needs), using(crate::proofs::NameLemmas::need_steps))]
+pub fn group_needs(alloc: Global, layout: &Layout, group: &Group) -> Result<Vec<u8>, AllocError>
+    requires few { All (λ (f : File). length_of (needs_of f) < 2 ^ 16) group.now.files }
+    ensures { IfOk result (λ bytes. bytes.items ≡ group_needs layout.now group.now) }
+{
+    let mut filled = FilledRoom::new(alloc, 0)?;
+    if layout.kind.needs_dynsym() {
+        let mut at = group.dynstr_start;
+        for file in group.files.as_slice() {
+            add_need(alloc, layout, at, file, &mut filled)?;
+            at = behind_file(layout, at, file);
+        }
+    }
+    Ok(filled.into_bytes())
+}

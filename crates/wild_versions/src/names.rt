@@ -1,0 +1,106 @@
+//! Where the names of versions stand in the dynamic string table.
+ghost use Rattle.std.specs.Prelude.{◌≡◌, ◌∷◌, [], ◌++◌, true, IfOk, OnOk};
+ghost use Rattle.wild_plan.specs.DynamicStrings.{behind_text};
+ghost use Rattle.wild_plan.specs.FileRoles.{is_epilogue};
+ghost use Rattle.wild_plan.specs.Versions.{definition_names, needed_names};
+ghost use Rattle.wild_versions.specs.Names.{told, offsets_from, behind_entries, behind_path, definition_offsets};
+
+use std::alloc::{AllocError, Global};
+use wild_plan::{
+    File, Layout, NeededVersion, VersionDefinition, entry_room, lead_room, string_start,
+};
+use wild_words::Bytes;
+
+/// An offset as a record tells it.
+pub(crate) fn told(at: u64) -> u32
+    ensures { result ≡ told at }
+{
+    (at % 0x1_0000_0000) as u32
+}
+
+/// The offset behind a string and its zero, at most 2^64 - 1.
+pub(crate) fn behind_text(at: u64, text: &Bytes) -> u64
+    ensures { result ≡ behind_text at text.now }
+{
+    at.saturating_add((text.len() as u64).saturating_add(1))
+}
+
+/// The offset behind the names of a file's entries, whose strings begin at an offset, at most 2^64 - 1.
+pub(crate) fn behind_entries(layout: &Layout, at: u64, file: &File) -> u64
+    ensures { result ≡ behind_entries layout.now at file.now }
+{
+    at.saturating_add(lead_room(layout, file))
+        .saturating_add(entry_room(layout, file))
+}
+
+/// The offset behind the search path, where there is one.
+fn behind_path(at: u64, path: &Option<Bytes>) -> u64
+    ensures { result ≡ behind_path at path.now }
+{
+    match path {
+        Some(path) => behind_text(at, path),
+        None => at,
+    }
+}
+
+/// Adds the offset of a name, and tells the one behind it.
+fn add_name(names: &mut Vec<u32>, at: u64, name: &Bytes) -> Result<u64, AllocError>
+    ensures added { OnOk result (names.new.items ≡ names.old.items ++ told at ∷ []) }
+    ensures next { IfOk result (λ next. next ≡ behind_text at name.now) }
+{
+    names.push(told(at))?;
+    Ok(behind_text(at, name))
+}
+
+/// The offsets of the names of versions that are needed, of which the first stands at an offset.
+pub(crate) fn needed_offsets(
+    alloc: Global,
+    at: u64,
+    versions: &[NeededVersion],
+) -> Result<Vec<u32>, AllocError>
+    ensures { IfOk result (λ names. names.items ≡ offsets_from at (needed_names versions.now)) }
+{
+    let mut names = Vec::with_capacity(alloc, versions.len())?;
+    let mut at = at;
+    for version in versions {
+        at = add_name(&mut names, at, &version.name)?;
+    }
+    Ok(names)
+}
+
+/// Adds the offsets of the names of versions that the output defines, of which the first stands at an offset.
+fn add_defined(
+    names: &mut Vec<u32>,
+    at: u64,
+    definitions: &[VersionDefinition],
+) -> Result<(), AllocError>
+    ensures { OnOk result (names.new.items ≡ names.old.items ++ offsets_from at (definition_names definitions.now)) }
+{
+    let mut at = at;
+    for definition in definitions {
+        at = add_name(names, at, &definition.name)?;
+    }
+    Ok(())
+}
+
+/// Where the names of the versions that the output defines stand: the first version's is the output's own name, where
+/// that has a string for itself.
+#[tactic(auto, unfolding(crate::specs::Names::definition_offsets))]
+pub(crate) fn definition_offsets(
+    alloc: Global,
+    layout: &Layout,
+    file: &File,
+) -> Result<Vec<u32>, AllocError>
+    requires last { is_epilogue file.now.role ≡ true }
+    ensures { IfOk result (λ names. names.items ≡ definition_offsets layout.now file.now) }
+{
+    let start = string_start(layout);
+    let mut names = Vec::with_capacity(alloc, layout.verdefs.len())?;
+    let mut named = layout.verdefs.as_slice();
+    if layout.options.soname.is_some() {
+        names.push(told(behind_path(start, &layout.options.rpath)))?;
+        named = &named[named.len().min(1)..];
+    }
+    add_defined(&mut names, behind_entries(layout, start, file), named)?;
+    Ok(names)
+}

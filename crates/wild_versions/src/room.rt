@@ -1,0 +1,95 @@
+//! Bytes behind each other, from the front of a room on.
+ghost use Rattle.std.specs.Prelude.{◌≡◌, ◌+◌, ◌++◌, ◌^◌, ◌<◌, ◌≤◌, length, take, [], IfOk, OnOk};
+ghost use Rattle.wild_versions.specs.Room.{with_bytes, IsFull};
+
+use std::alloc::{AllocError, Global};
+use std::marker::Model;
+use wild_words::put;
+
+/// Bytes behind each other, from the front of a room on.
+#[derive(Drop)]
+pub struct FilledRoom {
+    room: Vec<u8>,
+    used: usize,
+}
+
+impl Model for FilledRoom {
+    ghost use Rattle.wild_versions.specs.Room.{Filled, filled_in, IsFilled};
+
+    ghost Value = { Filled };
+
+    ghost view = { λ t. filled_in t.room.items t.used };
+
+    ghost invariant = { λ t. IsFilled t.room.items t.used };
+}
+
+/// Bytes at an offset.
+#[tactic(auto, using(crate::proofs::ChainLemmas::front_of))]
+fn put_behind(out: &mut [u8], at: usize, bytes: &[u8])
+    requires { at + length bytes.now ≤ length out.old }
+    ensures { take (at + length bytes.now) out.new ≡ take at out.old ++ bytes.now }
+{
+    put(out, at, bytes);
+}
+
+impl FilledRoom {
+    /// Nothing yet, in a room of so many bytes.
+    pub(crate) fn new(alloc: Global, room: usize) -> Result<Self, AllocError>
+        ensures { IfOk result (λ t. t ≡ record { bytes = []; room = room }) }
+    {
+        Ok(FilledRoom {
+            room: vec![in alloc; 0; room]?,
+            used: 0,
+        })
+    }
+
+    /// Room for so many bytes more.
+    pub(crate) fn make_room(&mut self, size: usize) -> Result<(), AllocError>
+        requires { size < 2 ^ 32 }
+        ensures { OnOk result (self.new ≡ record self.old { room = self.old.room + size }) }
+    {
+        let room = self.room.len() + size;
+        self.room.resize(room, 0)
+    }
+
+    /// Adds bytes behind the others.
+    pub(crate) fn push(&mut self, bytes: &[u8])
+        requires { length self.old.bytes + length bytes.now ≤ self.old.room }
+        ensures added { self.new ≡ with_bytes bytes.now self.old }
+        ensures used { length self.new.bytes ≡ length self.old.bytes + length bytes.now }
+    {
+        put_behind(self.room.as_mut_slice(), self.used, bytes);
+        self.used += bytes.len();
+    }
+
+    /// How many bytes the room has.
+    pub(crate) fn room(&self) -> usize
+        ensures { result ≡ self.now.room }
+    {
+        self.room.len()
+    }
+
+    /// How many of them are filled.
+    pub(crate) fn used(&self) -> usize
+        ensures is { result ≡ length self.now.bytes }
+        ensures few { result < 2 ^ 63 }
+    {
+        self.used
+    }
+
+    /// The bytes of the room: those that were added, and then what is left.
+    pub(crate) fn bytes(&self) -> &[u8]
+        ensures written { take (length self.now.bytes) result.now ≡ self.now.bytes }
+        ensures room { length result.now ≡ self.now.room }
+    {
+        self.room.as_slice()
+    }
+
+    /// The bytes of a room that is full.
+    pub(crate) fn into_bytes(self) -> Vec<u8>
+        requires { IsFull self }
+        ensures { result.items ≡ self.bytes }
+    {
+        self.room
+    }
+}
