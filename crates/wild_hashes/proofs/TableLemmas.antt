@@ -15,7 +15,7 @@ use Rattle.wild_hashes.specs.Reading.{read}
 use Rattle.wild_hashes.specs.LookUp.{chain_word}
 use Rattle.wild_hashes.proofs.BucketLemmas.{length-buckets, first_small}
 use Rattle.wild_hashes.proofs.BloomLemmas.{length-bloom}
-use Rattle.wild_hashes.specs.Laws.{Reads, ReadsWords}
+use Rattle.wild_hashes.specs.Laws.{Reads, ReadsWords, LengthsOfSysvTables, LengthsOfGnuTables}
 
 pub length-words : (w : ℕ) (xs : List ℕ) → length (words w xs) ≡ w * length xs
 unfolding words
@@ -125,3 +125,38 @@ gnu_stands t hs =
       buckets = rw buckets_at at (Stands-right front (filter ++ (bs ++ cs)) bs (length filter + 0) (Stands-right filter (bs ++ cs) bs 0 (Stands-left bs cs)));
       chains = rw chains_at at (Stands-right front (filter ++ (bs ++ cs)) cs (length filter + (length bs + 0)) (Stands-right filter (bs ++ cs) cs (length bs + 0) (Stands-right bs cs cs 0 last)));
     }
+
+-- ---- lengths
+
+length-four : (a b c d : List ℕ) → length (a ++ (b ++ (c ++ d))) ≡ length a + length b + length c + length d
+length-four a b c d =
+    let e = length-append a (b ++ (c ++ d)) in
+    let f = length-append b (c ++ d) in
+    let g = length-append c d in
+    omega (arith, e, f, g)
+
+pub length-sysv_table : LengthsOfSysvTables
+unfolding sysv_table
+length-sysv_table n base hs =
+    let whole = length-four (words 4 (n ∷ (base + length hs) ∷ [])) (words 4 (buckets n base hs)) (words 4 (replicate base 0)) (words 4 (sysv_chains n base hs)) in
+    let one = length-words 4 (n ∷ (base + length hs) ∷ []) in
+    let two = length-words 4 (buckets n base hs) in
+    let three = length-words 4 (replicate base 0) in
+    let four = length-words 4 (sysv_chains n base hs) in
+    let b = length-buckets n base hs in
+    let r = length-replicate {A = ℕ} base 0 in
+    let c = length-sysv_chains n base hs in
+    omega (arith, whole, one, two, three, four, b, r, c)
+
+pub length-gnu_table : LengthsOfGnuTables
+unfolding gnu_table
+length-gnu_table t hs =
+    let whole = length-four (spell (gnu_hash_header_fields t)) (words 8 (bloom t.bloom_count t.bloom_shift hs)) (words 4 (buckets t.bucket_count t.symbol_base hs)) (words 4 (gnu_chains t.bucket_count hs)) in
+    let one = length-header t in
+    let two = length-words 8 (bloom t.bloom_count t.bloom_shift hs) in
+    let three = length-words 4 (buckets t.bucket_count t.symbol_base hs) in
+    let four = length-words 4 (gnu_chains t.bucket_count hs) in
+    let f = length-bloom t.bloom_count t.bloom_shift hs in
+    let b = length-buckets t.bucket_count t.symbol_base hs in
+    let c = length-gnu_chains t.bucket_count hs in
+    omega (arith, whole, one, two, three, four, f, b, c)

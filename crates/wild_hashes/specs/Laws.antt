@@ -1,4 +1,5 @@
 -- What a look-up finds in a table that was made of names.
+--   LengthsOfSysvTables, LengthsOfGnuTables   how many bytes tables have
 --   first_named i ns name      the first symbol of that name, where ns are the names from symbol i on
 --   IsGnuLaidOut t hs          what is asked of a GNU table's settings, and of the order of its symbols
 --   Reads, ReadsWords          a reader gives these items
@@ -19,6 +20,18 @@ use Rattle.wild_records.specs.Abi.Dynamic.{dt_hash, dt_gnu_hash}
 use Rattle.wild_hashes.specs.declared.image.Parts.{Parts}
 use Rattle.wild_hashes.specs.Image.{tables_of, bytes_of, bytes_if, gnu_lookup_in, sysv_lookup_in}
 use Rattle.wild_hashes.specs.LookUp.{gnu_find, sysv_by, gnu_lookup, sysv_lookup}
+
+-- ---- lengths
+
+-- two counts, and a word of 4 bytes for each bucket and for each symbol, those before the base too
+abbrev pub LengthsOfSysvTables : Type 0
+LengthsOfSysvTables = (n base : ℕ) (hs : List ℕ) → length (sysv_table n base hs) ≡ 8 + 4 * n + 4 * (base + length hs)
+
+-- the header, a word of 8 bytes for each word of the filter, and one of 4 for each bucket and for each symbol from the base on
+abbrev pub LengthsOfGnuTables : Type 0
+LengthsOfGnuTables = (t : GnuHashHeader) (hs : List ℕ) → length (gnu_table t hs) ≡ 16 + 8 * t.bloom_count + 4 * t.bucket_count + 4 * length hs
+
+-- ---- look-ups
 
 -- the first symbol of that name, where ns are the names from symbol i on
 abbrev pub first_named : ℕ → List (List ℕ) → List ℕ → Option ℕ

@@ -14,7 +14,10 @@ mod writers;
 
 pub use fault::{ImageFault, LookupFault};
 pub use image::{Part, Parts, lookup_gnu, lookup_sysv};
-pub use laws::{gnu_look_up_finds_the_first, neighbours_ascend, sysv_look_up_finds_the_first};
+pub use laws::{
+    gnu_look_up_finds_the_first, hash_tables_have_their_lengths, neighbours_ascend,
+    sysv_look_up_finds_the_first,
+};
 pub use lookup::{find_gnu_symbol, find_sysv_symbol};
 pub use reading::LookupTables;
 pub use writers::{write_gnu_hash_tables, write_sysv_hash_table};

@@ -8,8 +8,8 @@ use Rattle.wild_records.specs.SectionHeader.{section_header_size, section_header
 use Rattle.wild_plan.specs.declared.section.Section.{Section}
 use Rattle.wild_plan.specs.declared.layout.Layout.{Layout}
 use Rattle.wild_plan.specs.Lists.{total}
-use Rattle.wild_headers.specs.declared.section_headers.Spoken.{Spoken}
-use Rattle.wild_headers.specs.Headers.{file_header, program_header, spoken_of, headers_from, section_headers_of}
+use Rattle.wild_headers.specs.declared.section_headers.Told.{Told}
+use Rattle.wild_headers.specs.Headers.{file_header, program_header, told_of, headers_from, section_headers_of}
 use Rattle.wild_headers.specs.Laws.{LengthsOfHeaders}
 use Rattle.wild_headers.proofs.HeaderLemmas.{length-file_header, length-program_header, length-section_header}
 
@@ -21,13 +21,13 @@ length-table f n h (x ∷ xs) =
     let rest = length-table f n h xs in
     omega (arith, e, here, rest)
 
-length-headers_from : (d : Spoken) (i name : ℕ) (ss : List Section) → length (headers_from d i name ss) ≡ length ss
+length-headers_from : (d : List Told) (i name : ℕ) (ss : List Section) → length (headers_from d i name ss) ≡ length ss
 length-headers_from d i name [] = refl
 length-headers_from d i name (s ∷ ss) = let e = length-headers_from d (i + 1) (name + length s.name + 1) ss in omega (arith, e)
 
 pub length-section_headers_of : (l : Layout) (ss : List Section) → length (section_headers_of l ss) ≡ length ss
 length-section_headers_of l [] = refl
-length-section_headers_of l (s ∷ ss) = let e = length-headers_from (spoken_of l) 1 (length s.name + 1) ss in omega (arith, e)
+length-section_headers_of l (s ∷ ss) = let e = length-headers_from (told_of l) 1 (length s.name + 1) ss in omega (arith, e)
 
 length-names : (ss : List Section) → length (flat_map (λ (s : Section). s.name ++ 0 ∷ []) ss) ≡ total (λ (s : Section). length s.name + 1) ss
 length-names [] = refl

@@ -1,3 +1,4 @@
 pub mod HeaderLemmas
 pub mod LengthLemmas
+pub mod NumberLemmas
 pub mod ReadLemmas

@@ -11,8 +11,8 @@ use Rattle.wild_records.specs.declared.section_header.SectionHeader.{SectionHead
 use Rattle.wild_plan.specs.declared.section.Section.{Section}
 use Rattle.wild_plan.specs.declared.layout.Layout.{Layout}
 use Rattle.wild_plan.specs.Lists.{total}
-use Rattle.wild_headers.specs.declared.section_headers.Spoken.{Spoken}
-use Rattle.wild_headers.specs.Headers.{program_header, spoken_of, section_header, headers_from, section_headers_of}
+use Rattle.wild_headers.specs.declared.section_headers.Told.{Told}
+use Rattle.wild_headers.specs.Headers.{program_header, told_of, section_header, headers_from, section_headers_of}
 use Rattle.wild_headers.specs.Laws.{ProgramHeadersStand, SectionHeadersStand, NamesStand}
 use Rattle.wild_headers.proofs.HeaderLemmas.{length-program_header, length-section_header, named}
 use Rattle.wild_headers.proofs.LengthLemmas.{length-section_headers_of}
@@ -42,7 +42,7 @@ sections_stand l k d h =
     Stands-table (λ x. spell (section_header_fields x)) section_header_size length-section_header (section_headers_of l l.sections) k d (omega (arith, n, h))
 
 -- the name that a header tells begins behind those before it
-name_of_header : (d : Spoken) (i name : ℕ) (ss : List Section) (k : ℕ) (h : SectionHeader) → k < length ss → (get_or (headers_from d i name ss) k h).name ≡ name + total named (take k ss)
+name_of_header : (d : List Told) (i name : ℕ) (ss : List Section) (k : ℕ) (h : SectionHeader) → k < length ss → (get_or (headers_from d i name ss) k h).name ≡ name + total named (take k ss)
 unfolding section_header
 name_of_header d i name [] k h l = absurd (omega (arith, l))
 name_of_header d i name (s ∷ ss) zero h l = omega arith
@@ -62,6 +62,6 @@ names_stand l k d h some few = at l l.sections k d h some few
     at l [] k d h some few = absurd (omega (arith, few))
     at l (s ∷ ss) zero d h some few = absurd (omega (arith, some))
     at l (s ∷ ss) (suc k) d h some few =
-        let e = name_of_header (spoken_of l) 1 (length s.name + 1) ss k h (omega (arith, few)) in
-        let same : (get_or (headers_from (spoken_of l) 1 (length s.name + 1) ss) k h).name ≡ total named (take (suc k) (s ∷ ss)) = omega (arith, e) in
+        let e = name_of_header (told_of l) 1 (length s.name + 1) ss k h (omega (arith, few)) in
+        let same : (get_or (headers_from (told_of l) 1 (length s.name + 1) ss) k h).name ≡ total named (take (suc k) (s ∷ ss)) = omega (arith, e) in
         rw same (Stands-name (s ∷ ss) (suc k) d few)

@@ -3,7 +3,7 @@
 --   program_header l g    the header of a segment; program_header_bytes l the bytes of all
 --   section_headers_of l  the section headers; section_header_bytes l their bytes
 --   names_of l            the names of the sections
-use Rattle.std.specs.Prelude.{ℕ, ◌+◌, ◌-◌, ◌%◌, ◌/◌, ◌==◌, if◌then◌else◌, nat_lt, max, List, [], ◌∷◌, ◌++◌, length, Option, Some}
+use Rattle.std.specs.Prelude.{ℕ, ◌+◌, ◌-◌, ◌%◌, ◌/◌, ◌^◌, ◌==◌, if◌then◌else◌, nat_lt, max, List, [], ◌∷◌, ◌++◌, length}
 use Rattle.std.specs.List.{flat_map}
 use Rattle.wild_words.specs.Record.{spell}
 use Rattle.wild_records.specs.Abi.Header.{elfmag, elfclass64, elfdata2lsb, ev_current, elfosabi_none, et_rel, et_exec, et_dyn, em_x86_64, em_aarch64}
@@ -15,6 +15,7 @@ use Rattle.wild_records.specs.declared.section_header.SectionHeader.{SectionHead
 use Rattle.wild_records.specs.FileHeader.{file_header_size, file_header_fields}
 use Rattle.wild_records.specs.ProgramHeader.{program_header_size, program_header_fields}
 use Rattle.wild_records.specs.SectionHeader.{section_header_size, section_header_fields}
+use Rattle.wild_records.specs.SymtabEntry.{symtab_entry_size}
 use Rattle.wild_plan.specs.declared.kind.Machine.{Machine}
 use Rattle.wild_plan.specs.declared.kind.Machine.TheVariants as machine
 use Rattle.wild_plan.specs.declared.kind.RelocationModel.TheVariants as model
@@ -25,12 +26,12 @@ use Rattle.wild_plan.specs.declared.part.Role.{Role}
 use Rattle.wild_plan.specs.declared.part.Role.TheVariants as role
 use Rattle.wild_plan.specs.declared.section.Section.{Section}
 use Rattle.wild_plan.specs.declared.section.Segment.{Segment}
-use Rattle.wild_plan.specs.declared.layout.Entry.{Entry}
-use Rattle.wild_plan.specs.declared.layout.Entry.TheVariants as entry
 use Rattle.wild_plan.specs.declared.layout.Layout.{Layout}
-use Rattle.wild_headers.specs.declared.section_headers.Spoken.{Spoken}
+use Rattle.wild_headers.specs.declared.section_headers.Told.{Told}
+use Rattle.wild_plan.specs.EntryPoint.{entry_point}
 use Rattle.wild_plan.specs.Lookups.{bit}
 use Rattle.wild_plan.specs.Places.{has_role}
+use Rattle.wild_plan.specs.Versions.{need_count}
 
 -- e_type
 abbrev pub file_type : OutputKind → ℕ
@@ -45,10 +46,9 @@ abbrev pub machine_number : Machine → ℕ
 machine_number machine.X86_64 = em_x86_64
 machine_number machine.AArch64 = em_aarch64
 
--- e_entry: 0 where the layout gives no address
-abbrev pub entry_address : Option Entry → ℕ
-entry_address (Some (entry.Address a)) = a
-entry_address other = 0
+-- e_entry
+abbrev pub entry_address : Layout → ℕ
+entry_address l = (entry_point l).address
 
 -- the offset of the first part of a role; 0 where there is none
 abbrev pub offset_of_role : Role → List Part → ℕ
@@ -59,6 +59,11 @@ offset_of_role r (p ∷ ps) = if has_role r p then p.offset else offset_of_role 
 abbrev pub section_of_role : Role → List Part → ℕ
 section_of_role r [] = shn_undef
 section_of_role r (p ∷ ps) = if has_role r p then p.section else section_of_role r ps
+
+-- the size of the first part of a role; 0 where there is none
+abbrev pub size_of_role : Role → List Part → ℕ
+size_of_role r [] = 0
+size_of_role r (p ∷ ps) = if has_role r p then p.size else size_of_role r ps
 
 -- the header index of the section of the names
 abbrev pub name_table : Layout → ℕ
@@ -83,7 +88,7 @@ file_header l = record {
   file_type = file_type l.kind;
   machine = machine_number l.machine;
   version = ev_current;
-  entry = entry_address l.entry;
+  entry = entry_address l;
   program_offset = file_header_size;
   section_offset = offset_of_role role.SectionHeaders l.parts;
   flags = 0;
@@ -131,15 +136,26 @@ null_header l = record {
 abbrev pub uncompressed : ℕ → ℕ
 uncompressed flags = if bit flags shf_compressed then flags - shf_compressed else flags
 
--- the header indexes of the sections of the dynamic symbols, of the entries of stubs, and of the global offset table; 0 where
--- there is none
-abbrev pub spoken_of : Layout → Spoken
-spoken_of l = record { symbols = section_of_role role.Dynsym l.parts; stubs = section_of_role role.RelaPlt l.parts; table = section_of_role role.Got l.parts }
+-- the number that sh_info of a section tells, by the part that stands in it
+abbrev pub told_at : Layout → Role → ℕ → Told
+told_at l r info = record { section = section_of_role r l.parts; info = info % 2 ^ 32 }
 
--- sh_info of a section: of symbols, how many local ones stand in front, which is the entry of zeros alone; of the entries of
--- stubs, the section whose words they fill; else as it is given (gABI, "Sections", sh_link and sh_info)
-abbrev pub info_at : Spoken → ℕ → Section → ℕ
-info_at spoken i s = if i == spoken.symbols then 1 else (if i == spoken.stubs then spoken.table else s.info)
+-- how many symbols of `.symtab` are local: as many as have room in their part
+abbrev pub local_symbols : Layout → ℕ
+local_symbols l = size_of_role role.SymtabLocal l.parts / symtab_entry_size
+
+-- what sh_info tells more than the layout gives (gABI, "Sections", sh_link and sh_info; LSB, "Symbol Versioning"): of symbols, how
+-- many local ones stand in front, which among the dynamic ones is the entry of zeros alone; of versions, how many there are; of the
+-- entries of stubs, the section whose words they fill
+unfoldable pub told_of : Layout → List Told
+told_of l =
+    told_at l role.Dynsym 1 ∷ told_at l role.RelaPlt (section_of_role role.Got l.parts) ∷ told_at l role.SymtabLocal (local_symbols l)
+    ∷ told_at l role.GnuVersionD (length l.verdefs) ∷ told_at l role.GnuVersionR (need_count l) ∷ []
+
+-- sh_info of section i: the first that is told of it, else as it is given
+abbrev pub info_at : List Told → ℕ → ℕ → ℕ
+info_at [] i given = given
+info_at (t ∷ ts) i given = if i == t.section then t.info else info_at ts i given
 
 -- the header of another section, whose name begins at that offset of the names
 unfoldable pub section_header : ℕ → ℕ → Section → SectionHeader
@@ -157,14 +173,14 @@ section_header info name s = record {
 }
 
 -- the headers of the sections from number i and a name offset on
-abbrev pub headers_from : Spoken → ℕ → ℕ → List Section → List SectionHeader
-headers_from spoken i name [] = []
-headers_from spoken i name (s ∷ ss) = section_header (info_at spoken i s) name s ∷ headers_from spoken (i + 1) (name + length s.name + 1) ss
+abbrev pub headers_from : List Told → ℕ → ℕ → List Section → List SectionHeader
+headers_from told i name [] = []
+headers_from told i name (s ∷ ss) = section_header (info_at told i s.info) name s ∷ headers_from told (i + 1) (name + length s.name + 1) ss
 
 -- all section headers
 abbrev pub section_headers_of : Layout → List Section → List SectionHeader
 section_headers_of l [] = []
-section_headers_of l (s ∷ ss) = null_header l ∷ headers_from (spoken_of l) 1 (length s.name + 1) ss
+section_headers_of l (s ∷ ss) = null_header l ∷ headers_from (told_of l) 1 (length s.name + 1) ss
 
 abbrev pub file_header_bytes : Layout → List ℕ
 file_header_bytes l = spell (file_header_fields (file_header l))

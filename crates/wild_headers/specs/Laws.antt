@@ -1,4 +1,7 @@
 -- What a reader of the headers finds.
+--   SectionCountStands   how many sections there are stands in the file header, or from SHN_LORESERVE on in section header 0
+--   NameTableStands      so does the header index of the section of the names
+--   CountsAtTheLimit     the largest number of sections that the file header tells, and the next one
 --   LengthsOfHeaders     the headers are as long as is needed of them
 --   ProgramHeadersStand  program header k stands at 56 k
 --   SectionHeadersStand  section header k stands at 64 k
@@ -6,6 +9,7 @@
 use Rattle.std.specs.Prelude.{◌≡◌, ℕ, ◌*◌, ◌<◌, ◌≤◌, [], ◌∷◌, ◌++◌, length, slice_index_or}
 use Rattle.wild_words.specs.Words.{Stands}
 use Rattle.wild_words.specs.Record.{spell}
+use Rattle.wild_records.specs.Abi.Section.{shn_undef, shn_loreserve, shn_xindex}
 use Rattle.wild_records.specs.ProgramHeader.{program_header_size, program_header_fields}
 use Rattle.wild_records.specs.SectionHeader.{section_header_size, section_header_fields}
 use Rattle.wild_records.specs.declared.section_header.SectionHeader.{SectionHeader}
@@ -14,7 +18,7 @@ use Rattle.wild_plan.specs.declared.section.Section.{Section}
 use Rattle.wild_plan.specs.declared.section.Segment.{Segment}
 use Rattle.wild_plan.specs.declared.layout.Layout.{Layout}
 use Rattle.wild_plan.specs.Needs.{whole_of}
-use Rattle.wild_headers.specs.Headers.{program_header, section_headers_of, file_header_bytes, program_header_bytes, section_header_bytes, names_of}
+use Rattle.wild_headers.specs.Headers.{file_header, program_header, name_table, null_header, section_headers_of, file_header_bytes, program_header_bytes, section_header_bytes, names_of}
 
 -- the headers and the names are as long as is needed of them
 pub record LengthsOfHeaders (l : Layout) : Type 0 where
@@ -25,6 +29,28 @@ pub record LengthsOfHeaders (l : Layout) : Type 0 where
 
 abbrev pub HeadersHaveTheirLengths : Type 0
 HeadersHaveTheirLengths = (l : Layout) → LengthsOfHeaders l
+
+-- a number stands in its field of the file header where it is below SHN_LORESERVE, and that of section header 0 is 0; else the
+-- file header has the escape, and section header 0 the number (gABI, "ELF Header", e_shnum, e_shstrndx; "Sections")
+pub record IsTold (n escape field other : ℕ) : Type 0 where
+  pub small : n < shn_loreserve → (field ≡ n) × (other ≡ 0)
+  pub large : shn_loreserve ≤ n → (field ≡ escape) × (other ≡ n)
+
+-- how many sections there are
+abbrev pub SectionCountStands : Type 0
+SectionCountStands = (l : Layout) → IsTold (length l.sections) shn_undef (file_header l).section_count (null_header l).size
+
+-- the header index of the section of the names
+abbrev pub NameTableStands : Type 0
+NameTableStands = (l : Layout) → IsTold (name_table l) shn_xindex (file_header l).name_table (null_header l).link
+
+-- the largest number of sections that the file header tells, and the next one
+pub record SectionCountsAtTheLimit (l : Layout) : Type 0 where
+  pub last : length l.sections ≡ 65279 → ((file_header l).section_count ≡ 65279) × ((null_header l).size ≡ 0)
+  pub next : length l.sections ≡ 65280 → ((file_header l).section_count ≡ 0) × ((null_header l).size ≡ 65280)
+
+abbrev pub CountsAtTheLimit : Type 0
+CountsAtTheLimit = (l : Layout) → SectionCountsAtTheLimit l
 
 -- the header of segment k
 abbrev pub ProgramHeadersStand : Type 0

@@ -1,10 +1,10 @@
 //! The file header (gABI, "ELF Header").
 ghost use Rattle.std.specs.Prelude.{◌≡◌, ◌^◌, ◌<◌, length};
 ghost use Rattle.wild_records.specs.FileHeader.{file_header_size};
-ghost use Rattle.wild_headers.specs.Headers.{file_type, machine_number, entry_address, file_header, file_header_bytes};
+ghost use Rattle.wild_headers.specs.Headers.{file_type, machine_number, file_header, file_header_bytes};
 
 use crate::numbers::{or_escape, section_headers_offset, section_of_role};
-use wild_plan::{Entry, Layout, Machine, OutputKind, RelocationModel, Role};
+use wild_plan::{Layout, Machine, OutputKind, RelocationModel, Role, elf_entry_address};
 use wild_records::abi::header::{
     ELFCLASS64, ELFDATA2LSB, ELFMAG, ELFOSABI_NONE, EM_AARCH64, EM_X86_64, ET_DYN, ET_EXEC, ET_REL,
     EV_CURRENT,
@@ -35,16 +35,6 @@ fn machine_number(machine: Machine) -> u16
     }
 }
 
-/// `e_entry`; 0 where the layout gives no address.
-fn entry_address(entry: Option<Entry>) -> u64
-    ensures { result ≡ entry_address entry }
-{
-    match entry {
-        Some(Entry::Address(address)) => address,
-        _ => 0,
-    }
-}
-
 #[tactic(auto, unfolding(crate::specs::Headers::file_header))]
 fn file_header(layout: &Layout) -> FileHeader
     requires { length layout.now.segments < 2 ^ 16 }
@@ -60,7 +50,7 @@ fn file_header(layout: &Layout) -> FileHeader
         file_type: file_type(layout.kind),
         machine: machine_number(layout.machine),
         version: EV_CURRENT as u32,
-        entry: entry_address(layout.entry),
+        entry: elf_entry_address(layout).0,
         program_offset: FileHeader::SIZE as u64,
         section_offset: section_headers_offset(layout.parts.as_slice()),
         flags: 0,

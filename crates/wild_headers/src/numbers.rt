@@ -1,10 +1,11 @@
 //! What the headers tell of the sections, by its place in them.
-ghost use Rattle.std.specs.Prelude.{◌≡◌};
-ghost use Rattle.wild_headers.specs.Headers.{offset_of_role, section_of_role, or_escape, or_none};
+ghost use Rattle.std.specs.Prelude.{◌≡◌, ◌%◌, ◌^◌};
+ghost use Rattle.wild_headers.specs.Headers.{offset_of_role, section_of_role, size_of_role, or_escape, or_none};
 ghost use Rattle.wild_plan.specs.Places.{has_role};
+ghost use Rattle.wild_plan.specs.Versions.{has_needs, need_count};
 ghost use Rattle.wild_plan.specs.declared.part.Role.TheVariants.{SectionHeaders};
 
-use wild_plan::{Part, Role, SectionIndex, has_role};
+use wild_plan::{File, Layout, Part, Role, SectionIndex, has_role};
 use wild_records::abi::section::{SHN_LORESERVE, SHN_UNDEF};
 
 /// A number of sections, or an index of one, as the file header has it.
@@ -53,4 +54,38 @@ pub(crate) fn section_of_role(role: Role, parts: &[Part]) -> SectionIndex
         }
     }
     SectionIndex(SHN_UNDEF as usize)
+}
+
+/// The size of the part of a role; 0 where there is none.
+pub(crate) fn size_of_role(role: Role, parts: &[Part]) -> u64
+    ensures { result ≡ size_of_role role parts.now }
+{
+    for part in parts {
+        if has_role(role, part) {
+            return part.size;
+        }
+    }
+    0
+}
+
+/// Whether versions are needed of a file.
+fn has_needs(file: &File) -> bool
+    ensures { result ≡ has_needs file.now }
+{
+    file.role.is_library() && file.verneed.is_some()
+}
+
+/// Of how many libraries versions are needed, modulo 2^32.
+pub(crate) fn need_count(layout: &Layout) -> u32
+    ensures { result ≡ need_count layout.now % 2 ^ 32 }
+{
+    let mut count: u32 = 0;
+    for group in layout.groups.as_slice() {
+        for file in group.files.as_slice() {
+            if has_needs(file) {
+                count = count.wrapping_add(1);
+            }
+        }
+    }
+    count
 }

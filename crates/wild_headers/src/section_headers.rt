@@ -4,13 +4,12 @@ ghost use Rattle.wild_words.specs.Words.{place};
 ghost use Rattle.wild_words.specs.Record.{spell};
 ghost use Rattle.wild_records.specs.SectionHeader.{section_header_size, section_header_fields};
 ghost use Rattle.wild_plan.specs.Needs.{name_bytes};
-ghost use Rattle.wild_plan.specs.declared.layout.Layout.{Layout};
-ghost use Rattle.wild_headers.specs.Headers.{name_table, spoken_of, null_header, uncompressed, info_at, section_header, section_header_bytes};
+ghost use Rattle.wild_headers.specs.Headers.{name_table, told_at, local_symbols, told_of, null_header, uncompressed, info_at, section_header, section_header_bytes};
 
-use crate::numbers::{or_none, section_of_role};
-use wild_plan::{Layout, Part, Role, Section, SectionIndex};
-use wild_records::SectionHeader;
+use crate::numbers::{need_count, or_none, section_of_role, size_of_role};
+use wild_plan::{Layout, Role, Section, SectionIndex};
 use wild_records::abi::section::{SHF_COMPRESSED, SHT_NULL};
+use wild_records::{SectionHeader, SymtabEntry};
 use wild_words::put;
 
 #[tactic(auto, unfolding(crate::specs::Headers::null_header))]
@@ -44,39 +43,56 @@ fn uncompressed(flags: u64) -> u64
     }
 }
 
-/// The sections of which `sh_info` tells more than the layout gives, and the one that it tells; 0 where there is none.
+/// What `sh_info` of a section tells more than the layout gives.
 #[derive(Clone, Copy)]
-struct Spoken {
-    /// The dynamic symbols.
-    symbols: SectionIndex,
-    /// The entries of stubs.
-    stubs: SectionIndex,
-    /// The global offset table.
-    table: SectionIndex,
+struct Told {
+    section: SectionIndex,
+    info: u32,
 }
 
-fn spoken_of(parts: &[Part]) -> Spoken
-    ensures { (l : Layout) → l.parts ≡ parts.now → result ≡ spoken_of l }
+/// A number, modulo 2^32, that the section of the part of a role tells.
+fn told_at(layout: &Layout, role: Role, number: u64) -> Told
+    ensures { result ≡ told_at layout.now role number }
 {
-    Spoken {
-        symbols: section_of_role(Role::Dynsym, parts),
-        stubs: section_of_role(Role::RelaPlt, parts),
-        table: section_of_role(Role::Got, parts),
+    Told {
+        section: section_of_role(role, layout.parts.as_slice()),
+        info: (number % 0x1_0000_0000) as u32,
     }
 }
 
-/// What `sh_info` of section i tells.
-fn info_at(spoken: &Spoken, i: SectionIndex, section: &Section) -> u32
-    requires { spoken.now.table < 2 ^ 32 }
-    ensures { result ≡ info_at spoken.now i section.now }
+/// How many symbols of `.symtab` are local.
+fn local_symbols(layout: &Layout) -> u64
+    ensures { result ≡ local_symbols layout.now }
 {
-    if i == spoken.symbols {
-        1
-    } else if i == spoken.stubs {
-        spoken.table.0 as u32
-    } else {
-        section.info
+    size_of_role(Role::SymtabLocal, layout.parts.as_slice()) / SymtabEntry::SIZE as u64
+}
+
+/// Of symbols, how many local ones stand in front; of versions, how many there are; of the entries of stubs, the section
+/// whose words they fill.
+#[tactic(auto, unfolding(crate::specs::Headers::told_of))]
+fn told_of(layout: &Layout) -> [Told; 5]
+    ensures { result ≡ told_of layout.now }
+{
+    let table = section_of_role(Role::Got, layout.parts.as_slice());
+    [
+        told_at(layout, Role::Dynsym, 1),
+        told_at(layout, Role::RelaPlt, table.0 as u64),
+        told_at(layout, Role::SymtabLocal, local_symbols(layout)),
+        told_at(layout, Role::GnuVersionD, layout.verdefs.len() as u64),
+        told_at(layout, Role::GnuVersionR, need_count(layout) as u64),
+    ]
+}
+
+/// What `sh_info` of section i tells: the first that is told of it, else what the layout gives.
+fn info_at(told: &[Told], i: SectionIndex, given: u32) -> u32
+    ensures { result ≡ info_at told.now i given }
+{
+    for number in told {
+        if i == number.section {
+            return number.info;
+        }
     }
+    given
 }
 
 #[tactic(auto, unfolding(crate::specs::Headers::section_header))]
@@ -100,40 +116,38 @@ fn section_header(info: u32, name: u32, section: &Section) -> SectionHeader
 /// The header of the section with that index, whose name begins at `name`.
 fn header_of(
     layout: &Layout,
-    spoken: &Spoken,
+    told: &[Told],
     i: SectionIndex,
     name: u64,
     section: &Section,
 ) -> SectionHeader
     requires name { name < 2 ^ 32 }
     requires name_table { name_table layout.now < 2 ^ 32 }
-    requires table { spoken.now.table < 2 ^ 32 }
-    ensures { result ≡ (if i == 0 then null_header layout.now else section_header (info_at spoken.now i section.now) name section.now) }
+    ensures { result ≡ (if i == 0 then null_header layout.now else section_header (info_at told.now i section.now.info) name section.now) }
 {
     if i.0 == 0 {
         null_header(layout)
     } else {
-        section_header(info_at(spoken, i, section), name as u32, section)
+        section_header(info_at(told, i, section.info), name as u32, section)
     }
 }
 
 fn put_section_header(
     layout: &Layout,
-    spoken: &Spoken,
+    told: &[Told],
     section: &Section,
     i: usize,
     name: u64,
     out: &mut [u8],
 )
     requires room { section_header_size * i + section_header_size ≤ length out.old }
-    requires spoken { spoken.now ≡ spoken_of layout.now }
-    requires table { spoken.now.table < 2 ^ 32 }
+    requires told { told.now ≡ told_of layout.now }
     requires name { name < 2 ^ 32 }
     requires name_table { name_table layout.now < 2 ^ 32 }
-    ensures { out.new ≡ place (section_header_size * i) (spell (section_header_fields (if i == 0 then null_header layout.now else section_header (info_at (spoken_of layout.now) i section.now) name section.now))) out.old }
+    ensures { out.new ≡ place (section_header_size * i) (spell (section_header_fields (if i == 0 then null_header layout.now else section_header (info_at (told_of layout.now) i section.now.info) name section.now))) out.old }
 {
     let mut header = [0; SectionHeader::SIZE];
-    header_of(layout, spoken, SectionIndex(i), name, section).put(&mut header);
+    header_of(layout, told, SectionIndex(i), name, section).put(&mut header);
     put(out, i * SectionHeader::SIZE, &header);
 }
 
@@ -142,13 +156,12 @@ pub fn write_section_headers(layout: &Layout, out: &mut [u8])
     requires room { length out.old ≡ section_header_size * length layout.now.sections }
     requires names { name_bytes layout.now < 2 ^ 32 }
     requires name_table { name_table layout.now < 2 ^ 32 }
-    requires table { (spoken_of layout.now).table < 2 ^ 32 }
     ensures { out.new ≡ section_header_bytes layout.now }
 {
-    let spoken = spoken_of(layout.parts.as_slice());
+    let told = told_of(layout);
     let mut name = 0;
     for (i, section) in layout.sections.as_slice().iter().enumerate() {
-        put_section_header(layout, &spoken, section, i, name, out);
+        put_section_header(layout, &told, section, i, name, out);
         name += section.name.len() as u64 + 1;
     }
 }
