@@ -1,23 +1,30 @@
 -- Which JSON value stands for what the link was asked for. Options not named here are unknown.
 --   options_in d   the options of an object
---   options_of d   those of a plan: its member of that name, or an empty object
-use Rattle.std.specs.Prelude.{ℕ, List, [], ◌∷◌, codes, Result, Ok, None, unwrap_or, false}
-use Rattle.serde_json.specs.Data.{Data, object, no_members}
-use Rattle.serde_json.specs.Find.{get}
+use Rattle.std.specs.Prelude.{ℕ, List, [], ◌∷◌, codes, Result, Ok, None, false}
+use Rattle.serde_json.specs.Data.{Data}
 use Rattle.wild_plan.specs.Defaults.{no_options}
 use Rattle.wild_plan.specs.declared.options.Options.{Options}
-use Rattle.wild_text.specs.Reads.{◌>>=◌, under}
-use Rattle.wild_text.specs.Values.{bool_in, hex_in, set_in, list_in, nullable}
-use Rattle.wild_text.specs.Members.{field, required_field, an_object, known_only}
+use Rattle.wild_text.specs.Reads.{◌>>=◌}
+use Rattle.wild_text.specs.Values.{bool_in, hex_in, list_in, nullable}
+use Rattle.wild_text.specs.Members.{field, an_object, known_only}
 
--- options of every output; no plan with a symbol table is known
+-- options of every output
 unfoldable pub output_options : Data → Result Options (List ℕ)
 output_options d = do
   relax ← field (codes "relax") bool_in false d
   relr ← field (codes "relr") bool_in false d
-  strip_all ← required_field (codes "strip_all") set_in d
+  strip_all ← field (codes "strip_all") bool_in false d
+  versions ← field (codes "versions") bool_in false d
+  got_plt_syms ← field (codes "got_plt_syms") bool_in false d
   execstack ← field (codes "execstack") bool_in false d
-  Ok (record no_options { relax = relax; relr = relr; strip_all = strip_all.0; execstack = execstack })
+  Ok (record no_options {
+    relax = relax;
+    relr = relr;
+    strip_all = strip_all;
+    versions = versions;
+    got_plt_syms = got_plt_syms;
+    execstack = execstack;
+  })
 
 -- options that the dynamic section tells (gABI, "Dynamic Section")
 unfoldable pub dynamic_options : Options → Data → Result Options (List ℕ)
@@ -28,6 +35,7 @@ dynamic_options before d = do
   interpose ← field (codes "interpose") bool_in false d
   textrel ← field (codes "textrel") bool_in false d
   static_tls ← field (codes "static_tls") bool_in false d
+  variant_pcs ← field (codes "variant_pcs") bool_in false d
   rpath ← field (codes "rpath") (nullable hex_in) None d
   soname ← field (codes "soname") (nullable hex_in) None d
   auxiliary ← field (codes "auxiliary") (list_in hex_in) [] d
@@ -38,6 +46,7 @@ dynamic_options before d = do
     interpose = interpose;
     textrel = textrel;
     static_tls = static_tls;
+    variant_pcs = variant_pcs;
     rpath = rpath;
     soname = soname;
     auxiliary = auxiliary;
@@ -45,8 +54,8 @@ dynamic_options before d = do
 
 -- the members of options
 abbrev pub option_members : List (List ℕ)
-option_members = codes "relax" ∷ codes "relr" ∷ codes "strip_all" ∷ codes "execstack" ∷ codes "new_dtags" ∷ codes "origin" ∷ codes "nodelete"
-    ∷ codes "interpose" ∷ codes "textrel" ∷ codes "static_tls" ∷ codes "rpath" ∷ codes "soname" ∷ codes "auxiliary" ∷ []
+option_members = codes "relax" ∷ codes "relr" ∷ codes "strip_all" ∷ codes "versions" ∷ codes "got_plt_syms" ∷ codes "execstack"
+    ∷ codes "new_dtags" ∷ codes "origin" ∷ codes "nodelete" ∷ codes "interpose" ∷ codes "textrel" ∷ codes "static_tls" ∷ codes "variant_pcs" ∷ codes "rpath" ∷ codes "soname" ∷ codes "auxiliary" ∷ []
 
 -- what the link was asked for
 unfoldable pub options_in : Data → Result Options (List ℕ)
@@ -56,7 +65,3 @@ options_in d = do
   asked ← dynamic_options before d
   all_known ← known_only option_members d
   Ok asked
-
--- absent options are those of an empty object
-abbrev pub options_of : Data → Result Options (List ℕ)
-options_of d = under (codes "options") (options_in (unwrap_or (get (codes "options") d) (object no_members)))

@@ -7,8 +7,7 @@ use wild_plan::{At, EntryWarning, Error, Fault, Missing, SymbolIndex};
 #[test]
 fn an_image(rt: HostRuntime) -> Result<(), Fail> {
     let alloc = rt.alloc();
-    let names =
-        r#"{"options":{"strip_all":true},"symbols":[{"name":"5f7374617274"},{"name":"ff"}]}"#;
+    let names = r#"{"symbols":[{"name":"5f7374617274"},{"name":"ff"}]}"#;
     let value = Value::from_str(alloc, names).ok().ok_or("json")?;
     let layout = read_plan(alloc, &value).ok().ok_or("plan")?;
     let warnings = [

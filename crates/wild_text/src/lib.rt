@@ -11,8 +11,10 @@ mod options;
 mod output;
 mod plan;
 mod refusal;
+mod shapes;
 mod symbol;
 mod values;
+mod versions;
 mod warning;
 
 pub use answer::{image_answer, no_plan_answer, push_counts};

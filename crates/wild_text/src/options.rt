@@ -1,12 +1,11 @@
 //! What the link was asked for.
 ghost use Rattle.serde_json.specs.View.{view};
 ghost use Rattle.wild_text.specs.Reads.{Gives};
-ghost use Rattle.wild_text.specs.Options.{output_options, dynamic_options, options_in, options_of};
+ghost use Rattle.wild_text.specs.Options.{output_options, dynamic_options, options_in};
 
 use crate::fault::PlanFault;
-use crate::members::{Planned, closed, member, object, required, under};
-use crate::values::Set;
-use serde_json::{Map, Value};
+use crate::members::{Planned, closed, member, object};
+use serde_json::Value;
 use std::alloc::Global;
 use wild_plan::Options;
 use wild_words::Items;
@@ -18,12 +17,16 @@ fn output_options(alloc: Global, json: &Value) -> std::result::Result<Options, P
 {
     let relax = member(alloc, json, "relax", false)?;
     let relr = member(alloc, json, "relr", false)?;
-    let Set(strip_all) = required(alloc, json, "strip_all")?;
+    let strip_all = member(alloc, json, "strip_all", false)?;
+    let versions = member(alloc, json, "versions", false)?;
+    let got_plt_syms = member(alloc, json, "got_plt_syms", false)?;
     let execstack = member(alloc, json, "execstack", false)?;
     Ok(Options {
         relax,
         relr,
         strip_all,
+        versions,
+        got_plt_syms,
         execstack,
         ..Options::none(alloc)
     })
@@ -44,6 +47,7 @@ fn dynamic_options(
     let interpose = member(alloc, json, "interpose", false)?;
     let textrel = member(alloc, json, "textrel", false)?;
     let static_tls = member(alloc, json, "static_tls", false)?;
+    let variant_pcs = member(alloc, json, "variant_pcs", false)?;
     let rpath = member(alloc, json, "rpath", None)?;
     let soname = member(alloc, json, "soname", None)?;
     let auxiliary = member(alloc, json, "auxiliary", Items::new(alloc))?;
@@ -54,6 +58,7 @@ fn dynamic_options(
         interpose,
         textrel,
         static_tls,
+        variant_pcs,
         rpath,
         soname,
         auxiliary,
@@ -76,6 +81,8 @@ impl Planned for Options {
                 "relax",
                 "relr",
                 "strip_all",
+                "versions",
+                "got_plt_syms",
                 "execstack",
                 "new_dtags",
                 "origin",
@@ -83,23 +90,12 @@ impl Planned for Options {
                 "interpose",
                 "textrel",
                 "static_tls",
+                "variant_pcs",
                 "rpath",
                 "soname",
                 "auxiliary",
             ],
             asked,
         )
-    }
-}
-
-/// The options of a plan; absent ones are those of an empty object.
-pub(crate) fn read_options(alloc: Global, value: &Value) -> std::result::Result<Options, PlanFault>
-    ensures { Gives result (options_of (view value.now)) }
-{
-    let empty = Value::Object(Map::new(alloc));
-    let given = value.get("options").unwrap_or(&empty);
-    match Options::read(alloc, given) {
-        Ok(options) => Ok(options),
-        Err(fault) => Err(under(alloc, "options", fault)),
     }
 }

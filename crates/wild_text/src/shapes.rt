@@ -1,0 +1,33 @@
+//! The shapes of the hash tables.
+ghost use Rattle.wild_text.specs.Shapes.{sysv_hash_in, gnu_hash_in};
+
+use crate::fault::PlanFault;
+use crate::members::{Planned, closed, member, members, object};
+use serde_json::Value;
+use std::alloc::Global;
+use wild_plan::{GnuHash, SysvHash};
+
+impl Planned for SysvHash {
+    ghost reads = { sysv_hash_in };
+
+    #[tactic(auto, unfolding(crate::specs::Shapes::sysv_hash_in))]
+    fn read(alloc: Global, json: &Value) -> std::result::Result<SysvHash, PlanFault> {
+        members!(alloc, json; SysvHash {
+            buckets: 0,
+        } rest {})
+    }
+}
+
+impl Planned for GnuHash {
+    ghost reads = { gnu_hash_in };
+
+    #[tactic(auto, unfolding(crate::specs::Shapes::gnu_hash_in))]
+    fn read(alloc: Global, json: &Value) -> std::result::Result<GnuHash, PlanFault> {
+        members!(alloc, json; GnuHash {
+            buckets: 0,
+            bloom_count: 0,
+            bloom_shift: 0,
+            base: 0,
+        } rest {})
+    }
+}
