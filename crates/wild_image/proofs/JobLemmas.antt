@@ -1,14 +1,10 @@
 -- Laws of the groups as work.
-use Rattle.std.proofs.Common.{◌≡◌, ℕ, ◌^◌, ◌<◌, ◌-◌, nat_lt, List, [], length, arith, subst, Result, Ok, Err}
+use Rattle.std.proofs.Common.{◌≡◌, ℕ, ◌^◌, ◌<◌, ◌-◌, List, [], length, arith, subst, Result, Ok, Err}
 use Rattle.std.specs.Prelude.{Some, slice_get, IfOk}
-use Rattle.std.proofs.lemmas.Bool.{and_parts, ltb-true}
 use Rattle.wild_plan.specs.declared.fault.Error.{Error}
 use Rattle.wild_plan.specs.declared.file.Group.{Group}
 use Rattle.wild_plan.specs.declared.layout.Layout.{Layout}
 use Rattle.wild_plan.specs.Faults.{Answers, Refuses}
-use Rattle.wild_plan.specs.Needs.{name_bytes}
-use Rattle.wild_plan.specs.declared.part.Role.TheVariants as role
-use Rattle.wild_plan.specs.Counts.{total_share, counts_fit}
 use Rattle.wild_plan.specs.WellFormed.{first_clause, check_sizes, check_counts}
 use Rattle.wild_layout.specs.Faults.{group_errors}
 use Rattle.wild_image.specs.Pieces.{group_parts, group_pairs}
@@ -16,21 +12,12 @@ use Rattle.wild_image.specs.Batches.{batch_errors, batch_bytes, batch_pairs, pai
 use Rattle.wild_image.specs.declared.batch.Batch.{Batch}
 use Rattle.wild_image.specs.Jobs.{GivesPiece}
 use Rattle.wild_image.specs.declared.piece.GroupPiece.{GroupPiece}
-use Rattle.wild_image.proofs.OutputLemmas.{first_holds, rest_holds, test_holds}
+use Rattle.wild_image.proofs.OutputLemmas.{first_holds, rest_holds, few_lists}
 
 -- a layout whose clauses hold has few groups
-few_counted : (l : Layout) → check_counts l ≡ Ok tt → length l.groups < 2 ^ 32 - 1
-unfolding check_counts
-few_counted l h =
-    let a = test_holds (counts_fit l) h in
-    let z = and_parts _ (nat_lt (total_share l role.Dynstr) (2 ^ 32)) a in
-    let b = and_parts _ (nat_lt (name_bytes l) (2 ^ 32)) z.0 in
-    let c = and_parts _ (nat_lt (length l.groups) (2 ^ 32 - 1)) b.0 in
-    ltb-true _ _ c.1
-
 pub few_groups : (l : Layout) → first_clause l ≡ Ok tt → length l.groups < 2 ^ 32
 unfolding first_clause
-few_groups l h = let e = few_counted l (first_holds (check_counts l) _ (rest_holds (check_sizes l) _ h)) in omega (arith, e)
+few_groups l h = let e = few_lists l (first_holds (check_counts l) _ (rest_holds (check_sizes l) _ h)) in let f = e.1 in omega (arith, f)
 
 -- what a batch was found to give is what the batch with its number gives
 pub gives_found : (l : Layout) (bs : List Batch) (i : ℕ) (found : Batch) (r : Result (List ℕ) Error) → slice_get bs i ≡ Some found → Answers r (batch_errors l found) → IfOk r (λ bytes. bytes ≡ batch_bytes l found) → GivesBatch l bs i r

@@ -23,3 +23,7 @@ pub mod StringLemmas
 pub mod DynamicLemmas
 pub mod SymbolLemmas
 pub mod HomeLemmas
+pub mod WalkLemmas
+pub mod SymtabFaultLemmas
+pub mod HashLemmas
+pub mod VersionLemmas

@@ -10,6 +10,7 @@ use Rattle.wild_plan.specs.declared.layout.Layout.{Layout}
 use Rattle.wild_plan.specs.Lists.{unless}
 use Rattle.wild_plan.specs.Places.{has_role, relocation_count}
 use Rattle.wild_plan.specs.Counts.{total_share, counts_fit}
+use Rattle.wild_plan.specs.VersionTables.{versions_fit}
 use Rattle.wild_plan.specs.WellFormed.{fails, first_error, first_clause, check_sizes, check_counts}
 use Rattle.wild_headers.specs.Headers.{section_of_role}
 use Rattle.wild_layout.specs.Image.{group_pieces, pieces, padding, bytes}
@@ -22,6 +23,8 @@ use Rattle.wild_plan.specs.declared.part.Role.TheVariants as role
 use Rattle.wild_plan.specs.Needs.{name_bytes}
 use Rattle.wild_plan.specs.Faults.{Refuses}
 use Rattle.wild_image.proofs.FaultLemmas.{Refuses-front, Refuses-behind}
+use Rattle.wild_image.proofs.HashLemmas.{sysv_stands, gnu_stands}
+use Rattle.wild_image.proofs.VersionLemmas.{definitions_fit}
 
 section_below : (r : Role) (n : ℕ) (ps : List Part) → 1 ≤ n → All (λ (p : Part). p.section < n) ps → section_of_role r ps < n
 section_below r n [] h all = omega arith
@@ -42,7 +45,9 @@ FieldsFit-IsLaidOut l h = record {
   sections = h.sections;
   names = h.names;
   name_table = let e = index_below l h role.Shstrtab in omega (arith, e);
-  table = let e = index_below l h role.Got in omega (arith, e);
+  definitions = definitions_fit l h;
+  sysv = sysv_stands l h;
+  gnu = gnu_stands l h;
 }
 
 -- the padding and the groups make the image
@@ -68,22 +73,23 @@ pub test_holds : (b : Bool) → fails 2 (unless b) ≡ Ok tt → b ≡ true
 test_holds true h = refl
 test_holds false h = cc
 
-few : (l : Layout) → check_counts l ≡ Ok tt → relocation_count l < 2 ^ 32
+-- neither relocations nor groups are too many
+pub few_lists : (l : Layout) → check_counts l ≡ Ok tt → (relocation_count l < 2 ^ 32 - 1) × (length l.groups < 2 ^ 32 - 1)
 unfolding check_counts
-few l h =
-    let a = test_holds (counts_fit l) h in
-    let z = and_parts _ (nat_lt (total_share l role.Dynstr) (2 ^ 32)) a in
-    let b = and_parts _ (nat_lt (name_bytes l) (2 ^ 32)) z.0 in
-    let c = and_parts _ (nat_lt (length l.groups) (2 ^ 32 - 1)) b.0 in
-    let d = and_parts _ (nat_le 1 (length l.groups)) c.0 in
-    let e = and_parts _ (nat_lt (relocation_count l) (2 ^ 32 - 1)) d.0 in
-    let f = ltb-true _ _ e.1 in
-    omega (arith, f)
+few_lists l h =
+    let a = and_parts _ (versions_fit l) (test_holds (counts_fit l) h) in
+    let b = and_parts _ (nat_lt (total_share l role.Strtab) (2 ^ 32)) a.0 in
+    let c = and_parts _ (nat_lt (total_share l role.Dynstr) (2 ^ 32)) b.0 in
+    let d = and_parts _ (nat_lt (name_bytes l) (2 ^ 32)) c.0 in
+    let e = and_parts _ (nat_lt (length l.groups) (2 ^ 32 - 1)) d.0 in
+    let f = and_parts _ (nat_le 1 (length l.groups)) e.0 in
+    let g = and_parts _ (nat_lt (relocation_count l) (2 ^ 32 - 1)) f.0 in
+    (ltb-true _ _ g.1, ltb-true _ _ e.1)
 
 -- a layout whose clauses hold has few relocations
 pub few_relocations : (l : Layout) → clause_errors (first_clause l) ≡ [] → relocation_count l < 2 ^ 64
 unfolding first_clause
-few_relocations l h = let e = few l (first_holds (check_counts l) _ (rest_holds (check_sizes l) _ (clause_holds (first_clause l) h))) in omega (arith, e)
+few_relocations l h = let e = few_lists l (first_holds (check_counts l) _ (rest_holds (check_sizes l) _ (clause_holds (first_clause l) h))) in let f = e.0 in omega (arith, f)
 
 -- a fault of the clauses, or of the shares where the clauses hold, is the first
 pub clause_refused : (l : Layout) (e : Error) → Refuses e (clause_errors (first_clause l)) → Refuses e (errors l)

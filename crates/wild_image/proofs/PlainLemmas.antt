@@ -18,6 +18,7 @@ use Rattle.wild_plan.specs.Lists.{total}
 use Rattle.wild_plan.specs.Places.{role_place}
 use Rattle.wild_plan.specs.Needs.{has_plain_role, is_plain, share, group_share, needs_of, needs}
 use Rattle.wild_plan.specs.FileRoles.{is_prelude, is_epilogue}
+use Rattle.wild_plan.specs.TableSymbols.{has_table}
 use Rattle.wild_plan.specs.SlotPlaces.{is_without}
 use Rattle.wild_plan.specs.SlotShares.{own_symbols, block_share}
 use Rattle.wild_tables.specs.Dynamic.{dynamic_bytes}
@@ -41,7 +42,7 @@ not_last l [] h = refl
 not_last l (f ∷ files) h =
     let p = and_parts (is_plain l f) (list_all (is_plain l) files) h in
     let r = and_parts (has_plain_role l f) (list_all is_without (own_symbols l f) && general_count l f == 0) p.0 in
-    let q = and_parts (not (needs_dynamic l.kind) && not (is_prelude f.role)) (not (is_epilogue f.role)) r.0 in
+    let q = and_parts (not (needs_dynamic l.kind) && not (has_table l) && not (is_prelude f.role)) (not (is_epilogue f.role)) r.0 in
     let a = no (is_epilogue f.role) q.1 in
     rw a (not_last l files p.1)
   where

@@ -13,7 +13,7 @@ use Rattle.wild_plan.specs.Treatment.{flags_at}
 use Rattle.wild_relax.specs.declared.reference.RelocationInfo.{RelocationInfo}
 use Rattle.wild_relax.specs.Question.{Question}
 use Rattle.wild_layout.specs.Choice.{info_of}
-use Rattle.wild_layout.specs.Values.{raw_value}
+use Rattle.wild_plan.specs.Addresses.{raw_value}
 
 -- what the rows ask of a relocation by itself, but for its symbol's name
 abbrev pub nameless : InputRelocation → RelocationInfo

@@ -4,9 +4,11 @@ pub mod Choice
 pub mod Counts
 pub mod Decided
 pub mod General
+pub mod Hashes
 pub mod Homes
 pub mod Jobs
 pub mod Own
 pub mod Pieces
 pub mod Placed
 pub mod Steps
+pub mod Walks

@@ -7,11 +7,12 @@ ghost use Rattle.wild_plan.specs.Faults.{Answers};
 ghost use Rattle.wild_layout.specs.Faults.{flat_map_from, section_errors, file_errors, group_errors};
 ghost use Rattle.wild_layout.specs.Geometry.{SectionLies};
 ghost use Rattle.wild_image.specs.Pieces.{section_owned, file_sections, group_sections, group_tables, group_bytes};
+ghost use Rattle.wild_image.specs.Steps.{NeedsFit};
 ghost use Rattle.wild_image.specs.Batches.{batch_errors, batch_bytes};
 
 use crate::batch::Batch;
 use crate::copies::check_entries;
-use crate::listed::check_listed;
+use crate::listed::check_symbol_tables;
 use crate::part_bytes::PartBytes;
 use crate::place::InputPlace;
 use crate::tables::add_content;
@@ -28,6 +29,7 @@ fn add_group_tables<A: Arch>(
     group: &Group,
     bytes: &mut PartBytes,
 ) -> Result<(), AllocError>
+    requires { NeedsFit group.now }
     ensures { OnOk result (bytes.new ≡ bytes.old ++ group_tables resolved.now.layout.now group.now) }
 {
     if is_plain_group(resolved.layout, group) {
@@ -145,7 +147,7 @@ fn add_group_sections<A: Arch>(
     ensures bytes { OnOk result (bytes.new ≡ bytes.old ++ group_sections resolved.now.layout.now group.now) }
 {
     add_files(alloc, resolved, index, group, bytes)?;
-    check_listed(resolved, index, group.files.as_slice())
+    check_symbol_tables(resolved, index, group.files.as_slice())
 }
 
 /// How many bytes some groups have, so that their buffer is taken at once.
@@ -176,6 +178,7 @@ fn add_group<A: Arch>(
     bytes: &mut PartBytes,
 ) -> Result<(), Error>
     requires lies { All (λ (f : File). All (SectionLies resolved.now.layout.now) f.sections) group.now.files }
+    requires few { NeedsFit group.now }
     ensures faults { Answers result (group_errors resolved.now.layout.now index group.now) }
     ensures bytes { OnOk result (bytes.new ≡ bytes.old ++ group_bytes resolved.now.layout.now group.now) }
 {
@@ -190,6 +193,7 @@ pub(crate) fn bytes_of_batch<A: Arch>(
     batch: &Batch,
 ) -> Result<PartBytes, Error>
     requires lies { All (λ (g : Group). All (λ (f : File). All (SectionLies resolved.now.layout.now) f.sections) g.files) batch.now.groups.now }
+    requires few { All NeedsFit batch.now.groups.now }
     requires small { batch.now.first + length batch.now.groups.now < 2 ^ 64 }
     ensures faults { Answers result (batch_errors resolved.now.layout.now batch.now) }
     ensures bytes { IfOk result (λ bs. bs ≡ batch_bytes resolved.now.layout.now batch.now) }

@@ -1,6 +1,6 @@
 //! The file of a symbol, as far as the dynamic symbol table tells of it.
 ghost use Rattle.std.specs.Prelude.{◌≡◌, None, Some, slice_get};
-ghost use Rattle.wild_plan.specs.DynamicSymbols.{section_of_input};
+ghost use Rattle.wild_plan.specs.DynamicSymbols.{section_of_input, output_section};
 ghost use Rattle.wild_image.specs.Homes.{home_of, home_in};
 
 use crate::placed::Told;
@@ -24,19 +24,25 @@ fn section_of_input(layout: &Layout, file: &File, place: usize) -> SectionIndex
     }
 }
 
+/// The header index of the output section of a place in a file; 0 where there is none.
+pub(crate) fn section_in_file(layout: &Layout, file: &File, place: Place) -> SectionIndex
+    ensures { result ≡ output_section layout.now (Some file.now) place }
+{
+    match place {
+        Place::Output(section) => section,
+        Place::Section(index) => section_of_input(layout, file, index),
+        _ => SectionIndex(0),
+    }
+}
+
 impl Home {
     /// That of a symbol of a file.
     fn in_file(layout: &Layout, file: &File, place: Place) -> Home
         ensures { result ≡ home_of layout.now place (Some file.now) }
     {
-        let section = match place {
-            Place::Output(section) => section,
-            Place::Section(index) => section_of_input(layout, file, index),
-            _ => SectionIndex(0),
-        };
         Home {
             role: file.role,
-            section,
+            section: section_in_file(layout, file, place),
         }
     }
 

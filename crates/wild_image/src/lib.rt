@@ -10,6 +10,7 @@ mod copies;
 mod dynamic;
 mod entries;
 mod fields;
+mod hashes;
 mod home;
 mod indirect;
 mod job;
@@ -35,11 +36,14 @@ mod slot_words;
 mod slots;
 mod strings;
 mod symbols;
+mod symtab;
+mod symtab_faults;
 mod tables;
 mod take;
 #[cfg(test)]
 mod tests;
 mod values;
+mod versions;
 mod words;
 
 pub use output::{SizedOutput, write, write_gated};
@@ -48,4 +52,5 @@ pub use part_bytes::PartBytes;
 pub use piece::{GroupPiece, write_group};
 pub use shares::check_shares;
 pub use wild_headers::{populate_file_header, write_program_headers, write_section_headers};
+pub use wild_plan::elf_entry_address;
 pub use wild_relax::{Arch, ElfX86_64};

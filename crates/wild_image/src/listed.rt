@@ -1,12 +1,13 @@
 //! What the dynamic symbol table says of the symbols that other modules see, and what these lack of it.
-ghost use Rattle.std.specs.Prelude.{◌≡◌, true, slice_get};
+ghost use Rattle.std.specs.Prelude.{◌≡◌, ◌++◌, true, slice_get};
 ghost use Rattle.std.specs.List.{flat_map};
 ghost use Rattle.wild_plan.specs.Faults.{Answers};
 ghost use Rattle.wild_plan.specs.Kinds.{needs_dynsym};
 ghost use Rattle.wild_symbols.specs.DynamicEntries.{listed_of, or_none};
-ghost use Rattle.wild_layout.specs.Faults.{at_file, flat_map_from, listed_error, listed_errors};
+ghost use Rattle.wild_layout.specs.Faults.{at_file, flat_map_from, listed_error, listed_errors, table_errors};
 
 use crate::place::InputPlace;
+use crate::symtab_faults::check_table;
 use crate::values::Resolved;
 use wild_plan::{DynamicSymbol, Error, Fault, File};
 use wild_relax::Arch;
@@ -93,11 +94,7 @@ fn check_file<A: Arch>(resolved: &Resolved<A>, place: InputPlace, file: &File) -
 
 /// Refuses the listed symbols, where one of the files is the last one.
 #[tactic(auto, using(crate::proofs::FaultLemmas::first_from))]
-pub(crate) fn check_listed<A: Arch>(
-    resolved: &Resolved<A>,
-    group: usize,
-    files: &[File],
-) -> Result<(), Error>
+fn check_listed<A: Arch>(resolved: &Resolved<A>, group: usize, files: &[File]) -> Result<(), Error>
     ensures { Answers result (flat_map_from (listed_errors resolved.now.layout.now group) 0 files.now) }
 {
     for (i, file) in files.iter().enumerate() {
@@ -109,4 +106,18 @@ pub(crate) fn check_listed<A: Arch>(
         check_file(resolved, place, file)?;
     }
     Ok(())
+}
+
+/// What the symbols of a group's files lack of their entries: those that other modules see, and then those of the table of all
+/// symbols.
+#[tactic(auto, using(crate::proofs::FaultLemmas::first_of_both))]
+pub(crate) fn check_symbol_tables<A: Arch>(
+    resolved: &Resolved<A>,
+    group: usize,
+    files: &[File],
+) -> Result<(), Error>
+    ensures { Answers result (flat_map_from (listed_errors resolved.now.layout.now group) 0 files.now ++ flat_map_from (table_errors resolved.now.layout.now group) 0 files.now) }
+{
+    check_listed(resolved, group, files)?;
+    check_table(resolved, group, files)
 }

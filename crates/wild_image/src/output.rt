@@ -17,11 +17,11 @@ use crate::job::{GroupJob, Outcome};
 use crate::padding::fill_sections;
 use crate::shares::check_shares;
 use crate::values::Resolved;
-use std::alloc::Global;
+use std::alloc::{AllocError, Global};
 use std::thread::Threads;
 use wild_crew::{Gate, OpenGate, gather};
 use wild_geometry::layouts_are_laid_out;
-use wild_plan::{At, EntryWarning, Error, Fault, Layout, well_formed};
+use wild_plan::{At, EntryWarning, Error, Fault, Layout, elf_entry_address, well_formed};
 use wild_relax::Arch;
 use wild_words::{Bytes, Items};
 
@@ -46,6 +46,16 @@ fn check_clauses(layout: &Layout) -> Result<(), Error>
             },
             at: At::NOWHERE,
         }),
+    }
+}
+
+/// What is said beside the image.
+fn warnings_of(alloc: Global, layout: &Layout) -> Result<Items<EntryWarning>, AllocError>
+    ensures { IfOk result (λ w. w ≡ warnings layout.now) }
+{
+    match elf_entry_address(layout).1 {
+        Some(warning) => Ok(Items::from_vec(vec![in alloc; warning]?)),
+        None => Ok(Items::new(alloc)),
     }
 }
 
@@ -108,9 +118,10 @@ where
     let mut out = vec![in alloc; 0u8; layout.image_end() as usize]?;
     let pieces = gathered.pieces.as_slice();
     write_bytes::<A>(layout, batches, pieces, &mut starts, &mut out)?;
+    let warnings = warnings_of(alloc, layout)?;
     Ok(SizedOutput {
         out: Bytes::from_vec(out),
-        warnings: Items::new(alloc),
+        warnings,
         counts: gathered.totals,
     })
 }

@@ -8,6 +8,7 @@ ghost use Rattle.wild_layout.specs.Faults.{flat_map_from, part_errors, group_err
 ghost use Rattle.wild_layout.specs.Geometry.{SectionLies};
 ghost use Rattle.wild_image.specs.Pieces.{group_parts, group_pairs};
 ghost use Rattle.wild_image.specs.Jobs.{GivesPiece};
+ghost use Rattle.wild_image.specs.Steps.{NeedsFit};
 
 use crate::pairs::pairs_of_group;
 use crate::part_bytes::PartBytes;
@@ -51,6 +52,7 @@ fn fill_parts<A: Arch>(
     parts: &mut [PartBytes],
 ) -> Result<(), Error>
     requires lies { All (λ (f : File). All (SectionLies resolved.now.layout.now) f.sections) group.now.files }
+    requires few { NeedsFit group.now }
     requires none { parts.old ≡ replicate (length resolved.now.layout.now.parts) [] }
     ensures faults { Answers result (group_errors resolved.now.layout.now index group.now) }
     ensures parts { OnOk result (parts.new ≡ group_parts resolved.now.layout.now group.now) }
@@ -67,6 +69,7 @@ fn parts_of_group<A: Arch>(
     group: &Group,
 ) -> Result<Items<PartBytes>, Error>
     requires lies { All (λ (f : File). All (SectionLies resolved.now.layout.now) f.sections) group.now.files }
+    requires few { NeedsFit group.now }
     ensures faults { Answers result (group_errors resolved.now.layout.now index group.now) }
     ensures parts { IfOk result (λ v. v ≡ group_parts resolved.now.layout.now group.now) }
 {
@@ -91,6 +94,7 @@ fn piece_of<A: Arch>(
     group: &Group,
 ) -> Result<GroupPiece, Error>
     requires lies { All (λ (f : File). All (SectionLies resolved.now.layout.now) f.sections) group.now.files }
+    requires few { NeedsFit group.now }
     requires sections { (part : ℕ) → section_of resolved.now.layout.now part < 2 ^ 32 }
     ensures faults { Answers result (group_errors resolved.now.layout.now index group.now) }
     ensures parts { IfOk result (λ p. p.parts ≡ group_parts resolved.now.layout.now group.now) }

@@ -1,14 +1,18 @@
-//! The strings of the dynamic string table: of each file those that no symbol has for its name, and then the names of its
-//! entries in the dynamic symbol table (gABI, "String Table").
+//! The strings of the dynamic string table: of each file those that no symbol has for its name, then the names of its
+//! entries in the dynamic symbol table, and those of its versions (gABI, "String Table"; LSB, "Symbol Versioning").
 ghost use Rattle.std.specs.Prelude.{◌≡◌, ◌++◌, option_to_list, OnOk};
 ghost use Rattle.std.specs.List.{flat_map, filter};
 ghost use Rattle.wild_plan.specs.DynamicStrings.{epilogue_strings, lead_strings, listed_names, symbol_names, entry_names, file_strings};
 ghost use Rattle.wild_plan.specs.DynamicSymbols.{is_undefined_entry};
+ghost use Rattle.wild_plan.specs.Versions.{needs_of, needed_names, need_names, definition_names, own_names, version_names};
 ghost use Rattle.wild_symbols.specs.Strings.{string, string_bytes};
 
 use crate::part_bytes::PartBytes;
 use std::alloc::AllocError;
-use wild_plan::{DynamicSymbol, File, FileRole, Layout, Symbol, is_undefined_entry};
+use wild_plan::{
+    DynamicSymbol, File, FileRole, Layout, NeededVersion, Symbol, VersionDefinition,
+    is_undefined_entry, needs_of,
+};
 use wild_words::Bytes;
 
 /// Adds a string, with a zero behind it.
@@ -101,6 +105,64 @@ fn add_entry_names(layout: &Layout, file: &File, bytes: &mut PartBytes) -> Resul
     }
 }
 
+/// Adds the names of versions that are needed.
+fn add_needed_names(versions: &[NeededVersion], bytes: &mut PartBytes) -> Result<(), AllocError>
+    ensures { OnOk result (bytes.new ≡ bytes.old ++ string_bytes (needed_names versions.now)) }
+{
+    for version in versions {
+        add_string(version.name.as_slice(), bytes)?;
+    }
+    Ok(())
+}
+
+/// Adds the names of versions that the output defines.
+fn add_defined_names(
+    definitions: &[VersionDefinition],
+    bytes: &mut PartBytes,
+) -> Result<(), AllocError>
+    ensures { OnOk result (bytes.new ≡ bytes.old ++ string_bytes (definition_names definitions.now)) }
+{
+    for definition in definitions {
+        add_string(definition.name.as_slice(), bytes)?;
+    }
+    Ok(())
+}
+
+/// Adds those of them that are strings of their own: not the first, where the output's own name is one.
+fn add_own_names(layout: &Layout, bytes: &mut PartBytes) -> Result<(), AllocError>
+    ensures { OnOk result (bytes.new ≡ bytes.old ++ string_bytes (own_names layout.now.options.soname layout.now.verdefs)) }
+{
+    let definitions = layout.verdefs.as_slice();
+    match layout.options.soname {
+        Some(_) => add_defined_names(&definitions[definitions.len().min(1)..], bytes),
+        None => add_defined_names(definitions, bytes),
+    }
+}
+
+/// Adds the name of a library once more, and those of the versions that are needed of it.
+fn add_need_names(file: &File, bytes: &mut PartBytes) -> Result<(), AllocError>
+    ensures { OnOk result (bytes.new ≡ bytes.old ++ string_bytes (need_names file.now.lib_name (needs_of file.now))) }
+{
+    match needs_of(file) {
+        Some(needs) => {
+            add_string(file.lib_name.as_slice(), bytes)?;
+            add_needed_names(needs.versions.as_slice(), bytes)
+        }
+        None => Ok(()),
+    }
+}
+
+/// Adds the strings of a file's versions.
+fn add_version_names(layout: &Layout, file: &File, bytes: &mut PartBytes) -> Result<(), AllocError>
+    ensures { OnOk result (bytes.new ≡ bytes.old ++ string_bytes (version_names layout.now file.now)) }
+{
+    if file.role.is_epilogue() {
+        add_own_names(layout, bytes)
+    } else {
+        add_need_names(file, bytes)
+    }
+}
+
 /// Adds the strings of a file.
 #[tactic(auto, using(crate::proofs::StringLemmas::file_strings_joined, crate::proofs::StringLemmas::no_file_strings))]
 pub(crate) fn add_file_strings(
@@ -113,6 +175,7 @@ pub(crate) fn add_file_strings(
     if layout.kind.needs_dynsym() {
         add_leads(layout, file, bytes)?;
         add_entry_names(layout, file, bytes)?;
+        add_version_names(layout, file, bytes)?;
     }
     Ok(())
 }

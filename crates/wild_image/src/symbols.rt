@@ -22,7 +22,7 @@ use wild_relax::Arch;
 use wild_symbols::{SymbolFields, entry_at, no_fields, undefined_fields};
 
 /// Adds an entry.
-fn add_entry(entry: SymtabEntry, bytes: &mut PartBytes) -> Result<(), AllocError>
+pub(crate) fn add_entry(entry: SymtabEntry, bytes: &mut PartBytes) -> Result<(), AllocError>
     ensures { OnOk result (bytes.new ≡ bytes.old ++ symbol_bytes (entry ∷ [])) }
 {
     let mut room = [0; SymtabEntry::SIZE];
@@ -31,7 +31,7 @@ fn add_entry(entry: SymtabEntry, bytes: &mut PartBytes) -> Result<(), AllocError
 }
 
 /// The offset behind a string and its zero, at most 2^64 - 1.
-fn behind_text(at: u64, text: &[u8]) -> u64
+pub(crate) fn behind_text(at: u64, text: &[u8]) -> u64
     ensures { result ≡ behind_text at text.now }
 {
     at.saturating_add((text.len() as u64).saturating_add(1))

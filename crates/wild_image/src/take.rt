@@ -8,7 +8,7 @@ ghost use Rattle.wild_layout.specs.Geometry.{SectionLies};
 ghost use Rattle.wild_image.specs.Pieces.{owned_in, file_owned, group_owned};
 
 use crate::copies::check_entries;
-use crate::listed::check_listed;
+use crate::listed::check_symbol_tables;
 use crate::part_bytes::PartBytes;
 use crate::place::InputPlace;
 use crate::section::write_data;
@@ -152,5 +152,5 @@ pub(crate) fn take_group<A: Arch>(
     ensures owned { OnOk result ((k : ℕ) → k < length parts.old → slice_index_or parts.new k [] ≡ slice_index_or parts.old k [] ++ group_owned resolved.now.layout.now k group.now) }
 {
     take_files(alloc, resolved, index, group, parts)?;
-    check_listed(resolved, index, group.files.as_slice())
+    check_symbol_tables(resolved, index, group.files.as_slice())
 }

@@ -246,6 +246,7 @@ fn layout_of(
     Ok(Layout {
         options: Options {
             relax: true,
+            strip_all: true,
             ..Options::none(alloc)
         },
         machine: Machine::X86_64,
@@ -527,6 +528,9 @@ fn movable_with(alloc: Global, symbols: Items<Symbol>) -> Result<Layout, AllocEr
         parts: Items::new(alloc),
         sections: Items::new(alloc),
         segments: Items::new(alloc),
+        verdefs: Items::new(alloc),
+        sysv_hash: None,
+        gnu_hash: None,
         symbols,
         ..layout(alloc, &[])?
     })

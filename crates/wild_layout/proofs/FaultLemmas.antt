@@ -14,7 +14,7 @@ use Rattle.wild_plan.specs.declared.layout.Layout.{Layout}
 use Rattle.wild_plan.specs.Entries.{copies_of}
 use Rattle.wild_plan.specs.SlotShares.{own_symbols, slots_of}
 use Rattle.wild_layout.specs.Values.{raw_address, index_of}
-use Rattle.wild_layout.specs.Faults.{flat_map_from, clause_errors, overlap_errors, section_errors, at_file, slot_refusal, symbol_errors, slot_errors, copy_fault, fault_errors, copy_errors, file_errors, listed_errors, group_errors}
+use Rattle.wild_layout.specs.Faults.{flat_map_from, clause_errors, overlap_errors, section_errors, at_file, slot_refusal, symbol_errors, slot_errors, copy_fault, fault_errors, copy_errors, file_errors, listed_errors, table_errors, group_errors}
 
 pub clause_holds : (r : Result (Unit {0}) Clause) → clause_errors r ≡ [] → r ≡ Ok tt
 clause_holds (Ok x) h = refl
@@ -66,7 +66,7 @@ slots_of_file l g k f h =
 -- the faults of the files of a group
 pub files_of_group : (l : Layout) (i : ℕ) (g : Group) → group_errors l i g ≡ [] → flat_map_from (file_errors l i) 0 g.files ≡ []
 unfolding group_errors
-files_of_group l i g h = first_empty (flat_map_from (file_errors l i) 0 g.files) (flat_map_from (listed_errors l i) 0 g.files) h
+files_of_group l i g h = first_empty (flat_map_from (file_errors l i) 0 g.files) (flat_map_from (listed_errors l i) 0 g.files ++ flat_map_from (table_errors l i) 0 g.files) h
 
 -- where no group has a fault, what holds of each file without faults holds of all files
 pub of_files : (l : Layout) (P : File → Type 0) → ((i k : ℕ) (f : File) → file_errors l i k f ≡ [] → P f) → flat_map_from (group_errors l) 0 l.groups ≡ [] → All (λ (g : Group). All P g.files) l.groups

@@ -18,7 +18,7 @@ use Rattle.wild_relax.specs.Question.{Question}
 use Rattle.wild_relax.specs.Rewrite.{is_skip}
 use Rattle.wild_relax.specs.RewriteX86_64.{rewrite_of}
 use Rattle.wild_relax.specs.Relaxation.{chosen_of}
-use Rattle.wild_layout.specs.Values.{raw_value}
+use Rattle.wild_plan.specs.Addresses.{raw_value}
 
 -- `__tls_get_addr` ("ELF Handling For Thread-Local Storage", "Run-Time Handling of TLS")
 abbrev pub getter_name : List ℕ

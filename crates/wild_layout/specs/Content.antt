@@ -3,16 +3,25 @@
 --   own_bytes l r f   what a file gives to a part that a loader reads
 --   content l r g     the bytes that a group gives to a part of that role: the headers and the names are the
 --                     prelude's; the input sections of a raw part stand by themselves
-use Rattle.std.specs.Prelude.{ℕ, ◌-◌, ◌*◌, List, [], ◌++◌, length, if◌then◌else◌, Option, Some, None, slice_get}
+use Rattle.std.specs.Prelude.{ℕ, ◌-◌, ◌*◌, Bool, true, false, ◌&&◌, List, [], ◌++◌, length, map, if◌then◌else◌, Option, Some, None, slice_get}
 use Rattle.std.specs.List.{flat_map, list_any}
 use Rattle.wild_plan.specs.declared.part.Role.{Role}
 use Rattle.wild_plan.specs.declared.part.Role.TheVariants as role
 use Rattle.wild_plan.specs.declared.file.File.{File}
 use Rattle.wild_plan.specs.declared.file.Group.{Group}
+use Rattle.wild_plan.specs.declared.layout.SysvHash.{SysvHash}
+use Rattle.wild_plan.specs.declared.layout.GnuHash.{GnuHash}
 use Rattle.wild_plan.specs.declared.layout.Layout.{Layout}
 use Rattle.wild_records.specs.Dynamic.{dynamic_entry_size}
 use Rattle.wild_plan.specs.DynamicStrings.{file_strings, needed_entries}
+use Rattle.wild_plan.specs.DynamicSymbols.{first_listed}
+use Rattle.wild_plan.specs.Kinds.{needs_dynsym}
+use Rattle.wild_plan.specs.TableSymbols.{has_long, table_strings}
+use Rattle.wild_hashes.specs.Tables.{sysv_hash_of, gnu_hash_of, gnu_header, gnu_table, sysv_table}
+use Rattle.wild_versions.specs.Symbols.{version_bytes}
+use Rattle.wild_versions.specs.Names.{symbol_versions, file_definitions, group_needs}
 use Rattle.wild_symbols.specs.Strings.{string_bytes}
+use Rattle.wild_symbols.specs.TableEntries.{file_table, table_entries, long_indexes, index_bytes}
 use Rattle.wild_symbols.specs.Symbols.{symbol_bytes}
 use Rattle.wild_symbols.specs.DynamicEntries.{group_symbols}
 use Rattle.wild_plan.specs.FileRoles.{is_prelude, is_epilogue}
@@ -43,13 +52,38 @@ room_behind l (Some g) = share_of l (length l.groups - 1) role.Dynamic - dynamic
 abbrev pub dynamic_room : Layout → ℕ
 dynamic_room l = room_behind l (slice_get l.groups (length l.groups - 1))
 
--- entries with addends and words of packed relocations; strings, each with a zero behind it (gABI, "Relocation", "Relative
--- Relocation Table", "String Table")
+-- the hash tables of the symbols that the output defines (gABI, "Hash Table"; GNU, "DT_GNU_HASH")
+abbrev pub sysv_bytes : Layout → Option SysvHash → List ℕ
+sysv_bytes l None = []
+sysv_bytes l (Some h) = sysv_table h.buckets (first_listed l) (map sysv_hash_of l.dynsyms)
+
+abbrev pub gnu_bytes : Layout → Option GnuHash → List ℕ
+gnu_bytes l None = []
+gnu_bytes l (Some h) = gnu_table (gnu_header h) (map gnu_hash_of l.dynsyms)
+
+-- the last file has them, where the output has dynamic symbols
+abbrev pub of_last : Layout → File → List ℕ → List ℕ
+of_last l f bytes = if needs_dynsym l.kind && is_epilogue f.role then bytes else []
+
+-- the longer section indexes of the local symbols, or of the others, where a part has them
+abbrev pub indexes_of : Layout → Role → Bool → File → List ℕ
+indexes_of l r local f = if has_long l r then index_bytes (long_indexes local (file_table l f)) else []
+
+-- entries with addends and words of packed relocations; strings, each with a zero behind it; versions of symbols, and those that
+-- the output defines; hash tables; longer section indexes (gABI, "Relocation", "Relative Relocation Table", "String Table", "Hash
+-- Table", "Symbol Table"; LSB, "Symbol Versioning")
 abbrev pub own_bytes : Layout → Role → File → List ℕ
 own_bytes l role.RelaDynRelative f = rela_bytes (file_entries l f)
 own_bytes l role.RelaDynGeneral f = rela_bytes (file_generals l f)
 own_bytes l role.RelrDyn f = word_bytes (file_words l f)
 own_bytes l role.Dynstr f = string_bytes (file_strings l f)
+own_bytes l role.GnuVersion f = version_bytes (symbol_versions l f)
+own_bytes l role.GnuVersionD f = file_definitions l f
+own_bytes l role.SysvHash f = of_last l f (sysv_bytes l l.sysv_hash)
+own_bytes l role.GnuHash f = of_last l f (gnu_bytes l l.gnu_hash)
+own_bytes l role.SymtabShndxLocal f = indexes_of l role.SymtabShndxLocal true f
+own_bytes l role.SymtabShndxGlobal f = indexes_of l role.SymtabShndxGlobal false f
+own_bytes l role.Strtab f = string_bytes (table_strings l f)
 own_bytes l other f = []
 
 -- the bytes that a file gives to a part of that role
@@ -61,11 +95,14 @@ file_content l r f = (if is_prelude f.role then whole_bytes l r ++ header_bytes 
 abbrev pub dynamic_of : Layout → Group → List ℕ
 dynamic_of l g = entries_bytes (needed_entries l g) ++ (if list_any (λ (f : File). is_epilogue f.role) g.files then dynamic_bytes l (dynamic_room l) else [])
 
--- what is told of the files of a group together: the words that pack its block of slots, its symbols of the dynamic symbol table
--- and its entries of the dynamic section
+-- what is told of the files of a group together: the words that pack its block of slots, its symbols of the two tables, the versions
+-- that are needed of its libraries, and its entries of the dynamic section
 abbrev pub group_bytes : Layout → Role → Group → List ℕ
 group_bytes l role.Dynsym g = symbol_bytes (group_symbols l g)
+group_bytes l role.GnuVersionR g = group_needs l g
 group_bytes l role.Dynamic g = dynamic_of l g
+group_bytes l role.SymtabLocal g = symbol_bytes (table_entries l true g)
+group_bytes l role.SymtabGlobal g = symbol_bytes (table_entries l false g)
 group_bytes l r g = block_bytes l r g
 
 -- the bytes that a group gives to a part of that role: those of its files, and then those of all together

@@ -1,8 +1,9 @@
 -- What is said beside the image of a layout.
-use Rattle.std.specs.Prelude.{List, []}
+use Rattle.std.specs.Prelude.{List, option_to_list}
 use Rattle.wild_plan.specs.declared.layout.Layout.{Layout}
 use Rattle.wild_plan.specs.declared.warning.EntryWarning.{EntryWarning}
+use Rattle.wild_plan.specs.EntryPoint.{entry_point}
 
--- nothing: an entry is an address
+-- where the program begins at an address that the layout does not say (gABI, "ELF Header", e_entry)
 abbrev pub warnings : Layout → List EntryWarning
-warnings l = []
+warnings l = option_to_list (entry_point l).warning

@@ -1,16 +1,15 @@
 -- The clauses on shares and input sections hold of the plan of n groups.
 use Rattle.std.proofs.Common.{◌≡◌, ℕ, zero, suc, ◌+◌, ◌*◌, ◌-◌, ◌≤◌, ◌==◌, inl, inr, Bool, true, false, [], ◌∷◌, refl, sym, ap, ◌∙◌, arith}
-use Rattle.std.specs.Prelude.{Option, Some, None, Ok, option_and_then}
+use Rattle.std.specs.Prelude.{Some, None, Ok}
 use Rattle.std.proofs.lemmas.Bool.{cases_Bool, le-leb, ne_eqb, eq-eqb}
-use Rattle.wild_plan.specs.declared.file.File.{File}
-use Rattle.wild_plan.specs.declared.file.FileRole.TheVariants as file_role
-use Rattle.wild_plan.specs.Lists.{first_failing, total, through}
+use Rattle.wild_plan.specs.Lists.{first_failing, total}
 use Rattle.wild_plan.specs.Lookups.{bit}
 use Rattle.wild_plan.specs.Contents.{each_section, given, share_mismatch, has_share_for_each_part, files_placed, file_misplaced, part_placed, file_placed_in, parts_placed, section_misplaced, length_fits, discarded_is_empty, part_is_raw, allocation_agrees, bytes_take_room}
 use Rattle.wild_plan.specs.WellFormed.{check_shares, check_inputs}
-use Rattle.wild_made.specs.Made.{made_section, made_object, plain_file, made_files, made_group, made_parts, made}
+use Rattle.wild_made.specs.Made.{made_section, made_files, made_group, made_parts, made}
 use Rattle.wild_made.specs.Laws.{IsCount}
 use Rattle.wild_made.proofs.ListLemmas.{made_from, none_fails, total_same, length_made}
+use Rattle.wild_made.proofs.FileLemmas.{through_files}
 use Rattle.wild_made.proofs.PlaceLemmas.{sections_pass}
 
 -- ---- clause 7
@@ -78,23 +77,6 @@ shares_hold n c =
     rw (a, b, d) refl
 
 -- ---- clause 8
-
--- steps that the prelude and the epilogue leave out
-pub through_files : {S : Type 0} (step : S → File → Option S) (s : S) (n i : ℕ) → ((t : S) → step t (plain_file file_role.Prelude) ≡ Some t) → ((t : S) → step t (plain_file file_role.Epilogue) ≡ Some t)
-    → (o : Option S) → step s (made_object n i) ≡ o → through step s (made_files n i) ≡ o
-through_files step s n i first last o e =
-    elim (cases_Bool (i == 0)) [
-      | inl a ↦ elim (cases_Bool (i + 1 == n)) [ inl b ↦ rw (a, b, first, e) (ended step last o) | inr b ↦ rw (a, b, first, e) (stopped o) ]
-      | inr a ↦ elim (cases_Bool (i + 1 == n)) [ inl b ↦ rw (a, b, e) (ended step last o) | inr b ↦ rw (a, b, e) (stopped o) ]
-    ]
-  where
-    stopped : {S : Type 0} (o : Option S) → option_and_then (λ (t : S). Some t) o ≡ o
-    stopped None = refl
-    stopped (Some t) = refl
-
-    ended : {S : Type 0} (step : S → File → Option S) → ((t : S) → step t (plain_file file_role.Epilogue) ≡ Some t) → (o : Option S) → option_and_then (λ (t : S). option_and_then (λ (u : S). Some u) (step t (plain_file file_role.Epilogue))) o ≡ o
-    ended step last None = refl
-    ended step last (Some t) = rw (last t) refl
 
 other_placed : (n i part start end : ℕ) → (2 == part) ≡ false → part_placed (made n) part start end (made_group n i) ≡ true
 unfolding made_section

@@ -29,8 +29,10 @@ use Rattle.wild_layout.specs.Decide.{decided, decide}
 use Rattle.wild_layout.proofs.DecisionLemmas.{decide_alone}
 use Rattle.wild_layout.proofs.SiteLemmas.{site_written}
 use Rattle.wild_layout.specs.Sites.{field_site, site, extent_of}
-use Rattle.wild_layout.specs.Values.{raw_value, displacement, place_of}
-use Rattle.wild_layout.specs.Faults.{errors, flat_map_from, share_errors, has_spare, part_errors, relocation_errors, section_errors, file_errors, listed_errors, group_errors}
+use Rattle.wild_layout.specs.Values.{displacement, place_of}
+use Rattle.wild_plan.specs.Addresses.{raw_value}
+use Rattle.wild_plan.specs.TableSymbols.{file_items}
+use Rattle.wild_layout.specs.Faults.{errors, flat_map_from, share_errors, has_spare, part_errors, relocation_errors, section_errors, file_errors, listed_errors, table_errors, group_errors}
 use Rattle.wild_made.specs.Made.{made_section, made_object, plain_file, made_files, made_symbol, made_group, made_relocation, part_with, made_parts, made, callee, start_of}
 use Rattle.wild_made.specs.Laws.{IsCount}
 use Rattle.wild_made.proofs.ListLemmas.{made_from, nothing_from, item_at}
@@ -223,9 +225,18 @@ listed_clean n i g k =
       | inr a ↦ elim (cases_Bool (i + 1 == n)) [ inl b ↦ simp (a, b) refl | inr b ↦ simp (a, b) refl ]
     ]
 
+-- there is no table of all symbols
+table_clean : (n i g k : ℕ) → flat_map_from (table_errors (made n) g) k (made_files n i) ≡ []
+unfolding table_errors file_items made
+table_clean n i g k =
+    elim (cases_Bool (i == 0)) [
+      | inl a ↦ elim (cases_Bool (i + 1 == n)) [ inl b ↦ simp (a, b) refl | inr b ↦ simp (a, b) refl ]
+      | inr a ↦ elim (cases_Bool (i + 1 == n)) [ inl b ↦ simp (a, b) refl | inr b ↦ simp (a, b) refl ]
+    ]
+
 pub no_group_errors : (n : ℕ) → IsCount n → flat_map_from (group_errors (made n)) 0 (made n).groups ≡ []
 unfolding group_errors made
-no_group_errors n h = nothing_from (group_errors (made n)) (made_group n) 0 n (λ k low high. (let files = files_clean n k k 0 h (omega arith) in let listed = listed_clean n k k 0 in rw (files, listed) refl))
+no_group_errors n h = nothing_from (group_errors (made n)) (made_group n) 0 n (λ k low high. (let files = files_clean n k k 0 h (omega arith) in let listed = listed_clean n k k 0 in let table = table_clean n k k 0 in rw (files, listed, table) refl))
 
 -- ---- no faults
 

@@ -1,6 +1,6 @@
 -- The clauses on indexes, fields, the dynamic symbol table, flags and names hold of the plan of n groups, and so do all.
 use Rattle.std.proofs.Common.{◌≡◌, ℕ, zero, suc, ◌+◌, ◌<◌, ◌≤◌, ◌==◌, inl, inr, true, false, List, [], ◌++◌, refl, sym, ap, ◌∙◌, arith}
-use Rattle.std.specs.Prelude.{Some, None, Ok, nat_lt}
+use Rattle.std.specs.Prelude.{Option, Some, None, Ok, nat_lt}
 use Rattle.std.specs.List.{list_all}
 use Rattle.std.proofs.lemmas.Bool.{cases_Bool, cases_eq, le-leb, lt-ltb, le-ltb}
 use Rattle.wild_plan.specs.declared.file.File.{File}
@@ -8,18 +8,21 @@ use Rattle.wild_plan.specs.Lists.{first_failing}
 use Rattle.wild_plan.specs.Lookups.{files_of, file_of}
 use Rattle.wild_plan.specs.Rows.{row_of}
 use Rattle.wild_reloc.specs.TableX86_64.{x86_64_row}
-use Rattle.wild_plan.specs.Contents.{each_section, fields_lie, start_astray, file_names_fit, group_names_fit, symbol_name_fits}
+use Rattle.wild_plan.specs.declared.clauses.starts.Starts.{Starts}
+use Rattle.wild_plan.specs.Contents.{each_section, fields_lie, no_starts, start_astray, file_names_fit, group_names_fit, symbol_name_fits}
 use Rattle.wild_plan.specs.Indexes.{group_indexes_fit, file_indexes_fit, section_indexes_fit, relocation_index_fits, copied_in, copied_again, definition_is_own, range_follows, range_out_of_order, symbol_misfit}
 use Rattle.wild_plan.specs.Flags.{has_flag}
 use Rattle.wild_plan.specs.DynamicSymbols.{dynamic_symbols, misplaced}
 use Rattle.wild_plan.specs.SlotFlags.{dynamic_is_interposable, stub_is_value, stub_has_slot, one_slot_for_address, thread_slot_alone, resolver_is_own, slot_agrees, resolver_moves, second_slot_fits}
-use Rattle.wild_plan.specs.WellFormed.{check_indexes, check_fields, check_dynsyms, check_slot_flags, check_tls, check_starts, check_names, first_clause}
+use Rattle.wild_plan.specs.WellFormed.{check_indexes, check_fields, check_dynsyms, check_slot_flags, check_tls, check_starts, check_hashes, check_names, first_clause}
 use Rattle.wild_made.specs.Made.{made_section, made_object, made_files, made_symbol, made_group, made_relocation, made, callee}
 use Rattle.wild_made.specs.Laws.{IsCount}
 use Rattle.wild_made.proofs.ListLemmas.{made_from, none_fails, length_made, both_true, list_all_made}
-use Rattle.wild_made.proofs.PlaceLemmas.{all_files, sections_pass, sizes_hold, counts_hold, order_holds, roles_hold, sections_hold, segments_hold}
+use Rattle.wild_made.proofs.PlaceLemmas.{sections_pass, sizes_hold, counts_hold, order_holds, roles_hold, sections_hold, segments_hold}
 use Rattle.wild_made.proofs.SlotLemmas.{slots_hold}
-use Rattle.wild_made.proofs.ContentLemmas.{through_files, shares_hold, inputs_hold}
+use Rattle.wild_made.proofs.FileLemmas.{all_files, through_files}
+use Rattle.wild_made.proofs.ContentLemmas.{shares_hold, inputs_hold}
+use Rattle.wild_made.proofs.VersionLemmas.{versions_hold}
 
 -- ---- clause 9
 
@@ -101,7 +104,7 @@ pub indexes_hold : (n : ℕ) → IsCount n → check_indexes (made n) ≡ Ok tt
 unfolding check_indexes made
 indexes_hold n c = rw (none_astray n 0 n (omega arith), group_indexes n c, none_copied n 0 0 n, definitions_own n, ranges_follow n 0 n) refl
 
--- ---- clauses 10, 15, 16 and 19
+-- ---- clauses 10, 15 to 17 and 19
 
 fields_fit : (n : ℕ) → first_failing (each_section (fields_lie (made n).machine)) 0 (made_from (made_group n) 0 n) ≡ None
 unfolding made_section made row_of x86_64_row
@@ -115,14 +118,21 @@ pub tls_holds : (n : ℕ) → check_tls (made n) ≡ Ok tt
 unfolding check_tls made
 tls_holds n = refl
 
--- no group has dynamic strings
-none_starts_astray : (n a m : ℕ) → start_astray None 0 a (made_from (made_group n) a m) ≡ None
+-- there are no parts with strings or symbols
+abbrev no_places : Starts (Option ℕ)
+no_places = record { dynstr = None; strtab = None; locals = None; globals = None }
+
+none_starts_astray : (n a m : ℕ) → start_astray no_places no_starts a (made_from (made_group n) a m) ≡ None
 none_starts_astray n a zero = refl
 none_starts_astray n a (suc m) = none_starts_astray n (a + 1) m
 
 pub starts_hold : (n : ℕ) → check_starts (made n) ≡ Ok tt
 unfolding check_starts made
 starts_hold n = rw (none_starts_astray n 0 n) refl
+
+pub hashes_hold : (n : ℕ) → check_hashes (made n) ≡ Ok tt
+unfolding check_hashes made
+hashes_hold n = refl
 
 file_names : (n i : ℕ) → group_names_fit (made_group n i) ≡ true
 unfolding made_section
@@ -162,4 +172,4 @@ slot_flags_hold n =
 
 pub clauses_hold : (n : ℕ) → IsCount n → first_clause (made n) ≡ Ok tt
 unfolding first_clause
-clauses_hold n c = rw (sizes_hold n c, counts_hold n c, order_holds n c, roles_hold n, sections_hold n, segments_hold n c, shares_hold n c, inputs_hold n, indexes_hold n c, fields_hold n, slots_hold n, dynsyms_hold n, slot_flags_hold n, tls_holds n, starts_hold n, names_hold n) refl
+clauses_hold n c = rw (sizes_hold n c, counts_hold n c, order_holds n c, roles_hold n, sections_hold n, segments_hold n c, shares_hold n c, inputs_hold n, indexes_hold n c, fields_hold n, slots_hold n, dynsyms_hold n, slot_flags_hold n, tls_holds n, starts_hold n, hashes_hold n, versions_hold n, names_hold n) refl

@@ -1,13 +1,13 @@
 -- The clauses on sizes, counts, parts, sections and segments hold of the plan of n groups.
-use Rattle.std.proofs.Common.{◌≡◌, ℕ, ◌+◌, ◌*◌, ◌-◌, ◌^◌, ◌<◌, ◌==◌, ◌%◌, inl, inr, Bool, true, false, not, if◌then◌else◌, ◌||◌, List, [], ◌∷◌, drop, length, ap, refl, ◌∙◌, arith}
+use Rattle.std.proofs.Common.{◌≡◌, ℕ, ◌+◌, ◌*◌, ◌-◌, ◌^◌, ◌<◌, ◌%◌, Bool, true, false, not, if◌then◌else◌, ◌||◌, List, [], ◌∷◌, drop, length, ap, refl, ◌∙◌, arith}
 use Rattle.std.specs.Prelude.{None, Ok, nat_le, codes}
-use Rattle.std.specs.List.{list_all, list_any}
+use Rattle.std.specs.List.{list_any}
 use lib.Count.{ones}
-use Rattle.std.proofs.lemmas.Bool.{cases_Bool, le-leb, lt-ltb, ne_eqb}
+use Rattle.std.proofs.lemmas.Bool.{le-leb, lt-ltb, ne_eqb}
 use Rattle.wild_plan.specs.declared.file.File.{File}
 use Rattle.wild_plan.specs.declared.file.FileRole.TheVariants as file_role
 use Rattle.wild_plan.specs.declared.input.InputSection.{InputSection}
-use Rattle.wild_plan.specs.Lists.{first_failing, total}
+use Rattle.wild_plan.specs.Lists.{first_failing}
 use Rattle.wild_plan.specs.Lookups.{bit, image_size}
 use Rattle.wild_plan.specs.declared.part.Role.{Role}
 use Rattle.wild_plan.specs.declared.part.Role.TheVariants as role
@@ -18,6 +18,7 @@ use Rattle.wild_plan.specs.DynamicSymbols.{dynamic_symbols}
 use Rattle.wild_plan.specs.Entries.{listed_places, packed_places, left_relocations, general_count}
 use Rattle.wild_plan.specs.Flags.{has_flag}
 use Rattle.wild_plan.specs.Rows.{row_of}
+use Rattle.wild_plan.specs.TableSymbols.{file_items, table_strings}
 use Rattle.wild_plan.specs.Treatment.{treatment, row_treatment}
 use Rattle.wild_reloc.specs.TableX86_64.{x86_64_row}
 use Rattle.wild_plan.specs.Needs.{first_share, own_of, share, group_share}
@@ -33,19 +34,14 @@ use Rattle.wild_plan.specs.declared.section.Side.TheVariants as side
 use Rattle.wild_plan.proofs.CoverLemmas.{all_below_from}
 use Rattle.wild_records.specs.Abi.Section.{sht_progbits, sht_strtab}
 use Rattle.wild_plan.specs.WellFormed.{check_sizes, check_counts, check_order, check_roles, check_sections, check_entries, check_segments}
-use Rattle.wild_made.specs.Made.{made_section, made_object, plain_file, made_files, made_symbol, made_group, section_with, made_sections, made_segment, made}
+use Rattle.wild_made.specs.Made.{made_section, made_object, plain_file, made_symbol, made_group, section_with, made_sections, made_segment, made}
 use Rattle.wild_made.specs.Laws.{IsCount}
 use Rattle.wild_made.proofs.ListLemmas.{made_from, none_fails, total_same, length_made}
+use Rattle.wild_made.proofs.FileLemmas.{all_files, total_files}
 use Rattle.wild_made.proofs.SlotLemmas.{slots_made, block_made, no_dynamic_symbols}
+use Rattle.wild_made.proofs.VersionLemmas.{no_needs, no_versions}
 
--- ---- the files of a group
-
-pub all_files : (t : File → Bool) (n i : ℕ) → t (plain_file file_role.Prelude) ≡ true → t (made_object n i) ≡ true → t (plain_file file_role.Epilogue) ≡ true → list_all t (made_files n i) ≡ true
-all_files t n i first own last =
-    elim (cases_Bool (i == 0)) [
-      | inl a ↦ elim (cases_Bool (i + 1 == n)) [ inl b ↦ rw (a, b, first, own, last) refl | inr b ↦ rw (a, b, first, own) refl ]
-      | inr a ↦ elim (cases_Bool (i + 1 == n)) [ inl b ↦ rw (a, b, own, last) refl | inr b ↦ rw (a, b, own) refl ]
-    ]
+-- ---- the sections of a group
 
 pub each_made : (t : InputSection → Bool) (n i : ℕ) → t (made_section n i) ≡ true → each_section t (made_group n i) ≡ true
 each_made t n i h = all_files (each_in t) n i refl (rw h refl) refl
@@ -73,13 +69,6 @@ sizes_hold n c =
     simp (a, b, d, e, f, g, group_sizes n c) refl
 
 -- ---- clause 2
-
-pub total_files : (t : File → ℕ) (n i : ℕ) → t (plain_file file_role.Prelude) ≡ 0 → t (plain_file file_role.Epilogue) ≡ 0 → total t (made_files n i) ≡ t (made_object n i)
-total_files t n i first last =
-    elim (cases_Bool (i == 0)) [
-      | inl a ↦ elim (cases_Bool (i + 1 == n)) [ inl b ↦ rw (a, b, first, last) (omega arith) | inr b ↦ rw (a, b, first) (omega arith) ]
-      | inr a ↦ elim (cases_Bool (i + 1 == n)) [ inl b ↦ rw (a, b, last) (omega arith) | inr b ↦ rw (a, b) (omega arith) ]
-    ]
 
 group_relocations : (n i : ℕ) → relocations_of (made_group n i) ≡ 8
 unfolding made_section
@@ -114,7 +103,7 @@ nothing_shared n r first own last =
     both_none a b g h = omega (arith, g, h)
 
 pub counts_hold : (n : ℕ) → IsCount n → check_counts (made n) ≡ Ok tt
-unfolding check_counts made named_strings file_strings
+unfolding check_counts made named_strings file_strings table_strings file_items
 counts_hold n c =
     let some = c.some in
     let few = c.few in
@@ -124,7 +113,7 @@ counts_hold n c =
     let none : length (dynamic_symbols (made n)) ≡ 0 = ap length (no_dynamic_symbols n) in
     let b = lt-ltb (8 * n) (2 ^ 32 - 1) (omega arith) in
     let d = le-leb 1 n some in
-    simp (symbols, groups, none, relocations_made n, a, b, d, nothing_shared n role.Dynstr refl (λ i. refl) refl) refl
+    simp (symbols, groups, none, relocations_made n, a, b, d, nothing_shared n role.Dynstr refl (λ i. refl) refl, nothing_shared n role.Strtab refl (λ i. refl) refl, no_needs n, no_versions n) refl
 
 -- ---- clauses 3, 4 and 5
 
@@ -151,7 +140,7 @@ general_share n i = let none = generals_made n i in rw none refl
 
 -- each role is there, or nothing has to be written in a part of it
 each_given : (n : ℕ) (r : Role) → role_given (made n) r ≡ true
-unfolding made named_strings file_strings dynamic_entries string_entries tag_entries listed_places packed_places packed packed_on general_count
+unfolding made named_strings file_strings dynamic_entries string_entries tag_entries listed_places packed_places packed packed_on general_count table_strings file_items
 each_given n role.Raw = refl
 each_given n role.FileHeader = refl
 each_given n role.ProgramHeaders = refl

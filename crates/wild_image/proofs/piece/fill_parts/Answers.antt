@@ -4,7 +4,7 @@ use Rattle.wild_image.proofs.OwnedLemmas.{parts_are_ok}
 use Rattle.wild_image.proofs.piece.fill_parts.Goals as goal
 
 pub add_tables-requires : goal.add_tables-requires
-add_tables-requires g c = record { room = ap length c.requires.none ∙ length-replicate (length c.args.resolved.now.layout.now.parts) [] }
+add_tables-requires g c = record { room = ap length c.requires.none ∙ length-replicate (length c.args.resolved.now.layout.now.parts) []; few = c.requires.few }
 
 pub take_group-requires-clause-room : goal.take_group-requires-clause-room
 take_group-requires-clause-room g c = c.add_tables.auto.parts ∙ ap length c.requires.none ∙ length-replicate (length c.args.resolved.now.layout.now.parts) []

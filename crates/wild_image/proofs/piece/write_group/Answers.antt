@@ -6,11 +6,21 @@ use Rattle.wild_layout.specs.Geometry.{IsLaidOut}
 use Rattle.wild_image.specs.Jobs.{GivesPiece}
 use Rattle.wild_image.proofs.GatherLemmas.{section_below}
 use Rattle.wild_image.proofs.OutputLemmas.{FieldsFit-IsLaidOut}
+use Rattle.wild_words.proofs.ListLemmas.{holds_at}
+use Rattle.wild_image.specs.Steps.{NeedsFit}
 use Rattle.wild_image.proofs.JobLemmas.{piece_found}
+use Rattle.wild_image.proofs.VersionLemmas.{needs_fit}
 use Rattle.wild_image.proofs.piece.write_group.Goals as goal
 
 pub new-requires-clause-fits : goal.new-requires-clause-fits
 new-requires-clause-fits g c = FieldsFit-IsLaidOut c.args.layout.now (c.layouts_are_laid_out.ensures c.args.layout.now c.requires.clauses c.requires.shares)
+
+pub piece_of-requires-clause-few : goal.piece_of-requires-clause-few
+piece_of-requires-clause-few g c =
+    let l = c.args.layout.now in
+    let all = needs_fit l (c.layouts_are_laid_out.ensures l c.requires.clauses c.requires.shares) in
+    let found = c.index-as_slice-group.result in
+    holds_at NeedsFit l.groups c.args.group found (slice_get_read l.groups (length l.groups) c.args.group found (search rules) c.requires.group (search rules)) all
 
 pub piece_of-requires-clause-sections : goal.piece_of-requires-clause-sections
 piece_of-requires-clause-sections g c = λ part.
