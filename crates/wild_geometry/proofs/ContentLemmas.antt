@@ -1,7 +1,7 @@
 -- How long it is what files and groups give to the parts.
-use Rattle.std.proofs.Common.{◌≡◌, ℕ, ◌+◌, ◌*◌, inl, inr, ◌==◌, Bool, true, false, if◌then◌else◌, List, [], ◌∷◌, ◌++◌, length, map, None, flat_map, refl, arith}
+use Rattle.std.proofs.Common.{◌≡◌, ℕ, ◌+◌, ◌*◌, inl, inr, Bool, true, false, if◌then◌else◌, List, [], ◌∷◌, ◌++◌, length, map, None, flat_map, refl, arith}
 use Rattle.std.specs.Prelude.{Option, Some, option_map, option_to_list}
-use Rattle.std.proofs.lemmas.Bool.{cases_Bool, eqb-true, eqb-false}
+use Rattle.std.proofs.lemmas.Bool.{cases_Bool}
 use Rattle.std.proofs.lemmas.List.{length-append, length-map}
 use Rattle.wild_records.specs.Dynamic.{dynamic_entry_size}
 use Rattle.wild_records.specs.SymtabEntry.{symtab_entry_size}
@@ -13,6 +13,9 @@ use Rattle.wild_symbols.specs.DynamicEntries.{group_symbols}
 use Rattle.wild_headers.proofs.LengthLemmas.{lengths_of_headers}
 use Rattle.wild_symbols.proofs.StringLemmas.{length-string_bytes}
 use Rattle.wild_symbols.proofs.SymbolLemmas.{length-symbol_bytes}
+use Rattle.wild_symbols.proofs.TableLemmas.{length-long_indexes, length-index_bytes, length-file_side, length-table_entries}
+use Rattle.wild_symbols.specs.TableLaws.{side_count}
+use Rattle.wild_versions.proofs.RoomLemmas.{length-symbol_versions, length-file_definitions, length-group_needs}
 use Rattle.wild_plan.specs.declared.input.InputRelocation.{InputRelocation}
 use Rattle.wild_plan.specs.declared.input.InputSection.{InputSection}
 use Rattle.wild_plan.specs.declared.part.Role.{Role}
@@ -27,6 +30,9 @@ use Rattle.wild_plan.specs.Lists.{total}
 use Rattle.wild_plan.specs.Needs.{whole_of, dynsym_count, last_of, own_of, first_share, share, group_share}
 use Rattle.wild_plan.specs.FileRoles.{is_prelude, is_epilogue}
 use Rattle.wild_plan.specs.Places.{role_place}
+use Rattle.wild_plan.specs.TableSymbols.{has_long, local_count, global_count, table_strings}
+use Rattle.wild_plan.specs.Versions.{needs_room}
+use Rattle.wild_symbols.specs.TableEntries.{file_table, table_entries, long_indexes, index_bytes}
 use Rattle.wild_plan.specs.SlotShares.{block_share}
 use Rattle.wild_layout.specs.Content.{whole_bytes, own_bytes, dynamic_room, file_content, dynamic_of, group_bytes, content}
 use Rattle.wild_layout.specs.Left.{left_entry, section_generals, copy_entry, file_generals}
@@ -35,8 +41,8 @@ use Rattle.wild_layout.specs.Moved.{moved_value, listed_entry, section_entries, 
 use Rattle.wild_layout.specs.SlotBytes.{slot_bytes, header_bytes}
 use Rattle.wild_geometry.proofs.LastGroupLemmas.{has_last, some_if}
 use Rattle.wild_geometry.proofs.SlotLengths.{slot_length, header_length, block_length}
-use Rattle.wild_geometry.proofs.TableLemmas.{same_role}
 use Rattle.wild_geometry.proofs.SymbolLengths.{length-group_symbols, length-needed_entries}
+use Rattle.wild_geometry.proofs.HashLengths.{sysv_length, gnu_length}
 
 -- ---- sums
 
@@ -111,11 +117,25 @@ if_length : {X : Type 0} (b : Bool) (xs : List X) (n : ℕ) → length xs ≡ n 
 if_length true xs n h = h
 if_length false xs n h = refl
 
--- of a part that is told file by file
-abbrev IsByFile : Role → Type 0
-IsByFile r = (role_place r ≡ role_place role.Dynamic → ⊥) × (role_place r ≡ role_place role.Dynsym → ⊥)
+-- of a part that is told group by group, and to which no file gives anything by itself
+abbrev is_by_group : Role → Bool
+is_by_group role.Dynsym = true
+is_by_group role.GnuVersionR = true
+is_by_group role.Dynamic = true
+is_by_group role.SymtabLocal = true
+is_by_group role.SymtabGlobal = true
+is_by_group other = false
 
-own_length : (l : Layout) (r : Role) (f : File) → IsByFile r → length (own_bytes l r f) ≡ own_of l r f
+-- the longer section indexes of a file, where a part has them
+indexes_length : (asked : Bool) (l : Layout) (local : Bool) (f : File) → length (if asked then index_bytes (long_indexes local (file_table l f)) else []) ≡ (if asked then 4 * side_count local l f else 0)
+indexes_length true l local f =
+    let a = length-index_bytes (long_indexes local (file_table l f)) in
+    let b = length-long_indexes local (file_table l f) in
+    let c = length-file_side local l f in
+    omega arith
+indexes_length false l local f = refl
+
+own_length : (l : Layout) (r : Role) (f : File) → is_by_group r ≡ false → length (own_bytes l r f) ≡ own_of l r f
 own_length l role.RelaDynRelative f n =
     let a = length-rela_bytes (file_entries l f) in
     let b : length (file_entries l f) ≡ entry_count l f = joined_lengths (section_entries l) (λ s. length (listed_places l s)) f.sections (section_length l) in
@@ -129,8 +149,18 @@ own_length l role.RelrDyn f n =
     let b = joined_lengths (words_of l) (λ s. length (words_of l s)) f.sections (λ s. refl) in
     omega arith
 own_length l role.Dynstr f n = length-string_bytes (file_strings l f)
-own_length l role.Dynsym f n = absurd (n.1 refl)
-own_length l role.Dynamic f n = absurd (n.0 refl)
+own_length l role.GnuVersion f n = length-symbol_versions l f
+own_length l role.GnuVersionD f n = length-file_definitions l f
+own_length l role.SysvHash f n = sysv_length l f
+own_length l role.GnuHash f n = gnu_length l f
+own_length l role.SymtabShndxLocal f n = indexes_length (has_long l role.SymtabShndxLocal) l true f
+own_length l role.SymtabShndxGlobal f n = indexes_length (has_long l role.SymtabShndxGlobal) l false f
+own_length l role.Strtab f n = length-string_bytes (table_strings l f)
+own_length l role.Dynsym f n = cc
+own_length l role.GnuVersionR f n = cc
+own_length l role.Dynamic f n = cc
+own_length l role.SymtabLocal f n = cc
+own_length l role.SymtabGlobal f n = cc
 own_length l other f n = refl
 
 pub length-whole_bytes : (l : Layout) (r : Role) → length (whole_bytes l r) ≡ whole_of l r
@@ -147,7 +177,7 @@ first_length l r =
     let c = header_length l r in
     omega arith
 
-file_length : (l : Layout) (r : Role) (f : File) → IsByFile r → length (file_content l r f) ≡ share l r f
+file_length : (l : Layout) (r : Role) (f : File) → is_by_group r ≡ false → length (file_content l r f) ≡ share l r f
 file_length l r f n =
     let first = if is_prelude f.role then whole_bytes l r ++ header_bytes l r else [] in
     let a = length-append first (own_bytes l r f) in
@@ -159,13 +189,16 @@ file_length l r f n =
 
 -- ---- what a group gives
 
-group_length : (l : Layout) (r : Role) (g : Group) → IsByFile r → length (group_bytes l r g) ≡ block_share l r g
-group_length l role.Dynsym g n = absurd (n.1 refl)
-group_length l role.Dynamic g n = absurd (n.0 refl)
+group_length : (l : Layout) (r : Role) (g : Group) → is_by_group r ≡ false → length (group_bytes l r g) ≡ block_share l r g
+group_length l role.Dynsym g n = cc
+group_length l role.GnuVersionR g n = cc
+group_length l role.Dynamic g n = cc
+group_length l role.SymtabLocal g n = cc
+group_length l role.SymtabGlobal g n = cc
 group_length l role.RelrDyn g n = block_length l role.RelrDyn g
 group_length l other g n = refl
 
-by_file_length : (l : Layout) (r : Role) (g : Group) → IsByFile r → length (content l r g) ≡ group_share l r g
+by_file_length : (l : Layout) (r : Role) (g : Group) → is_by_group r ≡ false → length (content l r g) ≡ group_share l r g
 by_file_length l r g n =
     let a = length-append (flat_map (file_content l r) g.files) (group_bytes l r g) in
     let b = joined_lengths (file_content l r) (share l r) g.files (λ f. file_length l r f n) in
@@ -187,32 +220,66 @@ nil_joined : {X : Type 0} (f : X → List ℕ) (xs : List X) → ((x : X) → f 
 nil_joined f [] h = refl
 nil_joined f (x ∷ xs) h = rw (h x) (nil_joined f xs h)
 
--- entries of the dynamic symbol table and of the dynamic section are told by the group
-no_symbols : (l : Layout) (f : File) → file_content l role.Dynsym f ≡ []
-no_symbols l f = rw (nil_if (is_prelude f.role)) refl
+-- what is told by the group, no file gives
+no_content : (l : Layout) (r : Role) (f : File) → is_by_group r ≡ true → file_content l r f ≡ []
+no_content l role.Dynsym f n = rw (nil_if (is_prelude f.role)) refl
+no_content l role.GnuVersionR f n = rw (nil_if (is_prelude f.role)) refl
+no_content l role.Dynamic f n = rw (nil_if (is_prelude f.role)) refl
+no_content l role.SymtabLocal f n = rw (nil_if (is_prelude f.role)) refl
+no_content l role.SymtabGlobal f n = rw (nil_if (is_prelude f.role)) refl
+no_content l other f n = cc
 
-no_entries : (l : Layout) (f : File) → file_content l role.Dynamic f ≡ []
-no_entries l f = rw (nil_if (is_prelude f.role)) refl
+by_group_content : (l : Layout) (r : Role) (g : Group) → is_by_group r ≡ true → content l r g ≡ group_bytes l r g
+by_group_content l r g n = rw (nil_joined (file_content l r) g.files (λ f. no_content l r f n)) refl
+
+-- and a file's share of it is its own
+own_share : (l : Layout) (r : Role) (f : File) → first_share l r ≡ 0 → length (slot_bytes l r f) ≡ 0 → share l r f ≡ own_of l r f
+own_share l r f first none =
+    let a = slot_length l r f in
+    let b = zero_if (is_prelude f.role) in
+    rw first (omega arith)
 
 pub dynamic_content : (l : Layout) (g : Group) → content l role.Dynamic g ≡ dynamic_of l g
-dynamic_content l g = rw (nil_joined (file_content l role.Dynamic) g.files (no_entries l)) refl
+dynamic_content l g = by_group_content l role.Dynamic g refl
+
+-- a group's records of a table, each of so many bytes
+records_length : (l : Layout) (r : Role) (g : Group) (n : File → ℕ) → is_by_group r ≡ true → block_share l r g ≡ 0 → ((f : File) → share l r f ≡ n f) → length (group_bytes l r g) ≡ total n g.files → length (content l r g) ≡ group_share l r g
+records_length l r g n told none each long =
+    let a = total_by (share l r) n g.files each in
+    rw (by_group_content l r g told) (omega arith)
 
 symbols_length : (l : Layout) (g : Group) → length (content l role.Dynsym g) ≡ group_share l role.Dynsym g
 symbols_length l g =
-    let files = nil_joined (file_content l role.Dynsym) g.files (no_symbols l) in
     let a = length-symbol_bytes (group_symbols l g) in
     let b = length-group_symbols l g in
-    let c = total_by (share l role.Dynsym) (λ (f : File). symtab_entry_size * dynsym_count l f) g.files (λ f. let z = zero_if (is_prelude f.role) in let s = slot_length l role.Dynsym f in omega arith) in
-    let d = total_times 24 (dynsym_count l) g.files in
-    rw files (omega arith)
+    let c = total_times 24 (dynsym_count l) g.files in
+    records_length l role.Dynsym g (λ (f : File). symtab_entry_size * dynsym_count l f) refl refl (λ f. own_share l role.Dynsym f refl refl) (omega arith)
+
+locals_length : (l : Layout) (g : Group) → length (content l role.SymtabLocal g) ≡ group_share l role.SymtabLocal g
+locals_length l g =
+    let a = length-symbol_bytes (table_entries l true g) in
+    let b = length-table_entries true l g in
+    let c = total_times 24 (local_count l) g.files in
+    records_length l role.SymtabLocal g (λ (f : File). symtab_entry_size * local_count l f) refl refl (λ f. own_share l role.SymtabLocal f refl refl) (omega arith)
+
+globals_length : (l : Layout) (g : Group) → length (content l role.SymtabGlobal g) ≡ group_share l role.SymtabGlobal g
+globals_length l g =
+    let a = length-symbol_bytes (table_entries l false g) in
+    let b = length-table_entries false l g in
+    let c = total_times 24 (global_count l) g.files in
+    records_length l role.SymtabGlobal g (λ (f : File). symtab_entry_size * global_count l f) refl refl (λ f. own_share l role.SymtabGlobal f refl refl) (omega arith)
+
+needs_length : (l : Layout) (g : Group) → length (content l role.GnuVersionR g) ≡ group_share l role.GnuVersionR g
+needs_length l g = records_length l role.GnuVersionR g (needs_room l) refl refl (λ f. own_share l role.GnuVersionR f refl refl) (length-group_needs l g)
 
 -- what a group gives to a part is as long as its share, for every role but that of the dynamic section
 pub length-content : (l : Layout) (r : Role) (g : Group) → (role_place r ≡ role_place role.Dynamic → ⊥) → length (content l r g) ≡ group_share l r g
-length-content l r g n =
-    elim (cases_Bool (role_place r == role_place role.Dynsym)) [
-      | inl t ↦ (let is = same_role r role.Dynsym (eqb-true _ _ t) in rw is (symbols_length l g))
-      | inr f ↦ by_file_length l r g (n, eqb-false _ _ f)
-    ]
+length-content l role.Dynsym g n = symbols_length l g
+length-content l role.GnuVersionR g n = needs_length l g
+length-content l role.Dynamic g n = absurd (n refl)
+length-content l role.SymtabLocal g n = locals_length l g
+length-content l role.SymtabGlobal g n = globals_length l g
+length-content l other g n = by_file_length l other g refl
 
 -- ---- the dynamic section
 

@@ -1,12 +1,13 @@
 -- What it says that the clauses on input sections, indexes and fields hold; and all that a layout is laid out by.
 use Rattle.std.proofs.Common.{◌≡◌, true, [], All, None, Ok}
-use Rattle.wild_plan.specs.declared.part.Role.TheVariants as role
 use Rattle.wild_plan.specs.declared.layout.Layout.{Layout}
+use Rattle.wild_plan.specs.Lists.{first_failing, unless}
 use Rattle.wild_plan.specs.Lookups.{files_of}
 use Rattle.wild_plan.specs.Places.{part_out_of_order}
-use Rattle.wild_plan.specs.Contents.{addresses, each_section, section_misplaced, length_fits, part_is_raw, allocation_agrees, bytes_take_room, fields_lie, start_astray, place_with}
-use Rattle.wild_plan.specs.Indexes.{part_index_fits, symbol_misfit, group_indexes_fit, copied_again}
-use Rattle.wild_plan.specs.WellFormed.{check_inputs, check_indexes, check_fields, check_slots, check_dynsyms, check_slot_flags, check_starts, first_clause}
+use Rattle.wild_plan.specs.Contents.{addresses, each_section, section_misplaced, length_fits, part_is_raw, allocation_agrees, bytes_take_room, fields_lie, start_places, no_starts, start_astray}
+use Rattle.wild_plan.specs.Indexes.{part_index_fits, symbol_misfit, group_indexes_fit, listed_misfit, entry_is_there, copied_again}
+use Rattle.wild_plan.specs.VersionTables.{parent_is_there}
+use Rattle.wild_plan.specs.WellFormed.{fails, check_inputs, check_indexes, check_fields, check_slots, check_dynsyms, check_slot_flags, check_starts, check_hashes, check_versions, first_clause}
 use Rattle.wild_plan.proofs.ListLemmas.{All-from_none_fails}
 use Rattle.wild_layout.specs.Faults.{flat_map_from, part_errors}
 use Rattle.wild_geometry.proofs.ClauseLemmas.{Both-from_first_error, None-from_fails, NoneFails-from_first_clause, SizesFit, SizesFit-from_check, CountsFit, CountsFit-from_check, OrderHolds-from_check, RolesHold, RolesHold-from_check, PartsLie, PartsLie-from_check, SegmentsHold, SegmentsHold-from_check, SharesHold, SharesHold-from_check}
@@ -45,16 +46,18 @@ pub record IndexesHold (l : Layout) : Type 0 where
 pub IndexesHold-from_check : (l : Layout) → check_indexes l ≡ Ok tt → IndexesHold l
 unfolding check_indexes
 IndexesHold-from_check l h =
-    let a = Both-from_first_error _ _ h in
-    let b = Both-from_first_error _ _ a.rest in
-    let c = Both-from_first_error _ _ b.rest in
-    let d = Both-from_first_error _ _ c.rest in
-    let e = Both-from_first_error _ _ d.rest in
+    let a = Both-from_first_error (fails 9 (first_failing (part_index_fits l) 0 l.parts)) _ h in
+    let b = Both-from_first_error (fails 9 (symbol_misfit l (files_of l.groups) 0 l.symbols)) _ a.rest in
+    let c = Both-from_first_error (fails 9 (first_failing (group_indexes_fit l) 0 l.groups)) _ b.rest in
+    let d = Both-from_first_error (fails 9 (listed_misfit l)) _ c.rest in
+    let e = Both-from_first_error (fails 9 (first_failing (parent_is_there l) 0 l.verdefs)) _ d.rest in
+    let f = Both-from_first_error (fails 9 (unless (entry_is_there l l.entry))) _ e.rest in
+    let g = Both-from_first_error (fails 9 (copied_again l [] 0 l.groups)) _ f.rest in
     record {
       parts = All-from_none_fails (part_index_fits l) 0 l.parts (None-from_fails 9 _ a.first);
       symbols = None-from_fails 9 _ b.first;
       groups = All-from_none_fails (group_indexes_fit l) 0 l.groups (None-from_fails 9 _ c.first);
-      copies = None-from_fails 9 _ e.first;
+      copies = None-from_fails 9 _ g.first;
     }
 
 pub FieldsLie-from_check : (l : Layout) → check_fields l ≡ Ok tt → All (λ g. each_section (fields_lie l.machine) g ≡ true) l.groups
@@ -63,7 +66,7 @@ FieldsLie-from_check l h = All-from_none_fails (each_section (fields_lie l.machi
 
 -- ---- clause 16
 
-pub StartsFollow-from_check : (l : Layout) → check_starts l ≡ Ok tt → start_astray (place_with role.Dynstr l.parts) 0 0 l.groups ≡ None
+pub StartsFollow-from_check : (l : Layout) → check_starts l ≡ Ok tt → start_astray (start_places l.parts) no_starts 0 l.groups ≡ None
 unfolding check_starts
 StartsFollow-from_check l h = None-from_fails 16 _ h
 
@@ -83,7 +86,9 @@ pub record Laid (l : Layout) : Type 0 where
   pub slots : check_slots l ≡ Ok tt
   pub dynsyms : check_dynsyms l ≡ Ok tt
   pub slot_flags : check_slot_flags l ≡ Ok tt
-  pub starts : start_astray (place_with role.Dynstr l.parts) 0 0 l.groups ≡ None
+  pub starts : start_astray (start_places l.parts) no_starts 0 l.groups ≡ None
+  pub hashes : check_hashes l ≡ Ok tt
+  pub versions : check_versions l ≡ Ok tt
   pub needed : flat_map_from (part_errors l) 0 l.parts ≡ []
 
 pub Laid-from_clauses : (l : Layout) → first_clause l ≡ Ok tt → flat_map_from (part_errors l) 0 l.parts ≡ [] → Laid l
@@ -104,5 +109,7 @@ Laid-from_clauses l h n =
       dynsyms = c.dynsyms;
       slot_flags = c.slot_flags;
       starts = StartsFollow-from_check l c.starts;
+      hashes = c.hashes;
+      versions = c.versions;
       needed = n;
     }

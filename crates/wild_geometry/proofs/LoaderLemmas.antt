@@ -12,7 +12,7 @@ use Rattle.wild_plan.specs.declared.section.Segment.{Segment}
 use Rattle.wild_plan.specs.declared.layout.Layout.{Layout}
 use Rattle.wild_plan.specs.Kinds.{needs_dynamic}
 use Rattle.wild_plan.specs.Places.{role_place, has_role, is_fixed_static, within}
-use Rattle.wild_plan.specs.Segments.{is_segment_of, dynamic_astray, part_with, begins_behind, entries_follow, rest_of_table, is_table_role, carries_part, carries_rest, carries_table, table_is_loaded}
+use Rattle.wild_plan.specs.Segments.{is_segment_of, dynamic_astray, part_with, begins_behind, entries_follow, rest_of_table, is_table_role, is_look_up_role, has_hashes, is_asked_whole, carries_part, carries_rest, carries_table, table_is_loaded}
 use Rattle.wild_layout.specs.Geometry.{IsStatic, HasSegment, IsCarriedWhole, BeginsBehind, AreCarriedTogether}
 use Rattle.wild_geometry.proofs.LaidLemmas.{Laid}
 use Rattle.wild_geometry.proofs.CarriedLemmas.{implied, other}
@@ -111,17 +111,17 @@ record CarriesTable (l : Layout) (p : Part) (rest : Option Part) : Type 0 where
   part : carries_part p segment ≡ true
   behind : carries_rest rest segment ≡ true
 
-table_carried : (l : Layout) → Laid l → needs_dynamic l.kind ≡ true → (r : Role) (p : Part) → is_table_role r ≡ true → part_with r l.parts ≡ Some p → 1 ≤ p.size → CarriesTable l p (rest_of_table l.parts p)
-table_carried l h needs r p table there some =
+table_carried : (l : Layout) → Laid l → needs_dynamic l.kind ≡ true → (r : Role) (p : Part) → is_asked_whole l r ≡ true → part_with r l.parts ≡ Some p → 1 ≤ p.size → CarriesTable l p (rest_of_table l.parts p)
+table_carried l h needs r p asked there some =
     let f = FoundAt-from_find (has_role r) l.parts p there in
     let P : Part → Type 0 = λ x. table_is_loaded l x ≡ true in
     let loaded = subst P (f.is p) (h.segments.tables f.place p f.within) in
     let is = same_role p.role r (eqb-true _ _ f.passes) in
-    let is_table = ap is_table_role is ∙ table in
+    let whole = ap (is_asked_whole l) is ∙ asked in
     let size = ne_eqb p.size 0 (λ e. omega arith) in
-    let none : (not (needs_dynamic l.kind) || not (is_table_role p.role) || p.size == 0) ≡ false = rw (needs, is_table, size) refl in
+    let none : (not (needs_dynamic l.kind) || not (is_asked_whole l p.role) || p.size == 0) ≡ false = rw (needs, whole, size) refl in
     let test = carries_table p (rest_of_table l.parts p) in
-    let found = Found-from_list_any test l.segments (other (not (needs_dynamic l.kind) || not (is_table_role p.role) || p.size == 0) (list_any test l.segments) loaded none) in
+    let found = Found-from_list_any test l.segments (other (not (needs_dynamic l.kind) || not (is_asked_whole l p.role) || p.size == 0) (list_any test l.segments) loaded none) in
     let both = and_parts (carries_part p found.item) (carries_rest (rest_of_table l.parts p) found.item) found.passes in
     record { segment = found.item; listed = found.listed; part = both.0; behind = both.1 }
 
@@ -139,14 +139,25 @@ HasPart-from_test p g h =
     let c = and_parts (nat_le g.offset p.offset) (nat_le (p.offset + p.size) (g.offset + g.file_size)) b.1 in
     record { loaded = eqb-true _ _ b.0; low = leb-true _ _ c.0; high = leb-true _ _ c.1; level = eqb-true _ _ a.1 }
 
-pub IsCarriedWhole-from_laid : (l : Layout) → Laid l → needs_dynamic l.kind ≡ true → (r : Role) (p : Part) → is_table_role r ≡ true → part_with r l.parts ≡ Some p → 1 ≤ p.size → IsCarriedWhole l p
-IsCarriedWhole-from_laid l h needs r p table there some =
-    let c = table_carried l h needs r p table there some in
+whole_carried : (l : Layout) → Laid l → needs_dynamic l.kind ≡ true → (r : Role) (p : Part) → is_asked_whole l r ≡ true → part_with r l.parts ≡ Some p → 1 ≤ p.size → IsCarriedWhole l p
+whole_carried l h needs r p asked there some =
+    let c = table_carried l h needs r p asked there some in
     let has = HasPart-from_test p c.segment c.part in
     let low = has.low in
     let high = has.high in
     let level = has.level in
     record { segment = c.segment; listed = c.listed; loaded = has.loaded; from = omega arith; to = omega arith; distance = omega arith }
+
+pub table_carried_whole : (l : Layout) → Laid l → needs_dynamic l.kind ≡ true → (r : Role) (p : Part) → is_table_role r ≡ true → part_with r l.parts ≡ Some p → 1 ≤ p.size → IsCarriedWhole l p
+table_carried_whole l h needs r p table = whole_carried l h needs r p (rw table refl)
+
+-- the tables in which names are looked up
+pub look_up_carried_whole : (l : Layout) → Laid l → needs_dynamic l.kind ≡ true → has_hashes l ≡ true → (r : Role) (p : Part) → is_look_up_role r ≡ true → part_with r l.parts ≡ Some p → 1 ≤ p.size → IsCarriedWhole l p
+look_up_carried_whole l h needs hashes r p look = whole_carried l h needs r p (either (is_table_role r) (is_look_up_role r) (has_hashes l) look hashes)
+  where
+    either : (a b c : Bool) → b ≡ true → c ≡ true → (a || (b && c)) ≡ true
+    either true b c g e = refl
+    either false b c g e = rw (g, e) refl
 
 -- ---- entries with addends are one table
 

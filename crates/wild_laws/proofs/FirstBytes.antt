@@ -1,15 +1,15 @@
 -- Bytes in no field are the input's, the opcodes of calls and jumps too.
-use Rattle.std.proofs.Common.{◌≡◌, ℕ, ◌+◌, ◌<◌, ◌≤◌, ◌⊎◌, inl, inr, List, length, get_or, slice_range, refl, sym, ap, ◌∙◌, arith, subst}
+use Rattle.std.proofs.Common.{◌≡◌, ℕ, zero, suc, ◌+◌, ◌<◌, ◌≤◌, ◌⊎◌, inl, inr, List, length, get_or, slice_range, refl, sym, ap, ◌∙◌, arith, subst}
 use Rattle.std.specs.Prelude.{Option, Some, None, Contains, slice_index, option_map, option_and_then, nat_lt, ◌==◌}
 use Rattle.std.proofs.lemmas.Bool.{cases_Bool, eqb-true, eqb-false, ltb-true, ltb-false}
 use Rattle.std.proofs.lemmas.List.Elements.{All-contains}
-use Rattle.wild_records.specs.Abi.Relocation.{r_x86_64_pc32}
+use Rattle.wild_records.specs.Abi.Relocation.{r_x86_64_pc32, r_x86_64_plt32}
 use Rattle.wild_plan.specs.declared.kind.Machine.{Machine}
 use Rattle.wild_plan.specs.declared.kind.Machine.TheVariants as machine
 use Rattle.wild_plan.specs.declared.input.InputRelocation.{InputRelocation}
 use Rattle.wild_plan.specs.declared.input.InputSection.{InputSection}
 use Rattle.wild_plan.specs.declared.layout.Layout.{Layout}
-use Rattle.wild_reloc.specs.Formula.{Formula, formula, Distance, Plain, Signed}
+use Rattle.wild_reloc.specs.Formula.{Formula, formula, Distance, StubDistance, Plain, Signed}
 use Rattle.wild_reloc.specs.FormulaX86_64.{x86_64_formula}
 use Rattle.wild_loader.specs.declared.memory.Memory.{Memory}
 use Rattle.wild_loader.specs.declared.world.World.{World}
@@ -17,24 +17,43 @@ use Rattle.wild_loader.specs.Memory.{byte_in}
 use Rattle.wild_meaning.specs.Instruction.{Operand, Number, Word, Pair, Deed, Call, Jump, Action, Effect, effect, with_value, as_value}
 use Rattle.wild_meaning.specs.InstructionX86_64.{meaning_x86_64}
 use Rattle.wild_meaning.specs.Sequence.{Instruction, size_of, IsOwnByte}
-use Rattle.wild_meaning.specs.Item.{Item, item_of, place_at, IsReference}
+use Rattle.wild_meaning.specs.Item.{Item, item_of, place_at}
 use Rattle.wild_meaning.specs.Field.{form_width, IsInputByte}
 use Rattle.wild_meaning.specs.Template.{effect_of, reads, reads_alone, IsInstruction, IsTemplate, DoesDemanded}
 use Rattle.wild_meaning.specs.Reference.{IsAsked, HoldsLinked, HoldsRewritten, ReferenceHolds, ItemHolds}
-use Rattle.wild_laws.specs.FirstPath.{HasFirstTypes, InNoField as NoField, IsBranch}
+use Rattle.wild_laws.specs.FirstPath.{branch_types, HasFirstTypes, InNoField as NoField, IsBranch}
 use Rattle.wild_laws.proofs.Sequences.{direct}
-use Rattle.wild_laws.proofs.FirstCode.{first_byte, in_no_field, IsCallOrJump, template_direct, is_branch, old_length, DoesDeed, HasOpcode, call_does, jump_does, call_opcode, jump_opcode}
+use Rattle.wild_laws.proofs.FirstCode.{first_byte, in_no_field, IsFirst, of_section, IsCallOrJump, template_direct, is_branch, old_length, DoesDeed, HasOpcode, call_does, jump_does, call_opcode, jump_opcode}
 
 -- ---- fields
 
-formula_pc32 : x86_64_formula r_x86_64_pc32 ≡ Some (formula Distance (Plain 32 Signed))
+-- the formula of a direct call or jump has four bytes
+record HasCallFormula (n : ℕ) : Type 0 where
+  formula : Formula
+  known : x86_64_formula n ≡ Some formula
+  wide : form_width formula.form ≡ 4
+
+formula_pc32 : HasCallFormula r_x86_64_pc32
 unfolding x86_64_formula
-formula_pc32 = refl
+formula_pc32 = record { formula = formula Distance (Plain 32 Signed); known = refl; wide = refl }
+
+formula_plt32 : HasCallFormula r_x86_64_plt32
+unfolding x86_64_formula
+formula_plt32 = record { formula = formula StubDistance (Plain 32 Signed); known = refl; wide = refl }
+
+call_formula : (n : ℕ) → Contains branch_types n → HasCallFormula n
+call_formula n c = at n c.0 c.1 c.2
+  where
+    at : (n k : ℕ) → k < length branch_types → get_or branch_types k n ≡ n → HasCallFormula n
+    at n zero l e = subst HasCallFormula e formula_pc32
+    at n (suc zero) l e = subst HasCallFormula e formula_plt32
+    at n (suc (suc k)) l e = absurd (omega (arith, l))
 
 -- the byte is outside the four bytes of a reference's field
-outside : (s : InputSection) (r : InputRelocation) (k : ℕ) → NoField s k → Contains s.relocations r → r.number ≡ r_x86_64_pc32 → (k < r.offset) ⊎ (r.offset + 4 ≤ k)
+outside : (s : InputSection) (r : InputRelocation) (k : ℕ) → NoField s k → Contains s.relocations r → Contains branch_types r.number → (k < r.offset) ⊎ (r.offset + 4 ≤ k)
 outside s r k out listed number =
-    All-contains (λ (q : InputRelocation). (f : Formula) → x86_64_formula q.number ≡ Some f → (k < q.offset) ⊎ (q.offset + form_width f.form ≤ k)) s.relocations r out listed (formula Distance (Plain 32 Signed)) (subst (λ (n : ℕ). x86_64_formula n ≡ Some (formula Distance (Plain 32 Signed))) (sym number) formula_pc32)
+    let f = call_formula r.number number in
+    subst (λ (n : ℕ). (k < r.offset) ⊎ (r.offset + n ≤ k)) f.wide (All-contains (λ (q : InputRelocation). (f : Formula) → x86_64_formula q.number ≡ Some f → (k < q.offset) ⊎ (q.offset + form_width f.form ≤ k)) s.relocations r out listed f.formula f.known)
 
 -- ---- code that calls no function
 
@@ -80,32 +99,32 @@ opcode_kept l w m s r start opcode deed does has x branch d =
     let held : byte_in m (a + 0) ≡ Some (get_or d.bytes 0 0) = d.held 0 (omega (arith, five)) in
     subst (λ (p : ℕ). byte_in m p ≡ Some (get_or d.bytes 0 0)) z held ∙ ap (λ (b : ℕ). Some b) (op ∙ sym branch.begins)
 
-by_code : (l : Layout) (w : World) (m : Memory) (s : InputSection) (r : InputRelocation) (start : ℕ) (o : Instruction) → l.machine ≡ machine.X86_64 → HasFirstTypes s → IsReference (item_of s) r → IsInstruction l (item_of s) r start o → IsCallOrJump o → DoesDemanded (reads w m) l w m (item_of s) r start o → IsInputByte w m (item_of s) start
-by_code l w m s r start o x types ref t (inl e) d =
-    let branch = is_branch l s r start 0xe8 Call x types ref (subst (λ (p : Instruction). IsInstruction l (item_of s) r start p) e t) in
+by_code : (l : Layout) (w : World) (m : Memory) (s : InputSection) (r : InputRelocation) (start : ℕ) (o : Instruction) → l.machine ≡ machine.X86_64 → IsFirst l s r → IsInstruction l (item_of s) r start o → IsCallOrJump o → DoesDemanded (reads w m) l w m (item_of s) r start o → IsInputByte w m (item_of s) start
+by_code l w m s r start o x f t (inl e) d =
+    let branch = is_branch l s r start 0xe8 Call x (subst (λ (p : Instruction). IsInstruction l (item_of s) r start p) e t) in
     opcode_kept l w m s r start 0xe8 Call call_does call_opcode x branch (subst (λ (p : Instruction). DoesDemanded (reads w m) l w m (item_of s) r start p) e d)
-by_code l w m s r start o x types ref t (inr e) d =
-    let branch = is_branch l s r start 0xe9 Jump x types ref (subst (λ (p : Instruction). IsInstruction l (item_of s) r start p) e t) in
+by_code l w m s r start o x f t (inr e) d =
+    let branch = is_branch l s r start 0xe9 Jump x (subst (λ (p : Instruction). IsInstruction l (item_of s) r start p) e t) in
     opcode_kept l w m s r start 0xe9 Jump jump_does jump_opcode x branch (subst (λ (p : Instruction). DoesDemanded (reads w m) l w m (item_of s) r start p) e d)
 
 -- so it is of each template
-by_template : (l : Layout) (w : World) (m : Memory) (s : InputSection) (r : InputRelocation) (start : ℕ) (o : Instruction) (one : InputRelocation) → l.machine ≡ machine.X86_64 → HasFirstTypes s → IsReference (item_of s) r → IsTemplate l (item_of s) r start o one → DoesDemanded (reads w m) l w m (item_of s) one start o → IsInputByte w m (item_of s) start
-by_template l w m s r start o one x types ref t d =
-    let direct = template_direct l s r start o one x types ref t in
-    by_code l w m s r start o x types ref direct.stands direct.which (subst (λ (q : InputRelocation). DoesDemanded (reads w m) l w m (item_of s) q start o) direct.same d)
+by_template : (l : Layout) (w : World) (m : Memory) (s : InputSection) (r : InputRelocation) (start : ℕ) (o : Instruction) (one : InputRelocation) → l.machine ≡ machine.X86_64 → IsFirst l s r → IsTemplate l (item_of s) r start o one → DoesDemanded (reads w m) l w m (item_of s) one start o → IsInputByte w m (item_of s) start
+by_template l w m s r start o one x f t d =
+    let direct = template_direct l s r start o one x f t in
+    by_code l w m s r start o x f direct.stands direct.which (subst (λ (q : InputRelocation). DoesDemanded (reads w m) l w m (item_of s) q start o) direct.same d)
 
 -- where the instruction begins, and that its other bytes are in its field
 record IsShort (s : InputSection) (r : InputRelocation) (start : ℕ) (o : Instruction) : Type 0 where
   five : size_of o ≡ 5
   behind : r.offset ≡ start + 1
-  number : r.number ≡ r_x86_64_pc32
+  number : Contains branch_types r.number
 
-short : (l : Layout) (s : InputSection) (r : InputRelocation) (start : ℕ) (o : Instruction) → l.machine ≡ machine.X86_64 → HasFirstTypes s → IsReference (item_of s) r → IsInstruction l (item_of s) r start o → IsCallOrJump o → IsShort s r start o
-short l s r start o x types ref t (inl e) =
-    let branch = is_branch l s r start 0xe8 Call x types ref (subst (λ (p : Instruction). IsInstruction l (item_of s) r start p) e t) in
+short : (l : Layout) (s : InputSection) (r : InputRelocation) (start : ℕ) (o : Instruction) → l.machine ≡ machine.X86_64 → IsFirst l s r → IsInstruction l (item_of s) r start o → IsCallOrJump o → IsShort s r start o
+short l s r start o x f t (inl e) =
+    let branch = is_branch l s r start 0xe8 Call x (subst (λ (p : Instruction). IsInstruction l (item_of s) r start p) e t) in
     record { five = ap size_of e; behind = branch.behind; number = branch.number }
-short l s r start o x types ref t (inr e) =
-    let branch = is_branch l s r start 0xe9 Jump x types ref (subst (λ (p : Instruction). IsInstruction l (item_of s) r start p) e t) in
+short l s r start o x f t (inr e) =
+    let branch = is_branch l s r start 0xe9 Jump x (subst (λ (p : Instruction). IsInstruction l (item_of s) r start p) e t) in
     record { five = ap size_of e; behind = branch.behind; number = branch.number }
 
 -- ---- references that hold
@@ -123,15 +142,15 @@ kept_opcode l w m s r start o one (inr e) t keeps =
     subst (λ (k : ℕ). IsInputByte w m (item_of s) k) z (keeps start (direct 0xe9 Jump) one (subst (λ (p : Instruction). IsTemplate l (item_of s) r start p one) e t) 0 (record { inside = omega arith; beside = inl (omega arith); apart = tt }))
 
 -- or its instruction was rewritten
-opcode_there : (l : Layout) (w : World) (m : Memory) (s : InputSection) (r : InputRelocation) (start : ℕ) (o : Instruction) (one : InputRelocation) → l.machine ≡ machine.X86_64 → HasFirstTypes s → IsReference (item_of s) r → IsTemplate l (item_of s) r start o one → KeepsBytes l w m s r ⊎ HoldsRewritten l w m (item_of s) r → IsInputByte w m (item_of s) start
-opcode_there l w m s r start o one x types ref t (inl keeps) = kept_opcode l w m s r start o one (template_direct l s r start o one x types ref t).which t keeps
-opcode_there l w m s r start o one x types ref t (inr q) =
-    let here = template_direct l s r start o one x types ref t in
-    let there = template_direct l s r q.start q.instruction q.first x types ref q.template in
-    let a = (short l s r start o x types ref here.stands here.which).behind in
-    let b = (short l s r q.start q.instruction x types ref there.stands there.which).behind in
+opcode_there : (l : Layout) (w : World) (m : Memory) (s : InputSection) (r : InputRelocation) (start : ℕ) (o : Instruction) (one : InputRelocation) → l.machine ≡ machine.X86_64 → IsFirst l s r → IsTemplate l (item_of s) r start o one → KeepsBytes l w m s r ⊎ HoldsRewritten l w m (item_of s) r → IsInputByte w m (item_of s) start
+opcode_there l w m s r start o one x f t (inl keeps) = kept_opcode l w m s r start o one (template_direct l s r start o one x f t).which t keeps
+opcode_there l w m s r start o one x f t (inr q) =
+    let here = template_direct l s r start o one x f t in
+    let there = template_direct l s r q.start q.instruction q.first x f q.template in
+    let a = (short l s r start o x f here.stands here.which).behind in
+    let b = (short l s r q.start q.instruction x f there.stands there.which).behind in
     let same : q.start ≡ start = omega (arith, a, b) in
-    subst (λ (k : ℕ). IsInputByte w m (item_of s) k) same (by_template l w m s r q.start q.instruction q.first x types ref q.template (does_so l w m (item_of s) q.first q.start q.instruction q.does))
+    subst (λ (k : ℕ). IsInputByte w m (item_of s) k) same (by_template l w m s r q.start q.instruction q.first x f q.template (does_so l w m (item_of s) q.first q.start q.instruction q.does))
 
 plain_keeps : (l : Layout) (w : World) (m : Memory) (s : InputSection) (r : InputRelocation) → ReferenceHolds l w m (item_of s) r → KeepsBytes l w m s r ⊎ HoldsRewritten l w m (item_of s) r
 plain_keeps l w m s r (inl p) = inl p.kept
@@ -173,9 +192,10 @@ other_byte l w m s k x types base asked holds lt out =
     stable (byte_in m (place_at w (item_of s) k)) (slice_index s.bytes k) (λ never. holds.others k lt (record {
       fields = in_no_field l s k x out;
       templates = λ r start o one ref t. beside k start (size_of o) (λ from to.
-          (let d = template_direct l s r start o one x types ref t in
-          let code = short l s r start o x types ref d.stands d.which in
+          (let f = of_section l s r types ref in
+          let d = template_direct l s r start o one x f t in
+          let code = short l s r start o x f d.stands d.which in
           let here : start ≡ k = at_start k start (size_of o) r.offset code.five code.behind from to (outside s r k out ref.listed code.number) in
           let done : IsInputByte w m (item_of s) start → ⊥ = λ h. never (subst (λ (j : ℕ). IsInputByte w m (item_of s) j) here h) in
-          done (opcode_there l w m s r start o one x types ref t (plain_keeps l w m s r (holds.references r ref (asked r) (λ alone. done (opcode_there l w m s r start o one x types ref t (linked_keeps l w m s r (holds.linked r ref alone base)))))))));
+          done (opcode_there l w m s r start o one x f t (plain_keeps l w m s r (holds.references r ref (asked r) (λ alone. done (opcode_there l w m s r start o one x f t (linked_keeps l w m s r (holds.linked r ref alone base)))))))));
     }))

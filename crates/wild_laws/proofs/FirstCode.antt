@@ -1,10 +1,9 @@
 -- The call or the jump that a reference of a first type fills, in the input and in memory.
-use Rattle.std.proofs.Common.{◌≡◌, ℕ, zero, suc, ◌+◌, ◌-◌, ◌%◌, ◌^◌, ◌<◌, ◌≤◌, ◌⊎◌, inl, inr, Bool, true, false, List, [], ◌∷◌, ◌++◌, length, get_or, slice_range, refl, sym, ap, ◌∙◌, arith, subst, eq-eqb}
+use Rattle.std.proofs.Common.{◌≡◌, ℕ, ◌+◌, ◌-◌, ◌%◌, ◌^◌, ◌<◌, ◌≤◌, ◌⊎◌, inl, inr, Bool, true, false, List, [], ◌∷◌, ◌++◌, length, get_or, slice_range, refl, sym, ap, ◌∙◌, arith, subst, eq-eqb}
 use Rattle.std.specs.Prelude.{Option, Some, None, Contains, All, slice_index, option_map, option_and_then, not, ◌||◌, ◌==◌, nat_le}
 use Rattle.std.specs.List.{list_all}
 use Rattle.std.proofs.lemmas.Bool.{cases_Bool, and_parts, eqb-true}
 use Rattle.std.proofs.lemmas.List.{length-take, length-drop, get_or-take, get_or-drop}
-use Rattle.wild_records.specs.Abi.Relocation.{r_x86_64_pc32, r_x86_64_plt32}
 use Rattle.wild_plan.specs.declared.kind.Machine.{Machine}
 use Rattle.wild_plan.specs.declared.kind.Machine.TheVariants as machine
 use Rattle.wild_plan.specs.declared.input.InputRelocation.{InputRelocation}
@@ -13,23 +12,23 @@ use Rattle.wild_plan.specs.declared.layout.Layout.{Layout}
 use Rattle.wild_reloc.specs.Formula.{Formula}
 use Rattle.wild_meaning.specs.Instruction.{Cell, Is, Deed, Call, Jump, Template, Action, Reader, Effect, exact, field, stands, fills, meaning, effect, with_value, as_value}
 use Rattle.wild_meaning.specs.InstructionX86_64.{nop_byte, templates_x86_64, meaning_x86_64, effect_x86_64}
-use Rattle.wild_meaning.specs.Sequence.{Instruction, Partner, size_of, IsOwnByte, instructions_of}
+use Rattle.wild_meaning.specs.Sequence.{Instruction, size_of, IsOwnByte, instructions_of}
 use Rattle.wild_meaning.specs.Item.{item_of, IsReference}
 use Rattle.wild_meaning.specs.Field.{formula_of, form_width, InNoField}
 use Rattle.wild_meaning.specs.Template.{IsInstruction, IsSequence, IsTemplate}
-use Rattle.wild_laws.specs.FirstPath.{HasFirstTypes, InNoField as NoField, IsBranch}
+use Rattle.wild_laws.specs.FirstPath.{address_types, first_types, branch_types, thread_types, HasFirstTypes, InNoField as NoField, IsBranch, IsThreadCall}
 use Rattle.wild_laws.proofs.Bits.{bit_executable, executable_bit}
-use Rattle.wild_laws.proofs.Sequences.{listed_at, is_first, first, direct, by_instruction}
+use Rattle.wild_laws.proofs.Sequences.{listed_at, passes, is_first, is_thread, thread, one_of, false_of, asking, calling, direct, by_instruction}
 
 -- ---- bytes
 
 -- a byte of a range of bytes
-range_byte : (bs : List ℕ) (a n k : ℕ) → k < n → get_or (slice_range bs a (a + n)) k 0 ≡ slice_index bs (a + k)
+pub range_byte : (bs : List ℕ) (a n k : ℕ) → k < n → get_or (slice_range bs a (a + n)) k 0 ≡ slice_index bs (a + k)
 range_byte bs a n k h =
     let e : a + n - a ≡ n = omega arith in
     rw e (get_or-take n _ k 0 h ∙ get_or-drop a bs k 0)
 
-length-range : (bs : List ℕ) (k n : ℕ) → k + n ≤ length bs → length (slice_range bs k (k + n)) ≡ n
+pub length-range : (bs : List ℕ) (k n : ℕ) → k + n ≤ length bs → length (slice_range bs k (k + n)) ≡ n
 length-range bs k n h =
     let e : k + n - k ≡ n = omega arith in
     rw e (simp (length-take, length-drop) (omega arith))
@@ -52,51 +51,104 @@ five P h (b ∷ c ∷ d ∷ e ∷ f ∷ g ∷ bs) n = absurd (omega (arith, n))
 pub in_no_field : (l : Layout) (s : InputSection) (k : ℕ) → l.machine ≡ machine.X86_64 → NoField s k → InNoField l (item_of s) k
 in_no_field l s k x out = subst (λ (mach : Machine). All (λ (r : InputRelocation). (f : Formula) → formula_of mach r.number ≡ Some f → (k < r.offset) ⊎ (r.offset + form_width f.form ≤ k)) s.relocations) (sym x) out
 
-no_field : (l : Layout) (s : InputSection) (k : ℕ) → l.machine ≡ machine.X86_64 → InNoField l (item_of s) k → NoField s k
+pub no_field : (l : Layout) (s : InputSection) (k : ℕ) → l.machine ≡ machine.X86_64 → InNoField l (item_of s) k → NoField s k
 no_field l s k x out = subst (λ (mach : Machine). All (λ (r : InputRelocation). (f : Formula) → formula_of mach r.number ≡ Some f → (k < r.offset) ⊎ (r.offset + form_width f.form ≤ k)) s.relocations) x out
 
 -- ---- the template of a reference
 
+-- the first of a sequence asks for a thread address
+first_asks : (l : Layout) (s : InputSection) (a b : InputRelocation) (start : ℕ) (o : Instruction) → l.machine ≡ machine.X86_64 → IsSequence l (item_of s) a b start o → is_thread a.number ≡ true
+first_asks l s a b start o x q = asking o q.partner a.number (subst (λ (m : Machine). Contains (instructions_of m) o) x q.stands.known) q.calls q.stands.number
+
+-- the second of a sequence is the call of the function that gives thread addresses, behind one that asks for such an address
+second_calls : (l : Layout) (s : InputSection) (a b : InputRelocation) (start : ℕ) (o : Instruction) → l.machine ≡ machine.X86_64 → IsSequence l (item_of s) a b start o → IsThreadCall l s b
+second_calls l s a b start o x q = record {
+  number = calling o q.partner b.number (subst (λ (m : Machine). Contains (instructions_of m) o) x q.stands.known) q.calls q.has.number;
+  getter = q.has.getter;
+  index = q.has.index;
+  first = a;
+  listed = q.has.listed;
+  next = q.has.next;
+  asks = one_of thread_types a.number (first_asks l s a b start o x q);
+}
+
+pub no_sequence : (l : Layout) (s : InputSection) (a b : InputRelocation) (start : ℕ) (o : Instruction) → l.machine ≡ machine.X86_64 → (IsThreadCall l s b → ⊥) → IsSequence l (item_of s) a b start o → ⊥
+no_sequence l s a b start o x free q = free (second_calls l s a b start o x q)
+
+-- the reference is one of an instruction alone
+pub record IsAlone (l : Layout) (s : InputSection) (r : InputRelocation) : Type 0 where
+  pub asks : is_thread r.number ≡ false
+  pub free : IsThreadCall l s r → ⊥
+
+pub record IsSingleOf (l : Layout) (s : InputSection) (r : InputRelocation) (start : ℕ) (o : Instruction) (one : InputRelocation) : Type 0 where
+  pub same : one ≡ r
+  pub single : o.partner ≡ None
+  pub stands : IsInstruction l (item_of s) r start o
+
+pub single_of : (l : Layout) (s : InputSection) (r : InputRelocation) (start : ℕ) (o : Instruction) (one : InputRelocation) → l.machine ≡ machine.X86_64 → IsAlone l s r → IsTemplate l (item_of s) r start o one → IsSingleOf l s r start o one
+single_of l s r start o one x alone (inl t) = record { same = t.1; single = t.0.single; stands = t.0.stands }
+single_of l s r start o one x alone (inr t) = absurd (by_place t.one)
+  where
+    by_place : (r ≡ one) ⊎ (r ≡ t.second) → ⊥
+    by_place (inl e) =
+        let asks : is_thread r.number ≡ true = subst (λ (q : InputRelocation). is_thread q.number ≡ true) (sym e) (first_asks l s one t.second start o x t.sequence) in
+        let both : true ≡ false = sym asks ∙ alone.asks in
+        cc
+    by_place (inr e) = alone.free (subst (λ (q : InputRelocation). IsThreadCall l s q) (sym e) (second_calls l s one t.second start o x t.sequence))
+
+-- and its type is one that only calls and jumps have
+pub record IsFirst (l : Layout) (s : InputSection) (r : InputRelocation) : Type 0 where
+  pub type : is_first r.number ≡ true
+  pub alone : IsAlone l s r
+
+-- of a number of such types
+pub of_type : (l : Layout) (s : InputSection) (r : InputRelocation) (ns : List ℕ) → list_all is_first ns ≡ true → list_all (λ n. not (is_thread n)) ns ≡ true → Contains ns r.number → (IsThreadCall l s r → ⊥) → IsFirst l s r
+of_type l s r ns firsts others c free = record {
+  type = passes is_first ns r.number firsts c;
+  alone = record { asks = false_of (is_thread r.number) (passes (λ (n : ℕ). not (is_thread n)) ns r.number others c); free = free };
+}
+
+pub of_branch : (l : Layout) (s : InputSection) (r : InputRelocation) (k opcode : ℕ) → (IsThreadCall l s r → ⊥) → IsBranch s r k opcode → IsFirst l s r
+of_branch l s r k opcode free branch = of_type l s r branch_types refl refl branch.number free
+
+pub of_address : (l : Layout) (s : InputSection) (r : InputRelocation) → Contains address_types r.number → (IsThreadCall l s r → ⊥) → IsFirst l s r
+of_address l s r c free = of_type l s r address_types refl refl c free
+
+-- in a section of such types no relocation asks for a thread address
+pub of_section : (l : Layout) (s : InputSection) (r : InputRelocation) → HasFirstTypes s → IsReference (item_of s) r → IsFirst l s r
+of_section l s r types ref = of_type l s r first_types refl refl (types.each r ref.listed) (λ c. none c)
+  where
+    none : IsThreadCall l s r → ⊥
+    none c =
+        let asks = thread c.first.number c.asks in
+        let other = false_of (is_thread c.first.number) (passes (λ (n : ℕ). not (is_thread n)) first_types c.first.number refl (types.each c.first (listed_at s.relocations c.index c.first c.listed))) in
+        let both : true ≡ false = sym asks ∙ other in
+        cc
+
 abbrev pub IsCallOrJump : Instruction → Type 0
 IsCallOrJump o = (o ≡ direct 0xe8 Call) ⊎ (o ≡ direct 0xe9 Jump)
 
--- the instruction of a relocation of a first type is one of the two
-which_of : (l : Layout) (s : InputSection) (r : InputRelocation) (start : ℕ) (o : Instruction) → l.machine ≡ machine.X86_64 → HasFirstTypes s → Contains s.relocations r → IsInstruction l (item_of s) r start o → IsCallOrJump o
-which_of l s r start o x types listed t = by_instruction IsCallOrJump o r.number (inl refl) (inr refl) (subst (λ (m : Machine). Contains (instructions_of m) o) x t.known) t.number (first r.number (types.each r listed))
-
-no_partner : (o : Instruction) (p : Partner) → IsCallOrJump o → o.partner ≡ Some p → ⊥
-no_partner o p (inl e) h = let none : None ≡ Some p = subst (λ (q : Instruction). q.partner ≡ Some p) e h in cc
-no_partner o p (inr e) h = let none : None ≡ Some p = subst (λ (q : Instruction). q.partner ≡ Some p) e h in cc
-
-no_sequence : (l : Layout) (s : InputSection) (a b : InputRelocation) (start : ℕ) (o : Instruction) → l.machine ≡ machine.X86_64 → HasFirstTypes s → IsSequence l (item_of s) a b start o → ⊥
-no_sequence l s a b start o x types q = no_partner o q.partner (which_of l s a start o x types (listed_at s.relocations q.has.index a q.has.listed) q.stands) q.calls
+-- the instruction of such a reference is one of the two
+which_of : (l : Layout) (s : InputSection) (r : InputRelocation) (start : ℕ) (o : Instruction) → l.machine ≡ machine.X86_64 → IsFirst l s r → IsInstruction l (item_of s) r start o → IsCallOrJump o
+which_of l s r start o x f t = by_instruction IsCallOrJump o r.number (inl refl) (inr refl) (subst (λ (m : Machine). Contains (instructions_of m) o) x t.known) t.number f.type
 
 pub record IsDirect (l : Layout) (s : InputSection) (r : InputRelocation) (start : ℕ) (o : Instruction) (one : InputRelocation) : Type 0 where
   pub same : one ≡ r
   pub stands : IsInstruction l (item_of s) r start o
   pub which : IsCallOrJump o
 
-pub template_direct : (l : Layout) (s : InputSection) (r : InputRelocation) (start : ℕ) (o : Instruction) (one : InputRelocation) → l.machine ≡ machine.X86_64 → HasFirstTypes s → IsReference (item_of s) r → IsTemplate l (item_of s) r start o one → IsDirect l s r start o one
-template_direct l s r start o one x types ref (inl t) = record { same = t.1; stands = t.0.stands; which = which_of l s r start o x types ref.listed t.0.stands }
-template_direct l s r start o one x types ref (inr t) = absurd (no_sequence l s one t.second start o x types t.sequence)
+pub template_direct : (l : Layout) (s : InputSection) (r : InputRelocation) (start : ℕ) (o : Instruction) (one : InputRelocation) → l.machine ≡ machine.X86_64 → IsFirst l s r → IsTemplate l (item_of s) r start o one → IsDirect l s r start o one
+template_direct l s r start o one x f t = let q = single_of l s r start o one x f.alone t in record { same = q.same; stands = q.stands; which = which_of l s r start o x f q.stands }
 
 -- ---- the input's bytes
 
-number_is : (n : ℕ) → Contains (r_x86_64_pc32 ∷ r_x86_64_plt32 ∷ []) n → is_first n ≡ true → n ≡ r_x86_64_pc32
-number_is n c f = at n c.0 c.1 c.2 f
-  where
-    at : (n k : ℕ) → k < length (r_x86_64_pc32 ∷ r_x86_64_plt32 ∷ []) → get_or (r_x86_64_pc32 ∷ r_x86_64_plt32 ∷ []) k n ≡ n → is_first n ≡ true → n ≡ r_x86_64_pc32
-    at n zero l e f = sym e
-    at n (suc zero) l e f = let g : is_first r_x86_64_plt32 ≡ true = subst (λ (m : ℕ). is_first m ≡ true) (sym e) f in cc
-    at n (suc (suc k)) l e f = absurd (omega (arith, l))
-
-starts : (opcode : ℕ) (cs : List Cell) (bs : List ℕ) → stands (Is opcode ∷ cs) bs ≡ true → get_or bs 0 0 ≡ opcode
+pub starts : (opcode : ℕ) (cs : List Cell) (bs : List ℕ) → stands (Is opcode ∷ cs) bs ≡ true → get_or bs 0 0 ≡ opcode
 starts opcode cs [] h = cc
 starts opcode cs (b ∷ bs) h = eqb-true b opcode (and_parts (b == opcode) (stands cs bs) h).0
 
 -- such an instruction's bytes are those of a call or a jump
-pub is_branch : (l : Layout) (s : InputSection) (r : InputRelocation) (start opcode : ℕ) (deed : Deed) → l.machine ≡ machine.X86_64 → HasFirstTypes s → IsReference (item_of s) r → IsInstruction l (item_of s) r start (direct opcode deed) → IsBranch s r start opcode
-is_branch l s r start opcode deed x types ref t =
+pub is_branch : (l : Layout) (s : InputSection) (r : InputRelocation) (start opcode : ℕ) (deed : Deed) → l.machine ≡ machine.X86_64 → IsInstruction l (item_of s) r start (direct opcode deed) → IsBranch s r start opcode
+is_branch l s r start opcode deed x t =
     let behind = t.field in
     let inside = t.inside in
     let z : start + 0 ≡ start = omega arith in
@@ -104,7 +156,7 @@ is_branch l s r start opcode deed x types ref t =
       code = executable_bit s.flags t.code;
       behind = behind;
       begins = sym (first_byte s.bytes start) ∙ starts opcode field (slice_range s.bytes start (start + 5)) t.stands;
-      number = number_is r.number t.number (first r.number (types.each r ref.listed));
+      number = t.number;
       inside = omega (arith, behind, inside);
       free = subst (λ (k : ℕ). NoField s k) z (no_field l s (start + 0) x (t.alone 0 (record { inside = omega arith; beside = inl (omega arith); apart = tt })));
     }
@@ -139,7 +191,7 @@ branch_instruction l s r k opcode deed known x branch =
     record {
       code = bit_executable s.flags branch.code;
       known = subst (λ (m : Machine). Contains (instructions_of m) (direct opcode deed)) (sym x) known;
-      number = (0, omega arith, sym branch.number);
+      number = branch.number;
       field = behind;
       inside = omega (arith, behind, ends);
       stands = stands_from opcode (slice_range s.bytes k (k + 5)) (old_length s r k opcode branch) (first_byte s.bytes k ∙ branch.begins);
@@ -151,13 +203,13 @@ short : (o : Instruction) → IsCallOrJump o → size_of o ≤ 5
 short o (inl e) = subst (λ (p : Instruction). size_of p ≤ 5) (sym e) (omega arith)
 short o (inr e) = subst (λ (p : Instruction). size_of p ≤ 5) (sym e) (omega arith)
 
-pub branch_template : (l : Layout) (s : InputSection) (r : InputRelocation) (k opcode : ℕ) (deed : Deed) → Contains (instructions_of machine.X86_64) (direct opcode deed) → l.machine ≡ machine.X86_64 → HasFirstTypes s → IsReference (item_of s) r → IsBranch s r k opcode → IsTemplate l (item_of s) r k (direct opcode deed) r
-branch_template l s r k opcode deed known x types ref branch = inl (
+pub branch_template : (l : Layout) (s : InputSection) (r : InputRelocation) (k opcode : ℕ) (deed : Deed) → Contains (instructions_of machine.X86_64) (direct opcode deed) → l.machine ≡ machine.X86_64 → IsFirst l s r → IsBranch s r k opcode → IsTemplate l (item_of s) r k (direct opcode deed) r
+branch_template l s r k opcode deed known x f branch = inl (
   record {
     single = refl;
     stands = branch_instruction l s r k opcode deed known x branch;
-    longest = λ from p none t. short p (which_of l s r from p x types ref.listed t);
-    free = λ a from p q. no_sequence l s a r from p x types q;
+    longest = λ from p none t. short p (which_of l s r from p x f t);
+    free = λ a from p q. no_sequence l s a r from p x f.alone.free q;
   },
   refl,
 )

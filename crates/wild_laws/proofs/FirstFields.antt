@@ -1,27 +1,27 @@
 -- The field of a reference in no call and no jump reads as its formula.
 use Rattle.std.proofs.Common.{◌≡◌, ℕ, zero, suc, ◌<◌, inl, inr, length, get_or, refl, sym, ◌∙◌, arith, subst}
 use Rattle.std.specs.Prelude.{Some, Contains}
-use Rattle.wild_records.specs.Abi.Relocation.{r_x86_64_none, r_x86_64_64, r_x86_64_pc32, r_x86_64_32, r_x86_64_32s}
+use Rattle.wild_records.specs.Abi.Relocation.{r_x86_64_64, r_x86_64_pc32, r_x86_64_32, r_x86_64_32s, r_x86_64_16, r_x86_64_pc16, r_x86_64_8, r_x86_64_pc8, r_x86_64_pc64}
 use Rattle.wild_plan.specs.declared.kind.Machine.{Machine}
 use Rattle.wild_plan.specs.declared.kind.Machine.TheVariants as machine
 use Rattle.wild_plan.specs.declared.input.InputRelocation.{InputRelocation}
 use Rattle.wild_plan.specs.declared.input.InputSection.{InputSection}
 use Rattle.wild_plan.specs.declared.layout.Layout.{Layout}
-use Rattle.wild_reloc.specs.Formula.{SymbolAddress, Distance, Formula, formula, Full, Plain, Signed, Unsigned}
+use Rattle.wild_reloc.specs.Formula.{SymbolAddress, Distance, Formula, formula, Full, Plain, Signed, Unsigned, Either}
 use Rattle.wild_reloc.specs.FormulaX86_64.{x86_64_formula}
 use Rattle.wild_loader.specs.declared.memory.Memory.{Memory}
 use Rattle.wild_loader.specs.declared.world.World.{World}
 use Rattle.wild_meaning.specs.Instruction.{Call, Jump}
 use Rattle.wild_meaning.specs.Sequence.{Instruction}
-use Rattle.wild_meaning.specs.Item.{item_of, IsReference}
+use Rattle.wild_meaning.specs.Item.{item_of}
 use Rattle.wild_meaning.specs.Field.{formula_of}
 use Rattle.wild_meaning.specs.Template.{IsInstruction}
 use Rattle.wild_meaning.specs.Reference.{HoldsPlain, ReferenceHolds}
-use Rattle.wild_laws.specs.FirstPath.{first_types, HasFirstTypes, IsBranchField, HasFormula}
+use Rattle.wild_laws.specs.FirstPath.{address_types, IsBranchField, HasFormula}
 use Rattle.wild_laws.proofs.FirstNames.{demanded_of, IsKnown}
-use Rattle.wild_laws.proofs.FirstCode.{template_direct, is_branch, IsCallOrJump}
+use Rattle.wild_laws.proofs.FirstCode.{IsFirst, template_direct, is_branch, IsCallOrJump}
 
--- ---- the formulas of the first types
+-- ---- the formulas of addresses and distances
 
 abbrev WritesAddress : ℕ → Type 0
 WritesAddress n = (f : Formula) → x86_64_formula n ≡ Some f → IsKnown f.value
@@ -45,16 +45,40 @@ formula_32s : WritesAddress r_x86_64_32s
 unfolding x86_64_formula
 formula_32s = address r_x86_64_32s (formula SymbolAddress (Plain 32 Signed)) refl (inl refl)
 
-writes_address : (n : ℕ) → Contains first_types n → (n ≡ r_x86_64_none → ⊥) → WritesAddress n
-writes_address n c refers = at n c.0 c.1 c.2 refers
+formula_16 : WritesAddress r_x86_64_16
+unfolding x86_64_formula
+formula_16 = address r_x86_64_16 (formula SymbolAddress (Plain 16 Either)) refl (inl refl)
+
+formula_pc16 : WritesAddress r_x86_64_pc16
+unfolding x86_64_formula
+formula_pc16 = address r_x86_64_pc16 (formula Distance (Plain 16 Signed)) refl (inr refl)
+
+formula_8 : WritesAddress r_x86_64_8
+unfolding x86_64_formula
+formula_8 = address r_x86_64_8 (formula SymbolAddress (Plain 8 Either)) refl (inl refl)
+
+formula_pc8 : WritesAddress r_x86_64_pc8
+unfolding x86_64_formula
+formula_pc8 = address r_x86_64_pc8 (formula Distance (Plain 8 Signed)) refl (inr refl)
+
+formula_pc64 : WritesAddress r_x86_64_pc64
+unfolding x86_64_formula
+formula_pc64 = address r_x86_64_pc64 (formula Distance Full) refl (inr refl)
+
+writes_address : (n : ℕ) → Contains address_types n → WritesAddress n
+writes_address n c = at n c.0 c.1 c.2
   where
-    at : (n k : ℕ) → k < length first_types → get_or first_types k n ≡ n → (n ≡ r_x86_64_none → ⊥) → WritesAddress n
-    at n zero l e refers = absurd (refers (sym e))
-    at n (suc zero) l e refers = subst WritesAddress e formula_64
-    at n (suc (suc zero)) l e refers = subst WritesAddress e formula_pc32
-    at n (suc (suc (suc zero))) l e refers = subst WritesAddress e formula_32
-    at n (suc (suc (suc (suc zero)))) l e refers = subst WritesAddress e formula_32s
-    at n (suc (suc (suc (suc (suc k))))) l e refers = absurd (omega (arith, l))
+    at : (n k : ℕ) → k < length address_types → get_or address_types k n ≡ n → WritesAddress n
+    at n zero l e = subst WritesAddress e formula_64
+    at n (suc zero) l e = subst WritesAddress e formula_pc32
+    at n (suc (suc zero)) l e = subst WritesAddress e formula_32
+    at n (suc (suc (suc zero))) l e = subst WritesAddress e formula_32s
+    at n (suc (suc (suc (suc zero)))) l e = subst WritesAddress e formula_16
+    at n (suc (suc (suc (suc (suc zero))))) l e = subst WritesAddress e formula_pc16
+    at n (suc (suc (suc (suc (suc (suc zero)))))) l e = subst WritesAddress e formula_8
+    at n (suc (suc (suc (suc (suc (suc (suc zero))))))) l e = subst WritesAddress e formula_pc8
+    at n (suc (suc (suc (suc (suc (suc (suc (suc zero)))))))) l e = subst WritesAddress e formula_pc64
+    at n (suc (suc (suc (suc (suc (suc (suc (suc (suc k))))))))) l e = absurd (omega (arith, l))
 
 -- ---- fields
 
@@ -73,10 +97,10 @@ plain_formula l w m s r x known p =
     }
 
 -- a reference with an instruction is in a call or a jump
-branch_field : (l : Layout) (s : InputSection) (r : InputRelocation) (start : ℕ) (o : Instruction) → l.machine ≡ machine.X86_64 → HasFirstTypes s → IsReference (item_of s) r → IsInstruction l (item_of s) r start o → IsCallOrJump o → IsBranchField s r
-branch_field l s r start o x types ref t (inl e) = (start, inl (is_branch l s r start 0xe8 Call x types ref (subst (λ (p : Instruction). IsInstruction l (item_of s) r start p) e t)))
-branch_field l s r start o x types ref t (inr e) = (start, inr (is_branch l s r start 0xe9 Jump x types ref (subst (λ (p : Instruction). IsInstruction l (item_of s) r start p) e t)))
+branch_field : (l : Layout) (s : InputSection) (r : InputRelocation) (start : ℕ) (o : Instruction) → l.machine ≡ machine.X86_64 → IsInstruction l (item_of s) r start o → IsCallOrJump o → IsBranchField s r
+branch_field l s r start o x t (inl e) = (start, inl (is_branch l s r start 0xe8 Call x (subst (λ (p : Instruction). IsInstruction l (item_of s) r start p) e t)))
+branch_field l s r start o x t (inr e) = (start, inr (is_branch l s r start 0xe9 Jump x (subst (λ (p : Instruction). IsInstruction l (item_of s) r start p) e t)))
 
-pub has_formula : (l : Layout) (w : World) (m : Memory) (s : InputSection) (r : InputRelocation) → l.machine ≡ machine.X86_64 → HasFirstTypes s → IsReference (item_of s) r → (IsBranchField s r → ⊥) → ReferenceHolds l w m (item_of s) r → HasFormula l w m s r
-has_formula l w m s r x types ref none (inl p) = plain_formula l w m s r x (writes_address r.number (types.each r ref.listed) ref.refers) p
-has_formula l w m s r x types ref none (inr q) = let d = template_direct l s r q.start q.instruction q.first x types ref q.template in absurd (none (branch_field l s r q.start q.instruction x types ref d.stands d.which))
+pub has_formula : (l : Layout) (w : World) (m : Memory) (s : InputSection) (r : InputRelocation) → l.machine ≡ machine.X86_64 → Contains address_types r.number → IsFirst l s r → (IsBranchField s r → ⊥) → ReferenceHolds l w m (item_of s) r → HasFormula l w m s r
+has_formula l w m s r x type f none (inl p) = plain_formula l w m s r x (writes_address r.number type) p
+has_formula l w m s r x type f none (inr q) = let d = template_direct l s r q.start q.instruction q.first x f q.template in absurd (none (branch_field l s r q.start q.instruction x d.stands d.which))

@@ -14,12 +14,13 @@ use Rattle.wild_meaning.specs.Sequence.{Instruction}
 use Rattle.wild_meaning.specs.Item.{item_of, place_at, IsReference, IsKept}
 use Rattle.wild_meaning.specs.Template.{effect_of, reads, IsInstruction, DoesDemanded}
 use Rattle.wild_meaning.specs.Reference.{IsAsked, ReferenceHolds}
-use Rattle.wild_laws.specs.FirstPath.{IsLoadedSection, IsRelocated, HasFirstTypes, IsBranch, BranchReaches, MeaningGivesFields}
+use Rattle.wild_laws.specs.FirstPath.{IsLoadedSection, IsRelocated, IsBranch, BranchReaches, MeaningGivesFields}
 use Rattle.wild_laws.proofs.Bits.{bit_alloc}
 use Rattle.wild_laws.proofs.Sequences.{direct}
-use Rattle.wild_laws.proofs.FirstCode.{first_byte, IsCallOrJump, template_direct, is_branch, branch_template, old_length, DoesDeed, call_does, jump_does}
+use Rattle.wild_laws.proofs.FirstCode.{first_byte, IsFirst, of_branch, of_address, IsCallOrJump, template_direct, is_branch, branch_template, old_length, DoesDeed, call_does, jump_does}
 use Rattle.wild_laws.proofs.FirstFields.{has_formula}
 use Rattle.wild_laws.proofs.FirstBytes.{does_so, other_byte}
+use Rattle.wild_laws.proofs.FirstSlots.{slot_call_goes, slot_jump_goes}
 
 -- such a section is kept
 kept : (l : Layout) (s : InputSection) → IsLoadedSection l s → IsKept l (item_of s)
@@ -39,9 +40,9 @@ not_same : (a b : ℕ) → (a == b) ≡ false → a ≡ b → ⊥
 not_same a b n e = let t : (a == b) ≡ true = eq-eqb a b e in let both : true ≡ false = sym t ∙ n in cc
 
 -- bytes are those of one instruction
-same_code : (l : Layout) (s : InputSection) (r : InputRelocation) (k a b start : ℕ) (deed : Deed) → (a ≡ b → ⊥) → l.machine ≡ machine.X86_64 → HasFirstTypes s → IsReference (item_of s) r → IsBranch s r k a → IsInstruction l (item_of s) r start (direct b deed) → ⊥
-same_code l s r k a b start deed apart x types ref branch t =
-    let other = is_branch l s r start b deed x types ref t in
+same_code : (l : Layout) (s : InputSection) (r : InputRelocation) (k a b start : ℕ) (deed : Deed) → (a ≡ b → ⊥) → l.machine ≡ machine.X86_64 → IsBranch s r k a → IsInstruction l (item_of s) r start (direct b deed) → ⊥
+same_code l s r k a b start deed apart x branch t =
+    let other = is_branch l s r start b deed x t in
     let here = branch.behind in
     let there = other.behind in
     let same : start ≡ k = omega (arith, here, there) in
@@ -61,21 +62,21 @@ moved_here l w m s r one k start opcode o deed branch t e same d =
 as_direct : (l : Layout) (s : InputSection) (r : InputRelocation) (start opcode : ℕ) (o : Instruction) (deed : Deed) → o ≡ direct opcode deed → IsInstruction l (item_of s) r start o → IsInstruction l (item_of s) r start (direct opcode deed)
 as_direct l s r start opcode o deed e t = subst (λ (p : Instruction). IsInstruction l (item_of s) r start p) e t
 
-call_rewritten : (l : Layout) (w : World) (m : Memory) (s : InputSection) (r one : InputRelocation) (k start : ℕ) (o : Instruction) → l.machine ≡ machine.X86_64 → HasFirstTypes s → IsReference (item_of s) r → IsBranch s r k 0xe8 → IsInstruction l (item_of s) r start o → IsCallOrJump o → one ≡ r → DoesDemanded (reads w m) l w m (item_of s) one start o → Does l w m s r k 0xe8 Call
-call_rewritten l w m s r one k start o x types ref branch t (inl e) same d = moved_here l w m s r one k start 0xe8 o Call branch (as_direct l s r start 0xe8 o Call e t) e same d
-call_rewritten l w m s r one k start o x types ref branch t (inr e) same d = absurd (same_code l s r k 0xe8 0xe9 start Jump (not_same 0xe8 0xe9 refl) x types ref branch (as_direct l s r start 0xe9 o Jump e t))
+call_rewritten : (l : Layout) (w : World) (m : Memory) (s : InputSection) (r one : InputRelocation) (k start : ℕ) (o : Instruction) → l.machine ≡ machine.X86_64 → IsBranch s r k 0xe8 → IsInstruction l (item_of s) r start o → IsCallOrJump o → one ≡ r → DoesDemanded (reads w m) l w m (item_of s) one start o → Does l w m s r k 0xe8 Call
+call_rewritten l w m s r one k start o x branch t (inl e) same d = moved_here l w m s r one k start 0xe8 o Call branch (as_direct l s r start 0xe8 o Call e t) e same d
+call_rewritten l w m s r one k start o x branch t (inr e) same d = absurd (same_code l s r k 0xe8 0xe9 start Jump (not_same 0xe8 0xe9 refl) x branch (as_direct l s r start 0xe9 o Jump e t))
 
-jump_rewritten : (l : Layout) (w : World) (m : Memory) (s : InputSection) (r one : InputRelocation) (k start : ℕ) (o : Instruction) → l.machine ≡ machine.X86_64 → HasFirstTypes s → IsReference (item_of s) r → IsBranch s r k 0xe9 → IsInstruction l (item_of s) r start o → IsCallOrJump o → one ≡ r → DoesDemanded (reads w m) l w m (item_of s) one start o → Does l w m s r k 0xe9 Jump
-jump_rewritten l w m s r one k start o x types ref branch t (inl e) same d = absurd (same_code l s r k 0xe9 0xe8 start Call (not_same 0xe9 0xe8 refl) x types ref branch (as_direct l s r start 0xe8 o Call e t))
-jump_rewritten l w m s r one k start o x types ref branch t (inr e) same d = moved_here l w m s r one k start 0xe9 o Jump branch (as_direct l s r start 0xe9 o Jump e t) e same d
+jump_rewritten : (l : Layout) (w : World) (m : Memory) (s : InputSection) (r one : InputRelocation) (k start : ℕ) (o : Instruction) → l.machine ≡ machine.X86_64 → IsBranch s r k 0xe9 → IsInstruction l (item_of s) r start o → IsCallOrJump o → one ≡ r → DoesDemanded (reads w m) l w m (item_of s) one start o → Does l w m s r k 0xe9 Jump
+jump_rewritten l w m s r one k start o x branch t (inl e) same d = absurd (same_code l s r k 0xe9 0xe8 start Call (not_same 0xe9 0xe8 refl) x branch (as_direct l s r start 0xe8 o Call e t))
+jump_rewritten l w m s r one k start o x branch t (inr e) same d = moved_here l w m s r one k start 0xe9 o Jump branch (as_direct l s r start 0xe9 o Jump e t) e same d
 
-call_does_it : (l : Layout) (w : World) (m : Memory) (s : InputSection) (r : InputRelocation) (k : ℕ) → l.machine ≡ machine.X86_64 → HasFirstTypes s → IsReference (item_of s) r → IsBranch s r k 0xe8 → ReferenceHolds l w m (item_of s) r → Does l w m s r k 0xe8 Call
-call_does_it l w m s r k x types ref branch (inl p) = p.does k (direct 0xe8 Call) r (branch_template l s r k 0xe8 Call (0, omega arith, refl) x types ref branch)
-call_does_it l w m s r k x types ref branch (inr q) = let d = template_direct l s r q.start q.instruction q.first x types ref q.template in call_rewritten l w m s r q.first k q.start q.instruction x types ref branch d.stands d.which d.same (does_so l w m (item_of s) q.first q.start q.instruction q.does)
+call_does_it : (l : Layout) (w : World) (m : Memory) (s : InputSection) (r : InputRelocation) (k : ℕ) → l.machine ≡ machine.X86_64 → IsFirst l s r → IsBranch s r k 0xe8 → ReferenceHolds l w m (item_of s) r → Does l w m s r k 0xe8 Call
+call_does_it l w m s r k x f branch (inl p) = p.does k (direct 0xe8 Call) r (branch_template l s r k 0xe8 Call (0, omega arith, refl) x f branch)
+call_does_it l w m s r k x f branch (inr q) = let d = template_direct l s r q.start q.instruction q.first x f q.template in call_rewritten l w m s r q.first k q.start q.instruction x branch d.stands d.which d.same (does_so l w m (item_of s) q.first q.start q.instruction q.does)
 
-jump_does_it : (l : Layout) (w : World) (m : Memory) (s : InputSection) (r : InputRelocation) (k : ℕ) → l.machine ≡ machine.X86_64 → HasFirstTypes s → IsReference (item_of s) r → IsBranch s r k 0xe9 → ReferenceHolds l w m (item_of s) r → Does l w m s r k 0xe9 Jump
-jump_does_it l w m s r k x types ref branch (inl p) = p.does k (direct 0xe9 Jump) r (branch_template l s r k 0xe9 Jump (1, omega arith, refl) x types ref branch)
-jump_does_it l w m s r k x types ref branch (inr q) = let d = template_direct l s r q.start q.instruction q.first x types ref q.template in jump_rewritten l w m s r q.first k q.start q.instruction x types ref branch d.stands d.which d.same (does_so l w m (item_of s) q.first q.start q.instruction q.does)
+jump_does_it : (l : Layout) (w : World) (m : Memory) (s : InputSection) (r : InputRelocation) (k : ℕ) → l.machine ≡ machine.X86_64 → IsFirst l s r → IsBranch s r k 0xe9 → ReferenceHolds l w m (item_of s) r → Does l w m s r k 0xe9 Jump
+jump_does_it l w m s r k x f branch (inl p) = p.does k (direct 0xe9 Jump) r (branch_template l s r k 0xe9 Jump (1, omega arith, refl) x f branch)
+jump_does_it l w m s r k x f branch (inr q) = let d = template_direct l s r q.start q.instruction q.first x f q.template in jump_rewritten l w m s r q.first k q.start q.instruction x branch d.stands d.which d.same (does_so l w m (item_of s) q.first q.start q.instruction q.does)
 
 -- such code goes to what comes to the symbol
 goes : (l : Layout) (w : World) (m : Memory) (s : InputSection) (r : InputRelocation) (k opcode : ℕ) (deed : Deed) → DoesDeed opcode deed → l.machine ≡ machine.X86_64 → IsBranch s r k opcode → DoesDemanded (reads w m) l w m (item_of s) r k (direct opcode deed) → BranchReaches l w m s r k deed
@@ -97,14 +98,16 @@ goes l w m s r k opcode deed does x branch d =
 -- ---- the whole
 
 pub meaning_gives_fields : MeaningGivesFields
-meaning_gives_fields = λ l w image x base linked s loaded types.
+meaning_gives_fields = λ l w image x base linked s loaded.
     let m = linked.memory in
     let holds = linked.kept (item_of s) (kept l s loaded) in
     let asked : (r : InputRelocation) → IsAsked l w (item_of s) r = λ r e. base in
     let refers : (r : InputRelocation) → IsRelocated s r → IsReference (item_of s) r = λ r one. record { listed = one.listed; refers = one.refers } in
     record {
-      references = λ r one follows none. has_formula l w m s r x types (refers r one) none (holds.references r (refers r one) (asked r) follows);
-      calls = λ r k one follows branch. goes l w m s r k 0xe8 Call call_does x branch (call_does_it l w m s r k x types (refers r one) branch (holds.references r (refers r one) (asked r) follows));
-      jumps = λ r k one follows branch. goes l w m s r k 0xe9 Jump jump_does x branch (jump_does_it l w m s r k x types (refers r one) branch (holds.references r (refers r one) (asked r) follows));
-      others = λ k lt out. other_byte l w m s k x types base asked holds lt out;
+      references = λ r one follows type none free. has_formula l w m s r x type (of_address l s r type free) none (holds.references r (refers r one) (asked r) follows);
+      calls = λ r k one follows free branch. goes l w m s r k 0xe8 Call call_does x branch (call_does_it l w m s r k x (of_branch l s r k 0xe8 free branch) branch (holds.references r (refers r one) (asked r) follows));
+      jumps = λ r k one follows free branch. goes l w m s r k 0xe9 Jump jump_does x branch (jump_does_it l w m s r k x (of_branch l s r k 0xe9 free branch) branch (holds.references r (refers r one) (asked r) follows));
+      slot_calls = λ r k one follows free branch. slot_call_goes l w m s r k x free branch (holds.references r (refers r one) (asked r) follows);
+      slot_jumps = λ r k one follows free branch. slot_jump_goes l w m s r k x free branch (holds.references r (refers r one) (asked r) follows);
+      others = λ types k lt out. other_byte l w m s k x types base asked holds lt out;
     }

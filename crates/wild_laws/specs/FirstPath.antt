@@ -1,13 +1,14 @@
--- What an image owes an x86-64 layout at base 0, where each fixed output is, told by fields, calls and jumps alone, of sections whose
--- relocations have the first types. It follows from the meaning of all layouts.
---   HasFirstTypes s      the section's relocations are addresses and distances
---   HasFormula ..        the field in memory is the formula's
---   BranchReaches ..     a call or a jump goes to what comes to its symbol
---   HoldsByFields ..     each reference of an input section does one of these
---   NamesAreAddresses    what this says of symbols that no resolver answers for
-use Rattle.std.specs.Prelude.{◌≡◌, ◌≢◌, ℕ, ℤ, ◌+◌, ◌-◌, ◌%◌, ◌^◌, ◌<◌, ◌≤◌, ◌⊎◌, true, false, List, [], ◌∷◌, length, Some, All, Contains, slice_index}
+-- What an image owes an x86-64 layout at base 0, where each fixed output is, told by fields, calls and jumps alone. It follows from
+-- the meaning of all layouts.
+--   HasFormula ..          the field in memory is the formula's
+--   BranchReaches ..       a direct call or jump goes to what stands for its symbol
+--   SlotBranchReaches ..   one through a slot goes to what comes to its symbol
+--   HasFirstTypes s        no relocation of the section has another instruction than a direct call or jump
+--   HoldsByFields ..       what these say of an input section
+--   NamesAreAddresses      what this says of symbols that no resolver answers for
+use Rattle.std.specs.Prelude.{◌≡◌, ◌≢◌, ℕ, ℤ, ◌+◌, ◌-◌, ◌%◌, ◌^◌, ◌<◌, ◌≤◌, ◌⊎◌, true, false, List, [], ◌∷◌, length, Some, All, Contains, slice_index, slice_get}
 use Rattle.std.specs.Int.{w64, cast_unsigned}
-use Rattle.wild_records.specs.Abi.Relocation.{r_x86_64_none, r_x86_64_64, r_x86_64_pc32, r_x86_64_32, r_x86_64_32s}
+use Rattle.wild_records.specs.Abi.Relocation.{r_x86_64_none, r_x86_64_64, r_x86_64_pc32, r_x86_64_plt32, r_x86_64_gotpcrel, r_x86_64_32, r_x86_64_32s, r_x86_64_16, r_x86_64_pc16, r_x86_64_8, r_x86_64_pc8, r_x86_64_tlsgd, r_x86_64_tlsld, r_x86_64_pc64, r_x86_64_pltoff64, r_x86_64_gotpcrelx, r_x86_64_rex_gotpcrelx}
 use Rattle.wild_plan.specs.declared.kind.Machine.TheVariants as machine
 use Rattle.wild_plan.specs.declared.input.Slot.TheVariants as slot
 use Rattle.wild_plan.specs.declared.input.InputRelocation.{InputRelocation}
@@ -28,7 +29,7 @@ use Rattle.wild_meaning.specs.Field.{form_width}
 use Rattle.wild_meaning.specs.Formula.{IsTarget, IsGoal}
 use Rattle.wild_meaning.specs.Instruction.{Deed, Call, Jump}
 use Rattle.wild_meaning.specs.InstructionX86_64.{effect_x86_64}
-use Rattle.wild_meaning.specs.Template.{reads}
+use Rattle.wild_meaning.specs.Template.{NamesGetter, reads}
 use Rattle.wild_meaning.specs.Item.{item_of}
 use Rattle.wild_meaning.specs.Reference.{IsLinkedAlone}
 use Rattle.wild_meaning.specs.Linked.{IsLinked}
@@ -49,9 +50,27 @@ pub record IsRelocated (s : InputSection) (r : InputRelocation) : Type 0 where
   pub listed : Contains s.relocations r
   pub refers : r.number ≢ r_x86_64_none
 
--- the types of the section's relocations: none, S + A and S + A - P (x86-64 psABI, "Relocation Types")
+-- the types that write S + A or S + A - P (x86-64 psABI, "Relocation Types")
+abbrev pub address_types : List ℕ
+address_types = r_x86_64_64 ∷ r_x86_64_pc32 ∷ r_x86_64_32 ∷ r_x86_64_32s ∷ r_x86_64_16 ∷ r_x86_64_pc16 ∷ r_x86_64_8 ∷ r_x86_64_pc8 ∷ r_x86_64_pc64 ∷ []
+
+-- those of a direct call or jump, and of one through a slot
+abbrev pub branch_types : List ℕ
+branch_types = r_x86_64_pc32 ∷ r_x86_64_plt32 ∷ []
+
+abbrev pub slot_types : List ℕ
+slot_types = r_x86_64_gotpcrel ∷ r_x86_64_gotpcrelx ∷ []
+
+-- those that ask for a thread address, and of the call behind them (x86-64 psABI, "Thread-Local Storage")
+abbrev pub thread_types : List ℕ
+thread_types = r_x86_64_tlsgd ∷ r_x86_64_tlsld ∷ []
+
+abbrev pub call_types : List ℕ
+call_types = r_x86_64_pc32 ∷ r_x86_64_plt32 ∷ r_x86_64_gotpcrel ∷ r_x86_64_gotpcrelx ∷ r_x86_64_rex_gotpcrelx ∷ r_x86_64_pltoff64 ∷ []
+
+-- the section's relocations have the types of addresses and distances, or none, or R_X86_64_PLT32
 abbrev pub first_types : List ℕ
-first_types = r_x86_64_none ∷ r_x86_64_64 ∷ r_x86_64_pc32 ∷ r_x86_64_32 ∷ r_x86_64_32s ∷ []
+first_types = r_x86_64_none ∷ r_x86_64_plt32 ∷ address_types
 
 pub record HasFirstTypes (s : InputSection) : Type 0 where
   pub each : (r : InputRelocation) → Contains s.relocations r → Contains first_types r.number
@@ -67,18 +86,43 @@ InNoField s k = All (λ (r : InputRelocation). (f : Formula) → x86_64_formula 
 -- ---- calls and jumps
 
 -- the input's byte at an offset is the opcode of a direct call or jump (Intel SDM, "CALL": e8; "JMP": e9), which no field has, and the
--- field behind it is the relocation's, of type R_X86_64_PC32
+-- field behind it is the relocation's, of type R_X86_64_PC32 or R_X86_64_PLT32
 pub record IsBranch (s : InputSection) (r : InputRelocation) (k opcode : ℕ) : Type 0 where
   pub code : executable s.flags ≡ true
   pub behind : r.offset ≡ k + 1
   pub begins : slice_index s.bytes k ≡ opcode
-  pub number : r.number ≡ r_x86_64_pc32
+  pub number : Contains branch_types r.number
   pub inside : r.offset + 4 ≤ length s.bytes
   pub free : InNoField s k
 
 -- the relocation's field is such an instruction's
 abbrev pub IsBranchField : InputSection → InputRelocation → Type 0
 IsBranchField s r = (k : ℕ) × (IsBranch s r k 0xe8 ⊎ IsBranch s r k 0xe9)
+
+-- the input's bytes at an offset are the opcode of a call or a jump through a slot (Intel SDM, "CALL": ff 15; "JMP": ff 25), which no
+-- field has, and the field behind them is the relocation's, of type R_X86_64_GOTPCREL or R_X86_64_GOTPCRELX, whose addend takes
+-- back its four bytes
+pub record IsSlotBranch (s : InputSection) (r : InputRelocation) (k opcode : ℕ) : Type 0 where
+  pub code : executable s.flags ≡ true
+  pub behind : r.offset ≡ k + 2
+  pub first : slice_index s.bytes k ≡ 0xff
+  pub second : slice_index s.bytes (k + 1) ≡ opcode
+  pub number : Contains slot_types r.number
+  pub inside : r.offset + 4 ≤ length s.bytes
+  pub addend : (cast_unsigned w64 r.addend + 4) % 2 ^ 64 ≡ 0
+  pub free : InNoField s k
+  pub free_too : InNoField s (k + 1)
+
+-- the relocation is that of a call of the function that gives thread addresses, right behind one that asks for such an address: both may
+-- be rewritten as one
+pub record IsThreadCall (l : Layout) (s : InputSection) (r : InputRelocation) : Type 0 where
+  pub number : Contains call_types r.number
+  pub getter : NamesGetter l r
+  pub index : ℕ
+  pub first : InputRelocation
+  pub listed : slice_get s.relocations index ≡ Some first
+  pub next : slice_get s.relocations (index + 1) ≡ Some r
+  pub asks : Contains thread_types first.number
 
 -- S + A + 4: the symbol's value, where A takes back the four bytes of the field
 abbrev pub past_field : InputRelocation → ℕ → ℕ
@@ -92,6 +136,15 @@ pub record BranchReaches (l : Layout) (w : World) (m : Memory) (s : InputSection
   pub five : length bytes ≡ 5
   pub held : Holds m (address_at w s k) bytes
   pub goes : effect_x86_64 (reads w m) (address_at w s k) bytes ≡ Some (record { deed = deed; width = 64; value = past_field r target })
+
+-- the six loaded bytes call, or go to, what comes to the symbol
+pub record SlotBranchReaches (l : Layout) (w : World) (m : Memory) (s : InputSection) (r : InputRelocation) (k : ℕ) (deed : Deed) : Type 0 where
+  pub target : ℕ
+  pub comes : IsGoal l w m r.symbol target
+  pub bytes : List ℕ
+  pub six : length bytes ≡ 6
+  pub held : Holds m (address_at w s k) bytes
+  pub goes : effect_x86_64 (reads w m) (address_at w s k) bytes ≡ Some (record { deed = deed; width = 64; value = target % 2 ^ 64 })
 
 -- ---- fields
 
@@ -122,17 +175,19 @@ pub record HasFormula (l : Layout) (w : World) (m : Memory) (s : InputSection) (
 abbrev pub IsFollowed : Layout → InputSection → InputRelocation → Type 0
 IsFollowed l s r = IsLinkedAlone l (item_of s) r → ⊥
 
--- each reference in no call and no jump has its field as the formula, each call and each jump reaches its symbol, and every byte in
--- no field is the input's
+-- each address and each distance in no call and no jump has its field as the formula, each call and each jump reaches its symbol, but
+-- for a call that gives a thread address, and where no other instruction has a relocation every byte in no field is the input's
 pub record HoldsByFields (l : Layout) (w : World) (m : Memory) (s : InputSection) : Type 0 where
-  pub references : (r : InputRelocation) → IsRelocated s r → IsFollowed l s r → (IsBranchField s r → ⊥) → HasFormula l w m s r
-  pub calls : (r : InputRelocation) (k : ℕ) → IsRelocated s r → IsFollowed l s r → IsBranch s r k 0xe8 → BranchReaches l w m s r k Call
-  pub jumps : (r : InputRelocation) (k : ℕ) → IsRelocated s r → IsFollowed l s r → IsBranch s r k 0xe9 → BranchReaches l w m s r k Jump
-  pub others : (k : ℕ) → k < length s.bytes → InNoField s k → byte_in m (address_at w s k) ≡ Some (slice_index s.bytes k)
+  pub references : (r : InputRelocation) → IsRelocated s r → IsFollowed l s r → Contains address_types r.number → (IsBranchField s r → ⊥) → (IsThreadCall l s r → ⊥) → HasFormula l w m s r
+  pub calls : (r : InputRelocation) (k : ℕ) → IsRelocated s r → IsFollowed l s r → (IsThreadCall l s r → ⊥) → IsBranch s r k 0xe8 → BranchReaches l w m s r k Call
+  pub jumps : (r : InputRelocation) (k : ℕ) → IsRelocated s r → IsFollowed l s r → (IsThreadCall l s r → ⊥) → IsBranch s r k 0xe9 → BranchReaches l w m s r k Jump
+  pub slot_calls : (r : InputRelocation) (k : ℕ) → IsRelocated s r → IsFollowed l s r → (IsThreadCall l s r → ⊥) → IsSlotBranch s r k 0x15 → SlotBranchReaches l w m s r k Call
+  pub slot_jumps : (r : InputRelocation) (k : ℕ) → IsRelocated s r → IsFollowed l s r → (IsThreadCall l s r → ⊥) → IsSlotBranch s r k 0x25 → SlotBranchReaches l w m s r k Jump
+  pub others : HasFirstTypes s → (k : ℕ) → k < length s.bytes → InNoField s k → byte_in m (address_at w s k) ≡ Some (slice_index s.bytes k)
 
 -- an image that meets the meaning of all layouts at base 0 meets this one
 abbrev pub MeaningGivesFields : Type 0
-MeaningGivesFields = (l : Layout) (w : World) (image : List ℕ) → l.machine ≡ machine.X86_64 → w.base ≡ 0 → (linked : IsLinked l w image) → (s : InputSection) → IsLoadedSection l s → HasFirstTypes s → HoldsByFields l w linked.memory s
+MeaningGivesFields = (l : Layout) (w : World) (image : List ℕ) → l.machine ≡ machine.X86_64 → w.base ≡ 0 → (linked : IsLinked l w image) → (s : InputSection) → IsLoadedSection l s → HoldsByFields l w linked.memory s
 
 -- ---- symbols
 

@@ -19,7 +19,8 @@ use Rattle.wild_layout.specs.Faults.{flat_map_from, copy_fault, group_errors}
 use Rattle.wild_layout.specs.Geometry.{IsLaidOut}
 use Rattle.wild_layout.specs.Left.{entry_for, copy_entry}
 use Rattle.wild_layout.specs.Moved.{or_zero}
-use Rattle.wild_layout.specs.Values.{raw_value, raw_address, index_of}
+use Rattle.wild_layout.specs.Values.{raw_address, index_of}
+use Rattle.wild_plan.specs.Addresses.{raw_value}
 use Rattle.wild_layout.proofs.FaultLemmas.{CanBeCopied, copies_of_groups}
 use Rattle.wild_loader.specs.declared.world.Answer.{Answer}
 use Rattle.wild_loader.specs.declared.world.World.{World}
@@ -34,7 +35,7 @@ use Rattle.wild_loaded.proofs.LeftFields.{IsIndexed, indexed}
 -- ---- definitions
 
 -- the symbol that defines another is the one that the layout looks up
-defined_as : (l : Layout) (i c : ℕ) → IsDefinedBy l i c → canonical l i ≡ c
+pub defined_as : (l : Layout) (i c : ℕ) → IsDefinedBy l i c → canonical l i ≡ c
 defined_as l i c d = ap (λ (o : Option Symbol). unwrap_or (option_and_then (λ (s : Symbol). s.definition) o) i) d.listed ∙ by_case d.defined
   where
     by_case : (d.symbol.definition ≡ Some c) ⊎ ((d.symbol.definition ≡ None) × (c ≡ i)) → unwrap_or d.symbol.definition i ≡ c

@@ -31,7 +31,7 @@ use Rattle.wild_tables.specs.Dynamic.{dynamic_records, dynamic_bytes, entries_by
 use Rattle.wild_relr.specs.Laws.{WordsFit}
 use Rattle.wild_slots.specs.Stand.{PairStands}
 use Rattle.wild_loaded.specs.WholeSlots.{HasWholeSlots}
-use Rattle.wild_loaded.specs.Laws.{TablesAreFound}
+use Rattle.wild_loaded.specs.Laws.{DynamicSectionsStand, TablesAreFound}
 use Rattle.wild_loaded.specs.Tables.{tables_of}
 use Rattle.wild_loaded.proofs.Loads.{length-bytes}
 use Rattle.wild_loaded.proofs.TablesFit.{entries_fit, jumps_fit, words_fit}
@@ -39,13 +39,17 @@ use Rattle.wild_loaded.proofs.PairPlace.{pair_low}
 use Rattle.wild_loaded.proofs.TableBytes.{words_are, entries_are, jumps_are, words_named, entries_named, jumps_named}
 
 -- what the crates below owe of a dynamic section
-pub record DynamicLaws : Type 0 where
+pub record SectionLaws : Type 0 where
   pub stand : TablesStand
   pub needed : NeededAreOfLibraries
   pub lengths : LengthsOfRecords
   pub records : RecordsStand
   pub fit : RecordsFit
   pub found : EntriesAreFound
+
+-- and of the tables that it names
+pub record DynamicLaws : Type 0 where
+  pub section : SectionLaws
   pub named : TablesAreNamed
   pub words : WordsFit
   pub pair : PairStands
@@ -137,7 +141,7 @@ first_listed (x ∷ xs) g h =
 abbrev all_records : Layout → ℕ → List DynamicEntry
 all_records l room = all_needed l ++ dynamic_records l room
 
-has_dynamic : (l : Layout) → DynamicLaws → NumbersFit l → IsLaidOut l → (d : HasDynamicPart l) → HasDynamic (bytes l) (map (program_header l) l.segments) (all_records l d.room)
+has_dynamic : (l : Layout) → SectionLaws → NumbersFit l → IsLaidOut l → (d : HasDynamicPart l) → HasDynamic (bytes l) (map (program_header l) l.segments) (all_records l d.room)
 has_dynamic l laws numbers laid d =
     let s = laid.loadable.dynamic d.part d.there in
     let place = segment_place l s.segment in
@@ -162,6 +166,12 @@ has_dynamic l laws numbers laid d =
       entries = subst (λ (a : ℕ). Stands (bytes l) a (entries_bytes (all_records l d.room))) nothing inner;
     }
 
+-- so it is found, whatever the tables are
+pub entries_found : SectionLaws → DynamicSectionsStand
+entries_found laws = λ l needs numbers laid.
+    let d = dynamic_part l laws.lengths laws.found laid needs in
+    record { room = d.room; dynamic = has_dynamic l laws numbers laid d }
+
 -- ---- the tables
 
 table_of : (image : List ℕ) (hs : List ProgramHeader) (a b c d : Option ℕ) (xs ys : List ℕ) → c ≡ a → d ≡ b → xs ≡ ys → IsTableOf image hs a b xs → IsTableOf image hs c d ys
@@ -171,17 +181,17 @@ table_of image hs a b c d xs ys e f g h =
 has_tables : (l : Layout) (room : ℕ) → DynamicLaws → NumbersFit l → IsLaidOut l → HasWholeSlots l → needs_dynamic l.kind ≡ true → HasTables (bytes l) (map (program_header l) l.segments) (all_records l room) (tables_of l)
 has_tables l room laws numbers laid slots needs =
     let hs = map (program_header l) l.segments in
-    let n = laws.named l (all_needed l) room (laws.needed.names l l.groups) needs in
+    let n = laws.named l (all_needed l) room (laws.section.needed.names l l.groups) needs in
     record {
       words_fit = words_fit l laws.words numbers.symbols;
-      words = table_of (bytes l) hs (dynamic_entry l tags.Relr) (dynamic_entry l tags.RelrSize) _ _ (table_bytes l role.RelrDyn) (flat_map word_bytes (tables_of l).words) n.words n.words_size (words_are l) (words_named l laws.stand laid needs);
+      words = table_of (bytes l) hs (dynamic_entry l tags.Relr) (dynamic_entry l tags.RelrSize) _ _ (table_bytes l role.RelrDyn) (flat_map word_bytes (tables_of l).words) n.words n.words_size (words_are l) (words_named l laws.section.stand laid needs);
       entries_fit = entries_fit l (pair_low l laws.pair laid slots) numbers.symbols;
-      entries = table_of (bytes l) hs (dynamic_entry l tags.Rela) (dynamic_entry l tags.RelaSize) _ _ (table_bytes l role.RelaDynRelative ++ table_bytes l role.RelaDynGeneral) (flat_map rela_bytes (tables_of l).entries) n.entries n.entries_size (entries_are l) (entries_named l laws.stand laid needs);
+      entries = table_of (bytes l) hs (dynamic_entry l tags.Rela) (dynamic_entry l tags.RelaSize) _ _ (table_bytes l role.RelaDynRelative ++ table_bytes l role.RelaDynGeneral) (flat_map rela_bytes (tables_of l).entries) n.entries n.entries_size (entries_are l) (entries_named l laws.section.stand laid needs);
       jumps_fit = jumps_fit l numbers.symbols;
-      jumps = table_of (bytes l) hs (dynamic_entry l tags.JmpRel) (dynamic_entry l tags.PltRelSize) _ _ (table_bytes l role.RelaPlt) (flat_map rela_bytes (tables_of l).jumps) n.jumps n.jumps_size (jumps_are l) (jumps_named l laws.stand laid needs);
+      jumps = table_of (bytes l) hs (dynamic_entry l tags.JmpRel) (dynamic_entry l tags.PltRelSize) _ _ (table_bytes l role.RelaPlt) (flat_map rela_bytes (tables_of l).jumps) n.jumps n.jumps_size (jumps_are l) (jumps_named l laws.section.stand laid needs);
     }
 
 pub tables_found : DynamicLaws → TablesAreFound
 tables_found laws = λ l needs numbers laid slots.
-    let d = dynamic_part l laws.lengths laws.found laid needs in
-    record { entries = all_records l d.room; dynamic = has_dynamic l laws numbers laid d; tables = has_tables l d.room laws numbers laid slots needs }
+    let e = entries_found laws.section l needs numbers laid in
+    record { entries = all_records l e.room; dynamic = e.dynamic; tables = has_tables l e.room laws numbers laid slots needs }

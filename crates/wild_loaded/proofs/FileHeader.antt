@@ -1,18 +1,73 @@
 -- What the file header tells.
-use Rattle.std.proofs.Common.{◌≡◌, refl, ap, ◌∙◌}
+use Rattle.std.proofs.Common.{◌≡◌, ℕ, inl, inr, Bool, false, refl, sym, ap, ◌∙◌}
+use Rattle.std.specs.Prelude.{Option, Some, None, unwrap_or, option_map, slice_get, if◌then◌else◌}
+use Rattle.wild_plan.specs.declared.kind.OutputKind.{OutputKind}
+use Rattle.wild_plan.specs.declared.kind.OutputKind.TheVariants as output
+use Rattle.wild_plan.specs.declared.symbol.Resolution.{Resolution}
+use Rattle.wild_plan.specs.declared.symbol.Symbol.{Symbol}
+use Rattle.wild_plan.specs.declared.symbol.ValueFlags.{ValueFlags}
+use Rattle.wild_plan.specs.declared.layout.Entry.{Entry}
+use Rattle.wild_plan.specs.declared.layout.Entry.TheVariants as entry
 use Rattle.wild_plan.specs.declared.layout.Layout.{Layout}
+use Rattle.wild_plan.specs.Addresses.{raw_value}
+use Rattle.wild_plan.specs.EntryPoint.{entry_point, told, entry_by, entry_value}
+use Rattle.wild_plan.specs.Flags.{has_flag, ifunc}
+use Rattle.wild_plan.specs.Kinds.{is_partial_link}
+use Rattle.wild_plan.specs.Lookups.{canonical}
+use Rattle.wild_plan.specs.Treatment.{flags_at}
 use Rattle.wild_headers.specs.Headers.{entry_address, file_type, file_header}
+use Rattle.wild_meaning.specs.Linked.{IsDecidedPlace}
+use Rattle.wild_meaning.specs.World.{IsLoadable}
 use Rattle.wild_loaded.specs.Laws.{HeadersTell}
+use Rattle.wild_loaded.proofs.Copied.{defined_as}
 use Rattle.wild_loaded.proofs.FileType.{kind_fits, movable_type}
 use Rattle.wild_loaded.proofs.Loads.{has_headers}
 
-entry_is : (l : Layout) → (file_header l).entry ≡ entry_address l.entry
+entry_is : (l : Layout) → (file_header l).entry ≡ entry_address l
 unfolding file_header
 entry_is l = refl
 
 type_is : (l : Layout) → (file_header l).file_type ≡ file_type l.kind
 unfolding file_header
 type_is l = refl
+
+-- an output that is loaded is no relocatable object
+not_partial : (k : OutputKind) → IsLoadable k → is_partial_link k ≡ false
+not_partial output.PartialObject (inl h) = absurd h
+not_partial output.PartialObject (inr h) = absurd h
+not_partial k h = refl
+
+-- the entry is that of its case
+entry_by_case : (l : Layout) (e : Option Entry) → IsLoadable l.kind → l.entry ≡ e → entry_address l ≡ (entry_by l e).address
+unfolding entry_point
+entry_by_case l e k is = ap (λ (b : Bool). (if b then told 0 else entry_by l l.entry).address) (not_partial l.kind k) ∙ ap (λ (o : Option Entry). (entry_by l o).address) is
+
+-- ---- an entry that is a symbol
+
+-- the flags of a symbol are its definition's
+flags_are : (l : Layout) (i c : ℕ) (s : Symbol) → canonical l i ≡ c → slice_get l.symbols c ≡ Some s → flags_at l i ≡ s.flags
+flags_are l i c s is listed =
+    ap (λ (k : ℕ). unwrap_or (option_map (λ (x : Symbol). x.flags) (slice_get l.symbols k)) (record { 0 = 0 })) is
+    ∙ ap (λ (o : Option Symbol). unwrap_or (option_map (λ (x : Symbol). x.flags) o) (record { 0 = 0 })) listed
+
+-- what was decided of its definition is its address
+raw_is : (l : Layout) (i c : ℕ) (s : Symbol) (r : Resolution) → canonical l i ≡ c → slice_get l.symbols c ≡ Some s → s.resolution ≡ Some r → raw_value l i ≡ Some r.raw_value
+unfolding raw_value
+raw_is l i c s r is listed decided = rw (is, listed, decided) refl
+
+plain_entry : (l : Layout) (i a : ℕ) → IsDecidedPlace l i a → entry_value l i ≡ Some a
+plain_entry l i a h =
+    let flagged = defined_as l i h.plain.definition h.plain.defined in
+    let flags = flags_are l i h.plain.definition h.plain.symbol flagged h.plain.listed in
+    let plain : has_flag (flags_at l i) ifunc ≡ false = ap (λ (f : ValueFlags). has_flag f ifunc) flags ∙ h.plain.flagged in
+    let given = raw_is l i h.definition h.given.symbol h.given.resolution (defined_as l i h.definition h.defined) h.given.listed h.given.decided in
+    rw plain (given ∙ ap (λ (v : ℕ). Some v) (sym h.given.value))
+
+symbol_entry : (l : Layout) (i a : ℕ) → IsLoadable l.kind → l.entry ≡ Some (entry.Symbol i) → IsDecidedPlace l i a → entry_address l ≡ a
+symbol_entry l i a k is h =
+    let by = entry_by_case l (Some (entry.Symbol i)) k is in
+    let value = plain_entry l i a h in
+    by ∙ rw value refl
 
 pub header_told : HeadersTell
 header_told = λ l m k numbers laid.
@@ -23,6 +78,7 @@ header_told = λ l m k numbers laid.
       stands = headers.file_header;
       fixed = λ f. type_is l ∙ kind_fits l.kind f;
       movable = λ f. type_is l ∙ movable_type l.kind f;
-      address = λ a e. entry_is l ∙ ap entry_address e;
-      none = λ e. entry_is l ∙ ap entry_address e;
+      address = λ a e. entry_is l ∙ entry_by_case l (Some (entry.Address a)) k e;
+      symbol = λ i a e d. entry_is l ∙ symbol_entry l i a k e d;
+      none = λ e. entry_is l ∙ entry_by_case l None k e;
     }

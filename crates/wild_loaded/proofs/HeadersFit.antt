@@ -21,7 +21,8 @@ use Rattle.wild_plan.specs.declared.layout.Layout.{Layout}
 use Rattle.wild_plan.specs.Lists.{total}
 use Rattle.wild_plan.specs.Lookups.{bit}
 use Rattle.wild_plan.specs.Places.{has_role}
-use Rattle.wild_headers.specs.Headers.{machine_number, or_escape, or_none, name_table, section_of_role, file_header, with_execute, program_header, null_header, uncompressed, spoken_of, info_at, section_header, headers_from, section_headers_of}
+use Rattle.wild_plan.specs.Versions.{need_count}
+use Rattle.wild_headers.specs.Headers.{machine_number, or_escape, or_none, name_table, section_of_role, file_header, with_execute, program_header, null_header, uncompressed, told_of, local_symbols, info_at, section_header, headers_from, section_headers_of}
 use Rattle.wild_layout.specs.Numbers.{NumbersFit, SegmentNumbers, SectionNumbers}
 use Rattle.wild_meaning.specs.World.{IsLoadable}
 use Rattle.wild_loaded.proofs.FileType.{type_known, type_fits}
@@ -79,10 +80,6 @@ role_below r (p ∷ ps) n some h =
 
 pub name_table_below : (l : Layout) (n : ℕ) → 1 ≤ n → All (λ (p : Part). p.section < n) l.parts → name_table l < n
 name_table_below l n some h = role_below role.Shstrtab l.parts n some h
-
--- and so is that of the global offset table
-pub table_below : (l : Layout) (n : ℕ) → 1 ≤ n → All (λ (p : Part). p.section < n) l.parts → (spoken_of l).table < n
-table_below l n some h = role_below role.Got l.parts n some h
 
 -- the number of sections is told
 pub sections_told : (n : ℕ) → 1 ≤ n → (if or_escape n 0 == 0 then or_none n else or_escape n 0) ≡ n
@@ -159,15 +156,19 @@ program_header_fits l g page n = record {
 
 -- ---- section headers
 
-info_fits : (l : Layout) (i : ℕ) (s : Section) → (spoken_of l).table < 2 ^ 32 → SectionNumbers s → info_at (spoken_of l) i s < 2 ^ 32
-info_fits l i s low n =
-    elim (cases_Bool (i == (spoken_of l).symbols)) [
-      | inl t ↦ rw t (omega arith)
-      | inr f ↦ elim (cases_Bool (i == (spoken_of l).stubs)) [
-        | inl t ↦ rw (f, t) low
-        | inr g ↦ rw (f, g) n.links.info
-      ]
-    ]
+-- a number that is told has the field's 32 bits, and so has what else the layout gives
+one_told : (b : Bool) (n given : ℕ) → given < 2 ^ 32 → (if b then n % 2 ^ 32 else given) < 2 ^ 32
+one_told true n given h = omega arith
+one_told false n given h = h
+
+info_fits : (l : Layout) (i : ℕ) (s : Section) → SectionNumbers s → info_at (told_of l) i s.info < 2 ^ 32
+unfolding told_of
+info_fits l i s n =
+    one_told (i == section_of_role role.Dynsym l.parts) 1 _
+    (one_told (i == section_of_role role.RelaPlt l.parts) (section_of_role role.Got l.parts) _
+    (one_told (i == section_of_role role.SymtabLocal l.parts) (local_symbols l) _
+    (one_told (i == section_of_role role.GnuVersionD l.parts) (length l.verdefs) _
+    (one_told (i == section_of_role role.GnuVersionR l.parts) (need_count l) s.info n.links.info))))
 
 section_header_fits : (info name : ℕ) (s : Section) → info < 2 ^ 32 → name < 2 ^ 32 → SectionNumbers s → SectionHeaderFits (section_header info name s)
 unfolding section_header
@@ -196,21 +197,21 @@ All-cons' P x xs h t = λ k d l. at P x xs h t k d l
     at P x xs h t zero d l = h
     at P x xs h t (suc k) d l = t k d (omega arith)
 
-headers_fit : (l : Layout) (i name : ℕ) (ss : List Section) → (spoken_of l).table < 2 ^ 32 → name + total (λ (s : Section). length s.name + 1) ss < 2 ^ 32 → All SectionNumbers ss → All SectionHeaderFits (headers_from (spoken_of l) i name ss)
-headers_fit l i name [] low h n = λ k d m. absurd (omega arith)
-headers_fit l i name (s ∷ ss) low h n =
-    All-cons' SectionHeaderFits (section_header (info_at (spoken_of l) i s) name s) (headers_from (spoken_of l) (i + 1) (name + length s.name + 1) ss)
-    (section_header_fits (info_at (spoken_of l) i s) name s (info_fits l i s low (n 0 s (omega arith))) (omega (arith, h)) (n 0 s (omega arith)))
-    (headers_fit l (i + 1) (name + length s.name + 1) ss low (omega (arith, h)) (λ k d m. n (suc k) d (omega arith)))
+headers_fit : (l : Layout) (i name : ℕ) (ss : List Section) → name + total (λ (s : Section). length s.name + 1) ss < 2 ^ 32 → All SectionNumbers ss → All SectionHeaderFits (headers_from (told_of l) i name ss)
+headers_fit l i name [] h n = λ k d m. absurd (omega arith)
+headers_fit l i name (s ∷ ss) h n =
+    All-cons' SectionHeaderFits (section_header (info_at (told_of l) i s.info) name s) (headers_from (told_of l) (i + 1) (name + length s.name + 1) ss)
+    (section_header_fits (info_at (told_of l) i s.info) name s (info_fits l i s (n 0 s (omega arith))) (omega (arith, h)) (n 0 s (omega arith)))
+    (headers_fit l (i + 1) (name + length s.name + 1) ss (omega (arith, h)) (λ k d m. n (suc k) d (omega arith)))
 
-pub section_headers_fit : (l : Layout) (ss : List Section) → length l.sections < 2 ^ 31 → name_table l < 2 ^ 32 → (spoken_of l).table < 2 ^ 32 → total (λ (s : Section). length s.name + 1) ss < 2 ^ 32 → All SectionNumbers ss → All SectionHeaderFits (section_headers_of l ss)
-section_headers_fit l [] few named low h n = λ k d m. absurd (omega arith)
-section_headers_fit l (s ∷ ss) few named low h n =
-    All-cons' SectionHeaderFits (null_header l) (headers_from (spoken_of l) 1 (length s.name + 1) ss)
+pub section_headers_fit : (l : Layout) (ss : List Section) → length l.sections < 2 ^ 31 → name_table l < 2 ^ 32 → total (λ (s : Section). length s.name + 1) ss < 2 ^ 32 → All SectionNumbers ss → All SectionHeaderFits (section_headers_of l ss)
+section_headers_fit l [] few named h n = λ k d m. absurd (omega arith)
+section_headers_fit l (s ∷ ss) few named h n =
+    All-cons' SectionHeaderFits (null_header l) (headers_from (told_of l) 1 (length s.name + 1) ss)
     (null_header_fits l few named)
-    (headers_fit l 1 (length s.name + 1) ss low (omega (arith, h)) (λ k d m. n (suc k) d (omega arith)))
+    (headers_fit l 1 (length s.name + 1) ss (omega (arith, h)) (λ k d m. n (suc k) d (omega arith)))
 
-length-headers : (l : Layout) (i name : ℕ) (ss : List Section) → length (headers_from (spoken_of l) i name ss) ≡ length ss
+length-headers : (l : Layout) (i name : ℕ) (ss : List Section) → length (headers_from (told_of l) i name ss) ≡ length ss
 length-headers l i name [] = refl
 length-headers l i name (s ∷ ss) = ap suc (length-headers l (i + 1) (name + length s.name + 1) ss)
 

@@ -20,7 +20,7 @@ use Rattle.wild_plan.specs.declared.part.Role.TheVariants as role
 use Rattle.wild_plan.specs.declared.section.Segment.{Segment}
 use Rattle.wild_plan.specs.declared.layout.Layout.{Layout}
 use Rattle.wild_plan.specs.Lookups.{image_size}
-use Rattle.wild_headers.specs.Headers.{file_header, program_header, section_headers_of, name_table, offset_of_role, file_header_bytes, program_header_bytes, section_header_bytes, spoken_of}
+use Rattle.wild_headers.specs.Headers.{file_header, program_header, section_headers_of, name_table, offset_of_role, file_header_bytes, program_header_bytes, section_header_bytes}
 use Rattle.wild_layout.specs.Image.{bytes, pieces, padding, padding_byte}
 use Rattle.wild_layout.specs.Numbers.{NumbersFit}
 use Rattle.wild_layout.specs.Geometry.{IsLaidOut, SegmentLoads, IsStatic as StaticSegment, Ascends, IsPiece}
@@ -30,7 +30,7 @@ use Rattle.wild_loader.specs.declared.memory.Machine.TheVariants as machines
 use Rattle.wild_loader.specs.Laws.{HasHeaders, IsLoadable, AreLoadable, Ascends as HeadersAscend, IsStatic}
 use Rattle.wild_loaded.specs.Owners.{HasOneOwnerEach}
 use Rattle.wild_loaded.specs.Memory.{image_memory}
-use Rattle.wild_loaded.proofs.HeadersFit.{file_header_fits, name_table_below, table_below, program_header_fits, section_headers_fit, length-section_headers, headers_told}
+use Rattle.wild_loaded.proofs.HeadersFit.{file_header_fits, name_table_below, program_header_fits, section_headers_fit, length-section_headers, headers_told}
 
 -- ---- owners
 
@@ -88,12 +88,6 @@ names_low l laid =
     let few = laid.sections in
     omega (arith, below, few)
 
-table_low : (l : Layout) → IsLaidOut l → (spoken_of l).table < 2 ^ 32
-table_low l laid =
-    let below = table_below l (length l.sections) laid.some_section laid.named in
-    let few = laid.sections in
-    omega (arith, below, few)
-
 pub has_headers : (l : Layout) → l.machine ≡ machine.X86_64 → IsLoadableKind l.kind → NumbersFit l → IsLaidOut l → HasHeaders (bytes l) (file_header l) (map (program_header l) l.segments) (section_headers_of l l.sections)
 unfolding file_header
 has_headers l m k numbers laid =
@@ -103,7 +97,7 @@ has_headers l m k numbers laid =
       programs_fit = All-map ProgramHeaderFits (program_header l) l.segments (λ i d lt. program_header_fits l (get_or l.segments i d) numbers.page (numbers.segments i d lt));
       programs = programs_stand l laid;
       program_count = sym (length-map l.segments (program_header l));
-      sections_fit = section_headers_fit l l.sections laid.sections (names_low l laid) (table_low l laid) laid.names numbers.sections;
+      sections_fit = section_headers_fit l l.sections laid.sections (names_low l laid) laid.names numbers.sections;
       sections = table_stands l (offset_of_role role.SectionHeaders l.parts) (section_header_bytes l) laid laid.tables.section_headers;
       section_count = headers_told l laid.some_section;
       some_section = let n = length-section_headers l l.sections in let some = laid.some_section in omega (arith, n, some);

@@ -21,7 +21,7 @@ use Rattle.wild_plan.specs.declared.layout.Layout.{Layout}
 use Rattle.wild_plan.specs.Lookups.{allocated, takes_file_bytes}
 use Rattle.wild_plan.specs.Places.{role_place, has_role, is_fixed_static}
 use Rattle.wild_plan.specs.Segments.{part_with, is_entry_role, bytes_in}
-use Rattle.wild_headers.specs.Headers.{null_header, info_at, section_header, headers_from, section_headers_of, spoken_of}
+use Rattle.wild_headers.specs.Headers.{null_header, info_at, section_header, headers_from, section_headers_of, told_of}
 use Rattle.wild_layout.specs.Image.{bytes}
 use Rattle.wild_layout.specs.Geometry.{IsLaidOut, RangesApart, table_bytes, TablesStand}
 use Rattle.wild_tables.specs.Laws.{EntriesAreRead, LengthsOfEntries}
@@ -41,9 +41,9 @@ record IsHeaderOf (ss : List Section) (k : ℕ) (h : SectionHeader) : Type 0 whe
   name : ℕ
   is : h ≡ section_header info name section
 
-header_of : (l : Layout) (i name : ℕ) (ss : List Section) (k : ℕ) (h : SectionHeader) → slice_get (headers_from (spoken_of l) i name ss) k ≡ Some h → IsHeaderOf ss k h
+header_of : (l : Layout) (i name : ℕ) (ss : List Section) (k : ℕ) (h : SectionHeader) → slice_get (headers_from (told_of l) i name ss) k ≡ Some h → IsHeaderOf ss k h
 header_of l i name [] k h there = cc
-header_of l i name (s ∷ ss) zero h there = record { section = s; listed = refl; info = info_at (spoken_of l) i s; name = name; is = (let same : section_header (info_at (spoken_of l) i s) name s ≡ h = cc in sym same) }
+header_of l i name (s ∷ ss) zero h there = record { section = s; listed = refl; info = info_at (told_of l) i s.info; name = name; is = (let same : section_header (info_at (told_of l) i s.info) name s ≡ h = cc in sym same) }
 header_of l i name (s ∷ ss) (suc k) h there =
     let r = header_of l (i + 1) (name + length s.name + 1) ss k h there in
     record { section = r.section; listed = r.listed; info = r.info; name = r.name; is = r.is }

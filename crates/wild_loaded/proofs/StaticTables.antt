@@ -27,7 +27,7 @@ use Rattle.wild_plan.specs.Entries.{moved_of, packed_place, packed_places, words
 use Rattle.wild_plan.specs.Kinds.{is_position_independent}
 use Rattle.wild_plan.specs.SlotShares.{group_block, block_of, words_of_block, block_words}
 use Rattle.wild_headers.proofs.HeaderLemmas.{length-file_header, length-section_header}
-use Rattle.wild_headers.specs.Headers.{file_header, null_header, headers_from, spoken_of, program_header, section_headers_of, offset_of_role, file_header_bytes, section_header_bytes}
+use Rattle.wild_headers.specs.Headers.{file_header, null_header, headers_from, told_of, program_header, section_headers_of, offset_of_role, file_header_bytes, section_header_bytes}
 use Rattle.wild_layout.specs.Image.{pieces}
 use Rattle.wild_layout.specs.Moved.{listed_entry, section_entries}
 use Rattle.wild_layout.specs.SlotBytes.{slot_entries_of, flat_places_of}
@@ -99,7 +99,7 @@ record IsLong (l : Layout) (ss : List Section) : Type 0 where
 long : (l : Layout) (ss : List Section) → 1 ≤ length ss → IsLong l ss
 long l [] h = absurd (omega (arith, h))
 long l (s ∷ ss) h =
-    let rest = flat_map (λ (h : SectionHeader). spell (section_header_fields h)) (headers_from (spoken_of l) 1 (length s.name + 1) ss) in
+    let rest = flat_map (λ (h : SectionHeader). spell (section_header_fields h)) (headers_from (told_of l) 1 (length s.name + 1) ss) in
     let a = length-append (spell (section_header_fields (null_header l))) rest in
     let b = length-section_header (null_header l) in
     record { some = omega (arith, a, b); first = null_byte l rest }

@@ -9,11 +9,12 @@
 --   SlotsAreThere          the slots of a layout without faults are whole
 --   PartsAreStored         memory has the tables of slots and stubs
 --   SlotsAreStored         and each word, each stub and the pair of the output's own thread-local data
+--   DynamicSectionsStand   the dynamic section stands where its segment is
 --   TablesAreFound         a loader finds the tables that fill addresses and slots by the dynamic section
 --   SectionTablesAreFound  or, without one, by their sections
 --   EntriesHaveChanges     what entries of slots, of fields and of copies make a loader do in a legal world
 --   CopiesAreThere         and each symbol that is copied has an answer
-use Rattle.std.specs.Prelude.{◌≡◌, ℕ, ◌+◌, ◌*◌, ◌≤◌, true, false, [], length, Some, Ok, Contains, slice_get}
+use Rattle.std.specs.Prelude.{◌≡◌, ℕ, ◌+◌, ◌*◌, ◌≤◌, true, false, [], ◌++◌, length, Some, Ok, Contains, slice_get}
 use Rattle.wild_plan.specs.declared.kind.Machine.TheVariants as machine
 use Rattle.wild_plan.specs.declared.input.InputSection.{InputSection}
 use Rattle.wild_plan.specs.declared.part.Part.{Part}
@@ -33,7 +34,7 @@ use Rattle.wild_headers.specs.Headers.{file_header, section_headers_of}
 use Rattle.wild_layout.specs.Image.{bytes}
 use Rattle.wild_layout.specs.Numbers.{NumbersFit}
 use Rattle.wild_layout.specs.Faults.{flat_map_from, group_errors}
-use Rattle.wild_layout.specs.Geometry.{IsLaidOut}
+use Rattle.wild_layout.specs.Geometry.{IsLaidOut, all_needed}
 use Rattle.wild_geometry.specs.Loaded.{IsDecided, HasSection, InFile}
 use Rattle.wild_reloc.specs.declared.info.RelocationSize.{RelocationSize}
 use Rattle.wild_layout.specs.declared.decision.Decision.TheVariants.{Left}
@@ -45,7 +46,8 @@ use Rattle.wild_loader.specs.declared.memory.Machine.TheVariants as machines
 use Rattle.wild_loader.specs.declared.world.World.{World}
 use Rattle.wild_loader.specs.Headers.{is_loadable_header}
 use Rattle.wild_loader.specs.Memory.{byte_in}
-use Rattle.wild_loader.specs.Laws.{HasHeaders, AreLoadable}
+use Rattle.wild_loader.specs.Laws.{HasHeaders, AreLoadable, HasDynamic}
+use Rattle.wild_tables.specs.Dynamic.{dynamic_records}
 use Rattle.wild_meaning.specs.World.{IsLoadable, IsLegal, IsBehind, IsCopied, HasCopy}
 use Rattle.wild_meaning.specs.Item.{IsInput, IsKeptSection}
 use Rattle.wild_meaning.specs.Linked.{HasHeader}
@@ -99,6 +101,15 @@ pub record SlotsAreStored : Type 0 where
       → slice_get (slots_of l s).words k ≡ Some d → IsWordStored l w (at + word_size * k) d
   pub stubs : (l : Layout) (w : World) (i at stub : ℕ) (s : Symbol) → IsLoadable l.kind → IsLegal l w → IsLaidOut l → HasWholeSlots l → slice_get l.symbols i ≡ Some s → got_of s ≡ Some at → plt_of s ≡ Some stub → IsStubStored l w at stub
   pub pair : (l : Layout) (w : World) (at k : ℕ) (d : SlotWord) → IsLoadable l.kind → IsLegal l w → IsLaidOut l → HasWholeSlots l → l.tlsld ≡ Some at → slice_get (storage_words l) k ≡ Some d → IsWordStored l w (at + word_size * k) d
+
+-- the image has a dynamic section: the entries of libraries, those of the last file, and zeros up to the end of its room
+pub record HasEntries (l : Layout) : Type 0 where
+  pub room : ℕ
+  pub dynamic : HasDynamic (bytes l) (headers_of l) (all_needed l ++ dynamic_records l room)
+
+-- so it is where the output needs one
+abbrev pub DynamicSectionsStand : Type 0
+DynamicSectionsStand = (l : Layout) → needs_dynamic l.kind ≡ true → NumbersFit l → IsLaidOut l → HasEntries l
 
 -- the image of an output that needs a dynamic section has one, by which a loader finds the tables that the groups give
 abbrev pub TablesAreFound : Type 0

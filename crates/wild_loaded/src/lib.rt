@@ -1,7 +1,7 @@
 //! What a loader makes of the image of a laid out layout before any entry is applied.
 #![tactic(auto)]
 
-ghost use Rattle.wild_loaded.specs.Laws.{CopiesAreThere, EntriesHaveChanges, HeadersStand, HeadersTell, OwnersAreKnown, PartsAreStored, SectionTablesAreFound, SectionsAreCarried, SectionsAreStored, SegmentsAreLoadable, SlotsAreStored, SlotsAreThere, TablesAreFound, ZerosAreStored};
+ghost use Rattle.wild_loaded.specs.Laws.{CopiesAreThere, DynamicSectionsStand, EntriesHaveChanges, HeadersStand, HeadersTell, OwnersAreKnown, PartsAreStored, SectionTablesAreFound, SectionsAreCarried, SectionsAreStored, SegmentsAreLoadable, SlotsAreStored, SlotsAreThere, TablesAreFound, ZerosAreStored};
 
 use wild_geometry::tables_stand;
 use wild_loader::bytes_are_loaded;
@@ -64,6 +64,15 @@ pub fn slots_are_stored()
     each_word_stands();
     stubs_are_there();
     pair_stands();
+}
+
+/// The image of an output with a dynamic section has it, with the entries of libraries, those of the last file, and zeros
+/// behind them.
+pub fn dynamic_sections_stand()
+    ensures { DynamicSectionsStand }
+{
+    tables_stand();
+    dynamic_sections_are_read();
 }
 
 /// A loader finds the tables that fill addresses and slots, by the dynamic section or by sections of theirs.

@@ -1,5 +1,5 @@
 -- Both tables in the image: each entry stands where it is counted, and each name where its entry tells.
-use Rattle.std.proofs.Common.{◌≡◌, ℕ, suc, ◌+◌, ◌*◌, ◌≤◌, true, List, [], ◌∷◌, ◌++◌, length, map, replicate, option_map, Some, None, slice_get, flat_map, refl, sym, ap, ◌∙◌, arith, subst}
+use Rattle.std.proofs.Common.{◌≡◌, ℕ, suc, ◌+◌, ◌*◌, ◌^◌, ◌<◌, ◌≤◌, true, List, [], ◌∷◌, ◌++◌, length, map, replicate, option_map, Some, None, slice_get, flat_map, refl, sym, ap, ◌∙◌, arith, subst}
 use Rattle.std.proofs.lemmas.List.{length-append, length-map}
 use Rattle.std.proofs.lemmas.Option.{slice_get-map}
 use Rattle.wild_words.specs.Words.{Stands, word}
@@ -38,27 +38,30 @@ use Rattle.wild_names.proofs.RunLemmas.{nil_if, strings_are_short}
 use Rattle.wild_names.proofs.SymbolLemmas.{IsEntryOf, Tells, symbols_belong}
 
 -- bytes in the table of a role stand in the image
-in_image : TablesStand → (l : Layout) → IsLaidOut l → (r : Role) → (role_place r ≡ 0 → ⊥) → (p : Part) → part_with r l.parts ≡ Some p → (k : ℕ) (part : List ℕ) → 1 ≤ length part → Stands (table_bytes l r) k part → Stands (bytes l) (p.offset + k) part
+pub in_image : TablesStand → (l : Layout) → IsLaidOut l → (r : Role) → (role_place r ≡ 0 → ⊥) → (p : Part) → part_with r l.parts ≡ Some p → (k : ℕ) (part : List ℕ) → 1 ≤ length part → Stands (table_bytes l r) k part → Stands (bytes l) (p.offset + k) part
 in_image stand l laid r loaded p found k part some s =
     let size = ((laid.roles r loaded).there p found).size in
     let ends = s.fits in
     Stands-inner (bytes l) (table_bytes l r) part p.offset k (stand l laid r loaded p found (omega arith)) s
 
 -- so do strings, each with its zero
-named : TablesStand → (l : Layout) → IsLaidOut l → (strings : Part) → part_with role.Dynstr l.parts ≡ Some strings → (at : ℕ) (name : List ℕ) → Stands (table_bytes l role.Dynstr) at (string name) → IsNamed l strings at name
-named stand l laid strings found at name s =
-    let short = strings_are_short l laid in
+pub named : TablesStand → (l : Layout) → IsLaidOut l → (r : Role) → (role_place r ≡ 0 → ⊥) → length (table_bytes l r) < 2 ^ 32 → (strings : Part) → part_with r l.parts ≡ Some strings → (at : ℕ) (name : List ℕ) → Stands (table_bytes l r) at (string name) → IsNamed l strings at name
+named stand l laid r loaded short strings found at name s =
+    let size = ((laid.roles r loaded).there strings found).size in
     let long = length-append name (0 ∷ []) in
     let ends = s.fits in
-    record { small = omega arith; stands = in_image stand l laid role.Dynstr (λ e. absurd (omega arith)) strings found at (string name) (omega arith) s }
+    record { small = omega arith; within = omega arith; stands = in_image stand l laid r loaded strings found at (string name) (omega arith) s }
+
+dynamic_named : TablesStand → (l : Layout) → IsLaidOut l → (strings : Part) → part_with role.Dynstr l.parts ≡ Some strings → (at : ℕ) (name : List ℕ) → Stands (table_bytes l role.Dynstr) at (string name) → IsNamed l strings at name
+dynamic_named stand l laid = named stand l laid role.Dynstr (λ e. absurd (omega arith)) (strings_are_short l laid)
 
 -- ---- symbols
 
-null_bytes : spell (symtab_entry_fields (entry_at 0 no_fields)) ≡ replicate 24 0
+pub null_bytes : spell (symtab_entry_fields (entry_at 0 no_fields)) ≡ replicate 24 0
 unfolding symtab_entry_fields word
 null_bytes = refl
 
-none_joined : (f : File → List ℕ) (fs : List File) → ((x : File) → f x ≡ []) → flat_map f fs ≡ []
+pub none_joined : (f : File → List ℕ) (fs : List File) → ((x : File) → f x ≡ []) → flat_map f fs ≡ []
 none_joined f [] h = refl
 none_joined f (x ∷ fs) h = rw (h x) (none_joined f fs h)
 
@@ -68,18 +71,22 @@ no_symbols l f = rw (nil_if (is_prelude f.role)) refl
 symbols_given : (l : Layout) (g : Group) → content l role.Dynsym g ≡ symbol_bytes (group_symbols l g)
 symbols_given l g = rw (none_joined (file_content l role.Dynsym) g.files (no_symbols l)) refl
 
-abbrev all_symbols : Layout → List SymtabEntry
+abbrev pub all_symbols : Layout → List SymtabEntry
 all_symbols l = flat_map (group_symbols l) l.groups
 
-symbol_table : (l : Layout) → symbol_bytes (all_symbols l) ≡ table_bytes l role.Dynsym
+pub symbol_table : (l : Layout) → symbol_bytes (all_symbols l) ≡ table_bytes l role.Dynsym
 symbol_table l = flat_map-flat_map (λ (e : SymtabEntry). spell (symtab_entry_fields e)) (group_symbols l) l.groups ∙ sym (flat_map-same (content l role.Dynsym) (λ (g : Group). symbol_bytes (group_symbols l g)) l.groups (symbols_given l))
 
--- entry k of the table
-entry_stands : TablesStand → (l : Layout) → IsLaidOut l → (table : Part) → part_with role.Dynsym l.parts ≡ Some table → (k : ℕ) (e : SymtabEntry) → slice_get (all_symbols l) k ≡ Some e → Stands (bytes l) (table.offset + 24 * k) (spell (symtab_entry_fields e))
-entry_stands stand l laid table found k e h =
+-- entry k of a table of symbols
+pub entry_stands : TablesStand → (l : Layout) → IsLaidOut l → (r : Role) → (role_place r ≡ 0 → ⊥) → (es : List SymtabEntry) → symbol_bytes es ≡ table_bytes l r → (table : Part) → part_with r l.parts ≡ Some table → (k : ℕ) (e : SymtabEntry) → slice_get es k ≡ Some e
+    → Stands (bytes l) (table.offset + 24 * k) (spell (symtab_entry_fields e))
+entry_stands stand l laid r loaded es given table found k e h =
     let long = length-symbol e in
-    let here = Stands-record (λ (x : SymtabEntry). spell (symtab_entry_fields x)) 24 length-symbol (all_symbols l) k e h in
-    in_image stand l laid role.Dynsym (λ z. absurd (omega arith)) table found (24 * k) (spell (symtab_entry_fields e)) (omega arith) (subst (λ (bs : List ℕ). Stands bs (24 * k) (spell (symtab_entry_fields e))) (symbol_table l) here)
+    let here = Stands-record (λ (x : SymtabEntry). spell (symtab_entry_fields x)) 24 length-symbol es k e h in
+    in_image stand l laid r loaded table found (24 * k) (spell (symtab_entry_fields e)) (omega arith) (subst (λ (bs : List ℕ). Stands bs (24 * k) (spell (symtab_entry_fields e))) given here)
+
+dynamic_entry_stands : TablesStand → (l : Layout) → IsLaidOut l → (table : Part) → part_with role.Dynsym l.parts ≡ Some table → (k : ℕ) (e : SymtabEntry) → slice_get (all_symbols l) k ≡ Some e → Stands (bytes l) (table.offset + 24 * k) (spell (symtab_entry_fields e))
+dynamic_entry_stands stand l laid = entry_stands stand l laid role.Dynsym (λ z. absurd (omega arith)) (all_symbols l) (symbol_table l)
 
 pub symbols_stand : TablesStand → SymbolsStand
 symbols_stand stand l laid needs table strings found with_strings =
@@ -103,7 +110,7 @@ symbols_stand stand l laid needs table strings found with_strings =
     null_stands b =
         let z : table.offset + 24 * 0 ≡ table.offset = omega arith in
         let same : spell (symtab_entry_fields b.item) ≡ replicate 24 0 = ap (λ (e : SymtabEntry). spell (symtab_entry_fields e)) b.belongs ∙ null_bytes in
-        subst (λ (n : ℕ). Stands (bytes l) n (replicate 24 0)) z (subst (λ (bs : List ℕ). Stands (bytes l) (table.offset + 24 * 0) bs) same (entry_stands stand l laid table found 0 b.item b.is))
+        subst (λ (n : ℕ). Stands (bytes l) n (replicate 24 0)) z (subst (λ (bs : List ℕ). Stands (bytes l) (table.offset + 24 * 0) bs) same (dynamic_entry_stands stand l laid table found 0 b.item b.is))
 
     item : (k : ℕ) (n : NamedFields) → slice_get (table_symbols l) k ≡ Some n → slice_get (map Some (table_symbols l)) k ≡ Some (Some n)
     item k n h = slice_get-map Some (table_symbols l) k ∙ ap (option_map Some) h
@@ -112,11 +119,11 @@ symbols_stand stand l laid needs table strings found with_strings =
     one k n b =
         let told : Tells (table_bytes l role.Dynstr) b.item n = b.belongs in
         let z : table.offset + 24 * suc k ≡ table.offset + 24 * (k + 1) = omega arith in
-        let here = subst (λ (m : ℕ). Stands (bytes l) m (spell (symtab_entry_fields b.item))) z (entry_stands stand l laid table found (suc k) b.item b.is) in
+        let here = subst (λ (m : ℕ). Stands (bytes l) m (spell (symtab_entry_fields b.item))) z (dynamic_entry_stands stand l laid table found (suc k) b.item b.is) in
         record {
           at = told.at;
           entry = subst (λ (e : SymtabEntry). Stands (bytes l) (table.offset + 24 * (k + 1)) (spell (symtab_entry_fields e))) told.is here;
-          name = named stand l laid strings with_strings told.at n.name told.stands;
+          name = dynamic_named stand l laid strings with_strings told.at n.name told.stands;
         }
 
 -- ---- libraries
@@ -142,5 +149,5 @@ libraries_stand stand l laid needs section strings found with_strings j f h = on
         record {
           at = told.at;
           entry = subst (λ (d : DynamicEntry). Stands (bytes l) (section.offset + 16 * j) (spell (dynamic_entry_fields d))) told.is (needed_stands stand l laid needs section found j b.item b.is);
-          name = named stand l laid strings with_strings told.at f.lib_name told.stands;
+          name = dynamic_named stand l laid strings with_strings told.at f.lib_name told.stands;
         }

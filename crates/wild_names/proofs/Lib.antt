@@ -4,3 +4,5 @@ pub mod SymbolLemmas
 pub mod OrderLemmas
 pub mod LibraryLemmas
 pub mod ImageLemmas
+pub mod ThereLemmas
+pub mod SideLemmas

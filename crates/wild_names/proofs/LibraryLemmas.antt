@@ -14,6 +14,7 @@ use Rattle.wild_plan.specs.DynamicStrings.{behind_file, lead_strings, entry_name
 use Rattle.wild_plan.specs.FileRoles.{is_library}
 use Rattle.wild_plan.specs.Kinds.{needs_dynamic}
 use Rattle.wild_plan.specs.Lookups.{files_of}
+use Rattle.wild_plan.specs.Versions.{version_names}
 use Rattle.wild_symbols.specs.Strings.{string, string_bytes}
 use Rattle.wild_layout.specs.Geometry.{IsLaidOut, table_bytes, all_needed}
 use Rattle.wild_names.specs.Laws.{libraries}
@@ -37,19 +38,23 @@ library_role r h = cc
 leads : (l : Layout) (f : File) → f.role ≡ file_role.Dynamic → lead_strings l f ≡ f.lib_name ∷ []
 leads l f h = rw h refl
 
+-- the strings behind those in front
+abbrev behind : Layout → File → List (List ℕ)
+behind l f = entry_names l f ++ version_names l f
+
 -- a library's strings begin with its name
-name_first : (l : Layout) (f : File) → needs_dynamic l.kind ≡ true → is_library f.role ≡ true → strings_of l f ≡ string f.lib_name ++ string_bytes (entry_names l f)
+name_first : (l : Layout) (f : File) → needs_dynamic l.kind ≡ true → is_library f.role ≡ true → strings_of l f ≡ string f.lib_name ++ string_bytes (behind l f)
 unfolding file_strings
 name_first l f needs h =
     let e = leads l f (library_role f.role h) in
-    let P : Bool → Type 0 = λ b. string_bytes (if b then lead_strings l f ++ entry_names l f else []) ≡ string f.lib_name ++ string_bytes (entry_names l f) in
-    subst P (sym needs) (ap (λ (ss : List (List ℕ)). string_bytes (ss ++ entry_names l f)) e)
+    let P : Bool → Type 0 = λ b. string_bytes (if b then lead_strings l f ++ behind l f else []) ≡ string f.lib_name ++ string_bytes (behind l f) in
+    subst P (sym needs) (ap (λ (ss : List (List ℕ)). string_bytes (ss ++ behind l f)) e)
 
 file_belongs : (l : Layout) (whole : List ℕ) → needs_dynamic l.kind ≡ true → (at : ℕ) (f : File) → Stands whole at (strings_of l f) → Belong (NamesLibrary whole) (needed_of at f) (library_of f)
 file_belongs l whole needs at f s =
     elim (cases_Bool (is_library f.role)) [
       | inl t ↦ rw t (record {
-        first = record { at = at; is = refl; stands = Stands-front whole (string f.lib_name) (string_bytes (entry_names l f)) at (subst (λ (bs : List ℕ). Stands whole at bs) (name_first l f needs t) s) };
+        first = record { at = at; is = refl; stands = Stands-front whole (string f.lib_name) (string_bytes (behind l f)) at (subst (λ (bs : List ℕ). Stands whole at bs) (name_first l f needs t) s) };
         rest = tt;
       })
       | inr n ↦ rw n tt

@@ -1,10 +1,10 @@
 -- What files and groups give, whose strings stand one behind the other.
 use Rattle.std.proofs.Common.{◌≡◌, ℕ, suc, ◌+◌, ◌^◌, ◌<◌, ◌≤◌, Bool, true, false, if◌then◌else◌, List, [], ◌∷◌, ◌++◌, length, take, Some, slice_get, flat_map, refl, sym, ap, ◌∙◌, arith, subst}
 use Rattle.std.proofs.lemmas.List.{length-append, append-nil}
-use Rattle.std.proofs.lemmas.Grind.{flat_map-append}
 use Rattle.wild_words.specs.Words.{Stands}
-use Rattle.wild_words.proofs.ListLemmas.{flat_map-same}
+use Rattle.wild_words.proofs.ListLemmas.{flat_map-same, flat_map-flat_map}
 use Rattle.wild_words.proofs.RecordLemmas.{Stands-whole}
+use Rattle.wild_plan.specs.declared.part.Role.{Role}
 use Rattle.wild_plan.specs.declared.part.Role.TheVariants as role
 use Rattle.wild_plan.specs.declared.file.File.{File}
 use Rattle.wild_plan.specs.declared.file.Group.{Group}
@@ -60,18 +60,20 @@ file_gives l f = rw (nil_if (is_prelude f.role)) (append-nil (strings_of l f))
 pub group_gives : (l : Layout) (g : Group) → content l role.Dynstr g ≡ flat_map (strings_of l) g.files
 group_gives l g = append-nil (flat_map (file_content l role.Dynstr) g.files) ∙ flat_map-same (file_content l role.Dynstr) (strings_of l) g.files (file_gives l)
 
-groups_along : {E N : Type 0} (R : E → N → Type 0) (of : Group → List E) (have : File → List N) (l : Layout) (whole : List ℕ)
-    → ((g : Group) → Stands whole g.dynstr_start (flat_map (strings_of l) g.files) → Belong R (of g) (flat_map have g.files)) → (at : ℕ) (gs : List Group)
-    → ((j : ℕ) (g : Group) → slice_get gs j ≡ Some g → g.dynstr_start ≡ at + total (λ (x : Group). length (content l role.Dynstr x)) (take j gs)) → Stands whole at (flat_map (content l role.Dynstr) gs) → Belong R (flat_map of gs) (flat_map have (files_of gs))
-groups_along R of have l whole each at [] starts s = tt
-groups_along R of have l whole each at (g ∷ gs) starts s =
-    let here = Stands-front whole (content l role.Dynstr g) (flat_map (content l role.Dynstr) gs) at s in
-    let later = Stands-behind whole (content l role.Dynstr g) (flat_map (content l role.Dynstr) gs) at s in
-    let start = starts 0 g refl in
-    let is : at ≡ g.dynstr_start = omega arith in
-    let own = each g (subst (λ (n : ℕ). Stands whole n (flat_map (strings_of l) g.files)) is (subst (λ (bs : List ℕ). Stands whole at bs) (group_gives l g) here)) in
-    let rest = groups_along R of have l whole each (at + length (content l role.Dynstr g)) gs (λ j d found. let e = starts (suc j) d found in omega arith) later in
-    subst (Belong R (of g ++ flat_map of gs)) (sym (flat_map-append have g.files (files_of gs))) (belong-append R (of g) (flat_map of gs) (flat_map have g.files) (flat_map have (files_of gs)) own rest)
+-- what each group gives, whose bytes of a role stand where it begins, belongs to what it has; so for groups whose bytes stand one
+-- behind the other
+pub groups_along : {E N : Type 0} (R : E → N → Type 0) (of : Group → List E) (have : Group → List N) (l : Layout) (r : Role) (start : Group → ℕ) (whole : List ℕ)
+    → ((g : Group) → Stands whole (start g) (content l r g) → Belong R (of g) (have g)) → (at : ℕ) (gs : List Group)
+    → ((j : ℕ) (g : Group) → slice_get gs j ≡ Some g → start g ≡ at + total (λ (x : Group). length (content l r x)) (take j gs)) → Stands whole at (flat_map (content l r) gs) → Belong R (flat_map of gs) (flat_map have gs)
+groups_along R of have l r start whole each at [] starts s = tt
+groups_along R of have l r start whole each at (g ∷ gs) starts s =
+    let here = Stands-front whole (content l r g) (flat_map (content l r) gs) at s in
+    let later = Stands-behind whole (content l r g) (flat_map (content l r) gs) at s in
+    let begins = starts 0 g refl in
+    let is : at ≡ start g = omega arith in
+    let own = each g (subst (λ (n : ℕ). Stands whole n (content l r g)) is here) in
+    let rest = groups_along R of have l r start whole each (at + length (content l r g)) gs (λ j d found. let e = starts (suc j) d found in omega arith) later in
+    belong-append R (of g) (flat_map of gs) (have g) (flat_map have gs) own rest
 
 -- ---- the string table
 
@@ -102,4 +104,6 @@ strings_are_short l laid = let a = table_fits l l.groups in let b = laid.strings
 pub groups_belong : {E N : Type 0} (R : E → N → Type 0) (of : Group → List E) (have : File → List N) (l : Layout) → IsLaidOut l → needs_dynsym l.kind ≡ true
     → ((g : Group) → Stands (table_bytes l role.Dynstr) g.dynstr_start (flat_map (strings_of l) g.files) → Belong R (of g) (flat_map have g.files)) → Belong R (flat_map of l.groups) (flat_map have (files_of l.groups))
 groups_belong R of have l laid needs each =
-    groups_along R of have l (table_bytes l role.Dynstr) each 0 l.groups (λ j g found. let e = laid.starts j g found needs in omega arith) (Stands-whole (table_bytes l role.Dynstr))
+    let whole = table_bytes l role.Dynstr in
+    let all = groups_along R of (λ (g : Group). flat_map have g.files) l role.Dynstr (λ (g : Group). g.dynstr_start) whole (λ g s. each g (subst (λ (bs : List ℕ). Stands whole g.dynstr_start bs) (group_gives l g) s)) 0 l.groups (λ j g found. let e = laid.starts j g found needs in omega arith) (Stands-whole whole) in
+    subst (Belong R (flat_map of l.groups)) (sym (flat_map-flat_map have (λ (g : Group). g.files) l.groups)) all

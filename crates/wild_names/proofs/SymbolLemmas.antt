@@ -16,6 +16,7 @@ use Rattle.wild_plan.specs.DynamicStrings.{behind_text, behind_file, lead_string
 use Rattle.wild_plan.specs.FileRoles.{is_prelude, is_epilogue}
 use Rattle.wild_plan.specs.Kinds.{needs_dynsym}
 use Rattle.wild_plan.specs.Lookups.{files_of}
+use Rattle.wild_plan.specs.Versions.{version_names}
 use Rattle.wild_symbols.specs.Strings.{string, string_bytes}
 use Rattle.wild_symbols.proofs.StringLemmas.{length-string_bytes}
 use Rattle.wild_symbols.specs.DynamicEntries.{NamedFields, listed, undefined, file_symbols, entry_at, no_fields, entries_at, null_entries, behind_lead, file_entries, entries_from, group_symbols}
@@ -68,11 +69,14 @@ names_are l f =
       | inr n ↦ rw n (undefined_are f.role (undefined_symbols l.symbols f))
     ]
 
-strings_are : (l : Layout) (f : File) → needs_dynsym l.kind ≡ true → strings_of l f ≡ string_bytes (lead_strings l f) ++ string_bytes (names_of (file_symbols l f))
+-- a file's strings: those in front, the names of its symbols, and those of its versions
+strings_are : (l : Layout) (f : File) → needs_dynsym l.kind ≡ true → strings_of l f ≡ string_bytes (lead_strings l f) ++ (string_bytes (names_of (file_symbols l f)) ++ string_bytes (version_names l f))
 unfolding file_strings
 strings_are l f needs =
-    let P : Bool → Type 0 = λ b. string_bytes (if b then lead_strings l f ++ entry_names l f else []) ≡ string_bytes (lead_strings l f) ++ string_bytes (names_of (file_symbols l f)) in
-    subst P (sym needs) (flat_map-append string (lead_strings l f) (entry_names l f) ∙ ap (λ (ns : List (List ℕ)). string_bytes (lead_strings l f) ++ string_bytes ns) (names_are l f))
+    let behind = entry_names l f ++ version_names l f in
+    let P : Bool → Type 0 = λ b. string_bytes (if b then lead_strings l f ++ behind else []) ≡ string_bytes (lead_strings l f) ++ (string_bytes (names_of (file_symbols l f)) ++ string_bytes (version_names l f)) in
+    let names = flat_map-append string (entry_names l f) (version_names l f) ∙ ap (λ (ns : List (List ℕ)). string_bytes ns ++ string_bytes (version_names l f)) (names_are l f) in
+    subst P (sym needs) (flat_map-append string (lead_strings l f) behind ∙ ap (λ (bs : List ℕ). string_bytes (lead_strings l f) ++ bs) names)
 
 -- the table's first entry is of no symbol
 abbrev pub none_of : File → List (Option NamedFields)
@@ -93,11 +97,12 @@ file_belongs : (l : Layout) (whole : List ℕ) → length whole < 2 ^ 32 → nee
 file_belongs l whole small needs at f s =
     let cut = subst (λ (bs : List ℕ). Stands whole at bs) (strings_are l f needs) s in
     let names = string_bytes (names_of (file_symbols l f)) in
-    let later = Stands-behind whole (string_bytes (lead_strings l f)) names at cut in
+    let versions = string_bytes (version_names l f) in
+    let later = Stands-behind whole (string_bytes (lead_strings l f)) (names ++ versions) at cut in
     let long = length-string_bytes (lead_strings l f) in
     let ends = later.fits in
     let is : at + length (string_bytes (lead_strings l f)) ≡ behind_lead l at f = omega arith in
-    let rest = entries_belong whole small (behind_lead l at f) (file_symbols l f) (subst (λ (n : ℕ). Stands whole n names) is later) in
+    let rest = entries_belong whole small (behind_lead l at f) (file_symbols l f) (subst (λ (n : ℕ). Stands whole n names) is (Stands-front whole names versions (at + length (string_bytes (lead_strings l f))) later)) in
     belong-append (IsEntryOf whole) (null_entries f) (entries_at (behind_lead l at f) (file_symbols l f)) (none_of f) (map Some (file_symbols l f)) (null_belongs whole f) rest
 
 -- ---- groups

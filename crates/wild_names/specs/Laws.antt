@@ -1,10 +1,13 @@
--- The dynamic symbol table of an image and the names in it (gABI, "Symbol Table", "String Table", "Dynamic Section").
+-- The symbol tables of an image and the names in them (gABI, "Symbol Table", "String Table", "Dynamic Section").
 --   table_symbols l        the symbols of the table behind the null one, in order, each with its name and what its entry says
 --   IsNamed ..             a name stands at an offset of the string table, with a zero behind it
 --   HasEntry ..            an entry of the table says that of a symbol, and its name stands where it tells
+--   SymbolTablesAreThere   the table and its strings are there
 --   SymbolsStand           each symbol has its entry, behind a null one
+--   side_symbols l local   the local symbols of the table of all symbols, or the others
+--   TableSymbolsStand      each of them has its entry in the part of its side
 --   LibrariesStand         each library's name stands where the dynamic section tells
-use Rattle.std.specs.Prelude.{◌≡◌, ℕ, ◌+◌, ◌*◌, ◌^◌, ◌<◌, true, List, [], ◌∷◌, ◌++◌, length, map, replicate, Some, slice_get}
+use Rattle.std.specs.Prelude.{◌≡◌, ℕ, ◌+◌, ◌*◌, ◌^◌, ◌<◌, ◌≤◌, Bool, true, false, List, [], ◌∷◌, ◌++◌, length, map, replicate, Some, slice_get}
 use Rattle.std.specs.List.{flat_map, filter}
 use Rattle.wild_words.specs.Words.{Stands}
 use Rattle.wild_words.specs.Record.{spell}
@@ -12,15 +15,19 @@ use Rattle.wild_records.specs.Abi.Dynamic.{dt_needed}
 use Rattle.wild_records.specs.Dynamic.{dynamic_entry_size, dynamic_entry_fields}
 use Rattle.wild_records.specs.SymtabEntry.{symtab_entry_size, symtab_entry_fields}
 use Rattle.wild_plan.specs.declared.part.Part.{Part}
+use Rattle.wild_plan.specs.declared.part.Role.{Role}
 use Rattle.wild_plan.specs.declared.part.Role.TheVariants as role
 use Rattle.wild_plan.specs.declared.file.File.{File}
+use Rattle.wild_plan.specs.declared.file.Group.{Group}
 use Rattle.wild_plan.specs.declared.layout.Layout.{Layout}
 use Rattle.wild_plan.specs.DynamicStrings.{undefined_symbols}
 use Rattle.wild_plan.specs.FileRoles.{is_library}
 use Rattle.wild_plan.specs.Kinds.{needs_dynsym, needs_dynamic}
 use Rattle.wild_plan.specs.Lookups.{files_of}
 use Rattle.wild_plan.specs.Segments.{part_with}
+use Rattle.wild_plan.specs.TableSymbols.{has_table}
 use Rattle.wild_symbols.specs.DynamicEntries.{NamedFields, undefined, listed, entry_at}
+use Rattle.wild_symbols.specs.TableEntries.{NamedEntry, is_side, group_table}
 use Rattle.wild_layout.specs.Image.{bytes}
 use Rattle.wild_layout.specs.Geometry.{IsLaidOut}
 
@@ -28,10 +35,23 @@ use Rattle.wild_layout.specs.Geometry.{IsLaidOut}
 abbrev pub table_symbols : Layout → List NamedFields
 table_symbols l = flat_map (λ (f : File). map (undefined f.role) (undefined_symbols l.symbols f)) (files_of l.groups) ++ map (listed l) l.dynsyms
 
--- the name stands in the image at an offset of the string table, with a zero behind it
+-- the name stands in the image at an offset of the string table, with a zero behind it that the table has too
 pub record IsNamed (l : Layout) (strings : Part) (at : ℕ) (name : List ℕ) : Type 0 where
   pub small : at < 2 ^ 32
+  pub within : at + (length name + 1) ≤ strings.size
   pub stands : Stands (bytes l) (strings.offset + at) (name ++ 0 ∷ [])
+
+-- the table is there, and so are its strings, one at least
+pub record HasSymbolTables (l : Layout) : Type 0 where
+  pub table : Part
+  pub symbols : part_with role.Dynsym l.parts ≡ Some table
+  pub strings : Part
+  pub names : part_with role.Dynstr l.parts ≡ Some strings
+  pub some : 1 ≤ strings.size
+
+-- so it is where the output has dynamic symbols
+abbrev pub SymbolTablesAreThere : Type 0
+SymbolTablesAreThere = (l : Layout) → IsLaidOut l → needs_dynsym l.kind ≡ true → HasSymbolTables l
 
 -- entry k of the table says that of a symbol, and its name stands where the entry tells
 pub record HasEntry (l : Layout) (table strings : Part) (k : ℕ) (n : NamedFields) : Type 0 where
@@ -48,6 +68,29 @@ pub record SymbolsAreThere (l : Layout) (table strings : Part) : Type 0 where
 -- so it is in the image of a layout whose clauses and shares hold
 abbrev pub SymbolsStand : Type 0
 SymbolsStand = (l : Layout) → IsLaidOut l → needs_dynsym l.kind ≡ true → (table strings : Part) → part_with role.Dynsym l.parts ≡ Some table → part_with role.Dynstr l.parts ≡ Some strings → SymbolsAreThere l table strings
+
+-- the part of the local symbols of the table of all symbols, and that of the others (gABI, "Symbol Table": local ones come first)
+abbrev pub table_role : Bool → Role
+table_role true = role.SymtabLocal
+table_role false = role.SymtabGlobal
+
+-- a symbol's name, and what its entry says
+abbrev pub said : NamedEntry → NamedFields
+said n = record { name = n.name; fields = n.fields.fields }
+
+-- the local symbols of that table, or the others, group by group
+abbrev pub side_symbols : Layout → Bool → List NamedFields
+side_symbols l local = flat_map (λ (g : Group). map said (filter (is_side local) (group_table l g))) l.groups
+
+-- each symbol of a side has its entry, and there are no others; the first of the local ones is of zeros
+pub record TableIsThere (l : Layout) (local : Bool) (table strings : Part) : Type 0 where
+  pub whole : table.size ≡ symtab_entry_size * length (side_symbols l local)
+  pub null : local ≡ true → has_table l ≡ true → Stands (bytes l) table.offset (replicate symtab_entry_size 0)
+  pub each : (k : ℕ) (n : NamedFields) → slice_get (side_symbols l local) k ≡ Some n → HasEntry l table strings k n
+
+-- so it is in the image of a layout whose clauses and shares hold
+abbrev pub TableSymbolsStand : Type 0
+TableSymbolsStand = (l : Layout) → IsLaidOut l → (local : Bool) (table strings : Part) → part_with (table_role local) l.parts ≡ Some table → part_with role.Strtab l.parts ≡ Some strings → TableIsThere l local table strings
 
 -- the entry of a library, number j of the dynamic section, tells where its name stands
 pub record HasLibrary (l : Layout) (section strings : Part) (j : ℕ) (f : File) : Type 0 where

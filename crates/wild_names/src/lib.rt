@@ -1,15 +1,27 @@
-//! What a reader of an image finds in its dynamic symbol table and its strings.
+//! What a reader of an image finds in its symbol tables and their strings.
 #![tactic(auto)]
 
-ghost use Rattle.wild_names.specs.Laws.{LibrariesStand, SymbolsStand};
+ghost use Rattle.wild_names.specs.Laws.{LibrariesStand, SymbolTablesAreThere, SymbolsStand, TableSymbolsStand};
 
 use wild_geometry::tables_stand;
+use wild_symbols::names_are_strings;
 
-/// Each dynamic symbol has its entry, in order, and its name stands where the entry tells.
+/// The dynamic symbol table and its strings are there; each symbol has its entry, in order, and its name stands where the
+/// entry tells.
 pub fn dynamic_symbols_stand()
-    ensures { SymbolsStand }
+    ensures there { SymbolTablesAreThere }
+    ensures stand { SymbolsStand }
 {
     tables_stand();
+}
+
+/// Each local symbol of the table of all symbols has its entry in one part, each other one in the other, in order, and its
+/// name stands where the entry tells.
+pub fn table_symbols_stand()
+    ensures { TableSymbolsStand }
+{
+    tables_stand();
+    names_are_strings();
 }
 
 /// Each library has its entry in the dynamic section, and its name stands where the entry tells.

@@ -15,7 +15,7 @@ use Rattle.wild_plan.specs.declared.file.File.{File}
 use Rattle.wild_plan.specs.declared.file.Group.{Group}
 use Rattle.wild_plan.specs.declared.layout.Layout.{Layout}
 use Rattle.wild_plan.specs.Lookups.{canonical, has_address, is_discarded, files_of, file_of, is_allocated_part}
-use Rattle.wild_layout.specs.Values.{raw_value, resolved_or, placed_value, address_at, address_in_file, address_in_section}
+use Rattle.wild_plan.specs.Addresses.{raw_value, resolved_or, placed_value, address_at, address_in_file, address_in_section}
 use Rattle.wild_meaning.specs.Section.{IsAllocatedPart, IsPlaced}
 use Rattle.wild_meaning.specs.Value.{IsSymbol, IsDefinedBy, IsOwnFile, StandsAt, IsResolved, IsUnresolved, HasRaw}
 use Rattle.wild_values.proofs.Bits.{alloc_bit}

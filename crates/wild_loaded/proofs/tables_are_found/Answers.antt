@@ -4,12 +4,14 @@ use Rattle.wild_loaded.proofs.tables_are_found.Goals as goal
 
 pub returns-clause-found : goal.returns-clause-found
 returns-clause-found c = tables_found (record {
-  stand = c.tables_stand.ensures;
-  needed = c.dynamic_sections_are_read.ensures.needed;
-  lengths = c.dynamic_sections_are_read.ensures.records;
-  records = c.dynamic_sections_are_read.ensures.stand;
-  fit = c.dynamic_sections_are_read.ensures.fit;
-  found = c.dynamic_sections_are_read.ensures.found;
+  section = record {
+    stand = c.tables_stand.ensures;
+    needed = c.dynamic_sections_are_read.ensures.needed;
+    lengths = c.dynamic_sections_are_read.ensures.records;
+    records = c.dynamic_sections_are_read.ensures.stand;
+    fit = c.dynamic_sections_are_read.ensures.fit;
+    found = c.dynamic_sections_are_read.ensures.found;
+  };
   named = c.dynamic_sections_are_read.ensures.named;
   words = c.words_fit.ensures;
   pair = c.pair_stands.ensures;

@@ -1,0 +1,45 @@
+-- How many bytes the hash tables of the dynamic symbols have.
+use Rattle.std.proofs.Common.{◌≡◌, ℕ, Bool, true, false, ◌&&◌, if◌then◌else◌, List, [], length, map, refl, arith}
+use Rattle.std.specs.Prelude.{Option, Some, None}
+use Rattle.std.proofs.lemmas.List.{length-append, length-map}
+use Rattle.wild_plan.specs.declared.file.File.{File}
+use Rattle.wild_plan.specs.declared.layout.DynamicSymbol.{DynamicSymbol}
+use Rattle.wild_plan.specs.declared.layout.SysvHash.{SysvHash}
+use Rattle.wild_plan.specs.declared.layout.GnuHash.{GnuHash}
+use Rattle.wild_plan.specs.declared.layout.Layout.{Layout}
+use Rattle.wild_plan.specs.DynamicSymbols.{undefined_entries, listed, first_listed}
+use Rattle.wild_plan.specs.FileRoles.{is_epilogue}
+use Rattle.wild_plan.specs.Kinds.{needs_dynsym}
+use Rattle.wild_plan.specs.Lookups.{files_of}
+use Rattle.wild_plan.specs.Needs.{sysv_room, gnu_room, last_dynamic}
+use Rattle.wild_hashes.specs.Tables.{sysv_hash_of, gnu_hash_of, gnu_header}
+use Rattle.wild_hashes.proofs.TableLemmas.{length-sysv_table, length-gnu_table}
+use Rattle.wild_layout.specs.Content.{sysv_bytes, gnu_bytes, of_last}
+
+length-sysv_bytes : (l : Layout) (o : Option SysvHash) → length (sysv_bytes l o) ≡ sysv_room l o
+length-sysv_bytes l None = refl
+length-sysv_bytes l (Some h) =
+    let a = length-sysv_table h.buckets (first_listed l) (map sysv_hash_of l.dynsyms) in
+    let b = length-map l.dynsyms sysv_hash_of in
+    let c = length-append (undefined_entries l.symbols (files_of l.groups)) (listed l.dynsyms) in
+    let d = length-map l.dynsyms (λ (x : DynamicSymbol). x.symbol) in
+    omega arith
+
+length-gnu_bytes : (l : Layout) (o : Option GnuHash) → length (gnu_bytes l o) ≡ gnu_room l o
+length-gnu_bytes l None = refl
+length-gnu_bytes l (Some h) =
+    let a = length-gnu_table (gnu_header h) (map gnu_hash_of l.dynsyms) in
+    let b = length-map l.dynsyms gnu_hash_of in
+    omega arith
+
+-- the last file's
+last_length : (needs last : Bool) (bytes : List ℕ) (n : ℕ) → length bytes ≡ n → length (if needs && last then bytes else []) ≡ (if needs then (if last then n else 0) else 0)
+last_length true true bytes n h = h
+last_length true false bytes n h = refl
+last_length false last bytes n h = refl
+
+pub sysv_length : (l : Layout) (f : File) → length (of_last l f (sysv_bytes l l.sysv_hash)) ≡ last_dynamic l f.role (sysv_room l l.sysv_hash)
+sysv_length l f = last_length (needs_dynsym l.kind) (is_epilogue f.role) (sysv_bytes l l.sysv_hash) (sysv_room l l.sysv_hash) (length-sysv_bytes l l.sysv_hash)
+
+pub gnu_length : (l : Layout) (f : File) → length (of_last l f (gnu_bytes l l.gnu_hash)) ≡ last_dynamic l f.role (gnu_room l l.gnu_hash)
+gnu_length l f = last_length (needs_dynsym l.kind) (is_epilogue f.role) (gnu_bytes l l.gnu_hash) (gnu_room l l.gnu_hash) (length-gnu_bytes l l.gnu_hash)

@@ -1,0 +1,44 @@
+-- Names are found in the image of a layout without faults (gABI, "Hash Table"; GNU, "DT_GNU_HASH").
+--   found l name          the first of the listed symbols with that name, by its index in the dynamic symbol table
+--   IsWritten l           an x86-64 output with a dynamic section, without faults
+--   SysvLookUpsFind, GnuLookUpsFind   the look-up of any name in the image gives that symbol, and none where no symbol has the name
+--   LookUpsWithoutTable   without the part of a table the look-up in it gives none
+use Rattle.std.specs.Prelude.{◌≡◌, ℕ, true, [], List, Option, Some, None, Ok}
+use Rattle.wild_plan.specs.declared.kind.Machine.TheVariants as machine
+use Rattle.wild_plan.specs.declared.part.Part.{Part}
+use Rattle.wild_plan.specs.declared.part.Role.TheVariants as role
+use Rattle.wild_plan.specs.declared.layout.SysvHash.{SysvHash}
+use Rattle.wild_plan.specs.declared.layout.GnuHash.{GnuHash}
+use Rattle.wild_plan.specs.declared.layout.Layout.{Layout}
+use Rattle.wild_plan.specs.DynamicSymbols.{first_listed}
+use Rattle.wild_plan.specs.Kinds.{needs_dynamic}
+use Rattle.wild_plan.specs.Segments.{part_with}
+use Rattle.wild_hashes.specs.Image.{gnu_lookup_in, sysv_lookup_in}
+use Rattle.wild_hashes.specs.Laws.{first_named, names_of}
+use Rattle.wild_layout.specs.Faults.{errors}
+use Rattle.wild_layout.specs.Image.{bytes}
+use Rattle.wild_layout.specs.Numbers.{NumbersFit}
+
+-- the first of the listed symbols with that name, by its index in the dynamic symbol table
+abbrev pub found : Layout → List ℕ → Option ℕ
+found l name = first_named (first_listed l) (names_of l.dynsyms) name
+
+-- an x86-64 output with a dynamic section, without faults
+pub record IsWritten (l : Layout) : Type 0 where
+  pub machine : l.machine ≡ machine.X86_64
+  pub dynamic : needs_dynamic l.kind ≡ true
+  pub numbers : NumbersFit l
+  pub none : errors l ≡ []
+
+-- in the image of one with a System V table the look-up of any name finds the first symbol of that name, or none
+abbrev pub SysvLookUpsFind : Type 0
+SysvLookUpsFind = (l : Layout) (h : SysvHash) (p : Part) (name : List ℕ) → IsWritten l → l.sysv_hash ≡ Some h → part_with role.SysvHash l.parts ≡ Some p → sysv_lookup_in (bytes l) name ≡ Ok (found l name)
+
+-- so it is with a GNU table
+abbrev pub GnuLookUpsFind : Type 0
+GnuLookUpsFind = (l : Layout) (h : GnuHash) (p : Part) (name : List ℕ) → IsWritten l → l.gnu_hash ≡ Some h → part_with role.GnuHash l.parts ≡ Some p → gnu_lookup_in (bytes l) name ≡ Ok (found l name)
+
+-- without the part of a table a look-up in it finds none
+pub record LookUpsWithoutTable : Type 0 where
+  pub sysv : (l : Layout) (name : List ℕ) → IsWritten l → part_with role.SysvHash l.parts ≡ None → sysv_lookup_in (bytes l) name ≡ Ok None
+  pub gnu : (l : Layout) (name : List ℕ) → IsWritten l → part_with role.GnuHash l.parts ≡ None → gnu_lookup_in (bytes l) name ≡ Ok None

@@ -1,0 +1,182 @@
+-- The table of all symbols: its local ones in one part, and all others in another.
+use Rattle.std.proofs.Common.{◌≡◌, ℕ, ◌+◌, ◌*◌, ◌^◌, ◌<◌, ◌≤◌, inl, inr, ◌==◌, ◌&&◌, Bool, true, false, List, [], ◌∷◌, ◌++◌, length, map, filter, replicate, Some, None, slice_get, flat_map, refl, sym, ap, ◌∙◌, arith, subst}
+use Rattle.std.proofs.lemmas.Bool.{cases_Bool, and_parts}
+use Rattle.std.proofs.lemmas.List.{append-nil, length-append}
+use Rattle.wild_words.specs.Words.{Stands}
+use Rattle.wild_words.specs.Record.{spell}
+use Rattle.wild_words.proofs.ListLemmas.{flat_map-same, flat_map-flat_map}
+use Rattle.wild_words.proofs.RecordLemmas.{Stands-whole}
+use Rattle.wild_records.specs.SymtabEntry.{symtab_entry_fields}
+use Rattle.wild_records.specs.declared.symtab_entry.SymtabEntry.{SymtabEntry}
+use Rattle.wild_plan.specs.declared.part.Role.TheVariants as role
+use Rattle.wild_plan.specs.declared.file.File.{File}
+use Rattle.wild_plan.specs.declared.file.Group.{Group}
+use Rattle.wild_plan.specs.declared.layout.Layout.{Layout}
+use Rattle.wild_plan.specs.Contents.{bool_eq, file_placed, later_placed, files_placed, file_misplaced}
+use Rattle.wild_plan.specs.DynamicStrings.{behind_text}
+use Rattle.wild_plan.specs.FileRoles.{is_prelude, is_epilogue}
+use Rattle.wild_plan.specs.Lists.{total}
+use Rattle.wild_plan.specs.Needs.{share, group_share}
+use Rattle.wild_plan.specs.Places.{role_place}
+use Rattle.wild_plan.specs.TableSymbols.{has_table, file_items, table_strings}
+use Rattle.wild_symbols.specs.DynamicEntries.{NamedFields, entry_at, no_fields}
+use Rattle.wild_symbols.specs.Strings.{string, string_bytes}
+use Rattle.wild_symbols.specs.Symbols.{symbol_bytes}
+use Rattle.wild_symbols.specs.TableEntries.{NamedEntry, is_side, side_entries, named_entry, file_table, group_table, table_entries}
+use Rattle.wild_symbols.specs.TableLaws.{names_of, NamesOfGroups}
+use Rattle.wild_symbols.proofs.StringLemmas.{length-string_bytes}
+use Rattle.wild_symbols.proofs.SymbolLemmas.{length-symbol_bytes}
+use Rattle.wild_layout.specs.Content.{file_content, content}
+use Rattle.wild_layout.specs.Geometry.{IsLaidOut, TablesStand, table_bytes}
+use Rattle.wild_layout.specs.Image.{bytes}
+use Rattle.wild_geometry.proofs.LastGroupLemmas.{same_bool}
+use Rattle.wild_names.specs.Laws.{HasEntry, TableSymbolsStand, table_role, said, side_symbols}
+use Rattle.wild_names.proofs.BesideLemmas.{Belong, HasBeside, belong-length, belongs_at, Stands-front, Stands-behind}
+use Rattle.wild_names.proofs.ImageLemmas.{entry_stands, named, none_joined, null_bytes}
+use Rattle.wild_names.proofs.RunLemmas.{groups_along, nil_if}
+use Rattle.wild_names.proofs.SymbolLemmas.{Tells}
+
+-- ---- one group
+
+-- the entries of a side belong to its symbols, where the names of all stand
+side_belongs : (local : Bool) (whole : List ℕ) → length whole < 2 ^ 32 → (at : ℕ) (ns : List NamedEntry) → Stands whole at (string_bytes (names_of ns)) → Belong (Tells whole) (side_entries local at ns) (map said (filter (is_side local) ns))
+unfolding side_entries
+side_belongs local whole small at [] s = tt
+side_belongs local whole small at (n ∷ ns) s =
+    let here = Stands-front whole (string n.name) (string_bytes (names_of ns)) at s in
+    let later = Stands-behind whole (string n.name) (string_bytes (names_of ns)) at s in
+    let long = length-append n.name (0 ∷ []) in
+    let ends = here.fits in
+    let is : at + length (string n.name) ≡ behind_text at n.name = omega arith in
+    let rest = side_belongs local whole small (behind_text at n.name) ns (subst (λ (m : ℕ). Stands whole m (string_bytes (names_of ns))) is later) in
+    elim (cases_Bool (is_side local n)) [
+      | inl t ↦ rw t (record { first = record { at = at; is = refl; stands = here }; rest = rest })
+      | inr f ↦ rw f rest
+    ]
+
+-- ---- the strings
+
+file_text : (l : Layout) (f : File) → file_content l role.Strtab f ≡ string_bytes (table_strings l f)
+file_text l f = rw (nil_if (is_prelude f.role)) (append-nil (string_bytes (table_strings l f)))
+
+-- a group's strings are the names of its symbols
+group_text : (l : Layout) (g : Group) → NamesOfGroups → content l role.Strtab g ≡ string_bytes (names_of (group_table l g))
+group_text l g names =
+    append-nil (flat_map (file_content l role.Strtab) g.files)
+    ∙ flat_map-same (file_content l role.Strtab) (λ (f : File). string_bytes (table_strings l f)) g.files (file_text l)
+    ∙ sym (flat_map-flat_map string (table_strings l) g.files)
+    ∙ ap string_bytes (sym (names l g))
+
+files_fit : (l : Layout) (fs : List File) → length (flat_map (file_content l role.Strtab) fs) ≤ total (share l role.Strtab) fs
+files_fit l [] = omega arith
+files_fit l (f ∷ fs) =
+    let a = length-append (file_content l role.Strtab f) (flat_map (file_content l role.Strtab) fs) in
+    let b = ap (λ (bs : List ℕ). length bs) (file_text l f) in
+    let c = length-string_bytes (table_strings l f) in
+    let d = files_fit l fs in
+    omega arith
+
+groups_fit : (l : Layout) (gs : List Group) → length (flat_map (content l role.Strtab) gs) ≤ total (group_share l role.Strtab) gs
+groups_fit l [] = omega arith
+groups_fit l (g ∷ gs) =
+    let a = length-append (content l role.Strtab g) (flat_map (content l role.Strtab) gs) in
+    let b = ap (λ (bs : List ℕ). length bs) (append-nil (flat_map (file_content l role.Strtab) g.files)) in
+    let c = files_fit l g.files in
+    let d = groups_fit l gs in
+    omega arith
+
+text_is_short : (l : Layout) → IsLaidOut l → length (table_bytes l role.Strtab) < 2 ^ 32
+text_is_short l laid = let a = groups_fit l l.groups in let b = laid.table_strings in omega arith
+
+-- ---- all groups
+
+abbrev all_entries : Layout → Bool → List SymtabEntry
+all_entries l local = flat_map (table_entries l local) l.groups
+
+sides_belong : (l : Layout) (local : Bool) → NamesOfGroups → IsLaidOut l → Belong (Tells (table_bytes l role.Strtab)) (all_entries l local) (side_symbols l local)
+unfolding table_entries
+sides_belong l local names laid =
+    let whole = table_bytes l role.Strtab in
+    let small = text_is_short l laid in
+    groups_along (Tells whole) (table_entries l local) (λ (g : Group). map said (filter (is_side local) (group_table l g))) l role.Strtab (λ (g : Group). g.strtab_start) whole
+    (λ g s. side_belongs local whole small g.strtab_start (group_table l g) (subst (λ (bs : List ℕ). Stands whole g.strtab_start bs) (group_text l g names) s)) 0 l.groups (λ j g found. let e = laid.table_starts j g found in omega arith) (Stands-whole whole)
+
+-- ---- their bytes
+
+no_table : (l : Layout) (local : Bool) (f : File) → file_content l (table_role local) f ≡ []
+no_table l true f = rw (nil_if (is_prelude f.role)) refl
+no_table l false f = rw (nil_if (is_prelude f.role)) refl
+
+entries_given : (l : Layout) (local : Bool) (g : Group) → content l (table_role local) g ≡ symbol_bytes (table_entries l local g)
+entries_given l true g = rw (none_joined (file_content l role.SymtabLocal) g.files (no_table l true)) refl
+entries_given l false g = rw (none_joined (file_content l role.SymtabGlobal) g.files (no_table l false)) refl
+
+entries_table : (l : Layout) (local : Bool) → symbol_bytes (all_entries l local) ≡ table_bytes l (table_role local)
+entries_table l local = flat_map-flat_map (λ (e : SymtabEntry). spell (symtab_entry_fields e)) (table_entries l local) l.groups ∙ sym (flat_map-same (content l (table_role local)) (λ (g : Group). symbol_bytes (table_entries l local g)) l.groups (entries_given l local))
+
+has_place : (local : Bool) → role_place (table_role local) ≡ 0 → ⊥
+has_place true e = absurd (omega arith)
+has_place false e = absurd (omega arith)
+
+-- ---- the first entry
+
+-- the files of the first group give the entry of no symbol first
+first_of_files : (l : Layout) (last : Bool) (fs : List File) → has_table l ≡ true → files_placed true last fs ≡ true → (rest : List SymtabEntry) × (side_entries true 0 (flat_map (file_table l) fs) ≡ entry_at 0 no_fields ∷ rest)
+unfolding side_entries
+first_of_files l last [] has h = cc
+first_of_files l last (f ∷ fs) has h =
+    let a = and_parts (file_placed true (last && length fs == 0) f) (later_placed last fs) h in
+    let b = same_bool (is_prelude f.role) true (and_parts (bool_eq (is_prelude f.role) true) (bool_eq (is_epilogue f.role) (last && length fs == 0)) a.0).0 in
+    let more = map (named_entry l f) (file_items l f) ++ flat_map (file_table l) fs in
+    (side_entries true (behind_text 0 []) more, rw (has, b) refl)
+
+first_of_groups : (l : Layout) (gs : List Group) → has_table l ≡ true → 1 ≤ length gs → file_misplaced true 0 gs ≡ None → ((g : Group) → slice_get gs 0 ≡ Some g → g.strtab_start ≡ 0) → (rest : List SymtabEntry) × (flat_map (table_entries l true) gs ≡ entry_at 0 no_fields ∷ rest)
+unfolding table_entries group_table
+first_of_groups l [] has some h start = absurd (omega (arith, some))
+first_of_groups l (g ∷ gs) has some h start =
+    elim (cases_Bool (files_placed true (length gs == 0) g.files)) [
+      | inl t ↦
+          (let first = first_of_files l (length gs == 0) g.files has t in
+          let own : side_entries true g.strtab_start (flat_map (file_table l) g.files) ≡ entry_at 0 no_fields ∷ first.0 = subst (λ (n : ℕ). side_entries true n (flat_map (file_table l) g.files) ≡ entry_at 0 no_fields ∷ first.0) (sym (start g refl)) first.1 in
+          (first.0 ++ flat_map (table_entries l true) gs, ap (λ (es : List SymtabEntry). es ++ flat_map (table_entries l true) gs) own))
+      | inr n ↦ cc (rw n at h)
+    ]
+
+first_entry : (l : Layout) → IsLaidOut l → has_table l ≡ true → slice_get (all_entries l true) 0 ≡ Some (entry_at 0 no_fields)
+first_entry l laid has =
+    let first = first_of_groups l l.groups has laid.some_group laid.files (λ g found. laid.table_starts 0 g found) in
+    ap (λ (es : List SymtabEntry). slice_get es 0) first.1
+
+-- ---- the image
+
+pub table_stands : TablesStand → NamesOfGroups → TableSymbolsStand
+table_stands stand names l laid local table strings found with_strings =
+    let text = table_bytes l role.Strtab in
+    let all = sides_belong l local names laid in
+    record {
+      whole = whole_table (belong-length (Tells text) (all_entries l local) (side_symbols l local) all);
+      null = λ is has. null_stands is (subst (λ (b : Bool). slice_get (all_entries l b) 0 ≡ Some (entry_at 0 no_fields)) (sym is) (first_entry l laid has));
+      each = λ k n h. one k n (belongs_at (Tells text) (all_entries l local) (side_symbols l local) k n all h);
+    }
+  where
+    null_stands : local ≡ true → slice_get (all_entries l local) 0 ≡ Some (entry_at 0 no_fields) → Stands (bytes l) table.offset (replicate 24 0)
+    null_stands is e =
+        let here = entry_stands stand l laid (table_role local) (has_place local) (all_entries l local) (entries_table l local) table found 0 (entry_at 0 no_fields) e in
+        let z : table.offset + 24 * 0 ≡ table.offset = omega arith in
+        subst (λ (n : ℕ). Stands (bytes l) n (replicate 24 0)) z (subst (λ (bs : List ℕ). Stands (bytes l) (table.offset + 24 * 0) bs) null_bytes here)
+
+    whole_table : length (all_entries l local) ≡ length (side_symbols l local) → table.size ≡ 24 * length (side_symbols l local)
+    whole_table n =
+        let size = ((laid.roles (table_role local) (has_place local)).there table found).size in
+        let own : length (table_bytes l (table_role local)) ≡ 24 * length (all_entries l local) = subst (λ (bs : List ℕ). length bs ≡ 24 * length (all_entries l local)) (entries_table l local) (length-symbol_bytes (all_entries l local)) in
+        omega arith
+
+    one : (k : ℕ) (n : NamedFields) → HasBeside (Tells (table_bytes l role.Strtab)) (all_entries l local) k n → HasEntry l table strings k n
+    one k n b =
+        let told = b.belongs in
+        let here = entry_stands stand l laid (table_role local) (has_place local) (all_entries l local) (entries_table l local) table found k b.item b.is in
+        record {
+          at = told.at;
+          entry = subst (λ (e : SymtabEntry). Stands (bytes l) (table.offset + 24 * k) (spell (symtab_entry_fields e))) told.is here;
+          name = named stand l laid role.Strtab (λ e. absurd (omega arith)) (text_is_short l laid) strings with_strings told.at n.name told.stands;
+        }

@@ -1,0 +1,96 @@
+-- The dynamic symbol table and its strings are there: the first file gives the first entry, and the empty string.
+use Rattle.std.proofs.Common.{◌≡◌, ℕ, ◌*◌, ◌≤◌, inl, inr, ◌==◌, ◌&&◌, Bool, true, if◌then◌else◌, List, [], ◌∷◌, ◌++◌, length, map, Option, Some, None, flat_map, refl, sym, ap, arith, subst}
+use Rattle.std.proofs.lemmas.Bool.{cases_Bool, and_parts}
+use Rattle.std.proofs.lemmas.List.{length-append}
+use Rattle.wild_plan.specs.declared.part.Part.{Part}
+use Rattle.wild_plan.specs.declared.part.Role.{Role}
+use Rattle.wild_plan.specs.declared.part.Role.TheVariants as role
+use Rattle.wild_plan.specs.declared.file.FileRole.{FileRole}
+use Rattle.wild_plan.specs.declared.file.FileRole.TheVariants as file_role
+use Rattle.wild_plan.specs.declared.file.File.{File}
+use Rattle.wild_plan.specs.declared.file.Group.{Group}
+use Rattle.wild_plan.specs.declared.layout.Layout.{Layout}
+use Rattle.wild_plan.specs.Contents.{bool_eq, file_placed, later_placed, files_placed, file_misplaced}
+use Rattle.wild_plan.specs.DynamicStrings.{lead_strings, entry_names, file_strings}
+use Rattle.wild_plan.specs.FileRoles.{is_prelude, is_epilogue}
+use Rattle.wild_plan.specs.Kinds.{needs_dynsym}
+use Rattle.wild_plan.specs.Places.{role_place}
+use Rattle.wild_plan.specs.Segments.{part_with}
+use Rattle.wild_plan.specs.Versions.{version_names}
+use Rattle.wild_symbols.specs.Strings.{string_bytes}
+use Rattle.wild_symbols.proofs.SymbolLemmas.{length-symbol_bytes}
+use Rattle.wild_layout.specs.Content.{content}
+use Rattle.wild_layout.specs.Geometry.{IsLaidOut, table_bytes}
+use Rattle.wild_geometry.proofs.LastGroupLemmas.{same_bool}
+use Rattle.wild_names.specs.Laws.{SymbolTablesAreThere, table_symbols}
+use Rattle.wild_names.proofs.BesideLemmas.{Belong, belong-length}
+use Rattle.wild_names.proofs.ImageLemmas.{all_symbols, symbol_table}
+use Rattle.wild_names.proofs.OrderLemmas.{items_of_all}
+use Rattle.wild_names.proofs.RunLemmas.{strings_of, group_gives}
+use Rattle.wild_names.proofs.SymbolLemmas.{IsEntryOf, symbols_belong}
+
+-- ---- the empty string
+
+prelude_role : (r : FileRole) → is_prelude r ≡ true → r ≡ file_role.Prelude
+prelude_role file_role.Prelude h = refl
+prelude_role r h = cc
+
+leads : (l : Layout) (f : File) → f.role ≡ file_role.Prelude → lead_strings l f ≡ [] ∷ []
+leads l f h = rw h refl
+
+first_string : (l : Layout) (f : File) → needs_dynsym l.kind ≡ true → is_prelude f.role ≡ true → 1 ≤ length (strings_of l f)
+unfolding file_strings
+first_string l f needs h =
+    let behind = entry_names l f ++ version_names l f in
+    let P : Bool → Type 0 = λ b. 1 ≤ length (string_bytes (if b then lead_strings l f ++ behind else [])) in
+    let some : 1 ≤ length (string_bytes (([] ∷ []) ++ behind)) = omega arith in
+    subst P (sym needs) (subst (λ (ss : List (List ℕ)). 1 ≤ length (string_bytes (ss ++ behind))) (sym (leads l f (prelude_role f.role h))) some)
+
+first_file : (l : Layout) (last : Bool) (fs : List File) → needs_dynsym l.kind ≡ true → files_placed true last fs ≡ true → 1 ≤ length (flat_map (strings_of l) fs)
+first_file l last [] needs h = cc
+first_file l last (f ∷ fs) needs h =
+    let a = and_parts (file_placed true (last && length fs == 0) f) (later_placed last fs) h in
+    let b = same_bool (is_prelude f.role) true (and_parts (bool_eq (is_prelude f.role) true) (bool_eq (is_epilogue f.role) (last && length fs == 0)) a.0).0 in
+    let own = first_string l f needs b in
+    let all = length-append (strings_of l f) (flat_map (strings_of l) fs) in
+    omega (arith, own, all)
+
+some_strings : (l : Layout) (gs : List Group) → needs_dynsym l.kind ≡ true → 1 ≤ length gs → file_misplaced true 0 gs ≡ None → 1 ≤ length (flat_map (content l role.Dynstr) gs)
+some_strings l [] needs some h = absurd (omega (arith, some))
+some_strings l (g ∷ gs) needs some h =
+    elim (cases_Bool (files_placed true (length gs == 0) g.files)) [
+      | inl t ↦
+          (let own = first_file l (length gs == 0) g.files needs t in
+          let given = ap (λ (bs : List ℕ). length bs) (group_gives l g) in
+          let all = length-append (content l role.Dynstr g) (flat_map (content l role.Dynstr) gs) in
+          omega (arith, own, given, all))
+      | inr n ↦ cc (rw n at h)
+    ]
+
+-- ---- the first entry
+
+some_symbol : (l : Layout) → IsLaidOut l → needs_dynsym l.kind ≡ true → 1 ≤ length (table_bytes l role.Dynsym)
+some_symbol l laid needs =
+    let names = table_bytes l role.Dynstr in
+    let items = None ∷ map Some (table_symbols l) in
+    let all = subst (Belong (IsEntryOf names) (all_symbols l)) (items_of_all l laid.some_group laid.files) (symbols_belong l laid needs) in
+    let count = belong-length (IsEntryOf names) (all_symbols l) items all in
+    let own : length (table_bytes l role.Dynsym) ≡ 24 * length (all_symbols l) = subst (λ (bs : List ℕ). length bs ≡ 24 * length (all_symbols l)) (symbol_table l) (length-symbol_bytes (all_symbols l)) in
+    omega (arith, count, own)
+
+-- ---- both parts
+
+there : (l : Layout) (r : Role) → IsLaidOut l → (role_place r ≡ 0 → ⊥) → 1 ≤ length (table_bytes l r) → (p : Part) × (part_with r l.parts ≡ Some p)
+there l r laid loaded some = by (part_with r l.parts) refl
+  where
+    by : (o : Option Part) → part_with r l.parts ≡ o → (p : Part) × (part_with r l.parts ≡ Some p)
+    by (Some p) e = (p, e)
+    by None e = (let none = ap (λ (bs : List ℕ). length bs) ((laid.roles r loaded).missing e) in absurd (omega (arith, none, some)))
+
+pub tables_are_there : SymbolTablesAreThere
+tables_are_there l laid needs =
+    let t = there l role.Dynsym laid (λ e. absurd (omega arith)) (some_symbol l laid needs) in
+    let strings = some_strings l l.groups needs laid.some_group laid.files in
+    let s = there l role.Dynstr laid (λ e. absurd (omega arith)) strings in
+    let size = ((laid.roles role.Dynstr (λ e. absurd (omega arith))).there s.0 s.1).size in
+    record { table = t.0; symbols = t.1; strings = s.0; names = s.1; some = omega (arith, size, strings) }
