@@ -3,6 +3,7 @@ mod layouts;
 mod movable;
 mod references;
 mod slots;
+mod symbols;
 mod texts;
 
 use crate::tests::{CALM, answer};
@@ -14,6 +15,7 @@ use std::alloc::Global;
 use std::process::Abort;
 use std::test::*;
 use std::thread::Threads;
+use symbols::SYMBOLS;
 use texts::TEXTS;
 
 /// A plan, the texts in it that are changed, and the first line that is answered then.
@@ -69,6 +71,11 @@ fn movable_outputs(rt: HostRuntime) -> Result<(), Fail> {
 #[test]
 fn slots_and_stubs(rt: HostRuntime) -> Result<(), Fail> {
     answers(&rt, rt.alloc(), &SLOTS)
+}
+
+#[test]
+fn symbols_and_versions(rt: HostRuntime) -> Result<(), Fail> {
+    answers(&rt, rt.alloc(), &SYMBOLS)
 }
 
 #[test]

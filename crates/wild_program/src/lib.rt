@@ -13,6 +13,8 @@ mod program;
 mod slots;
 mod status;
 #[cfg(test)]
+mod symbols;
+#[cfg(test)]
 mod tests;
 mod words;
 

@@ -37,18 +37,24 @@ pub(super) const TEXTS: [Broken; 16] = [
     },
     Broken {
         plan: SMALLEST,
-        changes: &[(r#""strip_all":true}"#, r#""strip_all":false}"#)],
+        changes: &[(r#""strip_all":true}"#, r#""strip_all":1}"#)],
         answer: "not a plan: /options/strip_all",
     },
     Broken {
         plan: SMALLEST,
-        changes: &[(r#","strip_all":true}"#, "}")],
-        answer: "not a plan: /options/strip_all",
+        changes: &[(
+            r#""entry":{"address":4194432}"#,
+            r#""entry":{"address":4194432,"symbol":0}"#,
+        )],
+        answer: "not a plan: /entry/symbol",
     },
     Broken {
         plan: SMALLEST,
-        changes: &[(r#""options":{"relax":true,"strip_all":true},""#, r#"""#)],
-        answer: "not a plan: /options/strip_all",
+        changes: &[(
+            r#""entry""#,
+            r#""gnu_hash":{"bloom_shift":4294967296},"entry""#,
+        )],
+        answer: "not a plan: /gnu_hash/bloom_shift",
     },
     Broken {
         plan: SMALLEST,
