@@ -1,14 +1,16 @@
 #!/usr/bin/env python3
-"""Writes shared.json or uses_shared.json: has the system's compiler make an object of shared.c or of uses_shared.c, and lays
-it out as a shared object or as a position-independent executable that a dynamic linker starts. Run it as
+"""Writes shared.json, uses_shared.json or symbols.json: has the system's compiler make an object of shared.c, uses_shared.c or
+symbols.c, and lays it out as a shared object or as a position-independent executable that a dynamic linker starts. Run it as
 
     plans/make_shared.py shared > plans/shared.json
     plans/make_shared.py uses_shared > plans/uses_shared.json
+    plans/make_shared.py symbols > plans/symbols.json
 
 As a linker does, it goes by the relocations: a symbol of a library has a stub where it is called, a slot where code reads
 its address there, and is copied where code has its address as one of the program. Each symbol of a library that is used
 has an entry of the dynamic symbol table, and each of the object that other modules see has one behind those. References
-to symbols of the object are bound to it, as with the option `-Bsymbolic` of linkers.
+to symbols of the object are bound to it, as with the option `-Bsymbolic` of linkers. An output with versions has both hash
+tables, versions and a table of all symbols too.
 """
 import os
 import sys
@@ -20,6 +22,8 @@ from make_slots import ADDRESS_SLOT, INDIRECT_FUNCTION, OFFSET_SLOT, OWN_PAIR, T
 NOBITS, INIT_ARRAY, HEADERS_SEGMENT, INTERPRETER_SEGMENT = 8, 14, 6, 3
 MODULE_PAIR = 19  # R_X86_64_TLSGD
 FUNCTION, OBJECT, GLOBAL = 2, 1, 1
+HASH, GNU_HASH, VERSIONS, DEFINITIONS, NEEDS, SYMBOLS, FILE_NAME = 5, 0x6FFFFFF6, 0x6FFFFFFF, 0x6FFFFFFD, 0x6FFFFFFE, 2, 4
+BUCKETS = 3
 
 # what is known of the libraries: the symbols that are used of them, with type and size
 C_LIBRARY = ("libc.so.6", {"write": (FUNCTION, 0), "fsync": (FUNCTION, 0), "_exit": (FUNCTION, 0), "optind": (OBJECT, 4)})
@@ -27,6 +31,14 @@ DYNAMIC_LINKER = ("ld-linux-x86-64.so.2", {"__tls_get_addr": (FUNCTION, 0)})
 OUTPUTS = {
     "shared": {"kind": "shared", "compiled": "-fPIC", "libraries": [C_LIBRARY, DYNAMIC_LINKER], "options": {"soname": b"libshared.so".hex()}},
     "uses_shared": {"kind": "dynamic_pie", "compiled": "-fPIE", "libraries": [C_LIBRARY], "interpreter": b"/lib64/ld-linux-x86-64.so.2\0"},
+    "symbols": {
+        "kind": "shared", "compiled": "-fPIC", "libraries": [C_LIBRARY, DYNAMIC_LINKER],
+        "options": {"soname": b"libsymbols.so".hex(), "versions": True, "got_plt_syms": True, "strip_all": False},
+        # the versions that it has, each with its parent, and which symbol has which; those that it needs of libraries
+        "versions": [("libsymbols.so", None), ("FIRST", None), ("SECOND", 1)],
+        "version_of": {"once": 2, "step": 2, "twice": 3, "status": 3, "thrice": 3, "say": 3},
+        "needs": {"libc.so.6": [("GLIBC_2.2.5", 4), ("GLIBC_ABI_DT_RELR", 6)], "ld-linux-x86-64.so.2": [("GLIBC_2.3", 5)]},
+    },
 }
 # shared objects that the program is started with, beside those whose symbols it uses
 STARTED_WITH = {"uses_shared": ["libshared.so"]}
@@ -60,6 +72,18 @@ def words_of(flags):
     """How many words a symbol has in the table, and whether a word moves with the base and stands in the block."""
     moved = "GOT" in flags and "DYNAMIC" not in flags and "IFUNC" not in flags
     return 0 if moved else ("GOT" in flags) + ("GOT_TLS_OFFSET" in flags) + 2 * ("GOT_TLS_MODULE" in flags), moved
+
+
+def gnu_hash(name):
+    """The hash of a name in GNU's table (GNU, "DT_GNU_HASH")."""
+    h = 5381
+    for byte in name.encode():
+        h = (33 * h + byte) % 2**32
+    return h
+
+
+def is_local(info):
+    return info >> 4 == 0
 
 
 class Table:
@@ -127,7 +151,20 @@ def plan(source, output, started_with, sizes):
     listed = [(i, own[i][0].decode()) for i in exported] + [(len(own) + i, library_symbols[i][2]) for i in copied]
     entries = [len(own) + i for i in undefined] + [i for i, _ in listed]
     needed = started_with + [name for name, _ in output["libraries"]]
+    names = output.get("versions", [])
+    if names:
+        listed.sort(key=lambda each: gnu_hash(each[1]) % BUCKETS)
+        entries = [len(own) + i for i in undefined] + [i for i, _ in listed]
+    version_needs = output.get("needs", {})
     texts = [""] + needed + [library_symbols[i][2] for i in undefined] + [bytes.fromhex(output.get("options", {}).get("soname", "")).decode()] * (not executable) + [name for _, name in listed]
+    texts += [text for name, versions in version_needs.items() for text in [name] + [version for version, _ in versions]] + [name for name, _ in names[1:]]
+    # `.symtab` has the object's symbols with a name, and the names of slots and stubs
+    emitted = [name != b"" and (section != 0 or info % 16 == FILE_NAME) for name, info, _, section, *_ in own] if names else []
+    slots = [(name, flag) for name, flag in [(each[0].decode(), f) for each, f in zip(own, flags)] + [(each[2], each[-1]) for each in library_symbols] if "GOT" in flag]
+    slot_texts = [name + "$got" for name, flag in slots] + [name + "$plt" for name, flag in slots if "PLT" in flag]
+    locals_of = [1] + [1 for each, there in zip(own, emitted) if there and is_local(each[1])] + [1 for _ in slot_texts]
+    others = [1 for each, there in zip(own, emitted) if there and not is_local(each[1])]
+    table_texts = [""] + [each[0].decode() for each, there in zip(own, emitted) if there] + slot_texts
 
     # ---- the file: what a loader reads, code, data
     t = Table()
@@ -144,6 +181,17 @@ def plan(source, output, started_with, sizes):
     t.sections[symbols_section]["link"] = t.section(".dynstr", STRTAB, ALLOC, 1)
     t.part("dynstr", sum(len(text) + 1 for text in texts), 1)
     t.end()
+    if names:
+        for name, kind, role, size, align, link in (
+            (".hash", HASH, "sysv_hash", 8 + 4 * (BUCKETS + 1 + len(entries)), 8, symbols_section),
+            (".gnu.hash", GNU_HASH, "gnu_hash", 16 + 8 + 4 * (BUCKETS + len(listed)), 8, symbols_section),
+            (".gnu.version", VERSIONS, "gnu_version", 2 * (1 + len(entries)), 2, symbols_section),
+            (".gnu.version_d", DEFINITIONS, "gnu_version_d", sum(36 if parent else 28 for _, parent in names), 8, symbols_section + 1),
+            (".gnu.version_r", NEEDS, "gnu_version_r", sum(16 + 16 * len(versions) for versions in version_needs.values()), 8, symbols_section + 1),
+        ):
+            t.section(name, kind, ALLOC, align, link=link, entry=4 if kind == HASH else 2 if kind == VERSIONS else 0)
+            t.part(role, size, align)
+            t.end()
     for name, role in (".rela.dyn", "rela_dyn_general"), (".rela.plt", "rela_plt"):
         t.section(name, RELA, ALLOC, link=symbols_section, entry=24)
         t.part(role, 24 * sizes[role])
@@ -182,11 +230,21 @@ def plan(source, output, started_with, sizes):
         t.section(".bss", NOBITS, ALLOC | WRITE)
         t.parts.append({"role": "raw", "section": len(t.sections) - 1, "offset": t.at, "address": zeros_at, "size": zeros, "align": 8})
         t.sections[-1]["size"] = zeros
-    names_section = t.section(".shstrtab", STRTAB, 0, 1)
+    t.pages = 0
+    if names:
+        t.section(".symtab", SYMBOLS, 0, 8, link=len(t.sections) + 1, entry=24)
+        for role, symbols in ("symtab_local", locals_of), ("symtab_global", others):
+            t.part(role, 24 * len(symbols))
+            t.parts[-1].pop("address")
+        t.end()
+        t.section(".strtab", STRTAB, 0, 1)
+        t.part("strtab", sum(len(text) + 1 for text in table_texts), 1)
+        t.parts[-1].pop("address")
+        t.end()
+    t.section(".shstrtab", STRTAB, 0, 1)
     t.part("shstrtab", sum(len(s.get("name", "")) // 2 + 1 for s in t.sections), 1)
     t.parts[-1].pop("address")
     t.end()
-    t.pages = 0
     t.part("section_headers", 64 * len(t.sections), section=False)
     t.parts[-1].pop("address")
 
@@ -194,10 +252,17 @@ def plan(source, output, started_with, sizes):
     symbols = list(symbols_of(source, order, inputs, {"_DYNAMIC": dynamic_at, "_GLOBAL_OFFSET_TABLE_": got_at}))
     for each, own_flag in zip(symbols, flags):
         each["flags"] = own_flag
+    for each, there, (_, info, *_) in zip(symbols, emitted, own):
+        if there:
+            each["emit"] = True
+        if there and info % 16 == FILE_NAME:
+            each["place"] = "absolute"
     zero = zeros_at
     for name, i, symbol, kind, size, own_flag in library_symbols:
         symbols[i]["definition"] = len(symbols)
         each = {"name": symbol.encode().hex(), "info": GLOBAL << 4 | kind, "size": size, "place": "absolute", "flags": own_flag, "resolution": {"raw_value": 0}}
+        if name in version_needs:
+            each["version"] = version_needs[name][0][1]
         if "COPY_RELOCATION" in own_flag:
             each["resolution"]["raw_value"], zero = zero, zero + up(size, 8)
         symbols.append(each)
@@ -246,7 +311,7 @@ def plan(source, output, started_with, sizes):
         {"kind": STACK, "flags": 6},
     ]
     # strings and symbols, entries, words, flags and the end; libraries and the own name; functions at the start; resolvers
-    tags = 4 + 3 + 3 + 3 + executable + len(needed) + (not executable) + 2 * bool(first) + 4 * bool(resolvers)
+    tags = 4 + 3 + 3 + 3 + executable + len(needed) + (not executable) + 2 * bool(first) + 4 * bool(resolvers) + 7 * bool(names)
     needs = {"segments": len(segments), "rela_dyn_general": general, "rela_plt": resolvers, "words": len(packs) + len(blocks), "dynamic": tags}
     if needs != sizes:
         return None, needs
@@ -261,6 +326,9 @@ def plan(source, output, started_with, sizes):
         count = sum(each[0] == name for each in library_symbols)
         copies = [len(own) + i for i in copied if library_symbols[i][0] == name]
         files.append({"role": "dynamic", "first_symbol": at, "symbol_count": count, "lib_name": name.encode().hex(), **({"copies": copies} if copies else {})})
+        if name in version_needs:
+            last = name == list(version_needs)[-1]
+            files[-1]["verneed"] = {"last": last, "versions": [{"name": version.encode().hex(), "index": i} for version, i in version_needs[name]]}
         at += count
     start = next((s for s in symbols if bytes.fromhex(s["name"]) == b"_start"), None)
     return {
@@ -276,7 +344,12 @@ def plan(source, output, started_with, sizes):
         **({"tlsld": got_at} if pair else {}),
         "symbols": symbols,
         "groups": [{"files": files + [{"role": "epilogue"}], "part_sizes": [p["size"] for p in t.parts]}],
-        "dynsyms": [{"symbol": i, "name": name.encode().hex()} for i, name in listed],
+        "dynsyms": [{"symbol": i, "name": name.encode().hex(), **({"version": output["version_of"][name]} if names else {})} for i, name in listed],
+        **({
+            "sysv_hash": {"buckets": BUCKETS},
+            "gnu_hash": {"buckets": BUCKETS, "bloom_count": 1, "bloom_shift": 6, "base": 1 + len(undefined)},
+            "verdefs": [{"name": name.encode().hex(), **({"parent": parent} if parent else {})} for name, parent in names],
+        } if names else {}),
         **({"entry": {"address": start["resolution"]["raw_value"]}} if start else {}),
     }, needs
 
