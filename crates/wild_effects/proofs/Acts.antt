@@ -3,7 +3,9 @@ use Rattle.std.proofs.Common.{◌≡◌, ℕ, suc, ◌+◌, Bool, true, false, L
 use Rattle.std.specs.Prelude.{◌&&◌, ◌==◌, nat_le, bit_and, Some}
 use Rattle.std.proofs.lemmas.Bool.Decides.{nat_tests}
 use Rattle.wild_meaning.specs.Instruction.{Cell, Is, From, Slot, Digit, Any, fits, stands, Template, Number, Word, Set, Add, Subtract, Compare, Call, Jump}
-use Rattle.wild_meaning.specs.InstructionX86_64.{meaning_x86_64, bare, rex, rex2, branch, with_slot, descriptor_call, general_call, general_slot_call, far_pair_call, local_call, local_slot_call}
+use Rattle.wild_meaning.specs.CodeX86_64.{bare, rex, rex2, branch, with_slot}
+use Rattle.wild_meaning.specs.ThreadCodeX86_64.{general_call, general_slot_call, far_pair_call, local_call, local_slot_call}
+use Rattle.wild_meaning.specs.InstructionX86_64.{meaning_x86_64, descriptor_call}
 
 -- ---- bytes spelled by cells
 

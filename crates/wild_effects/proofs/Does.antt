@@ -17,7 +17,9 @@ use Rattle.wild_loader.specs.declared.memory.Memory.{Memory}
 use Rattle.wild_loader.specs.Memory.{Holds, byte_in}
 use Rattle.wild_records.specs.Abi.Relocation.{r_x86_64_none, r_x86_64_pc32, r_x86_64_plt32, r_x86_64_gotpcrel, r_x86_64_gotpcrelx, r_x86_64_rex_gotpcrelx, r_x86_64_code_4_gotpcrelx, r_x86_64_gottpoff, r_x86_64_code_4_gottpoff, r_x86_64_gotpc32_tlsdesc, r_x86_64_code_4_gotpc32_tlsdesc, r_x86_64_tlsdesc_call, r_x86_64_tlsgd, r_x86_64_tlsld}
 use Rattle.wild_meaning.specs.Instruction.{Operand, Number, Word, Pair, Set, Add, Subtract, Compare, Call, Jump, signed_32, signed_at, sum_64}
-use Rattle.wild_meaning.specs.InstructionX86_64.{bare, rex, rex2, branch, with_slot, descriptor_call, general_call, general_slot_call, far_pair_call, local_call, local_slot_call}
+use Rattle.wild_meaning.specs.CodeX86_64.{bare, rex, rex2, branch, with_slot}
+use Rattle.wild_meaning.specs.ThreadCodeX86_64.{general_call, general_slot_call, far_pair_call, local_call, local_slot_call}
+use Rattle.wild_meaning.specs.InstructionX86_64.{descriptor_call}
 use Rattle.wild_meaning.specs.Sequence.{Sort, Target, TargetInSlot, AddressInSlot, OffsetInSlot, SymbolPair, OwnPair, Described, DescribedCall, Instruction, Partner, size_of, IsBesidePartner, IsOwnByte, of_field, of_sequence, by_call, by_slot, by_distance, instructions_of}
 use Rattle.wild_meaning.specs.Item.{Item, place_at}
 use Rattle.wild_meaning.specs.Field.{formula_of, form_width, FieldReads, IsInputByte}

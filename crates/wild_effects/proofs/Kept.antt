@@ -26,7 +26,8 @@ use Rattle.wild_reloc.proofs.PlaceLemmas.{length-size_written}
 use Rattle.wild_relax.specs.declared.pattern.Cell.TheVariants as its
 use Rattle.wild_relax.specs.declared.row.Row.{Row}
 use Rattle.wild_relax.specs.Pattern.{cells_of, field_of}
-use Rattle.wild_relax.specs.Rows.{rows_x86_64, number_of, partner_distance, call_form}
+use Rattle.wild_relax.specs.RowSequences.{partner_distance, call_form}
+use Rattle.wild_relax.specs.Rows.{rows_x86_64, number_of}
 use Rattle.wild_relax.specs.Linked.{pattern_of, pattern_size, keeps_bytes}
 use Rattle.wild_relax.specs.Section.{ChosenAreWhole}
 use Rattle.wild_layout.specs.declared.decision.Decision.{Decision}

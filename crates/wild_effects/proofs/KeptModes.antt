@@ -27,7 +27,8 @@ use Rattle.wild_relax.specs.declared.pattern.Pattern.TheVariants as pattern
 use Rattle.wild_relax.specs.declared.row.Row.{Row}
 use Rattle.wild_relax.specs.declared.row.Row.TheVariants.{IfuncThroughStub, RexGotToImmediate, RexGotMovToLea, GotMovToImmediate, GotMovToLea, IndirectCallToDirect, IndirectJumpToDirect, PlainGotMovToLea, InitialExecToLocalExec, Plt32ToPc32, PltOffToGotOff, GeneralDynamicToLocalExec, GeneralDynamicToInitialExec, LocalDynamicToLocalExec, DescriptorLea, DescriptorCall}
 use Rattle.wild_relax.specs.Question.{Question}
-use Rattle.wild_relax.specs.Rows.{number_of, is_mandatory, takes_section, is_thread_local}
+use Rattle.wild_relax.specs.RowSymbols.{takes_section, is_thread_local}
+use Rattle.wild_relax.specs.Rows.{number_of, is_mandatory}
 use Rattle.wild_relax.specs.Linked.{keeps_bytes}
 use Rattle.wild_layout.specs.declared.decision.Decision.{Decision}
 use Rattle.wild_layout.specs.declared.decision.Decision.TheVariants.{Rewritten}

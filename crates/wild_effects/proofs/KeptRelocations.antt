@@ -15,7 +15,8 @@ use Rattle.wild_relax.specs.First.{first_standing, checked}
 use Rattle.wild_relax.specs.Question.{Question}
 use Rattle.wild_relax.specs.Rewrite.{is_skip}
 use Rattle.wild_relax.specs.RewriteX86_64.{rewrite_of}
-use Rattle.wild_relax.specs.Rows.{rows_x86_64, applies, has_its_sequence, unknown_sequence, standing_x86_64, chosen_x86_64}
+use Rattle.wild_relax.specs.RowSequences.{has_its_sequence}
+use Rattle.wild_relax.specs.Rows.{rows_x86_64, applies, unknown_sequence, standing_x86_64, chosen_x86_64}
 use Rattle.wild_relax.specs.Linked.{keeps_bytes}
 use Rattle.wild_relax.specs.Relaxation.{chosen_of}
 use Rattle.wild_layout.specs.declared.decision.Decision.{Decision}

@@ -17,7 +17,9 @@ use Rattle.wild_relax.specs.declared.pattern.Pattern.TheVariants as pattern
 use Rattle.wild_relax.specs.declared.row.Row.{Row}
 use Rattle.wild_relax.specs.Pattern.{cells_of, field_of}
 use Rattle.wild_relax.specs.Pattern as pattern_fits
-use Rattle.wild_relax.specs.Rows.{rows_x86_64, number_of, is_thread_local, partner_distance, call_form}
+use Rattle.wild_relax.specs.RowSymbols.{is_thread_local}
+use Rattle.wild_relax.specs.RowSequences.{partner_distance, call_form}
+use Rattle.wild_relax.specs.Rows.{rows_x86_64, number_of}
 use Rattle.wild_relax.specs.Rewrite.{is_skip}
 use Rattle.wild_relax.specs.RewriteX86_64.{rewrite_of}
 use Rattle.wild_relax.specs.Linked.{pattern_of, pattern_size, keeps_bytes}

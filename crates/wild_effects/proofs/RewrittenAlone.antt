@@ -15,7 +15,7 @@ use Rattle.wild_reloc.specs.FormulaX86_64.{x86_64_formula}
 use Rattle.wild_relax.specs.declared.row.Row.{Row}
 use Rattle.wild_relax.specs.Question.{minus_four}
 use Rattle.wild_relax.specs.Pattern.{field_of}
-use Rattle.wild_relax.specs.Rows.{partner_distance, call_form, is_call_number, is_partner, is_partner_at, has_partner}
+use Rattle.wild_relax.specs.RowSequences.{partner_distance, call_form, is_call_number, is_partner, is_partner_at, has_partner}
 use Rattle.wild_relax.specs.Rewrite.{is_skip}
 use Rattle.wild_relax.specs.RewriteX86_64.{rewrite_of}
 use Rattle.wild_relax.specs.Linked.{pattern_of, pattern_size}

@@ -27,7 +27,7 @@ use Rattle.wild_relax.specs.Rows.{applies}
 use Rattle.wild_layout.specs.Choice.{question_of}
 use Rattle.wild_meaning.specs.Section.{IsSet}
 use Rattle.wild_meaning.specs.Instruction as judge
-use Rattle.wild_meaning.specs.InstructionX86_64.{general_slot_call, local_slot_call}
+use Rattle.wild_meaning.specs.ThreadCodeX86_64.{general_slot_call, local_slot_call}
 use Rattle.wild_meaning.specs.Sequence.{Partner, Instruction, instructions_of}
 use Rattle.wild_effects.proofs.RewrittenForms.{both, instruction_of}
 use Rattle.wild_effects.proofs.RewrittenSingles.{has_number}

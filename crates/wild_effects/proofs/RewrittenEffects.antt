@@ -22,7 +22,8 @@ use Rattle.wild_loader.specs.declared.memory.Memory.{Memory}
 use Rattle.wild_loader.specs.declared.world.World.{World}
 use Rattle.wild_meaning.specs.Item.{item_of, place_at}
 use Rattle.wild_meaning.specs.Instruction.{Template, Action, Effect, stands, fills, meaning, with_value, as_value, Reader}
-use Rattle.wild_meaning.specs.InstructionX86_64.{nop_byte, templates_x86_64, meaning_x86_64, effect_x86_64, demand_x86_64}
+use Rattle.wild_meaning.specs.ThreadCodeX86_64.{nop_byte}
+use Rattle.wild_meaning.specs.InstructionX86_64.{templates_x86_64, meaning_x86_64, effect_x86_64, demand_x86_64}
 use Rattle.wild_meaning.specs.Sequence.{size_of}
 use Rattle.wild_meaning.specs.Template.{reads_alone, effect_of, Demands, IsDemanded, old_bytes, DoesDemanded}
 use Rattle.wild_values.specs.Laws.{IsLoadedSection}

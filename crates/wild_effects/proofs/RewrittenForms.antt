@@ -19,7 +19,9 @@ use Rattle.wild_relax.specs.Rows.{number_of}
 use Rattle.wild_relax.specs.Linked.{pattern_of, IsChanging}
 use Rattle.wild_meaning.specs.Instruction as judge
 use Rattle.wild_meaning.specs.Instruction.{Number, Word, Set, Add, Subtract, Compare, Call, Jump, Template}
-use Rattle.wild_meaning.specs.InstructionX86_64.{Prefix, bare, rex, rex2, with_slot, branch, descriptor_call, general_call, general_slot_call, far_pair_call, local_call, local_slot_call, templates_x86_64}
+use Rattle.wild_meaning.specs.CodeX86_64.{Prefix, bare, rex, rex2, with_slot, branch}
+use Rattle.wild_meaning.specs.ThreadCodeX86_64.{general_call, general_slot_call, far_pair_call, local_call, local_slot_call}
+use Rattle.wild_meaning.specs.InstructionX86_64.{descriptor_call, templates_x86_64}
 use Rattle.wild_meaning.specs.Sequence.{Instruction, TargetInSlot, AddressInSlot, OffsetInSlot, SymbolPair, OwnPair, Described, DescribedCall, of_field, of_sequence, by_call, by_slot, by_distance, instructions_of}
 
 -- ---- cells

@@ -15,7 +15,8 @@ use Rattle.wild_relax.specs.declared.pattern.GeneralForm.TheVariants as general
 use Rattle.wild_relax.specs.declared.row.Row.{Row}
 use Rattle.wild_relax.specs.Question.{Question}
 use Rattle.wild_relax.specs.First.{first_standing}
-use Rattle.wild_relax.specs.Rows.{rows_x86_64, number_of, is_call_number, call_form, applies, has_its_sequence, unknown_sequence, standing_x86_64, chosen_x86_64}
+use Rattle.wild_relax.specs.RowSequences.{is_call_number, call_form, has_its_sequence}
+use Rattle.wild_relax.specs.Rows.{rows_x86_64, number_of, applies, unknown_sequence, standing_x86_64, chosen_x86_64}
 use Rattle.wild_relax.specs.Rewrite.{is_skip}
 use Rattle.wild_relax.specs.RewriteX86_64.{rewrite_of}
 use Rattle.wild_layout.specs.Choice.{question_of, choice_of, is_partner}

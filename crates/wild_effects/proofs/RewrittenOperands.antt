@@ -24,7 +24,8 @@ use Rattle.wild_layout.specs.Sites.{template_start}
 use Rattle.wild_loader.specs.declared.memory.Memory.{Memory}
 use Rattle.wild_loader.specs.declared.world.World.{World}
 use Rattle.wild_meaning.specs.World.{IsMovable}
-use Rattle.wild_meaning.specs.Value.{IsAbsolute, Denotes}
+use Rattle.wild_meaning.specs.Value.{IsAbsolute}
+use Rattle.wild_meaning.specs.Denotes.{Denotes}
 use Rattle.wild_meaning.specs.Item.{item_of, place_at}
 use Rattle.wild_meaning.specs.Formula.{IsTarget, IsGoal}
 use Rattle.wild_values.specs.Laws.{IsLoadedSection}

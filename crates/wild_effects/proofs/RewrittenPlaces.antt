@@ -15,7 +15,8 @@ use Rattle.wild_relax.specs.declared.row.Row.{Row}
 use Rattle.wild_relax.specs.declared.row.Row.TheVariants.{IfuncThroughStub}
 use Rattle.wild_relax.specs.Question.{Question, minus_four}
 use Rattle.wild_relax.specs.Pattern.{cells_of}
-use Rattle.wild_relax.specs.Rows.{rows_x86_64, takes_section}
+use Rattle.wild_relax.specs.RowSymbols.{takes_section}
+use Rattle.wild_relax.specs.Rows.{rows_x86_64}
 use Rattle.wild_relax.specs.Linked.{pattern_of, pattern_size, IsChanging}
 use Rattle.wild_relax.specs.Keep.{RowsKeep, IsWhole}
 use Rattle.wild_relax.specs.Section.{IsStanding, ChosenStand, ChosenAreWhole}

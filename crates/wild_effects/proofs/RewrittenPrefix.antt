@@ -21,7 +21,7 @@ use Rattle.wild_meaning.specs.Item.{item_of}
 use Rattle.wild_meaning.specs.Field.{formula_of, form_width, InNoField}
 use Rattle.wild_meaning.specs.Instruction as judge
 use Rattle.wild_meaning.specs.Instruction.{Word, Set}
-use Rattle.wild_meaning.specs.InstructionX86_64.{rex2, with_slot}
+use Rattle.wild_meaning.specs.CodeX86_64.{rex2, with_slot}
 use Rattle.wild_meaning.specs.Sequence.{AddressInSlot, Instruction, IsOwnByte, of_field, instructions_of}
 use Rattle.wild_meaning.specs.Template.{IsInstruction, IsSingle}
 use Rattle.wild_effects.specs.Laws.{IsBesideField, WindowsAreAlone}

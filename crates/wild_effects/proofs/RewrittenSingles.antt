@@ -15,7 +15,9 @@ use Rattle.wild_relax.specs.declared.pattern.LocalForm.TheVariants as local
 use Rattle.wild_relax.specs.declared.row.Row.{Row}
 use Rattle.wild_relax.specs.declared.row.Row.TheVariants.{IfuncThroughStub, RexGotToImmediate, RexGotMovToLea, GotMovToImmediate, GotMovToLea, IndirectCallToDirect, IndirectJumpToDirect, PlainGotMovToLea, InitialExecToLocalExec, Plt32ToPc32, PltOffToGotOff, GeneralDynamicToLocalExec, GeneralDynamicToInitialExec, LocalDynamicToLocalExec, DescriptorLea, DescriptorCall}
 use Rattle.wild_relax.specs.Question.{minus_four}
-use Rattle.wild_relax.specs.Rows.{number_of, counts_from_its_end, needs_its_end}
+use Rattle.wild_relax.specs.RowPatterns.{counts_from_its_end}
+use Rattle.wild_relax.specs.RowSequences.{needs_its_end}
+use Rattle.wild_relax.specs.Rows.{number_of}
 use Rattle.wild_relax.specs.Rewrite.{is_skip}
 use Rattle.wild_relax.specs.RewriteX86_64.{rewrite_of}
 use Rattle.wild_relax.specs.Linked.{IsChanging}

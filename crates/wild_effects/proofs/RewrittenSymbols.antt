@@ -18,13 +18,14 @@ use Rattle.wild_plan.specs.Lists.{first_failing}
 use Rattle.wild_plan.specs.Lookups.{canonical}
 use Rattle.wild_plan.specs.SlotFlags.{dynamic_is_interposable}
 use Rattle.wild_plan.specs.Treatment.{flags_at}
-use Rattle.wild_plan.specs.WellFormed.{fails, first_error, check_slot_flags}
+use Rattle.wild_plan.specs.ClauseTests.{fails, first_error, check_slot_flags}
 use Rattle.wild_layout.specs.Geometry.{DefinitionNames}
 use Rattle.wild_layout.specs.Numbers.{SymbolNumbers}
 use Rattle.wild_loader.specs.declared.memory.Memory.{Memory}
 use Rattle.wild_loader.specs.declared.world.World.{World}
 use Rattle.wild_loader.specs.declared.world.Answer.{Answer}
-use Rattle.wild_meaning.specs.Value.{IsSymbol, IsDefinedBy, IsResolved, IsUnresolved, StandsAt, HasRaw, HasFlag, IsValue, HasOwnValue, is_library, IsReplaceable, HasAnswer, Denotes, moved}
+use Rattle.wild_meaning.specs.Value.{IsSymbol, IsDefinedBy, IsResolved, IsUnresolved, StandsAt, HasRaw, HasFlag, IsValue, HasOwnValue, is_library, IsReplaceable, HasAnswer, moved}
+use Rattle.wild_meaning.specs.Denotes.{Denotes}
 use Rattle.wild_meaning.specs.World.{IsFixed, IsMovable, IsLoadable, IsExecutable, IsAnswer}
 use Rattle.wild_values.specs.Laws.{IsLoadedSection}
 use Rattle.wild_values.specs.Terms.{IsPlaced}

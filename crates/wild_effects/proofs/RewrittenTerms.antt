@@ -35,8 +35,10 @@ use Rattle.wild_relax.specs.Rows.{rows_x86_64}
 use Rattle.wild_relax.specs.RewriteX86_64.{rewrite_of}
 use Rattle.wild_relax.specs.Linked.{pattern_of, keeps_bytes, field_in}
 use Rattle.wild_layout.specs.Decide.{field_at, term_to}
-use Rattle.wild_layout.specs.Values.{term_of, value_by, place_of}
-use Rattle.wild_layout.specs.Geometry.{SectionLies, NamesSymbol, EachSection}
+use Rattle.wild_layout.specs.SymbolValues.{place_of}
+use Rattle.wild_layout.specs.Values.{term_of, value_by}
+use Rattle.wild_layout.specs.SectionPlaces.{SectionLies}
+use Rattle.wild_layout.specs.Geometry.{NamesSymbol, EachSection}
 use Rattle.wild_layout.specs.Sites.{template_start}
 use Rattle.wild_layout.proofs.ChoiceLemmas.{LiesInItsPattern, chosen_lies, chosen_listed}
 use Rattle.wild_loader.specs.declared.memory.Memory.{Memory}

@@ -24,8 +24,9 @@ use Rattle.wild_reloc.proofs.TableLemmas.{entry_passes}
 use Rattle.wild_relax.specs.declared.reference.RelocationInfo.{RelocationInfo}
 use Rattle.wild_relax.specs.declared.row.Row.{Row}
 use Rattle.wild_relax.specs.Pattern.{field_of}
-use Rattle.wild_relax.specs.Rows.{applies, has_its_sequence, number_of, partner_distance, call_form, is_call_number, is_partner_at}
-use Rattle.wild_relax.specs.Rows as rows
+use Rattle.wild_relax.specs.RowSequences.{has_its_sequence, partner_distance, call_form, is_call_number, is_partner_at}
+use Rattle.wild_relax.specs.Rows.{applies, number_of}
+use Rattle.wild_relax.specs.RowSequences as rows
 use Rattle.wild_relax.specs.Linked.{pattern_of, pattern_size}
 use Rattle.wild_layout.specs.declared.decision.Decision.{Decision}
 use Rattle.wild_layout.specs.declared.decision.Decision.TheVariants.{Nothing, Field, Moved, Left, Rewritten, Partner}

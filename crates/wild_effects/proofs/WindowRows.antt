@@ -13,7 +13,10 @@ use Rattle.wild_relax.specs.declared.row.Row.{Row}
 use Rattle.wild_relax.specs.First.{first_standing, checked}
 use Rattle.wild_relax.specs.Question.{Question, relocation_of, minus_four}
 use Rattle.wild_relax.specs.Pattern.{field_of, stands, stands_before}
-use Rattle.wild_relax.specs.Rows.{rows_x86_64, number_of, always_pattern, counts_from_its_end, is_thread_local, takes_value, takes_symbol, takes_section, is_mandatory, stands_anywhere, applies, partner_distance, call_form, is_call_number, has_partner, has_its_sequence, standing_x86_64, unknown_sequence, chosen_x86_64}
+use Rattle.wild_relax.specs.RowPatterns.{always_pattern, counts_from_its_end}
+use Rattle.wild_relax.specs.RowSymbols.{is_thread_local, takes_value, takes_symbol, takes_section}
+use Rattle.wild_relax.specs.RowSequences.{partner_distance, call_form, is_call_number, has_partner, has_its_sequence}
+use Rattle.wild_relax.specs.Rows.{rows_x86_64, number_of, is_mandatory, stands_anywhere, applies, standing_x86_64, unknown_sequence, chosen_x86_64}
 use Rattle.wild_relax.specs.Rewrite.{is_skip}
 use Rattle.wild_relax.specs.RewriteX86_64.{rewrite_of}
 use Rattle.wild_relax.specs.Linked.{pattern_of, pattern_size, keeps_bytes}

@@ -15,7 +15,8 @@ use Rattle.wild_plan.specs.SlotShares.{word_size}
 use Rattle.wild_plan.specs.SlotPlaces.{start_of}
 use Rattle.wild_layout.specs.Numbers.{NumbersFit}
 use Rattle.wild_layout.specs.Faults.{flat_map_from, group_errors}
-use Rattle.wild_layout.specs.Geometry.{IsLaidOut, SectionLies}
+use Rattle.wild_layout.specs.SectionPlaces.{SectionLies}
+use Rattle.wild_layout.specs.Geometry.{IsLaidOut}
 use Rattle.wild_relr.specs.Packed.{FlatIsARun}
 use Rattle.wild_tables.specs.Laws.{PlacesAreLoaded}
 use Rattle.wild_loader.specs.Places.{places}

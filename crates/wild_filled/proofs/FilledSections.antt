@@ -13,7 +13,8 @@ use Rattle.wild_plan.specs.declared.file.File.{File}
 use Rattle.wild_plan.specs.declared.layout.Layout.{Layout}
 use Rattle.wild_plan.specs.Lookups.{is_loaded, is_read}
 use Rattle.wild_layout.specs.Sites.{field_site, site}
-use Rattle.wild_layout.specs.Geometry.{IsLaidOut, FieldLies}
+use Rattle.wild_layout.specs.SectionPlaces.{FieldLies}
+use Rattle.wild_layout.specs.Geometry.{IsLaidOut}
 use Rattle.wild_layout.proofs.DecideLemmas.{field_has_bytes}
 use Rattle.wild_layout.proofs.SiteLemmas.{All-at, site_written, length-field_site, field_lies}
 use Rattle.wild_meaning.specs.Item.{IsInput, IsKeptSection}

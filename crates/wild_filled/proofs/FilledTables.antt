@@ -23,7 +23,8 @@ use Rattle.wild_loader.specs.Changes.{kind_of, change_of, size_of, bytes_after, 
 use Rattle.wild_loader.specs.Memory.{Holds, number_in}
 use Rattle.wild_loader.specs.Places.{places}
 use Rattle.wild_loader.specs.Relocate.{loaded_at, rela_patch, place_patch, runs_of_patches}
-use Rattle.wild_loader.specs.Laws.{IsApart, IsElsewhere, NumbersAreRead}
+use Rattle.wild_loader.specs.SegmentLaws.{IsApart, IsElsewhere}
+use Rattle.wild_loader.specs.Laws.{NumbersAreRead}
 use Rattle.wild_loader.specs.EntryLaws.{PlacesAreMoved, EntriesMakeChanges, OrderIsFree, HasMade, patches_of}
 use Rattle.wild_loaded.proofs.SlotSites.{flat_map-same}
 use Rattle.wild_filled.specs.Words.{number_or, value_at, place_change, patch_or, entry_change}

@@ -7,7 +7,8 @@ use Rattle.wild_records.specs.Abi.Segment.{pt_load}
 use Rattle.wild_plan.specs.declared.section.Segment.{Segment}
 use Rattle.wild_plan.specs.declared.layout.Layout.{Layout}
 use Rattle.wild_plan.specs.Lookups.{image_size}
-use Rattle.wild_layout.specs.Geometry.{IsLaidOut, SegmentLoads, Ascends}
+use Rattle.wild_layout.specs.Loadable.{SegmentLoads, Ascends}
+use Rattle.wild_layout.specs.Geometry.{IsLaidOut}
 use Rattle.wild_meaning.specs.World.{IsBehind}
 use Rattle.wild_loaded.specs.Stored.{CarriesByte}
 use Rattle.wild_filled.proofs.Fillings.{Filling, Misses, AreBeside}

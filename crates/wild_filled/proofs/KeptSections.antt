@@ -12,7 +12,8 @@ use Rattle.wild_plan.specs.declared.file.File.{File}
 use Rattle.wild_plan.specs.declared.file.Group.{Group}
 use Rattle.wild_plan.specs.declared.layout.Layout.{Layout}
 use Rattle.wild_plan.specs.Lookups.{bit, allocated, is_loaded, is_read}
-use Rattle.wild_layout.specs.Geometry.{IsLaidOut, SectionLies, EachSection}
+use Rattle.wild_layout.specs.SectionPlaces.{SectionLies}
+use Rattle.wild_layout.specs.Geometry.{IsLaidOut, EachSection}
 use Rattle.wild_geometry.specs.Loaded.{IsDecided}
 use Rattle.wild_loaded.specs.Memory.{EachDecided}
 use Rattle.wild_meaning.specs.Section.{IsSet}

@@ -27,7 +27,7 @@ use Rattle.wild_layout.specs.Moved.{file_words}
 use Rattle.wild_layout.specs.SlotBytes.{flat_places_of}
 use Rattle.wild_loader.specs.Places.{places}
 use Rattle.wild_loader.specs.declared.memory.Run.{Run}
-use Rattle.wild_loader.specs.Laws.{IsApart}
+use Rattle.wild_loader.specs.SegmentLaws.{IsApart}
 use Rattle.wild_loader.specs.EntryLaws.{OrderIsFree}
 use Rattle.wild_loader.proofs.Overlaid.{elsewhere}
 use Rattle.wild_tables.specs.Laws.{PlacesAreLoaded}

@@ -24,7 +24,8 @@ use Rattle.wild_reloc.specs.declared.info.RelocationSize.TheVariants.{ByteSize}
 use Rattle.wild_reloc.specs.declared.info.Width.TheVariants.{Eight}
 use Rattle.wild_layout.specs.declared.decision.Decision.{Decision}
 use Rattle.wild_layout.specs.declared.decision.Decision.TheVariants.{Moved, Left}
-use Rattle.wild_layout.specs.Values.{sum, decided_address, address_of, index_of}
+use Rattle.wild_layout.specs.SymbolValues.{sum}
+use Rattle.wild_layout.specs.SlotValues.{decided_address, address_of, index_of}
 use Rattle.wild_layout.specs.Decide.{added, moved_to, left_to, chosen_to, decide_by, decided, decide}
 use Rattle.wild_layout.specs.Left.{entry_for, left_by, left_entry, section_generals}
 use Rattle.wild_layout.specs.Moved.{moved_value, listed_entry, section_entries}

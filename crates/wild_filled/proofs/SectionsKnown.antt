@@ -34,7 +34,7 @@ use Rattle.wild_loader.specs.declared.world.World.{World}
 use Rattle.wild_loader.specs.Changes.{kind_of, change_of, size_of}
 use Rattle.wild_loader.specs.Memory.{Holds}
 use Rattle.wild_loader.specs.Relocate.{loaded_at}
-use Rattle.wild_loader.specs.EntryLaws.{RelativesStoreWords}
+use Rattle.wild_loader.specs.FilledLaws.{RelativesStoreWords}
 use Rattle.wild_geometry.specs.Loaded.{HasDecision, number_at, entry_with, MakesChange, stored_bytes, HasSection, InFile}
 use Rattle.wild_loaded.specs.Memory.{image_memory, EachDecided}
 use Rattle.wild_loaded.specs.Stored.{FillsField}

@@ -14,7 +14,8 @@ use Rattle.wild_plan.specs.Places.{role_place, has_role, is_loaded_role}
 use Rattle.wild_plan.specs.Segments.{part_with}
 use Rattle.wild_plan.specs.SlotPlaces.{address_of_part, start_of}
 use Rattle.wild_layout.specs.Image.{offset_in}
-use Rattle.wild_layout.specs.Geometry.{IsLaidOut, SectionLies, StandsIn, RangesApart}
+use Rattle.wild_layout.specs.SectionPlaces.{SectionLies, StandsIn, RangesApart}
+use Rattle.wild_layout.specs.Geometry.{IsLaidOut}
 use Rattle.wild_meaning.specs.World.{IsLoadable}
 use Rattle.wild_slots.specs.Order.{end_of}
 use Rattle.wild_slots.specs.Stand.{StandsAt}

@@ -8,7 +8,7 @@ use Rattle.wild_layout.specs.Faults.{flat_map_from, group_errors}
 use Rattle.wild_layout.specs.Geometry.{IsLaidOut}
 use Rattle.wild_loader.specs.declared.world.World.{World}
 use Rattle.wild_loader.specs.Relocate.{runs_of_patches}
-use Rattle.wild_loader.specs.Laws.{IsApart}
+use Rattle.wild_loader.specs.SegmentLaws.{IsApart}
 use Rattle.wild_loader.specs.EntryLaws.{HasMade, patches_of}
 use Rattle.wild_meaning.specs.World.{IsLoadable, IsLegal}
 use Rattle.wild_loaded.specs.Memory.{image_memory, EachDecided}

@@ -18,7 +18,7 @@ use Rattle.wild_plan.specs.Segments.{at_equal_distance, has_byte, has_file_bytes
 use Rattle.wild_plan.proofs.CoverLemmas.{all_below_each}
 use Rattle.wild_plan.specs.Contents.{bool_eq}
 use Rattle.wild_plan.specs.Indexes.{part_index_fits}
-use Rattle.wild_layout.specs.Geometry.{IsMapped, IsPartMapped}
+use Rattle.wild_layout.specs.Loadable.{IsMapped, IsPartMapped}
 use Rattle.wild_geometry.proofs.LaidLemmas.{Laid}
 use Rattle.wild_geometry.proofs.SectionLemmas.{Holds, Stood}
 use Rattle.wild_geometry.proofs.PieceLemmas.{place_is}

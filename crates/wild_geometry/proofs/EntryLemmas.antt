@@ -10,10 +10,11 @@ use Rattle.wild_plan.specs.declared.layout.Layout.{Layout}
 use Rattle.wild_plan.specs.Lists.{total}
 use Rattle.wild_plan.specs.Lookups.{allocated, kind_of, kind_at, is_allocated_section}
 use Rattle.wild_plan.specs.Places.{has_role, is_fixed_static, part_lies}
-use Rattle.wild_plan.specs.Segments.{part_with, is_entry_role, entry_parts, bytes_in, holds_entries, entries_astray, stands_in_entries}
-use Rattle.wild_plan.specs.WellFormed.{check_entries}
+use Rattle.wild_plan.specs.Segments.{part_with}
+use Rattle.wild_plan.specs.LoadedTables.{is_entry_role, entry_parts, bytes_in, holds_entries, entries_astray, stands_in_entries}
+use Rattle.wild_plan.specs.ClauseTests.{check_entries}
 use Rattle.wild_plan.proofs.ListLemmas.{All-from_none_fails}
-use Rattle.wild_layout.specs.Geometry.{EntriesLie, HasEntriesAlone}
+use Rattle.wild_layout.specs.Loadable.{EntriesLie, HasEntriesAlone}
 use Rattle.wild_geometry.proofs.ClauseLemmas.{Both-from_first_error, None-from_fails}
 use Rattle.wild_geometry.proofs.LaidLemmas.{Laid}
 use Rattle.wild_geometry.proofs.RoleLemmas.{FoundAt-from_find}

@@ -4,10 +4,12 @@ use Rattle.wild_plan.specs.declared.layout.Layout.{Layout}
 use Rattle.wild_plan.specs.Lists.{first_failing, unless}
 use Rattle.wild_plan.specs.Lookups.{files_of}
 use Rattle.wild_plan.specs.Places.{part_out_of_order}
-use Rattle.wild_plan.specs.Contents.{addresses, each_section, section_misplaced, length_fits, part_is_raw, allocation_agrees, bytes_take_room, fields_lie, start_places, no_starts, start_astray}
+use Rattle.wild_plan.specs.Contents.{addresses, each_section, section_misplaced, length_fits, part_is_raw, allocation_agrees, bytes_take_room, fields_lie}
+use Rattle.wild_plan.specs.GroupStarts.{start_places, no_starts, start_astray}
 use Rattle.wild_plan.specs.Indexes.{part_index_fits, symbol_misfit, group_indexes_fit, listed_misfit, entry_is_there, copied_again}
 use Rattle.wild_plan.specs.VersionTables.{parent_is_there}
-use Rattle.wild_plan.specs.WellFormed.{fails, check_inputs, check_indexes, check_fields, check_slots, check_dynsyms, check_slot_flags, check_starts, check_hashes, check_versions, first_clause}
+use Rattle.wild_plan.specs.ClauseTests.{fails, check_inputs, check_indexes, check_fields, check_slots, check_dynsyms, check_slot_flags, check_starts, check_hashes, check_versions}
+use Rattle.wild_plan.specs.WellFormed.{first_clause}
 use Rattle.wild_plan.proofs.ListLemmas.{All-from_none_fails}
 use Rattle.wild_layout.specs.Faults.{flat_map_from, part_errors}
 use Rattle.wild_geometry.proofs.ClauseLemmas.{Both-from_first_error, None-from_fails, NoneFails-from_first_clause, SizesFit, SizesFit-from_check, CountsFit, CountsFit-from_check, OrderHolds-from_check, RolesHold, RolesHold-from_check, PartsLie, PartsLie-from_check, SegmentsHold, SegmentsHold-from_check, SharesHold, SharesHold-from_check}

@@ -14,7 +14,7 @@ use Rattle.wild_plan.specs.Contents.{file_misplaced}
 use Rattle.wild_plan.specs.DynamicStrings.{needed_entries}
 use Rattle.wild_tables.specs.Dynamic.{entries_bytes, dynamic_bytes}
 use Rattle.wild_layout.specs.Content.{dynamic_room, content}
-use Rattle.wild_layout.specs.Geometry.{table_bytes, all_needed}
+use Rattle.wild_layout.specs.TablePlaces.{table_bytes, all_needed}
 use Rattle.wild_geometry.proofs.ContentLemmas.{dynamic_content}
 use Rattle.wild_geometry.proofs.LastGroupLemmas.{has_last, has_last-group}
 

@@ -12,8 +12,9 @@ use Rattle.wild_plan.specs.declared.section.Segment.{Segment}
 use Rattle.wild_plan.specs.declared.layout.Layout.{Layout}
 use Rattle.wild_plan.specs.Kinds.{needs_dynamic}
 use Rattle.wild_plan.specs.Places.{role_place, has_role, is_fixed_static, within}
-use Rattle.wild_plan.specs.Segments.{is_segment_of, dynamic_astray, part_with, begins_behind, entries_follow, rest_of_table, is_table_role, is_look_up_role, has_hashes, is_asked_whole, carries_part, carries_rest, carries_table, table_is_loaded}
-use Rattle.wild_layout.specs.Geometry.{IsStatic, HasSegment, IsCarriedWhole, BeginsBehind, AreCarriedTogether}
+use Rattle.wild_plan.specs.Segments.{is_segment_of, dynamic_astray, part_with}
+use Rattle.wild_plan.specs.LoadedTables.{begins_behind, entries_follow, rest_of_table, is_table_role, is_look_up_role, has_hashes, is_asked_whole, carries_part, carries_rest, carries_table, table_is_loaded}
+use Rattle.wild_layout.specs.Loadable.{IsStatic, HasSegment, IsCarriedWhole, BeginsBehind, AreCarriedTogether}
 use Rattle.wild_geometry.proofs.LaidLemmas.{Laid}
 use Rattle.wild_geometry.proofs.CarriedLemmas.{implied, other}
 use Rattle.wild_geometry.proofs.RoleLemmas.{FoundAt-from_find, nil_from_length, no_count, nothing_shared}

@@ -23,7 +23,7 @@ use Rattle.wild_tables.proofs.DynamicLemmas.{lengths}
 use Rattle.wild_plan.specs.Places.{role_place, has_role}
 use Rattle.wild_plan.specs.Segments.{part_with}
 use Rattle.wild_layout.specs.Content.{room_behind, dynamic_room, content}
-use Rattle.wild_layout.specs.Geometry.{table_bytes, bytes_before, TableLies, HasTable}
+use Rattle.wild_layout.specs.TablePlaces.{table_bytes, bytes_before, TableLies, HasTable}
 use Rattle.wild_layout.specs.Image.{given_before, some_piece, table_piece, table_pieces, owned_pieces, group_pieces, pieces}
 use Rattle.wild_geometry.proofs.LaidLemmas.{Laid}
 use Rattle.wild_geometry.proofs.InterleaveLemmas.{Contains-flat_map_from}

@@ -10,13 +10,14 @@ use Rattle.wild_plan.specs.declared.part.Role.TheVariants as role
 use Rattle.wild_plan.specs.declared.file.Group.{Group}
 use Rattle.wild_plan.specs.declared.layout.Layout.{Layout}
 use Rattle.wild_plan.specs.declared.clauses.starts.Starts.{Starts}
-use Rattle.wild_plan.specs.Contents.{given, given_at, place_with, start_places, no_starts, starts_behind, begins_at, start_astray}
+use Rattle.wild_plan.specs.Contents.{given}
+use Rattle.wild_plan.specs.GroupStarts.{given_at, place_with, start_places, no_starts, starts_behind, begins_at, start_astray}
 use Rattle.wild_plan.specs.Lists.{total}
 use Rattle.wild_plan.specs.Needs.{group_share}
 use Rattle.wild_plan.specs.Places.{role_place, has_role}
 use Rattle.wild_plan.specs.Segments.{part_with}
 use Rattle.wild_layout.specs.Content.{content}
-use Rattle.wild_layout.specs.Geometry.{bytes_before}
+use Rattle.wild_layout.specs.TablePlaces.{bytes_before}
 use Rattle.wild_geometry.proofs.ContentLemmas.{length-content}
 use Rattle.wild_geometry.proofs.LaidLemmas.{Laid}
 use Rattle.wild_geometry.proofs.RoleLemmas.{nothing_shared}

@@ -17,7 +17,7 @@ use Rattle.wild_plan.specs.Places.{role_place, has_role, takes_room, ends_low}
 use Rattle.wild_layout.specs.Content.{content}
 use Rattle.wild_layout.specs.Image.{some_piece, given_before, table_piece, table_pieces, owned_pieces, section_piece, pieces}
 use Rattle.wild_layout.specs.Faults.{flat_map_from}
-use Rattle.wild_layout.specs.Geometry.{PartLies}
+use Rattle.wild_layout.specs.SectionPlaces.{PartLies}
 use Rattle.wild_geometry.proofs.InterleaveLemmas.{All-flat_map_from, AllPairs-flat_map_from, All-both, AllPairs-both}
 use Rattle.wild_geometry.proofs.LaidLemmas.{Laid}
 use Rattle.wild_geometry.proofs.OrderLemmas.{Takes, EndsBy-image, Follows, PartsFollow-from_order}

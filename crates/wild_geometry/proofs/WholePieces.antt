@@ -14,7 +14,7 @@ use Rattle.wild_plan.specs.Places.{has_role}
 use Rattle.wild_headers.specs.Headers.{offset_of_role}
 use Rattle.wild_layout.specs.Content.{whole_bytes, content}
 use Rattle.wild_layout.specs.Image.{some_piece, given_before, table_piece, table_pieces, owned_pieces, group_pieces, pieces}
-use Rattle.wild_layout.specs.Geometry.{IsPiece, HasTables}
+use Rattle.wild_layout.specs.TablePlaces.{IsPiece, HasTables}
 use Rattle.wild_geometry.proofs.InterleaveLemmas.{Contains-flat_map_from}
 use Rattle.wild_geometry.proofs.LaidLemmas.{Laid}
 use Rattle.wild_geometry.proofs.OrderLemmas.{EndsBy-image}

@@ -13,7 +13,7 @@ use Rattle.wild_plan.specs.declared.layout.Layout.{Layout}
 use Rattle.wild_plan.specs.Lookups.{is_filled, is_loaded, is_read}
 use Rattle.wild_layout.specs.Sites.{section_bytes}
 use Rattle.wild_layout.specs.Image.{offset_in, section_piece}
-use Rattle.wild_layout.specs.Geometry.{SectionLies}
+use Rattle.wild_layout.specs.SectionPlaces.{SectionLies}
 use Rattle.wild_geometry.proofs.SiteLemmas.{length-section_bytes}
 use Rattle.wild_image.specs.Pieces.{section_owned, group_tables, group_sections, group_bytes}
 use Rattle.wild_image.specs.Append.{BeginsWith, GoesOn}

@@ -22,7 +22,7 @@ use Rattle.wild_relax.specs.Linked.{pattern_size}
 use Rattle.wild_layout.specs.Decide.{decide}
 use Rattle.wild_layout.specs.Sites.{Written, written_by, field_site, template_site, site_by, site_of, site, sites, extent_of, shared_byte, section_bytes}
 use Rattle.wild_layout.specs.Faults.{relocation_errors, at_section, overlap_errors, section_errors}
-use Rattle.wild_layout.specs.Geometry.{FieldLies}
+use Rattle.wild_layout.specs.SectionPlaces.{FieldLies}
 use Rattle.wild_layout.proofs.SiteLemmas.{length-field_site}
 use Rattle.wild_image.specs.Decided.{put_decision, WrittenLies, DecisionLies, reach_of, reach_behind, IsNext}
 use Rattle.wild_image.proofs.FaultLemmas.{Refuses-front}

@@ -15,7 +15,8 @@ use Rattle.wild_relax.specs.declared.row.Row.{Row}
 use Rattle.wild_relax.specs.declared.row.Row.TheVariants.{IfuncThroughStub, RexGotToImmediate, RexGotMovToLea, GotMovToImmediate, GotMovToLea, IndirectCallToDirect, IndirectJumpToDirect, PlainGotMovToLea, InitialExecToLocalExec, Plt32ToPc32, PltOffToGotOff, GeneralDynamicToLocalExec, GeneralDynamicToInitialExec, LocalDynamicToLocalExec, DescriptorLea, DescriptorCall}
 use Rattle.wild_relax.specs.Question.{Question, relocation_of}
 use Rattle.wild_relax.specs.First.{first_standing, checked}
-use Rattle.wild_relax.specs.Rows.{rows_x86_64, number_of, applies, has_its_sequence, unknown_sequence, standing_x86_64, chosen_x86_64}
+use Rattle.wild_relax.specs.RowSequences.{has_its_sequence}
+use Rattle.wild_relax.specs.Rows.{rows_x86_64, number_of, applies, unknown_sequence, standing_x86_64, chosen_x86_64}
 use Rattle.wild_relax.specs.Relaxation.{chosen_of}
 use Rattle.wild_layout.specs.Choice.{question_of, choice_by, choice_at, choice, takes_next, is_partner}
 use Rattle.wild_plan.specs.declared.fault.Fault.{Fault}

@@ -26,7 +26,7 @@ use Rattle.wild_layout.specs.Sites.{Written, written_by, field_site, template_si
 use Rattle.wild_plan.specs.Faults.{Refuses}
 use Rattle.wild_plan.specs.Lookups.{is_read}
 use Rattle.wild_layout.specs.Faults.{relocation_errors, at_section, overlap_errors, section_errors}
-use Rattle.wild_layout.specs.Geometry.{FieldLies}
+use Rattle.wild_layout.specs.SectionPlaces.{FieldLies}
 use Rattle.wild_layout.proofs.SiteLemmas.{length-field_site, sites_apart_in}
 use Rattle.wild_layout.proofs.FaultLemmas.{no_overlap}
 use Rattle.wild_image.specs.Decided.{decided_sites, written_extent, decided_extent, decided_extents, ascends, put_written, put_decision, DecisionLies, DecisionsLie, AreDecided}

@@ -17,7 +17,7 @@ use Rattle.wild_plan.specs.DynamicSymbols.{is_undefined_entry, places_where, und
 use Rattle.wild_plan.specs.HashShapes.{sysv_fits, gnu_fits, gnu_shape_fits}
 use Rattle.wild_plan.specs.Lists.{total, unless}
 use Rattle.wild_plan.specs.Lookups.{files_of}
-use Rattle.wild_plan.specs.WellFormed.{fails, first_error, check_hashes}
+use Rattle.wild_plan.specs.ClauseTests.{fails, first_error, check_hashes}
 use Rattle.wild_layout.specs.Geometry.{IsLaidOut}
 use Rattle.wild_image.specs.Hashes.{symbol_undefined, file_undefined, group_undefined, SysvStands, GnuStands}
 

@@ -20,7 +20,7 @@ use Rattle.wild_relax.proofs.TemplateLemmas.{length-template}
 use Rattle.wild_layout.specs.declared.decision.Decision.{Decision}
 use Rattle.wild_layout.specs.declared.decision.Decision.TheVariants.{Nothing, Field, Moved, Left, Rewritten, Partner}
 use Rattle.wild_layout.specs.Decide.{decide}
-use Rattle.wild_layout.specs.Geometry.{FieldLies}
+use Rattle.wild_layout.specs.SectionPlaces.{FieldLies}
 use Rattle.wild_layout.specs.Sites.{template_start, template_site}
 use Rattle.wild_layout.proofs.DecideLemmas.{decided_moved, decided_left, moved_has, left_has, field_ends}
 use Rattle.wild_layout.proofs.DecisionLemmas.{decide_moved, decide_left, decide_rewritten}

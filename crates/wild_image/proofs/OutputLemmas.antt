@@ -11,7 +11,8 @@ use Rattle.wild_plan.specs.Lists.{unless}
 use Rattle.wild_plan.specs.Places.{has_role, relocation_count}
 use Rattle.wild_plan.specs.Counts.{total_share, counts_fit}
 use Rattle.wild_plan.specs.VersionTables.{versions_fit}
-use Rattle.wild_plan.specs.WellFormed.{fails, first_error, first_clause, check_sizes, check_counts}
+use Rattle.wild_plan.specs.ClauseTests.{fails, first_error, check_sizes, check_counts}
+use Rattle.wild_plan.specs.WellFormed.{first_clause}
 use Rattle.wild_headers.specs.Headers.{section_of_role}
 use Rattle.wild_layout.specs.Image.{group_pieces, pieces, padding, bytes}
 use Rattle.wild_layout.specs.Faults.{clause_errors, flat_map_from, part_errors, group_errors, errors}

@@ -6,7 +6,7 @@ use Rattle.std.specs.Prelude.{◌≡◌, ℕ, ◌<◌, List, ◌++◌, length, s
 use Rattle.wild_plan.specs.declared.part.Part.{Part}
 use Rattle.wild_plan.specs.declared.layout.Layout.{Layout}
 use Rattle.wild_layout.specs.Image.{given_before}
-use Rattle.wild_layout.specs.Geometry.{PartLies}
+use Rattle.wild_layout.specs.SectionPlaces.{PartLies}
 
 -- the bytes begin with its own
 abbrev pub BeginsWith : List ℕ → List ℕ → Type 0

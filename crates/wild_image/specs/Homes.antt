@@ -11,7 +11,7 @@ use Rattle.wild_plan.specs.declared.layout.Layout.{Layout}
 use Rattle.wild_plan.specs.DynamicSymbols.{output_section}
 use Rattle.wild_plan.specs.Kinds.{needs_dynsym}
 use Rattle.wild_plan.specs.Lookups.{files_of}
-use Rattle.wild_symbols.specs.DynamicEntries.{role_of}
+use Rattle.wild_symbols.specs.DynamicFields.{role_of}
 use Rattle.wild_image.specs.declared.home.Home.{Home}
 use Rattle.wild_image.specs.Placed.{found}
 

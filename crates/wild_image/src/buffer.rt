@@ -5,7 +5,7 @@ ghost use Rattle.wild_plan.specs.declared.file.File.{File};
 ghost use Rattle.wild_plan.specs.declared.file.Group.{Group};
 ghost use Rattle.wild_plan.specs.Faults.{Answers};
 ghost use Rattle.wild_layout.specs.Faults.{flat_map_from, section_errors, file_errors, group_errors};
-ghost use Rattle.wild_layout.specs.Geometry.{SectionLies};
+ghost use Rattle.wild_layout.specs.SectionPlaces.{SectionLies};
 ghost use Rattle.wild_image.specs.Pieces.{section_owned, file_sections, group_sections, group_tables, group_bytes};
 ghost use Rattle.wild_image.specs.Steps.{NeedsFit};
 ghost use Rattle.wild_image.specs.Batches.{batch_errors, batch_bytes};

@@ -4,7 +4,8 @@ ghost use Rattle.std.specs.List.{flat_map};
 ghost use Rattle.wild_plan.specs.Entries.{copies_of};
 ghost use Rattle.wild_plan.specs.Faults.{Answers};
 ghost use Rattle.wild_layout.specs.Faults.{copy_fault, copy_errors, slot_errors};
-ghost use Rattle.wild_layout.specs.Values.{raw_address, index_of};
+ghost use Rattle.wild_layout.specs.SymbolValues.{raw_address};
+ghost use Rattle.wild_layout.specs.SlotValues.{index_of};
 
 use crate::indirect::index_of;
 use crate::place::InputPlace;

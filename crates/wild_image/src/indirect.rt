@@ -1,7 +1,8 @@
 //! Addresses of stubs and slots, by which relocations reach a symbol (x86-64 psABI, "Procedure Linkage Table", "Global
 //! Offset Table (GOT)").
 ghost use Rattle.std.specs.Prelude.{◌≡◌};
-ghost use Rattle.wild_layout.specs.Values.{address_or, resolution_of, index_of, decided_address, stub_of, is_chosen, stub_address, has_second_slot, behind_word, behind_pair, slot_among, slot_decided, slot_of, slot_address};
+ghost use Rattle.wild_layout.specs.SymbolValues.{address_or};
+ghost use Rattle.wild_layout.specs.SlotValues.{resolution_of, index_of, decided_address, stub_of, is_chosen, stub_address, has_second_slot, behind_word, behind_pair, slot_among, slot_decided, slot_of, slot_address};
 
 use wild_plan::{
     Fault, Layout, Missing, Resolution, SymbolIndex, ValueFlags, flags_at, has_thread_slot,

@@ -4,7 +4,7 @@ ghost use Rattle.wild_plan.specs.Faults.{Answers};
 ghost use Rattle.wild_plan.specs.Lookups.{is_read};
 ghost use Rattle.wild_layout.specs.Sites.{section_bytes};
 ghost use Rattle.wild_layout.specs.Faults.{section_errors};
-ghost use Rattle.wild_layout.specs.Geometry.{SectionLies};
+ghost use Rattle.wild_layout.specs.SectionPlaces.{SectionLies};
 
 use crate::place::InputPlace;
 use crate::section::write_data;

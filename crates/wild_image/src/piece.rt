@@ -5,7 +5,7 @@ ghost use Rattle.wild_plan.specs.Faults.{Answers};
 ghost use Rattle.wild_plan.specs.Lookups.{section_of};
 ghost use Rattle.wild_plan.specs.WellFormed.{first_clause};
 ghost use Rattle.wild_layout.specs.Faults.{flat_map_from, part_errors, group_errors};
-ghost use Rattle.wild_layout.specs.Geometry.{SectionLies};
+ghost use Rattle.wild_layout.specs.SectionPlaces.{SectionLies};
 ghost use Rattle.wild_image.specs.Pieces.{group_parts, group_pairs};
 ghost use Rattle.wild_image.specs.Jobs.{GivesPiece};
 ghost use Rattle.wild_image.specs.Steps.{NeedsFit};

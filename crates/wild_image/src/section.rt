@@ -9,7 +9,7 @@ ghost use Rattle.wild_layout.specs.Decide.{decide};
 ghost use Rattle.wild_layout.specs.Sites.{section_bytes};
 ghost use Rattle.wild_layout.specs.Image.{offset_in};
 ghost use Rattle.wild_layout.specs.Faults.{at_section, relocation_errors, overlap_errors, section_errors};
-ghost use Rattle.wild_layout.specs.Geometry.{FieldLies};
+ghost use Rattle.wild_layout.specs.SectionPlaces.{FieldLies};
 ghost use Rattle.wild_image.specs.Decided.{AreDecided, DecisionsLie, IsNext, decided_sites, decided_extents};
 
 use crate::common::common_value;

@@ -4,7 +4,7 @@ ghost use Rattle.wild_plan.specs.declared.file.File.{File};
 ghost use Rattle.wild_plan.specs.Faults.{Answers};
 ghost use Rattle.wild_plan.specs.Lookups.{is_filled, is_read};
 ghost use Rattle.wild_layout.specs.Faults.{flat_map_from, section_errors, file_errors, group_errors};
-ghost use Rattle.wild_layout.specs.Geometry.{SectionLies};
+ghost use Rattle.wild_layout.specs.SectionPlaces.{SectionLies};
 ghost use Rattle.wild_image.specs.Pieces.{owned_in, file_owned, group_owned};
 
 use crate::copies::check_entries;

@@ -16,7 +16,8 @@ use Rattle.wild_plan.specs.Lookups.{is_read, is_loaded}
 use Rattle.wild_layout.specs.declared.decision.Decision.{Decision}
 use Rattle.wild_layout.specs.Decide.{decide}
 use Rattle.wild_layout.specs.Faults.{flat_map_from, group_errors, file_errors, section_errors, refusal_of, refusal_at, relocation_errors, at_offset, overlap_errors}
-use Rattle.wild_layout.specs.Geometry.{IsLaidOut, SectionLies}
+use Rattle.wild_layout.specs.SectionPlaces.{SectionLies}
+use Rattle.wild_layout.specs.Geometry.{IsLaidOut}
 use Rattle.wild_layout.proofs.SiteLemmas.{sites_apart}
 use Rattle.wild_geometry.specs.Loaded.{IsDecided}
 use Rattle.wild_meaning.specs.Item.{IsInput, IsKeptSection}

@@ -21,7 +21,7 @@ use Rattle.wild_meaning.specs.Item.{Item, item_of, place_at}
 use Rattle.wild_meaning.specs.Field.{form_width, IsInputByte}
 use Rattle.wild_meaning.specs.Template.{effect_of, reads, reads_alone, IsInstruction, IsTemplate, DoesDemanded}
 use Rattle.wild_meaning.specs.Reference.{IsAsked, HoldsLinked, HoldsRewritten, ReferenceHolds, ItemHolds}
-use Rattle.wild_laws.specs.FirstPath.{branch_types, HasFirstTypes, InNoField as NoField, IsBranch}
+use Rattle.wild_laws.specs.FirstTypes.{branch_types, HasFirstTypes, InNoField as NoField, IsBranch}
 use Rattle.wild_laws.proofs.Sequences.{direct}
 use Rattle.wild_laws.proofs.FirstCode.{first_byte, in_no_field, IsFirst, of_section, IsCallOrJump, template_direct, is_branch, old_length, DoesDeed, HasOpcode, call_does, jump_does, call_opcode, jump_opcode}
 

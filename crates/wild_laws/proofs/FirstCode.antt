@@ -11,12 +11,13 @@ use Rattle.wild_plan.specs.declared.input.InputSection.{InputSection}
 use Rattle.wild_plan.specs.declared.layout.Layout.{Layout}
 use Rattle.wild_reloc.specs.Formula.{Formula}
 use Rattle.wild_meaning.specs.Instruction.{Cell, Is, Deed, Call, Jump, Template, Action, Reader, Effect, exact, field, stands, fills, meaning, effect, with_value, as_value}
-use Rattle.wild_meaning.specs.InstructionX86_64.{nop_byte, templates_x86_64, meaning_x86_64, effect_x86_64}
+use Rattle.wild_meaning.specs.ThreadCodeX86_64.{nop_byte}
+use Rattle.wild_meaning.specs.InstructionX86_64.{templates_x86_64, meaning_x86_64, effect_x86_64}
 use Rattle.wild_meaning.specs.Sequence.{Instruction, size_of, IsOwnByte, instructions_of}
 use Rattle.wild_meaning.specs.Item.{item_of, IsReference}
 use Rattle.wild_meaning.specs.Field.{formula_of, form_width, InNoField}
 use Rattle.wild_meaning.specs.Template.{IsInstruction, IsSequence, IsTemplate}
-use Rattle.wild_laws.specs.FirstPath.{address_types, first_types, branch_types, thread_types, HasFirstTypes, InNoField as NoField, IsBranch, IsThreadCall}
+use Rattle.wild_laws.specs.FirstTypes.{address_types, first_types, branch_types, thread_types, HasFirstTypes, InNoField as NoField, IsBranch, IsThreadCall}
 use Rattle.wild_laws.proofs.Bits.{bit_executable, executable_bit}
 use Rattle.wild_laws.proofs.Sequences.{listed_at, passes, is_first, is_thread, thread, one_of, false_of, asking, calling, direct, by_instruction}
 

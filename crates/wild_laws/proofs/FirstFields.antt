@@ -17,7 +17,8 @@ use Rattle.wild_meaning.specs.Item.{item_of}
 use Rattle.wild_meaning.specs.Field.{formula_of}
 use Rattle.wild_meaning.specs.Template.{IsInstruction}
 use Rattle.wild_meaning.specs.Reference.{HoldsPlain, ReferenceHolds}
-use Rattle.wild_laws.specs.FirstPath.{address_types, IsBranchField, HasFormula}
+use Rattle.wild_laws.specs.FirstTypes.{address_types, IsBranchField}
+use Rattle.wild_laws.specs.FirstPath.{HasFormula}
 use Rattle.wild_laws.proofs.FirstNames.{demanded_of, IsKnown}
 use Rattle.wild_laws.proofs.FirstCode.{IsFirst, template_direct, is_branch, IsCallOrJump}
 

@@ -8,7 +8,8 @@ use Rattle.wild_plan.specs.Flags.{ifunc}
 use Rattle.wild_reloc.specs.Formula.{Value, SymbolAddress, Distance}
 use Rattle.wild_loader.specs.declared.memory.Memory.{Memory}
 use Rattle.wild_loader.specs.declared.world.World.{World}
-use Rattle.wild_meaning.specs.Value.{HasFlag, HasOwnValue, HasStub, IsReplaceable, Denotes, moved}
+use Rattle.wild_meaning.specs.Value.{HasFlag, HasOwnValue, IsReplaceable, moved}
+use Rattle.wild_meaning.specs.Denotes.{HasStub, Denotes}
 use Rattle.wild_meaning.specs.Item.{item_of, place_at}
 use Rattle.wild_meaning.specs.Formula.{IsTarget, IsGoal, Gives}
 use Rattle.wild_laws.specs.FirstPath.{IsAddress, Demands, NamesAreAddresses}

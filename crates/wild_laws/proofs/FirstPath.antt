@@ -14,7 +14,8 @@ use Rattle.wild_meaning.specs.Sequence.{Instruction}
 use Rattle.wild_meaning.specs.Item.{item_of, place_at, IsReference, IsKept}
 use Rattle.wild_meaning.specs.Template.{effect_of, reads, IsInstruction, DoesDemanded}
 use Rattle.wild_meaning.specs.Reference.{IsAsked, ReferenceHolds}
-use Rattle.wild_laws.specs.FirstPath.{IsLoadedSection, IsRelocated, IsBranch, BranchReaches, MeaningGivesFields}
+use Rattle.wild_laws.specs.FirstTypes.{IsLoadedSection, IsRelocated, IsBranch}
+use Rattle.wild_laws.specs.FirstPath.{BranchReaches, MeaningGivesFields}
 use Rattle.wild_laws.proofs.Bits.{bit_alloc}
 use Rattle.wild_laws.proofs.Sequences.{direct}
 use Rattle.wild_laws.proofs.FirstCode.{first_byte, IsFirst, of_branch, of_address, IsCallOrJump, template_direct, is_branch, branch_template, old_length, DoesDeed, call_does, jump_does}

@@ -16,7 +16,8 @@ use Rattle.wild_meaning.specs.Item.{item_of, place_at}
 use Rattle.wild_meaning.specs.Field.{InNoField}
 use Rattle.wild_meaning.specs.Template.{effect_of, reads, IsInstruction, IsTemplate, DoesDemanded}
 use Rattle.wild_meaning.specs.Reference.{ReferenceHolds}
-use Rattle.wild_laws.specs.FirstPath.{slot_types, IsSlotBranch, IsThreadCall, SlotBranchReaches}
+use Rattle.wild_laws.specs.FirstTypes.{slot_types, IsSlotBranch, IsThreadCall}
+use Rattle.wild_laws.specs.FirstPath.{SlotBranchReaches}
 use Rattle.wild_laws.proofs.Bits.{bit_executable}
 use Rattle.wild_laws.proofs.Sequences.{passes, is_thread, false_of, is_slot, through, IsThrough, is_through}
 use Rattle.wild_laws.proofs.FirstCode.{range_byte, length-range, in_no_field, IsAlone, single_of, no_sequence}

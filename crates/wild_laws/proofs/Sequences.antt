@@ -7,9 +7,9 @@ use Rattle.std.proofs.lemmas.Bool.{cases_Bool, and_parts, eqb-true, ltb-true, le
 use Rattle.std.proofs.lemmas.Option.{get_or_from_slice_get, slice_get_within}
 use Rattle.wild_plan.specs.declared.kind.Machine.TheVariants as machine
 use Rattle.wild_meaning.specs.Instruction.{Cell, Is, Deed, Number, Word, Call, Jump, stands}
-use Rattle.wild_meaning.specs.InstructionX86_64.{branch}
+use Rattle.wild_meaning.specs.CodeX86_64.{branch}
 use Rattle.wild_meaning.specs.Sequence.{Instruction, Partner, Target, TargetInSlot, size_of, of_field, instructions_of}
-use Rattle.wild_laws.specs.FirstPath.{first_types, branch_types, slot_types, thread_types, call_types}
+use Rattle.wild_laws.specs.FirstTypes.{first_types, branch_types, slot_types, thread_types, call_types}
 
 -- ---- lists
 

@@ -36,8 +36,10 @@ use Rattle.wild_relax.specs.declared.row.Row.TheVariants.{IfuncThroughStub, RexG
 use Rattle.wild_relax.specs.Question.{Question, relocation_of}
 use Rattle.wild_relax.specs.Pattern.{field_of, cells_of, stands_before, stands_at}
 use Rattle.wild_relax.specs.First.{first_standing, checked}
-use Rattle.wild_relax.specs.Rows.{rows_x86_64, number_of, always_pattern, needed_pattern, stands_anywhere, applies, partner_distance, call_form, is_call_number, is_partner_at, has_its_sequence, unknown_sequence, standing_x86_64, chosen_x86_64}
-use Rattle.wild_relax.specs.Rows as rows
+use Rattle.wild_relax.specs.RowPatterns.{always_pattern, needed_pattern}
+use Rattle.wild_relax.specs.RowSequences.{partner_distance, call_form, is_call_number, is_partner_at, has_its_sequence}
+use Rattle.wild_relax.specs.Rows.{rows_x86_64, number_of, stands_anywhere, applies, unknown_sequence, standing_x86_64, chosen_x86_64}
+use Rattle.wild_relax.specs.RowSequences as rows
 use Rattle.wild_relax.specs.Rewrite.{rewritten}
 use Rattle.wild_relax.specs.RewriteX86_64.{rewrite_of}
 use Rattle.wild_relax.specs.Linked.{pattern_of, pattern_size, keeps_bytes, field_in, linked, template_by, template_of}

@@ -28,8 +28,10 @@ use Rattle.wild_reloc.specs.declared.info.Width.TheVariants.{Zero, One, Two, Fou
 use Rattle.wild_reloc.specs.declared.dynamic.DynamicRelocationKind.TheVariants.{Absolute, Irelative}
 use Rattle.wild_layout.specs.declared.decision.Decision.{Decision}
 use Rattle.wild_layout.specs.declared.decision.Decision.TheVariants.{Nothing, Field, Moved, Left}
-use Rattle.wild_layout.specs.Values.{place_of, sum, address_of, index_of, decided_address, term_of, value_by}
-use Rattle.wild_layout.specs.Geometry.{FieldLies}
+use Rattle.wild_layout.specs.SymbolValues.{place_of, sum}
+use Rattle.wild_layout.specs.SlotValues.{address_of, index_of, decided_address}
+use Rattle.wild_layout.specs.Values.{term_of, value_by}
+use Rattle.wild_layout.specs.SectionPlaces.{FieldLies}
 use Rattle.wild_layout.specs.Decide.{field, field_for, moved_to, added, left_to, chosen_to, decide_by, decided}
 use Rattle.wild_layout.specs.Left.{left_by, left_entry, entry_for}
 pub use Rattle.wild_layout.proofs.TreatmentLemmas.{has_value, HasValue, IsSilent}

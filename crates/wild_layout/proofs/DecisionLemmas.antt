@@ -45,12 +45,15 @@ use Rattle.wild_relax.specs.declared.pattern.LocalForm.TheVariants as local
 use Rattle.wild_relax.specs.declared.row.DescriptorUse.TheVariants.{LocalExec, InitialExec}
 use Rattle.wild_relax.specs.declared.row.Row.{Row}
 use Rattle.wild_relax.specs.declared.row.Row.TheVariants.{IfuncThroughStub, RexGotToImmediate, RexGotMovToLea, GotMovToImmediate, GotMovToLea, IndirectCallToDirect, IndirectJumpToDirect, PlainGotMovToLea, InitialExecToLocalExec, Plt32ToPc32, PltOffToGotOff, GeneralDynamicToLocalExec, GeneralDynamicToInitialExec, LocalDynamicToLocalExec, DescriptorLea, DescriptorCall}
-use Rattle.wild_relax.specs.Rows.{number_of, call_form, is_call_number}
+use Rattle.wild_relax.specs.RowSequences.{call_form, is_call_number}
+use Rattle.wild_relax.specs.Rows.{number_of}
 use Rattle.wild_relax.specs.RewriteX86_64.{rewrite_of}
 use Rattle.wild_relax.specs.Linked.{keeps_bytes}
 use Rattle.wild_layout.specs.declared.decision.Decision.{Decision}
 use Rattle.wild_layout.specs.declared.decision.Decision.TheVariants.{Nothing, Field, Moved, Left, Rewritten, Partner}
-use Rattle.wild_layout.specs.Values.{place_of, address_of, index_of, decided_address, term_of, value_by}
+use Rattle.wild_layout.specs.SymbolValues.{place_of}
+use Rattle.wild_layout.specs.SlotValues.{address_of, index_of, decided_address}
+use Rattle.wild_layout.specs.Values.{term_of, value_by}
 use Rattle.wild_layout.specs.Choice.{choice_of, takes_next, is_partner}
 use Rattle.wild_layout.specs.Decide.{field, field_for, moved_to, added, left_to, chosen_to, decide_by, decided, field_at, value_to, term_to, rewritten_by, rewritten_to, refused_with, decide_with, decide_at, decide}
 use Rattle.wild_layout.proofs.TreatmentLemmas.{HasValue, row_moved, row_symbolic, row_indirect, row_extent}

@@ -13,7 +13,8 @@ use Rattle.wild_plan.specs.declared.file.Group.{Group}
 use Rattle.wild_plan.specs.declared.layout.Layout.{Layout}
 use Rattle.wild_plan.specs.Entries.{copies_of}
 use Rattle.wild_plan.specs.SlotShares.{own_symbols, slots_of}
-use Rattle.wild_layout.specs.Values.{raw_address, index_of}
+use Rattle.wild_layout.specs.SymbolValues.{raw_address}
+use Rattle.wild_layout.specs.SlotValues.{index_of}
 use Rattle.wild_layout.specs.Faults.{flat_map_from, clause_errors, overlap_errors, section_errors, at_file, slot_refusal, symbol_errors, slot_errors, copy_fault, fault_errors, copy_errors, file_errors, listed_errors, table_errors, group_errors}
 
 pub clause_holds : (r : Result (Unit {0}) Clause) → clause_errors r ≡ [] → r ≡ Ok tt

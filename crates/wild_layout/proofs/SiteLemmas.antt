@@ -28,7 +28,7 @@ use Rattle.wild_relax.specs.RewriteX86_64.{rewrite_of}
 use Rattle.wild_relax.specs.Linked.{pattern_size}
 use Rattle.wild_layout.specs.Decide.{decide}
 use Rattle.wild_layout.specs.Sites.{Written, written_by, field_site, template_start, template_site, site_by, site_for, site_of, site_at, site, sites, shared_byte}
-use Rattle.wild_layout.specs.Geometry.{FieldLies}
+use Rattle.wild_layout.specs.SectionPlaces.{FieldLies}
 use Rattle.wild_layout.proofs.DecideLemmas.{HasField, decided_field, decided_moved, decided_left, field_has, moved_has, left_has, field_has_bytes, field_ends}
 use Rattle.wild_layout.proofs.ChoiceLemmas.{chosen_lies, length-template}
 use Rattle.wild_layout.proofs.DecisionLemmas.{decide_moved, decide_left, decide_field, IsRewritten, decide_rewritten}

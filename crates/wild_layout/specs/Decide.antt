@@ -36,7 +36,9 @@ use Rattle.wild_relax.specs.declared.row.Row.{Row}
 use Rattle.wild_relax.specs.RewriteX86_64.{rewrite_of}
 use Rattle.wild_relax.specs.Linked.{keeps_bytes}
 use Rattle.wild_layout.specs.Choice.{choice_of, is_partner}
-use Rattle.wild_layout.specs.Values.{place_of, sum, address_of, index_of, decided_address, term_of, value_by}
+use Rattle.wild_layout.specs.SymbolValues.{place_of, sum}
+use Rattle.wild_layout.specs.SlotValues.{address_of, index_of, decided_address}
+use Rattle.wild_layout.specs.Values.{term_of, value_by}
 
 -- a value in the row's field, where it is in range
 abbrev pub field : RelocationKindInfo → ℕ → Result Decision Fault

@@ -20,7 +20,8 @@ use Rattle.wild_plan.specs.SlotParts.{type_of}
 use Rattle.wild_plan.specs.Treatment.{treatment}
 use Rattle.wild_layout.specs.Decide.{added}
 use Rattle.wild_layout.specs.Moved.{or_zero}
-use Rattle.wild_layout.specs.Values.{raw_address, index_of, decided_address}
+use Rattle.wild_layout.specs.SymbolValues.{raw_address}
+use Rattle.wild_layout.specs.SlotValues.{index_of, decided_address}
 
 -- an entry for a place, with an addend modulo 2^64; r_info has the low 32 bits of number and index (gABI, "Relocation",
 -- ELF64_R_INFO)

@@ -12,7 +12,8 @@ use Rattle.wild_plan.specs.declared.file.File.{File}
 use Rattle.wild_plan.specs.declared.layout.Layout.{Layout}
 use Rattle.wild_plan.specs.Entries.{moved_of, listed_place, words_of}
 use Rattle.wild_tables.specs.Tables.{relative_entry}
-use Rattle.wild_layout.specs.Values.{sum, address_of}
+use Rattle.wild_layout.specs.SymbolValues.{sum}
+use Rattle.wild_layout.specs.SlotValues.{address_of}
 
 abbrev pub or_zero : Result ℕ Fault → ℕ
 or_zero (Ok a) = a

@@ -16,14 +16,16 @@ use Rattle.wild_plan.specs.declared.layout.Layout.{Layout}
 use Rattle.wild_plan.specs.Lookups.{image_size, is_filled, is_loaded, is_read}
 use Rattle.wild_layout.specs.Sites.{sites, section_bytes}
 use Rattle.wild_layout.specs.Image.{bytes, pieces, section_piece, file_pieces, table_pieces, owned_pieces, group_pieces, offset_in}
-use Rattle.wild_layout.specs.Geometry.{IsLaidOut, SectionLies, SegmentLoads, IsMapped, IsCarried}
+use Rattle.wild_layout.specs.SectionPlaces.{SectionLies}
+use Rattle.wild_layout.specs.Loadable.{SegmentLoads, IsMapped, IsCarried}
+use Rattle.wild_layout.specs.Geometry.{IsLaidOut}
 use Rattle.wild_layout.specs.Faults.{flat_map_from}
 use Rattle.wild_meaning.specs.World.{IsLegal}
 use Rattle.wild_meaning.specs.Item.{IsKeptSection, IsInput}
 use Rattle.wild_loader.specs.declared.world.World.{World}
 use Rattle.wild_loader.specs.declared.memory.Memory.{Memory}
 use Rattle.wild_loader.specs.Memory.{Holds, byte_in}
-use Rattle.wild_loader.specs.Laws.{BytesAreLoaded}
+use Rattle.wild_loader.specs.SegmentLaws.{BytesAreLoaded}
 use Rattle.wild_geometry.specs.Loaded.{IsDecided}
 use Rattle.wild_loaded.specs.Memory.{IsStored, image_memory}
 use Rattle.wild_layout.proofs.SiteLemmas.{Contains-flat_map}

@@ -19,7 +19,8 @@ use Rattle.wild_layout.specs.Faults.{flat_map_from, copy_fault, group_errors}
 use Rattle.wild_layout.specs.Geometry.{IsLaidOut}
 use Rattle.wild_layout.specs.Left.{entry_for, copy_entry}
 use Rattle.wild_layout.specs.Moved.{or_zero}
-use Rattle.wild_layout.specs.Values.{raw_address, index_of}
+use Rattle.wild_layout.specs.SymbolValues.{raw_address}
+use Rattle.wild_layout.specs.SlotValues.{index_of}
 use Rattle.wild_plan.specs.Addresses.{raw_value}
 use Rattle.wild_layout.proofs.FaultLemmas.{CanBeCopied, copies_of_groups}
 use Rattle.wild_loader.specs.declared.world.Answer.{Answer}

@@ -23,10 +23,13 @@ use Rattle.wild_plan.specs.Lookups.{image_size}
 use Rattle.wild_headers.specs.Headers.{program_header}
 use Rattle.wild_layout.specs.Image.{bytes}
 use Rattle.wild_layout.specs.Numbers.{NumbersFit}
-use Rattle.wild_layout.specs.Geometry.{IsLaidOut, SegmentLoads, first_dynamic, table_bytes, all_needed, TablesStand}
+use Rattle.wild_layout.specs.Loadable.{SegmentLoads, first_dynamic}
+use Rattle.wild_layout.specs.TablePlaces.{table_bytes, all_needed}
+use Rattle.wild_layout.specs.Geometry.{IsLaidOut, TablesStand}
 use Rattle.wild_layout.specs.Content.{dynamic_room}
 use Rattle.wild_loader.specs.Tables.{first_dynamic as found_dynamic, tagged}
-use Rattle.wild_loader.specs.Laws.{HasDynamic, HasTables, IsTableOf, word_bytes, rela_bytes, before_null}
+use Rattle.wild_loader.specs.SegmentLaws.{word_bytes, rela_bytes}
+use Rattle.wild_loader.specs.Laws.{HasDynamic, HasTables, IsTableOf, before_null}
 use Rattle.wild_tables.specs.Dynamic.{dynamic_records, dynamic_bytes, entries_bytes, IsNeeded, NeededAreOfLibraries, LengthsOfRecords, RecordsStand, RecordsFit, EntriesAreFound, TablesAreNamed}
 use Rattle.wild_relr.specs.Laws.{WordsFit}
 use Rattle.wild_slots.specs.Stand.{PairStands}

@@ -27,7 +27,7 @@ use Rattle.wild_layout.specs.Numbers.{NumbersFit, SegmentNumbers, SectionNumbers
 use Rattle.wild_meaning.specs.World.{IsLoadable}
 use Rattle.wild_loaded.proofs.FileType.{type_known, type_fits}
 use Rattle.wild_loader.specs.Headers.{is_loadable_header}
-use Rattle.wild_loader.specs.Laws.{told_sections, first_size}
+use Rattle.wild_loader.specs.SegmentLaws.{told_sections, first_size}
 
 -- ---- bits
 

@@ -41,7 +41,8 @@ use Rattle.wild_reloc.specs.declared.info.Width.{Width}
 use Rattle.wild_reloc.specs.declared.info.Width.TheVariants.{Zero, One, Two, Four, Eight}
 use Rattle.wild_layout.specs.declared.decision.Decision.TheVariants.{Left}
 use Rattle.wild_layout.specs.Decide.{added, left_to, chosen_to, decide_by, decided}
-use Rattle.wild_layout.specs.Values.{address_or, index_of, decided_address}
+use Rattle.wild_layout.specs.SymbolValues.{address_or}
+use Rattle.wild_layout.specs.SlotValues.{index_of, decided_address}
 use Rattle.wild_layout.specs.Numbers.{NumbersFit, SymbolNumbers}
 use Rattle.wild_layout.specs.Geometry.{IsLaidOut}
 use Rattle.wild_layout.proofs.DecideLemmas.{decided_left}

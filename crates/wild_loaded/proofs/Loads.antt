@@ -23,11 +23,14 @@ use Rattle.wild_plan.specs.Lookups.{image_size}
 use Rattle.wild_headers.specs.Headers.{file_header, program_header, section_headers_of, name_table, offset_of_role, file_header_bytes, program_header_bytes, section_header_bytes}
 use Rattle.wild_layout.specs.Image.{bytes, pieces, padding, padding_byte}
 use Rattle.wild_layout.specs.Numbers.{NumbersFit}
-use Rattle.wild_layout.specs.Geometry.{IsLaidOut, SegmentLoads, IsStatic as StaticSegment, Ascends, IsPiece}
+use Rattle.wild_layout.specs.Loadable.{SegmentLoads, IsStatic as StaticSegment, Ascends}
+use Rattle.wild_layout.specs.TablePlaces.{IsPiece}
+use Rattle.wild_layout.specs.Geometry.{IsLaidOut}
 use Rattle.wild_meaning.specs.World.{IsLoadable as IsLoadableKind, IsLegal}
 use Rattle.wild_loader.specs.declared.world.World.{World}
 use Rattle.wild_loader.specs.declared.memory.Machine.TheVariants as machines
-use Rattle.wild_loader.specs.Laws.{HasHeaders, IsLoadable, AreLoadable, Ascends as HeadersAscend, IsStatic}
+use Rattle.wild_loader.specs.SegmentLaws.{HasHeaders, IsLoadable, AreLoadable, Ascends as HeadersAscend}
+use Rattle.wild_loader.specs.Laws.{IsStatic}
 use Rattle.wild_loaded.specs.Owners.{HasOneOwnerEach}
 use Rattle.wild_loaded.specs.Memory.{image_memory}
 use Rattle.wild_loaded.proofs.HeadersFit.{file_header_fits, name_table_below, program_header_fits, section_headers_fit, length-section_headers, headers_told}

@@ -20,12 +20,14 @@ use Rattle.wild_plan.specs.Segments.{part_with}
 use Rattle.wild_plan.specs.SlotPlaces.{address_of_part, start_of}
 use Rattle.wild_headers.specs.Headers.{file_header, program_header}
 use Rattle.wild_layout.specs.Image.{bytes, offset_in}
-use Rattle.wild_layout.specs.Geometry.{IsLaidOut, SegmentLoads, IsCarried, IsPartCarried, IsPartMapped, table_bytes, TablesStand}
+use Rattle.wild_layout.specs.Loadable.{SegmentLoads, IsCarried, IsPartCarried, IsPartMapped}
+use Rattle.wild_layout.specs.TablePlaces.{table_bytes}
+use Rattle.wild_layout.specs.Geometry.{IsLaidOut, TablesStand}
 use Rattle.wild_loader.specs.declared.memory.Memory.{Memory}
 use Rattle.wild_loader.specs.declared.world.World.{World}
 use Rattle.wild_loader.specs.Headers.{machine_of}
 use Rattle.wild_loader.specs.Memory.{Holds, byte_in}
-use Rattle.wild_loader.specs.Laws.{BytesAreLoaded}
+use Rattle.wild_loader.specs.SegmentLaws.{BytesAreLoaded}
 use Rattle.wild_meaning.specs.World.{IsLoadable, IsLegal}
 use Rattle.wild_slots.specs.Stand.{StandsAt}
 use Rattle.wild_loaded.specs.Memory.{image_memory}

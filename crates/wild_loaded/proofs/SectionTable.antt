@@ -20,13 +20,17 @@ use Rattle.wild_plan.specs.declared.section.Section.{Section}
 use Rattle.wild_plan.specs.declared.layout.Layout.{Layout}
 use Rattle.wild_plan.specs.Lookups.{allocated, takes_file_bytes}
 use Rattle.wild_plan.specs.Places.{role_place, has_role, is_fixed_static}
-use Rattle.wild_plan.specs.Segments.{part_with, is_entry_role, bytes_in}
+use Rattle.wild_plan.specs.Segments.{part_with}
+use Rattle.wild_plan.specs.LoadedTables.{is_entry_role, bytes_in}
 use Rattle.wild_headers.specs.Headers.{null_header, info_at, section_header, headers_from, section_headers_of, told_of}
 use Rattle.wild_layout.specs.Image.{bytes}
-use Rattle.wild_layout.specs.Geometry.{IsLaidOut, RangesApart, table_bytes, TablesStand}
+use Rattle.wild_layout.specs.SectionPlaces.{RangesApart}
+use Rattle.wild_layout.specs.TablePlaces.{table_bytes}
+use Rattle.wild_layout.specs.Geometry.{IsLaidOut, TablesStand}
 use Rattle.wild_tables.specs.Laws.{EntriesAreRead, LengthsOfEntries}
 use Rattle.wild_loader.specs.Tables.{has_entries, relas_at}
-use Rattle.wild_loader.specs.Laws.{HoldsEntries, HasSectionTables, section_relas, rela_bytes}
+use Rattle.wild_loader.specs.SegmentLaws.{rela_bytes}
+use Rattle.wild_loader.specs.Laws.{HoldsEntries, HasSectionTables, section_relas}
 use Rattle.wild_loaded.proofs.Bits.{alloc_bit, bit_alloc}
 use Rattle.wild_loaded.proofs.HeadersFit.{uncompressed-alloc, length-section_headers}
 use Rattle.wild_loaded.proofs.TableBytes.{stands_joined}

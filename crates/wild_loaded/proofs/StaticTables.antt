@@ -32,7 +32,8 @@ use Rattle.wild_layout.specs.Image.{pieces}
 use Rattle.wild_layout.specs.Moved.{listed_entry, section_entries}
 use Rattle.wild_layout.specs.SlotBytes.{slot_entries_of, flat_places_of}
 use Rattle.wild_layout.specs.Geometry.{IsLaidOut, TablesStand}
-use Rattle.wild_loader.specs.Laws.{IsStatic, section_relas, rela_bytes}
+use Rattle.wild_loader.specs.SegmentLaws.{rela_bytes}
+use Rattle.wild_loader.specs.Laws.{IsStatic, section_relas}
 use Rattle.wild_tables.specs.Laws.{LengthsOfEntries, EntriesAreRead}
 use Rattle.wild_slots.specs.Entries.{MovesNothing, FixedOutputsMoveNothing}
 use Rattle.wild_slots.specs.Stand.{PairStands}

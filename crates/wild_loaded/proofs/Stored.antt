@@ -19,12 +19,12 @@ use Rattle.wild_layout.specs.declared.decision.Decision.{Decision}
 use Rattle.wild_layout.specs.declared.decision.Decision.TheVariants.{Field, Moved, Left}
 use Rattle.wild_layout.specs.Sites.{Written, written_by, field_site, template_site, site, sites}
 use Rattle.wild_layout.specs.Image.{bytes}
-use Rattle.wild_layout.specs.Geometry.{SectionLies}
+use Rattle.wild_layout.specs.SectionPlaces.{SectionLies}
 use Rattle.wild_layout.proofs.DecisionLemmas.{decide_left}
 use Rattle.wild_layout.proofs.SiteLemmas.{Contains-flat_map, site_written, site_rewritten}
 use Rattle.wild_loader.specs.Headers.{machine_of}
 use Rattle.wild_loader.specs.Memory.{byte_in}
-use Rattle.wild_loader.specs.Laws.{BytesAreLoaded, ZerosAreLoaded}
+use Rattle.wild_loader.specs.SegmentLaws.{BytesAreLoaded, ZerosAreLoaded}
 use Rattle.wild_geometry.specs.Loaded.{HasDecision}
 use Rattle.wild_loaded.specs.Memory.{image_memory, headers_of}
 use Rattle.wild_loaded.specs.Laws.{SectionsAreStored, ZerosAreStored}

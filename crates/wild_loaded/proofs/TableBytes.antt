@@ -14,11 +14,13 @@ use Rattle.wild_plan.specs.declared.file.File.{File}
 use Rattle.wild_plan.specs.declared.file.Group.{Group}
 use Rattle.wild_plan.specs.declared.layout.Layout.{Layout}
 use Rattle.wild_plan.specs.Dynamic as dynamic
+use Rattle.wild_plan.specs.DynamicPlaces as dynamic_places
 use Rattle.wild_plan.specs.Kinds.{needs_dynamic}
 use Rattle.wild_plan.specs.FileRoles.{is_prelude}
 use Rattle.wild_plan.specs.Lookups.{image_size}
 use Rattle.wild_plan.specs.Places.{role_place}
-use Rattle.wild_plan.specs.Segments.{part_with, is_table_role}
+use Rattle.wild_plan.specs.Segments.{part_with}
+use Rattle.wild_plan.specs.LoadedTables.{is_table_role}
 use Rattle.wild_headers.specs.Headers.{program_header}
 use Rattle.wild_plan.specs.declared.slot_parts.EntryPart.TheVariants as entries
 use Rattle.wild_plan.specs.SlotShares.{block_words}
@@ -28,8 +30,11 @@ use Rattle.wild_layout.specs.Moved.{file_entries, file_words}
 use Rattle.wild_layout.specs.SlotBytes.{slot_entries_of, flat_places_of, storage_entries}
 use Rattle.wild_layout.specs.Content.{file_content, content}
 use Rattle.wild_layout.specs.Image.{bytes}
-use Rattle.wild_layout.specs.Geometry.{IsLaidOut, SegmentLoads, table_bytes, TablesStand}
-use Rattle.wild_loader.specs.Laws.{StandsAt, IsTableOf, word_bytes, rela_bytes}
+use Rattle.wild_layout.specs.Loadable.{SegmentLoads}
+use Rattle.wild_layout.specs.TablePlaces.{table_bytes}
+use Rattle.wild_layout.specs.Geometry.{IsLaidOut, TablesStand}
+use Rattle.wild_loader.specs.SegmentLaws.{word_bytes, rela_bytes}
+use Rattle.wild_loader.specs.Laws.{StandsAt, IsTableOf}
 use Rattle.wild_loader.specs.Tables.{offset_in}
 use Rattle.std.proofs.lemmas.List.Elements.{All-contains}
 use Rattle.std.proofs.lemmas.List.{append-nil, append_assoc, length-append, get_or_append_left, get_or-append_right}
@@ -125,7 +130,7 @@ table_at l r p stands laid place needs relative there some full =
     }
 
 -- a part that is there
-table_there : (l : Layout) (r : Role) → TablesStand → IsLaidOut l → (role_place r ≡ 0 → ⊥) → needs_dynamic l.kind ≡ true → is_table_role r ≡ true → (o : Option Part) → part_with r l.parts ≡ o → IsTableOf (bytes l) (map (program_header l) l.segments) (dynamic.part_address o) (dynamic.part_size o) (table_bytes l r)
+table_there : (l : Layout) (r : Role) → TablesStand → IsLaidOut l → (role_place r ≡ 0 → ⊥) → needs_dynamic l.kind ≡ true → is_table_role r ≡ true → (o : Option Part) → part_with r l.parts ≡ o → IsTableOf (bytes l) (map (program_header l) l.segments) (dynamic_places.part_address o) (dynamic_places.part_size o) (table_bytes l r)
 table_there l r stands laid place needs relative None e = (laid.roles r place).missing e
 table_there l r stands laid place needs relative (Some p) e =
     let full = ((laid.roles r place).there p e).size in
@@ -189,7 +194,7 @@ both_at l p q stands laid needs first second some more =
     }
 
 -- what a part that has no bytes, or is not there, gives
-empty_table : (l : Layout) (r : Role) (o : Option Part) → IsLaidOut l → (role_place r ≡ 0 → ⊥) → part_with r l.parts ≡ o → dynamic.unless_empty o ≡ None → table_bytes l r ≡ []
+empty_table : (l : Layout) (r : Role) (o : Option Part) → IsLaidOut l → (role_place r ≡ 0 → ⊥) → part_with r l.parts ≡ o → dynamic_places.unless_empty o ≡ None → table_bytes l r ≡ []
 empty_table l r None laid place e none = (laid.roles r place).missing e
 empty_table l r (Some p) laid place e none = by_test (p.size == 0) refl none
   where
@@ -197,7 +202,7 @@ empty_table l r (Some p) laid place e none = by_test (p.size == 0) refl none
     by_test false z h = cc
     by_test true z h = (let full = ((laid.roles r place).there p e).size in let s = eqb-true p.size 0 z in no_bytes (table_bytes l r) (omega (arith, s, full)))
 
-empty_size : (o : Option Part) → dynamic.unless_empty o ≡ None → dynamic.bytes_of o ≡ 0
+empty_size : (o : Option Part) → dynamic_places.unless_empty o ≡ None → dynamic_places.bytes_of o ≡ 0
 empty_size None h = refl
 empty_size (Some p) h = by_test (p.size == 0) refl h
   where
@@ -206,7 +211,7 @@ empty_size (Some p) h = by_test (p.size == 0) refl h
     by_test false z e = cc
 
 -- a part with bytes
-full_part : (o : Option Part) (p : Part) → dynamic.unless_empty o ≡ Some p → (o ≡ Some p) × (1 ≤ p.size)
+full_part : (o : Option Part) (p : Part) → dynamic_places.unless_empty o ≡ Some p → (o ≡ Some p) × (1 ≤ p.size)
 full_part None p h = cc
 full_part (Some x) p h = by_test (x.size == 0) refl h
   where
@@ -219,8 +224,8 @@ full_part (Some x) p h = by_test (x.size == 0) refl h
     by_test false z e = (let is : x ≡ p = cc in (e, subst (λ (y : Part). 1 ≤ y.size) is (some x.size z)))
 
 -- of two parts, by which of them have bytes
-entries_by : (l : Layout) (o q x y : Option Part) → TablesStand → IsLaidOut l → needs_dynamic l.kind ≡ true → part_with role.RelaDynRelative l.parts ≡ o → part_with role.RelaDynGeneral l.parts ≡ q → dynamic.unless_empty o ≡ x → dynamic.unless_empty q ≡ y
-    → IsTableOf (bytes l) (map (program_header l) l.segments) (dynamic.part_address (option_or x y)) (dynamic.beside (min (2 ^ 64 - 1) (dynamic.bytes_of o + dynamic.bytes_of q)) (option_or x y)) (table_bytes l role.RelaDynRelative ++ table_bytes l role.RelaDynGeneral)
+entries_by : (l : Layout) (o q x y : Option Part) → TablesStand → IsLaidOut l → needs_dynamic l.kind ≡ true → part_with role.RelaDynRelative l.parts ≡ o → part_with role.RelaDynGeneral l.parts ≡ q → dynamic_places.unless_empty o ≡ x → dynamic_places.unless_empty q ≡ y
+    → IsTableOf (bytes l) (map (program_header l) l.segments) (dynamic_places.part_address (option_or x y)) (dynamic_places.beside (min (2 ^ 64 - 1) (dynamic_places.bytes_of o + dynamic_places.bytes_of q)) (option_or x y)) (table_bytes l role.RelaDynRelative ++ table_bytes l role.RelaDynGeneral)
 entries_by l o q None None stands laid needs e f g h =
     ap (λ (bs : List ℕ). bs ++ table_bytes l role.RelaDynGeneral) (empty_table l role.RelaDynRelative o laid (λ z. cc) e g) ∙ empty_table l role.RelaDynGeneral q laid (λ z. cc) f h
 entries_by l o q None (Some b) stands laid needs e f g h =
@@ -231,8 +236,8 @@ entries_by l o q None (Some b) stands laid needs e f g h =
     let t = (laid.roles role.RelaDynGeneral (λ z. cc)).there b there in
     let size = t.size in
     let ends = part_low l b laid t.listed in
-    let bytes_are : dynamic.bytes_of q ≡ b.size = ap (λ (p : Option Part). dynamic.bytes_of p) full.0 in
-    let P : List ℕ → Type 0 = λ bs. (min (2 ^ 64 - 1) (dynamic.bytes_of o + dynamic.bytes_of q) ≡ length (bs ++ table_bytes l role.RelaDynGeneral)) × (0 < length (bs ++ table_bytes l role.RelaDynGeneral) → StandsAt (bytes l) (map (program_header l) l.segments) b.address (bs ++ table_bytes l role.RelaDynGeneral)) in
+    let bytes_are : dynamic_places.bytes_of q ≡ b.size = ap (λ (p : Option Part). dynamic_places.bytes_of p) full.0 in
+    let P : List ℕ → Type 0 = λ bs. (min (2 ^ 64 - 1) (dynamic_places.bytes_of o + dynamic_places.bytes_of q) ≡ length (bs ++ table_bytes l role.RelaDynGeneral)) × (0 < length (bs ++ table_bytes l role.RelaDynGeneral) → StandsAt (bytes l) (map (program_header l) l.segments) b.address (bs ++ table_bytes l role.RelaDynGeneral)) in
     subst P (sym none) (omega (arith, zero_size, bytes_are, size, ends), λ some. table_at l role.RelaDynGeneral b stands laid (λ z. cc) needs refl there full.1 size)
 entries_by l o q (Some a) None stands laid needs e f g h =
     let none = empty_table l role.RelaDynGeneral q laid (λ z. cc) f h in
@@ -242,9 +247,9 @@ entries_by l o q (Some a) None stands laid needs e f g h =
     let t = (laid.roles role.RelaDynRelative (λ z. cc)).there a there in
     let size = t.size in
     let ends = part_low l a laid t.listed in
-    let bytes_are : dynamic.bytes_of o ≡ a.size = ap (λ (p : Option Part). dynamic.bytes_of p) full.0 in
+    let bytes_are : dynamic_places.bytes_of o ≡ a.size = ap (λ (p : Option Part). dynamic_places.bytes_of p) full.0 in
     let alone : table_bytes l role.RelaDynRelative ++ table_bytes l role.RelaDynGeneral ≡ table_bytes l role.RelaDynRelative = ap (λ (bs : List ℕ). table_bytes l role.RelaDynRelative ++ bs) none ∙ append-nil (table_bytes l role.RelaDynRelative) in
-    let P : List ℕ → Type 0 = λ bs. (min (2 ^ 64 - 1) (dynamic.bytes_of o + dynamic.bytes_of q) ≡ length bs) × (0 < length bs → StandsAt (bytes l) (map (program_header l) l.segments) a.address bs) in
+    let P : List ℕ → Type 0 = λ bs. (min (2 ^ 64 - 1) (dynamic_places.bytes_of o + dynamic_places.bytes_of q) ≡ length bs) × (0 < length bs → StandsAt (bytes l) (map (program_header l) l.segments) a.address bs) in
     subst P (sym alone) (omega (arith, zero_size, bytes_are, size, ends), λ some. table_at l role.RelaDynRelative a stands laid (λ z. cc) needs refl there full.1 size)
 entries_by l o q (Some a) (Some b) stands laid needs e f g h =
     let first = full_part o a g in
@@ -257,13 +262,13 @@ entries_by l o q (Some a) (Some b) stands laid needs e f g h =
     let m = u.size in
     let low = part_low l a laid t.listed in
     let high = part_low l b laid u.listed in
-    let front : dynamic.bytes_of o ≡ a.size = ap (λ (p : Option Part). dynamic.bytes_of p) first.0 in
-    let back : dynamic.bytes_of q ≡ b.size = ap (λ (p : Option Part). dynamic.bytes_of p) second.0 in
+    let front : dynamic_places.bytes_of o ≡ a.size = ap (λ (p : Option Part). dynamic_places.bytes_of p) first.0 in
+    let back : dynamic_places.bytes_of q ≡ b.size = ap (λ (p : Option Part). dynamic_places.bytes_of p) second.0 in
     let x = length-append (table_bytes l role.RelaDynRelative) (table_bytes l role.RelaDynGeneral) in
     (omega (arith, front, back, n, m, low, high, x), λ some. both_at l a b stands laid needs here there first.1 second.1)
 
 pub entries_named : (l : Layout) → TablesStand → IsLaidOut l → needs_dynamic l.kind ≡ true → IsTableOf (bytes l) (map (program_header l) l.segments) (dynamic.dynamic_entry l tags.Rela) (dynamic.dynamic_entry l tags.RelaSize) (table_bytes l role.RelaDynRelative ++ table_bytes l role.RelaDynGeneral)
-unfolding dynamic.dynamic_entry dynamic.first_entries dynamic.entries_bytes
+unfolding dynamic.dynamic_entry dynamic_places.first_entries dynamic_places.entries_bytes
 entries_named l stands laid needs = entries_by l (part_with role.RelaDynRelative l.parts) (part_with role.RelaDynGeneral l.parts) _ _ stands laid needs refl refl refl refl
 
 -- the entries that stubs go through, by their tags
@@ -275,12 +280,12 @@ jumps_named l stands laid needs = by_part (part_with role.RelaPlt l.parts) refl
     empty [] h = refl
     empty (b ∷ bs) h = absurd (omega (arith, h))
 
-    by_size : (p : Part) (b : Bool) → part_with role.RelaPlt l.parts ≡ Some p → (p.size == 0) ≡ b → IsTableOf (bytes l) (map (program_header l) l.segments) (dynamic.part_address (if b then None else Some p)) (dynamic.part_size (if b then None else Some p)) (table_bytes l role.RelaPlt)
+    by_size : (p : Part) (b : Bool) → part_with role.RelaPlt l.parts ≡ Some p → (p.size == 0) ≡ b → IsTableOf (bytes l) (map (program_header l) l.segments) (dynamic_places.part_address (if b then None else Some p)) (dynamic_places.part_size (if b then None else Some p)) (table_bytes l role.RelaPlt)
     by_size p true e z = (let full = ((laid.roles role.RelaPlt (λ z. cc)).there p e).size in let none = eqb-true p.size 0 z in empty (table_bytes l role.RelaPlt) (omega (arith, full, none)))
     by_size p false e z =
         let full = ((laid.roles role.RelaPlt (λ z. cc)).there p e).size in
         (sym full, λ some. table_at l role.RelaPlt p stands laid (λ z. cc) needs refl e (omega (arith, some, full)) full)
 
-    by_part : (o : Option Part) → part_with role.RelaPlt l.parts ≡ o → IsTableOf (bytes l) (map (program_header l) l.segments) (dynamic.part_address (dynamic.unless_empty o)) (dynamic.part_size (dynamic.unless_empty o)) (table_bytes l role.RelaPlt)
+    by_part : (o : Option Part) → part_with role.RelaPlt l.parts ≡ o → IsTableOf (bytes l) (map (program_header l) l.segments) (dynamic_places.part_address (dynamic_places.unless_empty o)) (dynamic_places.part_size (dynamic_places.unless_empty o)) (table_bytes l role.RelaPlt)
     by_part None e = (laid.roles role.RelaPlt (λ z. cc)).missing e
     by_part (Some p) e = by_size p (p.size == 0) e refl

@@ -44,7 +44,8 @@ use Rattle.wild_layout.specs.Left.{entry_for, index_or_zero, left_by, left_entry
 use Rattle.wild_layout.specs.Moved.{or_zero, moved_value, listed_entry, section_entries, file_entries, file_words}
 use Rattle.wild_layout.specs.Numbers.{SymbolNumbers}
 use Rattle.wild_layout.specs.SlotBytes.{slot_entries_of, flat_places_of, storage_entries}
-use Rattle.wild_layout.specs.Values.{address_or, raw_address, decided_address}
+use Rattle.wild_layout.specs.SymbolValues.{address_or, raw_address}
+use Rattle.wild_layout.specs.SlotValues.{decided_address}
 use Rattle.wild_plan.specs.Addresses.{address_in_section, address_in_file, address_at, placed_value, resolved_or, raw_value}
 use Rattle.wild_slots.proofs.ItemLemmas.{of_if}
 use Rattle.wild_tables.specs.Tables.{relative_entry, relative_type}

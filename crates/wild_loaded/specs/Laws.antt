@@ -34,7 +34,8 @@ use Rattle.wild_headers.specs.Headers.{file_header, section_headers_of}
 use Rattle.wild_layout.specs.Image.{bytes}
 use Rattle.wild_layout.specs.Numbers.{NumbersFit}
 use Rattle.wild_layout.specs.Faults.{flat_map_from, group_errors}
-use Rattle.wild_layout.specs.Geometry.{IsLaidOut, all_needed}
+use Rattle.wild_layout.specs.TablePlaces.{all_needed}
+use Rattle.wild_layout.specs.Geometry.{IsLaidOut}
 use Rattle.wild_geometry.specs.Loaded.{IsDecided, HasSection, InFile}
 use Rattle.wild_reloc.specs.declared.info.RelocationSize.{RelocationSize}
 use Rattle.wild_layout.specs.declared.decision.Decision.TheVariants.{Left}
@@ -46,7 +47,8 @@ use Rattle.wild_loader.specs.declared.memory.Machine.TheVariants as machines
 use Rattle.wild_loader.specs.declared.world.World.{World}
 use Rattle.wild_loader.specs.Headers.{is_loadable_header}
 use Rattle.wild_loader.specs.Memory.{byte_in}
-use Rattle.wild_loader.specs.Laws.{HasHeaders, AreLoadable, HasDynamic}
+use Rattle.wild_loader.specs.SegmentLaws.{HasHeaders, AreLoadable}
+use Rattle.wild_loader.specs.Laws.{HasDynamic}
 use Rattle.wild_tables.specs.Dynamic.{dynamic_records}
 use Rattle.wild_meaning.specs.World.{IsLoadable, IsLegal, IsBehind, IsCopied, HasCopy}
 use Rattle.wild_meaning.specs.Item.{IsInput, IsKeptSection}

@@ -13,7 +13,7 @@ use Rattle.wild_plan.specs.Lookups.{is_read, is_filled}
 use Rattle.wild_headers.specs.Headers.{file_header, program_header}
 use Rattle.wild_layout.specs.Sites.{section_bytes}
 use Rattle.wild_layout.specs.Image.{bytes}
-use Rattle.wild_layout.specs.Geometry.{IsCarried}
+use Rattle.wild_layout.specs.Loadable.{IsCarried}
 use Rattle.wild_geometry.specs.Slots.{HasSlots}
 use Rattle.wild_geometry.specs.Loaded.{IsDecided, HasSection, InMemory}
 use Rattle.wild_loader.specs.declared.memory.Machine.TheVariants as machines
@@ -23,7 +23,7 @@ use Rattle.wild_loader.specs.declared.world.Answer.{Answer}
 use Rattle.wild_loader.specs.Headers.{machine_of}
 use Rattle.wild_loader.specs.Load.{load}
 use Rattle.wild_loader.specs.Memory.{byte_in, Holds}
-use Rattle.wild_loader.specs.Laws.{loaded_memory}
+use Rattle.wild_loader.specs.SegmentLaws.{loaded_memory}
 use Rattle.wild_meaning.specs.Item.{IsInput, IsKeptSection}
 use Rattle.wild_meaning.specs.World.{IsBehind, HasCopy}
 use Rattle.wild_meaning.specs.Linked.{IsNotCopied}

@@ -24,7 +24,7 @@ use Rattle.wild_plan.specs.declared.slot.SlotWord.{SlotWord}
 use Rattle.wild_plan.specs.declared.layout.Layout.{Layout}
 use Rattle.wild_plan.specs.SlotParts.{word_of}
 use Rattle.wild_plan.specs.Stub.{stub_x86_64}
-use Rattle.wild_layout.specs.Geometry.{table_bytes}
+use Rattle.wild_layout.specs.TablePlaces.{table_bytes}
 use Rattle.wild_loader.specs.declared.kind.DynamicKind.TheVariants as kinds
 use Rattle.wild_loader.specs.declared.change.Change.{Change}
 use Rattle.wild_loader.specs.declared.change.Change.TheVariants as changes

@@ -21,7 +21,7 @@ use Rattle.wild_loader.specs.Runs.{least_shared, read_bytes}
 use Rattle.wild_loader.specs.Places.{places}
 use Rattle.wild_loader.specs.Changes.{patch_at, patch_over, bytes_after, size_of, kind_of, change_of}
 use Rattle.wild_loader.specs.Relocate.{rela_patch, place_patch, add_all, runs_of_patches, apart, relocate, patched, loaded_at}
-use Rattle.wild_loader.specs.Laws.{IsApart, IsLoaded}
+use Rattle.wild_loader.specs.SegmentLaws.{IsApart, IsLoaded}
 use Rattle.wild_loader.specs.EntryLaws.{ChangesAreMade, PlacesAreMoved, EntriesMakeChanges, HasMade, patches_of, TablesAreApplied, OrderIsFree}
 use Rattle.wild_loader.proofs.SegmentLemmas.{shared_with-none}
 use Rattle.wild_loader.proofs.Overlaid.{apart-rest, parts-held, others-kept}

@@ -18,8 +18,9 @@ use Rattle.wild_loader.specs.Memory.{Holds}
 use Rattle.wild_loader.specs.Places.{places}
 use Rattle.wild_loader.specs.Changes.{change_of}
 use Rattle.wild_loader.specs.Relocate.{rela_patch, place_patch, runs_of_patches, loaded_at, patched, relocate}
-use Rattle.wild_loader.specs.Laws.{IsApart, IsElsewhere}
-use Rattle.wild_loader.specs.EntryLaws.{HasMade, patches_of, StoresWord, RelativesStoreWords, ResolvedStoreWords, AreBeside, loaded_places, AreWords, TablesAreFilled}
+use Rattle.wild_loader.specs.SegmentLaws.{IsApart, IsElsewhere}
+use Rattle.wild_loader.specs.EntryLaws.{HasMade, patches_of}
+use Rattle.wild_loader.specs.FilledLaws.{StoresWord, RelativesStoreWords, ResolvedStoreWords, AreBeside, loaded_places, AreWords, TablesAreFilled}
 use Rattle.wild_loader.proofs.Overlaid.{elsewhere}
 use Rattle.wild_loader.proofs.SegmentLemmas.{beside-apart}
 use Rattle.wild_loader.proofs.EntryLemmas.{place-moved, entry-changed, tables-applied, order-free}

@@ -30,8 +30,9 @@ use Rattle.wild_loader.specs.Headers.{header, is_loadable_header, machine_of, pr
 use Rattle.wild_loader.specs.Tables.{tables, first_dynamic, section_tables, section_entries}
 use Rattle.wild_loader.specs.Relocate.{relocate, add_all, apart, notes}
 use Rattle.wild_loader.specs.Load.{load, load_with}
-use Rattle.wild_loader.specs.Laws.{HasHeaders, AreLoadable, HasDynamic, HasTables, HasSectionTables, section_relas, loaded_runs, loaded_memory, first_size, program_bytes, section_bytes, DynamicImagesAreLoaded, StaticImagesAreLoaded, PlainImagesAreLoaded, IsStatic}
-use Rattle.wild_loader.specs.EntryLaws.{HasSectionTable}
+use Rattle.wild_loader.specs.SegmentLaws.{HasHeaders, AreLoadable, loaded_runs, loaded_memory, first_size, program_bytes, section_bytes}
+use Rattle.wild_loader.specs.Laws.{HasDynamic, HasTables, HasSectionTables, section_relas, DynamicImagesAreLoaded, StaticImagesAreLoaded, PlainImagesAreLoaded, IsStatic}
+use Rattle.wild_loader.specs.FilledLaws.{HasSectionTable}
 use Rattle.wild_loader.proofs.RecordLists.{programs-read, sections-read, section-first, length-records, length-program, length-section}
 use Rattle.wild_loader.proofs.SegmentLemmas.{segments-loaded}
 use Rattle.wild_loader.proofs.TableLemmas.{lies-table, dynamic-found, sections-found}

@@ -7,7 +7,7 @@ use Rattle.wild_loader.specs.declared.memory.Memory.{Memory}
 use Rattle.wild_loader.specs.declared.memory.Run.{Run}
 use Rattle.wild_loader.specs.Memory.{byte_of, byte_in}
 use Rattle.wild_loader.specs.Runs.{has_address, with_byte, put_byte, put_bytes, overlaid}
-use Rattle.wild_loader.specs.Laws.{IsApart, IsElsewhere, PartsAreHeld, OthersAreKept}
+use Rattle.wild_loader.specs.SegmentLaws.{IsApart, IsElsewhere, PartsAreHeld, OthersAreKept}
 
 -- ---- one byte
 

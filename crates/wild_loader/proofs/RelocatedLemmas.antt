@@ -12,7 +12,7 @@ use Rattle.wild_loader.specs.Given.{◌>>=◌}
 use Rattle.wild_loader.specs.Runs.{least_shared, unless_shared}
 use Rattle.wild_loader.specs.Places.{places}
 use Rattle.wild_loader.specs.Relocate.{rela_patch, place_patch, add_all, add_apart, runs_of_patches, apart, relocate, patched}
-use Rattle.wild_loader.specs.Laws.{IsApart, IsElsewhere}
+use Rattle.wild_loader.specs.SegmentLaws.{IsApart, IsElsewhere}
 use Rattle.wild_loader.specs.EntryLaws.{IsMadeBy, IsRelocated, RelocatedIsApplied}
 use Rattle.wild_loader.proofs.Overlaid.{others-kept}
 use Rattle.wild_loader.proofs.RunLemmas.{runs-apart}

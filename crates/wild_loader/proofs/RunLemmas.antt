@@ -7,7 +7,7 @@ use Rattle.std.proofs.lemmas.List.Sorted.{IsPermutation-map}
 use Rattle.wild_words.proofs.ExtentLemmas.{all-apart, order-free}
 use Rattle.wild_loader.specs.declared.memory.Run.{Run}
 use Rattle.wild_loader.specs.Runs.{extent_of, least_shared}
-use Rattle.wild_loader.specs.Laws.{IsApart}
+use Rattle.wild_loader.specs.SegmentLaws.{IsApart}
 
 pub runs-order : (xs ys : List Run) → IsPermutation xs ys → least_shared ys ≡ least_shared xs
 runs-order xs ys moved = order-free (map extent_of xs) (map extent_of ys) (IsPermutation-map extent_of xs ys moved)

@@ -9,7 +9,7 @@ use Rattle.wild_records.specs.declared.relocations.Rela.{Rela}
 use Rattle.wild_records.specs.declared.section_header.SectionHeader.{SectionHeader}
 use Rattle.wild_loader.specs.Tables.{has_entries}
 use Rattle.wild_loader.specs.Laws.{HasSectionTables, HasNoEntries, section_relas}
-use Rattle.wild_loader.specs.EntryLaws.{HasSectionTable}
+use Rattle.wild_loader.specs.FilledLaws.{HasSectionTable}
 
 pub section-table : (image : List ℕ) (ss : List SectionHeader) (rs : List Rela) → HasSectionTable image ss rs → HasSectionTables image ss (λ s. rs)
 section-table image ss rs has = λ k d l read. (has.each k (get_or ss k d) (slice_get-get_or ss k d l) read).1

@@ -17,7 +17,8 @@ use Rattle.wild_loader.specs.declared.tables.Tables.{Tables}
 use Rattle.wild_loader.specs.declared.tables.Span.{Span}
 use Rattle.wild_loader.specs.Headers.{table_lies}
 use Rattle.wild_loader.specs.Tables.{relas_at, words_at, dynamic_entries, tagged, has_in_memory, offset_in, span_in, span_at, span_of, no_span, section_of, table_of, named_tables, dynamic_tables, has_entries, section_entries}
-use Rattle.wild_loader.specs.Laws.{AreLoadable, Ascends, HasDynamic, StandsAt, IsTableOf, IsTable, HasTables, HoldsEntries, HasSectionTables, section_relas, rela_bytes, word_bytes, before_null}
+use Rattle.wild_loader.specs.SegmentLaws.{AreLoadable, Ascends, rela_bytes, word_bytes}
+use Rattle.wild_loader.specs.Laws.{HasDynamic, StandsAt, IsTableOf, IsTable, HasTables, HoldsEntries, HasSectionTables, section_relas, before_null}
 use Rattle.wild_loader.proofs.RecordLists.{length-records, length-rela, length-word_bytes, relas-read, words-read, dynamics-read}
 use Rattle.wild_loader.proofs.SegmentLemmas.{loadable-rest}
 

@@ -8,8 +8,9 @@ use Rattle.wild_records.specs.SectionHeader.{SectionHeaderIsRead}
 use Rattle.wild_loader.specs.Memory.{Holds}
 use Rattle.wild_loader.specs.Headers.{machine_of}
 use Rattle.wild_loader.specs.Relocate.{patched, relocate}
-use Rattle.wild_loader.specs.Laws.{loaded_memory}
-use Rattle.wild_loader.specs.EntryLaws.{PlacesAreLoaded, ImagesAreApplied, ImagesAreFilled, StaticImagesAreFilled, patches_of}
+use Rattle.wild_loader.specs.SegmentLaws.{loaded_memory}
+use Rattle.wild_loader.specs.EntryLaws.{patches_of}
+use Rattle.wild_loader.specs.FilledLaws.{PlacesAreLoaded, ImagesAreApplied, ImagesAreFilled, StaticImagesAreFilled}
 use Rattle.wild_loader.proofs.Mapped.{at-contained, bytes-loaded}
 use Rattle.wild_loader.proofs.ImageLemmas.{dynamic-loaded, listed-loaded}
 use Rattle.wild_loader.proofs.EntryLemmas.{tables-applied}

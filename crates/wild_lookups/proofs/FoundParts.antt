@@ -16,19 +16,24 @@ use Rattle.wild_plan.specs.declared.part.Part.{Part}
 use Rattle.wild_plan.specs.declared.part.Role.{Role}
 use Rattle.wild_plan.specs.declared.part.Role.TheVariants as role
 use Rattle.wild_plan.specs.declared.layout.Layout.{Layout}
-use Rattle.wild_plan.specs.Contents.{listed_name_fits}
-use Rattle.wild_plan.specs.Dynamic.{dynamic_number, dynamic_entry, dynamic_count, part_address, part_size}
+use Rattle.wild_plan.specs.ZeroFree.{listed_name_fits}
+use Rattle.wild_plan.specs.Dynamic.{dynamic_number, dynamic_entry, dynamic_count}
+use Rattle.wild_plan.specs.DynamicPlaces.{part_address, part_size}
 use Rattle.wild_plan.specs.DynamicSymbols.{first_listed}
 use Rattle.wild_plan.specs.Kinds.{needs_dynamic}
 use Rattle.wild_plan.specs.Lookups.{image_size}
 use Rattle.wild_plan.specs.Places.{role_place}
-use Rattle.wild_plan.specs.Segments.{part_with, is_hash_role, is_look_up_role, has_hashes}
+use Rattle.wild_plan.specs.Segments.{part_with}
+use Rattle.wild_plan.specs.LoadedTables.{is_hash_role, is_look_up_role, has_hashes}
 use Rattle.wild_headers.specs.Headers.{file_header, section_headers_of}
 use Rattle.wild_tables.specs.Dynamic.{dynamic_records, null_entry, EntriesAreFound, NeededAreOfLibraries}
-use Rattle.wild_layout.specs.Geometry.{IsLaidOut, LayoutsAreLaidOut, SegmentLoads, TablesStand, all_needed}
+use Rattle.wild_layout.specs.Loadable.{SegmentLoads}
+use Rattle.wild_layout.specs.TablePlaces.{all_needed}
+use Rattle.wild_layout.specs.Geometry.{IsLaidOut, LayoutsAreLaidOut, TablesStand}
 use Rattle.wild_layout.specs.Image.{bytes}
 use Rattle.wild_loader.specs.Headers.{is_loadable_header}
-use Rattle.wild_loader.specs.Laws.{HasHeaders, before_null}
+use Rattle.wild_loader.specs.SegmentLaws.{HasHeaders}
+use Rattle.wild_loader.specs.Laws.{before_null}
 use Rattle.wild_loader.specs.Tables.{tagged}
 use Rattle.wild_meaning.specs.World.{IsLoadable}
 use Rattle.wild_hashes.specs.declared.image.Part.{Part as Found}

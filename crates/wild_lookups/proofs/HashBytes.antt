@@ -13,7 +13,8 @@ use Rattle.wild_plan.specs.DynamicSymbols.{first_listed}
 use Rattle.wild_plan.specs.FileRoles.{is_prelude, is_epilogue}
 use Rattle.wild_plan.specs.Kinds.{needs_dynsym}
 use Rattle.wild_layout.specs.Content.{file_content, content, of_last, sysv_bytes, gnu_bytes}
-use Rattle.wild_layout.specs.Geometry.{IsLaidOut, table_bytes}
+use Rattle.wild_layout.specs.TablePlaces.{table_bytes}
+use Rattle.wild_layout.specs.Geometry.{IsLaidOut}
 use Rattle.wild_hashes.specs.Tables.{sysv_hash_of, gnu_hash_of, gnu_header, gnu_table, sysv_table}
 
 -- each file gives these bytes where it is the last one, and else none

@@ -12,7 +12,8 @@ use Rattle.wild_records.specs.declared.file_header.FileHeader.{FileHeader}
 use Rattle.wild_records.specs.declared.program_header.ProgramHeader.{ProgramHeader}
 use Rattle.wild_records.specs.declared.section_header.SectionHeader.{SectionHeader}
 use Rattle.wild_loader.specs.Headers.{is_loadable_header, program_headers}
-use Rattle.wild_loader.specs.Laws.{HasHeaders, HasDynamic, before_null, program_bytes}
+use Rattle.wild_loader.specs.SegmentLaws.{HasHeaders, program_bytes}
+use Rattle.wild_loader.specs.Laws.{HasDynamic, before_null}
 use Rattle.wild_loader.specs.Tables.{dynamic_entries, first_dynamic, tagged}
 use Rattle.wild_loader.proofs.RecordLists.{length-records, length-program, programs-read, dynamics-read}
 use Rattle.wild_hashes.specs.Image.{image_header, dynamic_in, parts_by, tables_of}

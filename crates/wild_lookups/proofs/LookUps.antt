@@ -12,7 +12,8 @@ use Rattle.wild_plan.specs.DynamicSymbols.{first_listed}
 use Rattle.wild_plan.specs.HashShapes.{sysv_fits, gnu_fits, bucket_astray}
 use Rattle.wild_plan.specs.Places.{role_place}
 use Rattle.wild_plan.specs.Segments.{part_with}
-use Rattle.wild_layout.specs.Geometry.{IsLaidOut, TablesStand, table_bytes}
+use Rattle.wild_layout.specs.TablePlaces.{table_bytes}
+use Rattle.wild_layout.specs.Geometry.{IsLaidOut, TablesStand}
 use Rattle.wild_layout.specs.Image.{bytes}
 use Rattle.wild_hashes.specs.Image.{bytes_of, bytes_if, gnu_lookup_in, sysv_lookup_in, tables_of}
 use Rattle.wild_hashes.specs.Laws.{AreNumbered, first_named, names_of, NeighboursAscend, GnuLookUpInImagesFindsTheFirst, SysvLookUpInImagesFindsTheFirst}

@@ -14,7 +14,7 @@ use Rattle.wild_plan.specs.declared.layout.DynamicSymbol.{DynamicSymbol}
 use Rattle.wild_plan.specs.declared.layout.Layout.{Layout}
 use Rattle.wild_plan.specs.declared.part.Part.{Part}
 use Rattle.wild_plan.specs.Astray.{range_of}
-use Rattle.wild_plan.specs.Contents.{listed_name_fits}
+use Rattle.wild_plan.specs.ZeroFree.{listed_name_fits}
 use Rattle.wild_plan.specs.DynamicStrings.{undefined_symbols}
 use Rattle.wild_plan.specs.DynamicSymbols.{places_where, is_undefined_entry, undefined_in, undefined_entries, dynamic_symbols, listed as indexes_of, first_listed}
 use Rattle.wild_plan.specs.Lookups.{files_of}

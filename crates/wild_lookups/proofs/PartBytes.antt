@@ -11,7 +11,7 @@ use Rattle.wild_plan.specs.declared.section.Segment.{Segment}
 use Rattle.wild_plan.specs.declared.layout.Layout.{Layout}
 use Rattle.wild_plan.specs.Lookups.{image_size}
 use Rattle.wild_headers.specs.Headers.{program_header}
-use Rattle.wild_layout.specs.Geometry.{Ascends, IsCarriedWhole, SegmentLoads}
+use Rattle.wild_layout.specs.Loadable.{Ascends, IsCarriedWhole, SegmentLoads}
 use Rattle.wild_loader.specs.Tables.{has_in_memory}
 use Rattle.wild_hashes.specs.declared.image.Part.{Part as Found}
 use Rattle.wild_hashes.specs.Image.{part_at, part_in, bytes_of}

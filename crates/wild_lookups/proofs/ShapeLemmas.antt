@@ -7,11 +7,12 @@ use Rattle.wild_plan.specs.declared.layout.DynamicSymbol.{DynamicSymbol}
 use Rattle.wild_plan.specs.declared.layout.GnuHash.{GnuHash}
 use Rattle.wild_plan.specs.declared.layout.SysvHash.{SysvHash}
 use Rattle.wild_plan.specs.declared.layout.Layout.{Layout}
-use Rattle.wild_plan.specs.Contents.{name_fits, option_names_fit, section_name_fits, symbol_name_fits, group_names_fit, listed_name_fits}
+use Rattle.wild_plan.specs.ZeroFree.{name_fits, option_names_fit, section_name_fits, symbol_name_fits, group_names_fit, listed_name_fits}
 use Rattle.wild_plan.specs.DynamicSymbols.{first_listed}
 use Rattle.wild_plan.specs.HashShapes.{sysv_fits, gnu_fits, gnu_shape_fits, bucket_of, bucket_below, bucket_astray}
 use Rattle.wild_plan.specs.Lists.{first_failing, unless}
-use Rattle.wild_plan.specs.WellFormed.{fails, first_error, first_clause, check_sizes, check_counts, check_order, check_roles, check_sections, check_segments, check_shares, check_inputs, check_indexes, check_fields, check_slots, check_dynsyms, check_slot_flags, check_tls, check_starts, check_hashes, check_versions, check_names}
+use Rattle.wild_plan.specs.ClauseTests.{fails, first_error, check_sizes, check_counts, check_order, check_roles, check_sections, check_segments, check_shares, check_inputs, check_indexes, check_fields, check_slots, check_dynsyms, check_slot_flags, check_tls, check_starts, check_hashes, check_versions, check_names}
+use Rattle.wild_plan.specs.WellFormed.{first_clause}
 use Rattle.wild_plan.proofs.ListLemmas.{All-from_none_fails}
 use Rattle.wild_records.specs.Hashes.{gnu_hash}
 use Rattle.wild_records.specs.HashTables.{GnuHashHeaderFits}

@@ -29,7 +29,7 @@ use Rattle.wild_layout.specs.Decide.{decided, decide}
 use Rattle.wild_layout.proofs.DecisionLemmas.{decide_alone}
 use Rattle.wild_layout.proofs.SiteLemmas.{site_written}
 use Rattle.wild_layout.specs.Sites.{field_site, site, extent_of}
-use Rattle.wild_layout.specs.Values.{displacement, place_of}
+use Rattle.wild_layout.specs.SymbolValues.{displacement, place_of}
 use Rattle.wild_plan.specs.Addresses.{raw_value}
 use Rattle.wild_plan.specs.TableSymbols.{file_items}
 use Rattle.wild_layout.specs.Faults.{errors, flat_map_from, share_errors, has_spare, part_errors, relocation_errors, section_errors, file_errors, listed_errors, table_errors, group_errors}

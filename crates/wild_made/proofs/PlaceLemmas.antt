@@ -33,7 +33,7 @@ use Rattle.wild_plan.specs.declared.section.Side.{Side}
 use Rattle.wild_plan.specs.declared.section.Side.TheVariants as side
 use Rattle.wild_plan.proofs.CoverLemmas.{all_below_from}
 use Rattle.wild_records.specs.Abi.Section.{sht_progbits, sht_strtab}
-use Rattle.wild_plan.specs.WellFormed.{check_sizes, check_counts, check_order, check_roles, check_sections, check_entries, check_segments}
+use Rattle.wild_plan.specs.ClauseTests.{check_sizes, check_counts, check_order, check_roles, check_sections, check_entries, check_segments}
 use Rattle.wild_made.specs.Made.{made_section, made_object, plain_file, made_symbol, made_group, section_with, made_sections, made_segment, made}
 use Rattle.wild_made.specs.Laws.{IsCount}
 use Rattle.wild_made.proofs.ListLemmas.{made_from, none_fails, total_same, length_made}

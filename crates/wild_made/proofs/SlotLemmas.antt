@@ -19,7 +19,7 @@ use Rattle.wild_plan.specs.Lists.{first_failing}
 use Rattle.wild_plan.specs.Lookups.{files_of}
 use Rattle.wild_plan.specs.SlotShares.{writes_slots, own_symbols, slot_share, block_places, group_block, block_share}
 use Rattle.wild_plan.specs.SlotPlaces.{first_free, walk, symbol_step, is_without, slot_before, range_step, group_step, slots_astray, slot_is_even}
-use Rattle.wild_plan.specs.WellFormed.{check_slots}
+use Rattle.wild_plan.specs.ClauseTests.{check_slots}
 use Rattle.wild_plan.proofs.SlotShareLemmas.{no_slots, slots_plain}
 use Rattle.wild_plan.proofs.SlotBlockLemmas.{places_without}
 use Rattle.wild_plan.proofs.SlotPlaceLemmas.{step_without}

@@ -9,7 +9,7 @@ use Rattle.wild_plan.specs.Lists.{total}
 use Rattle.wild_plan.specs.Lookups.{files_of}
 use Rattle.wild_plan.specs.Versions.{needs_of, has_needs, need_count}
 use Rattle.wild_plan.specs.VersionTables.{length_of, versions_needed, mark_step, mark_astray}
-use Rattle.wild_plan.specs.WellFormed.{check_versions}
+use Rattle.wild_plan.specs.ClauseTests.{check_versions}
 use Rattle.wild_plan.proofs.ListLemmas.{total-append}
 use Rattle.wild_made.specs.Made.{made_files, made_group, made}
 use Rattle.wild_made.proofs.ListLemmas.{made_from}

@@ -24,7 +24,8 @@ use Rattle.wild_loader.specs.declared.memory.Memory.{Memory}
 use Rattle.wild_loader.specs.declared.world.World.{World}
 use Rattle.wild_loader.specs.declared.world.Answer.{Answer}
 use Rattle.wild_meaning.specs.Section.{IsSet}
-use Rattle.wild_meaning.specs.Value.{HasFlag, HasValue, HasOwnValue, HasAnswer, Denotes, Reaches, HasSize}
+use Rattle.wild_meaning.specs.Value.{HasFlag, HasValue, HasOwnValue, HasAnswer, HasSize}
+use Rattle.wild_meaning.specs.Denotes.{Denotes, Reaches}
 use Rattle.wild_meaning.specs.Thread.{HasThreadOffset, HasOwnOffset, IsOffsetBase}
 use Rattle.wild_meaning.specs.Slot.{IsSlot}
 use Rattle.wild_meaning.specs.Item.{Item, place_at}

@@ -9,7 +9,9 @@ use Rattle.wild_records.specs.Abi.Relocation.{r_x86_64_pc32, r_x86_64_plt32, r_x
 use Rattle.wild_plan.specs.declared.kind.Machine.{Machine}
 use Rattle.wild_plan.specs.declared.kind.Machine.TheVariants as machine
 use Rattle.wild_meaning.specs.Instruction.{Number, Word, Set, Add, Subtract, Compare, Call, Jump, Template}
-use Rattle.wild_meaning.specs.InstructionX86_64.{Prefix, bare, rex, rex2, with_slot, branch, descriptor_call, general_call, general_slot_call, far_pair_call, local_call, local_slot_call}
+use Rattle.wild_meaning.specs.CodeX86_64.{Prefix, bare, rex, rex2, with_slot, branch}
+use Rattle.wild_meaning.specs.ThreadCodeX86_64.{general_call, general_slot_call, far_pair_call, local_call, local_slot_call}
+use Rattle.wild_meaning.specs.InstructionX86_64.{descriptor_call}
 
 -- code, which is called or gone to, itself or by its address in a slot; an address in a slot; an offset from the thread pointer in
 -- a slot; the pair of a symbol, and that of the output's own thread-local data; a descriptor; or nothing, at the call through one

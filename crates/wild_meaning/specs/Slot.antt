@@ -11,7 +11,7 @@ use Rattle.wild_loader.specs.declared.memory.Memory.{Memory}
 use Rattle.wild_loader.specs.declared.world.World.{World}
 use Rattle.wild_loader.specs.Memory.{number_in}
 use Rattle.wild_loader.specs.Changes.{first_value, distance_of}
-use Rattle.wild_meaning.specs.Value.{Denotes}
+use Rattle.wild_meaning.specs.Denotes.{Denotes}
 use Rattle.wild_meaning.specs.Thread.{HasThreadOffset, IsOffsetBase}
 
 -- the word at an address

@@ -20,7 +20,7 @@ use Rattle.wild_loader.specs.Changes.{kind_of, change_of, size_of, patch_over, p
 use Rattle.wild_loader.specs.Memory.{byte_in, Holds}
 use Rattle.wild_loader.specs.Places.{places, places_from}
 use Rattle.wild_loader.specs.Relocate.{loaded_at, rela_patch, place_patch, runs_of_patches, patched, notes, relocate}
-use Rattle.wild_loader.specs.Laws.{IsApart, IsElsewhere}
+use Rattle.wild_loader.specs.SegmentLaws.{IsApart, IsElsewhere}
 use Rattle.wild_loader.specs.EntryLaws.{HasMade, patches_of, TablesAreApplied, OrderIsFree}
 use Rattle.wild_loader.proofs.EntryLemmas.{stepped, same-ok, read-bytes}
 use Rattle.wild_loader.proofs.Overlaid.{elsewhere}

@@ -21,12 +21,12 @@ use Rattle.wild_reloc.specs.declared.info.Width.TheVariants.{Eight}
 use Rattle.wild_layout.specs.declared.decision.Decision.{Decision}
 use Rattle.wild_layout.specs.declared.decision.Decision.TheVariants.{Nothing, Field, Moved, Left, Rewritten, Partner}
 use Rattle.wild_relax.specs.declared.row.Row.{Row}
-use Rattle.wild_layout.specs.Values.{sum}
+use Rattle.wild_layout.specs.SymbolValues.{sum}
 use Rattle.wild_layout.specs.Decide.{decide}
 use Rattle.wild_layout.specs.Left.{entry_for}
 use Rattle.wild_layout.specs.Moved.{or_zero, moved_value}
 use Rattle.wild_layout.specs.Sites.{field_site, template_site, site, sites}
-use Rattle.wild_layout.specs.Geometry.{FieldLies}
+use Rattle.wild_layout.specs.SectionPlaces.{FieldLies}
 use Rattle.wild_layout.proofs.DecideLemmas.{HasField, IsMoved, moved_has, decided_moved, decided_left, field_has_bytes}
 use Rattle.wild_layout.proofs.DecisionLemmas.{decide_moved, decide_left}
 use Rattle.wild_layout.proofs.SiteLemmas.{Contains-flat_map, site_written, site_rewritten, field_lies}

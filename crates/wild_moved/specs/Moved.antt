@@ -16,7 +16,7 @@ use Rattle.wild_loader.specs.Changes.{first_value}
 use Rattle.wild_loader.specs.Memory.{byte_in, Holds}
 use Rattle.wild_loader.specs.Places.{places}
 use Rattle.wild_loader.specs.Relocate.{runs_of_patches}
-use Rattle.wild_loader.specs.Laws.{IsElsewhere}
+use Rattle.wild_loader.specs.SegmentLaws.{IsElsewhere}
 use Rattle.wild_loader.specs.EntryLaws.{patches_of}
 use Rattle.wild_meaning.specs.World.{IsBehind, HasCopy}
 use Rattle.wild_meaning.specs.Item.{IsKeptSection}

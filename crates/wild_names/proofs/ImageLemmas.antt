@@ -28,7 +28,8 @@ use Rattle.wild_symbols.proofs.SymbolLemmas.{length-symbol, length-symbol_bytes}
 use Rattle.wild_tables.proofs.DynamicLemmas.{length_entry}
 use Rattle.wild_tables.specs.Dynamic.{entries_bytes, dynamic_bytes}
 use Rattle.wild_layout.specs.Content.{file_content, dynamic_room, content}
-use Rattle.wild_layout.specs.Geometry.{IsLaidOut, TablesStand, table_bytes, all_needed}
+use Rattle.wild_layout.specs.TablePlaces.{table_bytes, all_needed}
+use Rattle.wild_layout.specs.Geometry.{IsLaidOut, TablesStand}
 use Rattle.wild_layout.specs.Image.{bytes}
 use Rattle.wild_names.specs.Laws.{IsNamed, HasEntry, HasLibrary, SymbolsStand, LibrariesStand, table_symbols, libraries}
 use Rattle.wild_names.proofs.BesideLemmas.{Belong, HasBeside, belong-length, belongs_at, Stands-record}

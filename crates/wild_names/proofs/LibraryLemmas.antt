@@ -16,7 +16,8 @@ use Rattle.wild_plan.specs.Kinds.{needs_dynamic}
 use Rattle.wild_plan.specs.Lookups.{files_of}
 use Rattle.wild_plan.specs.Versions.{version_names}
 use Rattle.wild_symbols.specs.Strings.{string, string_bytes}
-use Rattle.wild_layout.specs.Geometry.{IsLaidOut, table_bytes, all_needed}
+use Rattle.wild_layout.specs.TablePlaces.{table_bytes, all_needed}
+use Rattle.wild_layout.specs.Geometry.{IsLaidOut}
 use Rattle.wild_names.specs.Laws.{libraries}
 use Rattle.wild_names.proofs.BesideLemmas.{Belong, Stands-front}
 use Rattle.wild_names.proofs.RunLemmas.{strings_of, gathered, files_belong, groups_belong, strings_are_short}

@@ -16,7 +16,8 @@ use Rattle.wild_plan.specs.Lists.{total}
 use Rattle.wild_plan.specs.Lookups.{files_of}
 use Rattle.wild_plan.specs.Needs.{share, group_share}
 use Rattle.wild_layout.specs.Content.{file_content, content}
-use Rattle.wild_layout.specs.Geometry.{IsLaidOut, table_bytes}
+use Rattle.wild_layout.specs.TablePlaces.{table_bytes}
+use Rattle.wild_layout.specs.Geometry.{IsLaidOut}
 use Rattle.wild_symbols.specs.Strings.{string_bytes}
 use Rattle.wild_symbols.proofs.StringLemmas.{length-string_bytes}
 use Rattle.wild_names.proofs.BesideLemmas.{Belong, belong-append, Stands-front, Stands-behind}

@@ -27,7 +27,8 @@ use Rattle.wild_symbols.specs.TableLaws.{names_of, NamesOfGroups}
 use Rattle.wild_symbols.proofs.StringLemmas.{length-string_bytes}
 use Rattle.wild_symbols.proofs.SymbolLemmas.{length-symbol_bytes}
 use Rattle.wild_layout.specs.Content.{file_content, content}
-use Rattle.wild_layout.specs.Geometry.{IsLaidOut, TablesStand, table_bytes}
+use Rattle.wild_layout.specs.TablePlaces.{table_bytes}
+use Rattle.wild_layout.specs.Geometry.{IsLaidOut, TablesStand}
 use Rattle.wild_layout.specs.Image.{bytes}
 use Rattle.wild_geometry.proofs.LastGroupLemmas.{same_bool}
 use Rattle.wild_names.specs.Laws.{HasEntry, TableSymbolsStand, table_role, said, side_symbols}

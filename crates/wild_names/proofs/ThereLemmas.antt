@@ -20,7 +20,8 @@ use Rattle.wild_plan.specs.Versions.{version_names}
 use Rattle.wild_symbols.specs.Strings.{string_bytes}
 use Rattle.wild_symbols.proofs.SymbolLemmas.{length-symbol_bytes}
 use Rattle.wild_layout.specs.Content.{content}
-use Rattle.wild_layout.specs.Geometry.{IsLaidOut, table_bytes}
+use Rattle.wild_layout.specs.TablePlaces.{table_bytes}
+use Rattle.wild_layout.specs.Geometry.{IsLaidOut}
 use Rattle.wild_geometry.proofs.LastGroupLemmas.{same_bool}
 use Rattle.wild_names.specs.Laws.{SymbolTablesAreThere, table_symbols}
 use Rattle.wild_names.proofs.BesideLemmas.{Belong, belong-length}

@@ -19,7 +19,7 @@ use Rattle.wild_plan.specs.Astray.{range_of}
 use Rattle.wild_plan.specs.Lists.{first_failing, unless, through, total}
 use Rattle.wild_plan.specs.Indexes.{part_index_fits, symbol_misfit, symbol_is_there, section_indexes_fit, file_indexes_fit, group_indexes_fit, listed_misfit, entry_is_there, copied_again, definition_is_own, range_follows, or_place, range_out_of_order}
 use Rattle.wild_plan.specs.VersionTables.{parent_is_there}
-use Rattle.wild_plan.specs.WellFormed.{fails, first_error, check_indexes}
+use Rattle.wild_plan.specs.ClauseTests.{fails, first_error, check_indexes}
 use Rattle.wild_plan.specs.declared.fault.Clause.{Clause}
 use Rattle.wild_plan.specs.Lookups.{section_of, section_of_part, files_of, file_of}
 use Rattle.wild_plan.specs.declared.part.Part.{Part}

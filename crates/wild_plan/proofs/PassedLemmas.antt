@@ -9,7 +9,7 @@ use Rattle.wild_plan.specs.declared.layout.Layout.{Layout}
 use Rattle.wild_plan.specs.Lists.{first_failing}
 use Rattle.wild_plan.specs.Contents.{each_in, each_section, addresses, section_misplaced, length_fits, discarded_is_empty, part_is_raw, allocation_agrees, bytes_take_room}
 use Rattle.wild_plan.specs.Passed.{passes_all}
-use Rattle.wild_plan.specs.WellFormed.{fails, check_inputs}
+use Rattle.wild_plan.specs.ClauseTests.{fails, check_inputs}
 
 list_all_weaker : {X : Type 0} (a b : X → Bool) (xs : List X) → ((x : X) → a x ≡ true → b x ≡ true) → list_all a xs ≡ true → list_all b xs ≡ true
 list_all_weaker a b [] w h = refl

@@ -3,7 +3,7 @@ use Rattle.std.proofs.Common.{◌≡◌, ℕ, suc, ◌+◌, ◌<◌, true, List,
 use Rattle.std.specs.Prelude.{Option}
 use Rattle.wild_plan.specs.declared.clauses.starts.Starts.{Starts}
 use Rattle.wild_plan.specs.declared.file.Group.{Group}
-use Rattle.wild_plan.specs.Contents.{starts_behind, begins_at, start_astray}
+use Rattle.wild_plan.specs.GroupStarts.{starts_behind, begins_at, start_astray}
 
 -- where a group's shares begin as they should, the first group astray is one behind it
 pub start_more : (places : Starts (Option ℕ)) (from next : Starts ℕ) (i : ℕ) (gs : List Group) (g : Group) → i < length gs → g ≡ get_or gs i g → begins_at from g ≡ true → next ≡ starts_behind places from g → start_astray places next (i + 1) (drop (i + 1) gs) ≡ start_astray places from i (drop i gs)

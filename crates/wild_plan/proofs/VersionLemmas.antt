@@ -12,7 +12,7 @@ use Rattle.wild_plan.specs.Lists.{unless, through, total}
 use Rattle.wild_plan.specs.Lookups.{files_of}
 use Rattle.wild_plan.specs.Versions.{needs_of, has_needs, need_count}
 use Rattle.wild_plan.specs.VersionTables.{file_versions, group_versions, versions_needed, versions_fit, most_versions, mark_fits, mark_by, mark_step}
-use Rattle.wild_plan.specs.WellFormed.{fails, check_counts}
+use Rattle.wild_plan.specs.ClauseTests.{fails, check_counts}
 use Rattle.wild_plan.proofs.ListLemmas.{total-append}
 
 -- the sum over all files is that over the groups

@@ -3,10 +3,8 @@
 --   dynamic_entry l tag       its value; none where the entry is left out
 --   dynamic_entries l         all these entries, in order
 --   dynamic_count l           how many they are
-use Rattle.std.specs.Prelude.{ℕ, ◌+◌, ◌-◌, ◌/◌, ◌^◌, ◌==◌, Bool, not, ◌&&◌, if◌then◌else◌, min, List, [], ◌∷◌, ◌++◌, length, All, find, flat_map, bytes_eq, codes, bit_or, Option, Some, None, option_map}
-use Rattle.std.specs.Option.{option_or}
+use Rattle.std.specs.Prelude.{ℕ, ◌+◌, Bool, not, ◌&&◌, if◌then◌else◌, List, [], ◌∷◌, ◌++◌, length, All, flat_map, codes, bit_or, Option, Some, None}
 use Rattle.wild_records.specs.Abi.Dynamic.{dt_null, dt_pltrelsz, dt_pltgot, dt_pltrel, dt_hash, dt_jmprel, dt_strtab, dt_symtab, dt_rela, dt_relasz, dt_relaent, dt_strsz, dt_syment, dt_init, dt_fini, dt_debug, dt_textrel, dt_aarch64_variant_pcs, dt_init_array, dt_fini_array, dt_init_arraysz, dt_fini_arraysz, dt_flags, dt_preinit_array, dt_preinit_arraysz, dt_relrsz, dt_relr, dt_relrent, dt_gnu_hash, dt_versym, dt_relacount, dt_flags_1, dt_verdef, dt_verdefnum, dt_verneed, dt_verneednum, df_origin, df_textrel, df_bind_now, df_static_tls, df_1_now, df_1_nodelete, df_1_origin, df_1_interpose, df_1_pie}
-use Rattle.wild_records.specs.Abi.Section.{sht_nobits}
 use Rattle.wild_records.specs.Dynamic.{DynamicEntryFits}
 use Rattle.wild_records.specs.Relocations.{rela_size, relr_size}
 use Rattle.wild_records.specs.SymtabEntry.{symtab_entry_size}
@@ -15,15 +13,12 @@ use Rattle.wild_plan.specs.declared.dynamic.DynamicTag.{DynamicTag}
 use Rattle.wild_plan.specs.declared.dynamic.DynamicTag.TheVariants as tags
 use Rattle.wild_plan.specs.declared.kind.OutputKind.{OutputKind}
 use Rattle.wild_plan.specs.declared.options.Options.{Options}
-use Rattle.wild_plan.specs.declared.part.Part.{Part}
-use Rattle.wild_plan.specs.declared.part.Role.{Role}
 use Rattle.wild_plan.specs.declared.part.Role.TheVariants as role
-use Rattle.wild_plan.specs.declared.section.Section.{Section}
 use Rattle.wild_plan.specs.declared.layout.Layout.{Layout}
 use Rattle.wild_plan.specs.Kinds.{is_executable, is_shared_object, is_position_independent, needs_dynamic}
 use Rattle.wild_plan.specs.DynamicStrings.{named_strings, string_entries, string_start}
 use Rattle.wild_plan.specs.Segments.{part_with}
-use Rattle.wild_plan.specs.Versions.{need_count}
+use Rattle.wild_plan.specs.DynamicPlaces.{section_address, section_size, part_address, part_size, beside, filled_part, first_entries, entries_bytes, relative_count, need_number}
 
 -- the number of an entry
 unfoldable pub dynamic_number : DynamicTag → ℕ
@@ -63,60 +58,6 @@ dynamic_number tags.Flags = dt_flags
 dynamic_number tags.Flags1 = dt_flags_1
 dynamic_number tags.VariantPcs = dt_aarch64_variant_pcs
 dynamic_number tags.Null = dt_null
-
--- ---- where a table or a function stands
-
--- the section has the name, and bytes in the file
-abbrev pub has_bytes : List ℕ → Section → Bool
-has_bytes name s = bytes_eq s.name name && not (s.kind == sht_nobits) && not (s.size == 0)
-
--- the first section of a name with bytes in the file (gABI, "Special Sections": .init, .init_array and their like)
-unfoldable pub section_named : Layout → List ℕ → Option Section
-section_named l name = find (has_bytes name) l.sections
-
-abbrev pub section_address : Layout → List ℕ → Option ℕ
-section_address l name = option_map (λ (s : Section). s.address) (section_named l name)
-
-abbrev pub section_size : Layout → List ℕ → Option ℕ
-section_size l name = option_map (λ (s : Section). s.size) (section_named l name)
-
-abbrev pub part_address : Option Part → Option ℕ
-part_address p = option_map (λ (x : Part). x.address) p
-
-abbrev pub part_size : Option Part → Option ℕ
-part_size p = option_map (λ (x : Part). x.size) p
-
--- a number for each part that is there
-abbrev pub beside : ℕ → Option Part → Option ℕ
-beside n p = option_map (λ (x : Part). n) p
-
-abbrev pub unless_empty : Option Part → Option Part
-unless_empty None = None
-unless_empty (Some p) = if p.size == 0 then None else Some p
-
--- the part of a role, where it is not empty
-abbrev pub filled_part : Layout → Role → Option Part
-filled_part l r = unless_empty (part_with r l.parts)
-
--- where entries with addends begin: relative entries stand first (LSB, "Dynamic Entries", DT_RELACOUNT)
-unfoldable pub first_entries : Layout → Option Part
-first_entries l = option_or (filled_part l role.RelaDynRelative) (filled_part l role.RelaDynGeneral)
-
-abbrev pub bytes_of : Option Part → ℕ
-bytes_of None = 0
-bytes_of (Some p) = p.size
-
--- the bytes of all entries with addends, at most 2^64 - 1
-unfoldable pub entries_bytes : Layout → ℕ
-entries_bytes l = min (2 ^ 64 - 1) (bytes_of (part_with role.RelaDynRelative l.parts) + bytes_of (part_with role.RelaDynGeneral l.parts))
-
--- how many entries are relative, where there are any
-abbrev pub relative_count : Layout → Option ℕ
-relative_count l = option_map (λ (p : Part). p.size / rela_size) (filled_part l role.RelaDynRelative)
-
--- of how many libraries versions are needed, at most 2^64 - 1
-unfoldable pub need_number : Layout → ℕ
-need_number l = min (2 ^ 64 - 1) (need_count l)
 
 -- ---- flags
 

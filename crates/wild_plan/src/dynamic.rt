@@ -1,7 +1,8 @@
 //! The entries of the dynamic section that the last file writes (gABI, "Dynamic Section").
 ghost use Rattle.std.specs.Prelude.{◌≡◌, ◌<◌, length, option_map, All};
 ghost use Rattle.wild_records.specs.Dynamic.{DynamicEntryFits};
-ghost use Rattle.wild_plan.specs.Dynamic.{dynamic_number, has_bytes, section_named, section_address, section_size, part_address, part_size, beside, filled_part, first_entries, bytes_of, entries_bytes, relative_count, only, flag, dynamic_flags, dynamic_flags_1, dynamic_entry, all_tags, TagFits, tag_entries, dynamic_entries, dynamic_count};
+ghost use Rattle.wild_plan.specs.Dynamic.{dynamic_number, only, flag, dynamic_flags, dynamic_flags_1, dynamic_entry, all_tags, TagFits, tag_entries, dynamic_entries, dynamic_count};
+ghost use Rattle.wild_plan.specs.DynamicPlaces.{has_bytes, section_named, section_address, section_size, part_address, part_size, beside, filled_part, first_entries, bytes_of, entries_bytes, relative_count};
 
 use crate::kind::OutputKind;
 use crate::layout::Layout;
@@ -184,7 +185,7 @@ struct Run {
 }
 
 /// Where the first section of a name with bytes in the file stands.
-#[tactic(auto, unfolding(crate::specs::Dynamic::section_named))]
+#[tactic(auto, unfolding(crate::specs::DynamicPlaces::section_named))]
 fn section_named(layout: &Layout, name: &[u8]) -> Option<Run>
     ensures address { option_map (λ r. r.address) result ≡ section_address layout.now name.now }
     ensures size { option_map (λ r. r.size) result ≡ section_size layout.now name.now }
@@ -239,7 +240,7 @@ fn filled_part(layout: &Layout, role: Role) -> Option<Part>
 }
 
 /// The part at whose front the entries with addends begin.
-#[tactic(auto, unfolding(crate::specs::Dynamic::first_entries))]
+#[tactic(auto, unfolding(crate::specs::DynamicPlaces::first_entries))]
 fn first_entries(layout: &Layout) -> Option<Part>
     ensures { result ≡ first_entries layout.now }
 {
@@ -256,7 +257,7 @@ fn bytes_of(part: Option<Part>) -> u64
 }
 
 /// The bytes of all entries with addends, at most 2^64 - 1.
-#[tactic(auto, unfolding(crate::specs::Dynamic::entries_bytes))]
+#[tactic(auto, unfolding(crate::specs::DynamicPlaces::entries_bytes))]
 fn entries_bytes(layout: &Layout) -> u64
     ensures { result ≡ entries_bytes layout.now }
 {

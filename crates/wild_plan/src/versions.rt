@@ -2,7 +2,7 @@
 ghost use Rattle.std.specs.Prelude.{◌≡◌, ◌+◌, ◌*◌, ◌-◌, ◌^◌, ◌≤◌, length, min};
 ghost use Rattle.std.specs.List.{filter};
 ghost use Rattle.std.specs.Option.{option_copied};
-ghost use Rattle.wild_plan.specs.Dynamic.{need_number};
+ghost use Rattle.wild_plan.specs.DynamicPlaces.{need_number};
 ghost use Rattle.wild_plan.specs.DynamicStrings.{text_room};
 ghost use Rattle.wild_plan.specs.Lists.{total};
 ghost use Rattle.wild_plan.specs.Versions.{definition_size, definitions_size, definitions_room, need_size, needs_of, needs_room, has_needs, needed_names, definition_names, own_names, version_names};
@@ -100,7 +100,7 @@ fn needed_among(files: &[File]) -> u64
 }
 
 /// Of how many libraries versions are needed, at most 2^64 - 1.
-#[tactic(auto, unfolding(crate::specs::Dynamic::need_number), using(crate::proofs::StringLemmas::length_needed))]
+#[tactic(auto, unfolding(crate::specs::DynamicPlaces::need_number), using(crate::proofs::StringLemmas::length_needed))]
 pub fn need_count(layout: &Layout) -> u64
     ensures { result ≡ need_number layout.now }
 {

@@ -9,7 +9,9 @@ use Rattle.wild_relax.specs.declared.row.Row.{Row}
 use Rattle.wild_relax.specs.Question.{Question, relocation_of}
 use Rattle.wild_relax.specs.Pattern.{cells_of, field_of, stands_before, stands_at}
 use Rattle.wild_relax.specs.First.{first_standing, checked}
-use Rattle.wild_relax.specs.Rows.{rows_x86_64, always_pattern, needed_pattern, stands_anywhere, applies, has_its_sequence, unknown_sequence, standing_x86_64, chosen_x86_64}
+use Rattle.wild_relax.specs.RowPatterns.{always_pattern, needed_pattern}
+use Rattle.wild_relax.specs.RowSequences.{has_its_sequence}
+use Rattle.wild_relax.specs.Rows.{rows_x86_64, stands_anywhere, applies, unknown_sequence, standing_x86_64, chosen_x86_64}
 use Rattle.wild_relax.specs.Rewrite.{Rewrite, HasRoom}
 use Rattle.wild_relax.specs.RewriteX86_64.{rewrite_of}
 

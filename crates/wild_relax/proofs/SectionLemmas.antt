@@ -21,7 +21,10 @@ use Rattle.wild_relax.specs.declared.row.Row.TheVariants.{IfuncThroughStub, RexG
 use Rattle.wild_plan.specs.Kinds.{is_executable}
 use Rattle.wild_relax.specs.Question.{Question, relocation_of, minus_four}
 use Rattle.wild_relax.specs.Pattern.{cells_of, field_of, stands_before, stands_at}
-use Rattle.wild_relax.specs.Rows.{rows_x86_64, always_pattern, needed_pattern, number_of, takes_symbol, takes_section, takes_value, is_thread_local, counts_from_its_end, needs_its_end, has_partner, stands_anywhere, applies, has_its_sequence, chosen_x86_64}
+use Rattle.wild_relax.specs.RowPatterns.{always_pattern, needed_pattern, counts_from_its_end}
+use Rattle.wild_relax.specs.RowSymbols.{takes_symbol, takes_section, takes_value, is_thread_local}
+use Rattle.wild_relax.specs.RowSequences.{needs_its_end, has_partner, has_its_sequence}
+use Rattle.wild_relax.specs.Rows.{rows_x86_64, number_of, stands_anywhere, applies, chosen_x86_64}
 use Rattle.wild_relax.specs.Rewrite.{rewritten}
 use Rattle.wild_relax.specs.RewriteX86_64.{rewrite_of}
 use Rattle.wild_relax.specs.Linked.{pattern_of, keeps_bytes, field_in, IsChanging}

@@ -5,6 +5,9 @@ pub mod Pattern
 pub mod First
 pub mod Rewrite
 pub mod RewriteX86_64
+pub mod RowPatterns
+pub mod RowSymbols
+pub mod RowSequences
 pub mod Rows
 pub mod ByNumber
 pub mod Linked

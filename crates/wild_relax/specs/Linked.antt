@@ -15,7 +15,7 @@ use Rattle.wild_relax.specs.declared.pattern.Pattern.TheVariants as pattern
 use Rattle.wild_relax.specs.declared.row.Row.{Row}
 use Rattle.wild_relax.specs.declared.row.Row.TheVariants.{IfuncThroughStub, Plt32ToPc32, PltOffToGotOff, GeneralDynamicToInitialExec, LocalDynamicToLocalExec, DescriptorLea, DescriptorCall}
 use Rattle.wild_relax.specs.Pattern.{cells_of, field_of}
-use Rattle.wild_relax.specs.Rows.{always_pattern}
+use Rattle.wild_relax.specs.RowPatterns.{always_pattern}
 use Rattle.wild_relax.specs.Rewrite.{rewritten}
 use Rattle.wild_relax.specs.RewriteX86_64.{rewrite_of}
 

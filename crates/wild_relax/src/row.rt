@@ -4,7 +4,10 @@ ghost use Rattle.std.specs.Prelude.{◌≡◌, ◌+◌};
 ghost use Rattle.wild_relax.specs.Question.{question, relocation_of};
 ghost use Rattle.wild_relax.specs.First.{first_standing};
 ghost use Rattle.wild_relax.specs.ByNumber.{rows_with};
-ghost use Rattle.wild_relax.specs.Rows.{number_of, always_pattern, needed_pattern, counts_from_its_end, is_held, is_signed_number, is_unsigned_number, is_thread_local, takes_value, takes_symbol, takes_section, is_mandatory, partner_distance, is_call_number, is_call_addend, call_form, is_partner, has_partner, stands_anywhere, applies, has_its_sequence, standing_x86_64, chosen_x86_64};
+ghost use Rattle.wild_relax.specs.RowPatterns.{always_pattern, needed_pattern, counts_from_its_end};
+ghost use Rattle.wild_relax.specs.RowSymbols.{is_held, is_signed_number, is_unsigned_number, is_thread_local, takes_value, takes_symbol, takes_section};
+ghost use Rattle.wild_relax.specs.RowSequences.{partner_distance, is_call_number, is_call_addend, call_form, is_partner, has_partner, has_its_sequence};
+ghost use Rattle.wild_relax.specs.Rows.{number_of, is_mandatory, stands_anywhere, applies, standing_x86_64, chosen_x86_64};
 
 use crate::pattern::{GeneralForm, LocalForm, Operation, Pattern, Prefix, is_standing_before};
 use crate::reference::{Reference, RelocationInfo, UnknownSequence, is_minus_four, is_zero};
@@ -416,7 +419,7 @@ fn call_form(row: Row) -> GeneralForm
 }
 
 // Whether the next relocation is that of the sequence's call.
-#[tactic(auto, unfolding(crate::specs::Rows::is_partner))]
+#[tactic(auto, unfolding(crate::specs::RowSequences::is_partner))]
 fn is_partner(row: Row, offset: u64, distance: u64, next: RelocationInfo) -> bool
     ensures { result ≡ is_partner row (offset + distance) next }
 {
@@ -443,7 +446,7 @@ fn has_partner(row: Row, reference: &Reference) -> bool
 }
 
 // Whether the row, where it stands, has all that it needs.
-#[tactic(auto, unfolding(crate::specs::Rows::has_its_sequence))]
+#[tactic(auto, unfolding(crate::specs::RowSequences::has_its_sequence))]
 fn has_its_sequence(row: Row, reference: &Reference) -> bool
     ensures { result ≡ has_its_sequence (question reference.now) row }
 {

@@ -24,7 +24,7 @@ use Rattle.wild_plan.specs.SymbolSlots.{got_of}
 use Rattle.wild_plan.specs.SlotShares.{own_symbols, slots_of, slots_at, words_in, symbol_share, block_places, group_block, block_of}
 use Rattle.wild_plan.specs.SlotPlaces.{address_of_part, start_of, first_free, is_even_slot, slot_is_even, block_has_base}
 use Rattle.wild_plan.proofs.ListLemmas.{total-append}
-use Rattle.wild_layout.specs.Geometry.{table_bytes}
+use Rattle.wild_layout.specs.TablePlaces.{table_bytes}
 use Rattle.wild_slots.specs.Order.{group_symbols, HasSlotsInOrder, end_of}
 use Rattle.wild_slots.specs.Ascend.{place_in, word_places}
 use Rattle.wild_slots.specs.Blocks.{IsWhole}

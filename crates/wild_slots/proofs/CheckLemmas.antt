@@ -8,7 +8,7 @@ use Rattle.wild_plan.specs.declared.layout.Layout.{Layout}
 use Rattle.wild_plan.specs.Lists.{first_failing, unless}
 use Rattle.wild_plan.specs.SlotPlaces.{slots_astray, slot_is_even, block_has_base, pair_follows}
 use Rattle.wild_plan.specs.SlotFlags.{dynamic_is_interposable, stub_is_value, stub_has_slot, one_slot_for_address, thread_slot_alone, resolver_is_own, slot_agrees, resolver_moves, second_slot_fits}
-use Rattle.wild_plan.specs.WellFormed.{fails, first_error, check_slots, check_slot_flags}
+use Rattle.wild_plan.specs.ClauseTests.{fails, first_error, check_slots, check_slot_flags}
 use Rattle.wild_plan.proofs.ListLemmas.{All-from_none_fails}
 
 -- where the first of two answers is no error, neither is an error

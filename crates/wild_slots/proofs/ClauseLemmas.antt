@@ -4,7 +4,8 @@ use Rattle.wild_plan.specs.declared.layout.Layout.{Layout}
 use Rattle.wild_plan.specs.Lists.{first_failing}
 use Rattle.wild_plan.specs.Contents.{share_mismatch, has_share_for_each_part, file_misplaced}
 use Rattle.wild_plan.specs.ResolvedFlags.{HaveTheirFlags}
-use Rattle.wild_plan.specs.WellFormed.{fails, first_clause, check_sizes, check_counts, check_order, check_roles, check_sections, check_segments, check_shares, check_inputs, check_indexes, check_fields, check_slots, check_dynsyms, check_slot_flags}
+use Rattle.wild_plan.specs.ClauseTests.{fails, check_sizes, check_counts, check_order, check_roles, check_sections, check_segments, check_shares, check_inputs, check_indexes, check_fields, check_slots, check_dynsyms, check_slot_flags}
+use Rattle.wild_plan.specs.WellFormed.{first_clause}
 use Rattle.wild_slots.specs.Order.{HasSlotsInOrder}
 use Rattle.wild_slots.proofs.CheckLemmas.{both, none}
 

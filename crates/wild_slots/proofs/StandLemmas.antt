@@ -26,7 +26,7 @@ use Rattle.wild_plan.specs.SymbolSlots.{got_of, plt_of}
 use Rattle.wild_plan.specs.SlotShares.{writes_slots, own_symbols, slots_of, slots_at, symbol_share, header_words, storage_words}
 use Rattle.wild_plan.specs.SlotPlaces.{start_of, begins_block, stands_at, pair_follows_by}
 use Rattle.wild_plan.specs.SlotFlags.{second_slot_fits}
-use Rattle.wild_layout.specs.Geometry.{table_bytes}
+use Rattle.wild_layout.specs.TablePlaces.{table_bytes}
 use Rattle.wild_plan.specs.ResolvedFlags.{HasItsFlags}
 use Rattle.wild_slots.specs.Order.{group_symbols, HasSlotsInOrder, written_symbols, IsWritten}
 use Rattle.wild_slots.specs.Stand.{StandsAt, WordsStand, SymbolStands}

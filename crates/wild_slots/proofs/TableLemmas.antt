@@ -26,7 +26,7 @@ use Rattle.wild_plan.specs.SlotShares.{stub_size, own_symbols, slots_of, slots_a
 use Rattle.wild_plan.specs.Stub.{stub_x86_64, stub_template, displacement_x86_64}
 use Rattle.wild_layout.specs.SlotBytes.{stub_bytes, slot_words_of, stubs_of, slot_bytes}
 use Rattle.wild_layout.specs.Content.{file_content, group_bytes, content}
-use Rattle.wild_layout.specs.Geometry.{table_bytes}
+use Rattle.wild_layout.specs.TablePlaces.{table_bytes}
 use Rattle.wild_slots.specs.Order.{group_symbols, written_symbols}
 
 -- what a symbol gives to the table of a role

@@ -9,7 +9,7 @@ use Rattle.wild_plan.specs.declared.layout.Layout.{Layout}
 use Rattle.wild_plan.specs.declared.slot_shares.Block.{Block}
 use Rattle.wild_plan.specs.Segments.{part_with}
 use Rattle.wild_plan.specs.SlotShares.{group_block, block_of}
-use Rattle.wild_layout.specs.Geometry.{table_bytes}
+use Rattle.wild_layout.specs.TablePlaces.{table_bytes}
 use Rattle.wild_slots.specs.Order.{HasSlotsInOrder, end_of}
 
 -- the places are the slots of the block, from its base on, which is even, and not 0 where there is a slot

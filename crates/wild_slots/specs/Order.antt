@@ -15,8 +15,9 @@ use Rattle.wild_plan.specs.Contents.{file_misplaced}
 use Rattle.wild_plan.specs.SlotShares.{writes_slots, own_symbols}
 use Rattle.wild_plan.specs.SlotPlaces.{start_of}
 use Rattle.wild_plan.specs.ResolvedFlags.{HaveTheirFlags}
-use Rattle.wild_plan.specs.WellFormed.{check_slots, check_slot_flags, first_clause}
-use Rattle.wild_layout.specs.Geometry.{table_bytes}
+use Rattle.wild_plan.specs.ClauseTests.{check_slots, check_slot_flags}
+use Rattle.wild_plan.specs.WellFormed.{first_clause}
+use Rattle.wild_layout.specs.TablePlaces.{table_bytes}
 
 -- slots and stubs follow each other, flags and slots agree, and the first file is the only one that writes what stands once
 pub record HasSlotsInOrder (l : Layout) : Type 0 where

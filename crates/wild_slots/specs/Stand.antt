@@ -20,7 +20,7 @@ use Rattle.wild_plan.specs.SymbolSlots.{got_of, plt_of}
 use Rattle.wild_plan.specs.SlotShares.{word_size, slots_of, words_in, storage_words}
 use Rattle.wild_plan.specs.SlotPlaces.{start_of, begins_block}
 use Rattle.wild_layout.specs.SlotBytes.{stub_bytes}
-use Rattle.wild_layout.specs.Geometry.{table_bytes}
+use Rattle.wild_layout.specs.TablePlaces.{table_bytes}
 use Rattle.wild_slots.specs.Order.{HasSlotsInOrder, IsWritten, end_of}
 
 -- the bytes stand in the table of that role, at that address

@@ -11,7 +11,8 @@ use Rattle.wild_plan.specs.Lists.{total}
 use Rattle.wild_symbols.specs.Indexes.{Indexes, has_index, index_of, index_room, with_index, indexes_room, kept_indexes, front_indexes, indexes_joined}
 use Rattle.wild_symbols.specs.Strings.{Strings, string, offset_of, kept_strings, front_strings, strings_joined}
 use Rattle.wild_symbols.specs.Symbols.{Symbols, symbols_used, kept_symbols, front_symbols, symbols_joined}
-use Rattle.wild_symbols.specs.Tables.{placed, list_of, indexes_of, with_fields, and_then, room_for_prefix, kept_behind, prefix_of, joined}
+use Rattle.wild_symbols.specs.Tables.{placed, list_of, indexes_of, with_fields}
+use Rattle.wild_symbols.specs.TableRoom.{and_then, room_for_prefix, kept_behind, prefix_of, joined}
 use Rattle.wild_symbols.specs.TableEntries.{NamedEntry}
 use Rattle.wild_symbols.specs.Runs.{has_room, called_if, after, is_in, called, taken_if, taken, HasRoomFor, RunsKeepIndexes, RunsWithRoomAreWhole, PrefixesAreTheWriters}
 use Rattle.wild_symbols.specs.declared.prefix.KeptBehind.{KeptBehind}

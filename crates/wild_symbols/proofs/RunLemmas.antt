@@ -13,7 +13,8 @@ use Rattle.wild_records.specs.SymtabEntry.{symtab_entry_fields, symtab_entry_at,
 use Rattle.wild_plan.specs.declared.fault.Error.{Error}
 use Rattle.wild_symbols.specs.Strings.{string, offset_of, with_string}
 use Rattle.wild_symbols.specs.Symbols.{symbol_bytes}
-use Rattle.wild_symbols.specs.Tables.{placed, list_of, with_fields, and_then}
+use Rattle.wild_symbols.specs.Tables.{placed, list_of, with_fields}
+use Rattle.wild_symbols.specs.TableRoom.{and_then}
 use Rattle.wild_symbols.specs.TableEntries.{NamedEntry}
 use Rattle.wild_symbols.specs.TableLaws.{NamedEntryFits, IsEntryOf}
 use Rattle.wild_symbols.specs.Runs.{is_ok, has_room, called_if, called, after, is_in, taken_if, taken, RunsCount, RunsStandBehind}

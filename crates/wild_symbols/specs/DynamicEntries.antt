@@ -1,165 +1,22 @@
--- What the entries of the dynamic symbol table say of symbols (gABI, "Symbol Table").
---   undefined_fields role s    of a symbol that another module defines
---   named_sections l           the sections of symbols that no input section has
---   listed_fields l i s        of symbol i of the list of those that other modules see; or what it lacks
+-- The entries of the dynamic symbol table (gABI, "Symbol Table").
 --   file_symbols l f           the symbols of a file's entries, each with its name and what its entry says
 --   entries_at at ns           their entries, whose names stand one behind the other from an offset of the strings on
 --   group_symbols l g          all entries of a group
-use Rattle.std.specs.Prelude.{ℕ, ◌+◌, ◌-◌, ◌*◌, ◌/◌, ◌%◌, ◌^◌, ◌==◌, Bool, ◌&&◌, if◌then◌else◌, min, List, [], ◌∷◌, ◌++◌, map, Option, Some, None, option_map, unwrap_or, is_some, Result, Ok, Err, slice_get, bytes_eq, codes}
-use Rattle.std.specs.List.{position_from}
-use Rattle.wild_records.specs.Abi.Section.{shn_undef, shn_abs}
-use Rattle.wild_records.specs.Abi.Symbol.{stt_func, stt_tls, stt_gnu_ifunc}
-use Rattle.wild_records.specs.SymbolSections.{split_index}
+use Rattle.std.specs.Prelude.{ℕ, ◌+◌, ◌-◌, ◌%◌, ◌^◌, if◌then◌else◌, min, List, [], ◌∷◌, ◌++◌, map, Option, Some, None, Result, Ok, Err, slice_get}
 use Rattle.wild_records.specs.declared.symtab_entry.SymtabEntry.{SymtabEntry}
 use Rattle.wild_plan.specs.declared.fault.Fault.{Fault}
-use Rattle.wild_plan.specs.declared.fault.Fault.TheVariants as faults
-use Rattle.wild_plan.specs.declared.fault.Missing.TheVariants as missing
-use Rattle.wild_plan.specs.declared.part.Part.{Part}
-use Rattle.wild_plan.specs.declared.part.Role.TheVariants as role
-use Rattle.wild_plan.specs.declared.section.Section.{Section}
-use Rattle.wild_plan.specs.declared.symbol.Place.{Place}
-use Rattle.wild_plan.specs.declared.symbol.Place.TheVariants as at
-use Rattle.wild_plan.specs.declared.symbol.Resolution.{Resolution}
 use Rattle.wild_plan.specs.declared.symbol.Symbol.{Symbol}
 use Rattle.wild_plan.specs.declared.file.FileRole.{FileRole}
-use Rattle.wild_plan.specs.declared.file.FileRole.TheVariants as file_role
 use Rattle.wild_plan.specs.declared.file.File.{File}
 use Rattle.wild_plan.specs.declared.file.Group.{Group}
 use Rattle.wild_plan.specs.declared.layout.DynamicSymbol.{DynamicSymbol}
 use Rattle.wild_plan.specs.declared.layout.Layout.{Layout}
 use Rattle.wild_plan.specs.DynamicStrings.{text_room, behind_text, lead_strings, behind_file, undefined_symbols}
-use Rattle.wild_plan.specs.DynamicSymbols.{output_section}
-use Rattle.wild_plan.specs.FileRoles.{is_prelude, is_epilogue, is_library}
-use Rattle.wild_plan.specs.Flags.{has_flag, ifunc, copy_relocation, canonical_plt}
-use Rattle.wild_plan.specs.Kinds.{has_fixed_load_address, needs_dynsym}
+use Rattle.wild_plan.specs.FileRoles.{is_prelude, is_epilogue}
+use Rattle.wild_plan.specs.Kinds.{needs_dynsym}
 use Rattle.wild_plan.specs.Lists.{total}
-use Rattle.wild_plan.specs.Lookups.{files_of, file_of}
-use Rattle.wild_plan.specs.Segments.{part_with}
-use Rattle.wild_plan.specs.SymbolSlots.{plt_of}
-use Rattle.wild_symbols.specs.declared.writer.SymbolAttributes.{SymbolAttributes}
 use Rattle.wild_symbols.specs.declared.dynamic.SymbolFields.{SymbolFields}
-use Rattle.wild_symbols.specs.declared.dynamic.NamedSections.{NamedSections}
-
--- ---- attributes
-
--- the attributes that the layout gives for a symbol
-abbrev pub own_attributes : Symbol → SymbolAttributes
-own_attributes s = record { info = s.info; other = s.other; size = s.size }
-
--- the binding of st_info with another type
-abbrev pub with_type : ℕ → ℕ → ℕ
-with_type info type = info / 16 * 16 + type
-
--- a library's function that a resolver chooses there is a function here
-abbrev pub library_info : ℕ → ℕ
-library_info info = if info % 16 == stt_gnu_ifunc then with_type info stt_func else info
-
--- of a library's symbol neither visibility nor size is told
-abbrev pub library_attributes : ℕ → SymbolAttributes
-library_attributes info = record { info = info; other = 0; size = 0 }
-
--- ---- symbols that other modules define
-
-abbrev pub nowhere_with : SymbolAttributes → SymbolFields
-nowhere_with a = record { section = shn_undef; value = 0; attributes = a }
-
-abbrev pub undefined_fields : FileRole → Symbol → SymbolFields
-undefined_fields role s = nowhere_with (if is_library role then library_attributes (library_info s.info) else own_attributes s)
-
--- ---- symbols that other modules see
-
--- the header index of the first section of a name (gABI, "Special Sections")
-abbrev pub section_named : Layout → List ℕ → Option ℕ
-section_named l name = position_from (λ (s : Section). bytes_eq s.name name) 0 l.sections
-
--- section 0 is none
-abbrev pub some_section : ℕ → Option ℕ
-some_section k = if k == 0 then None else Some k
-
-abbrev pub part_section : Option Part → Option ℕ
-part_section None = None
-part_section (Some p) = some_section p.section
-
--- the sections of symbols that no input section has: of data without bytes in the file, of such thread-local data, of stubs, of
--- slots, and of the slots whose words are packed
-abbrev pub named_sections : Layout → NamedSections
-named_sections l = record {
-  bss = section_named l (codes ".bss");
-  tbss = section_named l (codes ".tbss");
-  stubs = part_section (part_with role.PltGot l.parts);
-  got = part_section (part_with role.Got l.parts);
-  block = part_section (part_with role.GotRelr l.parts);
-}
-
--- in a section, at a value; or that symbol i has none
-abbrev pub in_section : ℕ → Option ℕ → ℕ → SymbolAttributes → Result SymbolFields Fault
-in_section i None value a = Err (faults.MissingResolution missing.Section i)
-in_section i (Some k) value a = Ok (record { section = (split_index k).0; value = value; attributes = a })
-
--- the address that was decided of a symbol; 0 where nothing was
-abbrev pub decided_value : Symbol → ℕ
-decided_value s = unwrap_or (option_map (λ (r : Resolution). r.raw_value) s.resolution) 0
-
-abbrev pub is_thread_symbol : Symbol → Bool
-is_thread_symbol s = s.info % 16 == stt_tls
-
--- of thread-local data the value counts from their beginning (gABI, "Symbol Table", st_value)
-abbrev pub value_in : Layout → Symbol → ℕ
-value_in l s = if is_thread_symbol s then (decided_value s + (2 ^ 64 - l.tls.start)) % 2 ^ 64 else decided_value s
-
--- the function that a resolver chooses is its stub in a program that does not move: pointers to it compare equal
-abbrev pub stands_as_stub : Layout → Symbol → Bool
-stands_as_stub l s = has_flag s.flags ifunc && (is_some (plt_of s) && has_fixed_load_address l.kind)
-
-abbrev pub stub_or_zero : Symbol → ℕ
-stub_or_zero s = unwrap_or (plt_of s) 0
-
-abbrev pub as_function : Symbol → SymbolAttributes
-as_function s = record { info = with_type s.info stt_func; other = s.other; size = s.size }
-
-abbrev pub common_section : Layout → Symbol → Option ℕ
-common_section l s = if is_thread_symbol s then section_named l (codes ".tbss") else section_named l (codes ".bss")
-
--- in its section, or as its stub
-abbrev pub placed_fields : Layout → ℕ → Symbol → Option ℕ → Result SymbolFields Fault
-placed_fields l i s section =
-    if stands_as_stub l s
-    then in_section i (part_section (part_with role.PltGot l.parts)) (stub_or_zero s) (as_function s)
-    else in_section i section (value_in l s) (own_attributes s)
-
--- by its place
-abbrev pub fields_at : Layout → ℕ → Symbol → ℕ → Place → Result SymbolFields Fault
-fields_at l i s section at.Undefined = Ok (nowhere_with (own_attributes s))
-fields_at l i s section at.Absolute = Ok (record { section = shn_abs; value = s.value; attributes = own_attributes s })
-fields_at l i s section at.Common = placed_fields l i s (common_section l s)
-fields_at l i s section other = placed_fields l i s (some_section section)
-
--- a library's function whose stub is its address in every module: one that no section has, with that value (x86-64 psABI,
--- "Function Addresses")
-abbrev pub canonical_fields : ℕ → Symbol → Place → Option ℕ → Result SymbolFields Fault
-canonical_fields i s at.Undefined stub = Ok (nowhere_with (library_attributes s.info))
-canonical_fields i s other None = Err (faults.MissingResolution missing.Stub i)
-canonical_fields i s other (Some stub) = Ok (record { section = shn_undef; value = stub; attributes = library_attributes (with_type s.info stt_func) })
-
--- what is copied from a library stands in .bss
-abbrev pub copied_fields : Layout → ℕ → Symbol → Result SymbolFields Fault
-copied_fields l i s = in_section i (section_named l (codes ".bss")) (decided_value s) (own_attributes s)
-
-abbrev pub listed_by : Layout → ℕ → FileRole → Symbol → ℕ → Result SymbolFields Fault
-listed_by l i role s section =
-    if is_library role && has_flag s.flags canonical_plt then canonical_fields i s s.place (plt_of s)
-    else if is_library role && has_flag s.flags copy_relocation then copied_fields l i s
-    else fields_at l i s section s.place
-
-abbrev pub role_of : Option File → FileRole
-role_of None = file_role.Object
-role_of (Some f) = f.role
-
--- what the entry of symbol i says
-abbrev pub listed_fields : Layout → ℕ → Symbol → Result SymbolFields Fault
-listed_fields l i s = listed_by l i (role_of (file_of (files_of l.groups) i)) s (output_section l (file_of (files_of l.groups) i) s.place)
-
--- ---- entries
+use Rattle.wild_symbols.specs.DynamicFields.{library_attributes, nowhere_with, undefined_fields, listed_fields}
 
 -- a symbol's name, and what its entry says
 pub record NamedFields : Type 0 where

@@ -2,6 +2,8 @@ pub mod Strings
 pub mod Symbols
 pub mod Indexes
 pub mod Tables
+pub mod TableRoom
+pub mod DynamicFields
 pub mod DynamicEntries
 pub mod TableEntries
 pub mod Lending

@@ -24,7 +24,8 @@ use Rattle.wild_plan.specs.Lists.{total}
 use Rattle.wild_symbols.specs.Strings.{string, offset_of, with_strings}
 use Rattle.wild_symbols.specs.Symbols.{symbol_bytes, symbols_used}
 use Rattle.wild_symbols.specs.Indexes.{index_of, index_room}
-use Rattle.wild_symbols.specs.Tables.{told, list_of, indexes_of, with_fields, room_for_fields, room_for_prefix, kept_behind, prefix_of, joined}
+use Rattle.wild_symbols.specs.Tables.{told, list_of, indexes_of, with_fields}
+use Rattle.wild_symbols.specs.TableRoom.{room_for_fields, room_for_prefix, kept_behind, prefix_of, joined}
 use Rattle.wild_symbols.specs.DynamicEntries.{NamedFields, entries_at}
 use Rattle.wild_symbols.specs.TableEntries.{NamedEntry, short, side_entries, long_indexes, index_bytes}
 use Rattle.wild_symbols.specs.TableLaws.{NamedEntryFits, IsEntryOf, names_of}

@@ -17,7 +17,7 @@ use Rattle.wild_plan.specs.declared.layout.Layout.{Layout}
 use Rattle.wild_plan.specs.Faults.{nowhere}
 use Rattle.wild_plan.specs.SymbolSlots.{got_of, plt_of}
 use Rattle.wild_plan.specs.TableSymbols.{TableSymbol, names_slot, names_stub, slot_items, suffix, item_name}
-use Rattle.wild_symbols.specs.Tables.{and_then, room_for_fields}
+use Rattle.wild_symbols.specs.TableRoom.{and_then, room_for_fields}
 use Rattle.wild_symbols.specs.TableEntries.{NamedEntry, slot_role, at_part, table_fields}
 use Rattle.wild_symbols.specs.Runs.{is_ok, called}
 use Rattle.wild_symbols.specs.declared.table.TableFields.{TableFields}

@@ -38,7 +38,8 @@ use Rattle.wild_plan.specs.SlotPlaces.{begins_block}
 use Rattle.wild_plan.specs.SlotShares.{slots_of}
 use Rattle.wild_plan.specs.SymbolSlots.{got_of, plt_of}
 use Rattle.wild_plan.specs.TableSymbols.{TableSymbol, has_table, file_items, item_name, is_local, null_strings, table_strings}
-use Rattle.wild_symbols.specs.DynamicEntries.{with_type, nowhere_with, section_named, some_section, part_section, is_thread_symbol, stands_as_stub, stub_or_zero, common_section, no_fields, entry_at}
+use Rattle.wild_symbols.specs.DynamicFields.{with_type, nowhere_with, section_named, some_section, part_section, is_thread_symbol, stands_as_stub, stub_or_zero, common_section}
+use Rattle.wild_symbols.specs.DynamicEntries.{no_fields, entry_at}
 use Rattle.wild_symbols.specs.declared.writer.SymbolAttributes.{SymbolAttributes}
 use Rattle.wild_symbols.specs.declared.dynamic.SymbolFields.{SymbolFields}
 use Rattle.wild_symbols.specs.declared.table.TableFields.{TableFields}

@@ -6,12 +6,7 @@
 --   with_fields local name t w    one symbol, its longer index and its name more
 --   with_symbol local name s value a w    the same of a symbol in that section, at that value
 --   with_copied name section value s w    a symbol of the layout and its name more
---   room_for_fields local name n w    there is room for these, or InsufficientAllocation
---   left_over w                   no room is left, or ExcessiveAllocation of the first table that has
---   room_for_prefix n m w         there is room for n global symbols and m bytes of strings, or InsufficientAllocation
---   prefix_of n m w               the writer with that room alone; kept_behind n m w is what that leaves behind
---   joined kept w                 the room behind is the writer's again
-use Rattle.std.specs.Prelude.{ℕ, ◌/◌, ◌%◌, ◌==◌, ◌||◌, if◌then◌else◌, Bool, true, false, List, [], Result, Ok, Err, Option, Some, None, slice_get}
+use Rattle.std.specs.Prelude.{ℕ, ◌/◌, ◌%◌, ◌==◌, ◌||◌, if◌then◌else◌, Bool, true, false, List, [], Option, Some, None, slice_get}
 use Rattle.wild_records.specs.Abi.Section.{shn_undef}
 use Rattle.wild_records.specs.Abi.Symbol.{stb_local}
 use Rattle.wild_records.specs.SymbolSections.{split_index}
@@ -20,19 +15,17 @@ use Rattle.wild_records.specs.declared.symbol_section.SymbolSection.{SymbolSecti
 use Rattle.wild_records.specs.declared.symbol_section.SymbolSection.TheVariants.{Raw, Index}
 use Rattle.wild_plan.specs.declared.part.Role.{Role}
 use Rattle.wild_plan.specs.declared.part.Role.TheVariants as role
-use Rattle.wild_plan.specs.declared.fault.Error.{Error}
 use Rattle.wild_plan.specs.declared.symbol.Symbol.{Symbol as LaidOut}
 use Rattle.wild_plan.specs.declared.file.Group.{Group}
 use Rattle.wild_plan.specs.declared.layout.Layout.{Layout}
 use Rattle.wild_plan.specs.Flags.{has_flag, downgrade_to_local}
 use Rattle.wild_plan.specs.Shares.{part_of, share_of}
 use Rattle.wild_plan.specs.TableSymbols.{has_long}
-use Rattle.wild_symbols.specs.Strings.{offset_of, with_string, room_for_string, left_of_strings, room_for_bytes, kept_strings, front_strings, strings_joined}
-use Rattle.wild_symbols.specs.Indexes.{Indexes, with_index, room_for_index, left_of_indexes, room_for_indexes, kept_indexes, front_indexes, indexes_joined}
-use Rattle.wild_symbols.specs.Symbols.{Symbols, with_entry, room_for_entry, left_of_symbols, room_for_entries, kept_symbols, front_symbols, symbols_joined}
+use Rattle.wild_symbols.specs.Strings.{offset_of, with_string}
+use Rattle.wild_symbols.specs.Indexes.{Indexes, with_index}
+use Rattle.wild_symbols.specs.Symbols.{Symbols, with_entry}
 use Rattle.wild_symbols.specs.declared.dynamic.SymbolFields.{SymbolFields}
 use Rattle.wild_symbols.specs.declared.table.TableFields.{TableFields}
-use Rattle.wild_symbols.specs.declared.prefix.KeptBehind.{KeptBehind}
 use Rattle.wild_symbols.specs.declared.writer.SymbolAttributes.{SymbolAttributes}
 use Rattle.wild_symbols.specs.declared.writer.SymbolTableWriter.{SymbolTableWriter}
 
@@ -152,63 +145,3 @@ copied_attributes s = record { info = if has_flag s.flags downgrade_to_local the
 -- a symbol of the layout more, in a section, at a value
 abbrev pub with_copied : List ℕ → SymbolSection → ℕ → LaidOut → SymbolTableWriter → SymbolTableWriter
 with_copied name section value s w = with_symbol (is_local s) name section value (copied_attributes s) w
-
--- ---- room
-
--- the first fault of two tests
-abbrev pub and_then : {X : Type 0} → Result (Unit {0}) Error → Result X Error → Result (Unit {0}) Error
-and_then (Err e) r = Err e
-and_then (Ok t) (Err e) = Err e
-and_then (Ok t) (Ok x) = Ok tt
-
--- there is room for the symbol and its longer index
-abbrev pub room_in_lists : Bool → ℕ → SymbolTableWriter → Result (Unit {0}) Error
-room_in_lists local n w = and_then (room_for_entry (list_of local w)) (room_for_index n (indexes_of local w))
-
--- and for its name
-abbrev pub room_for_fields : Bool → List ℕ → ℕ → SymbolTableWriter → Result (Unit {0}) Error
-room_for_fields local name n w = and_then (room_in_lists local n w) (room_for_string name w.strtab)
-
-abbrev pub room_for_symbol : Bool → List ℕ → SymbolSection → SymbolTableWriter → Result (Unit {0}) Error
-room_for_symbol local name s w = room_for_fields local name (long_of s) w
-
--- no table has room left; else the first that has, in the order of roles
-abbrev pub left_over : SymbolTableWriter → Result (Unit {0}) Error
-left_over w =
-    and_then (and_then (and_then (and_then (left_of_symbols w.locals) (left_of_symbols w.globals)) (left_of_indexes w.local_indexes)) (left_of_indexes w.global_indexes)) (left_of_strings w.strtab)
-
--- ---- the front of a share
-
--- there is room for n global symbols more, and for m bytes of strings
-abbrev pub room_for_prefix : ℕ → ℕ → SymbolTableWriter → Result (Unit {0}) Error
-room_for_prefix n m w = and_then (and_then (room_for_entries n w.globals) (room_for_indexes n w.global_indexes)) (room_for_bytes m w.strtab)
-
--- how many bytes of each table lie behind that
-abbrev pub kept_behind : ℕ → ℕ → SymbolTableWriter → KeptBehind
-kept_behind n m w = record {
-  locals = kept_symbols 0 w.locals;
-  globals = kept_symbols n w.globals;
-  local_indexes = kept_indexes 0 w.local_indexes;
-  global_indexes = kept_indexes n w.global_indexes;
-  strings = kept_strings m w.strtab;
-}
-
--- the writer with room for these alone, and for no local symbol
-abbrev pub prefix_of : ℕ → ℕ → SymbolTableWriter → SymbolTableWriter
-prefix_of n m w = record {
-  locals = front_symbols 0 w.locals;
-  globals = front_symbols n w.globals;
-  local_indexes = front_indexes 0 w.local_indexes;
-  global_indexes = front_indexes n w.global_indexes;
-  strtab = front_strings m w.strtab;
-}
-
--- the writer, to which what is kept behind belongs again
-abbrev pub joined : KeptBehind → SymbolTableWriter → SymbolTableWriter
-joined k w = record {
-  locals = symbols_joined k.locals w.locals;
-  globals = symbols_joined k.globals w.globals;
-  local_indexes = indexes_joined k.local_indexes w.local_indexes;
-  global_indexes = indexes_joined k.global_indexes w.global_indexes;
-  strtab = strings_joined k.strings w.strtab;
-}

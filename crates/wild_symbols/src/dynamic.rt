@@ -3,7 +3,8 @@ ghost use Rattle.std.specs.Prelude.{◌≡◌, ◌<◌};
 ghost use Rattle.wild_records.specs.SymbolSections.{split_index};
 ghost use Rattle.wild_plan.specs.Segments.{part_with};
 ghost use Rattle.wild_plan.specs.SymbolSlots.{plt_of};
-ghost use Rattle.wild_symbols.specs.DynamicEntries.{own_attributes, with_type, library_info, library_attributes, nowhere_with, undefined_fields, section_named, some_section, part_section, named_sections, in_section, decided_value, is_thread_symbol, value_in, stands_as_stub, as_function, common_section, placed_fields, fields_at, canonical_fields, copied_fields, listed_by, no_fields, entry_at};
+ghost use Rattle.wild_symbols.specs.DynamicFields.{own_attributes, with_type, library_info, library_attributes, nowhere_with, undefined_fields, section_named, some_section, part_section, named_sections, in_section, decided_value, is_thread_symbol, value_in, stands_as_stub, as_function, common_section, placed_fields, fields_at, canonical_fields, copied_fields, listed_by};
+ghost use Rattle.wild_symbols.specs.DynamicEntries.{no_fields, entry_at};
 
 use crate::writer::SymbolAttributes;
 use wild_plan::{Fault, FileRole, Layout, Missing, Part, Place, Role, Symbol, has_role};

@@ -3,7 +3,7 @@ ghost use Rattle.std.specs.Prelude.{◌≡◌, ◌+◌, ◌*◌, ◌≤◌, leng
 ghost use Rattle.std.specs.Borrow.{sem};
 ghost use Rattle.wild_records.specs.SymtabEntry.{symtab_entry_size};
 ghost use Rattle.wild_symbols.specs.Symbols.{symbols_used};
-ghost use Rattle.wild_symbols.specs.Tables.{room_for_prefix, kept_behind, prefix_of, joined};
+ghost use Rattle.wild_symbols.specs.TableRoom.{room_for_prefix, kept_behind, prefix_of, joined};
 ghost use Rattle.wild_symbols.specs.Lending.{PrefixOrNone};
 
 use crate::writer::SymbolTableWriter;

@@ -8,7 +8,7 @@ ghost use Rattle.wild_plan.specs.SlotShares.{slots_of};
 ghost use Rattle.wild_plan.specs.SymbolSlots.{got_of, plt_of};
 ghost use Rattle.wild_plan.specs.TableSymbols.{suffix};
 ghost use Rattle.wild_plan.specs.Segments.{part_with};
-ghost use Rattle.wild_symbols.specs.DynamicEntries.{named_sections, part_section};
+ghost use Rattle.wild_symbols.specs.DynamicFields.{named_sections, part_section};
 ghost use Rattle.wild_symbols.specs.TableEntries.{table_info, table_attributes, with_function, short, in_table_section, counted_from, at_address, table_placed, first_or, table_at, table_canonical, table_by, no_attributes, slot_role, fields_of, no_table_fields};
 ghost use Rattle.wild_symbols.specs.SlotNames.{slot_fields};
 

@@ -9,8 +9,9 @@ ghost use Rattle.wild_records.specs.declared.symbol_section.SymbolSection.TheVar
 ghost use Rattle.wild_records.specs.Abi.Section.{shn_abs, shn_undef};
 ghost use Rattle.wild_symbols.specs.Symbols.{symbol_bytes, symbols_used};
 ghost use Rattle.wild_symbols.specs.Indexes.{index_room};
-ghost use Rattle.wild_symbols.specs.Tables.{dynstr_start, strtab_start, symbols_with, indexes_with, no_dynamic_symbols, no_symbols, section_number, long_of, told, list_of, indexes_of, room_in_lists, with_listed, with_fields, with_symbol, with_undefined, is_local, copied_attributes, with_copied, room_for_fields, room_for_symbol, left_over};
-ghost use Rattle.wild_symbols.specs.DynamicEntries.{named_sections};
+ghost use Rattle.wild_symbols.specs.Tables.{dynstr_start, strtab_start, symbols_with, indexes_with, no_dynamic_symbols, no_symbols, section_number, long_of, told, list_of, indexes_of, with_listed, with_fields, with_symbol, with_undefined, is_local, copied_attributes, with_copied};
+ghost use Rattle.wild_symbols.specs.TableRoom.{room_in_lists, room_for_fields, room_for_symbol, left_over};
+ghost use Rattle.wild_symbols.specs.DynamicFields.{named_sections};
 ghost use Rattle.wild_symbols.specs.SlotNames.{slot_entry, slot_names, offered, given, all_offered, all_given};
 ghost use Rattle.wild_symbols.specs.Runs.{defined, undefined, called};
 

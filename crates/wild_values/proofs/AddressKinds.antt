@@ -10,7 +10,7 @@ use Rattle.wild_plan.specs.Treatment.{flags_at, moves}
 use Rattle.wild_layout.specs.declared.decision.Decision.TheVariants.{Moved}
 use Rattle.wild_reloc.specs.declared.info.RelocationKind.TheVariants as kinds
 use Rattle.wild_layout.specs.Decide.{decided}
-use Rattle.wild_layout.specs.Values.{address_of}
+use Rattle.wild_layout.specs.SlotValues.{address_of}
 use Rattle.wild_layout.proofs.DecideLemmas.{decided_moved}
 use Rattle.wild_loader.specs.StepLaws.{StubsOfValuesAreRead}
 use Rattle.wild_loader.specs.declared.world.World.{World}

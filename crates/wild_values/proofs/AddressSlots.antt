@@ -14,13 +14,13 @@ use Rattle.wild_plan.specs.Stub.{far_of}
 use Rattle.wild_plan.specs.SymbolSlots.{has_thread_slot}
 use Rattle.wild_reloc.specs.Formula.{AddressSlot}
 use Rattle.wild_reloc.specs.declared.info.RelocationKind.TheVariants as kinds
-use Rattle.wild_layout.specs.Values.{has_second_slot, behind_word}
+use Rattle.wild_layout.specs.SlotValues.{has_second_slot, behind_word}
 use Rattle.wild_geometry.specs.Slots.{IsLoadedWord}
 use Rattle.wild_loader.specs.StepLaws.{StubsOfValuesAreRead}
 use Rattle.wild_loader.specs.declared.memory.Memory.{Memory}
 use Rattle.wild_loader.specs.declared.world.World.{World}
 use Rattle.wild_meaning.specs.Slot.{HasWord}
-use Rattle.wild_meaning.specs.Value.{IsStub}
+use Rattle.wild_meaning.specs.Denotes.{IsStub}
 use Rattle.wild_values.specs.Terms.{IsPlaced}
 use Rattle.wild_values.proofs.EntryWords.{got_is_address}
 use Rattle.wild_values.proofs.FirstSlots.{HasFirst, first_held, named_held, items_behind}

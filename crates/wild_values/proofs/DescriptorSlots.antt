@@ -16,7 +16,7 @@ use Rattle.wild_plan.specs.declared.slot.Setting.{Setting}
 use Rattle.wild_plan.specs.Slots.{setting_of, number, general, named, is_replaceable, module_item, module_offset, module_offset_item, described, descriptor_item, where_so, offset_item, module_items, descriptor_items, thread_items}
 use Rattle.wild_plan.specs.Storage.{less, is_outside}
 use Rattle.wild_plan.specs.SymbolSlots.{has_thread_slot}
-use Rattle.wild_layout.specs.Values.{behind_word, behind_pair}
+use Rattle.wild_layout.specs.SlotValues.{behind_word, behind_pair}
 use Rattle.wild_loader.specs.Changes.{first_value}
 use Rattle.wild_loader.specs.declared.memory.Memory.{Memory}
 use Rattle.wild_loader.specs.declared.world.World.{World}

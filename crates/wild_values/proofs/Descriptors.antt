@@ -24,7 +24,8 @@ use Rattle.wild_relax.specs.declared.row.DescriptorUse.TheVariants.{LocalExec, I
 use Rattle.wild_relax.specs.declared.row.Row.TheVariants.{DescriptorLea, DescriptorCall}
 use Rattle.wild_relax.specs.Rows.{rows_x86_64, number_of}
 use Rattle.wild_layout.specs.Choice.{question_of, choice_of}
-use Rattle.wild_layout.specs.Values.{term_of, slot_of, behind_word, behind_pair}
+use Rattle.wild_layout.specs.SlotValues.{slot_of, behind_word, behind_pair}
+use Rattle.wild_layout.specs.Values.{term_of}
 use Rattle.wild_meaning.specs.Formula.{KnowsOffsets, HasOffsetMode}
 use Rattle.wild_meaning.specs.Item.{item_of}
 use Rattle.wild_values.specs.Terms.{SymbolsFit}

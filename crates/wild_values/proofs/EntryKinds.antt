@@ -43,7 +43,7 @@ use Rattle.wild_reloc.specs.declared.info.Width.TheVariants.{Eight}
 use Rattle.wild_reloc.proofs.TableLemmas.{entry_passes}
 use Rattle.wild_layout.specs.declared.decision.Decision.TheVariants.{Left}
 use Rattle.wild_layout.specs.Decide.{added, left_to, chosen_to, decide_by, decided}
-use Rattle.wild_layout.specs.Values.{resolution_of, index_of, decided_address}
+use Rattle.wild_layout.specs.SlotValues.{resolution_of, index_of, decided_address}
 use Rattle.wild_layout.proofs.DecideLemmas.{decided_left}
 use Rattle.wild_layout.specs.Geometry.{NamesSymbol}
 use Rattle.wild_layout.proofs.TreatmentLemmas.{has_value, IsLeftBy, IsSizedBy, row_symbolic, row_indirect, row_extent}

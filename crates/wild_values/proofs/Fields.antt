@@ -19,11 +19,13 @@ use Rattle.wild_reloc.specs.FormulaX86_64.{x86_64_formula, x86_64_formulas}
 use Rattle.wild_reloc.specs.declared.info.RelocationKind.{RelocationKind}
 use Rattle.wild_reloc.specs.declared.info.RelocationKind.TheVariants as kinds
 use Rattle.wild_reloc.specs.declared.info.RelocationSize.{RelocationSize}
-use Rattle.wild_layout.specs.Values.{place_of, value_by}
+use Rattle.wild_layout.specs.SymbolValues.{place_of}
+use Rattle.wild_layout.specs.Values.{value_by}
 use Rattle.wild_layout.specs.Sites.{field_site}
 use Rattle.wild_layout.proofs.DecideLemmas.{HasField, field_has_bytes}
 use Rattle.wild_layout.proofs.SiteLemmas.{All-at, field_lies}
-use Rattle.wild_layout.specs.Geometry.{FieldLies, NamesSymbol}
+use Rattle.wild_layout.specs.SectionPlaces.{FieldLies}
+use Rattle.wild_layout.specs.Geometry.{NamesSymbol}
 use Rattle.wild_layout.specs.Numbers.{AddendFits}
 use Rattle.wild_meaning.specs.Item.{place_at, item_of}
 use Rattle.wild_meaning.specs.Field.{formula_of, form_width, FieldReads}

@@ -4,7 +4,8 @@ use Rattle.wild_plan.specs.declared.symbol.ValueFlags.{ValueFlags}
 use Rattle.wild_plan.specs.declared.layout.Layout.{Layout}
 use Rattle.wild_plan.specs.Flags.{has_flag, interposable, absolute, dynamic}
 use Rattle.wild_plan.specs.Treatment.{flags_at}
-use Rattle.wild_layout.specs.Values.{is_chosen, address_of, raw_address}
+use Rattle.wild_layout.specs.SymbolValues.{raw_address}
+use Rattle.wild_layout.specs.SlotValues.{is_chosen, address_of}
 use Rattle.wild_loader.specs.declared.memory.Memory.{Memory}
 use Rattle.wild_loader.specs.declared.world.World.{World}
 use Rattle.wild_meaning.specs.Value.{HasValue, IsAbsolute, IsReplaceable, moved}

@@ -4,7 +4,7 @@ use Rattle.wild_plan.specs.declared.input.InputRelocation.{InputRelocation}
 use Rattle.wild_plan.specs.declared.input.InputSection.{InputSection}
 use Rattle.wild_plan.specs.declared.layout.Layout.{Layout}
 use Rattle.wild_reloc.specs.declared.info.RelocationKind.{RelocationKind}
-use Rattle.wild_layout.specs.Values.{displacement, place_of}
+use Rattle.wild_layout.specs.SymbolValues.{displacement, place_of}
 use Rattle.wild_loader.specs.declared.memory.Memory.{Memory}
 use Rattle.wild_loader.specs.declared.world.World.{World}
 use Rattle.wild_meaning.specs.Formula.{table_at}

@@ -29,7 +29,9 @@ use Rattle.wild_relax.specs.RewriteX86_64.{rewrite_of}
 use Rattle.wild_layout.specs.Choice.{question_of}
 use Rattle.wild_layout.specs.Geometry.{NamesSymbol}
 use Rattle.wild_layout.specs.Sites.{field_site}
-use Rattle.wild_layout.specs.Values.{is_chosen, address_of, displacement, place_of, term_of, value_by}
+use Rattle.wild_layout.specs.SymbolValues.{displacement, place_of}
+use Rattle.wild_layout.specs.SlotValues.{is_chosen, address_of}
+use Rattle.wild_layout.specs.Values.{term_of, value_by}
 use Rattle.wild_layout.proofs.ChoiceLemmas.{IsChosen}
 use Rattle.wild_layout.proofs.DecideLemmas.{HasField}
 use Rattle.wild_layout.proofs.SiteLemmas.{All-at}

@@ -17,7 +17,10 @@ use Rattle.wild_relax.specs.First.{first_standing, checked}
 use Rattle.wild_relax.specs.Pattern.{stands_before, stands_at}
 use Rattle.wild_relax.specs.Question.{Question, relocation_of, minus_four}
 use Rattle.wild_relax.specs.Relaxation.{chosen_of}
-use Rattle.wild_relax.specs.Rows.{rows_x86_64, number_of, always_pattern, counts_from_its_end, is_mandatory, is_thread_local, takes_section, takes_symbol, takes_value, stands_anywhere, applies, has_its_sequence, unknown_sequence, standing_x86_64, chosen_x86_64}
+use Rattle.wild_relax.specs.RowPatterns.{always_pattern, counts_from_its_end}
+use Rattle.wild_relax.specs.RowSymbols.{is_thread_local, takes_section, takes_symbol, takes_value}
+use Rattle.wild_relax.specs.RowSequences.{has_its_sequence}
+use Rattle.wild_relax.specs.Rows.{rows_x86_64, number_of, is_mandatory, stands_anywhere, applies, unknown_sequence, standing_x86_64, chosen_x86_64}
 use Rattle.wild_layout.specs.Choice.{question_of, choice_by, choice_of}
 use Rattle.wild_layout.proofs.ChoiceLemmas.{IsChosen}
 use Rattle.wild_values.proofs.Tests.{both_of}

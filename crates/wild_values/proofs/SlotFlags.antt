@@ -11,7 +11,7 @@ use Rattle.wild_plan.specs.Lists.{first_failing}
 use Rattle.wild_plan.specs.ResolvedFlags.{HasItsFlags}
 use Rattle.wild_plan.specs.SlotFlags.{dynamic_is_interposable, stub_is_value, stub_has_slot, one_slot_for_address, thread_slot_alone, resolver_is_own, slot_agrees, resolver_moves}
 use Rattle.wild_plan.specs.SymbolSlots.{got_of, plt_of, has_thread_slot}
-use Rattle.wild_plan.specs.WellFormed.{fails, check_dynsyms, check_slot_flags}
+use Rattle.wild_plan.specs.ClauseTests.{fails, check_dynsyms, check_slot_flags}
 use Rattle.wild_plan.proofs.ListLemmas.{All-from_none_fails}
 use Rattle.wild_layout.specs.Numbers.{SymbolNumbers}
 use Rattle.wild_layout.proofs.SiteLemmas.{All-at}

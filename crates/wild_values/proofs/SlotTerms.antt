@@ -6,7 +6,7 @@ use Rattle.wild_plan.specs.declared.symbol.Resolution.{Resolution}
 use Rattle.wild_plan.specs.declared.layout.Layout.{Layout}
 use Rattle.wild_reloc.specs.Formula.{Slot}
 use Rattle.wild_reloc.specs.declared.info.RelocationKind.{RelocationKind}
-use Rattle.wild_layout.specs.Values.{resolution_of, slot_among, slot_decided, slot_address, slot_of}
+use Rattle.wild_layout.specs.SlotValues.{resolution_of, slot_among, slot_decided, slot_address, slot_of}
 use Rattle.wild_loader.specs.declared.memory.Memory.{Memory}
 use Rattle.wild_loader.specs.declared.world.World.{World}
 use Rattle.wild_meaning.specs.Slot.{HoldsSlot, IsSlot}

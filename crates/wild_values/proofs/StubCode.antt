@@ -11,7 +11,7 @@ use Rattle.wild_loader.specs.declared.memory.Memory.{Memory}
 use Rattle.wild_loader.specs.Memory.{byte_in, number_in, Holds}
 use Rattle.wild_loader.specs.StepLaws.{IsSigned32, StubsOfValuesAreRead, stub_bytes}
 use Rattle.wild_meaning.specs.Slot.{HasWord}
-use Rattle.wild_meaning.specs.Value.{JumpsTo}
+use Rattle.wild_meaning.specs.Denotes.{JumpsTo}
 
 -- ---- addresses of loaded bytes
 

@@ -9,9 +9,10 @@ use Rattle.wild_plan.specs.declared.layout.Layout.{Layout}
 use Rattle.wild_plan.specs.Flags.{has_flag, absolute, ifunc}
 use Rattle.wild_plan.specs.Lookups.{canonical}
 use Rattle.wild_plan.specs.Treatment.{flags_at}
-use Rattle.wild_layout.specs.Values.{resolution_of, stub_of}
+use Rattle.wild_layout.specs.SlotValues.{resolution_of, stub_of}
 use Rattle.wild_meaning.specs.Reference.{IsStubbed}
-use Rattle.wild_meaning.specs.Value.{IsSymbol, IsDefinedBy, IsResolved, IsUnresolved, StandsAt, HasRaw, HasFlag, HasStub}
+use Rattle.wild_meaning.specs.Value.{IsSymbol, IsDefinedBy, IsResolved, IsUnresolved, StandsAt, HasRaw, HasFlag}
+use Rattle.wild_meaning.specs.Denotes.{HasStub}
 use Rattle.wild_values.proofs.Symbols.{IsResolvedBy, resolved, resolved_raw, resolved_flag, canonical_is, flags_are}
 
 -- ---- what is one of its kind

@@ -11,12 +11,13 @@ use Rattle.wild_plan.specs.Lookups.{canonical}
 use Rattle.wild_plan.specs.Slots.{setting_of, stub_item, stub_items, ifunc_address_items, canonical_address_items}
 use Rattle.wild_plan.specs.Stub.{stub_x86_64, far_between, far_of}
 use Rattle.wild_plan.specs.SymbolSlots.{resolved_got, resolved_plt, plt_of, has_thread_slot}
-use Rattle.wild_layout.specs.Values.{resolution_of, stub_of, stub_address}
+use Rattle.wild_layout.specs.SlotValues.{resolution_of, stub_of, stub_address}
 use Rattle.wild_loader.specs.StepLaws.{StubsOfValuesAreRead}
 use Rattle.wild_loader.specs.declared.memory.Memory.{Memory}
 use Rattle.wild_loader.specs.declared.world.World.{World}
 use Rattle.wild_meaning.specs.Formula.{IsTarget}
-use Rattle.wild_meaning.specs.Value.{Denotes, HasValue, HasStub, IsStub, JumpsTo, Reaches}
+use Rattle.wild_meaning.specs.Value.{HasValue}
+use Rattle.wild_meaning.specs.Denotes.{Denotes, HasStub, IsStub, JumpsTo, Reaches}
 use Rattle.wild_values.specs.Terms.{IsPlaced}
 use Rattle.wild_values.proofs.FirstSlots.{HasFirst, first_held, items_behind}
 use Rattle.wild_values.proofs.SlotContents.{ItemsHold}

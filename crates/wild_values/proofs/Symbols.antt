@@ -11,7 +11,8 @@ use Rattle.wild_plan.specs.declared.layout.Layout.{Layout}
 use Rattle.wild_plan.specs.Flags.{has_flag}
 use Rattle.wild_plan.specs.Lookups.{canonical}
 use Rattle.wild_plan.specs.Treatment.{flags_at}
-use Rattle.wild_layout.specs.Values.{definition_of, resolution_of, is_nowhere, is_undefined, symbol_size}
+use Rattle.wild_layout.specs.SymbolValues.{definition_of, is_nowhere, is_undefined, symbol_size}
+use Rattle.wild_layout.specs.SlotValues.{resolution_of}
 use Rattle.wild_layout.specs.Geometry.{DefinitionNames}
 use Rattle.wild_meaning.specs.Value.{IsSymbol, IsDefinedBy, IsUndefined, HasRaw, HasFlag, HasOwnSize, IsReplaceable, may_be_replaced}
 

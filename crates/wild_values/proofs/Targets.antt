@@ -7,7 +7,8 @@ use Rattle.wild_plan.specs.declared.symbol.ValueFlags.{ValueFlags}
 use Rattle.wild_plan.specs.declared.layout.Layout.{Layout}
 use Rattle.wild_plan.specs.Flags.{has_flag, absolute, ifunc}
 use Rattle.wild_plan.specs.Treatment.{flags_at}
-use Rattle.wild_layout.specs.Values.{is_chosen, address_of, raw_address, stub_of}
+use Rattle.wild_layout.specs.SymbolValues.{raw_address}
+use Rattle.wild_layout.specs.SlotValues.{is_chosen, address_of, stub_of}
 use Rattle.wild_loader.specs.StepLaws.{StubsOfValuesAreRead}
 use Rattle.wild_loader.specs.declared.memory.Memory.{Memory}
 use Rattle.wild_loader.specs.declared.world.World.{World}

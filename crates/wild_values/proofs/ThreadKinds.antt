@@ -14,7 +14,8 @@ use Rattle.wild_plan.specs.Treatment.{pointer_treatment}
 use Rattle.wild_reloc.specs.Agreement.{plain_value}
 use Rattle.wild_reloc.specs.declared.info.RelocationKind.{RelocationKind}
 use Rattle.wild_reloc.specs.declared.info.RelocationKind.TheVariants as kinds
-use Rattle.wild_layout.specs.Values.{less, thread_pointer, storage_start, raw_address, behind, pointer_offset, is_undefined}
+use Rattle.wild_layout.specs.SymbolValues.{less, thread_pointer, storage_start, raw_address, is_undefined}
+use Rattle.wild_layout.specs.Values.{behind, pointer_offset}
 use Rattle.wild_loader.specs.declared.world.World.{World}
 use Rattle.wild_loader.specs.declared.memory.Memory.{Memory}
 use Rattle.wild_meaning.specs.Item.{item_of}

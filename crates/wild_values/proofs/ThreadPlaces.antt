@@ -16,7 +16,7 @@ use Rattle.wild_plan.specs.Storage.{less, thread_pointer}
 use Rattle.wild_plan.specs.SymbolSlots.{has_thread_slot}
 use Rattle.wild_reloc.specs.Formula.{ThreadOffset, ModulePair, OwnModulePair}
 use Rattle.wild_reloc.specs.declared.info.RelocationKind.TheVariants as kinds
-use Rattle.wild_layout.specs.Values.{behind_word}
+use Rattle.wild_layout.specs.SlotValues.{behind_word}
 use Rattle.wild_geometry.specs.Slots.{HasWords}
 use Rattle.wild_loader.specs.declared.memory.Memory.{Memory}
 use Rattle.wild_loader.specs.declared.world.World.{World}

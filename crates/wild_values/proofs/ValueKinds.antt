@@ -16,7 +16,9 @@ use Rattle.wild_plan.specs.Treatment.{flags_at, is_sized, where_there, address_t
 use Rattle.wild_reloc.specs.Agreement.{plain_value}
 use Rattle.wild_reloc.specs.declared.info.RelocationKind.{RelocationKind}
 use Rattle.wild_reloc.specs.declared.info.RelocationKind.TheVariants as kinds
-use Rattle.wild_layout.specs.Values.{address_of, symbol_size, term_of, place_of}
+use Rattle.wild_layout.specs.SymbolValues.{symbol_size, place_of}
+use Rattle.wild_layout.specs.SlotValues.{address_of}
+use Rattle.wild_layout.specs.Values.{term_of}
 use Rattle.wild_loader.specs.StepLaws.{StubsOfValuesAreRead}
 use Rattle.wild_loader.specs.declared.world.World.{World}
 use Rattle.wild_loader.specs.declared.memory.Memory.{Memory}

@@ -10,7 +10,8 @@ use Rattle.wild_plan.specs.declared.layout.Layout.{Layout}
 use Rattle.wild_plan.specs.Lookups.{is_loaded, is_read}
 use Rattle.wild_plan.specs.ResolvedFlags.{HaveTheirFlags}
 use Rattle.wild_layout.specs.Numbers.{AddendFits, NumbersFit}
-use Rattle.wild_layout.specs.Geometry.{IsLaidOut, SectionLies, NamesSymbol, EachSection}
+use Rattle.wild_layout.specs.SectionPlaces.{SectionLies}
+use Rattle.wild_layout.specs.Geometry.{IsLaidOut, NamesSymbol, EachSection}
 use Rattle.wild_loader.specs.declared.memory.Memory.{Memory}
 use Rattle.wild_loader.specs.declared.world.World.{World}
 use Rattle.wild_meaning.specs.Item.{IsInput}

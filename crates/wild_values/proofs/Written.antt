@@ -15,7 +15,7 @@ use Rattle.wild_reloc.specs.declared.info.RelocationSize.{RelocationSize}
 use Rattle.wild_plan.specs.Rows.{row_of}
 use Rattle.wild_layout.specs.declared.decision.Decision.{Decision}
 use Rattle.wild_layout.specs.declared.decision.Decision.TheVariants.{Nothing, Field, Moved, Left, Rewritten, Partner}
-use Rattle.wild_layout.specs.Values.{address_or, raw_address}
+use Rattle.wild_layout.specs.SymbolValues.{address_or, raw_address}
 use Rattle.wild_plan.specs.Addresses.{raw_value}
 use Rattle.wild_plan.specs.declared.treatment.Treatment.{Treatment}
 use Rattle.wild_plan.specs.Treatment.{treatment, kind_treatment}

@@ -13,11 +13,12 @@ use Rattle.wild_plan.specs.Kinds.{is_position_independent}
 use Rattle.wild_plan.specs.Lookups.{allocated}
 use Rattle.wild_plan.specs.ResolvedFlags.{HaveTheirFlags}
 use Rattle.wild_plan.specs.Treatment.{kind_treatment}
-use Rattle.wild_plan.specs.WellFormed.{check_dynsyms, check_slot_flags}
+use Rattle.wild_plan.specs.ClauseTests.{check_dynsyms, check_slot_flags}
 use Rattle.wild_reloc.specs.Agreement.{plain_value}
 use Rattle.wild_reloc.specs.declared.info.RelocationKind.{RelocationKind}
 use Rattle.wild_reloc.specs.declared.info.RelocationKindInfo.{RelocationKindInfo}
-use Rattle.wild_layout.specs.Values.{term_of, place_of, value_by}
+use Rattle.wild_layout.specs.SymbolValues.{place_of}
+use Rattle.wild_layout.specs.Values.{term_of, value_by}
 use Rattle.wild_layout.specs.Geometry.{DefinitionNames, NamesSymbol}
 use Rattle.wild_layout.specs.Numbers.{SymbolNumbers}
 use Rattle.wild_geometry.specs.Slots.{HasSlots}

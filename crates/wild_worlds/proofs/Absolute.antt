@@ -6,14 +6,14 @@ use Rattle.wild_plan.specs.declared.layout.Layout.{Layout}
 use Rattle.wild_plan.specs.Flags.{has_flag, absolute, ifunc}
 use Rattle.wild_plan.specs.Lists.{first_failing}
 use Rattle.wild_plan.specs.SlotFlags.{dynamic_is_interposable, stub_is_value, stub_has_slot, one_slot_for_address, thread_slot_alone, resolver_is_own, slot_agrees, resolver_moves}
-use Rattle.wild_plan.specs.WellFormed.{fails, check_slot_flags}
+use Rattle.wild_plan.specs.ClauseTests.{fails, check_slot_flags}
 use Rattle.wild_plan.proofs.ListLemmas.{All-from_none_fails}
 use Rattle.wild_layout.specs.Geometry.{LayoutsAreLaidOut}
 use Rattle.wild_layout.proofs.SiteLemmas.{All-at}
 use Rattle.wild_geometry.proofs.ClauseLemmas.{Both-from_first_error, None-from_fails}
 use Rattle.wild_laws.proofs.NoErrors.{laid_out}
 use Rattle.wild_laws.proofs.Symbols.{one_symbol}
-use Rattle.wild_worlds.specs.Premises.{ResolversAreNotAbsolute}
+use Rattle.wild_worlds.specs.References.{ResolversAreNotAbsolute}
 
 resolver_clause : (l : Layout) → check_slot_flags l ≡ Ok tt → fails 14 (first_failing resolver_moves 0 l.symbols) ≡ Ok tt
 unfolding check_slot_flags

@@ -10,7 +10,7 @@ use Rattle.wild_plan.specs.declared.symbol.Symbol.{Symbol}
 use Rattle.wild_plan.specs.declared.layout.Layout.{Layout}
 use Rattle.wild_plan.specs.Flags.{has_flag, absolute, ifunc}
 use Rattle.wild_plan.specs.DynamicSymbols.{dynamic_symbols, is_named, has_position, dynsym_of, position_fits, misplaced, misfit, first_listed}
-use Rattle.wild_plan.specs.WellFormed.{fails, check_dynsyms}
+use Rattle.wild_plan.specs.ClauseTests.{fails, check_dynsyms}
 use Rattle.wild_layout.specs.Numbers.{SymbolNumbers}
 use Rattle.wild_layout.specs.Geometry.{IsLaidOut}
 use Rattle.wild_layout.proofs.SiteLemmas.{All-at}
@@ -20,7 +20,7 @@ use Rattle.wild_loader.specs.declared.world.World.{World}
 use Rattle.wild_loader.specs.Changes.{answer_at}
 use Rattle.wild_meaning.specs.Value.{IsSymbol, IsDefinedBy, IsResolved, IsUnresolved, StandsAt, HasRaw, IsReplaceable, IsValue, HasAnswer, moved, may_be_replaced}
 use Rattle.wild_meaning.specs.World.{IsKnownModule, IsAnswer, IsOwnAnswer, HasCopy, HasRoomFor, AreBeside, AnswersSymbols, first_module}
-use Rattle.wild_worlds.specs.Premises.{AreAnswered, AreAddresses, Others, AreNumbers, IsOthers, CopiesHaveRoom, IsTold, other_module}
+use Rattle.wild_worlds.specs.Worlds.{AreAnswered, AreAddresses, Others, AreNumbers, IsOthers, CopiesHaveRoom, IsTold, other_module}
 use Rattle.wild_laws.proofs.Symbols.{one_definition, one_symbol}
 
 -- ---- an index is the position of one symbol

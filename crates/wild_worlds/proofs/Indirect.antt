@@ -9,7 +9,7 @@ use Rattle.wild_loader.specs.declared.world.World.{World}
 use Rattle.wild_loader.specs.Changes.{answer_at}
 use Rattle.wild_meaning.specs.Value.{IsDefinedBy, IsResolved, HasRaw, HasFlag, HasOwnValue}
 use Rattle.wild_meaning.specs.World.{HasResolver, IsAnsweredOnce, IsLegal}
-use Rattle.wild_worlds.specs.Premises.{ResolversAnswer, WorldsAnswer}
+use Rattle.wild_worlds.specs.Symbols.{ResolversAnswer, WorldsAnswer}
 use Rattle.wild_laws.proofs.Symbols.{one_symbol, one_answer, some_flag, own_value, given_value, answered_value}
 use Rattle.wild_worlds.proofs.Resolvers.{once_answered}
 

@@ -17,7 +17,8 @@ use Rattle.wild_reloc.specs.Formula.{Value, Formula, SymbolAddress}
 use Rattle.wild_loader.specs.declared.memory.Memory.{Memory}
 use Rattle.wild_loader.specs.declared.world.World.{World}
 use Rattle.wild_meaning.specs.World.{IsFixed, IsMovable, IsLoadable}
-use Rattle.wild_meaning.specs.Value.{HasRaw, HasFlag, HasStub, HasOwnValue, IsReplaceable, Denotes, Reaches, IsAbsolute}
+use Rattle.wild_meaning.specs.Value.{HasRaw, HasFlag, HasOwnValue, IsReplaceable, IsAbsolute}
+use Rattle.wild_meaning.specs.Denotes.{HasStub, Denotes, Reaches}
 use Rattle.wild_meaning.specs.Item.{Item}
 use Rattle.wild_meaning.specs.Field.{formula_of}
 use Rattle.wild_meaning.specs.Formula.{IsPlaceRelative, TakesAddress, TakesOffset}
@@ -25,7 +26,9 @@ use Rattle.wild_meaning.specs.Section.{IsSet}
 use Rattle.wild_meaning.specs.Sequence.{Sort, TargetInSlot, Partner, Instruction, instructions_of}
 use Rattle.wild_meaning.specs.Template.{IsTemplate}
 use Rattle.wild_meaning.specs.Reference.{HasPlace, GoesThroughSlot, IsExcepted, IsAsked, IsLeftToLoader, IsStubbed, TakesItself, IsLinkedAlone}
-use Rattle.wild_worlds.specs.Premises.{KindsAreLoaded, SectionsAreKept, RelocationsRefer, ReferencesAreAsked, SlotsAreAsked, FewAreLinkedAlone, BlanksAreAsked, AddressesMove, ResolversAreNotAbsolute}
+use Rattle.wild_worlds.specs.Worlds.{KindsAreLoaded}
+use Rattle.wild_worlds.specs.References.{SectionsAreKept, RelocationsRefer, ReferencesAreAsked, SlotsAreAsked, FewAreLinkedAlone, BlanksAreAsked, ResolversAreNotAbsolute}
+use Rattle.wild_worlds.specs.Symbols.{AddressesMove}
 use Rattle.wild_laws.proofs.Bits.{bit_alloc, thread_local_bit}
 use Rattle.wild_laws.proofs.Sequences.{passes}
 use Rattle.wild_laws.proofs.Symbols.{not_both, not_replaceable, own_value, moved_value}

@@ -13,7 +13,7 @@ use Rattle.wild_loader.specs.declared.world.World.{World}
 use Rattle.wild_loader.specs.Given.{known}
 use Rattle.wild_loader.specs.Changes.{first_value, answer_at}
 use Rattle.wild_meaning.specs.World.{HasResolver}
-use Rattle.wild_worlds.specs.Premises.{HasResolvers, AreAnswered, AreAddresses, NoneHasNone}
+use Rattle.wild_worlds.specs.Worlds.{HasResolvers, AreAnswered, AreAddresses, NoneHasNone}
 
 -- ---- one pair for a key
 

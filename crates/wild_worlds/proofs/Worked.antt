@@ -18,7 +18,7 @@ use Rattle.wild_meaning.specs.Sequence.{Instruction, size_of, instructions_of, I
 use Rattle.wild_meaning.specs.Template.{CountsFromItsEnd, IsInstruction, IsSequence}
 use Rattle.wild_laws.proofs.Sequences.{passes}
 use Rattle.wild_laws.proofs.Symbols.{not_both}
-use Rattle.wild_worlds.specs.Premises.{WorkedBranchesAreAsked, WorkedAddressesAreAsked, IsWorked, IsPaired, AsksForThreadAddress, worked_relocation, worked_item, direct_code, indirect_code, load_code, direct_branch, indirect_branch, load, general, pair_relocation, getter_relocation, general_item}
+use Rattle.wild_worlds.specs.Worked.{WorkedBranchesAreAsked, WorkedAddressesAreAsked, IsWorked, IsPaired, AsksForThreadAddress, worked_relocation, worked_item, direct_code, indirect_code, load_code, direct_branch, indirect_branch, load, general, pair_relocation, getter_relocation, general_item}
 
 -- ---- one instruction
 

@@ -1,1 +1,4 @@
-pub mod Premises
+pub mod Worlds
+pub mod References
+pub mod Symbols
+pub mod Worked

@@ -1,7 +1,10 @@
 //! The premises of soundness are met: there are legal worlds, and references that are asked in them.
 #![tactic(auto)]
 
-ghost use Rattle.wild_worlds.specs.Premises.{ZeroIsLegal, MovedIsLegal, NoneHasNone, WorldsAreThere, KindsAreLoaded, SectionsAreKept, RelocationsRefer, ReferencesAreAsked, SlotsAreAsked, FewAreLinkedAlone, BlanksAreAsked, AddressesMove, ResolversAnswer, WorldsAnswer, OffsetsCount, WorkedAddressesAreAsked, WorkedBranchesAreAsked};
+ghost use Rattle.wild_worlds.specs.Worlds.{ZeroIsLegal, MovedIsLegal, NoneHasNone, WorldsAreThere, KindsAreLoaded};
+ghost use Rattle.wild_worlds.specs.References.{SectionsAreKept, RelocationsRefer, ReferencesAreAsked, SlotsAreAsked, FewAreLinkedAlone, BlanksAreAsked};
+ghost use Rattle.wild_worlds.specs.Symbols.{AddressesMove, ResolversAnswer, WorldsAnswer, OffsetsCount};
+ghost use Rattle.wild_worlds.specs.Worked.{WorkedAddressesAreAsked, WorkedBranchesAreAsked};
 
 use wild_geometry::layouts_are_laid_out;
 use wild_values::thread_places_are_known;

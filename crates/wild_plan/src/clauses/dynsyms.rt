@@ -5,7 +5,7 @@ ghost use Rattle.std.specs.Result.{IfOk};
 ghost use Rattle.wild_plan.specs.DynamicSymbols.{gives_entry, is_undefined_entry, dynsym_of, undefined_entries, dynamic_symbols, misplaced};
 ghost use Rattle.wild_plan.specs.Lookups.{files_of};
 ghost use Rattle.wild_plan.specs.Positions.{lists, is_at, fits_at, run_walk, file_walk, files_walk, groups_walk, whole_walk, count_in, undefined_of, undefined_of_group, undefined_count};
-ghost use Rattle.wild_plan.specs.WellFormed.{check_indexes, check_dynsyms};
+ghost use Rattle.wild_plan.specs.ClauseTests.{check_indexes, check_dynsyms};
 
 use crate::clauses::astray::some_from;
 use crate::clauses::fails;
@@ -255,7 +255,7 @@ fn misplaced(layout: &Layout, undefined: usize) -> Option<usize>
 }
 
 /// It is asked where the indexes hold.
-#[tactic(auto, unfolding(crate::specs::WellFormed::check_dynsyms))]
+#[tactic(auto, unfolding(crate::specs::ClauseTests::check_dynsyms))]
 pub(crate) fn check_dynsyms(layout: &Layout) -> Result<(), Clause>
     requires indexes { check_indexes layout.now ≡ Ok tt }
     ensures { result ≡ check_dynsyms layout.now }

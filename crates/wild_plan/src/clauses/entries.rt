@@ -2,8 +2,9 @@
 ghost use Rattle.std.specs.Prelude.{◌≡◌};
 ghost use Rattle.std.specs.List.{list_any};
 ghost use Rattle.wild_plan.specs.Lists.{first_failing, total};
-ghost use Rattle.wild_plan.specs.Segments.{is_segment_of, dynamic_astray, part_with, is_entry_role, entry_parts, bytes_in, holds_entries, entries_astray, stands_in_entries, is_table_role, is_look_up_role, is_hash_role, has_hashes, is_asked_whole, carries_part, carries_rest, carries_table, rest_of_table, table_is_loaded};
-ghost use Rattle.wild_plan.specs.WellFormed.{check_entries};
+ghost use Rattle.wild_plan.specs.Segments.{is_segment_of, dynamic_astray, part_with};
+ghost use Rattle.wild_plan.specs.LoadedTables.{is_entry_role, entry_parts, bytes_in, holds_entries, entries_astray, stands_in_entries, is_table_role, is_look_up_role, is_hash_role, has_hashes, is_asked_whole, carries_part, carries_rest, carries_table, rest_of_table, table_is_loaded};
+ghost use Rattle.wild_plan.specs.ClauseTests.{check_entries};
 
 use crate::clauses::fails;
 use crate::clauses::roles::is_fixed_static;
@@ -122,7 +123,7 @@ fn part_outside_entries(layout: &Layout, parts: &[Part]) -> Option<usize>
         .position(|part| !stands_in_entries(layout, part))
 }
 
-#[tactic(auto, unfolding(crate::specs::WellFormed::check_entries))]
+#[tactic(auto, unfolding(crate::specs::ClauseTests::check_entries))]
 pub(crate) fn check_entries(layout: &Layout) -> Result<(), Clause>
     ensures { result ≡ check_entries layout.now }
 {

@@ -1,7 +1,7 @@
 //! Clause 17: the shapes of the hash tables, and the order of the symbols that GNU's table has.
 ghost use Rattle.std.specs.Prelude.{◌≡◌, ◌≤◌, true, Ok};
 ghost use Rattle.wild_plan.specs.HashShapes.{sysv_fits, gnu_shape_fits, gnu_fits, bucket_of, bucket_below, bucket_astray};
-ghost use Rattle.wild_plan.specs.WellFormed.{check_indexes, check_hashes};
+ghost use Rattle.wild_plan.specs.ClauseTests.{check_indexes, check_hashes};
 
 use crate::clauses::dynsyms::exact_count;
 use crate::clauses::{fails, unless};
@@ -78,7 +78,7 @@ fn bucket_astray(layout: &Layout) -> Option<usize>
 }
 
 /// It is asked where the indexes hold.
-#[tactic(auto, unfolding(crate::specs::WellFormed::check_hashes))]
+#[tactic(auto, unfolding(crate::specs::ClauseTests::check_hashes))]
 pub(crate) fn check_hashes(layout: &Layout) -> Result<(), Clause>
     requires indexes { check_indexes layout.now ≡ Ok tt }
     ensures { result ≡ check_hashes layout.now }

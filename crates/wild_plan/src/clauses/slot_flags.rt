@@ -3,7 +3,7 @@ ghost use Rattle.std.specs.Prelude.{◌≡◌};
 ghost use Rattle.wild_plan.specs.Lists.{first_failing};
 ghost use Rattle.wild_plan.specs.SymbolSlots.{got_of, plt_of, has_dynamic_symbol, has_thread_slot};
 ghost use Rattle.wild_plan.specs.SlotFlags.{dynamic_is_interposable, is_value, stub_is_value, stub_has_slot, one_slot_for_address, thread_slot_alone, resolver_is_own, slot_agrees, resolver_moves, takes_block_word, second_slot_fits};
-ghost use Rattle.wild_plan.specs.WellFormed.{check_slot_flags};
+ghost use Rattle.wild_plan.specs.ClauseTests.{check_slot_flags};
 
 use crate::clauses::fails;
 use crate::fault::Clause;
@@ -187,7 +187,7 @@ fn second_slot_in_block(layout: &Layout, symbols: &[Symbol]) -> Option<usize>
         .position(|symbol| !second_slot_fits(layout, symbol))
 }
 
-#[tactic(auto, unfolding(crate::specs::WellFormed::check_slot_flags))]
+#[tactic(auto, unfolding(crate::specs::ClauseTests::check_slot_flags))]
 pub(crate) fn check_slot_flags(layout: &Layout) -> Result<(), Clause>
     ensures { result ≡ check_slot_flags layout.now }
 {

@@ -2,7 +2,7 @@
 ghost use Rattle.std.specs.Prelude.{◌≡◌, ◌+◌, ◌-◌, ◌*◌, ◌^◌, ◌<◌, ◌≤◌, length, slice_range, IfOk, IfSome};
 ghost use Rattle.wild_plan.specs.Lists.{first_failing};
 ghost use Rattle.wild_plan.specs.SlotPlaces.{start_of, IsBounded, first_free, begins_block, stands_at, stands_next, behind, walk, symbol_step, passed_without, is_without, slot_before, file_step, group_step, slots_astray, pair_follows};
-ghost use Rattle.wild_plan.specs.WellFormed.{check_slots};
+ghost use Rattle.wild_plan.specs.ClauseTests.{check_slots};
 
 use crate::clauses::slot_flags::{got_of, plt_of};
 use crate::clauses::slot_parts::{block_at_zero, block_unasked, odd_slot};
@@ -246,7 +246,7 @@ fn pair_follows(layout: &Layout) -> bool
     stands_at(free, layout.tlsld)
 }
 
-#[tactic(auto, unfolding(crate::specs::WellFormed::check_slots))]
+#[tactic(auto, unfolding(crate::specs::ClauseTests::check_slots))]
 pub(crate) fn check_slots(layout: &Layout) -> Result<(), Clause>
     ensures { result ≡ check_slots layout.now }
 {

@@ -1,7 +1,7 @@
 //! Clause 16: where a group's strings and symbols begin.
 ghost use Rattle.std.specs.Prelude.{ℕ, ◌≡◌, ◌+◌, ◌-◌, ◌*◌, ◌^◌, ◌≤◌};
-ghost use Rattle.wild_plan.specs.Contents.{AreBelow, given_at, place_with, start_places, no_starts, starts_behind, begins_at, start_astray};
-ghost use Rattle.wild_plan.specs.WellFormed.{check_starts};
+ghost use Rattle.wild_plan.specs.GroupStarts.{AreBelow, given_at, place_with, start_places, no_starts, starts_behind, begins_at, start_astray};
+ghost use Rattle.wild_plan.specs.ClauseTests.{check_starts};
 
 use crate::clauses::fails;
 use crate::fault::Clause;
@@ -99,7 +99,7 @@ fn start_astray(places: Starts<Option<usize>>, groups: &[Group]) -> Option<usize
     None
 }
 
-#[tactic(auto, unfolding(crate::specs::WellFormed::check_starts))]
+#[tactic(auto, unfolding(crate::specs::ClauseTests::check_starts))]
 pub(crate) fn check_starts(layout: &Layout) -> Result<(), Clause>
     ensures { result ≡ check_starts layout.now }
 {

@@ -1,7 +1,7 @@
 //! Clause 15: thread-local data.
 ghost use Rattle.std.specs.Prelude.{◌≡◌};
 ghost use Rattle.wild_plan.specs.Contents.{tlsld_fits, tls_fits};
-ghost use Rattle.wild_plan.specs.WellFormed.{check_tls};
+ghost use Rattle.wild_plan.specs.ClauseTests.{check_tls};
 
 use crate::clauses::order::multiple_of;
 use crate::clauses::{fails, unless};
@@ -25,7 +25,7 @@ fn tls_fits(layout: &Layout) -> bool
         && tlsld_fits(layout.machine, layout.tlsld)
 }
 
-#[tactic(auto, unfolding(crate::specs::WellFormed::check_tls))]
+#[tactic(auto, unfolding(crate::specs::ClauseTests::check_tls))]
 pub(crate) fn check_tls(layout: &Layout) -> Result<(), Clause>
     ensures { result ≡ check_tls layout.now }
 {

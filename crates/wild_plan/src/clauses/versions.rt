@@ -4,7 +4,7 @@ ghost use Rattle.std.specs.List.{filter};
 ghost use Rattle.wild_plan.specs.Lists.{first_failing, through, total};
 ghost use Rattle.wild_plan.specs.Versions.{has_needs, need_count};
 ghost use Rattle.wild_plan.specs.VersionTables.{file_versions, group_versions, versions_needed, versions_fit, is_below, parent_is_there, parent_fits, parent_astray, some_definition, definition_astray, mark_fits, mark_step, mark_astray, versions_agree};
-ghost use Rattle.wild_plan.specs.WellFormed.{check_counts, check_versions};
+ghost use Rattle.wild_plan.specs.ClauseTests.{check_counts, check_versions};
 
 use crate::clauses::roles::is_there;
 use crate::clauses::{fails, unless};
@@ -58,7 +58,7 @@ fn versions_needed(layout: &Layout) -> u64
 }
 
 /// Whether each version can have an index.
-#[tactic(auto, unfolding(crate::specs::Dynamic::need_number))]
+#[tactic(auto, unfolding(crate::specs::DynamicPlaces::need_number))]
 pub(crate) fn versions_fit(layout: &Layout) -> bool
     ensures { result ≡ versions_fit layout.now }
 {
@@ -182,7 +182,7 @@ fn mark_astray(count: u64, groups: &[Group]) -> Option<usize>
 }
 
 /// Of how many libraries versions are needed.
-#[tactic(auto, using(crate::proofs::VersionLemmas::few_needs), unfolding(crate::specs::Dynamic::need_number))]
+#[tactic(auto, using(crate::proofs::VersionLemmas::few_needs), unfolding(crate::specs::DynamicPlaces::need_number))]
 fn exact_need_count(layout: &Layout) -> u64
     requires counts { check_counts layout.now ≡ Ok tt }
     ensures { result ≡ need_count layout.now }
@@ -198,7 +198,7 @@ fn versions_agree(layout: &Layout) -> bool
 }
 
 /// It is asked where the counts fit.
-#[tactic(auto, unfolding(crate::specs::WellFormed::check_versions))]
+#[tactic(auto, unfolding(crate::specs::ClauseTests::check_versions))]
 pub(crate) fn check_versions(layout: &Layout) -> Result<(), Clause>
     requires counts { check_counts layout.now ≡ Ok tt }
     ensures { result ≡ check_versions layout.now }

@@ -1,6 +1,6 @@
 use Rattle.std.proofs.Common.{◌<◌, ap, length, All, subst, ℕ, arith}
 use Rattle.std.proofs.lemmas.Result.{err_from_is_err_and}
-use Rattle.wild_layout.specs.Geometry.{FieldLies}
+use Rattle.wild_layout.specs.SectionPlaces.{FieldLies}
 use Rattle.wild_image.proofs.AscendingLemmas.{ascended_next, ascending_refused, ascending_passes}
 use Rattle.wild_image.proofs.section.write_ascending.Goals as goal
 

@@ -1,6 +1,6 @@
 use Rattle.std.proofs.Common.{◌≡◌, drop}
 use Rattle.std.specs.Prelude.{find}
-use Rattle.wild_plan.specs.Dynamic.{has_bytes}
+use Rattle.wild_plan.specs.DynamicPlaces.{has_bytes}
 use Rattle.wild_plan.proofs.dynamic.section_named.Given as goal
 
 abbrev pub invariant-loop-section : goal.invariant-loop-section

@@ -3,7 +3,7 @@ use Rattle.std.specs.Prelude.{slice_get, Some, All}
 use Rattle.std.proofs.lemmas.Option.{slice_get-get_or}
 use Rattle.wild_plan.specs.declared.file.File.{File}
 use Rattle.wild_plan.specs.declared.file.Group.{Group}
-use Rattle.wild_layout.specs.Geometry.{SectionLies}
+use Rattle.wild_layout.specs.SectionPlaces.{SectionLies}
 use Rattle.wild_image.specs.Steps.{NeedsFit}
 use Rattle.wild_image.proofs.VersionLemmas.{needs_fit}
 use Rattle.wild_image.proofs.JobLemmas.{gives_found, pairs_found, few_groups}

@@ -1,5 +1,5 @@
 use Rattle.std.proofs.Common.{◌≡◌, ◌+◌, drop}
-use Rattle.wild_plan.specs.Segments.{entries_astray}
+use Rattle.wild_plan.specs.LoadedTables.{entries_astray}
 use Rattle.wild_plan.proofs.clauses.entries.entries_astray.Given as goal
 
 abbrev pub invariant-loop-i : goal.invariant-loop-i

@@ -1,5 +1,5 @@
 use Rattle.std.proofs.Common.{◌≡◌, ◌*◌, ◌^◌, drop}
-use Rattle.wild_plan.specs.Contents.{AreBelow, no_starts, start_astray}
+use Rattle.wild_plan.specs.GroupStarts.{AreBelow, no_starts, start_astray}
 use Rattle.wild_plan.proofs.clauses.starts.start_astray.Given as goal
 
 abbrev pub invariant-loop-i : goal.invariant-loop-i

@@ -1,0 +1,127 @@
+-- What segments load, and what a loader finds (gABI, "Program Header", "Dynamic Section").
+--   IsMapped l s     loaded segments carry the input section's bytes to their addresses
+--   IsPartMapped l p   they carry those of a part that a loader or the program reads
+--   HasSegment l p   the first segment of type PT_DYNAMIC is that of the part
+--   IsCarriedWhole   one loaded segment carries a part to its addresses
+--   BeginsBehind p q a part begins where another ends
+--   HasEntriesAlone  the section of a part with relocation entries has those, and no other section has any
+--   IsLoadable l     the segments can be loaded, and what a loader looks for stands where it looks
+use Rattle.std.specs.Prelude.{◌≡◌, ℕ, ◌+◌, ◌-◌, ◌^◌, ◌<◌, ◌≤◌, ◌==◌, true, find, All, AllPairs, Contains, slice_get, List, false, Option, Some, None}
+use Rattle.wild_records.specs.Abi.Section.{sht_rela}
+use Rattle.wild_records.specs.Abi.Segment.{pt_load, pt_dynamic}
+use Rattle.wild_plan.specs.declared.part.Part.{Part}
+use Rattle.wild_plan.specs.declared.part.Role.{Role}
+use Rattle.wild_plan.specs.declared.part.Role.TheVariants as role
+use Rattle.wild_plan.specs.declared.section.Section.{Section}
+use Rattle.wild_plan.specs.declared.section.Segment.{Segment}
+use Rattle.wild_plan.specs.declared.input.InputSection.{InputSection}
+use Rattle.wild_plan.specs.declared.layout.Layout.{Layout}
+use Rattle.wild_plan.specs.Kinds.{is_partial_link, needs_dynamic}
+use Rattle.wild_plan.specs.Lookups.{allocated, image_size, is_filled, is_read}
+use Rattle.wild_plan.specs.Lists.{total}
+use Rattle.wild_plan.specs.Places.{is_fixed_static, is_loaded_role}
+use Rattle.wild_plan.specs.Segments.{part_with}
+use Rattle.wild_plan.specs.LoadedTables.{is_table_role, is_look_up_role, has_hashes, is_entry_role, entry_parts, bytes_in}
+use Rattle.wild_layout.specs.Image.{offset_in}
+
+-- the segment carries byte k of the section to its address
+pub record IsCarried (l : Layout) (s : InputSection) (k : ℕ) (h : Segment) : Type 0 where
+  pub listed : Contains l.segments h
+  pub loaded : h.kind ≡ pt_load
+  pub from : h.address ≤ s.address + k
+  pub to : s.address + k < h.address + h.file_size
+  pub distance : offset_in (slice_get l.parts s.part) s.address + k ≡ h.offset + (s.address + k - h.address)
+
+-- each of the section's bytes is loaded, where it is allocated and has some
+abbrev pub IsMapped : Layout → InputSection → Type 0
+IsMapped l s = is_filled l s ≡ true → is_read s ≡ true → allocated s.flags ≡ true → (k : ℕ) → k < s.size → (h : Segment) × IsCarried l s k h
+
+-- the segment carries byte k of the part to its address
+pub record IsPartCarried (l : Layout) (p : Part) (k : ℕ) (h : Segment) : Type 0 where
+  pub listed : Contains l.segments h
+  pub loaded : h.kind ≡ pt_load
+  pub from : h.address ≤ p.address + k
+  pub to : p.address + k < h.address + h.file_size
+  pub distance : p.offset + k ≡ h.offset + (p.address + k - h.address)
+
+-- each byte is loaded of a part that a loader or the program reads, except in relocatable objects
+abbrev pub IsPartMapped : Layout → Part → Type 0
+IsPartMapped l p = is_partial_link l.kind ≡ false → is_loaded_role p.role ≡ true → (k : ℕ) → k < p.size → (h : Segment) × IsPartCarried l p k h
+
+-- one loaded segment
+pub record SegmentLoads (size : ℕ) (h : Segment) : Type 0 where
+  pub file : h.offset + h.file_size ≤ size
+  pub sizes : h.kind ≡ pt_load → h.file_size ≤ h.mem_size
+  pub low : h.address + h.mem_size ≤ 2 ^ 62
+
+-- the segment is not that of a dynamic section
+abbrev pub IsStatic : Segment → Type 0
+IsStatic h = h.kind ≡ pt_dynamic → ⊥
+
+-- the first segment of type PT_DYNAMIC (gABI, "Program Header")
+abbrev pub first_dynamic : List Segment → Option Segment
+first_dynamic segments = find (λ h. h.kind == pt_dynamic) segments
+
+-- it is there, and has the place and the size of the part
+pub record HasSegment (l : Layout) (p : Part) : Type 0 where
+  pub segment : Segment
+  pub first : first_dynamic l.segments ≡ Some segment
+  pub offset : segment.offset ≡ p.offset
+  pub address : segment.address ≡ p.address
+  pub file_size : segment.file_size ≡ p.size
+  pub mem_size : segment.mem_size ≡ p.size
+
+-- the file bytes of one loaded segment have the part at its addresses
+pub record IsCarriedWhole (l : Layout) (p : Part) : Type 0 where
+  pub segment : Segment
+  pub listed : Contains l.segments segment
+  pub loaded : segment.kind ≡ pt_load
+  pub from : segment.address ≤ p.address
+  pub to : p.address + p.size ≤ segment.address + segment.file_size
+  pub distance : p.offset ≡ segment.offset + (p.address - segment.address)
+
+-- a part begins where another ends, in the file and in memory
+pub record BeginsBehind (p q : Part) : Type 0 where
+  pub offset : q.offset ≡ p.offset + p.size
+  pub address : q.address ≡ p.address + p.size
+
+-- the file bytes of one loaded segment have both at their addresses
+pub record AreCarriedTogether (l : Layout) (p q : Part) : Type 0 where
+  pub segment : Segment
+  pub listed : Contains l.segments segment
+  pub loaded : segment.kind ≡ pt_load
+  pub from : segment.address ≤ p.address
+  pub to : q.address + q.size ≤ segment.address + segment.file_size
+  pub distance : p.offset ≡ segment.offset + (p.address - segment.address)
+
+-- a part with relocation entries that stands in the section with header index k has room in it
+pub record EntriesLie (p : Part) (s : Section) : Type 0 where
+  pub kind : s.kind ≡ sht_rela
+  pub allocated : allocated s.flags ≡ true
+  pub from : s.offset ≤ p.offset
+  pub to : p.offset + p.size ≤ s.offset + s.size
+
+-- the section with header index k has the bytes of the parts with entries that stand in it, and where it is an allocated one of
+-- type SHT_RELA no others
+pub record HasEntriesAlone (l : Layout) (k : ℕ) (s : Section) : Type 0 where
+  pub own : (r : Role) (p : Part) → is_entry_role r ≡ true → part_with r l.parts ≡ Some p → p.section ≡ k → EntriesLie p s
+  pub full : allocated s.flags ≡ true → s.kind ≡ sht_rela → total (bytes_in k) (entry_parts l.parts) ≡ s.size
+
+-- a loaded segment ends where a later one begins, or before
+abbrev pub Ascends : Segment → Segment → Type 0
+Ascends g h = g.kind ≡ pt_load → h.kind ≡ pt_load → g.address + g.mem_size ≤ h.address
+
+-- what a loader goes by: the dynamic section where it is there, else sections of type SHT_RELA, behind section 0
+pub record IsLoadable (l : Layout) : Type 0 where
+  pub each : All (SegmentLoads (image_size l)) l.segments
+  pub ascend : AllPairs Ascends l.segments
+  pub dynamic : (p : Part) → part_with role.Dynamic l.parts ≡ Some p → HasSegment l p
+  pub static : part_with role.Dynamic l.parts ≡ None → All IsStatic l.segments
+  pub movable : needs_dynamic l.kind ≡ true → (p : Part) × (part_with role.Dynamic l.parts ≡ Some p)
+  pub fixed : is_fixed_static l.kind ≡ true → part_with role.Dynamic l.parts ≡ None
+  pub entries : is_fixed_static l.kind ≡ true → (k : ℕ) (s : Section) → 1 ≤ k → slice_get l.sections k ≡ Some s → HasEntriesAlone l k s
+  pub stands : is_fixed_static l.kind ≡ true → (r : Role) (p : Part) → is_entry_role r ≡ true → part_with r l.parts ≡ Some p → 1 ≤ p.section
+  pub tables : needs_dynamic l.kind ≡ true → (r : Role) (p : Part) → is_table_role r ≡ true → part_with r l.parts ≡ Some p → 1 ≤ p.size → IsCarriedWhole l p
+  pub look_ups : needs_dynamic l.kind ≡ true → has_hashes l ≡ true → (r : Role) (p : Part) → is_look_up_role r ≡ true → part_with r l.parts ≡ Some p → 1 ≤ p.size → IsCarriedWhole l p
+  pub behind : (p q : Part) → part_with role.RelaDynRelative l.parts ≡ Some p → part_with role.RelaDynGeneral l.parts ≡ Some q → BeginsBehind p q
+  pub together : needs_dynamic l.kind ≡ true → (p q : Part) → part_with role.RelaDynRelative l.parts ≡ Some p → part_with role.RelaDynGeneral l.parts ≡ Some q → 1 ≤ p.size → 1 ≤ q.size → AreCarriedTogether l p q

@@ -1,0 +1,55 @@
+-- Where input sections and parts lie.
+--   SectionLies l s  an input section's bytes and fields lie in its part, and that in the image
+--   PartLies l i p   the groups' shares are the part's size; one that is not raw lies in the image
+use Rattle.std.specs.Prelude.{◌≡◌, ℕ, ◌+◌, ◌^◌, ◌<◌, ◌≤◌, true, ◌⊎◌, length, All, slice_get, false, Some}
+use Rattle.wild_plan.specs.declared.kind.Machine.{Machine}
+use Rattle.wild_plan.specs.declared.part.Part.{Part}
+use Rattle.wild_plan.specs.declared.part.Role.TheVariants as role
+use Rattle.wild_plan.specs.declared.input.InputRelocation.{InputRelocation}
+use Rattle.wild_plan.specs.declared.input.InputSection.{InputSection}
+use Rattle.wild_plan.specs.declared.file.Group.{Group}
+use Rattle.wild_plan.specs.declared.layout.Layout.{Layout}
+use Rattle.wild_plan.specs.Lookups.{image_size, is_filled, is_read, takes_file_bytes}
+use Rattle.wild_plan.specs.Contents.{field_bytes, given}
+use Rattle.wild_plan.specs.Lists.{total}
+use Rattle.wild_plan.specs.Places.{has_role}
+use Rattle.wild_layout.specs.Content.{content}
+use Rattle.wild_layout.specs.Image.{offset_in, bytes}
+
+-- the relocation writes no field, or one that lies in n bytes
+abbrev pub FieldLies : Machine → ℕ → InputRelocation → Type 0
+FieldLies m n r = (field_bytes m r.number ≡ 0) ⊎ (r.offset + field_bytes m r.number ≤ n)
+
+-- parts of the file that share no byte
+abbrev pub RangesApart : Part → Part → Type 0
+RangesApart p q = (p.offset + p.size ≤ q.offset) ⊎ (q.offset + q.size ≤ p.offset)
+
+-- the part is raw, takes file bytes, and has room for the input section
+pub record StandsIn (l : Layout) (s : InputSection) (p : Part) : Type 0 where
+  pub listed : slice_get l.parts s.part ≡ Some p
+  pub raw : p.role ≡ role.Raw
+  pub takes : takes_file_bytes l p.section ≡ true
+  pub from : p.address ≤ s.address
+  pub to : s.address + s.size ≤ p.address + p.size
+
+-- an input section that owns bytes lies in its part, and those bytes in the image
+pub record OwnerLies (l : Layout) (s : InputSection) : Type 0 where
+  pub part : s.part < length l.parts
+  pub stands : (p : Part) × StandsIn l s p
+  pub ends : offset_in (slice_get l.parts s.part) s.address + s.size ≤ image_size l
+
+pub record SectionLies (l : Layout) (s : InputSection) : Type 0 where
+  pub small : s.address + s.size ≤ 2 ^ 62
+  pub bytes : is_read s ≡ true → length s.bytes ≡ s.size
+  pub fields : All (FieldLies l.machine s.size) s.relocations
+  pub owner : is_filled l s ≡ true → OwnerLies l s
+  pub part : s.part < length l.parts
+
+-- the groups' shares of a part are its size; of one that is not raw each share is what the group gives to it, and
+-- the part lies in the image
+pub record PartLies (l : Layout) (i : ℕ) (p : Part) : Type 0 where
+  pub low : p.offset + p.size ≤ 2 ^ 62
+  pub address : p.address + p.size ≤ 2 ^ 62
+  pub shares : total (given i) l.groups ≡ p.size
+  pub tables : has_role role.Raw p ≡ false → All (λ (g : Group). length (content l p.role g) ≡ given i g) l.groups
+  pub ends : has_role role.Raw p ≡ false → 1 ≤ p.size → p.offset + p.size ≤ image_size l

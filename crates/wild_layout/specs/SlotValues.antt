@@ -1,0 +1,78 @@
+-- Stubs and slots of symbols (x86-64 psABI, "Procedure Linkage Table", "Global Offset Table (GOT)").
+--   address_of l r        S: the address of the symbol, or of its stub where a resolver chooses it
+--   index_of l i          the index of the symbol in the dynamic symbol table
+--   stub_of l i           L: the address of the symbol's stub
+--   slot_of l kind i      G: where the slot stands that the kind names
+use Rattle.std.specs.Prelude.{ℕ, ◌+◌, ◌%◌, ◌^◌, ◌||◌, Bool, if◌then◌else◌, Option, Some, None, Result, Ok, option_and_then, option_map}
+use Rattle.wild_plan.specs.declared.fault.Fault.{Fault}
+use Rattle.wild_plan.specs.declared.fault.Missing.TheVariants as missing
+use Rattle.wild_plan.specs.declared.symbol.Symbol.{Symbol}
+use Rattle.wild_plan.specs.declared.symbol.Resolution.{Resolution}
+use Rattle.wild_plan.specs.declared.symbol.ValueFlags.{ValueFlags}
+use Rattle.wild_plan.specs.declared.layout.Layout.{Layout}
+use Rattle.wild_plan.specs.Addresses.{raw_value}
+use Rattle.wild_plan.specs.Flags.{has_flag, ifunc, got_tls_offset, got_tls_module, got_tls_descriptor, ifunc_got_for_address, canonical_plt_got_for_address}
+use Rattle.wild_plan.specs.SymbolSlots.{has_thread_slot}
+use Rattle.wild_plan.specs.Treatment.{flags_at}
+use Rattle.wild_reloc.specs.declared.info.RelocationKind.{RelocationKind}
+use Rattle.wild_reloc.specs.declared.info.RelocationKind.TheVariants as kinds
+use Rattle.wild_layout.specs.SymbolValues.{definition_of, address_or, raw_address}
+
+-- what was decided of the symbol's definition
+abbrev pub resolution_of : Layout → ℕ → Option Resolution
+resolution_of l i = option_and_then (λ (s : Symbol). s.resolution) (definition_of l i)
+
+-- the index of the symbol's definition in the dynamic symbol table
+abbrev pub index_of : Layout → ℕ → Option ℕ
+index_of l i = option_and_then (λ (r : Resolution). r.dynamic_symbol_index) (resolution_of l i)
+
+-- the address that was decided of the symbol, or that it has none
+abbrev pub decided_address : Layout → ℕ → Result ℕ Fault
+decided_address l i = address_or missing.Address i (option_map (λ (r : Resolution). r.raw_value) (resolution_of l i))
+
+abbrev pub stub_of : Layout → ℕ → Option ℕ
+stub_of l i = option_and_then (λ (r : Resolution). r.plt_address) (resolution_of l i)
+
+-- a resolver chooses the function that the symbol names: its address is its stub's
+abbrev pub is_chosen : Layout → ℕ → Bool
+is_chosen l i = has_flag (flags_at l i) ifunc
+
+-- S: the address of the symbol; 0 without a symbol
+abbrev pub address_of : Layout → Option ℕ → Result ℕ Fault
+address_of l None = Ok 0
+address_of l (Some i) = if is_chosen l i then address_or missing.Stub i (stub_of l i) else raw_address l (Some i)
+
+-- L: the address of the symbol's stub
+abbrev pub stub_address : Layout → Option ℕ → Result ℕ Fault
+stub_address l None = Ok 0
+stub_address l (Some i) = address_or missing.Stub i (stub_of l i)
+
+abbrev pub has_second_slot : ValueFlags → Bool
+has_second_slot f = has_flag f ifunc_got_for_address || has_flag f canonical_plt_got_for_address
+
+abbrev pub behind_word : Bool → ℕ → ℕ
+behind_word b at = if b then (at + 8) % 2 ^ 64 else at
+
+abbrev pub behind_pair : Bool → ℕ → ℕ
+behind_pair b at = if b then (at + 16) % 2 ^ 64 else at
+
+-- where the slot of a kind stands among those of a symbol with these flags, whose first is there: the one that references to an
+-- address use is the second where there are two; the pair of a module stands behind the offset, and the descriptor behind both
+abbrev pub slot_among : RelocationKind → ValueFlags → ℕ → Option ℕ
+slot_among kinds.GotTpOff f at = if has_flag f got_tls_offset then Some at else None
+slot_among kinds.TlsGd f at = if has_flag f got_tls_module then Some (behind_word (has_flag f got_tls_offset) at) else None
+slot_among kinds.TlsDesc f at = if has_flag f got_tls_descriptor then Some (behind_pair (has_flag f got_tls_module) (behind_word (has_flag f got_tls_offset) at)) else None
+slot_among other f at = if has_thread_slot f then None else Some (behind_word (has_second_slot f) at)
+
+abbrev pub slot_decided : RelocationKind → Option Resolution → Option ℕ
+slot_decided kind None = None
+slot_decided kind (Some r) = option_and_then (slot_among kind r.flags) r.got_address
+
+-- G, by the kind: the pair of the output's own data stands once
+abbrev pub slot_of : Layout → RelocationKind → ℕ → Option ℕ
+slot_of l kinds.TlsLd i = l.tlsld
+slot_of l kind i = slot_decided kind (resolution_of l i)
+
+abbrev pub slot_address : Layout → RelocationKind → Option ℕ → Result ℕ Fault
+slot_address l kind None = Ok 0
+slot_address l kind (Some i) = address_or missing.Slot i (slot_of l kind i)

@@ -1,0 +1,79 @@
+-- Values of symbols and places, as relocations take them.
+--   sum s a               S + A
+--   displacement s a p    S + A - P
+--   place_of s r          P, the address of the field
+--   thread_pointer m t    where the thread pointer stands beside the thread-local data
+use Rattle.std.specs.Prelude.{ℕ, ℤ, ◌+◌, ◌-◌, ◌%◌, ◌^◌, ◌&&◌, Bool, true, false, if◌then◌else◌, Option, Some, None, Result, Ok, Err, option_map, unwrap_or, slice_get}
+use Rattle.std.specs.Int.{w64, cast_unsigned}
+use Rattle.wild_plan.specs.declared.kind.Machine.{Machine}
+use Rattle.wild_plan.specs.declared.kind.Machine.TheVariants as machine
+use Rattle.wild_plan.specs.declared.fault.Fault.{Fault}
+use Rattle.wild_plan.specs.declared.fault.Fault.TheVariants as faults
+use Rattle.wild_plan.specs.declared.fault.Missing.TheVariants as missing
+use Rattle.wild_plan.specs.declared.symbol.Place.{Place}
+use Rattle.wild_plan.specs.declared.symbol.Place.TheVariants as at
+use Rattle.wild_plan.specs.declared.symbol.Symbol.{Symbol}
+use Rattle.wild_plan.specs.declared.input.InputRelocation.{InputRelocation}
+use Rattle.wild_plan.specs.declared.input.InputSection.{InputSection}
+use Rattle.wild_plan.specs.declared.layout.Layout.{Layout}
+use Rattle.wild_plan.specs.declared.layout.Tls.{Tls}
+use Rattle.wild_plan.specs.declared.fault.Missing.{Missing}
+use Rattle.wild_plan.specs.Addresses.{raw_value}
+use Rattle.wild_plan.specs.Kinds.{is_executable}
+use Rattle.wild_plan.specs.Storage as storage
+use Rattle.wild_plan.specs.Entries as entries
+use Rattle.wild_plan.specs.Lookups.{canonical}
+
+-- S + A, modulo 2^64
+abbrev pub sum : ℕ → ℤ → ℕ
+sum s a = (s + cast_unsigned w64 a) % 2 ^ 64
+
+-- S + A - P, modulo 2^64
+abbrev pub displacement : ℕ → ℤ → ℕ → ℕ
+displacement s a p = (sum s a + (2 ^ 64 - p)) % 2 ^ 64
+
+-- the address of the place
+abbrev pub place_of : InputSection → InputRelocation → ℕ
+place_of s r = entries.place_of s r
+
+-- a - b, modulo 2^64
+abbrev pub less : ℕ → ℕ → ℕ
+less a b = storage.less a b
+
+-- where the thread pointer stands
+abbrev pub thread_pointer : Machine → Tls → ℕ
+thread_pointer m t = storage.thread_pointer m t
+
+-- where offsets in a module's thread storage are counted from: code of x86-64 executables is rewritten to count from the
+-- thread pointer (x86-64 psABI, "Thread-Local Storage", local dynamic to local exec)
+abbrev pub storage_start : Layout → ℕ
+storage_start l = if is_x86_64 l.machine && is_executable l.kind then thread_pointer l.machine l.tls else l.tls.start
+  where
+    is_x86_64 : Machine → Bool
+    is_x86_64 machine.X86_64 = true
+    is_x86_64 machine.AArch64 = false
+
+abbrev pub definition_of : Layout → ℕ → Option Symbol
+definition_of l i = slice_get l.symbols (canonical l i)
+
+abbrev pub is_nowhere : Place → Bool
+is_nowhere at.Undefined = true
+is_nowhere other = false
+
+-- the symbol's definition is undefined
+abbrev pub is_undefined : Layout → ℕ → Bool
+is_undefined l i = unwrap_or (option_map (λ (s : Symbol). is_nowhere s.place) (definition_of l i)) false
+
+-- how many bytes the symbol's definition has
+abbrev pub symbol_size : Layout → ℕ → ℕ
+symbol_size l i = unwrap_or (option_map (λ (s : Symbol). s.size) (definition_of l i)) 0
+
+-- an address, or what symbol i lacks
+abbrev pub address_or : Missing → ℕ → Option ℕ → Result ℕ Fault
+address_or what i None = Err (faults.MissingResolution what i)
+address_or what i (Some a) = Ok a
+
+-- the address that was decided of the symbol, or where it stands; 0 without a symbol
+abbrev pub raw_address : Layout → Option ℕ → Result ℕ Fault
+raw_address l None = Ok 0
+raw_address l (Some i) = address_or missing.Address i (raw_value l i)

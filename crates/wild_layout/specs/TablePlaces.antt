@@ -1,0 +1,57 @@
+-- Where the tables of an image stand.
+--   table_bytes l r  all that the groups give to the part of a role
+--   IsPiece l at bs  bytes stand in the image from an offset on
+--   HasTable l r     the part of a role holds just that, in pieces one behind the other
+use Rattle.std.specs.Prelude.{◌≡◌, ℕ, ◌+◌, ◌<◌, ◌≤◌, [], length, take, Contains, slice_index_or, List, Some, None}
+use Rattle.std.specs.List.{flat_map}
+use Rattle.wild_records.specs.FileHeader.{file_header_size}
+use Rattle.wild_plan.specs.declared.part.Part.{Part}
+use Rattle.wild_plan.specs.declared.part.Role.{Role}
+use Rattle.wild_plan.specs.declared.part.Role.TheVariants as role
+use Rattle.wild_plan.specs.declared.file.Group.{Group}
+use Rattle.wild_plan.specs.declared.layout.Layout.{Layout}
+use Rattle.wild_plan.specs.Lookups.{image_size}
+use Rattle.wild_plan.specs.Lists.{total}
+use Rattle.wild_plan.specs.Segments.{part_with}
+use Rattle.wild_plan.specs.DynamicStrings.{needed_entries}
+use Rattle.wild_records.specs.declared.dynamic.DynamicEntry.{DynamicEntry}
+use Rattle.wild_headers.specs.Headers.{offset_of_role, file_header_bytes, program_header_bytes, section_header_bytes}
+use Rattle.wild_layout.specs.Content.{content}
+use Rattle.wild_layout.specs.Image.{pieces, bytes}
+
+-- all that the groups give to the part of a role, one behind the other
+abbrev pub table_bytes : Layout → Role → List ℕ
+table_bytes l r = flat_map (content l r) l.groups
+
+-- the entries of all libraries in the dynamic section, group by group
+abbrev pub all_needed : Layout → List DynamicEntry
+all_needed l = flat_map (needed_entries l) l.groups
+
+-- bytes that stand in the image from an offset on: a piece of it, where there are some
+pub record IsPiece (l : Layout) (at : ℕ) (bs : List ℕ) : Type 0 where
+  pub within : at + length bs ≤ image_size l
+  pub listed : 1 ≤ length bs → Contains (pieces l) (record { at = at; bytes = bs })
+
+-- how many of these bytes the groups before number group give
+abbrev pub bytes_before : Layout → Role → ℕ → ℕ
+bytes_before l r group = total (λ (g : Group). length (content l r g)) (take group l.groups)
+
+-- the part has that role, and holds just these bytes, each group's as a piece of the image behind the others'
+pub record TableLies (l : Layout) (r : Role) (p : Part) : Type 0 where
+  pub listed : Contains l.parts p
+  pub has : p.role ≡ r
+  pub size : length (table_bytes l r) ≡ p.size
+  pub ends : 1 ≤ p.size → p.offset + p.size ≤ image_size l
+  pub pieces : (j : ℕ) (g : Group) → j < length l.groups → 1 ≤ length (content l r (slice_index_or l.groups j g))
+      → Contains (pieces l) (record { at = p.offset + bytes_before l r j; bytes = content l r (slice_index_or l.groups j g) })
+
+-- the same of the part of a role, where there is one; else there are no such bytes
+pub record HasTable (l : Layout) (r : Role) : Type 0 where
+  pub there : (p : Part) → part_with r l.parts ≡ Some p → TableLies l r p
+  pub missing : part_with r l.parts ≡ None → table_bytes l r ≡ []
+
+-- the tables of the image, at the offsets that the file header tells
+pub record HasTables (l : Layout) : Type 0 where
+  pub file_header : IsPiece l 0 (file_header_bytes l)
+  pub program_headers : IsPiece l file_header_size (program_header_bytes l)
+  pub section_headers : IsPiece l (offset_of_role role.SectionHeaders l.parts) (section_header_bytes l)

@@ -1,0 +1,136 @@
+-- What the definitions of loaded segments come to.
+--   IsApart p q                  the runs have no address in common
+--   IsLoaded m a n               memory has a byte at each of n addresses
+--   HasHeaders image e hs ss     e, hs and ss are the headers that stand in the image
+--   AreLoadable base image hs    the segments of these headers can be loaded at a base
+--   loaded_runs base image hs    the runs of these segments, in order
+--   loaded_memory machine ..     memory of these runs, before any entry changes it
+use Rattle.std.specs.Prelude.{◌≡◌, ℕ, ◌+◌, ◌-◌, ◌^◌, ◌<◌, ◌≤◌, true, ◌==◌, if◌then◌else◌, List, [], ◌∷◌, ◌++◌, length, replicate, None, is_some, ◌⊎◌, All, AllPairs, Contains}
+use Rattle.std.specs.List.{flat_map}
+use Rattle.wild_words.specs.Words.{word, Stands}
+use Rattle.wild_words.specs.Record.{spell}
+use Rattle.wild_records.specs.Abi.Section.{shn_undef}
+use Rattle.wild_records.specs.Abi.Segment.{pt_load}
+use Rattle.wild_records.specs.Dynamic.{dynamic_entry_fields}
+use Rattle.wild_records.specs.FileHeader.{file_header_fields, FileHeaderFits}
+use Rattle.wild_records.specs.ProgramHeader.{program_header_fields, ProgramHeaderFits}
+use Rattle.wild_records.specs.Relocations.{rela_fields}
+use Rattle.wild_records.specs.SectionHeader.{section_header_fields, SectionHeaderFits}
+use Rattle.wild_records.specs.declared.dynamic.DynamicEntry.{DynamicEntry}
+use Rattle.wild_records.specs.declared.file_header.FileHeader.{FileHeader}
+use Rattle.wild_records.specs.declared.program_header.ProgramHeader.{ProgramHeader}
+use Rattle.wild_records.specs.declared.relocations.Rela.{Rela}
+use Rattle.wild_records.specs.declared.section_header.SectionHeader.{SectionHeader}
+use Rattle.wild_loader.specs.declared.memory.Machine.{Machine}
+use Rattle.wild_loader.specs.declared.memory.Memory.{Memory}
+use Rattle.wild_loader.specs.declared.memory.Run.{Run}
+use Rattle.wild_loader.specs.Memory.{memory_of, byte_in, Holds}
+use Rattle.wild_loader.specs.Runs.{shared, overlaid}
+use Rattle.wild_loader.specs.Segments.{runs_of}
+
+-- ---- bytes put over memory
+
+-- the runs have no address in common
+abbrev pub IsApart : Run → Run → Type 0
+IsApart p q = shared p q ≡ None
+
+-- runs that lie beside each other are apart
+abbrev pub BesideIsApart : Type 0
+BesideIsApart = (p q : Run) → (p.start + length p.bytes ≤ q.start) ⊎ (q.start + length q.bytes ≤ p.start) → IsApart p q
+
+-- memory has a byte at each of n addresses
+abbrev pub IsLoaded : Memory → ℕ → ℕ → Type 0
+IsLoaded m a n = (k : ℕ) → k < n → is_some (byte_in m (a + k)) ≡ true
+
+-- a run has no byte at an address
+abbrev pub IsElsewhere : ℕ → Run → Type 0
+IsElsewhere a p = (a < p.start) ⊎ (p.start + length p.bytes ≤ a)
+
+-- memory with parts put over it
+abbrev pub put_over : List Run → Memory → Memory
+put_over parts m = record m { runs = overlaid parts m.runs }
+
+-- each of the parts put over memory is there, where no two share an address and all lie on loaded bytes
+abbrev pub PartsAreHeld : Type 0
+PartsAreHeld = (m : Memory) (parts : List Run) (p : Run) → AllPairs IsApart parts → Contains parts p → IsLoaded m p.start (length p.bytes) → Holds (put_over parts m) p.start p.bytes
+
+-- a byte that no part has is as before
+abbrev pub OthersAreKept : Type 0
+OthersAreKept = (m : Memory) (parts : List Run) (a : ℕ) → All (IsElsewhere a) parts → byte_in (put_over parts m) a ≡ byte_in m a
+
+-- ---- headers
+
+abbrev pub first_size : List SectionHeader → ℕ
+first_size [] = 0
+first_size (s ∷ ss) = s.size
+
+-- how many section headers an image tells: e_shnum, or where that is 0 the size that section header 0 has (gABI,
+-- "ELF Header")
+abbrev pub told_sections : FileHeader → List SectionHeader → ℕ
+told_sections e ss = if e.section_count == shn_undef then first_size ss else e.section_count
+
+-- the bytes of records
+abbrev pub program_bytes : ProgramHeader → List ℕ
+program_bytes h = spell (program_header_fields h)
+
+abbrev pub section_bytes : SectionHeader → List ℕ
+section_bytes s = spell (section_header_fields s)
+
+abbrev pub dynamic_bytes : DynamicEntry → List ℕ
+dynamic_bytes d = spell (dynamic_entry_fields d)
+
+abbrev pub rela_bytes : Rela → List ℕ
+rela_bytes r = spell (rela_fields r)
+
+abbrev pub word_bytes : ℕ → List ℕ
+word_bytes x = word 8 x
+
+-- the headers stand in the image where the file header says, each of their numbers in its field's range
+pub record HasHeaders (image : List ℕ) (e : FileHeader) (hs : List ProgramHeader) (ss : List SectionHeader) : Type 0 where
+  pub fits : FileHeaderFits e
+  pub file_header : Stands image 0 (spell (file_header_fields e))
+  pub programs_fit : All ProgramHeaderFits hs
+  pub programs : Stands image e.program_offset (flat_map program_bytes hs)
+  pub program_count : e.program_count ≡ length hs
+  pub sections_fit : All SectionHeaderFits ss
+  pub sections : Stands image e.section_offset (flat_map section_bytes ss)
+  pub section_count : told_sections e ss ≡ length ss
+  pub some_section : 0 < length ss
+
+-- ---- segments
+
+-- a segment whose file bytes lie in an image of n bytes and have room in its memory, which does not wrap
+pub record IsLoadable (base n : ℕ) (h : ProgramHeader) : Type 0 where
+  pub file : h.offset + h.file_size ≤ n
+  pub sizes : h.file_size ≤ h.mem_size
+  pub end : base + h.address + h.mem_size ≤ 2 ^ 64
+
+-- a segment to load (PT_LOAD) ends where a later one begins, or before
+abbrev pub Ascends : ProgramHeader → ProgramHeader → Type 0
+Ascends g h = g.kind ≡ pt_load → h.kind ≡ pt_load → g.address + g.mem_size ≤ h.address
+
+-- the segments to load ascend, and can be loaded at the base
+pub record AreLoadable (base : ℕ) (image : List ℕ) (hs : List ProgramHeader) : Type 0 where
+  pub each : All (λ h. h.kind ≡ pt_load → IsLoadable base (length image) h) hs
+  pub ascend : AllPairs Ascends hs
+
+-- the runs of the segments to load, in order
+abbrev pub loaded_runs : ℕ → List ℕ → List ProgramHeader → List Run
+loaded_runs base image [] = []
+loaded_runs base image (h ∷ hs) = (if h.kind == pt_load then runs_of base image h else []) ++ loaded_runs base image hs
+
+-- memory of these runs, before any entry changes it
+abbrev pub loaded_memory : Machine → ℕ → List ℕ → List ProgramHeader → Memory
+loaded_memory machine base image hs = memory_of machine (loaded_runs base image hs)
+
+-- what stands in the file bytes of a segment is in memory at the segment's distance
+abbrev pub BytesAreLoaded : Type 0
+BytesAreLoaded = (machine : Machine) (base : ℕ) (image : List ℕ) (hs : List ProgramHeader) (h : ProgramHeader) (part : List ℕ) (place a : ℕ) → AreLoadable base image hs → Contains hs h → h.kind ≡ pt_load
+    → h.address ≤ a → a + length part ≤ h.address + h.file_size → place ≡ h.offset + (a - h.address) → Stands image place part
+    → Holds (loaded_memory machine base image hs) (base + a) part
+
+-- behind the file bytes of a segment are zeros
+abbrev pub ZerosAreLoaded : Type 0
+ZerosAreLoaded = (machine : Machine) (base : ℕ) (image : List ℕ) (hs : List ProgramHeader) (h : ProgramHeader) (a n : ℕ) → AreLoadable base image hs → Contains hs h → h.kind ≡ pt_load
+    → h.address + h.file_size ≤ a → a + n ≤ h.address + h.mem_size
+    → Holds (loaded_memory machine base image hs) (base + a) (replicate n 0)

@@ -1,0 +1,73 @@
+-- The room of a group's symbol tables.
+--   room_for_fields local name n w    there is room for these, or InsufficientAllocation
+--   left_over w                   no room is left, or ExcessiveAllocation of the first table that has
+--   room_for_prefix n m w         there is room for n global symbols and m bytes of strings, or InsufficientAllocation
+--   prefix_of n m w               the writer with that room alone; kept_behind n m w is what that leaves behind
+--   joined kept w                 the room behind is the writer's again
+use Rattle.std.specs.Prelude.{ℕ, Bool, List, Result, Ok, Err}
+use Rattle.wild_records.specs.declared.symbol_section.SymbolSection.{SymbolSection}
+use Rattle.wild_plan.specs.declared.fault.Error.{Error}
+use Rattle.wild_symbols.specs.Strings.{room_for_string, left_of_strings, room_for_bytes, kept_strings, front_strings, strings_joined}
+use Rattle.wild_symbols.specs.Indexes.{room_for_index, left_of_indexes, room_for_indexes, kept_indexes, front_indexes, indexes_joined}
+use Rattle.wild_symbols.specs.Symbols.{room_for_entry, left_of_symbols, room_for_entries, kept_symbols, front_symbols, symbols_joined}
+use Rattle.wild_symbols.specs.declared.prefix.KeptBehind.{KeptBehind}
+use Rattle.wild_symbols.specs.declared.writer.SymbolTableWriter.{SymbolTableWriter}
+use Rattle.wild_symbols.specs.Tables.{long_of, list_of, indexes_of}
+
+-- the first fault of two tests
+abbrev pub and_then : {X : Type 0} → Result (Unit {0}) Error → Result X Error → Result (Unit {0}) Error
+and_then (Err e) r = Err e
+and_then (Ok t) (Err e) = Err e
+and_then (Ok t) (Ok x) = Ok tt
+
+-- there is room for the symbol and its longer index
+abbrev pub room_in_lists : Bool → ℕ → SymbolTableWriter → Result (Unit {0}) Error
+room_in_lists local n w = and_then (room_for_entry (list_of local w)) (room_for_index n (indexes_of local w))
+
+-- and for its name
+abbrev pub room_for_fields : Bool → List ℕ → ℕ → SymbolTableWriter → Result (Unit {0}) Error
+room_for_fields local name n w = and_then (room_in_lists local n w) (room_for_string name w.strtab)
+
+abbrev pub room_for_symbol : Bool → List ℕ → SymbolSection → SymbolTableWriter → Result (Unit {0}) Error
+room_for_symbol local name s w = room_for_fields local name (long_of s) w
+
+-- no table has room left; else the first that has, in the order of roles
+abbrev pub left_over : SymbolTableWriter → Result (Unit {0}) Error
+left_over w =
+    and_then (and_then (and_then (and_then (left_of_symbols w.locals) (left_of_symbols w.globals)) (left_of_indexes w.local_indexes)) (left_of_indexes w.global_indexes)) (left_of_strings w.strtab)
+
+-- ---- the front of a share
+
+-- there is room for n global symbols more, and for m bytes of strings
+abbrev pub room_for_prefix : ℕ → ℕ → SymbolTableWriter → Result (Unit {0}) Error
+room_for_prefix n m w = and_then (and_then (room_for_entries n w.globals) (room_for_indexes n w.global_indexes)) (room_for_bytes m w.strtab)
+
+-- how many bytes of each table lie behind that
+abbrev pub kept_behind : ℕ → ℕ → SymbolTableWriter → KeptBehind
+kept_behind n m w = record {
+  locals = kept_symbols 0 w.locals;
+  globals = kept_symbols n w.globals;
+  local_indexes = kept_indexes 0 w.local_indexes;
+  global_indexes = kept_indexes n w.global_indexes;
+  strings = kept_strings m w.strtab;
+}
+
+-- the writer with room for these alone, and for no local symbol
+abbrev pub prefix_of : ℕ → ℕ → SymbolTableWriter → SymbolTableWriter
+prefix_of n m w = record {
+  locals = front_symbols 0 w.locals;
+  globals = front_symbols n w.globals;
+  local_indexes = front_indexes 0 w.local_indexes;
+  global_indexes = front_indexes n w.global_indexes;
+  strtab = front_strings m w.strtab;
+}
+
+-- the writer, to which what is kept behind belongs again
+abbrev pub joined : KeptBehind → SymbolTableWriter → SymbolTableWriter
+joined k w = record {
+  locals = symbols_joined k.locals w.locals;
+  globals = symbols_joined k.globals w.globals;
+  local_indexes = indexes_joined k.local_indexes w.local_indexes;
+  global_indexes = indexes_joined k.global_indexes w.global_indexes;
+  strtab = strings_joined k.strings w.strtab;
+}

@@ -1,0 +1,74 @@
+-- The premises of the headline are met: items are kept, and their references asked for.
+--   SectionsAreKept        loaded, allocated input sections with data are
+--   RelocationsRefer       each of their relocations but NONE is a reference
+--   ReferencesAreAsked, SlotsAreAsked   which is asked of an image
+--   FewAreLinkedAlone      few of them take the output's own symbol
+--   BlanksAreAsked         sections without data are asked for zeros
+use Rattle.std.specs.Prelude.{◌≡◌, ◌≢◌, ℕ, ◌+◌, ◌<◌, ◌≤◌, true, false, [], ◌∷◌, Some, None, Contains}
+use Rattle.wild_records.specs.Abi.Relocation.{r_x86_64_none, r_x86_64_gotpcrel, r_x86_64_gotpcrelx}
+use Rattle.wild_records.specs.Abi.Section.{shf_execinstr}
+use Rattle.wild_records.specs.Abi.Segment.{pt_load}
+use Rattle.wild_plan.specs.declared.kind.Machine.TheVariants as machine
+use Rattle.wild_plan.specs.declared.section.Segment.{Segment}
+use Rattle.wild_plan.specs.declared.input.Slot.TheVariants as slot
+use Rattle.wild_plan.specs.declared.input.InputRelocation.{InputRelocation}
+use Rattle.wild_plan.specs.declared.input.InputSection.{InputSection}
+use Rattle.wild_plan.specs.declared.layout.Layout.{Layout}
+use Rattle.wild_plan.specs.Flags.{absolute, ifunc}
+use Rattle.wild_plan.specs.Lookups.{allocated, thread_local}
+use Rattle.wild_layout.specs.Faults.{errors}
+use Rattle.wild_loader.specs.declared.world.World.{World}
+use Rattle.wild_meaning.specs.Section.{IsSet}
+use Rattle.wild_meaning.specs.World.{IsFixed, IsBehind}
+use Rattle.wild_meaning.specs.Value.{HasFlag, IsAbsolute, IsReplaceable}
+use Rattle.wild_meaning.specs.Field.{formula_of}
+use Rattle.wild_meaning.specs.Formula.{IsPlaceRelative, TakesAddress, TakesOffset}
+use Rattle.wild_meaning.specs.Item.{Item, IsInput, IsKept, IsReference}
+use Rattle.wild_meaning.specs.Reference.{HasPlace, GoesThroughSlot, IsAsked, IsLeftToLoader, IsStubbed, IsLinkedAlone}
+use Rattle.wild_meaning.specs.Linked.{IsBlank}
+use Rattle.wild_reloc.specs.Formula.{Formula}
+use Rattle.wild_laws.specs.FirstTypes.{IsLoadedSection}
+
+-- each loaded, allocated input section with data is kept, as it stands
+abbrev pub SectionsAreKept : Type 0
+SectionsAreKept = (l : Layout) (s : InputSection) → IsLoadedSection l s → IsKept l (record { address = s.address; flags = s.flags; bytes = s.bytes; relocations = s.relocations })
+
+-- each of an item's relocations but NONE is a reference
+abbrev pub RelocationsRefer : Type 0
+RelocationsRefer = (item : Item) (r : InputRelocation) → Contains item.relocations r → r.number ≢ r_x86_64_none → IsReference item r
+
+-- where a layout has no faults, no IFUNC is absolute
+abbrev pub ResolversAreNotAbsolute : Type 0
+ResolversAreNotAbsolute = (l : Layout) (i : ℕ) → errors l ≡ [] → HasFlag l i ifunc true → IsAbsolute l i → ⊥
+
+-- a reference is asked at base 0, and at every base where its symbol is not absolute, as no resolver is, or it takes no place
+-- from an address: neither its value does, nor is its instruction a call or a jump through a slot
+pub record ReferencesAreAsked : Type 0 where
+  pub zero : (l : Layout) (w : World) (item : Item) (r : InputRelocation) → w.base ≡ 0 → IsAsked l w item r
+  pub fixed : (l : Layout) (w : World) (item : Item) (r : InputRelocation) → IsFixed l.kind → IsAsked l w item r
+  pub unnamed : (l : Layout) (w : World) (item : Item) (r : InputRelocation) → r.symbol ≡ None → IsAsked l w item r
+  pub moving : (l : Layout) (w : World) (item : Item) (r : InputRelocation) (i : ℕ) → r.symbol ≡ Some i → HasFlag l i absolute false → IsAsked l w item r
+  pub resolved : (l : Layout) (w : World) (item : Item) (r : InputRelocation) (i : ℕ) → errors l ≡ [] → r.symbol ≡ Some i → HasFlag l i ifunc true → IsAsked l w item r
+  pub placeless : (l : Layout) (w : World) (item : Item) (r : InputRelocation) → (HasPlace l r → ⊥) → (GoesThroughSlot l item r → ⊥) → IsAsked l w item r
+
+-- so a value that takes no place from an address, as a slot's distance, is asked unless the relocation's type is one that calls
+-- and jumps through slots have, and it stands in code
+pub record SlotsAreAsked : Type 0 where
+  pub numbers : (l : Layout) (w : World) (item : Item) (r : InputRelocation) (f : Formula) → l.machine ≡ machine.X86_64 → formula_of l.machine r.number ≡ Some f → (IsPlaceRelative f.value → ⊥) → (Contains (r_x86_64_gotpcrel ∷ r_x86_64_gotpcrelx ∷ []) r.number → ⊥) → IsAsked l w item r
+  pub elsewhere : (l : Layout) (w : World) (item : Item) (r : InputRelocation) (f : Formula) → formula_of l.machine r.number ≡ Some f → (IsPlaceRelative f.value → ⊥) → (IsSet item.flags shf_execinstr → ⊥) → IsAsked l w item r
+
+-- a reference takes the output's own symbol only where another module may have one: not of a symbol that is not replaceable, nor
+-- without one; not by an expression that has neither the symbol's address nor its offset, as a slot's or a stub's distance; not in
+-- a field that is left to a loader, nor where the address is a stub's
+pub record FewAreLinkedAlone : Type 0 where
+  pub own : (l : Layout) (item : Item) (r : InputRelocation) (i : ℕ) → r.symbol ≡ Some i → IsReplaceable l i false → IsLinkedAlone l item r → ⊥
+  pub unnamed : (l : Layout) (item : Item) (r : InputRelocation) → r.symbol ≡ None → IsLinkedAlone l item r → ⊥
+  pub valued : (l : Layout) (item : Item) (r : InputRelocation) (f : Formula) → formula_of l.machine r.number ≡ Some f → (TakesOffset f.value → ⊥) → (TakesAddress f.value → ⊥) → IsLinkedAlone l item r → ⊥
+  pub left : (l : Layout) (item : Item) (r : InputRelocation) (i : ℕ) (f : Formula) → r.symbol ≡ Some i → formula_of l.machine r.number ≡ Some f → IsLeftToLoader l item i f → IsLinkedAlone l item r → ⊥
+  pub stubbed : (l : Layout) (item : Item) (r : InputRelocation) (i : ℕ) (f : Formula) → r.symbol ≡ Some i → formula_of l.machine r.number ≡ Some f → (TakesOffset f.value → ⊥) → IsStubbed l i → IsLinkedAlone l item r → ⊥
+
+-- each loaded, allocated input section without data is asked for zeros, but those that each thread has a copy of, at every
+-- address behind the file bytes of a loaded segment
+pub record BlanksAreAsked : Type 0 where
+  pub sections : (l : Layout) (s : InputSection) → IsInput l s → s.slot ≡ slot.Loaded → allocated s.flags ≡ true → thread_local s.flags ≡ false → s.nobits ≡ true → IsBlank l s
+  pub behind : (l : Layout) (g : Segment) (a : ℕ) → Contains l.segments g → g.kind ≡ pt_load → g.address + g.file_size ≤ a → a < g.address + g.mem_size → IsBehind l a
