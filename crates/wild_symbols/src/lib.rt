@@ -19,7 +19,8 @@ pub use dynamic::{
 pub use faults::{excessive, insufficient};
 pub use index_table::IndexTable;
 pub use laws::{
-    entries_are_counted, names_are_strings, sides_are_read, strings_stand, symbols_are_read,
+    entries_are_counted, names_are_strings, prefixes_are_the_writers, runs_are_read,
+    sides_are_read, strings_stand, symbols_are_read,
 };
 pub use prefix::{KeptBehind, SymbolTablePrefix};
 pub use strtab::StrTabWriter;
