@@ -6,3 +6,5 @@ pub mod LibraryLemmas
 pub mod ImageLemmas
 pub mod ThereLemmas
 pub mod SideLemmas
+pub mod FieldLemmas
+pub mod FieldListed

@@ -1,9 +1,10 @@
 //! What a reader of an image finds in its symbol tables and their strings.
 #![tactic(auto)]
 
+ghost use Rattle.wild_names.specs.FieldLaws.{ListedSymbolsHaveFields, TableSymbolsHaveFields};
 ghost use Rattle.wild_names.specs.Laws.{LibrariesStand, SymbolTablesAreThere, SymbolsStand, TableSymbolsStand};
 
-use wild_geometry::tables_stand;
+use wild_geometry::{layouts_are_laid_out, tables_stand};
 use wild_symbols::names_are_strings;
 
 /// The dynamic symbol table and its strings are there; each symbol has its entry, in order, and its name stands where the
@@ -29,4 +30,12 @@ pub fn libraries_stand()
     ensures { LibrariesStand }
 {
     tables_stand();
+}
+
+/// In a layout without faults each symbol of both tables has its fields, and its entry says them.
+pub fn symbols_have_fields()
+    ensures table { TableSymbolsHaveFields }
+    ensures listed { ListedSymbolsHaveFields }
+{
+    layouts_are_laid_out();
 }

@@ -1,0 +1,113 @@
+-- Where a layout has no faults each symbol that other modules see has its fields: what one lacks is a fault of the last file.
+use Rattle.std.proofs.Common.{◌≡◌, ℕ, ◌+◌, ◌<◌, ◌≤◌, ◌==◌, ◌&&◌, Bool, true, false, if◌then◌else◌, List, [], ◌∷◌, length, get_or, All, Option, Some, None, Result, Ok, Err, slice_get, flat_map, refl, ap, ◌∙◌, arith, subst}
+use Rattle.std.proofs.lemmas.Bool.{eq-eqb}
+use Rattle.std.proofs.lemmas.List.Elements.{All-nil, All-cons, All-contains}
+use Rattle.wild_words.proofs.ListLemmas.{Found-from_list_any}
+use Rattle.wild_plan.specs.declared.fault.Fault.{Fault}
+use Rattle.wild_plan.specs.declared.symbol.Symbol.{Symbol}
+use Rattle.wild_plan.specs.declared.file.File.{File}
+use Rattle.wild_plan.specs.declared.file.Group.{Group}
+use Rattle.wild_plan.specs.declared.layout.DynamicSymbol.{DynamicSymbol}
+use Rattle.wild_plan.specs.declared.layout.Layout.{Layout}
+use Rattle.wild_plan.specs.DynamicSymbols.{dynamic_symbols, symbol_listed_fits, listed_fits, misfit, misplaced, first_listed}
+use Rattle.wild_plan.specs.FileRoles.{is_epilogue}
+use Rattle.wild_plan.specs.Kinds.{needs_dynsym}
+use Rattle.wild_plan.specs.ClauseTests.{fails, check_dynsyms}
+use Rattle.wild_symbols.specs.declared.dynamic.SymbolFields.{SymbolFields}
+use Rattle.wild_symbols.specs.DynamicEntries.{listed_of, or_none}
+use Rattle.wild_symbols.specs.DynamicFields.{listed_fields}
+use Rattle.wild_layout.specs.Faults.{errors, at_file, lacking, listed_error, listed_errors, group_errors}
+use Rattle.wild_layout.specs.Geometry.{IsLaidOut, LayoutsAreLaidOut}
+use Rattle.wild_layout.proofs.FaultLemmas.{All-from_none}
+use Rattle.wild_geometry.proofs.ClauseLemmas.{Both-from_first_error, None-from_fails}
+use Rattle.wild_geometry.proofs.LastGroupLemmas.{has_last, has_last-group}
+use Rattle.wild_names.specs.FieldLaws.{HasListedFields, ListedSymbolsHaveFields, listed_with}
+use Rattle.wild_names.proofs.FieldLemmas.{All-from_nothing, no_fault, laid_out, no_group, none_of_listed}
+
+-- ---- the symbols are there
+
+-- the layout has the symbol
+abbrev IsThere : Layout → DynamicSymbol → Type 0
+IsThere l d = (s : Symbol) × (slice_get l.symbols d.symbol ≡ Some s)
+
+there_of : (l : Layout) (p i : ℕ) (o : Option Symbol) → symbol_listed_fits l p i o ≡ true → (s : Symbol) × (o ≡ Some s)
+there_of l p i None h = cc
+there_of l p i (Some s) h = (s, refl)
+
+step : (b : Bool) (rest : Option ℕ) (i : ℕ) → (if b then rest else Some i) ≡ None → (b ≡ true) × (rest ≡ None)
+step true rest i h = (refl, h)
+step false rest i h = cc
+
+are_there : (l : Layout) (p i : ℕ) (ds : List DynamicSymbol) → misfit l p i ds ≡ None → All (IsThere l) ds
+are_there l p i [] h = All-nil (IsThere l)
+are_there l p i (d ∷ ds) h =
+    let a = step (listed_fits l p d) (misfit l (p + 1) (i + 1) ds) i h in
+    All-cons (IsThere l) d ds (there_of l p d.symbol (slice_get l.symbols d.symbol) a.0) (are_there l (p + 1) (i + 1) ds a.1)
+
+all_there : (l : Layout) → IsLaidOut l → All (IsThere l) l.dynsyms
+unfolding check_dynsyms
+all_there l laid =
+    let checks = Both-from_first_error (fails 13 (misplaced (dynamic_symbols l) 0 l.symbols)) (fails 13 (misfit l (first_listed l) 0 l.dynsyms)) laid.dynsyms in
+    are_there l (first_listed l) 0 l.dynsyms (None-from_fails 13 (misfit l (first_listed l) 0 l.dynsyms) checks.rest)
+
+-- ---- they lack nothing
+
+-- the symbol lacks nothing
+abbrev LacksNothing : Layout → DynamicSymbol → Type 0
+LacksNothing l d = lacking (listed_of l d.symbol (slice_get l.symbols d.symbol)) ≡ None
+
+-- so it is with all of them where the file is the last one
+abbrev LastHasListed : Layout → File → Type 0
+LastHasListed l f = is_epilogue f.role ≡ true → All (LacksNothing l) l.dynsyms
+
+listed_of_file : (l : Layout) (i k : ℕ) (f : File) → needs_dynsym l.kind ≡ true → listed_errors l i k f ≡ [] → LastHasListed l f
+unfolding listed_errors
+listed_of_file l i k f needs h last =
+    let P : Bool → Bool → Type 0 = λ a b. (if a && b then flat_map (listed_error l (at_file i k)) l.dynsyms else []) ≡ [] in
+    let none = subst (P true) needs (subst (λ (a : Bool). P a (needs_dynsym l.kind)) last h) in
+    All-from_nothing (LacksNothing l) (listed_error l (at_file i k)) l.dynsyms (λ d e. no_fault (at_file i k) (lacking (listed_of l d.symbol (slice_get l.symbols d.symbol))) e) none
+
+-- so it is with each file of a group
+abbrev GroupHasListed : Layout → Group → Type 0
+GroupHasListed l g = All (LastHasListed l) g.files
+
+listed_of_group : (l : Layout) → needs_dynsym l.kind ≡ true → (i : ℕ) (g : Group) → group_errors l i g ≡ [] → GroupHasListed l g
+listed_of_group l needs i g h = All-from_none (LastHasListed l) (listed_errors l i) 0 g.files (λ k f e. listed_of_file l i k f needs e) (none_of_listed l i g h)
+
+-- the last group has the last file
+none_lacks : (l : Layout) → errors l ≡ [] → needs_dynsym l.kind ≡ true → IsLaidOut l → All (LacksNothing l) l.dynsyms
+none_lacks l none needs laid =
+    by l.groups laid.some_group (λ k d m. has_last-group l.groups laid.files k d m) (All-from_none (GroupHasListed l) (group_errors l) 0 l.groups (listed_of_group l needs) (no_group l none))
+  where
+    in_group : (g : Group) → has_last g ≡ true → GroupHasListed l g → All (LacksNothing l) l.dynsyms
+    in_group g last each =
+        let f = Found-from_list_any (λ (x : File). is_epilogue x.role) g.files last in
+        All-contains (LastHasListed l) g.files f.item each f.listed f.passes
+
+    by : (gs : List Group) → 1 ≤ length gs → ((k : ℕ) (d : Group) → k < length gs → has_last (get_or gs k d) ≡ (k + 1 == length gs)) → All (GroupHasListed l) gs → All (LacksNothing l) l.dynsyms
+    by [] some last each = absurd (omega arith)
+    by (g ∷ gs) some last each =
+        let k = length gs in
+        let end : (k + 1 == length (g ∷ gs)) ≡ true = eq-eqb (k + 1) (length (g ∷ gs)) (omega arith) in
+        in_group (get_or (g ∷ gs) k g) (last k g (omega arith) ∙ end) (each k g (omega arith))
+
+-- ---- their entries say what they have
+
+listed_told : (l : Layout) (d : DynamicSymbol) (s : Symbol) (r : Result SymbolFields Fault) → slice_get l.symbols d.symbol ≡ Some s → LacksNothing l d → listed_fields l d.symbol s ≡ r → HasListedFields l d
+listed_told l d s (Ok fields) there none is = record {
+  symbol = s;
+  there = there;
+  fields = fields;
+  told = is;
+  entry = ap (λ (o : Option Symbol). listed_with d (or_none (listed_of l d.symbol o))) there ∙ ap (λ (r : Result SymbolFields Fault). listed_with d (or_none r)) is;
+}
+listed_told l d s (Err e) there none is =
+    let told = subst (λ (o : Option Symbol). lacking (listed_of l d.symbol o) ≡ None) there none in
+    let bad : lacking (Err e) ≡ None = subst (λ (r : Result SymbolFields Fault). lacking r ≡ None) is told in
+    cc
+
+pub listed_have_fields : LayoutsAreLaidOut → ListedSymbolsHaveFields
+listed_have_fields laid l none needs d in_list =
+    let lies = laid_out laid l none in
+    let s = All-contains (IsThere l) l.dynsyms d (all_there l lies) in_list in
+    listed_told l d s.0 (listed_fields l d.symbol s.0) s.1 (All-contains (LacksNothing l) l.dynsyms d (none_lacks l none needs lies) in_list) refl

@@ -1,0 +1,49 @@
+-- What the entries of the symbol tables say where a layout has no faults (gABI, "Symbol Table").
+--   TableSymbolsHaveFields    each symbol of the table of all symbols has its fields, and its entry says them
+--   ListedSymbolsHaveFields   so does each symbol that other modules see
+use Rattle.std.specs.Prelude.{◌≡◌, true, [], Contains, Some, Ok, slice_get}
+use Rattle.wild_plan.specs.declared.symbol.Symbol.{Symbol}
+use Rattle.wild_plan.specs.declared.file.File.{File}
+use Rattle.wild_plan.specs.declared.file.Group.{Group}
+use Rattle.wild_plan.specs.declared.layout.DynamicSymbol.{DynamicSymbol}
+use Rattle.wild_plan.specs.declared.layout.Layout.{Layout}
+use Rattle.wild_plan.specs.Kinds.{needs_dynsym}
+use Rattle.wild_plan.specs.TableSymbols.{TableSymbol, file_items, item_name, is_local}
+use Rattle.wild_symbols.specs.declared.dynamic.SymbolFields.{SymbolFields}
+use Rattle.wild_symbols.specs.declared.table.TableFields.{TableFields}
+use Rattle.wild_symbols.specs.DynamicEntries.{NamedFields, listed}
+use Rattle.wild_symbols.specs.DynamicFields.{listed_fields}
+use Rattle.wild_symbols.specs.TableEntries.{NamedEntry, table_fields, named_entry}
+use Rattle.wild_layout.specs.Faults.{errors}
+
+-- ---- fields
+
+-- a symbol's name and side, with these fields
+abbrev pub entry_with : TableSymbol → TableFields → NamedEntry
+entry_with x fields = record { name = item_name x; local = is_local x; fields = fields }
+
+-- a symbol of the table of all symbols lacks nothing: it has its fields, and its entry says them
+pub record HasTableFields (l : Layout) (f : File) (x : TableSymbol) : Type 0 where
+  pub fields : TableFields
+  pub told : table_fields l f x ≡ Ok fields
+  pub entry : named_entry l f x ≡ entry_with x fields
+
+-- so it is with each symbol that a file of a layout without faults has in that table
+abbrev pub TableSymbolsHaveFields : Type 0
+TableSymbolsHaveFields = (l : Layout) → errors l ≡ [] → (g : Group) (f : File) (x : TableSymbol) → Contains l.groups g → Contains g.files f → Contains (file_items l f) x → HasTableFields l f x
+
+-- a listed symbol's name, with these fields
+abbrev pub listed_with : DynamicSymbol → SymbolFields → NamedFields
+listed_with d fields = record { name = d.name; fields = fields }
+
+-- a symbol that other modules see lacks nothing: the layout has it, it has its fields, and its entry says them
+pub record HasListedFields (l : Layout) (d : DynamicSymbol) : Type 0 where
+  pub symbol : Symbol
+  pub there : slice_get l.symbols d.symbol ≡ Some symbol
+  pub fields : SymbolFields
+  pub told : listed_fields l d.symbol symbol ≡ Ok fields
+  pub entry : listed l d ≡ listed_with d fields
+
+-- so it is with each one of a layout without faults, where the output has dynamic symbols
+abbrev pub ListedSymbolsHaveFields : Type 0
+ListedSymbolsHaveFields = (l : Layout) → errors l ≡ [] → needs_dynsym l.kind ≡ true → (d : DynamicSymbol) → Contains l.dynsyms d → HasListedFields l d
