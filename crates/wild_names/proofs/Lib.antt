@@ -8,3 +8,5 @@ pub mod ThereLemmas
 pub mod SideLemmas
 pub mod FieldLemmas
 pub mod FieldListed
+pub mod InfoLemmas
+pub mod InfoCount

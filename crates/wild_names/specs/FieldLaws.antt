@@ -1,13 +1,20 @@
--- What the entries of the symbol tables say where a layout has no faults (gABI, "Symbol Table").
+-- What the entries of the symbol tables say where a layout has no faults, and how many local symbols the header of their section
+-- tells (gABI, "Symbol Table", "Section Header").
 --   TableSymbolsHaveFields    each symbol of the table of all symbols has its fields, and its entry says them
 --   ListedSymbolsHaveFields   so does each symbol that other modules see
-use Rattle.std.specs.Prelude.{◌≡◌, true, [], Contains, Some, Ok, slice_get}
+--   HasOwnInfo l table        no other number is told of the section of the local symbols
+--   LocalSymbolsAreCounted    sh_info of that section is how many local symbols there are
+use Rattle.std.specs.Prelude.{◌≡◌, ◌+◌, ◌*◌, ◌≤◌, true, [], length, Contains, Some, Ok, slice_get}
+use Rattle.wild_records.specs.SectionHeader.{section_header_size, section_header_at}
+use Rattle.wild_plan.specs.declared.part.Part.{Part}
+use Rattle.wild_plan.specs.declared.part.Role.TheVariants as role
 use Rattle.wild_plan.specs.declared.symbol.Symbol.{Symbol}
 use Rattle.wild_plan.specs.declared.file.File.{File}
 use Rattle.wild_plan.specs.declared.file.Group.{Group}
 use Rattle.wild_plan.specs.declared.layout.DynamicSymbol.{DynamicSymbol}
 use Rattle.wild_plan.specs.declared.layout.Layout.{Layout}
 use Rattle.wild_plan.specs.Kinds.{needs_dynsym}
+use Rattle.wild_plan.specs.Segments.{part_with}
 use Rattle.wild_plan.specs.TableSymbols.{TableSymbol, file_items, item_name, is_local}
 use Rattle.wild_symbols.specs.declared.dynamic.SymbolFields.{SymbolFields}
 use Rattle.wild_symbols.specs.declared.table.TableFields.{TableFields}
@@ -15,6 +22,9 @@ use Rattle.wild_symbols.specs.DynamicEntries.{NamedFields, listed}
 use Rattle.wild_symbols.specs.DynamicFields.{listed_fields}
 use Rattle.wild_symbols.specs.TableEntries.{NamedEntry, table_fields, named_entry}
 use Rattle.wild_layout.specs.Faults.{errors}
+use Rattle.wild_layout.specs.Geometry.{IsLaidOut}
+use Rattle.wild_layout.specs.Image.{bytes}
+use Rattle.wild_names.specs.Laws.{side_symbols}
 
 -- ---- fields
 
@@ -47,3 +57,18 @@ pub record HasListedFields (l : Layout) (d : DynamicSymbol) : Type 0 where
 -- so it is with each one of a layout without faults, where the output has dynamic symbols
 abbrev pub ListedSymbolsHaveFields : Type 0
 ListedSymbolsHaveFields = (l : Layout) → errors l ≡ [] → needs_dynsym l.kind ≡ true → (d : DynamicSymbol) → Contains l.dynsyms d → HasListedFields l d
+
+-- ---- the number of local symbols
+
+-- the part stands in a section that is not the first, and neither dynamic symbols nor entries of stubs stand in that section, whose
+-- sh_info tells something else
+pub record HasOwnInfo (l : Layout) (table : Part) : Type 0 where
+  pub some : 1 ≤ table.section
+  pub symbols : (p : Part) → part_with role.Dynsym l.parts ≡ Some p → p.section ≡ table.section → ⊥
+  pub stubs : (p : Part) → part_with role.RelaPlt l.parts ≡ Some p → p.section ≡ table.section → ⊥
+
+-- in the image sh_info of the section of the local symbols is how many of them there are, with the one of zeros: one greater than the
+-- index of the last one
+abbrev pub LocalSymbolsAreCounted : Type 0
+LocalSymbolsAreCounted = (l : Layout) → IsLaidOut l → (table headers : Part) → part_with role.SymtabLocal l.parts ≡ Some table → part_with role.SectionHeaders l.parts ≡ Some headers → HasOwnInfo l table
+    → (section_header_at (bytes l) (headers.offset + section_header_size * table.section)).info ≡ length (side_symbols l true)

@@ -1,11 +1,13 @@
 //! What a reader of an image finds in its symbol tables and their strings.
 #![tactic(auto)]
 
-ghost use Rattle.wild_names.specs.FieldLaws.{ListedSymbolsHaveFields, TableSymbolsHaveFields};
+ghost use Rattle.wild_names.specs.FieldLaws.{ListedSymbolsHaveFields, LocalSymbolsAreCounted, TableSymbolsHaveFields};
 ghost use Rattle.wild_names.specs.Laws.{LibrariesStand, SymbolTablesAreThere, SymbolsStand, TableSymbolsStand};
 
 use wild_geometry::{layouts_are_laid_out, tables_stand};
-use wild_symbols::names_are_strings;
+use wild_headers::headers_are_read;
+use wild_symbols::{entries_are_counted, names_are_strings};
+use wild_words::fields_of_records;
 
 /// The dynamic symbol table and its strings are there; each symbol has its entry, in order, and its name stands where the
 /// entry tells.
@@ -38,4 +40,15 @@ pub fn symbols_have_fields()
     ensures listed { ListedSymbolsHaveFields }
 {
     layouts_are_laid_out();
+}
+
+/// The header of the section of the local symbols tells how many of them there are, with the one of zeros: one greater than
+/// the index of the last one.
+pub fn local_symbols_are_counted()
+    ensures { LocalSymbolsAreCounted }
+{
+    entries_are_counted();
+    names_are_strings();
+    headers_are_read();
+    fields_of_records();
 }

@@ -1,0 +1,114 @@
+-- How many local symbols the table of all symbols has: as many as its part has room for, and fewer than 2^32.
+use Rattle.std.proofs.Common.{◌≡◌, ℕ, ◌+◌, ◌*◌, ◌/◌, ◌%◌, ◌^◌, ◌<◌, ◌≤◌, not, true, List, [], ◌∷◌, length, map, filter, flat_map, refl, sym, ap, ◌∙◌, arith, subst}
+use Rattle.std.proofs.lemmas.List.{length-append, length-map}
+use Rattle.std.proofs.lemmas.List.Elements.{All-contains}
+use Rattle.std.proofs.lemmas.List.Filters.{length-filter_both}
+use Rattle.wild_words.specs.Record.{spell, FieldsAreRead}
+use Rattle.wild_words.specs.Words.{Stands}
+use Rattle.wild_records.specs.SectionHeader.{section_header_fields}
+use Rattle.wild_plan.specs.declared.part.Part.{Part}
+use Rattle.wild_plan.specs.declared.part.Role.TheVariants as role
+use Rattle.wild_plan.specs.declared.file.File.{File}
+use Rattle.wild_plan.specs.declared.file.Group.{Group}
+use Rattle.wild_plan.specs.declared.layout.Layout.{Layout}
+use Rattle.wild_plan.specs.DynamicStrings.{text_room}
+use Rattle.wild_plan.specs.FileRoles.{is_prelude}
+use Rattle.wild_plan.specs.Lists.{total}
+use Rattle.wild_plan.specs.Needs.{share, group_share}
+use Rattle.wild_plan.specs.TableSymbols.{table_strings}
+use Rattle.wild_symbols.specs.Symbols.{symbol_bytes}
+use Rattle.wild_symbols.specs.TableEntries.{NamedEntry, is_side, group_table, table_entries}
+use Rattle.wild_symbols.specs.TableLaws.{LengthsOfSides, NamesOfGroups}
+use Rattle.wild_symbols.proofs.SymbolLemmas.{length-symbol_bytes}
+use Rattle.wild_headers.specs.Headers.{null_header, local_symbols}
+use Rattle.wild_headers.specs.Laws.{SectionHeadersStand}
+use Rattle.wild_layout.specs.Content.{file_content, content}
+use Rattle.wild_layout.specs.Image.{bytes}
+use Rattle.wild_names.specs.Laws.{said, side_symbols}
+use Rattle.wild_names.specs.FieldLaws.{LocalSymbolsAreCounted}
+use Rattle.wild_names.proofs.ImageLemmas.{none_joined}
+use Rattle.wild_names.proofs.InfoLemmas.{section_is, size_is, offset_is, elsewhere, locals_told, info_of, header_at, header_in_image, info_read}
+use Rattle.wild_names.proofs.RunLemmas.{nil_if}
+
+-- ---- their room
+
+no_file_bytes : (l : Layout) (f : File) → file_content l role.SymtabLocal f ≡ []
+no_file_bytes l f = rw (nil_if (is_prelude f.role)) refl
+
+group_bytes_are : (l : Layout) (g : Group) → content l role.SymtabLocal g ≡ symbol_bytes (table_entries l true g)
+group_bytes_are l g = rw (none_joined (file_content l role.SymtabLocal) g.files (no_file_bytes l)) refl
+
+as_many_entries : LengthsOfSides → (l : Layout) (g : Group) → length (table_entries l true g) ≡ length (filter (is_side true) (group_table l g))
+unfolding table_entries
+as_many_entries sides l g = sides true g.strtab_start (group_table l g)
+
+-- the local symbols of a group
+abbrev locals : Layout → Group → List NamedEntry
+locals l g = filter (is_side true) (group_table l g)
+
+group_room : LengthsOfSides → (l : Layout) (g : Group) → length (content l role.SymtabLocal g) ≡ 24 * length (map said (locals l g))
+group_room sides l g =
+    let a = ap (λ (bs : List ℕ). length bs) (group_bytes_are l g) in
+    let b = length-symbol_bytes (table_entries l true g) in
+    let c = as_many_entries sides l g in
+    let d = length-map (locals l g) said in
+    omega (arith, a, b, c, d)
+
+all_room : LengthsOfSides → (l : Layout) (gs : List Group) → length (flat_map (content l role.SymtabLocal) gs) ≡ 24 * length (flat_map (λ (g : Group). map said (locals l g)) gs)
+all_room sides l [] = refl
+all_room sides l (g ∷ gs) =
+    let a = length-append (content l role.SymtabLocal g) (flat_map (content l role.SymtabLocal) gs) in
+    let b = length-append (map said (locals l g)) (flat_map (λ (x : Group). map said (locals l x)) gs) in
+    let c = group_room sides l g in
+    let d = all_room sides l gs in
+    omega (arith, a, b, c, d)
+
+-- ---- each has a string
+
+few_strings : (ss : List (List ℕ)) → length ss ≤ total text_room ss
+few_strings [] = omega arith
+few_strings (s ∷ ss) = let a = few_strings ss in omega (arith, a)
+
+few_of_files : (l : Layout) (fs : List File) → length (flat_map (table_strings l) fs) ≤ total (share l role.Strtab) fs
+few_of_files l [] = omega arith
+few_of_files l (f ∷ fs) =
+    let a = length-append (table_strings l f) (flat_map (table_strings l) fs) in
+    let b = few_strings (table_strings l f) in
+    let c = few_of_files l fs in
+    omega (arith, a, b, c)
+
+few_of_group : NamesOfGroups → (l : Layout) (g : Group) → length (map said (locals l g)) ≤ group_share l role.Strtab g
+few_of_group names l g =
+    let a = length-map (locals l g) said in
+    let b = length-filter_both (is_side true) (λ (n : NamedEntry). not (is_side true n)) (λ _. refl) (group_table l g) in
+    let c = length-map (group_table l g) (λ (n : NamedEntry). n.name) in
+    let d = ap (λ (ss : List (List ℕ)). length ss) (names l g) in
+    let e = few_of_files l g.files in
+    omega (arith, a, b, c, d, e)
+
+few_of_groups : NamesOfGroups → (l : Layout) (gs : List Group) → length (flat_map (λ (g : Group). map said (locals l g)) gs) ≤ total (group_share l role.Strtab) gs
+few_of_groups names l [] = omega arith
+few_of_groups names l (g ∷ gs) =
+    let a = length-append (map said (locals l g)) (flat_map (λ (x : Group). map said (locals l x)) gs) in
+    let b = few_of_group names l g in
+    let c = few_of_groups names l gs in
+    omega (arith, a, b, c)
+
+-- ---- they are counted
+
+count_told : (l : Layout) (n size info : ℕ) → size ≡ 24 * n → n < 2 ^ 32 → info ≡ size / 24 % 2 ^ 32 → info ≡ n
+count_told l n size info whole low told = omega (arith, whole, low, told)
+
+pub locals_are_counted : LengthsOfSides → NamesOfGroups → SectionHeadersStand → FieldsAreRead → LocalSymbolsAreCounted
+locals_are_counted sides names headers read l laid table part found there own =
+    let lies = (laid.roles role.SymtabLocal (λ e. absurd (omega arith))).there table found in
+    let whole : table.size ≡ 24 * length (side_symbols l true) = sym lies.size ∙ all_room sides l l.groups in
+    let few = few_of_groups names l l.groups in
+    let short = laid.table_strings in
+    let low = All-contains (λ (p : Part). p.section < length l.sections) l.parts table laid.named lies.listed in
+    let told = info_of l l.sections table.section (null_header l) own.some low in
+    let counted = locals_told l table.section told.0 (elsewhere role.Dynsym l.parts table.section own.some own.symbols) (elsewhere role.RelaPlt l.parts table.section own.some own.stubs) (section_is role.SymtabLocal l.parts table found) in
+    let size : local_symbols l ≡ table.size / 24 = ap (λ (n : ℕ). n / 24) (size_is role.SymtabLocal l.parts table found) in
+    let info : (header_at l table.section).info ≡ length (side_symbols l true) = count_told l (length (side_symbols l true)) table.size (header_at l table.section).info whole (omega (arith, few, short)) (told.1 ∙ counted ∙ ap (λ (n : ℕ). n % 2 ^ 32) size) in
+    let here = subst (λ (n : ℕ). Stands (bytes l) (n + 64 * table.section) (spell (section_header_fields (header_at l table.section)))) (offset_is role.SectionHeaders l.parts part there) (header_in_image headers l laid table.section low) in
+    info_read read (bytes l) (part.offset + 64 * table.section) (header_at l table.section) here (omega (arith, info, few, short)) ∙ info
