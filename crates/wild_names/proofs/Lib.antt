@@ -10,3 +10,4 @@ pub mod FieldLemmas
 pub mod FieldListed
 pub mod InfoLemmas
 pub mod InfoCount
+pub mod IndexLemmas

@@ -2,6 +2,7 @@
 #![tactic(auto)]
 
 ghost use Rattle.wild_names.specs.FieldLaws.{ListedSymbolsHaveFields, LocalSymbolsAreCounted, TableSymbolsHaveFields};
+ghost use Rattle.wild_names.specs.IndexLaws.{LongIndexesStand};
 ghost use Rattle.wild_names.specs.Laws.{LibrariesStand, SymbolTablesAreThere, SymbolsStand, TableSymbolsStand};
 
 use wild_geometry::{layouts_are_laid_out, tables_stand};
@@ -25,6 +26,15 @@ pub fn table_symbols_stand()
 {
     tables_stand();
     names_are_strings();
+}
+
+/// Where there is a part for them, each entry of the table of all symbols has its longer section index, in order; it is 0 where
+/// the entry tells its section itself.
+pub fn long_indexes_stand()
+    ensures { LongIndexesStand }
+{
+    tables_stand();
+    entries_are_counted();
 }
 
 /// Each library has its entry in the dynamic section, and its name stands where the entry tells.
