@@ -11,3 +11,13 @@ pub mod FieldListed
 pub mod InfoLemmas
 pub mod InfoCount
 pub mod IndexLemmas
+pub mod VersionOrder
+pub mod VersionClauses
+pub mod VersionSymbols
+pub mod VersionRead
+pub mod VersionStarts
+pub mod VersionOffsets
+pub mod VersionDefinitions
+pub mod VersionMarks
+pub mod VersionNeeds
+pub mod VersionFits

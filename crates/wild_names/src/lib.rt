@@ -4,10 +4,14 @@
 ghost use Rattle.wild_names.specs.FieldLaws.{ListedSymbolsHaveFields, LocalSymbolsAreCounted, TableSymbolsHaveFields};
 ghost use Rattle.wild_names.specs.IndexLaws.{LongIndexesStand};
 ghost use Rattle.wild_names.specs.Laws.{LibrariesStand, SymbolTablesAreThere, SymbolsStand, TableSymbolsStand};
+ghost use Rattle.wild_names.specs.VersionLaws.{DefinitionsStand, NeedsStand, VersionsStand};
 
 use wild_geometry::{layouts_are_laid_out, tables_stand};
 use wild_headers::headers_are_read;
 use wild_symbols::{entries_are_counted, names_are_strings};
+use wild_versions::{
+    definitions_are_read, needs_are_read, symbol_versions_are_read, versions_are_named,
+};
 use wild_words::fields_of_records;
 
 /// The dynamic symbol table and its strings are there; each symbol has its entry, in order, and its name stands where the
@@ -61,4 +65,18 @@ pub fn local_symbols_are_counted()
     names_are_strings();
     headers_are_read();
     fields_of_records();
+}
+
+/// The version of each dynamic symbol is read beside it. A reader of versions finds just those that the output defines, and
+/// those that are needed of libraries, and each name stands where its record tells.
+pub fn versions_stand()
+    ensures versions { VersionsStand }
+    ensures definitions { DefinitionsStand }
+    ensures needs { NeedsStand }
+{
+    tables_stand();
+    symbol_versions_are_read();
+    definitions_are_read();
+    needs_are_read();
+    versions_are_named();
 }

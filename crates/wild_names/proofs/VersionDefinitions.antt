@@ -1,0 +1,144 @@
+-- The versions that the output defines: the last file has their table, and their names stand behind those of its symbols.
+use Rattle.std.proofs.Common.{◌≡◌, ℕ, ◌^◌, ◌<◌, ◌≤◌, true, false, List, [], ◌∷◌, ◌++◌, length, Option, Some, None, flat_map, refl, sym, ap, ◌∙◌, arith, subst}
+use Rattle.std.specs.Prelude.{nat_le, ◌&&◌}
+use Rattle.std.proofs.lemmas.Bool.{and_parts, leb-true}
+use Rattle.std.proofs.lemmas.List.{append-nil}
+use Rattle.std.proofs.lemmas.Option.{get_or_from_slice_get, slice_get_within}
+use Rattle.wild_words.specs.Words.{Stands}
+use Rattle.wild_words.proofs.ListLemmas.{flat_map-same, flat_map-flat_map}
+use Rattle.wild_plan.specs.declared.part.Role.TheVariants as role
+use Rattle.wild_plan.specs.declared.file.FileRole.{FileRole}
+use Rattle.wild_plan.specs.declared.file.FileRole.TheVariants as file_role
+use Rattle.wild_plan.specs.declared.file.File.{File}
+use Rattle.wild_plan.specs.declared.file.Group.{Group}
+use Rattle.wild_plan.specs.declared.layout.Layout.{Layout}
+use Rattle.wild_plan.specs.declared.layout.VersionDefinition.{VersionDefinition}
+use Rattle.wild_plan.specs.DynamicStrings.{string_start}
+use Rattle.wild_plan.specs.FileRoles.{is_prelude, is_epilogue}
+use Rattle.wild_plan.specs.Kinds.{needs_dynsym}
+use Rattle.wild_plan.specs.Lookups.{files_of}
+use Rattle.wild_plan.specs.VersionTables.{versions_needed, most_versions}
+use Rattle.wild_plan.specs.Versions.{size_with, definitions_size, need_count}
+use Rattle.wild_symbols.specs.Strings.{string}
+use Rattle.wild_versions.specs.Chain.{name_at}
+use Rattle.wild_versions.specs.Definitions.{known_as, definition_table}
+use Rattle.wild_versions.specs.Laws.{LengthsOfDefinitions, DefinitionsAreRead, DefinitionsAreNamed}
+use Rattle.wild_versions.specs.Names.{definition_offsets, file_definitions}
+use Rattle.wild_layout.specs.Content.{file_content, content}
+use Rattle.wild_layout.specs.Geometry.{IsLaidOut, TablesStand}
+use Rattle.wild_layout.specs.TablePlaces.{table_bytes}
+use Rattle.wild_layout.specs.Image.{bytes}
+use Rattle.wild_names.specs.VersionLaws.{DefinitionsAreThere, DefinitionsStand}
+use Rattle.wild_names.proofs.ImageLemmas.{named, none_joined}
+use Rattle.wild_names.proofs.RunLemmas.{nil_if, strings_are_short}
+use Rattle.wild_names.proofs.VersionClauses.{definitions_hold}
+use Rattle.wild_names.proofs.VersionOffsets.{names_small}
+use Rattle.wild_names.proofs.VersionOrder.{InOrder, all_in_order}
+use Rattle.wild_names.proofs.VersionStarts.{LastStands, last_stands}
+
+-- ---- the table
+
+last_role : (r : FileRole) → is_epilogue r ≡ true → r ≡ file_role.Epilogue
+last_role file_role.Epilogue h = refl
+last_role r h = cc
+
+-- the names of the versions stand at the same offsets, whichever file is the last
+same_offsets : (l : Layout) (e f : File) → is_epilogue e.role ≡ true → is_epilogue f.role ≡ true → definition_offsets l f ≡ definition_offsets l e
+unfolding definition_offsets
+same_offsets l e f h k =
+    let a = last_role e.role h in
+    let b = last_role f.role k in
+    rw (a, b) refl
+
+-- the table of the last file
+abbrev table_of : Layout → File → List ℕ
+table_of l e = definition_table (definition_offsets l e) l.options.soname l.verdefs
+
+-- no other file has one
+abbrev nothing : File → List ℕ
+nothing f = []
+
+no_definitions : (l : Layout) (f : File) → needs_dynsym l.kind ≡ true → is_epilogue f.role ≡ false → file_definitions l f ≡ []
+unfolding file_definitions
+no_definitions l f needs e = rw (needs, e) refl
+
+last_definitions : (l : Layout) (e f : File) → needs_dynsym l.kind ≡ true → is_epilogue e.role ≡ true → is_epilogue f.role ≡ true → file_definitions l f ≡ table_of l e
+unfolding file_definitions
+last_definitions l e f needs h k =
+    let same = ap (λ (names : List ℕ). definition_table names l.options.soname l.verdefs) (same_offsets l e f h k) in
+    rw (needs, k) same
+
+-- the last file alone gives some
+in_order : (l : Layout) (e : File) → needs_dynsym l.kind ≡ true → is_epilogue e.role ≡ true → InOrder ℕ
+in_order l e needs h = record {
+  items = file_definitions l;
+  own = nothing;
+  front = [];
+  behind = table_of l e;
+  first = λ f p n. no_definitions l f needs n;
+  middle = λ f p n. no_definitions l f needs n;
+  last = λ f p k. last_definitions l e f needs h k;
+}
+
+file_gives : (l : Layout) (f : File) → file_content l role.GnuVersionD f ≡ file_definitions l f
+file_gives l f = rw (nil_if (is_prelude f.role)) (append-nil (file_definitions l f))
+
+group_gives : (l : Layout) (g : Group) → content l role.GnuVersionD g ≡ flat_map (file_definitions l) g.files
+group_gives l g = append-nil (flat_map (file_content l role.GnuVersionD) g.files) ∙ flat_map-same (file_content l role.GnuVersionD) (file_definitions l) g.files (file_gives l)
+
+definitions_given : (l : Layout) (e : File) → IsLaidOut l → needs_dynsym l.kind ≡ true → is_epilogue e.role ≡ true → table_bytes l role.GnuVersionD ≡ table_of l e
+unfolding in_order
+definitions_given l e laid needs h =
+    let all = all_in_order (in_order l e needs h) l.groups laid.some_group laid.files in
+    let none = none_joined nothing (files_of l.groups) (λ f. refl) in
+    flat_map-same (content l role.GnuVersionD) (λ (g : Group). flat_map (file_definitions l) g.files) l.groups (group_gives l)
+    ∙ sym (flat_map-flat_map (file_definitions l) (λ (g : Group). g.files) l.groups)
+    ∙ all
+    ∙ ap (λ (bs : List ℕ). bs ++ table_of l e) none
+
+-- ---- numbers
+
+few_definitions : (l : Layout) → IsLaidOut l → length l.verdefs < 2 ^ 16
+few_definitions l laid =
+    let a = and_parts (nat_le (length l.verdefs) most_versions) (nat_le (need_count l) most_versions && nat_le (versions_needed l) most_versions) laid.few_versions in
+    let b = leb-true _ _ a.0 in
+    omega arith
+
+some_bytes : (ds : List VersionDefinition) → 1 ≤ length ds → 1 ≤ definitions_size ds
+some_bytes [] h = absurd (omega arith)
+some_bytes (d ∷ ds) h = (let own = some_with d.parent in omega arith)
+  where
+    some_with : (p : Option ℕ) → 1 ≤ size_with p
+    some_with None = omega arith
+    some_with (Some p) = omega arith
+
+-- ---- the image
+
+pub definitions_stand : TablesStand → LengthsOfDefinitions → DefinitionsAreRead → DefinitionsAreNamed → DefinitionsStand
+definitions_stand stand lengths read names_stand l laid needs table strings found with_strings = by (last_stands l laid needs)
+  where
+    by : LastStands l (table_bytes l role.Dynstr) (string_start l) → DefinitionsAreThere l table strings
+    by e =
+        let short = strings_are_short l laid in
+        let hold = definitions_hold l laid table found in
+        let some = hold.some in
+        let names = definition_offsets l e.file in
+        let given = definitions_given l e.file laid needs e.last in
+        let size = ((laid.roles role.GnuVersionD (λ z. absurd (omega arith))).there table found).size in
+        let long = lengths names l.options.soname l.verdefs in
+        let total = ap (λ (bs : List ℕ). length bs) given in
+        let least = some_bytes l.verdefs some in
+        let there = stand l laid role.GnuVersionD (λ z. absurd (omega arith)) table found (omega arith) in
+        let here = subst (λ (bs : List ℕ). Stands (bytes l) table.offset bs) given there in
+        record {
+          names = names;
+          some = some;
+          whole = omega arith;
+          found = λ n enough. read (bytes l) names l.options.soname l.verdefs table.offset n (names_small l e.file) (few_definitions l laid) some enough here;
+          parents = hold.parents;
+          named = λ k d h.
+              let low = slice_get_within l.verdefs k d h in
+              let stands = names_stand l e.file (table_bytes l role.Dynstr) needs e.last (record { small = short; stand = e.stands }) k d low in
+              let own = subst (λ (x : VersionDefinition). Stands (table_bytes l role.Dynstr) (name_at names k) (string (known_as l.options.soname k x.name))) (get_or_from_slice_get l.verdefs k d d h) stands in
+              named stand l laid role.Dynstr (λ z. absurd (omega arith)) short strings with_strings (name_at names k) (known_as l.options.soname k d.name) own;
+        }

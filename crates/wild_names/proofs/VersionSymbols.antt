@@ -1,0 +1,82 @@
+-- The table of the versions of dynamic symbols: that of the null one, those of each file, and those of the list.
+use Rattle.std.proofs.Common.{◌≡◌, ℕ, true, List, [], ◌∷◌, map, filter, flat_map, refl, sym, ap, ◌∙◌}
+use Rattle.std.proofs.lemmas.List.{append-nil}
+use Rattle.wild_words.proofs.ListLemmas.{flat_map-same, flat_map-flat_map}
+use Rattle.wild_plan.specs.declared.part.Role.TheVariants as role
+use Rattle.wild_plan.specs.declared.file.FileRole.{FileRole}
+use Rattle.wild_plan.specs.declared.file.FileRole.TheVariants as file_role
+use Rattle.wild_plan.specs.declared.file.File.{File}
+use Rattle.wild_plan.specs.declared.file.Group.{Group}
+use Rattle.wild_plan.specs.declared.layout.Layout.{Layout}
+use Rattle.wild_plan.specs.declared.symbol.Symbol.{Symbol}
+use Rattle.wild_plan.specs.Astray.{range_of}
+use Rattle.wild_plan.specs.DynamicStrings.{undefined_symbols}
+use Rattle.wild_plan.specs.DynamicSymbols.{is_undefined_entry}
+use Rattle.wild_plan.specs.FileRoles.{is_prelude, is_epilogue}
+use Rattle.wild_plan.specs.Kinds.{needs_dynsym}
+use Rattle.wild_plan.specs.Lookups.{files_of}
+use Rattle.wild_versions.specs.Names.{symbol_versions}
+use Rattle.wild_versions.specs.Symbols.{spelled, version_bytes, version_of, listed_version, file_versions}
+use Rattle.wild_layout.specs.Content.{file_content, content}
+use Rattle.wild_layout.specs.Geometry.{IsLaidOut}
+use Rattle.wild_layout.specs.TablePlaces.{table_bytes}
+use Rattle.wild_names.specs.VersionLaws.{table_versions}
+use Rattle.wild_names.proofs.RunLemmas.{nil_if}
+use Rattle.wild_names.proofs.VersionOrder.{InOrder, all_in_order}
+
+-- ---- one file
+
+-- the versions of a file's symbols that other modules define
+abbrev pub own : Layout → File → List ℕ
+own l f = map (version_of f.role) (undefined_symbols l.symbols f)
+
+-- those of the null symbol and of all others
+abbrev pub all_versions : Layout → List ℕ
+all_versions l = 0 ∷ table_versions l
+
+none_pass : (r : FileRole) (ss : List Symbol) → is_epilogue r ≡ true → filter (is_undefined_entry r) ss ≡ []
+none_pass file_role.Epilogue [] h = refl
+none_pass file_role.Epilogue (s ∷ ss) h = none_pass file_role.Epilogue ss h
+none_pass r [] h = refl
+none_pass r (s ∷ ss) h = cc
+
+-- the last file defines none
+last_has_none : (l : Layout) (f : File) → is_epilogue f.role ≡ true → own l f ≡ []
+last_has_none l f h = ap (map (version_of f.role)) (none_pass f.role (range_of l.symbols f) h)
+
+-- the first file has that of the null symbol, and the last one those of the list
+in_order : Layout → InOrder ℕ
+in_order l = record {
+  items = file_versions l;
+  own = own l;
+  front = 0 ∷ [];
+  behind = map listed_version l.dynsyms;
+  first = λ f p e. rw (p, e) refl;
+  middle = λ f p e. rw (p, e) refl;
+  last = λ f p e. (let c = last_has_none l f e in rw (p, e, c) refl);
+}
+
+versions_in_order : (l : Layout) → IsLaidOut l → flat_map (file_versions l) (files_of l.groups) ≡ all_versions l
+unfolding in_order
+versions_in_order l laid = all_in_order (in_order l) l.groups laid.some_group laid.files
+
+-- ---- their bytes
+
+file_gives : (l : Layout) (f : File) → needs_dynsym l.kind ≡ true → l.options.versions ≡ true → file_content l role.GnuVersion f ≡ version_bytes (file_versions l f)
+file_gives l f needs asked =
+    let own_bytes : file_content l role.GnuVersion f ≡ version_bytes (symbol_versions l f) = rw (nil_if (is_prelude f.role)) (append-nil (version_bytes (symbol_versions l f))) in
+    let all : symbol_versions l f ≡ file_versions l f = rw (asked, needs) refl in
+    own_bytes ∙ ap version_bytes all
+
+group_gives : (l : Layout) (g : Group) → needs_dynsym l.kind ≡ true → l.options.versions ≡ true → content l role.GnuVersion g ≡ version_bytes (flat_map (file_versions l) g.files)
+group_gives l g needs asked =
+    append-nil (flat_map (file_content l role.GnuVersion) g.files)
+    ∙ flat_map-same (file_content l role.GnuVersion) (λ (f : File). version_bytes (file_versions l f)) g.files (λ f. file_gives l f needs asked)
+    ∙ sym (flat_map-flat_map spelled (file_versions l) g.files)
+
+pub version_table : (l : Layout) → IsLaidOut l → needs_dynsym l.kind ≡ true → l.options.versions ≡ true → table_bytes l role.GnuVersion ≡ version_bytes (all_versions l)
+version_table l laid needs asked =
+    let of = λ (g : Group). flat_map (file_versions l) g.files in
+    flat_map-same (content l role.GnuVersion) (λ (g : Group). version_bytes (of g)) l.groups (λ g. group_gives l g needs asked)
+    ∙ sym (flat_map-flat_map spelled of l.groups)
+    ∙ ap version_bytes (sym (flat_map-flat_map (file_versions l) (λ (g : Group). g.files) l.groups) ∙ versions_in_order l laid)

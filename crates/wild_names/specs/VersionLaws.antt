@@ -1,0 +1,119 @@
+-- The versions of the dynamic symbols in an image, those that the output defines, and those that are needed of libraries (LSB,
+-- "Symbol Versioning").
+--   table_versions l       the versions of the symbols of `table_symbols`, in the same order
+--   VersionNumbersFit l    the numbers of versions have their types' ranges
+--   VersionsStand          the version of each symbol of the dynamic symbol table is read at its place
+--   DefinitionsStand       a reader finds just the versions that the output defines, and their names
+--   with_needs l           the libraries that versions are needed of, in order, each with these versions
+--   NeedsStand             a reader finds just these libraries and versions, and their names
+use Rattle.std.specs.Prelude.{◌≡◌, ℕ, ◌+◌, ◌*◌, ◌^◌, ◌<◌, ◌≤◌, true, List, [], ◌∷◌, ◌++◌, length, map, Option, Some, None, All, slice_get}
+use Rattle.std.specs.List.{flat_map}
+use Rattle.wild_records.specs.Abi.Version.{ver_ndx_local}
+use Rattle.wild_records.specs.Versyms.{versym_size, versym_at}
+use Rattle.wild_plan.specs.declared.part.Part.{Part}
+use Rattle.wild_plan.specs.declared.part.Role.TheVariants as role
+use Rattle.wild_plan.specs.declared.file.File.{File}
+use Rattle.wild_plan.specs.declared.file.Group.{Group}
+use Rattle.wild_plan.specs.declared.file.NeededVersion.{NeededVersion}
+use Rattle.wild_plan.specs.declared.file.VersionNeeds.{VersionNeeds}
+use Rattle.wild_plan.specs.declared.layout.DynamicSymbol.{DynamicSymbol}
+use Rattle.wild_plan.specs.declared.layout.Layout.{Layout}
+use Rattle.wild_plan.specs.declared.layout.VersionDefinition.{VersionDefinition}
+use Rattle.wild_plan.specs.declared.symbol.Symbol.{Symbol}
+use Rattle.wild_plan.specs.DynamicStrings.{undefined_symbols}
+use Rattle.wild_plan.specs.Kinds.{needs_dynsym}
+use Rattle.wild_plan.specs.Lookups.{files_of}
+use Rattle.wild_plan.specs.Segments.{part_with}
+use Rattle.wild_plan.specs.Versions.{definitions_size, needs_of}
+use Rattle.wild_versions.specs.Chain.{name_at}
+use Rattle.wild_versions.specs.Definitions.{known_as}
+use Rattle.wild_versions.specs.Laws.{all_defined, Need, library_of}
+use Rattle.wild_versions.specs.Reading.{definitions_from, needs_from}
+use Rattle.wild_versions.specs.Symbols.{version_of, listed_version}
+use Rattle.wild_layout.specs.Geometry.{IsLaidOut}
+use Rattle.wild_layout.specs.Image.{bytes}
+use Rattle.wild_names.specs.Laws.{table_symbols, IsNamed}
+
+-- ---- numbers
+
+-- the indexes of the versions that are needed of a file
+abbrev pub IndexesFit : File → Type 0
+IndexesFit f = (n : VersionNeeds) → f.verneed ≡ Some n → All (λ (v : NeededVersion). v.index < 2 ^ 16) n.versions
+
+-- the numbers of versions have 16 bits, as their types have
+pub record VersionNumbersFit (l : Layout) : Type 0 where
+  pub symbols : All (λ (s : Symbol). s.version < 2 ^ 16) l.symbols
+  pub listed : All (λ (d : DynamicSymbol). d.version < 2 ^ 16) l.dynsyms
+  pub needed : All (λ (g : Group). All IndexesFit g.files) l.groups
+
+-- ---- the versions of symbols
+
+-- file by file those of the symbols that other modules define, and then those of the symbols that other modules see
+abbrev pub table_versions : Layout → List ℕ
+table_versions l = flat_map (λ (f : File). map (version_of f.role) (undefined_symbols l.symbols f)) (files_of l.groups) ++ map listed_version l.dynsyms
+
+-- each symbol of the dynamic symbol table has its version, behind that of the null one, and there are no others
+pub record VersionsAreThere (l : Layout) (table : Part) : Type 0 where
+  pub beside : length (table_versions l) ≡ length (table_symbols l)
+  pub whole : table.size ≡ versym_size * (length (table_symbols l) + 1)
+  pub null : (versym_at (bytes l) table.offset).version ≡ ver_ndx_local
+  pub each : (k v : ℕ) → slice_get (table_versions l) k ≡ Some v → (versym_at (bytes l) (table.offset + versym_size * (k + 1))).version ≡ v
+
+-- so it is in the image of a layout whose clauses and shares hold, where the option asks for versions
+abbrev pub VersionsStand : Type 0
+VersionsStand = (l : Layout) → IsLaidOut l → VersionNumbersFit l → needs_dynsym l.kind ≡ true → l.options.versions ≡ true → (table : Part) → part_with role.GnuVersion l.parts ≡ Some table → VersionsAreThere l table
+
+-- ---- the versions that the output defines
+
+-- a reader that may take that many versions or more finds just these, by the offsets of their names, and each name stands where it
+-- tells; the first is the output's own name where it has one; a parent is an earlier one
+pub record DefinitionsAreThere (l : Layout) (table strings : Part) : Type 0 where
+  pub names : List ℕ
+  pub some : 1 ≤ length l.verdefs
+  pub whole : table.size ≡ definitions_size l.verdefs
+  pub found : (n : ℕ) → length l.verdefs ≤ n → definitions_from (bytes l) n table.offset ≡ all_defined names l.options.soname 0 l.verdefs
+  pub named : (k : ℕ) (d : VersionDefinition) → slice_get l.verdefs k ≡ Some d → IsNamed l strings (name_at names k) (known_as l.options.soname k d.name)
+  pub parents : (k : ℕ) (d : VersionDefinition) (p : ℕ) → slice_get l.verdefs k ≡ Some d → d.parent ≡ Some p → p < k
+
+-- so it is in the image of a layout whose clauses and shares hold
+abbrev pub DefinitionsStand : Type 0
+DefinitionsStand = (l : Layout) → IsLaidOut l → needs_dynsym l.kind ≡ true → (table strings : Part) → part_with role.GnuVersionD l.parts ≡ Some table → part_with role.Dynstr l.parts ≡ Some strings → DefinitionsAreThere l table strings
+
+-- ---- the versions that are needed of libraries
+
+-- a library, and the versions that are needed of it
+pub record LibraryNeeds : Type 0 where
+  pub file : File
+  pub needs : VersionNeeds
+
+-- where versions are needed of it
+abbrev pub needed_by : File → Option VersionNeeds → List LibraryNeeds
+needed_by f None = []
+needed_by f (Some n) = record { file = f; needs = n } ∷ []
+
+-- the libraries that versions are needed of, in order
+abbrev pub with_needs : Layout → List LibraryNeeds
+with_needs l = flat_map (λ (f : File). needed_by f (needs_of f)) (files_of l.groups)
+
+-- the record of a library has the versions that are needed of it, and the names of both stand where it tells
+pub record TellsNeeds (l : Layout) (strings : Part) (n : Need) (w : LibraryNeeds) : Type 0 where
+  pub same : n.needs ≡ w.needs
+  pub library : IsNamed l strings n.file w.file.lib_name
+  pub versions : (k : ℕ) (v : NeededVersion) → slice_get w.needs.versions k ≡ Some v → IsNamed l strings (name_at n.names k) v.name
+
+-- record k of these is the library's
+pub record HasNeeds (l : Layout) (strings : Part) (ns : List Need) (k : ℕ) (w : LibraryNeeds) : Type 0 where
+  pub need : Need
+  pub is : slice_get ns k ≡ Some need
+  pub tells : TellsNeeds l strings need w
+
+-- a reader that may take that many libraries or more finds just these, each with the versions that are needed of it
+pub record NeedsAreThere (l : Layout) (table strings : Part) : Type 0 where
+  pub needs : List Need
+  pub count : length needs ≡ length (with_needs l)
+  pub found : (n : ℕ) → length needs ≤ n → needs_from (bytes l) n table.offset ≡ map library_of needs
+  pub each : (k : ℕ) (w : LibraryNeeds) → slice_get (with_needs l) k ≡ Some w → HasNeeds l strings needs k w
+
+-- so it is in the image of a layout whose clauses and shares hold
+abbrev pub NeedsStand : Type 0
+NeedsStand = (l : Layout) → IsLaidOut l → VersionNumbersFit l → needs_dynsym l.kind ≡ true → 1 ≤ length (with_needs l) → (table strings : Part) → part_with role.GnuVersionR l.parts ≡ Some table → part_with role.Dynstr l.parts ≡ Some strings → NeedsAreThere l table strings
