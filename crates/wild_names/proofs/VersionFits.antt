@@ -14,8 +14,9 @@ use Rattle.wild_plan.specs.declared.file.NeededVersion.{NeededVersion}
 use Rattle.wild_plan.specs.declared.file.VersionNeeds.{VersionNeeds}
 use Rattle.wild_plan.specs.declared.layout.Layout.{Layout}
 use Rattle.wild_plan.specs.FileRoles.{is_library}
+use Rattle.wild_plan.specs.Lists.{total}
 use Rattle.wild_plan.specs.Lookups.{files_of}
-use Rattle.wild_plan.specs.Versions.{needs_of, need_count}
+use Rattle.wild_plan.specs.Versions.{need_size, needs_of, need_count}
 use Rattle.wild_plan.specs.VersionTables.{length_of, file_versions, versions_needed, most_versions}
 use Rattle.wild_plan.proofs.ListLemmas.{total-prefix}
 use Rattle.wild_symbols.specs.Strings.{string}
@@ -77,6 +78,20 @@ needs_fit l laid fit =
     let indexes = All-flat_map IndexesFit (λ (g : Group). g.files) l.groups fit.needed in
     All-flat_map VersionsFit (λ (f : File). needed_by f (needs_of f)) fs (λ k f low. file_fits (get_or fs k f) (indexes k f low) (let n = total-prefix file_versions fs k f low in omega arith))
 
+-- ---- lengths
+
+-- the records have the bytes of their libraries' needs
+records_length : LengthsOfNeeds → (strings : List ℕ) (ns : List Need) (ws : List LibraryNeeds) → Belong (IsRecordOf strings) ns ws → length (needs_bytes ns) ≡ total (λ (w : LibraryNeeds). need_size w.needs) ws
+records_length lengths strings [] [] h = refl
+records_length lengths strings [] (w ∷ ws) h = absurd h
+records_length lengths strings (n ∷ ns) [] h = absurd h
+records_length lengths strings (n ∷ ns) (w ∷ ws) h =
+    let a = length-append (need_bytes n.file n.names n.needs) (needs_bytes ns) in
+    let b = lengths n.file n.names n.needs in
+    let c = ap need_size h.first.same in
+    let d = records_length lengths strings ns ws h.rest in
+    omega arith
+
 some_bytes : LengthsOfNeeds → (ns : List Need) → 1 ≤ length ns → 1 ≤ length (needs_bytes ns)
 some_bytes lengths [] h = absurd (omega arith)
 some_bytes lengths (n ∷ ns) h =
@@ -93,13 +108,15 @@ needs_stand stand lengths read law l laid fit needs some table strings found wit
     let count = belong-length (IsRecordOf (table_bytes l role.Dynstr)) ns (with_needs l) all in
     let given = needs_given l needs in
     let size = ((laid.roles role.GnuVersionR (λ z. absurd (omega arith))).there table found).size in
-    let total = ap (λ (bs : List ℕ). length bs) given in
+    let same = ap (λ (bs : List ℕ). length bs) given in
+    let own = records_length lengths (table_bytes l role.Dynstr) ns (with_needs l) all in
     let least = some_bytes lengths ns (omega arith) in
     let there = stand l laid role.GnuVersionR (λ z. absurd (omega arith)) table found (omega arith) in
     let here = subst (λ (bs : List ℕ). Stands (bytes l) table.offset bs) (sym given) there in
     record {
       needs = ns;
       count = count;
+      whole = omega arith;
       found = λ n enough. read (bytes l) ns table.offset n (records_fit (table_bytes l role.Dynstr) ns (with_needs l) all (needs_fit l laid fit)) (records_end_once l laid) (omega arith) enough here;
       each = λ k w h. one k w (belongs_at (IsRecordOf (table_bytes l role.Dynstr)) ns (with_needs l) k w all h);
     }

@@ -22,9 +22,10 @@ use Rattle.wild_plan.specs.declared.layout.VersionDefinition.{VersionDefinition}
 use Rattle.wild_plan.specs.declared.symbol.Symbol.{Symbol}
 use Rattle.wild_plan.specs.DynamicStrings.{undefined_symbols}
 use Rattle.wild_plan.specs.Kinds.{needs_dynsym}
+use Rattle.wild_plan.specs.Lists.{total}
 use Rattle.wild_plan.specs.Lookups.{files_of}
 use Rattle.wild_plan.specs.Segments.{part_with}
-use Rattle.wild_plan.specs.Versions.{definitions_size, needs_of}
+use Rattle.wild_plan.specs.Versions.{definitions_size, need_size, needs_of}
 use Rattle.wild_versions.specs.Chain.{name_at}
 use Rattle.wild_versions.specs.Definitions.{known_as}
 use Rattle.wild_versions.specs.Laws.{all_defined, Need, library_of}
@@ -111,6 +112,7 @@ pub record HasNeeds (l : Layout) (strings : Part) (ns : List Need) (k : ℕ) (w 
 pub record NeedsAreThere (l : Layout) (table strings : Part) : Type 0 where
   pub needs : List Need
   pub count : length needs ≡ length (with_needs l)
+  pub whole : table.size ≡ total (λ (w : LibraryNeeds). need_size w.needs) (with_needs l)
   pub found : (n : ℕ) → length needs ≤ n → needs_from (bytes l) n table.offset ≡ map library_of needs
   pub each : (k : ℕ) (w : LibraryNeeds) → slice_get (with_needs l) k ≡ Some w → HasNeeds l strings needs k w
 
