@@ -1,6 +1,7 @@
 pub mod BesideLemmas
 pub mod RunLemmas
 pub mod SymbolLemmas
+pub mod ListOrder
 pub mod OrderLemmas
 pub mod LibraryLemmas
 pub mod ImageLemmas
@@ -11,7 +12,6 @@ pub mod FieldListed
 pub mod InfoLemmas
 pub mod InfoCount
 pub mod IndexLemmas
-pub mod VersionOrder
 pub mod VersionClauses
 pub mod VersionSymbols
 pub mod VersionRead

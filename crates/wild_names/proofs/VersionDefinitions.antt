@@ -33,7 +33,7 @@ use Rattle.wild_names.proofs.ImageLemmas.{named, none_joined}
 use Rattle.wild_names.proofs.RunLemmas.{nil_if, strings_are_short}
 use Rattle.wild_names.proofs.VersionClauses.{definitions_hold}
 use Rattle.wild_names.proofs.VersionOffsets.{names_small}
-use Rattle.wild_names.proofs.VersionOrder.{InOrder, all_in_order}
+use Rattle.wild_names.proofs.ListOrder.{InOrder, all_in_order}
 use Rattle.wild_names.proofs.VersionStarts.{LastStands, last_stands}
 
 -- ---- the table

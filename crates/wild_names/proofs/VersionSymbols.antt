@@ -1,17 +1,12 @@
 -- The table of the versions of dynamic symbols: that of the null one, those of each file, and those of the list.
-use Rattle.std.proofs.Common.{◌≡◌, ℕ, true, List, [], ◌∷◌, map, filter, flat_map, refl, sym, ap, ◌∙◌}
+use Rattle.std.proofs.Common.{◌≡◌, ℕ, true, List, [], ◌∷◌, map, flat_map, refl, sym, ap, ◌∙◌}
 use Rattle.std.proofs.lemmas.List.{append-nil}
 use Rattle.wild_words.proofs.ListLemmas.{flat_map-same, flat_map-flat_map}
 use Rattle.wild_plan.specs.declared.part.Role.TheVariants as role
-use Rattle.wild_plan.specs.declared.file.FileRole.{FileRole}
-use Rattle.wild_plan.specs.declared.file.FileRole.TheVariants as file_role
 use Rattle.wild_plan.specs.declared.file.File.{File}
 use Rattle.wild_plan.specs.declared.file.Group.{Group}
 use Rattle.wild_plan.specs.declared.layout.Layout.{Layout}
-use Rattle.wild_plan.specs.declared.symbol.Symbol.{Symbol}
-use Rattle.wild_plan.specs.Astray.{range_of}
 use Rattle.wild_plan.specs.DynamicStrings.{undefined_symbols}
-use Rattle.wild_plan.specs.DynamicSymbols.{is_undefined_entry}
 use Rattle.wild_plan.specs.FileRoles.{is_prelude, is_epilogue}
 use Rattle.wild_plan.specs.Kinds.{needs_dynsym}
 use Rattle.wild_plan.specs.Lookups.{files_of}
@@ -22,7 +17,7 @@ use Rattle.wild_layout.specs.Geometry.{IsLaidOut}
 use Rattle.wild_layout.specs.TablePlaces.{table_bytes}
 use Rattle.wild_names.specs.VersionLaws.{table_versions}
 use Rattle.wild_names.proofs.RunLemmas.{nil_if}
-use Rattle.wild_names.proofs.VersionOrder.{InOrder, all_in_order}
+use Rattle.wild_names.proofs.ListOrder.{InOrder, all_in_order, last_defines_none}
 
 -- ---- one file
 
@@ -34,15 +29,9 @@ own l f = map (version_of f.role) (undefined_symbols l.symbols f)
 abbrev pub all_versions : Layout → List ℕ
 all_versions l = 0 ∷ table_versions l
 
-none_pass : (r : FileRole) (ss : List Symbol) → is_epilogue r ≡ true → filter (is_undefined_entry r) ss ≡ []
-none_pass file_role.Epilogue [] h = refl
-none_pass file_role.Epilogue (s ∷ ss) h = none_pass file_role.Epilogue ss h
-none_pass r [] h = refl
-none_pass r (s ∷ ss) h = cc
-
--- the last file defines none
+-- the last file has none of its own
 last_has_none : (l : Layout) (f : File) → is_epilogue f.role ≡ true → own l f ≡ []
-last_has_none l f h = ap (map (version_of f.role)) (none_pass f.role (range_of l.symbols f) h)
+last_has_none l f h = ap (map (version_of f.role)) (last_defines_none l.symbols f h)
 
 -- the first file has that of the null symbol, and the last one those of the list
 in_order : Layout → InOrder ℕ

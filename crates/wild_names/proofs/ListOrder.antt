@@ -1,5 +1,5 @@
 -- What files give, in their order: the first file has what stands in front, and the last one what stands behind all.
-use Rattle.std.proofs.Common.{◌≡◌, ℕ, ◌+◌, ◌≤◌, inl, inr, ◌==◌, Bool, true, false, ◌&&◌, List, [], ◌∷◌, ◌++◌, length, None, flat_map, refl, sym, ap, ◌∙◌, arith, subst}
+use Rattle.std.proofs.Common.{◌≡◌, ℕ, ◌+◌, ◌≤◌, inl, inr, ◌==◌, Bool, true, false, ◌&&◌, List, [], ◌∷◌, ◌++◌, length, filter, None, flat_map, refl, sym, ap, ◌∙◌, arith, subst}
 use Rattle.std.proofs.lemmas.Bool.{cases_Bool, and_parts, ne_eqb}
 use Rattle.std.proofs.lemmas.List.{append_assoc, append-nil}
 use Rattle.std.proofs.lemmas.Grind.{flat_map-append}
@@ -7,7 +7,11 @@ use Rattle.wild_plan.specs.declared.file.FileRole.{FileRole}
 use Rattle.wild_plan.specs.declared.file.FileRole.TheVariants as file_role
 use Rattle.wild_plan.specs.declared.file.File.{File}
 use Rattle.wild_plan.specs.declared.file.Group.{Group}
+use Rattle.wild_plan.specs.declared.symbol.Symbol.{Symbol}
+use Rattle.wild_plan.specs.Astray.{range_of}
 use Rattle.wild_plan.specs.Contents.{bool_eq, file_placed, later_placed, files_placed, file_misplaced}
+use Rattle.wild_plan.specs.DynamicStrings.{undefined_symbols}
+use Rattle.wild_plan.specs.DynamicSymbols.{is_undefined_entry}
 use Rattle.wild_plan.specs.FileRoles.{is_prelude, is_epilogue}
 use Rattle.wild_plan.specs.Lookups.{files_of}
 use Rattle.wild_geometry.proofs.LastGroupLemmas.{same_bool}
@@ -32,9 +36,22 @@ placed first last f h =
     let a = and_parts (bool_eq (is_prelude f.role) first) (bool_eq (is_epilogue f.role) last) h in
     record { prelude = same_bool (is_prelude f.role) first a.0; epilogue = same_bool (is_epilogue f.role) last a.1 }
 
+-- the first file is not the last one too
 first_is_not_last : (r : FileRole) → is_prelude r ≡ true → is_epilogue r ≡ false
 first_is_not_last file_role.Prelude h = refl
 first_is_not_last r h = cc
+
+-- ---- the last file
+
+-- no symbol of it is one that other modules define
+none_pass : (r : FileRole) (ss : List Symbol) → is_epilogue r ≡ true → filter (is_undefined_entry r) ss ≡ []
+none_pass file_role.Epilogue [] h = refl
+none_pass file_role.Epilogue (s ∷ ss) h = none_pass file_role.Epilogue ss h
+none_pass r [] h = refl
+none_pass r (s ∷ ss) h = cc
+
+pub last_defines_none : (ss : List Symbol) (f : File) → is_epilogue f.role ≡ true → undefined_symbols ss f ≡ []
+last_defines_none ss f h = none_pass f.role (range_of ss f) h
 
 -- ---- files
 
