@@ -14,6 +14,10 @@ use wild_versions::{
 };
 use wild_words::fields_of_records;
 
+mod numbers;
+
+pub use numbers::version_numbers_fit;
+
 /// The dynamic symbol table and its strings are there; each symbol has its entry, in order, and its name stands where the
 /// entry tells.
 pub fn dynamic_symbols_stand()

@@ -1,0 +1,7 @@
+use Rattle.std.proofs.Common.{take}
+use Rattle.std.specs.Prelude.{All}
+use Rattle.wild_names.specs.VersionLaws.{IndexesFit}
+use Rattle.wild_names.proofs.numbers.files_fit.Given as goal
+
+abbrev pub invariant-loop-file : goal.invariant-loop-file
+invariant-loop-file l = All IndexesFit (take l.file-index l.files)

@@ -1,0 +1,8 @@
+use Rattle.std.proofs.Common.{take}
+use Rattle.std.specs.Prelude.{All}
+use Rattle.wild_plan.specs.declared.file.Group.{Group}
+use Rattle.wild_names.specs.VersionLaws.{IndexesFit}
+use Rattle.wild_names.proofs.numbers.groups_fit.Given as goal
+
+abbrev pub invariant-loop-group : goal.invariant-loop-group
+invariant-loop-group l = All (λ (x : Group). All IndexesFit x.files) (take l.group-index l.groups)

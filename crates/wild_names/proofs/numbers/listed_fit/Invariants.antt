@@ -1,0 +1,7 @@
+use Rattle.std.proofs.Common.{◌<◌, ◌^◌, take}
+use Rattle.std.specs.Prelude.{All}
+use Rattle.wild_plan.specs.declared.layout.DynamicSymbol.{DynamicSymbol}
+use Rattle.wild_names.proofs.numbers.listed_fit.Given as goal
+
+abbrev pub invariant-loop-symbol : goal.invariant-loop-symbol
+invariant-loop-symbol l = All (λ (x : DynamicSymbol). x.version < 2 ^ 16) (take l.symbol-index l.symbols)
