@@ -26,10 +26,10 @@ use Rattle.wild_plan.specs.Places.{role_place}
 use Rattle.wild_plan.specs.Segments.{part_with}
 use Rattle.wild_plan.specs.LoadedTables.{is_hash_role, is_look_up_role, has_hashes}
 use Rattle.wild_headers.specs.Headers.{file_header, section_headers_of}
-use Rattle.wild_tables.specs.Dynamic.{dynamic_records, null_entry, EntriesAreFound, NeededAreOfLibraries}
+use Rattle.wild_tables.specs.Dynamic.{dynamic_records, null_entry}
 use Rattle.wild_layout.specs.Loadable.{SegmentLoads}
 use Rattle.wild_layout.specs.TablePlaces.{all_needed}
-use Rattle.wild_layout.specs.Geometry.{IsLaidOut, LayoutsAreLaidOut, TablesStand}
+use Rattle.wild_layout.specs.Geometry.{IsLaidOut, TablesStand}
 use Rattle.wild_layout.specs.Image.{bytes}
 use Rattle.wild_loader.specs.Headers.{is_loadable_header}
 use Rattle.wild_loader.specs.SegmentLaws.{HasHeaders}
@@ -40,29 +40,14 @@ use Rattle.wild_hashes.specs.declared.image.Part.{Part as Found}
 use Rattle.wild_hashes.specs.declared.image.Parts.{Parts}
 use Rattle.wild_hashes.specs.Image.{part_of, strings_of, parts_by, tables_of, bytes_if}
 use Rattle.wild_hashes.specs.Laws.{AreNumbered}
-use Rattle.wild_loaded.specs.Laws.{HeadersStand, HasEntries, DynamicSectionsStand}
+use Rattle.wild_loaded.specs.Laws.{HasEntries}
 use Rattle.wild_loaded.specs.Memory.{headers_of}
-use Rattle.wild_names.specs.Laws.{SymbolTablesAreThere, SymbolsStand}
+use Rattle.wild_lookups.specs.Below.{ImageLaws, NameLaws}
 use Rattle.wild_lookups.specs.Laws.{IsWritten}
-use Rattle.wild_lookups.proofs.ImageTables.{RecordLaws, parts_told}
+use Rattle.wild_lookups.proofs.ImageTables.{parts_told}
 use Rattle.wild_lookups.proofs.NumberedLemmas.{are_numbered}
 use Rattle.wild_lookups.proofs.PartBytes.{IsFoundPart, found_part}
 use Rattle.wild_lookups.proofs.ShapeLemmas.{well_formed, listed_fit}
-
--- what the crates below owe
-pub record ImageLaws : Type 0 where
-  pub laid : LayoutsAreLaidOut
-  pub stand : TablesStand
-  pub headers : HeadersStand
-  pub sections : DynamicSectionsStand
-  pub needed : NeededAreOfLibraries
-  pub found : EntriesAreFound
-  pub records : RecordLaws
-
--- and for names
-pub record NameLaws : Type 0 where
-  pub there : SymbolTablesAreThere
-  pub stand : SymbolsStand
 
 -- ---- the image
 

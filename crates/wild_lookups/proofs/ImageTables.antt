@@ -4,9 +4,9 @@ use Rattle.std.specs.Prelude.{◌==◌, nat_le, Ok}
 use Rattle.std.proofs.lemmas.Bool.{cases_Bool, eqb-true, le-leb}
 use Rattle.wild_words.specs.Record.{spell}
 use Rattle.wild_words.proofs.RecordLemmas.{length-spell}
-use Rattle.wild_records.specs.Dynamic.{dynamic_entry_size, DynamicEntryIsRead}
-use Rattle.wild_records.specs.FileHeader.{file_header_size, file_header_fields, file_header_at, FileHeaderIsRead}
-use Rattle.wild_records.specs.ProgramHeader.{program_header_size, ProgramHeaderIsRead}
+use Rattle.wild_records.specs.Dynamic.{dynamic_entry_size}
+use Rattle.wild_records.specs.FileHeader.{file_header_size, file_header_fields, file_header_at}
+use Rattle.wild_records.specs.ProgramHeader.{program_header_size}
 use Rattle.wild_records.specs.declared.dynamic.DynamicEntry.{DynamicEntry}
 use Rattle.wild_records.specs.declared.file_header.FileHeader.{FileHeader}
 use Rattle.wild_records.specs.declared.program_header.ProgramHeader.{ProgramHeader}
@@ -17,12 +17,7 @@ use Rattle.wild_loader.specs.Laws.{HasDynamic, before_null}
 use Rattle.wild_loader.specs.Tables.{dynamic_entries, first_dynamic, tagged}
 use Rattle.wild_loader.proofs.RecordLists.{length-records, length-program, programs-read, dynamics-read}
 use Rattle.wild_hashes.specs.Image.{image_header, dynamic_in, parts_by, tables_of}
-
--- what the crates below owe of records
-pub record RecordLaws : Type 0 where
-  pub headers : FileHeaderIsRead
-  pub programs : ProgramHeaderIsRead
-  pub dynamics : DynamicEntryIsRead
+use Rattle.wild_lookups.specs.Below.{RecordLaws}
 
 -- ---- headers
 

@@ -18,8 +18,9 @@ use Rattle.wild_layout.specs.Image.{bytes}
 use Rattle.wild_hashes.specs.Image.{bytes_of, bytes_if, gnu_lookup_in, sysv_lookup_in, tables_of}
 use Rattle.wild_hashes.specs.Laws.{AreNumbered, first_named, names_of, NeighboursAscend, GnuLookUpInImagesFindsTheFirst, SysvLookUpInImagesFindsTheFirst}
 use Rattle.wild_hashes.specs.Tables.{sysv_hash_of, gnu_hash_of, gnu_header, gnu_table, sysv_table, words}
+use Rattle.wild_lookups.specs.Below.{ImageLaws, NameLaws}
 use Rattle.wild_lookups.specs.Laws.{found, SysvLookUpsFind, GnuLookUpsFind, LookUpsWithoutTable}
-use Rattle.wild_lookups.proofs.FoundParts.{ImageLaws, NameLaws, is_read, HasParts, has_parts, no_parts, sysv_told, gnu_told}
+use Rattle.wild_lookups.proofs.FoundParts.{is_read, HasParts, has_parts, no_parts, sysv_told, gnu_told}
 use Rattle.wild_lookups.proofs.HashBytes.{sysv_stands, gnu_stands}
 use Rattle.wild_lookups.proofs.PartBytes.{stands_cut}
 use Rattle.wild_lookups.proofs.ShapeLemmas.{hashes_hold, some_bucket, gnu_base, gnu_laid_out}

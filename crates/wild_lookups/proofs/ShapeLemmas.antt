@@ -1,5 +1,5 @@
 -- What clauses ask of names and of the shapes of hash tables.
-use Rattle.std.proofs.Common.{◌≡◌, ℕ, zero, suc, ◌+◌, ◌%◌, ◌≤◌, inl, inr, ◌==◌, not, nat_le, nat_lt, Bool, true, false, List, [], ◌∷◌, ◌++◌, map, All, Option, Some, None, Result, Ok, Err, refl, arith}
+use Rattle.std.proofs.Common.{◌≡◌, ℕ, zero, suc, ◌+◌, ◌%◌, ◌≤◌, inl, inr, ◌==◌, not, nat_le, nat_lt, Bool, true, false, List, [], ◌∷◌, ◌++◌, map, All, Some, None, Result, Ok, Err, refl, arith}
 use Rattle.std.specs.List.{list_all}
 use Rattle.std.proofs.lemmas.Bool.{cases_Bool, and_parts, eqb-true, leb-true, le-leb, ltb-true}
 use Rattle.wild_plan.specs.declared.fault.Clause.{Clause}
@@ -14,6 +14,7 @@ use Rattle.wild_plan.specs.Lists.{first_failing, unless}
 use Rattle.wild_plan.specs.ClauseTests.{fails, first_error, check_sizes, check_counts, check_order, check_roles, check_sections, check_segments, check_shares, check_inputs, check_indexes, check_fields, check_slots, check_dynsyms, check_slot_flags, check_tls, check_starts, check_hashes, check_versions, check_names}
 use Rattle.wild_plan.specs.WellFormed.{first_clause}
 use Rattle.wild_plan.proofs.ListLemmas.{All-from_none_fails}
+use Rattle.wild_geometry.proofs.ClauseLemmas.{Both-from_first_error, None-from_fails}
 use Rattle.wild_records.specs.Hashes.{gnu_hash}
 use Rattle.wild_records.specs.HashTables.{GnuHashHeaderFits}
 use Rattle.wild_layout.specs.Faults.{errors, part_errors, group_errors, flat_map_from, clause_errors}
@@ -41,18 +42,6 @@ well_formed l h =
     let b = front_nil (clause_errors (first_clause l)) shares a.0 in
     (none_told (first_clause l) b.0, b.1)
 
-first : (r s : Result (Unit {0}) Clause) → first_error r s ≡ Ok tt → r ≡ Ok tt
-first (Ok u) s h = refl
-first (Err e) s h = cc
-
-second : (r s : Result (Unit {0}) Clause) → first_error r s ≡ Ok tt → s ≡ Ok tt
-second (Ok u) s h = h
-second (Err e) s h = cc
-
-none_fails : (n : ℕ) (o : Option ℕ) → fails n o ≡ Ok tt → o ≡ None
-none_fails n None h = refl
-none_fails n (Some i) h = cc
-
 holds : (b : Bool) → unless b ≡ None → b ≡ true
 holds true h = refl
 holds false h = cc
@@ -62,33 +51,33 @@ holds false h = cc
 names_checked : (l : Layout) → first_clause l ≡ Ok tt → check_names l ≡ Ok tt
 unfolding first_clause
 names_checked l h =
-    let a = second (check_sizes l) _ h in
-    let b = second (check_counts l) _ a in
-    let c = second (check_order l) _ b in
-    let d = second (check_roles l) _ c in
-    let e = second (check_sections l) _ d in
-    let f = second (check_segments l) _ e in
-    let g = second (check_shares l) _ f in
-    let i = second (check_inputs l) _ g in
-    let j = second (check_indexes l) _ i in
-    let k = second (check_fields l) _ j in
-    let m = second (check_slots l) _ k in
-    let n = second (check_dynsyms l) _ m in
-    let o = second (check_slot_flags l) _ n in
-    let p = second (check_tls l) _ o in
-    let q = second (check_starts l) _ p in
-    let r = second (check_hashes l) _ q in
-    second (check_versions l) _ r
+    let a = (Both-from_first_error (check_sizes l) _ h).rest in
+    let b = (Both-from_first_error (check_counts l) _ a).rest in
+    let c = (Both-from_first_error (check_order l) _ b).rest in
+    let d = (Both-from_first_error (check_roles l) _ c).rest in
+    let e = (Both-from_first_error (check_sections l) _ d).rest in
+    let f = (Both-from_first_error (check_segments l) _ e).rest in
+    let g = (Both-from_first_error (check_shares l) _ f).rest in
+    let i = (Both-from_first_error (check_inputs l) _ g).rest in
+    let j = (Both-from_first_error (check_indexes l) _ i).rest in
+    let k = (Both-from_first_error (check_fields l) _ j).rest in
+    let m = (Both-from_first_error (check_slots l) _ k).rest in
+    let n = (Both-from_first_error (check_dynsyms l) _ m).rest in
+    let o = (Both-from_first_error (check_slot_flags l) _ n).rest in
+    let p = (Both-from_first_error (check_tls l) _ o).rest in
+    let q = (Both-from_first_error (check_starts l) _ p).rest in
+    let r = (Both-from_first_error (check_hashes l) _ q).rest in
+    (Both-from_first_error (check_versions l) _ r).rest
 
 listed_checked : (l : Layout) → check_names l ≡ Ok tt → All (λ d. listed_name_fits d ≡ true) l.dynsyms
 unfolding check_names
 listed_checked l h =
-    let a = second (fails 19 (unless (option_names_fit l.options))) _ h in
-    let b = second (fails 19 (first_failing name_fits 0 l.options.auxiliary)) _ a in
-    let c = second (fails 19 (first_failing section_name_fits 0 l.sections)) _ b in
-    let d = second (fails 19 (first_failing symbol_name_fits 0 l.symbols)) _ c in
-    let e = second (fails 19 (first_failing group_names_fit 0 l.groups)) _ d in
-    All-from_none_fails listed_name_fits 0 l.dynsyms (none_fails 19 (first_failing listed_name_fits 0 l.dynsyms) (first (fails 19 (first_failing listed_name_fits 0 l.dynsyms)) _ e))
+    let a = (Both-from_first_error (fails 19 (unless (option_names_fit l.options))) _ h).rest in
+    let b = (Both-from_first_error (fails 19 (first_failing name_fits 0 l.options.auxiliary)) _ a).rest in
+    let c = (Both-from_first_error (fails 19 (first_failing section_name_fits 0 l.sections)) _ b).rest in
+    let d = (Both-from_first_error (fails 19 (first_failing symbol_name_fits 0 l.symbols)) _ c).rest in
+    let e = (Both-from_first_error (fails 19 (first_failing group_names_fit 0 l.groups)) _ d).rest in
+    All-from_none_fails listed_name_fits 0 l.dynsyms (None-from_fails 19 (first_failing listed_name_fits 0 l.dynsyms) (Both-from_first_error (fails 19 (first_failing listed_name_fits 0 l.dynsyms)) _ e).first)
 
 pub listed_fit : (l : Layout) → first_clause l ≡ Ok tt → All (λ d. listed_name_fits d ≡ true) l.dynsyms
 listed_fit l h = listed_checked l (names_checked l h)
@@ -115,11 +104,12 @@ hashes_hold l h =
     let sysv = fails 17 (unless (sysv_fits l.sysv_hash)) in
     let gnu = fails 17 (unless (gnu_fits l l.gnu_hash)) in
     let buckets = fails 17 (bucket_astray l.gnu_hash l.dynsyms) in
-    let rest = second sysv (first_error gnu buckets) h in
+    let here = Both-from_first_error sysv (first_error gnu buckets) h in
+    let behind = Both-from_first_error gnu buckets here.rest in
     record {
-      sysv = holds (sysv_fits l.sysv_hash) (none_fails 17 (unless (sysv_fits l.sysv_hash)) (first sysv (first_error gnu buckets) h));
-      gnu = holds (gnu_fits l l.gnu_hash) (none_fails 17 (unless (gnu_fits l l.gnu_hash)) (first gnu buckets rest));
-      buckets = none_fails 17 (bucket_astray l.gnu_hash l.dynsyms) (second gnu buckets rest);
+      sysv = holds (sysv_fits l.sysv_hash) (None-from_fails 17 (unless (sysv_fits l.sysv_hash)) here.first);
+      gnu = holds (gnu_fits l l.gnu_hash) (None-from_fails 17 (unless (gnu_fits l l.gnu_hash)) behind.first);
+      buckets = None-from_fails 17 (bucket_astray l.gnu_hash l.dynsyms) behind.rest;
     }
 
 pub some_bucket : (h : SysvHash) → sysv_fits (Some h) ≡ true → 1 ≤ h.buckets

@@ -11,6 +11,7 @@ pub mod FieldLemmas
 pub mod FieldListed
 pub mod InfoLemmas
 pub mod InfoCount
+pub mod ShortEntries
 pub mod IndexLemmas
 pub mod VersionClauses
 pub mod VersionSymbols

@@ -1,10 +1,9 @@
 -- What the clause on versions says of a layout.
 use Rattle.std.proofs.Common.{◌≡◌, ℕ, zero, suc, ◌+◌, ◌<◌, ◌≤◌, inl, inr, true, List, [], ◌∷◌, length, slice_get, refl, ap, arith}
-use Rattle.std.specs.Prelude.{Option, Some, None, Result, Ok, Err, nat_lt}
+use Rattle.std.specs.Prelude.{Option, Some, None, Ok, nat_lt}
 use Rattle.std.specs.List.{list_any}
 use Rattle.std.proofs.lemmas.Bool.{cases_Bool, and_parts, ltb-true}
 use Rattle.std.proofs.lemmas.Option.{same_Some}
-use Rattle.wild_plan.specs.declared.fault.Clause.{Clause}
 use Rattle.wild_plan.specs.declared.part.Part.{Part}
 use Rattle.wild_plan.specs.declared.part.Role.{Role}
 use Rattle.wild_plan.specs.declared.part.Role.TheVariants as role
@@ -16,21 +15,8 @@ use Rattle.wild_plan.specs.Places.{has_role}
 use Rattle.wild_plan.specs.Segments.{part_with}
 use Rattle.wild_plan.specs.Versions.{need_count}
 use Rattle.wild_plan.specs.VersionTables.{parent_fits, parent_astray, some_definition, definition_astray, mark_astray, versions_agree}
+use Rattle.wild_geometry.proofs.ClauseLemmas.{Both-from_first_error, None-from_fails}
 use Rattle.wild_layout.specs.Geometry.{IsLaidOut}
-
--- ---- the tests
-
-first : (r s : Result (Unit {0}) Clause) → first_error r s ≡ Ok tt → r ≡ Ok tt
-first (Ok u) s h = refl
-first (Err e) s h = cc
-
-second : (r s : Result (Unit {0}) Clause) → first_error r s ≡ Ok tt → s ≡ Ok tt
-second (Ok u) s h = h
-second (Err e) s h = cc
-
-none_fails : (n : ℕ) (o : Option ℕ) → fails n o ≡ Ok tt → o ≡ None
-none_fails n None h = refl
-none_fails n (Some i) h = cc
 
 -- no version has a parent that does not fit, and no library a mark
 pub record VersionsHold (l : Layout) : Type 0 where
@@ -43,9 +29,11 @@ versions_hold l h =
     let defined = fails 18 (definition_astray l) in
     let marks = fails 18 (mark_astray (need_count l) 0 l.groups) in
     let rest = fails 18 (unless (versions_agree l)) in
+    let here = Both-from_first_error defined (first_error marks rest) h in
+    let behind = Both-from_first_error marks rest here.rest in
     record {
-      definitions = none_fails 18 (definition_astray l) (first defined (first_error marks rest) h);
-      marks = none_fails 18 (mark_astray (need_count l) 0 l.groups) (first marks rest (second defined (first_error marks rest) h));
+      definitions = None-from_fails 18 (definition_astray l) here.first;
+      marks = None-from_fails 18 (mark_astray (need_count l) 0 l.groups) behind.first;
     }
 
 -- ---- versions that the output defines

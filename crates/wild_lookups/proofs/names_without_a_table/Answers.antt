@@ -2,12 +2,4 @@ use Rattle.wild_lookups.proofs.LookUps.{none_found}
 use Rattle.wild_lookups.proofs.names_without_a_table.Goals as goal
 
 pub returns : goal.returns
-returns c = none_found (record {
-  laid = c.layouts_are_laid_out.ensures;
-  stand = c.tables_stand.ensures;
-  headers = c.headers_stand.ensures.stand;
-  sections = c.dynamic_sections_stand.ensures;
-  needed = c.dynamic_sections_are_read.ensures.needed;
-  found = c.dynamic_sections_are_read.ensures.found;
-  records = record { headers = c.file_header_is_read.ensures; programs = c.program_header_is_read.ensures; dynamics = c.dynamic_entry_is_read.ensures };
-})
+returns c = none_found c.tables_are_read.ensures.images

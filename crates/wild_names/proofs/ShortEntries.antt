@@ -1,0 +1,111 @@
+-- The longer section index of an entry is 0 where st_shndx tells its section itself.
+use Rattle.std.proofs.Common.{◌≡◌, ℕ, ◌%◌, ◌^◌, ◌&&◌, Bool, true, false, nat_lt, if◌then◌else◌, get_or, map, filter, Option, Some, None, Result, All, refl}
+use Rattle.std.specs.Prelude.{codes, unwrap_or}
+use Rattle.std.proofs.lemmas.List.Elements.{All-append, All-filter, All-map}
+use Rattle.wild_words.proofs.ListLemmas.{All-flat_map, All-optional}
+use Rattle.wild_records.specs.Abi.Section.{shn_loreserve, shn_xindex}
+use Rattle.wild_plan.specs.declared.fault.Fault.{Fault}
+use Rattle.wild_plan.specs.declared.part.Role.TheVariants as role
+use Rattle.wild_plan.specs.declared.file.File.{File}
+use Rattle.wild_plan.specs.declared.file.FileRole.{FileRole}
+use Rattle.wild_plan.specs.declared.file.Group.{Group}
+use Rattle.wild_plan.specs.declared.layout.Layout.{Layout}
+use Rattle.wild_plan.specs.declared.symbol.Place.{Place}
+use Rattle.wild_plan.specs.declared.symbol.Place.TheVariants as at
+use Rattle.wild_plan.specs.declared.symbol.Symbol.{Symbol}
+use Rattle.wild_plan.specs.declared.table.Named.{Named}
+use Rattle.wild_plan.specs.declared.table.Named.TheVariants as named
+use Rattle.wild_plan.specs.Addresses.{raw_value}
+use Rattle.wild_plan.specs.DynamicSymbols.{output_section}
+use Rattle.wild_plan.specs.FileRoles.{is_library, is_prelude}
+use Rattle.wild_plan.specs.Flags.{has_flag, canonical_plt, copy_relocation}
+use Rattle.wild_plan.specs.Segments.{part_with}
+use Rattle.wild_plan.specs.SymbolSlots.{got_of, plt_of}
+use Rattle.wild_plan.specs.TableSymbols.{TableSymbol, file_items, has_table}
+use Rattle.wild_symbols.specs.declared.table.TableFields.{TableFields}
+use Rattle.wild_symbols.specs.declared.writer.SymbolAttributes.{SymbolAttributes}
+use Rattle.wild_symbols.specs.DynamicFields.{common_section, part_section, section_named, some_section, stands_as_stub, stub_or_zero}
+use Rattle.wild_symbols.specs.TableEntries.{NamedEntry, at_address, counted_from, fields_of, file_table, first_or, group_table, in_table_section, is_side, named_entry, no_attributes, null_entries, null_entry, or_none_in_table, slot_role, table_at, table_attributes, table_by, table_canonical, table_fields, table_placed, with_function}
+use Rattle.wild_names.specs.IndexLaws.{side_table}
+
+-- the index is 0 where st_shndx does not send to it
+abbrev IsShort : TableFields → Type 0
+IsShort t = (t.fields.section ≡ shn_xindex → ⊥) → t.long ≡ 0
+
+-- so it is of what is told of a symbol, and of one that lacks something
+pub record IsTold (r : Result TableFields Fault) : Type 0 where
+  pub short : IsShort (or_none_in_table r)
+
+abbrev split_by : ℕ → Bool → ℕ × ℕ
+split_by k b = if b then (k, 0) else (shn_xindex, k)
+
+short_split : (k : ℕ) (b : Bool) → ((split_by k b).0 ≡ shn_xindex → ⊥) → (split_by k b).1 % 2 ^ 32 ≡ 0
+short_split k true n = refl
+short_split k false n = absurd (n refl)
+
+told_if : (b : Bool) (x y : Result TableFields Fault) → IsTold x → IsTold y → IsTold (if b then x else y)
+told_if true x y h k = h
+told_if false x y h k = k
+
+told_section : (i : ℕ) (section : Option ℕ) (value : ℕ) (a : SymbolAttributes) → IsTold (in_table_section i section value a)
+told_section i None value a = record { short = λ n. refl }
+told_section i (Some k) value a = record { short = short_split k (nat_lt k shn_loreserve) }
+
+told_address : (l : Layout) (i : ℕ) (s : Symbol) (section value : Option ℕ) (a : SymbolAttributes) → IsTold (at_address l i s section value a)
+told_address l i s section None a = record { short = λ n. refl }
+told_address l i s section (Some v) a = told_section i section (counted_from l s v) a
+
+told_placed : (l : Layout) (i : ℕ) (r : FileRole) (s : Symbol) (section : Option ℕ) → IsTold (table_placed l i r s section)
+told_placed l i r s section =
+    let stubs = part_section (part_with role.PltGot l.parts) in
+    let function = with_function (table_attributes r s) in
+    let own = table_attributes r s in
+    told_if (stands_as_stub l s) (in_table_section i stubs (stub_or_zero s) function) (at_address l i s section (raw_value l i) own) (told_section i stubs (stub_or_zero s) function) (told_address l i s section (raw_value l i) own)
+
+told_at : (l : Layout) (i : ℕ) (r : FileRole) (s : Symbol) (section : ℕ) (p : Place) → IsTold (table_at l i r s section p)
+told_at l i r s section at.Undefined = record { short = λ n. refl }
+told_at l i r s section at.Absolute = record { short = λ n. refl }
+told_at l i r s section at.Common = told_placed l i r s (common_section l s)
+told_at l i r s section (at.Output k) = told_placed l i r s (Some (first_or k))
+told_at l i r s section (at.Section k) = told_placed l i r s (some_section section)
+
+told_canonical : (i : ℕ) (r : FileRole) (s : Symbol) (p : Place) (stub : Option ℕ) → IsTold (table_canonical i r s p stub)
+told_canonical i r s at.Undefined stub = record { short = λ n. refl }
+told_canonical i r s other None = record { short = λ n. refl }
+told_canonical i r s other (Some stub) = record { short = λ n. refl }
+
+told_by : (l : Layout) (i : ℕ) (r : FileRole) (s : Symbol) (section : ℕ) → IsTold (table_by l i r s section)
+told_by l i r s section =
+    let stub = table_canonical i r s s.place (plt_of s) in
+    let copied = at_address l i s (section_named l (codes ".bss")) (raw_value l i) (table_attributes r s) in
+    let placed = table_at l i r s section s.place in
+    let copy = told_address l i s (section_named l (codes ".bss")) (raw_value l i) (table_attributes r s) in
+    let other = told_if (is_library r && has_flag s.flags copy_relocation) copied placed copy (told_at l i r s section s.place) in
+    told_if (is_library r && has_flag s.flags canonical_plt) stub (if is_library r && has_flag s.flags copy_relocation then copied else placed) (told_canonical i r s s.place (plt_of s)) other
+
+told_of : (l : Layout) (f : File) (x : Named) (i : ℕ) (s : Symbol) → IsTold (fields_of l f x i s)
+told_of l f named.Itself i s = told_by l i f.role s (output_section l (Some f) s.place)
+told_of l f named.Slot i s = told_section i (part_section (part_with (slot_role l s) l.parts)) (unwrap_or (got_of s) 0) no_attributes
+told_of l f named.Stub i s = told_section i (part_section (part_with role.PltGot l.parts)) (unwrap_or (plt_of s) 0) no_attributes
+
+told : (l : Layout) (f : File) (x : TableSymbol) → IsTold (table_fields l f x)
+unfolding table_fields
+told l f x = told_of l f x.named x.index x.symbol
+
+abbrev pub EntryIsShort : NamedEntry → Type 0
+EntryIsShort n = IsShort n.fields
+
+short_file : (l : Layout) (f : File) → All EntryIsShort (file_table l f)
+short_file l f =
+    let first = All-optional EntryIsShort (has_table l && is_prelude f.role) null_entry (λ b n. refl) in
+    let items = All-map EntryIsShort (named_entry l f) (file_items l f) (λ k d h. (told l f (get_or (file_items l f) k d)).short) in
+    All-append EntryIsShort (null_entries l f) (map (named_entry l f) (file_items l f)) first items
+
+short_group : (l : Layout) (g : Group) → All EntryIsShort (group_table l g)
+unfolding group_table
+short_group l g = All-flat_map EntryIsShort (file_table l) g.files (λ k d h. short_file l (get_or g.files k d))
+
+pub short_side : (l : Layout) (local : Bool) → All EntryIsShort (side_table l local)
+short_side l local =
+    let of = λ (g : Group). filter (is_side local) (group_table l g) in
+    All-flat_map EntryIsShort of l.groups (λ k d h. All-filter (is_side local) EntryIsShort (group_table l (get_or l.groups k d)) (short_group l (get_or l.groups k d)))
