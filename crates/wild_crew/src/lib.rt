@@ -11,8 +11,6 @@ mod per_worker;
 mod place;
 mod rule;
 mod steps;
-#[cfg(test)]
-mod tests;
 mod work;
 
 pub use gathering::{Gathered, gather};

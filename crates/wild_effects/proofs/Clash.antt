@@ -5,7 +5,7 @@ use Rattle.std.specs.Prelude.{not, ◌&&◌, ◌||◌, ◌==◌}
 use Rattle.std.specs.List.{list_all}
 use Rattle.std.proofs.lemmas.Bool.{and_parts, cases_lt, eqb-true, or_cases}
 use Rattle.std.proofs.lemmas.List.{get_or-drop, drop-drop, length-drop}
-use Rattle.wild_plan.specs.declared.kind.Machine.TheVariants as machine
+use Rattle.wild_types.specs.declared.kind.Machine.TheVariants as machine
 use Rattle.wild_relax.specs.declared.pattern.Cell.{Cell}
 use Rattle.wild_relax.specs.declared.pattern.Cell.TheVariants as its
 use Rattle.wild_relax.specs.declared.row.Row.{Row}

@@ -2,7 +2,7 @@
 use Rattle.std.proofs.Common.{◌≡◌, ℕ, zero, suc, ◌+◌, ◌*◌, ◌/◌, ◌%◌, ◌^◌, ◌<◌, ◌≤◌, ◌⊎◌, inl, inr, Bool, true, false, List, [], ◌∷◌, length, get_or, refl, sym, ap, ◌∙◌, arith, subst}
 use Rattle.std.specs.Prelude.{◌&&◌, ◌||◌, nat_le, nat_lt, Some, Option, None, option_map, option_and_then, slice_index, ⊤}
 use Rattle.std.proofs.lemmas.Bool.{leb-true, ltb-true}
-use Rattle.wild_plan.specs.declared.kind.Machine.TheVariants as machine
+use Rattle.wild_types.specs.declared.kind.Machine.TheVariants as machine
 use Rattle.wild_meaning.specs.Instruction.{Cell, Is, From, Slot, Digit, Any, fits, stands, Action, Operand, Number, Word, Deed, Set, Add, Subtract, Compare, Call, Jump, Reader, Effect, effect, with_value, as_value}
 use Rattle.wild_meaning.specs.CodeX86_64.{bare, rex, rex2, branch, with_slot}
 use Rattle.wild_meaning.specs.ThreadCodeX86_64.{general_call, general_slot_call, far_pair_call, local_call, local_slot_call}

@@ -5,11 +5,11 @@ use Rattle.std.specs.Prelude.{Contains, Option, Some, None, Ok, Err, ◌==◌, i
 use Rattle.std.proofs.lemmas.Bool.{cases_lt}
 use Rattle.wild_words.specs.Overlay.{Piece, Apart}
 use Rattle.wild_records.specs.Abi.Relocation.{r_x86_64_pc32}
-use Rattle.wild_plan.specs.declared.kind.Machine.{Machine}
-use Rattle.wild_plan.specs.declared.kind.Machine.TheVariants as machine
-use Rattle.wild_plan.specs.declared.input.InputRelocation.{InputRelocation}
-use Rattle.wild_plan.specs.declared.input.InputSection.{InputSection}
-use Rattle.wild_plan.specs.declared.layout.Layout.{Layout}
+use Rattle.wild_types.specs.declared.kind.Machine.{Machine}
+use Rattle.wild_types.specs.declared.kind.Machine.TheVariants as machine
+use Rattle.wild_types.specs.declared.input.InputRelocation.{InputRelocation}
+use Rattle.wild_types.specs.declared.input.InputSection.{InputSection}
+use Rattle.wild_types.specs.declared.layout.Layout.{Layout}
 use Rattle.wild_relax.specs.declared.row.Row.{Row}
 use Rattle.wild_relax.specs.First.{first_standing, checked}
 use Rattle.wild_relax.specs.Question.{Question}

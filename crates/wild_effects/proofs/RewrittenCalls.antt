@@ -6,14 +6,14 @@ use Rattle.std.proofs.lemmas.List.{take-take}
 use Rattle.std.proofs.lemmas.Nat.Bits.{and_pow}
 use Rattle.wild_records.specs.Abi.Relocation as abi
 use Rattle.wild_records.specs.Abi.Section.{shf_execinstr}
-use Rattle.wild_plan.specs.declared.kind.Machine.TheVariants as machine
-use Rattle.wild_plan.specs.declared.input.InputRelocation.{InputRelocation}
-use Rattle.wild_plan.specs.declared.input.InputSection.{InputSection}
-use Rattle.wild_plan.specs.declared.layout.Layout.{Layout}
-use Rattle.wild_plan.specs.Flags.{has_flag, interposable, ifunc}
-use Rattle.wild_plan.specs.Kinds.{is_executable, is_static_executable}
-use Rattle.wild_plan.specs.Lookups.{bit, executable}
-use Rattle.wild_plan.specs.Treatment.{flags_at}
+use Rattle.wild_types.specs.declared.kind.Machine.TheVariants as machine
+use Rattle.wild_types.specs.declared.input.InputRelocation.{InputRelocation}
+use Rattle.wild_types.specs.declared.input.InputSection.{InputSection}
+use Rattle.wild_types.specs.declared.layout.Layout.{Layout}
+use Rattle.wild_types.specs.Flags.{has_flag, interposable, ifunc}
+use Rattle.wild_types.specs.Kinds.{is_executable, is_static_executable}
+use Rattle.wild_types.specs.Lookups.{bit, executable}
+use Rattle.wild_slot.specs.Treatment.{flags_at}
 use Rattle.wild_relax.specs.declared.pattern.GeneralForm.TheVariants as general
 use Rattle.wild_relax.specs.declared.pattern.LocalForm.TheVariants as local
 use Rattle.wild_relax.specs.declared.pattern.Cell.{Cell}

@@ -1,12 +1,12 @@
 -- Each row: the code that it writes does what the instruction demands.
 use Rattle.std.proofs.Common.{◌≡◌, ℕ, ◌+◌, ◌^◌, ◌<◌, ◌⊎◌, inl, inr, Bool, true, false, List, refl, sym, ◌∙◌, arith, subst}
 use Rattle.std.specs.Prelude.{pos, ◌&&◌, ◌||◌, not, Some, slice_get}
-use Rattle.wild_plan.specs.declared.input.InputRelocation.{InputRelocation}
-use Rattle.wild_plan.specs.declared.input.InputSection.{InputSection}
-use Rattle.wild_plan.specs.declared.layout.Layout.{Layout}
-use Rattle.wild_plan.specs.Flags.{has_flag, interposable, has_link_time_address, absolute, ifunc}
-use Rattle.wild_plan.specs.Kinds.{is_executable, has_fixed_load_address}
-use Rattle.wild_plan.specs.Treatment.{flags_at}
+use Rattle.wild_types.specs.declared.input.InputRelocation.{InputRelocation}
+use Rattle.wild_types.specs.declared.input.InputSection.{InputSection}
+use Rattle.wild_types.specs.declared.layout.Layout.{Layout}
+use Rattle.wild_types.specs.Flags.{has_flag, interposable, has_link_time_address, absolute, ifunc}
+use Rattle.wild_types.specs.Kinds.{is_executable, has_fixed_load_address}
+use Rattle.wild_slot.specs.Treatment.{flags_at}
 use Rattle.wild_reloc.specs.TableX86_64.{x86_64_row}
 use Rattle.wild_reloc.specs.declared.range.Sign.TheVariants.{Unsigned, Signed}
 use Rattle.wild_relax.specs.declared.pattern.Prefix.TheVariants.{Rex, Rex2}

@@ -1,25 +1,21 @@
 -- Symbols of a loaded section, as the writer's flags tell them and as the reader does.
-use Rattle.std.proofs.Common.{◌≡◌, ℕ, zero, suc, ◌+◌, ◌^◌, ◌<◌, ◌⊎◌, inl, inr, Bool, true, false, List, [], ◌∷◌, length, refl, sym, ap, ◌∙◌, arith, subst}
-use Rattle.std.specs.Prelude.{◌&&◌, ◌||◌, not, Option, Some, None, Result, Ok, Err, All, slice_get}
-use Rattle.std.proofs.lemmas.Bool.{cases_Bool}
+use Rattle.std.proofs.Common.{◌≡◌, ℕ, zero, suc, ◌^◌, ◌<◌, ◌⊎◌, inl, inr, Bool, true, false, List, [], ◌∷◌, length, refl, sym, ap, ◌∙◌, arith, subst}
+use Rattle.std.specs.Prelude.{◌&&◌, ◌||◌, not, Option, Some, None, All, slice_get}
 use Rattle.std.proofs.lemmas.List.Elements.{All-contains}
 use Rattle.std.proofs.lemmas.Option.{slice_get_within, get_or_from_slice_get}
-use Rattle.wild_plan.specs.declared.fault.Clause.{Clause}
-use Rattle.wild_plan.specs.declared.kind.RelocationModel.TheVariants as model
-use Rattle.wild_plan.specs.declared.kind.OutputKind.{OutputKind}
-use Rattle.wild_plan.specs.declared.kind.OutputKind.TheVariants as output
-use Rattle.wild_plan.specs.declared.symbol.Symbol.{Symbol}
-use Rattle.wild_plan.specs.declared.symbol.ValueFlags.{ValueFlags}
-use Rattle.wild_plan.specs.declared.layout.Layout.{Layout}
-use Rattle.wild_plan.specs.declared.input.InputSection.{InputSection}
-use Rattle.wild_plan.specs.Flags.{has_flag, interposable, dynamic, ifunc, non_interposable, copy_relocation, export_dynamic}
-use Rattle.wild_plan.specs.Kinds.{is_position_independent, is_executable}
-use Rattle.wild_plan.specs.Lists.{first_failing}
-use Rattle.wild_plan.specs.Lookups.{canonical}
-use Rattle.wild_plan.specs.SlotFlags.{dynamic_is_interposable}
-use Rattle.wild_plan.specs.Treatment.{flags_at}
-use Rattle.wild_plan.specs.ClauseTests.{fails, first_error, check_slot_flags}
+use Rattle.wild_types.specs.declared.kind.RelocationModel.TheVariants as model
+use Rattle.wild_types.specs.declared.kind.OutputKind.{OutputKind}
+use Rattle.wild_types.specs.declared.kind.OutputKind.TheVariants as output
+use Rattle.wild_types.specs.declared.symbol.Symbol.{Symbol}
+use Rattle.wild_types.specs.declared.symbol.ValueFlags.{ValueFlags}
+use Rattle.wild_types.specs.declared.layout.Layout.{Layout}
+use Rattle.wild_types.specs.declared.input.InputSection.{InputSection}
+use Rattle.wild_types.specs.Flags.{has_flag, interposable, dynamic, ifunc, non_interposable, copy_relocation, export_dynamic}
+use Rattle.wild_types.specs.Kinds.{is_position_independent, is_executable}
+use Rattle.wild_types.specs.Lookups.{canonical}
+use Rattle.wild_slot.specs.Treatment.{flags_at}
 use Rattle.wild_layout.specs.Geometry.{DefinitionNames}
+use Rattle.wild_layout.specs.SlotOrder.{FlagsAgree}
 use Rattle.wild_layout.specs.Numbers.{SymbolNumbers}
 use Rattle.wild_loader.specs.declared.memory.Memory.{Memory}
 use Rattle.wild_loader.specs.declared.world.World.{World}
@@ -132,30 +128,6 @@ flag_is l i flag b h =
 
 -- ---- symbols that no other module replaces
 
-first_ok : (a b : Result (Unit {0}) Clause) → first_error a b ≡ Ok tt → a ≡ Ok tt
-first_ok (Ok u) b h = refl
-first_ok (Err e) b h = cc
-
-none_fails : (n : ℕ) (o : Option ℕ) → fails n o ≡ Ok tt → o ≡ None
-none_fails n None h = refl
-none_fails n (Some i) h = cc
-
-passes_each : (test : Symbol → Bool) (k : ℕ) (xs : List Symbol) (i : ℕ) (x : Symbol) → first_failing test k xs ≡ None → slice_get xs i ≡ Some x → test x ≡ true
-passes_each test k [] i x h e = cc
-passes_each test k (y ∷ ys) i x h e =
-    elim (cases_Bool (test y)) [
-      | inr f ↦ cc (rw f at h)
-      | inl t ↦ by_place i e t (rw t at h) (λ n rest there. passes_each test (k + 1) ys n x rest there)
-    ]
-  where
-    by_place : (i : ℕ) → slice_get (y ∷ ys) i ≡ Some x → test y ≡ true → first_failing test (k + 1) ys ≡ None → ((n : ℕ) → first_failing test (k + 1) ys ≡ None → slice_get ys n ≡ Some x → test x ≡ true) → test x ≡ true
-    by_place zero e t rest again = (let same : y ≡ x = cc in subst (λ (z : Symbol). test z ≡ true) same t)
-    by_place (suc n) e t rest again = again n rest e
-
-dynamic_open : (l : Layout) (i : ℕ) (s : Symbol) → check_slot_flags l ≡ Ok tt → IsSymbol l i s → dynamic_is_interposable s ≡ true
-unfolding check_slot_flags
-dynamic_open l i s h listed = passes_each dynamic_is_interposable 0 l.symbols i s (none_fails 14 _ (first_ok _ _ h)) listed
-
 kept_by : (other copied library exported fixed : Bool) → (not other || not fixed) ≡ true → not fixed ≡ false → ((other && not copied) || (library && (exported && not fixed))) ≡ false
 kept_by true copied library exported true h e = cc
 kept_by false copied true true true h e = refl
@@ -163,11 +135,11 @@ kept_by false copied true false true h e = refl
 kept_by false copied false exported true h e = refl
 kept_by other copied library exported false h e = cc
 
-pub own_one : (l : Layout) (i : ℕ) → check_slot_flags l ≡ Ok tt → IsDefined l i → interposable (flags_at l i) ≡ false → IsReplaceable l i false
-own_one l i clause d h =
+pub own_one : (l : Layout) (i : ℕ) → All (FlagsAgree l) l.symbols → IsDefined l i → interposable (flags_at l i) ≡ false → IsReplaceable l i false
+own_one l i flags d h =
     let f = d.symbol.flags in
     let kept : interposable f ≡ false = sym (ap (λ (x : ValueFlags). interposable x) d.flags) ∙ h in
-    record { definition = canonical l i; defined = d.defined; symbol = d.symbol; listed = d.listed; told = kept_by (has_flag f dynamic) (has_flag f copy_relocation) (is_library l.kind) (has_flag f export_dynamic) (has_flag f non_interposable) (dynamic_open l (canonical l i) d.symbol clause d.listed) kept }
+    record { definition = canonical l i; defined = d.defined; symbol = d.symbol; listed = d.listed; told = kept_by (has_flag f dynamic) (has_flag f copy_relocation) (is_library l.kind) (has_flag f export_dynamic) (has_flag f non_interposable) (all_at (FlagsAgree l) l.symbols (canonical l i) d.symbol flags d.listed).interposable kept }
 
 -- ---- values are numbers of the machine
 

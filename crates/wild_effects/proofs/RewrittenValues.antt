@@ -1,18 +1,18 @@
 -- What the value in the field of a rewritten instruction is, kind by kind.
 use Rattle.std.proofs.Common.{◌≡◌, ℕ, inl, inr, Bool, true, false, refl, sym, ◌∙◌, subst}
 use Rattle.std.specs.Prelude.{length, nat_lt, ◌&&◌, ◌||◌, not, Option, Some, if◌then◌else◌}
-use Rattle.wild_plan.specs.declared.kind.RelocationModel.TheVariants as model
-use Rattle.wild_plan.specs.declared.kind.OutputKind.{OutputKind}
-use Rattle.wild_plan.specs.declared.kind.OutputKind.TheVariants as output
-use Rattle.wild_plan.specs.declared.input.InputRelocation.{InputRelocation}
-use Rattle.wild_plan.specs.declared.input.InputSection.{InputSection}
-use Rattle.wild_plan.specs.declared.layout.Layout.{Layout}
-use Rattle.wild_plan.specs.declared.treatment.Treatment.{Treatment}
-use Rattle.wild_plan.specs.declared.treatment.Treatment.TheVariants as treatments
-use Rattle.wild_plan.specs.Flags.{has_flag, interposable, has_link_time_address, absolute, ifunc}
-use Rattle.wild_plan.specs.Kinds.{is_executable, is_shared_object, is_position_independent, has_fixed_load_address}
-use Rattle.wild_plan.specs.Lookups.{allocated}
-use Rattle.wild_plan.specs.Treatment.{flags_at, is_left, is_elsewhere, is_barred, is_narrow, is_chosen, moves, moved_treatment, chosen_treatment, address_treatment, kind_treatment}
+use Rattle.wild_types.specs.declared.kind.RelocationModel.TheVariants as model
+use Rattle.wild_types.specs.declared.kind.OutputKind.{OutputKind}
+use Rattle.wild_types.specs.declared.kind.OutputKind.TheVariants as output
+use Rattle.wild_types.specs.declared.input.InputRelocation.{InputRelocation}
+use Rattle.wild_types.specs.declared.input.InputSection.{InputSection}
+use Rattle.wild_types.specs.declared.layout.Layout.{Layout}
+use Rattle.wild_slot.specs.declared.treatment.Treatment.{Treatment}
+use Rattle.wild_slot.specs.declared.treatment.Treatment.TheVariants as treatments
+use Rattle.wild_types.specs.Flags.{has_flag, interposable, has_link_time_address, absolute, ifunc}
+use Rattle.wild_types.specs.Kinds.{is_executable, is_shared_object, is_position_independent, has_fixed_load_address}
+use Rattle.wild_types.specs.Lookups.{allocated}
+use Rattle.wild_slot.specs.Treatment.{flags_at, is_left, is_elsewhere, is_barred, is_narrow, is_chosen, moves, moved_treatment, chosen_treatment, address_treatment, kind_treatment}
 use Rattle.wild_reloc.specs.Table.{plain}
 use Rattle.wild_reloc.specs.TableX86_64.{x86_64_row}
 use Rattle.wild_reloc.specs.Agreement.{plain_value}

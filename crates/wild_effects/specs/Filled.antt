@@ -3,7 +3,7 @@
 --   HasEffect ..         what the new bytes do is what the old ones demand
 --   FilledInstructionsDo the law: so it is where the operand reads as it should
 use Rattle.std.specs.Prelude.{◌≡◌, ℕ, true, List, length, slice_index, Some, Contains}
-use Rattle.wild_plan.specs.declared.kind.Machine.TheVariants as machine
+use Rattle.wild_types.specs.declared.kind.Machine.TheVariants as machine
 use Rattle.wild_meaning.specs.Instruction.{Reader, Effect, stands}
 use Rattle.wild_meaning.specs.InstructionX86_64.{effect_x86_64, demand_x86_64}
 use Rattle.wild_meaning.specs.Sequence.{Instruction, size_of, IsOwnByte, instructions_of}

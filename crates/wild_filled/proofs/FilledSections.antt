@@ -5,13 +5,13 @@ use Rattle.std.specs.List.{flat_map, range_with_len}
 use Rattle.std.proofs.lemmas.List.FromFn.{get_or-range_with_len, length-range_with_len}
 use Rattle.std.proofs.lemmas.Option.{slice_get-get_or}
 use Rattle.wild_words.specs.Overlay.{Piece, Apart}
-use Rattle.wild_plan.specs.declared.input.Slot.{Slot}
-use Rattle.wild_plan.specs.declared.input.Slot.TheVariants as slot
-use Rattle.wild_plan.specs.declared.input.InputRelocation.{InputRelocation}
-use Rattle.wild_plan.specs.declared.input.InputSection.{InputSection}
-use Rattle.wild_plan.specs.declared.file.File.{File}
-use Rattle.wild_plan.specs.declared.layout.Layout.{Layout}
-use Rattle.wild_plan.specs.Lookups.{is_loaded, is_read}
+use Rattle.wild_types.specs.declared.input.Slot.{Slot}
+use Rattle.wild_types.specs.declared.input.Slot.TheVariants as slot
+use Rattle.wild_types.specs.declared.input.InputRelocation.{InputRelocation}
+use Rattle.wild_types.specs.declared.input.InputSection.{InputSection}
+use Rattle.wild_types.specs.declared.file.File.{File}
+use Rattle.wild_types.specs.declared.layout.Layout.{Layout}
+use Rattle.wild_types.specs.Lookups.{is_loaded, is_read}
 use Rattle.wild_layout.specs.Sites.{field_site, site}
 use Rattle.wild_layout.specs.SectionPlaces.{FieldLies}
 use Rattle.wild_layout.specs.Geometry.{IsLaidOut}

@@ -3,10 +3,10 @@ use Rattle.std.proofs.Common.{◌≡◌, ℕ, ◌≤◌, inl, inr, ◌==◌, Boo
 use Rattle.std.specs.Prelude.{◌+◌, if◌then◌else◌}
 use Rattle.std.proofs.lemmas.Bool.{cases_Bool, and_parts}
 use Rattle.std.proofs.lemmas.List.{append-nil}
-use Rattle.wild_plan.specs.declared.file.File.{File}
-use Rattle.wild_plan.specs.declared.file.Group.{Group}
-use Rattle.wild_plan.specs.FileRoles.{is_prelude, is_epilogue}
-use Rattle.wild_plan.specs.Contents.{bool_eq, file_placed, later_placed, files_placed, file_misplaced}
+use Rattle.wild_types.specs.declared.file.File.{File}
+use Rattle.wild_types.specs.declared.file.Group.{Group}
+use Rattle.wild_types.specs.FileRoles.{is_prelude, is_epilogue}
+use Rattle.wild_types.specs.FilePlaces.{bool_eq, file_placed, later_placed, files_placed, file_misplaced}
 
 -- the first file has xs, the others have nothing
 abbrev pub once : {X : Type 0} → List X → File → List X

@@ -1,22 +1,21 @@
 -- The words of the table of slots ascend, those of the pair that stands once ahead of all others.
 use Rattle.std.proofs.Common.{◌≡◌, ℕ, ◌+◌, ◌*◌, ◌≤◌, Bool, true, false, List, [], ◌∷◌, ◌++◌, length, replicate, refl, sym, ap, ◌∙◌, arith, subst}
 use Rattle.std.specs.Prelude.{Option, Some, None, All, AllPairs, if◌then◌else◌, unwrap_or, slice_get}
-use Rattle.std.proofs.lemmas.Bool.{eqb-true}
 use Rattle.std.proofs.lemmas.List.{length-append, length-replicate}
 use Rattle.std.proofs.lemmas.List.Concat.{flat_map-append}
 use Rattle.std.proofs.lemmas.List.Elements.{All-nil, All-cons, All-append}
 use Rattle.wild_reloc.specs.declared.dynamic.DynamicRelocationKind.TheVariants as entry_kinds
-use Rattle.wild_plan.specs.declared.part.Role.TheVariants as role
-use Rattle.wild_plan.specs.declared.slot.SlotWord.{SlotWord}
-use Rattle.wild_plan.specs.declared.slot.SlotWord.TheVariants.{Number, Address, InBlock, General, Plt}
-use Rattle.wild_plan.specs.declared.slot_parts.WordPart.TheVariants as words
-use Rattle.wild_plan.specs.declared.layout.Layout.{Layout}
-use Rattle.wild_plan.specs.Kinds.{is_executable}
-use Rattle.wild_plan.specs.Slots.{setting_of}
-use Rattle.wild_plan.specs.Storage.{less}
-use Rattle.wild_plan.specs.SlotParts.{next, slot_words}
-use Rattle.wild_plan.specs.SlotShares.{word_size, storage_at, storage_words}
-use Rattle.wild_plan.specs.SlotPlaces.{start_of, first_free, pair_follows_by}
+use Rattle.wild_types.specs.declared.part.Role.TheVariants as role
+use Rattle.wild_slot.specs.declared.slot.SlotWord.{SlotWord}
+use Rattle.wild_slot.specs.declared.slot.SlotWord.TheVariants.{Number, Address, InBlock, General, Plt}
+use Rattle.wild_slot.specs.declared.slot_parts.WordPart.TheVariants as words
+use Rattle.wild_types.specs.declared.layout.Layout.{Layout}
+use Rattle.wild_types.specs.Kinds.{is_executable}
+use Rattle.wild_slot.specs.Slots.{setting_of}
+use Rattle.wild_slot.specs.Storage.{less}
+use Rattle.wild_slot.specs.SlotParts.{next, slot_words}
+use Rattle.wild_needs.specs.SlotShares.{word_size, storage_at, storage_words}
+use Rattle.wild_clauses.specs.SlotPlaces.{start_of, first_free}
 use Rattle.wild_layout.specs.Geometry.{IsLaidOut}
 use Rattle.wild_loader.specs.declared.world.World.{World}
 use Rattle.wild_words.specs.Words.{word}
@@ -24,7 +23,6 @@ use Rattle.wild_words.proofs.WordLemmas.{length-word}
 use Rattle.wild_slots.specs.Order.{end_of}
 use Rattle.wild_slots.specs.Ascend.{LiesWithin, Ascend, place_in, PlacesAscend}
 use Rattle.wild_slots.specs.Stand.{StandsAt}
-use Rattle.wild_slots.proofs.CheckLemmas.{SlotChecks-from_clause}
 use Rattle.wild_loaded.specs.Stored.{IsWordStored}
 use Rattle.wild_loaded.specs.Laws.{SlotsAreStored}
 use Rattle.wild_loaded.proofs.SlotSites.{of_site, sites_at, all_sites}
@@ -55,8 +53,7 @@ pair_is l at e = subst (λ (o : Option ℕ). IsPair l.options.relr (storage_at (
 pub pair_ahead : (l : Layout) (at : ℕ) → IsLaidOut l → l.tlsld ≡ Some at → at + 16 ≤ (first_free l).got
 pair_ahead l at laid e =
     let p = pair_is l at e in
-    let check = (SlotChecks-from_clause l laid.slots).pair in
-    let at_is : at ≡ start_of l role.Got + word_size * l.got_header = eqb-true at (start_of l role.Got + word_size * l.got_header) (subst (λ (o : Option ℕ). pair_follows_by l o ≡ true) e check) in
+    let at_is : at ≡ start_of l role.Got + word_size * l.got_header = laid.slots.pair at e in
     let two : length (slot_words words.Got l.options.relr (unwrap_or l.tlsld 0) (storage_words l)) ≡ 2 = ap (λ (ws : List SlotWord). length (slot_words words.Got l.options.relr (unwrap_or l.tlsld 0) ws)) p.are ∙ p.written (unwrap_or l.tlsld 0) in
     let whole = length-append (replicate l.got_header zeroed) (slot_words words.Got l.options.relr (unwrap_or l.tlsld 0) (storage_words l)) in
     let front = length-replicate l.got_header zeroed in

@@ -9,17 +9,18 @@ use Rattle.std.proofs.lemmas.List.Folds.{flat_map-map}
 use Rattle.std.proofs.lemmas.List.Elements.{All-nil, All-cons, All-append, All-map}
 use Rattle.std.proofs.lemmas.List.Sorted.{All-permutation, IsPermutation-sym, IsPermutation-trans, IsPermutation-append_left, IsPermutation-map}
 use Rattle.wild_words.proofs.ListLemmas.{All-flat_map}
-use Rattle.wild_plan.specs.declared.input.InputRelocation.{InputRelocation}
-use Rattle.wild_plan.specs.declared.input.InputSection.{InputSection}
-use Rattle.wild_plan.specs.declared.slot.SlotWord.{SlotWord}
-use Rattle.wild_plan.specs.declared.slot.SlotWord.TheVariants.{Number, Address, InBlock, General, Plt}
-use Rattle.wild_plan.specs.declared.slot_shares.Block.{Block}
-use Rattle.wild_plan.specs.declared.file.File.{File}
-use Rattle.wild_plan.specs.declared.file.Group.{Group}
-use Rattle.wild_plan.specs.declared.layout.Layout.{Layout}
-use Rattle.wild_plan.specs.Entries.{place_of, packs, is_moved, has_moved, packed_place, packed_places}
-use Rattle.wild_plan.specs.SlotParts.{is_packed, flat_place}
-use Rattle.wild_plan.specs.SlotShares.{block_place, block_of, group_block}
+use Rattle.wild_types.specs.declared.input.InputRelocation.{InputRelocation}
+use Rattle.wild_types.specs.declared.input.InputSection.{InputSection}
+use Rattle.wild_slot.specs.declared.slot.SlotWord.{SlotWord}
+use Rattle.wild_slot.specs.declared.slot.SlotWord.TheVariants.{Number, Address, InBlock, General, Plt}
+use Rattle.wild_needs.specs.declared.slot_shares.Block.{Block}
+use Rattle.wild_types.specs.declared.file.File.{File}
+use Rattle.wild_types.specs.declared.file.Group.{Group}
+use Rattle.wild_types.specs.declared.layout.Layout.{Layout}
+use Rattle.wild_types.specs.Lookups.{place_of, packs, has_moved}
+use Rattle.wild_needs.specs.Entries.{is_moved, packed_place, packed_places}
+use Rattle.wild_slot.specs.SlotParts.{is_packed, flat_place}
+use Rattle.wild_needs.specs.SlotShares.{block_place, block_of, group_block}
 use Rattle.wild_relr.specs.Packed.{Piece, Places, packed, words_of, words_of_piece, places_of_pieces, places_of_piece, slots, IsEven, FlatIsARun, after_flat, after_run, nothing}
 use Rattle.wild_relr.specs.Packed as relr
 use Rattle.wild_relr.specs.Packing.{State}

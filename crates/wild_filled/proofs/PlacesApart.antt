@@ -4,8 +4,8 @@ use Rattle.std.specs.Prelude.{All, AllPairs, Contains}
 use Rattle.std.specs.List.{flat_map}
 use Rattle.std.proofs.lemmas.Bool.{cases_lt}
 use Rattle.wild_words.specs.Overlay.{Piece, Apart}
-use Rattle.wild_plan.specs.declared.input.InputSection.{InputSection}
-use Rattle.wild_plan.specs.declared.layout.Layout.{Layout}
+use Rattle.wild_types.specs.declared.input.InputSection.{InputSection}
+use Rattle.wild_types.specs.declared.layout.Layout.{Layout}
 use Rattle.wild_layout.specs.Image.{section_piece}
 use Rattle.wild_layout.specs.Geometry.{IsLaidOut}
 use Rattle.wild_filled.proofs.Fillings.{Filling, Misses, AreBeside}

@@ -4,19 +4,19 @@ use Rattle.std.specs.Prelude.{Option, Some, None, Result, Ok, Err, option_to_lis
 use Rattle.std.specs.List.{flat_map, filter}
 use Rattle.std.proofs.lemmas.Bool.{cases_Bool}
 use Rattle.wild_records.specs.declared.relocations.Rela.{Rela}
-use Rattle.wild_plan.specs.declared.fault.Fault.{Fault}
-use Rattle.wild_plan.specs.declared.input.InputRelocation.{InputRelocation}
-use Rattle.wild_plan.specs.declared.input.InputSection.{InputSection}
-use Rattle.wild_plan.specs.declared.layout.Layout.{Layout}
-use Rattle.wild_plan.specs.declared.treatment.Treatment.{Treatment}
-use Rattle.wild_plan.specs.declared.treatment.Treatment.TheVariants as treatments
-use Rattle.wild_plan.specs.Entries.{place_of, packs, is_base_relative, is_moved, packed_place, moved_of, packed_places, is_left_to_entry, left_relocations}
-use Rattle.wild_plan.specs.Flags.{has_flag, absolute}
-use Rattle.wild_plan.specs.Kinds.{is_position_independent}
-use Rattle.wild_plan.specs.Lookups.{is_read, allocated}
-use Rattle.wild_plan.specs.SlotParts.{type_of}
-use Rattle.wild_plan.specs.Treatment.{flags_at, treatment}
-use Rattle.wild_plan.specs.Rows.{row_of}
+use Rattle.wild_types.specs.declared.fault.Fault.{Fault}
+use Rattle.wild_types.specs.declared.input.InputRelocation.{InputRelocation}
+use Rattle.wild_types.specs.declared.input.InputSection.{InputSection}
+use Rattle.wild_types.specs.declared.layout.Layout.{Layout}
+use Rattle.wild_slot.specs.declared.treatment.Treatment.{Treatment}
+use Rattle.wild_slot.specs.declared.treatment.Treatment.TheVariants as treatments
+use Rattle.wild_types.specs.Lookups.{place_of, packs, is_read, allocated}
+use Rattle.wild_needs.specs.Entries.{is_base_relative, is_moved, packed_place, moved_of, packed_places, is_left_to_entry, left_relocations}
+use Rattle.wild_types.specs.Flags.{has_flag, absolute}
+use Rattle.wild_types.specs.Kinds.{is_position_independent}
+use Rattle.wild_slot.specs.SlotParts.{type_of}
+use Rattle.wild_slot.specs.Treatment.{flags_at, treatment}
+use Rattle.wild_types.specs.Rows.{row_of}
 use Rattle.wild_reloc.specs.Field.{field_width, size_width}
 use Rattle.wild_reloc.specs.declared.dynamic.DynamicRelocationKind.TheVariants.{Absolute, Irelative}
 use Rattle.wild_reloc.specs.declared.info.RelocationSize.{RelocationSize}

@@ -3,11 +3,11 @@ use Rattle.std.proofs.Common.{◌≡◌, inl, inr, Bool, true, List, [], ◌∷�
 use Rattle.std.specs.Prelude.{All, AllPairs, slice_get, if◌then◌else◌}
 use Rattle.std.specs.List.{flat_map}
 use Rattle.wild_words.specs.Overlay.{Piece, Apart}
-use Rattle.wild_plan.specs.declared.input.InputSection.{InputSection}
-use Rattle.wild_plan.specs.declared.file.File.{File}
-use Rattle.wild_plan.specs.declared.file.Group.{Group}
-use Rattle.wild_plan.specs.declared.layout.Layout.{Layout}
-use Rattle.wild_plan.specs.Lookups.{is_filled}
+use Rattle.wild_types.specs.declared.input.InputSection.{InputSection}
+use Rattle.wild_types.specs.declared.file.File.{File}
+use Rattle.wild_types.specs.declared.file.Group.{Group}
+use Rattle.wild_types.specs.declared.layout.Layout.{Layout}
+use Rattle.wild_types.specs.Lookups.{is_filled}
 use Rattle.wild_layout.specs.Sites.{section_bytes}
 use Rattle.wild_layout.specs.Image.{pieces, section_piece, table_pieces, owned_pieces, offset_in}
 use Rattle.wild_loaded.specs.Memory.{IsStored}

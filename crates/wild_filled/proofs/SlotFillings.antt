@@ -5,19 +5,22 @@ use Rattle.std.specs.List.{flat_map}
 use Rattle.std.proofs.lemmas.List.Elements.{All-nil, All-cons, All-head, All-tail}
 use Rattle.wild_records.specs.declared.relocations.Rela.{Rela}
 use Rattle.wild_reloc.specs.declared.dynamic.DynamicRelocationKind.TheVariants.{DtpMod}
-use Rattle.wild_plan.specs.declared.slot.SlotWord.{SlotWord}
-use Rattle.wild_plan.specs.declared.slot.SlotWord.TheVariants.{Number, Address, InBlock, General, Plt}
-use Rattle.wild_plan.specs.declared.slot_parts.EntryPart.TheVariants as entries
-use Rattle.wild_plan.specs.declared.slot_parts.WordPart.{WordPart}
-use Rattle.wild_plan.specs.declared.symbol.Symbol.{Symbol}
-use Rattle.wild_plan.specs.declared.file.File.{File}
-use Rattle.wild_plan.specs.declared.file.Group.{Group}
-use Rattle.wild_plan.specs.declared.layout.Layout.{Layout}
-use Rattle.wild_plan.specs.Kinds.{is_executable}
-use Rattle.wild_plan.specs.Slots.{setting_of}
-use Rattle.wild_plan.specs.Storage.{less}
-use Rattle.wild_plan.specs.SlotParts.{next, at_places, is_packed, entry_of, entry_at, address_entry, flat_place}
-use Rattle.wild_plan.specs.SlotShares.{own_symbols, slots_of, slots_at, storage_at, storage_words, block_place}
+use Rattle.wild_slot.specs.declared.slot.SlotWord.{SlotWord}
+use Rattle.wild_slot.specs.declared.slot.SlotWord.TheVariants.{Number, Address, InBlock, General, Plt}
+use Rattle.wild_slot.specs.declared.slot_parts.EntryPart.TheVariants as entries
+use Rattle.wild_slot.specs.declared.slot_parts.WordPart.{WordPart}
+use Rattle.wild_types.specs.declared.symbol.Symbol.{Symbol}
+use Rattle.wild_types.specs.declared.file.File.{File}
+use Rattle.wild_types.specs.declared.file.Group.{Group}
+use Rattle.wild_types.specs.declared.layout.Layout.{Layout}
+use Rattle.wild_types.specs.Kinds.{is_executable}
+use Rattle.wild_slot.specs.Slots.{setting_of}
+use Rattle.wild_slot.specs.Storage.{less}
+use Rattle.wild_slot.specs.SlotParts.{next, at_places, is_packed, entry_of, entry_at, address_entry, flat_place}
+use Rattle.wild_types.specs.FileSymbols.{own_symbols}
+use Rattle.wild_slot.specs.SymbolWords.{slots_of}
+use Rattle.wild_types.specs.SymbolSlots.{slots_at}
+use Rattle.wild_needs.specs.SlotShares.{storage_at, storage_words, block_place}
 use Rattle.wild_layout.specs.SlotBytes.{storage_entries}
 use Rattle.wild_slots.specs.Order.{group_symbols, written_symbols}
 use Rattle.wild_slots.specs.Ascend.{place_in, word_places}

@@ -4,15 +4,14 @@ use Rattle.std.specs.Prelude.{Option, Some, None, All, AllPairs, Contains, slice
 use Rattle.std.proofs.lemmas.Bool.{eqb-true}
 use Rattle.std.proofs.lemmas.List.Elements.{All-contains}
 use Rattle.std.proofs.lemmas.Option.{slice_get-get_or}
-use Rattle.wild_plan.specs.declared.part.Part.{Part}
-use Rattle.wild_plan.specs.declared.part.Role.{Role}
-use Rattle.wild_plan.specs.declared.part.Role.TheVariants as role
-use Rattle.wild_plan.specs.declared.input.InputSection.{InputSection}
-use Rattle.wild_plan.specs.declared.layout.Layout.{Layout}
-use Rattle.wild_plan.specs.Lookups.{takes_file_bytes}
-use Rattle.wild_plan.specs.Places.{role_place, has_role, is_loaded_role}
-use Rattle.wild_plan.specs.Segments.{part_with}
-use Rattle.wild_plan.specs.SlotPlaces.{address_of_part, start_of}
+use Rattle.wild_types.specs.declared.part.Part.{Part}
+use Rattle.wild_types.specs.declared.part.Role.{Role}
+use Rattle.wild_types.specs.declared.part.Role.TheVariants as role
+use Rattle.wild_types.specs.declared.input.InputSection.{InputSection}
+use Rattle.wild_types.specs.declared.layout.Layout.{Layout}
+use Rattle.wild_types.specs.Lookups.{takes_file_bytes}
+use Rattle.wild_types.specs.Parts.{role_place, has_role, is_loaded_role, part_with}
+use Rattle.wild_clauses.specs.SlotPlaces.{address_of_part, start_of}
 use Rattle.wild_layout.specs.Image.{offset_in}
 use Rattle.wild_layout.specs.SectionPlaces.{SectionLies, StandsIn, RangesApart}
 use Rattle.wild_layout.specs.Geometry.{IsLaidOut}

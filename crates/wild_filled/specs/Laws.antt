@@ -1,8 +1,8 @@
 -- What the tables of an image change.
 --   TablesAreMade   over the loaded segments each place and each entry makes a known change, and no two share a byte
 use Rattle.std.specs.Prelude.{◌≡◌, [], AllPairs}
-use Rattle.wild_plan.specs.declared.kind.Machine.TheVariants as machine
-use Rattle.wild_plan.specs.declared.layout.Layout.{Layout}
+use Rattle.wild_types.specs.declared.kind.Machine.TheVariants as machine
+use Rattle.wild_types.specs.declared.layout.Layout.{Layout}
 use Rattle.wild_layout.specs.Numbers.{NumbersFit}
 use Rattle.wild_layout.specs.Faults.{flat_map_from, group_errors}
 use Rattle.wild_layout.specs.Geometry.{IsLaidOut}

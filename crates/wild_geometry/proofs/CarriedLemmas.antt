@@ -5,19 +5,20 @@ use Rattle.std.proofs.lemmas.Bool.{and_parts, and_from, leb-true, ltb-true, eqb-
 use Rattle.wild_words.proofs.ListLemmas.{Found, Found-from_list_any, ItemAt-within, holds_at}
 use Rattle.wild_records.specs.Abi.Section.{sht_nobits}
 use Rattle.wild_records.specs.Abi.Segment.{pt_load}
-use Rattle.wild_plan.specs.declared.part.Part.{Part}
-use Rattle.wild_plan.specs.declared.section.Section.{Section}
-use Rattle.wild_plan.specs.declared.section.Segment.{Segment}
-use Rattle.wild_plan.specs.declared.section.Side.TheVariants as side
-use Rattle.wild_plan.specs.declared.input.InputSection.{InputSection}
-use Rattle.wild_plan.specs.declared.layout.Layout.{Layout}
-use Rattle.wild_plan.specs.Kinds.{is_partial_link}
-use Rattle.wild_plan.specs.Lookups.{allocated, kind_of, flags_of, section_of_part, is_allocated_section, is_allocated_part, takes_file_bytes, is_loaded, is_filled}
-use Rattle.wild_plan.specs.Places.{within, is_level, lies_in, lies_by, part_lies, is_loaded_role}
-use Rattle.wild_plan.specs.Segments.{at_equal_distance, has_byte, has_file_bytes, all_below, bytes_are_loaded}
-use Rattle.wild_plan.proofs.CoverLemmas.{all_below_each}
-use Rattle.wild_plan.specs.Contents.{bool_eq}
-use Rattle.wild_plan.specs.Indexes.{part_index_fits}
+use Rattle.wild_types.specs.declared.part.Part.{Part}
+use Rattle.wild_types.specs.declared.section.Section.{Section}
+use Rattle.wild_types.specs.declared.section.Segment.{Segment}
+use Rattle.wild_clauses.specs.declared.loaded.Side.TheVariants as side
+use Rattle.wild_types.specs.declared.input.InputSection.{InputSection}
+use Rattle.wild_types.specs.declared.layout.Layout.{Layout}
+use Rattle.wild_types.specs.Kinds.{is_partial_link}
+use Rattle.wild_types.specs.Lookups.{allocated, kind_of, flags_of, section_of_part, is_allocated_section, is_allocated_part, takes_file_bytes, is_loaded, is_filled}
+use Rattle.wild_clauses.specs.Places.{within, is_level, lies_in, lies_by, part_lies}
+use Rattle.wild_types.specs.Parts.{is_loaded_role}
+use Rattle.wild_clauses.specs.Segments.{at_equal_distance, has_byte, has_file_bytes, all_below, bytes_are_loaded}
+use Rattle.wild_clauses.proofs.CoverLemmas.{all_below_each}
+use Rattle.wild_types.specs.FilePlaces.{bool_eq}
+use Rattle.wild_clauses.specs.Indexes.{part_index_fits}
 use Rattle.wild_layout.specs.Loadable.{IsMapped, IsPartMapped}
 use Rattle.wild_geometry.proofs.LaidLemmas.{Laid}
 use Rattle.wild_geometry.proofs.SectionLemmas.{Holds, Stood}

@@ -16,24 +16,26 @@ use Rattle.wild_symbols.proofs.SymbolLemmas.{length-symbol_bytes}
 use Rattle.wild_symbols.proofs.TableLemmas.{length-long_indexes, length-index_bytes, length-file_side, length-table_entries}
 use Rattle.wild_symbols.specs.TableLaws.{side_count}
 use Rattle.wild_versions.proofs.RoomLemmas.{length-symbol_versions, length-file_definitions, length-group_needs}
-use Rattle.wild_plan.specs.declared.input.InputRelocation.{InputRelocation}
-use Rattle.wild_plan.specs.declared.input.InputSection.{InputSection}
-use Rattle.wild_plan.specs.declared.part.Role.{Role}
-use Rattle.wild_plan.specs.declared.part.Role.TheVariants as role
-use Rattle.wild_plan.specs.declared.file.File.{File}
-use Rattle.wild_plan.specs.declared.file.Group.{Group}
-use Rattle.wild_plan.specs.declared.layout.Layout.{Layout}
-use Rattle.wild_plan.specs.Dynamic.{dynamic_count}
-use Rattle.wild_plan.specs.DynamicStrings.{file_strings, needed_entries, needed_count}
-use Rattle.wild_plan.specs.Entries.{has_moved, listed_place, listed_places, words_of, entry_count, left_relocations, copies_of, general_count}
-use Rattle.wild_plan.specs.Lists.{total}
-use Rattle.wild_plan.specs.Needs.{whole_of, dynsym_count, last_of, own_of, first_share, share, group_share}
-use Rattle.wild_plan.specs.FileRoles.{is_prelude, is_epilogue}
-use Rattle.wild_plan.specs.Places.{role_place}
-use Rattle.wild_plan.specs.TableSymbols.{has_long, local_count, global_count, table_strings}
-use Rattle.wild_plan.specs.Versions.{needs_room}
+use Rattle.wild_types.specs.declared.input.InputRelocation.{InputRelocation}
+use Rattle.wild_types.specs.declared.input.InputSection.{InputSection}
+use Rattle.wild_types.specs.declared.part.Role.{Role}
+use Rattle.wild_types.specs.declared.part.Role.TheVariants as role
+use Rattle.wild_types.specs.declared.file.File.{File}
+use Rattle.wild_types.specs.declared.file.Group.{Group}
+use Rattle.wild_types.specs.declared.layout.Layout.{Layout}
+use Rattle.wild_needs.specs.Dynamic.{dynamic_count}
+use Rattle.wild_needs.specs.DynamicStrings.{file_strings, needed_entries, needed_count}
+use Rattle.wild_types.specs.Lookups.{has_moved}
+use Rattle.wild_needs.specs.Entries.{listed_place, listed_places, words_of, entry_count, left_relocations, general_count}
+use Rattle.wild_types.specs.FileSymbols.{copies_of}
+use Rattle.wild_types.specs.Lists.{total}
+use Rattle.wild_needs.specs.Needs.{whole_of, dynsym_count, last_of, own_of, first_share, share, group_share}
+use Rattle.wild_types.specs.FileRoles.{is_prelude, is_epilogue}
+use Rattle.wild_types.specs.Parts.{role_place}
+use Rattle.wild_needs.specs.TableSymbols.{has_long, local_count, global_count, table_strings}
+use Rattle.wild_needs.specs.Versions.{needs_room}
 use Rattle.wild_symbols.specs.TableEntries.{file_table, table_entries, long_indexes, index_bytes}
-use Rattle.wild_plan.specs.SlotShares.{block_share}
+use Rattle.wild_needs.specs.SlotShares.{block_share}
 use Rattle.wild_layout.specs.Content.{whole_bytes, own_bytes, dynamic_room, file_content, dynamic_of, group_bytes, content}
 use Rattle.wild_layout.specs.Left.{left_entry, section_generals, copy_entry, file_generals}
 use Rattle.wild_tables.specs.Tables.{relative_entry}

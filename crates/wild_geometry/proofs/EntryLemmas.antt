@@ -3,17 +3,18 @@ use Rattle.std.proofs.Common.{◌≡◌, ℕ, zero, suc, ◌+◌, ◌-◌, ◌<�
 use Rattle.std.proofs.lemmas.Bool.{cases_Bool, and_parts, ltb-true, eqb-true, eq-eqb}
 use Rattle.std.proofs.lemmas.Option.{same_Some}
 use Rattle.wild_records.specs.Abi.Section.{sht_nobits, sht_rela}
-use Rattle.wild_plan.specs.declared.part.Part.{Part}
-use Rattle.wild_plan.specs.declared.part.Role.{Role}
-use Rattle.wild_plan.specs.declared.section.Section.{Section}
-use Rattle.wild_plan.specs.declared.layout.Layout.{Layout}
-use Rattle.wild_plan.specs.Lists.{total}
-use Rattle.wild_plan.specs.Lookups.{allocated, kind_of, kind_at, is_allocated_section}
-use Rattle.wild_plan.specs.Places.{has_role, is_fixed_static, part_lies}
-use Rattle.wild_plan.specs.Segments.{part_with}
-use Rattle.wild_plan.specs.LoadedTables.{is_entry_role, entry_parts, bytes_in, holds_entries, entries_astray, stands_in_entries}
-use Rattle.wild_plan.specs.ClauseTests.{check_entries}
-use Rattle.wild_plan.proofs.ListLemmas.{All-from_none_fails}
+use Rattle.wild_types.specs.declared.part.Part.{Part}
+use Rattle.wild_types.specs.declared.part.Role.{Role}
+use Rattle.wild_types.specs.declared.section.Section.{Section}
+use Rattle.wild_types.specs.declared.layout.Layout.{Layout}
+use Rattle.wild_types.specs.Lists.{total}
+use Rattle.wild_types.specs.Lookups.{allocated, kind_of, kind_at, is_allocated_section}
+use Rattle.wild_types.specs.Parts.{has_role, part_with, is_entry_role, entry_parts, bytes_in}
+use Rattle.wild_types.specs.Kinds.{is_fixed_static}
+use Rattle.wild_clauses.specs.Places.{part_lies}
+use Rattle.wild_clauses.specs.LoadedTables.{holds_entries, entries_astray, stands_in_entries}
+use Rattle.wild_clauses.specs.ClauseTests.{check_entries}
+use Rattle.wild_types.proofs.ListLemmas.{All-from_none_fails}
 use Rattle.wild_layout.specs.Loadable.{EntriesLie, HasEntriesAlone}
 use Rattle.wild_geometry.proofs.ClauseLemmas.{Both-from_first_error, None-from_fails}
 use Rattle.wild_geometry.proofs.LaidLemmas.{Laid}

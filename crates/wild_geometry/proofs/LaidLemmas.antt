@@ -1,18 +1,27 @@
 -- What it says that the clauses on input sections, indexes and fields hold; and all that a layout is laid out by.
 use Rattle.std.proofs.Common.{◌≡◌, true, [], All, None, Ok}
-use Rattle.wild_plan.specs.declared.layout.Layout.{Layout}
-use Rattle.wild_plan.specs.Lists.{first_failing, unless}
-use Rattle.wild_plan.specs.Lookups.{files_of}
-use Rattle.wild_plan.specs.Places.{part_out_of_order}
-use Rattle.wild_plan.specs.Contents.{addresses, each_section, section_misplaced, length_fits, part_is_raw, allocation_agrees, bytes_take_room, fields_lie}
-use Rattle.wild_plan.specs.GroupStarts.{start_places, no_starts, start_astray}
-use Rattle.wild_plan.specs.Indexes.{part_index_fits, symbol_misfit, group_indexes_fit, listed_misfit, entry_is_there, copied_again}
-use Rattle.wild_plan.specs.VersionTables.{parent_is_there}
-use Rattle.wild_plan.specs.ClauseTests.{fails, check_inputs, check_indexes, check_fields, check_slots, check_dynsyms, check_slot_flags, check_starts, check_hashes, check_versions}
-use Rattle.wild_plan.specs.WellFormed.{first_clause}
-use Rattle.wild_plan.proofs.ListLemmas.{All-from_none_fails}
+use Rattle.wild_types.specs.declared.layout.Layout.{Layout}
+use Rattle.wild_types.specs.Lists.{first_failing, unless}
+use Rattle.wild_types.specs.Lookups.{files_of}
+use Rattle.wild_clauses.specs.Places.{part_out_of_order}
+use Rattle.wild_clauses.specs.Contents.{addresses, each_section, section_misplaced, length_fits, part_is_raw, allocation_agrees, bytes_take_room, fields_lie}
+use Rattle.wild_clauses.specs.GroupStarts.{start_places, no_starts, start_astray}
+use Rattle.wild_clauses.specs.Indexes.{part_index_fits, symbol_misfit, group_indexes_fit, listed_misfit, entry_is_there}
+use Rattle.wild_types.specs.FileSymbols.{copied_again}
+use Rattle.wild_clauses.specs.VersionTables.{parent_is_there}
+use Rattle.wild_clauses.specs.ClauseTests.{fails, check_inputs, check_indexes, check_fields, check_starts}
+use Rattle.wild_clauses.specs.WellFormed.{first_clause}
+use Rattle.wild_types.proofs.ListLemmas.{All-from_none_fails}
 use Rattle.wild_layout.specs.Faults.{flat_map_from, part_errors}
+use Rattle.wild_layout.specs.SlotOrder.{SlotsFollow, FlagsAgree}
+use Rattle.wild_layout.specs.ListedSymbols.{AreListed}
+use Rattle.wild_layout.specs.HashShapes.{HasHashShapes}
+use Rattle.wild_layout.specs.VersionOrder.{HasVersionsInOrder}
 use Rattle.wild_geometry.proofs.ClauseLemmas.{Both-from_first_error, None-from_fails, NoneFails-from_first_clause, SizesFit, SizesFit-from_check, CountsFit, CountsFit-from_check, OrderHolds-from_check, RolesHold, RolesHold-from_check, PartsLie, PartsLie-from_check, SegmentsHold, SegmentsHold-from_check, SharesHold, SharesHold-from_check}
+use Rattle.wild_geometry.proofs.SlotClauses.{SlotsFollow-from_check, FlagsAgree-from_check}
+use Rattle.wild_geometry.proofs.ListedClauses.{AreListed-from_checks}
+use Rattle.wild_geometry.proofs.HashClauses.{HasHashShapes-from_check}
+use Rattle.wild_geometry.proofs.VersionClauses.{HasVersionsInOrder-from_check}
 
 -- ---- clauses 8 to 10
 
@@ -85,12 +94,12 @@ pub record Laid (l : Layout) : Type 0 where
   pub inputs : InputsHold l
   pub indexes : IndexesHold l
   pub fields : All (λ g. each_section (fields_lie l.machine) g ≡ true) l.groups
-  pub slots : check_slots l ≡ Ok tt
-  pub dynsyms : check_dynsyms l ≡ Ok tt
-  pub slot_flags : check_slot_flags l ≡ Ok tt
+  pub slots : SlotsFollow l
+  pub dynsyms : AreListed l
+  pub slot_flags : All (FlagsAgree l) l.symbols
   pub starts : start_astray (start_places l.parts) no_starts 0 l.groups ≡ None
-  pub hashes : check_hashes l ≡ Ok tt
-  pub versions : check_versions l ≡ Ok tt
+  pub hashes : HasHashShapes l
+  pub versions : HasVersionsInOrder l
   pub needed : flat_map_from (part_errors l) 0 l.parts ≡ []
 
 pub Laid-from_clauses : (l : Layout) → first_clause l ≡ Ok tt → flat_map_from (part_errors l) 0 l.parts ≡ [] → Laid l
@@ -107,11 +116,11 @@ Laid-from_clauses l h n =
       inputs = InputsHold-from_check l c.inputs;
       indexes = IndexesHold-from_check l c.indexes;
       fields = FieldsLie-from_check l c.fields;
-      slots = c.slots;
-      dynsyms = c.dynsyms;
-      slot_flags = c.slot_flags;
+      slots = SlotsFollow-from_check l c.slots;
+      dynsyms = AreListed-from_checks l c.dynsyms c.names;
+      slot_flags = FlagsAgree-from_check l c.slot_flags;
       starts = StartsFollow-from_check l c.starts;
-      hashes = c.hashes;
-      versions = c.versions;
+      hashes = HasHashShapes-from_check l c.hashes;
+      versions = HasVersionsInOrder-from_check l c.versions;
       needed = n;
     }

@@ -5,21 +5,22 @@ use Rattle.std.proofs.lemmas.Bool.{cases_Bool, and_parts, leb-true, eqb-true, eq
 use Rattle.std.proofs.lemmas.List.Elements.{All-nil, All-cons}
 use Rattle.wild_words.proofs.ListLemmas.{Found-from_list_any}
 use Rattle.wild_records.specs.Abi.Segment.{pt_load, pt_dynamic}
-use Rattle.wild_plan.specs.declared.part.Part.{Part}
-use Rattle.wild_plan.specs.declared.part.Role.{Role}
-use Rattle.wild_plan.specs.declared.part.Role.TheVariants as role
-use Rattle.wild_plan.specs.declared.section.Segment.{Segment}
-use Rattle.wild_plan.specs.declared.layout.Layout.{Layout}
-use Rattle.wild_plan.specs.Kinds.{needs_dynamic}
-use Rattle.wild_plan.specs.Places.{role_place, has_role, is_fixed_static, within}
-use Rattle.wild_plan.specs.Segments.{is_segment_of, dynamic_astray, part_with}
-use Rattle.wild_plan.specs.LoadedTables.{begins_behind, entries_follow, rest_of_table, is_table_role, is_look_up_role, has_hashes, is_asked_whole, carries_part, carries_rest, carries_table, table_is_loaded}
+use Rattle.wild_types.specs.declared.part.Part.{Part}
+use Rattle.wild_types.specs.declared.part.Role.{Role}
+use Rattle.wild_types.specs.declared.part.Role.TheVariants as role
+use Rattle.wild_types.specs.declared.section.Segment.{Segment}
+use Rattle.wild_types.specs.declared.layout.Layout.{Layout}
+use Rattle.wild_types.specs.Kinds.{needs_dynamic, is_fixed_static}
+use Rattle.wild_types.specs.Parts.{role_place, has_role, part_with, is_table_role, is_look_up_role, has_hashes}
+use Rattle.wild_clauses.specs.Places.{within}
+use Rattle.wild_clauses.specs.Segments.{is_segment_of, dynamic_astray}
+use Rattle.wild_clauses.specs.LoadedTables.{begins_behind, entries_follow, rest_of_table, is_asked_whole, carries_part, carries_rest, carries_table, table_is_loaded}
 use Rattle.wild_layout.specs.Loadable.{IsStatic, HasSegment, IsCarriedWhole, BeginsBehind, AreCarriedTogether}
 use Rattle.wild_geometry.proofs.LaidLemmas.{Laid}
 use Rattle.wild_geometry.proofs.CarriedLemmas.{implied, other}
 use Rattle.wild_geometry.proofs.RoleLemmas.{FoundAt-from_find, nil_from_length, no_count, nothing_shared}
 use Rattle.wild_records.specs.declared.dynamic.DynamicEntry.{DynamicEntry}
-use Rattle.wild_plan.specs.Dynamic.{dynamic_entries, dynamic_count}
+use Rattle.wild_needs.specs.Dynamic.{dynamic_entries, dynamic_count}
 use Rattle.wild_loader.specs.Laws.{before_null}
 use Rattle.wild_tables.proofs.FoundLemmas.{behind_null}
 use Rattle.wild_geometry.proofs.TableLemmas.{same_role}

@@ -6,22 +6,22 @@ use Rattle.std.proofs.lemmas.Option.{same_Some}
 use Rattle.std.proofs.lemmas.List.Elements.{Contains-append_left}
 use Rattle.wild_words.specs.Overlay.{Piece}
 use Rattle.wild_words.proofs.ListLemmas.{ItemAt-within, holds_at}
-use Rattle.wild_plan.specs.declared.part.Part.{Part}
-use Rattle.wild_plan.specs.declared.part.Role.{Role}
-use Rattle.wild_plan.specs.declared.part.Role.TheVariants as role
-use Rattle.wild_plan.specs.declared.file.Group.{Group}
-use Rattle.wild_plan.specs.declared.layout.Layout.{Layout}
-use Rattle.wild_plan.specs.Contents.{given, has_share_for_each_part}
-use Rattle.wild_plan.specs.Counts.{total_share, role_given}
-use Rattle.wild_plan.specs.Lists.{total}
-use Rattle.wild_plan.specs.Dynamic.{dynamic_count}
-use Rattle.wild_plan.specs.Needs.{group_share}
-use Rattle.wild_plan.specs.Shares.{part_of_role, part_of, given_by, share_of}
+use Rattle.wild_types.specs.declared.part.Part.{Part}
+use Rattle.wild_types.specs.declared.part.Role.{Role}
+use Rattle.wild_types.specs.declared.part.Role.TheVariants as role
+use Rattle.wild_types.specs.declared.file.Group.{Group}
+use Rattle.wild_types.specs.declared.layout.Layout.{Layout}
+use Rattle.wild_types.specs.FilePlaces.{given}
+use Rattle.wild_clauses.specs.Contents.{has_share_for_each_part}
+use Rattle.wild_needs.specs.Needs.{total_share, group_share}
+use Rattle.wild_clauses.specs.Counts.{role_given}
+use Rattle.wild_types.specs.Lists.{total}
+use Rattle.wild_needs.specs.Dynamic.{dynamic_count}
+use Rattle.wild_types.specs.Shares.{part_of_role, part_of, given_by, share_of}
 use Rattle.wild_records.specs.Dynamic.{dynamic_entry_size}
 use Rattle.wild_tables.specs.Dynamic.{dynamic_bytes}
 use Rattle.wild_tables.proofs.DynamicLemmas.{lengths}
-use Rattle.wild_plan.specs.Places.{role_place, has_role}
-use Rattle.wild_plan.specs.Segments.{part_with}
+use Rattle.wild_types.specs.Parts.{role_place, has_role, part_with}
 use Rattle.wild_layout.specs.Content.{room_behind, dynamic_room, content}
 use Rattle.wild_layout.specs.TablePlaces.{table_bytes, bytes_before, TableLies, HasTable}
 use Rattle.wild_layout.specs.Image.{given_before, some_piece, table_piece, table_pieces, owned_pieces, group_pieces, pieces}

@@ -8,19 +8,21 @@ use Rattle.wild_words.proofs.OverlayLemmas.{length-place}
 use Rattle.wild_records.specs.Relocations.{rela_size}
 use Rattle.wild_relr.specs.Written.{word_bytes}
 use Rattle.wild_relr.proofs.SpellLemmas.{length-word_bytes}
-use Rattle.wild_plan.specs.declared.part.Role.{Role}
-use Rattle.wild_plan.specs.declared.part.Role.TheVariants as role
-use Rattle.wild_plan.specs.declared.file.File.{File}
-use Rattle.wild_plan.specs.declared.file.Group.{Group}
-use Rattle.wild_plan.specs.declared.symbol.Symbol.{Symbol}
-use Rattle.wild_plan.specs.declared.layout.Layout.{Layout}
-use Rattle.wild_plan.specs.declared.slot_parts.WordPart.{WordPart}
-use Rattle.wild_plan.specs.declared.slot_parts.WordPart.TheVariants as words
-use Rattle.wild_plan.specs.declared.slot_parts.EntryPart.{EntryPart}
-use Rattle.wild_plan.specs.declared.slot_parts.EntryPart.TheVariants as entries
-use Rattle.wild_plan.specs.Lists.{total}
-use Rattle.wild_plan.specs.SlotShares.{word_size, stub_size, own_symbols, slots_of, words_in, entries_in, header_words, block_words, slot_share, header_share, block_share}
-use Rattle.wild_plan.specs.Stub.{stub_x86_64, stub_template, displacement_x86_64}
+use Rattle.wild_types.specs.declared.part.Role.{Role}
+use Rattle.wild_types.specs.declared.part.Role.TheVariants as role
+use Rattle.wild_types.specs.declared.file.File.{File}
+use Rattle.wild_types.specs.declared.file.Group.{Group}
+use Rattle.wild_types.specs.declared.symbol.Symbol.{Symbol}
+use Rattle.wild_types.specs.declared.layout.Layout.{Layout}
+use Rattle.wild_slot.specs.declared.slot_parts.WordPart.{WordPart}
+use Rattle.wild_slot.specs.declared.slot_parts.WordPart.TheVariants as words
+use Rattle.wild_slot.specs.declared.slot_parts.EntryPart.{EntryPart}
+use Rattle.wild_slot.specs.declared.slot_parts.EntryPart.TheVariants as entries
+use Rattle.wild_types.specs.Lists.{total}
+use Rattle.wild_needs.specs.SlotShares.{word_size, stub_size, words_in, entries_in, header_words, block_words, slot_share, header_share, block_share}
+use Rattle.wild_types.specs.FileSymbols.{own_symbols}
+use Rattle.wild_slot.specs.SymbolWords.{slots_of}
+use Rattle.wild_slot.specs.Stub.{stub_x86_64, stub_template, displacement_x86_64}
 use Rattle.wild_tables.specs.Entries.{rela_bytes}
 use Rattle.wild_tables.proofs.EntryLemmas.{length-rela_bytes}
 use Rattle.wild_layout.specs.SlotBytes.{symbol_entries, stub_bytes, flat_in, slot_words_of, slot_entries_of, stubs_of, flat_places_of, slot_bytes, storage_entries, header_bytes, block_bytes}

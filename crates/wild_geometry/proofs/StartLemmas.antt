@@ -4,18 +4,17 @@ use Rattle.std.specs.List.{position_from}
 use Rattle.std.proofs.lemmas.Bool.{cases_Bool, and_parts, eqb-true, ne_eqb}
 use Rattle.std.proofs.lemmas.Option.{get_or_from_slice_get, slice_get_within}
 use Rattle.wild_words.proofs.ListLemmas.{ItemAt-within}
-use Rattle.wild_plan.specs.declared.part.Part.{Part}
-use Rattle.wild_plan.specs.declared.part.Role.{Role}
-use Rattle.wild_plan.specs.declared.part.Role.TheVariants as role
-use Rattle.wild_plan.specs.declared.file.Group.{Group}
-use Rattle.wild_plan.specs.declared.layout.Layout.{Layout}
-use Rattle.wild_plan.specs.declared.clauses.starts.Starts.{Starts}
-use Rattle.wild_plan.specs.Contents.{given}
-use Rattle.wild_plan.specs.GroupStarts.{given_at, place_with, start_places, no_starts, starts_behind, begins_at, start_astray}
-use Rattle.wild_plan.specs.Lists.{total}
-use Rattle.wild_plan.specs.Needs.{group_share}
-use Rattle.wild_plan.specs.Places.{role_place, has_role}
-use Rattle.wild_plan.specs.Segments.{part_with}
+use Rattle.wild_types.specs.declared.part.Part.{Part}
+use Rattle.wild_types.specs.declared.part.Role.{Role}
+use Rattle.wild_types.specs.declared.part.Role.TheVariants as role
+use Rattle.wild_types.specs.declared.file.Group.{Group}
+use Rattle.wild_types.specs.declared.layout.Layout.{Layout}
+use Rattle.wild_clauses.specs.declared.starts.Starts.{Starts}
+use Rattle.wild_types.specs.FilePlaces.{given}
+use Rattle.wild_clauses.specs.GroupStarts.{given_at, place_with, start_places, no_starts, starts_behind, begins_at, start_astray}
+use Rattle.wild_types.specs.Lists.{total}
+use Rattle.wild_needs.specs.Needs.{group_share}
+use Rattle.wild_types.specs.Parts.{role_place, has_role, part_with}
 use Rattle.wild_layout.specs.Content.{content}
 use Rattle.wild_layout.specs.TablePlaces.{bytes_before}
 use Rattle.wild_geometry.proofs.ContentLemmas.{length-content}

@@ -2,16 +2,16 @@
 use Rattle.std.proofs.Common.{◌≡◌, ℕ, ◌+◌, inl, inr, Bool, true, false, if◌then◌else◌, List, [], ◌∷◌, length, refl, arith}
 use Rattle.std.proofs.lemmas.Bool.{cases_Bool}
 use Rattle.std.proofs.lemmas.List.{length-append, length-map}
-use Rattle.wild_plan.specs.declared.symbol.Symbol.{Symbol}
-use Rattle.wild_plan.specs.declared.file.File.{File}
-use Rattle.wild_plan.specs.declared.file.Group.{Group}
-use Rattle.wild_plan.specs.declared.layout.DynamicSymbol.{DynamicSymbol}
-use Rattle.wild_plan.specs.declared.layout.Layout.{Layout}
-use Rattle.wild_plan.specs.DynamicStrings.{behind_text, undefined_symbols, entry_names, behind_file, needed_of, needed_from, needed_entries, needed_count}
-use Rattle.wild_plan.specs.FileRoles.{is_prelude, is_epilogue, is_library}
-use Rattle.wild_plan.specs.Kinds.{needs_dynamic, needs_dynsym}
-use Rattle.wild_plan.specs.Lists.{total}
-use Rattle.wild_plan.specs.Needs.{dynsym_count}
+use Rattle.wild_types.specs.declared.symbol.Symbol.{Symbol}
+use Rattle.wild_types.specs.declared.file.File.{File}
+use Rattle.wild_types.specs.declared.file.Group.{Group}
+use Rattle.wild_types.specs.declared.layout.DynamicSymbol.{DynamicSymbol}
+use Rattle.wild_types.specs.declared.layout.Layout.{Layout}
+use Rattle.wild_needs.specs.DynamicStrings.{behind_text, undefined_symbols, entry_names, behind_file, needed_of, needed_from, needed_entries, needed_count}
+use Rattle.wild_types.specs.FileRoles.{is_prelude, is_epilogue, is_library}
+use Rattle.wild_types.specs.Kinds.{needs_dynamic, needs_dynsym}
+use Rattle.wild_types.specs.Lists.{total}
+use Rattle.wild_needs.specs.Needs.{dynsym_count}
 use Rattle.wild_symbols.specs.DynamicEntries.{NamedFields, listed, undefined, file_symbols, entry_at, no_fields, entries_at, null_entries, behind_lead, file_entries, entries_from, group_symbols}
 
 one_length : {X : Type 0} (b : Bool) (x : X) → length (if b then x ∷ [] else []) ≡ (if b then 1 else 0)

@@ -6,14 +6,15 @@ use Rattle.std.proofs.lemmas.List.Elements.{All-nil, All-cons}
 use Rattle.wild_words.proofs.ListLemmas.{All-flat_map, All-optional}
 use Rattle.wild_words.proofs.OrderLemmas.{Apart-flip}
 use Rattle.wild_words.specs.Overlay.{Piece, Apart, AreApart}
-use Rattle.wild_plan.specs.declared.part.Part.{Part}
-use Rattle.wild_plan.specs.declared.part.Role.TheVariants as role
-use Rattle.wild_plan.specs.declared.input.InputSection.{InputSection}
-use Rattle.wild_plan.specs.declared.file.Group.{Group}
-use Rattle.wild_plan.specs.declared.layout.Layout.{Layout}
-use Rattle.wild_plan.specs.Lookups.{is_filled, takes_file_bytes, image_size}
-use Rattle.wild_plan.specs.Contents.{given}
-use Rattle.wild_plan.specs.Places.{role_place, has_role, takes_room, ends_low}
+use Rattle.wild_types.specs.declared.part.Part.{Part}
+use Rattle.wild_types.specs.declared.part.Role.TheVariants as role
+use Rattle.wild_types.specs.declared.input.InputSection.{InputSection}
+use Rattle.wild_types.specs.declared.file.Group.{Group}
+use Rattle.wild_types.specs.declared.layout.Layout.{Layout}
+use Rattle.wild_types.specs.Lookups.{is_filled, takes_file_bytes, image_size}
+use Rattle.wild_types.specs.FilePlaces.{given}
+use Rattle.wild_types.specs.Parts.{role_place, has_role}
+use Rattle.wild_clauses.specs.Places.{takes_room, ends_low}
 use Rattle.wild_layout.specs.Content.{content}
 use Rattle.wild_layout.specs.Image.{some_piece, given_before, table_piece, table_pieces, owned_pieces, section_piece, pieces}
 use Rattle.wild_layout.specs.Faults.{flat_map_from}

@@ -7,16 +7,15 @@ use Rattle.std.proofs.Math.Nat.{mod-lt}
 use Rattle.wild_words.specs.Words.{Stands}
 use Rattle.wild_words.proofs.OverlayLemmas.{Stands-inner}
 use Rattle.wild_records.specs.Hashes.{gnu_hash, sysv_hash, gnu_start, gnu_next}
-use Rattle.wild_records.specs.HashTables.{gnu_hash_header_at, GnuHashHeaderIsRead}
+use Rattle.wild_records.specs.HashTables.{gnu_hash_header_at, GnuHashHeaderIsRead, gnu_hash_header_fields}
 use Rattle.wild_records.specs.declared.hash_tables.GnuHashHeader.{GnuHashHeader}
 use Rattle.wild_hashes.specs.Tables.{sysv_hash_of, gnu_hash_of, words, gnu_table, sysv_table, buckets, sysv_chains, bloom, gnu_chains, is_last}
 use Rattle.wild_hashes.specs.LookUp.{chain_word, sysv_lookup, sysv_by, sysv_find, gnu_lookup, gnu_find, gnu_in_bucket, may_hold}
 use Rattle.wild_hashes.specs.declared.fault.LookupFault.{LookupFault}
 use Rattle.wild_hashes.specs.Reading.{read, symbol_name}
 use Rattle.wild_hashes.proofs.NameLemmas.{symbol_named}
-use Rattle.wild_plan.specs.declared.layout.DynamicSymbol.{DynamicSymbol}
+use Rattle.wild_types.specs.declared.layout.DynamicSymbol.{DynamicSymbol}
 use Rattle.wild_words.specs.Record.{spell}
-use Rattle.wild_records.specs.HashTables.{gnu_hash_header_fields}
 use Rattle.wild_hashes.specs.Laws.{ascends, ascends_from, Reads, GnuIsRead, SysvIsRead, first_named, IsGnuLaidOut, AreNumbered, names_of, GnuLookUpFindsTheFirst, SysvLookUpFindsTheFirst}
 use Rattle.wild_hashes.proofs.BucketLemmas.{length-buckets, bucket_small}
 use Rattle.wild_hashes.proofs.BloomLemmas.{length-bloom, bloom_small, filtered_none}

@@ -8,7 +8,7 @@ use Rattle.wild_words.specs.Words.{word, number, place}
 use Rattle.wild_words.proofs.WordLemmas.{length-word}
 use Rattle.wild_words.proofs.OverlayLemmas.{length-place}
 use Rattle.wild_words.proofs.RecordLemmas.{number-stands}
-use Rattle.wild_plan.specs.declared.layout.DynamicSymbol.{DynamicSymbol}
+use Rattle.wild_types.specs.declared.layout.DynamicSymbol.{DynamicSymbol}
 use Rattle.wild_hashes.specs.Tables.{gnu_hash_of, sysv_hash_of, words, buckets, bloom, with_bits, gnu_chains, sysv_chains, is_last}
 use Rattle.wild_hashes.proofs.TableLemmas.{Stands-word}
 use Rattle.wild_hashes.proofs.BucketLemmas.{length-buckets, bucket_small, bucket_is, buckets-nil, buckets-cons}

@@ -12,7 +12,7 @@ use Rattle.wild_words.specs.Words.{Stands}
 use Rattle.wild_records.specs.Hashes.{gnu_hash, sysv_hash}
 use Rattle.wild_records.specs.HashTables.{GnuHashHeaderFits}
 use Rattle.wild_records.specs.declared.hash_tables.GnuHashHeader.{GnuHashHeader}
-use Rattle.wild_plan.specs.declared.layout.DynamicSymbol.{DynamicSymbol}
+use Rattle.wild_types.specs.declared.layout.DynamicSymbol.{DynamicSymbol}
 use Rattle.wild_hashes.specs.declared.fault.LookupFault.{LookupFault}
 use Rattle.wild_hashes.specs.Tables.{sysv_hash_of, gnu_hash_of, bloom, buckets, gnu_chains, sysv_chains, gnu_table, sysv_table}
 use Rattle.wild_hashes.specs.Reading.{read, IsNamed}

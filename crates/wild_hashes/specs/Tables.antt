@@ -13,8 +13,8 @@ use Rattle.std.specs.List.{range_with_len}
 use Rattle.wild_words.specs.Words.{word}
 use Rattle.wild_words.specs.Record.{spell}
 use Rattle.wild_records.specs.Hashes.{sysv_hash, gnu_hash}
-use Rattle.wild_plan.specs.declared.layout.DynamicSymbol.{DynamicSymbol}
-use Rattle.wild_plan.specs.declared.layout.GnuHash.{GnuHash}
+use Rattle.wild_types.specs.declared.layout.DynamicSymbol.{DynamicSymbol}
+use Rattle.wild_types.specs.declared.layout.GnuHash.{GnuHash}
 use Rattle.wild_records.specs.HashTables.{gnu_hash_header_fields}
 use Rattle.wild_records.specs.declared.hash_tables.GnuHashHeader.{GnuHashHeader}
 

@@ -1,7 +1,7 @@
 //! Why a name is not looked up.
 
 /// Why a name is not looked up in the bytes of tables.
-#[derive(Clone, Copy, Debug, PartialEq, Eq, Drop)]
+#[derive(Clone, Copy, Drop)]
 pub enum LookupFault {
     /// A word that begins at that offset of the hash table goes past its end.
     Cut { offset: u64 },

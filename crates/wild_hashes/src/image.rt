@@ -19,7 +19,7 @@ use wild_records::abi::segment::{PT_DYNAMIC, PT_LOAD};
 use wild_records::{DynamicEntry, FileHeader, ProgramHeader, SymtabEntry};
 
 /// The file bytes from an address on.
-#[derive(Clone, Copy, Debug, PartialEq, Eq)]
+#[derive(Clone, Copy)]
 pub struct Part {
     /// Their offset as a fault tells it.
     pub offset: u64,
@@ -31,7 +31,7 @@ pub struct Part {
 
 /// What a look-up reads of an image. Symbols and strings are needed where a name is read, and no earlier: each is there,
 /// or the fault of such a name.
-#[derive(Clone, Copy, Debug, PartialEq, Eq)]
+#[derive(Clone, Copy)]
 pub struct Parts {
     pub hashes: Part,
     pub symbols: Result<Part, ImageFault>,
@@ -39,7 +39,7 @@ pub struct Parts {
 }
 
 /// So many records of an image behind each other.
-#[derive(Clone, Copy, Debug, PartialEq, Eq)]
+#[derive(Clone, Copy)]
 struct Records {
     start: usize,
     count: usize,

@@ -3,13 +3,9 @@
 
 mod fault;
 mod image;
-#[cfg(test)]
-mod image_tests;
 mod laws;
 mod lookup;
 mod reading;
-#[cfg(test)]
-mod tests;
 mod writers;
 
 pub use fault::{ImageFault, LookupFault};

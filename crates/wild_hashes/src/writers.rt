@@ -3,8 +3,8 @@ ghost use Rattle.std.specs.Prelude.{◌≡◌, ℕ, ◌+◌, ◌*◌, ◌/◌, �
 ghost use Rattle.wild_words.specs.Words.{word, number};
 ghost use Rattle.wild_hashes.specs.Tables.{sysv_hash_of, gnu_hash_of, gnu_header, words, buckets, with_bits, bloom, is_last, gnu_chains, sysv_chains, gnu_table, sysv_table};
 
-use wild_plan::{DynamicSymbol, GnuHash};
 use wild_records::{GnuHashHeader, gnu_hash, sysv_hash};
+use wild_types::{DynamicSymbol, GnuHash};
 use wild_words::{put_u32, put_u64, read_u32, read_u64};
 
 /// The hash of a symbol's name in GNU's table.

@@ -17,10 +17,10 @@ use Rattle.wild_records.specs.SectionHeader.{section_header_size, section_header
 use Rattle.wild_records.specs.declared.file_header.FileHeader.{FileHeader}
 use Rattle.wild_records.specs.declared.program_header.ProgramHeader.{ProgramHeader}
 use Rattle.wild_records.specs.declared.section_header.SectionHeader.{SectionHeader}
-use Rattle.wild_plan.specs.declared.section.Section.{Section}
-use Rattle.wild_plan.specs.declared.layout.Layout.{Layout}
-use Rattle.wild_plan.specs.Lists.{total}
-use Rattle.wild_plan.proofs.ListLemmas.{total-prefix, total-more}
+use Rattle.wild_types.specs.declared.section.Section.{Section}
+use Rattle.wild_types.specs.declared.layout.Layout.{Layout}
+use Rattle.wild_types.specs.Lists.{total}
+use Rattle.wild_types.proofs.ListLemmas.{total-prefix, total-more}
 use Rattle.wild_headers.specs.declared.section_headers.Told.{Told}
 use Rattle.wild_headers.specs.Headers.{told_of, info_at, null_header, section_header, headers_from, section_headers_of}
 

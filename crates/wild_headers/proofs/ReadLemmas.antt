@@ -8,9 +8,9 @@ use Rattle.wild_words.proofs.RecordLemmas.{Stands-left}
 use Rattle.wild_records.specs.ProgramHeader.{program_header_size, program_header_fields}
 use Rattle.wild_records.specs.SectionHeader.{section_header_size, section_header_fields}
 use Rattle.wild_records.specs.declared.section_header.SectionHeader.{SectionHeader}
-use Rattle.wild_plan.specs.declared.section.Section.{Section}
-use Rattle.wild_plan.specs.declared.layout.Layout.{Layout}
-use Rattle.wild_plan.specs.Lists.{total}
+use Rattle.wild_types.specs.declared.section.Section.{Section}
+use Rattle.wild_types.specs.declared.layout.Layout.{Layout}
+use Rattle.wild_types.specs.Lists.{total}
 use Rattle.wild_headers.specs.declared.section_headers.Told.{Told}
 use Rattle.wild_headers.specs.Headers.{program_header, told_of, section_header, headers_from, section_headers_of}
 use Rattle.wild_headers.specs.Laws.{ProgramHeadersStand, SectionHeadersStand, NamesStand}

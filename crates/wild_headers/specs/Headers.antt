@@ -16,22 +16,22 @@ use Rattle.wild_records.specs.FileHeader.{file_header_size, file_header_fields}
 use Rattle.wild_records.specs.ProgramHeader.{program_header_size, program_header_fields}
 use Rattle.wild_records.specs.SectionHeader.{section_header_size, section_header_fields}
 use Rattle.wild_records.specs.SymtabEntry.{symtab_entry_size}
-use Rattle.wild_plan.specs.declared.kind.Machine.{Machine}
-use Rattle.wild_plan.specs.declared.kind.Machine.TheVariants as machine
-use Rattle.wild_plan.specs.declared.kind.RelocationModel.TheVariants as model
-use Rattle.wild_plan.specs.declared.kind.OutputKind.{OutputKind}
-use Rattle.wild_plan.specs.declared.kind.OutputKind.TheVariants as output
-use Rattle.wild_plan.specs.declared.part.Part.{Part}
-use Rattle.wild_plan.specs.declared.part.Role.{Role}
-use Rattle.wild_plan.specs.declared.part.Role.TheVariants as role
-use Rattle.wild_plan.specs.declared.section.Section.{Section}
-use Rattle.wild_plan.specs.declared.section.Segment.{Segment}
-use Rattle.wild_plan.specs.declared.layout.Layout.{Layout}
+use Rattle.wild_types.specs.declared.kind.Machine.{Machine}
+use Rattle.wild_types.specs.declared.kind.Machine.TheVariants as machine
+use Rattle.wild_types.specs.declared.kind.RelocationModel.TheVariants as model
+use Rattle.wild_types.specs.declared.kind.OutputKind.{OutputKind}
+use Rattle.wild_types.specs.declared.kind.OutputKind.TheVariants as output
+use Rattle.wild_types.specs.declared.part.Part.{Part}
+use Rattle.wild_types.specs.declared.part.Role.{Role}
+use Rattle.wild_types.specs.declared.part.Role.TheVariants as role
+use Rattle.wild_types.specs.declared.section.Section.{Section}
+use Rattle.wild_types.specs.declared.section.Segment.{Segment}
+use Rattle.wild_types.specs.declared.layout.Layout.{Layout}
 use Rattle.wild_headers.specs.declared.section_headers.Told.{Told}
-use Rattle.wild_plan.specs.EntryPoint.{entry_point}
-use Rattle.wild_plan.specs.Lookups.{bit}
-use Rattle.wild_plan.specs.Places.{has_role}
-use Rattle.wild_plan.specs.Versions.{need_count}
+use Rattle.wild_needs.specs.EntryPoint.{entry_point}
+use Rattle.wild_types.specs.Lookups.{bit}
+use Rattle.wild_types.specs.Parts.{has_role}
+use Rattle.wild_needs.specs.Versions.{need_count}
 
 -- e_type
 abbrev pub file_type : OutputKind → ℕ

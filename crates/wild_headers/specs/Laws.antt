@@ -13,11 +13,11 @@ use Rattle.wild_records.specs.Abi.Section.{shn_undef, shn_loreserve, shn_xindex}
 use Rattle.wild_records.specs.ProgramHeader.{program_header_size, program_header_fields}
 use Rattle.wild_records.specs.SectionHeader.{section_header_size, section_header_fields}
 use Rattle.wild_records.specs.declared.section_header.SectionHeader.{SectionHeader}
-use Rattle.wild_plan.specs.declared.part.Role.TheVariants as role
-use Rattle.wild_plan.specs.declared.section.Section.{Section}
-use Rattle.wild_plan.specs.declared.section.Segment.{Segment}
-use Rattle.wild_plan.specs.declared.layout.Layout.{Layout}
-use Rattle.wild_plan.specs.Needs.{whole_of}
+use Rattle.wild_types.specs.declared.part.Role.TheVariants as role
+use Rattle.wild_types.specs.declared.section.Section.{Section}
+use Rattle.wild_types.specs.declared.section.Segment.{Segment}
+use Rattle.wild_types.specs.declared.layout.Layout.{Layout}
+use Rattle.wild_needs.specs.Needs.{whole_of}
 use Rattle.wild_headers.specs.Headers.{file_header, program_header, name_table, null_header, section_headers_of, file_header_bytes, program_header_bytes, section_header_bytes, names_of}
 
 -- the headers and the names are as long as is needed of them

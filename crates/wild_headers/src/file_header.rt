@@ -4,13 +4,14 @@ ghost use Rattle.wild_records.specs.FileHeader.{file_header_size};
 ghost use Rattle.wild_headers.specs.Headers.{file_type, machine_number, file_header, file_header_bytes};
 
 use crate::numbers::{or_escape, section_headers_offset, section_of_role};
-use wild_plan::{Layout, Machine, OutputKind, RelocationModel, Role, elf_entry_address};
+use wild_needs::elf_entry_address;
 use wild_records::abi::header::{
     ELFCLASS64, ELFDATA2LSB, ELFMAG, ELFOSABI_NONE, EM_AARCH64, EM_X86_64, ET_DYN, ET_EXEC, ET_REL,
     EV_CURRENT,
 };
 use wild_records::abi::section::{SHN_UNDEF, SHN_XINDEX};
 use wild_records::{FileHeader, ProgramHeader, SectionHeader};
+use wild_types::{Layout, Machine, OutputKind, RelocationModel, Role};
 
 /// `e_type`.
 fn file_type(kind: OutputKind) -> u16

@@ -1,12 +1,12 @@
 //! What the headers tell of the sections, by its place in them.
 ghost use Rattle.std.specs.Prelude.{◌≡◌, ◌%◌, ◌^◌};
 ghost use Rattle.wild_headers.specs.Headers.{offset_of_role, section_of_role, size_of_role, or_escape, or_none};
-ghost use Rattle.wild_plan.specs.Places.{has_role};
-ghost use Rattle.wild_plan.specs.Versions.{has_needs, need_count};
-ghost use Rattle.wild_plan.specs.declared.part.Role.TheVariants.{SectionHeaders};
+ghost use Rattle.wild_types.specs.Parts.{has_role};
+ghost use Rattle.wild_needs.specs.Versions.{has_needs, need_count};
+ghost use Rattle.wild_types.specs.declared.part.Role.TheVariants.{SectionHeaders};
 
-use wild_plan::{File, Layout, Part, Role, SectionIndex, has_role};
 use wild_records::abi::section::{SHN_LORESERVE, SHN_UNDEF};
+use wild_types::{File, Layout, Part, Role, SectionIndex, has_role};
 
 /// A number of sections, or an index of one, as the file header has it.
 pub(crate) fn or_escape(n: usize, escape: u16) -> u16

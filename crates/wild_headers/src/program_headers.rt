@@ -5,9 +5,9 @@ ghost use Rattle.wild_words.specs.Record.{spell};
 ghost use Rattle.wild_records.specs.ProgramHeader.{program_header_size, program_header_fields};
 ghost use Rattle.wild_headers.specs.Headers.{with_execute, program_header, program_header_bytes};
 
-use wild_plan::{Layout, Segment};
 use wild_records::ProgramHeader;
 use wild_records::abi::segment::{PF_X, PT_GNU_STACK, PT_LOAD};
+use wild_types::{Layout, Segment};
 use wild_words::put;
 
 /// The flags with `PF_X`.

@@ -3,13 +3,13 @@ ghost use Rattle.std.specs.Prelude.{◌≡◌, ◌+◌, ◌*◌, ◌^◌, ◌<�
 ghost use Rattle.wild_words.specs.Words.{place};
 ghost use Rattle.wild_words.specs.Record.{spell};
 ghost use Rattle.wild_records.specs.SectionHeader.{section_header_size, section_header_fields};
-ghost use Rattle.wild_plan.specs.Needs.{name_bytes};
+ghost use Rattle.wild_needs.specs.Needs.{name_bytes};
 ghost use Rattle.wild_headers.specs.Headers.{name_table, told_at, local_symbols, told_of, null_header, uncompressed, info_at, section_header, section_header_bytes};
 
 use crate::numbers::{need_count, or_none, section_of_role, size_of_role};
-use wild_plan::{Layout, Role, Section, SectionIndex};
 use wild_records::abi::section::{SHF_COMPRESSED, SHT_NULL};
 use wild_records::{SectionHeader, SymtabEntry};
+use wild_types::{Layout, Role, Section, SectionIndex};
 use wild_words::put;
 
 #[tactic(auto, unfolding(crate::specs::Headers::null_header))]
@@ -32,7 +32,7 @@ fn null_header(layout: &Layout) -> SectionHeader
 }
 
 /// The flags without `SHF_COMPRESSED`.
-#[tactic(auto, unfolding(wild_plan::specs::Lookups::bit))]
+#[tactic(auto, unfolding(wild_types::specs::Lookups::bit))]
 fn uncompressed(flags: u64) -> u64
     ensures { result ≡ uncompressed flags }
 {

@@ -1,10 +1,10 @@
 //! The names of the sections (gABI, "String Table").
 ghost use Rattle.std.specs.Prelude.{◌≡◌, ◌+◌, ◌≤◌, [], ◌∷◌, ◌++◌, length};
 ghost use Rattle.wild_words.specs.Words.{place};
-ghost use Rattle.wild_plan.specs.Needs.{name_bytes};
+ghost use Rattle.wild_needs.specs.Needs.{name_bytes};
 ghost use Rattle.wild_headers.specs.Headers.{names_of};
 
-use wild_plan::{Layout, Section};
+use wild_types::{Layout, Section};
 use wild_words::{put, put_u8};
 
 /// Writes the name of a section, and a zero behind it.

@@ -7,10 +7,10 @@ use Rattle.std.proofs.lemmas.List.{append_assoc, get_or_default, drop_more, drop
 use Rattle.std.proofs.lemmas.Option.{slice_get-get_or}
 use Rattle.wild_words.specs.Words.{place}
 use Rattle.wild_words.specs.Overlay.{overlay}
-use Rattle.wild_plan.specs.declared.input.InputSection.{InputSection}
-use Rattle.wild_plan.specs.declared.file.Group.{Group}
-use Rattle.wild_plan.specs.declared.layout.Layout.{Layout}
-use Rattle.wild_plan.specs.Lookups.{is_filled, is_loaded, is_read}
+use Rattle.wild_types.specs.declared.input.InputSection.{InputSection}
+use Rattle.wild_types.specs.declared.file.Group.{Group}
+use Rattle.wild_types.specs.declared.layout.Layout.{Layout}
+use Rattle.wild_types.specs.Lookups.{is_filled, is_loaded, is_read}
 use Rattle.wild_layout.specs.Sites.{section_bytes}
 use Rattle.wild_layout.specs.Image.{offset_in, section_piece}
 use Rattle.wild_layout.specs.SectionPlaces.{SectionLies}

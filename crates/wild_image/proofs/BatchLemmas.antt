@@ -5,18 +5,18 @@ use Rattle.std.specs.List.{flat_map}
 use Rattle.std.proofs.lemmas.List.{append_assoc, append-nil, drop-drop, drop_at, drop_more, length-append, take_more, length-take-le}
 use Rattle.std.proofs.lemmas.Option.{slice_get-get_or}
 use Rattle.wild_words.specs.Overlay.{Piece, overlay}
-use Rattle.wild_plan.specs.declared.fault.Error.{Error}
-use Rattle.wild_plan.specs.declared.file.Group.{Group}
-use Rattle.wild_plan.specs.declared.layout.Layout.{Layout}
-use Rattle.wild_plan.specs.Faults.{Refuses}
-use Rattle.wild_plan.specs.Lists.{total}
+use Rattle.wild_types.specs.declared.fault.Error.{Error}
+use Rattle.wild_types.specs.declared.file.Group.{Group}
+use Rattle.wild_types.specs.declared.layout.Layout.{Layout}
+use Rattle.wild_types.specs.Faults.{Refuses}
+use Rattle.wild_types.specs.Lists.{total}
 use Rattle.wild_layout.specs.Faults.{flat_map_from}
 use Rattle.wild_words.proofs.ListLemmas.{holds_at}
 use Rattle.wild_image.specs.Append.{HasStarts}
 use Rattle.wild_image.specs.Batches.{firsts, AreBatches, IsWithin}
 use Rattle.wild_image.specs.declared.batch.Batch.{Batch}
 use Rattle.wild_image.proofs.FaultLemmas.{refuses_from_at}
-use Rattle.wild_plan.proofs.ListLemmas.{total-append}
+use Rattle.wild_types.proofs.ListLemmas.{total-append}
 use Rattle.wild_image.proofs.PieceLemmas.{overlay-append}
 
 -- ---- what is given for each item with its place, counted from n on

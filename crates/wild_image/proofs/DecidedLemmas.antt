@@ -13,18 +13,18 @@ use Rattle.wild_words.specs.Extents.{SharesNothing, least_extent}
 use Rattle.wild_words.proofs.ExtentLemmas.{none-shared, beside-nothing}
 use Rattle.wild_words.proofs.OrderLemmas.{own_range_next}
 use Rattle.wild_words.proofs.ListLemmas.{flat_map-numbers}
-use Rattle.wild_plan.specs.declared.input.InputRelocation.{InputRelocation}
-use Rattle.wild_plan.specs.declared.input.InputSection.{InputSection}
-use Rattle.wild_plan.specs.declared.fault.Error.{Error}
-use Rattle.wild_plan.specs.declared.layout.Layout.{Layout}
+use Rattle.wild_types.specs.declared.input.InputRelocation.{InputRelocation}
+use Rattle.wild_types.specs.declared.input.InputSection.{InputSection}
+use Rattle.wild_types.specs.declared.fault.Error.{Error}
+use Rattle.wild_types.specs.declared.layout.Layout.{Layout}
 use Rattle.wild_reloc.specs.Field.{size_width, size_written}
 use Rattle.wild_layout.specs.declared.decision.Decision.{Decision}
 use Rattle.wild_layout.specs.declared.decision.Decision.TheVariants.{Nothing, Field, Moved, Left, Rewritten, Partner}
 use Rattle.wild_relax.specs.Linked.{pattern_size, template_of}
 use Rattle.wild_layout.specs.Decide.{decide}
 use Rattle.wild_layout.specs.Sites.{Written, written_by, field_site, template_site, site_by, site_of, site, extent_of, shared_byte}
-use Rattle.wild_plan.specs.Faults.{Refuses}
-use Rattle.wild_plan.specs.Lookups.{is_read}
+use Rattle.wild_types.specs.Faults.{Refuses}
+use Rattle.wild_types.specs.Lookups.{is_read}
 use Rattle.wild_layout.specs.Faults.{relocation_errors, at_section, overlap_errors, section_errors}
 use Rattle.wild_layout.specs.SectionPlaces.{FieldLies}
 use Rattle.wild_layout.proofs.SiteLemmas.{length-field_site, sites_apart_in}

@@ -1,16 +1,16 @@
 -- Distances in an output that does not move.
 use Rattle.std.proofs.Common.{◌≡◌, ℕ, Bool, true, false, Option, Some, None, refl, ap, ◌∙◌}
 use Rattle.std.specs.Prelude.{if◌then◌else◌, ◌&&◌, not, ◌==◌}
-use Rattle.wild_plan.specs.declared.input.InputRelocation.{InputRelocation}
-use Rattle.wild_plan.specs.declared.input.InputSection.{InputSection}
-use Rattle.wild_plan.specs.declared.layout.Layout.{Layout}
-use Rattle.wild_plan.specs.declared.treatment.Treatment.{Treatment}
-use Rattle.wild_plan.specs.declared.treatment.Treatment.TheVariants.{Value, Recompile}
-use Rattle.wild_plan.specs.Kinds.{is_position_independent}
-use Rattle.wild_plan.specs.Lookups.{allocated}
-use Rattle.wild_plan.specs.Rows.{row_of}
+use Rattle.wild_types.specs.declared.input.InputRelocation.{InputRelocation}
+use Rattle.wild_types.specs.declared.input.InputSection.{InputSection}
+use Rattle.wild_types.specs.declared.layout.Layout.{Layout}
+use Rattle.wild_slot.specs.declared.treatment.Treatment.{Treatment}
+use Rattle.wild_slot.specs.declared.treatment.Treatment.TheVariants.{Value, Recompile}
+use Rattle.wild_types.specs.Kinds.{is_position_independent}
+use Rattle.wild_types.specs.Lookups.{allocated}
+use Rattle.wild_types.specs.Rows.{row_of}
 use Rattle.wild_reloc.specs.Field.{field_width}
-use Rattle.wild_plan.specs.Treatment.{flags_at, is_elsewhere, distance_treatment, kind_treatment, row_treatment, treatment}
+use Rattle.wild_slot.specs.Treatment.{flags_at, is_elsewhere, distance_treatment, kind_treatment, row_treatment, treatment}
 use Rattle.wild_reloc.specs.declared.info.RelocationKind.TheVariants.{Relative}
 use Rattle.wild_reloc.specs.declared.info.RelocationKindInfo.{RelocationKindInfo}
 use Rattle.wild_layout.specs.Values.{term_of}

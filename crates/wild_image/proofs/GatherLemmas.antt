@@ -5,17 +5,16 @@ use Rattle.std.specs.List.{flat_map}
 use Rattle.std.proofs.lemmas.List.Elements.{All-nil}
 use Rattle.std.proofs.lemmas.List.FromFn.{fill_by_all}
 use Rattle.wild_words.proofs.ListLemmas.{All-flat_map, All-optional, holds_at}
-use Rattle.wild_plan.specs.declared.part.Part.{Part}
-use Rattle.wild_plan.specs.declared.input.InputSection.{InputSection}
-use Rattle.wild_plan.specs.declared.file.Group.{Group}
-use Rattle.wild_plan.specs.declared.layout.Layout.{Layout}
-use Rattle.wild_plan.specs.Lists.{total}
-use Rattle.wild_plan.specs.Lookups.{is_read, section_of, section_of_part}
-use Rattle.wild_plan.specs.Places.{relocation_count}
+use Rattle.wild_types.specs.declared.part.Part.{Part}
+use Rattle.wild_types.specs.declared.input.InputSection.{InputSection}
+use Rattle.wild_types.specs.declared.file.Group.{Group}
+use Rattle.wild_types.specs.declared.layout.Layout.{Layout}
+use Rattle.wild_types.specs.Lists.{total}
+use Rattle.wild_types.specs.Lookups.{is_read, section_of, section_of_part}
+use Rattle.wild_clauses.specs.Places.{relocation_count}
 use Rattle.wild_layout.specs.Image.{counted, count_of, counts}
 use Rattle.wild_layout.specs.Geometry.{IsLaidOut}
-use Rattle.wild_crew.specs.Sums.{between, n_if}
-use Rattle.wild_crew.specs.Sums.{counted as counted_in}
+use Rattle.wild_crew.specs.Sums.{between, n_if, counted as counted_in}
 use Rattle.wild_crew.specs.Ended.{sum_of, AreTotals}
 use Rattle.wild_image.specs.Steps.{group_relocations, file_counted, group_counted}
 use Rattle.wild_image.specs.Pieces.{section_pairs, file_pairs, group_pairs}

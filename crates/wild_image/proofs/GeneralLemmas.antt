@@ -7,12 +7,13 @@ use Rattle.std.proofs.lemmas.List.Concat.{flat_map-append}
 use Rattle.wild_records.specs.declared.relocations.Rela.{Rela}
 use Rattle.wild_records.specs.Relocations.{rela_fields}
 use Rattle.wild_words.specs.Record.{spell}
-use Rattle.wild_plan.specs.declared.input.InputSection.{InputSection}
-use Rattle.wild_plan.specs.declared.file.File.{File}
-use Rattle.wild_plan.specs.declared.layout.Layout.{Layout}
-use Rattle.wild_plan.specs.Entries.{is_left_to_entry, left_relocations, copies_of}
-use Rattle.wild_plan.specs.Lookups.{is_read}
-use Rattle.wild_plan.specs.Treatment.{treatment}
+use Rattle.wild_types.specs.declared.input.InputSection.{InputSection}
+use Rattle.wild_types.specs.declared.file.File.{File}
+use Rattle.wild_types.specs.declared.layout.Layout.{Layout}
+use Rattle.wild_needs.specs.Entries.{is_left_to_entry, left_relocations}
+use Rattle.wild_types.specs.FileSymbols.{copies_of}
+use Rattle.wild_types.specs.Lookups.{is_read}
+use Rattle.wild_slot.specs.Treatment.{treatment}
 use Rattle.wild_tables.specs.Entries.{rela_bytes}
 use Rattle.wild_layout.specs.Left.{left_entry, section_generals, copy_entry, file_generals}
 use Rattle.wild_image.specs.General.{left_in, left_bytes, section_general_bytes, copy_bytes}

@@ -3,11 +3,11 @@ use Rattle.std.proofs.Common.{◌≡◌, ℕ, ◌<◌, inl, inr, true, List, len
 use Rattle.std.specs.Prelude.{Option, Some, None, option_map, slice_get}
 use Rattle.std.proofs.lemmas.Bool.{cases_lt}
 use Rattle.std.proofs.lemmas.Option.{slice_get_past}
-use Rattle.wild_plan.specs.declared.symbol.Symbol.{Symbol}
-use Rattle.wild_plan.specs.declared.file.File.{File}
-use Rattle.wild_plan.specs.declared.layout.Layout.{Layout}
-use Rattle.wild_plan.specs.Kinds.{needs_dynsym}
-use Rattle.wild_plan.specs.Lookups.{files_of, file_of}
+use Rattle.wild_types.specs.declared.symbol.Symbol.{Symbol}
+use Rattle.wild_types.specs.declared.file.File.{File}
+use Rattle.wild_types.specs.declared.layout.Layout.{Layout}
+use Rattle.wild_types.specs.Kinds.{needs_dynsym}
+use Rattle.wild_types.specs.Lookups.{files_of, file_of}
 use Rattle.wild_image.specs.declared.home.Home.{Home}
 use Rattle.wild_image.specs.Placed.{found}
 use Rattle.wild_image.specs.Homes.{home_of, home_in, HasHomes}

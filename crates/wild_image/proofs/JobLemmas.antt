@@ -1,12 +1,12 @@
 -- Laws of the groups as work.
 use Rattle.std.proofs.Common.{◌≡◌, ℕ, ◌^◌, ◌<◌, ◌-◌, List, [], length, arith, subst, Result, Ok, Err}
 use Rattle.std.specs.Prelude.{Some, slice_get, IfOk}
-use Rattle.wild_plan.specs.declared.fault.Error.{Error}
-use Rattle.wild_plan.specs.declared.file.Group.{Group}
-use Rattle.wild_plan.specs.declared.layout.Layout.{Layout}
-use Rattle.wild_plan.specs.Faults.{Answers, Refuses}
-use Rattle.wild_plan.specs.ClauseTests.{check_sizes, check_counts}
-use Rattle.wild_plan.specs.WellFormed.{first_clause}
+use Rattle.wild_types.specs.declared.fault.Error.{Error}
+use Rattle.wild_types.specs.declared.file.Group.{Group}
+use Rattle.wild_types.specs.declared.layout.Layout.{Layout}
+use Rattle.wild_types.specs.Faults.{Answers, Refuses}
+use Rattle.wild_clauses.specs.ClauseTests.{check_sizes, check_counts}
+use Rattle.wild_clauses.specs.WellFormed.{first_clause}
 use Rattle.wild_layout.specs.Faults.{group_errors}
 use Rattle.wild_image.specs.Pieces.{group_parts, group_pairs}
 use Rattle.wild_image.specs.Batches.{batch_errors, batch_bytes, batch_pairs, pairs_at, GivesBatch}

@@ -3,26 +3,27 @@ use Rattle.std.proofs.Common.{suc, if◌then◌else◌, ◌≡◌, ℕ, ◌^◌,
 use Rattle.std.specs.Prelude.{All, OnOk}
 use Rattle.std.proofs.lemmas.Bool.{and_parts, ltb-true}
 use Rattle.wild_words.specs.Overlay.{overlay}
-use Rattle.wild_plan.specs.declared.fault.Clause.{Clause}
-use Rattle.wild_plan.specs.declared.fault.Error.{Error}
-use Rattle.wild_plan.specs.declared.part.Part.{Part}
-use Rattle.wild_plan.specs.declared.layout.Layout.{Layout}
-use Rattle.wild_plan.specs.Lists.{unless}
-use Rattle.wild_plan.specs.Places.{has_role, relocation_count}
-use Rattle.wild_plan.specs.Counts.{total_share, counts_fit}
-use Rattle.wild_plan.specs.VersionTables.{versions_fit}
-use Rattle.wild_plan.specs.ClauseTests.{fails, first_error, check_sizes, check_counts}
-use Rattle.wild_plan.specs.WellFormed.{first_clause}
+use Rattle.wild_types.specs.declared.fault.Clause.{Clause}
+use Rattle.wild_types.specs.declared.fault.Error.{Error}
+use Rattle.wild_types.specs.declared.part.Part.{Part}
+use Rattle.wild_types.specs.declared.layout.Layout.{Layout}
+use Rattle.wild_types.specs.Lists.{unless}
+use Rattle.wild_types.specs.Parts.{has_role}
+use Rattle.wild_clauses.specs.Places.{relocation_count}
+use Rattle.wild_needs.specs.Needs.{total_share, name_bytes}
+use Rattle.wild_clauses.specs.Counts.{counts_fit}
+use Rattle.wild_needs.specs.Versions.{versions_fit}
+use Rattle.wild_clauses.specs.ClauseTests.{fails, first_error, check_sizes, check_counts}
+use Rattle.wild_clauses.specs.WellFormed.{first_clause}
 use Rattle.wild_headers.specs.Headers.{section_of_role}
 use Rattle.wild_layout.specs.Image.{group_pieces, pieces, padding, bytes}
 use Rattle.wild_layout.specs.Faults.{clause_errors, flat_map_from, part_errors, group_errors, errors}
 use Rattle.wild_layout.specs.Geometry.{IsLaidOut}
 use Rattle.wild_layout.proofs.FaultLemmas.{clause_holds}
 use Rattle.wild_image.specs.Steps.{FieldsFit}
-use Rattle.wild_plan.specs.declared.part.Role.{Role}
-use Rattle.wild_plan.specs.declared.part.Role.TheVariants as role
-use Rattle.wild_plan.specs.Needs.{name_bytes}
-use Rattle.wild_plan.specs.Faults.{Refuses}
+use Rattle.wild_types.specs.declared.part.Role.{Role}
+use Rattle.wild_types.specs.declared.part.Role.TheVariants as role
+use Rattle.wild_types.specs.Faults.{Refuses}
 use Rattle.wild_image.proofs.FaultLemmas.{Refuses-front, Refuses-behind}
 use Rattle.wild_image.proofs.HashLemmas.{sysv_stands, gnu_stands}
 use Rattle.wild_image.proofs.VersionLemmas.{definitions_fit}

@@ -13,12 +13,13 @@ use Rattle.wild_relr.specs.Packing.{State, choice, chosen, after}
 use Rattle.wild_relr.specs.Packed.{packed, packed_on, afters, nothing}
 use Rattle.wild_relr.specs.Written.{word_bytes}
 use Rattle.wild_relr.proofs.PackedLemmas.{afters-packed, length-joined}
-use Rattle.wild_plan.specs.declared.input.InputRelocation.{InputRelocation}
-use Rattle.wild_plan.specs.declared.input.InputSection.{InputSection}
-use Rattle.wild_plan.specs.declared.part.Part.{Part}
-use Rattle.wild_plan.specs.declared.file.Group.{Group}
-use Rattle.wild_plan.specs.declared.layout.Layout.{Layout}
-use Rattle.wild_plan.specs.Entries.{place_of, packs, is_moved, has_moved, packed_place, packed_places, words_of}
+use Rattle.wild_types.specs.declared.input.InputRelocation.{InputRelocation}
+use Rattle.wild_types.specs.declared.input.InputSection.{InputSection}
+use Rattle.wild_types.specs.declared.part.Part.{Part}
+use Rattle.wild_types.specs.declared.file.Group.{Group}
+use Rattle.wild_types.specs.declared.layout.Layout.{Layout}
+use Rattle.wild_types.specs.Lookups.{place_of, packs, has_moved}
+use Rattle.wild_needs.specs.Entries.{is_moved, packed_place, packed_places, words_of}
 use Rattle.wild_tables.specs.Entries.{rela_bytes}
 use Rattle.wild_layout.specs.Moved.{listed_entry, section_entries}
 use Rattle.wild_layout.specs.Content.{content}

@@ -5,22 +5,23 @@ use Rattle.std.specs.List.{flat_map, list_all, list_any}
 use Rattle.std.proofs.lemmas.Bool.{cases_Bool, cases_order, and_parts, eqb-true, eqb-false}
 use Rattle.std.proofs.lemmas.List.{append-nil, nil_from_length}
 use Rattle.std.proofs.lemmas.Option.{get_or_from_slice_get}
-use Rattle.wild_plan.specs.declared.file.File.{File}
-use Rattle.wild_plan.specs.declared.file.Group.{Group}
-use Rattle.wild_plan.specs.declared.layout.Layout.{Layout}
-use Rattle.wild_plan.specs.declared.part.Part.{Part}
-use Rattle.wild_plan.specs.declared.part.Role.{Role}
-use Rattle.wild_plan.specs.declared.part.Role.TheVariants as role
-use Rattle.wild_plan.specs.Contents.{given}
-use Rattle.wild_plan.specs.Entries.{general_count}
-use Rattle.wild_plan.specs.Kinds.{needs_dynamic}
-use Rattle.wild_plan.specs.Lists.{total}
-use Rattle.wild_plan.specs.Places.{role_place}
-use Rattle.wild_plan.specs.Needs.{has_plain_role, is_plain, share, group_share, needs_of, needs}
-use Rattle.wild_plan.specs.FileRoles.{is_prelude, is_epilogue}
-use Rattle.wild_plan.specs.TableSymbols.{has_table}
-use Rattle.wild_plan.specs.SlotPlaces.{is_without}
-use Rattle.wild_plan.specs.SlotShares.{own_symbols, block_share}
+use Rattle.wild_types.specs.declared.file.File.{File}
+use Rattle.wild_types.specs.declared.file.Group.{Group}
+use Rattle.wild_types.specs.declared.layout.Layout.{Layout}
+use Rattle.wild_types.specs.declared.part.Part.{Part}
+use Rattle.wild_types.specs.declared.part.Role.{Role}
+use Rattle.wild_types.specs.declared.part.Role.TheVariants as role
+use Rattle.wild_types.specs.FilePlaces.{given}
+use Rattle.wild_needs.specs.Entries.{general_count}
+use Rattle.wild_types.specs.Kinds.{needs_dynamic}
+use Rattle.wild_types.specs.Lists.{total}
+use Rattle.wild_types.specs.Parts.{role_place}
+use Rattle.wild_needs.specs.Needs.{has_plain_role, is_plain, share, group_share, needs_of, needs}
+use Rattle.wild_types.specs.FileRoles.{is_prelude, is_epilogue}
+use Rattle.wild_types.specs.Lookups.{has_table}
+use Rattle.wild_types.specs.SymbolSlots.{is_without}
+use Rattle.wild_types.specs.FileSymbols.{own_symbols}
+use Rattle.wild_needs.specs.SlotShares.{block_share}
 use Rattle.wild_tables.specs.Dynamic.{dynamic_bytes}
 use Rattle.wild_layout.specs.Content.{dynamic_room, content}
 use Rattle.wild_layout.specs.Faults.{flat_map_from, has_spare, share_errors}

@@ -7,12 +7,13 @@ use Rattle.std.proofs.lemmas.List.{append-nil, append_assoc}
 use Rattle.wild_words.specs.Words.{word}
 use Rattle.wild_relr.specs.Packed.{bitmaps, bitmap_count, block}
 use Rattle.wild_relr.specs.Written.{word_bytes}
-use Rattle.wild_plan.specs.declared.file.File.{File}
-use Rattle.wild_plan.specs.declared.layout.Layout.{Layout}
-use Rattle.wild_plan.specs.declared.symbol.Symbol.{Symbol}
-use Rattle.wild_plan.specs.declared.slot_parts.WordPart.{WordPart}
-use Rattle.wild_plan.specs.declared.slot_parts.EntryPart.{EntryPart}
-use Rattle.wild_plan.specs.SlotShares.{own_symbols, words_in}
+use Rattle.wild_types.specs.declared.file.File.{File}
+use Rattle.wild_types.specs.declared.layout.Layout.{Layout}
+use Rattle.wild_types.specs.declared.symbol.Symbol.{Symbol}
+use Rattle.wild_slot.specs.declared.slot_parts.WordPart.{WordPart}
+use Rattle.wild_slot.specs.declared.slot_parts.EntryPart.{EntryPart}
+use Rattle.wild_types.specs.FileSymbols.{own_symbols}
+use Rattle.wild_needs.specs.SlotShares.{words_in}
 use Rattle.wild_tables.specs.Entries.{rela_bytes}
 use Rattle.wild_layout.specs.SlotBytes.{symbol_entries, flat_in, slot_words_of, slot_entries_of, flat_places_of}
 use Rattle.wild_image.specs.Own.{symbol_word_bytes, symbol_entry_bytes, symbol_flat_bytes}

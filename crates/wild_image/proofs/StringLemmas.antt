@@ -5,13 +5,13 @@ use Rattle.std.specs.List.{flat_map}
 use Rattle.std.proofs.lemmas.List.{append-nil, append_assoc}
 use Rattle.std.proofs.lemmas.List.Concat.{flat_map-append}
 use Rattle.wild_records.specs.Abi.Dynamic.{dt_soname}
-use Rattle.wild_plan.specs.declared.options.Options.{Options}
-use Rattle.wild_plan.specs.declared.symbol.Symbol.{Symbol}
-use Rattle.wild_plan.specs.declared.file.File.{File}
-use Rattle.wild_plan.specs.declared.layout.Layout.{Layout}
-use Rattle.wild_plan.specs.DynamicStrings.{NamedString, named, named_strings, texts_of, path_number, auxiliary_string, option_strings, epilogue_strings, lead_strings, entry_names, file_strings, symbol_names}
-use Rattle.wild_plan.specs.Kinds.{needs_dynamic, needs_dynsym}
-use Rattle.wild_plan.specs.Versions.{version_names}
+use Rattle.wild_types.specs.declared.options.Options.{Options}
+use Rattle.wild_types.specs.declared.symbol.Symbol.{Symbol}
+use Rattle.wild_types.specs.declared.file.File.{File}
+use Rattle.wild_types.specs.declared.layout.Layout.{Layout}
+use Rattle.wild_needs.specs.DynamicStrings.{NamedString, named, named_strings, texts_of, path_number, auxiliary_string, option_strings, epilogue_strings, lead_strings, entry_names, file_strings, symbol_names}
+use Rattle.wild_types.specs.Kinds.{needs_dynamic, needs_dynsym}
+use Rattle.wild_needs.specs.Versions.{version_names}
 use Rattle.wild_symbols.specs.Strings.{string, string_bytes}
 
 -- ---- strings

@@ -3,13 +3,14 @@ use Rattle.std.proofs.Common.{◌≡◌, ℕ, ◌+◌, ◌<◌, false, List, [],
 use Rattle.std.specs.List.{flat_map}
 use Rattle.std.proofs.lemmas.List.{length-take-le, take_more}
 use Rattle.std.proofs.lemmas.List.Concat.{flat_map-append}
-use Rattle.wild_plan.specs.declared.fault.Error.{Error}
-use Rattle.wild_plan.specs.declared.symbol.Symbol.{Symbol}
-use Rattle.wild_plan.specs.declared.table.Pass.{Pass}
-use Rattle.wild_plan.specs.declared.file.File.{File}
-use Rattle.wild_plan.specs.declared.layout.Layout.{Layout}
-use Rattle.wild_plan.specs.Faults.{Refuses}
-use Rattle.wild_plan.specs.TableSymbols.{TableSymbol, has_table, symbol_items, pass_items, file_items}
+use Rattle.wild_types.specs.declared.fault.Error.{Error}
+use Rattle.wild_types.specs.declared.symbol.Symbol.{Symbol}
+use Rattle.wild_needs.specs.declared.table.Pass.{Pass}
+use Rattle.wild_types.specs.declared.file.File.{File}
+use Rattle.wild_types.specs.declared.layout.Layout.{Layout}
+use Rattle.wild_types.specs.Faults.{Refuses}
+use Rattle.wild_needs.specs.TableSymbols.{TableSymbol, symbol_items, pass_items, file_items}
+use Rattle.wild_types.specs.Lookups.{has_table}
 use Rattle.wild_layout.specs.Faults.{flat_map_from, table_errors}
 use Rattle.wild_image.proofs.FaultLemmas.{refuses_from_at, none_from_at}
 

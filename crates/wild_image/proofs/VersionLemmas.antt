@@ -2,14 +2,13 @@
 use Rattle.std.proofs.Common.{◌≡◌, ℕ, ◌^◌, ◌<◌, ◌≤◌, ◌&&◌, nat_le, List, [], ◌∷◌, length, get_or, refl, arith}
 use Rattle.std.specs.Prelude.{All}
 use Rattle.std.proofs.lemmas.Bool.{and_parts, leb-true}
-use Rattle.wild_plan.specs.declared.file.File.{File}
-use Rattle.wild_plan.specs.declared.file.Group.{Group}
-use Rattle.wild_plan.specs.declared.layout.Layout.{Layout}
-use Rattle.wild_plan.specs.Lists.{total}
-use Rattle.wild_plan.specs.Lookups.{files_of}
-use Rattle.wild_plan.specs.Versions.{needs_of, need_count}
-use Rattle.wild_plan.specs.VersionTables.{length_of, versions_needed, most_versions}
-use Rattle.wild_plan.proofs.ListLemmas.{total-append, total-prefix}
+use Rattle.wild_types.specs.declared.file.File.{File}
+use Rattle.wild_types.specs.declared.file.Group.{Group}
+use Rattle.wild_types.specs.declared.layout.Layout.{Layout}
+use Rattle.wild_types.specs.Lists.{total}
+use Rattle.wild_types.specs.Lookups.{files_of}
+use Rattle.wild_needs.specs.Versions.{needs_of, need_count, length_of, versions_needed, most_versions}
+use Rattle.wild_types.proofs.ListLemmas.{total-append, total-prefix}
 use Rattle.wild_layout.specs.Geometry.{IsLaidOut}
 use Rattle.wild_image.specs.Steps.{NeedsFit}
 

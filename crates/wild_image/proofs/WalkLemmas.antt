@@ -5,14 +5,14 @@ use Rattle.std.proofs.lemmas.Bool.{cases_Bool}
 use Rattle.std.proofs.lemmas.List.{append-nil, append_assoc, map-append, take_more, length-take-le}
 use Rattle.wild_words.proofs.ListLemmas.{flat_map-more}
 use Rattle.wild_records.specs.declared.symtab_entry.SymtabEntry.{SymtabEntry}
-use Rattle.wild_plan.specs.declared.symbol.Symbol.{Symbol}
-use Rattle.wild_plan.specs.declared.table.Pass.{Pass}
-use Rattle.wild_plan.specs.declared.file.File.{File}
-use Rattle.wild_plan.specs.declared.layout.Layout.{Layout}
-use Rattle.wild_plan.specs.DynamicStrings.{behind_text}
-use Rattle.wild_plan.specs.declared.part.Role.{Role}
-use Rattle.wild_plan.specs.declared.file.Group.{Group}
-use Rattle.wild_plan.specs.TableSymbols.{TableSymbol, symbol_items, pass_items, table_strings, has_long}
+use Rattle.wild_types.specs.declared.symbol.Symbol.{Symbol}
+use Rattle.wild_needs.specs.declared.table.Pass.{Pass}
+use Rattle.wild_types.specs.declared.file.File.{File}
+use Rattle.wild_types.specs.declared.layout.Layout.{Layout}
+use Rattle.wild_needs.specs.DynamicStrings.{behind_text}
+use Rattle.wild_types.specs.declared.part.Role.{Role}
+use Rattle.wild_types.specs.declared.file.Group.{Group}
+use Rattle.wild_needs.specs.TableSymbols.{TableSymbol, symbol_items, pass_items, table_strings, has_long}
 use Rattle.wild_layout.specs.Content.{indexes_of}
 use Rattle.wild_symbols.specs.Strings.{string, string_bytes}
 use Rattle.wild_symbols.specs.Symbols.{symbol_bytes}

@@ -3,8 +3,8 @@
 --   GoesOn own from to     what stands behind its own
 --   HasStarts l j starts   what the groups before group j are given of each part
 use Rattle.std.specs.Prelude.{◌≡◌, ℕ, ◌<◌, List, ◌++◌, length, slice_index, slice_index_or}
-use Rattle.wild_plan.specs.declared.part.Part.{Part}
-use Rattle.wild_plan.specs.declared.layout.Layout.{Layout}
+use Rattle.wild_types.specs.declared.part.Part.{Part}
+use Rattle.wild_types.specs.declared.layout.Layout.{Layout}
 use Rattle.wild_layout.specs.Image.{given_before}
 use Rattle.wild_layout.specs.SectionPlaces.{PartLies}
 

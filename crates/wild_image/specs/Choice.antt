@@ -6,14 +6,14 @@
 --   may_be_partner rs i     the relocation before is of such a type
 use Rattle.std.specs.Prelude.{ℕ, zero, suc, ◌+◌, ◌==◌, Bool, false, ◌||◌, List, ◌++◌, Option, option_to_list, option_map, unwrap_or, slice_get}
 use Rattle.wild_records.specs.Abi.Relocation.{r_x86_64_tlsgd, r_x86_64_tlsld}
-use Rattle.wild_plan.specs.declared.input.InputRelocation.{InputRelocation}
-use Rattle.wild_plan.specs.declared.input.InputSection.{InputSection}
-use Rattle.wild_plan.specs.declared.layout.Layout.{Layout}
-use Rattle.wild_plan.specs.Treatment.{flags_at}
+use Rattle.wild_types.specs.declared.input.InputRelocation.{InputRelocation}
+use Rattle.wild_types.specs.declared.input.InputSection.{InputSection}
+use Rattle.wild_types.specs.declared.layout.Layout.{Layout}
+use Rattle.wild_slot.specs.Treatment.{flags_at}
 use Rattle.wild_relax.specs.declared.reference.RelocationInfo.{RelocationInfo}
 use Rattle.wild_relax.specs.Question.{Question}
 use Rattle.wild_layout.specs.Choice.{info_of}
-use Rattle.wild_plan.specs.Addresses.{raw_value}
+use Rattle.wild_types.specs.Addresses.{raw_value}
 
 -- what the rows ask of a relocation by itself, but for its symbol's name
 abbrev pub nameless : InputRelocation → RelocationInfo

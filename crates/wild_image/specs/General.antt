@@ -5,11 +5,11 @@
 --   copy_bytes l i              those of the entry by which symbol i is copied
 use Rattle.std.specs.Prelude.{ℕ, List, [], ◌∷◌, if◌then◌else◌, Option, Some, None, option_to_list}
 use Rattle.wild_records.specs.declared.relocations.Rela.{Rela}
-use Rattle.wild_plan.specs.declared.input.InputRelocation.{InputRelocation}
-use Rattle.wild_plan.specs.declared.input.InputSection.{InputSection}
-use Rattle.wild_plan.specs.declared.layout.Layout.{Layout}
-use Rattle.wild_plan.specs.Entries.{is_left_to_entry}
-use Rattle.wild_plan.specs.Treatment.{treatment}
+use Rattle.wild_types.specs.declared.input.InputRelocation.{InputRelocation}
+use Rattle.wild_types.specs.declared.input.InputSection.{InputSection}
+use Rattle.wild_types.specs.declared.layout.Layout.{Layout}
+use Rattle.wild_needs.specs.Entries.{is_left_to_entry}
+use Rattle.wild_slot.specs.Treatment.{treatment}
 use Rattle.wild_tables.specs.Entries.{rela_bytes}
 use Rattle.wild_layout.specs.Left.{left_entry, section_generals, copy_entry}
 

@@ -2,16 +2,16 @@
 --   symbol_undefined role s    1 of such a symbol, else 0; file_undefined, group_undefined: how many of a file, of a group
 --   SysvStands l h, GnuStands l h   a table of that shape has a bucket and its other numbers, and its symbols have indexes
 use Rattle.std.specs.Prelude.{◌≡◌, ℕ, ◌+◌, ◌^◌, ◌<◌, ◌≤◌, if◌then◌else◌, length}
-use Rattle.wild_plan.specs.declared.symbol.Symbol.{Symbol}
-use Rattle.wild_plan.specs.declared.file.FileRole.{FileRole}
-use Rattle.wild_plan.specs.declared.file.File.{File}
-use Rattle.wild_plan.specs.declared.file.Group.{Group}
-use Rattle.wild_plan.specs.declared.layout.SysvHash.{SysvHash}
-use Rattle.wild_plan.specs.declared.layout.GnuHash.{GnuHash}
-use Rattle.wild_plan.specs.declared.layout.Layout.{Layout}
-use Rattle.wild_plan.specs.Astray.{range_of}
-use Rattle.wild_plan.specs.DynamicSymbols.{is_undefined_entry, first_listed}
-use Rattle.wild_plan.specs.Lists.{total}
+use Rattle.wild_types.specs.declared.symbol.Symbol.{Symbol}
+use Rattle.wild_types.specs.declared.file.FileRole.{FileRole}
+use Rattle.wild_types.specs.declared.file.File.{File}
+use Rattle.wild_types.specs.declared.file.Group.{Group}
+use Rattle.wild_types.specs.declared.layout.SysvHash.{SysvHash}
+use Rattle.wild_types.specs.declared.layout.GnuHash.{GnuHash}
+use Rattle.wild_types.specs.declared.layout.Layout.{Layout}
+use Rattle.wild_types.specs.FileSymbols.{range_of}
+use Rattle.wild_needs.specs.DynamicSymbols.{is_undefined_entry, first_listed}
+use Rattle.wild_types.specs.Lists.{total}
 
 -- one that other modules define, of a file of that role
 abbrev pub symbol_undefined : FileRole → Symbol → ℕ

@@ -1,10 +1,10 @@
 -- What comes of a group.
 --   GivesPiece l i r   r is what group i has of each part, with what it counts, or its first fault
 use Rattle.std.specs.Prelude.{◌≡◌, ℕ, Some, slice_get, Result, IfOk}
-use Rattle.wild_plan.specs.declared.fault.Error.{Error}
-use Rattle.wild_plan.specs.declared.file.Group.{Group}
-use Rattle.wild_plan.specs.declared.layout.Layout.{Layout}
-use Rattle.wild_plan.specs.Faults.{Answers}
+use Rattle.wild_types.specs.declared.fault.Error.{Error}
+use Rattle.wild_types.specs.declared.file.Group.{Group}
+use Rattle.wild_types.specs.declared.layout.Layout.{Layout}
+use Rattle.wild_types.specs.Faults.{Answers}
 use Rattle.wild_layout.specs.Faults.{group_errors}
 use Rattle.wild_image.specs.Pieces.{group_parts, group_pairs}
 use Rattle.wild_image.specs.declared.piece.GroupPiece.{GroupPiece}

@@ -5,14 +5,14 @@
 --                          the bytes of the words of a symbol's slots in a part, of their entries in one, and of their
 --                          places that have a RELR word of their own
 use Rattle.std.specs.Prelude.{ℕ, List, option_to_list}
-use Rattle.wild_plan.specs.declared.input.InputRelocation.{InputRelocation}
-use Rattle.wild_plan.specs.declared.input.InputSection.{InputSection}
-use Rattle.wild_plan.specs.declared.symbol.Symbol.{Symbol}
-use Rattle.wild_plan.specs.declared.layout.Layout.{Layout}
-use Rattle.wild_plan.specs.declared.slot_parts.WordPart.{WordPart}
-use Rattle.wild_plan.specs.declared.slot_parts.EntryPart.{EntryPart}
-use Rattle.wild_plan.specs.Entries.{packed_place, words_of}
-use Rattle.wild_plan.specs.SlotShares.{words_in}
+use Rattle.wild_types.specs.declared.input.InputRelocation.{InputRelocation}
+use Rattle.wild_types.specs.declared.input.InputSection.{InputSection}
+use Rattle.wild_types.specs.declared.symbol.Symbol.{Symbol}
+use Rattle.wild_types.specs.declared.layout.Layout.{Layout}
+use Rattle.wild_slot.specs.declared.slot_parts.WordPart.{WordPart}
+use Rattle.wild_slot.specs.declared.slot_parts.EntryPart.{EntryPart}
+use Rattle.wild_needs.specs.Entries.{packed_place, words_of}
+use Rattle.wild_needs.specs.SlotShares.{words_in}
 use Rattle.wild_relr.specs.Written.{word_bytes}
 use Rattle.wild_tables.specs.Entries.{rela_bytes}
 use Rattle.wild_layout.specs.Moved.{listed_entry, section_entries}

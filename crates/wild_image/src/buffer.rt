@@ -1,9 +1,9 @@
 //! All bytes of a group in one buffer: what it gives to the tables, part by part, and behind that its input
 //! sections' bytes in the order of processing.
 ghost use Rattle.std.specs.Prelude.{◌≡◌, ◌+◌, ◌<◌, ◌^◌, ◌++◌, length, IfOk, OnOk, All};
-ghost use Rattle.wild_plan.specs.declared.file.File.{File};
-ghost use Rattle.wild_plan.specs.declared.file.Group.{Group};
-ghost use Rattle.wild_plan.specs.Faults.{Answers};
+ghost use Rattle.wild_types.specs.declared.file.File.{File};
+ghost use Rattle.wild_types.specs.declared.file.Group.{Group};
+ghost use Rattle.wild_types.specs.Faults.{Answers};
 ghost use Rattle.wild_layout.specs.Faults.{flat_map_from, section_errors, file_errors, group_errors};
 ghost use Rattle.wild_layout.specs.SectionPlaces.{SectionLies};
 ghost use Rattle.wild_image.specs.Pieces.{section_owned, file_sections, group_sections, group_tables, group_bytes};

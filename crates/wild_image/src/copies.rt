@@ -1,8 +1,8 @@
 //! What symbols that are copied into the output lack of their entries.
 ghost use Rattle.std.specs.Prelude.{◌≡◌, Some, ◌++◌};
 ghost use Rattle.std.specs.List.{flat_map};
-ghost use Rattle.wild_plan.specs.Entries.{copies_of};
-ghost use Rattle.wild_plan.specs.Faults.{Answers};
+ghost use Rattle.wild_types.specs.FileSymbols.{copies_of};
+ghost use Rattle.wild_types.specs.Faults.{Answers};
 ghost use Rattle.wild_layout.specs.Faults.{copy_fault, copy_errors, slot_errors};
 ghost use Rattle.wild_layout.specs.SymbolValues.{raw_address};
 ghost use Rattle.wild_layout.specs.SlotValues.{index_of};

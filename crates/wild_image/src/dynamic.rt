@@ -1,8 +1,8 @@
 //! The entries of a group in the dynamic section (gABI, "Dynamic Section"): those of its libraries, and all others where it
 //! has the last file.
 ghost use Rattle.std.specs.Prelude.{◌≡◌, ◌++◌, Some, OnOk};
-ghost use Rattle.wild_plan.specs.DynamicStrings.{needed_of, needed_entries, needed_count};
-ghost use Rattle.wild_plan.specs.Lists.{total};
+ghost use Rattle.wild_needs.specs.DynamicStrings.{needed_of, needed_entries, needed_count};
+ghost use Rattle.wild_types.specs.Lists.{total};
 ghost use Rattle.wild_tables.specs.Dynamic.{entries_bytes, dynamic_bytes};
 ghost use Rattle.wild_layout.specs.Content.{room_behind, dynamic_room, dynamic_of};
 
@@ -31,7 +31,7 @@ fn add_library(file: &File, at: u64, bytes: &mut PartBytes) -> Result<(), AllocE
 }
 
 /// Adds the entries of a group's libraries, each with the offset of its name in the string table.
-#[tactic(auto, unfolding(wild_plan::specs::DynamicStrings::needed_entries))]
+#[tactic(auto, unfolding(wild_needs::specs::DynamicStrings::needed_entries))]
 fn add_libraries(layout: &Layout, group: &Group, bytes: &mut PartBytes) -> Result<(), AllocError>
     ensures { OnOk result (bytes.new ≡ bytes.old ++ entries_bytes (needed_entries layout.now group.now)) }
 {

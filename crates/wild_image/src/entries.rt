@@ -2,7 +2,7 @@
 //! sum of base and value (gABI, "Relocation").
 ghost use Rattle.std.specs.Prelude.{◌≡◌, [], ◌∷◌, ◌++◌, OnOk};
 ghost use Rattle.std.specs.List.{flat_map};
-ghost use Rattle.wild_plan.specs.Entries.{listed_place};
+ghost use Rattle.wild_needs.specs.Entries.{listed_place};
 ghost use Rattle.wild_tables.specs.Entries.{rela_bytes};
 ghost use Rattle.wild_layout.specs.Moved.{file_entries};
 ghost use Rattle.wild_image.specs.Own.{entry_bytes, section_entry_bytes};

@@ -1,8 +1,8 @@
 //! The hash tables of the symbols that the output defines, which the last file has (gABI, "Hash Table"; GNU, "DT_GNU_HASH").
 ghost use Rattle.std.specs.Prelude.{◌≡◌, ◌+◌, ◌-◌, ◌^◌, ◌<◌, ◌++◌, [], ℕ, List, if◌then◌else◌, map, min, OnOk, IfOk};
 ghost use Rattle.wild_hashes.specs.Tables.{sysv_hash_of, gnu_hash_of, gnu_header, sysv_table, gnu_table};
-ghost use Rattle.wild_plan.specs.DynamicSymbols.{is_undefined_entry, first_listed};
-ghost use Rattle.wild_plan.specs.Lists.{total};
+ghost use Rattle.wild_needs.specs.DynamicSymbols.{is_undefined_entry, first_listed};
+ghost use Rattle.wild_types.specs.Lists.{total};
 ghost use Rattle.wild_layout.specs.Content.{sysv_bytes, gnu_bytes, of_last};
 ghost use Rattle.wild_image.specs.Hashes.{symbol_undefined, file_undefined, group_undefined, SysvStands, GnuStands};
 

@@ -1,6 +1,6 @@
 //! The file of a symbol, as far as the dynamic symbol table tells of it.
 ghost use Rattle.std.specs.Prelude.{◌≡◌, None, Some, slice_get};
-ghost use Rattle.wild_plan.specs.DynamicSymbols.{section_of_input, output_section};
+ghost use Rattle.wild_needs.specs.DynamicSymbols.{section_of_input, output_section};
 ghost use Rattle.wild_image.specs.Homes.{home_of, home_in};
 
 use crate::placed::Told;

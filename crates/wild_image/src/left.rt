@@ -2,8 +2,8 @@
 //! those of fields that are left to a loader (gABI, "Relocation"; x86-64 psABI, "Relocation Types").
 ghost use Rattle.std.specs.Prelude.{◌≡◌, ◌++◌, OnOk};
 ghost use Rattle.std.specs.List.{flat_map};
-ghost use Rattle.wild_plan.specs.Entries.{copies_of};
-ghost use Rattle.wild_plan.specs.Treatment.{treatment};
+ghost use Rattle.wild_types.specs.FileSymbols.{copies_of};
+ghost use Rattle.wild_slot.specs.Treatment.{treatment};
 ghost use Rattle.wild_tables.specs.Entries.{rela_bytes};
 ghost use Rattle.wild_layout.specs.Left.{entry_for, index_or_zero, copy_entry, file_generals};
 ghost use Rattle.wild_image.specs.General.{left_in, left_bytes, section_general_bytes, copy_bytes};

@@ -40,8 +40,6 @@ mod symtab;
 mod symtab_faults;
 mod tables;
 mod take;
-#[cfg(test)]
-mod tests;
 mod values;
 mod versions;
 mod words;

@@ -1,9 +1,9 @@
 //! The image of a layout.
 ghost use Rattle.std.specs.Prelude.{◌≡◌, ◌<◌, ◌≤◌, ◌^◌, ℕ, [], length, Ok, Some, slice_get, replicate, OnOk, IfOk};
-ghost use Rattle.wild_plan.specs.Faults.{Answers};
-ghost use Rattle.wild_plan.specs.Lookups.{image_size};
-ghost use Rattle.wild_plan.specs.Places.{relocation_count};
-ghost use Rattle.wild_plan.specs.WellFormed.{first_clause};
+ghost use Rattle.wild_types.specs.Faults.{Answers};
+ghost use Rattle.wild_types.specs.Lookups.{image_size};
+ghost use Rattle.wild_clauses.specs.Places.{relocation_count};
+ghost use Rattle.wild_clauses.specs.WellFormed.{first_clause};
 ghost use Rattle.wild_layout.specs.Image.{bytes, counts};
 ghost use Rattle.wild_layout.specs.Warnings.{warnings};
 ghost use Rattle.wild_layout.specs.Faults.{clause_errors, flat_map_from, part_errors, group_errors, errors};

@@ -1,7 +1,7 @@
 //! The bytes that a group has of a part.
 ghost use Rattle.std.specs.Prelude.{◌≡◌, [], ◌++◌, true, IfOk, OnOk};
-ghost use Rattle.wild_plan.specs.Faults.{Answers};
-ghost use Rattle.wild_plan.specs.Lookups.{is_read};
+ghost use Rattle.wild_types.specs.Faults.{Answers};
+ghost use Rattle.wild_types.specs.Lookups.{is_read};
 ghost use Rattle.wild_layout.specs.Sites.{section_bytes};
 ghost use Rattle.wild_layout.specs.Faults.{section_errors};
 ghost use Rattle.wild_layout.specs.SectionPlaces.{SectionLies};

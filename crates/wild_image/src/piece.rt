@@ -1,9 +1,9 @@
 //! What a group has of each part.
 ghost use Rattle.std.specs.Prelude.{◌≡◌, [], ℕ, ◌<◌, ◌^◌, length, IfOk, OnOk, All, Ok, replicate};
-ghost use Rattle.wild_plan.specs.declared.file.File.{File};
-ghost use Rattle.wild_plan.specs.Faults.{Answers};
-ghost use Rattle.wild_plan.specs.Lookups.{section_of};
-ghost use Rattle.wild_plan.specs.WellFormed.{first_clause};
+ghost use Rattle.wild_types.specs.declared.file.File.{File};
+ghost use Rattle.wild_types.specs.Faults.{Answers};
+ghost use Rattle.wild_types.specs.Lookups.{section_of};
+ghost use Rattle.wild_clauses.specs.WellFormed.{first_clause};
 ghost use Rattle.wild_layout.specs.Faults.{flat_map_from, part_errors, group_errors};
 ghost use Rattle.wild_layout.specs.SectionPlaces.{SectionLies};
 ghost use Rattle.wild_image.specs.Pieces.{group_parts, group_pairs};

@@ -2,7 +2,7 @@
 //! each symbol is seen once.
 ghost use Rattle.std.specs.Prelude.{◌≡◌, ℕ, ◌<◌, [], ◌∷◌, length, None, slice_index_or};
 ghost use Rattle.std.specs.Option.{option_or};
-ghost use Rattle.wild_plan.specs.Lookups.{files_of};
+ghost use Rattle.wild_types.specs.Lookups.{files_of};
 ghost use Rattle.wild_image.specs.Placed.{stands_in, found};
 
 use wild_plan::{File, Layout, Place, Symbol};
@@ -10,8 +10,8 @@ use wild_plan::{File, Layout, Place, Symbol};
 /// What a file tells of a symbol.
 pub(crate) trait Told: Copy {
     ghost use Rattle.std.specs.Prelude.{◌≡◌, ℕ};
-    ghost use Rattle.wild_plan.specs.declared.file.File.{File};
-    ghost use Rattle.wild_plan.specs.declared.layout.Layout.{Layout};
+    ghost use Rattle.wild_types.specs.declared.file.File.{File};
+    ghost use Rattle.wild_types.specs.declared.layout.Layout.{Layout};
 
     // What a file tells of the symbol of that number
     ghost told: { Layout → ℕ → File → Self };

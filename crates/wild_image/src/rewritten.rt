@@ -1,7 +1,7 @@
 //! What is decided of the relocations of a section: of one whose instruction is rewritten by the row that stands, of the call
 //! that a rewritten sequence takes along nothing, and of each other by itself.
 ghost use Rattle.std.specs.Prelude.{◌≡◌, ◌<◌, ◌+◌, ◌%◌, ◌^◌, length, Ok};
-ghost use Rattle.wild_plan.specs.Rows.{row_of};
+ghost use Rattle.wild_types.specs.Rows.{row_of};
 ghost use Rattle.wild_layout.specs.Decide.{field_at, value_to, term_to, rewritten_to, refused_with, decide};
 
 use crate::choice::{choice, is_partner};

@@ -3,8 +3,8 @@ ghost use Rattle.std.specs.Prelude.{◌≡◌, [], length, Ok, OnOk, IfOk, IfErr
 ghost use Rattle.std.specs.List.{flat_map, range_with_len};
 ghost use Rattle.wild_words.specs.Overlay.{overlay, AreApart};
 ghost use Rattle.wild_words.specs.Extents.{least_extent};
-ghost use Rattle.wild_plan.specs.Faults.{Answers, Refuses};
-ghost use Rattle.wild_plan.specs.Lookups.{is_read};
+ghost use Rattle.wild_types.specs.Faults.{Answers, Refuses};
+ghost use Rattle.wild_types.specs.Lookups.{is_read};
 ghost use Rattle.wild_layout.specs.Decide.{decide};
 ghost use Rattle.wild_layout.specs.Sites.{section_bytes};
 ghost use Rattle.wild_layout.specs.Image.{offset_in};

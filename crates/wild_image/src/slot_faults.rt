@@ -1,11 +1,11 @@
 //! Why the slots of a file's symbols are not written.
 ghost use Rattle.std.specs.Prelude.{◌≡◌, Some};
-ghost use Rattle.wild_plan.specs.Faults.{Answers};
-ghost use Rattle.wild_plan.specs.SlotShares.{slots_of};
+ghost use Rattle.wild_types.specs.Faults.{Answers};
+ghost use Rattle.wild_slot.specs.SymbolWords.{slots_of};
 ghost use Rattle.wild_layout.specs.Faults.{at_file, slot_fault, slot_refusal, symbol_errors, slot_errors};
 
 use crate::place::InputPlace;
-use wild_plan::{Error, Fault, File, Layout, Missing, Resolution, SlotFault, Symbol};
+use wild_plan::{Error, Fault, File, Layout, Missing, Resolution, SlotFault, Symbol, SymbolSlots};
 
 /// The fault of the slots of a symbol with that number.
 fn fault_of(index: usize, fault: SlotFault) -> Fault
@@ -27,7 +27,7 @@ fn fault_of(index: usize, fault: SlotFault) -> Fault
 }
 
 /// What keeps the slots of a symbol from being written; a symbol without a slot has none.
-#[tactic(auto, unfolding(wild_plan::specs::SlotShares::slots_of, wild_plan::specs::Slots::slot))]
+#[tactic(auto, unfolding(wild_slot::specs::SymbolWords::slots_of, wild_slot::specs::Slots::slot))]
 fn fault_in(layout: &Layout, symbol: &Symbol) -> Option<SlotFault>
     ensures { result ≡ (slots_of layout.now symbol.now).fault }
 {
@@ -37,7 +37,7 @@ fn fault_in(layout: &Layout, symbol: &Symbol) -> Option<SlotFault>
                 got_address: Some(_),
                 ..
             },
-        ) => layout.slots_of(symbol).fault(),
+        ) => SymbolSlots::of(layout, symbol).fault(),
         _ => None,
     }
 }

@@ -1,6 +1,6 @@
 //! Words of slots in the parts that they give something to.
 ghost use Rattle.std.specs.Prelude.{◌≡◌, ◌∷◌, [], ◌++◌, OnOk};
-ghost use Rattle.wild_plan.specs.SlotParts.{slot_words, slot_entries, flat_places};
+ghost use Rattle.wild_slot.specs.SlotParts.{slot_words, slot_entries, flat_places};
 ghost use Rattle.wild_relr.specs.Written.{word_bytes};
 ghost use Rattle.wild_tables.specs.Entries.{rela_bytes};
 

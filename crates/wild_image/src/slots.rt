@@ -1,7 +1,7 @@
 //! What the slots and stubs of a file's symbols give to the parts (x86-64 psABI, "Global Offset Table (GOT)", "Procedure
 //! Linkage Table").
 ghost use Rattle.std.specs.Prelude.{◌≡◌, ◌++◌, unwrap_or, OnOk};
-ghost use Rattle.wild_plan.specs.SymbolSlots.{plt_of};
+ghost use Rattle.wild_types.specs.SymbolSlots.{plt_of};
 ghost use Rattle.wild_relr.specs.Written.{word_bytes};
 ghost use Rattle.wild_tables.specs.Entries.{rela_bytes};
 ghost use Rattle.wild_layout.specs.SlotBytes.{stub_bytes, slot_words_of, slot_entries_of, stubs_of, flat_places_of, slot_bytes};
@@ -10,7 +10,9 @@ ghost use Rattle.wild_image.specs.Own.{symbol_word_bytes, symbol_entry_bytes, sy
 use crate::part_bytes::PartBytes;
 use crate::slot_words::{add_flat_places, add_slot_entries, add_slot_words};
 use std::alloc::AllocError;
-use wild_plan::{EntryPart, File, Layout, Role, STUB_SIZE, Symbol, WordPart, put_stub};
+use wild_plan::{
+    EntryPart, File, Layout, Role, STUB_SIZE, Symbol, SymbolSlots, WordPart, put_stub,
+};
 
 /// Adds the words of a symbol in a part.
 #[tactic(auto, unfolding(crate::specs::Own::symbol_word_bytes))]
@@ -22,7 +24,7 @@ fn add_words_of(
 ) -> Result<(), AllocError>
     ensures { OnOk result (bytes.new ≡ bytes.old ++ symbol_word_bytes part layout.now symbol.now) }
 {
-    let slots = layout.slots_of(symbol);
+    let slots = SymbolSlots::of(layout, symbol);
     let relr = layout.options.relr;
     add_slot_words(part, relr, symbol.slots_at(), slots.words(), bytes)
 }
@@ -53,7 +55,7 @@ fn add_entries_of(
 ) -> Result<(), AllocError>
     ensures { OnOk result (bytes.new ≡ bytes.old ++ symbol_entry_bytes part layout.now symbol.now) }
 {
-    let slots = layout.slots_of(symbol);
+    let slots = SymbolSlots::of(layout, symbol);
     let relr = layout.options.relr;
     let place = symbol.slots_at();
     add_slot_entries(part, layout.machine, relr, place, slots.words(), bytes)
@@ -89,7 +91,7 @@ fn stub_at(symbol: &Symbol) -> u64
 fn add_stub(layout: &Layout, symbol: &Symbol, bytes: &mut PartBytes) -> Result<(), AllocError>
     ensures { OnOk result (bytes.new ≡ bytes.old ++ stub_bytes layout.now symbol.now) }
 {
-    if layout.slots_of(symbol).has_stub() {
+    if SymbolSlots::of(layout, symbol).has_stub() {
         let mut stub = [0; STUB_SIZE];
         put_stub(&mut stub, symbol.slots_at(), stub_at(symbol));
         bytes.extend(&stub)?;
@@ -113,7 +115,7 @@ fn add_stubs(layout: &Layout, file: &File, bytes: &mut PartBytes) -> Result<(), 
 fn add_places_of(layout: &Layout, symbol: &Symbol, bytes: &mut PartBytes) -> Result<(), AllocError>
     ensures { OnOk result (bytes.new ≡ bytes.old ++ symbol_flat_bytes layout.now symbol.now) }
 {
-    let slots = layout.slots_of(symbol);
+    let slots = SymbolSlots::of(layout, symbol);
     let relr = layout.options.relr;
     add_flat_places(relr, symbol.slots_at(), slots.words(), bytes)
 }

@@ -3,9 +3,9 @@
 //! the string table, from where the group's strings begin.
 ghost use Rattle.std.specs.Prelude.{◌≡◌, ◌++◌, [], ◌∷◌, List, map, true, OnOk, IfOk};
 ghost use Rattle.std.specs.List.{filter};
-ghost use Rattle.wild_plan.specs.DynamicStrings.{behind_text, undefined_symbols};
-ghost use Rattle.wild_plan.specs.DynamicSymbols.{is_undefined_entry};
-ghost use Rattle.wild_plan.specs.Kinds.{needs_dynsym};
+ghost use Rattle.wild_needs.specs.DynamicStrings.{behind_text, undefined_symbols};
+ghost use Rattle.wild_needs.specs.DynamicSymbols.{is_undefined_entry};
+ghost use Rattle.wild_types.specs.Kinds.{needs_dynsym};
 ghost use Rattle.wild_symbols.specs.Symbols.{symbol_bytes};
 ghost use Rattle.wild_symbols.specs.DynamicEntries.{NamedFields, undefined, listed, file_symbols, entry_at, entries_at, null_entries, behind_lead, file_entries, group_symbols};
 

@@ -2,10 +2,11 @@
 //! and the names. One walk goes over the symbols of a file for each of them, and computes of a symbol what its part takes.
 ghost use Rattle.std.specs.Prelude.{◌≡◌, [], ◌++◌, map, if◌then◌else◌, OnOk, IfOk, ℕ};
 ghost use Rattle.wild_words.specs.Words.{word};
-ghost use Rattle.wild_plan.specs.declared.file.File.{File};
-ghost use Rattle.wild_plan.specs.declared.layout.Layout.{Layout};
-ghost use Rattle.wild_plan.specs.DynamicStrings.{behind_text};
-ghost use Rattle.wild_plan.specs.TableSymbols.{item, file_items, suffix, where_asked, slot_items, own_item, symbol_items, pass_items, passes, items_of, loaded_symbols, table_strings};
+ghost use Rattle.wild_types.specs.declared.file.File.{File};
+ghost use Rattle.wild_types.specs.declared.layout.Layout.{Layout};
+ghost use Rattle.wild_needs.specs.DynamicStrings.{behind_text};
+ghost use Rattle.wild_needs.specs.TableSymbols.{item, file_items, suffix, where_asked, slot_items, own_item, symbol_items, pass_items, passes, items_of, table_strings};
+ghost use Rattle.wild_types.specs.FileSymbols.{loaded_symbols};
 ghost use Rattle.wild_symbols.specs.Strings.{string, string_bytes};
 ghost use Rattle.wild_symbols.specs.Symbols.{symbol_bytes};
 ghost use Rattle.wild_symbols.specs.TableEntries.{named_entry, null_entry, null_entries, file_table, is_side, fields_of, table_entries};
@@ -333,7 +334,7 @@ impl<'r, 'l, 'f, A: Arch> Walk<'r, 'l, 'f, A> {
     }
 
     /// Adds what the part takes of all symbols of the file, where the output has such a table.
-    #[tactic(auto, using(crate::proofs::WalkLemmas::walks_none), unfolding(wild_plan::specs::TableSymbols::file_items))]
+    #[tactic(auto, using(crate::proofs::WalkLemmas::walks_none), unfolding(wild_needs::specs::TableSymbols::file_items))]
     fn add_items(&self, at: u64, bytes: &mut PartBytes) -> Result<u64, AllocError>
         ensures { IfOk result (λ next. Walks self.now.sink bytes.old at bytes.new next (map (named_entry self.now.resolved.now.layout.now self.now.file.now) (file_items self.now.resolved.now.layout.now self.now.file.now))) }
     {

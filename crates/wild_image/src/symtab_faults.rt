@@ -1,8 +1,9 @@
 //! What the symbols of `.symtab` lack of their entries (gABI, "Symbol Table").
 ghost use Rattle.std.specs.Prelude.{◌≡◌, [], if◌then◌else◌};
 ghost use Rattle.std.specs.List.{flat_map};
-ghost use Rattle.wild_plan.specs.Faults.{Answers};
-ghost use Rattle.wild_plan.specs.TableSymbols.{item, where_asked, slot_items, own_item, symbol_items, pass_items, passes, items_of, loaded_symbols, file_items};
+ghost use Rattle.wild_types.specs.Faults.{Answers};
+ghost use Rattle.wild_needs.specs.TableSymbols.{item, where_asked, slot_items, own_item, symbol_items, pass_items, passes, items_of, file_items};
+ghost use Rattle.wild_types.specs.FileSymbols.{loaded_symbols};
 ghost use Rattle.wild_layout.specs.Faults.{at_file, flat_map_from, table_error, table_errors};
 
 use crate::place::InputPlace;
@@ -110,7 +111,7 @@ impl<'r, 'l, 'f, A: Arch> Look<'r, 'l, 'f, A> {
     }
 
     /// All symbols of the file, where the output has such a table.
-    #[tactic(auto, unfolding(wild_layout::specs::Faults::table_errors, wild_plan::specs::TableSymbols::file_items))]
+    #[tactic(auto, unfolding(wild_layout::specs::Faults::table_errors, wild_needs::specs::TableSymbols::file_items))]
     fn check_file(&self) -> Result<(), Error>
         ensures { Answers result (table_errors self.now.resolved.now.layout.now self.now.place.group self.now.place.file self.now.file.now) }
     {

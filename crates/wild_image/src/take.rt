@@ -1,8 +1,8 @@
 //! The bytes of a group's input sections, those of each part one behind the other.
 ghost use Rattle.std.specs.Prelude.{◌≡◌, ◌++◌, [], ℕ, ◌<◌, true, false, length, IfOk, OnOk, All, replicate, slice_index_or};
-ghost use Rattle.wild_plan.specs.declared.file.File.{File};
-ghost use Rattle.wild_plan.specs.Faults.{Answers};
-ghost use Rattle.wild_plan.specs.Lookups.{is_filled, is_read};
+ghost use Rattle.wild_types.specs.declared.file.File.{File};
+ghost use Rattle.wild_types.specs.Faults.{Answers};
+ghost use Rattle.wild_types.specs.Lookups.{is_filled, is_read};
 ghost use Rattle.wild_layout.specs.Faults.{flat_map_from, section_errors, file_errors, group_errors};
 ghost use Rattle.wild_layout.specs.SectionPlaces.{SectionLies};
 ghost use Rattle.wild_image.specs.Pieces.{owned_in, file_owned, group_owned};

@@ -4,7 +4,7 @@ use Rattle.std.specs.Int.RustNames.{bit_and}
 use Rattle.std.proofs.lemmas.Bool.{eqb-true}
 use Rattle.std.proofs.lemmas.Nat.Bits.{and_pow}
 use Rattle.wild_records.specs.Abi.Section.{shf_alloc, shf_execinstr, shf_tls}
-use Rattle.wild_plan.specs.Lookups.{bit, allocated, executable, thread_local}
+use Rattle.wild_types.specs.Lookups.{bit, allocated, executable, thread_local}
 use Rattle.wild_meaning.specs.Section.{IsSet}
 
 pub bit_alloc : (f : ℕ) → allocated f ≡ true → IsSet f shf_alloc

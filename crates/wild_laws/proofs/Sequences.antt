@@ -5,7 +5,7 @@ use Rattle.std.specs.Prelude.{Option, Some, None, is_some, Contains, not, â—Œ&&â
 use Rattle.std.specs.List.{list_all, list_any}
 use Rattle.std.proofs.lemmas.Bool.{cases_Bool, and_parts, eqb-true, ltb-true, leb-true}
 use Rattle.std.proofs.lemmas.Option.{get_or_from_slice_get, slice_get_within}
-use Rattle.wild_plan.specs.declared.kind.Machine.TheVariants as machine
+use Rattle.wild_types.specs.declared.kind.Machine.TheVariants as machine
 use Rattle.wild_meaning.specs.Instruction.{Cell, Is, Deed, Number, Word, Call, Jump, stands}
 use Rattle.wild_meaning.specs.CodeX86_64.{branch}
 use Rattle.wild_meaning.specs.Sequence.{Instruction, Partner, Target, TargetInSlot, size_of, of_field, instructions_of}

@@ -9,13 +9,13 @@
 use Rattle.std.specs.Prelude.{◌≡◌, ◌≢◌, ℕ, ◌+◌, ◌%◌, ◌^◌, ◌<◌, ◌≤◌, ◌⊎◌, true, false, List, [], ◌∷◌, length, Some, All, Contains, slice_index, slice_get}
 use Rattle.std.specs.Int.{w64, cast_unsigned}
 use Rattle.wild_records.specs.Abi.Relocation.{r_x86_64_none, r_x86_64_64, r_x86_64_pc32, r_x86_64_plt32, r_x86_64_gotpcrel, r_x86_64_32, r_x86_64_32s, r_x86_64_16, r_x86_64_pc16, r_x86_64_8, r_x86_64_pc8, r_x86_64_tlsgd, r_x86_64_tlsld, r_x86_64_pc64, r_x86_64_pltoff64, r_x86_64_gotpcrelx, r_x86_64_rex_gotpcrelx}
-use Rattle.wild_plan.specs.declared.input.Slot.TheVariants as slot
-use Rattle.wild_plan.specs.declared.input.InputRelocation.{InputRelocation}
-use Rattle.wild_plan.specs.declared.input.InputSection.{InputSection}
-use Rattle.wild_plan.specs.declared.file.File.{File}
-use Rattle.wild_plan.specs.declared.file.Group.{Group}
-use Rattle.wild_plan.specs.declared.layout.Layout.{Layout}
-use Rattle.wild_plan.specs.Lookups.{allocated, executable}
+use Rattle.wild_types.specs.declared.input.Slot.TheVariants as slot
+use Rattle.wild_types.specs.declared.input.InputRelocation.{InputRelocation}
+use Rattle.wild_types.specs.declared.input.InputSection.{InputSection}
+use Rattle.wild_types.specs.declared.file.File.{File}
+use Rattle.wild_types.specs.declared.file.Group.{Group}
+use Rattle.wild_types.specs.declared.layout.Layout.{Layout}
+use Rattle.wild_types.specs.Lookups.{allocated, executable}
 use Rattle.wild_reloc.specs.Formula.{Formula}
 use Rattle.wild_reloc.specs.FormulaX86_64.{x86_64_formula}
 use Rattle.wild_loader.specs.declared.world.World.{World}

@@ -3,16 +3,16 @@ use Rattle.std.proofs.Common.{◌≡◌, ℕ, ◌+◌, List, [], ◌∷◌, ◌+
 use Rattle.std.specs.Prelude.{All}
 use Rattle.std.specs.List.{flat_map}
 use Rattle.std.proofs.lemmas.List.Elements.{All-nil, All-cons}
-use Rattle.wild_plan.specs.declared.fault.At.{At}
-use Rattle.wild_plan.specs.declared.fault.Clause.{Clause}
-use Rattle.wild_plan.specs.declared.fault.Fault.{Fault}
-use Rattle.wild_plan.specs.declared.slot.SlotFault.{SlotFault}
-use Rattle.wild_plan.specs.declared.symbol.Symbol.{Symbol}
-use Rattle.wild_plan.specs.declared.file.File.{File}
-use Rattle.wild_plan.specs.declared.file.Group.{Group}
-use Rattle.wild_plan.specs.declared.layout.Layout.{Layout}
-use Rattle.wild_plan.specs.Entries.{copies_of}
-use Rattle.wild_plan.specs.SlotShares.{own_symbols, slots_of}
+use Rattle.wild_types.specs.declared.fault.At.{At}
+use Rattle.wild_types.specs.declared.fault.Clause.{Clause}
+use Rattle.wild_types.specs.declared.fault.Fault.{Fault}
+use Rattle.wild_slot.specs.declared.slot.SlotFault.{SlotFault}
+use Rattle.wild_types.specs.declared.symbol.Symbol.{Symbol}
+use Rattle.wild_types.specs.declared.file.File.{File}
+use Rattle.wild_types.specs.declared.file.Group.{Group}
+use Rattle.wild_types.specs.declared.layout.Layout.{Layout}
+use Rattle.wild_types.specs.FileSymbols.{copies_of, own_symbols}
+use Rattle.wild_slot.specs.SymbolWords.{slots_of}
 use Rattle.wild_layout.specs.SymbolValues.{raw_address}
 use Rattle.wild_layout.specs.SlotValues.{index_of}
 use Rattle.wild_layout.specs.Faults.{flat_map_from, clause_errors, overlap_errors, section_errors, at_file, slot_refusal, symbol_errors, slot_errors, copy_fault, fault_errors, copy_errors, file_errors, listed_errors, table_errors, group_errors}

@@ -7,13 +7,13 @@ use Rattle.std.proofs.lemmas.List.{length-take-le, length-drop}
 use Rattle.std.proofs.lemmas.List.Elements.{Contains-append_left, Contains-append_right, All-nil}
 use Rattle.wild_words.specs.Overlay.{Piece, AreApart}
 use Rattle.wild_words.proofs.ListLemmas.{All-flat_map}
-use Rattle.wild_plan.specs.declared.fault.Fault.{Fault}
-use Rattle.wild_plan.specs.declared.kind.Machine.{Machine}
-use Rattle.wild_plan.specs.declared.kind.Machine.TheVariants as machine
-use Rattle.wild_plan.specs.Rows.{row_of}
-use Rattle.wild_plan.specs.declared.input.InputRelocation.{InputRelocation}
-use Rattle.wild_plan.specs.declared.input.InputSection.{InputSection}
-use Rattle.wild_plan.specs.declared.layout.Layout.{Layout}
+use Rattle.wild_types.specs.declared.fault.Fault.{Fault}
+use Rattle.wild_types.specs.declared.kind.Machine.{Machine}
+use Rattle.wild_types.specs.declared.kind.Machine.TheVariants as machine
+use Rattle.wild_types.specs.Rows.{row_of}
+use Rattle.wild_types.specs.declared.input.InputRelocation.{InputRelocation}
+use Rattle.wild_types.specs.declared.input.InputSection.{InputSection}
+use Rattle.wild_types.specs.declared.layout.Layout.{Layout}
 use Rattle.wild_reloc.specs.Field.{size_width}
 use Rattle.wild_reloc.specs.TableX86_64.{x86_64_row}
 use Rattle.wild_reloc.specs.declared.info.RelocationKindInfo.{RelocationKindInfo}

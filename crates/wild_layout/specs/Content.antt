@@ -5,18 +5,18 @@
 --                     prelude's; the input sections of a raw part stand by themselves
 use Rattle.std.specs.Prelude.{ℕ, ◌-◌, ◌*◌, Bool, true, false, ◌&&◌, List, [], ◌++◌, length, map, if◌then◌else◌, Option, Some, None, slice_get}
 use Rattle.std.specs.List.{flat_map, list_any}
-use Rattle.wild_plan.specs.declared.part.Role.{Role}
-use Rattle.wild_plan.specs.declared.part.Role.TheVariants as role
-use Rattle.wild_plan.specs.declared.file.File.{File}
-use Rattle.wild_plan.specs.declared.file.Group.{Group}
-use Rattle.wild_plan.specs.declared.layout.SysvHash.{SysvHash}
-use Rattle.wild_plan.specs.declared.layout.GnuHash.{GnuHash}
-use Rattle.wild_plan.specs.declared.layout.Layout.{Layout}
+use Rattle.wild_types.specs.declared.part.Role.{Role}
+use Rattle.wild_types.specs.declared.part.Role.TheVariants as role
+use Rattle.wild_types.specs.declared.file.File.{File}
+use Rattle.wild_types.specs.declared.file.Group.{Group}
+use Rattle.wild_types.specs.declared.layout.SysvHash.{SysvHash}
+use Rattle.wild_types.specs.declared.layout.GnuHash.{GnuHash}
+use Rattle.wild_types.specs.declared.layout.Layout.{Layout}
 use Rattle.wild_records.specs.Dynamic.{dynamic_entry_size}
-use Rattle.wild_plan.specs.DynamicStrings.{file_strings, needed_entries}
-use Rattle.wild_plan.specs.DynamicSymbols.{first_listed}
-use Rattle.wild_plan.specs.Kinds.{needs_dynsym}
-use Rattle.wild_plan.specs.TableSymbols.{has_long, table_strings}
+use Rattle.wild_needs.specs.DynamicStrings.{file_strings, needed_entries}
+use Rattle.wild_needs.specs.DynamicSymbols.{first_listed}
+use Rattle.wild_types.specs.Kinds.{needs_dynsym}
+use Rattle.wild_needs.specs.TableSymbols.{has_long, table_strings}
 use Rattle.wild_hashes.specs.Tables.{sysv_hash_of, gnu_hash_of, gnu_header, gnu_table, sysv_table}
 use Rattle.wild_versions.specs.Symbols.{version_bytes}
 use Rattle.wild_versions.specs.Names.{symbol_versions, file_definitions, group_needs}
@@ -24,8 +24,8 @@ use Rattle.wild_symbols.specs.Strings.{string_bytes}
 use Rattle.wild_symbols.specs.TableEntries.{file_table, table_entries, long_indexes, index_bytes}
 use Rattle.wild_symbols.specs.Symbols.{symbol_bytes}
 use Rattle.wild_symbols.specs.DynamicEntries.{group_symbols}
-use Rattle.wild_plan.specs.FileRoles.{is_prelude, is_epilogue}
-use Rattle.wild_plan.specs.Shares.{share_of}
+use Rattle.wild_types.specs.FileRoles.{is_prelude, is_epilogue}
+use Rattle.wild_types.specs.Shares.{share_of}
 use Rattle.wild_relr.specs.Written.{word_bytes}
 use Rattle.wild_tables.specs.Entries.{rela_bytes}
 use Rattle.wild_tables.specs.Dynamic.{entries_bytes, dynamic_bytes}

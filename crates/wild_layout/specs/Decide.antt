@@ -9,16 +9,16 @@
 --   decide l s i           what is decided of relocation i of section s
 use Rattle.std.specs.Prelude.{ℕ, ◌+◌, ◌-◌, ◌%◌, ◌^◌, ◌==◌, Bool, true, false, Option, Some, None, Result, Ok, Err, if◌then◌else◌, slice_get}
 use Rattle.std.specs.Int.{w64, cast_unsigned}
-use Rattle.wild_plan.specs.declared.fault.Fault.{Fault}
-use Rattle.wild_plan.specs.declared.fault.Fault.TheVariants as faults
-use Rattle.wild_plan.specs.declared.fault.Missing.TheVariants as missing
-use Rattle.wild_plan.specs.declared.input.InputRelocation.{InputRelocation}
-use Rattle.wild_plan.specs.declared.input.InputSection.{InputSection}
-use Rattle.wild_plan.specs.declared.layout.Layout.{Layout}
-use Rattle.wild_plan.specs.declared.treatment.Treatment.{Treatment}
-use Rattle.wild_plan.specs.declared.treatment.Treatment.TheVariants as treatments
-use Rattle.wild_plan.specs.Entries.{packs}
-use Rattle.wild_plan.specs.Treatment.{treatment}
+use Rattle.wild_types.specs.declared.fault.Fault.{Fault}
+use Rattle.wild_types.specs.declared.fault.Fault.TheVariants as faults
+use Rattle.wild_types.specs.declared.fault.Missing.TheVariants as missing
+use Rattle.wild_types.specs.declared.input.InputRelocation.{InputRelocation}
+use Rattle.wild_types.specs.declared.input.InputSection.{InputSection}
+use Rattle.wild_types.specs.declared.layout.Layout.{Layout}
+use Rattle.wild_slot.specs.declared.treatment.Treatment.{Treatment}
+use Rattle.wild_slot.specs.declared.treatment.Treatment.TheVariants as treatments
+use Rattle.wild_types.specs.Lookups.{packs}
+use Rattle.wild_slot.specs.Treatment.{treatment}
 use Rattle.wild_reloc.specs.Field.{allows}
 use Rattle.wild_reloc.specs.declared.info.RelocationKindInfo.{RelocationKindInfo}
 use Rattle.wild_layout.specs.declared.decision.Decision.{Decision}
@@ -27,8 +27,8 @@ use Rattle.wild_reloc.specs.declared.info.RelocationSize.{RelocationSize}
 use Rattle.wild_reloc.specs.declared.info.RelocationSize.TheVariants.{ByteSize}
 use Rattle.wild_reloc.specs.declared.info.Width.TheVariants.{Eight}
 use Rattle.wild_reloc.specs.declared.dynamic.DynamicRelocationKind.TheVariants.{Absolute, Irelative}
-use Rattle.wild_plan.specs.SlotParts.{type_of}
-use Rattle.wild_plan.specs.Rows.{row_of}
+use Rattle.wild_slot.specs.SlotParts.{type_of}
+use Rattle.wild_types.specs.Rows.{row_of}
 use Rattle.wild_reloc.specs.declared.info.RelocationKind.{RelocationKind}
 use Rattle.wild_reloc.specs.declared.info.RelocationKind.TheVariants as kinds
 use Rattle.wild_relax.specs.declared.reference.UnknownSequence.{UnknownSequence}

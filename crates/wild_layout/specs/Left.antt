@@ -9,15 +9,17 @@ use Rattle.std.specs.Int.{w64, cast_signed}
 use Rattle.std.specs.List.{flat_map}
 use Rattle.wild_records.specs.declared.relocations.Rela.{Rela}
 use Rattle.wild_reloc.specs.declared.dynamic.DynamicRelocationKind.TheVariants.{Absolute, Copy, Irelative}
-use Rattle.wild_plan.specs.declared.input.InputRelocation.{InputRelocation}
-use Rattle.wild_plan.specs.declared.input.InputSection.{InputSection}
-use Rattle.wild_plan.specs.declared.file.File.{File}
-use Rattle.wild_plan.specs.declared.layout.Layout.{Layout}
-use Rattle.wild_plan.specs.declared.treatment.Treatment.{Treatment}
-use Rattle.wild_plan.specs.declared.treatment.Treatment.TheVariants.{Symbolic, Indirect, Extent}
-use Rattle.wild_plan.specs.Entries.{place_of, left_relocations, copies_of}
-use Rattle.wild_plan.specs.SlotParts.{type_of}
-use Rattle.wild_plan.specs.Treatment.{treatment}
+use Rattle.wild_types.specs.declared.input.InputRelocation.{InputRelocation}
+use Rattle.wild_types.specs.declared.input.InputSection.{InputSection}
+use Rattle.wild_types.specs.declared.file.File.{File}
+use Rattle.wild_types.specs.declared.layout.Layout.{Layout}
+use Rattle.wild_slot.specs.declared.treatment.Treatment.{Treatment}
+use Rattle.wild_slot.specs.declared.treatment.Treatment.TheVariants.{Symbolic, Indirect, Extent}
+use Rattle.wild_types.specs.Lookups.{place_of}
+use Rattle.wild_needs.specs.Entries.{left_relocations}
+use Rattle.wild_types.specs.FileSymbols.{copies_of}
+use Rattle.wild_slot.specs.SlotParts.{type_of}
+use Rattle.wild_slot.specs.Treatment.{treatment}
 use Rattle.wild_layout.specs.Decide.{added}
 use Rattle.wild_layout.specs.Moved.{or_zero}
 use Rattle.wild_layout.specs.SymbolValues.{raw_address}

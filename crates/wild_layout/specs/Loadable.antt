@@ -9,19 +9,17 @@
 use Rattle.std.specs.Prelude.{◌≡◌, ℕ, ◌+◌, ◌-◌, ◌^◌, ◌<◌, ◌≤◌, ◌==◌, true, find, All, AllPairs, Contains, slice_get, List, false, Option, Some, None}
 use Rattle.wild_records.specs.Abi.Section.{sht_rela}
 use Rattle.wild_records.specs.Abi.Segment.{pt_load, pt_dynamic}
-use Rattle.wild_plan.specs.declared.part.Part.{Part}
-use Rattle.wild_plan.specs.declared.part.Role.{Role}
-use Rattle.wild_plan.specs.declared.part.Role.TheVariants as role
-use Rattle.wild_plan.specs.declared.section.Section.{Section}
-use Rattle.wild_plan.specs.declared.section.Segment.{Segment}
-use Rattle.wild_plan.specs.declared.input.InputSection.{InputSection}
-use Rattle.wild_plan.specs.declared.layout.Layout.{Layout}
-use Rattle.wild_plan.specs.Kinds.{is_partial_link, needs_dynamic}
-use Rattle.wild_plan.specs.Lookups.{allocated, image_size, is_filled, is_read}
-use Rattle.wild_plan.specs.Lists.{total}
-use Rattle.wild_plan.specs.Places.{is_fixed_static, is_loaded_role}
-use Rattle.wild_plan.specs.Segments.{part_with}
-use Rattle.wild_plan.specs.LoadedTables.{is_table_role, is_look_up_role, has_hashes, is_entry_role, entry_parts, bytes_in}
+use Rattle.wild_types.specs.declared.part.Part.{Part}
+use Rattle.wild_types.specs.declared.part.Role.{Role}
+use Rattle.wild_types.specs.declared.part.Role.TheVariants as role
+use Rattle.wild_types.specs.declared.section.Section.{Section}
+use Rattle.wild_types.specs.declared.section.Segment.{Segment}
+use Rattle.wild_types.specs.declared.input.InputSection.{InputSection}
+use Rattle.wild_types.specs.declared.layout.Layout.{Layout}
+use Rattle.wild_types.specs.Kinds.{is_partial_link, needs_dynamic, is_fixed_static}
+use Rattle.wild_types.specs.Lookups.{allocated, image_size, is_filled, is_read}
+use Rattle.wild_types.specs.Lists.{total}
+use Rattle.wild_types.specs.Parts.{is_loaded_role, part_with, is_table_role, is_look_up_role, has_hashes, is_entry_role, entry_parts, bytes_in}
 use Rattle.wild_layout.specs.Image.{offset_in}
 
 -- the segment carries byte k of the section to its address

@@ -2,17 +2,18 @@
 --   SectionLies l s  an input section's bytes and fields lie in its part, and that in the image
 --   PartLies l i p   the groups' shares are the part's size; one that is not raw lies in the image
 use Rattle.std.specs.Prelude.{◌≡◌, ℕ, ◌+◌, ◌^◌, ◌<◌, ◌≤◌, true, ◌⊎◌, length, All, slice_get, false, Some}
-use Rattle.wild_plan.specs.declared.kind.Machine.{Machine}
-use Rattle.wild_plan.specs.declared.part.Part.{Part}
-use Rattle.wild_plan.specs.declared.part.Role.TheVariants as role
-use Rattle.wild_plan.specs.declared.input.InputRelocation.{InputRelocation}
-use Rattle.wild_plan.specs.declared.input.InputSection.{InputSection}
-use Rattle.wild_plan.specs.declared.file.Group.{Group}
-use Rattle.wild_plan.specs.declared.layout.Layout.{Layout}
-use Rattle.wild_plan.specs.Lookups.{image_size, is_filled, is_read, takes_file_bytes}
-use Rattle.wild_plan.specs.Contents.{field_bytes, given}
-use Rattle.wild_plan.specs.Lists.{total}
-use Rattle.wild_plan.specs.Places.{has_role}
+use Rattle.wild_types.specs.declared.kind.Machine.{Machine}
+use Rattle.wild_types.specs.declared.part.Part.{Part}
+use Rattle.wild_types.specs.declared.part.Role.TheVariants as role
+use Rattle.wild_types.specs.declared.input.InputRelocation.{InputRelocation}
+use Rattle.wild_types.specs.declared.input.InputSection.{InputSection}
+use Rattle.wild_types.specs.declared.file.Group.{Group}
+use Rattle.wild_types.specs.declared.layout.Layout.{Layout}
+use Rattle.wild_types.specs.Lookups.{image_size, is_filled, is_read, takes_file_bytes}
+use Rattle.wild_types.specs.Rows.{field_bytes}
+use Rattle.wild_types.specs.FilePlaces.{given}
+use Rattle.wild_types.specs.Lists.{total}
+use Rattle.wild_types.specs.Parts.{has_role}
 use Rattle.wild_layout.specs.Content.{content}
 use Rattle.wild_layout.specs.Image.{offset_in, bytes}
 

@@ -10,20 +10,22 @@
 use Rattle.std.specs.Prelude.{ℕ, if◌then◌else◌, List, [], unwrap_or}
 use Rattle.std.specs.List.{flat_map}
 use Rattle.wild_records.specs.declared.relocations.Rela.{Rela}
-use Rattle.wild_plan.specs.declared.part.Role.{Role}
-use Rattle.wild_plan.specs.declared.part.Role.TheVariants as role
-use Rattle.wild_plan.specs.declared.file.File.{File}
-use Rattle.wild_plan.specs.declared.file.Group.{Group}
-use Rattle.wild_plan.specs.declared.symbol.Symbol.{Symbol}
-use Rattle.wild_plan.specs.declared.layout.Layout.{Layout}
-use Rattle.wild_plan.specs.declared.slot_parts.WordPart.{WordPart}
-use Rattle.wild_plan.specs.declared.slot_parts.WordPart.TheVariants as words
-use Rattle.wild_plan.specs.declared.slot_parts.EntryPart.{EntryPart}
-use Rattle.wild_plan.specs.declared.slot_parts.EntryPart.TheVariants as entries
-use Rattle.wild_plan.specs.SymbolSlots.{plt_of}
-use Rattle.wild_plan.specs.SlotParts.{slot_entries, flat_places}
-use Rattle.wild_plan.specs.SlotShares.{own_symbols, slots_of, slots_at, words_in, storage_words, header_words, block_words}
-use Rattle.wild_plan.specs.Stub.{stub_x86_64}
+use Rattle.wild_types.specs.declared.part.Role.{Role}
+use Rattle.wild_types.specs.declared.part.Role.TheVariants as role
+use Rattle.wild_types.specs.declared.file.File.{File}
+use Rattle.wild_types.specs.declared.file.Group.{Group}
+use Rattle.wild_types.specs.declared.symbol.Symbol.{Symbol}
+use Rattle.wild_types.specs.declared.layout.Layout.{Layout}
+use Rattle.wild_slot.specs.declared.slot_parts.WordPart.{WordPart}
+use Rattle.wild_slot.specs.declared.slot_parts.WordPart.TheVariants as words
+use Rattle.wild_slot.specs.declared.slot_parts.EntryPart.{EntryPart}
+use Rattle.wild_slot.specs.declared.slot_parts.EntryPart.TheVariants as entries
+use Rattle.wild_types.specs.SymbolSlots.{plt_of, slots_at}
+use Rattle.wild_slot.specs.SlotParts.{slot_entries, flat_places}
+use Rattle.wild_types.specs.FileSymbols.{own_symbols}
+use Rattle.wild_slot.specs.SymbolWords.{slots_of}
+use Rattle.wild_needs.specs.SlotShares.{words_in, storage_words, header_words, block_words}
+use Rattle.wild_slot.specs.Stub.{stub_x86_64}
 use Rattle.wild_relr.specs.Written.{word_bytes}
 use Rattle.wild_tables.specs.Entries.{rela_bytes}
 

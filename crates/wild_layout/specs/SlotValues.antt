@@ -4,16 +4,16 @@
 --   stub_of l i           L: the address of the symbol's stub
 --   slot_of l kind i      G: where the slot stands that the kind names
 use Rattle.std.specs.Prelude.{ℕ, ◌+◌, ◌%◌, ◌^◌, ◌||◌, Bool, if◌then◌else◌, Option, Some, None, Result, Ok, option_and_then, option_map}
-use Rattle.wild_plan.specs.declared.fault.Fault.{Fault}
-use Rattle.wild_plan.specs.declared.fault.Missing.TheVariants as missing
-use Rattle.wild_plan.specs.declared.symbol.Symbol.{Symbol}
-use Rattle.wild_plan.specs.declared.symbol.Resolution.{Resolution}
-use Rattle.wild_plan.specs.declared.symbol.ValueFlags.{ValueFlags}
-use Rattle.wild_plan.specs.declared.layout.Layout.{Layout}
-use Rattle.wild_plan.specs.Addresses.{raw_value}
-use Rattle.wild_plan.specs.Flags.{has_flag, ifunc, got_tls_offset, got_tls_module, got_tls_descriptor, ifunc_got_for_address, canonical_plt_got_for_address}
-use Rattle.wild_plan.specs.SymbolSlots.{has_thread_slot}
-use Rattle.wild_plan.specs.Treatment.{flags_at}
+use Rattle.wild_types.specs.declared.fault.Fault.{Fault}
+use Rattle.wild_types.specs.declared.fault.Missing.TheVariants as missing
+use Rattle.wild_types.specs.declared.symbol.Symbol.{Symbol}
+use Rattle.wild_types.specs.declared.symbol.Resolution.{Resolution}
+use Rattle.wild_types.specs.declared.symbol.ValueFlags.{ValueFlags}
+use Rattle.wild_types.specs.declared.layout.Layout.{Layout}
+use Rattle.wild_types.specs.Addresses.{raw_value}
+use Rattle.wild_types.specs.Flags.{has_flag, ifunc, got_tls_offset, got_tls_module, got_tls_descriptor, ifunc_got_for_address, canonical_plt_got_for_address}
+use Rattle.wild_types.specs.SymbolSlots.{has_thread_slot}
+use Rattle.wild_slot.specs.Treatment.{flags_at}
 use Rattle.wild_reloc.specs.declared.info.RelocationKind.{RelocationKind}
 use Rattle.wild_reloc.specs.declared.info.RelocationKind.TheVariants as kinds
 use Rattle.wild_layout.specs.SymbolValues.{definition_of, address_or, raw_address}

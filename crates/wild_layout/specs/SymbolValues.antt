@@ -5,24 +5,24 @@
 --   thread_pointer m t    where the thread pointer stands beside the thread-local data
 use Rattle.std.specs.Prelude.{ℕ, ℤ, ◌+◌, ◌-◌, ◌%◌, ◌^◌, ◌&&◌, Bool, true, false, if◌then◌else◌, Option, Some, None, Result, Ok, Err, option_map, unwrap_or, slice_get}
 use Rattle.std.specs.Int.{w64, cast_unsigned}
-use Rattle.wild_plan.specs.declared.kind.Machine.{Machine}
-use Rattle.wild_plan.specs.declared.kind.Machine.TheVariants as machine
-use Rattle.wild_plan.specs.declared.fault.Fault.{Fault}
-use Rattle.wild_plan.specs.declared.fault.Fault.TheVariants as faults
-use Rattle.wild_plan.specs.declared.fault.Missing.TheVariants as missing
-use Rattle.wild_plan.specs.declared.symbol.Place.{Place}
-use Rattle.wild_plan.specs.declared.symbol.Place.TheVariants as at
-use Rattle.wild_plan.specs.declared.symbol.Symbol.{Symbol}
-use Rattle.wild_plan.specs.declared.input.InputRelocation.{InputRelocation}
-use Rattle.wild_plan.specs.declared.input.InputSection.{InputSection}
-use Rattle.wild_plan.specs.declared.layout.Layout.{Layout}
-use Rattle.wild_plan.specs.declared.layout.Tls.{Tls}
-use Rattle.wild_plan.specs.declared.fault.Missing.{Missing}
-use Rattle.wild_plan.specs.Addresses.{raw_value}
-use Rattle.wild_plan.specs.Kinds.{is_executable}
-use Rattle.wild_plan.specs.Storage as storage
-use Rattle.wild_plan.specs.Entries as entries
-use Rattle.wild_plan.specs.Lookups.{canonical}
+use Rattle.wild_types.specs.declared.kind.Machine.{Machine}
+use Rattle.wild_types.specs.declared.kind.Machine.TheVariants as machine
+use Rattle.wild_types.specs.declared.fault.Fault.{Fault}
+use Rattle.wild_types.specs.declared.fault.Fault.TheVariants as faults
+use Rattle.wild_types.specs.declared.fault.Missing.TheVariants as missing
+use Rattle.wild_types.specs.declared.symbol.Place.{Place}
+use Rattle.wild_types.specs.declared.symbol.Place.TheVariants as at
+use Rattle.wild_types.specs.declared.symbol.Symbol.{Symbol}
+use Rattle.wild_types.specs.declared.input.InputRelocation.{InputRelocation}
+use Rattle.wild_types.specs.declared.input.InputSection.{InputSection}
+use Rattle.wild_types.specs.declared.layout.Layout.{Layout}
+use Rattle.wild_types.specs.declared.layout.Tls.{Tls}
+use Rattle.wild_types.specs.declared.fault.Missing.{Missing}
+use Rattle.wild_types.specs.Addresses.{raw_value}
+use Rattle.wild_types.specs.Kinds.{is_executable}
+use Rattle.wild_slot.specs.Storage as storage
+use Rattle.wild_types.specs.Lookups as lookups
+use Rattle.wild_types.specs.Lookups.{canonical}
 
 -- S + A, modulo 2^64
 abbrev pub sum : ℕ → ℤ → ℕ
@@ -34,7 +34,7 @@ displacement s a p = (sum s a + (2 ^ 64 - p)) % 2 ^ 64
 
 -- the address of the place
 abbrev pub place_of : InputSection → InputRelocation → ℕ
-place_of s r = entries.place_of s r
+place_of s r = lookups.place_of s r
 
 -- a - b, modulo 2^64
 abbrev pub less : ℕ → ℕ → ℕ

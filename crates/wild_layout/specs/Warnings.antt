@@ -1,8 +1,8 @@
 -- What is said beside the image of a layout.
 use Rattle.std.specs.Prelude.{List, option_to_list}
-use Rattle.wild_plan.specs.declared.layout.Layout.{Layout}
-use Rattle.wild_plan.specs.declared.warning.EntryWarning.{EntryWarning}
-use Rattle.wild_plan.specs.EntryPoint.{entry_point}
+use Rattle.wild_types.specs.declared.layout.Layout.{Layout}
+use Rattle.wild_types.specs.declared.warning.EntryWarning.{EntryWarning}
+use Rattle.wild_needs.specs.EntryPoint.{entry_point}
 
 -- where the program begins at an address that the layout does not say (gABI, "ELF Header", e_entry)
 abbrev pub warnings : Layout → List EntryWarning

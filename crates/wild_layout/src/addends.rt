@@ -1,10 +1,10 @@
 //! The addends of a layout's relocations have their type's range.
 ghost use Rattle.std.specs.Prelude.{All};
-ghost use Rattle.wild_plan.specs.declared.file.File.{File};
-ghost use Rattle.wild_plan.specs.declared.input.InputSection.{InputSection};
+ghost use Rattle.wild_types.specs.declared.file.File.{File};
+ghost use Rattle.wild_types.specs.declared.input.InputSection.{InputSection};
 ghost use Rattle.wild_layout.specs.Numbers.{AddendFits, AddendsFit};
 
-use wild_plan::{File, Group, InputRelocation, InputSection};
+use wild_types::{File, Group, InputRelocation, InputSection};
 
 fn addend_fits(relocation: &InputRelocation)
     ensures { AddendFits relocation.now }

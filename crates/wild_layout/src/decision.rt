@@ -3,7 +3,7 @@ use wild_relax::Row;
 use wild_reloc::RelocationSize;
 
 /// What a relocation writes into the bytes of its section, and what it leaves to a loader.
-#[derive(Clone, Copy, Debug, PartialEq, Eq)]
+#[derive(Clone, Copy)]
 pub enum Decision {
     /// Nothing.
     Nothing,

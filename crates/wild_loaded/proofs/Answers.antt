@@ -1,22 +1,20 @@
 -- What a legal world answers: dynamic symbols by their index, thread-local modules, and resolvers.
-use Rattle.std.proofs.Common.{◌≡◌, ℕ, zero, suc, ◌+◌, ◌^◌, ◌<◌, ◌≤◌, ◌⊎◌, inl, inr, true, false, List, [], ◌∷◌, length, refl, sym, ap, arith, subst}
-use Rattle.std.specs.Prelude.{Option, Some, None, Ok, ◌==◌, slice_get}
+use Rattle.std.proofs.Common.{◌≡◌, ℕ, zero, suc, ◌^◌, ◌<◌, ◌⊎◌, inl, inr, false, List, [], ◌∷◌, length, refl, sym, ap, arith, subst}
+use Rattle.std.specs.Prelude.{Some, Ok, ◌==◌, slice_get}
 use Rattle.std.specs.List.{filter}
 use Rattle.std.specs.Int.{w64, cast_unsigned}
 use Rattle.std.proofs.lemmas.Bool.{cases_Bool, eqb-true}
 use Rattle.std.proofs.lemmas.List.Elements.{All-contains}
 use Rattle.std.proofs.lemmas.Option.{slice_get_within}
-use Rattle.wild_plan.specs.declared.symbol.Resolution.{Resolution}
-use Rattle.wild_plan.specs.declared.symbol.Symbol.{Symbol}
-use Rattle.wild_plan.specs.declared.layout.Layout.{Layout}
-use Rattle.wild_plan.specs.DynamicSymbols.{dynamic_symbols, is_named, has_position, dynsym_of, position_fits, misplaced, misfit, first_listed}
-use Rattle.wild_plan.specs.ClauseTests.{fails, check_dynsyms}
+use Rattle.wild_types.specs.declared.symbol.Resolution.{Resolution}
+use Rattle.wild_types.specs.declared.symbol.Symbol.{Symbol}
+use Rattle.wild_types.specs.declared.layout.Layout.{Layout}
+use Rattle.wild_needs.specs.DynamicSymbols.{dynamic_symbols}
 use Rattle.wild_layout.specs.Geometry.{IsLaidOut}
 use Rattle.wild_loader.specs.declared.world.Answer.{Answer}
 use Rattle.wild_loader.specs.declared.world.World.{World}
 use Rattle.wild_loader.specs.Changes.{first_value, answer_at, module_and_offset, distance_of}
 use Rattle.wild_meaning.specs.World.{IsLegal, IsAnsweredOnce, IsKnownModule, IsAnswer, IsAnswered}
-use Rattle.wild_slots.proofs.CheckLemmas.{both, none}
 use Rattle.wild_loaded.proofs.SlotsHeld.{listed_at}
 
 -- ---- pairs by their keys
@@ -64,41 +62,14 @@ symbol_answer l w i index s r legal there is told = given_answer l w index legal
 
 -- ---- indexes
 
-position_first : (table : List ℕ) (j k : ℕ) (x s : Symbol) (xs : List Symbol) → slice_get (x ∷ xs) k ≡ Some s → position_fits table j (dynsym_of x) ≡ true → ((i : ℕ) → slice_get xs i ≡ Some s → position_fits table (j + 1 + i) (dynsym_of s) ≡ true) → position_fits table (j + k) (dynsym_of s) ≡ true
-position_first table j zero x s xs e t rest =
-    let same : x ≡ s = cc in
-    let z : j + 0 ≡ j = omega arith in
-    subst (λ (y : Symbol). position_fits table (j + 0) (dynsym_of y) ≡ true) same (subst (λ (k : ℕ). position_fits table k (dynsym_of x) ≡ true) (sym z) t)
-position_first table j (suc k) x s xs e t rest =
-    let z : j + 1 + k ≡ j + suc k = omega arith in
-    subst (λ (m : ℕ). position_fits table m (dynsym_of s) ≡ true) z (rest k e)
-
-position_at : (table : List ℕ) (i j : ℕ) (ss : List Symbol) (s : Symbol) → misplaced table j ss ≡ None → slice_get ss i ≡ Some s → position_fits table (j + i) (dynsym_of s) ≡ true
-position_at table i j [] s h there = cc
-position_at table i j (x ∷ xs) s h there =
-    elim (cases_Bool (position_fits table j (dynsym_of x))) [
-      | inr f ↦ cc (rw f at h)
-      | inl t ↦ (let rest : misplaced table (j + 1) xs ≡ None = rw t at h in position_first table j i x s xs there t (λ k e. position_at table k (j + 1) xs s rest e))
-    ]
-
-within_table : (table : List ℕ) (i p : ℕ) → has_position table i p ≡ true → p ≤ length table
-within_table table i zero h = cc
-within_table table i (suc k) h = by_entry (slice_get table k) refl h
-  where
-    by_entry : (o : Option ℕ) → slice_get table k ≡ o → is_named i o ≡ true → suc k ≤ length table
-    by_entry None e h = cc
-    by_entry (Some j) e h = slice_get_within table k j e
-
 -- the index of a symbol has 32 bits
 pub index_small : (l : Layout) (i index : ℕ) (s : Symbol) (r : Resolution) → IsLaidOut l → slice_get l.symbols i ≡ Some s → s.resolution ≡ Some r → r.dynamic_symbol_index ≡ Some index → index < 2 ^ 32
-unfolding check_dynsyms
 index_small l i index s r laid there is told =
-    let checks = both (fails 13 (misplaced (dynamic_symbols l) 0 l.symbols)) (fails 13 (misfit l (first_listed l) 0 l.dynsyms)) laid.dynsyms in
-    let placed = position_at (dynamic_symbols l) i 0 l.symbols s (none 13 (misplaced (dynamic_symbols l) 0 l.symbols) checks.first) there in
-    let carried : dynsym_of s ≡ Some index = rw (is, told) refl in
-    let low = within_table (dynamic_symbols l) (0 + i) index (subst (λ (o : Option ℕ). position_fits (dynamic_symbols l) (0 + i) o ≡ true) carried placed) in
+    let e = laid.dynsyms.indexed i index s r there is told in
+    let low = slice_get_within (dynamic_symbols l) e.0 i e.2 in
     let few = laid.indexes in
-    omega (arith, low, few)
+    let at = e.1 in
+    omega (arith, low, few, at)
 
 -- ---- modules
 

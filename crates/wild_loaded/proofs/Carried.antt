@@ -7,13 +7,13 @@ use Rattle.wild_records.specs.Abi.Segment.{pt_load}
 use Rattle.wild_words.specs.Words.{Stands}
 use Rattle.wild_words.specs.Overlay.{Piece, overlay, AreApart}
 use Rattle.wild_words.proofs.OverlayLemmas.{length-overlay}
-use Rattle.wild_plan.specs.declared.section.Segment.{Segment}
-use Rattle.wild_plan.specs.declared.input.Slot.{Slot}
-use Rattle.wild_plan.specs.declared.input.InputSection.{InputSection}
-use Rattle.wild_plan.specs.declared.file.File.{File}
-use Rattle.wild_plan.specs.declared.file.Group.{Group}
-use Rattle.wild_plan.specs.declared.layout.Layout.{Layout}
-use Rattle.wild_plan.specs.Lookups.{image_size, is_filled, is_loaded, is_read}
+use Rattle.wild_types.specs.declared.section.Segment.{Segment}
+use Rattle.wild_types.specs.declared.input.Slot.{Slot}
+use Rattle.wild_types.specs.declared.input.InputSection.{InputSection}
+use Rattle.wild_types.specs.declared.file.File.{File}
+use Rattle.wild_types.specs.declared.file.Group.{Group}
+use Rattle.wild_types.specs.declared.layout.Layout.{Layout}
+use Rattle.wild_types.specs.Lookups.{image_size, is_filled, is_loaded, is_read}
 use Rattle.wild_layout.specs.Sites.{sites, section_bytes}
 use Rattle.wild_layout.specs.Image.{bytes, pieces, section_piece, file_pieces, table_pieces, owned_pieces, group_pieces, offset_in}
 use Rattle.wild_layout.specs.SectionPlaces.{SectionLies}

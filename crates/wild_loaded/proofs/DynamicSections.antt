@@ -11,15 +11,15 @@ use Rattle.wild_records.specs.Abi.Segment.{pt_dynamic}
 use Rattle.wild_records.specs.Dynamic.{dynamic_entry_size, DynamicEntryFits}
 use Rattle.wild_records.specs.declared.dynamic.DynamicEntry.{DynamicEntry}
 use Rattle.wild_records.specs.declared.program_header.ProgramHeader.{ProgramHeader}
-use Rattle.wild_plan.specs.declared.part.Part.{Part}
-use Rattle.wild_plan.specs.declared.part.Role.TheVariants as role
-use Rattle.wild_plan.specs.declared.section.Segment.{Segment}
-use Rattle.wild_plan.specs.declared.layout.Layout.{Layout}
-use Rattle.wild_plan.specs.declared.dynamic.DynamicTag.TheVariants as tags
-use Rattle.wild_plan.specs.Dynamic.{dynamic_number, dynamic_entry, dynamic_flags, dynamic_entries, dynamic_count}
-use Rattle.wild_plan.specs.Segments.{part_with}
-use Rattle.wild_plan.specs.Kinds.{needs_dynamic}
-use Rattle.wild_plan.specs.Lookups.{image_size}
+use Rattle.wild_types.specs.declared.part.Part.{Part}
+use Rattle.wild_types.specs.declared.part.Role.TheVariants as role
+use Rattle.wild_types.specs.declared.section.Segment.{Segment}
+use Rattle.wild_types.specs.declared.layout.Layout.{Layout}
+use Rattle.wild_needs.specs.declared.dynamic.DynamicTag.TheVariants as tags
+use Rattle.wild_needs.specs.Dynamic.{dynamic_number, dynamic_entry, dynamic_flags, dynamic_entries, dynamic_count}
+use Rattle.wild_types.specs.Parts.{part_with}
+use Rattle.wild_types.specs.Kinds.{needs_dynamic}
+use Rattle.wild_types.specs.Lookups.{image_size}
 use Rattle.wild_headers.specs.Headers.{program_header}
 use Rattle.wild_layout.specs.Image.{bytes}
 use Rattle.wild_layout.specs.Numbers.{NumbersFit}

@@ -1,20 +1,20 @@
 -- What the file header tells.
 use Rattle.std.proofs.Common.{◌≡◌, ℕ, inl, inr, Bool, false, refl, sym, ap, ◌∙◌}
 use Rattle.std.specs.Prelude.{Option, Some, None, unwrap_or, option_map, slice_get, if◌then◌else◌}
-use Rattle.wild_plan.specs.declared.kind.OutputKind.{OutputKind}
-use Rattle.wild_plan.specs.declared.kind.OutputKind.TheVariants as output
-use Rattle.wild_plan.specs.declared.symbol.Resolution.{Resolution}
-use Rattle.wild_plan.specs.declared.symbol.Symbol.{Symbol}
-use Rattle.wild_plan.specs.declared.symbol.ValueFlags.{ValueFlags}
-use Rattle.wild_plan.specs.declared.layout.Entry.{Entry}
-use Rattle.wild_plan.specs.declared.layout.Entry.TheVariants as entry
-use Rattle.wild_plan.specs.declared.layout.Layout.{Layout}
-use Rattle.wild_plan.specs.Addresses.{raw_value}
-use Rattle.wild_plan.specs.EntryPoint.{entry_point, told, entry_by, entry_value}
-use Rattle.wild_plan.specs.Flags.{has_flag, ifunc}
-use Rattle.wild_plan.specs.Kinds.{is_partial_link}
-use Rattle.wild_plan.specs.Lookups.{canonical}
-use Rattle.wild_plan.specs.Treatment.{flags_at}
+use Rattle.wild_types.specs.declared.kind.OutputKind.{OutputKind}
+use Rattle.wild_types.specs.declared.kind.OutputKind.TheVariants as output
+use Rattle.wild_types.specs.declared.symbol.Resolution.{Resolution}
+use Rattle.wild_types.specs.declared.symbol.Symbol.{Symbol}
+use Rattle.wild_types.specs.declared.symbol.ValueFlags.{ValueFlags}
+use Rattle.wild_types.specs.declared.layout.Entry.{Entry}
+use Rattle.wild_types.specs.declared.layout.Entry.TheVariants as entry
+use Rattle.wild_types.specs.declared.layout.Layout.{Layout}
+use Rattle.wild_types.specs.Addresses.{raw_value}
+use Rattle.wild_needs.specs.EntryPoint.{entry_point, told, entry_by, entry_value}
+use Rattle.wild_types.specs.Flags.{has_flag, ifunc}
+use Rattle.wild_types.specs.Kinds.{is_partial_link}
+use Rattle.wild_types.specs.Lookups.{canonical}
+use Rattle.wild_slot.specs.Treatment.{flags_at}
 use Rattle.wild_headers.specs.Headers.{entry_address, file_type, file_header}
 use Rattle.wild_meaning.specs.Linked.{IsDecidedPlace}
 use Rattle.wild_meaning.specs.World.{IsLoadable}

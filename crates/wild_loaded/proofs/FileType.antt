@@ -1,11 +1,10 @@
 -- The file types of outputs that are loaded.
 use Rattle.std.proofs.Common.{◌≡◌, ◌^◌, ◌<◌, ◌⊎◌, inl, inr, true, false, refl, arith}
 use Rattle.wild_records.specs.Abi.Header.{et_exec, et_dyn}
-use Rattle.wild_plan.specs.declared.kind.RelocationModel.TheVariants as model
-use Rattle.wild_plan.specs.declared.kind.OutputKind.{OutputKind}
-use Rattle.wild_plan.specs.declared.kind.OutputKind.TheVariants as output
-use Rattle.wild_plan.specs.Kinds.{is_position_independent, needs_dynamic}
-use Rattle.wild_plan.specs.Places.{is_fixed_static}
+use Rattle.wild_types.specs.declared.kind.RelocationModel.TheVariants as model
+use Rattle.wild_types.specs.declared.kind.OutputKind.{OutputKind}
+use Rattle.wild_types.specs.declared.kind.OutputKind.TheVariants as output
+use Rattle.wild_types.specs.Kinds.{is_position_independent, needs_dynamic, is_fixed_static}
 use Rattle.wild_headers.specs.Headers.{file_type}
 use Rattle.wild_meaning.specs.World.{IsFixed, IsMovable, IsLoadable}
 

@@ -7,12 +7,13 @@ use Rattle.std.proofs.lemmas.List.Elements.{All-contains}
 use Rattle.wild_reloc.specs.Dynamic.{x86_64_type}
 use Rattle.wild_reloc.specs.declared.dynamic.DynamicRelocationKind.{DynamicRelocationKind}
 use Rattle.wild_reloc.specs.declared.dynamic.DynamicRelocationKind.TheVariants.{Absolute, Copy, GotEntry, JumpSlot, Relative, DtpMod, DtpOff, TpOff, TlsDesc, Irelative}
-use Rattle.wild_plan.specs.declared.symbol.Symbol.{Symbol}
-use Rattle.wild_plan.specs.declared.layout.Layout.{Layout}
-use Rattle.wild_plan.specs.declared.slot.SlotEntry.{SlotEntry}
-use Rattle.wild_plan.specs.declared.slot.SlotWord.{SlotWord}
-use Rattle.wild_plan.specs.ResolvedFlags.{HasItsFlags}
-use Rattle.wild_plan.specs.SlotShares.{slots_of, storage_words}
+use Rattle.wild_types.specs.declared.symbol.Symbol.{Symbol}
+use Rattle.wild_types.specs.declared.layout.Layout.{Layout}
+use Rattle.wild_slot.specs.declared.slot.SlotEntry.{SlotEntry}
+use Rattle.wild_slot.specs.declared.slot.SlotWord.{SlotWord}
+use Rattle.wild_types.specs.ResolvedFlags.{HasItsFlags}
+use Rattle.wild_slot.specs.SymbolWords.{slots_of}
+use Rattle.wild_needs.specs.SlotShares.{storage_words}
 use Rattle.wild_layout.specs.Numbers.{NumbersFit, SymbolNumbers}
 use Rattle.wild_layout.specs.Geometry.{IsLaidOut}
 use Rattle.wild_geometry.specs.Loaded.{entry_with}

@@ -10,18 +10,18 @@ use Rattle.wild_records.specs.Abi.Segment.{pt_load, pt_gnu_stack, pf_x}
 use Rattle.wild_records.specs.FileHeader.{FileHeaderFits}
 use Rattle.wild_records.specs.ProgramHeader.{ProgramHeaderFits}
 use Rattle.wild_records.specs.SectionHeader.{SectionHeaderFits}
-use Rattle.wild_plan.specs.declared.kind.Machine.{Machine}
-use Rattle.wild_plan.specs.declared.kind.Machine.TheVariants as machine
-use Rattle.wild_plan.specs.declared.part.Part.{Part}
-use Rattle.wild_plan.specs.declared.part.Role.{Role}
-use Rattle.wild_plan.specs.declared.part.Role.TheVariants as role
-use Rattle.wild_plan.specs.declared.section.Section.{Section}
-use Rattle.wild_plan.specs.declared.section.Segment.{Segment}
-use Rattle.wild_plan.specs.declared.layout.Layout.{Layout}
-use Rattle.wild_plan.specs.Lists.{total}
-use Rattle.wild_plan.specs.Lookups.{bit}
-use Rattle.wild_plan.specs.Places.{has_role}
-use Rattle.wild_plan.specs.Versions.{need_count}
+use Rattle.wild_types.specs.declared.kind.Machine.{Machine}
+use Rattle.wild_types.specs.declared.kind.Machine.TheVariants as machine
+use Rattle.wild_types.specs.declared.part.Part.{Part}
+use Rattle.wild_types.specs.declared.part.Role.{Role}
+use Rattle.wild_types.specs.declared.part.Role.TheVariants as role
+use Rattle.wild_types.specs.declared.section.Section.{Section}
+use Rattle.wild_types.specs.declared.section.Segment.{Segment}
+use Rattle.wild_types.specs.declared.layout.Layout.{Layout}
+use Rattle.wild_types.specs.Lists.{total}
+use Rattle.wild_types.specs.Lookups.{bit}
+use Rattle.wild_types.specs.Parts.{has_role}
+use Rattle.wild_needs.specs.Versions.{need_count}
 use Rattle.wild_headers.specs.Headers.{machine_number, or_escape, or_none, name_table, section_of_role, file_header, with_execute, program_header, null_header, uncompressed, told_of, local_symbols, info_at, section_header, headers_from, section_headers_of}
 use Rattle.wild_layout.specs.Numbers.{NumbersFit, SegmentNumbers, SectionNumbers}
 use Rattle.wild_meaning.specs.World.{IsLoadable}

@@ -1,11 +1,11 @@
 -- Where the pair of the output's own thread-local data stands.
 use Rattle.std.proofs.Common.{◌≡◌, ℕ, ◌+◌, ◌^◌, ◌<◌, ◌≤◌, List, length, refl, ap, arith, subst}
 use Rattle.std.specs.Prelude.{Option, Some, None}
-use Rattle.wild_plan.specs.declared.part.Part.{Part}
-use Rattle.wild_plan.specs.declared.part.Role.TheVariants as role
-use Rattle.wild_plan.specs.declared.layout.Layout.{Layout}
-use Rattle.wild_plan.specs.Segments.{part_with}
-use Rattle.wild_plan.specs.SlotPlaces.{address_of_part, start_of}
+use Rattle.wild_types.specs.declared.part.Part.{Part}
+use Rattle.wild_types.specs.declared.part.Role.TheVariants as role
+use Rattle.wild_types.specs.declared.layout.Layout.{Layout}
+use Rattle.wild_types.specs.Parts.{part_with}
+use Rattle.wild_clauses.specs.SlotPlaces.{address_of_part, start_of}
 use Rattle.wild_layout.specs.Geometry.{IsLaidOut}
 use Rattle.wild_slots.specs.Order.{end_of}
 use Rattle.wild_slots.specs.Stand.{PairStands}

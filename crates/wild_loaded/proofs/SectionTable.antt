@@ -13,15 +13,14 @@ use Rattle.wild_records.specs.Abi.Section.{sht_rela, shf_alloc}
 use Rattle.wild_records.specs.Relocations.{rela_size, rela_at, RelaFits}
 use Rattle.wild_records.specs.declared.relocations.Rela.{Rela}
 use Rattle.wild_records.specs.declared.section_header.SectionHeader.{SectionHeader}
-use Rattle.wild_plan.specs.declared.part.Part.{Part}
-use Rattle.wild_plan.specs.declared.part.Role.{Role}
-use Rattle.wild_plan.specs.declared.part.Role.TheVariants as role
-use Rattle.wild_plan.specs.declared.section.Section.{Section}
-use Rattle.wild_plan.specs.declared.layout.Layout.{Layout}
-use Rattle.wild_plan.specs.Lookups.{allocated, takes_file_bytes}
-use Rattle.wild_plan.specs.Places.{role_place, has_role, is_fixed_static}
-use Rattle.wild_plan.specs.Segments.{part_with}
-use Rattle.wild_plan.specs.LoadedTables.{is_entry_role, bytes_in}
+use Rattle.wild_types.specs.declared.part.Part.{Part}
+use Rattle.wild_types.specs.declared.part.Role.{Role}
+use Rattle.wild_types.specs.declared.part.Role.TheVariants as role
+use Rattle.wild_types.specs.declared.section.Section.{Section}
+use Rattle.wild_types.specs.declared.layout.Layout.{Layout}
+use Rattle.wild_types.specs.Lookups.{allocated, takes_file_bytes}
+use Rattle.wild_types.specs.Parts.{role_place, has_role, part_with, is_entry_role, bytes_in}
+use Rattle.wild_types.specs.Kinds.{is_fixed_static}
 use Rattle.wild_headers.specs.Headers.{null_header, info_at, section_header, headers_from, section_headers_of, told_of}
 use Rattle.wild_layout.specs.Image.{bytes}
 use Rattle.wild_layout.specs.SectionPlaces.{RangesApart}

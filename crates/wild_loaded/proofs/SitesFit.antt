@@ -6,15 +6,17 @@ use Rattle.std.proofs.Math.Nat.{pow-le-pow_right}
 use Rattle.wild_words.proofs.ListLemmas.{All-flat_map}
 use Rattle.wild_relr.specs.Laws.{IsWord}
 use Rattle.wild_relr.specs.Packed.{bitmaps, bitmap_count, block}
-use Rattle.wild_plan.specs.declared.file.File.{File}
-use Rattle.wild_plan.specs.declared.file.Group.{Group}
-use Rattle.wild_plan.specs.declared.slot.SlotWord.{SlotWord}
-use Rattle.wild_plan.specs.declared.symbol.Resolution.{Resolution}
-use Rattle.wild_plan.specs.declared.symbol.Symbol.{Symbol}
-use Rattle.wild_plan.specs.declared.layout.Layout.{Layout}
-use Rattle.wild_plan.specs.SlotParts.{next}
-use Rattle.wild_plan.specs.SymbolSlots.{resolved_got}
-use Rattle.wild_plan.specs.SlotShares.{writes_slots, own_symbols, slots_of, slots_at}
+use Rattle.wild_types.specs.declared.file.File.{File}
+use Rattle.wild_types.specs.declared.file.Group.{Group}
+use Rattle.wild_slot.specs.declared.slot.SlotWord.{SlotWord}
+use Rattle.wild_types.specs.declared.symbol.Resolution.{Resolution}
+use Rattle.wild_types.specs.declared.symbol.Symbol.{Symbol}
+use Rattle.wild_types.specs.declared.layout.Layout.{Layout}
+use Rattle.wild_slot.specs.SlotParts.{next}
+use Rattle.wild_types.specs.SymbolSlots.{resolved_got, slots_at}
+use Rattle.wild_types.specs.FileRoles.{writes_slots}
+use Rattle.wild_types.specs.FileSymbols.{own_symbols}
+use Rattle.wild_slot.specs.SymbolWords.{slots_of}
 use Rattle.wild_layout.specs.Numbers.{ResolutionNumbers, SymbolNumbers}
 use Rattle.wild_loaded.proofs.SlotNumbers.{WordFits, words_fit}
 use Rattle.wild_loaded.proofs.SlotSites.{SlotSite, sites_at, symbol_sites, file_sites, group_sites}

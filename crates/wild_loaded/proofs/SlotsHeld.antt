@@ -8,24 +8,26 @@ use Rattle.wild_words.proofs.OverlayLemmas.{length-place}
 use Rattle.wild_words.proofs.WordLemmas.{length-word}
 use Rattle.wild_words.proofs.RecordLemmas.{Stands-left, Stands-right}
 use Rattle.wild_relr.specs.Written.{word_bytes}
-use Rattle.wild_plan.specs.declared.slot.Setting.{Setting}
-use Rattle.wild_plan.specs.declared.slot.SlotWord.{SlotWord}
-use Rattle.wild_plan.specs.declared.slot.SlotWord.TheVariants.{Number, Address, InBlock, General, Plt}
-use Rattle.wild_plan.specs.declared.slot_parts.WordPart.{WordPart}
-use Rattle.wild_plan.specs.declared.slot_parts.WordPart.TheVariants as words
-use Rattle.wild_plan.specs.declared.part.Role.TheVariants as role
-use Rattle.wild_plan.specs.declared.file.File.{File}
-use Rattle.wild_plan.specs.declared.file.Group.{Group}
-use Rattle.wild_plan.specs.declared.symbol.Symbol.{Symbol}
-use Rattle.wild_plan.specs.declared.layout.Layout.{Layout}
-use Rattle.wild_plan.specs.Kinds.{is_executable}
-use Rattle.wild_plan.specs.Places.{is_loaded_role}
-use Rattle.wild_plan.specs.Storage.{less}
-use Rattle.wild_plan.specs.Slots.{setting_of, storage_pair}
-use Rattle.wild_plan.specs.SlotParts.{is_packed, word_of, slot_words}
-use Rattle.wild_plan.specs.SymbolSlots.{got_of, plt_of}
-use Rattle.wild_plan.specs.SlotShares.{word_size, own_symbols, slots_of, slots_at, storage_at, storage_words}
-use Rattle.wild_plan.specs.Stub.{stub_x86_64, stub_template}
+use Rattle.wild_slot.specs.declared.slot.Setting.{Setting}
+use Rattle.wild_slot.specs.declared.slot.SlotWord.{SlotWord}
+use Rattle.wild_slot.specs.declared.slot.SlotWord.TheVariants.{Number, Address, InBlock, General, Plt}
+use Rattle.wild_slot.specs.declared.slot_parts.WordPart.{WordPart}
+use Rattle.wild_slot.specs.declared.slot_parts.WordPart.TheVariants as words
+use Rattle.wild_types.specs.declared.part.Role.TheVariants as role
+use Rattle.wild_types.specs.declared.file.File.{File}
+use Rattle.wild_types.specs.declared.file.Group.{Group}
+use Rattle.wild_types.specs.declared.symbol.Symbol.{Symbol}
+use Rattle.wild_types.specs.declared.layout.Layout.{Layout}
+use Rattle.wild_types.specs.Kinds.{is_executable}
+use Rattle.wild_types.specs.Parts.{is_loaded_role}
+use Rattle.wild_slot.specs.Storage.{less}
+use Rattle.wild_slot.specs.Slots.{setting_of, storage_pair}
+use Rattle.wild_slot.specs.SlotParts.{is_packed, word_of, slot_words}
+use Rattle.wild_types.specs.SymbolSlots.{got_of, plt_of, slots_at}
+use Rattle.wild_needs.specs.SlotShares.{word_size, storage_at, storage_words}
+use Rattle.wild_types.specs.FileSymbols.{own_symbols}
+use Rattle.wild_slot.specs.SymbolWords.{slots_of}
+use Rattle.wild_slot.specs.Stub.{stub_x86_64, stub_template}
 use Rattle.wild_layout.specs.Numbers.{NumbersFit, SymbolNumbers}
 use Rattle.wild_layout.specs.Geometry.{IsLaidOut}
 use Rattle.wild_layout.specs.SlotBytes.{stub_bytes}

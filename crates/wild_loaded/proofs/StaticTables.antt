@@ -16,16 +16,16 @@ use Rattle.wild_records.specs.SectionHeader.{section_header_fields}
 use Rattle.wild_records.specs.declared.relocations.Rela.{Rela}
 use Rattle.wild_records.specs.declared.section_header.SectionHeader.{SectionHeader}
 use Rattle.wild_relr.specs.Packed.{packed_on, packed, block}
-use Rattle.wild_plan.specs.declared.part.Role.TheVariants as role
-use Rattle.wild_plan.specs.declared.input.InputRelocation.{InputRelocation}
-use Rattle.wild_plan.specs.declared.input.InputSection.{InputSection}
-use Rattle.wild_plan.specs.declared.section.Section.{Section}
-use Rattle.wild_plan.specs.declared.slot_parts.EntryPart.TheVariants as entries
-use Rattle.wild_plan.specs.declared.file.Group.{Group}
-use Rattle.wild_plan.specs.declared.layout.Layout.{Layout}
-use Rattle.wild_plan.specs.Entries.{moved_of, packed_place, packed_places, words_of}
-use Rattle.wild_plan.specs.Kinds.{is_position_independent}
-use Rattle.wild_plan.specs.SlotShares.{group_block, block_of, words_of_block, block_words}
+use Rattle.wild_types.specs.declared.part.Role.TheVariants as role
+use Rattle.wild_types.specs.declared.input.InputRelocation.{InputRelocation}
+use Rattle.wild_types.specs.declared.input.InputSection.{InputSection}
+use Rattle.wild_types.specs.declared.section.Section.{Section}
+use Rattle.wild_slot.specs.declared.slot_parts.EntryPart.TheVariants as entries
+use Rattle.wild_types.specs.declared.file.Group.{Group}
+use Rattle.wild_types.specs.declared.layout.Layout.{Layout}
+use Rattle.wild_needs.specs.Entries.{moved_of, packed_place, packed_places, words_of}
+use Rattle.wild_types.specs.Kinds.{is_position_independent}
+use Rattle.wild_needs.specs.SlotShares.{group_block, block_of, words_of_block, block_words}
 use Rattle.wild_headers.proofs.HeaderLemmas.{length-file_header, length-section_header}
 use Rattle.wild_headers.specs.Headers.{file_header, null_header, headers_from, told_of, program_header, section_headers_of, offset_of_role, file_header_bytes, section_header_bytes}
 use Rattle.wild_layout.specs.Image.{pieces}

@@ -5,25 +5,23 @@ use Rattle.std.specs.List.{flat_map}
 use Rattle.std.specs.Option.{option_or}
 use Rattle.std.proofs.lemmas.Bool.{cases_lt, eqb-true}
 use Rattle.wild_words.specs.Words.{Stands}
-use Rattle.wild_plan.specs.declared.dynamic.DynamicTag.TheVariants as tags
-use Rattle.wild_plan.specs.declared.part.Part.{Part}
-use Rattle.wild_plan.specs.declared.part.Role.{Role}
-use Rattle.wild_plan.specs.declared.part.Role.TheVariants as role
-use Rattle.wild_plan.specs.declared.section.Segment.{Segment}
-use Rattle.wild_plan.specs.declared.file.File.{File}
-use Rattle.wild_plan.specs.declared.file.Group.{Group}
-use Rattle.wild_plan.specs.declared.layout.Layout.{Layout}
-use Rattle.wild_plan.specs.Dynamic as dynamic
-use Rattle.wild_plan.specs.DynamicPlaces as dynamic_places
-use Rattle.wild_plan.specs.Kinds.{needs_dynamic}
-use Rattle.wild_plan.specs.FileRoles.{is_prelude}
-use Rattle.wild_plan.specs.Lookups.{image_size}
-use Rattle.wild_plan.specs.Places.{role_place}
-use Rattle.wild_plan.specs.Segments.{part_with}
-use Rattle.wild_plan.specs.LoadedTables.{is_table_role}
+use Rattle.wild_needs.specs.declared.dynamic.DynamicTag.TheVariants as tags
+use Rattle.wild_types.specs.declared.part.Part.{Part}
+use Rattle.wild_types.specs.declared.part.Role.{Role}
+use Rattle.wild_types.specs.declared.part.Role.TheVariants as role
+use Rattle.wild_types.specs.declared.section.Segment.{Segment}
+use Rattle.wild_types.specs.declared.file.File.{File}
+use Rattle.wild_types.specs.declared.file.Group.{Group}
+use Rattle.wild_types.specs.declared.layout.Layout.{Layout}
+use Rattle.wild_needs.specs.Dynamic as dynamic
+use Rattle.wild_needs.specs.DynamicPlaces as dynamic_places
+use Rattle.wild_types.specs.Kinds.{needs_dynamic}
+use Rattle.wild_types.specs.FileRoles.{is_prelude}
+use Rattle.wild_types.specs.Lookups.{image_size}
+use Rattle.wild_types.specs.Parts.{role_place, part_with, is_table_role}
 use Rattle.wild_headers.specs.Headers.{program_header}
-use Rattle.wild_plan.specs.declared.slot_parts.EntryPart.TheVariants as entries
-use Rattle.wild_plan.specs.SlotShares.{block_words}
+use Rattle.wild_slot.specs.declared.slot_parts.EntryPart.TheVariants as entries
+use Rattle.wild_needs.specs.SlotShares.{block_words}
 use Rattle.wild_records.specs.declared.relocations.Rela.{Rela}
 use Rattle.wild_layout.specs.Left.{file_generals}
 use Rattle.wild_layout.specs.Moved.{file_entries, file_words}

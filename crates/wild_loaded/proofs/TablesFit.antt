@@ -13,31 +13,32 @@ use Rattle.wild_records.specs.declared.relocations.Rela.{Rela}
 use Rattle.wild_reloc.specs.Dynamic.{x86_64_type, aarch64_type}
 use Rattle.wild_reloc.specs.declared.dynamic.DynamicRelocationKind.{DynamicRelocationKind}
 use Rattle.wild_reloc.specs.declared.dynamic.DynamicRelocationKind.TheVariants as entry_kinds
-use Rattle.wild_plan.specs.declared.fault.Missing.TheVariants as missing
-use Rattle.wild_plan.specs.declared.kind.Machine.{Machine}
-use Rattle.wild_plan.specs.declared.kind.Machine.TheVariants as machine
-use Rattle.wild_plan.specs.declared.input.InputRelocation.{InputRelocation}
-use Rattle.wild_plan.specs.declared.input.InputSection.{InputSection}
-use Rattle.wild_plan.specs.declared.file.File.{File}
-use Rattle.wild_plan.specs.declared.file.Group.{Group}
-use Rattle.wild_plan.specs.declared.symbol.Place.{Place}
-use Rattle.wild_plan.specs.declared.symbol.Place.TheVariants as at
-use Rattle.wild_plan.specs.declared.symbol.Resolution.{Resolution}
-use Rattle.wild_plan.specs.declared.symbol.Symbol.{Symbol}
-use Rattle.wild_plan.specs.declared.layout.Layout.{Layout}
-use Rattle.wild_plan.specs.declared.slot.SlotEntry.{SlotEntry}
-use Rattle.wild_plan.specs.declared.slot.SlotWord.{SlotWord}
-use Rattle.wild_plan.specs.declared.slot.SlotWord.TheVariants.{Number, Address, InBlock, General, Plt}
-use Rattle.wild_plan.specs.declared.slot_parts.EntryPart.{EntryPart}
-use Rattle.wild_plan.specs.declared.slot_parts.EntryPart.TheVariants as entries
-use Rattle.wild_plan.specs.declared.treatment.Treatment.{Treatment}
-use Rattle.wild_plan.specs.declared.treatment.Treatment.TheVariants as treatments
-use Rattle.wild_plan.specs.Entries.{place_of, packs, is_moved, has_moved, packed_place, packed_places, words_of, left_relocations, copies_of}
-use Rattle.wild_plan.specs.FileRoles.{is_prelude}
-use Rattle.wild_plan.specs.Lookups.{canonical, has_address, files_of, file_of}
-use Rattle.wild_plan.specs.SlotParts.{next, is_packed, type_of, entry_at, entry_of, slot_entries, address_entry, flat_place}
-use Rattle.wild_plan.specs.SlotShares.{block_place, first_place, block_of, group_block, block_words, storage_words}
-use Rattle.wild_plan.specs.Treatment.{treatment}
+use Rattle.wild_types.specs.declared.fault.Missing.TheVariants as missing
+use Rattle.wild_types.specs.declared.kind.Machine.{Machine}
+use Rattle.wild_types.specs.declared.kind.Machine.TheVariants as machine
+use Rattle.wild_types.specs.declared.input.InputRelocation.{InputRelocation}
+use Rattle.wild_types.specs.declared.input.InputSection.{InputSection}
+use Rattle.wild_types.specs.declared.file.File.{File}
+use Rattle.wild_types.specs.declared.file.Group.{Group}
+use Rattle.wild_types.specs.declared.symbol.Place.{Place}
+use Rattle.wild_types.specs.declared.symbol.Place.TheVariants as at
+use Rattle.wild_types.specs.declared.symbol.Resolution.{Resolution}
+use Rattle.wild_types.specs.declared.symbol.Symbol.{Symbol}
+use Rattle.wild_types.specs.declared.layout.Layout.{Layout}
+use Rattle.wild_slot.specs.declared.slot.SlotEntry.{SlotEntry}
+use Rattle.wild_slot.specs.declared.slot.SlotWord.{SlotWord}
+use Rattle.wild_slot.specs.declared.slot.SlotWord.TheVariants.{Number, Address, InBlock, General, Plt}
+use Rattle.wild_slot.specs.declared.slot_parts.EntryPart.{EntryPart}
+use Rattle.wild_slot.specs.declared.slot_parts.EntryPart.TheVariants as entries
+use Rattle.wild_slot.specs.declared.treatment.Treatment.{Treatment}
+use Rattle.wild_slot.specs.declared.treatment.Treatment.TheVariants as treatments
+use Rattle.wild_types.specs.Lookups.{place_of, packs, has_moved, canonical, has_address, files_of, file_of}
+use Rattle.wild_needs.specs.Entries.{is_moved, packed_place, packed_places, words_of, left_relocations}
+use Rattle.wild_types.specs.FileSymbols.{copies_of}
+use Rattle.wild_types.specs.FileRoles.{is_prelude}
+use Rattle.wild_slot.specs.SlotParts.{next, is_packed, type_of, entry_at, entry_of, slot_entries, address_entry, flat_place}
+use Rattle.wild_needs.specs.SlotShares.{block_place, first_place, block_of, group_block, block_words, storage_words}
+use Rattle.wild_slot.specs.Treatment.{treatment}
 use Rattle.wild_relr.specs.Laws.{IsWord, WordsFit}
 use Rattle.wild_layout.specs.Decide.{added}
 use Rattle.wild_layout.specs.Left.{entry_for, index_or_zero, left_by, left_entry, section_generals, copy_entry, file_generals}
@@ -46,7 +47,7 @@ use Rattle.wild_layout.specs.Numbers.{SymbolNumbers}
 use Rattle.wild_layout.specs.SlotBytes.{slot_entries_of, flat_places_of, storage_entries}
 use Rattle.wild_layout.specs.SymbolValues.{address_or, raw_address}
 use Rattle.wild_layout.specs.SlotValues.{decided_address}
-use Rattle.wild_plan.specs.Addresses.{address_in_section, address_in_file, address_at, placed_value, resolved_or, raw_value}
+use Rattle.wild_types.specs.Addresses.{address_in_section, address_in_file, address_at, placed_value, resolved_or, raw_value}
 use Rattle.wild_slots.proofs.ItemLemmas.{of_if}
 use Rattle.wild_tables.specs.Tables.{relative_entry, relative_type}
 use Rattle.wild_loaded.specs.Tables.{file_packed, group_words, relatives, first_generals, generals, tables_of}

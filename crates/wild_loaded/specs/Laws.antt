@@ -15,21 +15,21 @@
 --   EntriesHaveChanges     what entries of slots, of fields and of copies make a loader do in a legal world
 --   CopiesAreThere         and each symbol that is copied has an answer
 use Rattle.std.specs.Prelude.{◌≡◌, ℕ, ◌+◌, ◌*◌, ◌≤◌, true, false, [], ◌++◌, length, Some, Ok, Contains, slice_get}
-use Rattle.wild_plan.specs.declared.kind.Machine.TheVariants as machine
-use Rattle.wild_plan.specs.declared.input.InputSection.{InputSection}
-use Rattle.wild_plan.specs.declared.part.Part.{Part}
-use Rattle.wild_plan.specs.declared.part.Role.{Role}
-use Rattle.wild_plan.specs.declared.slot.SlotWord.{SlotWord}
-use Rattle.wild_plan.specs.declared.symbol.Symbol.{Symbol}
-use Rattle.wild_plan.specs.declared.layout.Layout.{Layout}
-use Rattle.wild_plan.specs.declared.input.InputRelocation.{InputRelocation}
-use Rattle.wild_plan.specs.declared.slot.SlotEntry.{SlotEntry}
-use Rattle.wild_plan.specs.Kinds.{needs_dynamic}
-use Rattle.wild_plan.specs.ResolvedFlags.{HaveTheirFlags}
-use Rattle.wild_plan.specs.Places.{is_loaded_role}
-use Rattle.wild_plan.specs.Segments.{part_with}
-use Rattle.wild_plan.specs.SlotShares.{word_size, slots_of, storage_words}
-use Rattle.wild_plan.specs.SymbolSlots.{got_of, plt_of}
+use Rattle.wild_types.specs.declared.kind.Machine.TheVariants as machine
+use Rattle.wild_types.specs.declared.input.InputSection.{InputSection}
+use Rattle.wild_types.specs.declared.part.Part.{Part}
+use Rattle.wild_types.specs.declared.part.Role.{Role}
+use Rattle.wild_slot.specs.declared.slot.SlotWord.{SlotWord}
+use Rattle.wild_types.specs.declared.symbol.Symbol.{Symbol}
+use Rattle.wild_types.specs.declared.layout.Layout.{Layout}
+use Rattle.wild_types.specs.declared.input.InputRelocation.{InputRelocation}
+use Rattle.wild_slot.specs.declared.slot.SlotEntry.{SlotEntry}
+use Rattle.wild_types.specs.Kinds.{needs_dynamic}
+use Rattle.wild_types.specs.ResolvedFlags.{HaveTheirFlags}
+use Rattle.wild_types.specs.Parts.{is_loaded_role, part_with}
+use Rattle.wild_needs.specs.SlotShares.{word_size, storage_words}
+use Rattle.wild_slot.specs.SymbolWords.{slots_of}
+use Rattle.wild_types.specs.SymbolSlots.{got_of, plt_of}
 use Rattle.wild_headers.specs.Headers.{file_header, section_headers_of}
 use Rattle.wild_layout.specs.Image.{bytes}
 use Rattle.wild_layout.specs.Numbers.{NumbersFit}

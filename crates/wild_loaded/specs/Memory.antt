@@ -6,10 +6,10 @@
 --   HasMemory l w      the loader accepts the image, and memory has each kept section as it was decided, and the slots
 use Rattle.std.specs.Prelude.{◌≡◌, ℕ, ◌+◌, ◌<◌, true, List, length, map, Some, Ok}
 use Rattle.wild_records.specs.declared.program_header.ProgramHeader.{ProgramHeader}
-use Rattle.wild_plan.specs.declared.input.InputSection.{InputSection}
-use Rattle.wild_plan.specs.declared.layout.Layout.{Layout}
-use Rattle.wild_plan.specs.declared.section.Segment.{Segment}
-use Rattle.wild_plan.specs.Lookups.{is_read, is_filled}
+use Rattle.wild_types.specs.declared.input.InputSection.{InputSection}
+use Rattle.wild_types.specs.declared.layout.Layout.{Layout}
+use Rattle.wild_types.specs.declared.section.Segment.{Segment}
+use Rattle.wild_types.specs.Lookups.{is_read, is_filled}
 use Rattle.wild_headers.specs.Headers.{file_header, program_header}
 use Rattle.wild_layout.specs.Sites.{section_bytes}
 use Rattle.wild_layout.specs.Image.{bytes}

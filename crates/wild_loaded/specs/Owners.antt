@@ -2,8 +2,8 @@
 use Rattle.std.specs.Prelude.{◌≡◌, ℕ, ◌+◌, ◌<◌, ◌≤◌, ◌⊎◌, length, All, Contains, slice_index}
 use Rattle.wild_words.specs.Words.{Stands}
 use Rattle.wild_words.specs.Overlay.{Piece, AreApart}
-use Rattle.wild_plan.specs.declared.layout.Layout.{Layout}
-use Rattle.wild_plan.specs.Lookups.{image_size}
+use Rattle.wild_types.specs.declared.layout.Layout.{Layout}
+use Rattle.wild_types.specs.Lookups.{image_size}
 use Rattle.wild_layout.specs.Image.{bytes, pieces, padding}
 
 -- no byte is of two pieces, each piece stands in the image, and every other byte is padding

@@ -10,20 +10,20 @@ use Rattle.std.specs.Prelude.{◌≡◌, ℕ, ◌+◌, ◌-◌, ◌^◌, ◌<◌
 use Rattle.wild_words.specs.Words.{word}
 use Rattle.wild_records.specs.Abi.Segment.{pt_load}
 use Rattle.wild_records.specs.declared.relocations.Rela.{Rela}
-use Rattle.wild_plan.specs.declared.part.Part.{Part}
-use Rattle.wild_plan.specs.declared.part.Role.{Role}
-use Rattle.wild_plan.specs.declared.part.Role.TheVariants as role
-use Rattle.wild_plan.specs.declared.section.Segment.{Segment}
+use Rattle.wild_types.specs.declared.part.Part.{Part}
+use Rattle.wild_types.specs.declared.part.Role.{Role}
+use Rattle.wild_types.specs.declared.part.Role.TheVariants as role
+use Rattle.wild_types.specs.declared.section.Segment.{Segment}
 use Rattle.wild_reloc.specs.Dynamic.{x86_64_type}
 use Rattle.wild_reloc.specs.Field.{size_width}
 use Rattle.wild_reloc.specs.declared.info.RelocationSize.{RelocationSize}
 use Rattle.wild_reloc.specs.declared.dynamic.DynamicRelocationKind.{DynamicRelocationKind}
 use Rattle.wild_reloc.specs.declared.dynamic.DynamicRelocationKind.TheVariants as entry_kinds
-use Rattle.wild_plan.specs.declared.slot.SlotEntry.{SlotEntry}
-use Rattle.wild_plan.specs.declared.slot.SlotWord.{SlotWord}
-use Rattle.wild_plan.specs.declared.layout.Layout.{Layout}
-use Rattle.wild_plan.specs.SlotParts.{word_of}
-use Rattle.wild_plan.specs.Stub.{stub_x86_64}
+use Rattle.wild_slot.specs.declared.slot.SlotEntry.{SlotEntry}
+use Rattle.wild_slot.specs.declared.slot.SlotWord.{SlotWord}
+use Rattle.wild_types.specs.declared.layout.Layout.{Layout}
+use Rattle.wild_slot.specs.SlotParts.{word_of}
+use Rattle.wild_slot.specs.Stub.{stub_x86_64}
 use Rattle.wild_layout.specs.TablePlaces.{table_bytes}
 use Rattle.wild_loader.specs.declared.kind.DynamicKind.TheVariants as kinds
 use Rattle.wild_loader.specs.declared.change.Change.{Change}

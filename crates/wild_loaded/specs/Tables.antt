@@ -10,12 +10,12 @@ use Rattle.std.specs.List.{flat_map}
 use Rattle.wild_records.specs.declared.dynamic.DynamicEntry.{DynamicEntry}
 use Rattle.wild_records.specs.declared.relocations.Rela.{Rela}
 use Rattle.wild_records.specs.declared.section_header.SectionHeader.{SectionHeader}
-use Rattle.wild_plan.specs.declared.slot_parts.EntryPart.TheVariants as entries
-use Rattle.wild_plan.specs.declared.file.File.{File}
-use Rattle.wild_plan.specs.declared.file.Group.{Group}
-use Rattle.wild_plan.specs.declared.layout.Layout.{Layout}
-use Rattle.wild_plan.specs.FileRoles.{is_prelude}
-use Rattle.wild_plan.specs.SlotShares.{block_words}
+use Rattle.wild_slot.specs.declared.slot_parts.EntryPart.TheVariants as entries
+use Rattle.wild_types.specs.declared.file.File.{File}
+use Rattle.wild_types.specs.declared.file.Group.{Group}
+use Rattle.wild_types.specs.declared.layout.Layout.{Layout}
+use Rattle.wild_types.specs.FileRoles.{is_prelude}
+use Rattle.wild_needs.specs.SlotShares.{block_words}
 use Rattle.wild_headers.specs.Headers.{file_header, section_headers_of}
 use Rattle.wild_layout.specs.Image.{bytes}
 use Rattle.wild_layout.specs.Moved.{file_entries, file_words}

@@ -2,12 +2,13 @@
 --   SlotsAreWhole l   each file writes all that its symbols' slots are to have
 --   HasWholeSlots l   and slots follow each other
 use Rattle.std.specs.Prelude.{◌≡◌, None, All}
-use Rattle.wild_plan.specs.declared.file.File.{File}
-use Rattle.wild_plan.specs.declared.file.Group.{Group}
-use Rattle.wild_plan.specs.declared.symbol.Symbol.{Symbol}
-use Rattle.wild_plan.specs.declared.layout.Layout.{Layout}
-use Rattle.wild_plan.specs.SlotShares.{own_symbols, slots_of}
-use Rattle.wild_slots.specs.Order.{HasSlotsInOrder}
+use Rattle.wild_types.specs.declared.file.File.{File}
+use Rattle.wild_types.specs.declared.file.Group.{Group}
+use Rattle.wild_types.specs.declared.symbol.Symbol.{Symbol}
+use Rattle.wild_types.specs.declared.layout.Layout.{Layout}
+use Rattle.wild_types.specs.FileSymbols.{own_symbols}
+use Rattle.wild_slot.specs.SymbolWords.{slots_of}
+use Rattle.wild_layout.specs.SlotOrder.{HasSlotsInOrder}
 
 abbrev pub SlotsAreWhole : Layout → Type 0
 SlotsAreWhole l = All (λ (g : Group). All (λ (f : File). All (λ (s : Symbol). (slots_of l s).fault ≡ None) (own_symbols l f)) g.files) l.groups

@@ -13,7 +13,7 @@ use wild_records::abi::relocation::{
 
 /// What an entry of a relocation table sets, with B the base, S the address that its symbol's answer has, and A its
 /// addend.
-#[derive(Clone, Copy, Debug, PartialEq, Eq)]
+#[derive(Clone, Copy)]
 pub enum DynamicKind {
     /// B + A.
     Relative,

@@ -16,8 +16,6 @@ mod relocate;
 mod runs;
 mod segments;
 mod tables;
-#[cfg(test)]
-mod tests;
 mod world;
 
 pub use change::{Change, Patch};

@@ -1,5 +1,5 @@
 -- The parts of a look-up in the image of a layout without faults.
-use Rattle.std.proofs.Common.{◌≡◌, ◌≢◌, ℕ, zero, suc, ◌-◌, ◌/◌, ◌<◌, ◌≤◌, inl, inr, Bool, true, List, [], ◌∷◌, ◌++◌, length, replicate, All, Some, None, Ok, get_or, refl, sym, ap, ◌∙◌, arith, subst}
+use Rattle.std.proofs.Common.{◌≡◌, ◌≢◌, ℕ, zero, suc, ◌-◌, ◌/◌, ◌<◌, ◌≤◌, inl, inr, Bool, true, List, [], ◌∷◌, ◌++◌, length, replicate, Some, None, Ok, get_or, refl, sym, ap, ◌∙◌, arith, subst}
 use Rattle.std.specs.Prelude.{Contains, nat_le}
 use Rattle.std.specs.List.{list_any}
 use Rattle.std.proofs.lemmas.Bool.{cases_Bool, le-leb}
@@ -7,24 +7,21 @@ use Rattle.std.proofs.lemmas.List.Elements.{All-contains}
 use Rattle.wild_records.specs.Abi.Dynamic.{dt_hash, dt_gnu_hash, dt_symtab, dt_strtab, dt_strsz}
 use Rattle.wild_records.specs.declared.dynamic.DynamicEntry.{DynamicEntry}
 use Rattle.wild_records.specs.declared.program_header.ProgramHeader.{ProgramHeader}
-use Rattle.wild_plan.specs.declared.dynamic.DynamicTag.{DynamicTag}
-use Rattle.wild_plan.specs.declared.dynamic.DynamicTag.TheVariants as tags
-use Rattle.wild_plan.specs.declared.kind.OutputKind.{OutputKind}
-use Rattle.wild_plan.specs.declared.kind.OutputKind.TheVariants as output
-use Rattle.wild_plan.specs.declared.kind.RelocationModel.TheVariants as model
-use Rattle.wild_plan.specs.declared.part.Part.{Part}
-use Rattle.wild_plan.specs.declared.part.Role.{Role}
-use Rattle.wild_plan.specs.declared.part.Role.TheVariants as role
-use Rattle.wild_plan.specs.declared.layout.Layout.{Layout}
-use Rattle.wild_plan.specs.ZeroFree.{listed_name_fits}
-use Rattle.wild_plan.specs.Dynamic.{dynamic_number, dynamic_entry, dynamic_count}
-use Rattle.wild_plan.specs.DynamicPlaces.{part_address, part_size}
-use Rattle.wild_plan.specs.DynamicSymbols.{first_listed}
-use Rattle.wild_plan.specs.Kinds.{needs_dynamic}
-use Rattle.wild_plan.specs.Lookups.{image_size}
-use Rattle.wild_plan.specs.Places.{role_place}
-use Rattle.wild_plan.specs.Segments.{part_with}
-use Rattle.wild_plan.specs.LoadedTables.{is_hash_role, is_look_up_role, has_hashes}
+use Rattle.wild_needs.specs.declared.dynamic.DynamicTag.{DynamicTag}
+use Rattle.wild_needs.specs.declared.dynamic.DynamicTag.TheVariants as tags
+use Rattle.wild_types.specs.declared.kind.OutputKind.{OutputKind}
+use Rattle.wild_types.specs.declared.kind.OutputKind.TheVariants as output
+use Rattle.wild_types.specs.declared.kind.RelocationModel.TheVariants as model
+use Rattle.wild_types.specs.declared.part.Part.{Part}
+use Rattle.wild_types.specs.declared.part.Role.{Role}
+use Rattle.wild_types.specs.declared.part.Role.TheVariants as role
+use Rattle.wild_types.specs.declared.layout.Layout.{Layout}
+use Rattle.wild_needs.specs.Dynamic.{dynamic_number, dynamic_entry, dynamic_count}
+use Rattle.wild_needs.specs.DynamicPlaces.{part_address, part_size}
+use Rattle.wild_needs.specs.DynamicSymbols.{first_listed}
+use Rattle.wild_types.specs.Kinds.{needs_dynamic}
+use Rattle.wild_types.specs.Lookups.{image_size}
+use Rattle.wild_types.specs.Parts.{role_place, part_with, is_hash_role, is_look_up_role, has_hashes}
 use Rattle.wild_headers.specs.Headers.{file_header, section_headers_of}
 use Rattle.wild_tables.specs.Dynamic.{dynamic_records, null_entry}
 use Rattle.wild_layout.specs.Loadable.{SegmentLoads}
@@ -47,14 +44,13 @@ use Rattle.wild_lookups.specs.Laws.{IsWritten}
 use Rattle.wild_lookups.proofs.ImageTables.{parts_told}
 use Rattle.wild_lookups.proofs.NumberedLemmas.{are_numbered}
 use Rattle.wild_lookups.proofs.PartBytes.{IsFoundPart, found_part}
-use Rattle.wild_lookups.proofs.ShapeLemmas.{well_formed, listed_fit}
+use Rattle.wild_lookups.proofs.ShapeLemmas.{well_formed}
 
 -- ---- the image
 
 -- what stands in the image
 pub record IsRead (l : Layout) : Type 0 where
   pub laid : IsLaidOut l
-  pub names : All (λ d. listed_name_fits d ≡ true) l.dynsyms
   pub headers : HasHeaders (bytes l) (file_header l) (headers_of l) (section_headers_of l l.sections)
   pub taken : is_loadable_header (file_header l) ≡ true
   pub entries : HasEntries l
@@ -74,7 +70,6 @@ is_read l laws w =
     let kind = loadable_kind l.kind w.dynamic in
     record {
       laid = laid;
-      names = listed_fit l formed.0;
       headers = laws.headers.stand l w.machine kind w.numbers laid;
       taken = laws.headers.taken l w.machine kind;
       entries = laws.sections l w.dynamic w.numbers laid;
@@ -188,7 +183,7 @@ has_parts l r tag p laws names read needs hash asked loaded telling found some =
       is = parts_read l tag laws read ∙ rw (here, own.1.is, symbols, text, text_size, at_address (bytes l) (headers_of l) dt_symtab t.table table.0 table.1, strings_at (bytes l) (headers_of l) t.strings strings.0 strings.1) refl;
       start = own.1.start;
       room = own.1.room;
-      numbered = are_numbered l t.table t.strings table.0 (first_of strings.0 t.strings.size) all (record { start = table.1.start; room = table.1.room; strings_start = strings.1.start; strings_size = refl }) laid.indexes read.names;
+      numbered = are_numbered l t.table t.strings table.0 (first_of strings.0 t.strings.size) all (record { start = table.1.start; room = table.1.room; strings_start = strings.1.start; strings_size = refl }) laid.indexes laid.dynsyms.named;
     }
 
 -- without the part of a table there are none

@@ -1,17 +1,15 @@
 -- Look-ups in the image of a layout without faults.
-use Rattle.std.proofs.Common.{◌≡◌, ℕ, ◌≤◌, true, List, length, map, Some, None, Ok, refl, sym, ap, arith, subst, add-zero}
+use Rattle.std.proofs.Common.{◌≡◌, ℕ, ◌≤◌, List, length, map, Some, None, Ok, refl, sym, ap, arith, subst, add-zero}
 use Rattle.wild_words.specs.Words.{Stands, word}
 use Rattle.wild_records.specs.Abi.Dynamic.{dt_hash, dt_gnu_hash}
 use Rattle.wild_records.specs.HashTables.{gnu_hash_header_fields, GnuHashHeaderFits}
 use Rattle.wild_records.specs.declared.hash_tables.GnuHashHeader.{GnuHashHeader}
-use Rattle.wild_plan.specs.declared.part.Part.{Part}
-use Rattle.wild_plan.specs.declared.part.Role.{Role}
-use Rattle.wild_plan.specs.declared.part.Role.TheVariants as role
-use Rattle.wild_plan.specs.declared.layout.Layout.{Layout}
-use Rattle.wild_plan.specs.DynamicSymbols.{first_listed}
-use Rattle.wild_plan.specs.HashShapes.{sysv_fits, gnu_fits, bucket_astray}
-use Rattle.wild_plan.specs.Places.{role_place}
-use Rattle.wild_plan.specs.Segments.{part_with}
+use Rattle.wild_types.specs.declared.part.Part.{Part}
+use Rattle.wild_types.specs.declared.part.Role.{Role}
+use Rattle.wild_types.specs.declared.part.Role.TheVariants as role
+use Rattle.wild_types.specs.declared.layout.Layout.{Layout}
+use Rattle.wild_needs.specs.DynamicSymbols.{first_listed}
+use Rattle.wild_types.specs.Parts.{role_place, part_with}
 use Rattle.wild_layout.specs.TablePlaces.{table_bytes}
 use Rattle.wild_layout.specs.Geometry.{IsLaidOut, TablesStand}
 use Rattle.wild_layout.specs.Image.{bytes}
@@ -23,7 +21,7 @@ use Rattle.wild_lookups.specs.Laws.{found, SysvLookUpsFind, GnuLookUpsFind, Look
 use Rattle.wild_lookups.proofs.FoundParts.{is_read, HasParts, has_parts, no_parts, sysv_told, gnu_told}
 use Rattle.wild_lookups.proofs.HashBytes.{sysv_stands, gnu_stands}
 use Rattle.wild_lookups.proofs.PartBytes.{stands_cut}
-use Rattle.wild_lookups.proofs.ShapeLemmas.{hashes_hold, some_bucket, gnu_base, gnu_laid_out}
+use Rattle.wild_lookups.proofs.ShapeLemmas.{gnu_laid_out}
 
 -- ---- tables are not empty
 
@@ -62,8 +60,7 @@ sysv_found laws names law = λ l h p name w shape there.
     let some = filled l role.SysvHash p table laid (λ e. cc) there is (some_sysv h.buckets (first_listed l) (map sysv_hash_of l.dynsyms)) in
     let parts = has_parts l role.SysvHash dt_hash p laws names read w.dynamic refl refl (λ e. cc) (sysv_told l read.entries.room laws w.dynamic) there some in
     let stands = table_stands l role.SysvHash dt_hash p table laws.stand laid (λ e. cc) there some is parts in
-    let fits = subst (λ o. sysv_fits o ≡ true) shape (hashes_hold l laid.hashes).sysv in
-    law (bytes l) parts.parts h.buckets (first_listed l) l.dynsyms name parts.is stands parts.numbered (some_bucket h fits) (w.numbers.sysv h shape).buckets
+    law (bytes l) parts.parts h.buckets (first_listed l) l.dynsyms name parts.is stands parts.numbered (laid.hashes.sysv h shape) (w.numbers.sysv h shape).buckets
 
 -- ---- GNU
 
@@ -76,16 +73,14 @@ gnu_found laws names ascend law = λ l h p name w shape there.
     let some = filled l role.GnuHash p table laid (λ e. cc) there is (some_gnu (gnu_header h) (map gnu_hash_of l.dynsyms)) in
     let parts = has_parts l role.GnuHash dt_gnu_hash p laws names read w.dynamic refl refl (λ e. cc) (gnu_told l read.entries.room laws w.dynamic) there some in
     let stands = table_stands l role.GnuHash dt_gnu_hash p table laws.stand laid (λ e. cc) there some is parts in
-    let holds = hashes_hold l laid.hashes in
-    let fits = subst (λ o. gnu_fits l o ≡ true) shape holds.gnu in
-    let order = subst (λ o. bucket_astray o l.dynsyms ≡ None) shape holds.buckets in
-    let base = gnu_base l h fits in
+    let fits = laid.hashes.gnu h shape in
+    let base = fits.base in
     let symbols = bytes_if (bytes l) parts.parts.symbols in
     let strings = bytes_if (bytes l) parts.parts.strings in
     let numbered = subst (λ (b : ℕ). AreNumbered symbols strings b l.dynsyms) (sym base) parts.numbered in
     let numbers = w.numbers.gnu h shape in
     let header : GnuHashHeaderFits (gnu_header h) = record { bucket_count = numbers.buckets; symbol_base = numbers.base; bloom_count = numbers.bloom_count; bloom_shift = numbers.bloom_shift } in
-    let answer = law (bytes l) parts.parts (gnu_header h) l.dynsyms name parts.is stands numbered (gnu_laid_out l h ascend fits order header) in
+    let answer = law (bytes l) parts.parts (gnu_header h) l.dynsyms name parts.is stands numbered (gnu_laid_out l h ascend fits header) in
     subst (λ (b : ℕ). gnu_lookup_in (bytes l) name ≡ Ok (first_named b (names_of l.dynsyms) name)) base answer
 
 -- ---- no table

@@ -1,5 +1,5 @@
 -- The listed symbols have the indexes from the first one on, and their names stand where their entries tell.
-use Rattle.std.proofs.Common.{◌≡◌, ℕ, zero, suc, ◌+◌, ◌-◌, ◌*◌, ◌^◌, ◌<◌, ◌≤◌, inl, inr, Bool, true, List, [], ◌∷◌, ◌++◌, length, map, filter, All, Some, slice_get, flat_map, refl, sym, ap, ◌∙◌, arith, subst, add-zero}
+use Rattle.std.proofs.Common.{◌≡◌, ℕ, zero, suc, ◌+◌, ◌-◌, ◌*◌, ◌^◌, ◌<◌, ◌≤◌, inl, inr, Bool, List, [], ◌∷◌, ◌++◌, length, map, filter, All, Some, slice_get, flat_map, refl, sym, ap, ◌∙◌, arith, subst, add-zero}
 use Rattle.std.specs.Prelude.{slice_index_or}
 use Rattle.std.proofs.lemmas.Bool.{cases_Bool}
 use Rattle.std.proofs.lemmas.List.{length-append, length-map}
@@ -9,24 +9,22 @@ use Rattle.wild_words.specs.Record.{spell}
 use Rattle.wild_words.proofs.RecordLemmas.{length-spell, number-stands, Stands-field_at}
 use Rattle.wild_records.specs.SymtabEntry.{symtab_entry_fields, symtab_entry_at, symtab_entry_size}
 use Rattle.wild_records.specs.declared.symtab_entry.SymtabEntry.{SymtabEntry}
-use Rattle.wild_plan.specs.declared.file.File.{File}
-use Rattle.wild_plan.specs.declared.layout.DynamicSymbol.{DynamicSymbol}
-use Rattle.wild_plan.specs.declared.layout.Layout.{Layout}
-use Rattle.wild_plan.specs.declared.part.Part.{Part}
-use Rattle.wild_plan.specs.Astray.{range_of}
-use Rattle.wild_plan.specs.ZeroFree.{listed_name_fits}
-use Rattle.wild_plan.specs.DynamicStrings.{undefined_symbols}
-use Rattle.wild_plan.specs.DynamicSymbols.{places_where, is_undefined_entry, undefined_in, undefined_entries, dynamic_symbols, listed as indexes_of, first_listed}
-use Rattle.wild_plan.specs.Lookups.{files_of}
+use Rattle.wild_types.specs.declared.file.File.{File}
+use Rattle.wild_types.specs.declared.layout.DynamicSymbol.{DynamicSymbol}
+use Rattle.wild_types.specs.declared.layout.Layout.{Layout}
+use Rattle.wild_types.specs.declared.part.Part.{Part}
+use Rattle.wild_types.specs.FileSymbols.{range_of}
+use Rattle.wild_needs.specs.DynamicStrings.{undefined_symbols}
+use Rattle.wild_needs.specs.DynamicSymbols.{places_where, is_undefined_entry, undefined_in, undefined_entries, dynamic_symbols, listed as indexes_of, first_listed}
+use Rattle.wild_types.specs.Lookups.{files_of}
 use Rattle.wild_symbols.specs.DynamicEntries.{NamedFields, listed, undefined, entry_at}
 use Rattle.wild_layout.specs.Image.{bytes}
 use Rattle.wild_hashes.specs.declared.image.Part.{Part as Found}
 use Rattle.wild_hashes.specs.Image.{bytes_of}
 use Rattle.wild_hashes.specs.Laws.{AreNumbered, names_of}
-use Rattle.wild_hashes.specs.Reading.{IsNamed}
+use Rattle.wild_hashes.specs.Reading.{HasNoZero, IsNamed}
 use Rattle.wild_names.specs.Laws.{HasEntry, SymbolsAreThere, table_symbols}
 use Rattle.wild_lookups.proofs.PartBytes.{stands_cut}
-use Rattle.wild_lookups.proofs.ShapeLemmas.{has_no_zero}
 
 -- ---- how many symbols stand in front
 
@@ -66,13 +64,13 @@ record IsListed (l : Layout) (ds : List DynamicSymbol) (k : ℕ) : Type 0 where
   symbol : DynamicSymbol
   is : slice_get (map (listed l) ds) k ≡ Some (listed l symbol)
   name : slice_index_or (names_of ds) k [] ≡ symbol.name
-  fits : listed_name_fits symbol ≡ true
+  fits : HasNoZero symbol.name
 
-listed_at : (l : Layout) (ds : List DynamicSymbol) (k : ℕ) → k < length ds → All (λ d. listed_name_fits d ≡ true) ds → IsListed l ds k
+listed_at : (l : Layout) (ds : List DynamicSymbol) (k : ℕ) → k < length ds → All (λ d. HasNoZero d.name) ds → IsListed l ds k
 listed_at l [] k lt fit = absurd (omega (arith, lt))
-listed_at l (d ∷ ds) zero lt fit = record { symbol = d; is = refl; name = refl; fits = All-head (λ d. listed_name_fits d ≡ true) d ds fit }
+listed_at l (d ∷ ds) zero lt fit = record { symbol = d; is = refl; name = refl; fits = All-head (λ d. HasNoZero d.name) d ds fit }
 listed_at l (d ∷ ds) (suc k) lt fit =
-    let later = listed_at l ds k (omega (arith, lt)) (All-tail (λ d. listed_name_fits d ≡ true) d ds fit) in
+    let later = listed_at l ds k (omega (arith, lt)) (All-tail (λ d. HasNoZero d.name) d ds fit) in
     record { symbol = later.symbol; is = later.is; name = later.name; fits = later.fits }
 
 behind : {X : Type 0} (xs ys : List X) (k : ℕ) → slice_get (xs ++ ys) (length xs + k) ≡ slice_get ys k
@@ -122,7 +120,7 @@ named_at l table strings f g i n found room h whole =
 
 -- ---- all of them
 
-pub are_numbered : (l : Layout) (table strings : Part) (f g : Found) → SymbolsAreThere l table strings → HasTables l table strings f g → length (dynamic_symbols l) < 2 ^ 32 - 1 → All (λ d. listed_name_fits d ≡ true) l.dynsyms
+pub are_numbered : (l : Layout) (table strings : Part) (f g : Found) → SymbolsAreThere l table strings → HasTables l table strings f g → length (dynamic_symbols l) < 2 ^ 32 - 1 → All (λ d. HasNoZero d.name) l.dynsyms
     → AreNumbered (bytes_of (bytes l) f) (bytes_of (bytes l) g) (first_listed l) l.dynsyms
 are_numbered l table strings f g all found few fit = record {
   not_0 = omega arith;
@@ -140,5 +138,5 @@ are_numbered l table strings f g all found few fit = record {
         let size = all.whole in
         let a = length-append front (map (listed l) l.dynsyms) in
         let b = length-map l.dynsyms (listed l) in
-        let named = named_at l table strings f g (first_listed l + k) (listed l d.symbol) found (omega (arith, size, count, a, b, lt)) entry (has_no_zero d.symbol.name d.fits) in
+        let named = named_at l table strings f g (first_listed l + k) (listed l d.symbol) found (omega (arith, size, count, a, b, lt)) entry d.fits in
         subst (IsNamed (bytes_of (bytes l) f) (bytes_of (bytes l) g) (first_listed l + k)) (sym d.name) named

@@ -4,15 +4,15 @@
 --   SysvLookUpsFind, GnuLookUpsFind   the look-up of any name in the image gives that symbol, and none where no symbol has the name
 --   LookUpsWithoutTable   without the part of a table the look-up in it gives none
 use Rattle.std.specs.Prelude.{◌≡◌, ℕ, true, [], List, Option, Some, None, Ok}
-use Rattle.wild_plan.specs.declared.kind.Machine.TheVariants as machine
-use Rattle.wild_plan.specs.declared.part.Part.{Part}
-use Rattle.wild_plan.specs.declared.part.Role.TheVariants as role
-use Rattle.wild_plan.specs.declared.layout.SysvHash.{SysvHash}
-use Rattle.wild_plan.specs.declared.layout.GnuHash.{GnuHash}
-use Rattle.wild_plan.specs.declared.layout.Layout.{Layout}
-use Rattle.wild_plan.specs.DynamicSymbols.{first_listed}
-use Rattle.wild_plan.specs.Kinds.{needs_dynamic}
-use Rattle.wild_plan.specs.Segments.{part_with}
+use Rattle.wild_types.specs.declared.kind.Machine.TheVariants as machine
+use Rattle.wild_types.specs.declared.part.Part.{Part}
+use Rattle.wild_types.specs.declared.part.Role.TheVariants as role
+use Rattle.wild_types.specs.declared.layout.SysvHash.{SysvHash}
+use Rattle.wild_types.specs.declared.layout.GnuHash.{GnuHash}
+use Rattle.wild_types.specs.declared.layout.Layout.{Layout}
+use Rattle.wild_needs.specs.DynamicSymbols.{first_listed}
+use Rattle.wild_types.specs.Kinds.{needs_dynamic}
+use Rattle.wild_types.specs.Parts.{part_with}
 use Rattle.wild_hashes.specs.Image.{gnu_lookup_in, sysv_lookup_in}
 use Rattle.wild_hashes.specs.Laws.{first_named, names_of}
 use Rattle.wild_layout.specs.Faults.{errors}

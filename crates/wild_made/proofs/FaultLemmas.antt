@@ -5,24 +5,24 @@ use Rattle.std.specs.List.{flat_map, range_with_len}
 use lib.IntN.{negsuc}
 use Rattle.std.proofs.lemmas.Bool.{cases_Bool, cases_lt, le-leb, lt-ltb, le-ltb}
 use Rattle.wild_words.specs.Words.{word}
-use Rattle.wild_plan.specs.declared.input.InputRelocation.{InputRelocation}
-use Rattle.wild_plan.specs.declared.part.Part.{Part}
-use Rattle.wild_plan.specs.declared.part.Role.{Role}
-use Rattle.wild_plan.specs.declared.part.Role.TheVariants as role
-use Rattle.wild_plan.specs.declared.file.File.{File}
-use Rattle.wild_plan.specs.declared.file.Group.{Group}
-use Rattle.wild_plan.specs.declared.file.FileRole.TheVariants as file_role
-use Rattle.wild_plan.specs.Lists.{total}
-use Rattle.wild_plan.specs.Needs.{needs, needs_of, share, group_share}
-use Rattle.wild_plan.specs.Flags.{has_flag}
-use Rattle.wild_plan.specs.Rows.{row_of}
-use Rattle.wild_plan.specs.Contents.{given}
-use Rattle.wild_plan.specs.Lookups.{bit, is_read}
+use Rattle.wild_types.specs.declared.input.InputRelocation.{InputRelocation}
+use Rattle.wild_types.specs.declared.part.Part.{Part}
+use Rattle.wild_types.specs.declared.part.Role.{Role}
+use Rattle.wild_types.specs.declared.part.Role.TheVariants as role
+use Rattle.wild_types.specs.declared.file.File.{File}
+use Rattle.wild_types.specs.declared.file.Group.{Group}
+use Rattle.wild_types.specs.declared.file.FileRole.TheVariants as file_role
+use Rattle.wild_types.specs.Lists.{total}
+use Rattle.wild_needs.specs.Needs.{needs, needs_of, share, group_share}
+use Rattle.wild_types.specs.Flags.{has_flag}
+use Rattle.wild_types.specs.Rows.{row_of}
+use Rattle.wild_types.specs.FilePlaces.{given}
+use Rattle.wild_types.specs.Lookups.{bit, is_read}
 use Rattle.wild_reloc.specs.TableX86_64.{x86_64_row}
 use Rattle.wild_reloc.specs.declared.info.RelocationSize.TheVariants.{ByteSize}
 use Rattle.wild_reloc.specs.declared.info.Width.TheVariants.{Four}
 use Rattle.wild_words.specs.Extents.{least_extent}
-use Rattle.wild_plan.specs.Treatment.{row_treatment, treatment}
+use Rattle.wild_slot.specs.Treatment.{row_treatment, treatment}
 use Rattle.wild_layout.specs.declared.decision.Decision.TheVariants.{Field}
 use Rattle.wild_layout.specs.Choice.{choice_by, choice_of, is_partner}
 use Rattle.wild_layout.specs.Decide.{decided, decide}
@@ -30,8 +30,8 @@ use Rattle.wild_layout.proofs.DecisionLemmas.{decide_alone}
 use Rattle.wild_layout.proofs.SiteLemmas.{site_written}
 use Rattle.wild_layout.specs.Sites.{field_site, site, extent_of}
 use Rattle.wild_layout.specs.SymbolValues.{displacement, place_of}
-use Rattle.wild_plan.specs.Addresses.{raw_value}
-use Rattle.wild_plan.specs.TableSymbols.{file_items}
+use Rattle.wild_types.specs.Addresses.{raw_value}
+use Rattle.wild_needs.specs.TableSymbols.{file_items}
 use Rattle.wild_layout.specs.Faults.{errors, flat_map_from, share_errors, has_spare, part_errors, relocation_errors, section_errors, file_errors, listed_errors, table_errors, group_errors}
 use Rattle.wild_made.specs.Made.{made_section, made_object, plain_file, made_files, made_symbol, made_group, made_relocation, part_with, made_parts, made, callee, start_of}
 use Rattle.wild_made.specs.Laws.{IsCount}

@@ -3,9 +3,9 @@ use Rattle.std.proofs.Common.{◌≡◌, ℕ, ◌+◌, ◌==◌, inl, inr, Bool,
 use Rattle.std.specs.Prelude.{Option, Some, None, option_and_then}
 use Rattle.std.specs.List.{list_all}
 use Rattle.std.proofs.lemmas.Bool.{cases_Bool}
-use Rattle.wild_plan.specs.declared.file.File.{File}
-use Rattle.wild_plan.specs.declared.file.FileRole.TheVariants as file_role
-use Rattle.wild_plan.specs.Lists.{total, through}
+use Rattle.wild_types.specs.declared.file.File.{File}
+use Rattle.wild_types.specs.declared.file.FileRole.TheVariants as file_role
+use Rattle.wild_types.specs.Lists.{total, through}
 use Rattle.wild_made.specs.Made.{made_object, plain_file, made_files}
 
 pub all_files : (t : File → Bool) (n i : ℕ) → t (plain_file file_role.Prelude) ≡ true → t (made_object n i) ≡ true → t (plain_file file_role.Epilogue) ≡ true → list_all t (made_files n i) ≡ true

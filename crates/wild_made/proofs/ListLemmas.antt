@@ -2,7 +2,7 @@
 use Rattle.std.proofs.Common.{◌≡◌, ℕ, zero, suc, ◌+◌, ◌*◌, ◌<◌, ◌≤◌, Bool, true, ◌&&◌, List, [], map, length, refl, arith}
 use Rattle.std.specs.Prelude.{Some, None, slice_get}
 use Rattle.std.specs.List.{list_all, range_with_len}
-use Rattle.wild_plan.specs.Lists.{first_failing, total}
+use Rattle.wild_types.specs.Lists.{first_failing, total}
 use Rattle.wild_layout.specs.Faults.{flat_map_from}
 
 -- f of the numbers from a on

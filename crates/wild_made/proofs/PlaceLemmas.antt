@@ -4,36 +4,36 @@ use Rattle.std.specs.Prelude.{None, Ok, nat_le, codes}
 use Rattle.std.specs.List.{list_any}
 use lib.Count.{ones}
 use Rattle.std.proofs.lemmas.Bool.{le-leb, lt-ltb, ne_eqb}
-use Rattle.wild_plan.specs.declared.file.File.{File}
-use Rattle.wild_plan.specs.declared.file.FileRole.TheVariants as file_role
-use Rattle.wild_plan.specs.declared.input.InputSection.{InputSection}
-use Rattle.wild_plan.specs.Lists.{first_failing}
-use Rattle.wild_plan.specs.Lookups.{bit, image_size}
-use Rattle.wild_plan.specs.declared.part.Role.{Role}
-use Rattle.wild_plan.specs.declared.part.Role.TheVariants as role
-use Rattle.wild_plan.specs.Counts.{total_share, role_given}
-use Rattle.wild_plan.specs.Dynamic.{dynamic_entries, tag_entries}
-use Rattle.wild_plan.specs.DynamicStrings.{named_strings, string_entries, file_strings}
-use Rattle.wild_plan.specs.DynamicSymbols.{dynamic_symbols}
-use Rattle.wild_plan.specs.Entries.{listed_places, packed_places, left_relocations, general_count}
-use Rattle.wild_plan.specs.Flags.{has_flag}
-use Rattle.wild_plan.specs.Rows.{row_of}
-use Rattle.wild_plan.specs.TableSymbols.{file_items, table_strings}
-use Rattle.wild_plan.specs.Treatment.{treatment, row_treatment}
+use Rattle.wild_types.specs.declared.file.File.{File}
+use Rattle.wild_types.specs.declared.file.FileRole.TheVariants as file_role
+use Rattle.wild_types.specs.declared.input.InputSection.{InputSection}
+use Rattle.wild_types.specs.Lists.{first_failing}
+use Rattle.wild_types.specs.Lookups.{bit, image_size}
+use Rattle.wild_types.specs.declared.part.Role.{Role}
+use Rattle.wild_types.specs.declared.part.Role.TheVariants as role
+use Rattle.wild_needs.specs.Needs.{total_share, first_share, own_of, share, group_share}
+use Rattle.wild_clauses.specs.Counts.{role_given}
+use Rattle.wild_needs.specs.Dynamic.{dynamic_entries, tag_entries}
+use Rattle.wild_needs.specs.DynamicStrings.{named_strings, string_entries, file_strings}
+use Rattle.wild_needs.specs.DynamicSymbols.{dynamic_symbols}
+use Rattle.wild_needs.specs.Entries.{listed_places, packed_places, left_relocations, general_count}
+use Rattle.wild_types.specs.Flags.{has_flag}
+use Rattle.wild_types.specs.Rows.{row_of}
+use Rattle.wild_needs.specs.TableSymbols.{file_items, table_strings}
+use Rattle.wild_slot.specs.Treatment.{treatment, row_treatment}
 use Rattle.wild_reloc.specs.TableX86_64.{x86_64_row}
-use Rattle.wild_plan.specs.Needs.{first_share, own_of, share, group_share}
-use Rattle.wild_plan.specs.FileRoles.{is_prelude}
-use Rattle.wild_plan.specs.SlotShares.{slot_share}
+use Rattle.wild_types.specs.FileRoles.{is_prelude}
+use Rattle.wild_needs.specs.SlotShares.{slot_share}
 use Rattle.wild_relr.specs.Packed.{packed, packed_on}
-use Rattle.wild_plan.specs.Places.{group_fits, relocations_of, relocations_in, relocation_count, roles}
-use Rattle.wild_plan.specs.Segments.{has_byte, is_asked, bytes_are_loaded}
-use Rattle.wild_plan.specs.Contents.{each_in, each_section}
-use Rattle.wild_plan.specs.declared.section.Section.{Section}
-use Rattle.wild_plan.specs.declared.section.Side.{Side}
-use Rattle.wild_plan.specs.declared.section.Side.TheVariants as side
-use Rattle.wild_plan.proofs.CoverLemmas.{all_below_from}
+use Rattle.wild_clauses.specs.Places.{group_fits, relocations_of, relocations_in, relocation_count, roles}
+use Rattle.wild_clauses.specs.Segments.{has_byte, is_asked, bytes_are_loaded}
+use Rattle.wild_clauses.specs.Contents.{each_in, each_section}
+use Rattle.wild_types.specs.declared.section.Section.{Section}
+use Rattle.wild_clauses.specs.declared.loaded.Side.{Side}
+use Rattle.wild_clauses.specs.declared.loaded.Side.TheVariants as side
+use Rattle.wild_clauses.proofs.CoverLemmas.{all_below_from}
 use Rattle.wild_records.specs.Abi.Section.{sht_progbits, sht_strtab}
-use Rattle.wild_plan.specs.ClauseTests.{check_sizes, check_counts, check_order, check_roles, check_sections, check_entries, check_segments}
+use Rattle.wild_clauses.specs.ClauseTests.{check_sizes, check_counts, check_order, check_roles, check_sections, check_entries, check_segments}
 use Rattle.wild_made.specs.Made.{made_section, made_object, plain_file, made_symbol, made_group, section_with, made_sections, made_segment, made}
 use Rattle.wild_made.specs.Laws.{IsCount}
 use Rattle.wild_made.proofs.ListLemmas.{made_from, none_fails, total_same, length_made}

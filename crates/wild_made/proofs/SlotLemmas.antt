@@ -5,24 +5,26 @@ use Rattle.std.specs.List.{flat_map, list_all}
 use Rattle.std.proofs.lemmas.Bool.{cases_Bool, and_parts, le-ltb}
 use Rattle.std.proofs.lemmas.List.Concat.{flat_map-append}
 use Rattle.wild_relr.specs.Packed.{block}
-use Rattle.wild_plan.specs.declared.part.Role.{Role}
-use Rattle.wild_plan.specs.declared.part.Role.TheVariants as role
-use Rattle.wild_plan.specs.declared.file.File.{File}
-use Rattle.wild_plan.specs.declared.file.FileRole.TheVariants as file_role
-use Rattle.wild_plan.specs.declared.file.Group.{Group}
-use Rattle.wild_plan.specs.declared.layout.Layout.{Layout}
-use Rattle.wild_plan.specs.declared.symbol.Symbol.{Symbol}
-use Rattle.wild_plan.specs.Astray.{range_of}
-use Rattle.wild_plan.specs.DynamicSymbols.{is_undefined_entry, places_where, undefined_in, dynamic_symbols}
-use Rattle.wild_plan.specs.Flags.{has_flag}
-use Rattle.wild_plan.specs.Lists.{first_failing}
-use Rattle.wild_plan.specs.Lookups.{files_of}
-use Rattle.wild_plan.specs.SlotShares.{writes_slots, own_symbols, slot_share, block_places, group_block, block_share}
-use Rattle.wild_plan.specs.SlotPlaces.{first_free, walk, symbol_step, is_without, slot_before, range_step, group_step, slots_astray, slot_is_even}
-use Rattle.wild_plan.specs.ClauseTests.{check_slots}
-use Rattle.wild_plan.proofs.SlotShareLemmas.{no_slots, slots_plain}
-use Rattle.wild_plan.proofs.SlotBlockLemmas.{places_without}
-use Rattle.wild_plan.proofs.SlotPlaceLemmas.{step_without}
+use Rattle.wild_types.specs.declared.part.Role.{Role}
+use Rattle.wild_types.specs.declared.part.Role.TheVariants as role
+use Rattle.wild_types.specs.declared.file.File.{File}
+use Rattle.wild_types.specs.declared.file.FileRole.TheVariants as file_role
+use Rattle.wild_types.specs.declared.file.Group.{Group}
+use Rattle.wild_types.specs.declared.layout.Layout.{Layout}
+use Rattle.wild_types.specs.declared.symbol.Symbol.{Symbol}
+use Rattle.wild_types.specs.FileSymbols.{range_of, own_symbols}
+use Rattle.wild_needs.specs.DynamicSymbols.{is_undefined_entry, places_where, undefined_in, dynamic_symbols}
+use Rattle.wild_types.specs.Flags.{has_flag}
+use Rattle.wild_types.specs.Lists.{first_failing}
+use Rattle.wild_types.specs.Lookups.{files_of}
+use Rattle.wild_types.specs.FileRoles.{writes_slots}
+use Rattle.wild_needs.specs.SlotShares.{slot_share, block_places, group_block, block_share}
+use Rattle.wild_clauses.specs.SlotPlaces.{first_free, walk, symbol_step, slot_before, range_step, group_step, slots_astray, slot_is_even}
+use Rattle.wild_types.specs.SymbolSlots.{is_without}
+use Rattle.wild_clauses.specs.ClauseTests.{check_slots}
+use Rattle.wild_needs.proofs.SlotShareLemmas.{no_slots, slots_plain}
+use Rattle.wild_needs.proofs.SlotBlockLemmas.{places_without}
+use Rattle.wild_clauses.proofs.SlotPlaceLemmas.{step_without}
 use Rattle.wild_layout.specs.Faults.{flat_map_from, symbol_errors, slot_errors}
 use Rattle.wild_made.specs.Made.{made_object, made_files, made_symbol, made_group, made}
 use Rattle.wild_made.proofs.ListLemmas.{made_from, none_fails, both_true, list_all_made}

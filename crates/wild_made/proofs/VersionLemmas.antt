@@ -4,13 +4,13 @@ use Rattle.std.specs.Prelude.{Some, None, Ok}
 use Rattle.std.specs.List.{filter}
 use Rattle.std.proofs.lemmas.Bool.{cases_Bool}
 use Rattle.std.proofs.lemmas.List.Elements.{filter-append}
-use Rattle.wild_plan.specs.declared.file.File.{File}
-use Rattle.wild_plan.specs.Lists.{total}
-use Rattle.wild_plan.specs.Lookups.{files_of}
-use Rattle.wild_plan.specs.Versions.{needs_of, has_needs, need_count}
-use Rattle.wild_plan.specs.VersionTables.{length_of, versions_needed, mark_step, mark_astray}
-use Rattle.wild_plan.specs.ClauseTests.{check_versions}
-use Rattle.wild_plan.proofs.ListLemmas.{total-append}
+use Rattle.wild_types.specs.declared.file.File.{File}
+use Rattle.wild_types.specs.Lists.{total}
+use Rattle.wild_types.specs.Lookups.{files_of}
+use Rattle.wild_needs.specs.Versions.{needs_of, has_needs, need_count, length_of, versions_needed}
+use Rattle.wild_clauses.specs.VersionTables.{mark_step, mark_astray}
+use Rattle.wild_clauses.specs.ClauseTests.{check_versions}
+use Rattle.wild_types.proofs.ListLemmas.{total-append}
 use Rattle.wild_made.specs.Made.{made_files, made_group, made}
 use Rattle.wild_made.proofs.ListLemmas.{made_from}
 use Rattle.wild_made.proofs.FileLemmas.{total_files, through_files}

@@ -1,16 +1,16 @@
 //! One group of a made plan.
 ghost use Rattle.std.specs.Prelude.{◌≡◌, ◌<◌, map, IfOk};
 ghost use Rattle.std.specs.List.{range_with_len};
-ghost use Rattle.wild_plan.specs.declared.file.FileRole.TheVariants as file_role;
+ghost use Rattle.wild_types.specs.declared.file.FileRole.TheVariants as file_role;
 ghost use Rattle.wild_made.specs.Made.{made_symbol, made_relocation, made_section, plain_file, made_object, made_files, made_sizes, made_group, code};
 
 use std::alloc::{AllocError, Global};
-use wild_plan::{
+use wild_records::abi::relocation::R_X86_64_PC32;
+use wild_records::abi::symbol::STT_FUNC;
+use wild_types::{
     File, FileRole, Group, InputRelocation, InputSection, Place, Resolution, Slot, Symbol,
     SymbolIndex, ValueFlags,
 };
-use wild_records::abi::relocation::R_X86_64_PC32;
-use wild_records::abi::symbol::STT_FUNC;
 use wild_words::{Bytes, Items};
 
 /// Where the code of the first group begins.

@@ -1,18 +1,18 @@
 //! The whole of a made plan.
 ghost use Rattle.std.specs.Prelude.{◌≡◌, ◌≤◌, true, [], ◌∷◌, map, IfOk};
-ghost use Rattle.wild_plan.specs.Defaults.{no_options};
-ghost use Rattle.wild_plan.specs.declared.kind.Machine.TheVariants as machine;
+ghost use Rattle.wild_types.specs.Defaults.{no_options};
+ghost use Rattle.wild_types.specs.declared.kind.Machine.TheVariants as machine;
 ghost use Rattle.std.specs.List.{range_with_len};
 ghost use Rattle.wild_made.specs.Made.{made_parts, made_sections, made_segment, made_symbol, made_group, section_with, part_with, made};
 
 use crate::group::{group, symbol};
 use std::alloc::{AllocError, Global};
-use wild_plan::{
+use wild_records::abi::section::{SHT_NULL, SHT_PROGBITS, SHT_STRTAB};
+use wild_records::abi::segment::PT_LOAD;
+use wild_types::{
     Entry, Group, Layout, Machine, Options, OutputKind, Part, RelocationModel, Role, Section,
     SectionIndex, Segment, Symbol,
 };
-use wild_records::abi::section::{SHT_NULL, SHT_PROGBITS, SHT_STRTAB};
-use wild_records::abi::segment::PT_LOAD;
 use wild_words::{Bytes, Items};
 
 /// The header index of a part that stands in no section.

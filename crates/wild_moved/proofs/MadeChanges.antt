@@ -7,7 +7,7 @@ use Rattle.std.proofs.lemmas.List.Sorted.{Contains-permutation}
 use Rattle.wild_words.specs.Words.{word, number}
 use Rattle.wild_words.proofs.WordLemmas.{number-word}
 use Rattle.wild_records.specs.declared.relocations.Rela.{Rela}
-use Rattle.wild_plan.specs.declared.layout.Layout.{Layout}
+use Rattle.wild_types.specs.declared.layout.Layout.{Layout}
 use Rattle.wild_layout.proofs.SiteLemmas.{Contains-flat_map}
 use Rattle.wild_loader.specs.declared.change.Change.{Change}
 use Rattle.wild_loader.specs.declared.memory.Memory.{Memory}

@@ -6,13 +6,13 @@ use Rattle.std.proofs.lemmas.List.Elements.{All-contains, All-head, All-tail, Co
 use Rattle.std.proofs.lemmas.List.{length-map, get_or-map}
 use Rattle.wild_records.specs.Abi.Segment.{pt_dynamic}
 use Rattle.wild_records.specs.declared.program_header.ProgramHeader.{ProgramHeader}
-use Rattle.wild_plan.specs.declared.kind.Machine.TheVariants as machine
-use Rattle.wild_plan.specs.declared.file.FileRole.{FileRole}
-use Rattle.wild_plan.specs.declared.file.FileRole.TheVariants as file_role
-use Rattle.wild_plan.specs.declared.layout.Layout.{Layout}
-use Rattle.wild_plan.specs.Entries.{copies_of}
-use Rattle.wild_plan.specs.FileRoles.{is_library}
-use Rattle.wild_plan.specs.Kinds.{needs_dynamic}
+use Rattle.wild_types.specs.declared.kind.Machine.TheVariants as machine
+use Rattle.wild_types.specs.declared.file.FileRole.{FileRole}
+use Rattle.wild_types.specs.declared.file.FileRole.TheVariants as file_role
+use Rattle.wild_types.specs.declared.layout.Layout.{Layout}
+use Rattle.wild_types.specs.FileSymbols.{copies_of}
+use Rattle.wild_types.specs.FileRoles.{is_library}
+use Rattle.wild_types.specs.Kinds.{needs_dynamic}
 use Rattle.wild_headers.specs.Headers.{file_header, section_headers_of}
 use Rattle.wild_layout.specs.Image.{bytes}
 use Rattle.wild_layout.specs.Left.{copy_entry}

@@ -2,8 +2,8 @@
 --   MemoryIsMoved     applying the tables moves the addresses, fills fields, slots and copies, and changes no other byte
 --   ImagesAreLoaded   the loader accepts the image, and memory has each kept section as it was decided, and the slots
 use Rattle.std.specs.Prelude.{◌≡◌, []}
-use Rattle.wild_plan.specs.declared.kind.Machine.TheVariants as machine
-use Rattle.wild_plan.specs.declared.layout.Layout.{Layout}
+use Rattle.wild_types.specs.declared.kind.Machine.TheVariants as machine
+use Rattle.wild_types.specs.declared.layout.Layout.{Layout}
 use Rattle.wild_layout.specs.Numbers.{NumbersFit}
 use Rattle.wild_layout.specs.Faults.{flat_map_from, group_errors}
 use Rattle.wild_layout.specs.Geometry.{IsLaidOut}

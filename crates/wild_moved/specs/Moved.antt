@@ -3,8 +3,8 @@
 --   HasMoved l w m     memory has each kept section as it was decided, the slots and stubs, copies, and zeros where they were
 use Rattle.std.specs.Prelude.{◌≡◌, ℕ, ◌+◌, ◌++◌, Some, All}
 use Rattle.wild_records.specs.declared.relocations.Rela.{Rela}
-use Rattle.wild_plan.specs.declared.input.InputSection.{InputSection}
-use Rattle.wild_plan.specs.declared.layout.Layout.{Layout}
+use Rattle.wild_types.specs.declared.input.InputSection.{InputSection}
+use Rattle.wild_types.specs.declared.layout.Layout.{Layout}
 use Rattle.wild_geometry.specs.Slots.{HasSlots}
 use Rattle.wild_geometry.specs.Loaded.{HasSection, InMemory}
 use Rattle.wild_loader.specs.declared.change.Patch.{Patch}

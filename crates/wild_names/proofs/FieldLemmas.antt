@@ -1,13 +1,13 @@
 -- Where a layout has no faults each symbol of the table of all symbols has its fields.
 use Rattle.std.proofs.Common.{◌≡◌, ℕ, ◌++◌, List, [], ◌∷◌, All, Option, Some, None, Result, Ok, Err, flat_map, refl, ap}
 use Rattle.std.proofs.lemmas.List.Elements.{All-nil, All-cons, All-contains}
-use Rattle.wild_plan.specs.declared.fault.At.{At}
-use Rattle.wild_plan.specs.declared.fault.Fault.{Fault}
-use Rattle.wild_plan.specs.declared.file.File.{File}
-use Rattle.wild_plan.specs.declared.file.Group.{Group}
-use Rattle.wild_plan.specs.declared.layout.Layout.{Layout}
-use Rattle.wild_plan.specs.TableSymbols.{TableSymbol, file_items}
-use Rattle.wild_plan.specs.WellFormed.{first_clause}
+use Rattle.wild_types.specs.declared.fault.At.{At}
+use Rattle.wild_types.specs.declared.fault.Fault.{Fault}
+use Rattle.wild_types.specs.declared.file.File.{File}
+use Rattle.wild_types.specs.declared.file.Group.{Group}
+use Rattle.wild_types.specs.declared.layout.Layout.{Layout}
+use Rattle.wild_needs.specs.TableSymbols.{TableSymbol, file_items}
+use Rattle.wild_clauses.specs.WellFormed.{first_clause}
 use Rattle.wild_symbols.specs.declared.table.TableFields.{TableFields}
 use Rattle.wild_symbols.specs.TableEntries.{table_fields, or_none_in_table}
 use Rattle.wild_layout.specs.Faults.{errors, flat_map_from, clause_errors, part_errors, at_file, fault_errors, file_errors, listed_errors, lacking_in_table, table_error, table_errors, group_errors}

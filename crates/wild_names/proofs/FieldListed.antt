@@ -1,54 +1,26 @@
 -- Where a layout has no faults each symbol that other modules see has its fields: what one lacks is a fault of the last file.
-use Rattle.std.proofs.Common.{◌≡◌, ℕ, ◌+◌, ◌<◌, ◌≤◌, ◌==◌, ◌&&◌, Bool, true, false, if◌then◌else◌, List, [], ◌∷◌, length, get_or, All, Option, Some, None, Result, Ok, Err, slice_get, flat_map, refl, ap, ◌∙◌, arith, subst}
+use Rattle.std.proofs.Common.{◌≡◌, ℕ, ◌+◌, ◌<◌, ◌≤◌, ◌==◌, ◌&&◌, Bool, true, if◌then◌else◌, List, [], ◌∷◌, length, get_or, All, Option, Some, None, Result, Ok, Err, slice_get, flat_map, refl, ap, ◌∙◌, arith, subst}
 use Rattle.std.proofs.lemmas.Bool.{eq-eqb}
-use Rattle.std.proofs.lemmas.List.Elements.{All-nil, All-cons, All-contains}
+use Rattle.std.proofs.lemmas.List.Elements.{All-contains}
 use Rattle.wild_words.proofs.ListLemmas.{Found-from_list_any}
-use Rattle.wild_plan.specs.declared.fault.Fault.{Fault}
-use Rattle.wild_plan.specs.declared.symbol.Symbol.{Symbol}
-use Rattle.wild_plan.specs.declared.file.File.{File}
-use Rattle.wild_plan.specs.declared.file.Group.{Group}
-use Rattle.wild_plan.specs.declared.layout.DynamicSymbol.{DynamicSymbol}
-use Rattle.wild_plan.specs.declared.layout.Layout.{Layout}
-use Rattle.wild_plan.specs.DynamicSymbols.{dynamic_symbols, symbol_listed_fits, listed_fits, misfit, misplaced, first_listed}
-use Rattle.wild_plan.specs.FileRoles.{is_epilogue}
-use Rattle.wild_plan.specs.Kinds.{needs_dynsym}
-use Rattle.wild_plan.specs.ClauseTests.{fails, check_dynsyms}
+use Rattle.wild_types.specs.declared.fault.Fault.{Fault}
+use Rattle.wild_types.specs.declared.symbol.Symbol.{Symbol}
+use Rattle.wild_types.specs.declared.file.File.{File}
+use Rattle.wild_types.specs.declared.file.Group.{Group}
+use Rattle.wild_types.specs.declared.layout.DynamicSymbol.{DynamicSymbol}
+use Rattle.wild_types.specs.declared.layout.Layout.{Layout}
+use Rattle.wild_types.specs.FileRoles.{is_epilogue}
+use Rattle.wild_types.specs.Kinds.{needs_dynsym}
 use Rattle.wild_symbols.specs.declared.dynamic.SymbolFields.{SymbolFields}
 use Rattle.wild_symbols.specs.DynamicEntries.{listed_of, or_none}
 use Rattle.wild_symbols.specs.DynamicFields.{listed_fields}
 use Rattle.wild_layout.specs.Faults.{errors, at_file, lacking, listed_error, listed_errors, group_errors}
 use Rattle.wild_layout.specs.Geometry.{IsLaidOut, LayoutsAreLaidOut}
+use Rattle.wild_layout.specs.ListedSymbols.{IsThere}
 use Rattle.wild_layout.proofs.FaultLemmas.{All-from_none}
-use Rattle.wild_geometry.proofs.ClauseLemmas.{Both-from_first_error, None-from_fails}
 use Rattle.wild_geometry.proofs.LastGroupLemmas.{has_last, has_last-group}
 use Rattle.wild_names.specs.FieldLaws.{HasListedFields, ListedSymbolsHaveFields, listed_with}
 use Rattle.wild_names.proofs.FieldLemmas.{All-from_nothing, no_fault, laid_out, no_group, none_of_listed}
-
--- ---- the symbols are there
-
--- the layout has the symbol
-abbrev IsThere : Layout → DynamicSymbol → Type 0
-IsThere l d = (s : Symbol) × (slice_get l.symbols d.symbol ≡ Some s)
-
-there_of : (l : Layout) (p i : ℕ) (o : Option Symbol) → symbol_listed_fits l p i o ≡ true → (s : Symbol) × (o ≡ Some s)
-there_of l p i None h = cc
-there_of l p i (Some s) h = (s, refl)
-
-step : (b : Bool) (rest : Option ℕ) (i : ℕ) → (if b then rest else Some i) ≡ None → (b ≡ true) × (rest ≡ None)
-step true rest i h = (refl, h)
-step false rest i h = cc
-
-are_there : (l : Layout) (p i : ℕ) (ds : List DynamicSymbol) → misfit l p i ds ≡ None → All (IsThere l) ds
-are_there l p i [] h = All-nil (IsThere l)
-are_there l p i (d ∷ ds) h =
-    let a = step (listed_fits l p d) (misfit l (p + 1) (i + 1) ds) i h in
-    All-cons (IsThere l) d ds (there_of l p d.symbol (slice_get l.symbols d.symbol) a.0) (are_there l (p + 1) (i + 1) ds a.1)
-
-all_there : (l : Layout) → IsLaidOut l → All (IsThere l) l.dynsyms
-unfolding check_dynsyms
-all_there l laid =
-    let checks = Both-from_first_error (fails 13 (misplaced (dynamic_symbols l) 0 l.symbols)) (fails 13 (misfit l (first_listed l) 0 l.dynsyms)) laid.dynsyms in
-    are_there l (first_listed l) 0 l.dynsyms (None-from_fails 13 (misfit l (first_listed l) 0 l.dynsyms) checks.rest)
 
 -- ---- they lack nothing
 
@@ -109,5 +81,5 @@ listed_told l d s (Err e) there none is =
 pub listed_have_fields : LayoutsAreLaidOut → ListedSymbolsHaveFields
 listed_have_fields laid l none needs d in_list =
     let lies = laid_out laid l none in
-    let s = All-contains (IsThere l) l.dynsyms d (all_there l lies) in_list in
+    let s = All-contains (IsThere l) l.dynsyms d lies.dynsyms.there in_list in
     listed_told l d s.0 (listed_fields l d.symbol s.0) s.1 (All-contains (LacksNothing l) l.dynsyms d (none_lacks l none needs lies) in_list) refl

@@ -11,16 +11,15 @@ use Rattle.wild_records.specs.declared.symtab_entry.SymtabEntry.{SymtabEntry}
 use Rattle.wild_records.specs.declared.dynamic.DynamicEntry.{DynamicEntry}
 use Rattle.wild_records.specs.Dynamic.{dynamic_entry_fields}
 use Rattle.wild_records.specs.SymtabEntry.{symtab_entry_fields}
-use Rattle.wild_plan.specs.declared.part.Part.{Part}
-use Rattle.wild_plan.specs.declared.part.Role.{Role}
-use Rattle.wild_plan.specs.declared.part.Role.TheVariants as role
-use Rattle.wild_plan.specs.declared.file.File.{File}
-use Rattle.wild_plan.specs.declared.file.Group.{Group}
-use Rattle.wild_plan.specs.declared.layout.Layout.{Layout}
-use Rattle.wild_plan.specs.FileRoles.{is_prelude}
-use Rattle.wild_plan.specs.Kinds.{needs_dynamic}
-use Rattle.wild_plan.specs.Places.{role_place}
-use Rattle.wild_plan.specs.Segments.{part_with}
+use Rattle.wild_types.specs.declared.part.Part.{Part}
+use Rattle.wild_types.specs.declared.part.Role.{Role}
+use Rattle.wild_types.specs.declared.part.Role.TheVariants as role
+use Rattle.wild_types.specs.declared.file.File.{File}
+use Rattle.wild_types.specs.declared.file.Group.{Group}
+use Rattle.wild_types.specs.declared.layout.Layout.{Layout}
+use Rattle.wild_types.specs.FileRoles.{is_prelude}
+use Rattle.wild_types.specs.Kinds.{needs_dynamic}
+use Rattle.wild_types.specs.Parts.{role_place, part_with}
 use Rattle.wild_symbols.specs.Strings.{string}
 use Rattle.wild_symbols.specs.Symbols.{symbol_bytes}
 use Rattle.wild_symbols.specs.DynamicEntries.{NamedFields, entry_at, no_fields, group_symbols}

@@ -8,16 +8,16 @@ use Rattle.std.proofs.lemmas.Option.{slice_get-map}
 use Rattle.wild_words.specs.Words.{Stands, word}
 use Rattle.wild_words.proofs.ListLemmas.{filter-flat_map, flat_map-flat_map, flat_map-same, holds_at}
 use Rattle.wild_words.proofs.WordLemmas.{length-word}
-use Rattle.wild_plan.specs.declared.part.Part.{Part}
-use Rattle.wild_plan.specs.declared.part.Role.{Role}
-use Rattle.wild_plan.specs.declared.part.Role.TheVariants as role
-use Rattle.wild_plan.specs.declared.file.File.{File}
-use Rattle.wild_plan.specs.declared.file.Group.{Group}
-use Rattle.wild_plan.specs.declared.layout.Layout.{Layout}
-use Rattle.wild_plan.specs.FileRoles.{is_prelude}
-use Rattle.wild_plan.specs.Places.{has_role, role_place}
-use Rattle.wild_plan.specs.Segments.{part_with}
-use Rattle.wild_plan.specs.TableSymbols.{has_long, has_many_sections}
+use Rattle.wild_types.specs.declared.part.Part.{Part}
+use Rattle.wild_types.specs.declared.part.Role.{Role}
+use Rattle.wild_types.specs.declared.part.Role.TheVariants as role
+use Rattle.wild_types.specs.declared.file.File.{File}
+use Rattle.wild_types.specs.declared.file.Group.{Group}
+use Rattle.wild_types.specs.declared.layout.Layout.{Layout}
+use Rattle.wild_types.specs.FileRoles.{is_prelude}
+use Rattle.wild_types.specs.Parts.{has_role, role_place, part_with}
+use Rattle.wild_needs.specs.TableSymbols.{has_long}
+use Rattle.wild_types.specs.Lookups.{has_many_sections}
 use Rattle.wild_symbols.specs.DynamicEntries.{NamedFields}
 use Rattle.wild_symbols.specs.TableEntries.{NamedEntry, file_table, group_table, index_bytes, is_side, long_indexes}
 use Rattle.wild_symbols.specs.TableLaws.{IndexesHave4Bytes}

@@ -10,14 +10,13 @@ use Rattle.wild_words.specs.Overlay.{AreApart}
 use Rattle.wild_words.proofs.OverlayLemmas.{Stands-overlay, Stands-inner}
 use Rattle.wild_records.specs.SectionHeader.{section_header_fields, section_header_at}
 use Rattle.wild_records.specs.declared.section_header.SectionHeader.{SectionHeader}
-use Rattle.wild_plan.specs.declared.part.Part.{Part}
-use Rattle.wild_plan.specs.declared.part.Role.{Role}
-use Rattle.wild_plan.specs.declared.part.Role.TheVariants as role
-use Rattle.wild_plan.specs.declared.section.Section.{Section}
-use Rattle.wild_plan.specs.declared.layout.Layout.{Layout}
-use Rattle.wild_plan.specs.Lookups.{image_size}
-use Rattle.wild_plan.specs.Places.{has_role}
-use Rattle.wild_plan.specs.Segments.{part_with}
+use Rattle.wild_types.specs.declared.part.Part.{Part}
+use Rattle.wild_types.specs.declared.part.Role.{Role}
+use Rattle.wild_types.specs.declared.part.Role.TheVariants as role
+use Rattle.wild_types.specs.declared.section.Section.{Section}
+use Rattle.wild_types.specs.declared.layout.Layout.{Layout}
+use Rattle.wild_types.specs.Lookups.{image_size}
+use Rattle.wild_types.specs.Parts.{has_role, part_with}
 use Rattle.wild_headers.specs.Headers.{offset_of_role, section_of_role, size_of_role, null_header, local_symbols, told_of, info_at, section_header, headers_from, section_headers_of, section_header_bytes}
 use Rattle.wild_headers.specs.Laws.{SectionHeadersStand}
 use Rattle.wild_headers.proofs.HeaderLemmas.{length-section_header}

@@ -13,7 +13,6 @@ pub mod InfoLemmas
 pub mod InfoCount
 pub mod ShortEntries
 pub mod IndexLemmas
-pub mod VersionClauses
 pub mod VersionSymbols
 pub mod VersionRead
 pub mod VersionStarts

@@ -3,17 +3,17 @@ use Rattle.std.proofs.Common.{◌≡◌, ℕ, ◌+◌, ◌≤◌, inl, inr, ◌=
 use Rattle.std.proofs.lemmas.Bool.{cases_Bool, and_parts, ne_eqb}
 use Rattle.std.proofs.lemmas.List.{append_assoc, append-nil}
 use Rattle.std.proofs.lemmas.Grind.{flat_map-append}
-use Rattle.wild_plan.specs.declared.file.FileRole.{FileRole}
-use Rattle.wild_plan.specs.declared.file.FileRole.TheVariants as file_role
-use Rattle.wild_plan.specs.declared.file.File.{File}
-use Rattle.wild_plan.specs.declared.file.Group.{Group}
-use Rattle.wild_plan.specs.declared.symbol.Symbol.{Symbol}
-use Rattle.wild_plan.specs.Astray.{range_of}
-use Rattle.wild_plan.specs.Contents.{bool_eq, file_placed, later_placed, files_placed, file_misplaced}
-use Rattle.wild_plan.specs.DynamicStrings.{undefined_symbols}
-use Rattle.wild_plan.specs.DynamicSymbols.{is_undefined_entry}
-use Rattle.wild_plan.specs.FileRoles.{is_prelude, is_epilogue}
-use Rattle.wild_plan.specs.Lookups.{files_of}
+use Rattle.wild_types.specs.declared.file.FileRole.{FileRole}
+use Rattle.wild_types.specs.declared.file.FileRole.TheVariants as file_role
+use Rattle.wild_types.specs.declared.file.File.{File}
+use Rattle.wild_types.specs.declared.file.Group.{Group}
+use Rattle.wild_types.specs.declared.symbol.Symbol.{Symbol}
+use Rattle.wild_types.specs.FileSymbols.{range_of}
+use Rattle.wild_types.specs.FilePlaces.{bool_eq, file_placed, later_placed, files_placed, file_misplaced}
+use Rattle.wild_needs.specs.DynamicStrings.{undefined_symbols}
+use Rattle.wild_needs.specs.DynamicSymbols.{is_undefined_entry}
+use Rattle.wild_types.specs.FileRoles.{is_prelude, is_epilogue}
+use Rattle.wild_types.specs.Lookups.{files_of}
 use Rattle.wild_geometry.proofs.LastGroupLemmas.{same_bool}
 
 -- what files give, and what of it is their own; what stands in front of that of the first file, and behind that of the last one

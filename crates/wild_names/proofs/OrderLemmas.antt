@@ -1,12 +1,12 @@
 -- The order of the dynamic symbol table: the first file has its first entry, and the last file those of the list.
 use Rattle.std.proofs.Common.{◌≡◌, ◌≤◌, true, List, [], ◌∷◌, ◌++◌, length, map, Option, Some, None, flat_map, refl, sym, ap, ◌∙◌}
 use Rattle.std.proofs.lemmas.List.{map-append}
-use Rattle.wild_plan.specs.declared.file.File.{File}
-use Rattle.wild_plan.specs.declared.layout.Layout.{Layout}
-use Rattle.wild_plan.specs.Contents.{file_misplaced}
-use Rattle.wild_plan.specs.DynamicStrings.{undefined_symbols}
-use Rattle.wild_plan.specs.FileRoles.{is_epilogue}
-use Rattle.wild_plan.specs.Lookups.{files_of}
+use Rattle.wild_types.specs.declared.file.File.{File}
+use Rattle.wild_types.specs.declared.layout.Layout.{Layout}
+use Rattle.wild_types.specs.FilePlaces.{file_misplaced}
+use Rattle.wild_needs.specs.DynamicStrings.{undefined_symbols}
+use Rattle.wild_types.specs.FileRoles.{is_epilogue}
+use Rattle.wild_types.specs.Lookups.{files_of}
 use Rattle.wild_symbols.specs.DynamicEntries.{NamedFields, listed, undefined}
 use Rattle.wild_names.specs.Laws.{table_symbols}
 use Rattle.wild_names.proofs.ListOrder.{InOrder, all_in_order, last_defines_none}

@@ -4,17 +4,17 @@ use Rattle.std.proofs.lemmas.List.{length-append, append-nil}
 use Rattle.wild_words.specs.Words.{Stands}
 use Rattle.wild_words.proofs.ListLemmas.{flat_map-same, flat_map-flat_map}
 use Rattle.wild_words.proofs.RecordLemmas.{Stands-whole}
-use Rattle.wild_plan.specs.declared.part.Role.{Role}
-use Rattle.wild_plan.specs.declared.part.Role.TheVariants as role
-use Rattle.wild_plan.specs.declared.file.File.{File}
-use Rattle.wild_plan.specs.declared.file.Group.{Group}
-use Rattle.wild_plan.specs.declared.layout.Layout.{Layout}
-use Rattle.wild_plan.specs.DynamicStrings.{file_strings, behind_file}
-use Rattle.wild_plan.specs.FileRoles.{is_prelude}
-use Rattle.wild_plan.specs.Kinds.{needs_dynsym}
-use Rattle.wild_plan.specs.Lists.{total}
-use Rattle.wild_plan.specs.Lookups.{files_of}
-use Rattle.wild_plan.specs.Needs.{share, group_share}
+use Rattle.wild_types.specs.declared.part.Role.{Role}
+use Rattle.wild_types.specs.declared.part.Role.TheVariants as role
+use Rattle.wild_types.specs.declared.file.File.{File}
+use Rattle.wild_types.specs.declared.file.Group.{Group}
+use Rattle.wild_types.specs.declared.layout.Layout.{Layout}
+use Rattle.wild_needs.specs.DynamicStrings.{file_strings, behind_file}
+use Rattle.wild_types.specs.FileRoles.{is_prelude}
+use Rattle.wild_types.specs.Kinds.{needs_dynsym}
+use Rattle.wild_types.specs.Lists.{total}
+use Rattle.wild_types.specs.Lookups.{files_of}
+use Rattle.wild_needs.specs.Needs.{share, group_share}
 use Rattle.wild_layout.specs.Content.{file_content, content}
 use Rattle.wild_layout.specs.TablePlaces.{table_bytes}
 use Rattle.wild_layout.specs.Geometry.{IsLaidOut}

@@ -4,24 +4,25 @@ use Rattle.std.specs.Prelude.{codes, unwrap_or}
 use Rattle.std.proofs.lemmas.List.Elements.{All-append, All-filter, All-map}
 use Rattle.wild_words.proofs.ListLemmas.{All-flat_map, All-optional}
 use Rattle.wild_records.specs.Abi.Section.{shn_loreserve, shn_xindex}
-use Rattle.wild_plan.specs.declared.fault.Fault.{Fault}
-use Rattle.wild_plan.specs.declared.part.Role.TheVariants as role
-use Rattle.wild_plan.specs.declared.file.File.{File}
-use Rattle.wild_plan.specs.declared.file.FileRole.{FileRole}
-use Rattle.wild_plan.specs.declared.file.Group.{Group}
-use Rattle.wild_plan.specs.declared.layout.Layout.{Layout}
-use Rattle.wild_plan.specs.declared.symbol.Place.{Place}
-use Rattle.wild_plan.specs.declared.symbol.Place.TheVariants as at
-use Rattle.wild_plan.specs.declared.symbol.Symbol.{Symbol}
-use Rattle.wild_plan.specs.declared.table.Named.{Named}
-use Rattle.wild_plan.specs.declared.table.Named.TheVariants as named
-use Rattle.wild_plan.specs.Addresses.{raw_value}
-use Rattle.wild_plan.specs.DynamicSymbols.{output_section}
-use Rattle.wild_plan.specs.FileRoles.{is_library, is_prelude}
-use Rattle.wild_plan.specs.Flags.{has_flag, canonical_plt, copy_relocation}
-use Rattle.wild_plan.specs.Segments.{part_with}
-use Rattle.wild_plan.specs.SymbolSlots.{got_of, plt_of}
-use Rattle.wild_plan.specs.TableSymbols.{TableSymbol, file_items, has_table}
+use Rattle.wild_types.specs.declared.fault.Fault.{Fault}
+use Rattle.wild_types.specs.declared.part.Role.TheVariants as role
+use Rattle.wild_types.specs.declared.file.File.{File}
+use Rattle.wild_types.specs.declared.file.FileRole.{FileRole}
+use Rattle.wild_types.specs.declared.file.Group.{Group}
+use Rattle.wild_types.specs.declared.layout.Layout.{Layout}
+use Rattle.wild_types.specs.declared.symbol.Place.{Place}
+use Rattle.wild_types.specs.declared.symbol.Place.TheVariants as at
+use Rattle.wild_types.specs.declared.symbol.Symbol.{Symbol}
+use Rattle.wild_needs.specs.declared.table.Named.{Named}
+use Rattle.wild_needs.specs.declared.table.Named.TheVariants as named
+use Rattle.wild_types.specs.Addresses.{raw_value}
+use Rattle.wild_needs.specs.DynamicSymbols.{output_section}
+use Rattle.wild_types.specs.FileRoles.{is_library, is_prelude}
+use Rattle.wild_types.specs.Flags.{has_flag, canonical_plt, copy_relocation}
+use Rattle.wild_types.specs.Parts.{part_with}
+use Rattle.wild_types.specs.SymbolSlots.{got_of, plt_of}
+use Rattle.wild_needs.specs.TableSymbols.{TableSymbol, file_items}
+use Rattle.wild_types.specs.Lookups.{has_table}
 use Rattle.wild_symbols.specs.declared.table.TableFields.{TableFields}
 use Rattle.wild_symbols.specs.declared.writer.SymbolAttributes.{SymbolAttributes}
 use Rattle.wild_symbols.specs.DynamicFields.{common_section, part_section, section_named, some_section, stands_as_stub, stub_or_zero}

@@ -8,17 +8,18 @@ use Rattle.wild_words.proofs.ListLemmas.{flat_map-same, flat_map-flat_map}
 use Rattle.wild_words.proofs.RecordLemmas.{Stands-whole}
 use Rattle.wild_records.specs.SymtabEntry.{symtab_entry_fields}
 use Rattle.wild_records.specs.declared.symtab_entry.SymtabEntry.{SymtabEntry}
-use Rattle.wild_plan.specs.declared.part.Role.TheVariants as role
-use Rattle.wild_plan.specs.declared.file.File.{File}
-use Rattle.wild_plan.specs.declared.file.Group.{Group}
-use Rattle.wild_plan.specs.declared.layout.Layout.{Layout}
-use Rattle.wild_plan.specs.Contents.{bool_eq, file_placed, later_placed, files_placed, file_misplaced}
-use Rattle.wild_plan.specs.DynamicStrings.{behind_text}
-use Rattle.wild_plan.specs.FileRoles.{is_prelude, is_epilogue}
-use Rattle.wild_plan.specs.Lists.{total}
-use Rattle.wild_plan.specs.Needs.{share, group_share}
-use Rattle.wild_plan.specs.Places.{role_place}
-use Rattle.wild_plan.specs.TableSymbols.{has_table, file_items, table_strings}
+use Rattle.wild_types.specs.declared.part.Role.TheVariants as role
+use Rattle.wild_types.specs.declared.file.File.{File}
+use Rattle.wild_types.specs.declared.file.Group.{Group}
+use Rattle.wild_types.specs.declared.layout.Layout.{Layout}
+use Rattle.wild_types.specs.FilePlaces.{bool_eq, file_placed, later_placed, files_placed, file_misplaced}
+use Rattle.wild_needs.specs.DynamicStrings.{behind_text}
+use Rattle.wild_types.specs.FileRoles.{is_prelude, is_epilogue}
+use Rattle.wild_types.specs.Lists.{total}
+use Rattle.wild_needs.specs.Needs.{share, group_share}
+use Rattle.wild_types.specs.Parts.{role_place}
+use Rattle.wild_types.specs.Lookups.{has_table}
+use Rattle.wild_needs.specs.TableSymbols.{file_items, table_strings}
 use Rattle.wild_symbols.specs.DynamicEntries.{NamedFields, entry_at, no_fields}
 use Rattle.wild_symbols.specs.Strings.{string, string_bytes}
 use Rattle.wild_symbols.specs.Symbols.{symbol_bytes}

@@ -5,18 +5,18 @@ use Rattle.std.proofs.lemmas.List.{length-append}
 use Rattle.std.proofs.lemmas.Grind.{flat_map-append}
 use Rattle.wild_words.specs.Words.{Stands}
 use Rattle.wild_records.specs.declared.symtab_entry.SymtabEntry.{SymtabEntry}
-use Rattle.wild_plan.specs.declared.part.Role.TheVariants as role
-use Rattle.wild_plan.specs.declared.file.FileRole.{FileRole}
-use Rattle.wild_plan.specs.declared.file.File.{File}
-use Rattle.wild_plan.specs.declared.file.Group.{Group}
-use Rattle.wild_plan.specs.declared.symbol.Symbol.{Symbol}
-use Rattle.wild_plan.specs.declared.layout.DynamicSymbol.{DynamicSymbol}
-use Rattle.wild_plan.specs.declared.layout.Layout.{Layout}
-use Rattle.wild_plan.specs.DynamicStrings.{behind_text, behind_file, lead_strings, entry_names, file_strings, listed_names, symbol_names, undefined_symbols}
-use Rattle.wild_plan.specs.FileRoles.{is_prelude, is_epilogue}
-use Rattle.wild_plan.specs.Kinds.{needs_dynsym}
-use Rattle.wild_plan.specs.Lookups.{files_of}
-use Rattle.wild_plan.specs.Versions.{version_names}
+use Rattle.wild_types.specs.declared.part.Role.TheVariants as role
+use Rattle.wild_types.specs.declared.file.FileRole.{FileRole}
+use Rattle.wild_types.specs.declared.file.File.{File}
+use Rattle.wild_types.specs.declared.file.Group.{Group}
+use Rattle.wild_types.specs.declared.symbol.Symbol.{Symbol}
+use Rattle.wild_types.specs.declared.layout.DynamicSymbol.{DynamicSymbol}
+use Rattle.wild_types.specs.declared.layout.Layout.{Layout}
+use Rattle.wild_needs.specs.DynamicStrings.{behind_text, behind_file, lead_strings, entry_names, file_strings, listed_names, symbol_names, undefined_symbols}
+use Rattle.wild_types.specs.FileRoles.{is_prelude, is_epilogue}
+use Rattle.wild_types.specs.Kinds.{needs_dynsym}
+use Rattle.wild_types.specs.Lookups.{files_of}
+use Rattle.wild_needs.specs.Versions.{version_names}
 use Rattle.wild_symbols.specs.Strings.{string, string_bytes}
 use Rattle.wild_symbols.proofs.StringLemmas.{length-string_bytes}
 use Rattle.wild_symbols.specs.DynamicEntries.{NamedFields, listed, undefined, file_symbols, entry_at, no_fields, entries_at, null_entries, behind_lead, file_entries, entries_from, group_symbols}

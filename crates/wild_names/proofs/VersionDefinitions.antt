@@ -6,19 +6,18 @@ use Rattle.std.proofs.lemmas.List.{append-nil}
 use Rattle.std.proofs.lemmas.Option.{get_or_from_slice_get, slice_get_within}
 use Rattle.wild_words.specs.Words.{Stands}
 use Rattle.wild_words.proofs.ListLemmas.{flat_map-same, flat_map-flat_map}
-use Rattle.wild_plan.specs.declared.part.Role.TheVariants as role
-use Rattle.wild_plan.specs.declared.file.FileRole.{FileRole}
-use Rattle.wild_plan.specs.declared.file.FileRole.TheVariants as file_role
-use Rattle.wild_plan.specs.declared.file.File.{File}
-use Rattle.wild_plan.specs.declared.file.Group.{Group}
-use Rattle.wild_plan.specs.declared.layout.Layout.{Layout}
-use Rattle.wild_plan.specs.declared.layout.VersionDefinition.{VersionDefinition}
-use Rattle.wild_plan.specs.DynamicStrings.{string_start}
-use Rattle.wild_plan.specs.FileRoles.{is_prelude, is_epilogue}
-use Rattle.wild_plan.specs.Kinds.{needs_dynsym}
-use Rattle.wild_plan.specs.Lookups.{files_of}
-use Rattle.wild_plan.specs.VersionTables.{versions_needed, most_versions}
-use Rattle.wild_plan.specs.Versions.{size_with, definitions_size, need_count}
+use Rattle.wild_types.specs.declared.part.Role.TheVariants as role
+use Rattle.wild_types.specs.declared.file.FileRole.{FileRole}
+use Rattle.wild_types.specs.declared.file.FileRole.TheVariants as file_role
+use Rattle.wild_types.specs.declared.file.File.{File}
+use Rattle.wild_types.specs.declared.file.Group.{Group}
+use Rattle.wild_types.specs.declared.layout.Layout.{Layout}
+use Rattle.wild_types.specs.declared.layout.VersionDefinition.{VersionDefinition}
+use Rattle.wild_needs.specs.DynamicStrings.{string_start}
+use Rattle.wild_types.specs.FileRoles.{is_prelude, is_epilogue}
+use Rattle.wild_types.specs.Kinds.{needs_dynsym}
+use Rattle.wild_types.specs.Lookups.{files_of}
+use Rattle.wild_needs.specs.Versions.{versions_needed, most_versions, size_with, definitions_size, need_count}
 use Rattle.wild_symbols.specs.Strings.{string}
 use Rattle.wild_versions.specs.Chain.{name_at}
 use Rattle.wild_versions.specs.Definitions.{known_as, definition_table}
@@ -31,7 +30,6 @@ use Rattle.wild_layout.specs.Image.{bytes}
 use Rattle.wild_names.specs.VersionLaws.{DefinitionsAreThere, DefinitionsStand}
 use Rattle.wild_names.proofs.ImageLemmas.{named, none_joined}
 use Rattle.wild_names.proofs.RunLemmas.{nil_if, strings_are_short}
-use Rattle.wild_names.proofs.VersionClauses.{definitions_hold}
 use Rattle.wild_names.proofs.VersionOffsets.{names_small}
 use Rattle.wild_names.proofs.ListOrder.{InOrder, all_in_order}
 use Rattle.wild_names.proofs.VersionStarts.{LastStands, last_stands}
@@ -120,7 +118,7 @@ definitions_stand stand lengths read names_stand l laid needs table strings foun
     by : LastStands l (table_bytes l role.Dynstr) (string_start l) → DefinitionsAreThere l table strings
     by e =
         let short = strings_are_short l laid in
-        let hold = definitions_hold l laid table found in
+        let hold = laid.versions.definitions table found in
         let some = hold.some in
         let names = definition_offsets l e.file in
         let given = definitions_given l e.file laid needs e.last in

@@ -4,21 +4,20 @@ use Rattle.std.specs.Prelude.{Option, Some, None, option_and_then, is_some}
 use Rattle.std.proofs.lemmas.Bool.{cases_Bool, eq-eqb, ne_eqb}
 use Rattle.std.proofs.lemmas.List.{length-append}
 use Rattle.std.proofs.lemmas.List.Elements.{filter-append}
-use Rattle.wild_plan.specs.declared.file.File.{File}
-use Rattle.wild_plan.specs.declared.file.Group.{Group}
-use Rattle.wild_plan.specs.declared.file.VersionNeeds.{VersionNeeds}
-use Rattle.wild_plan.specs.declared.layout.Layout.{Layout}
-use Rattle.wild_plan.specs.DynamicStrings.{behind_file}
-use Rattle.wild_plan.specs.Lists.{through}
-use Rattle.wild_plan.specs.Lookups.{files_of}
-use Rattle.wild_plan.specs.Versions.{needs_of, has_needs, need_count}
-use Rattle.wild_plan.specs.VersionTables.{mark_fits, mark_by, mark_step, needs_in, mark_astray}
+use Rattle.wild_types.specs.declared.file.File.{File}
+use Rattle.wild_types.specs.declared.file.Group.{Group}
+use Rattle.wild_types.specs.declared.file.VersionNeeds.{VersionNeeds}
+use Rattle.wild_types.specs.declared.layout.Layout.{Layout}
+use Rattle.wild_needs.specs.DynamicStrings.{behind_file}
+use Rattle.wild_types.specs.Lists.{through}
+use Rattle.wild_types.specs.Lookups.{files_of}
+use Rattle.wild_needs.specs.Versions.{needs_of, has_needs, need_count}
+use Rattle.wild_clauses.specs.VersionTables.{mark_fits, mark_by, mark_step, needs_in, mark_astray}
 use Rattle.wild_versions.specs.Laws.{Need, EndsOnce}
 use Rattle.wild_versions.specs.Names.{library_offset, need_offsets}
 use Rattle.wild_layout.specs.Geometry.{IsLaidOut}
 use Rattle.wild_geometry.proofs.LastGroupLemmas.{same_bool}
 use Rattle.wild_names.proofs.RunLemmas.{gathered}
-use Rattle.wild_names.proofs.VersionClauses.{versions_hold}
 
 -- ---- records
 
@@ -110,4 +109,4 @@ groups_counted l (g ∷ gs) =
 
 -- the last record is marked, and no other
 pub records_end_once : (l : Layout) → IsLaidOut l → EndsOnce (all_records l)
-records_end_once l laid = marked_once (need_count l) (all_records l) (sym (groups_counted l l.groups)) (groups_marked l (need_count l) 0 l.groups (versions_hold l laid.versions).marks)
+records_end_once l laid = marked_once (need_count l) (all_records l) (sym (groups_counted l l.groups)) (groups_marked l (need_count l) 0 l.groups laid.versions.marks)

@@ -5,16 +5,16 @@ use Rattle.std.proofs.lemmas.List.{append-nil}
 use Rattle.std.proofs.lemmas.Grind.{flat_map-append}
 use Rattle.wild_words.specs.Words.{Stands}
 use Rattle.wild_words.proofs.ListLemmas.{flat_map-same, flat_map-flat_map}
-use Rattle.wild_plan.specs.declared.part.Role.TheVariants as role
-use Rattle.wild_plan.specs.declared.file.File.{File}
-use Rattle.wild_plan.specs.declared.file.Group.{Group}
-use Rattle.wild_plan.specs.declared.file.NeededVersion.{NeededVersion}
-use Rattle.wild_plan.specs.declared.file.VersionNeeds.{VersionNeeds}
-use Rattle.wild_plan.specs.declared.layout.Layout.{Layout}
-use Rattle.wild_plan.specs.DynamicStrings.{behind_text, behind_file}
-use Rattle.wild_plan.specs.FileRoles.{is_prelude}
-use Rattle.wild_plan.specs.Kinds.{needs_dynsym}
-use Rattle.wild_plan.specs.Versions.{needed_names, needs_of}
+use Rattle.wild_types.specs.declared.part.Role.TheVariants as role
+use Rattle.wild_types.specs.declared.file.File.{File}
+use Rattle.wild_types.specs.declared.file.Group.{Group}
+use Rattle.wild_types.specs.declared.file.NeededVersion.{NeededVersion}
+use Rattle.wild_types.specs.declared.file.VersionNeeds.{VersionNeeds}
+use Rattle.wild_types.specs.declared.layout.Layout.{Layout}
+use Rattle.wild_needs.specs.DynamicStrings.{behind_text, behind_file}
+use Rattle.wild_types.specs.FileRoles.{is_prelude}
+use Rattle.wild_types.specs.Kinds.{needs_dynsym}
+use Rattle.wild_needs.specs.Versions.{needed_names, needs_of}
 use Rattle.wild_symbols.specs.Strings.{string}
 use Rattle.wild_versions.specs.Chain.{name_at}
 use Rattle.wild_versions.specs.Laws.{Need, needs_bytes, NeedsAreNamed}

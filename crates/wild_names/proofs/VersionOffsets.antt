@@ -1,10 +1,10 @@
 -- The offsets of names have 32 bits, as the records of versions tell them.
 use Rattle.std.proofs.Common.{ℕ, ◌%◌, ◌^◌, ◌<◌, List, [], ◌∷◌, All, Option, Some, None, arith}
 use Rattle.std.proofs.lemmas.List.Elements.{All-nil, All-cons}
-use Rattle.wild_plan.specs.declared.file.File.{File}
-use Rattle.wild_plan.specs.declared.layout.Layout.{Layout}
-use Rattle.wild_plan.specs.DynamicStrings.{behind_text, string_start}
-use Rattle.wild_plan.specs.Versions.{version_names}
+use Rattle.wild_types.specs.declared.file.File.{File}
+use Rattle.wild_types.specs.declared.layout.Layout.{Layout}
+use Rattle.wild_needs.specs.DynamicStrings.{behind_text, string_start}
+use Rattle.wild_needs.specs.Versions.{version_names}
 use Rattle.wild_versions.specs.Names.{offsets_from, behind_entries, behind_path, with_own, definition_offsets}
 
 pub offsets_small : (at : ℕ) (ts : List (List ℕ)) → All (λ x. x < 2 ^ 32) (offsets_from at ts)

@@ -14,18 +14,17 @@ use Rattle.wild_words.specs.Record.{spell}
 use Rattle.wild_records.specs.Abi.Dynamic.{dt_needed}
 use Rattle.wild_records.specs.Dynamic.{dynamic_entry_size, dynamic_entry_fields}
 use Rattle.wild_records.specs.SymtabEntry.{symtab_entry_size, symtab_entry_fields}
-use Rattle.wild_plan.specs.declared.part.Part.{Part}
-use Rattle.wild_plan.specs.declared.part.Role.{Role}
-use Rattle.wild_plan.specs.declared.part.Role.TheVariants as role
-use Rattle.wild_plan.specs.declared.file.File.{File}
-use Rattle.wild_plan.specs.declared.file.Group.{Group}
-use Rattle.wild_plan.specs.declared.layout.Layout.{Layout}
-use Rattle.wild_plan.specs.DynamicStrings.{undefined_symbols}
-use Rattle.wild_plan.specs.FileRoles.{is_library}
-use Rattle.wild_plan.specs.Kinds.{needs_dynsym, needs_dynamic}
-use Rattle.wild_plan.specs.Lookups.{files_of}
-use Rattle.wild_plan.specs.Segments.{part_with}
-use Rattle.wild_plan.specs.TableSymbols.{has_table}
+use Rattle.wild_types.specs.declared.part.Part.{Part}
+use Rattle.wild_types.specs.declared.part.Role.{Role}
+use Rattle.wild_types.specs.declared.part.Role.TheVariants as role
+use Rattle.wild_types.specs.declared.file.File.{File}
+use Rattle.wild_types.specs.declared.file.Group.{Group}
+use Rattle.wild_types.specs.declared.layout.Layout.{Layout}
+use Rattle.wild_needs.specs.DynamicStrings.{undefined_symbols}
+use Rattle.wild_types.specs.FileRoles.{is_library}
+use Rattle.wild_types.specs.Kinds.{needs_dynsym, needs_dynamic}
+use Rattle.wild_types.specs.Lookups.{files_of, has_table}
+use Rattle.wild_types.specs.Parts.{part_with}
 use Rattle.wild_symbols.specs.DynamicEntries.{NamedFields, undefined, listed, entry_at}
 use Rattle.wild_symbols.specs.TableEntries.{NamedEntry, is_side, group_table}
 use Rattle.wild_layout.specs.Image.{bytes}

@@ -1,13 +1,13 @@
 //! The numbers of versions in a layout have their types' ranges: what the laws, which speak of numbers without bound, do not
 //! know of a layout in memory.
 ghost use Rattle.std.specs.Prelude.{All, ◌^◌, ◌<◌};
-ghost use Rattle.wild_plan.specs.declared.file.Group.{Group};
-ghost use Rattle.wild_plan.specs.declared.file.NeededVersion.{NeededVersion};
-ghost use Rattle.wild_plan.specs.declared.layout.DynamicSymbol.{DynamicSymbol};
-ghost use Rattle.wild_plan.specs.declared.symbol.Symbol.{Symbol};
+ghost use Rattle.wild_types.specs.declared.file.Group.{Group};
+ghost use Rattle.wild_types.specs.declared.file.NeededVersion.{NeededVersion};
+ghost use Rattle.wild_types.specs.declared.layout.DynamicSymbol.{DynamicSymbol};
+ghost use Rattle.wild_types.specs.declared.symbol.Symbol.{Symbol};
 ghost use Rattle.wild_names.specs.VersionLaws.{IndexesFit, VersionNumbersFit};
 
-use wild_plan::{DynamicSymbol, File, Group, Layout, NeededVersion, Symbol};
+use wild_types::{DynamicSymbol, File, Group, Layout, NeededVersion, Symbol};
 
 fn symbol_fits(symbol: &Symbol)
     ensures { symbol.now.version < 2 ^ 16 }

@@ -11,9 +11,9 @@ use Rattle.wild_program.specs.declared.command.Command.TheVariants as command
 use Rattle.wild_made.specs.Made.{made}
 use Rattle.std.specs.Io.KnownBytes.{Consumes, Appends, IsAtEnd}
 use Rattle.wild_outside.specs.Causes.{Rose, AppendsFront}
-use Rattle.wild_plan.specs.declared.fault.Error.{Error}
-use Rattle.wild_plan.specs.declared.layout.Layout.{Layout}
-use Rattle.wild_plan.specs.declared.warning.EntryWarning.{EntryWarning}
+use Rattle.wild_types.specs.declared.fault.Error.{Error}
+use Rattle.wild_types.specs.declared.layout.Layout.{Layout}
+use Rattle.wild_types.specs.declared.warning.EntryWarning.{EntryWarning}
 use Rattle.wild_layout.specs.Image.{bytes, counts}
 use Rattle.wild_layout.specs.Warnings.{warnings}
 use Rattle.wild_layout.specs.Faults.{errors}

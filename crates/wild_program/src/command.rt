@@ -1,7 +1,7 @@
 //! What the words ask for.
 
 /// A command.
-#[derive(Clone, Copy, Debug, PartialEq, Eq)]
+#[derive(Clone, Copy)]
 pub enum Command {
     /// The image of the plan that is read, by so many workers: 1 to 64.
     Link { workers: u8 },

@@ -2,20 +2,10 @@
 //! image of N groups. Where it reads and writes is the caller's choice.
 #![tactic(auto)]
 
-#[cfg(test)]
-mod broken;
 mod command;
 mod making;
-#[cfg(test)]
-mod moved;
 mod program;
-#[cfg(test)]
-mod slots;
 mod status;
-#[cfg(test)]
-mod symbols;
-#[cfg(test)]
-mod tests;
 mod words;
 
 pub use command::Command;

@@ -1,6 +1,6 @@
 //! All that the program does, over any source and sink.
 ghost use Rattle.std.specs.Prelude.{◌≡◌, ◌≢◌, ◌≤◌, Some, None, IfOk, OnErr};
-ghost use Rattle.wild_plan.specs.declared.kind.Machine.TheVariants.{X86_64};
+ghost use Rattle.wild_types.specs.declared.kind.Machine.TheVariants.{X86_64};
 ghost use Rattle.wild_outside.specs.Memory.{sure_left};
 ghost use Rattle.wild_program.specs.Exit.{read_fault, cut_short};
 ghost use Rattle.wild_program.specs.Program.{IsLink, layout_status, layout_text, turn, told, IsSaid, IsAnswered};

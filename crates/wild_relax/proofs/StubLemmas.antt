@@ -6,7 +6,7 @@ use Rattle.wild_reloc.specs.Range.{of_bits, contains}
 use Rattle.wild_reloc.specs.declared.range.Sign.TheVariants.{Signed}
 use Rattle.wild_meaning.specs.Instruction.{signed_32, sum_64}
 use Rattle.wild_meaning.specs.InstructionX86_64.{meaning_x86_64}
-use Rattle.wild_plan.specs.Stub.{displacement_x86_64}
+use Rattle.wild_slot.specs.Stub.{displacement_x86_64}
 use Rattle.wild_relax.specs.Laws.{StubsJump}
 
 -- a displacement of 32 bits is read back

@@ -5,10 +5,10 @@
 --   is_known q        the symbol's value is a number when the image is linked
 --   is_own q          this output's definition of the symbol is the one that counts
 use Rattle.std.specs.Prelude.{ℕ, ℤ, pos, negsuc, ◌+◌, ◌==◌, Bool, false, not, ◌&&◌, ◌||◌, List, Option, None, slice_get, slice_index_or}
-use Rattle.wild_plan.specs.declared.kind.OutputKind.{OutputKind}
-use Rattle.wild_plan.specs.declared.symbol.ValueFlags.{ValueFlags}
-use Rattle.wild_plan.specs.Kinds.{has_fixed_load_address}
-use Rattle.wild_plan.specs.Flags.{has_flag, interposable, has_link_time_address, absolute}
+use Rattle.wild_types.specs.declared.kind.OutputKind.{OutputKind}
+use Rattle.wild_types.specs.declared.symbol.ValueFlags.{ValueFlags}
+use Rattle.wild_types.specs.Kinds.{has_fixed_load_address}
+use Rattle.wild_types.specs.Flags.{has_flag, interposable, has_link_time_address, absolute}
 use Rattle.wild_relax.specs.declared.reference.RelocationInfo.{RelocationInfo}
 use Rattle.wild_relax.specs.declared.reference.Reference.{Reference}
 

@@ -2,8 +2,8 @@
 --   relaxation_x86_64 q   that of x86-64
 --   chosen_of m q         its row, by the machine
 use Rattle.std.specs.Prelude.{◌≡◌, refl, Option, Some, None, Result, Ok, Err}
-use Rattle.wild_plan.specs.declared.kind.Machine.{Machine}
-use Rattle.wild_plan.specs.declared.kind.Machine.TheVariants as machine
+use Rattle.wild_types.specs.declared.kind.Machine.{Machine}
+use Rattle.wild_types.specs.declared.kind.Machine.TheVariants as machine
 use Rattle.wild_relax.specs.declared.reference.UnknownSequence.{UnknownSequence}
 use Rattle.wild_relax.specs.declared.row.Row.{Row}
 use Rattle.wild_relax.specs.declared.x86_64.ElfX86_64Relaxation.{ElfX86_64Relaxation}

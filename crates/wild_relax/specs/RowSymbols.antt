@@ -2,9 +2,9 @@
 --   takes_value row q         the value has its field
 --   takes_symbol row q        the row is one for such a symbol; takes_section for such a section
 use Rattle.std.specs.Prelude.{ℕ, Bool, true, false, not, ◌&&◌, ◌||◌, Option, Some, None}
-use Rattle.wild_plan.specs.Kinds.{has_fixed_load_address}
-use Rattle.wild_plan.specs.Flags.{has_flag, has_link_time_address, ifunc}
-use Rattle.wild_plan.specs.Lookups.{executable}
+use Rattle.wild_types.specs.Kinds.{has_fixed_load_address}
+use Rattle.wild_types.specs.Flags.{has_flag, has_link_time_address, ifunc}
+use Rattle.wild_types.specs.Lookups.{executable}
 use Rattle.wild_reloc.specs.Range.{of_bits, contains}
 use Rattle.wild_reloc.specs.declared.range.Sign.{Sign}
 use Rattle.wild_reloc.specs.declared.range.Sign.TheVariants.{Unsigned, Signed}

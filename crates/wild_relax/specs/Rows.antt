@@ -7,8 +7,8 @@
 --   chosen_x86_64 q        that row, or why it is refused
 use Rattle.std.specs.Prelude.{ℕ, ◌==◌, Bool, true, false, not, ◌&&◌, ◌||◌, List, [], ◌∷◌, Option, Result}
 use Rattle.wild_records.specs.Abi.Relocation as abi
-use Rattle.wild_plan.specs.Kinds.{is_executable, is_static_executable, is_position_independent}
-use Rattle.wild_plan.specs.Flags.{has_flag, absolute}
+use Rattle.wild_types.specs.Kinds.{is_executable, is_static_executable, is_position_independent}
+use Rattle.wild_types.specs.Flags.{has_flag, absolute}
 use Rattle.wild_relax.specs.declared.reference.UnknownSequence.{UnknownSequence}
 use Rattle.wild_relax.specs.declared.pattern.Prefix.TheVariants.{Rex, Rex2}
 use Rattle.wild_relax.specs.declared.pattern.Operation.TheVariants as operation

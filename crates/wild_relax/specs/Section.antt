@@ -9,7 +9,7 @@ use Rattle.wild_reloc.specs.Field.{written}
 use Rattle.wild_reloc.specs.TableX86_64.{x86_64_row}
 use Rattle.wild_reloc.specs.declared.info.RelocationKindInfo.{RelocationKindInfo}
 use Rattle.wild_relax.specs.declared.row.Row.{Row}
-use Rattle.wild_plan.specs.Kinds.{is_executable}
+use Rattle.wild_types.specs.Kinds.{is_executable}
 use Rattle.wild_relax.specs.Question.{Question, relocation_of, minus_four}
 use Rattle.wild_relax.specs.Pattern.{cells_of, field_of}
 use Rattle.wild_relax.specs.RowPatterns.{counts_from_its_end}

@@ -1,27 +1,28 @@
 //! What differs between the machines.
 ghost use Rattle.std.specs.Prelude.{◌≡◌, false, length, replicate, if◌then◌else◌, is_ok, IfErr, OnOk, OnErr};
-ghost use Rattle.wild_plan.specs.Lookups.{executable};
+ghost use Rattle.wild_types.specs.Lookups.{executable};
 ghost use Rattle.std.specs.List.{list_any};
 
 use crate::reference::{RelocationInfo, UnknownSequence};
 use crate::relaxation::Relaxation;
-use wild_plan::{Layout, Machine, OutputKind, PltTooFar, ValueFlags};
 use wild_reloc::{DynamicRelocationKind, RelName, RelocationKindInfo};
+use wild_slot::PltTooFar;
+use wild_types::{Layout, Machine, OutputKind, ValueFlags};
 
 /// A machine that images are written for.
 pub trait Arch {
     ghost use Rattle.std.specs.Prelude.{ℕ, Bool, List, Option, ◌==◌};
-    ghost use Rattle.wild_plan.specs.declared.kind.Machine.{Machine};
-    ghost use Rattle.wild_plan.specs.declared.layout.Tls.{Tls};
+    ghost use Rattle.wild_types.specs.declared.kind.Machine.{Machine};
+    ghost use Rattle.wild_types.specs.declared.layout.Tls.{Tls};
     ghost use Rattle.wild_reloc.specs.declared.dynamic.DynamicRelocationKind.{DynamicRelocationKind};
-    ghost use Rattle.wild_plan.specs.Rows.{row_of};
+    ghost use Rattle.wild_types.specs.Rows.{row_of};
     ghost use Rattle.wild_reloc.specs.declared.names.RelName.{RelName};
     ghost use Rattle.std.specs.Prelude.{Result, IfOk, IfSome};
     ghost use Rattle.wild_relax.specs.declared.reference.UnknownSequence.{UnknownSequence};
     ghost use Rattle.wild_relax.specs.Question.{Question, entry_at};
     ghost use Rattle.wild_relax.specs.Rewrite.{HasRoom};
     ghost use Rattle.wild_relax.specs.Relaxation.{rows_of, chosen_of};
-    ghost use Rattle.wild_plan.specs.Stub.{Stub};
+    ghost use Rattle.wild_slot.specs.Stub.{Stub};
 
     /// A rewrite of instructions of the machine.
     type Relaxation: Relaxation + Copy;

@@ -9,8 +9,6 @@ mod relaxation;
 mod rewrite;
 mod row;
 mod template;
-#[cfg(test)]
-mod tests;
 mod thread;
 mod x86_64;
 

@@ -44,7 +44,7 @@ pub enum LocalForm {
 }
 
 /// Bytes of the input, with a relocation's field among them.
-#[derive(Clone, Copy, Debug, PartialEq, Eq)]
+#[derive(Clone, Copy)]
 pub enum Pattern {
     /// None.
     Nothing,
@@ -70,7 +70,7 @@ pub enum Pattern {
 
 /// What one byte may be: a fixed one; a REX prefix, or the payload of a REX2 prefix, for 64 bits without an index or a base; a
 /// ModRM byte of `[rip + displacement]`; or any.
-#[derive(Clone, Copy, Debug, PartialEq, Eq)]
+#[derive(Clone, Copy)]
 pub enum Cell {
     Is(u8),
     RexWide,

@@ -2,10 +2,10 @@
 ghost use Rattle.std.specs.Prelude.{◌≡◌, ◌+◌, slice_get};
 ghost use Rattle.wild_relax.specs.Question.{question, relocation_of, next_of, is_known, is_own, minus_four, zero};
 
-use wild_plan::{OutputKind, ValueFlags};
+use wild_types::{OutputKind, ValueFlags};
 
 /// A relocation of an input section.
-#[derive(Clone, Copy, Debug, PartialEq, Eq)]
+#[derive(Clone, Copy)]
 pub struct RelocationInfo {
     /// The machine's relocation type.
     pub number: u32,
@@ -19,7 +19,7 @@ pub struct RelocationInfo {
 }
 
 /// A row stands at a relocation, and the bytes or the next relocation are not what it needs.
-#[derive(Clone, Copy, Debug, PartialEq, Eq)]
+#[derive(Clone, Copy)]
 pub struct UnknownSequence {
     /// The relocation type of the input.
     pub number: u32,

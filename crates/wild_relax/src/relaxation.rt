@@ -5,7 +5,7 @@ use crate::row::Row;
 use wild_reloc::RelocationKindInfo;
 
 /// What becomes of an instruction, by the names of the first linker that had them; `n` bytes of it stand before the field.
-#[derive(Clone, Copy, Debug, PartialEq, Eq)]
+#[derive(Clone, Copy, PartialEq, Eq)]
 pub enum RelaxationKind {
     /// No byte but the field's changes.
     NoOp,
@@ -46,7 +46,7 @@ pub enum RelaxationKind {
 }
 
 /// What is done with the relocation behind a rewritten one.
-#[derive(Clone, Copy, Debug, PartialEq, Eq)]
+#[derive(Clone, Copy)]
 pub enum RelocationModifier {
     /// It is taken for itself.
     Normal,
@@ -57,8 +57,8 @@ pub enum RelocationModifier {
 /// A rewrite of instructions that stands at a relocation.
 pub trait Relaxation {
     ghost use Rattle.std.specs.Prelude.{Bool};
-    ghost use Rattle.wild_plan.specs.declared.kind.Machine.{Machine};
-    ghost use Rattle.wild_plan.specs.Rows.{row_of};
+    ghost use Rattle.wild_types.specs.declared.kind.Machine.{Machine};
+    ghost use Rattle.wild_types.specs.Rows.{row_of};
     ghost use Rattle.wild_relax.specs.Rewrite.{Rewrite, rewritten};
     ghost use Rattle.wild_relax.specs.declared.relaxation.RelaxationKind.{RelaxationKind};
     ghost use Rattle.wild_relax.specs.declared.row.Row.{Row};

@@ -11,7 +11,6 @@ ghost use Rattle.wild_relax.specs.Rows.{number_of, is_mandatory, stands_anywhere
 
 use crate::pattern::{GeneralForm, LocalForm, Operation, Pattern, Prefix, is_standing_before};
 use crate::reference::{Reference, RelocationInfo, UnknownSequence, is_minus_four, is_zero};
-use wild_plan::is_executable;
 use wild_records::abi::relocation::{
     R_X86_64_CODE_4_GOTPC32_TLSDESC, R_X86_64_CODE_4_GOTPCRELX, R_X86_64_CODE_4_GOTTPOFF,
     R_X86_64_GOTPC32_TLSDESC, R_X86_64_GOTPCREL, R_X86_64_GOTPCRELX, R_X86_64_GOTTPOFF,
@@ -19,6 +18,7 @@ use wild_records::abi::relocation::{
     R_X86_64_TLSDESC_CALL, R_X86_64_TLSGD, R_X86_64_TLSLD,
 };
 use wild_reloc::{AllowedRange, Sign};
+use wild_types::is_executable;
 
 /// What a `lea` of a descriptor becomes.
 #[derive(Clone, Copy, Debug, PartialEq, Eq)]

@@ -2,7 +2,7 @@
 ghost use Rattle.std.specs.Prelude.{◌≡◌};
 ghost use Rattle.wild_relax.specs.Thread.{rounded_up, pointer_x86_64};
 
-use wild_plan::Tls;
+use wild_types::Tls;
 
 // The least multiple of `align` that is not below the number; 0 is no alignment.
 fn rounded_up(number: u64, align: u64) -> u64

@@ -5,24 +5,23 @@ use crate::relaxation::{Relaxation, RelaxationKind, RelocationModifier};
 use crate::rewrite;
 use crate::row::{Row, choose, is_mandatory};
 use crate::thread::pointer_x86_64;
-use wild_plan::{
-    Layout, Machine, OutputKind, PltTooFar, ValueFlags, is_executable, row_of, write_stub,
-};
 use wild_records::abi::relocation::{
     R_X86_64_8, R_X86_64_16, R_X86_64_32, R_X86_64_32S, R_X86_64_PC8, R_X86_64_PC16, R_X86_64_PC32,
 };
 use wild_reloc::{DynamicRelocationKind, RelName, RelocationKindInfo, x86_64};
+use wild_slot::{PltTooFar, write_stub};
+use wild_types::{Layout, Machine, OutputKind, ValueFlags, is_executable, row_of};
 
 /// x86-64.
 pub struct ElfX86_64;
 
 impl Arch for ElfX86_64 {
     ghost use Rattle.std.specs.Prelude.{replicate, refl};
-    ghost use Rattle.wild_plan.specs.declared.kind.Machine.TheVariants.{X86_64};
+    ghost use Rattle.wild_types.specs.declared.kind.Machine.TheVariants.{X86_64};
     ghost use Rattle.wild_reloc.specs.Dynamic.{x86_64_type};
     ghost use Rattle.wild_reloc.specs.declared.names.RelName.TheVariants as names;
     ghost use Rattle.wild_relax.specs.Barred.{barred_x86_64, barred_in_shared_x86_64};
-    ghost use Rattle.wild_plan.specs.Stub.{stub_x86_64};
+    ghost use Rattle.wild_slot.specs.Stub.{stub_x86_64};
     ghost use Rattle.wild_relax.specs.Thread.{pointer_x86_64};
     ghost use Rattle.wild_relax.specs.Rows.{chosen_x86_64};
     ghost use Rattle.wild_relax.specs.Relaxation.{relaxation_x86_64, rows_with_duty};
@@ -153,7 +152,7 @@ impl Arch for ElfX86_64 {
 }
 
 /// A rewrite of instructions of x86-64 that stands at a relocation.
-#[derive(Clone, Copy, Debug, PartialEq, Eq)]
+#[derive(Clone, Copy)]
 pub struct ElfX86_64Relaxation {
     pub row: Row,
     /// Whether it is taken also where rewriting is off.
@@ -161,7 +160,7 @@ pub struct ElfX86_64Relaxation {
 }
 
 impl Relaxation for ElfX86_64Relaxation {
-    ghost use Rattle.wild_plan.specs.declared.kind.Machine.TheVariants.{X86_64};
+    ghost use Rattle.wild_types.specs.declared.kind.Machine.TheVariants.{X86_64};
     ghost use Rattle.wild_relax.specs.RewriteX86_64.{rewrite_of, kind_of, is_number};
 
     ghost as_row = { λ r. r.row };
@@ -187,7 +186,7 @@ impl Relaxation for ElfX86_64Relaxation {
         *addend = self.row.addend_written(*addend);
     }
 
-    #[tactic(auto, unfolding(wild_plan::specs::Rows::row_of))]
+    #[tactic(auto, unfolding(wild_types::specs::Rows::row_of))]
     fn rel_info(&self) -> RelocationKindInfo {
         self.row.row_written()
     }

@@ -10,8 +10,6 @@ mod names;
 mod names_aarch64;
 mod names_x86_64;
 mod range;
-#[cfg(test)]
-mod tests;
 pub mod x86_64;
 
 pub use dynamic::DynamicRelocationKind;

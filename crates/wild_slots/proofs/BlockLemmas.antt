@@ -7,29 +7,30 @@ use Rattle.std.proofs.lemmas.List.Elements.{All-nil, All-cons, All-head, All-tai
 use Rattle.wild_words.proofs.ListLemmas.{All-flat_map, flat_map-flat_map}
 use Rattle.wild_relr.specs.Packed.{slots}
 use Rattle.wild_relr.proofs.BlockLemmas.{slots-append}
-use Rattle.wild_plan.specs.declared.part.Part.{Part}
-use Rattle.wild_plan.specs.declared.part.Role.{Role}
-use Rattle.wild_plan.specs.declared.part.Role.TheVariants as role
-use Rattle.wild_plan.specs.declared.file.Group.{Group}
-use Rattle.wild_plan.specs.declared.symbol.Symbol.{Symbol}
-use Rattle.wild_plan.specs.declared.layout.Layout.{Layout}
-use Rattle.wild_plan.specs.declared.slot.SlotWord.{SlotWord}
-use Rattle.wild_plan.specs.declared.slot.SlotWord.TheVariants.{Number, Address, InBlock, General, Plt}
-use Rattle.wild_plan.specs.declared.slot_parts.WordPart.TheVariants as words
-use Rattle.wild_plan.specs.Lists.{total}
-use Rattle.wild_plan.specs.Places.{has_role}
-use Rattle.wild_plan.specs.Segments.{part_with}
-use Rattle.wild_plan.specs.SlotParts.{next, at_places}
-use Rattle.wild_plan.specs.SymbolSlots.{got_of}
-use Rattle.wild_plan.specs.SlotShares.{own_symbols, slots_of, slots_at, words_in, symbol_share, block_places, group_block, block_of}
-use Rattle.wild_plan.specs.SlotPlaces.{address_of_part, start_of, first_free, is_even_slot, slot_is_even, block_has_base}
-use Rattle.wild_plan.proofs.ListLemmas.{total-append}
+use Rattle.wild_types.specs.declared.part.Part.{Part}
+use Rattle.wild_types.specs.declared.part.Role.{Role}
+use Rattle.wild_types.specs.declared.part.Role.TheVariants as role
+use Rattle.wild_types.specs.declared.file.Group.{Group}
+use Rattle.wild_types.specs.declared.symbol.Symbol.{Symbol}
+use Rattle.wild_types.specs.declared.layout.Layout.{Layout}
+use Rattle.wild_slot.specs.declared.slot.SlotWord.{SlotWord}
+use Rattle.wild_slot.specs.declared.slot.SlotWord.TheVariants.{Number, Address, InBlock, General, Plt}
+use Rattle.wild_slot.specs.declared.slot_parts.WordPart.TheVariants as words
+use Rattle.wild_types.specs.Lists.{total}
+use Rattle.wild_types.specs.Parts.{has_role, part_with}
+use Rattle.wild_slot.specs.SlotParts.{next, at_places}
+use Rattle.wild_types.specs.SymbolSlots.{got_of, slots_at}
+use Rattle.wild_types.specs.FileSymbols.{own_symbols}
+use Rattle.wild_slot.specs.SymbolWords.{slots_of}
+use Rattle.wild_needs.specs.SlotShares.{words_in, symbol_share, block_places, group_block, block_of}
+use Rattle.wild_clauses.specs.SlotPlaces.{address_of_part, start_of, first_free, is_even_slot, slot_is_even, block_has_base}
+use Rattle.wild_types.proofs.ListLemmas.{total-append}
 use Rattle.wild_layout.specs.TablePlaces.{table_bytes}
-use Rattle.wild_slots.specs.Order.{group_symbols, HasSlotsInOrder, end_of}
+use Rattle.wild_layout.specs.SlotOrder.{SlotsFollow, HasSlotsInOrder}
+use Rattle.wild_slots.specs.Order.{group_symbols, end_of}
 use Rattle.wild_slots.specs.Ascend.{place_in, word_places}
 use Rattle.wild_slots.specs.Blocks.{IsWhole}
 use Rattle.wild_slots.proofs.WalkLemmas.{AllBehind, Piece-from_contains}
-use Rattle.wild_slots.proofs.CheckLemmas.{SlotChecks, SlotChecks-from_clause}
 use Rattle.wild_slots.proofs.OrderLemmas.{StandsBehind, total-push, AreInOrder-from_test}
 use Rattle.wild_slots.proofs.TableLemmas.{block_table}
 use Rattle.wild_slots.proofs.BlockWordLemmas.{NotInBlock, FirstAlone, first_alone}
@@ -103,7 +104,7 @@ based p r h =
       | inr n ↦ eqb-false p.address 0 (not-true (p.address == 0) n)
     ]
 
-start_based : (l : Layout) → SlotChecks l → (p : Part) → part_with role.GotRelr l.parts ≡ Some p → start_of l role.GotRelr ≢ 0
+start_based : (l : Layout) → SlotsFollow l → (p : Part) → part_with role.GotRelr l.parts ≡ Some p → start_of l role.GotRelr ≢ 0
 start_based l c p e =
     let f = found_part role.GotRelr (λ (q : Part). block_has_base q ≡ true) l.parts p e c.based in
     let b = based p f.0 f.1 in
@@ -135,8 +136,7 @@ group_places l g = sym (flat_map-flat_map (block_places l) (own_symbols l) g.fil
 
 pub whole : (l : Layout) → HasSlotsInOrder l → end_of l role.GotRelr ≤ 2 ^ 64 → (part_with role.GotRelr l.parts ≡ None → table_bytes l role.GotRelr ≡ []) → (g : Group) → Contains l.groups g → IsWhole (block_of (group_block l g)) (group_block l g)
 whole l h small missing g c =
-    let checks = SlotChecks-from_clause l h.slots in
-    let order = AreInOrder-from_test l checks.placed in
+    let order = AreInOrder-from_test l h.slots.placed in
     let piece = Piece-from_contains (StandsBehind l) (group_symbols l) l.groups g c order.each in
     let own = group_symbols l g in
     let share = symbol_share l role.GotRelr in
@@ -149,14 +149,14 @@ whole l h small missing g c =
     let counted = shares_counted l own in
     let end = headless_end l role.GotRelr (block_table l) in
     let within : base + 8 * n ≤ end_of l role.GotRelr = omega (arith, a, b, d, counted, end) in
-    let each = All-flat_map (λ (p : ℕ). p % 2 ≡ 0) (word_places words.Block l) own (All-weaker (λ (s : Symbol). slot_is_even s ≡ true) (λ (s : Symbol). All (λ (p : ℕ). p % 2 ≡ 0) (word_places words.Block l s)) (λ s e. even_places l s e) own (All-group l (λ (s : Symbol). slot_is_even s ≡ true) checks.even g)) in
+    let each = All-flat_map (λ (p : ℕ). p % 2 ≡ 0) (word_places words.Block l) own (All-weaker (λ (s : Symbol). slot_is_even s ≡ true) (λ (s : Symbol). All (λ (p : ℕ). p % 2 ≡ 0) (word_places words.Block l s)) (λ s e. even_places l s e) own (All-group l (λ (s : Symbol). slot_is_even s ≡ true) h.slots.even g)) in
     let even = subst (All (λ (p : ℕ). p % 2 ≡ 0)) (blocks_follow l own piece.before base refl piece.each) each in
     let P : List ℕ → Type 0 = λ (ps : List ℕ). IsWhole (block_of ps) ps in
-    subst P (sym places) (whole_slots base n (omega (arith, within, small)) even (λ some z. by_part checks base n (omega arith) within some z (part_with role.GotRelr l.parts) refl))
+    subst P (sym places) (whole_slots base n (omega (arith, within, small)) even (λ some z. by_part base n (omega arith) within some z (part_with role.GotRelr l.parts) refl))
   where
-    by_part : SlotChecks l → (base n : ℕ) → start_of l role.GotRelr ≤ base → base + 8 * n ≤ end_of l role.GotRelr → 1 ≤ n → base ≡ 0 → (o : Option Part) → part_with role.GotRelr l.parts ≡ o → ⊥
-    by_part checks base n low within some z None e =
+    by_part : (base n : ℕ) → start_of l role.GotRelr ≤ base → base + 8 * n ≤ end_of l role.GotRelr → 1 ≤ n → base ≡ 0 → (o : Option Part) → part_with role.GotRelr l.parts ≡ o → ⊥
+    by_part base n low within some z None e =
         let t = ap (λ (bs : List ℕ). length bs) (missing e) in
         let s = ap address_of_part e in
         omega (arith, within, some, t, s)
-    by_part checks base n low within some z (Some p) e = start_based l checks p e (omega (arith, low, z))
+    by_part base n low within some z (Some p) e = start_based l h.slots p e (omega (arith, low, z))

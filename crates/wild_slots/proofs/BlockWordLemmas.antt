@@ -4,24 +4,24 @@ use Rattle.std.specs.Prelude.{Option, not, ◌&&◌, if◌then◌else◌, is_som
 use Rattle.std.proofs.lemmas.Bool.{cases_Bool, and_parts, or_cases, not-true}
 use Rattle.std.proofs.lemmas.List.{nil_from_length}
 use Rattle.std.proofs.lemmas.List.Elements.{All-nil, All-cons, All-head, All-tail, All-append, All-weaker}
-use Rattle.wild_plan.specs.declared.symbol.Resolution.{Resolution}
-use Rattle.wild_plan.specs.declared.symbol.Symbol.{Symbol}
-use Rattle.wild_plan.specs.declared.symbol.ValueFlags.{ValueFlags}
-use Rattle.wild_plan.specs.declared.layout.Layout.{Layout}
-use Rattle.wild_plan.specs.declared.slot.Setting.{Setting}
-use Rattle.wild_plan.specs.declared.slot.SlotWord.{SlotWord}
-use Rattle.wild_plan.specs.declared.slot.SlotWord.TheVariants.{Number, Address, InBlock, General, Plt}
-use Rattle.wild_plan.specs.declared.slot.SlotItem.{SlotItem}
-use Rattle.wild_plan.specs.declared.slot.SlotItem.TheVariants.{Word, Stub, Fault}
-use Rattle.wild_plan.specs.Kinds.{is_position_independent}
-use Rattle.wild_plan.specs.Flags.{has_flag, has_link_time_address, ifunc, canonical_plt, ifunc_got_for_address, canonical_plt_got_for_address}
-use Rattle.wild_plan.specs.SymbolSlots.{got_of, has_thread_slot, has_dynamic_symbol}
-use Rattle.wild_plan.specs.Slots.{setting_of, slot, items_at, with_items, no_slot, add_item, thread_items, plain_item, named, stub_items, address_items}
-use Rattle.wild_plan.specs.SlotShares.{slots_of, resolved_slots}
-use Rattle.wild_plan.specs.SlotPlaces.{begins_block}
-use Rattle.wild_plan.specs.SlotFlags.{takes_block_word, second_slot_fits}
-use Rattle.wild_plan.specs.Stub.{far_of}
-use Rattle.wild_plan.specs.ResolvedFlags.{HasItsFlags}
+use Rattle.wild_types.specs.declared.symbol.Resolution.{Resolution}
+use Rattle.wild_types.specs.declared.symbol.Symbol.{Symbol}
+use Rattle.wild_types.specs.declared.symbol.ValueFlags.{ValueFlags}
+use Rattle.wild_types.specs.declared.layout.Layout.{Layout}
+use Rattle.wild_slot.specs.declared.slot.Setting.{Setting}
+use Rattle.wild_slot.specs.declared.slot.SlotWord.{SlotWord}
+use Rattle.wild_slot.specs.declared.slot.SlotWord.TheVariants.{Number, Address, InBlock, General, Plt}
+use Rattle.wild_slot.specs.declared.slot.SlotItem.{SlotItem}
+use Rattle.wild_slot.specs.declared.slot.SlotItem.TheVariants.{Word, Stub, Fault}
+use Rattle.wild_types.specs.Kinds.{is_position_independent}
+use Rattle.wild_types.specs.Flags.{has_flag, has_link_time_address, ifunc, canonical_plt, ifunc_got_for_address, canonical_plt_got_for_address}
+use Rattle.wild_types.specs.SymbolSlots.{got_of, has_thread_slot, has_dynamic_symbol}
+use Rattle.wild_slot.specs.Slots.{setting_of, slot, items_at, with_items, no_slot, add_item, thread_items, plain_item, named, stub_items, address_items}
+use Rattle.wild_slot.specs.SymbolWords.{slots_of, resolved_slots}
+use Rattle.wild_slot.specs.SlotParts.{begins_block}
+use Rattle.wild_clauses.specs.SlotFlags.{takes_block_word, second_slot_fits}
+use Rattle.wild_slot.specs.Stub.{far_of}
+use Rattle.wild_types.specs.ResolvedFlags.{HasItsFlags}
 use Rattle.wild_slots.proofs.ItemLemmas.{ItemHas, More-items, All-words, none_more, of_stub}
 use Rattle.wild_slots.proofs.SlotLemmas.{IsOther, Shape, shape, behind_items, threads_other}
 

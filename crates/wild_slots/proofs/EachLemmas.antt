@@ -7,17 +7,17 @@ use Rattle.wild_words.proofs.ListLemmas.{holds_at}
 use Rattle.wild_words.proofs.WordLemmas.{length-word}
 use Rattle.wild_words.proofs.RecordLemmas.{Stands-left, Stands-right}
 use Rattle.wild_relr.specs.Written.{word_bytes}
-use Rattle.wild_plan.specs.declared.part.Role.TheVariants as role
-use Rattle.wild_plan.specs.declared.symbol.Symbol.{Symbol}
-use Rattle.wild_plan.specs.declared.layout.Layout.{Layout}
-use Rattle.wild_plan.specs.declared.slot.SlotWord.{SlotWord}
-use Rattle.wild_plan.specs.declared.slot.SlotWord.TheVariants.{Number, Address, InBlock, General, Plt}
-use Rattle.wild_plan.specs.declared.slot_parts.WordPart.TheVariants as words
-use Rattle.wild_plan.specs.SymbolSlots.{got_of}
-use Rattle.wild_plan.specs.SlotParts.{word_of, slot_words}
-use Rattle.wild_plan.specs.SlotShares.{slots_of, slots_at, words_in}
-use Rattle.wild_plan.specs.SlotPlaces.{begins_block}
-use Rattle.wild_slots.specs.Order.{HasSlotsInOrder}
+use Rattle.wild_types.specs.declared.part.Role.TheVariants as role
+use Rattle.wild_types.specs.declared.symbol.Symbol.{Symbol}
+use Rattle.wild_types.specs.declared.layout.Layout.{Layout}
+use Rattle.wild_slot.specs.declared.slot.SlotWord.{SlotWord}
+use Rattle.wild_slot.specs.declared.slot.SlotWord.TheVariants.{Number, Address, InBlock, General, Plt}
+use Rattle.wild_slot.specs.declared.slot_parts.WordPart.TheVariants as words
+use Rattle.wild_types.specs.SymbolSlots.{got_of, slots_at}
+use Rattle.wild_slot.specs.SlotParts.{word_of, slot_words, begins_block}
+use Rattle.wild_slot.specs.SymbolWords.{slots_of}
+use Rattle.wild_needs.specs.SlotShares.{words_in}
+use Rattle.wild_layout.specs.SlotOrder.{HasSlotsInOrder}
 use Rattle.wild_slots.specs.Stand.{StandsAt, WordsStand, WordStands}
 use Rattle.wild_slots.proofs.BlockWordLemmas.{NotInBlock, first_alone, none_in_block}
 use Rattle.wild_slots.proofs.PlaceLemmas.{word_at}

@@ -3,11 +3,11 @@ use Rattle.std.proofs.Common.{◌≡◌, ℕ, Bool, true, false, List, [], ◌�
 use Rattle.std.specs.Prelude.{Option, if◌then◌else◌}
 use Rattle.std.proofs.lemmas.List.{append-nil, append_assoc}
 use Rattle.std.proofs.lemmas.List.Elements.{All-nil, All-cons, All-head, All-tail, All-append}
-use Rattle.wild_plan.specs.declared.slot.SlotWord.{SlotWord}
-use Rattle.wild_plan.specs.declared.slot.SlotFault.{SlotFault}
-use Rattle.wild_plan.specs.declared.slot.SlotItem.{SlotItem}
-use Rattle.wild_plan.specs.declared.slot.SlotItem.TheVariants.{Word, Stub, Fault}
-use Rattle.wild_plan.specs.Slots.{SlotContent, no_slot, with_item_by, with_item, with_items, named, where_so, stub_item, stub_items}
+use Rattle.wild_slot.specs.declared.slot.SlotWord.{SlotWord}
+use Rattle.wild_slot.specs.declared.slot.SlotFault.{SlotFault}
+use Rattle.wild_slot.specs.declared.slot.SlotItem.{SlotItem}
+use Rattle.wild_slot.specs.declared.slot.SlotItem.TheVariants.{Word, Stub, Fault}
+use Rattle.wild_slot.specs.Slots.{SlotContent, no_slot, with_item_by, with_item, with_items, named, where_so, stub_item, stub_items}
 
 -- an item that is a word has what is said of it
 abbrev pub ItemHas : (SlotWord → Type 0) → SlotItem → Type 0

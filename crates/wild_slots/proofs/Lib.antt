@@ -1,7 +1,6 @@
 pub mod ItemLemmas
 mod SlotLemmas
 mod WalkLemmas
-pub mod CheckLemmas
 mod OrderLemmas
 mod TableLemmas
 mod BlockWordLemmas
@@ -15,4 +14,3 @@ mod PlacesLemmas
 mod BlockLemmas
 mod EntryLemmas
 mod KnownLemmas
-mod ClauseLemmas

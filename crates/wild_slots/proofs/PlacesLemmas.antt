@@ -6,18 +6,18 @@ use Rattle.std.proofs.lemmas.List.{length-append, nil_from_length}
 use Rattle.wild_relr.specs.Packed.{slots}
 use Rattle.wild_relr.specs.Written.{word_bytes}
 use Rattle.wild_relr.proofs.SpellLemmas.{length-word_bytes}
-use Rattle.wild_plan.specs.declared.part.Role.{Role}
-use Rattle.wild_plan.specs.declared.part.Role.TheVariants as role
-use Rattle.wild_plan.specs.declared.file.Group.{Group}
-use Rattle.wild_plan.specs.declared.symbol.Symbol.{Symbol}
-use Rattle.wild_plan.specs.declared.layout.Layout.{Layout}
-use Rattle.wild_plan.specs.declared.slot_parts.WordPart.TheVariants as words
-use Rattle.wild_plan.specs.Lists.{total}
-use Rattle.wild_plan.specs.SlotShares.{stub_size, words_in, symbol_share, header_words}
-use Rattle.wild_plan.specs.SlotPlaces.{start_of, first_free}
-use Rattle.wild_slots.specs.Order.{group_symbols, HasSlotsInOrder, written_symbols, end_of}
+use Rattle.wild_types.specs.declared.part.Role.{Role}
+use Rattle.wild_types.specs.declared.part.Role.TheVariants as role
+use Rattle.wild_types.specs.declared.file.Group.{Group}
+use Rattle.wild_types.specs.declared.symbol.Symbol.{Symbol}
+use Rattle.wild_types.specs.declared.layout.Layout.{Layout}
+use Rattle.wild_slot.specs.declared.slot_parts.WordPart.TheVariants as words
+use Rattle.wild_types.specs.Lists.{total}
+use Rattle.wild_needs.specs.SlotShares.{stub_size, words_in, symbol_share, header_words}
+use Rattle.wild_clauses.specs.SlotPlaces.{start_of, first_free}
+use Rattle.wild_layout.specs.SlotOrder.{HasSlotsInOrder}
+use Rattle.wild_slots.specs.Order.{group_symbols, written_symbols, end_of}
 use Rattle.wild_slots.specs.Ascend.{Ascend, word_places, stub_places, HasAscendingPlaces}
-use Rattle.wild_slots.proofs.CheckLemmas.{SlotChecks-from_clause, FlagChecks-from_clause}
 use Rattle.wild_slots.proofs.OrderLemmas.{AreInOrder-from_test}
 use Rattle.wild_slots.proofs.TableLemmas.{IsTable, symbol_bytes, got_table, block_table, stub_table, length-symbols, headless, headed}
 use Rattle.wild_slots.proofs.AscendLemmas.{Ascend-none, Ascend-wider, Ascend-slots, AscendAt, ascend_all}
@@ -43,7 +43,7 @@ none_written l e = ap (λ (gs : List Group). flat_map (group_symbols l) gs) (nil
 -- ---- what each symbol shows
 
 all_fit : (l : Layout) → HasSlotsInOrder l → All (IsFit l) l.symbols
-all_fit l h = λ k d lt. record { flags = h.resolved k d lt; second = (FlagChecks-from_clause l h.flags).second k d lt }
+all_fit l h = λ k d lt. record { flags = h.resolved k d lt; second = (h.flags k d lt).second }
 
 ascends_from : (n free base share : ℕ) (ps : List ℕ) → free ≡ base → Ascend n free (free + share) ps → Ascend n base (base + share) ps
 ascends_from n free base share ps e a = let P : ℕ → Type 0 = λ (p : ℕ). Ascend n p (p + share) ps in subst P e a
@@ -71,7 +71,7 @@ stubs_ascend l limit front s fit h low =
 
 to_end : (l : Layout) → HasSlotsInOrder l → (n base end : ℕ) (share : Symbol → ℕ) (places : Symbol → List ℕ) → AscendAt l (IsFit l) n base end share places → end ≡ base + total share (written_symbols l) → Ascend n base end (flat_map places (written_symbols l))
 to_end l h n base end share places each e =
-    let order = AreInOrder-from_test l (SlotChecks-from_clause l h.slots).placed in
+    let order = AreInOrder-from_test l h.slots.placed in
     let all = All-written l (IsFit l) (all_fit l h) in
     Ascend-wider n base (base + 0) (base + 0 + total share (written_symbols l)) end (flat_map places (written_symbols l)) (omega arith) (omega (arith, e))
     (ascend_all l (IsFit l) n base end share places each (written_symbols l) [] all order.each (omega (arith, e)))

@@ -2,7 +2,7 @@
 use Rattle.std.proofs.Common.{◌≡◌, ℕ, ◌+◌, ◌-◌, ◌*◌, ◌≤◌, inl, inr, Bool, true, false, List, [], ◌∷◌, ◌++◌, length, Some, Contains, refl, sym, ap, ◌∙◌, subst, arith, slice_get}
 use Rattle.std.specs.Prelude.{Option, if◌then◌else◌, replicate, unwrap_or}
 use Rattle.std.specs.List.{flat_map}
-use Rattle.std.proofs.lemmas.Bool.{cases_Bool, and_parts, eqb-true}
+use Rattle.std.proofs.lemmas.Bool.{cases_Bool, and_parts}
 use Rattle.std.proofs.lemmas.List.{length-replicate, append_assoc}
 use Rattle.std.proofs.lemmas.List.Concat.{flat_map-append}
 use Rattle.std.proofs.lemmas.List.Elements.{Contains-append_cases}
@@ -12,26 +12,28 @@ use Rattle.wild_words.proofs.OverlayLemmas.{Stands-inner}
 use Rattle.wild_words.proofs.RecordLemmas.{Stands-left, Stands-right}
 use Rattle.wild_relr.specs.Written.{word_bytes}
 use Rattle.wild_relr.proofs.SpellLemmas.{word_bytes-append, length-word_bytes}
-use Rattle.wild_plan.specs.declared.part.Role.{Role}
-use Rattle.wild_plan.specs.declared.part.Role.TheVariants as role
-use Rattle.wild_plan.specs.declared.file.File.{File}
-use Rattle.wild_plan.specs.declared.symbol.Symbol.{Symbol}
-use Rattle.wild_plan.specs.declared.layout.Layout.{Layout}
-use Rattle.wild_plan.specs.declared.slot.SlotWord.{SlotWord}
-use Rattle.wild_plan.specs.declared.slot.SlotWord.TheVariants.{InBlock}
-use Rattle.wild_plan.specs.declared.slot_parts.WordPart.TheVariants as words
-use Rattle.wild_plan.specs.Lists.{total}
-use Rattle.wild_plan.specs.SlotParts.{slot_words}
-use Rattle.wild_plan.specs.SymbolSlots.{got_of, plt_of}
-use Rattle.wild_plan.specs.SlotShares.{writes_slots, own_symbols, slots_of, slots_at, symbol_share, header_words, storage_words}
-use Rattle.wild_plan.specs.SlotPlaces.{start_of, begins_block, stands_at, pair_follows_by}
-use Rattle.wild_plan.specs.SlotFlags.{second_slot_fits}
+use Rattle.wild_types.specs.declared.part.Role.{Role}
+use Rattle.wild_types.specs.declared.part.Role.TheVariants as role
+use Rattle.wild_types.specs.declared.file.File.{File}
+use Rattle.wild_types.specs.declared.symbol.Symbol.{Symbol}
+use Rattle.wild_types.specs.declared.layout.Layout.{Layout}
+use Rattle.wild_slot.specs.declared.slot.SlotWord.{SlotWord}
+use Rattle.wild_slot.specs.declared.slot.SlotWord.TheVariants.{InBlock}
+use Rattle.wild_slot.specs.declared.slot_parts.WordPart.TheVariants as words
+use Rattle.wild_types.specs.Lists.{total}
+use Rattle.wild_slot.specs.SlotParts.{slot_words, begins_block}
+use Rattle.wild_types.specs.SymbolSlots.{got_of, plt_of, slots_at}
+use Rattle.wild_types.specs.FileRoles.{writes_slots}
+use Rattle.wild_types.specs.FileSymbols.{own_symbols}
+use Rattle.wild_slot.specs.SymbolWords.{slots_of}
+use Rattle.wild_needs.specs.SlotShares.{symbol_share, header_words, storage_words}
+use Rattle.wild_clauses.specs.SlotPlaces.{start_of, stands_at}
 use Rattle.wild_layout.specs.TablePlaces.{table_bytes}
-use Rattle.wild_plan.specs.ResolvedFlags.{HasItsFlags}
-use Rattle.wild_slots.specs.Order.{group_symbols, HasSlotsInOrder, written_symbols, IsWritten}
+use Rattle.wild_types.specs.ResolvedFlags.{HasItsFlags}
+use Rattle.wild_layout.specs.SlotOrder.{FlagsAgree, HasSlotsInOrder}
+use Rattle.wild_slots.specs.Order.{group_symbols, written_symbols, IsWritten}
 use Rattle.wild_slots.specs.Stand.{StandsAt, WordsStand, SymbolStands}
 use Rattle.wild_slots.proofs.WalkLemmas.{Cut, Cut-from_contains}
-use Rattle.wild_slots.proofs.CheckLemmas.{SlotChecks-from_clause, FlagChecks-from_clause}
 use Rattle.wild_slots.proofs.OrderLemmas.{StandsBehind, AreInOrder-from_test}
 use Rattle.wild_slots.proofs.TableLemmas.{symbol_bytes, IsTable, got_table, block_table, stub_table, length-symbols, headless, headed}
 use Rattle.wild_slots.proofs.BlockWordLemmas.{first_alone, none_in_block, begins, only_word}
@@ -114,7 +116,7 @@ groups_there f (x ∷ xs) y c = omega arith
 
 pub found : (l : Layout) → HasSlotsInOrder l → (i at : ℕ) (s : Symbol) → slice_get l.symbols i ≡ Some s → got_of s ≡ Some at → Found l s at
 found l h i at s e g =
-    let order = AreInOrder-from_test l (SlotChecks-from_clause l h.slots).placed in
+    let order = AreInOrder-from_test l h.slots.placed in
     let c = order.listed i at s e g in
     let cut = Cut-from_contains (StandsBehind l) [] (written_symbols l) s c order.each in
     let free = cut.here.free in
@@ -136,7 +138,7 @@ pub only : (l : Layout) → HasSlotsInOrder l → (i at : ℕ) (s : Symbol) → 
 only l h i at s e g t =
     let b = begins (slots_of l s).words t in
     let own = holds_at HasItsFlags l.symbols i s e h.resolved in
-    let second = holds_at (λ (x : Symbol). second_slot_fits l x ≡ true) l.symbols i s e (FlagChecks-from_clause l h.flags).second in
+    let second = (holds_at (FlagsAgree l) l.symbols i s e h.flags).second in
     let rest = only_word l s at b.value b.rest own second g b.is in
     record { value = b.value; is = b.is ∙ ap (λ (ws : List SlotWord). InBlock b.value ∷ ws) rest }
 
@@ -178,8 +180,7 @@ stands l h i at s e g =
 
 pub pair : (l : Layout) → HasSlotsInOrder l → 1 ≤ length l.groups → (at : ℕ) → l.tlsld ≡ Some at → StandsAt l role.Got at (word_bytes (slot_words words.Got l.options.relr at (storage_words l)))
 pair l h some at e =
-    let P : Option ℕ → Type 0 = λ o. pair_follows_by l o ≡ true in
-    let place : at ≡ start_of l role.Got + 8 * l.got_header = eqb-true _ _ (subst P e (SlotChecks-from_clause l h.slots).pair) in
+    let place : at ≡ start_of l role.Got + 8 * l.got_header = h.slots.pair at e in
     let zeros = word_bytes (replicate l.got_header 0) in
     let own = word_bytes (slot_words words.Got l.options.relr at (storage_words l)) in
     let rest = flat_map (symbol_bytes l role.Got) (written_symbols l) in

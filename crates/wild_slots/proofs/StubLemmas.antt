@@ -3,23 +3,22 @@ use Rattle.std.proofs.Common.{◌≡◌, ℕ, inl, inr, Bool, true, false, List,
 use Rattle.std.specs.Prelude.{Option, not, ◌&&◌, if◌then◌else◌, is_some}
 use Rattle.std.proofs.lemmas.Bool.{and_parts, or_cases, not-true}
 use Rattle.wild_words.proofs.ListLemmas.{holds_at}
-use Rattle.wild_plan.specs.declared.symbol.Resolution.{Resolution}
-use Rattle.wild_plan.specs.declared.symbol.Symbol.{Symbol}
-use Rattle.wild_plan.specs.declared.layout.Layout.{Layout}
-use Rattle.wild_plan.specs.declared.slot.Setting.{Setting}
-use Rattle.wild_plan.specs.declared.slot.SlotFault.{SlotFault}
-use Rattle.wild_plan.specs.declared.slot.SlotItem.{SlotItem}
-use Rattle.wild_plan.specs.declared.slot.SlotItem.TheVariants.{Stub}
-use Rattle.wild_plan.specs.Flags.{has_flag, ifunc}
-use Rattle.wild_plan.specs.SymbolSlots.{got_of, resolved_got, plt_of, resolved_plt, has_thread_slot}
-use Rattle.wild_plan.specs.Slots.{SlotContent, setting_of, slot, items_at, no_slot, add_item, with_item, with_item_by, with_items, thread_items, plain_item, stub_item, stub_items, ifunc_address_items, canonical_address_items, address_items}
-use Rattle.wild_plan.specs.SlotFlags.{thread_slot_alone}
-use Rattle.wild_plan.specs.SlotShares.{slots_of, resolved_slots}
-use Rattle.wild_plan.specs.Stub.{far_of}
-use Rattle.wild_plan.specs.ResolvedFlags.{HasItsFlags}
-use Rattle.wild_slots.specs.Order.{HasSlotsInOrder}
+use Rattle.wild_types.specs.declared.symbol.Resolution.{Resolution}
+use Rattle.wild_types.specs.declared.symbol.Symbol.{Symbol}
+use Rattle.wild_types.specs.declared.layout.Layout.{Layout}
+use Rattle.wild_slot.specs.declared.slot.Setting.{Setting}
+use Rattle.wild_slot.specs.declared.slot.SlotFault.{SlotFault}
+use Rattle.wild_slot.specs.declared.slot.SlotItem.{SlotItem}
+use Rattle.wild_slot.specs.declared.slot.SlotItem.TheVariants.{Stub}
+use Rattle.wild_types.specs.Flags.{has_flag, ifunc}
+use Rattle.wild_types.specs.SymbolSlots.{got_of, resolved_got, plt_of, resolved_plt, has_thread_slot}
+use Rattle.wild_slot.specs.Slots.{SlotContent, setting_of, slot, items_at, no_slot, add_item, with_item, with_item_by, with_items, thread_items, plain_item, stub_item, stub_items, ifunc_address_items, canonical_address_items, address_items}
+use Rattle.wild_clauses.specs.SlotFlags.{thread_slot_alone}
+use Rattle.wild_slot.specs.SymbolWords.{slots_of, resolved_slots}
+use Rattle.wild_slot.specs.Stub.{far_of}
+use Rattle.wild_types.specs.ResolvedFlags.{HasItsFlags}
+use Rattle.wild_layout.specs.SlotOrder.{FlagsAgree, HasSlotsInOrder}
 use Rattle.wild_slots.proofs.ItemLemmas.{fault_first, stub_stays}
-use Rattle.wild_slots.proofs.CheckLemmas.{FlagChecks-from_clause}
 
 -- the item of a stub, where nothing failed before it or behind it
 stub_made : (c : SlotContent) (far : Option ℕ) (xs : List SlotItem) → c.fault ≡ None → (with_items (with_item c (stub_item far)) xs).fault ≡ None → (with_items (with_item c (stub_item far)) xs).has_stub ≡ true
@@ -65,7 +64,7 @@ made s far r at p g q t n = by_got r.got_address g n
 pub stub_there : (l : Layout) → HasSlotsInOrder l → (i at p : ℕ) (s : Symbol) → slice_get l.symbols i ≡ Some s → got_of s ≡ Some at → plt_of s ≡ Some p → (slots_of l s).fault ≡ None → (slots_of l s).has_stub ≡ true
 unfolding slots_of
 stub_there l h i at p s e g q n =
-    let t = not_thread s p (holds_at (λ (x : Symbol). thread_slot_alone x ≡ true) l.symbols i s e (FlagChecks-from_clause l h.flags).alone) q in
+    let t = not_thread s p (holds_at (FlagsAgree l) l.symbols i s e h.flags).alone q in
     by_resolution (holds_at HasItsFlags l.symbols i s e h.resolved) t s.resolution refl g q n
   where
     by_resolution : HasItsFlags s → has_thread_slot s.flags ≡ false → (o : Option Resolution) → s.resolution ≡ o → resolved_got o ≡ Some at → resolved_plt o ≡ Some p → (resolved_slots l o).fault ≡ None → (resolved_slots l o).has_stub ≡ true

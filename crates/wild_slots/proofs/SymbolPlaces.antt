@@ -5,24 +5,27 @@ use Rattle.std.proofs.lemmas.Bool.{and_parts, eqb-true}
 use Rattle.std.proofs.lemmas.List.Elements.{All-nil, All-take, All-drop}
 use Rattle.wild_words.proofs.ListLemmas.{All-flat_map}
 use Rattle.wild_relr.specs.Packed.{slots}
-use Rattle.wild_plan.specs.declared.part.Role.TheVariants as role
-use Rattle.wild_plan.specs.declared.file.File.{File}
-use Rattle.wild_plan.specs.declared.file.Group.{Group}
-use Rattle.wild_plan.specs.declared.symbol.Resolution.{Resolution}
-use Rattle.wild_plan.specs.declared.symbol.Symbol.{Symbol}
-use Rattle.wild_plan.specs.declared.layout.Layout.{Layout}
-use Rattle.wild_plan.specs.declared.clauses.slots.Free.{Free}
-use Rattle.wild_plan.specs.declared.slot.SlotWord.{SlotWord}
-use Rattle.wild_plan.specs.declared.slot.SlotWord.TheVariants.{Number, Address, InBlock, General, Plt}
-use Rattle.wild_plan.specs.declared.slot_parts.WordPart.TheVariants as words
-use Rattle.wild_plan.specs.SlotParts.{next, at_places, slot_words}
-use Rattle.wild_plan.specs.SymbolSlots.{got_of, resolved_got, plt_of}
-use Rattle.wild_plan.specs.Slots.{setting_of, slot, with_items, no_slot, items_at}
-use Rattle.wild_plan.specs.SlotFlags.{second_slot_fits}
-use Rattle.wild_plan.specs.SlotShares.{stub_size, writes_slots, own_symbols, slots_of, resolved_slots, slots_at, words_in, symbol_share}
-use Rattle.wild_plan.specs.SlotPlaces.{begins_block, stands_at}
-use Rattle.wild_plan.specs.Stub.{far_of}
-use Rattle.wild_plan.specs.ResolvedFlags.{HasItsFlags}
+use Rattle.wild_types.specs.declared.part.Role.TheVariants as role
+use Rattle.wild_types.specs.declared.file.File.{File}
+use Rattle.wild_types.specs.declared.file.Group.{Group}
+use Rattle.wild_types.specs.declared.symbol.Resolution.{Resolution}
+use Rattle.wild_types.specs.declared.symbol.Symbol.{Symbol}
+use Rattle.wild_types.specs.declared.layout.Layout.{Layout}
+use Rattle.wild_clauses.specs.declared.slots.Free.{Free}
+use Rattle.wild_slot.specs.declared.slot.SlotWord.{SlotWord}
+use Rattle.wild_slot.specs.declared.slot.SlotWord.TheVariants.{Number, Address, InBlock, General, Plt}
+use Rattle.wild_slot.specs.declared.slot_parts.WordPart.TheVariants as words
+use Rattle.wild_slot.specs.SlotParts.{next, at_places, slot_words, begins_block}
+use Rattle.wild_types.specs.SymbolSlots.{got_of, resolved_got, plt_of, slots_at}
+use Rattle.wild_slot.specs.Slots.{setting_of, slot, with_items, no_slot, items_at}
+use Rattle.wild_clauses.specs.SlotFlags.{second_slot_fits}
+use Rattle.wild_needs.specs.SlotShares.{stub_size, words_in, symbol_share}
+use Rattle.wild_types.specs.FileRoles.{writes_slots}
+use Rattle.wild_types.specs.FileSymbols.{own_symbols}
+use Rattle.wild_slot.specs.SymbolWords.{slots_of, resolved_slots}
+use Rattle.wild_clauses.specs.SlotPlaces.{stands_at}
+use Rattle.wild_slot.specs.Stub.{far_of}
+use Rattle.wild_types.specs.ResolvedFlags.{HasItsFlags}
 use Rattle.wild_slots.specs.Order.{group_symbols, written_symbols}
 use Rattle.wild_slots.specs.Ascend.{Ascend, place_in, word_places, stub_places}
 use Rattle.wild_slots.proofs.OrderLemmas.{StandsBehind}

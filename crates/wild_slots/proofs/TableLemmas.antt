@@ -12,18 +12,21 @@ use Rattle.wild_words.proofs.WordLemmas.{length-word}
 use Rattle.wild_words.proofs.OverlayLemmas.{length-place}
 use Rattle.wild_relr.specs.Written.{word_bytes}
 use Rattle.wild_relr.proofs.SpellLemmas.{length-word_bytes}
-use Rattle.wild_plan.specs.declared.part.Role.{Role}
-use Rattle.wild_plan.specs.declared.part.Role.TheVariants as role
-use Rattle.wild_plan.specs.declared.file.File.{File}
-use Rattle.wild_plan.specs.declared.file.Group.{Group}
-use Rattle.wild_plan.specs.declared.symbol.Symbol.{Symbol}
-use Rattle.wild_plan.specs.declared.layout.Layout.{Layout}
-use Rattle.wild_plan.specs.declared.slot_parts.WordPart.TheVariants as words
-use Rattle.wild_plan.specs.Lists.{total}
-use Rattle.wild_plan.specs.FileRoles.{is_prelude, is_epilogue}
-use Rattle.wild_plan.specs.Contents.{bool_eq, file_placed, later_placed, files_placed, file_misplaced}
-use Rattle.wild_plan.specs.SlotShares.{stub_size, own_symbols, slots_of, slots_at, words_in, symbol_share, header_words}
-use Rattle.wild_plan.specs.Stub.{stub_x86_64, stub_template, displacement_x86_64}
+use Rattle.wild_types.specs.declared.part.Role.{Role}
+use Rattle.wild_types.specs.declared.part.Role.TheVariants as role
+use Rattle.wild_types.specs.declared.file.File.{File}
+use Rattle.wild_types.specs.declared.file.Group.{Group}
+use Rattle.wild_types.specs.declared.symbol.Symbol.{Symbol}
+use Rattle.wild_types.specs.declared.layout.Layout.{Layout}
+use Rattle.wild_slot.specs.declared.slot_parts.WordPart.TheVariants as words
+use Rattle.wild_types.specs.Lists.{total}
+use Rattle.wild_types.specs.FileRoles.{is_prelude, is_epilogue}
+use Rattle.wild_types.specs.FilePlaces.{bool_eq, file_placed, later_placed, files_placed, file_misplaced}
+use Rattle.wild_needs.specs.SlotShares.{stub_size, words_in, symbol_share, header_words}
+use Rattle.wild_types.specs.FileSymbols.{own_symbols}
+use Rattle.wild_slot.specs.SymbolWords.{slots_of}
+use Rattle.wild_types.specs.SymbolSlots.{slots_at}
+use Rattle.wild_slot.specs.Stub.{stub_x86_64, stub_template, displacement_x86_64}
 use Rattle.wild_layout.specs.SlotBytes.{stub_bytes, slot_words_of, stubs_of, slot_bytes}
 use Rattle.wild_layout.specs.Content.{file_content, group_bytes, content}
 use Rattle.wild_layout.specs.TablePlaces.{table_bytes}

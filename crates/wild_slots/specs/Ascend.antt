@@ -6,18 +6,20 @@
 --   PlacesAscend            the law
 use Rattle.std.specs.Prelude.{ℕ, ◌+◌, ◌^◌, ◌≤◌, if◌then◌else◌, List, [], Option, Some, None, option_to_list, All, AllPairs}
 use Rattle.std.specs.List.{flat_map}
-use Rattle.wild_plan.specs.declared.part.Role.TheVariants as role
-use Rattle.wild_plan.specs.declared.symbol.Symbol.{Symbol}
-use Rattle.wild_plan.specs.declared.layout.Layout.{Layout}
-use Rattle.wild_plan.specs.declared.slot.SlotWord.{SlotWord}
-use Rattle.wild_plan.specs.declared.slot.SlotWord.TheVariants.{InBlock}
-use Rattle.wild_plan.specs.declared.slot_parts.WordPart.{WordPart}
-use Rattle.wild_plan.specs.declared.slot_parts.WordPart.TheVariants as words
-use Rattle.wild_plan.specs.SlotParts.{at_places}
-use Rattle.wild_plan.specs.SymbolSlots.{plt_of}
-use Rattle.wild_plan.specs.SlotShares.{word_size, stub_size, slots_of, slots_at, block_place}
-use Rattle.wild_plan.specs.SlotPlaces.{start_of, first_free}
-use Rattle.wild_slots.specs.Order.{HasSlotsInOrder, written_symbols, end_of}
+use Rattle.wild_types.specs.declared.part.Role.TheVariants as role
+use Rattle.wild_types.specs.declared.symbol.Symbol.{Symbol}
+use Rattle.wild_types.specs.declared.layout.Layout.{Layout}
+use Rattle.wild_slot.specs.declared.slot.SlotWord.{SlotWord}
+use Rattle.wild_slot.specs.declared.slot.SlotWord.TheVariants.{InBlock}
+use Rattle.wild_slot.specs.declared.slot_parts.WordPart.{WordPart}
+use Rattle.wild_slot.specs.declared.slot_parts.WordPart.TheVariants as words
+use Rattle.wild_slot.specs.SlotParts.{at_places}
+use Rattle.wild_types.specs.SymbolSlots.{plt_of, slots_at}
+use Rattle.wild_needs.specs.SlotShares.{word_size, stub_size, block_place}
+use Rattle.wild_slot.specs.SymbolWords.{slots_of}
+use Rattle.wild_clauses.specs.SlotPlaces.{start_of, first_free}
+use Rattle.wild_layout.specs.SlotOrder.{HasSlotsInOrder}
+use Rattle.wild_slots.specs.Order.{written_symbols, end_of}
 
 -- the place of a word, where the word stands in the part
 abbrev pub place_in : WordPart → ℕ → SlotWord → Option ℕ

@@ -3,14 +3,15 @@
 --   BlocksAreWhole      the law
 use Rattle.std.specs.Prelude.{◌≡◌, ◌≢◌, ℕ, ◌%◌, ◌^◌, ◌≤◌, List, [], length, None, Contains}
 use Rattle.wild_relr.specs.Packed.{slots}
-use Rattle.wild_plan.specs.declared.part.Role.TheVariants as role
-use Rattle.wild_plan.specs.declared.file.Group.{Group}
-use Rattle.wild_plan.specs.declared.layout.Layout.{Layout}
-use Rattle.wild_plan.specs.declared.slot_shares.Block.{Block}
-use Rattle.wild_plan.specs.Segments.{part_with}
-use Rattle.wild_plan.specs.SlotShares.{group_block, block_of}
+use Rattle.wild_types.specs.declared.part.Role.TheVariants as role
+use Rattle.wild_types.specs.declared.file.Group.{Group}
+use Rattle.wild_types.specs.declared.layout.Layout.{Layout}
+use Rattle.wild_needs.specs.declared.slot_shares.Block.{Block}
+use Rattle.wild_types.specs.Parts.{part_with}
+use Rattle.wild_needs.specs.SlotShares.{group_block, block_of}
 use Rattle.wild_layout.specs.TablePlaces.{table_bytes}
-use Rattle.wild_slots.specs.Order.{HasSlotsInOrder, end_of}
+use Rattle.wild_layout.specs.SlotOrder.{HasSlotsInOrder}
+use Rattle.wild_slots.specs.Order.{end_of}
 
 -- the places are the slots of the block, from its base on, which is even, and not 0 where there is a slot
 pub record IsWhole (b : Block) (ps : List ℕ) : Type 0 where

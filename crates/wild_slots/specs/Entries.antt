@@ -8,23 +8,25 @@ use Rattle.std.specs.Prelude.{◌≡◌, ℕ, ◌+◌, ◌*◌, ◌%◌, ◌^◌
 use Rattle.wild_records.specs.declared.relocations.Rela.{Rela}
 use Rattle.wild_reloc.specs.declared.dynamic.DynamicRelocationKind.{DynamicRelocationKind}
 use Rattle.wild_reloc.specs.declared.dynamic.DynamicRelocationKind.TheVariants as kinds
-use Rattle.wild_plan.specs.declared.file.File.{File}
-use Rattle.wild_plan.specs.declared.file.Group.{Group}
-use Rattle.wild_plan.specs.declared.symbol.Resolution.{Resolution}
-use Rattle.wild_plan.specs.declared.symbol.Symbol.{Symbol}
-use Rattle.wild_plan.specs.declared.layout.Layout.{Layout}
-use Rattle.wild_plan.specs.declared.slot.SlotEntry.{SlotEntry}
-use Rattle.wild_plan.specs.declared.slot.SlotWord.{SlotWord}
-use Rattle.wild_plan.specs.declared.slot.SlotWord.TheVariants.{General, Plt}
-use Rattle.wild_plan.specs.declared.slot_parts.EntryPart.{EntryPart}
-use Rattle.wild_plan.specs.declared.slot_parts.WordPart.TheVariants as words
-use Rattle.wild_plan.specs.declared.slot_parts.EntryPart.TheVariants as entries
-use Rattle.wild_plan.specs.Flags.{has_flag, ifunc}
-use Rattle.wild_plan.specs.Kinds.{is_position_independent}
-use Rattle.wild_plan.specs.ResolvedFlags.{HasItsFlags}
-use Rattle.wild_plan.specs.SymbolSlots.{got_of}
-use Rattle.wild_plan.specs.SlotParts.{entry_of}
-use Rattle.wild_plan.specs.SlotShares.{word_size, own_symbols, slots_of, slots_at, storage_words, group_block}
+use Rattle.wild_types.specs.declared.file.File.{File}
+use Rattle.wild_types.specs.declared.file.Group.{Group}
+use Rattle.wild_types.specs.declared.symbol.Resolution.{Resolution}
+use Rattle.wild_types.specs.declared.symbol.Symbol.{Symbol}
+use Rattle.wild_types.specs.declared.layout.Layout.{Layout}
+use Rattle.wild_slot.specs.declared.slot.SlotEntry.{SlotEntry}
+use Rattle.wild_slot.specs.declared.slot.SlotWord.{SlotWord}
+use Rattle.wild_slot.specs.declared.slot.SlotWord.TheVariants.{General, Plt}
+use Rattle.wild_slot.specs.declared.slot_parts.EntryPart.{EntryPart}
+use Rattle.wild_slot.specs.declared.slot_parts.WordPart.TheVariants as words
+use Rattle.wild_slot.specs.declared.slot_parts.EntryPart.TheVariants as entries
+use Rattle.wild_types.specs.Flags.{has_flag, ifunc}
+use Rattle.wild_types.specs.Kinds.{is_position_independent}
+use Rattle.wild_types.specs.ResolvedFlags.{HasItsFlags}
+use Rattle.wild_types.specs.SymbolSlots.{got_of, slots_at}
+use Rattle.wild_slot.specs.SlotParts.{entry_of}
+use Rattle.wild_needs.specs.SlotShares.{word_size, storage_words, group_block}
+use Rattle.wild_types.specs.FileSymbols.{own_symbols}
+use Rattle.wild_slot.specs.SymbolWords.{slots_of}
 use Rattle.wild_layout.specs.SlotBytes.{slot_words_of, slot_entries_of, flat_places_of}
 
 -- ---- what entries name

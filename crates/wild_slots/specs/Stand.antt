@@ -7,21 +7,23 @@
 use Rattle.std.specs.Prelude.{◌≡◌, ℕ, ◌+◌, ◌-◌, ◌*◌, ◌≤◌, Bool, true, false, List, [], length, Some, None, slice_get}
 use Rattle.wild_words.specs.Words.{word, Stands}
 use Rattle.wild_relr.specs.Written.{word_bytes}
-use Rattle.wild_plan.specs.declared.part.Role.{Role}
-use Rattle.wild_plan.specs.declared.part.Role.TheVariants as role
-use Rattle.wild_plan.specs.declared.symbol.Symbol.{Symbol}
-use Rattle.wild_plan.specs.declared.layout.Layout.{Layout}
-use Rattle.wild_plan.specs.declared.slot.SlotWord.{SlotWord}
-use Rattle.wild_plan.specs.declared.slot.SlotWord.TheVariants.{InBlock}
-use Rattle.wild_plan.specs.declared.slot_parts.WordPart.{WordPart}
-use Rattle.wild_plan.specs.declared.slot_parts.WordPart.TheVariants as words
-use Rattle.wild_plan.specs.SlotParts.{word_of, slot_words}
-use Rattle.wild_plan.specs.SymbolSlots.{got_of, plt_of}
-use Rattle.wild_plan.specs.SlotShares.{word_size, slots_of, words_in, storage_words}
-use Rattle.wild_plan.specs.SlotPlaces.{start_of, begins_block}
+use Rattle.wild_types.specs.declared.part.Role.{Role}
+use Rattle.wild_types.specs.declared.part.Role.TheVariants as role
+use Rattle.wild_types.specs.declared.symbol.Symbol.{Symbol}
+use Rattle.wild_types.specs.declared.layout.Layout.{Layout}
+use Rattle.wild_slot.specs.declared.slot.SlotWord.{SlotWord}
+use Rattle.wild_slot.specs.declared.slot.SlotWord.TheVariants.{InBlock}
+use Rattle.wild_slot.specs.declared.slot_parts.WordPart.{WordPart}
+use Rattle.wild_slot.specs.declared.slot_parts.WordPart.TheVariants as words
+use Rattle.wild_slot.specs.SlotParts.{word_of, slot_words, begins_block}
+use Rattle.wild_types.specs.SymbolSlots.{got_of, plt_of}
+use Rattle.wild_needs.specs.SlotShares.{word_size, words_in, storage_words}
+use Rattle.wild_slot.specs.SymbolWords.{slots_of}
+use Rattle.wild_clauses.specs.SlotPlaces.{start_of}
 use Rattle.wild_layout.specs.SlotBytes.{stub_bytes}
 use Rattle.wild_layout.specs.TablePlaces.{table_bytes}
-use Rattle.wild_slots.specs.Order.{HasSlotsInOrder, IsWritten, end_of}
+use Rattle.wild_layout.specs.SlotOrder.{HasSlotsInOrder}
+use Rattle.wild_slots.specs.Order.{IsWritten, end_of}
 
 -- the bytes stand in the table of that role, at that address
 pub record StandsAt (l : Layout) (r : Role) (at : ℕ) (bs : List ℕ) : Type 0 where

@@ -1,16 +1,10 @@
 //! Where the words of slots stand in their tables, and which entries they have. All functions are laws without work.
 #![tactic(auto)]
 
-ghost use Rattle.wild_slots.specs.Order.{SlotsAreInOrder};
 ghost use Rattle.wild_slots.specs.Stand.{SlotsStand, EachWordStands, StubsAreThere, PairStands};
 ghost use Rattle.wild_slots.specs.Ascend.{PlacesAscend};
 ghost use Rattle.wild_slots.specs.Blocks.{BlocksAreWhole};
 ghost use Rattle.wild_slots.specs.Entries.{EntriesAreKnown, EntriesAreOfWords, FixedOutputsMoveNothing};
-
-/// In a layout whose clauses hold, and whose resolutions have their symbols' flags, slots and stubs follow each other.
-pub fn slots_are_in_order()
-    ensures { SlotsAreInOrder }
-{}
 
 /// A file writes the words and the stub of each symbol with slots, and they stand at their addresses in the tables.
 pub fn slots_stand()

@@ -6,8 +6,8 @@ use Rattle.std.proofs.lemmas.List.{append_assoc, append-nil, length-append}
 use Rattle.wild_words.specs.Words.{word}
 use Rattle.wild_words.proofs.WordLemmas.{length-word}
 use Rattle.wild_records.specs.declared.symtab_entry.SymtabEntry.{SymtabEntry}
-use Rattle.wild_plan.specs.declared.fault.Error.{Error}
-use Rattle.wild_plan.specs.Lists.{total}
+use Rattle.wild_types.specs.declared.fault.Error.{Error}
+use Rattle.wild_types.specs.Lists.{total}
 use Rattle.wild_symbols.specs.Indexes.{Indexes, has_index, index_of, index_room, with_index, indexes_room, kept_indexes, front_indexes, indexes_joined}
 use Rattle.wild_symbols.specs.Strings.{Strings, string, offset_of, kept_strings, front_strings, strings_joined}
 use Rattle.wild_symbols.specs.Symbols.{Symbols, symbols_used, kept_symbols, front_symbols, symbols_joined}

@@ -10,7 +10,7 @@ use Rattle.wild_words.proofs.OverlayLemmas.{Stands-inner}
 use Rattle.wild_words.proofs.RecordLemmas.{Stands-left, Stands-right}
 use Rattle.wild_records.specs.declared.symtab_entry.SymtabEntry.{SymtabEntry}
 use Rattle.wild_records.specs.SymtabEntry.{symtab_entry_fields, symtab_entry_at, SymtabEntryFits, SymtabEntryIsRead}
-use Rattle.wild_plan.specs.declared.fault.Error.{Error}
+use Rattle.wild_types.specs.declared.fault.Error.{Error}
 use Rattle.wild_symbols.specs.Strings.{string, offset_of, with_string}
 use Rattle.wild_symbols.specs.Symbols.{symbol_bytes}
 use Rattle.wild_symbols.specs.Tables.{placed, list_of, with_fields}

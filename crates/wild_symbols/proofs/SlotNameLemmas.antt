@@ -1,10 +1,11 @@
 -- The names of slots and stubs among a file's entries.
 use Rattle.std.proofs.Common.{◌≡◌, ℕ, Bool, true, false, List, [], ◌∷◌, ◌++◌, map, refl}
-use Rattle.wild_plan.specs.declared.symbol.Symbol.{Symbol}
-use Rattle.wild_plan.specs.declared.table.Named.TheVariants as named
-use Rattle.wild_plan.specs.declared.file.File.{File}
-use Rattle.wild_plan.specs.declared.layout.Layout.{Layout}
-use Rattle.wild_plan.specs.TableSymbols.{TableSymbol, item, where_asked, names_slot, names_stub, item_name}
+use Rattle.wild_types.specs.declared.symbol.Symbol.{Symbol}
+use Rattle.wild_needs.specs.declared.table.Named.TheVariants as named
+use Rattle.wild_types.specs.declared.file.File.{File}
+use Rattle.wild_types.specs.declared.layout.Layout.{Layout}
+use Rattle.wild_needs.specs.TableSymbols.{TableSymbol, item, where_asked, item_name}
+use Rattle.wild_types.specs.SymbolSlots.{names_slot, names_stub}
 use Rattle.wild_symbols.specs.TableEntries.{table_fields}
 use Rattle.wild_symbols.specs.SlotNames.{local_entry, slot_entry, where_named, SlotNamesAreItems}
 

@@ -5,13 +5,14 @@ use Rattle.std.proofs.lemmas.List.{length-append, length-map}
 use Rattle.std.proofs.lemmas.List.Elements.{filter-append}
 use Rattle.wild_words.specs.Words.{word}
 use Rattle.wild_words.proofs.WordLemmas.{length-word}
-use Rattle.wild_plan.specs.declared.file.File.{File}
-use Rattle.wild_plan.specs.declared.file.Group.{Group}
-use Rattle.wild_plan.specs.declared.layout.Layout.{Layout}
-use Rattle.wild_plan.specs.DynamicStrings.{behind_text}
-use Rattle.wild_plan.specs.FileRoles.{is_prelude}
-use Rattle.wild_plan.specs.Lists.{total}
-use Rattle.wild_plan.specs.TableSymbols.{TableSymbol, has_table, file_items, item_name, is_on, side, table_strings}
+use Rattle.wild_types.specs.declared.file.File.{File}
+use Rattle.wild_types.specs.declared.file.Group.{Group}
+use Rattle.wild_types.specs.declared.layout.Layout.{Layout}
+use Rattle.wild_needs.specs.DynamicStrings.{behind_text}
+use Rattle.wild_types.specs.FileRoles.{is_prelude}
+use Rattle.wild_types.specs.Lists.{total}
+use Rattle.wild_needs.specs.TableSymbols.{TableSymbol, file_items, item_name, is_on, side, table_strings}
+use Rattle.wild_types.specs.Lookups.{has_table}
 use Rattle.wild_symbols.specs.Strings.{string_bytes}
 use Rattle.wild_symbols.specs.DynamicEntries.{entry_at}
 use Rattle.wild_symbols.specs.TableEntries.{NamedEntry, named_entry, null_entry, null_entries, is_side, file_table, group_table, side_entries, table_entries, long_indexes, index_bytes}

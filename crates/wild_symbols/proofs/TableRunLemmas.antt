@@ -4,7 +4,7 @@ use Rattle.std.specs.List.{filter, flat_map}
 use Rattle.std.proofs.lemmas.List.{append_assoc, append-nil}
 use Rattle.wild_words.specs.Words.{word}
 use Rattle.wild_records.specs.declared.symtab_entry.SymtabEntry.{SymtabEntry}
-use Rattle.wild_plan.specs.DynamicStrings.{behind_text}
+use Rattle.wild_needs.specs.DynamicStrings.{behind_text}
 use Rattle.wild_symbols.specs.Indexes.{index_of}
 use Rattle.wild_symbols.specs.Strings.{Strings, offset_of, with_strings}
 use Rattle.wild_symbols.specs.Tables.{placed, list_of, indexes_of}

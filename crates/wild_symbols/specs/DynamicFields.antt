@@ -7,27 +7,27 @@ use Rattle.std.specs.List.{position_from}
 use Rattle.wild_records.specs.Abi.Section.{shn_undef, shn_abs}
 use Rattle.wild_records.specs.Abi.Symbol.{stt_func, stt_tls, stt_gnu_ifunc}
 use Rattle.wild_records.specs.SymbolSections.{split_index}
-use Rattle.wild_plan.specs.declared.fault.Fault.{Fault}
-use Rattle.wild_plan.specs.declared.fault.Fault.TheVariants as faults
-use Rattle.wild_plan.specs.declared.fault.Missing.TheVariants as missing
-use Rattle.wild_plan.specs.declared.part.Part.{Part}
-use Rattle.wild_plan.specs.declared.part.Role.TheVariants as role
-use Rattle.wild_plan.specs.declared.section.Section.{Section}
-use Rattle.wild_plan.specs.declared.symbol.Place.{Place}
-use Rattle.wild_plan.specs.declared.symbol.Place.TheVariants as at
-use Rattle.wild_plan.specs.declared.symbol.Resolution.{Resolution}
-use Rattle.wild_plan.specs.declared.symbol.Symbol.{Symbol}
-use Rattle.wild_plan.specs.declared.file.FileRole.{FileRole}
-use Rattle.wild_plan.specs.declared.file.FileRole.TheVariants as file_role
-use Rattle.wild_plan.specs.declared.file.File.{File}
-use Rattle.wild_plan.specs.declared.layout.Layout.{Layout}
-use Rattle.wild_plan.specs.DynamicSymbols.{output_section}
-use Rattle.wild_plan.specs.FileRoles.{is_library}
-use Rattle.wild_plan.specs.Flags.{has_flag, ifunc, copy_relocation, canonical_plt}
-use Rattle.wild_plan.specs.Kinds.{has_fixed_load_address}
-use Rattle.wild_plan.specs.Lookups.{files_of, file_of}
-use Rattle.wild_plan.specs.Segments.{part_with}
-use Rattle.wild_plan.specs.SymbolSlots.{plt_of}
+use Rattle.wild_types.specs.declared.fault.Fault.{Fault}
+use Rattle.wild_types.specs.declared.fault.Fault.TheVariants as faults
+use Rattle.wild_types.specs.declared.fault.Missing.TheVariants as missing
+use Rattle.wild_types.specs.declared.part.Part.{Part}
+use Rattle.wild_types.specs.declared.part.Role.TheVariants as role
+use Rattle.wild_types.specs.declared.section.Section.{Section}
+use Rattle.wild_types.specs.declared.symbol.Place.{Place}
+use Rattle.wild_types.specs.declared.symbol.Place.TheVariants as at
+use Rattle.wild_types.specs.declared.symbol.Resolution.{Resolution}
+use Rattle.wild_types.specs.declared.symbol.Symbol.{Symbol}
+use Rattle.wild_types.specs.declared.file.FileRole.{FileRole}
+use Rattle.wild_types.specs.declared.file.FileRole.TheVariants as file_role
+use Rattle.wild_types.specs.declared.file.File.{File}
+use Rattle.wild_types.specs.declared.layout.Layout.{Layout}
+use Rattle.wild_needs.specs.DynamicSymbols.{output_section}
+use Rattle.wild_types.specs.FileRoles.{is_library}
+use Rattle.wild_types.specs.Flags.{has_flag, ifunc, copy_relocation, canonical_plt}
+use Rattle.wild_types.specs.Kinds.{has_fixed_load_address}
+use Rattle.wild_types.specs.Lookups.{files_of, file_of}
+use Rattle.wild_types.specs.Parts.{part_with}
+use Rattle.wild_types.specs.SymbolSlots.{plt_of}
 use Rattle.wild_symbols.specs.declared.writer.SymbolAttributes.{SymbolAttributes}
 use Rattle.wild_symbols.specs.declared.dynamic.SymbolFields.{SymbolFields}
 use Rattle.wild_symbols.specs.declared.dynamic.NamedSections.{NamedSections}

@@ -9,9 +9,9 @@
 --   indexes_joined k t   the room behind is theirs again, k bytes of it
 use Rattle.std.specs.Prelude.{ℕ, ◌+◌, ◌-◌, ◌*◌, ◌≤◌, ◌==◌, Bool, not, ◌||◌, min, nat_lt, if◌then◌else◌, List, [], ◌++◌, length, take, Result, Ok, Err}
 use Rattle.wild_words.specs.Words.{word}
-use Rattle.wild_plan.specs.declared.fault.Error.{Error}
-use Rattle.wild_plan.specs.declared.fault.Fault.TheVariants as faults
-use Rattle.wild_plan.specs.Faults.{nowhere}
+use Rattle.wild_types.specs.declared.fault.Error.{Error}
+use Rattle.wild_types.specs.declared.fault.Fault.TheVariants as faults
+use Rattle.wild_types.specs.Faults.{nowhere}
 
 -- the longer indexes of a group: the place of their part, the group, the bytes so far, how many bytes of the share are theirs, how
 -- many behind these are kept for later, and whether each symbol has one, 0 where st_shndx tells its section

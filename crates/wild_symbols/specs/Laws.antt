@@ -8,7 +8,7 @@ use Rattle.std.specs.Prelude.{◌≡◌, ℕ, ◌+◌, ◌*◌, ◌<◌, List, �
 use Rattle.wild_words.specs.Words.{Stands}
 use Rattle.wild_records.specs.declared.symtab_entry.SymtabEntry.{SymtabEntry}
 use Rattle.wild_records.specs.SymtabEntry.{symtab_entry_size, symtab_entry_at, SymtabEntryFits}
-use Rattle.wild_plan.specs.Lists.{total}
+use Rattle.wild_types.specs.Lists.{total}
 use Rattle.wild_symbols.specs.Strings.{Strings, string, string_bytes, offset_of, with_strings}
 use Rattle.wild_symbols.specs.Symbols.{symbol_bytes}
 

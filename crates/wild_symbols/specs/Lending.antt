@@ -2,7 +2,7 @@
 --   PrefixOrNone w r   where there was no room for a prefix, as it was; else as the prefix left it
 use Rattle.std.specs.Prelude.{◌≡◌, Result}
 use Rattle.std.specs.Borrow.{Fml, MutBor, RestsIfErr}
-use Rattle.wild_plan.specs.declared.fault.Error.{Error}
+use Rattle.wild_types.specs.declared.fault.Error.{Error}
 use Rattle.wild_symbols.specs.declared.writer.SymbolTableWriter.{SymbolTableWriter}
 use Rattle.wild_symbols.specs.declared.prefix.SymbolTablePrefix.{SymbolTablePrefix}
 use Rattle.wild_symbols.specs.contracts.writer.SymbolTableWriter.{the_row}

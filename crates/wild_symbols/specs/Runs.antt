@@ -19,8 +19,8 @@ use Rattle.wild_records.specs.declared.symtab_entry.SymtabEntry.{SymtabEntry}
 use Rattle.wild_records.specs.declared.symbol_section.SymbolSection.{SymbolSection}
 use Rattle.wild_records.specs.declared.symbol_section.SymbolSection.TheVariants.{Raw}
 use Rattle.wild_records.specs.SymtabEntry.{symtab_entry_size, symtab_entry_at}
-use Rattle.wild_plan.specs.declared.fault.Error.{Error}
-use Rattle.wild_plan.specs.Lists.{total}
+use Rattle.wild_types.specs.declared.fault.Error.{Error}
+use Rattle.wild_types.specs.Lists.{total}
 use Rattle.wild_symbols.specs.Strings.{string, offset_of, with_strings}
 use Rattle.wild_symbols.specs.Symbols.{symbol_bytes, symbols_used}
 use Rattle.wild_symbols.specs.Indexes.{index_of, index_room}

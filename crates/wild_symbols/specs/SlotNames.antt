@@ -6,17 +6,17 @@
 --   all_given rs w            the writer with those in front of that
 --   SlotNamesAreItems         they are those of a file's entries
 use Rattle.std.specs.Prelude.{◌≡◌, ℕ, map, Bool, true, if◌then◌else◌, List, [], ◌∷◌, ◌++◌, Result, Ok, Err}
-use Rattle.wild_plan.specs.declared.fault.Fault.{Fault}
-use Rattle.wild_plan.specs.declared.fault.Error.{Error}
-use Rattle.wild_plan.specs.declared.part.Role.TheVariants as role
-use Rattle.wild_plan.specs.declared.symbol.Symbol.{Symbol}
-use Rattle.wild_plan.specs.declared.table.Named.{Named}
-use Rattle.wild_plan.specs.declared.table.Named.TheVariants as named
-use Rattle.wild_plan.specs.declared.file.File.{File}
-use Rattle.wild_plan.specs.declared.layout.Layout.{Layout}
-use Rattle.wild_plan.specs.Faults.{nowhere}
-use Rattle.wild_plan.specs.SymbolSlots.{got_of, plt_of}
-use Rattle.wild_plan.specs.TableSymbols.{TableSymbol, names_slot, names_stub, slot_items, suffix, item_name}
+use Rattle.wild_types.specs.declared.fault.Fault.{Fault}
+use Rattle.wild_types.specs.declared.fault.Error.{Error}
+use Rattle.wild_types.specs.declared.part.Role.TheVariants as role
+use Rattle.wild_types.specs.declared.symbol.Symbol.{Symbol}
+use Rattle.wild_needs.specs.declared.table.Named.{Named}
+use Rattle.wild_needs.specs.declared.table.Named.TheVariants as named
+use Rattle.wild_types.specs.declared.file.File.{File}
+use Rattle.wild_types.specs.declared.layout.Layout.{Layout}
+use Rattle.wild_types.specs.Faults.{nowhere}
+use Rattle.wild_types.specs.SymbolSlots.{got_of, plt_of, names_slot, names_stub}
+use Rattle.wild_needs.specs.TableSymbols.{TableSymbol, slot_items, suffix, item_name}
 use Rattle.wild_symbols.specs.TableRoom.{and_then, room_for_fields}
 use Rattle.wild_symbols.specs.TableEntries.{NamedEntry, slot_role, at_part, table_fields}
 use Rattle.wild_symbols.specs.Runs.{is_ok, called}

@@ -12,32 +12,33 @@ use Rattle.wild_records.specs.Abi.Section.{shn_undef, shn_abs}
 use Rattle.wild_records.specs.Abi.Symbol.{stt_func}
 use Rattle.wild_records.specs.SymbolSections.{split_index}
 use Rattle.wild_records.specs.declared.symtab_entry.SymtabEntry.{SymtabEntry}
-use Rattle.wild_plan.specs.declared.fault.Fault.{Fault}
-use Rattle.wild_plan.specs.declared.fault.Fault.TheVariants as faults
-use Rattle.wild_plan.specs.declared.fault.Missing.TheVariants as missing
-use Rattle.wild_plan.specs.declared.part.Part.{Part}
-use Rattle.wild_plan.specs.declared.part.Role.{Role}
-use Rattle.wild_plan.specs.declared.part.Role.TheVariants as role
-use Rattle.wild_plan.specs.declared.symbol.Place.{Place}
-use Rattle.wild_plan.specs.declared.symbol.Place.TheVariants as at
-use Rattle.wild_plan.specs.declared.symbol.Symbol.{Symbol}
-use Rattle.wild_plan.specs.declared.file.FileRole.{FileRole}
-use Rattle.wild_plan.specs.declared.file.File.{File}
-use Rattle.wild_plan.specs.declared.file.Group.{Group}
-use Rattle.wild_plan.specs.declared.table.Named.{Named}
-use Rattle.wild_plan.specs.declared.table.Named.TheVariants as named
-use Rattle.wild_plan.specs.declared.layout.Layout.{Layout}
-use Rattle.wild_plan.specs.Addresses.{raw_value}
-use Rattle.wild_plan.specs.DynamicStrings.{behind_text, text_room}
-use Rattle.wild_plan.specs.DynamicSymbols.{output_section}
-use Rattle.wild_plan.specs.FileRoles.{is_prelude, is_library}
-use Rattle.wild_plan.specs.Flags.{has_flag, copy_relocation, canonical_plt, downgrade_to_local}
-use Rattle.wild_plan.specs.Lists.{total}
-use Rattle.wild_plan.specs.Segments.{part_with}
-use Rattle.wild_plan.specs.SlotPlaces.{begins_block}
-use Rattle.wild_plan.specs.SlotShares.{slots_of}
-use Rattle.wild_plan.specs.SymbolSlots.{got_of, plt_of}
-use Rattle.wild_plan.specs.TableSymbols.{TableSymbol, has_table, file_items, item_name, is_local, null_strings, table_strings}
+use Rattle.wild_types.specs.declared.fault.Fault.{Fault}
+use Rattle.wild_types.specs.declared.fault.Fault.TheVariants as faults
+use Rattle.wild_types.specs.declared.fault.Missing.TheVariants as missing
+use Rattle.wild_types.specs.declared.part.Part.{Part}
+use Rattle.wild_types.specs.declared.part.Role.{Role}
+use Rattle.wild_types.specs.declared.part.Role.TheVariants as role
+use Rattle.wild_types.specs.declared.symbol.Place.{Place}
+use Rattle.wild_types.specs.declared.symbol.Place.TheVariants as at
+use Rattle.wild_types.specs.declared.symbol.Symbol.{Symbol}
+use Rattle.wild_types.specs.declared.file.FileRole.{FileRole}
+use Rattle.wild_types.specs.declared.file.File.{File}
+use Rattle.wild_types.specs.declared.file.Group.{Group}
+use Rattle.wild_needs.specs.declared.table.Named.{Named}
+use Rattle.wild_needs.specs.declared.table.Named.TheVariants as named
+use Rattle.wild_types.specs.declared.layout.Layout.{Layout}
+use Rattle.wild_types.specs.Addresses.{raw_value}
+use Rattle.wild_needs.specs.DynamicStrings.{behind_text, text_room}
+use Rattle.wild_needs.specs.DynamicSymbols.{output_section}
+use Rattle.wild_types.specs.FileRoles.{is_prelude, is_library}
+use Rattle.wild_types.specs.Flags.{has_flag, copy_relocation, canonical_plt, downgrade_to_local}
+use Rattle.wild_types.specs.Lists.{total}
+use Rattle.wild_types.specs.Parts.{part_with}
+use Rattle.wild_slot.specs.SlotParts.{begins_block}
+use Rattle.wild_slot.specs.SymbolWords.{slots_of}
+use Rattle.wild_types.specs.SymbolSlots.{got_of, plt_of}
+use Rattle.wild_needs.specs.TableSymbols.{TableSymbol, file_items, item_name, is_local, null_strings, table_strings}
+use Rattle.wild_types.specs.Lookups.{has_table}
 use Rattle.wild_symbols.specs.DynamicFields.{with_type, nowhere_with, section_named, some_section, part_section, is_thread_symbol, stands_as_stub, stub_or_zero, common_section}
 use Rattle.wild_symbols.specs.DynamicEntries.{no_fields, entry_at}
 use Rattle.wild_symbols.specs.declared.writer.SymbolAttributes.{SymbolAttributes}

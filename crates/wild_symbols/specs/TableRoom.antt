@@ -6,7 +6,7 @@
 --   joined kept w                 the room behind is the writer's again
 use Rattle.std.specs.Prelude.{ℕ, Bool, List, Result, Ok, Err}
 use Rattle.wild_records.specs.declared.symbol_section.SymbolSection.{SymbolSection}
-use Rattle.wild_plan.specs.declared.fault.Error.{Error}
+use Rattle.wild_types.specs.declared.fault.Error.{Error}
 use Rattle.wild_symbols.specs.Strings.{room_for_string, left_of_strings, room_for_bytes, kept_strings, front_strings, strings_joined}
 use Rattle.wild_symbols.specs.Indexes.{room_for_index, left_of_indexes, room_for_indexes, kept_indexes, front_indexes, indexes_joined}
 use Rattle.wild_symbols.specs.Symbols.{room_for_entry, left_of_symbols, room_for_entries, kept_symbols, front_symbols, symbols_joined}

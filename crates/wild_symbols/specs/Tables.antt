@@ -13,14 +13,14 @@ use Rattle.wild_records.specs.SymbolSections.{split_index}
 use Rattle.wild_records.specs.declared.symtab_entry.SymtabEntry.{SymtabEntry}
 use Rattle.wild_records.specs.declared.symbol_section.SymbolSection.{SymbolSection}
 use Rattle.wild_records.specs.declared.symbol_section.SymbolSection.TheVariants.{Raw, Index}
-use Rattle.wild_plan.specs.declared.part.Role.{Role}
-use Rattle.wild_plan.specs.declared.part.Role.TheVariants as role
-use Rattle.wild_plan.specs.declared.symbol.Symbol.{Symbol as LaidOut}
-use Rattle.wild_plan.specs.declared.file.Group.{Group}
-use Rattle.wild_plan.specs.declared.layout.Layout.{Layout}
-use Rattle.wild_plan.specs.Flags.{has_flag, downgrade_to_local}
-use Rattle.wild_plan.specs.Shares.{part_of, share_of}
-use Rattle.wild_plan.specs.TableSymbols.{has_long}
+use Rattle.wild_types.specs.declared.part.Role.{Role}
+use Rattle.wild_types.specs.declared.part.Role.TheVariants as role
+use Rattle.wild_types.specs.declared.symbol.Symbol.{Symbol as LaidOut}
+use Rattle.wild_types.specs.declared.file.Group.{Group}
+use Rattle.wild_types.specs.declared.layout.Layout.{Layout}
+use Rattle.wild_types.specs.Flags.{has_flag, downgrade_to_local}
+use Rattle.wild_types.specs.Shares.{part_of, share_of}
+use Rattle.wild_needs.specs.TableSymbols.{has_long}
 use Rattle.wild_symbols.specs.Strings.{offset_of, with_string}
 use Rattle.wild_symbols.specs.Indexes.{Indexes, with_index}
 use Rattle.wild_symbols.specs.Symbols.{Symbols, with_entry}

@@ -1,19 +1,19 @@
 //! What the entries of the dynamic symbol table say of symbols (gABI, "Symbol Table").
 ghost use Rattle.std.specs.Prelude.{◌≡◌, ◌<◌};
 ghost use Rattle.wild_records.specs.SymbolSections.{split_index};
-ghost use Rattle.wild_plan.specs.Segments.{part_with};
-ghost use Rattle.wild_plan.specs.SymbolSlots.{plt_of};
+ghost use Rattle.wild_types.specs.Parts.{part_with};
+ghost use Rattle.wild_types.specs.SymbolSlots.{plt_of};
 ghost use Rattle.wild_symbols.specs.DynamicFields.{own_attributes, with_type, library_info, library_attributes, nowhere_with, undefined_fields, section_named, some_section, part_section, named_sections, in_section, decided_value, is_thread_symbol, value_in, stands_as_stub, as_function, common_section, placed_fields, fields_at, canonical_fields, copied_fields, listed_by};
 ghost use Rattle.wild_symbols.specs.DynamicEntries.{no_fields, entry_at};
 
 use crate::writer::SymbolAttributes;
-use wild_plan::{Fault, FileRole, Layout, Missing, Part, Place, Role, Symbol, has_role};
 use wild_records::SymtabEntry;
 use wild_records::abi::section::{SHN_ABS, SHN_LORESERVE, SHN_UNDEF, SHN_XINDEX};
 use wild_records::abi::symbol::{STT_FUNC, STT_GNU_IFUNC, STT_TLS};
+use wild_types::{Fault, FileRole, Layout, Missing, Part, Place, Role, Symbol, has_role};
 
 /// What an entry says of a symbol besides its name.
-#[derive(Clone, Copy, Debug, PartialEq, Eq)]
+#[derive(Clone, Copy)]
 pub struct SymbolFields {
     /// `st_shndx`.
     pub section: u16,
@@ -23,7 +23,7 @@ pub struct SymbolFields {
 }
 
 /// The header indexes of the sections of symbols that no input section has, where they are there.
-#[derive(Clone, Copy, Debug, PartialEq, Eq)]
+#[derive(Clone, Copy)]
 pub struct NamedSections {
     /// `.bss`, of common symbols and of what is copied from libraries.
     pub bss: Option<usize>,

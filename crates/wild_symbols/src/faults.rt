@@ -1,9 +1,9 @@
 //! Shares that are too small or too large.
 ghost use Rattle.std.specs.Prelude.{◌≡◌};
-ghost use Rattle.wild_plan.specs.Faults.{nowhere};
-ghost use Rattle.wild_plan.specs.declared.fault.Fault.TheVariants.{InsufficientAllocation, ExcessiveAllocation};
+ghost use Rattle.wild_types.specs.Faults.{nowhere};
+ghost use Rattle.wild_types.specs.declared.fault.Fault.TheVariants.{InsufficientAllocation, ExcessiveAllocation};
 
-use wild_plan::{At, Error, Fault};
+use wild_types::{At, Error, Fault};
 
 /// The share of a part is smaller than what has to be written there.
 pub fn insufficient(part: usize, group: usize, given: usize, needed: usize) -> Error

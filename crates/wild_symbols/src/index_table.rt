@@ -5,7 +5,7 @@ ghost use Rattle.wild_symbols.specs.Indexes.{has_index, index_room, with_index, 
 use crate::faults::{excessive, insufficient};
 use std::alloc::{AllocError, Global};
 use std::marker::Model;
-use wild_plan::Error;
+use wild_types::Error;
 use wild_words::put_u32;
 
 /// The bytes of an index.

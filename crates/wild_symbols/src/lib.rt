@@ -9,8 +9,6 @@ mod prefix;
 mod strtab;
 mod symbol_table;
 mod table;
-#[cfg(test)]
-mod tests;
 mod writer;
 
 pub use dynamic::{

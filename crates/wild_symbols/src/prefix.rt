@@ -7,10 +7,10 @@ ghost use Rattle.wild_symbols.specs.TableRoom.{room_for_prefix, kept_behind, pre
 ghost use Rattle.wild_symbols.specs.Lending.{PrefixOrNone};
 
 use crate::writer::SymbolTableWriter;
-use wild_plan::Error;
+use wild_types::Error;
 
 /// How many bytes of each table are kept behind a prefix.
-#[derive(Clone, Copy, Debug, PartialEq, Eq)]
+#[derive(Clone, Copy)]
 pub struct KeptBehind {
     pub locals: usize,
     pub globals: usize,

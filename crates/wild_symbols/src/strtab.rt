@@ -6,7 +6,7 @@ ghost use Rattle.wild_symbols.specs.Strings.{string, with_string, room_for_strin
 use crate::faults::{excessive, insufficient};
 use std::alloc::{AllocError, Global};
 use std::marker::Model;
-use wild_plan::Error;
+use wild_types::Error;
 use wild_words::{put, put_u8};
 
 /// Strings behind each other, each with a zero behind it, from the front of a group's share on. The share begins

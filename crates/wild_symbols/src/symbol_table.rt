@@ -9,8 +9,8 @@ ghost use Rattle.wild_symbols.specs.Symbols.{symbol_bytes, symbols_in, IsSpelled
 use crate::faults::{excessive, insufficient};
 use std::alloc::{AllocError, Global};
 use std::marker::Model;
-use wild_plan::Error;
 use wild_records::{SymtabEntry, symtab_entry_is_read};
+use wild_types::Error;
 use wild_words::put;
 
 /// Symbols behind each other, from the front of a group's share of a part on.

@@ -1,13 +1,13 @@
 //! What the entries of `.symtab` say of symbols (gABI, "Symbol Table").
 ghost use Rattle.std.specs.Prelude.{◌≡◌, ◌%◌, ◌^◌, ◌≤◌, length, Some};
 ghost use Rattle.wild_records.specs.SymbolSections.{split_index};
-ghost use Rattle.wild_plan.specs.Addresses.{raw_value};
-ghost use Rattle.wild_plan.specs.DynamicSymbols.{output_section};
-ghost use Rattle.wild_plan.specs.SlotPlaces.{begins_block};
-ghost use Rattle.wild_plan.specs.SlotShares.{slots_of};
-ghost use Rattle.wild_plan.specs.SymbolSlots.{got_of, plt_of};
-ghost use Rattle.wild_plan.specs.TableSymbols.{suffix};
-ghost use Rattle.wild_plan.specs.Segments.{part_with};
+ghost use Rattle.wild_types.specs.Addresses.{raw_value};
+ghost use Rattle.wild_needs.specs.DynamicSymbols.{output_section};
+ghost use Rattle.wild_slot.specs.SlotParts.{begins_block};
+ghost use Rattle.wild_slot.specs.SymbolWords.{slots_of};
+ghost use Rattle.wild_types.specs.SymbolSlots.{got_of, plt_of};
+ghost use Rattle.wild_needs.specs.TableSymbols.{suffix};
+ghost use Rattle.wild_types.specs.Parts.{part_with};
 ghost use Rattle.wild_symbols.specs.DynamicFields.{named_sections, part_section};
 ghost use Rattle.wild_symbols.specs.TableEntries.{table_info, table_attributes, with_function, short, in_table_section, counted_from, at_address, table_placed, first_or, table_at, table_canonical, table_by, no_attributes, slot_role, fields_of, no_table_fields};
 ghost use Rattle.wild_symbols.specs.SlotNames.{slot_fields};
@@ -17,12 +17,14 @@ use crate::dynamic::{
     section_number, some_section, stands_as_stub, stub_of, with_type,
 };
 use crate::writer::SymbolAttributes;
-use wild_plan::{Fault, File, FileRole, Layout, Missing, Named, Place, SlotWord, Symbol};
+use wild_needs::Named;
 use wild_records::abi::section::{SHN_ABS, SHN_LORESERVE, SHN_UNDEF};
 use wild_records::abi::symbol::STT_FUNC;
+use wild_slot::{SlotWord, SymbolSlots};
+use wild_types::{Fault, File, FileRole, Layout, Missing, Place, Symbol};
 
 /// What an entry of `.symtab` says of a symbol besides its name.
-#[derive(Clone, Copy, Debug, PartialEq, Eq)]
+#[derive(Clone, Copy)]
 pub struct TableFields {
     pub fields: SymbolFields,
     /// The header index of its section, where `st_shndx` has no room for it, modulo 2^32; else 0.
@@ -126,7 +128,7 @@ fn begins_block(layout: &Layout, symbol: &Symbol) -> bool
     ensures { result ≡ begins_block (slots_of layout.now symbol.now).words }
 {
     matches!(
-        layout.slots_of(symbol).words().first(),
+        SymbolSlots::of(layout, symbol).words().first(),
         Some(SlotWord::InBlock(_))
     )
 }

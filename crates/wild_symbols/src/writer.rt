@@ -1,10 +1,10 @@
 //! The writer of a group's symbol tables.
 ghost use Rattle.std.specs.Prelude.{false, ◌≡◌, ℕ, ◌+◌, ◌*◌, ◌^◌, ◌<◌, ◌≤◌, true, ◌++◌, length, take, OnOk, OnErr, IfOk, slice_index_or};
-ghost use Rattle.wild_plan.specs.declared.part.Role.TheVariants.{Dynstr, Strtab};
+ghost use Rattle.wild_types.specs.declared.part.Role.TheVariants.{Dynstr, Strtab};
 ghost use Rattle.wild_records.specs.SymtabEntry.{symtab_entry_size, symtab_entry_at};
 ghost use Rattle.wild_records.specs.declared.symtab_entry.SymtabEntry.{SymtabEntry as Entry};
-ghost use Rattle.wild_plan.specs.Shares.{share_of};
-ghost use Rattle.wild_plan.specs.TableSymbols.{has_long};
+ghost use Rattle.wild_types.specs.Shares.{share_of};
+ghost use Rattle.wild_needs.specs.TableSymbols.{has_long};
 ghost use Rattle.wild_records.specs.declared.symbol_section.SymbolSection.TheVariants.{Raw, Index};
 ghost use Rattle.wild_records.specs.Abi.Section.{shn_abs, shn_undef};
 ghost use Rattle.wild_symbols.specs.Symbols.{symbol_bytes, symbols_used};
@@ -21,15 +21,14 @@ use crate::strtab::StrTabWriter;
 use crate::symbol_table::SymbolTable;
 use crate::table::{TableFields, slot_fields, suffix};
 use std::alloc::{AllocError, Global};
-use wild_plan::{
-    At, Error, Layout, Named, Role, SectionIndex, Symbol, has_long, part_of, share_of,
-};
+use wild_needs::{Named, has_long};
 use wild_records::abi::section::{SHN_ABS, SHN_UNDEF};
 use wild_records::abi::symbol::STB_LOCAL;
 use wild_records::{SymbolSection, SymtabEntry};
+use wild_types::{At, Error, Layout, Role, SectionIndex, Symbol, part_of, share_of};
 
 /// What a symbol says of itself, wherever it lies.
-#[derive(Clone, Copy, Debug, PartialEq, Eq)]
+#[derive(Clone, Copy)]
 pub struct SymbolAttributes {
     /// `st_info`, binding and type.
     pub info: u8,

@@ -12,16 +12,16 @@ use Rattle.wild_words.proofs.RecordLemmas.{length-spell, Stands-left}
 use Rattle.wild_records.specs.Dynamic.{dynamic_entry_size, dynamic_entry_fields, DynamicEntryFits}
 use Rattle.wild_records.specs.declared.dynamic.DynamicEntry.{DynamicEntry}
 use Rattle.wild_records.specs.Abi.Dynamic.{dt_needed, dt_soname, dt_auxiliary}
-use Rattle.wild_plan.specs.declared.dynamic.DynamicTag.{DynamicTag}
-use Rattle.wild_plan.specs.declared.options.Options.{Options}
-use Rattle.wild_plan.proofs.DynamicLemmas.{length_dynamic_entries}
-use Rattle.wild_plan.specs.declared.file.File.{File}
-use Rattle.wild_plan.specs.declared.file.Group.{Group}
-use Rattle.wild_plan.specs.declared.layout.Layout.{Layout}
-use Rattle.wild_plan.specs.Dynamic.{entry_of, tag_entries, dynamic_entries, dynamic_count}
-use Rattle.wild_plan.specs.DynamicStrings.{NamedString, named, path_number, option_strings, named_strings, auxiliary_string, auxiliary_strings, behind_text, string_start, string_entries, behind_file, needed_of, needed_from, needed_entries}
-use Rattle.wild_plan.specs.FileRoles.{is_library}
-use Rattle.wild_plan.specs.Kinds.{needs_dynamic}
+use Rattle.wild_needs.specs.declared.dynamic.DynamicTag.{DynamicTag}
+use Rattle.wild_types.specs.declared.options.Options.{Options}
+use Rattle.wild_needs.proofs.DynamicLemmas.{length_dynamic_entries}
+use Rattle.wild_types.specs.declared.file.File.{File}
+use Rattle.wild_types.specs.declared.file.Group.{Group}
+use Rattle.wild_types.specs.declared.layout.Layout.{Layout}
+use Rattle.wild_needs.specs.Dynamic.{entry_of, tag_entries, dynamic_entries, dynamic_count}
+use Rattle.wild_needs.specs.DynamicStrings.{NamedString, named, path_number, option_strings, named_strings, auxiliary_string, auxiliary_strings, behind_text, string_start, string_entries, behind_file, needed_of, needed_from, needed_entries}
+use Rattle.wild_types.specs.FileRoles.{is_library}
+use Rattle.wild_types.specs.Kinds.{needs_dynamic}
 use Rattle.wild_tables.specs.Dynamic.{behind_strings, entries_bytes, dynamic_bytes, null_entry, dynamic_records, RecordsAt, IsNeeded, NeededAreOfLibraries}
 
 pub length_entry : (d : DynamicEntry) → length (spell (dynamic_entry_fields d)) ≡ 16

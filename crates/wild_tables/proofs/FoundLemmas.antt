@@ -7,13 +7,13 @@ use Rattle.std.proofs.lemmas.List.{append_assoc, append-nil}
 use Rattle.std.proofs.lemmas.Grind.{flat_map-append}
 use Rattle.wild_records.specs.Abi.Dynamic.{dt_null, dt_needed, dt_soname, dt_runpath, dt_rpath, dt_auxiliary}
 use Rattle.wild_records.specs.declared.dynamic.DynamicEntry.{DynamicEntry}
-use Rattle.wild_plan.specs.declared.dynamic.DynamicTag.{DynamicTag}
-use Rattle.wild_plan.specs.declared.dynamic.DynamicTag.TheVariants as tags
-use Rattle.wild_plan.specs.declared.options.Options.{Options}
-use Rattle.wild_plan.specs.declared.layout.Layout.{Layout}
-use Rattle.wild_plan.specs.Dynamic.{dynamic_number, dynamic_entry, entry_with, entry_of, all_tags, tag_entries, dynamic_entries, dynamic_count}
-use Rattle.wild_plan.specs.DynamicStrings.{NamedString, named, auxiliary_string, path_number, option_strings, named_strings, behind_text, string_start, string_entries}
-use Rattle.wild_plan.specs.Kinds.{needs_dynamic}
+use Rattle.wild_needs.specs.declared.dynamic.DynamicTag.{DynamicTag}
+use Rattle.wild_needs.specs.declared.dynamic.DynamicTag.TheVariants as tags
+use Rattle.wild_types.specs.declared.options.Options.{Options}
+use Rattle.wild_types.specs.declared.layout.Layout.{Layout}
+use Rattle.wild_needs.specs.Dynamic.{dynamic_number, dynamic_entry, entry_with, entry_of, all_tags, tag_entries, dynamic_entries, dynamic_count}
+use Rattle.wild_needs.specs.DynamicStrings.{NamedString, named, auxiliary_string, path_number, option_strings, named_strings, behind_text, string_start, string_entries}
+use Rattle.wild_types.specs.Kinds.{needs_dynamic}
 use Rattle.wild_loader.specs.Laws.{before_null}
 use Rattle.wild_loader.specs.Tables.{tagged}
 use Rattle.wild_tables.specs.Dynamic.{null_entry, dynamic_records, IsNeeded, NamesTables}

@@ -7,8 +7,8 @@ use Rattle.wild_words.proofs.ListLemmas.{All-append-left, All-append-right}
 use Rattle.wild_relr.specs.Packed.{PiecesAreRecorded, places_of_pieces, words_of}
 use Rattle.std.specs.Int.{w64}
 use Rattle.std.proofs.lemmas.Int.{of_z-to_z}
-use Rattle.wild_plan.specs.declared.kind.Machine.{Machine}
-use Rattle.wild_plan.specs.declared.kind.Machine.TheVariants as machine
+use Rattle.wild_types.specs.declared.kind.Machine.{Machine}
+use Rattle.wild_types.specs.declared.kind.Machine.TheVariants as machine
 use Rattle.wild_loader.specs.declared.kind.DynamicKind.TheVariants as kinds
 use Rattle.wild_loader.specs.Changes.{kind_of}
 use Rattle.wild_tables.specs.Tables.{relative_type}

@@ -9,10 +9,10 @@ use Rattle.wild_relr.specs.Written.{word_bytes, state, Lies, IsSpelled}
 use Rattle.wild_relr.specs.declared.writer.RelrWriter.{RelrWriter}
 use Rattle.wild_relr.proofs.WriterLemmas.{length-words_in}
 use Rattle.wild_records.specs.Relocations.{relr_size}
-use Rattle.wild_plan.specs.declared.layout.Layout.{Layout}
-use Rattle.wild_plan.specs.declared.part.Role.TheVariants.{RelrDyn}
+use Rattle.wild_types.specs.declared.layout.Layout.{Layout}
+use Rattle.wild_types.specs.declared.part.Role.TheVariants.{RelrDyn}
 use Rattle.wild_tables.specs.Tables.{Tables, packed_used, with_words, room_for_words}
-use Rattle.wild_plan.specs.Shares.{insufficient}
+use Rattle.wild_types.specs.Shares.{insufficient}
 use Rattle.wild_relr.proofs.PackedLemmas.{length-joined}
 
 grows_by_one : (c : Choice) (s : State) (room : ℕ) → 8 * length s.words ≤ room → room < 8 * length (chosen c s).words → 8 * length (chosen c s).words ≡ 8 * length s.words + 8

@@ -16,13 +16,13 @@ use Rattle.wild_words.specs.Words.{Stands}
 use Rattle.wild_records.specs.Abi.Dynamic.{dt_needed, dt_rela, dt_relasz, dt_jmprel, dt_pltrelsz, dt_relr, dt_relrsz}
 use Rattle.wild_records.specs.Dynamic.{dynamic_entry_size, dynamic_entry_fields, DynamicEntryFits}
 use Rattle.wild_records.specs.declared.dynamic.DynamicEntry.{DynamicEntry}
-use Rattle.wild_plan.specs.declared.dynamic.DynamicTag.{DynamicTag}
-use Rattle.wild_plan.specs.declared.dynamic.DynamicTag.TheVariants as tags
-use Rattle.wild_plan.specs.declared.file.Group.{Group}
-use Rattle.wild_plan.specs.declared.layout.Layout.{Layout}
-use Rattle.wild_plan.specs.Dynamic.{dynamic_number, dynamic_entry, dynamic_entries, dynamic_count}
-use Rattle.wild_plan.specs.DynamicStrings.{NamedString, behind_text, needed_entries}
-use Rattle.wild_plan.specs.Kinds.{needs_dynamic}
+use Rattle.wild_needs.specs.declared.dynamic.DynamicTag.{DynamicTag}
+use Rattle.wild_needs.specs.declared.dynamic.DynamicTag.TheVariants as tags
+use Rattle.wild_types.specs.declared.file.Group.{Group}
+use Rattle.wild_types.specs.declared.layout.Layout.{Layout}
+use Rattle.wild_needs.specs.Dynamic.{dynamic_number, dynamic_entry, dynamic_entries, dynamic_count}
+use Rattle.wild_needs.specs.DynamicStrings.{NamedString, behind_text, needed_entries}
+use Rattle.wild_types.specs.Kinds.{needs_dynamic}
 use Rattle.wild_loader.specs.Laws.{before_null}
 use Rattle.wild_loader.specs.Tables.{tagged}
 

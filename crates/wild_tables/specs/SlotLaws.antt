@@ -11,18 +11,18 @@ use Rattle.wild_relr.specs.Written.{word_bytes}
 use Rattle.wild_records.specs.declared.relocations.Rela.{Rela}
 use Rattle.wild_reloc.specs.declared.dynamic.DynamicRelocationKind.{DynamicRelocationKind}
 use Rattle.wild_reloc.specs.declared.dynamic.DynamicRelocationKind.TheVariants as entry_kinds
-use Rattle.wild_plan.specs.declared.kind.Machine.{Machine}
-use Rattle.wild_plan.specs.declared.kind.Machine.TheVariants as machine
+use Rattle.wild_types.specs.declared.kind.Machine.{Machine}
+use Rattle.wild_types.specs.declared.kind.Machine.TheVariants as machine
 use Rattle.wild_loader.specs.declared.kind.DynamicKind.{DynamicKind}
 use Rattle.wild_loader.specs.declared.kind.DynamicKind.TheVariants as kinds
 use Rattle.wild_loader.specs.Changes.{kind_of}
-use Rattle.wild_plan.specs.declared.slot.SlotWord.{SlotWord}
-use Rattle.wild_plan.specs.declared.slot.SlotWord.TheVariants.{Number, InBlock}
-use Rattle.wild_plan.specs.declared.slot_parts.WordPart.TheVariants as words
-use Rattle.wild_plan.specs.declared.slot_parts.EntryPart.{EntryPart}
-use Rattle.wild_plan.specs.declared.slot_parts.EntryPart.TheVariants as entries
+use Rattle.wild_slot.specs.declared.slot.SlotWord.{SlotWord}
+use Rattle.wild_slot.specs.declared.slot.SlotWord.TheVariants.{Number, InBlock}
+use Rattle.wild_slot.specs.declared.slot_parts.WordPart.TheVariants as words
+use Rattle.wild_slot.specs.declared.slot_parts.EntryPart.{EntryPart}
+use Rattle.wild_slot.specs.declared.slot_parts.EntryPart.TheVariants as entries
 use Rattle.wild_tables.specs.Laws.{loader_machine}
-use Rattle.wild_plan.specs.SlotParts.{at_places, word_of, slot_words, slot_entries, flat_places, type_of}
+use Rattle.wild_slot.specs.SlotParts.{at_places, word_of, slot_words, slot_entries, flat_places, type_of}
 
 -- each word is one of `got` or of `got_relr`, and of one of them alone
 abbrev pub EachWordStands : Type 0

@@ -10,22 +10,22 @@ use Rattle.std.specs.Prelude.{ℕ, ℤ, if◌then◌else◌, List, [], ◌∷◌
 use Rattle.wild_records.specs.declared.relocations.Rela.{Rela}
 use Rattle.wild_reloc.specs.declared.dynamic.DynamicRelocationKind.{DynamicRelocationKind}
 use Rattle.wild_reloc.specs.declared.dynamic.DynamicRelocationKind.TheVariants.{Copy}
-use Rattle.wild_plan.specs.declared.fault.Fault.{Fault}
-use Rattle.wild_plan.specs.declared.fault.Fault.TheVariants as faults
-use Rattle.wild_plan.specs.declared.fault.Missing.TheVariants as missing
-use Rattle.wild_plan.specs.declared.layout.Layout.{Layout}
-use Rattle.wild_plan.specs.declared.symbol.Resolution.{Resolution}
-use Rattle.wild_plan.specs.declared.symbol.Symbol.{Symbol}
-use Rattle.wild_plan.specs.Lookups.{canonical}
+use Rattle.wild_types.specs.declared.fault.Fault.{Fault}
+use Rattle.wild_types.specs.declared.fault.Fault.TheVariants as faults
+use Rattle.wild_types.specs.declared.fault.Missing.TheVariants as missing
+use Rattle.wild_types.specs.declared.layout.Layout.{Layout}
+use Rattle.wild_types.specs.declared.symbol.Resolution.{Resolution}
+use Rattle.wild_types.specs.declared.symbol.Symbol.{Symbol}
+use Rattle.wild_types.specs.Lookups.{canonical}
 use Rattle.wild_relr.specs.Packing.{State}
 use Rattle.wild_relr.specs.Packed.{after_flat, after_block}
 use Rattle.wild_tables.specs.Words.{Words}
-use Rattle.wild_plan.specs.declared.slot.SlotWord.{SlotWord}
-use Rattle.wild_plan.specs.declared.slot_parts.WordPart.TheVariants as words
-use Rattle.wild_plan.specs.declared.slot_parts.EntryPart.TheVariants as entries
-use Rattle.wild_plan.specs.Slots.{SlotContent, setting_of, slot}
-use Rattle.wild_plan.specs.SlotShares.{storage_words, header_words}
-use Rattle.wild_plan.specs.SlotParts.{type_of, entry_at, slot_words, slot_entries, flat_places}
+use Rattle.wild_slot.specs.declared.slot.SlotWord.{SlotWord}
+use Rattle.wild_slot.specs.declared.slot_parts.WordPart.TheVariants as words
+use Rattle.wild_slot.specs.declared.slot_parts.EntryPart.TheVariants as entries
+use Rattle.wild_slot.specs.Slots.{SlotContent, setting_of, slot}
+use Rattle.wild_needs.specs.SlotShares.{storage_words, header_words}
+use Rattle.wild_slot.specs.SlotParts.{type_of, entry_at, slot_words, slot_entries, flat_places}
 use Rattle.wild_tables.specs.Tables.{Tables, more_words, more_stubs, more_entries, with_words}
 
 -- places by words of their own

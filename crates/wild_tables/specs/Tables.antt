@@ -7,19 +7,19 @@ use Rattle.std.specs.Prelude.{ℕ, ◌*◌, nat_lt, if◌then◌else◌, List, [
 use Rattle.wild_records.specs.declared.relocations.Rela.{Rela}
 use Rattle.wild_records.specs.Relocations.{rela_size, relr_size}
 use Rattle.wild_reloc.specs.declared.dynamic.DynamicRelocationKind.TheVariants.{Relative}
-use Rattle.wild_plan.specs.declared.kind.Machine.{Machine}
-use Rattle.wild_plan.specs.declared.part.Role.{Role}
-use Rattle.wild_plan.specs.declared.part.Role.TheVariants as role
-use Rattle.wild_plan.specs.declared.fault.Error.{Error}
-use Rattle.wild_plan.specs.declared.layout.Layout.{Layout}
-use Rattle.wild_plan.specs.Entries.{packs}
-use Rattle.wild_plan.specs.Shares.{part_of, share_of, insufficient}
+use Rattle.wild_types.specs.declared.kind.Machine.{Machine}
+use Rattle.wild_types.specs.declared.part.Role.{Role}
+use Rattle.wild_types.specs.declared.part.Role.TheVariants as role
+use Rattle.wild_types.specs.declared.fault.Error.{Error}
+use Rattle.wild_types.specs.declared.layout.Layout.{Layout}
+use Rattle.wild_types.specs.Lookups.{packs}
+use Rattle.wild_types.specs.Shares.{part_of, share_of, insufficient}
 use Rattle.wild_relr.specs.Packing.{State, after}
 use Rattle.wild_relr.specs.Packed.{after_flat, nothing}
 use Rattle.wild_tables.specs.Entries.{Entries}
 use Rattle.wild_tables.specs.Words.{Words}
 use Rattle.wild_tables.specs.GotWords.{GotWords, Stubs}
-use Rattle.wild_plan.specs.SlotParts.{type_of, address_entry}
+use Rattle.wild_slot.specs.SlotParts.{type_of, address_entry}
 
 -- a group's tables, in the order of their roles, and the place of the part of the last one
 pub record Tables : Type 0 where

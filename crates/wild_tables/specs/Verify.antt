@@ -4,22 +4,22 @@
 --   first_difference i given needed   the sizes are what is needed, or the first that is not
 use Rattle.std.specs.Prelude.{ℕ, ◌+◌, ◌-◌, ◌*◌, ◌^◌, nat_lt, if◌then◌else◌, List, [], ◌∷◌, length, None, unwrap_or, Result, Ok, Err}
 use Rattle.wild_records.specs.Relocations.{rela_size, relr_size}
-use Rattle.wild_plan.specs.declared.kind.Machine.TheVariants.{X86_64}
-use Rattle.wild_plan.specs.declared.kind.OutputKind.{OutputKind}
-use Rattle.wild_plan.specs.declared.options.Options.{Options}
-use Rattle.wild_plan.specs.declared.symbol.Resolution.{Resolution}
-use Rattle.wild_plan.specs.declared.fault.Error.{Error}
-use Rattle.wild_plan.specs.declared.fault.Fault.{Fault}
-use Rattle.wild_plan.specs.declared.fault.Fault.TheVariants as faults
-use Rattle.wild_plan.specs.Faults.{nowhere}
-use Rattle.wild_plan.specs.declared.slot.Setting.{Setting}
-use Rattle.wild_plan.specs.declared.slot.SlotWord.{SlotWord}
-use Rattle.wild_plan.specs.declared.slot_parts.WordPart.{WordPart}
-use Rattle.wild_plan.specs.declared.slot_parts.WordPart.TheVariants as words
-use Rattle.wild_plan.specs.declared.slot_parts.EntryPart.{EntryPart}
-use Rattle.wild_plan.specs.declared.slot_parts.EntryPart.TheVariants as entries
-use Rattle.wild_plan.specs.Slots.{SlotContent, slot}
-use Rattle.wild_plan.specs.SlotParts.{slot_words, slot_entries, flat_places}
+use Rattle.wild_types.specs.declared.kind.Machine.TheVariants.{X86_64}
+use Rattle.wild_types.specs.declared.kind.OutputKind.{OutputKind}
+use Rattle.wild_types.specs.declared.options.Options.{Options}
+use Rattle.wild_types.specs.declared.symbol.Resolution.{Resolution}
+use Rattle.wild_types.specs.declared.fault.Error.{Error}
+use Rattle.wild_types.specs.declared.fault.Fault.{Fault}
+use Rattle.wild_types.specs.declared.fault.Fault.TheVariants as faults
+use Rattle.wild_types.specs.Faults.{nowhere}
+use Rattle.wild_slot.specs.declared.slot.Setting.{Setting}
+use Rattle.wild_slot.specs.declared.slot.SlotWord.{SlotWord}
+use Rattle.wild_slot.specs.declared.slot_parts.WordPart.{WordPart}
+use Rattle.wild_slot.specs.declared.slot_parts.WordPart.TheVariants as words
+use Rattle.wild_slot.specs.declared.slot_parts.EntryPart.{EntryPart}
+use Rattle.wild_slot.specs.declared.slot_parts.EntryPart.TheVariants as entries
+use Rattle.wild_slot.specs.Slots.{SlotContent, slot}
+use Rattle.wild_slot.specs.SlotParts.{slot_words, slot_entries, flat_places}
 
 -- sizes do not hang on where the thread-local data are, as long as the symbol is in them
 abbrev pub open_setting : OutputKind → Options → Setting

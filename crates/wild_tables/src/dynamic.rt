@@ -1,13 +1,14 @@
 //! The dynamic section of the last file (gABI, "Dynamic Section").
 ghost use Rattle.std.specs.Prelude.{◌≡◌, ◌+◌, ◌*◌, ◌≤◌, ◌++◌, [], ◌∷◌, length, take, replicate};
 ghost use Rattle.wild_records.specs.Dynamic.{dynamic_entry_size};
-ghost use Rattle.wild_plan.specs.Dynamic.{entry_of, tag_entries, dynamic_count};
-ghost use Rattle.wild_plan.specs.DynamicStrings.{named, behind_text, string_entries, auxiliary_strings, named_strings, string_start};
+ghost use Rattle.wild_needs.specs.Dynamic.{entry_of, tag_entries, dynamic_count};
+ghost use Rattle.wild_needs.specs.DynamicStrings.{named, behind_text, string_entries, auxiliary_strings, named_strings, string_start};
 ghost use Rattle.wild_tables.specs.Dynamic.{dynamic_bytes, entries_bytes, behind_strings, NeededAreOfLibraries, LengthsOfRecords, LengthsOfDynamic, RecordsStand, RecordsFit, BehindNullIsNotRead, EntriesAreFound, TablesAreNamed};
 
-use wild_plan::{DynamicTag, Layout, dynamic_entry, string_start};
+use wild_needs::{DynamicTag, dynamic_entry, string_start};
 use wild_records::DynamicEntry;
 use wild_records::abi::dynamic::{DT_AUXILIARY, DT_RPATH, DT_RUNPATH, DT_SONAME};
+use wild_types::Layout;
 use wild_words::{Bytes, put};
 
 /// Zeros over all bytes.
@@ -52,7 +53,7 @@ fn write_tag(layout: &Layout, tag: DynamicTag, out: &mut [u8], at: usize) -> usi
 }
 
 /// The entries with values of their own at an offset; answers the offset behind them.
-#[tactic(auto, using(crate::proofs::DynamicLemmas::tag_more, crate::proofs::DynamicLemmas::tag_count), unfolding(wild_plan::specs::Dynamic::tag_entries, wild_plan::specs::Dynamic::all_tags))]
+#[tactic(auto, using(crate::proofs::DynamicLemmas::tag_more, crate::proofs::DynamicLemmas::tag_count), unfolding(wild_needs::specs::Dynamic::tag_entries, wild_needs::specs::Dynamic::all_tags))]
 fn write_tags(layout: &Layout, out: &mut [u8], at: usize) -> usize
     requires { at + dynamic_entry_size * length (tag_entries layout.now) ≤ length out.old }
     ensures at { result ≡ at + dynamic_entry_size * length (tag_entries layout.now) }
@@ -125,7 +126,7 @@ fn write_auxiliary(out: &mut [u8], cursor: Cursor, texts: &[Bytes]) -> Cursor
 }
 
 /// The entries that name strings, from the front on; answers the offset behind them.
-#[tactic(auto, using(crate::proofs::DynamicLemmas::option_bytes, crate::proofs::DynamicLemmas::option_count, crate::proofs::DynamicLemmas::no_strings), unfolding(wild_plan::specs::DynamicStrings::named_strings))]
+#[tactic(auto, using(crate::proofs::DynamicLemmas::option_bytes, crate::proofs::DynamicLemmas::option_count, crate::proofs::DynamicLemmas::no_strings), unfolding(wild_needs::specs::DynamicStrings::named_strings))]
 fn write_strings(layout: &Layout, out: &mut [u8]) -> usize
     requires { dynamic_entry_size * length (named_strings layout.now) ≤ length out.old }
     ensures at { result ≡ dynamic_entry_size * length (named_strings layout.now) }

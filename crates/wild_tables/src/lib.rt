@@ -9,8 +9,6 @@ mod relr;
 mod room;
 mod slot_words;
 mod stub;
-#[cfg(test)]
-mod tests;
 mod verify;
 mod word;
 mod writer;

@@ -1,5 +1,6 @@
 //! Why the slots of a symbol were not written.
-use wild_plan::{Error, SlotFault};
+use wild_slot::SlotFault;
+use wild_types::Error;
 
 /// Why the slots of a symbol were not written.
 #[derive(Clone, Copy, Debug, PartialEq, Eq)]

@@ -9,8 +9,9 @@ use crate::rela::RelaTable;
 use crate::relr::RelrTable;
 use crate::stub::StubTable;
 use crate::word::WordTable;
-use wild_plan::{Error, Layout, Role, WORD_SIZE, excessive, insufficient};
 use wild_records::{Rela, Relr};
+use wild_slot::WORD_SIZE;
+use wild_types::{Error, Layout, Role, excessive, insufficient};
 
 /// How many bytes a group's share of a part has, and how many of them are used or needed.
 #[derive(Clone, Copy)]

@@ -1,12 +1,13 @@
 //! Words of slots, with their entries and packed places, in the tables of their parts.
 ghost use Rattle.std.specs.Prelude.{◌≡◌, ◌+◌, ◌*◌, ◌≤◌, ◌++◌, length, replicate};
-ghost use Rattle.wild_plan.specs.SlotParts.{slot_words, slot_entries, flat_places};
+ghost use Rattle.wild_slot.specs.SlotParts.{slot_words, slot_entries, flat_places};
 ghost use Rattle.wild_tables.specs.SlotTables.{after_flats};
 
 use crate::rela::RelaTable;
 use crate::relr::RelrTable;
 use crate::word::WordTable;
-use wild_plan::{EntryPart, Machine, SlotWord, WordPart, entry_of, flat_place, next_word, word_of};
+use wild_slot::{EntryPart, SlotWord, WordPart, entry_of, flat_place, next_word, word_of};
+use wild_types::Machine;
 
 /// Adds zeros.
 pub(crate) fn add_zeros(table: &mut WordTable, n: usize)

@@ -3,12 +3,12 @@ ghost use Rattle.std.specs.Prelude.{◌≡◌, ◌*◌, ◌≤◌, length};
 ghost use Rattle.wild_records.specs.Relocations.{rela_size};
 ghost use Rattle.wild_tables.specs.Verify.{open_setting, words_size, entries_size, content_sizes, needed_sizes, differs, first_difference};
 
-use wild_plan::{
-    At, EntryPart, Error, Fault, Machine, Options, OutputKind, Resolution, STUB_SIZE, Setting,
-    SlotWord, SymbolSlots, Tls, WORD_SIZE, WordPart, count_entries, count_flat, count_words,
-    slot_of,
-};
 use wild_records::{Rela, Relr};
+use wild_slot::{
+    EntryPart, STUB_SIZE, Setting, SlotWord, SymbolSlots, WORD_SIZE, WordPart, count_entries,
+    count_flat, count_words, slot_of,
+};
+use wild_types::{At, Error, Fault, Machine, Options, OutputKind, Resolution, Tls};
 
 /// How many roles a part can have.
 pub const ROLES: usize = 30;

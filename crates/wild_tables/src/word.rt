@@ -4,7 +4,7 @@ ghost use Rattle.wild_relr.specs.Written.{word_bytes, words_in, IsSpelled};
 
 use std::alloc::{AllocError, Global};
 use std::marker::Model;
-use wild_plan::WORD_SIZE;
+use wild_slot::WORD_SIZE;
 use wild_words::put_u64;
 
 /// Words behind each other, from the front of a part on.

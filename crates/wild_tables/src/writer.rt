@@ -9,9 +9,9 @@ ghost use Rattle.wild_relr.specs.Written.{word_bytes};
 ghost use Rattle.wild_tables.specs.Entries.{rela_bytes};
 ghost use Rattle.wild_tables.specs.Tables.{no_entries, relative_used, packed_used, relative_entry, with_entry, with_words, with_address, with_flat, site_word, room_for_entries, room_for_words, room_for};
 ghost use Rattle.wild_tables.specs.Rooms.{rooms, left_over};
-ghost use Rattle.wild_plan.specs.Entries.{packs};
-ghost use Rattle.wild_plan.specs.Shares.{insufficient};
-ghost use Rattle.wild_plan.specs.declared.part.Role.TheVariants.{RelrDyn};
+ghost use Rattle.wild_types.specs.Lookups.{packs};
+ghost use Rattle.wild_types.specs.Shares.{insufficient};
+ghost use Rattle.wild_types.specs.declared.part.Role.TheVariants.{RelrDyn};
 
 mod slots;
 
@@ -22,8 +22,9 @@ use crate::stub::StubTable;
 use crate::word::WordTable;
 use std::alloc::{AllocError, Global};
 use std::marker::Model;
-use wild_plan::{Error, Layout, Role, address_entry, insufficient, part_of, share_of};
 use wild_records::{Rela, Relr};
+use wild_slot::address_entry;
+use wild_types::{Error, Layout, Role, insufficient, part_of, share_of};
 use wild_words::put_u64;
 
 /// How many tables there are.

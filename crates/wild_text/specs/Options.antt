@@ -2,8 +2,8 @@
 --   options_in d   the options of an object
 use Rattle.std.specs.Prelude.{ℕ, List, [], ◌∷◌, codes, Result, Ok, None, false}
 use Rattle.serde_json.specs.Data.{Data}
-use Rattle.wild_plan.specs.Defaults.{no_options}
-use Rattle.wild_plan.specs.declared.options.Options.{Options}
+use Rattle.wild_types.specs.Defaults.{no_options}
+use Rattle.wild_types.specs.declared.options.Options.{Options}
 use Rattle.wild_text.specs.Reads.{◌>>=◌}
 use Rattle.wild_text.specs.Values.{bool_in, hex_in, list_in, nullable}
 use Rattle.wild_text.specs.Members.{field, an_object, known_only}

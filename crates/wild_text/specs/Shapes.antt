@@ -1,8 +1,8 @@
 -- Which JSON values stand for the shapes of hash tables. Members not named here are unknown.
 use Rattle.std.specs.Prelude.{ℕ, List, [], ◌∷◌, codes, Result, Ok}
 use Rattle.serde_json.specs.Data.{Data}
-use Rattle.wild_plan.specs.declared.layout.GnuHash.{GnuHash}
-use Rattle.wild_plan.specs.declared.layout.SysvHash.{SysvHash}
+use Rattle.wild_types.specs.declared.layout.GnuHash.{GnuHash}
+use Rattle.wild_types.specs.declared.layout.SysvHash.{SysvHash}
 use Rattle.wild_text.specs.Reads.{◌>>=◌}
 use Rattle.wild_text.specs.Values.{u32_in}
 use Rattle.wild_text.specs.Members.{field, an_object, known_only}

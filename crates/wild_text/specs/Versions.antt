@@ -1,9 +1,9 @@
 -- Which JSON values stand for symbol versions (LSB, "Symbol Versioning"). Members not named here are unknown.
 use Rattle.std.specs.Prelude.{ℕ, List, [], ◌∷◌, codes, Result, Ok, None, false}
 use Rattle.serde_json.specs.Data.{Data}
-use Rattle.wild_plan.specs.declared.file.NeededVersion.{NeededVersion}
-use Rattle.wild_plan.specs.declared.file.VersionNeeds.{VersionNeeds}
-use Rattle.wild_plan.specs.declared.layout.VersionDefinition.{VersionDefinition}
+use Rattle.wild_types.specs.declared.file.NeededVersion.{NeededVersion}
+use Rattle.wild_types.specs.declared.file.VersionNeeds.{VersionNeeds}
+use Rattle.wild_types.specs.declared.layout.VersionDefinition.{VersionDefinition}
 use Rattle.wild_text.specs.Reads.{◌>>=◌}
 use Rattle.wild_text.specs.Values.{u64_in, u16_in, bool_in, hex_in, list_in, nullable}
 use Rattle.wild_text.specs.Members.{field, an_object, known_only}

@@ -22,8 +22,3 @@ pub use fault::PlanFault;
 pub use laws::{parts_are_read_again, plans_are_read};
 pub use plan::read_plan;
 pub use refusal::refusal_answer;
-
-#[cfg(test)]
-mod answer_tests;
-#[cfg(test)]
-mod tests;

@@ -2,16 +2,16 @@
 use Rattle.std.proofs.Common.{◌≡◌, ℕ, ◌+◌, ◌%◌, ◌^◌, ◌<◌, inl, inr, Bool, true, false, List, [], ◌∷◌, ◌++◌, Option, Some, None, refl, sym, ◌∙◌, arith, subst}
 use Rattle.std.specs.Prelude.{◌||◌, if◌then◌else◌}
 use Rattle.wild_reloc.specs.declared.dynamic.DynamicRelocationKind.TheVariants.{GotEntry}
-use Rattle.wild_plan.specs.declared.slot.SlotItem.{SlotItem}
-use Rattle.wild_plan.specs.declared.slot.SlotItem.TheVariants.{Word}
-use Rattle.wild_plan.specs.declared.slot.SlotWord.TheVariants.{Number, Address, General}
-use Rattle.wild_plan.specs.declared.symbol.Resolution.{Resolution}
-use Rattle.wild_plan.specs.declared.layout.Layout.{Layout}
-use Rattle.wild_plan.specs.Flags.{has_flag, ifunc_got_for_address, canonical_plt_got_for_address}
-use Rattle.wild_plan.specs.Kinds.{is_position_independent}
-use Rattle.wild_plan.specs.Slots.{setting_of, named, general, stub_items, stub_address, where_so, number, ifunc_address_items, canonical_address_items}
-use Rattle.wild_plan.specs.Stub.{far_of}
-use Rattle.wild_plan.specs.SymbolSlots.{has_thread_slot}
+use Rattle.wild_slot.specs.declared.slot.SlotItem.{SlotItem}
+use Rattle.wild_slot.specs.declared.slot.SlotItem.TheVariants.{Word}
+use Rattle.wild_slot.specs.declared.slot.SlotWord.TheVariants.{Number, Address, General}
+use Rattle.wild_types.specs.declared.symbol.Resolution.{Resolution}
+use Rattle.wild_types.specs.declared.layout.Layout.{Layout}
+use Rattle.wild_types.specs.Flags.{has_flag, ifunc_got_for_address, canonical_plt_got_for_address}
+use Rattle.wild_types.specs.Kinds.{is_position_independent}
+use Rattle.wild_slot.specs.Slots.{setting_of, named, general, stub_items, stub_address, where_so, number, ifunc_address_items, canonical_address_items}
+use Rattle.wild_slot.specs.Stub.{far_of}
+use Rattle.wild_types.specs.SymbolSlots.{has_thread_slot}
 use Rattle.wild_reloc.specs.Formula.{AddressSlot}
 use Rattle.wild_reloc.specs.declared.info.RelocationKind.TheVariants as kinds
 use Rattle.wild_layout.specs.SlotValues.{has_second_slot, behind_word}

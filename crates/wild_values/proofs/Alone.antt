@@ -4,16 +4,16 @@ use Rattle.std.specs.Prelude.{not, ◌&&◌, ◌==◌}
 use Rattle.std.proofs.lemmas.Bool.{eq-eqb}
 use Rattle.std.proofs.lemmas.Option.{slice_get_within}
 use Rattle.wild_records.specs.Abi.Section.{shf_write}
-use Rattle.wild_plan.specs.declared.input.InputRelocation.{InputRelocation}
-use Rattle.wild_plan.specs.declared.input.InputSection.{InputSection}
-use Rattle.wild_plan.specs.declared.layout.Layout.{Layout}
-use Rattle.wild_plan.specs.declared.treatment.Treatment.{Treatment}
-use Rattle.wild_plan.specs.declared.treatment.Treatment.TheVariants as treatments
-use Rattle.wild_plan.specs.Entries.{is_left_to_entry}
-use Rattle.wild_plan.specs.Flags.{has_flag, non_interposable}
-use Rattle.wild_plan.specs.Lookups.{writable, allocated}
-use Rattle.wild_plan.specs.Rows.{row_of}
-use Rattle.wild_plan.specs.Treatment.{flags_at, is_left, treatment}
+use Rattle.wild_types.specs.declared.input.InputRelocation.{InputRelocation}
+use Rattle.wild_types.specs.declared.input.InputSection.{InputSection}
+use Rattle.wild_types.specs.declared.layout.Layout.{Layout}
+use Rattle.wild_slot.specs.declared.treatment.Treatment.{Treatment}
+use Rattle.wild_slot.specs.declared.treatment.Treatment.TheVariants as treatments
+use Rattle.wild_needs.specs.Entries.{is_left_to_entry}
+use Rattle.wild_types.specs.Flags.{has_flag, non_interposable}
+use Rattle.wild_types.specs.Lookups.{writable, allocated}
+use Rattle.wild_types.specs.Rows.{row_of}
+use Rattle.wild_slot.specs.Treatment.{flags_at, is_left, treatment}
 use Rattle.wild_reloc.specs.Agreement.{plain_value}
 use Rattle.wild_reloc.specs.Field.{field_width}
 use Rattle.wild_reloc.specs.Formula.{Formula, Value, SymbolAddress, Distance, PageDistance, FromTable, ModuleOffset, PointerOffset, Size}

@@ -4,7 +4,7 @@ use Rattle.std.specs.Int.RustNames.{bit_and}
 use Rattle.std.proofs.lemmas.Nat.Bits.{and_pow}
 use Rattle.std.proofs.lemmas.Bool.{eqb-true}
 use Rattle.wild_records.specs.Abi.Section.{shf_alloc, shf_write, shf_execinstr}
-use Rattle.wild_plan.specs.Lookups.{bit, allocated, writable, executable}
+use Rattle.wild_types.specs.Lookups.{bit, allocated, writable, executable}
 use Rattle.wild_meaning.specs.Section.{IsSet}
 
 pub alloc_bit : (f : ℕ) → IsSet f shf_alloc → allocated f ≡ true

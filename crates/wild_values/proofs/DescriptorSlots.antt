@@ -4,18 +4,18 @@ use Rattle.std.specs.Prelude.{⊤, ◌&&◌, ◌||◌, not, if◌then◌else◌}
 use Rattle.wild_reloc.specs.Formula.{Descriptor}
 use Rattle.wild_reloc.specs.declared.dynamic.DynamicRelocationKind.TheVariants.{DtpMod, TlsDesc}
 use Rattle.wild_reloc.specs.declared.info.RelocationKind.TheVariants as kinds
-use Rattle.wild_plan.specs.declared.slot.SlotFault.TheVariants.{NoDynamicSymbol, TlsOutOfSegment, StaticTlsDesc}
-use Rattle.wild_plan.specs.declared.slot.SlotItem.{SlotItem}
-use Rattle.wild_plan.specs.declared.slot.SlotItem.TheVariants.{Word, Stub, Fault}
-use Rattle.wild_plan.specs.declared.symbol.Resolution.{Resolution}
-use Rattle.wild_plan.specs.declared.symbol.ValueFlags.{ValueFlags}
-use Rattle.wild_plan.specs.declared.layout.Layout.{Layout}
-use Rattle.wild_plan.specs.Flags.{has_flag, interposable, dynamic, copy_relocation, export_dynamic, got_tls_offset, got_tls_module, got_tls_descriptor}
-use Rattle.wild_plan.specs.Kinds.{is_executable, is_static_executable}
-use Rattle.wild_plan.specs.declared.slot.Setting.{Setting}
-use Rattle.wild_plan.specs.Slots.{setting_of, number, general, named, is_replaceable, module_item, module_offset, module_offset_item, described, descriptor_item, where_so, offset_item, module_items, descriptor_items, thread_items}
-use Rattle.wild_plan.specs.Storage.{less, is_outside}
-use Rattle.wild_plan.specs.SymbolSlots.{has_thread_slot}
+use Rattle.wild_slot.specs.declared.slot.SlotFault.TheVariants.{NoDynamicSymbol, TlsOutOfSegment, StaticTlsDesc}
+use Rattle.wild_slot.specs.declared.slot.SlotItem.{SlotItem}
+use Rattle.wild_slot.specs.declared.slot.SlotItem.TheVariants.{Word, Stub, Fault}
+use Rattle.wild_types.specs.declared.symbol.Resolution.{Resolution}
+use Rattle.wild_types.specs.declared.symbol.ValueFlags.{ValueFlags}
+use Rattle.wild_types.specs.declared.layout.Layout.{Layout}
+use Rattle.wild_types.specs.Flags.{has_flag, interposable, dynamic, copy_relocation, export_dynamic, got_tls_offset, got_tls_module, got_tls_descriptor}
+use Rattle.wild_types.specs.Kinds.{is_executable, is_static_executable}
+use Rattle.wild_slot.specs.declared.slot.Setting.{Setting}
+use Rattle.wild_slot.specs.Slots.{setting_of, number, general, named, is_replaceable, module_item, module_offset, module_offset_item, described, descriptor_item, where_so, offset_item, module_items, descriptor_items, thread_items}
+use Rattle.wild_slot.specs.Storage.{less, is_outside}
+use Rattle.wild_types.specs.SymbolSlots.{has_thread_slot}
 use Rattle.wild_layout.specs.SlotValues.{behind_word, behind_pair}
 use Rattle.wild_loader.specs.Changes.{first_value}
 use Rattle.wild_loader.specs.declared.memory.Memory.{Memory}

@@ -10,24 +10,24 @@ use Rattle.wild_words.specs.Words as words
 use Rattle.wild_words.proofs.WordLemmas.{number-word}
 use Rattle.wild_records.specs.Abi.Relocation.{r_x86_64_64, r_x86_64_irelative, r_x86_64_size32, r_x86_64_size64}
 use Rattle.wild_records.proofs.FieldLemmas.{signed_fits}
-use Rattle.wild_plan.specs.declared.fault.Fault.{Fault}
-use Rattle.wild_plan.specs.declared.fault.Missing.TheVariants as missing
-use Rattle.wild_plan.specs.declared.kind.Machine.{Machine}
-use Rattle.wild_plan.specs.declared.kind.Machine.TheVariants as machine
-use Rattle.wild_plan.specs.declared.symbol.Resolution.{Resolution}
-use Rattle.wild_plan.specs.declared.symbol.ValueFlags.{ValueFlags}
-use Rattle.wild_plan.specs.declared.input.InputRelocation.{InputRelocation}
-use Rattle.wild_plan.specs.declared.input.InputSection.{InputSection}
-use Rattle.wild_plan.specs.declared.layout.Layout.{Layout}
-use Rattle.wild_plan.specs.declared.treatment.Treatment.{Treatment}
-use Rattle.wild_plan.specs.declared.treatment.Treatment.TheVariants as treatments
-use Rattle.wild_plan.specs.Entries.{is_left_to_entry}
-use Rattle.wild_plan.specs.Flags.{has_flag, dynamic, ifunc, absolute, non_interposable, copy_relocation, export_dynamic}
-use Rattle.wild_plan.specs.Kinds.{is_position_independent, is_shared_object}
-use Rattle.wild_plan.specs.Lookups.{canonical, writable, allocated}
-use Rattle.wild_plan.specs.Rows.{row_of}
-use Rattle.wild_plan.specs.SlotParts.{type_of}
-use Rattle.wild_plan.specs.Treatment.{flags_at, is_left, is_chosen, is_sized, address_treatment, size_treatment, kind_treatment, treatment}
+use Rattle.wild_types.specs.declared.fault.Fault.{Fault}
+use Rattle.wild_types.specs.declared.fault.Missing.TheVariants as missing
+use Rattle.wild_types.specs.declared.kind.Machine.{Machine}
+use Rattle.wild_types.specs.declared.kind.Machine.TheVariants as machine
+use Rattle.wild_types.specs.declared.symbol.Resolution.{Resolution}
+use Rattle.wild_types.specs.declared.symbol.ValueFlags.{ValueFlags}
+use Rattle.wild_types.specs.declared.input.InputRelocation.{InputRelocation}
+use Rattle.wild_types.specs.declared.input.InputSection.{InputSection}
+use Rattle.wild_types.specs.declared.layout.Layout.{Layout}
+use Rattle.wild_slot.specs.declared.treatment.Treatment.{Treatment}
+use Rattle.wild_slot.specs.declared.treatment.Treatment.TheVariants as treatments
+use Rattle.wild_needs.specs.Entries.{is_left_to_entry}
+use Rattle.wild_types.specs.Flags.{has_flag, dynamic, ifunc, absolute, non_interposable, copy_relocation, export_dynamic}
+use Rattle.wild_types.specs.Kinds.{is_position_independent, is_shared_object}
+use Rattle.wild_types.specs.Lookups.{canonical, writable, allocated}
+use Rattle.wild_types.specs.Rows.{row_of}
+use Rattle.wild_slot.specs.SlotParts.{type_of}
+use Rattle.wild_slot.specs.Treatment.{flags_at, is_left, is_chosen, is_sized, address_treatment, size_treatment, kind_treatment, treatment}
 use Rattle.wild_reloc.specs.Agreement.{X86_64Agrees, plain_value}
 use Rattle.wild_reloc.specs.Field.{field_width}
 use Rattle.wild_reloc.specs.Formula.{Formula, formula, Form, Value, Full, Plain, Unsigned, Reads, SymbolAddress, Size}

@@ -5,12 +5,12 @@ use Rattle.std.specs.List.{list_all}
 use Rattle.std.proofs.lemmas.List.{length-take, length-drop}
 use Rattle.wild_words.specs.Words.{word}
 use Rattle.wild_words.proofs.WordLemmas.{number-word, length-word}
-use Rattle.wild_plan.specs.declared.kind.Machine.{Machine}
-use Rattle.wild_plan.specs.declared.kind.Machine.TheVariants as machine
-use Rattle.wild_plan.specs.declared.input.InputRelocation.{InputRelocation}
-use Rattle.wild_plan.specs.declared.input.InputSection.{InputSection}
-use Rattle.wild_plan.specs.declared.layout.Layout.{Layout}
-use Rattle.wild_plan.specs.Lookups.{allocated}
+use Rattle.wild_types.specs.declared.kind.Machine.{Machine}
+use Rattle.wild_types.specs.declared.kind.Machine.TheVariants as machine
+use Rattle.wild_types.specs.declared.input.InputRelocation.{InputRelocation}
+use Rattle.wild_types.specs.declared.input.InputSection.{InputSection}
+use Rattle.wild_types.specs.declared.layout.Layout.{Layout}
+use Rattle.wild_types.specs.Lookups.{allocated}
 use Rattle.wild_reloc.specs.Field.{field_width, size_width, written}
 use Rattle.wild_reloc.specs.Formula.{Formula, Form, formula_at, NoField, Plain, Full, Bits, Keeps, Reads}
 use Rattle.wild_reloc.specs.Agreement.{X86_64Agrees, WidthsHold}

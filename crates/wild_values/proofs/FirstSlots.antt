@@ -4,23 +4,23 @@ use Rattle.std.specs.Prelude.{◌&&◌, ◌||◌, not, if◌then◌else◌}
 use Rattle.wild_reloc.specs.Dynamic.{x86_64_type}
 use Rattle.wild_reloc.specs.declared.dynamic.DynamicRelocationKind.{DynamicRelocationKind}
 use Rattle.wild_reloc.specs.declared.dynamic.DynamicRelocationKind.TheVariants.{GotEntry, JumpSlot, Irelative}
-use Rattle.wild_plan.specs.declared.kind.OutputKind.{OutputKind}
-use Rattle.wild_plan.specs.declared.slot.SlotEntry.{SlotEntry}
-use Rattle.wild_plan.specs.declared.slot.Setting.{Setting}
-use Rattle.wild_plan.specs.declared.slot.SlotItem.{SlotItem}
-use Rattle.wild_plan.specs.declared.slot.SlotItem.TheVariants.{Word}
-use Rattle.wild_plan.specs.declared.slot.SlotWord.{SlotWord}
-use Rattle.wild_plan.specs.declared.slot.SlotWord.TheVariants.{Number, Address, InBlock, General, Plt}
-use Rattle.wild_plan.specs.declared.symbol.Resolution.{Resolution}
-use Rattle.wild_plan.specs.declared.symbol.ValueFlags.{ValueFlags}
-use Rattle.wild_plan.specs.declared.layout.Layout.{Layout}
-use Rattle.wild_plan.specs.Flags.{has_flag, interposable, has_link_time_address, absolute, dynamic, ifunc, non_interposable, copy_relocation, export_dynamic, canonical_plt}
-use Rattle.wild_plan.specs.Kinds.{is_position_independent}
-use Rattle.wild_plan.specs.Lookups.{canonical}
-use Rattle.wild_plan.specs.Slots.{setting_of, named, general, plt, number, plain_item, stub_items, ifunc_address_items, canonical_address_items, slot_items, items_at, thread_items, address_items, slot}
-use Rattle.wild_plan.specs.SlotShares.{resolved_slots, slots_of}
-use Rattle.wild_plan.specs.Stub.{far_of}
-use Rattle.wild_plan.specs.SymbolSlots.{resolved_got, has_dynamic_symbol, has_thread_slot}
+use Rattle.wild_types.specs.declared.kind.OutputKind.{OutputKind}
+use Rattle.wild_slot.specs.declared.slot.SlotEntry.{SlotEntry}
+use Rattle.wild_slot.specs.declared.slot.Setting.{Setting}
+use Rattle.wild_slot.specs.declared.slot.SlotItem.{SlotItem}
+use Rattle.wild_slot.specs.declared.slot.SlotItem.TheVariants.{Word}
+use Rattle.wild_slot.specs.declared.slot.SlotWord.{SlotWord}
+use Rattle.wild_slot.specs.declared.slot.SlotWord.TheVariants.{Number, Address, InBlock, General, Plt}
+use Rattle.wild_types.specs.declared.symbol.Resolution.{Resolution}
+use Rattle.wild_types.specs.declared.symbol.ValueFlags.{ValueFlags}
+use Rattle.wild_types.specs.declared.layout.Layout.{Layout}
+use Rattle.wild_types.specs.Flags.{has_flag, interposable, has_link_time_address, absolute, dynamic, ifunc, non_interposable, copy_relocation, export_dynamic, canonical_plt}
+use Rattle.wild_types.specs.Kinds.{is_position_independent}
+use Rattle.wild_types.specs.Lookups.{canonical}
+use Rattle.wild_slot.specs.Slots.{setting_of, named, general, plt, number, plain_item, stub_items, ifunc_address_items, canonical_address_items, slot_items, items_at, thread_items, address_items, slot}
+use Rattle.wild_slot.specs.SymbolWords.{resolved_slots, slots_of}
+use Rattle.wild_slot.specs.Stub.{far_of}
+use Rattle.wild_types.specs.SymbolSlots.{resolved_got, has_dynamic_symbol, has_thread_slot}
 use Rattle.wild_geometry.specs.Slots.{IsFilledBy, IsLoadedWord, HasWords}
 use Rattle.wild_loader.specs.Changes.{kind_of}
 use Rattle.wild_loader.specs.declared.kind.DynamicKind.TheVariants as works

@@ -4,7 +4,7 @@ use Rattle.std.specs.Prelude.{◌==◌, ◌&&◌, ◌||◌, if◌then◌else◌,
 use Rattle.std.specs.List.{list_all}
 use Rattle.std.proofs.lemmas.Bool.{eqb-true}
 use Rattle.wild_records.specs.Abi.Relocation.{r_x86_64_none, r_x86_64_gotpc32_tlsdesc, r_x86_64_code_4_gotpc32_tlsdesc, r_x86_64_tlsdesc_call}
-use Rattle.wild_plan.specs.declared.kind.Machine.TheVariants as machine
+use Rattle.wild_types.specs.declared.kind.Machine.TheVariants as machine
 use Rattle.wild_reloc.specs.TableX86_64.{x86_64_rows, x86_64_row}
 use Rattle.wild_reloc.specs.Field.{field_width, allows, written}
 use Rattle.wild_reloc.specs.Formula.{Formula, Value, Form, NoField, Plain, Full, Bits, Reads}
@@ -15,7 +15,7 @@ use Rattle.wild_reloc.specs.declared.info.RelocationKind.{RelocationKind}
 use Rattle.wild_reloc.specs.declared.info.RelocationKind.TheVariants as kinds
 use Rattle.wild_reloc.specs.declared.info.RelocationKindInfo.{RelocationKindInfo}
 use Rattle.wild_reloc.proofs.TableLemmas.{entry_passes}
-use Rattle.wild_plan.specs.Rows.{row_of}
+use Rattle.wild_types.specs.Rows.{row_of}
 use Rattle.wild_layout.proofs.DecideLemmas.{value_has_field}
 use Rattle.wild_layout.proofs.TreatmentLemmas.{HasValue}
 use Rattle.wild_meaning.specs.Field.{form_width}

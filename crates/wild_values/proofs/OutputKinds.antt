@@ -1,9 +1,9 @@
 -- Kinds of outputs, as the writer tells them and as the reader does.
 use Rattle.std.proofs.Common.{◌≡◌, ◌⊎◌, inl, inr, true, false, refl}
-use Rattle.wild_plan.specs.declared.kind.RelocationModel.TheVariants as model
-use Rattle.wild_plan.specs.declared.kind.OutputKind.{OutputKind}
-use Rattle.wild_plan.specs.declared.kind.OutputKind.TheVariants as output
-use Rattle.wild_plan.specs.Kinds.{is_executable, is_shared_object, is_position_independent}
+use Rattle.wild_types.specs.declared.kind.RelocationModel.TheVariants as model
+use Rattle.wild_types.specs.declared.kind.OutputKind.{OutputKind}
+use Rattle.wild_types.specs.declared.kind.OutputKind.TheVariants as output
+use Rattle.wild_types.specs.Kinds.{is_executable, is_shared_object, is_position_independent}
 use Rattle.wild_meaning.specs.Value.{is_library}
 use Rattle.wild_meaning.specs.World.{IsFixed, IsMovable, IsLoadable, IsExecutable}
 

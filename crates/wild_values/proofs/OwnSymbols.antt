@@ -1,9 +1,9 @@
 -- The symbols that no other module may replace: their values are the output's own.
 use Rattle.std.proofs.Common.{◌≡◌, ℕ, ◌<◌, inr, Bool, true, false, Some, Ok, length, sym, ap, ◌∙◌, subst}
-use Rattle.wild_plan.specs.declared.symbol.ValueFlags.{ValueFlags}
-use Rattle.wild_plan.specs.declared.layout.Layout.{Layout}
-use Rattle.wild_plan.specs.Flags.{has_flag, interposable, absolute, dynamic}
-use Rattle.wild_plan.specs.Treatment.{flags_at}
+use Rattle.wild_types.specs.declared.symbol.ValueFlags.{ValueFlags}
+use Rattle.wild_types.specs.declared.layout.Layout.{Layout}
+use Rattle.wild_types.specs.Flags.{has_flag, interposable, absolute, dynamic}
+use Rattle.wild_slot.specs.Treatment.{flags_at}
 use Rattle.wild_layout.specs.SymbolValues.{raw_address}
 use Rattle.wild_layout.specs.SlotValues.{is_chosen, address_of}
 use Rattle.wild_loader.specs.declared.memory.Memory.{Memory}

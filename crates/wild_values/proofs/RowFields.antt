@@ -3,15 +3,15 @@ use Rattle.std.proofs.Common.{◌≡◌, ℕ, ◌+◌, ◌-◌, ◌%◌, ◌^◌
 use Rattle.std.specs.Prelude.{Option, Some, Ok, slice_get, not}
 use Rattle.std.proofs.lemmas.Bool.{cases_Bool}
 use Rattle.wild_records.specs.Abi.Relocation.{r_x86_64_pc32, r_x86_64_plt32, r_x86_64_gotoff64, r_x86_64_pltoff64}
-use Rattle.wild_plan.specs.declared.kind.Machine.{Machine}
-use Rattle.wild_plan.specs.declared.kind.Machine.TheVariants as machine
-use Rattle.wild_plan.specs.declared.input.InputRelocation.{InputRelocation}
-use Rattle.wild_plan.specs.declared.input.InputSection.{InputSection}
-use Rattle.wild_plan.specs.declared.layout.Layout.{Layout}
-use Rattle.wild_plan.specs.Flags.{interposable}
-use Rattle.wild_plan.specs.Kinds.{is_position_independent}
-use Rattle.wild_plan.specs.Rows.{row_of}
-use Rattle.wild_plan.specs.Treatment.{flags_at}
+use Rattle.wild_types.specs.declared.kind.Machine.{Machine}
+use Rattle.wild_types.specs.declared.kind.Machine.TheVariants as machine
+use Rattle.wild_types.specs.declared.input.InputRelocation.{InputRelocation}
+use Rattle.wild_types.specs.declared.input.InputSection.{InputSection}
+use Rattle.wild_types.specs.declared.layout.Layout.{Layout}
+use Rattle.wild_types.specs.Flags.{interposable}
+use Rattle.wild_types.specs.Kinds.{is_position_independent}
+use Rattle.wild_types.specs.Rows.{row_of}
+use Rattle.wild_slot.specs.Treatment.{flags_at}
 use Rattle.wild_reloc.specs.Agreement.{X86_64Agrees}
 use Rattle.wild_reloc.specs.Field.{allows, written}
 use Rattle.wild_reloc.specs.Formula.{Formula, Reads, formula, StubDistance, StubFromTable, Distance, FromTable, Plain, Full, Signed}

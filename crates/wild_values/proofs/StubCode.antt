@@ -5,7 +5,7 @@ use Rattle.std.proofs.lemmas.Bool.{cases_Bool, ltb-true, leb-true}
 use Rattle.wild_words.specs.Words.{word, place}
 use Rattle.wild_reloc.specs.Range.{of_bits, contains}
 use Rattle.wild_reloc.specs.declared.range.Sign.TheVariants.{Signed}
-use Rattle.wild_plan.specs.Stub.{stub_x86_64, displacement_x86_64}
+use Rattle.wild_slot.specs.Stub.{stub_x86_64, displacement_x86_64}
 use Rattle.wild_loader.specs.declared.memory.Machine.TheVariants as machines
 use Rattle.wild_loader.specs.declared.memory.Memory.{Memory}
 use Rattle.wild_loader.specs.Memory.{byte_in, number_in, Holds}

@@ -2,13 +2,13 @@
 use Rattle.std.proofs.Common.{◌≡◌, ℕ, ◌⊎◌, inl, inr, Bool, true, false, Option, Some, None, refl, sym, ap, ◌∙◌, subst}
 use Rattle.std.specs.Prelude.{◌==◌, option_and_then}
 use Rattle.std.proofs.lemmas.Bool.{cases_Bool, eqb-true, eq-eqb}
-use Rattle.wild_plan.specs.declared.symbol.Resolution.{Resolution}
-use Rattle.wild_plan.specs.declared.symbol.Symbol.{Symbol}
-use Rattle.wild_plan.specs.declared.symbol.ValueFlags.{ValueFlags}
-use Rattle.wild_plan.specs.declared.layout.Layout.{Layout}
-use Rattle.wild_plan.specs.Flags.{has_flag, absolute, ifunc}
-use Rattle.wild_plan.specs.Lookups.{canonical}
-use Rattle.wild_plan.specs.Treatment.{flags_at}
+use Rattle.wild_types.specs.declared.symbol.Resolution.{Resolution}
+use Rattle.wild_types.specs.declared.symbol.Symbol.{Symbol}
+use Rattle.wild_types.specs.declared.symbol.ValueFlags.{ValueFlags}
+use Rattle.wild_types.specs.declared.layout.Layout.{Layout}
+use Rattle.wild_types.specs.Flags.{has_flag, absolute, ifunc}
+use Rattle.wild_types.specs.Lookups.{canonical}
+use Rattle.wild_slot.specs.Treatment.{flags_at}
 use Rattle.wild_layout.specs.SlotValues.{resolution_of, stub_of}
 use Rattle.wild_meaning.specs.Reference.{IsStubbed}
 use Rattle.wild_meaning.specs.Value.{IsSymbol, IsDefinedBy, IsResolved, IsUnresolved, StandsAt, HasRaw, HasFlag}

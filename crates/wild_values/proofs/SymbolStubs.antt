@@ -1,16 +1,16 @@
 -- The stub of a symbol: code that goes there comes to the symbol's value.
 use Rattle.std.proofs.Common.{◌≡◌, ℕ, ◌+◌, ◌%◌, ◌^◌, ◌<◌, inl, inr, Bool, true, false, List, ◌∷◌, ◌++◌, Option, Some, None, refl, sym, ap, ◌∙◌, arith, subst}
 use Rattle.std.specs.Prelude.{Ok, if◌then◌else◌, option_and_then}
-use Rattle.wild_plan.specs.declared.fault.Missing.TheVariants as missing
-use Rattle.wild_plan.specs.declared.kind.Machine.TheVariants as machine
-use Rattle.wild_plan.specs.declared.slot.SlotItem.{SlotItem}
-use Rattle.wild_plan.specs.declared.symbol.Resolution.{Resolution}
-use Rattle.wild_plan.specs.declared.symbol.ValueFlags.{ValueFlags}
-use Rattle.wild_plan.specs.declared.layout.Layout.{Layout}
-use Rattle.wild_plan.specs.Lookups.{canonical}
-use Rattle.wild_plan.specs.Slots.{setting_of, stub_item, stub_items, ifunc_address_items, canonical_address_items}
-use Rattle.wild_plan.specs.Stub.{stub_x86_64, far_between, far_of}
-use Rattle.wild_plan.specs.SymbolSlots.{resolved_got, resolved_plt, plt_of, has_thread_slot}
+use Rattle.wild_types.specs.declared.fault.Missing.TheVariants as missing
+use Rattle.wild_types.specs.declared.kind.Machine.TheVariants as machine
+use Rattle.wild_slot.specs.declared.slot.SlotItem.{SlotItem}
+use Rattle.wild_types.specs.declared.symbol.Resolution.{Resolution}
+use Rattle.wild_types.specs.declared.symbol.ValueFlags.{ValueFlags}
+use Rattle.wild_types.specs.declared.layout.Layout.{Layout}
+use Rattle.wild_types.specs.Lookups.{canonical}
+use Rattle.wild_slot.specs.Slots.{setting_of, stub_item, stub_items, ifunc_address_items, canonical_address_items}
+use Rattle.wild_slot.specs.Stub.{stub_x86_64, far_between, far_of}
+use Rattle.wild_types.specs.SymbolSlots.{resolved_got, resolved_plt, plt_of, has_thread_slot}
 use Rattle.wild_layout.specs.SlotValues.{resolution_of, stub_of, stub_address}
 use Rattle.wild_loader.specs.StepLaws.{StubsOfValuesAreRead}
 use Rattle.wild_loader.specs.declared.memory.Memory.{Memory}

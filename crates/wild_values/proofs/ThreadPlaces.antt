@@ -3,17 +3,17 @@ use Rattle.std.proofs.Common.{◌≡◌, ℕ, ◌+◌, ◌-◌, ◌%◌, ◌^◌
 use Rattle.std.specs.Prelude.{◌||◌, if◌then◌else◌}
 use Rattle.std.specs.Int.{w64, cast_unsigned}
 use Rattle.wild_reloc.specs.declared.dynamic.DynamicRelocationKind.TheVariants.{DtpMod}
-use Rattle.wild_plan.specs.declared.kind.OutputKind.TheVariants as output
-use Rattle.wild_plan.specs.declared.slot.SlotEntry.{SlotEntry}
-use Rattle.wild_plan.specs.declared.slot.SlotWord.{SlotWord}
-use Rattle.wild_plan.specs.declared.slot.SlotWord.TheVariants.{Number, General}
-use Rattle.wild_plan.specs.declared.symbol.Resolution.{Resolution}
-use Rattle.wild_plan.specs.declared.layout.Layout.{Layout}
-use Rattle.wild_plan.specs.Flags.{has_flag, got_tls_offset, got_tls_module, got_tls_descriptor}
-use Rattle.wild_plan.specs.Slots.{setting_of, storage_pair}
-use Rattle.wild_plan.specs.SlotShares.{storage_at, storage_words}
-use Rattle.wild_plan.specs.Storage.{less, thread_pointer}
-use Rattle.wild_plan.specs.SymbolSlots.{has_thread_slot}
+use Rattle.wild_types.specs.declared.kind.OutputKind.TheVariants as output
+use Rattle.wild_slot.specs.declared.slot.SlotEntry.{SlotEntry}
+use Rattle.wild_slot.specs.declared.slot.SlotWord.{SlotWord}
+use Rattle.wild_slot.specs.declared.slot.SlotWord.TheVariants.{Number, General}
+use Rattle.wild_types.specs.declared.symbol.Resolution.{Resolution}
+use Rattle.wild_types.specs.declared.layout.Layout.{Layout}
+use Rattle.wild_types.specs.Flags.{has_flag, got_tls_offset, got_tls_module, got_tls_descriptor}
+use Rattle.wild_slot.specs.Slots.{setting_of, storage_pair}
+use Rattle.wild_needs.specs.SlotShares.{storage_at, storage_words}
+use Rattle.wild_slot.specs.Storage.{less, thread_pointer}
+use Rattle.wild_types.specs.SymbolSlots.{has_thread_slot}
 use Rattle.wild_reloc.specs.Formula.{ThreadOffset, ModulePair, OwnModulePair}
 use Rattle.wild_reloc.specs.declared.info.RelocationKind.TheVariants as kinds
 use Rattle.wild_layout.specs.SlotValues.{behind_word}

@@ -4,18 +4,18 @@ use Rattle.std.specs.Prelude.{Ok, ◌==◌, ◌&&◌, ◌||◌, not, if◌then�
 use Rattle.std.specs.Int.{w64, cast_unsigned}
 use Rattle.std.proofs.lemmas.Bool.{eqb-true}
 use Rattle.wild_reloc.specs.declared.dynamic.DynamicRelocationKind.TheVariants.{DtpMod, TpOff}
-use Rattle.wild_plan.specs.declared.slot.SlotFault.TheVariants.{TlsOutOfSegment}
-use Rattle.wild_plan.specs.declared.slot.SlotItem.{SlotItem}
-use Rattle.wild_plan.specs.declared.slot.SlotItem.TheVariants.{Fault}
-use Rattle.wild_plan.specs.declared.symbol.Resolution.{Resolution}
-use Rattle.wild_plan.specs.declared.symbol.ValueFlags.{ValueFlags}
-use Rattle.wild_plan.specs.declared.layout.Layout.{Layout}
-use Rattle.wild_plan.specs.Flags.{has_flag, interposable, dynamic, non_interposable, copy_relocation, export_dynamic, got_tls_offset, got_tls_module}
-use Rattle.wild_plan.specs.Kinds.{is_executable}
-use Rattle.wild_plan.specs.Lookups.{canonical}
-use Rattle.wild_plan.specs.Slots.{setting_of, number, general, named, offset_item, module_item, module_offset, module_offset_item, where_so, module_items, descriptor_items, thread_items}
-use Rattle.wild_plan.specs.Storage.{less, thread_pointer, is_outside}
-use Rattle.wild_plan.specs.SymbolSlots.{has_dynamic_symbol}
+use Rattle.wild_slot.specs.declared.slot.SlotFault.TheVariants.{TlsOutOfSegment}
+use Rattle.wild_slot.specs.declared.slot.SlotItem.{SlotItem}
+use Rattle.wild_slot.specs.declared.slot.SlotItem.TheVariants.{Fault}
+use Rattle.wild_types.specs.declared.symbol.Resolution.{Resolution}
+use Rattle.wild_types.specs.declared.symbol.ValueFlags.{ValueFlags}
+use Rattle.wild_types.specs.declared.layout.Layout.{Layout}
+use Rattle.wild_types.specs.Flags.{has_flag, interposable, dynamic, non_interposable, copy_relocation, export_dynamic, got_tls_offset, got_tls_module}
+use Rattle.wild_types.specs.Kinds.{is_executable}
+use Rattle.wild_types.specs.Lookups.{canonical}
+use Rattle.wild_slot.specs.Slots.{setting_of, number, general, named, offset_item, module_item, module_offset, module_offset_item, where_so, module_items, descriptor_items, thread_items}
+use Rattle.wild_slot.specs.Storage.{less, thread_pointer, is_outside}
+use Rattle.wild_types.specs.SymbolSlots.{has_dynamic_symbol}
 use Rattle.wild_loader.specs.Changes.{distance_of}
 use Rattle.wild_loader.specs.declared.memory.Memory.{Memory}
 use Rattle.wild_loader.specs.declared.world.World.{World}

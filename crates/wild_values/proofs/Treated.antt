@@ -2,16 +2,16 @@
 use Rattle.std.proofs.Common.{◌≡◌, ℕ, ◌<◌, ◌⊎◌, inl, inr, Bool, true, false, refl, sym, ◌∙◌, length}
 use Rattle.std.specs.Prelude.{Option, Some, None, if◌then◌else◌, not, ◌&&◌, ◌||◌, ◌==◌}
 use Rattle.std.proofs.lemmas.Bool.{cases_Bool, lt-ltb}
-use Rattle.wild_plan.specs.declared.input.InputRelocation.{InputRelocation}
-use Rattle.wild_plan.specs.declared.input.InputSection.{InputSection}
-use Rattle.wild_plan.specs.declared.layout.Layout.{Layout}
-use Rattle.wild_plan.specs.declared.treatment.Treatment.{Treatment}
-use Rattle.wild_plan.specs.declared.treatment.Treatment.TheVariants as treatments
-use Rattle.wild_plan.specs.Flags.{has_flag, absolute}
-use Rattle.wild_plan.specs.Kinds.{is_position_independent, is_shared_object}
-use Rattle.wild_plan.specs.Lookups.{allocated}
-use Rattle.wild_plan.specs.Rows.{row_of}
-use Rattle.wild_plan.specs.Treatment.{is_left, is_barred, is_narrow, is_chosen, is_sized, flags_at, moves, moved_treatment, chosen_treatment, address_treatment, distance_treatment, pointer_treatment, size_treatment, named, where_there, kind_treatment, row_treatment, treatment}
+use Rattle.wild_types.specs.declared.input.InputRelocation.{InputRelocation}
+use Rattle.wild_types.specs.declared.input.InputSection.{InputSection}
+use Rattle.wild_types.specs.declared.layout.Layout.{Layout}
+use Rattle.wild_slot.specs.declared.treatment.Treatment.{Treatment}
+use Rattle.wild_slot.specs.declared.treatment.Treatment.TheVariants as treatments
+use Rattle.wild_types.specs.Flags.{has_flag, absolute}
+use Rattle.wild_types.specs.Kinds.{is_position_independent, is_shared_object}
+use Rattle.wild_types.specs.Lookups.{allocated}
+use Rattle.wild_types.specs.Rows.{row_of}
+use Rattle.wild_slot.specs.Treatment.{is_left, is_barred, is_narrow, is_chosen, is_sized, flags_at, moves, moved_treatment, chosen_treatment, address_treatment, distance_treatment, pointer_treatment, size_treatment, named, where_there, kind_treatment, row_treatment, treatment}
 use Rattle.wild_reloc.specs.Field.{field_width}
 use Rattle.wild_reloc.specs.declared.info.RelocationKindInfo.{RelocationKindInfo}
 

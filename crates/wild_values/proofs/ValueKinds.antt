@@ -3,16 +3,16 @@ use Rattle.std.proofs.Common.{◌≡◌, ℕ, ◌+◌, ◌-◌, ◌%◌, ◌^◌
 use Rattle.std.specs.Prelude.{Option, Some, None, Ok, not, ◌&&◌, ◌||◌}
 use Rattle.std.specs.Int.{w64, cast_unsigned}
 use Rattle.std.proofs.lemmas.Bool.{cases_Bool}
-use Rattle.wild_plan.specs.declared.input.InputRelocation.{InputRelocation}
-use Rattle.wild_plan.specs.declared.input.InputSection.{InputSection}
-use Rattle.wild_plan.specs.declared.layout.Layout.{Layout}
-use Rattle.wild_plan.specs.declared.treatment.Treatment.TheVariants as treatments
-use Rattle.wild_plan.specs.declared.symbol.Symbol.{Symbol}
-use Rattle.wild_plan.specs.declared.symbol.ValueFlags.{ValueFlags}
-use Rattle.wild_plan.specs.Flags.{has_flag, interposable, dynamic, non_interposable, copy_relocation, export_dynamic}
-use Rattle.wild_plan.specs.Kinds.{is_position_independent, is_shared_object}
-use Rattle.wild_plan.specs.Lookups.{allocated}
-use Rattle.wild_plan.specs.Treatment.{flags_at, is_sized, where_there, address_treatment, size_treatment, kind_treatment}
+use Rattle.wild_types.specs.declared.input.InputRelocation.{InputRelocation}
+use Rattle.wild_types.specs.declared.input.InputSection.{InputSection}
+use Rattle.wild_types.specs.declared.layout.Layout.{Layout}
+use Rattle.wild_slot.specs.declared.treatment.Treatment.TheVariants as treatments
+use Rattle.wild_types.specs.declared.symbol.Symbol.{Symbol}
+use Rattle.wild_types.specs.declared.symbol.ValueFlags.{ValueFlags}
+use Rattle.wild_types.specs.Flags.{has_flag, interposable, dynamic, non_interposable, copy_relocation, export_dynamic}
+use Rattle.wild_types.specs.Kinds.{is_position_independent, is_shared_object}
+use Rattle.wild_types.specs.Lookups.{allocated}
+use Rattle.wild_slot.specs.Treatment.{flags_at, is_sized, where_there, address_treatment, size_treatment, kind_treatment}
 use Rattle.wild_reloc.specs.Agreement.{plain_value}
 use Rattle.wild_reloc.specs.declared.info.RelocationKind.{RelocationKind}
 use Rattle.wild_reloc.specs.declared.info.RelocationKind.TheVariants as kinds

@@ -4,18 +4,18 @@ use Rattle.std.specs.Prelude.{Option, Some, None, Contains, slice_get, option_an
 use Rattle.std.specs.List.{flat_map}
 use Rattle.std.proofs.lemmas.Bool.{cases_Bool, ne_eqb, leb-true, ltb-true}
 use Rattle.std.proofs.lemmas.List.Elements.{Contains-append_cases}
-use Rattle.wild_plan.specs.declared.symbol.Place.{Place}
-use Rattle.wild_plan.specs.declared.symbol.Place.TheVariants as at
-use Rattle.wild_plan.specs.declared.symbol.Symbol.{Symbol}
-use Rattle.wild_plan.specs.declared.symbol.Resolution.{Resolution}
-use Rattle.wild_plan.specs.declared.input.Slot.{Slot}
-use Rattle.wild_plan.specs.declared.input.Slot.TheVariants as slot
-use Rattle.wild_plan.specs.declared.input.InputSection.{InputSection}
-use Rattle.wild_plan.specs.declared.file.File.{File}
-use Rattle.wild_plan.specs.declared.file.Group.{Group}
-use Rattle.wild_plan.specs.declared.layout.Layout.{Layout}
-use Rattle.wild_plan.specs.Lookups.{canonical, has_address, is_discarded, files_of, file_of, is_allocated_part}
-use Rattle.wild_plan.specs.Addresses.{raw_value, resolved_or, placed_value, address_at, address_in_file, address_in_section}
+use Rattle.wild_types.specs.declared.symbol.Place.{Place}
+use Rattle.wild_types.specs.declared.symbol.Place.TheVariants as at
+use Rattle.wild_types.specs.declared.symbol.Symbol.{Symbol}
+use Rattle.wild_types.specs.declared.symbol.Resolution.{Resolution}
+use Rattle.wild_types.specs.declared.input.Slot.{Slot}
+use Rattle.wild_types.specs.declared.input.Slot.TheVariants as slot
+use Rattle.wild_types.specs.declared.input.InputSection.{InputSection}
+use Rattle.wild_types.specs.declared.file.File.{File}
+use Rattle.wild_types.specs.declared.file.Group.{Group}
+use Rattle.wild_types.specs.declared.layout.Layout.{Layout}
+use Rattle.wild_types.specs.Lookups.{canonical, has_address, is_discarded, files_of, file_of, is_allocated_part}
+use Rattle.wild_types.specs.Addresses.{raw_value, resolved_or, placed_value, address_at, address_in_file, address_in_section}
 use Rattle.wild_meaning.specs.Section.{IsAllocatedPart, IsPlaced}
 use Rattle.wild_meaning.specs.Value.{IsSymbol, IsDefinedBy, IsOwnFile, StandsAt, IsResolved, IsUnresolved, HasRaw}
 use Rattle.wild_values.proofs.Bits.{alloc_bit}

@@ -2,23 +2,23 @@
 use Rattle.std.proofs.Common.{◌≡◌, ℕ, zero, suc, ◌+◌, ◌<◌, ◌⊎◌, inl, inr, Bool, List, [], ◌∷◌, length, refl, ap, ◌∙◌, arith, subst}
 use Rattle.std.specs.Prelude.{Option, Some, None, Ok, slice_get}
 use Rattle.wild_records.specs.Abi.Relocation.{r_x86_64_none, r_x86_64_tlsdesc_call}
-use Rattle.wild_plan.specs.declared.kind.Machine.{Machine}
-use Rattle.wild_plan.specs.declared.kind.Machine.TheVariants as machine
-use Rattle.wild_plan.specs.declared.fault.Missing.{Missing}
-use Rattle.wild_plan.specs.declared.fault.Missing.TheVariants as missing
-use Rattle.wild_plan.specs.declared.input.InputRelocation.{InputRelocation}
-use Rattle.wild_plan.specs.declared.input.InputSection.{InputSection}
-use Rattle.wild_plan.specs.declared.layout.Layout.{Layout}
+use Rattle.wild_types.specs.declared.kind.Machine.{Machine}
+use Rattle.wild_types.specs.declared.kind.Machine.TheVariants as machine
+use Rattle.wild_types.specs.declared.fault.Missing.{Missing}
+use Rattle.wild_types.specs.declared.fault.Missing.TheVariants as missing
+use Rattle.wild_types.specs.declared.input.InputRelocation.{InputRelocation}
+use Rattle.wild_types.specs.declared.input.InputSection.{InputSection}
+use Rattle.wild_types.specs.declared.layout.Layout.{Layout}
 use Rattle.wild_reloc.specs.Agreement.{X86_64Agrees}
 use Rattle.wild_reloc.specs.declared.info.RelocationKindInfo.{RelocationKindInfo}
 use Rattle.wild_reloc.specs.declared.info.RelocationSize.{RelocationSize}
-use Rattle.wild_plan.specs.Rows.{row_of}
+use Rattle.wild_types.specs.Rows.{row_of}
 use Rattle.wild_layout.specs.declared.decision.Decision.{Decision}
 use Rattle.wild_layout.specs.declared.decision.Decision.TheVariants.{Nothing, Field, Moved, Left, Rewritten, Partner}
 use Rattle.wild_layout.specs.SymbolValues.{address_or, raw_address}
-use Rattle.wild_plan.specs.Addresses.{raw_value}
-use Rattle.wild_plan.specs.declared.treatment.Treatment.{Treatment}
-use Rattle.wild_plan.specs.Treatment.{treatment, kind_treatment}
+use Rattle.wild_types.specs.Addresses.{raw_value}
+use Rattle.wild_slot.specs.declared.treatment.Treatment.{Treatment}
+use Rattle.wild_slot.specs.Treatment.{treatment, kind_treatment}
 use Rattle.wild_reloc.specs.declared.info.RelocationKind.{RelocationKind}
 use Rattle.wild_reloc.specs.declared.info.RelocationKind.TheVariants as kinds
 use Rattle.wild_layout.specs.Decide.{decided, decide_by}

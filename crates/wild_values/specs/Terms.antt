@@ -4,22 +4,23 @@
 --   HasTerm ..      a relocation writes x at its place, by the writer's expression of a kind
 --   IsFollowed ..   the value is right whichever module has the symbol
 use Rattle.std.specs.Prelude.{◌≡◌, ℕ, ◌+◌, ◌^◌, ◌<◌, ◌≤◌, ◌⊎◌, true, false, Some, Ok, All}
-use Rattle.wild_plan.specs.declared.kind.Machine.TheVariants as machine
-use Rattle.wild_plan.specs.declared.input.InputRelocation.{InputRelocation}
-use Rattle.wild_plan.specs.declared.input.InputSection.{InputSection}
-use Rattle.wild_plan.specs.declared.layout.Layout.{Layout}
-use Rattle.wild_plan.specs.declared.treatment.Treatment.TheVariants as treatments
-use Rattle.wild_plan.specs.Kinds.{is_position_independent}
-use Rattle.wild_plan.specs.Lookups.{allocated}
-use Rattle.wild_plan.specs.ResolvedFlags.{HaveTheirFlags}
-use Rattle.wild_plan.specs.Treatment.{kind_treatment}
-use Rattle.wild_plan.specs.ClauseTests.{check_dynsyms, check_slot_flags}
+use Rattle.wild_types.specs.declared.kind.Machine.TheVariants as machine
+use Rattle.wild_types.specs.declared.input.InputRelocation.{InputRelocation}
+use Rattle.wild_types.specs.declared.input.InputSection.{InputSection}
+use Rattle.wild_types.specs.declared.layout.Layout.{Layout}
+use Rattle.wild_slot.specs.declared.treatment.Treatment.TheVariants as treatments
+use Rattle.wild_types.specs.Kinds.{is_position_independent}
+use Rattle.wild_types.specs.Lookups.{allocated}
+use Rattle.wild_types.specs.ResolvedFlags.{HaveTheirFlags}
+use Rattle.wild_slot.specs.Treatment.{kind_treatment}
 use Rattle.wild_reloc.specs.Agreement.{plain_value}
 use Rattle.wild_reloc.specs.declared.info.RelocationKind.{RelocationKind}
 use Rattle.wild_reloc.specs.declared.info.RelocationKindInfo.{RelocationKindInfo}
 use Rattle.wild_layout.specs.SymbolValues.{place_of}
 use Rattle.wild_layout.specs.Values.{term_of, value_by}
 use Rattle.wild_layout.specs.Geometry.{DefinitionNames, NamesSymbol}
+use Rattle.wild_layout.specs.SlotOrder.{FlagsAgree}
+use Rattle.wild_layout.specs.ListedSymbols.{AreListed}
 use Rattle.wild_layout.specs.Numbers.{SymbolNumbers}
 use Rattle.wild_geometry.specs.Slots.{HasSlots}
 use Rattle.wild_loader.specs.declared.memory.Machine.TheVariants as machines
@@ -36,8 +37,8 @@ use Rattle.wild_meaning.specs.Reference.{IsStubbed}
 pub record SymbolsFit (l : Layout) : Type 0 where
   pub named : All (DefinitionNames l) l.symbols
   pub own : HaveTheirFlags l
-  pub flags : check_slot_flags l ≡ Ok tt
-  pub dynsyms : check_dynsyms l ≡ Ok tt
+  pub flags : All (FlagsAgree l) l.symbols
+  pub dynsyms : AreListed l
   pub numbers : All SymbolNumbers l.symbols
 
 -- an x86-64 output in a legal world: one that does not move is at base 0, an executable is the first module, its numbers fit, and

@@ -3,11 +3,11 @@ use Rattle.std.proofs.Common.{◌≡◌, ℕ, Bool, true, false, if◌then◌els
 use Rattle.std.specs.List.{flat_map}
 use Rattle.std.proofs.lemmas.List.{length-append, length-map}
 use Rattle.wild_records.specs.declared.symtab_entry.SymtabEntry.{SymtabEntry}
-use Rattle.wild_plan.specs.declared.file.File.{File}
-use Rattle.wild_plan.specs.declared.layout.Layout.{Layout}
-use Rattle.wild_plan.specs.DynamicStrings.{behind_text, behind_file, undefined_symbols}
-use Rattle.wild_plan.specs.FileRoles.{is_prelude, is_epilogue}
-use Rattle.wild_plan.specs.Kinds.{needs_dynsym}
+use Rattle.wild_types.specs.declared.file.File.{File}
+use Rattle.wild_types.specs.declared.layout.Layout.{Layout}
+use Rattle.wild_needs.specs.DynamicStrings.{behind_text, behind_file, undefined_symbols}
+use Rattle.wild_types.specs.FileRoles.{is_prelude, is_epilogue}
+use Rattle.wild_types.specs.Kinds.{needs_dynsym}
 use Rattle.wild_symbols.specs.DynamicEntries.{NamedFields, listed, undefined, no_fields, entry_at, entries_at, null_entries, file_symbols, behind_lead, file_entries, entries_from, group_symbols}
 use Rattle.wild_versions.specs.Symbols.{version_of, listed_version, null_versions, entry_versions, file_versions, group_versions}
 use Rattle.wild_versions.specs.Laws.{VersionsAreBesideSymbols}

@@ -6,11 +6,11 @@ use Rattle.std.proofs.lemmas.List.{append_assoc, append-nil, drop_more, drop_all
 use Rattle.wild_words.specs.Words.{place}
 use Rattle.wild_words.proofs.WordLemmas.{front-place}
 use Rattle.wild_versions.specs.Room.{Filled, with_bytes}
-use Rattle.wild_plan.specs.declared.file.NeededVersion.{NeededVersion}
-use Rattle.wild_plan.specs.declared.layout.VersionDefinition.{VersionDefinition}
+use Rattle.wild_types.specs.declared.file.NeededVersion.{NeededVersion}
+use Rattle.wild_types.specs.declared.layout.VersionDefinition.{VersionDefinition}
 use Rattle.wild_versions.specs.Chain.{chain, is_end}
 use Rattle.wild_versions.specs.Definitions.{definition_bytes}
-use Rattle.wild_plan.specs.Versions.{definition_size, definitions_size}
+use Rattle.wild_needs.specs.Versions.{definition_size, definitions_size}
 use Rattle.wild_versions.specs.Needs.{needed_bytes}
 
 -- what is put behind the first bytes of a share

@@ -14,12 +14,12 @@ use Rattle.wild_records.specs.declared.verdefs.Verdaux.{Verdaux}
 use Rattle.wild_records.specs.declared.verneeds.Verneed.{Verneed}
 use Rattle.wild_records.specs.declared.verneeds.Vernaux.{Vernaux}
 use Rattle.wild_records.specs.declared.versyms.Versym.{Versym}
-use Rattle.wild_plan.specs.declared.file.NeededVersion.{NeededVersion}
-use Rattle.wild_plan.specs.declared.layout.VersionDefinition.{VersionDefinition}
+use Rattle.wild_types.specs.declared.file.NeededVersion.{NeededVersion}
+use Rattle.wild_types.specs.declared.layout.VersionDefinition.{VersionDefinition}
 use Rattle.wild_versions.specs.Chain.{chain, is_end, name_at}
 use Rattle.wild_versions.specs.Symbols.{spelled, version_bytes}
 use Rattle.wild_versions.specs.Definitions.{verdef_of, verdauxes_with, verdauxes_of, verdaux_bytes, definition_bytes}
-use Rattle.wild_plan.specs.Versions.{size_with, definition_size, definitions_size}
+use Rattle.wild_needs.specs.Versions.{size_with, definition_size, definitions_size}
 use Rattle.wild_versions.specs.Needs.{verneed_of, vernaux_of, needed_bytes}
 use Rattle.wild_versions.specs.Laws.{LengthsOfVersions, LengthsOfDefinitions, LengthsOfNeeds, VersionsAreRead}
 use Rattle.wild_versions.proofs.ChainLemmas.{chain-cons, chain-nil}

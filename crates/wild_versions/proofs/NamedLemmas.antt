@@ -6,19 +6,19 @@ use Rattle.std.proofs.lemmas.List.{length-append}
 use Rattle.std.proofs.lemmas.Grind.{flat_map-append}
 use Rattle.wild_words.specs.Words.{Stands}
 use Rattle.wild_records.specs.Abi.Dynamic.{dt_soname}
-use Rattle.wild_plan.specs.declared.file.File.{File}
-use Rattle.wild_plan.specs.declared.file.FileRole.{FileRole}
-use Rattle.wild_plan.specs.declared.file.FileRole.TheVariants as file_role
-use Rattle.wild_plan.specs.declared.file.NeededVersion.{NeededVersion}
-use Rattle.wild_plan.specs.declared.file.VersionNeeds.{VersionNeeds}
-use Rattle.wild_plan.specs.declared.layout.Layout.{Layout}
-use Rattle.wild_plan.specs.declared.layout.VersionDefinition.{VersionDefinition}
-use Rattle.wild_plan.specs.declared.options.Options.{Options}
-use Rattle.wild_plan.specs.DynamicStrings.{text_room, behind_text, named, auxiliary_strings, path_number, option_strings, named_strings, texts_of, dynamic_strings, lead_strings, entry_names, file_strings, string_start}
-use Rattle.wild_plan.specs.FileRoles.{is_epilogue, is_library}
-use Rattle.wild_plan.specs.Kinds.{needs_dynsym}
-use Rattle.wild_plan.specs.Lists.{total}
-use Rattle.wild_plan.specs.Versions.{needed_names, definition_names, need_names, own_names, needs_of, version_names}
+use Rattle.wild_types.specs.declared.file.File.{File}
+use Rattle.wild_types.specs.declared.file.FileRole.{FileRole}
+use Rattle.wild_types.specs.declared.file.FileRole.TheVariants as file_role
+use Rattle.wild_types.specs.declared.file.NeededVersion.{NeededVersion}
+use Rattle.wild_types.specs.declared.file.VersionNeeds.{VersionNeeds}
+use Rattle.wild_types.specs.declared.layout.Layout.{Layout}
+use Rattle.wild_types.specs.declared.layout.VersionDefinition.{VersionDefinition}
+use Rattle.wild_types.specs.declared.options.Options.{Options}
+use Rattle.wild_needs.specs.DynamicStrings.{text_room, behind_text, named, auxiliary_strings, path_number, option_strings, named_strings, texts_of, dynamic_strings, lead_strings, entry_names, file_strings, string_start}
+use Rattle.wild_types.specs.FileRoles.{is_epilogue, is_library}
+use Rattle.wild_types.specs.Kinds.{needs_dynsym}
+use Rattle.wild_types.specs.Lists.{total}
+use Rattle.wild_needs.specs.Versions.{needed_names, definition_names, need_names, own_names, needs_of, version_names}
 use Rattle.wild_symbols.specs.Strings.{string, string_bytes}
 use Rattle.wild_versions.specs.Chain.{name_at}
 use Rattle.wild_versions.specs.Definitions.{known_as}

@@ -2,16 +2,16 @@
 use Rattle.std.proofs.Common.{◌≡◌, ℕ, ◌+◌, ◌*◌, Bool, true, false, ◌&&◌, if◌then◌else◌, List, [], ◌∷◌, length, map, refl, sym, ap, ◌∙◌, arith}
 use Rattle.std.specs.Prelude.{Option, Some, None}
 use Rattle.std.proofs.lemmas.List.{length-append, length-map}
-use Rattle.wild_plan.specs.declared.file.File.{File}
-use Rattle.wild_plan.specs.declared.file.VersionNeeds.{VersionNeeds}
-use Rattle.wild_plan.specs.declared.layout.Layout.{Layout}
-use Rattle.wild_plan.specs.declared.layout.DynamicSymbol.{DynamicSymbol}
-use Rattle.wild_plan.specs.declared.symbol.Symbol.{Symbol}
-use Rattle.wild_plan.specs.DynamicStrings.{behind_file, undefined_symbols, listed_names, symbol_names, entry_names}
-use Rattle.wild_plan.specs.FileRoles.{is_prelude, is_epilogue}
-use Rattle.wild_plan.specs.Kinds.{needs_dynsym}
-use Rattle.wild_plan.specs.Lists.{total}
-use Rattle.wild_plan.specs.Versions.{definitions_size, room_of, needs_of}
+use Rattle.wild_types.specs.declared.file.File.{File}
+use Rattle.wild_types.specs.declared.file.VersionNeeds.{VersionNeeds}
+use Rattle.wild_types.specs.declared.layout.Layout.{Layout}
+use Rattle.wild_types.specs.declared.layout.DynamicSymbol.{DynamicSymbol}
+use Rattle.wild_types.specs.declared.symbol.Symbol.{Symbol}
+use Rattle.wild_needs.specs.DynamicStrings.{behind_file, undefined_symbols, listed_names, symbol_names, entry_names}
+use Rattle.wild_types.specs.FileRoles.{is_prelude, is_epilogue}
+use Rattle.wild_types.specs.Kinds.{needs_dynsym}
+use Rattle.wild_types.specs.Lists.{total}
+use Rattle.wild_needs.specs.Versions.{definitions_size, room_of, needs_of}
 use Rattle.wild_versions.specs.Symbols.{version_of, listed_version, null_versions, entry_versions, file_versions}
 use Rattle.wild_versions.specs.Definitions.{definition_table}
 use Rattle.wild_versions.specs.Names.{told, behind_entries, symbol_versions, definition_offsets, file_definitions, group_needs, need_at, need_of, needs_from}

@@ -10,8 +10,8 @@ use Rattle.wild_records.specs.Hashes.{sysv_hash}
 use Rattle.wild_records.specs.Verdefs.{verdef_size, verdaux_size, verdef_fields, verdaux_fields}
 use Rattle.wild_records.specs.declared.verdefs.Verdef.{Verdef}
 use Rattle.wild_records.specs.declared.verdefs.Verdaux.{Verdaux}
-use Rattle.wild_plan.specs.declared.layout.VersionDefinition.{VersionDefinition}
-use Rattle.wild_plan.specs.Versions.{definition_size}
+use Rattle.wild_types.specs.declared.layout.VersionDefinition.{VersionDefinition}
+use Rattle.wild_needs.specs.Versions.{definition_size}
 use Rattle.wild_versions.specs.Chain.{chain, next_of, name_at}
 
 -- how many names it tells (LSB, vd_cnt)

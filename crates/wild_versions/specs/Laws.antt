@@ -13,23 +13,23 @@ use Rattle.wild_words.specs.Words.{Stands}
 use Rattle.wild_records.specs.Abi.Version.{ver_flg_base}
 use Rattle.wild_records.specs.Hashes.{sysv_hash}
 use Rattle.wild_records.specs.Versyms.{versym_size, versym_at}
-use Rattle.wild_plan.specs.declared.file.File.{File}
-use Rattle.wild_plan.specs.declared.file.Group.{Group}
-use Rattle.wild_plan.specs.declared.layout.Layout.{Layout}
-use Rattle.wild_plan.specs.declared.file.NeededVersion.{NeededVersion}
-use Rattle.wild_plan.specs.declared.file.VersionNeeds.{VersionNeeds}
-use Rattle.wild_plan.specs.declared.layout.VersionDefinition.{VersionDefinition}
-use Rattle.wild_plan.specs.DynamicStrings.{file_strings, string_start}
-use Rattle.wild_plan.specs.FileRoles.{is_epilogue}
-use Rattle.wild_plan.specs.Kinds.{needs_dynsym}
-use Rattle.wild_plan.specs.Lists.{total}
-use Rattle.wild_plan.specs.Needs.{version_count}
+use Rattle.wild_types.specs.declared.file.File.{File}
+use Rattle.wild_types.specs.declared.file.Group.{Group}
+use Rattle.wild_types.specs.declared.layout.Layout.{Layout}
+use Rattle.wild_types.specs.declared.file.NeededVersion.{NeededVersion}
+use Rattle.wild_types.specs.declared.file.VersionNeeds.{VersionNeeds}
+use Rattle.wild_types.specs.declared.layout.VersionDefinition.{VersionDefinition}
+use Rattle.wild_needs.specs.DynamicStrings.{file_strings, string_start}
+use Rattle.wild_types.specs.FileRoles.{is_epilogue}
+use Rattle.wild_types.specs.Kinds.{needs_dynsym}
+use Rattle.wild_types.specs.Lists.{total}
+use Rattle.wild_needs.specs.Needs.{version_count}
 use Rattle.wild_symbols.specs.Strings.{string, string_bytes}
 use Rattle.wild_versions.specs.Chain.{name_at}
 use Rattle.wild_symbols.specs.DynamicEntries.{group_symbols}
 use Rattle.wild_versions.specs.Symbols.{version_bytes, group_versions}
 use Rattle.wild_versions.specs.Definitions.{known_as, definition_table}
-use Rattle.wild_plan.specs.Versions.{definitions_size, definitions_room, need_size, needs_of, needs_room}
+use Rattle.wild_needs.specs.Versions.{definitions_size, definitions_room, need_size, needs_of, needs_room}
 use Rattle.wild_versions.specs.Needs.{need_bytes}
 use Rattle.wild_versions.specs.Names.{symbol_versions, definition_offsets, file_definitions, library_offset, need_offsets, need_of, group_needs}
 use Rattle.wild_versions.specs.Reading.{Defined, Needed, Library, definitions_from, needs_from}

@@ -7,15 +7,15 @@
 --   library_offset l at f, need_offsets l at f n   where the name of a library stands, and those of the versions that are needed of it
 --   group_needs l g             the table of the versions that are needed of a group's libraries
 use Rattle.std.specs.Prelude.{ℕ, ◌+◌, ◌-◌, ◌%◌, ◌^◌, ◌&&◌, if◌then◌else◌, min, List, [], ◌∷◌, ◌++◌, Option, Some, None}
-use Rattle.wild_plan.specs.declared.file.VersionNeeds.{VersionNeeds}
-use Rattle.wild_plan.specs.declared.file.File.{File}
-use Rattle.wild_plan.specs.declared.file.Group.{Group}
-use Rattle.wild_plan.specs.declared.layout.Layout.{Layout}
-use Rattle.wild_plan.specs.DynamicStrings.{text_room, behind_text, lead_strings, entry_names, behind_file, string_start}
-use Rattle.wild_plan.specs.FileRoles.{is_epilogue}
-use Rattle.wild_plan.specs.Kinds.{needs_dynsym}
-use Rattle.wild_plan.specs.Lists.{total}
-use Rattle.wild_plan.specs.Versions.{needs_of, needed_names, version_names}
+use Rattle.wild_types.specs.declared.file.VersionNeeds.{VersionNeeds}
+use Rattle.wild_types.specs.declared.file.File.{File}
+use Rattle.wild_types.specs.declared.file.Group.{Group}
+use Rattle.wild_types.specs.declared.layout.Layout.{Layout}
+use Rattle.wild_needs.specs.DynamicStrings.{text_room, behind_text, lead_strings, entry_names, behind_file, string_start}
+use Rattle.wild_types.specs.FileRoles.{is_epilogue}
+use Rattle.wild_types.specs.Kinds.{needs_dynsym}
+use Rattle.wild_types.specs.Lists.{total}
+use Rattle.wild_needs.specs.Versions.{needs_of, needed_names, version_names}
 use Rattle.wild_versions.specs.Symbols.{file_versions}
 use Rattle.wild_versions.specs.Definitions.{definition_table}
 use Rattle.wild_versions.specs.Needs.{need_bytes}

@@ -9,9 +9,9 @@ use Rattle.wild_records.specs.Hashes.{sysv_hash}
 use Rattle.wild_records.specs.Verneeds.{verneed_size, vernaux_size, verneed_fields, vernaux_fields}
 use Rattle.wild_records.specs.declared.verneeds.Verneed.{Verneed}
 use Rattle.wild_records.specs.declared.verneeds.Vernaux.{Vernaux}
-use Rattle.wild_plan.specs.declared.file.NeededVersion.{NeededVersion}
-use Rattle.wild_plan.specs.declared.file.VersionNeeds.{VersionNeeds}
-use Rattle.wild_plan.specs.Versions.{need_size}
+use Rattle.wild_types.specs.declared.file.NeededVersion.{NeededVersion}
+use Rattle.wild_types.specs.declared.file.VersionNeeds.{VersionNeeds}
+use Rattle.wild_needs.specs.Versions.{need_size}
 use Rattle.wild_versions.specs.Chain.{chain, next_of, name_at}
 
 -- a library, whose name stands at an offset of the string table

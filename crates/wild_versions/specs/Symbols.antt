@@ -8,15 +8,15 @@ use Rattle.std.specs.List.{flat_map}
 use Rattle.wild_words.specs.Record.{spell}
 use Rattle.wild_records.specs.Abi.Version.{ver_ndx_local, ver_ndx_global}
 use Rattle.wild_records.specs.Versyms.{versym_fields}
-use Rattle.wild_plan.specs.declared.file.FileRole.{FileRole}
-use Rattle.wild_plan.specs.declared.file.File.{File}
-use Rattle.wild_plan.specs.declared.file.Group.{Group}
-use Rattle.wild_plan.specs.declared.layout.DynamicSymbol.{DynamicSymbol}
-use Rattle.wild_plan.specs.declared.layout.Layout.{Layout}
-use Rattle.wild_plan.specs.declared.symbol.Symbol.{Symbol}
-use Rattle.wild_plan.specs.DynamicStrings.{undefined_symbols}
-use Rattle.wild_plan.specs.FileRoles.{is_prelude, is_epilogue, is_library}
-use Rattle.wild_plan.specs.Kinds.{needs_dynsym}
+use Rattle.wild_types.specs.declared.file.FileRole.{FileRole}
+use Rattle.wild_types.specs.declared.file.File.{File}
+use Rattle.wild_types.specs.declared.file.Group.{Group}
+use Rattle.wild_types.specs.declared.layout.DynamicSymbol.{DynamicSymbol}
+use Rattle.wild_types.specs.declared.layout.Layout.{Layout}
+use Rattle.wild_types.specs.declared.symbol.Symbol.{Symbol}
+use Rattle.wild_needs.specs.DynamicStrings.{undefined_symbols}
+use Rattle.wild_types.specs.FileRoles.{is_prelude, is_epilogue, is_library}
+use Rattle.wild_types.specs.Kinds.{needs_dynsym}
 
 -- the bytes of a version
 abbrev pub spelled : ℕ → List ℕ

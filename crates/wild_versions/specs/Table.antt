@@ -4,12 +4,12 @@
 --   room_for n t            there is room for n bytes more, or InsufficientAllocation
 --   left_of t               no room is left, or ExcessiveAllocation
 use Rattle.std.specs.Prelude.{ℕ, ◌+◌, nat_lt, if◌then◌else◌, List, [], length, Result, Ok, Err}
-use Rattle.wild_plan.specs.declared.fault.Error.{Error}
-use Rattle.wild_plan.specs.declared.fault.Fault.TheVariants as faults
-use Rattle.wild_plan.specs.declared.layout.Layout.{Layout}
-use Rattle.wild_plan.specs.declared.part.Role.{Role}
-use Rattle.wild_plan.specs.Faults.{nowhere}
-use Rattle.wild_plan.specs.Shares.{part_of, share_of}
+use Rattle.wild_types.specs.declared.fault.Error.{Error}
+use Rattle.wild_types.specs.declared.fault.Fault.TheVariants as faults
+use Rattle.wild_types.specs.declared.layout.Layout.{Layout}
+use Rattle.wild_types.specs.declared.part.Role.{Role}
+use Rattle.wild_types.specs.Faults.{nowhere}
+use Rattle.wild_types.specs.Shares.{part_of, share_of}
 use Rattle.wild_versions.specs.declared.table.VersionTable.{VersionTable}
 use Rattle.wild_versions.specs.Room.{with_bytes}
 

@@ -5,10 +5,10 @@
 --   with_need file names n w      a library whose versions are needed more
 --   left_over w                   no room is left, or ExcessiveAllocation of the first table that has
 use Rattle.std.specs.Prelude.{ℕ, List, Result, Ok, Err}
-use Rattle.wild_plan.specs.declared.fault.Error.{Error}
-use Rattle.wild_plan.specs.declared.file.VersionNeeds.{VersionNeeds}
-use Rattle.wild_plan.specs.declared.layout.Layout.{Layout}
-use Rattle.wild_plan.specs.declared.part.Role.TheVariants as role
+use Rattle.wild_types.specs.declared.fault.Error.{Error}
+use Rattle.wild_types.specs.declared.file.VersionNeeds.{VersionNeeds}
+use Rattle.wild_types.specs.declared.layout.Layout.{Layout}
+use Rattle.wild_types.specs.declared.part.Role.TheVariants as role
 use Rattle.wild_versions.specs.Table.{empty_table, filled_with, left_of}
 use Rattle.wild_versions.specs.Symbols.{version_bytes}
 use Rattle.wild_versions.specs.Definitions.{definition_table}

@@ -6,12 +6,13 @@ ghost use Rattle.wild_records.specs.Verdefs.{verdef_size, verdaux_size, verdef_f
 ghost use Rattle.wild_versions.specs.Room.{with_bytes};
 ghost use Rattle.wild_versions.specs.Chain.{next_of, name_at};
 ghost use Rattle.wild_versions.specs.Definitions.{names_of, known_as, verdef_of, verdauxes_of, verdaux_bytes, definition_bytes, definition_table};
-ghost use Rattle.wild_plan.specs.Versions.{definition_size, definitions_size};
+ghost use Rattle.wild_needs.specs.Versions.{definition_size, definitions_size};
 
 use crate::room::FilledRoom;
-use wild_plan::{VersionDefinition, definition_size};
+use wild_needs::definition_size;
 use wild_records::abi::version::{VER_DEF_CURRENT, VER_FLG_BASE};
 use wild_records::{Verdaux, Verdef, sysv_hash};
+use wild_types::VersionDefinition;
 use wild_words::Bytes;
 
 /// How far the next record is; the last tells 0.

@@ -1,10 +1,9 @@
 //! The tables of versions as files and groups have them.
 ghost use Rattle.std.specs.Prelude.{◌≡◌, ◌^◌, ◌<◌, ◌++◌, All, length, map, IfOk, OnOk};
 ghost use Rattle.std.specs.List.{filter};
-ghost use Rattle.wild_plan.specs.declared.file.File.{File};
-ghost use Rattle.wild_plan.specs.DynamicSymbols.{is_undefined_entry};
-ghost use Rattle.wild_plan.specs.VersionTables.{length_of};
-ghost use Rattle.wild_plan.specs.Versions.{needs_of};
+ghost use Rattle.wild_types.specs.declared.file.File.{File};
+ghost use Rattle.wild_needs.specs.DynamicSymbols.{is_undefined_entry};
+ghost use Rattle.wild_needs.specs.Versions.{length_of, needs_of};
 ghost use Rattle.wild_versions.specs.Needs.{need_bytes};
 ghost use Rattle.wild_versions.specs.Room.{IsFull};
 ghost use Rattle.wild_versions.specs.Symbols.{spelled, version_bytes, version_of, listed_version, null_versions, entry_versions};
@@ -16,12 +15,10 @@ use crate::needs::push_need;
 use crate::room::FilledRoom;
 use crate::symbols::{push_version, version_of};
 use std::alloc::{AllocError, Global};
-use wild_plan::{
-    DynamicSymbol, File, FileRole, Group, Layout, Symbol, VersionNeeds, behind_file,
-    definitions_size, is_undefined_entry, need_size, needs_of,
-};
+use wild_needs::{behind_file, definitions_size, is_undefined_entry, need_size, needs_of};
 use wild_records::Versym;
 use wild_records::abi::version::VER_NDX_LOCAL;
+use wild_types::{DynamicSymbol, File, FileRole, Group, Layout, Symbol, VersionNeeds};
 
 /// Adds the version of a symbol.
 fn add_version(version: u16, filled: &mut FilledRoom) -> Result<(), AllocError>

@@ -9,8 +9,6 @@ mod needs;
 mod room;
 mod symbols;
 mod table;
-#[cfg(test)]
-mod tests;
 mod writer;
 
 pub use files::{file_definitions, file_versions, group_needs};

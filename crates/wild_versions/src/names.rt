@@ -1,14 +1,13 @@
 //! Where the names of versions stand in the dynamic string table.
 ghost use Rattle.std.specs.Prelude.{◌≡◌, ◌∷◌, [], ◌++◌, true, IfOk, OnOk};
-ghost use Rattle.wild_plan.specs.DynamicStrings.{behind_text};
-ghost use Rattle.wild_plan.specs.FileRoles.{is_epilogue};
-ghost use Rattle.wild_plan.specs.Versions.{definition_names, needed_names};
+ghost use Rattle.wild_needs.specs.DynamicStrings.{behind_text};
+ghost use Rattle.wild_types.specs.FileRoles.{is_epilogue};
+ghost use Rattle.wild_needs.specs.Versions.{definition_names, needed_names};
 ghost use Rattle.wild_versions.specs.Names.{told, offsets_from, behind_entries, behind_path, definition_offsets};
 
 use std::alloc::{AllocError, Global};
-use wild_plan::{
-    File, Layout, NeededVersion, VersionDefinition, entry_room, lead_room, string_start,
-};
+use wild_needs::{entry_room, lead_room, string_start};
+use wild_types::{File, Layout, NeededVersion, VersionDefinition};
 use wild_words::Bytes;
 
 /// An offset as a record tells it.

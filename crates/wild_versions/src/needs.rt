@@ -5,13 +5,14 @@ ghost use Rattle.wild_records.specs.Verneeds.{verneed_size, vernaux_size, vernee
 ghost use Rattle.wild_versions.specs.Room.{with_bytes};
 ghost use Rattle.wild_versions.specs.Chain.{chain};
 ghost use Rattle.wild_versions.specs.Needs.{verneed_of, vernaux_of, needed_bytes, need_bytes};
-ghost use Rattle.wild_plan.specs.Versions.{need_size};
+ghost use Rattle.wild_needs.specs.Versions.{need_size};
 
 use crate::definitions::{name_at, next_of};
 use crate::room::FilledRoom;
-use wild_plan::{NeededVersion, VersionNeeds, need_size};
+use wild_needs::need_size;
 use wild_records::abi::version::VER_NEED_CURRENT;
 use wild_records::{Vernaux, Verneed, sysv_hash};
+use wild_types::{NeededVersion, VersionNeeds};
 
 /// The record of a library.
 fn verneed_of(file: u32, needs: &VersionNeeds) -> Verneed

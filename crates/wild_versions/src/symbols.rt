@@ -5,9 +5,9 @@ ghost use Rattle.wild_versions.specs.Room.{with_bytes};
 ghost use Rattle.wild_versions.specs.Symbols.{spelled, version_of};
 
 use crate::room::FilledRoom;
-use wild_plan::{FileRole, Symbol};
 use wild_records::Versym;
 use wild_records::abi::version::VER_NDX_GLOBAL;
+use wild_types::{FileRole, Symbol};
 
 /// The version of a symbol that an entry of a file of that role names.
 pub(crate) fn version_of(role: FileRole, symbol: &Symbol) -> u16

@@ -4,8 +4,8 @@ ghost use Rattle.wild_versions.specs.Table.{room_for, left_of, empty_table};
 
 use crate::room::FilledRoom;
 use std::alloc::{AllocError, Global};
-use wild_plan::{Error, Layout, Role, part_of, share_of};
 use wild_symbols::{excessive, insufficient};
+use wild_types::{Error, Layout, Role, part_of, share_of};
 
 /// Bytes behind each other, from the front of a group's share of a part on.
 #[derive(Drop)]

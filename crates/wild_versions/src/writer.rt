@@ -3,7 +3,7 @@ ghost use Rattle.std.specs.Prelude.{◌≡◌, ◌∷◌, [], ◌^◌, ◌<◌, 
 ghost use Rattle.wild_records.specs.Versyms.{versym_size};
 ghost use Rattle.wild_versions.specs.Table.{room_for};
 ghost use Rattle.wild_versions.specs.Symbols.{version_of};
-ghost use Rattle.wild_plan.specs.Versions.{definitions_size, need_size};
+ghost use Rattle.wild_needs.specs.Versions.{definitions_size, need_size};
 ghost use Rattle.wild_versions.specs.Writer.{no_versions, with_versions, with_definitions, with_need, left_over};
 
 use crate::definitions::push_definitions;
@@ -11,8 +11,9 @@ use crate::needs::push_need;
 use crate::symbols::{push_version, version_of};
 use crate::table::VersionTable;
 use std::alloc::{AllocError, Global};
-use wild_plan::{Error, FileRole, Layout, Role, Symbol, VersionNeeds, definitions_size, need_size};
+use wild_needs::{definitions_size, need_size};
 use wild_records::Versym;
+use wild_types::{Error, FileRole, Layout, Role, Symbol, VersionNeeds};
 
 /// A group's tables of versions, each filled from the front of the group's share on. It takes no more memory once it
 /// is made.

@@ -1,20 +1,17 @@
 -- A world that answers for each dynamic symbol: what another module has of one that may be replaced, else what the output has.
 use Rattle.std.proofs.Common.{◌≡◌, ℕ, zero, suc, ◌+◌, ◌-◌, ◌%◌, ◌^◌, ◌<◌, ◌⊎◌, inl, inr, Bool, true, false, List, [], ◌∷◌, length, get_or, refl, sym, ap, ◌∙◌, arith, subst}
 use Rattle.std.specs.Prelude.{Option, Some, None, Ok, All, map, option_map, slice_get}
-use Rattle.std.proofs.lemmas.Bool.{cases_Bool, eqb-true}
 use Rattle.std.proofs.lemmas.List.{length-map}
 use Rattle.std.proofs.lemmas.List.Elements.{All-nil, All-cons}
 use Rattle.std.proofs.lemmas.Option.{slice_get-map, slice_get-get_or, slice_get_within}
-use Rattle.wild_plan.specs.declared.symbol.Resolution.{Resolution}
-use Rattle.wild_plan.specs.declared.symbol.Symbol.{Symbol}
-use Rattle.wild_plan.specs.declared.layout.Layout.{Layout}
-use Rattle.wild_plan.specs.Flags.{has_flag, absolute, ifunc}
-use Rattle.wild_plan.specs.DynamicSymbols.{dynamic_symbols, is_named, has_position, dynsym_of, position_fits, misplaced, misfit, first_listed}
-use Rattle.wild_plan.specs.ClauseTests.{fails, check_dynsyms}
+use Rattle.wild_types.specs.declared.symbol.Resolution.{Resolution}
+use Rattle.wild_types.specs.declared.symbol.Symbol.{Symbol}
+use Rattle.wild_types.specs.declared.layout.Layout.{Layout}
+use Rattle.wild_types.specs.Flags.{has_flag, absolute, ifunc}
+use Rattle.wild_needs.specs.DynamicSymbols.{dynamic_symbols}
 use Rattle.wild_layout.specs.Numbers.{SymbolNumbers}
 use Rattle.wild_layout.specs.Geometry.{IsLaidOut}
 use Rattle.wild_layout.proofs.SiteLemmas.{All-at}
-use Rattle.wild_geometry.proofs.ClauseLemmas.{Both-from_first_error, None-from_fails}
 use Rattle.wild_loader.specs.declared.world.Answer.{Answer}
 use Rattle.wild_loader.specs.declared.world.World.{World}
 use Rattle.wild_loader.specs.Changes.{answer_at}
@@ -22,45 +19,6 @@ use Rattle.wild_meaning.specs.Value.{IsSymbol, IsDefinedBy, IsResolved, IsUnreso
 use Rattle.wild_meaning.specs.World.{IsKnownModule, IsAnswer, IsOwnAnswer, HasCopy, HasRoomFor, AreBeside, AnswersSymbols, first_module}
 use Rattle.wild_worlds.specs.Worlds.{AreAnswered, AreAddresses, Others, AreNumbers, IsOthers, CopiesHaveRoom, IsTold, other_module}
 use Rattle.wild_laws.proofs.Symbols.{one_definition, one_symbol}
-
--- ---- an index is the position of one symbol
-
-position_at : (table : List ℕ) (i j : ℕ) (ss : List Symbol) (s : Symbol) → misplaced table j ss ≡ None → slice_get ss i ≡ Some s → position_fits table (j + i) (dynsym_of s) ≡ true
-position_at table i j [] s h there = cc
-position_at table i j (x ∷ xs) s h there =
-    elim (cases_Bool (position_fits table j (dynsym_of x))) [
-      | inr f ↦ cc (rw f at h)
-      | inl t ↦ at table i j x xs s there t (rw t at h) (λ k e rest. position_at table k (j + 1) xs s rest e)
-    ]
-  where
-    at : (table : List ℕ) (i j : ℕ) (x : Symbol) (xs : List Symbol) (s : Symbol) → slice_get (x ∷ xs) i ≡ Some s → position_fits table j (dynsym_of x) ≡ true → misplaced table (j + 1) xs ≡ None
-        → ((k : ℕ) → slice_get xs k ≡ Some s → misplaced table (j + 1) xs ≡ None → position_fits table (j + 1 + k) (dynsym_of s) ≡ true) → position_fits table (j + i) (dynsym_of s) ≡ true
-    at table zero j x xs s e t rest again =
-        let same : x ≡ s = cc in
-        let z : j ≡ j + 0 = omega arith in
-        subst (λ (y : Symbol). position_fits table (j + 0) (dynsym_of y) ≡ true) same (subst (λ (k : ℕ). position_fits table k (dynsym_of x) ≡ true) z t)
-    at table (suc i) j x xs s e t rest again = (let z : j + 1 + i ≡ j + suc i = omega arith in subst (λ (m : ℕ). position_fits table m (dynsym_of s) ≡ true) z (again i e rest))
-
--- entry p of a table behind the null symbol is that of symbol c
-abbrev IsEntry : List ℕ → ℕ → ℕ → Type 0
-IsEntry table c p = (k : ℕ) × (p ≡ suc k) × (slice_get table k ≡ Some c)
-
-entry_of : (table : List ℕ) (c p : ℕ) → has_position table c p ≡ true → IsEntry table c p
-entry_of table c zero h = cc
-entry_of table c (suc k) h = by_item table c k (slice_get table k) refl h
-  where
-    by_item : (table : List ℕ) (c k : ℕ) (o : Option ℕ) → slice_get table k ≡ o → is_named c o ≡ true → IsEntry table c (suc k)
-    by_item table c k None e h = cc
-    by_item table c k (Some d) e h = (k, refl, e ∙ ap (λ (n : ℕ). Some n) (eqb-true d c h))
-
-has_entry : (l : Layout) → IsLaidOut l → (c p : ℕ) (s : Symbol) (r : Resolution) → IsSymbol l c s → s.resolution ≡ Some r → r.dynamic_symbol_index ≡ Some p → IsEntry (dynamic_symbols l) c p
-unfolding check_dynsyms
-has_entry l laid c p s r there decided told =
-    let checks = Both-from_first_error (fails 13 (misplaced (dynamic_symbols l) 0 l.symbols)) (fails 13 (misfit l (first_listed l) 0 l.dynsyms)) laid.dynsyms in
-    let placed = position_at (dynamic_symbols l) c 0 l.symbols s (None-from_fails 13 (misplaced (dynamic_symbols l) 0 l.symbols) checks.first) there in
-    let carried : dynsym_of s ≡ Some p = rw (decided, told) refl in
-    let z : 0 + c ≡ c = omega arith in
-    entry_of (dynamic_symbols l) c p (subst (λ (n : ℕ). position_fits (dynamic_symbols l) n (Some p) ≡ true) z (subst (λ (o : Option ℕ). position_fits (dynamic_symbols l) (0 + c) o ≡ true) carried placed))
 
 -- ---- the answers
 
@@ -128,7 +86,7 @@ pub record HasAnswers (l : Layout) (w : World) (answers : ℕ → ℕ) (o : Othe
 
 answer_is : (l : Layout) (w : World) (answers : ℕ → ℕ) (o : Others) (i : ℕ) (x : Answer) → IsLaidOut l → HasAnswers l w answers o → (h : HasAnswer l w i x) → x ≡ answer_by l w.base answers o h.symbol (Some h.resolution)
 answer_is l w answers o i x laid has h =
-    let e = has_entry l laid h.definition h.index h.symbol h.resolution h.listed h.decided h.told in
+    let e = laid.dynsyms.indexed h.definition h.index h.symbol h.resolution h.listed h.decided h.told in
     let f : ℕ → Answer = λ (c : ℕ). answer_to l w.base answers o (slice_get l.symbols c) in
     let given : slice_get (answers_of l w.base answers o) (suc e.0) ≡ Some x = subst (λ (k : ℕ). slice_get (answers_of l w.base answers o) k ≡ Some x) e.1 (subst (λ (xs : List Answer). slice_get xs h.index ≡ Some x) has.symbols h.given) in
     let mapped : slice_get (map f (dynamic_symbols l)) e.0 ≡ Some (f h.definition) = slice_get-map f (dynamic_symbols l) e.0 ∙ ap (λ (q : Option ℕ). option_map f q) e.2 in
@@ -261,7 +219,7 @@ each_fits P f (x ∷ xs) h = All-cons P (f x) (map f xs) (h x) (each_fits P f xs
 
 index_within : (l : Layout) (w : World) (answers : ℕ → ℕ) (o : Others) (c p : ℕ) (s : Symbol) (r : Resolution) → IsLaidOut l → HasAnswers l w answers o → IsSymbol l c s → s.resolution ≡ Some r → r.dynamic_symbol_index ≡ Some p → p < length w.symbols
 index_within l w answers o c p s r laid has there decided told =
-    let e = has_entry l laid c p s r there decided told in
+    let e = laid.dynsyms.indexed c p s r there decided told in
     let low = slice_get_within (dynamic_symbols l) e.0 c e.2 in
     let is = e.1 in
     let f : ℕ → Answer = λ (d : ℕ). answer_to l w.base answers o (slice_get l.symbols d) in

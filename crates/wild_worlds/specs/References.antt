@@ -8,14 +8,14 @@ use Rattle.std.specs.Prelude.{◌≡◌, ◌≢◌, ℕ, ◌+◌, ◌<◌, ◌�
 use Rattle.wild_records.specs.Abi.Relocation.{r_x86_64_none, r_x86_64_gotpcrel, r_x86_64_gotpcrelx}
 use Rattle.wild_records.specs.Abi.Section.{shf_execinstr}
 use Rattle.wild_records.specs.Abi.Segment.{pt_load}
-use Rattle.wild_plan.specs.declared.kind.Machine.TheVariants as machine
-use Rattle.wild_plan.specs.declared.section.Segment.{Segment}
-use Rattle.wild_plan.specs.declared.input.Slot.TheVariants as slot
-use Rattle.wild_plan.specs.declared.input.InputRelocation.{InputRelocation}
-use Rattle.wild_plan.specs.declared.input.InputSection.{InputSection}
-use Rattle.wild_plan.specs.declared.layout.Layout.{Layout}
-use Rattle.wild_plan.specs.Flags.{absolute, ifunc}
-use Rattle.wild_plan.specs.Lookups.{allocated, thread_local}
+use Rattle.wild_types.specs.declared.kind.Machine.TheVariants as machine
+use Rattle.wild_types.specs.declared.section.Segment.{Segment}
+use Rattle.wild_types.specs.declared.input.Slot.TheVariants as slot
+use Rattle.wild_types.specs.declared.input.InputRelocation.{InputRelocation}
+use Rattle.wild_types.specs.declared.input.InputSection.{InputSection}
+use Rattle.wild_types.specs.declared.layout.Layout.{Layout}
+use Rattle.wild_types.specs.Flags.{absolute, ifunc}
+use Rattle.wild_types.specs.Lookups.{allocated, thread_local}
 use Rattle.wild_layout.specs.Faults.{errors}
 use Rattle.wild_loader.specs.declared.world.World.{World}
 use Rattle.wild_meaning.specs.Section.{IsSet}

@@ -7,14 +7,14 @@
 use Rattle.std.specs.Prelude.{◌≡◌, ◌≢◌, ℕ, ℤ, ◌+◌, ◌%◌, ◌^◌, ◌<◌, ◌≤◌, true, false, [], Some, Ok, All}
 use Rattle.std.specs.Int.{w64, cast_unsigned}
 use Rattle.std.specs.Int.RustNames.{FitsSigned}
-use Rattle.wild_plan.specs.declared.kind.RelocationModel.TheVariants as model
-use Rattle.wild_plan.specs.declared.kind.OutputKind.{OutputKind}
-use Rattle.wild_plan.specs.declared.kind.OutputKind.TheVariants as output
-use Rattle.wild_plan.specs.declared.section.Segment.{Segment}
-use Rattle.wild_plan.specs.declared.symbol.Resolution.{Resolution}
-use Rattle.wild_plan.specs.declared.symbol.Symbol.{Symbol}
-use Rattle.wild_plan.specs.declared.layout.Layout.{Layout}
-use Rattle.wild_plan.specs.Flags.{has_flag, ifunc}
+use Rattle.wild_types.specs.declared.kind.RelocationModel.TheVariants as model
+use Rattle.wild_types.specs.declared.kind.OutputKind.{OutputKind}
+use Rattle.wild_types.specs.declared.kind.OutputKind.TheVariants as output
+use Rattle.wild_types.specs.declared.section.Segment.{Segment}
+use Rattle.wild_types.specs.declared.symbol.Resolution.{Resolution}
+use Rattle.wild_types.specs.declared.symbol.Symbol.{Symbol}
+use Rattle.wild_types.specs.declared.layout.Layout.{Layout}
+use Rattle.wild_types.specs.Flags.{has_flag, ifunc}
 use Rattle.wild_layout.specs.Numbers.{NumbersFit}
 use Rattle.wild_layout.specs.Faults.{errors}
 use Rattle.wild_loader.specs.declared.world.World.{World}

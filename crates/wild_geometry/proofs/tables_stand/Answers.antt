@@ -7,10 +7,10 @@ use Rattle.wild_words.specs.Words.{Stands}
 use Rattle.wild_words.specs.Overlay.{AreApart}
 use Rattle.wild_words.proofs.OverlayLemmas.{Stands-overlay, length-overlay}
 use Rattle.wild_words.proofs.RecordLemmas.{Stands-left, Stands-right}
-use Rattle.wild_plan.specs.declared.file.Group.{Group}
-use Rattle.wild_plan.specs.declared.layout.Layout.{Layout}
-use Rattle.wild_plan.specs.Lists.{total}
-use Rattle.wild_plan.specs.Lookups.{image_size}
+use Rattle.wild_types.specs.declared.file.Group.{Group}
+use Rattle.wild_types.specs.declared.layout.Layout.{Layout}
+use Rattle.wild_types.specs.Lists.{total}
+use Rattle.wild_types.specs.Lookups.{image_size}
 use Rattle.wild_layout.specs.Content.{content}
 use Rattle.wild_layout.specs.Geometry.{IsLaidOut}
 use Rattle.wild_layout.specs.Image.{bytes, pieces, padding, padding_byte}

@@ -2,10 +2,10 @@
 ghost use Rattle.std.specs.Prelude.{◌≡◌, ◌≢◌, ◌++◌, ◌%◌, ◌≤◌, unwrap_or, length, OnOk, OnErr};
 ghost use Rattle.std.specs.Int.{cast_signed, w64};
 ghost use Rattle.wild_reloc.specs.declared.dynamic.DynamicRelocationKind.TheVariants.{Irelative};
-ghost use Rattle.wild_plan.specs.declared.fault.Fault.TheVariants.{MissingResolution};
+ghost use Rattle.wild_types.specs.declared.fault.Fault.TheVariants.{MissingResolution};
 ghost use Rattle.wild_relr.specs.Places.{places};
 ghost use Rattle.wild_relr.specs.Packed.{slots};
-ghost use Rattle.wild_plan.specs.SlotShares.{storage_words};
+ghost use Rattle.wild_needs.specs.SlotShares.{storage_words};
 ghost use Rattle.wild_tables.specs.SlotTables.{with_content, with_slot, content_of, with_header, with_block, with_general, symbol_entry, resolution_of, copied_by, with_copy};
 ghost use Rattle.wild_tables.specs.Rooms.{rooms, room_for_all, Fit, room_for_header, HeaderFits, room_for_block, room_for_general, slot_answer, copy_answer};
 
@@ -15,14 +15,14 @@ use crate::room::{
     Room, entries_room_with, first_short, packed_room_with, stubs_room_with, words_room_with,
 };
 use crate::slot_words::{add_entries, add_flat, add_words, add_zeros};
-use wild_plan::{
-    At, EntryPart, Error, Fault, Layout, Missing, Resolution, Role, STUB_SIZE, Setting, SlotEntry,
-    SlotWord, SymbolIndex, WORD_SIZE, WordPart, count_entries, count_flat, count_words, entry_at,
-    insufficient, slot_of, storage_pair, type_of,
-};
 use wild_records::Rela;
 use wild_reloc::DynamicRelocationKind;
 use wild_relr::block_words;
+use wild_slot::{
+    EntryPart, STUB_SIZE, Setting, SlotEntry, SlotWord, WORD_SIZE, WordPart, count_entries,
+    count_flat, count_words, entry_at, slot_of, storage_pair, type_of,
+};
+use wild_types::{At, Error, Fault, Layout, Missing, Resolution, Role, SymbolIndex, insufficient};
 
 impl TableWriter {
     /// The tables' rooms with words from a place on and a stub.

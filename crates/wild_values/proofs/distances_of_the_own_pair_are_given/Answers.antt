@@ -1,5 +1,5 @@
 use Rattle.std.proofs.Common.{◌+◌, ◌%◌, ◌^◌}
-use Rattle.wild_plan.specs.declared.treatment.Treatment.TheVariants as treatments
+use Rattle.wild_slot.specs.declared.treatment.Treatment.TheVariants as treatments
 use Rattle.wild_reloc.specs.declared.info.RelocationKind.TheVariants as kinds
 use Rattle.wild_reloc.specs.Formula.{OwnModulePair}
 use Rattle.wild_values.proofs.SlotTerms.{slot_given}

@@ -1,7 +1,7 @@
 use Rattle.std.proofs.Common.{◌≡◌, ◌+◌, ◌%◌, ◌^◌, length, drop}
 use Rattle.std.specs.List.{filter}
-use Rattle.wild_plan.specs.Lookups.{files_of}
-use Rattle.wild_plan.specs.Versions.{has_needs}
+use Rattle.wild_types.specs.Lookups.{files_of}
+use Rattle.wild_needs.specs.Versions.{has_needs}
 use Rattle.wild_headers.proofs.numbers.need_count.Given as goal
 
 abbrev pub invariant-loop-group : goal.invariant-loop-group

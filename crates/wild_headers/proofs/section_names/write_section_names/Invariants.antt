@@ -1,6 +1,6 @@
 use Rattle.std.proofs.Common.{◌≡◌, ◌+◌, ◌∷◌, [], ◌++◌, length, take}
 use Rattle.std.specs.List.{flat_map}
-use Rattle.wild_plan.specs.Lists.{total}
+use Rattle.wild_types.specs.Lists.{total}
 use Rattle.wild_headers.proofs.section_names.write_section_names.Given as goal
 
 abbrev pub invariant-loop-section : goal.invariant-loop-section

@@ -1,8 +1,8 @@
 use Rattle.std.proofs.Common.{◌≡◌, ◌∙◌, ap, length, rules, arith, refl, sym}
 use Rattle.std.specs.Prelude.{slice_get, Some, All}
 use Rattle.std.proofs.lemmas.Option.{slice_get_read}
-use Rattle.wild_plan.specs.declared.file.File.{File}
-use Rattle.wild_plan.specs.declared.file.Group.{Group}
+use Rattle.wild_types.specs.declared.file.File.{File}
+use Rattle.wild_types.specs.declared.file.Group.{Group}
 use Rattle.wild_layout.specs.SectionPlaces.{SectionLies}
 use Rattle.wild_image.specs.declared.job.Outcome.{Outcome}
 use Rattle.wild_image.specs.Batches.{batch_errors, batch_pieces}

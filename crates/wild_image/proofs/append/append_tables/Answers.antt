@@ -1,4 +1,4 @@
-use Rattle.wild_plan.specs.declared.part.Part.{Part}
+use Rattle.wild_types.specs.declared.part.Part.{Part}
 use Rattle.wild_layout.specs.Content.{content}
 use Rattle.wild_layout.specs.Image.{table_piece}
 use Rattle.wild_image.proofs.AppendLemmas.{next_begins_at, stands_more_at, read_at}

@@ -1,6 +1,6 @@
 use Rattle.std.proofs.Common.{◌≡◌, take}
 use Rattle.wild_words.specs.Overlay.{overlay}
-use Rattle.wild_plan.specs.declared.part.Part.{Part}
+use Rattle.wild_types.specs.declared.part.Part.{Part}
 use Rattle.wild_layout.specs.Content.{content}
 use Rattle.wild_layout.specs.Image.{table_piece}
 use Rattle.wild_layout.specs.Faults.{flat_map_from}

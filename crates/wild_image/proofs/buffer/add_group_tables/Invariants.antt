@@ -1,6 +1,6 @@
 use Rattle.std.proofs.Common.{◌≡◌, ◌++◌, take}
 use Rattle.std.specs.List.{flat_map}
-use Rattle.wild_plan.specs.declared.part.Part.{Part}
+use Rattle.wild_types.specs.declared.part.Part.{Part}
 use Rattle.wild_layout.specs.Content.{content}
 use Rattle.wild_image.proofs.buffer.add_group_tables.Given as goal
 

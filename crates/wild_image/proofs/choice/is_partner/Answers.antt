@@ -1,5 +1,5 @@
 use Rattle.std.proofs.Common.{◌≡◌, ◌∙◌, List, false, sym, subst}
-use Rattle.wild_plan.specs.declared.input.InputRelocation.{InputRelocation}
+use Rattle.wild_types.specs.declared.input.InputRelocation.{InputRelocation}
 use Rattle.wild_image.specs.Choice.{may_be_partner}
 use Rattle.wild_image.proofs.ChoiceLemmas.{none_before}
 use Rattle.wild_image.proofs.choice.is_partner.Goals as goal

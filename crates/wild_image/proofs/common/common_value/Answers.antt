@@ -1,5 +1,5 @@
 use Rattle.std.proofs.Common.{◌≡◌, ◌∙◌, List, false, sym, subst}
-use Rattle.wild_plan.specs.declared.input.InputRelocation.{InputRelocation}
+use Rattle.wild_types.specs.declared.input.InputRelocation.{InputRelocation}
 use Rattle.wild_image.specs.Choice.{may_be_partner}
 use Rattle.wild_image.proofs.ChoiceLemmas.{read_at, common_keeps}
 use Rattle.wild_image.proofs.common.common_value.Goals as goal

@@ -1,5 +1,5 @@
 use Rattle.std.proofs.Common.{◌≡◌, ◌++◌, drop}
-use Rattle.wild_plan.specs.DynamicStrings.{needed_from}
+use Rattle.wild_needs.specs.DynamicStrings.{needed_from}
 use Rattle.wild_tables.specs.Dynamic.{entries_bytes}
 use Rattle.wild_image.proofs.dynamic.add_libraries.Given as goal
 

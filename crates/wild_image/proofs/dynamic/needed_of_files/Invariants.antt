@@ -1,6 +1,6 @@
 use Rattle.std.proofs.Common.{◌≡◌, ◌+◌, ◌≤◌, drop}
-use Rattle.wild_plan.specs.DynamicStrings.{needed_count}
-use Rattle.wild_plan.specs.Lists.{total}
+use Rattle.wild_needs.specs.DynamicStrings.{needed_count}
+use Rattle.wild_types.specs.Lists.{total}
 use Rattle.wild_image.proofs.dynamic.needed_of_files.Given as goal
 
 abbrev pub invariant-loop-file : goal.invariant-loop-file

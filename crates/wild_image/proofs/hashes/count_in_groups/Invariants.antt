@@ -1,6 +1,6 @@
 use Rattle.std.proofs.Common.{◌≡◌, ◌+◌, ◌-◌, ◌^◌, ◌<◌, drop}
 use Rattle.std.specs.Prelude.{min}
-use Rattle.wild_plan.specs.Lists.{total}
+use Rattle.wild_types.specs.Lists.{total}
 use Rattle.wild_image.specs.Hashes.{group_undefined}
 use Rattle.wild_image.proofs.hashes.count_in_groups.Given as goal
 

@@ -1,8 +1,8 @@
 use Rattle.std.proofs.Common.{◌≡◌, List, sym, subst}
 use Rattle.std.specs.Prelude.{OnOk}
 use Rattle.wild_words.specs.Overlay.{Piece, overlay}
-use Rattle.wild_plan.specs.declared.fault.Error.{Error}
-use Rattle.wild_plan.specs.Faults.{Answers}
+use Rattle.wild_types.specs.declared.fault.Error.{Error}
+use Rattle.wild_types.specs.Faults.{Answers}
 use Rattle.wild_layout.specs.Image.{group_pieces}
 use Rattle.wild_layout.specs.Faults.{group_errors}
 use Rattle.wild_image.proofs.BatchLemmas.{cut_of, joined}

@@ -1,8 +1,8 @@
 use Rattle.std.proofs.Common.{◌≡◌, ℕ, List, [], ◌<◌, ◌^◌, length, ap, arith, subst, sym}
 use Rattle.wild_crew.specs.Ended.{AreTotals}
-use Rattle.wild_plan.specs.declared.file.Group.{Group}
-use Rattle.wild_plan.specs.declared.layout.Layout.{Layout}
-use Rattle.wild_plan.specs.Places.{relocation_count}
+use Rattle.wild_types.specs.declared.file.Group.{Group}
+use Rattle.wild_types.specs.declared.layout.Layout.{Layout}
+use Rattle.wild_clauses.specs.Places.{relocation_count}
 use Rattle.wild_layout.specs.Faults.{flat_map_from, part_errors}
 use Rattle.wild_layout.specs.Geometry.{IsLaidOut}
 use Rattle.wild_image.specs.declared.batch.Batch.{Batch}

@@ -1,5 +1,5 @@
 use Rattle.std.proofs.Common.{◌∙◌, ap, get_or}
-use Rattle.wild_plan.specs.declared.input.InputRelocation.{InputRelocation}
+use Rattle.wild_types.specs.declared.input.InputRelocation.{InputRelocation}
 use Rattle.wild_layout.specs.declared.decision.Decision.TheVariants.{Nothing}
 use Rattle.wild_image.specs.Decided.{decided_extent}
 use Rattle.wild_image.proofs.DecidedLemmas.{ascends-some, ascends-none}

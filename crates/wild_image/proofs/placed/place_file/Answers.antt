@@ -1,6 +1,6 @@
 use Rattle.std.proofs.Common.{◌<◌, ◌≤◌, subst, arith, ◌∙◌, ap, length, Some, None}
 use Rattle.std.specs.Option.{option_or}
-use Rattle.wild_plan.specs.declared.file.File.{File}
+use Rattle.wild_types.specs.declared.file.File.{File}
 use Rattle.wild_image.proofs.ValueLemmas.{place_more, read_any}
 use Rattle.wild_image.proofs.placed.place_file.Goals as goal
 

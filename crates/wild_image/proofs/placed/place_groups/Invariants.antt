@@ -1,5 +1,5 @@
 use Rattle.std.proofs.Common.{◌≡◌, ℕ, ◌<◌, length, get_or, take, None}
-use Rattle.wild_plan.specs.Lookups.{files_of}
+use Rattle.wild_types.specs.Lookups.{files_of}
 use Rattle.std.specs.Option.{option_or}
 use Rattle.wild_image.specs.Placed.{found}
 use Rattle.wild_image.proofs.placed.place_groups.Given as goal

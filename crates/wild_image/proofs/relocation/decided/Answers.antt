@@ -1,7 +1,7 @@
 use Rattle.std.proofs.Common.{◌≡◌, refl, ap, sym, ◌∙◌}
 use Rattle.std.specs.Prelude.{Some}
-use Rattle.wild_plan.specs.declared.kind.Machine.{Machine}
-use Rattle.wild_plan.specs.Rows.{row_of}
+use Rattle.wild_types.specs.declared.kind.Machine.{Machine}
+use Rattle.wild_types.specs.Rows.{row_of}
 use Rattle.wild_image.proofs.DistanceLemmas.{fixed_decided}
 use Rattle.wild_image.proofs.relocation.decided.Goals as goal
 

@@ -1,7 +1,7 @@
 use Rattle.std.proofs.Common.{◌≡◌, ℕ, ◌<◌, []}
 use Rattle.std.specs.Prelude.{Some, slice_get}
-use Rattle.wild_plan.specs.declared.part.Part.{Part}
-use Rattle.wild_plan.specs.declared.file.Group.{Group}
+use Rattle.wild_types.specs.declared.part.Part.{Part}
+use Rattle.wild_types.specs.declared.file.Group.{Group}
 use Rattle.wild_image.specs.Steps.{share_faults}
 use Rattle.wild_image.proofs.shares.all_are_needed.Given as goal
 

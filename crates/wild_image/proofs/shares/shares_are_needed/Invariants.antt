@@ -1,6 +1,6 @@
 use Rattle.std.proofs.Common.{◌≡◌, ℕ, ◌<◌, []}
 use Rattle.std.specs.Prelude.{Some, slice_get}
-use Rattle.wild_plan.specs.declared.part.Part.{Part}
+use Rattle.wild_types.specs.declared.part.Part.{Part}
 use Rattle.wild_image.specs.Steps.{share_faults}
 use Rattle.wild_image.proofs.shares.shares_are_needed.Given as goal
 

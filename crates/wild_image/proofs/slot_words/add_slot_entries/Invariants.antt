@@ -1,6 +1,6 @@
 use Rattle.std.proofs.Common.{◌≡◌, ◌++◌, drop}
 use Rattle.wild_tables.specs.Entries.{rela_bytes}
-use Rattle.wild_plan.specs.SlotParts.{slot_entries}
+use Rattle.wild_slot.specs.SlotParts.{slot_entries}
 use Rattle.wild_image.proofs.slot_words.add_slot_entries.Given as goal
 
 abbrev pub invariant-loop-word : goal.invariant-loop-word

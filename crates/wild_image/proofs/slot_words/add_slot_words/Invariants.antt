@@ -1,6 +1,6 @@
 use Rattle.std.proofs.Common.{◌≡◌, ◌++◌, drop}
 use Rattle.wild_relr.specs.Written.{word_bytes}
-use Rattle.wild_plan.specs.SlotParts.{slot_words}
+use Rattle.wild_slot.specs.SlotParts.{slot_words}
 use Rattle.wild_image.proofs.slot_words.add_slot_words.Given as goal
 
 abbrev pub invariant-loop-word : goal.invariant-loop-word

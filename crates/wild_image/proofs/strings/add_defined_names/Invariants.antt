@@ -1,5 +1,5 @@
 use Rattle.std.proofs.Common.{◌≡◌, ◌++◌, drop}
-use Rattle.wild_plan.specs.Versions.{definition_names}
+use Rattle.wild_needs.specs.Versions.{definition_names}
 use Rattle.wild_symbols.specs.Strings.{string_bytes}
 use Rattle.wild_image.proofs.strings.add_defined_names.Given as goal
 

@@ -1,7 +1,7 @@
 use Rattle.std.proofs.Common.{◌≡◌, ◌++◌, drop}
 use Rattle.std.specs.List.{filter}
-use Rattle.wild_plan.specs.DynamicStrings.{symbol_names}
-use Rattle.wild_plan.specs.DynamicSymbols.{is_undefined_entry}
+use Rattle.wild_needs.specs.DynamicStrings.{symbol_names}
+use Rattle.wild_needs.specs.DynamicSymbols.{is_undefined_entry}
 use Rattle.wild_symbols.specs.Strings.{string_bytes}
 use Rattle.wild_image.proofs.strings.add_undefined_names.Given as goal
 

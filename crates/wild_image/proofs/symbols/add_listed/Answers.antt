@@ -1,5 +1,5 @@
 use Rattle.std.proofs.Common.{ℕ, List, ap, arith, ◌∙◌}
-use Rattle.wild_plan.specs.DynamicStrings.{behind_text}
+use Rattle.wild_needs.specs.DynamicStrings.{behind_text}
 use Rattle.wild_image.proofs.SymbolLemmas.{listed_next, listed_end}
 use Rattle.wild_image.proofs.symbols.add_listed.Goals as goal
 

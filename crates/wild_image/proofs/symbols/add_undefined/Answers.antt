@@ -1,5 +1,5 @@
 use Rattle.std.proofs.Common.{ℕ, List, sym, ap, arith, ◌∙◌}
-use Rattle.wild_plan.specs.DynamicStrings.{behind_text}
+use Rattle.wild_needs.specs.DynamicStrings.{behind_text}
 use Rattle.wild_image.proofs.SymbolLemmas.{undefined_next, undefined_skipped, undefined_end}
 use Rattle.wild_image.proofs.symbols.add_undefined.Goals.{then-is_undefined_entry+in_ok-at, else-is_undefined_entry}
 use Rattle.wild_image.proofs.symbols.add_undefined.Goals as goal

@@ -1,6 +1,6 @@
 use Rattle.std.proofs.Common.{◌≡◌, ◌++◌, drop, map}
 use Rattle.std.specs.List.{filter}
-use Rattle.wild_plan.specs.DynamicSymbols.{is_undefined_entry}
+use Rattle.wild_needs.specs.DynamicSymbols.{is_undefined_entry}
 use Rattle.wild_symbols.specs.DynamicEntries.{undefined, entries_at}
 use Rattle.wild_symbols.specs.Symbols.{symbol_bytes}
 use Rattle.wild_image.proofs.symbols.add_undefined.Given as goal

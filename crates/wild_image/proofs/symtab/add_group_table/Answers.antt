@@ -1,7 +1,7 @@
 use Rattle.std.proofs.Common.{List, arith, ◌∙◌, subst}
 use Rattle.std.specs.List.{flat_map}
 use Rattle.std.proofs.lemmas.List.{take_all}
-use Rattle.wild_plan.specs.declared.file.File.{File}
+use Rattle.wild_types.specs.declared.file.File.{File}
 use Rattle.wild_symbols.specs.TableEntries.{file_table}
 use Rattle.wild_image.specs.Walks.{Walks}
 use Rattle.wild_image.specs.declared.symtab.Sink.TheVariants.{Side}

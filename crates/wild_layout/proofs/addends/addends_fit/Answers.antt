@@ -2,9 +2,9 @@ use Rattle.std.proofs.Common.{◌≡◌, take, arith, subst, List}
 use Rattle.std.specs.Prelude.{All}
 use Rattle.std.proofs.lemmas.List.{take_all}
 use Rattle.std.proofs.lemmas.List.Elements.{All-more}
-use Rattle.wild_plan.specs.declared.file.Group.{Group}
-use Rattle.wild_plan.specs.declared.file.File.{File}
-use Rattle.wild_plan.specs.declared.input.InputSection.{InputSection}
+use Rattle.wild_types.specs.declared.file.Group.{Group}
+use Rattle.wild_types.specs.declared.file.File.{File}
+use Rattle.wild_types.specs.declared.input.InputSection.{InputSection}
 use Rattle.wild_layout.specs.Numbers.{AddendFits}
 use Rattle.wild_layout.proofs.addends.addends_fit.Goals as goal
 

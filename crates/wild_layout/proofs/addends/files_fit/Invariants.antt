@@ -1,7 +1,7 @@
 use Rattle.std.proofs.Common.{take}
 use Rattle.std.specs.Prelude.{All}
-use Rattle.wild_plan.specs.declared.file.File.{File}
-use Rattle.wild_plan.specs.declared.input.InputSection.{InputSection}
+use Rattle.wild_types.specs.declared.file.File.{File}
+use Rattle.wild_types.specs.declared.input.InputSection.{InputSection}
 use Rattle.wild_layout.specs.Numbers.{AddendFits}
 use Rattle.wild_layout.proofs.addends.files_fit.Given as goal
 

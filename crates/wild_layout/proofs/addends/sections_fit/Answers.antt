@@ -2,7 +2,7 @@ use Rattle.std.proofs.Common.{◌≡◌, take, arith, subst, List}
 use Rattle.std.specs.Prelude.{All}
 use Rattle.std.proofs.lemmas.List.{take_all}
 use Rattle.std.proofs.lemmas.List.Elements.{All-more}
-use Rattle.wild_plan.specs.declared.input.InputSection.{InputSection}
+use Rattle.wild_types.specs.declared.input.InputSection.{InputSection}
 use Rattle.wild_layout.specs.Numbers.{AddendFits}
 use Rattle.wild_layout.proofs.addends.sections_fit.Goals as goal
 

@@ -1,6 +1,6 @@
 use Rattle.std.proofs.Common.{take}
 use Rattle.std.specs.Prelude.{All}
-use Rattle.wild_plan.specs.declared.input.InputSection.{InputSection}
+use Rattle.wild_types.specs.declared.input.InputSection.{InputSection}
 use Rattle.wild_layout.specs.Numbers.{AddendFits}
 use Rattle.wild_layout.proofs.addends.sections_fit.Given as goal
 

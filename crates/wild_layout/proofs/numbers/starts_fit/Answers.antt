@@ -2,7 +2,7 @@ use Rattle.std.proofs.Common.{◌≡◌, ◌<◌, ◌^◌, take, arith, subst, L
 use Rattle.std.specs.Prelude.{All}
 use Rattle.std.proofs.lemmas.List.{take_all}
 use Rattle.std.proofs.lemmas.List.Elements.{All-more}
-use Rattle.wild_plan.specs.declared.file.Group.{Group}
+use Rattle.wild_types.specs.declared.file.Group.{Group}
 use Rattle.wild_layout.proofs.numbers.starts_fit.Goals as goal
 
 abbrev IsLow : Group → Type 0

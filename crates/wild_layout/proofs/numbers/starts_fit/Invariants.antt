@@ -1,6 +1,6 @@
 use Rattle.std.proofs.Common.{◌<◌, ◌^◌, take}
 use Rattle.std.specs.Prelude.{All}
-use Rattle.wild_plan.specs.declared.file.Group.{Group}
+use Rattle.wild_types.specs.declared.file.Group.{Group}
 use Rattle.wild_layout.proofs.numbers.starts_fit.Given as goal
 
 abbrev pub invariant-loop-group : goal.invariant-loop-group

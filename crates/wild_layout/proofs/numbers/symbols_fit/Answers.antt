@@ -2,7 +2,7 @@ use Rattle.std.proofs.Common.{◌≡◌, take, arith, subst, List}
 use Rattle.std.specs.Prelude.{All}
 use Rattle.std.proofs.lemmas.List.{take_all}
 use Rattle.std.proofs.lemmas.List.Elements.{All-more}
-use Rattle.wild_plan.specs.declared.symbol.Symbol.{Symbol}
+use Rattle.wild_types.specs.declared.symbol.Symbol.{Symbol}
 use Rattle.wild_layout.specs.Numbers.{SymbolNumbers}
 use Rattle.wild_layout.proofs.numbers.symbols_fit.Goals as goal
 

@@ -2,7 +2,7 @@ use Rattle.std.proofs.Common.{◌≡◌, take, arith, subst, List}
 use Rattle.std.specs.Prelude.{All}
 use Rattle.std.proofs.lemmas.List.{take_all}
 use Rattle.std.proofs.lemmas.List.Elements.{All-more}
-use Rattle.wild_plan.specs.declared.file.File.{File}
+use Rattle.wild_types.specs.declared.file.File.{File}
 use Rattle.wild_names.specs.VersionLaws.{IndexesFit}
 use Rattle.wild_names.proofs.numbers.files_fit.Goals as goal
 

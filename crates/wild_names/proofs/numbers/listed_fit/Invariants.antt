@@ -1,6 +1,6 @@
 use Rattle.std.proofs.Common.{◌<◌, ◌^◌, take}
 use Rattle.std.specs.Prelude.{All}
-use Rattle.wild_plan.specs.declared.layout.DynamicSymbol.{DynamicSymbol}
+use Rattle.wild_types.specs.declared.layout.DynamicSymbol.{DynamicSymbol}
 use Rattle.wild_names.proofs.numbers.listed_fit.Given as goal
 
 abbrev pub invariant-loop-symbol : goal.invariant-loop-symbol

@@ -1,5 +1,5 @@
 use Rattle.std.proofs.Common.{◌≡◌, drop}
-use Rattle.wild_plan.specs.Segments.{part_with}
+use Rattle.wild_types.specs.Parts.{part_with}
 use Rattle.wild_symbols.specs.DynamicFields.{part_section}
 use Rattle.wild_symbols.proofs.dynamic.section_of_role.Given as goal
 

@@ -1,6 +1,6 @@
 use Rattle.std.proofs.Common.{◌+◌, List, ℕ, arith, ap, take, ◌∙◌}
 use Rattle.std.proofs.lemmas.List.{length-drop}
-use Rattle.wild_plan.specs.DynamicStrings.{behind_text}
+use Rattle.wild_needs.specs.DynamicStrings.{behind_text}
 use Rattle.wild_tables.proofs.DynamicLemmas.{auxiliary_offset, auxiliary_written, auxiliary_done}
 use Rattle.wild_tables.proofs.dynamic.write_auxiliary.Goals as goal
 

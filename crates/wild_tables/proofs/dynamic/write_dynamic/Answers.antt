@@ -1,5 +1,5 @@
 use Rattle.std.proofs.Common.{◌∙◌, ap, ◌++◌, List, ℕ}
-use Rattle.wild_plan.specs.Dynamic.{tag_entries}
+use Rattle.wild_needs.specs.Dynamic.{tag_entries}
 use Rattle.wild_tables.specs.Dynamic.{entries_bytes}
 use Rattle.wild_tables.proofs.DynamicLemmas.{dynamic_written}
 use Rattle.wild_tables.proofs.dynamic.write_dynamic.Goals as goal

@@ -1,5 +1,5 @@
 use Rattle.std.proofs.Common.{◌≡◌, ◌+◌, ◌*◌, ◌≤◌, ◌++◌, drop, length}
-use Rattle.wild_plan.specs.SlotParts.{slot_entries}
+use Rattle.wild_slot.specs.SlotParts.{slot_entries}
 use Rattle.wild_tables.proofs.slot_words.add_entries.Given as goal
 
 abbrev pub invariant-loop-word : goal.invariant-loop-word

@@ -1,5 +1,5 @@
 use Rattle.std.proofs.Common.{◌≡◌, ◌+◌, ◌*◌, ◌≤◌, drop, length}
-use Rattle.wild_plan.specs.SlotParts.{flat_places}
+use Rattle.wild_slot.specs.SlotParts.{flat_places}
 use Rattle.wild_tables.specs.SlotTables.{after_flats}
 use Rattle.wild_tables.proofs.slot_words.add_flat.Given as goal
 

@@ -1,6 +1,6 @@
 use Rattle.std.proofs.Common.{◌≡◌, ◌++◌, drop, map}
 use Rattle.std.specs.List.{filter}
-use Rattle.wild_plan.specs.DynamicSymbols.{is_undefined_entry}
+use Rattle.wild_needs.specs.DynamicSymbols.{is_undefined_entry}
 use Rattle.wild_versions.specs.Room.{IsFull}
 use Rattle.wild_versions.specs.Symbols.{version_bytes, version_of}
 use Rattle.wild_versions.proofs.files.add_undefined.Given as goal

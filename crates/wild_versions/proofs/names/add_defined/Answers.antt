@@ -1,5 +1,5 @@
 use Rattle.std.proofs.Common.{arith}
-use Rattle.wild_plan.specs.declared.layout.VersionDefinition.{VersionDefinition}
+use Rattle.wild_types.specs.declared.layout.VersionDefinition.{VersionDefinition}
 use Rattle.wild_versions.proofs.NameLemmas.{offsets_step, offsets_done}
 use Rattle.wild_versions.proofs.names.add_defined.Goals as goal
 

@@ -1,5 +1,5 @@
 use Rattle.std.proofs.Common.{◌≡◌, ◌++◌, drop}
-use Rattle.wild_plan.specs.Versions.{definition_names}
+use Rattle.wild_needs.specs.Versions.{definition_names}
 use Rattle.wild_versions.specs.Names.{offsets_from}
 use Rattle.wild_versions.proofs.names.add_defined.Given as goal
 

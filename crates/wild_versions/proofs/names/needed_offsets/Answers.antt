@@ -1,5 +1,5 @@
 use Rattle.std.proofs.Common.{arith}
-use Rattle.wild_plan.specs.declared.file.NeededVersion.{NeededVersion}
+use Rattle.wild_types.specs.declared.file.NeededVersion.{NeededVersion}
 use Rattle.wild_versions.proofs.NameLemmas.{offsets_step, offsets_done}
 use Rattle.wild_versions.proofs.names.needed_offsets.Goals as goal
 

@@ -1,5 +1,5 @@
 use Rattle.std.proofs.Common.{◌≡◌, ◌++◌, drop}
-use Rattle.wild_plan.specs.Versions.{needed_names}
+use Rattle.wild_needs.specs.Versions.{needed_names}
 use Rattle.wild_versions.specs.Names.{offsets_from}
 use Rattle.wild_versions.proofs.names.needed_offsets.Given as goal
 

@@ -1,5 +1,5 @@
 use Rattle.std.proofs.Common.{take, map}
-use Rattle.wild_plan.specs.TableSymbols.{pass_items}
+use Rattle.wild_needs.specs.TableSymbols.{pass_items}
 use Rattle.wild_symbols.specs.TableEntries.{named_entry}
 use Rattle.wild_image.specs.Walks.{Walks}
 use Rattle.wild_image.proofs.symtab.Walk.add_pass.Given as goal

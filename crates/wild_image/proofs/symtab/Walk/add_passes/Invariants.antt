@@ -1,7 +1,8 @@
 use Rattle.std.proofs.Common.{take, map}
 use Rattle.std.specs.List.{flat_map}
-use Rattle.wild_plan.specs.declared.table.Pass.{Pass}
-use Rattle.wild_plan.specs.TableSymbols.{pass_items, loaded_symbols}
+use Rattle.wild_needs.specs.declared.table.Pass.{Pass}
+use Rattle.wild_needs.specs.TableSymbols.{pass_items}
+use Rattle.wild_types.specs.FileSymbols.{loaded_symbols}
 use Rattle.wild_symbols.specs.TableEntries.{named_entry}
 use Rattle.wild_image.specs.Walks.{Walks}
 use Rattle.wild_image.proofs.symtab.Walk.add_passes.Given as goal

@@ -1,6 +1,6 @@
 use Rattle.std.proofs.Common.{◌≡◌, [], take}
 use Rattle.std.specs.List.{flat_map}
-use Rattle.wild_plan.specs.TableSymbols.{pass_items}
+use Rattle.wild_needs.specs.TableSymbols.{pass_items}
 use Rattle.wild_layout.specs.Faults.{at_file, table_error}
 use Rattle.wild_image.proofs.symtab_faults.Look.check_pass.Given as goal
 

@@ -1,6 +1,7 @@
 use Rattle.std.proofs.lemmas.Result.{err_from_is_err_and}
-use Rattle.wild_plan.specs.declared.table.Pass.{Pass}
-use Rattle.wild_plan.specs.TableSymbols.{pass_items, passes, loaded_symbols}
+use Rattle.wild_needs.specs.declared.table.Pass.{Pass}
+use Rattle.wild_needs.specs.TableSymbols.{pass_items, passes}
+use Rattle.wild_types.specs.FileSymbols.{loaded_symbols}
 use Rattle.wild_layout.specs.Faults.{at_file, table_error}
 use Rattle.wild_image.proofs.FaultLemmas.{refuses_made}
 use Rattle.wild_image.proofs.symtab_faults.Look.check_passes.Goals as goal

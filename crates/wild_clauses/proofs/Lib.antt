@@ -1,0 +1,11 @@
+pub mod AstrayLemmas
+pub mod BlockLemmas
+pub mod CopyLemmas
+pub mod CoverLemmas
+pub mod DynsymLemmas
+pub mod FieldLemmas
+pub mod MisplacedLemmas
+pub mod PassedLemmas
+pub mod SlotPlaceLemmas
+pub mod StartLemmas
+pub mod VersionLemmas

@@ -1,0 +1,8 @@
+use Rattle.std.proofs.Common.{◌≡◌, drop}
+use Rattle.wild_clauses.specs.Segments.{dynamic_astray}
+use Rattle.wild_types.specs.Parts.{part_with}
+use Rattle.wild_clauses.proofs.entries.dynamic_astray.Given as goal
+use Rattle.wild_types.specs.declared.part.Role.TheVariants as role
+
+abbrev pub invariant-loop-i : goal.invariant-loop-i
+invariant-loop-i l = dynamic_astray l.part l.i (drop l.i l.segments) ≡ dynamic_astray (part_with role.Dynamic l.layout.parts) 0 l.segments

@@ -1,0 +1,12 @@
+use Rattle.std.proofs.Common.{◌≡◌, ◌+◌, ◌≤◌, true, length, take, drop, All}
+use Rattle.wild_clauses.specs.Covers.{is_passed}
+use Rattle.wild_types.specs.Lists.{first_failing}
+use Rattle.wild_clauses.specs.Segments.{bytes_are_loaded}
+use Rattle.wild_clauses.proofs.loaded.not_loaded.Given as goal
+
+abbrev pub invariant-loop-i : goal.invariant-loop-i
+invariant-loop-i l = record {
+  there : l.next ≤ length l.segments;
+  passed : All (λ g. is_passed l.low g ≡ true) (take l.next l.segments);
+  rest : first_failing (bytes_are_loaded l.side l.segments) (l.i + 1) (drop l.i l.later) ≡ first_failing (bytes_are_loaded l.side l.segments) 1 l.later;
+}

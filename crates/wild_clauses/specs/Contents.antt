@@ -1,0 +1,123 @@
+-- The clauses on groups, files, input sections and relocations. The place of an item that stands inside
+-- a group is the group's.
+--   each_section test g      every input section of the group passes the test
+--   section_misplaced l ..   the first group with an input section out of its part's range
+--   fields_lie m s           the fields of the section's relocations lie in it
+--   tls_fits ..              thread-local data end where the layout says
+use Rattle.std.specs.Prelude.{ℕ, ◌+◌, ◌==◌, Bool, true, false, not, ◌&&◌, ◌||◌, if◌then◌else◌, nat_le, List, [], ◌∷◌, length, map, Option, Some, None, is_some, slice_get}
+use Rattle.std.specs.List.{list_all}
+use Rattle.wild_types.specs.declared.kind.Machine.{Machine}
+use Rattle.wild_types.specs.declared.kind.Machine.TheVariants as machines
+use Rattle.wild_types.specs.declared.part.Part.{Part}
+use Rattle.wild_types.specs.declared.part.Role.{Role}
+use Rattle.wild_types.specs.declared.part.Role.TheVariants as role
+use Rattle.wild_types.specs.declared.input.InputRelocation.{InputRelocation}
+use Rattle.wild_types.specs.declared.input.InputSection.{InputSection}
+use Rattle.wild_types.specs.declared.file.File.{File}
+use Rattle.wild_types.specs.declared.file.Group.{Group}
+use Rattle.wild_types.specs.declared.layout.Layout.{Layout}
+use Rattle.wild_types.specs.Lists.{total, through}
+use Rattle.wild_types.specs.Lookups.{allocated, section_of, is_allocated_part, takes_file_bytes, is_loaded, is_discarded, is_filled}
+use Rattle.wild_clauses.specs.Places.{multiple_of}
+use Rattle.wild_types.specs.Rows.{field_bytes}
+use Rattle.wild_types.specs.FilePlaces.{given, bool_eq}
+
+-- every input section of the file passes the test
+abbrev pub each_in : (InputSection → Bool) → File → Bool
+each_in test f = list_all test f.sections
+
+-- every input section of the group passes the test
+abbrev pub each_section : (InputSection → Bool) → Group → Bool
+each_section test g = list_all (each_in test) g.files
+
+-- ---- clause 7: shares, prelude and epilogue
+
+-- the first part whose shares do not add up to its size
+abbrev pub share_mismatch : List Group → ℕ → List Part → Option ℕ
+share_mismatch groups i [] = None
+share_mismatch groups i (p ∷ ps) = if total (given i) groups == p.size then share_mismatch groups (i + 1) ps else Some i
+
+abbrev pub has_share_for_each_part : ℕ → Group → Bool
+has_share_for_each_part count g = length g.part_sizes == count
+
+-- ---- clause 8: input sections in their parts
+
+-- where the parts begin
+abbrev pub addresses : List Part → List ℕ
+addresses parts = map (λ (p : Part). p.address) parts
+
+-- where the next group's range of each part begins, from number part on
+abbrev pub ends_of : Group → ℕ → List ℕ → List ℕ
+ends_of g part [] = []
+ends_of g part (start ∷ starts) = (start + given part g) ∷ ends_of g (part + 1) starts
+
+-- the end of the last input section of a part that owns bytes; none where one begins before the end of the one
+-- before it, or ends past the end of its group's range
+abbrev pub placed_in : Layout → ℕ → ℕ → ℕ → InputSection → Option ℕ
+placed_in l part end cursor s =
+    if is_filled l s && s.part == part
+    then (if nat_le cursor s.address && nat_le (s.address + s.size) end then Some (s.address + s.size) else None)
+    else Some cursor
+
+-- the same for all input sections of a file
+abbrev pub file_placed_in : Layout → ℕ → ℕ → ℕ → File → Option ℕ
+file_placed_in l part end cursor f = through (placed_in l part end) cursor f.sections
+
+-- the group's input sections of a part stand in its range from start to end, in order and without overlap
+abbrev pub part_placed : Layout → ℕ → ℕ → ℕ → Group → Bool
+part_placed l part start end g = is_some (through (file_placed_in l part end) start g.files)
+
+-- the same for all parts from number part on, whose ranges begin at starts
+abbrev pub parts_placed : Layout → Group → ℕ → List ℕ → Bool
+parts_placed l g part [] = true
+parts_placed l g part (start ∷ starts) = part_placed l part start (start + given part g) g && parts_placed l g (part + 1) starts
+
+-- the first group with an input section out of its place, where the ranges of the first begin at starts
+abbrev pub section_misplaced : Layout → List ℕ → ℕ → List Group → Option ℕ
+section_misplaced l starts i [] = None
+section_misplaced l starts i (g ∷ gs) = if parts_placed l g 0 starts then section_misplaced l (ends_of g 0 starts) (i + 1) gs else Some i
+
+-- bytes have the length size; an input section without data has none
+abbrev pub length_fits : InputSection → Bool
+length_fits s = is_discarded s.slot || (if s.nobits then length s.bytes == 0 else length s.bytes == s.size)
+
+abbrev pub discarded_is_empty : InputSection → Bool
+discarded_is_empty s = not (is_discarded s.slot) || (s.address == 0 && length s.bytes == 0)
+
+abbrev pub is_raw : Option Part → Bool
+is_raw None = false
+is_raw (Some p) = raw p.role
+  where
+    raw : Role → Bool
+    raw role.Raw = true
+    raw other = false
+
+abbrev pub part_is_raw : Layout → InputSection → Bool
+part_is_raw l s = is_discarded s.slot || is_raw (slice_get l.parts s.part)
+
+-- a loaded input section is allocated exactly where its part's section is
+abbrev pub allocation_agrees : Layout → InputSection → Bool
+allocation_agrees l s = not (is_loaded s.slot) || bool_eq (allocated s.flags) (is_allocated_part l s.part)
+
+-- bytes stand in no section of type SHT_NOBITS
+abbrev pub bytes_take_room : Layout → InputSection → Bool
+bytes_take_room l s = length s.bytes == 0 || takes_file_bytes l (section_of l s.part)
+
+-- ---- clause 10: fields
+
+abbrev pub field_lies : Machine → InputSection → InputRelocation → Bool
+field_lies m s r = field_bytes m r.number == 0 || nat_le (r.offset + field_bytes m r.number) s.size
+
+abbrev pub fields_lie : Machine → InputSection → Bool
+fields_lie m s = list_all (field_lies m s) s.relocations
+
+-- ---- clause 15: thread-local data (ELF TLS)
+
+-- the local-dynamic pair is there on x86-64 alone
+abbrev pub tlsld_fits : Machine → Option ℕ → Bool
+tlsld_fits machines.AArch64 (Some a) = false
+tlsld_fits machine tlsld = true
+
+-- the initial data ends where it begins or behind that, and begins at a multiple of its alignment
+abbrev pub tls_fits : Layout → Bool
+tls_fits l = nat_le l.tls.start l.tls.end && multiple_of l.tls.align l.tls.start && tlsld_fits l.machine l.tlsld

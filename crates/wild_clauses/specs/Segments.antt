@@ -1,0 +1,101 @@
+-- Clause 6: where segments stand, and which bytes of a section they load (gABI, "Program Header").
+--   has_byte side s a g           the segment loads the byte of the section with address a
+--   bytes_are_loaded side gs s    each byte of the section that is to lie in a segment lies in one
+--   is_segment_of p g             the segment has the place and the size of the part
+--   dynamic_astray p i gs         the first PT_DYNAMIC segment that is not that of the part
+use Rattle.std.specs.Prelude.{ℕ, zero, suc, ◌+◌, ◌%◌, ◌==◌, Bool, true, false, not, ◌&&◌, ◌||◌, if◌then◌else◌, nat_lt, nat_le, List, [], ◌∷◌, Option, Some, None}
+use Rattle.std.specs.List.{list_any}
+use Rattle.wild_records.specs.Abi.Section.{sht_nobits}
+use Rattle.wild_records.specs.Abi.Segment.{pt_load, pt_dynamic}
+use Rattle.wild_types.specs.declared.kind.OutputKind.{OutputKind}
+use Rattle.wild_types.specs.declared.part.Part.{Part}
+use Rattle.wild_types.specs.declared.section.Section.{Section}
+use Rattle.wild_types.specs.declared.section.Segment.{Segment}
+use Rattle.wild_clauses.specs.declared.loaded.Side.{Side}
+use Rattle.wild_clauses.specs.declared.loaded.Side.TheVariants as side
+use Rattle.wild_types.specs.Kinds.{has_fixed_load_address}
+use Rattle.wild_types.specs.Lookups.{allocated, thread_local}
+
+-- ---- the order
+
+abbrev pub congruent : ℕ → ℕ → ℕ → Bool
+congruent page a b = not (page == 0) && a % page == b % page
+
+-- the segment begins at end or behind it, has no less memory than file bytes, and its address and offset agree
+-- within a page
+abbrev pub stands_behind : ℕ → ℕ → Segment → Bool
+stands_behind page end g = nat_le end g.address && nat_le g.file_size g.mem_size && congruent page g.address g.offset
+
+-- the first loaded segment that does not stand behind the one before it
+abbrev pub segment_out_of_order : ℕ → ℕ → ℕ → List Segment → Option ℕ
+segment_out_of_order page i end [] = None
+segment_out_of_order page i end (g ∷ gs) =
+    if g.kind == pt_load
+    then (if stands_behind page end g then segment_out_of_order page (i + 1) (g.address + g.mem_size) gs else Some i)
+    else segment_out_of_order page (i + 1) end gs
+
+-- ---- the bytes of sections
+
+-- how many bytes the segment has in memory, or in the file
+abbrev pub size_on : Side → Segment → ℕ
+size_on side.Memory g = g.mem_size
+size_on side.File g = g.file_size
+
+-- the section's file bytes are as far from the segment's as its addresses are
+abbrev pub at_equal_distance : Section → Segment → Bool
+at_equal_distance s g = s.offset + g.address == s.address + g.offset
+
+-- address a lies in the loaded segment, at equal distance in file and memory where the section has file bytes
+abbrev pub has_byte : Side → Section → ℕ → Segment → Bool
+has_byte on s a g = g.kind == pt_load && (nat_le g.address a && nat_lt a (g.address + size_on on g)) && (s.kind == sht_nobits || at_equal_distance s g)
+
+-- an allocated section, other than thread-local ones without data
+abbrev pub is_to_load : Section → Bool
+is_to_load s = allocated s.flags && not (thread_local s.flags && s.kind == sht_nobits)
+
+-- an allocated section with data
+abbrev pub has_file_bytes : Section → Bool
+has_file_bytes s = allocated s.flags && not (s.kind == sht_nobits)
+
+-- the section's bytes are to lie in memory, or among the file bytes of segments
+abbrev pub is_asked : Side → Section → Bool
+is_asked side.Memory s = is_to_load s
+is_asked side.File s = has_file_bytes s
+
+-- every number below n passes
+abbrev pub all_below : (ℕ → Bool) → ℕ → Bool
+all_below test zero = true
+all_below test (suc n) = test n && all_below test n
+
+-- each byte of the section that is to lie in a segment lies in one
+abbrev pub bytes_are_loaded : Side → List Segment → Section → Bool
+bytes_are_loaded on segments s = not (is_asked on s) || all_below (λ k. list_any (has_byte on s (s.address + k)) segments) s.size
+
+-- ---- other tests
+
+-- an output that is loaded at its own addresses has nothing at address 0
+abbrev pub leaves_zero_free : OutputKind → Segment → Bool
+leaves_zero_free kind g = not (has_fixed_load_address kind && g.kind == pt_load && g.address == 0 && not (g.mem_size == 0))
+
+abbrev pub segment_in_image : ℕ → Segment → Bool
+segment_in_image size g = nat_le (g.offset + g.file_size) size
+
+-- ---- the dynamic section (gABI, "Program Header": PT_DYNAMIC)
+
+-- the segment has the place and the size of the part
+abbrev pub is_segment_of : Option Part → Segment → Bool
+is_segment_of None g = false
+is_segment_of (Some p) g = g.offset == p.offset && g.address == p.address && g.file_size == p.size && g.mem_size == p.size
+
+-- place 0, where a part is left that has no segment
+abbrev pub segment_lacking : Option Part → Option ℕ
+segment_lacking None = None
+segment_lacking (Some p) = Some 0
+
+-- the first PT_DYNAMIC segment that is not that of the part; only one is
+abbrev pub dynamic_astray : Option Part → ℕ → List Segment → Option ℕ
+dynamic_astray p i [] = segment_lacking p
+dynamic_astray p i (g ∷ gs) =
+    if g.kind == pt_dynamic
+    then (if is_segment_of p g then dynamic_astray None (i + 1) gs else Some i)
+    else dynamic_astray p (i + 1) gs

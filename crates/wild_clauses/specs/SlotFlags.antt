@@ -1,0 +1,63 @@
+-- Clause 14: what is known of a symbol agrees with its slots and its stub (x86-64 psABI, "Global Offset Table (GOT)",
+-- "Procedure Linkage Table"; ELF Handling For Thread-Local Storage). A symbol's flags and resolution are those that the layout
+-- gives for it, also where another symbol defines it.
+--   takes_block_word l s         the slot is one of a block of packed words
+use Rattle.std.specs.Prelude.{ℕ, ◌==◌, Bool, true, not, ◌&&◌, ◌||◌, Option, Some, None, is_some}
+use Rattle.wild_types.specs.declared.symbol.Resolution.{Resolution}
+use Rattle.wild_types.specs.declared.symbol.Symbol.{Symbol}
+use Rattle.wild_types.specs.declared.layout.Layout.{Layout}
+use Rattle.wild_types.specs.FilePlaces.{bool_eq}
+use Rattle.wild_types.specs.SymbolSlots.{got_of, plt_of, has_dynamic_symbol, has_thread_slot}
+use Rattle.wild_types.specs.Flags.{has_flag, interposable, has_link_time_address, absolute, dynamic, ifunc, got_slot, copy_relocation, canonical_plt, ifunc_got_for_address, canonical_plt_got_for_address}
+use Rattle.wild_types.specs.Kinds.{is_position_independent}
+
+-- ---- the tests, in their order
+
+-- a symbol of another module may be replaced by any
+abbrev pub dynamic_is_interposable : Symbol → Bool
+dynamic_is_interposable s = not (has_flag s.flags dynamic) || interposable s.flags
+
+abbrev pub is_value : Option Resolution → Bool
+is_value None = true
+is_value (Some r) = holds r.plt_address
+  where
+    holds : Option ℕ → Bool
+    holds None = true
+    holds (Some stub) = r.raw_value == stub
+
+-- a stub for another module's symbol that is not copied is the symbol's value here
+abbrev pub stub_is_value : Symbol → Bool
+stub_is_value s = not (has_flag s.flags dynamic) || (has_flag s.flags copy_relocation || is_value s.resolution)
+
+-- a stub jumps to what its slot has
+abbrev pub stub_has_slot : Symbol → Bool
+stub_has_slot s = not (is_some (plt_of s)) || is_some (got_of s)
+
+-- there is one second slot at most
+abbrev pub one_slot_for_address : Symbol → Bool
+one_slot_for_address s = not (has_flag s.flags ifunc_got_for_address) || not (has_flag s.flags canonical_plt_got_for_address)
+
+-- what has a slot for thread-local data is no function
+abbrev pub thread_slot_alone : Symbol → Bool
+thread_slot_alone s = not (has_thread_slot s.flags) || (not (has_flag s.flags ifunc) && not (is_some (plt_of s)))
+
+-- a resolver is this output's own
+abbrev pub resolver_is_own : Symbol → Bool
+resolver_is_own s = not (has_flag s.flags ifunc) || not (has_flag s.flags dynamic)
+
+-- a slot is there exactly where a flag says which, one for an address or some for thread-local data
+abbrev pub slot_agrees : Symbol → Bool
+slot_agrees s = bool_eq (is_some (got_of s)) (has_flag s.flags got_slot || has_thread_slot s.flags) && (not (has_flag s.flags got_slot) || not (has_thread_slot s.flags))
+
+-- a resolver stands in the image, and moves with it
+abbrev pub resolver_moves : Symbol → Bool
+resolver_moves s = not (has_flag s.flags ifunc) || not (has_flag s.flags absolute)
+
+-- the slot has an address that packed words move with the base, one of a block of such slots
+abbrev pub takes_block_word : Layout → Symbol → Bool
+takes_block_word l s =
+    is_some (got_of s) && (not (has_thread_slot s.flags) && (not (has_flag s.flags canonical_plt) && (not (has_dynamic_symbol s.flags) && (not (has_flag s.flags ifunc) && (l.options.relr && (is_position_independent l.kind && has_link_time_address s.flags))))))
+
+-- a second slot stands behind the first, and so in no block
+abbrev pub second_slot_fits : Layout → Symbol → Bool
+second_slot_fits l s = (not (has_flag s.flags ifunc_got_for_address) && not (has_flag s.flags canonical_plt_got_for_address)) || not (takes_block_word l s)

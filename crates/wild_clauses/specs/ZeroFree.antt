@@ -1,0 +1,59 @@
+-- Clause 19: names have no zero byte, which would end them (gABI, "String Table").
+--   name_fits name           the name has none
+--   option_names_fit ..      nor have the names that options give; and so of each other kind of name
+use Rattle.std.specs.Prelude.{ℕ, ◌==◌, Bool, true, not, ◌&&◌, List, Option, Some, None}
+use Rattle.std.specs.List.{list_all}
+use Rattle.wild_types.specs.declared.options.Options.{Options}
+use Rattle.wild_types.specs.declared.section.Section.{Section}
+use Rattle.wild_types.specs.declared.symbol.Symbol.{Symbol}
+use Rattle.wild_types.specs.declared.input.InputSection.{InputSection}
+use Rattle.wild_types.specs.declared.file.NeededVersion.{NeededVersion}
+use Rattle.wild_types.specs.declared.file.VersionNeeds.{VersionNeeds}
+use Rattle.wild_types.specs.declared.file.File.{File}
+use Rattle.wild_types.specs.declared.file.Group.{Group}
+use Rattle.wild_types.specs.declared.layout.DynamicSymbol.{DynamicSymbol}
+use Rattle.wild_types.specs.declared.layout.VersionDefinition.{VersionDefinition}
+
+-- ---- clause 19: names
+
+-- a name has no zero byte (gABI, "String Table")
+abbrev pub name_fits : List ℕ → Bool
+name_fits name = list_all (λ b. not (b == 0)) name
+
+-- the same for a name that may be there
+abbrev pub given_name_fits : Option (List ℕ) → Bool
+given_name_fits None = true
+given_name_fits (Some name) = name_fits name
+
+-- the search path and the name of the output
+abbrev pub option_names_fit : Options → Bool
+option_names_fit o = given_name_fits o.rpath && given_name_fits o.soname
+
+abbrev pub section_name_fits : Section → Bool
+section_name_fits s = name_fits s.name
+
+abbrev pub symbol_name_fits : Symbol → Bool
+symbol_name_fits s = name_fits s.name
+
+abbrev pub input_name_fits : InputSection → Bool
+input_name_fits s = name_fits s.name
+
+abbrev pub version_name_fits : NeededVersion → Bool
+version_name_fits v = name_fits v.name
+
+abbrev pub needs_names_fit : Option VersionNeeds → Bool
+needs_names_fit None = true
+needs_names_fit (Some n) = list_all version_name_fits n.versions
+
+-- the names of a file's sections, its own as a library, and those of the versions that are needed of it
+abbrev pub file_names_fit : File → Bool
+file_names_fit f = list_all input_name_fits f.sections && (name_fits f.lib_name && needs_names_fit f.verneed)
+
+abbrev pub group_names_fit : Group → Bool
+group_names_fit g = list_all file_names_fit g.files
+
+abbrev pub listed_name_fits : DynamicSymbol → Bool
+listed_name_fits d = name_fits d.name
+
+abbrev pub definition_name_fits : VersionDefinition → Bool
+definition_name_fits d = name_fits d.name

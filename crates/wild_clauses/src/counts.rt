@@ -1,0 +1,78 @@
+//! Clause 2: counts.
+ghost use Rattle.std.specs.Prelude.{◌≡◌, ◌-◌, ◌^◌, min};
+ghost use Rattle.wild_needs.specs.Needs.{total_share};
+ghost use Rattle.wild_clauses.specs.Counts.{lists_fit, counts_fit};
+ghost use Rattle.wild_clauses.specs.Places.{relocations_in, relocations_of, relocation_count};
+ghost use Rattle.wild_clauses.specs.ClauseTests.{check_counts};
+
+use crate::verdict::{fails, unless};
+use crate::versions::versions_fit;
+use wild_needs::{name_bytes, table_length, total_share};
+use wild_types::{Clause, File, Group, Layout, Role};
+
+/// At most 2^64 - 1.
+fn relocations_of_file(file: &File) -> u64
+    ensures { result ≡ min (2 ^ 64 - 1) (relocations_in file.now) }
+{
+    let mut count: u64 = 0;
+    for section in file.sections.as_slice() {
+        count = count.saturating_add(section.relocations.len() as u64);
+    }
+    count
+}
+
+/// At most 2^64 - 1.
+fn relocations_of_group(group: &Group) -> u64
+    ensures { result ≡ min (2 ^ 64 - 1) (relocations_of group.now) }
+{
+    let mut count: u64 = 0;
+    for file in group.files.as_slice() {
+        count = count.saturating_add(relocations_of_file(file));
+    }
+    count
+}
+
+/// At most 2^64 - 1.
+fn relocation_count(layout: &Layout) -> u64
+    ensures { result ≡ min (2 ^ 64 - 1) (relocation_count layout.now) }
+{
+    let mut count: u64 = 0;
+    for group in layout.groups.as_slice() {
+        count = count.saturating_add(relocations_of_group(group));
+    }
+    count
+}
+
+/// Whether no list is too long.
+fn lists_fit(layout: &Layout) -> bool
+    ensures { result ≡ lists_fit layout.now }
+{
+    let sections = layout.sections.len();
+    let groups = layout.groups.len();
+    1 <= sections
+        && sections < 1 << 31
+        && layout.segments.len() <= 65534
+        && layout.symbols.len() < (1 << 32) - 1
+        && table_length(layout) < (1 << 32) - 1
+        && relocation_count(layout) < (1 << 32) - 1
+        && 1 <= groups
+        && groups < (1 << 32) - 1
+}
+
+/// Whether no string table is too long either, and each version can have an index.
+fn counts_fit(layout: &Layout) -> bool
+    ensures { result ≡ counts_fit layout.now }
+{
+    lists_fit(layout)
+        && name_bytes(layout) < 1 << 32
+        && total_share(layout, Role::Dynstr) < 1 << 32
+        && total_share(layout, Role::Strtab) < 1 << 32
+        && versions_fit(layout)
+}
+
+#[tactic(auto, unfolding(crate::specs::ClauseTests::check_counts))]
+pub(crate) fn check_counts(layout: &Layout) -> Result<(), Clause>
+    ensures { result ≡ check_counts layout.now }
+{
+    fails(2, unless(counts_fit(layout)))
+}

@@ -1,0 +1,61 @@
+//! Clause 10: fields.
+ghost use Rattle.std.specs.Prelude.{◌≡◌};
+ghost use Rattle.wild_clauses.specs.Contents.{field_lies, fields_lie};
+ghost use Rattle.wild_clauses.specs.ClauseTests.{check_fields};
+
+use crate::each_section::failing_group;
+use crate::verdict::fails;
+use wild_types::{
+    Clause, InputRelocation, InputSection, Layout, Machine, Test, all_pass, field_bytes, wide_sum,
+};
+
+/// No field has more bytes.
+const WIDEST: u64 = 8;
+
+/// The field of a relocation lies in its section.
+#[derive(Clone, Copy)]
+struct FieldLies<'a> {
+    machine: Machine,
+    section: &'a InputSection,
+}
+
+impl Test<InputRelocation> for FieldLies<'_> {
+    ghost test = { λ t. field_lies t.machine t.section.now };
+
+    #[tactic(auto, using(crate::proofs::FieldLemmas::field_lies_early))]
+    fn passes(&self, relocation: &InputRelocation) -> bool {
+        let size = self.section.size;
+        if WIDEST <= size && relocation.offset <= size - WIDEST {
+            return true;
+        }
+        let bytes = field_bytes(self.machine, relocation.number) as u64;
+        bytes == 0 || wide_sum(relocation.offset, bytes) <= u128::from(size)
+    }
+}
+
+/// The fields of a section's relocations lie in it.
+#[derive(Clone, Copy)]
+struct FieldsLie {
+    machine: Machine,
+}
+
+impl Test<InputSection> for FieldsLie {
+    ghost test = { λ t. fields_lie t.machine };
+
+    fn passes(&self, section: &InputSection) -> bool {
+        let machine = self.machine;
+        all_pass(
+            &FieldLies { machine, section },
+            section.relocations.as_slice(),
+        )
+    }
+}
+
+#[tactic(auto, unfolding(crate::specs::ClauseTests::check_fields))]
+pub(crate) fn check_fields(layout: &Layout) -> Result<(), Clause>
+    ensures { result ≡ check_fields layout.now }
+{
+    let machine = layout.machine;
+    let groups = layout.groups.as_slice();
+    fails(10, failing_group(&FieldsLie { machine }, groups))
+}

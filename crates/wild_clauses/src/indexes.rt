@@ -1,0 +1,152 @@
+//! Clause 9: indexes.
+ghost use Rattle.std.specs.Prelude.{◌≡◌};
+ghost use Rattle.wild_clauses.specs.Indexes.{part_index_fits, relocation_index_fits, symbol_is_there, section_indexes_fit, file_indexes_fit, group_indexes_fit, listed_is_there, entry_is_there, definition_is_own, range_follows, range_out_of_order};
+ghost use Rattle.wild_types.specs.Lists.{through};
+ghost use Rattle.wild_clauses.specs.ClauseTests.{check_indexes};
+
+use crate::astray::{index_fits, symbol_misfit};
+use crate::copies::copied_again;
+use crate::verdict::{fails, unless};
+use crate::versions::ParentIsThere;
+use wild_types::{
+    Clause, DynamicSymbol, Entry, File, Group, InputRelocation, InputSection, Layout, Part, Symbol,
+    SymbolIndex, Test, all_pass, first_failing,
+};
+
+/// Whether the indexes in an item are those of something that is there.
+#[derive(Clone, Copy)]
+struct IndexesFit<'a> {
+    layout: &'a Layout,
+}
+
+impl Test<Part> for IndexesFit<'_> {
+    ghost test = { λ t. part_index_fits t.layout.now };
+
+    fn passes(&self, part: &Part) -> bool {
+        part.section.0 < self.layout.sections.len()
+    }
+}
+
+impl Test<InputRelocation> for IndexesFit<'_> {
+    ghost test = { λ t. relocation_index_fits t.layout.now };
+
+    fn passes(&self, relocation: &InputRelocation) -> bool {
+        index_fits(self.layout.symbols.len(), relocation.symbol)
+    }
+}
+
+impl Test<SymbolIndex> for IndexesFit<'_> {
+    ghost test = { λ t. symbol_is_there t.layout.now };
+
+    fn passes(&self, symbol: &SymbolIndex) -> bool {
+        symbol.0 < self.layout.symbols.len()
+    }
+}
+
+impl Test<InputSection> for IndexesFit<'_> {
+    ghost test = { λ t. section_indexes_fit t.layout.now };
+
+    fn passes(&self, section: &InputSection) -> bool {
+        section.part < self.layout.parts.len() && all_pass(self, section.relocations.as_slice())
+    }
+}
+
+impl Test<File> for IndexesFit<'_> {
+    ghost test = { λ t. file_indexes_fit t.layout.now };
+
+    fn passes(&self, file: &File) -> bool {
+        let end = file.first_symbol.0 as u128 + file.symbol_count as u128;
+        (file.symbol_count == 0 || end <= self.layout.symbols.len() as u128)
+            && all_pass(self, file.sections.as_slice())
+            && all_pass(self, file.copies.as_slice())
+    }
+}
+
+impl Test<Group> for IndexesFit<'_> {
+    ghost test = { λ t. group_indexes_fit t.layout.now };
+
+    fn passes(&self, group: &Group) -> bool {
+        all_pass(self, group.files.as_slice())
+    }
+}
+
+impl Test<DynamicSymbol> for IndexesFit<'_> {
+    ghost test = { λ t. listed_is_there t.layout.now };
+
+    fn passes(&self, listed: &DynamicSymbol) -> bool {
+        self.passes(&listed.symbol)
+    }
+}
+
+impl Test<Symbol> for IndexesFit<'_> {
+    ghost test = { λ t. definition_is_own t.layout.now };
+
+    fn passes(&self, symbol: &Symbol) -> bool {
+        let Some(index) = symbol.definition else {
+            return true;
+        };
+        match self.layout.symbols.as_slice().get(index.0) {
+            Some(found) => found.definition.unwrap_or(index) == index,
+            None => true,
+        }
+    }
+}
+
+/// Whether the symbol at which the program begins, where it begins at one, is there.
+fn entry_is_there(layout: &Layout) -> bool
+    ensures { result ≡ entry_is_there layout.now layout.now.entry }
+{
+    match layout.entry {
+        Some(Entry::Symbol(symbol)) => symbol.0 < layout.symbols.len(),
+        _ => true,
+    }
+}
+
+/// Where the next file's range may begin; none where one of the files' begins before.
+fn ranges_end(end: u128, files: &[File]) -> Option<u128>
+    ensures { result ≡ through range_follows end files.now }
+{
+    let mut end = end;
+    for file in files {
+        if file.symbol_count != 0 {
+            if (file.first_symbol.0 as u128) < end {
+                return None;
+            }
+            end = file.first_symbol.0 as u128 + file.symbol_count as u128;
+        }
+    }
+    Some(end)
+}
+
+fn range_out_of_order(groups: &[Group]) -> Option<usize>
+    ensures { result ≡ range_out_of_order 0 0 groups.now }
+{
+    let mut end: u128 = 0;
+    for (i, group) in groups.iter().enumerate() {
+        match ranges_end(end, group.files.as_slice()) {
+            Some(next) => end = next,
+            None => return Some(i),
+        }
+    }
+    None
+}
+
+#[tactic(auto, unfolding(crate::specs::ClauseTests::check_indexes))]
+pub(crate) fn check_indexes(layout: &Layout) -> Result<(), Clause>
+    ensures { result ≡ check_indexes layout.now }
+{
+    let indexes = IndexesFit { layout };
+    let groups = layout.groups.as_slice();
+    fails(9, first_failing(&indexes, layout.parts.as_slice()))?;
+    fails(9, symbol_misfit(layout))?;
+    fails(9, first_failing(&indexes, groups))?;
+    fails(9, first_failing(&indexes, layout.dynsyms.as_slice()))?;
+    fails(
+        9,
+        first_failing(&ParentIsThere { layout }, layout.verdefs.as_slice()),
+    )?;
+    fails(9, unless(entry_is_there(layout)))?;
+    fails(9, copied_again(layout, groups))?;
+    fails(9, first_failing(&indexes, layout.symbols.as_slice()))?;
+    fails(9, range_out_of_order(groups))
+}

@@ -1,0 +1,33 @@
+//! Whether a layout is well formed: its clauses, in their order.
+#![tactic(auto)]
+
+mod astray;
+mod copies;
+mod counts;
+mod dynsyms;
+mod each_section;
+mod entries;
+mod fields;
+mod hashes;
+mod indexes;
+mod inputs;
+mod listed;
+mod loaded;
+mod names;
+mod order;
+mod places;
+mod roles;
+mod sections;
+mod segments;
+mod shares;
+mod sizes;
+mod slot_flags;
+mod slot_parts;
+mod slots;
+mod starts;
+mod threads;
+mod verdict;
+mod versions;
+
+pub use loaded::Side;
+pub use verdict::well_formed;

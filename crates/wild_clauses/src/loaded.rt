@@ -1,0 +1,134 @@
+//! Whether the bytes of sections lie in segments: sections and loaded segments are gone through side by side.
+ghost use Rattle.std.specs.Prelude.{◌≡◌, ◌≤◌, true, take, length, All, None};
+ghost use Rattle.wild_clauses.specs.Covers.{is_passed, covers};
+ghost use Rattle.wild_types.specs.Lists.{first_failing};
+ghost use Rattle.wild_clauses.specs.Segments.{segment_out_of_order, size_on, has_byte, is_asked, bytes_are_loaded};
+
+use wild_records::abi::section::SHT_NOBITS;
+use wild_records::abi::segment::PT_LOAD;
+use wild_types::{Section, Segment, is_allocated, is_thread_local, wide_sum};
+
+/// Where the bytes of a section are to lie: in the memory of segments, or among their file bytes.
+#[derive(Clone, Copy)]
+pub enum Side {
+    Memory,
+    File,
+}
+
+impl Side {
+    fn size(self, segment: &Segment) -> u64
+        ensures { result ≡ size_on self segment.now }
+    {
+        match self {
+            Side::Memory => segment.mem_size,
+            Side::File => segment.file_size,
+        }
+    }
+
+    /// Whether the section's bytes are to lie there.
+    fn is_asked(self, section: &Section) -> bool
+        ensures { result ≡ is_asked self section.now }
+    {
+        match self {
+            Side::Memory => {
+                is_allocated(section.flags)
+                    && !(is_thread_local(section.flags) && section.kind == SHT_NOBITS)
+            }
+            Side::File => is_allocated(section.flags) && section.kind != SHT_NOBITS,
+        }
+    }
+}
+
+/// Whether the segment loads the byte of the section with that address: its file bytes are as far from the segment's as its
+/// addresses are.
+fn has_byte(side: Side, section: &Section, address: u128, segment: &Segment) -> bool
+    ensures { result ≡ has_byte side section.now address segment.now }
+{
+    segment.kind == PT_LOAD
+        && u128::from(segment.address) <= address
+        && address < wide_sum(segment.address, side.size(segment))
+        && (section.kind == SHT_NOBITS
+            || wide_sum(section.offset, segment.address)
+                == wide_sum(section.address, segment.offset))
+}
+
+/// Whether the segment loads nothing at the address or behind it.
+fn is_passed(address: u128, segment: &Segment) -> bool
+    ensures { result ≡ is_passed address segment.now }
+{
+    segment.kind != PT_LOAD || wide_sum(segment.address, segment.mem_size) <= address
+}
+
+/// Whether the segments have all bytes of the section, one segment behind the other.
+#[tactic(auto, using(crate::proofs::CoverLemmas::covers_done))]
+fn covers(side: Side, section: &Section, segments: &[Segment]) -> bool
+    ensures { result ≡ covers side section.now section.now.address segments.now }
+{
+    let end = wide_sum(section.address, section.size);
+    let mut reached = u128::from(section.address);
+    for segment in segments {
+        if end <= reached {
+            return true;
+        }
+        if !is_passed(reached, segment) {
+            if !has_byte(side, section, reached, segment) {
+                return false;
+            }
+            reached = wide_sum(segment.address, side.size(segment));
+        }
+    }
+    end <= reached
+}
+
+/// The first place from `next` on of a segment that is not passed.
+#[tactic(auto, using(crate::proofs::CoverLemmas::passed_more))]
+fn pass(segments: &[Segment], next: usize, address: u128) -> usize
+    requires there { next ≤ length segments.now }
+    requires passed { All (λ g. is_passed address g ≡ true) (take next segments.now) }
+    ensures there { result ≤ length segments.now }
+    ensures passed { All (λ g. is_passed address g ≡ true) (take result segments.now) }
+{
+    let mut next = next;
+    while next < segments.len() && is_passed(address, &segments[next]) {
+        next += 1;
+    }
+    next
+}
+
+/// Where to go on for a section at that address: from `next` on, or at the first segment where the section begins
+/// before `low`.
+#[tactic(auto, using(crate::proofs::CoverLemmas::passed_later))]
+fn go_on(segments: &[Segment], next: usize, low: u64, address: u64) -> usize
+    requires there { next ≤ length segments.now }
+    requires passed { All (λ g. is_passed low g ≡ true) (take next segments.now) }
+    ensures there { result ≤ length segments.now }
+    ensures passed { All (λ g. is_passed address g ≡ true) (take result segments.now) }
+{
+    let first = if address < low { 0 } else { next };
+    pass(segments, first, u128::from(address))
+}
+
+/// The place of the first section with a byte that lies in no segment where it is to. `later` are the sections
+/// behind section 0. A section that begins before the one ahead of it starts anew at the first segment.
+pub(crate) fn not_loaded(
+    side: Side,
+    segments: &[Segment],
+    later: &[Section],
+    page: u64,
+) -> Option<usize>
+    requires { segment_out_of_order page 0 0 segments.now ≡ None }
+    ensures { result ≡ first_failing (bytes_are_loaded side segments.now) 1 later.now }
+{
+    let mut next = 0;
+    let mut low = 0;
+    for (i, section) in later.iter().enumerate() {
+        if side.is_asked(section) {
+            next = go_on(segments, next, low, section.address);
+            low = section.address;
+            if !covers(side, section, &segments[next..]) {
+                return Some(i + 1);
+            }
+        }
+    }
+    None
+}

@@ -1,0 +1,156 @@
+//! Whether the input sections of each part stand in its range of their group, in order and without overlap.
+ghost use Rattle.std.specs.Prelude.{◌≡◌, ◌+◌, ◌*◌, ◌^◌, ◌≤◌, ◌<◌, length, if◌then◌else◌, is_some, Some, None, ℕ, slice_index};
+ghost use Rattle.wild_clauses.specs.Contents.{addresses, ends_of, section_misplaced};
+ghost use Rattle.wild_types.specs.Lists.{through};
+ghost use Rattle.wild_clauses.specs.Misplaced.{earlier, misplaced, all_placed, file_all_placed};
+
+use wild_types::{File, Group, InputSection, Layout, Part, wide_sum};
+
+/// The smaller of two places, where both are there.
+fn earlier(left: Option<usize>, right: Option<usize>) -> Option<usize>
+    ensures { result ≡ earlier left right }
+{
+    match (left, right) {
+        (Some(left), Some(right)) => Some(left.min(right)),
+        (Some(left), None) => Some(left),
+        (None, right) => right,
+    }
+}
+
+/// Moves the cursor of the section's part behind it, where that is one of the parts from number `part` on; false
+/// where the section is out of its place.
+#[tactic(auto, using(crate::proofs::BlockLemmas::unfilled, crate::proofs::BlockLemmas::before_all, crate::proofs::BlockLemmas::behind_all))]
+fn pass_section(
+    layout: &Layout,
+    part: usize,
+    ends: &[u128],
+    cursors: &mut [u128],
+    section: &InputSection,
+) -> bool
+    requires { length ends.now ≡ length cursors.old }
+    ensures { all_placed layout.now part ends.now cursors.old section.now ≡ (if result then Some cursors.new else None) }
+{
+    if !section.is_filled(layout) || section.part < part {
+        return true;
+    }
+    let k = section.part - part;
+    if cursors.len() <= k {
+        return true;
+    }
+    let behind = wide_sum(section.address, section.size);
+    if u128::from(section.address) < cursors[k] || ends[k] < behind {
+        return false;
+    }
+    cursors[k] = behind;
+    true
+}
+
+/// The same for the sections of a file.
+fn pass_file(layout: &Layout, part: usize, ends: &[u128], cursors: &mut [u128], file: &File) -> bool
+    requires { length ends.now ≡ length cursors.old }
+    ensures { file_all_placed layout.now part ends.now cursors.old file.now ≡ (if result then Some cursors.new else None) }
+{
+    for section in file.sections.as_slice() {
+        if !pass_section(layout, part, ends, cursors, section) {
+            return false;
+        }
+    }
+    true
+}
+
+/// The same for the files of a group.
+fn pass_files(
+    layout: &Layout,
+    part: usize,
+    ends: &[u128],
+    cursors: &mut [u128],
+    files: &[File],
+) -> bool
+    requires { length ends.now ≡ length cursors.old }
+    ensures { is_some (through (file_all_placed layout.now part ends.now) cursors.old files.now) ≡ result }
+{
+    for file in files {
+        if !pass_file(layout, part, ends, cursors, file) {
+            return false;
+        }
+    }
+    true
+}
+
+/// Moves the starts of the parts from number `part` on behind the group's ranges.
+fn move_starts(starts: &mut [u128], part: usize, group: &Group)
+    requires numbers { part + length starts.old < 2 ^ 64 }
+    requires room { (k : ℕ) → slice_index starts.old k + 2 ^ 64 < 2 ^ 128 }
+    ensures ends { starts.new ≡ ends_of group.now part starts.old }
+    ensures near { (k : ℕ) → slice_index starts.new k < slice_index starts.old k + 2 ^ 64 }
+{
+    for (k, start) in starts.iter_mut().enumerate() {
+        *start += u128::from(group.given(part + k));
+    }
+}
+
+/// Puts where the parts begin.
+fn first_starts(starts: &mut [u128], parts: &[Part])
+    requires { length starts.old ≡ length parts.now }
+    ensures starts { starts.new ≡ addresses parts.now }
+    ensures low { (k : ℕ) → slice_index starts.new k < 2 ^ 64 }
+{
+    for (k, part) in parts.iter().enumerate() {
+        starts[k] = u128::from(part.address);
+    }
+}
+
+/// The place of the first group with an input section out of its place, in the parts from number `part` on, which
+/// begin at `starts`.
+#[tactic(auto, using(crate::proofs::BlockLemmas::group_placed))]
+fn misplaced_from(
+    layout: &Layout,
+    part: usize,
+    starts: &mut [u128],
+    cursors: &mut [u128],
+) -> Option<usize>
+    requires same { length cursors.old ≡ length starts.old }
+    requires numbers { part + length starts.old < 2 ^ 64 }
+    requires low { (k : ℕ) → slice_index starts.old k < 2 ^ 64 }
+    ensures { result ≡ misplaced layout.now part starts.old 0 layout.now.groups }
+{
+    for (i, group) in layout.groups.as_slice().iter().enumerate() {
+        cursors.copy_from_slice(starts);
+        move_starts(starts, part, group);
+        if !pass_files(layout, part, starts, cursors, group.files.as_slice()) {
+            return Some(i);
+        }
+    }
+    None
+}
+
+/// How many parts are gone through side by side.
+const BLOCK: usize = 512;
+
+fn block_misplaced(layout: &Layout, part: usize, block: &[Part]) -> Option<usize>
+    requires small { length block.now ≤ 512 }
+    requires numbers { part + length block.now < 2 ^ 64 }
+    ensures { result ≡ misplaced layout.now part (addresses block.now) 0 layout.now.groups }
+{
+    let mut starts = [0u128; BLOCK];
+    let mut cursors = [0u128; BLOCK];
+    let starts = &mut starts[..block.len()];
+    let cursors = &mut cursors[..block.len()];
+    first_starts(starts, block);
+    misplaced_from(layout, part, starts, cursors)
+}
+
+/// The place of the first group with an input section out of its place.
+pub(crate) fn section_misplaced(layout: &Layout) -> Option<usize>
+    ensures { result ≡ section_misplaced layout.now (addresses layout.now.parts) 0 layout.now.groups }
+{
+    let parts = layout.parts.as_slice();
+    let mut first = None;
+    let mut part = 0;
+    while part < parts.len() {
+        let end = part.saturating_add(BLOCK).min(parts.len());
+        first = earlier(first, block_misplaced(layout, part, &parts[part..end]));
+        part = end;
+    }
+    first
+}

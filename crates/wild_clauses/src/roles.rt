@@ -1,0 +1,161 @@
+//! Clause 4: the roles.
+ghost use Rattle.std.specs.Prelude.{◌≡◌, []};
+ghost use Rattle.wild_clauses.specs.Counts.{role_given};
+ghost use Rattle.wild_types.specs.Parts.{has_role};
+ghost use Rattle.wild_clauses.specs.Places.{role_again, role_missing, role_not_at, dynamic_unasked};
+ghost use Rattle.wild_types.specs.Kinds.{is_fixed_static};
+ghost use Rattle.wild_clauses.specs.LoadedTables.{begins_behind, entries_follow};
+ghost use Rattle.wild_clauses.specs.ClauseTests.{check_roles};
+
+use crate::verdict::fails;
+use wild_needs::total_share;
+use wild_records::FileHeader;
+use wild_types::{
+    Clause, Layout, OutputKind, Part, Role, Test, first_failing, has_role, is_there, part_with,
+    place_of, wide_sum,
+};
+
+/// All roles, each at its place.
+const ROLES: [Role; 30] = [
+    Role::Raw,
+    Role::FileHeader,
+    Role::ProgramHeaders,
+    Role::SectionHeaders,
+    Role::Shstrtab,
+    Role::Got,
+    Role::GotRelr,
+    Role::PltGot,
+    Role::RelaPlt,
+    Role::RelaDynRelative,
+    Role::RelaDynGeneral,
+    Role::RelrDyn,
+    Role::Dynsym,
+    Role::Dynstr,
+    Role::GnuVersion,
+    Role::GnuVersionD,
+    Role::GnuVersionR,
+    Role::SysvHash,
+    Role::GnuHash,
+    Role::EhFrame,
+    Role::EhFrameHdr,
+    Role::Dynamic,
+    Role::SymtabLocal,
+    Role::SymtabGlobal,
+    Role::SymtabShndxLocal,
+    Role::SymtabShndxGlobal,
+    Role::Strtab,
+    Role::Interp,
+    Role::BuildId,
+    Role::Property,
+];
+
+fn role_again(parts: &[Part]) -> Option<usize>
+    ensures { result ≡ role_again [] 0 parts.now }
+{
+    for (i, part) in parts.iter().enumerate() {
+        if !has_role(Role::Raw, part) && is_there(part.role, &parts[..i]) {
+            return Some(i);
+        }
+    }
+    None
+}
+
+fn role_missing(role: Role, parts: &[Part]) -> Option<usize>
+    ensures { result ≡ role_missing role parts.now }
+{
+    if is_there(role, parts) {
+        None
+    } else {
+        Some(place_of(role))
+    }
+}
+
+fn role_not_at(role: Role, offset: u64, parts: &[Part]) -> Option<usize>
+    ensures { result ≡ role_not_at role offset 0 parts.now }
+{
+    for (i, part) in parts.iter().enumerate() {
+        if has_role(role, part) {
+            return if part.offset == offset { None } else { Some(i) };
+        }
+    }
+    Some(place_of(role))
+}
+
+/// A part of a role is there, or nothing has to be written in one.
+#[derive(Clone, Copy)]
+struct RoleGiven<'a> {
+    layout: &'a Layout,
+}
+
+impl Test<Role> for RoleGiven<'_> {
+    ghost test = { λ t. role_given t.layout.now };
+
+    fn passes(&self, role: &Role) -> bool {
+        is_there(*role, self.layout.parts.as_slice()) || total_share(self.layout, *role) == 0
+    }
+}
+
+/// Whether the output is loaded at its own addresses, without a dynamic linker.
+pub(crate) fn is_fixed_static(kind: OutputKind) -> bool
+    ensures { result ≡ is_fixed_static kind }
+{
+    kind.is_static_executable() && kind.has_fixed_load_address()
+}
+
+/// The place of the role of the dynamic section, where that is there and must not be.
+fn dynamic_unasked(layout: &Layout) -> Option<usize>
+    ensures { result ≡ dynamic_unasked layout.now }
+{
+    if is_fixed_static(layout.kind) && is_there(Role::Dynamic, layout.parts.as_slice()) {
+        Some(place_of(Role::Dynamic))
+    } else {
+        None
+    }
+}
+
+/// Whether a part begins where another ends, in the file and in memory.
+fn begins_behind(before: Option<Part>, part: &Part) -> bool
+    ensures { result ≡ begins_behind before part.now }
+{
+    match before {
+        Some(before) => {
+            u128::from(part.offset) == wide_sum(before.offset, before.size)
+                && u128::from(part.address) == wide_sum(before.address, before.size)
+        }
+        None => true,
+    }
+}
+
+/// The part, where it has entries that are not relative, begins where that of the relative ones ends: both are one table
+/// (LSB, "Dynamic Entries", `DT_RELACOUNT`).
+#[derive(Clone, Copy)]
+struct EntriesFollow<'a> {
+    parts: &'a [Part],
+}
+
+impl Test<Part> for EntriesFollow<'_> {
+    ghost test = { λ t. entries_follow t.parts.now };
+
+    fn passes(&self, part: &Part) -> bool {
+        !has_role(Role::RelaDynGeneral, part)
+            || begins_behind(part_with(Role::RelaDynRelative, self.parts), part)
+    }
+}
+
+#[tactic(auto, unfolding(crate::specs::ClauseTests::check_roles))]
+pub(crate) fn check_roles(layout: &Layout) -> Result<(), Clause>
+    ensures { result ≡ check_roles layout.now }
+{
+    let parts = layout.parts.as_slice();
+    fails(4, role_again(parts))?;
+    fails(4, role_not_at(Role::FileHeader, 0, parts))?;
+    fails(4, role_missing(Role::SectionHeaders, parts))?;
+    fails(4, role_missing(Role::Shstrtab, parts))?;
+    fails(
+        4,
+        role_not_at(Role::ProgramHeaders, FileHeader::SIZE as u64, parts),
+    )?;
+    fails(4, first_failing(&EntriesFollow { parts }, parts))?;
+    fails(4, first_failing(&RoleGiven { layout }, &ROLES))?;
+    fails(4, dynamic_unasked(layout))
+}

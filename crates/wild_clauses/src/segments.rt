@@ -1,0 +1,86 @@
+//! Clause 6: segments.
+ghost use Rattle.std.specs.Prelude.{◌≡◌};
+ghost use Rattle.wild_clauses.specs.Segments.{stands_behind, segment_out_of_order, leaves_zero_free, segment_in_image};
+ghost use Rattle.wild_clauses.specs.ClauseTests.{check_segments};
+
+use crate::entries::{check_entries, dynamic_astray, table_not_loaded};
+use crate::loaded::{Side, not_loaded};
+use crate::verdict::fails;
+use wild_records::abi::segment::PT_LOAD;
+use wild_types::{
+    Clause, Layout, OutputKind, Segment, Test, behind_first, first_failing, wide_sum,
+};
+
+fn stands_behind(page: u64, end: u128, segment: &Segment) -> bool
+    ensures { result ≡ stands_behind page end segment.now }
+{
+    end <= u128::from(segment.address)
+        && segment.file_size <= segment.mem_size
+        && page != 0
+        && segment.address % page == segment.offset % page
+}
+
+fn segment_out_of_order(page: u64, segments: &[Segment]) -> Option<usize>
+    ensures { result ≡ segment_out_of_order page 0 0 segments.now }
+{
+    let mut end: u128 = 0;
+    for (i, segment) in segments.iter().enumerate() {
+        if segment.kind == PT_LOAD {
+            if !stands_behind(page, end, segment) {
+                return Some(i);
+            }
+            end = wide_sum(segment.address, segment.mem_size);
+        }
+    }
+    None
+}
+
+/// No segment of an output with addresses of its own begins at address 0.
+#[derive(Clone, Copy)]
+struct LeavesZeroFree {
+    kind: OutputKind,
+}
+
+impl Test<Segment> for LeavesZeroFree {
+    ghost test = { λ t. leaves_zero_free t.kind };
+
+    fn passes(&self, segment: &Segment) -> bool {
+        !(self.kind.has_fixed_load_address()
+            && segment.kind == PT_LOAD
+            && segment.address == 0
+            && segment.mem_size != 0)
+    }
+}
+
+/// A segment ends in the image.
+#[derive(Clone, Copy)]
+struct SegmentInImage {
+    size: u128,
+}
+
+impl Test<Segment> for SegmentInImage {
+    ghost test = { λ t. segment_in_image t.size };
+
+    fn passes(&self, segment: &Segment) -> bool {
+        wide_sum(segment.offset, segment.file_size) <= self.size
+    }
+}
+
+#[tactic(auto, unfolding(crate::specs::ClauseTests::check_segments))]
+pub(crate) fn check_segments(layout: &Layout) -> Result<(), Clause>
+    ensures { result ≡ check_segments layout.now }
+{
+    let segments = layout.segments.as_slice();
+    let later = behind_first(layout.sections.as_slice());
+    let page = layout.page_size;
+    let kind = layout.kind;
+    let size = layout.image_end();
+    fails(6, segment_out_of_order(page, segments))?;
+    fails(6, not_loaded(Side::Memory, segments, later, page))?;
+    fails(6, first_failing(&LeavesZeroFree { kind }, segments))?;
+    fails(6, not_loaded(Side::File, segments, later, page))?;
+    fails(6, first_failing(&SegmentInImage { size }, segments))?;
+    fails(6, dynamic_astray(layout, segments))?;
+    check_entries(layout)?;
+    fails(6, table_not_loaded(layout, layout.parts.as_slice()))
+}

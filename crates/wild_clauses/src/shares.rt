@@ -1,0 +1,94 @@
+//! Clause 7: shares, prelude and epilogue.
+ghost use Rattle.std.specs.Prelude.{◌≡◌, true};
+ghost use Rattle.wild_types.specs.Lists.{total};
+ghost use Rattle.wild_types.specs.FilePlaces.{given, file_placed, later_placed, files_placed, file_misplaced};
+ghost use Rattle.wild_clauses.specs.Contents.{share_mismatch, has_share_for_each_part};
+ghost use Rattle.wild_clauses.specs.ClauseTests.{check_shares};
+
+use crate::verdict::fails;
+use wild_types::{Clause, File, Group, Layout, Part, Test, first_failing};
+
+fn total_given(part: usize, groups: &[Group]) -> u128
+    ensures { result ≡ total (given part) groups.now }
+{
+    let mut sum: u128 = 0;
+    for group in groups {
+        sum += u128::from(group.given(part));
+    }
+    sum
+}
+
+fn share_mismatch(groups: &[Group], parts: &[Part]) -> Option<usize>
+    ensures { result ≡ share_mismatch groups.now 0 parts.now }
+{
+    for (i, part) in parts.iter().enumerate() {
+        if total_given(i, groups) != u128::from(part.size) {
+            return Some(i);
+        }
+    }
+    None
+}
+
+/// A group has a share for each part.
+#[derive(Clone, Copy)]
+struct HasShareForEachPart {
+    count: usize,
+}
+
+impl Test<Group> for HasShareForEachPart {
+    ghost test = { λ t. has_share_for_each_part t.count };
+
+    fn passes(&self, group: &Group) -> bool {
+        group.part_sizes.len() == self.count
+    }
+}
+
+fn file_placed(first: bool, last: bool, file: &File) -> bool
+    ensures { result ≡ file_placed first last file.now }
+{
+    file.role.is_prelude() == first && file.role.is_epilogue() == last
+}
+
+fn later_placed(last: bool, files: &[File]) -> bool
+    ensures { result ≡ later_placed last files.now }
+{
+    for (i, file) in files.iter().enumerate() {
+        if !file_placed(false, last && i + 1 == files.len(), file) {
+            return false;
+        }
+    }
+    true
+}
+
+fn files_placed(first: bool, last: bool, files: &[File]) -> bool
+    ensures { result ≡ files_placed first last files.now }
+{
+    match files {
+        [] => !first && !last,
+        [file, later @ ..] => {
+            file_placed(first, last && later.is_empty(), file) && later_placed(last, later)
+        }
+    }
+}
+
+fn file_misplaced(groups: &[Group]) -> Option<usize>
+    ensures { result ≡ file_misplaced true 0 groups.now }
+{
+    for (i, group) in groups.iter().enumerate() {
+        if !files_placed(i == 0, i + 1 == groups.len(), group.files.as_slice()) {
+            return Some(i);
+        }
+    }
+    None
+}
+
+#[tactic(auto, unfolding(crate::specs::ClauseTests::check_shares))]
+pub(crate) fn check_shares(layout: &Layout) -> Result<(), Clause>
+    ensures { result ≡ check_shares layout.now }
+{
+    let groups = layout.groups.as_slice();
+    let count = layout.parts.len();
+    fails(7, share_mismatch(groups, layout.parts.as_slice()))?;
+    fails(7, first_failing(&HasShareForEachPart { count }, groups))?;
+    fails(7, file_misplaced(groups))
+}

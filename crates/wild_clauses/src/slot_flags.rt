@@ -1,0 +1,164 @@
+//! Clause 14: what is known of a symbol agrees with its slots and its stub.
+ghost use Rattle.std.specs.Prelude.{◌≡◌};
+ghost use Rattle.wild_types.specs.SymbolSlots.{got_of, plt_of, has_dynamic_symbol, has_thread_slot};
+ghost use Rattle.wild_clauses.specs.SlotFlags.{dynamic_is_interposable, is_value, stub_is_value, stub_has_slot, one_slot_for_address, thread_slot_alone, resolver_is_own, slot_agrees, resolver_moves, takes_block_word, second_slot_fits};
+ghost use Rattle.wild_clauses.specs.ClauseTests.{check_slot_flags};
+
+use crate::verdict::fails;
+use wild_types::{
+    Clause, Layout, Resolution, Symbol, Test, ValueFlags, first_failing, got_of,
+    has_dynamic_symbol, has_thread_slot, plt_of,
+};
+
+/// A symbol that a loader looks up may be replaced.
+struct DynamicIsInterposable;
+
+impl Test<Symbol> for DynamicIsInterposable {
+    ghost test = { λ t. dynamic_is_interposable };
+
+    fn passes(&self, symbol: &Symbol) -> bool {
+        !symbol.flags.is_dynamic() || symbol.flags.is_interposable()
+    }
+}
+
+/// Whether the stub, where it is there, is the value.
+fn is_value(resolution: Option<Resolution>) -> bool
+    ensures { result ≡ is_value resolution }
+{
+    match resolution {
+        Some(resolution) => match resolution.plt_address {
+            Some(stub) => resolution.raw_value == stub,
+            None => true,
+        },
+        None => true,
+    }
+}
+
+/// The stub of a symbol that a loader looks up is its value.
+struct StubIsValue;
+
+impl Test<Symbol> for StubIsValue {
+    ghost test = { λ t. stub_is_value };
+
+    fn passes(&self, symbol: &Symbol) -> bool {
+        !symbol.flags.is_dynamic()
+            || symbol.flags.needs_copy_relocation()
+            || is_value(symbol.resolution)
+    }
+}
+
+/// A stub has a slot.
+struct StubHasSlot;
+
+impl Test<Symbol> for StubHasSlot {
+    ghost test = { λ t. stub_has_slot };
+
+    fn passes(&self, symbol: &Symbol) -> bool {
+        plt_of(symbol).is_none() || got_of(symbol).is_some()
+    }
+}
+
+/// A symbol has one slot for its address.
+struct OneSlotForAddress;
+
+impl Test<Symbol> for OneSlotForAddress {
+    ghost test = { λ t. one_slot_for_address };
+
+    fn passes(&self, symbol: &Symbol) -> bool {
+        !symbol.flags.needs_ifunc_got_for_address()
+            || !symbol.flags.needs_canonical_plt_got_for_address()
+    }
+}
+
+/// A thread-local symbol has no resolver and no stub.
+struct ThreadSlotAlone;
+
+impl Test<Symbol> for ThreadSlotAlone {
+    ghost test = { λ t. thread_slot_alone };
+
+    fn passes(&self, symbol: &Symbol) -> bool {
+        !has_thread_slot(symbol.flags) || !symbol.flags.is_ifunc() && plt_of(symbol).is_none()
+    }
+}
+
+/// A resolver is of the output itself.
+struct ResolverIsOwn;
+
+impl Test<Symbol> for ResolverIsOwn {
+    ghost test = { λ t. resolver_is_own };
+
+    fn passes(&self, symbol: &Symbol) -> bool {
+        !symbol.flags.is_ifunc() || !symbol.flags.is_dynamic()
+    }
+}
+
+/// A slot is there exactly where the flags ask for one, for an address or for a thread-local symbol.
+struct SlotAgrees;
+
+impl Test<Symbol> for SlotAgrees {
+    ghost test = { λ t. slot_agrees };
+
+    fn passes(&self, symbol: &Symbol) -> bool {
+        let for_address = symbol.flags.needs_got();
+        let for_thread = has_thread_slot(symbol.flags);
+        got_of(symbol).is_some() == (for_address || for_thread) && (!for_address || !for_thread)
+    }
+}
+
+/// The address of a resolver is no number.
+struct ResolverMoves;
+
+impl Test<Symbol> for ResolverMoves {
+    ghost test = { λ t. resolver_moves };
+
+    fn passes(&self, symbol: &Symbol) -> bool {
+        !symbol.flags.is_ifunc() || !symbol.flags.is_absolute()
+    }
+}
+
+/// Whether the symbol's slot is one of a block of packed words.
+fn takes_block_word(layout: &Layout, symbol: &Symbol) -> bool
+    ensures { result ≡ takes_block_word layout.now symbol.now }
+{
+    let flags = symbol.flags;
+    got_of(symbol).is_some()
+        && !has_thread_slot(flags)
+        && !flags.needs_canonical_plt()
+        && !has_dynamic_symbol(flags)
+        && !flags.is_ifunc()
+        && layout.options.relr
+        && layout.kind.is_position_independent()
+        && flags.has_link_time_address()
+}
+
+/// A second slot for an address does not stand in a block of packed words.
+#[derive(Clone, Copy)]
+struct SecondSlotFits<'a> {
+    layout: &'a Layout,
+}
+
+impl Test<Symbol> for SecondSlotFits<'_> {
+    ghost test = { λ t. second_slot_fits t.layout.now };
+
+    fn passes(&self, symbol: &Symbol) -> bool {
+        !symbol.flags.needs_ifunc_got_for_address()
+            && !symbol.flags.needs_canonical_plt_got_for_address()
+            || !takes_block_word(self.layout, symbol)
+    }
+}
+
+#[tactic(auto, unfolding(crate::specs::ClauseTests::check_slot_flags))]
+pub(crate) fn check_slot_flags(layout: &Layout) -> Result<(), Clause>
+    ensures { result ≡ check_slot_flags layout.now }
+{
+    let symbols = layout.symbols.as_slice();
+    fails(14, first_failing(&DynamicIsInterposable, symbols))?;
+    fails(14, first_failing(&StubIsValue, symbols))?;
+    fails(14, first_failing(&StubHasSlot, symbols))?;
+    fails(14, first_failing(&OneSlotForAddress, symbols))?;
+    fails(14, first_failing(&ThreadSlotAlone, symbols))?;
+    fails(14, first_failing(&ResolverIsOwn, symbols))?;
+    fails(14, first_failing(&SlotAgrees, symbols))?;
+    fails(14, first_failing(&ResolverMoves, symbols))?;
+    fails(14, first_failing(&SecondSlotFits { layout }, symbols))
+}

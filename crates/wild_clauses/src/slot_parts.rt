@@ -1,0 +1,44 @@
+//! Clause 11: slots stand at multiples of 8, and the part of the group's block where addresses are packed.
+ghost use Rattle.wild_clauses.specs.SlotPlaces.{slot_is_even, block_is_asked, block_has_base};
+
+use wild_slot::WORD_SIZE;
+use wild_types::{Layout, Part, Role, Symbol, Test, got_of, has_role};
+
+/// A slot stands at a multiple of 8.
+pub(crate) struct SlotIsEven;
+
+impl Test<Symbol> for SlotIsEven {
+    ghost test = { λ t. slot_is_even };
+
+    fn passes(&self, symbol: &Symbol) -> bool {
+        match got_of(symbol) {
+            Some(address) => address % WORD_SIZE as u64 == 0,
+            None => true,
+        }
+    }
+}
+
+/// The part of the block is there only where addresses are packed.
+#[derive(Clone, Copy)]
+pub(crate) struct BlockIsAsked<'a> {
+    pub(crate) layout: &'a Layout,
+}
+
+impl Test<Part> for BlockIsAsked<'_> {
+    ghost test = { λ t. block_is_asked t.layout.now };
+
+    fn passes(&self, part: &Part) -> bool {
+        !has_role(Role::GotRelr, part) || self.layout.options.relr
+    }
+}
+
+/// The part of the block does not stand at address 0.
+pub(crate) struct BlockHasBase;
+
+impl Test<Part> for BlockHasBase {
+    ghost test = { λ t. block_has_base };
+
+    fn passes(&self, part: &Part) -> bool {
+        !has_role(Role::GotRelr, part) || part.address != 0
+    }
+}

@@ -1,0 +1,231 @@
+//! Clause 11: where slots and stubs stand.
+ghost use Rattle.std.specs.Prelude.{◌≡◌, ◌+◌, ◌-◌, ◌*◌, ◌^◌, ◌<◌, ◌≤◌, length, slice_range, IfOk};
+ghost use Rattle.wild_types.specs.Lists.{first_failing};
+ghost use Rattle.wild_clauses.specs.SlotPlaces.{start_of, IsBounded, first_free, stands_at, stands_next, behind, walk, symbol_step, passed_without, slot_before, file_step, group_step, slots_astray};
+ghost use Rattle.wild_slot.specs.SlotParts.{begins_block};
+ghost use Rattle.wild_types.specs.SymbolSlots.{is_without};
+ghost use Rattle.wild_clauses.specs.ClauseTests.{check_slots};
+
+use crate::slot_parts::{BlockHasBase, BlockIsAsked, SlotIsEven};
+use crate::verdict::{fails, unless};
+use wild_needs::pair_words;
+use wild_slot::{STUB_SIZE, SlotWord, SymbolSlots, WORD_SIZE, WordPart, begins_block, count_words};
+use wild_types::{
+    Clause, File, Group, IsWithout, Layout, Role, Symbol, first_failing, got_of, is_without,
+    part_with, plt_of,
+};
+
+/// The next free word of `got` and of `got_relr`, the next free stub of `plt_got`, and the symbol behind all that had their
+/// turn.
+#[derive(Clone, Copy)]
+pub struct Free {
+    pub got: u128,
+    pub block: u128,
+    pub stub: u128,
+    pub symbol: usize,
+}
+
+/// Where the part of a role begins; 0 where there is none.
+fn start_of(layout: &Layout, role: Role) -> u64
+    ensures { result ≡ start_of layout.now role }
+{
+    match part_with(role, layout.parts.as_slice()) {
+        Some(part) => part.address,
+        None => 0,
+    }
+}
+
+/// The place behind so many words from an address on.
+fn behind_words(address: u64, count: u64) -> u128
+    ensures is { result ≡ address + 8 * count }
+    ensures few { result ≤ 2 ^ 68 }
+{
+    u128::from(address) + WORD_SIZE as u128 * u128::from(count)
+}
+
+/// The places behind what stands once.
+fn first_free(layout: &Layout) -> Free
+    ensures is { result ≡ first_free layout.now }
+    ensures small { IsBounded result }
+{
+    let reserved = behind_words(start_of(layout, Role::Got), layout.got_header);
+    Free {
+        got: reserved + WORD_SIZE as u128 * u128::from(pair_words(layout)),
+        block: u128::from(start_of(layout, Role::GotRelr)),
+        stub: u128::from(start_of(layout, Role::PltGot)),
+        symbol: 0,
+    }
+}
+
+/// Whether an address, where there is one, is the free one.
+fn stands_at(free: u128, address: Option<u64>) -> bool
+    ensures { result ≡ stands_at free address }
+{
+    match address {
+        Some(address) => u128::from(address) == free,
+        None => true,
+    }
+}
+
+/// Whether the slots of a symbol are the next free words, and its stub is the next free stub.
+fn stands_next(layout: &Layout, next: Free, symbol: &Symbol) -> bool
+    ensures { result ≡ stands_next layout.now next symbol.now }
+{
+    let free = if begins_block(SymbolSlots::of(layout, symbol).words()) {
+        next.block
+    } else {
+        next.got
+    };
+    stands_at(free, got_of(symbol)) && stands_at(next.stub, plt_of(symbol))
+}
+
+/// The places behind those of a symbol.
+fn behind(layout: &Layout, next: Free, symbol: &Symbol) -> Free
+    requires small { IsBounded next }
+    requires few { next.symbol < 2 ^ 64 - 1 }
+    ensures is { result ≡ behind layout.now next symbol.now }
+    ensures small { IsBounded result }
+{
+    let slots = SymbolSlots::of(layout, symbol);
+    let relr = layout.options.relr;
+    let place = symbol.slots_at();
+    let got = WORD_SIZE * count_words(WordPart::Got, relr, place, slots.words());
+    let block = WORD_SIZE * count_words(WordPart::Block, relr, place, slots.words());
+    let stub = if slots.has_stub() { STUB_SIZE } else { 0 };
+    Free {
+        got: next.got + got as u128,
+        block: next.block + block as u128,
+        stub: next.stub + stub as u128,
+        symbol: next.symbol + 1,
+    }
+}
+
+/// The places behind a symbol without a slot, or its number where it has a stub that does not stand next.
+fn pass_without(next: Free, symbol: &Symbol) -> Result<Free, usize>
+    requires { next.symbol < 2 ^ 64 - 1 }
+    ensures { result ≡ passed_without next symbol.now }
+{
+    if !stands_at(next.stub, plt_of(symbol)) {
+        return Err(next.symbol);
+    }
+    Ok(Free {
+        symbol: next.symbol + 1,
+        ..next
+    })
+}
+
+/// The places behind a symbol, or its number where it does not stand next.
+#[tactic(auto, using(crate::proofs::SlotPlaceLemmas::step_without))]
+fn symbol_step(layout: &Layout, next: Free, symbol: &Symbol) -> Result<Free, usize>
+    requires small { IsBounded next }
+    requires few { next.symbol < 2 ^ 64 - 1 }
+    ensures is { result ≡ symbol_step layout.now next symbol.now }
+    ensures small { IfOk result IsBounded }
+    ensures next { IfOk result (λ n. n.symbol ≡ next.symbol + 1) }
+{
+    if is_without(symbol) {
+        pass_without(next, symbol)
+    } else if stands_next(layout, next, symbol) {
+        Ok(behind(layout, next, symbol))
+    } else {
+        Err(next.symbol)
+    }
+}
+
+/// The places behind some symbols, or the first that does not stand next.
+#[tactic(auto, unfolding(crate::specs::SlotPlaces::walk))]
+fn walk_symbols(layout: &Layout, next: Free, symbols: &[Symbol]) -> Result<Free, usize>
+    requires small { IsBounded next }
+    requires few { next.symbol + length symbols.now < 2 ^ 64 }
+    ensures is { result ≡ walk (symbol_step layout.now) next symbols.now }
+    ensures small { IfOk result IsBounded }
+{
+    let mut next = next;
+    for symbol in symbols {
+        next = symbol_step(layout, next, symbol)?;
+    }
+    Ok(next)
+}
+
+/// The first symbol with a slot, of those from number `from` to number `to`.
+fn slot_before(layout: &Layout, from: usize, to: usize) -> Option<usize>
+    ensures { result ≡ first_failing is_without from (slice_range layout.now.symbols from to) }
+{
+    let symbols = layout.symbols_from(from, to.saturating_sub(from));
+    let found = first_failing(&IsWithout, symbols)?;
+    Some(from + found)
+}
+
+/// The places behind the symbols of a file, or the first symbol that does not stand next, or has a slot that no file
+/// writes.
+fn file_step(layout: &Layout, next: Free, file: &File) -> Result<Free, usize>
+    requires small { IsBounded next }
+    ensures is { result ≡ file_step layout.now next file.now }
+    ensures small { IfOk result IsBounded }
+{
+    if !file.role.writes_slots() || file.symbol_count == 0 {
+        return Ok(next);
+    }
+    let first = file.first_symbol.0;
+    if first < next.symbol {
+        return Err(first);
+    }
+    if let Some(index) = slot_before(layout, next.symbol, first) {
+        return Err(index);
+    }
+    let next = Free {
+        symbol: first,
+        ..next
+    };
+    walk_symbols(layout, next, layout.own_symbols(file))
+}
+
+/// The same of the files of a group.
+#[tactic(auto, unfolding(crate::specs::SlotPlaces::walk))]
+fn group_step(layout: &Layout, next: Free, group: &Group) -> Result<Free, usize>
+    requires small { IsBounded next }
+    ensures is { result ≡ group_step layout.now next group.now }
+    ensures small { IfOk result IsBounded }
+{
+    let mut next = next;
+    for file in group.files.as_slice() {
+        next = file_step(layout, next, file)?;
+    }
+    Ok(next)
+}
+
+/// The same of all groups.
+#[tactic(auto, unfolding(crate::specs::SlotPlaces::walk))]
+fn walk_groups(layout: &Layout) -> Result<Free, usize>
+    ensures { result ≡ walk (group_step layout.now) (first_free layout.now) layout.now.groups }
+{
+    let mut next = first_free(layout);
+    for group in layout.groups.as_slice() {
+        next = group_step(layout, next, group)?;
+    }
+    Ok(next)
+}
+
+/// The first symbol that does not stand next, or has a slot that no file writes.
+fn slots_astray(layout: &Layout) -> Option<usize>
+    ensures { result ≡ slots_astray layout.now }
+{
+    match walk_groups(layout) {
+        Ok(last) => slot_before(layout, last.symbol, layout.symbols.len()),
+        Err(index) => Some(index),
+    }
+}
+
+#[tactic(auto, unfolding(crate::specs::ClauseTests::check_slots))]
+pub(crate) fn check_slots(layout: &Layout) -> Result<(), Clause>
+    ensures { result ≡ check_slots layout.now }
+{
+    let symbols = layout.symbols.as_slice();
+    let parts = layout.parts.as_slice();
+    let reserved = behind_words(start_of(layout, Role::Got), layout.got_header);
+    fails(11, slots_astray(layout))?;
+    fails(11, first_failing(&SlotIsEven, symbols))?;
+    fails(11, first_failing(&BlockIsAsked { layout }, parts))?;
+    fails(11, unless(stands_at(reserved, layout.tlsld)))?;
+    fails(11, first_failing(&BlockHasBase, parts))
+}

@@ -1,0 +1,110 @@
+//! Clause 16: where a group's strings and symbols begin.
+ghost use Rattle.std.specs.Prelude.{ℕ, ◌≡◌, ◌+◌, ◌-◌, ◌*◌, ◌^◌, ◌≤◌};
+ghost use Rattle.wild_clauses.specs.GroupStarts.{AreBelow, given_at, place_with, start_places, no_starts, starts_behind, begins_at, start_astray};
+ghost use Rattle.wild_clauses.specs.ClauseTests.{check_starts};
+
+use crate::verdict::fails;
+use wild_types::{Clause, Group, Layout, Part, Role, has_role};
+
+/// Something of each of the parts whose shares have a start.
+#[derive(Clone, Copy)]
+pub struct Starts<T> {
+    pub dynstr: T,
+    pub strtab: T,
+    pub locals: T,
+    pub globals: T,
+}
+
+/// The place of the part of a role.
+fn place_with(role: Role, parts: &[Part]) -> Option<usize>
+    ensures { result ≡ place_with role parts.now }
+{
+    for (i, part) in parts.iter().enumerate() {
+        if has_role(role, part) {
+            return Some(i);
+        }
+    }
+    None
+}
+
+/// The places of the parts whose shares have a start.
+fn start_places(parts: &[Part]) -> Starts<Option<usize>>
+    ensures { result ≡ start_places parts.now }
+{
+    Starts {
+        dynstr: place_with(Role::Dynstr, parts),
+        strtab: place_with(Role::Strtab, parts),
+        locals: place_with(Role::SymtabLocal, parts),
+        globals: place_with(Role::SymtabGlobal, parts),
+    }
+}
+
+/// The group's bytes of the part at that place, where there is one.
+fn given_at(part: Option<usize>, group: &Group) -> u64
+    ensures { result ≡ given_at part group.now }
+{
+    match part {
+        Some(part) => group.given(part),
+        None => 0,
+    }
+}
+
+/// Where the group's share of a part ends.
+fn end_behind(from: u128, part: Option<usize>, group: &Group) -> u128
+    requires { from ≤ (2 ^ 64 - 1) * 2 ^ 64 }
+    ensures is { result ≡ from + given_at part group.now }
+    ensures small { result ≤ from + 2 ^ 64 }
+{
+    from + u128::from(given_at(part, group))
+}
+
+/// Where the group's shares end.
+fn starts_behind(places: Starts<Option<usize>>, from: Starts<u128>, group: &Group) -> Starts<u128>
+    requires { AreBelow ((2 ^ 64 - 1) * 2 ^ 64) from }
+    ensures is { result ≡ starts_behind places from group.now }
+    ensures small { (n : ℕ) → AreBelow (n * 2 ^ 64) from → AreBelow ((n + 1) * 2 ^ 64) result }
+{
+    Starts {
+        dynstr: end_behind(from.dynstr, places.dynstr, group),
+        strtab: end_behind(from.strtab, places.strtab, group),
+        locals: end_behind(from.locals, places.locals, group),
+        globals: end_behind(from.globals, places.globals, group),
+    }
+}
+
+/// Whether the group's shares begin there.
+fn begins_at(from: Starts<u128>, group: &Group) -> bool
+    ensures { result ≡ begins_at from group.now }
+{
+    u128::from(group.dynstr_start) == from.dynstr
+        && u128::from(group.strtab_start) == from.strtab
+        && u128::from(group.symtab_local_start) == from.locals
+        && u128::from(group.symtab_global_start) == from.globals
+}
+
+/// The first group whose shares do not begin where those of the groups before it end.
+fn start_astray(places: Starts<Option<usize>>, groups: &[Group]) -> Option<usize>
+    ensures { result ≡ start_astray places no_starts 0 groups.now }
+{
+    let mut from = Starts {
+        dynstr: 0,
+        strtab: 0,
+        locals: 0,
+        globals: 0,
+    };
+    for (i, group) in groups.iter().enumerate() {
+        if !begins_at(from, group) {
+            return Some(i);
+        }
+        from = starts_behind(places, from, group);
+    }
+    None
+}
+
+#[tactic(auto, unfolding(crate::specs::ClauseTests::check_starts))]
+pub(crate) fn check_starts(layout: &Layout) -> Result<(), Clause>
+    ensures { result ≡ check_starts layout.now }
+{
+    let places = start_places(layout.parts.as_slice());
+    fails(16, start_astray(places, layout.groups.as_slice()))
+}

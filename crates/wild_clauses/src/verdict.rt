@@ -1,0 +1,69 @@
+//! Whether a layout is well formed: its clauses, in their order.
+ghost use Rattle.std.specs.Prelude.{◌≡◌};
+ghost use Rattle.wild_types.specs.Lists.{unless};
+ghost use Rattle.wild_clauses.specs.ClauseTests.{fails};
+ghost use Rattle.wild_clauses.specs.WellFormed.{first_clause};
+
+use crate::counts::check_counts;
+use crate::dynsyms::check_dynsyms;
+use crate::fields::check_fields;
+use crate::hashes::check_hashes;
+use crate::indexes::check_indexes;
+use crate::inputs::check_inputs;
+use crate::loaded::Side;
+use crate::names::check_names;
+use crate::order::check_order;
+use crate::roles::check_roles;
+use crate::sections::check_sections;
+use crate::segments::check_segments;
+use crate::shares::check_shares;
+use crate::sizes::check_sizes;
+use crate::slot_flags::check_slot_flags;
+use crate::slots::check_slots;
+use crate::starts::check_starts;
+use crate::threads::check_tls;
+use crate::versions::check_versions;
+use wild_types::{Clause, Layout};
+
+/// Clause `clause` fails at that place, where there is one.
+pub(crate) fn fails(clause: u32, place: Option<usize>) -> Result<(), Clause>
+    ensures { result ≡ fails clause place }
+{
+    match place {
+        Some(index) => Err(Clause { clause, index }),
+        None => Ok(()),
+    }
+}
+
+/// Place 0, where a test of the whole layout fails.
+pub(crate) fn unless(ok: bool) -> Option<usize>
+    ensures { result ≡ unless ok }
+{
+    if ok { None } else { Some(0) }
+}
+
+/// Whether the layout is well formed: if not, its first clause that fails, with the place of the first item that
+/// fails it. It takes no memory.
+#[tactic(auto, unfolding(crate::specs::WellFormed::first_clause))]
+pub fn well_formed(layout: &Layout) -> Result<(), Clause>
+    ensures { result ≡ first_clause layout.now }
+{
+    check_sizes(layout)?;
+    check_counts(layout)?;
+    check_order(layout)?;
+    check_roles(layout)?;
+    check_sections(layout)?;
+    check_segments(layout)?;
+    check_shares(layout)?;
+    check_inputs(layout)?;
+    check_indexes(layout)?;
+    check_fields(layout)?;
+    check_slots(layout)?;
+    check_dynsyms(layout)?;
+    check_slot_flags(layout)?;
+    check_tls(layout)?;
+    check_starts(layout)?;
+    check_hashes(layout)?;
+    check_versions(layout)?;
+    check_names(layout)
+}

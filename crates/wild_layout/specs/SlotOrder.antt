@@ -1,0 +1,48 @@
+-- Where a layout's slots and stubs stand, and what is known of the symbols that have them (x86-64 psABI, "Global Offset Table
+-- (GOT)", "Procedure Linkage Table"; ELF Handling For Thread-Local Storage).
+--   SlotsFollow l        slots and stubs follow each other
+--   FlagsAgree l s       a symbol's flags agree with its slots and its stub
+--   HasSlotsInOrder l    the symbols' slots and stubs follow each other, and so do the files
+--   SlotsAreInOrder      the law
+use Rattle.std.specs.Prelude.{◌≡◌, ℕ, ◌+◌, ◌*◌, true, Some, None, Ok, All}
+use Rattle.wild_types.specs.declared.part.Part.{Part}
+use Rattle.wild_types.specs.declared.part.Role.TheVariants as role
+use Rattle.wild_types.specs.declared.symbol.Symbol.{Symbol}
+use Rattle.wild_types.specs.declared.layout.Layout.{Layout}
+use Rattle.wild_types.specs.FilePlaces.{file_misplaced}
+use Rattle.wild_needs.specs.SlotShares.{word_size}
+use Rattle.wild_clauses.specs.SlotPlaces.{start_of, slots_astray, slot_is_even, block_has_base}
+use Rattle.wild_clauses.specs.SlotFlags.{dynamic_is_interposable, stub_has_slot, thread_slot_alone, resolver_is_own, resolver_moves, second_slot_fits}
+use Rattle.wild_types.specs.ResolvedFlags.{HaveTheirFlags}
+use Rattle.wild_clauses.specs.WellFormed.{first_clause}
+
+-- each slot is the next free word of its part, and each stub the next free stub; slots stand at multiples of 8, the pair of the
+-- output's own thread-local data behind the reserved words, and a block of slots not at address 0
+pub record SlotsFollow (l : Layout) : Type 0 where
+  pub placed : slots_astray l ≡ None
+  pub even : All (λ (s : Symbol). slot_is_even s ≡ true) l.symbols
+  pub pair : (at : ℕ) → l.tlsld ≡ Some at → at ≡ start_of l role.Got + word_size * l.got_header
+  pub based : All (λ (p : Part). block_has_base p ≡ true) l.parts
+
+-- a symbol of another module may be replaced by any; a resolver is the output's own, and moves with it; a stub has a slot; what
+-- has a slot for thread-local data is no function; a second slot is in no block
+pub record FlagsAgree (l : Layout) (s : Symbol) : Type 0 where
+  pub interposable : dynamic_is_interposable s ≡ true
+  pub stub : stub_has_slot s ≡ true
+  pub alone : thread_slot_alone s ≡ true
+  pub chosen : resolver_is_own s ≡ true
+  pub moves : resolver_moves s ≡ true
+  pub second : second_slot_fits l s ≡ true
+
+-- slots and stubs follow each other, flags and slots agree, and the first file is the only one that writes what stands once
+pub record HasSlotsInOrder (l : Layout) : Type 0 where
+  pub slots : SlotsFollow l
+  pub flags : All (FlagsAgree l) l.symbols
+  pub resolved : HaveTheirFlags l
+  pub files : file_misplaced true 0 l.groups ≡ None
+
+-- ---- law
+
+-- so it is in a layout whose clauses hold, and whose resolutions have their symbols' flags
+abbrev pub SlotsAreInOrder : Type 0
+SlotsAreInOrder = (l : Layout) → first_clause l ≡ Ok tt → HaveTheirFlags l → HasSlotsInOrder l

@@ -1,0 +1,221 @@
+-- What files have to write where nothing is needed.
+use Rattle.std.proofs.Common.{◌≡◌, ℕ, ◌+◌, ◌-◌, ◌*◌, ◌^◌, min, inl, inr, Bool, true, false, List, [], ◌∷◌, length, refl, sym, ap, ◌∙◌, arith}
+use Rattle.std.specs.Prelude.{if◌then◌else◌, not, ◌&&◌, ◌==◌, Option}
+use Rattle.std.specs.List.{list_all, flat_map}
+use Rattle.std.proofs.lemmas.Bool.{cases_Bool, and_parts, eqb-true}
+use Rattle.wild_relr.specs.Packed.{packed, block}
+use Rattle.wild_types.specs.declared.file.File.{File}
+use Rattle.wild_types.specs.declared.file.Group.{Group}
+use Rattle.wild_types.specs.declared.input.InputRelocation.{InputRelocation}
+use Rattle.wild_types.specs.declared.input.InputSection.{InputSection}
+use Rattle.wild_types.specs.declared.layout.Layout.{Layout}
+use Rattle.wild_types.specs.declared.part.Role.{Role}
+use Rattle.wild_types.specs.declared.part.Role.TheVariants as role
+use Rattle.wild_needs.specs.Dynamic.{tag_entries, dynamic_entries, dynamic_count}
+use Rattle.wild_needs.specs.DynamicStrings.{named_strings, string_entries, file_strings, strings_room, needed_count}
+use Rattle.wild_needs.specs.Entries.{listed_place, packed_place, moved_of, listed_places, packed_places, words_of, entry_count, word_count, general_count}
+use Rattle.wild_types.specs.Kinds.{is_position_independent, needs_dynamic}
+use Rattle.wild_types.specs.declared.kind.OutputKind.{OutputKind}
+use Rattle.wild_types.specs.declared.kind.OutputKind.TheVariants.{StaticExecutable, DynamicExecutable, SharedObject, PartialObject}
+use Rattle.wild_types.specs.declared.kind.RelocationModel.TheVariants.{NonRelocatable, Relocatable}
+use Rattle.wild_types.specs.Lists.{total}
+use Rattle.wild_types.specs.Lookups.{has_table}
+use Rattle.wild_needs.specs.TableSymbols.{has_long, file_items, local_count, global_count, table_strings}
+use Rattle.wild_needs.specs.Needs.{whole_of, long_room, own_of, share, group_share, has_plain_role, is_plain, total_share}
+use Rattle.wild_types.specs.FileRoles.{is_prelude, is_epilogue}
+use Rattle.wild_types.specs.SymbolSlots.{is_without}
+use Rattle.wild_types.specs.FileSymbols.{own_symbols}
+use Rattle.wild_needs.specs.SlotShares.{is_of_slots, header_share, block_places, group_block, block_share}
+use Rattle.wild_needs.proofs.EntryLemmas.{packed_none}
+use Rattle.wild_needs.proofs.SlotBlockLemmas.{places_without}
+use Rattle.wild_needs.proofs.SlotShareLemmas.{slots_plain, others_share}
+
+total_none : {X : Type 0} (f : X → ℕ) (xs : List X) → ((x : X) → f x ≡ 0) → total f xs ≡ 0
+total_none f [] h = refl
+total_none f (x ∷ xs) h = let a = h x in let b = total_none f xs h in omega (arith, a, b)
+
+-- ---- an output that does not move has no entries and no words
+
+no_moved : {X : Type 0} (l : Layout) (s : InputSection) (f : InputRelocation → Option X) → is_position_independent l.kind ≡ false → moved_of l s f ≡ []
+no_moved l s f h = rw h refl
+
+no_entries : (l : Layout) (f : File) → is_position_independent l.kind ≡ false → entry_count l f ≡ 0
+unfolding listed_places
+no_entries l f h = total_none (λ (s : InputSection). length (listed_places l s)) f.sections (λ s. ap length (no_moved l s (listed_place l s) h))
+
+no_words : (l : Layout) (f : File) → is_position_independent l.kind ≡ false → word_count l f ≡ 0
+unfolding packed_places
+no_words l f h = total_none (λ (s : InputSection). length (words_of l s)) f.sections (λ s. ap (λ (ps : List ℕ). length (packed ps)) (no_moved l s (packed_place l s) h) ∙ ap length packed_none)
+
+-- ---- one without dynamic linking has no dynamic section
+
+no_strings : (l : Layout) (f : File) → needs_dynamic l.kind ≡ false → strings_room l f ≡ 0
+unfolding file_strings
+no_strings l f h = rw h refl
+
+no_dynamic : (l : Layout) → needs_dynamic l.kind ≡ false → dynamic_count l ≡ 0
+unfolding dynamic_entries named_strings tag_entries string_entries
+no_dynamic l h = rw h refl
+
+-- it does not move
+is_fixed : (k : OutputKind) → needs_dynamic k ≡ false → is_position_independent k ≡ false
+is_fixed (StaticExecutable Relocatable) h = cc
+is_fixed (StaticExecutable NonRelocatable) h = refl
+is_fixed (DynamicExecutable model) h = cc
+is_fixed SharedObject h = cc
+is_fixed PartialObject h = refl
+
+-- ---- one without a table of all symbols has no entries there
+
+no_items : (l : Layout) (f : File) → has_table l ≡ false → file_items l f ≡ []
+unfolding file_items
+no_items l f h = rw h refl
+
+no_locals : (l : Layout) (f : File) → has_table l ≡ false → local_count l f ≡ 0
+no_locals l f h = let e = no_items l f h in rw (h, e) refl
+
+no_globals : (l : Layout) (f : File) → has_table l ≡ false → global_count l f ≡ 0
+no_globals l f h = let e = no_items l f h in rw e refl
+
+no_names : (l : Layout) (f : File) → has_table l ≡ false → table_strings l f ≡ []
+unfolding table_strings
+no_names l f h = let e = no_items l f h in rw (h, e) refl
+
+no_indexes : (l : Layout) (r : Role) (n : ℕ) → n ≡ 0 → long_room l r n ≡ 0
+no_indexes l r n h =
+    elim (cases_Bool (has_long l r)) [
+      | inl t ↦ rw (t, h) refl
+      | inr f ↦ rw f refl
+    ]
+
+-- ---- shares
+
+-- the entries of a file that name symbols or resolvers, where they stand in parts of the role
+abbrev general_of : Layout → Role → File → ℕ
+general_of l role.RelaDynGeneral f = general_count l f
+general_of l other f = 0
+
+-- without these an output without a dynamic section and a table of all symbols has nothing of its own
+own_none : (l : Layout) (r : Role) (f : File) → needs_dynamic l.kind ≡ false → has_table l ≡ false → general_of l r f ≡ 0 → own_of l r f ≡ 0
+own_none l role.RelaDynRelative f d t g = let e = no_entries l f (is_fixed l.kind d) in rw e refl
+own_none l role.RelaDynGeneral f d t g = rw g refl
+own_none l role.RelrDyn f d t g = let e = no_words l f (is_fixed l.kind d) in rw e refl
+own_none l role.Dynsym f d t g = rw d refl
+own_none l role.Dynstr f d t g = no_strings l f d
+own_none l role.GnuVersion f d t g =
+    elim (cases_Bool l.options.versions) [
+      | inl v ↦ rw (v, d) refl
+      | inr n ↦ rw n refl
+    ]
+own_none l role.GnuVersionD f d t g = rw d refl
+own_none l role.GnuVersionR f d t g = rw d refl
+own_none l role.SysvHash f d t g = rw d refl
+own_none l role.GnuHash f d t g = rw d refl
+own_none l role.Dynamic f d t g = let e = no_dynamic l d in by_end (is_epilogue f.role) e
+  where
+    by_end : (b : Bool) → dynamic_count l ≡ 0 → 16 * (needed_count l f + (if b then dynamic_count l else 0)) ≡ 0
+    by_end true e = rw (d, e) refl
+    by_end false e = rw d refl
+own_none l role.SymtabLocal f d t g = let e = no_locals l f t in rw e refl
+own_none l role.SymtabGlobal f d t g = let e = no_globals l f t in rw e refl
+own_none l role.SymtabShndxLocal f d t g = no_indexes l role.SymtabShndxLocal (local_count l f) (no_locals l f t)
+own_none l role.SymtabShndxGlobal f d t g = no_indexes l role.SymtabShndxGlobal (global_count l f) (no_globals l f t)
+own_none l role.Strtab f d t g = let e = no_names l f t in rw e refl
+own_none l other f d t g = refl
+
+-- parts of other roles have none of them
+none_of_others : (l : Layout) (r : Role) (f : File) → is_of_slots r ≡ false → general_of l r f ≡ 0
+none_of_others l role.RelaDynGeneral f h = cc
+none_of_others l other f h = refl
+
+-- what stands once beside slots
+no_header : (l : Layout) (r : Role) → is_of_slots r ≡ false → header_share l r ≡ 0
+no_header l role.Got h = cc
+no_header l role.RelaDynGeneral h = cc
+no_header l other h = refl
+
+no_block : (l : Layout) (r : Role) (g : Group) → is_of_slots r ≡ false → block_share l r g ≡ 0
+no_block l role.RelrDyn g h = cc
+no_block l other g h = refl
+
+share_none : (l : Layout) (r : Role) (f : File) → needs_dynamic l.kind ≡ false → has_table l ≡ false → is_of_slots r ≡ false → whole_of l r ≡ 0 → share l r f ≡ 0
+share_none l r f d t s w =
+    let own = own_none l r f d t (none_of_others l r f s) in
+    let slots = others_share l r f s in
+    let header = no_header l r s in
+    elim (cases_Bool (is_prelude f.role)) [
+      | inl first ↦ rw (first, w, own, slots, header) refl
+      | inr later ↦ rw (later, own, slots) refl
+    ]
+
+-- where nothing stands once in the image, an output without a dynamic section and a table of all symbols needs nothing but for slots
+pub no_share : (l : Layout) (r : Role) (n : ℕ) → n ≡ min (2 ^ 64 - 1) (whole_of l r) → needs_dynamic l.kind ≡ false → has_table l ≡ false → is_of_slots r ≡ false → n ≡ 0 → total_share l r ≡ 0
+no_share l r n is d t s none =
+    let w : whole_of l r ≡ 0 = least (whole_of l r) n is none in
+    total_none (group_share l r) l.groups (λ g. let files = total_none (share l r) g.files (λ f. share_none l r f d t s w) in let block = no_block l r g s in rw (files, block) refl)
+  where
+    least : (k n : ℕ) → n ≡ min (2 ^ 64 - 1) k → n ≡ 0 → k ≡ 0
+    least k n e z = omega (arith, e, z)
+
+-- ---- a file that is neither first nor last, in an output without a dynamic section
+
+-- the tests of a plain file
+pub record Tests (l : Layout) (f : File) : Type 0 where
+  pub static : needs_dynamic l.kind ≡ false
+  pub stripped : has_table l ≡ false
+  pub first : is_prelude f.role ≡ false
+  pub without : list_all is_without (own_symbols l f) ≡ true
+  pub none : general_count l f ≡ 0
+
+tests_of : (l : Layout) (f : File) → is_plain l f ≡ true → Tests l f
+tests_of l f h =
+    let p = and_parts (has_plain_role l f) (list_all is_without (own_symbols l f) && general_count l f == 0) h in
+    let q = and_parts (list_all is_without (own_symbols l f)) (general_count l f == 0) p.1 in
+    let a = and_parts (not (needs_dynamic l.kind) && not (has_table l) && not (is_prelude f.role)) (not (is_epilogue f.role)) p.0 in
+    let b = and_parts (not (needs_dynamic l.kind) && not (has_table l)) (not (is_prelude f.role)) a.0 in
+    let c = and_parts (not (needs_dynamic l.kind)) (not (has_table l)) b.0 in
+    record { static = no (needs_dynamic l.kind) c.0; stripped = no (has_table l) c.1; first = no (is_prelude f.role) b.1; without = q.0; none = eqb-true _ _ q.1 }
+  where
+    no : (b : Bool) → not b ≡ true → b ≡ false
+    no true h = cc
+    no false h = refl
+
+general_none : (l : Layout) (r : Role) (f : File) → general_count l f ≡ 0 → general_of l r f ≡ 0
+general_none l role.RelaDynGeneral f h = h
+general_none l other f h = refl
+
+share_plain : (l : Layout) (r : Role) (f : File) → is_plain l f ≡ true → share l r f ≡ 0
+share_plain l r f h =
+    let t = tests_of l f h in
+    let own = own_none l r f t.static t.stripped (general_none l r f t.none) in
+    let slots = slots_plain l r f t.without in
+    rw (t.first, own, slots) refl
+
+-- a list of such files
+total_plain : (l : Layout) (r : Role) (files : List File) → list_all (is_plain l) files ≡ true → total (share l r) files ≡ 0
+total_plain l r [] h = refl
+total_plain l r (f ∷ files) h =
+    let p = and_parts (is_plain l f) (list_all (is_plain l) files) h in
+    let a = share_plain l r f p.0 in
+    let b = total_plain l r files p.1 in
+    omega (arith, a, b)
+
+-- none of their words is in the group's block
+places_plain : (l : Layout) (files : List File) → list_all (is_plain l) files ≡ true → flat_map (λ (f : File). flat_map (block_places l) (own_symbols l f)) files ≡ []
+places_plain l [] h = refl
+places_plain l (f ∷ files) h =
+    let p = and_parts (is_plain l f) (list_all (is_plain l) files) h in
+    let t = tests_of l f p.0 in
+    rw (places_without l (own_symbols l f) t.without) (places_plain l files p.1)
+
+pub block_plain : (l : Layout) (r : Role) (g : Group) → list_all (is_plain l) g.files ≡ true → block_share l r g ≡ 0
+unfolding group_block block
+block_plain l role.RelrDyn g h = let e = places_plain l g.files h in rw e refl
+block_plain l other g h = refl
+
+-- a test that told it
+pub plain_needs : (l : Layout) (files : List File) (told : Bool) → told ≡ list_all (is_plain l) files → told ≡ true → (r : Role) → total (share l r) files ≡ 0
+plain_needs l files told is h = λ r. total_plain l r files (sym is ∙ h)
+
+pub plain_block : (l : Layout) (g : Group) (told : Bool) → told ≡ list_all (is_plain l) g.files → told ≡ true → (r : Role) → block_share l r g ≡ 0
+plain_block l g told is h = λ r. block_plain l r g (sym is ∙ h)

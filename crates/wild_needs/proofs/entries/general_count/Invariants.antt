@@ -1,0 +1,12 @@
+use Rattle.std.proofs.Common.{◌≡◌, ◌+◌, ◌-◌, ◌^◌, ◌<◌, drop, length, min}
+use Rattle.wild_types.specs.declared.input.InputSection.{InputSection}
+use Rattle.wild_types.specs.Lists.{total}
+use Rattle.wild_needs.specs.Entries.{left_relocations}
+use Rattle.wild_types.specs.FileSymbols.{copies_of}
+use Rattle.wild_needs.proofs.entries.general_count.Given as goal
+
+abbrev pub invariant-loop-section : goal.invariant-loop-section
+invariant-loop-section l = record {
+  rest : min (2 ^ 64 - 1) (l.sum + total (λ (s : InputSection). length (left_relocations l.layout s)) (drop l.section-index l.section-items)) ≡ min (2 ^ 64 - 1) (length (copies_of l.file) + total (λ (s : InputSection). length (left_relocations l.layout s)) l.section-items);
+  small : l.sum < 2 ^ 64;
+}

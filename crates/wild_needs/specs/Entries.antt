@@ -1,0 +1,90 @@
+-- The addresses of a movable output that a loader adds its base to: by an entry with an addend, or by a word of packed
+-- relocations (gABI, "Relocation", "Relative Relocation Table").
+--   listed_places, packed_places    the places of a section's addresses that move: those that have an entry, and those
+--                                   that are packed
+--   entry_count l f, word_count l f   how many entries, and how many words, a file has
+--   may_be_left s n                 an entry that names a symbol or a resolver can fill the field of a relocation of type n
+--   may_have_entry l symbol         it can name that symbol, or its resolver
+--   left_relocations l s            the relocations of a section whose fields are left to entries that name a symbol or a resolver
+--   general_count l f               how many entries a file has for these, and for the symbols that it has copied
+use Rattle.std.specs.Prelude.{ℕ, ◌+◌, ◌==◌, ◌&&◌, ◌||◌, Bool, true, false, not, if◌then◌else◌, List, [], length, Option, Some, None, option_to_list}
+use Rattle.std.specs.List.{flat_map, filter}
+use Rattle.wild_records.specs.Abi.Relocation.{r_x86_64_64, r_x86_64_size32, r_x86_64_size64}
+use Rattle.wild_relr.specs.Packed.{packed}
+use Rattle.wild_types.specs.declared.input.InputRelocation.{InputRelocation}
+use Rattle.wild_types.specs.declared.input.InputSection.{InputSection}
+use Rattle.wild_types.specs.declared.file.File.{File}
+use Rattle.wild_types.specs.declared.layout.Layout.{Layout}
+use Rattle.wild_slot.specs.declared.treatment.Treatment.{Treatment}
+use Rattle.wild_slot.specs.declared.treatment.Treatment.TheVariants.{BaseRelative, Symbolic, Indirect, Extent}
+use Rattle.wild_types.specs.Flags.{has_flag, interposable, ifunc}
+use Rattle.wild_types.specs.Lists.{total}
+use Rattle.wild_types.specs.Lookups.{is_read, writable, place_of, packs, has_moved}
+use Rattle.wild_slot.specs.Treatment.{flags_at, treatment}
+use Rattle.wild_types.specs.FileSymbols.{copies_of}
+
+abbrev pub is_base_relative : Treatment → Bool
+is_base_relative BaseRelative = true
+is_base_relative other = false
+
+-- the address that the relocation writes moves
+abbrev pub is_moved : Layout → InputSection → InputRelocation → Bool
+is_moved l s r = is_base_relative (treatment l s r)
+
+-- its place, where that has an entry
+abbrev pub listed_place : Layout → InputSection → InputRelocation → Option ℕ
+listed_place l s r = if is_moved l s r && not (packs l (place_of s r)) then Some (place_of s r) else None
+
+-- its place, where that is packed
+abbrev pub packed_place : Layout → InputSection → InputRelocation → Option ℕ
+packed_place l s r = if is_moved l s r && packs l (place_of s r) then Some (place_of s r) else None
+
+-- what the relocations of a section give, where it may have addresses that move
+abbrev pub moved_of : {X : Type 0} → Layout → InputSection → (InputRelocation → Option X) → List X
+moved_of l s f = if has_moved l s then flat_map (λ r. option_to_list (f r)) s.relocations else []
+
+-- the places that have an entry, in the order of the relocations
+unfoldable pub listed_places : Layout → InputSection → List ℕ
+listed_places l s = moved_of l s (listed_place l s)
+
+-- the places that are packed
+unfoldable pub packed_places : Layout → InputSection → List ℕ
+packed_places l s = moved_of l s (packed_place l s)
+
+-- the words of an input section: its places are a run of their own
+abbrev pub words_of : Layout → InputSection → List ℕ
+words_of l s = packed (packed_places l s)
+
+-- how many entries a file has
+abbrev pub entry_count : Layout → File → ℕ
+entry_count l f = total (λ s. length (listed_places l s)) f.sections
+
+-- how many words
+abbrev pub word_count : Layout → File → ℕ
+word_count l f = total (λ s. length (words_of l s)) f.sections
+
+-- ---- entries that name a symbol or a resolver
+
+-- the field is left to such an entry
+abbrev pub is_left_to_entry : Treatment → Bool
+is_left_to_entry (Symbolic i) = true
+is_left_to_entry (Indirect i) = true
+is_left_to_entry (Extent row i) = true
+is_left_to_entry other = false
+
+-- no other type has a field that such an entry fills: an address of 8 bytes, where the program may write, and a size
+abbrev pub may_be_left : InputSection → ℕ → Bool
+may_be_left s n = n == r_x86_64_64 && writable s.flags || (n == r_x86_64_size32 || n == r_x86_64_size64)
+
+-- nor is a field of a symbol that only this output defines, which is no IFUNC
+abbrev pub may_have_entry : Layout → Option ℕ → Bool
+may_have_entry l None = false
+may_have_entry l (Some i) = interposable (flags_at l i) || has_flag (flags_at l i) ifunc
+
+-- the relocations of an input section whose fields are left to entries, in order
+unfoldable pub left_relocations : Layout → InputSection → List InputRelocation
+left_relocations l s = if is_read s then filter (λ r. is_left_to_entry (treatment l s r)) s.relocations else []
+
+-- how many entries a file has for copies and for fields
+unfoldable pub general_count : Layout → File → ℕ
+general_count l f = length (copies_of f) + total (λ s. length (left_relocations l s)) f.sections

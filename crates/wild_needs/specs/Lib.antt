@@ -1,0 +1,12 @@
+pub mod Dynamic
+pub mod DynamicPlaces
+pub mod DynamicStrings
+pub mod DynamicSymbols
+pub mod Entries
+pub mod EntryPoint
+pub mod HashShapes
+pub mod Needs
+pub mod SlotShares
+pub mod TableSymbols
+pub mod UndefinedCounts
+pub mod Versions

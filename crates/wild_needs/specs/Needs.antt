@@ -1,0 +1,142 @@
+-- How many bytes of a part a group needs: the sum of what its files have to write there.
+--   share l role f      what one file has to write in a part of that role
+--   needs l part group  the group's share of the part, at most 2^64 - 1
+--   is_plain l f        the file writes nothing in any part but raw ones, as far as its role and its symbols' slots tell
+--   total_share l r      what all groups need of the part of a role
+use Rattle.std.specs.Prelude.{ℕ, ◌-◌, ◌^◌, ◌==◌, Bool, ◌&&◌, length, ◌+◌, ◌*◌, if◌then◌else◌, not, min, Option, Some, None, slice_get, slice_index_or}
+use Rattle.std.specs.List.{list_all}
+use Rattle.wild_types.specs.declared.layout.Layout.{Layout}
+use Rattle.wild_types.specs.declared.part.Role.{Role}
+use Rattle.wild_types.specs.declared.part.Role.TheVariants as role
+use Rattle.wild_needs.specs.DynamicSymbols.{dynamic_symbols}
+use Rattle.wild_types.specs.Lists.{total}
+use Rattle.wild_needs.specs.Versions.{definitions_room, needs_room}
+use Rattle.wild_records.specs.FileHeader.{file_header_size}
+use Rattle.wild_records.specs.ProgramHeader.{program_header_size}
+use Rattle.wild_records.specs.SectionHeader.{section_header_size}
+use Rattle.wild_types.specs.declared.part.Part.{Part}
+use Rattle.wild_types.specs.declared.file.FileRole.{FileRole}
+use Rattle.wild_types.specs.declared.file.File.{File}
+use Rattle.wild_types.specs.declared.file.Group.{Group}
+use Rattle.wild_records.specs.Relocations.{rela_size, relr_size}
+use Rattle.wild_records.specs.Dynamic.{dynamic_entry_size}
+use Rattle.wild_records.specs.SymtabEntry.{symtab_entry_size}
+use Rattle.wild_records.specs.Versyms.{versym_size}
+use Rattle.wild_records.specs.HashTables.{gnu_hash_header_size}
+use Rattle.wild_types.specs.declared.layout.SysvHash.{SysvHash}
+use Rattle.wild_types.specs.declared.layout.GnuHash.{GnuHash}
+use Rattle.wild_types.specs.Kinds.{needs_dynamic, needs_dynsym}
+use Rattle.wild_types.specs.FileRoles.{is_prelude, is_epilogue}
+use Rattle.wild_needs.specs.Entries.{entry_count, word_count, general_count}
+use Rattle.wild_needs.specs.SlotShares.{slot_share, header_share, block_share}
+use Rattle.wild_types.specs.FileSymbols.{own_symbols}
+use Rattle.wild_types.specs.SymbolSlots.{is_without}
+use Rattle.wild_needs.specs.Dynamic.{dynamic_count}
+use Rattle.wild_types.specs.Lookups.{has_table}
+use Rattle.wild_needs.specs.TableSymbols.{has_long, local_count, global_count, table_strings}
+use Rattle.wild_needs.specs.DynamicStrings.{text_room, entry_names, strings_room, needed_count}
+
+-- the bytes of the sections' names, each with a zero behind it
+abbrev pub name_bytes : Layout → ℕ
+name_bytes l = total (λ s. length s.name + 1) l.sections
+
+-- what stands once in an image, by role; parts of other roles are empty
+abbrev pub whole_of : Layout → Role → ℕ
+whole_of l role.FileHeader = file_header_size
+whole_of l role.ProgramHeaders = program_header_size * length l.segments
+whole_of l role.SectionHeaders = section_header_size * length l.sections
+whole_of l role.Shstrtab = name_bytes l
+whole_of l other = 0
+
+-- how many entries a file has in the dynamic symbol table, which begins with an entry of zeros (gABI, "Symbol Table")
+abbrev pub dynsym_count : Layout → File → ℕ
+dynsym_count l f = if needs_dynsym l.kind then (if is_prelude f.role then 1 else 0) + length (entry_names l f) else 0
+
+-- how many symbols of a file have a version, where the option asks for versions
+abbrev pub version_count : Layout → File → ℕ
+version_count l f = if l.options.versions then dynsym_count l f else 0
+
+-- what stands behind all else, of the last file
+abbrev pub last_of : FileRole → ℕ → ℕ
+last_of f size = if is_epilogue f then size else 0
+
+-- a hash table of that shape, of an output with dynamic symbols: the counts, a word a bucket, and one a symbol (gABI, "Hash Table")
+abbrev pub sysv_room : Layout → Option SysvHash → ℕ
+sysv_room l None = 0
+sysv_room l (Some h) = 8 + (4 * h.buckets + 4 * (1 + length (dynamic_symbols l)))
+
+-- the header, the words of the Bloom filter, a word a bucket, and one a symbol that is defined (GNU, "DT_GNU_HASH")
+abbrev pub gnu_room : Layout → Option GnuHash → ℕ
+gnu_room l None = 0
+gnu_room l (Some h) = gnu_hash_header_size + (8 * h.bloom_count + (4 * h.buckets + 4 * length l.dynsyms))
+
+-- what an output with dynamic symbols has, of the last file
+abbrev pub last_dynamic : Layout → FileRole → ℕ → ℕ
+last_dynamic l f size = if needs_dynsym l.kind then last_of f size else 0
+
+-- the size of a section index of 32 bits (gABI, SHT_SYMTAB_SHNDX)
+abbrev pub long_index_size : ℕ
+long_index_size = 4
+
+-- so many indexes, where a part of that role has them
+abbrev pub long_room : Layout → Role → ℕ → ℕ
+long_room l r count = if has_long l r then long_index_size * count else 0
+
+-- what a file has to write for a loader: the addresses that it adds the base to, as entries with addends, and as words;
+-- the entries that name symbols or resolvers; the dynamic symbol table, its strings, versions and hash tables, and the dynamic
+-- section; and for other readers the table of all symbols
+abbrev pub own_of : Layout → Role → File → ℕ
+own_of l role.RelaDynRelative f = rela_size * entry_count l f
+own_of l role.RelaDynGeneral f = rela_size * general_count l f
+own_of l role.RelrDyn f = relr_size * word_count l f
+own_of l role.Dynsym f = symtab_entry_size * dynsym_count l f
+own_of l role.Dynstr f = strings_room l f
+own_of l role.GnuVersion f = versym_size * version_count l f
+own_of l role.GnuVersionD f = definitions_room l f
+own_of l role.GnuVersionR f = needs_room l f
+own_of l role.SysvHash f = last_dynamic l f.role (sysv_room l l.sysv_hash)
+own_of l role.GnuHash f = last_dynamic l f.role (gnu_room l l.gnu_hash)
+own_of l role.Dynamic f = dynamic_entry_size * (needed_count l f + last_of f.role (dynamic_count l))
+own_of l role.SymtabLocal f = symtab_entry_size * local_count l f
+own_of l role.SymtabGlobal f = symtab_entry_size * global_count l f
+own_of l role.SymtabShndxLocal f = long_room l role.SymtabShndxLocal (local_count l f)
+own_of l role.SymtabShndxGlobal f = long_room l role.SymtabShndxGlobal (global_count l f)
+own_of l role.Strtab f = total text_room (table_strings l f)
+own_of l other f = 0
+
+-- what the first file writes: what stands once
+abbrev pub first_share : Layout → Role → ℕ
+first_share l r = whole_of l r + header_share l r
+
+-- what one file has to write in a part of that role
+abbrev pub share : Layout → Role → File → ℕ
+share l r f = (if is_prelude f.role then first_share l r else 0) + own_of l r f + slot_share l r f
+
+-- neither the first file nor the last, in an output without a dynamic section and without a table of all symbols
+abbrev pub has_plain_role : Layout → File → Bool
+has_plain_role l f = not (needs_dynamic l.kind) && not (has_table l) && not (is_prelude f.role) && not (is_epilogue f.role)
+
+-- such a file without entries, none of whose symbols has a slot: it writes nothing in any part but raw ones
+abbrev pub is_plain : Layout → File → Bool
+is_plain l f = has_plain_role l f && (list_all is_without (own_symbols l f) && general_count l f == 0)
+
+-- what a group has to write in a part of that role: what its files have, and the words that pack its block of slots
+abbrev pub group_share : Layout → Role → Group → ℕ
+group_share l r g = total (share l r) g.files + block_share l r g
+
+-- a raw part's input sections are given their room by the layout itself
+abbrev pub needs_of : Layout → Role → ℕ → Group → ℕ
+needs_of l role.Raw part g = slice_index_or g.part_sizes part 0
+needs_of l r part g = min (2 ^ 64 - 1) (group_share l r g)
+
+abbrev pub needs_by : Layout → ℕ → Option Part → Option Group → ℕ
+needs_by l part (Some p) (Some g) = needs_of l p.role part g
+needs_by l part _ _ = 0
+
+-- the group's share of the part; 0 where there is no such part or group
+unfoldable pub needs : Layout → ℕ → ℕ → ℕ
+needs l part group = needs_by l part (slice_get l.parts part) (slice_get l.groups group)
+
+-- what all groups have to write in a part of that role
+abbrev pub total_share : Layout → Role → ℕ
+total_share l r = total (group_share l r) l.groups

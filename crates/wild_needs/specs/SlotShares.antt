@@ -1,0 +1,130 @@
+-- What the slots and stubs of a file's symbols take of the parts (x86-64 psABI, "Global Offset Table (GOT)", "Procedure
+-- Linkage Table").
+--   header_words l       the words that stand once, at the start of the table
+--   slot_share l r f     what a file's symbols take of the part of a role
+--   block_words l g      the packed words for a group's block of slots
+--   block_share l r g    what they take
+use Rattle.std.specs.Prelude.{ℕ, ◌+◌, ◌*◌, Bool, true, false, if◌then◌else◌, List, [], ◌∷◌, ◌++◌, min, ◌-◌, ◌^◌, length, replicate, Option, Some, None, unwrap_or}
+use Rattle.wild_records.specs.Relocations.{rela_size, relr_size}
+use Rattle.wild_relr.specs.Packed.{block}
+use Rattle.wild_types.specs.declared.part.Role.{Role}
+use Rattle.wild_types.specs.declared.part.Role.TheVariants as role
+use Rattle.wild_types.specs.declared.file.File.{File}
+use Rattle.wild_types.specs.declared.file.Group.{Group}
+use Rattle.wild_types.specs.declared.symbol.Symbol.{Symbol}
+use Rattle.wild_types.specs.declared.layout.Layout.{Layout}
+use Rattle.wild_needs.specs.declared.slot_shares.Block.{Block}
+use Rattle.wild_slot.specs.declared.slot.Setting.{Setting}
+use Rattle.wild_slot.specs.declared.slot.SlotWord.{SlotWord}
+use Rattle.wild_slot.specs.declared.slot.SlotWord.TheVariants.{InBlock}
+use Rattle.wild_slot.specs.declared.slot_parts.WordPart.{WordPart}
+use Rattle.wild_slot.specs.declared.slot_parts.WordPart.TheVariants as words
+use Rattle.wild_slot.specs.declared.slot_parts.EntryPart.{EntryPart}
+use Rattle.wild_slot.specs.declared.slot_parts.EntryPart.TheVariants as entries
+use Rattle.std.specs.List.{flat_map}
+use Rattle.wild_types.specs.Lists.{total}
+use Rattle.wild_types.specs.SymbolSlots.{slots_at}
+use Rattle.wild_slot.specs.Slots.{setting_of, storage_pair}
+use Rattle.wild_slot.specs.SlotParts.{at_places, slot_words, slot_entries, flat_places}
+use Rattle.wild_types.specs.FileSymbols.{own_symbols}
+use Rattle.wild_slot.specs.SymbolWords.{slots_of}
+
+-- the size of a word of a slot
+abbrev pub word_size : ℕ
+word_size = 8
+
+-- the size of a stub
+abbrev pub stub_size : ℕ
+stub_size = 16
+
+-- ---- words and entries
+
+-- the words of a symbol in a part, and its entries in one
+abbrev pub words_in : WordPart → Layout → Symbol → List ℕ
+words_in part l s = slot_words part l.options.relr (slots_at s) (slots_of l s).words
+
+abbrev pub entries_in : EntryPart → Layout → Symbol → ℕ
+entries_in part l s = length (slot_entries part l.machine l.options.relr (slots_at s) (slots_of l s).words)
+
+-- the pair of the output's own thread-local data, where it has a place
+abbrev pub storage_at : Setting → Option ℕ → List SlotWord
+storage_at s None = []
+storage_at s (Some at) = storage_pair s
+
+abbrev pub storage_words : Layout → List SlotWord
+storage_words l = storage_at (setting_of l) l.tlsld
+
+-- reserved words, which are 0 in the file, and that pair
+abbrev pub header_words : Layout → List ℕ
+header_words l = replicate l.got_header 0 ++ slot_words words.Got l.options.relr (unwrap_or l.tlsld 0) (storage_words l)
+
+-- the entry of that pair, where it has one
+abbrev pub header_entries : Layout → ℕ
+header_entries l = length (slot_entries entries.General l.machine l.options.relr (unwrap_or l.tlsld 0) (storage_words l))
+
+-- ---- bytes
+
+-- what a symbol takes of the part of a role
+abbrev pub symbol_share : Layout → Role → Symbol → ℕ
+symbol_share l role.Got s = word_size * length (words_in words.Got l s)
+symbol_share l role.GotRelr s = word_size * length (words_in words.Block l s)
+symbol_share l role.PltGot s = if (slots_of l s).has_stub then stub_size else 0
+symbol_share l role.RelaPlt s = rela_size * entries_in entries.Plt l s
+symbol_share l role.RelaDynRelative s = rela_size * entries_in entries.Relative l s
+symbol_share l role.RelaDynGeneral s = rela_size * entries_in entries.General l s
+symbol_share l role.RelrDyn s = relr_size * length (flat_places l.options.relr (slots_at s) (slots_of l s).words)
+symbol_share l other s = 0
+
+-- slots and stubs take something of parts of these roles
+abbrev pub is_of_slots : Role → Bool
+is_of_slots role.Got = true
+is_of_slots role.GotRelr = true
+is_of_slots role.PltGot = true
+is_of_slots role.RelaPlt = true
+is_of_slots role.RelaDynRelative = true
+is_of_slots role.RelaDynGeneral = true
+is_of_slots role.RelrDyn = true
+is_of_slots other = false
+
+-- what a file's symbols take
+unfoldable pub slot_share : Layout → Role → File → ℕ
+slot_share l r f = total (symbol_share l r) (own_symbols l f)
+
+-- what stands once
+abbrev pub header_share : Layout → Role → ℕ
+header_share l role.Got = word_size * length (header_words l)
+header_share l role.RelaDynGeneral = rela_size * header_entries l
+header_share l other = 0
+
+-- the place of a word, where it is one of the block
+abbrev pub block_place : ℕ → SlotWord → Option ℕ
+block_place at (InBlock a) = Some at
+block_place at other = None
+
+-- the places of a group's words in its block
+abbrev pub block_places : Layout → Symbol → List ℕ
+block_places l s = at_places block_place (slots_at s) (slots_of l s).words
+
+unfoldable pub group_block : Layout → Group → List ℕ
+group_block l g = flat_map (λ f. flat_map (block_places l) (own_symbols l f)) g.files
+
+abbrev pub first_place : List ℕ → ℕ
+first_place [] = 0
+first_place (p ∷ ps) = p
+
+-- slots of eight bytes, one behind the other, by their places: where they begin, and how many there are, at most 2^64 - 1
+abbrev pub block_of : List ℕ → Block
+block_of ps = record { base = first_place ps; count = min (2 ^ 64 - 1) (length ps) }
+
+-- the words that pack a block (gABI, "Relative Relocation Table")
+abbrev pub words_of_block : Block → List ℕ
+words_of_block b = block b.base b.count
+
+-- those of a group's block
+abbrev pub block_words : Layout → Group → List ℕ
+block_words l g = words_of_block (block_of (group_block l g))
+
+-- what these words take
+abbrev pub block_share : Layout → Role → Group → ℕ
+block_share l role.RelrDyn g = relr_size * length (block_words l g)
+block_share l other g = 0

@@ -1,0 +1,130 @@
+-- Which symbols `.symtab` has (gABI, "Symbol Table"). Its local symbols stand in front of all others; names stand in the order in
+-- which the files are processed.
+--   TableSymbol            a symbol of the layout, or the name of its slot or its stub
+--   pass_items l p i ss    what symbols from number i on give, in one pass
+--   file_items l f         what a file gives, in the order of the names
+--   item_name x            its name
+--   is_local x             it stands among the local symbols
+--   side local xs          those that do, or the others
+--   local_count, global_count   how many entries a file has among the local symbols, and among the others
+--   table_strings l f      the strings of a file
+--   has_long l r           a part of that role has a section index of 32 bits for each symbol
+use Rattle.std.specs.Prelude.{ℕ, ◌+◌, ◌/◌, ◌==◌, Bool, true, false, not, ◌&&◌, ◌||◌, if◌then◌else◌, List, [], ◌∷◌, ◌++◌, length, map, codes}
+use Rattle.std.specs.List.{filter, flat_map, list_any}
+use Rattle.wild_records.specs.Abi.Symbol.{stb_local}
+use Rattle.wild_types.specs.declared.part.Role.{Role}
+use Rattle.wild_types.specs.declared.file.FileRole.{FileRole}
+use Rattle.wild_types.specs.declared.file.FileRole.TheVariants as file_role
+use Rattle.wild_types.specs.declared.file.File.{File}
+use Rattle.wild_types.specs.declared.symbol.Symbol.{Symbol}
+use Rattle.wild_needs.specs.declared.table.Named.{Named}
+use Rattle.wild_needs.specs.declared.table.Named.TheVariants as named
+use Rattle.wild_needs.specs.declared.table.Pass.{Pass}
+use Rattle.wild_types.specs.declared.layout.Layout.{Layout}
+use Rattle.wild_types.specs.FileRoles.{is_prelude}
+use Rattle.wild_types.specs.Flags.{has_flag, downgrade_to_local}
+use Rattle.wild_types.specs.Parts.{has_role}
+use Rattle.wild_types.specs.FileSymbols.{loaded_symbols}
+use Rattle.wild_types.specs.SymbolSlots.{names_slot, names_stub}
+use Rattle.wild_types.specs.Lookups.{has_table, has_many_sections}
+
+-- ---- symbols
+
+-- a symbol of the layout, its number, and what of it is named: itself, its slot, or its stub
+pub record TableSymbol : Type 0 where
+  pub named : Named
+  pub index : ℕ
+  pub symbol : Symbol
+
+abbrev pub item : Named → ℕ → Symbol → TableSymbol
+item named i s = record { named = named; index = i; symbol = s }
+
+abbrev pub where_asked : Bool → TableSymbol → List TableSymbol
+where_asked b x = if b then x ∷ [] else []
+
+abbrev pub slot_items : Layout → ℕ → Symbol → List TableSymbol
+slot_items l i s = where_asked (names_slot l i s) (item named.Slot i s) ++ where_asked (names_stub l i s) (item named.Stub i s)
+
+abbrev pub own_item : ℕ → Symbol → List TableSymbol
+own_item i s = where_asked s.emit (item named.Itself i s)
+
+-- what a symbol gives in a pass: names of its slot and its stub, and its own behind them
+abbrev pub symbol_items : Layout → Pass → ℕ → Symbol → List TableSymbol
+symbol_items l p i s = (if p.slots then slot_items l i s else []) ++ (if p.own then own_item i s else [])
+
+-- what symbols give, from number i on
+abbrev pub pass_items : Layout → Pass → ℕ → List Symbol → List TableSymbol
+pass_items l p i [] = []
+pass_items l p i (s ∷ ss) = symbol_items l p i s ++ pass_items l p (i + 1) ss
+
+-- a file from elsewhere has all in one pass; the linker's own has its symbols first, and then the names of their slots
+abbrev pub passes : FileRole → List Pass
+passes file_role.Object = record { slots = true; own = true } ∷ []
+passes file_role.Dynamic = record { slots = true; own = true } ∷ []
+passes other = record { slots = false; own = true } ∷ record { slots = true; own = false } ∷ []
+
+abbrev pub items_of : Layout → List Pass → File → List TableSymbol
+items_of l ps f = flat_map (λ (p : Pass). pass_items l p f.first_symbol (loaded_symbols l f)) ps
+
+-- what a file gives
+unfoldable pub file_items : Layout → File → List TableSymbol
+file_items l f = if has_table l then items_of l (passes f.role) f else []
+
+-- ---- names
+
+abbrev pub suffix : Named → List ℕ
+suffix named.Itself = []
+suffix named.Slot = codes "$got"
+suffix named.Stub = codes "$plt"
+
+abbrev pub item_name : TableSymbol → List ℕ
+item_name x = x.symbol.name ++ suffix x.named
+
+-- ---- sides
+
+-- the symbol's binding is local, or it was made so (gABI, "Symbol Table", STB_LOCAL)
+abbrev pub is_local_symbol : Symbol → Bool
+is_local_symbol s = s.info / 16 == stb_local || has_flag s.flags downgrade_to_local
+
+abbrev pub is_local_by : Named → Symbol → Bool
+is_local_by named.Itself s = is_local_symbol s
+is_local_by other s = true
+
+-- names of slots and stubs are local
+abbrev pub is_local : TableSymbol → Bool
+is_local x = is_local_by x.named x.symbol
+
+abbrev pub is_on : Bool → TableSymbol → Bool
+is_on true x = is_local x
+is_on false x = not (is_local x)
+
+-- the local ones, or the others
+abbrev pub side : Bool → List TableSymbol → List TableSymbol
+side local xs = filter (is_on local) xs
+
+-- the table begins with an entry of zeros, which is local
+abbrev pub null_count : Layout → File → ℕ
+null_count l f = if has_table l && is_prelude f.role then 1 else 0
+
+-- how many entries a file has among the local symbols, and among the others
+abbrev pub local_count : Layout → File → ℕ
+local_count l f = null_count l f + length (side true (file_items l f))
+
+abbrev pub global_count : Layout → File → ℕ
+global_count l f = length (side false (file_items l f))
+
+-- ---- strings
+
+-- the empty string, with which the table of strings begins, is the first file's (gABI, "String Table")
+abbrev pub null_strings : Layout → File → List (List ℕ)
+null_strings l f = if has_table l && is_prelude f.role then [] ∷ [] else []
+
+-- the strings of a file
+unfoldable pub table_strings : Layout → File → List (List ℕ)
+table_strings l f = null_strings l f ++ map item_name (file_items l f)
+
+-- ---- longer section indexes
+
+-- each symbol has an index of 32 bits too, where there is a part for them, or a section that needs one (gABI, SHT_SYMTAB_SHNDX)
+abbrev pub has_long : Layout → Role → Bool
+has_long l r = list_any (has_role r) l.parts || has_many_sections l

@@ -1,0 +1,85 @@
+//! The undefined entries of the dynamic symbol table, and how long it is.
+ghost use Rattle.std.specs.Prelude.{◌≡◌, ◌-◌, ◌^◌, ◌≤◌, min, length};
+ghost use Rattle.wild_needs.specs.DynamicSymbols.{gives_entry, is_undefined_entry, dynsym_of, dynamic_symbols};
+ghost use Rattle.wild_needs.specs.UndefinedCounts.{count_in, undefined_of, undefined_of_group, undefined_count};
+
+use wild_types::{File, FileRole, Group, Layout, Symbol, ValueFlags, some_from};
+
+/// Whether a file of that role gives an undefined entry for a resolution with these flags.
+fn gives_entry(role: FileRole, flags: ValueFlags) -> bool
+    ensures { result ≡ gives_entry role flags }
+{
+    match role {
+        FileRole::Object => flags.is_dynamic(),
+        FileRole::Dynamic => !flags.needs_copy_relocation() && !flags.needs_canonical_plt(),
+        _ => false,
+    }
+}
+
+/// Whether a symbol of a file of that role has an undefined entry in the dynamic symbol table.
+pub fn is_undefined_entry(role: FileRole, symbol: &Symbol) -> bool
+    ensures { result ≡ is_undefined_entry role symbol.now }
+{
+    gives_entry(role, symbol.flags) && symbol.resolution.is_some()
+}
+
+/// The index in the dynamic symbol table that the symbol carries.
+pub fn dynsym_of(symbol: &Symbol) -> Option<u64>
+    ensures { result ≡ dynsym_of symbol.now }
+{
+    symbol.resolution?.dynamic_symbol_index
+}
+
+/// How many of a file's symbols have an undefined entry.
+pub fn count_in(role: FileRole, symbols: &[Symbol]) -> usize
+    ensures count { result ≡ count_in role symbols.now }
+    ensures few { result ≤ length symbols.now }
+{
+    let mut count = 0;
+    for symbol in symbols {
+        if is_undefined_entry(role, symbol) {
+            count += 1;
+        }
+    }
+    count
+}
+
+fn undefined_of(layout: &Layout, file: &File) -> usize
+    ensures { result ≡ undefined_of layout.now.symbols file.now }
+{
+    let symbols = layout.symbols.as_slice();
+    count_in(
+        file.role,
+        some_from(symbols, file.first_symbol.0, file.symbol_count),
+    )
+}
+
+/// At most 2^64 - 1.
+pub fn undefined_of_group(layout: &Layout, group: &Group) -> usize
+    ensures { result ≡ min (2 ^ 64 - 1) (undefined_of_group layout.now.symbols group.now) }
+{
+    let mut count: usize = 0;
+    for file in group.files.as_slice() {
+        count = count.saturating_add(undefined_of(layout, file));
+    }
+    count
+}
+
+/// At most 2^64 - 1.
+pub fn undefined_count(layout: &Layout) -> usize
+    ensures { result ≡ min (2 ^ 64 - 1) (undefined_count layout.now) }
+{
+    let mut count: usize = 0;
+    for group in layout.groups.as_slice() {
+        count = count.saturating_add(undefined_of_group(layout, group));
+    }
+    count
+}
+
+/// How many symbols the table has behind the null symbol, at most 2^64 - 1.
+#[tactic(auto, using(crate::proofs::UndefinedLemmas::table_length))]
+pub fn table_length(layout: &Layout) -> usize
+    ensures { result ≡ min (2 ^ 64 - 1) (length (dynamic_symbols layout.now)) }
+{
+    undefined_count(layout).saturating_add(layout.dynsyms.len())
+}

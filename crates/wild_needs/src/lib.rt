@@ -1,0 +1,29 @@
+//! What each group needs of each part: slots, entries, names, symbols, versions, the dynamic section; and where the program begins.
+#![tactic(auto)]
+
+mod dynamic;
+mod dynsyms;
+mod entries;
+mod entry;
+mod share;
+mod slot_shares;
+mod strings;
+mod table;
+mod versions;
+
+pub use dynamic::{DynamicTag, dynamic_count, dynamic_entries_fit, dynamic_entry};
+pub use dynsyms::{dynsym_of, is_undefined_entry, table_length, undefined_count};
+pub use entries::{
+    entry_count, general_count, is_left_to_entry, is_moved, packed_place, word_count,
+};
+pub use entry::elf_entry_address;
+pub use share::{is_plain_group, name_bytes, needs, total_share, whole_of};
+pub use slot_shares::{Block, group_block, pair_words, words_in};
+pub use strings::{
+    behind_file, entry_name_count, entry_room, epilogue_string_bytes, lead_room, needed_count,
+    string_start, strings_have_their_room, strings_room, text_room,
+};
+pub use table::{Named, Pass, global_count, has_long, is_local, local_count, passes, table_room};
+pub use versions::{
+    definition_size, definitions_size, need_count, need_size, needs_of, version_room,
+};

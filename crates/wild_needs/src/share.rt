@@ -1,0 +1,296 @@
+//! How many bytes of a part a group needs.
+ghost use Rattle.std.specs.Prelude.{◌≡◌, ℕ, ◌+◌, ◌-◌, ◌^◌, min, true, if◌then◌else◌};
+ghost use Rattle.std.specs.List.{list_all};
+ghost use Rattle.wild_types.specs.declared.part.Role.{Role};
+ghost use Rattle.wild_needs.specs.Needs.{total_share, name_bytes, whole_of, dynsym_count, version_count, last_of, sysv_room, gnu_room, last_dynamic, own_of, first_share, share, group_share, needs_of, needs, is_plain};
+ghost use Rattle.wild_types.specs.Lists.{total};
+ghost use Rattle.wild_needs.specs.SlotShares.{block_share};
+ghost use Rattle.wild_needs.specs.Dynamic.{dynamic_count};
+ghost use Rattle.wild_needs.specs.DynamicStrings.{needed_count};
+ghost use Rattle.wild_types.specs.FileRoles.{is_prelude};
+
+use crate::dynamic::dynamic_count;
+use crate::dynsyms::table_length;
+use crate::entries::{entry_count, general_count, word_count};
+use crate::slot_shares::{block_share, header_share, is_of_slots, slot_share};
+use crate::strings::{entry_name_count, needed_count, strings_room};
+use crate::table::{global_count, has_long, local_count, table_room};
+use crate::versions::{definitions_room, needs_room};
+use wild_records::{
+    DynamicEntry, FileHeader, GnuHashHeader, ProgramHeader, Rela, Relr, SectionHeader, SymtabEntry,
+    Versym,
+};
+use wild_types::{File, GnuHash, Group, IsWithout, Layout, Role, SysvHash, Test, all_pass};
+
+/// The size of a section index of 32 bits.
+const LONG_INDEX_SIZE: u64 = 4;
+
+/// The bytes of the names of the sections, each with a zero behind it.
+pub fn name_bytes(layout: &Layout) -> u128
+    ensures { result ≡ name_bytes layout.now }
+{
+    let mut sum: u128 = 0;
+    for section in layout.sections.as_slice() {
+        sum += section.name.len() as u128 + 1;
+    }
+    sum
+}
+
+/// How many bytes stand once in an image, by role, at most 2^64 - 1.
+pub fn whole_of(layout: &Layout, role: Role) -> u64
+    ensures { result ≡ min (2 ^ 64 - 1) (whole_of layout.now role) }
+{
+    let bytes = match role {
+        Role::FileHeader => FileHeader::SIZE as u128,
+        Role::ProgramHeaders => ProgramHeader::SIZE as u128 * layout.segments.len() as u128,
+        Role::SectionHeaders => SectionHeader::SIZE as u128 * layout.sections.len() as u128,
+        Role::Shstrtab => name_bytes(layout),
+        _ => 0,
+    };
+    u128::from(u64::MAX).min(bytes) as u64
+}
+
+/// How many entries a file has in the dynamic symbol table, at most 2^64 - 1.
+fn dynsym_count(layout: &Layout, file: &File) -> u64
+    ensures { result ≡ min (2 ^ 64 - 1) (dynsym_count layout.now file.now) }
+{
+    if layout.kind.needs_dynsym() {
+        let null = u64::from(file.role.is_prelude());
+        null.saturating_add(entry_name_count(layout, file) as u64)
+    } else {
+        0
+    }
+}
+
+/// How many entries the last file has in the dynamic section, at most 2^64 - 1.
+fn last_count(layout: &Layout, file: &File) -> u64
+    ensures { result ≡ min (2 ^ 64 - 1) (last_of file.now.role (dynamic_count layout.now)) }
+{
+    if file.role.is_epilogue() {
+        dynamic_count(layout) as u64
+    } else {
+        0
+    }
+}
+
+/// How many entries a file has in the dynamic section, at most 2^64 - 1.
+fn section_count(layout: &Layout, file: &File) -> u64
+    ensures { result ≡ min (2 ^ 64 - 1) (needed_count layout.now file.now + last_of file.now.role (dynamic_count layout.now)) }
+{
+    let needed = needed_count(layout, file) as u64;
+    needed.saturating_add(last_count(layout, file))
+}
+
+/// How many symbols of a file have a version, at most 2^64 - 1.
+fn version_count(layout: &Layout, file: &File) -> u64
+    ensures { result ≡ min (2 ^ 64 - 1) (version_count layout.now file.now) }
+{
+    if layout.options.versions {
+        dynsym_count(layout, file)
+    } else {
+        0
+    }
+}
+
+/// How many bytes a hash table of that shape has, at most 2^64 - 1.
+fn sysv_room(layout: &Layout, shape: Option<SysvHash>) -> u64
+    ensures { result ≡ min (2 ^ 64 - 1) (sysv_room layout.now shape) }
+{
+    match shape {
+        Some(shape) => (table_length(layout) as u64)
+            .saturating_mul(4)
+            .saturating_add(12 + 4 * u64::from(shape.buckets)),
+        None => 0,
+    }
+}
+
+/// How many bytes a GNU hash table of that shape has, at most 2^64 - 1.
+fn gnu_room(layout: &Layout, shape: Option<GnuHash>) -> u64
+    ensures { result ≡ min (2 ^ 64 - 1) (gnu_room layout.now shape) }
+{
+    match shape {
+        Some(shape) => {
+            let table = 8 * u64::from(shape.bloom_count) + 4 * u64::from(shape.buckets);
+            (layout.dynsyms.len() as u64)
+                .saturating_mul(4)
+                .saturating_add(GnuHashHeader::SIZE as u64 + table)
+        }
+        None => 0,
+    }
+}
+
+/// Whether the file is the last one, of an output with dynamic symbols.
+fn ends_symbols(layout: &Layout, file: &File) -> bool
+    ensures { (n : ℕ) → (if result then n else 0) ≡ last_dynamic layout.now file.now.role n }
+{
+    layout.kind.needs_dynsym() && file.role.is_epilogue()
+}
+
+/// How many bytes a file has to write of the hash table, at most 2^64 - 1.
+fn sysv_share(layout: &Layout, file: &File) -> u64
+    ensures { result ≡ min (2 ^ 64 - 1) (last_dynamic layout.now file.now.role (sysv_room layout.now layout.now.sysv_hash)) }
+{
+    if ends_symbols(layout, file) {
+        sysv_room(layout, layout.sysv_hash)
+    } else {
+        0
+    }
+}
+
+/// How many bytes a file has to write of the GNU hash table, at most 2^64 - 1.
+fn gnu_share(layout: &Layout, file: &File) -> u64
+    ensures { result ≡ min (2 ^ 64 - 1) (last_dynamic layout.now file.now.role (gnu_room layout.now layout.now.gnu_hash)) }
+{
+    if ends_symbols(layout, file) {
+        gnu_room(layout, layout.gnu_hash)
+    } else {
+        0
+    }
+}
+
+/// What a file has to write for a loader, and of the table of all symbols, at most 2^64 - 1.
+fn own_of(layout: &Layout, role: Role, file: &File) -> u64
+    ensures { result ≡ min (2 ^ 64 - 1) (own_of layout.now role file.now) }
+{
+    match role {
+        Role::RelaDynRelative => entry_count(layout, file).saturating_mul(Rela::SIZE as u64),
+        Role::RelaDynGeneral => general_count(layout, file).saturating_mul(Rela::SIZE as u64),
+        Role::RelrDyn => word_count(layout, file).saturating_mul(Relr::SIZE as u64),
+        Role::Dynsym => dynsym_count(layout, file).saturating_mul(SymtabEntry::SIZE as u64),
+        Role::Dynstr => strings_room(layout, file),
+        Role::GnuVersion => version_count(layout, file).saturating_mul(Versym::SIZE as u64),
+        Role::GnuVersionD => definitions_room(layout, file),
+        Role::GnuVersionR => needs_room(layout, file),
+        Role::SysvHash => sysv_share(layout, file),
+        Role::GnuHash => gnu_share(layout, file),
+        Role::Dynamic => section_count(layout, file).saturating_mul(DynamicEntry::SIZE as u64),
+        Role::SymtabLocal => local_count(layout, file).saturating_mul(SymtabEntry::SIZE as u64),
+        Role::SymtabGlobal => global_count(layout, file).saturating_mul(SymtabEntry::SIZE as u64),
+        Role::SymtabShndxLocal if has_long(layout, role) => {
+            local_count(layout, file).saturating_mul(LONG_INDEX_SIZE)
+        }
+        Role::SymtabShndxGlobal if has_long(layout, role) => {
+            global_count(layout, file).saturating_mul(LONG_INDEX_SIZE)
+        }
+        Role::Strtab => table_room(layout, file),
+        _ => 0,
+    }
+}
+
+/// A file writes nothing in any part but raw ones: it is neither the first nor the last, in an output without a dynamic section
+/// and a table of all symbols, and no slots of its symbols and no entries tell otherwise. Relocations are read only where the
+/// rest is so.
+#[derive(Clone, Copy)]
+struct IsPlain<'a> {
+    layout: &'a Layout,
+}
+
+impl Test<File> for IsPlain<'_> {
+    ghost test = { λ t. is_plain t.layout.now };
+
+    fn passes(&self, file: &File) -> bool {
+        let layout = self.layout;
+        !layout.kind.needs_dynamic()
+            && !layout.has_table()
+            && !file.role.is_prelude()
+            && !file.role.is_epilogue()
+            && all_pass(&IsWithout, layout.own_symbols(file))
+            && general_count(layout, file) == 0
+    }
+}
+
+/// Whether all files of a group are plain. Then the group needs nothing.
+pub fn is_plain_group(layout: &Layout, group: &Group) -> bool
+    ensures plain { result ≡ list_all (is_plain layout.now) group.now.files }
+    ensures none { result ≡ true → (r : Role) → total (share layout.now r) group.now.files ≡ 0 }
+    ensures block { result ≡ true → (r : Role) → block_share layout.now r group.now ≡ 0 }
+{
+    all_pass(&IsPlain { layout }, group.files.as_slice())
+}
+
+/// What stands once, where the file is the first one, at most 2^64 - 1.
+fn first_share(layout: &Layout, role: Role, file: &File) -> u64
+    ensures { result ≡ min (2 ^ 64 - 1) (if is_prelude file.now.role then first_share layout.now role else 0) }
+{
+    if file.role.is_prelude() {
+        whole_of(layout, role).saturating_add(header_share(layout, role))
+    } else {
+        0
+    }
+}
+
+/// What a file has to write in a part of that role, at most 2^64 - 1.
+fn share(layout: &Layout, role: Role, file: &File) -> u64
+    ensures { result ≡ min (2 ^ 64 - 1) (share layout.now role file.now) }
+{
+    first_share(layout, role, file)
+        .saturating_add(own_of(layout, role, file))
+        .saturating_add(slot_share(layout, role, file))
+}
+
+/// The sum of the files' shares, at most 2^64 - 1.
+pub(crate) fn total_of(layout: &Layout, role: Role, files: &[File]) -> u64
+    ensures { result ≡ min (2 ^ 64 - 1) (total (share layout.now role) files.now) }
+{
+    let mut sum: u64 = 0;
+    for file in files {
+        sum = sum.saturating_add(share(layout, role, file));
+    }
+    sum
+}
+
+/// What a group has to write in a part of that role, at most 2^64 - 1.
+pub(crate) fn group_share(layout: &Layout, role: Role, group: &Group) -> u64
+    ensures { result ≡ min (2 ^ 64 - 1) (group_share layout.now role group.now) }
+{
+    let files = total_of(layout, role, group.files.as_slice());
+    files.saturating_add(block_share(layout, role, group))
+}
+
+fn needs_of(layout: &Layout, role: Role, part: usize, group: &Group) -> u64
+    ensures { result ≡ needs_of layout.now role part group.now }
+{
+    match role {
+        Role::Raw => group.given(part),
+        _ => group_share(layout, role, group),
+    }
+}
+
+/// How many bytes of a part a group needs, at most 2^64 - 1; 0 where there is no such part or group.
+#[tactic(auto, unfolding(crate::specs::Needs::needs))]
+pub fn needs(layout: &Layout, part: usize, group: usize) -> u64
+    ensures { result ≡ needs layout.now part group }
+{
+    let Some(found) = layout.parts.as_slice().get(part) else {
+        return 0;
+    };
+    match layout.groups.as_slice().get(group) {
+        Some(group) => needs_of(layout, found.role, part, group),
+        None => 0,
+    }
+}
+
+/// Whether no group has anything to write in a part of that role, as far as that is known without a look at the files.
+#[tactic(auto, using(crate::proofs::ShareLemmas::no_share))]
+fn needs_nothing(layout: &Layout, role: Role) -> bool
+    ensures { result ≡ true → total_share layout.now role ≡ 0 }
+{
+    !layout.kind.needs_dynamic()
+        && !layout.has_table()
+        && !is_of_slots(role)
+        && whole_of(layout, role) == 0
+}
+
+/// How many bytes all groups have to write in a part of that role, at most 2^64 - 1.
+pub fn total_share(layout: &Layout, role: Role) -> u64
+    ensures { result ≡ min (2 ^ 64 - 1) (total_share layout.now role) }
+{
+    if needs_nothing(layout, role) {
+        return 0;
+    }
+    let mut sum: u64 = 0;
+    for group in layout.groups.as_slice() {
+        sum = sum.saturating_add(group_share(layout, role, group));
+    }
+    sum
+}

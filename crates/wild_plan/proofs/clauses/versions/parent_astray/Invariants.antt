@@ -1,6 +1,0 @@
-use Rattle.std.proofs.Common.{◌≡◌, drop}
-use Rattle.wild_plan.specs.VersionTables.{parent_astray}
-use Rattle.wild_plan.proofs.clauses.versions.parent_astray.Given as goal
-
-abbrev pub invariant-loop-i : goal.invariant-loop-i
-invariant-loop-i l = parent_astray l.i (drop l.i l.definitions) ≡ parent_astray 0 l.definitions

@@ -1,0 +1,86 @@
+-- What words of slots give to the parts of an image, one list a part. A word stands 8 bytes behind the one before it.
+--   slot_words t relr at ws     the words of `got` or `got_relr`
+--   slot_entries t m relr at ws the entries of `rela_plt`, `rela_dyn_relative` or `rela_dyn_general`, each with its word's place
+--   flat_places relr at ws      the places that have a RELR word of their own
+--   begins_block ws    the first word is one of the block of packed words
+use Rattle.std.specs.Prelude.{ℕ, ◌+◌, ◌%◌, ◌^◌, ◌==◌, ◌&&◌, Bool, if◌then◌else◌, List, [], ◌∷◌, ◌++◌, Option, Some, None, option_to_list, true, false}
+use Rattle.std.specs.Int.{cast_signed, w64}
+use Rattle.wild_records.specs.declared.relocations.Rela.{Rela}
+use Rattle.wild_reloc.specs.declared.dynamic.DynamicRelocationKind.{DynamicRelocationKind}
+use Rattle.wild_reloc.specs.declared.dynamic.DynamicRelocationKind.TheVariants.{Relative}
+use Rattle.wild_reloc.specs.Dynamic.{x86_64_type, aarch64_type}
+use Rattle.wild_types.specs.declared.kind.Machine.{Machine}
+use Rattle.wild_types.specs.declared.kind.Machine.TheVariants as machine
+use Rattle.wild_slot.specs.declared.slot.SlotEntry.{SlotEntry}
+use Rattle.wild_slot.specs.declared.slot.SlotWord.{SlotWord}
+use Rattle.wild_slot.specs.declared.slot.SlotWord.TheVariants.{Number, Address, InBlock, General, Plt}
+use Rattle.wild_slot.specs.declared.slot_parts.WordPart.{WordPart}
+use Rattle.wild_slot.specs.declared.slot_parts.WordPart.TheVariants as words
+use Rattle.wild_slot.specs.declared.slot_parts.EntryPart.{EntryPart}
+use Rattle.wild_slot.specs.declared.slot_parts.EntryPart.TheVariants as entries
+
+-- the place of the next word
+abbrev pub next : ℕ → ℕ
+next at = (at + 8) % 2 ^ 64
+
+-- what each word gives, in order
+abbrev pub at_places : {X : Type 0} → (ℕ → SlotWord → Option X) → ℕ → List SlotWord → List X
+at_places f at [] = []
+at_places f at (w ∷ ws) = option_to_list (f at w) ++ at_places f (next at) ws
+
+-- ---- words
+
+-- a RELR word can name the place
+abbrev pub is_packed : Bool → ℕ → Bool
+is_packed relr at = relr && at % 2 == 0
+
+-- a word that a loader adds the base to stands as it is; one that an entry fills is 0
+abbrev pub word_of : WordPart → Bool → ℕ → SlotWord → Option ℕ
+word_of words.Got relr at (Number n) = Some n
+word_of words.Got relr at (Address a) = Some (if is_packed relr at then a else 0)
+word_of words.Got relr at (InBlock a) = None
+word_of words.Got relr at (General e) = Some 0
+word_of words.Got relr at (Plt e) = Some 0
+word_of words.Block relr at (InBlock a) = Some a
+word_of words.Block relr at other = None
+
+abbrev pub slot_words : WordPart → Bool → ℕ → List SlotWord → List ℕ
+slot_words part relr at ws = at_places (word_of part relr) at ws
+
+-- ---- entries
+
+-- the number of a kind (x86-64 psABI and aaelf64, "Relocation Types")
+abbrev pub type_of : Machine → DynamicRelocationKind → ℕ
+type_of machine.X86_64 kind = x86_64_type kind
+type_of machine.AArch64 kind = aarch64_type kind
+
+-- the entry that fills the word at a place; r_info has the low 32 bits of the index (gABI, "Relocation", ELF64_R_INFO)
+abbrev pub entry_at : Machine → ℕ → SlotEntry → Rela
+entry_at m at e = record { offset = at; number = type_of m e.kind; symbol = e.symbol % 2 ^ 32; addend = cast_signed w64 e.addend }
+
+-- the entry by which a loader stores base plus value
+abbrev pub address_entry : Machine → ℕ → ℕ → Rela
+address_entry m at value = record { offset = at; number = type_of m Relative; symbol = 0; addend = cast_signed w64 value }
+
+abbrev pub entry_of : EntryPart → Machine → Bool → ℕ → SlotWord → Option Rela
+entry_of entries.Plt m relr at (Plt e) = Some (entry_at m at e)
+entry_of entries.Relative m relr at (Address a) = if is_packed relr at then None else Some (address_entry m at a)
+entry_of entries.General m relr at (General e) = Some (entry_at m at e)
+entry_of part m relr at other = None
+
+abbrev pub slot_entries : EntryPart → Machine → Bool → ℕ → List SlotWord → List Rela
+slot_entries part m relr at ws = at_places (entry_of part m relr) at ws
+
+-- ---- packed places
+
+abbrev pub flat_place : Bool → ℕ → SlotWord → Option ℕ
+flat_place relr at (Address a) = if is_packed relr at then Some at else None
+flat_place relr at other = None
+
+abbrev pub flat_places : Bool → ℕ → List SlotWord → List ℕ
+flat_places relr at ws = at_places (flat_place relr) at ws
+
+-- the first word is one of the block of packed words
+abbrev pub begins_block : List SlotWord → Bool
+begins_block (InBlock a ∷ ws) = true
+begins_block other = false

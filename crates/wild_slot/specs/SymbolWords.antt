@@ -1,0 +1,16 @@
+-- What is written for a symbol: the words of its slots, its stub, and what kept the rest from being written.
+--   slots_of l s       its words, its stub, and the fault
+use Rattle.std.specs.Prelude.{Option, Some, None}
+use Rattle.wild_types.specs.declared.symbol.Resolution.{Resolution}
+use Rattle.wild_types.specs.declared.symbol.Symbol.{Symbol}
+use Rattle.wild_types.specs.declared.layout.Layout.{Layout}
+use Rattle.wild_slot.specs.Slots.{SlotContent, setting_of, slot, no_slot}
+use Rattle.wild_slot.specs.Stub.{far_of}
+
+abbrev pub resolved_slots : Layout → Option Resolution → SlotContent
+resolved_slots l None = no_slot
+resolved_slots l (Some r) = slot (setting_of l) (far_of l.machine r) r
+
+-- what is written for a symbol
+unfoldable pub slots_of : Layout → Symbol → SlotContent
+slots_of l s = resolved_slots l s.resolution

@@ -1,0 +1,19 @@
+//! What the slots and the stub of a symbol have, and what is done with a relocation, as far as the layout alone says it.
+#![tactic(auto)]
+
+mod cases;
+mod slot;
+mod slot_parts;
+mod stub;
+mod symbol_slots;
+mod treatment;
+
+pub use cases::{slot_of, storage_pair, thread_pointer};
+pub use slot::{MAX_WORDS, Setting, SlotEntry, SlotFault, SlotItem, SlotWord, WORD_SIZE};
+pub use slot_parts::{
+    EntryPart, WordPart, address_entry, begins_block, count_entries, count_flat, count_words,
+    entry_at, entry_of, flat_place, next_word, type_of, word_of,
+};
+pub use stub::{PltTooFar, STUB_SIZE, far_of, put_stub, write_stub};
+pub use symbol_slots::SymbolSlots;
+pub use treatment::{Treatment, flags_at, row_treatment, treatment_of};

@@ -1,0 +1,294 @@
+//! What is done with a relocation, as far as the layout alone says it: no value is taken.
+ghost use Rattle.std.specs.Prelude.{◌≡◌};
+ghost use Rattle.wild_slot.specs.Treatment.{flags_at, is_left, is_elsewhere, is_barred, is_narrow, is_chosen, chosen_treatment, moves, moved_treatment, address_treatment, distance_treatment, pointer_treatment, is_sized, size_treatment, where_there, row_treatment, treatment};
+
+use wild_reloc::{RelocationKind, RelocationKindInfo};
+use wild_types::{
+    InputRelocation, InputSection, Layout, SymbolIndex, ValueFlags, is_allocated, is_writable,
+    row_of,
+};
+
+/// What is done with a relocation.
+#[derive(Clone, Copy)]
+pub enum Treatment {
+    /// Nothing is written.
+    Nothing,
+    /// A value is written into the field of this row.
+    Value(RelocationKindInfo),
+    /// An address that moves with the base is stored in 8 bytes by a loader.
+    BaseRelative,
+    /// The address of this symbol, which another module may define, is left to a dynamic entry.
+    Symbolic(SymbolIndex),
+    /// A loader stores what the resolver of this symbol answers, by a dynamic entry.
+    Indirect(SymbolIndex),
+    /// The size of this symbol, which another module may define, is left to a dynamic entry, in the field of this row.
+    Extent(RelocationKindInfo, SymbolIndex),
+    /// The field cannot hold an address that is known only where the image is loaded.
+    Recompile,
+    /// The type is not known, or needs a symbol and has none.
+    Unsupported,
+}
+
+/// What is known of the value of the symbol that defines a symbol.
+pub fn flags_at(layout: &Layout, symbol: SymbolIndex) -> ValueFlags
+    ensures { result ≡ flags_at layout.now symbol }
+{
+    match layout.symbols.as_slice().get(layout.canonical(symbol).0) {
+        Some(found) => found.flags,
+        None => ValueFlags(0),
+    }
+}
+
+/// Whether the address of the symbol is left to a dynamic entry.
+#[inline]
+fn is_left(
+    layout: &Layout,
+    section: &InputSection,
+    row: &RelocationKindInfo,
+    symbol: SymbolIndex,
+) -> bool
+    ensures { result ≡ is_left layout.now section.now row.now symbol }
+{
+    is_allocated(section.flags)
+        && is_writable(section.flags)
+        && row.width() == 8
+        && flags_at(layout, symbol).is_interposable()
+}
+
+/// Whether another module may define the symbol, and neither a copy of it nor a stub has an address of this output.
+fn is_elsewhere(flags: ValueFlags) -> bool
+    ensures { result ≡ is_elsewhere flags }
+{
+    (flags.is_interposable() || flags.is_dynamic())
+        && !(flags.needs_copy_relocation() || flags.needs_plt())
+}
+
+/// Whether the field is too narrow for the address of the symbol, which another module may define.
+#[inline]
+fn is_barred(
+    layout: &Layout,
+    section: &InputSection,
+    row: &RelocationKindInfo,
+    symbol: SymbolIndex,
+) -> bool
+    ensures { result ≡ is_barred layout.now section.now row.now symbol }
+{
+    is_allocated(section.flags)
+        && layout.kind.is_position_independent()
+        && row.width() != 8
+        && is_elsewhere(flags_at(layout, symbol))
+}
+
+/// Whether the field is too narrow for an address of a library.
+#[inline]
+fn is_narrow(layout: &Layout, section: &InputSection, row: &RelocationKindInfo) -> bool
+    ensures { result ≡ is_narrow layout.now section.now row.now }
+{
+    is_allocated(section.flags) && layout.kind.is_shared_object() && row.width() != 8
+}
+
+/// Whether the address of the symbol moves with the base.
+#[inline]
+fn moves(layout: &Layout, symbol: SymbolIndex) -> bool
+    ensures { result ≡ moves layout.now symbol }
+{
+    layout.kind.is_position_independent() && !flags_at(layout, symbol).is_absolute()
+}
+
+/// What is done with an address that moves with the base.
+#[inline]
+fn moved_treatment(row: &RelocationKindInfo) -> Treatment
+    ensures { result ≡ moved_treatment row.now }
+{
+    if row.width() == 8 {
+        Treatment::BaseRelative
+    } else {
+        Treatment::Recompile
+    }
+}
+
+/// Whether the address of the symbol is what a resolver answers, stored by a loader.
+#[inline]
+fn is_chosen(layout: &Layout, section: &InputSection, symbol: SymbolIndex) -> bool
+    ensures { result ≡ is_chosen layout.now section.now symbol }
+{
+    is_allocated(section.flags)
+        && is_writable(section.flags)
+        && layout.kind.is_position_independent()
+        && flags_at(layout, symbol).is_ifunc()
+}
+
+/// What is done with an address that the resolver of the symbol answers.
+#[inline]
+fn chosen_treatment(row: &RelocationKindInfo, symbol: SymbolIndex) -> Treatment
+    ensures { result ≡ chosen_treatment row.now symbol }
+{
+    if row.width() != 8 {
+        Treatment::Recompile
+    } else {
+        Treatment::Indirect(symbol)
+    }
+}
+
+/// What is done with a relocation that writes S + A of that symbol.
+#[inline]
+fn address_treatment(
+    layout: &Layout,
+    section: &InputSection,
+    row: RelocationKindInfo,
+    symbol: SymbolIndex,
+) -> Treatment
+    ensures { result ≡ address_treatment layout.now section.now row symbol }
+{
+    if is_barred(layout, section, &row, symbol) || is_narrow(layout, section, &row) {
+        Treatment::Recompile
+    } else if is_left(layout, section, &row, symbol) {
+        Treatment::Symbolic(symbol)
+    } else if is_chosen(layout, section, symbol) {
+        chosen_treatment(&row, symbol)
+    } else if is_allocated(section.flags) && moves(layout, symbol) {
+        moved_treatment(&row)
+    } else {
+        Treatment::Value(row)
+    }
+}
+
+/// What is done with a relocation that writes S + A - P.
+#[inline]
+fn distance_treatment(
+    layout: &Layout,
+    section: &InputSection,
+    row: RelocationKindInfo,
+    symbol: Option<SymbolIndex>,
+) -> Treatment
+    ensures { result ≡ distance_treatment layout.now section.now row symbol }
+{
+    let refused = match symbol {
+        Some(symbol) => is_barred(layout, section, &row, symbol),
+        None => is_allocated(section.flags) && layout.kind.is_position_independent(),
+    };
+    if refused {
+        Treatment::Recompile
+    } else {
+        Treatment::Value(row)
+    }
+}
+
+/// What is done with a relocation that writes an offset from the thread pointer, which is known in an executable alone.
+#[inline]
+fn pointer_treatment(layout: &Layout, section: &InputSection, row: RelocationKindInfo) -> Treatment
+    ensures { result ≡ pointer_treatment layout.now section.now row }
+{
+    if is_allocated(section.flags) && layout.kind.is_shared_object() {
+        Treatment::Recompile
+    } else {
+        Treatment::Value(row)
+    }
+}
+
+/// Whether the size of the symbol, which another module may define, is left to a dynamic entry.
+#[inline]
+fn is_sized(layout: &Layout, section: &InputSection, symbol: SymbolIndex) -> bool
+    ensures { result ≡ is_sized layout.now section.now symbol }
+{
+    let flags = flags_at(layout, symbol);
+    is_allocated(section.flags)
+        && flags.is_interposable()
+        && (flags.is_dynamic() || layout.kind.is_shared_object())
+}
+
+/// What is done with a relocation that writes the size of that symbol.
+#[inline]
+fn size_treatment(
+    layout: &Layout,
+    section: &InputSection,
+    row: RelocationKindInfo,
+    symbol: SymbolIndex,
+) -> Treatment
+    ensures { result ≡ size_treatment layout.now section.now row symbol }
+{
+    if is_sized(layout, section, symbol) {
+        Treatment::Extent(row, symbol)
+    } else {
+        Treatment::Value(row)
+    }
+}
+
+/// What is done with a relocation that names that symbol, where it is there; else its value is written, which it has not.
+#[inline]
+fn where_there(
+    layout: &Layout,
+    row: RelocationKindInfo,
+    symbol: SymbolIndex,
+    treatment: Treatment,
+) -> Treatment
+    ensures { result ≡ where_there layout.now row symbol treatment }
+{
+    if symbol.0 < layout.symbols.len() {
+        treatment
+    } else {
+        Treatment::Value(row)
+    }
+}
+
+/// What is done with a relocation that names that symbol, by the row of its type.
+#[inline]
+#[tactic(auto, unfolding(crate::specs::Treatment::row_treatment))]
+pub fn row_treatment(
+    layout: &Layout,
+    section: &InputSection,
+    symbol: Option<SymbolIndex>,
+    row: Option<RelocationKindInfo>,
+) -> Treatment
+    ensures { result ≡ row_treatment layout.now section.now symbol row }
+{
+    let Some(row) = row else {
+        return Treatment::Unsupported;
+    };
+    match (row.kind, symbol) {
+        (RelocationKind::None, _) | (RelocationKind::TlsDescCall, Some(_)) => Treatment::Nothing,
+        (RelocationKind::Absolute, Some(symbol)) => {
+            where_there(
+                layout,
+                row,
+                symbol,
+                address_treatment(layout, section, row, symbol),
+            )
+        }
+        (RelocationKind::Relative, symbol) => distance_treatment(layout, section, row, symbol),
+        (RelocationKind::TpOff, Some(_)) => pointer_treatment(layout, section, row),
+        (RelocationKind::SymbolSize, Some(symbol)) => {
+            where_there(
+                layout,
+                row,
+                symbol,
+                size_treatment(layout, section, row, symbol),
+            )
+        }
+        (RelocationKind::GotBaseRelative, _)
+        | (RelocationKind::SymRelGotBase, Some(_))
+        | (RelocationKind::DtpOff, Some(_))
+        | (RelocationKind::PltRelative, Some(_))
+        | (RelocationKind::PltRelGotBase, Some(_))
+        | (RelocationKind::GotRelative, Some(_))
+        | (RelocationKind::GotRelGotBase, Some(_))
+        | (RelocationKind::TlsGd, Some(_))
+        | (RelocationKind::TlsLd, Some(_))
+        | (RelocationKind::GotTpOff, Some(_))
+        | (RelocationKind::TlsDesc, Some(_)) => Treatment::Value(row),
+        _ => Treatment::Unsupported,
+    }
+}
+
+/// What is done with a relocation of a section.
+#[tactic(auto, unfolding(crate::specs::Treatment::treatment))]
+pub fn treatment_of(
+    layout: &Layout,
+    section: &InputSection,
+    relocation: &InputRelocation,
+) -> Treatment
+    ensures { result ≡ treatment layout.now section.now relocation.now }
+{
+    let row = row_of(layout.machine, relocation.number);
+    row_treatment(layout, section, relocation.symbol, row)
+}

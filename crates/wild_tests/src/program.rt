@@ -1,0 +1,151 @@
+//! The program over sources and sinks that fail, and over those that never do.
+use crate::images::SMALLEST_TEXT;
+use crate::outside::{CALM, Outside, answer, words_of};
+use crate::plans::{SMALLEST, changed};
+use std::alloc::Global;
+use std::test::*;
+use std::thread::Threads;
+use wild_program::{SureSink, SureSource, run_surely};
+
+#[test]
+fn no_command(rt: HostRuntime) -> Result<(), Fail> {
+    let none: [&[&str]; 11] = [
+        &[],
+        &["link"],
+        &["link", "0"],
+        &["link", "65"],
+        &["link", "01"],
+        &["make", "1"],
+        &["make", "0", "1"],
+        &["make", "01", "1"],
+        &["make", "1", "01"],
+        &["make", "65537", "1"],
+        &["--help"],
+    ];
+    for words in &none {
+        let (status, text) = answer(&rt, rt.alloc(), *words, b"{}", &CALM)?;
+        assert!(rt; status == 2);
+        assert_eq!(rt; text.as_slice(), b"usage: link W | make N W\n".as_slice());
+    }
+    Ok(())
+}
+
+#[test]
+fn failing_reads(rt: HostRuntime) -> Result<(), Fail> {
+    for call in 0..3u64 {
+        let outside = Outside {
+            reads: &[call],
+            most: 700,
+            ..CALM
+        };
+        let (status, text) = answer(
+            &rt,
+            rt.alloc(),
+            &["link", "1"],
+            SMALLEST.as_bytes(),
+            &outside,
+        )?;
+        assert!(rt; status == 4);
+        assert_eq!(rt; text.as_slice(), b"read fault\n".as_slice());
+    }
+    Ok(())
+}
+
+#[test]
+fn cut_plans(rt: HostRuntime) -> Result<(), Fail> {
+    let plan = SMALLEST.as_bytes();
+    for end in 0..plan.len() {
+        let (status, text) = answer(&rt, rt.alloc(), &["link", "64"], &plan[..end], &CALM)?;
+        assert!(rt; status == 3);
+        assert_eq!(rt; text.as_slice(), b"not a plan: json\n".as_slice());
+    }
+    Ok(())
+}
+
+/// Each write of the text fails, or takes nothing.
+#[test]
+fn failing_writes(rt: HostRuntime) -> Result<(), Fail> {
+    let words = ["link", "1"];
+    let whole = SMALLEST_TEXT.as_bytes();
+    for call in 0..90u64 {
+        let fails = Outside {
+            writes: &[call],
+            most: 8,
+            ..CALM
+        };
+        let takes_none = Outside {
+            empty: &[call],
+            most: 8,
+            ..CALM
+        };
+        for outside in &[fails, takes_none] {
+            let (status, taken) = answer(&rt, rt.alloc(), &words, SMALLEST.as_bytes(), outside)?;
+            assert!(rt; status == 5);
+            assert!(rt; whole.starts_with(&taken) && taken.len() == 8 * call as usize);
+        }
+    }
+    Ok(())
+}
+
+/// A text above 4,096 bytes with a list above 1,000 items is read and written as any other: a relocation of number 0
+/// writes nothing, and is counted.
+#[test]
+fn long_plans(rt: HostRuntime) -> Result<(), Fail> {
+    let alloc = rt.alloc();
+    let last = r#""addend":-4}"#;
+    let mut items = String::from_str(alloc, last)?;
+    for _ in 0..1200 {
+        items.push_str(r#",{"number":0}"#)?;
+    }
+    let plan = changed(alloc, SMALLEST, &[(last, items.as_str())])?;
+    let text = changed(alloc, SMALLEST_TEXT, &[("count 1 1\n", "count 1 1201\n")])?;
+    let (status, said) = answer(&rt, alloc, &["link", "2"], plan.as_bytes(), &CALM)?;
+    assert!(rt; status == 0);
+    assert_eq!(rt; said.as_slice(), text.as_bytes());
+    Ok(())
+}
+
+#[test]
+fn made_plans(rt: HostRuntime) -> Result<(), Fail> {
+    let rows: [(&[&str], &str); 3] = [
+        (
+            &["make", "1", "1"],
+            "groups 1\nimage 408\ncount 1 8\nsum 16871\n",
+        ),
+        (
+            &["make", "2", "1"],
+            "groups 2\nimage 472\ncount 1 16\nsum 25303\n",
+        ),
+        (
+            &["make", "2", "2"],
+            "groups 2\nimage 472\ncount 1 16\nsum 25303\n",
+        ),
+    ];
+    for (words, text) in rows {
+        let (status, said) = answer(&rt, rt.alloc(), words, b"", &CALM)?;
+        assert_eq!(rt; status, 0);
+        assert_eq!(rt; said.as_slice(), text.as_bytes());
+    }
+    Ok(())
+}
+
+/// The status for a plan where no read or write can fail.
+fn status_of(rt: &(impl Threads + Sync), alloc: Global, plan: &str) -> Result<u8, Fail> {
+    let words = words_of(alloc, &["link", "1"])?;
+    let mut source = SureSource::new(plan.as_bytes().to_vec(alloc)?);
+    let mut sink = SureSink;
+    Ok(run_surely(rt, alloc, &words, &mut source, &mut sink)?)
+}
+
+#[test]
+fn sure_runs(rt: HostRuntime) -> Result<(), Fail> {
+    let broken = changed(
+        rt.alloc(),
+        SMALLEST,
+        &[(r#""number":2,"#, r#""number":6,"#)],
+    )?;
+    assert_eq!(rt; status_of(&rt, rt.alloc(), SMALLEST)?, 0);
+    assert_eq!(rt; status_of(&rt, rt.alloc(), broken.as_str())?, 1);
+    assert_eq!(rt; status_of(&rt, rt.alloc(), "[]")?, 3);
+    Ok(())
+}

@@ -1,0 +1,155 @@
+//! Tables that GNU ld 2.40 wrote (gcc 12.2): `.gnu.version` and `.gnu.version_d` of the library that
+//! `gcc -shared -fPIC -nostdlib -O1 -Wl,-soname,liba.so -Wl,--version-script=a.map` made of
+//!
+//! ```c
+//! int first(void) { return 1; }
+//! int second(void) { return 2; }
+//! ```
+//!
+//! with the script `V1 { global: first; local: *; }; V2 { global: second; } V1;`, and `.gnu.version_r` of the program that
+//! `gcc -O1 -fno-builtin` made with that library, `libm` and `libc` of
+//!
+//! ```c
+//! #include <stdio.h>
+//! #include <pthread.h>
+//! #include <math.h>
+//! extern int first(void), second(void);
+//! int main(int argc, char **argv) { printf("%f %d", pow(argc, 2.5), first() + second()); return pthread_create(0, 0, 0, 0); }
+//! ```
+use crate::layouts::layout_of;
+use std::alloc::Global;
+use std::test::*;
+use wild_plan::{Error, FileRole, Layout};
+use wild_versions::{VersionWriter, file_definitions, file_versions};
+
+/// The versions of the null symbol, `V1`, `first`, `second` and `V2`.
+const SYMBOLS: [u8; 10] = [0x00, 0, 0x02, 0, 0x02, 0, 0x03, 0, 0x03, 0];
+
+/// `liba.so`, `V1` and its child `V2`, whose names stand at 0x0e, 0x16 and 0x19.
+#[rattlefmt::skip]
+const DEFINITIONS: [u8; 92] = [
+    0x01, 0, 0x01, 0, 0x01, 0, 0x01, 0, 0xef, 0x45, 0xf8, 0x02, 0x14, 0, 0, 0, 0x1c, 0, 0, 0,
+    0x0e, 0, 0, 0, 0, 0, 0, 0,
+    0x01, 0, 0, 0, 0x02, 0, 0x01, 0, 0x91, 0x05, 0, 0, 0x14, 0, 0, 0, 0x1c, 0, 0, 0,
+    0x16, 0, 0, 0, 0, 0, 0, 0,
+    0x01, 0, 0, 0, 0x03, 0, 0x02, 0, 0x92, 0x05, 0, 0, 0x14, 0, 0, 0, 0, 0, 0, 0,
+    0x19, 0, 0, 0, 0x08, 0, 0, 0,
+    0x16, 0, 0, 0, 0, 0, 0, 0,
+];
+
+/// `GLIBC_2.29` of `libm.so.6`, `V1` and `V2` of `liba.so`, `GLIBC_2.2.5` and `GLIBC_2.34` of `libc.so.6`.
+#[rattlefmt::skip]
+const NEEDS: [u8; 128] = [
+    0x01, 0, 0x01, 0, 0x96, 0, 0, 0, 0x10, 0, 0, 0, 0x20, 0, 0, 0,
+    0x89, 0x91, 0x96, 0x06, 0, 0, 0x04, 0, 0xaa, 0, 0, 0, 0, 0, 0, 0,
+    0x01, 0, 0x02, 0, 0x8e, 0, 0, 0, 0x10, 0, 0, 0, 0x30, 0, 0, 0,
+    0x91, 0x05, 0, 0, 0, 0, 0x06, 0, 0xb5, 0, 0, 0, 0x10, 0, 0, 0,
+    0x92, 0x05, 0, 0, 0, 0, 0x03, 0, 0xb8, 0, 0, 0, 0, 0, 0, 0,
+    0x01, 0, 0x02, 0, 0xa0, 0, 0, 0, 0x10, 0, 0, 0, 0, 0, 0, 0,
+    0x75, 0x1a, 0x69, 0x09, 0, 0, 0x05, 0, 0xbb, 0, 0, 0, 0x10, 0, 0, 0,
+    0xb4, 0x91, 0x96, 0x06, 0, 0, 0x02, 0, 0xc7, 0, 0, 0, 0, 0, 0, 0,
+];
+
+/// Where the names of the libraries and of these versions stand.
+const NAMES: [(u32, &[u32]); 3] = [
+    (0x96, &[0xaa]),
+    (0x8e, &[0xb5, 0xb8]),
+    (0xa0, &[0xbb, 0xc7]),
+];
+
+/// The libraries of the program, in a group with little room; and the library, whose last file's strings begin at 0x0e, in one
+/// with room for all tables.
+const PLAN: &str =
+    r#"{"kind":"shared","options":{"soname":"6c6962612e736f","versions":true},"parts":[{"role":"gnu_version"},{"role":"gnu_version_d"},{"role":"gnu_version_r"}],"symbols":[{},{"version":2},{"version":2},{"version":3},{"version":3}],"groups":[{"files":[{"role":"dynamic","lib_name":"6c69626d2e736f2e36","verneed":{"versions":[{"name":"474c4942435f322e3239","index":4}]}},{"role":"dynamic","lib_name":"6c6962612e736f","verneed":{"versions":[{"name":"5631","index":6},{"name":"5632","index":3}]}},{"role":"dynamic","lib_name":"6c6962632e736f2e36","verneed":{"last":true,"versions":[{"name":"474c4942435f322e322e35","index":5},{"name":"474c4942435f322e3334","index":2}]}}],"part_sizes":[8,91,31]},{"files":[{"role":"prelude"},{"role":"epilogue"}],"part_sizes":[10,92,128],"dynstr_start":13}],"verdefs":[{"name":"62617365"},{"name":"5631"},{"name":"5632","parent":1}]}"#;
+
+/// Whether the versions are put that the library defines.
+fn put_definitions(writer: &mut VersionWriter, layout: &Layout) -> Result<bool, Fail> {
+    if layout.verdefs.len() > 100 {
+        return Err("many versions".into());
+    }
+    Ok(writer.write_verdef(layout, &[0x0e, 0x16, 0x19]).is_ok())
+}
+
+/// Whether the versions are put that are needed of each library of the first group.
+fn put_needs(writer: &mut VersionWriter, layout: &Layout) -> Result<bool, Fail> {
+    let libraries = layout.groups.as_slice().get(0).ok_or("no group")?;
+    for (file, (library, names)) in libraries.files.as_slice().iter().zip(&NAMES) {
+        let needs = file.verneed.as_ref().ok_or("no versions")?;
+        if needs.versions.len() > 100 {
+            return Err("many versions".into());
+        }
+        if writer.write_verneed(*library, *names, needs).is_err() {
+            return Ok(false);
+        }
+    }
+    Ok(true)
+}
+
+/// Puts the versions of the symbols, by their numbers or as those of a library.
+fn put_symbols(writer: &mut VersionWriter, layout: &Layout, copied: bool) -> Result<(), Error> {
+    for symbol in layout.symbols.as_slice() {
+        if copied {
+            writer.copy_symbol_version(FileRole::Dynamic, symbol)?;
+        } else {
+            writer.set_next_symbol_version(symbol.version)?;
+        }
+    }
+    Ok(())
+}
+
+/// Whether the tables have these bytes.
+fn has(writer: &VersionWriter, symbols: &[u8], definitions: &[u8], needs: &[u8]) -> bool {
+    writer.symbols.bytes() == symbols
+        && writer.definitions.bytes() == definitions
+        && writer.needs.bytes() == needs
+}
+
+#[test]
+fn writes_what_ld_wrote(rt: HostRuntime) -> Result<(), Fail> {
+    let layout = layout_of(rt.alloc(), PLAN)?;
+    for copied in [false, true] {
+        let mut writer = VersionWriter::new(rt.alloc(), &layout, 1)?;
+        put_symbols(&mut writer, &layout, copied)?;
+        assert!(rt; put_definitions(&mut writer, &layout)?);
+        assert!(rt; writer.check_exhausted().is_err());
+        assert!(rt; put_needs(&mut writer, &layout)?);
+        assert!(rt; writer.check_exhausted().is_ok());
+        assert!(rt; has(&writer, &SYMBOLS, &DEFINITIONS, &NEEDS));
+    }
+    Ok(())
+}
+
+/// What does not fit is refused, and leaves each table as it was.
+#[test]
+fn refuses_what_does_not_fit(rt: HostRuntime) -> Result<(), Fail> {
+    let layout = layout_of(rt.alloc(), PLAN)?;
+    let mut writer = VersionWriter::new(rt.alloc(), &layout, 0)?;
+    assert!(rt; put_symbols(&mut writer, &layout, false).is_err());
+    assert!(rt; !put_definitions(&mut writer, &layout)?);
+    assert!(rt; !put_needs(&mut writer, &layout)?);
+    assert!(rt; has(&writer, &SYMBOLS[..8], &[0; 91], &[0; 31]));
+    Ok(())
+}
+
+/// The library's versions are those of its last file, and the null symbol's is that of the first.
+#[test]
+fn gives_what_ld_wrote(rt: HostRuntime) -> Result<(), Fail> {
+    let alloc = rt.alloc();
+    let layout = layout_of(alloc, PLAN)?;
+    let library = layout.groups.as_slice().get(1).ok_or("no group")?;
+    let [first, last] = library.files.as_slice() else {
+        return Err("other files".into());
+    };
+    if layout.verdefs.len() > 100 {
+        return Err("many versions".into());
+    }
+    assert_eq!(rt;
+        file_definitions(alloc, &layout, last)?.as_slice(),
+        DEFINITIONS.as_slice()
+    );
+    assert_eq!(rt;
+        file_versions(alloc, &layout, first)?.as_slice(),
+        &SYMBOLS[..2]
+    );
+    Ok(())
+}

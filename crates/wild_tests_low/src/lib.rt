@@ -1,0 +1,29 @@
+//! Tests of the crates up to the loader's model, the rewrites, the hash tables, the workers and the ends.
+#![tactic(auto)]
+
+#[cfg(test)]
+mod fields;
+#[cfg(test)]
+mod hashes;
+#[cfg(test)]
+mod images;
+#[cfg(test)]
+mod instructions;
+#[cfg(test)]
+mod loader;
+#[cfg(test)]
+mod names;
+#[cfg(test)]
+mod outside;
+#[cfg(test)]
+mod records;
+#[cfg(test)]
+mod rewrites;
+#[cfg(test)]
+mod sequences;
+#[cfg(test)]
+mod stubs;
+#[cfg(test)]
+mod tables;
+#[cfg(test)]
+mod workers;

@@ -1,0 +1,174 @@
+//! Sequences of two relocations as other tools write them, and what is rewritten at all.
+
+use crate::rewrites::{
+    ABSOLUTE, DYNAMIC, FIXED, LAST, MOVABLE, OTHERS, OWN, SHARED, Setting, at_the_end, link,
+};
+use std::test::Fail;
+use wild_relax::{RelaxationKind, RelocationInfo};
+use wild_types::{OutputKind, ValueFlags};
+
+// The kinds by their own names.
+use RelaxationKind::{
+    CallIndirectToRelative, JmpIndirectToRelative, MovIndirectToAbsolute, MovIndirectToLea,
+    RexMovIndirectToAbsolute, SkipTlsDescCall, TlsDescToLocalExec, TlsGdToInitialExec,
+    TlsGdToLocalExec, TlsGdToLocalExecLarge, TlsLdToLocalExec, TlsLdToLocalExec64,
+    TlsLdToLocalExecNoPlt,
+};
+
+/// The output, the symbol's flags, the address of the sequence, what its value is taken from, number and offset of the
+/// first relocation, number, offset and addend of the call's, the sequence, and what becomes of it.
+type Sequence = (
+    OutputKind,
+    ValueFlags,
+    u64,
+    u64,
+    (u32, u64),
+    (u32, u64, i64),
+    &'static [u8],
+    RelaxationKind,
+    &'static [u8],
+);
+
+#[rattlefmt::skip]
+const SEQUENCES: &[Sequence] = &[
+    // `leaq x@tlsgd(%rip), %rdi` with `call __tls_get_addr@PLT`, as GNU `ld -no-pie` 2.40 wrote it.
+    (FIXED, OWN, 0x401000, LAST, (19, 4), (4, 12, -4),
+        b"\x66\x48\x8d\x3d\0\0\0\0\x66\x66\x48\xe8\0\0\0\0", TlsGdToLocalExec,
+        b"\x64\x48\x8b\x04\x25\0\0\0\0\x48\x8d\x80\xf8\xff\xff\xff"),
+    // The same with `call *__tls_get_addr@GOTPCREL(%rip)`, and `leaq x@tlsld(%rip), %rdi` with `call __tls_get_addr@PLT`, as
+    // `ld -pie` wrote them where x is 8 bytes below the end of its own thread-local data.
+    (DYNAMIC, OWN, 0x1000, LAST, (19, 4), (41, 12, -4),
+        b"\x66\x48\x8d\x3d\0\0\0\0\x66\x48\xff\x15\0\0\0\0", TlsGdToLocalExec,
+        b"\x64\x48\x8b\x04\x25\0\0\0\0\x48\x8d\x80\xf8\xff\xff\xff"),
+    (DYNAMIC, OWN, 0x1000, LAST, (20, 3), (4, 8, -4),
+        b"\x48\x8d\x3d\0\0\0\0\xe8\0\0\0\0", TlsLdToLocalExec,
+        b"\x66\x66\x66\x64\x48\x8b\x04\x25\0\0\0\0"),
+    // The first two as GNU `ld` 2.40 wrote them with `-pie` where a shared object has x; and with R_X86_64_GOTPCREL at the
+    // call, as lld 22 did.
+    (DYNAMIC, OTHERS, 0x1020, 0x2fe0, (19, 4), (4, 12, -4),
+        b"\x66\x48\x8d\x3d\0\0\0\0\x66\x66\x48\xe8\0\0\0\0", TlsGdToInitialExec,
+        b"\x64\x48\x8b\x04\x25\0\0\0\0\x48\x03\x05\xb0\x1f\0\0"),
+    (DYNAMIC, OTHERS, 0x1020, 0x2fd8, (19, 4), (41, 12, -4),
+        b"\x66\x48\x8d\x3d\0\0\0\0\x66\x48\xff\x15\0\0\0\0", TlsGdToInitialExec,
+        b"\x64\x48\x8b\x04\x25\0\0\0\0\x48\x03\x05\xa8\x1f\0\0"),
+    (DYNAMIC, OTHERS, 0x12e0, 0x23d0, (19, 4), (9, 12, -4),
+        b"\x66\x48\x8d\x3d\0\0\0\0\x66\x48\xff\x15\0\0\0\0", TlsGdToInitialExec,
+        b"\x64\x48\x8b\x04\x25\0\0\0\0\x48\x03\x05\xe0\x10\0\0"),
+    // The sequences that are longer than what stands in their place, filled with `nop`. GNU `ld` 2.40 writes the same
+    // instructions, with `66 0f 1f 44 00 00` behind the first, and in the others with `66 66 66 66 2e 0f 1f 84 00 00 00 00 00`,
+    // or four prefixes `66`, before them; lld 22 writes the third as GNU `ld` does.
+    (DYNAMIC, OWN, 0x1040, LAST, (19, 3), (31, 9, 0),
+        b"\x48\x8d\x3d\0\0\0\0\x48\xb8\0\0\0\0\0\0\0\0\x48\x01\xd8\xff\xd0", TlsGdToLocalExecLarge,
+        b"\x64\x48\x8b\x04\x25\0\0\0\0\x48\x8d\x80\xf8\xff\xff\xff\x90\x90\x90\x90\x90\x90"),
+    (DYNAMIC, OWN, 0x1040, LAST, (20, 3), (31, 9, 0),
+        b"\x48\x8d\x3d\0\0\0\0\x48\xb8\0\0\0\0\0\0\0\0\x48\x01\xd8\xff\xd0", TlsLdToLocalExec64,
+        b"\x64\x48\x8b\x04\x25\0\0\0\0\x90\x90\x90\x90\x90\x90\x90\x90\x90\x90\x90\x90\x90"),
+    (DYNAMIC, OWN, 0x1040, LAST, (20, 3), (41, 9, -4),
+        b"\x48\x8d\x3d\0\0\0\0\xff\x15\0\0\0\0", TlsLdToLocalExecNoPlt,
+        b"\x64\x48\x8b\x04\x25\0\0\0\0\x90\x90\x90\x90"),
+];
+
+#[test]
+fn of_two_relocations(rt: HostRuntime) -> Result<(), Fail> {
+    for (kind, flags, address, target, first, call, input, made, output) in SEQUENCES {
+        let setting = Setting {
+            kind: *kind,
+            flags: *flags,
+            relax: true,
+            address: *address,
+            symbol: None,
+            target: *target,
+        };
+        let relocation = RelocationInfo {
+            number: first.0,
+            offset: first.1,
+            symbol: Some(0),
+            addend: -4,
+            names_tls_get_addr: false,
+        };
+        let of_call = RelocationInfo {
+            number: call.0,
+            offset: call.1,
+            symbol: Some(1),
+            addend: call.2,
+            names_tls_get_addr: true,
+        };
+        let mut bytes = input.to_vec(rt.alloc())?;
+        let alone = link(&mut bytes, &[relocation], setting)?;
+        assert!(rt; alone == Err(first.0), "{} alone at {address:x}", first.0);
+        let found = link(&mut bytes, &[relocation, of_call], setting)?;
+        assert!(rt; found == Ok(Some(*made)), "{} at {address:x}", first.0);
+        assert_eq!(rt; bytes.as_slice(), *output, "{} at {address:x}", first.0);
+    }
+    Ok(())
+}
+
+/// The output, the symbol's flags, the relocation, the instruction, and what becomes of it; the number where what it
+/// needs is not there.
+type Instruction = (
+    OutputKind,
+    ValueFlags,
+    u32,
+    &'static [u8],
+    Result<Option<RelaxationKind>, u32>,
+);
+
+#[rattlefmt::skip]
+const INSTRUCTIONS: &[Instruction] = &[
+    (MOVABLE, OWN, 42, b"\x48\x8b\x2d\0\0\0\0", Ok(Some(MovIndirectToLea))),
+    (MOVABLE, ABSOLUTE, 42, b"\x48\x8b\x2d\0\0\0\0", Ok(Some(RexMovIndirectToAbsolute(3)))),
+    (MOVABLE, OWN, 41, b"\x8b\x2d\0\0\0\0", Ok(Some(MovIndirectToLea))),
+    (MOVABLE, ABSOLUTE, 41, b"\x8b\x2d\0\0\0\0", Ok(Some(MovIndirectToAbsolute))),
+    (MOVABLE, OWN, 43, b"\xd5\x48\x8b\x2d\0\0\0\0", Ok(Some(MovIndirectToLea))),
+    (MOVABLE, ABSOLUTE, 43, b"\xd5\x48\x8b\x2d\0\0\0\0", Ok(Some(RexMovIndirectToAbsolute(4)))),
+    (FIXED, OWN, 41, b"\xff\x15\0\0\0\0", Ok(Some(CallIndirectToRelative))),
+    (FIXED, OWN, 41, b"\xff\x25\0\0\0\0", Ok(Some(JmpIndirectToRelative))),
+    (FIXED, OWN, 34, b"\x48\x8d\x05\0\0\0\0", Ok(Some(TlsDescToLocalExec(3)))),
+    (FIXED, OWN, 35, b"\xff\x10", Ok(Some(SkipTlsDescCall))),
+    // No REX2 prefix, and no opcode; `movl` by R_X86_64_GOTPCREL.
+    (MOVABLE, ABSOLUTE, 43, b"\x00\x48\x8b\x2d\0\0\0\0", Ok(None)),
+    (FIXED, OWN, 41, b"\x15\0\0\0\0", Ok(None)),
+    (FIXED, OWN, 9, b"\x8b\x05\0\0\0\0", Ok(None)),
+    // An interposable symbol, a shared object's thread-local data, and a relocation that is no row's.
+    (MOVABLE, OTHERS, 42, b"\x48\x8b\x2d\0\0\0\0", Ok(None)),
+    (SHARED, OWN, 22, b"\x48\x8b\x2d\0\0\0\0", Ok(None)),
+    (DYNAMIC, OWN, 64, b"\x48\x8b\x2d\0\0\0\0", Ok(None)),
+    // A call through another register.
+    (FIXED, OWN, 35, b"\xff\x11", Err(35)),
+];
+
+#[test]
+fn what_is_rewritten(rt: HostRuntime) -> Result<(), Fail> {
+    for (kind, flags, number, input, wanted) in INSTRUCTIONS {
+        let setting = Setting {
+            kind: *kind,
+            flags: *flags,
+            relax: true,
+            address: 0x1000,
+            symbol: Some(0x3008),
+            target: 0x3008,
+        };
+        let mut bytes = input.to_vec(rt.alloc())?;
+        let found = link(&mut bytes, &[at_the_end(*number, input)], setting)?;
+        assert!(rt; found == *wanted, "{number} of {input:?}");
+        let unchanged = bytes.as_slice() == *input;
+        assert!(rt;
+            unchanged != matches!(wanted, Ok(Some(_))),
+            "{number} of {input:?}"
+        );
+    }
+    // Rewriting turned off.
+    let mut bytes = *b"\x48\x8b\x2d\0\0\0\0";
+    let relocation = at_the_end(42, &bytes);
+    let off = Setting {
+        kind: DYNAMIC,
+        flags: OWN,
+        relax: false,
+        address: 0x1000,
+        symbol: Some(0x3008),
+        target: 0x3008,
+    };
+    assert!(rt; link(&mut bytes, &[relocation], off)? == Ok(None));
+    assert_eq!(rt; bytes, *b"\x48\x8b\x2d\0\0\0\0");
+    Ok(())
+}

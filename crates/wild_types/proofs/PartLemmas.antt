@@ -1,0 +1,16 @@
+-- Laws of the parts by their roles.
+use Rattle.std.proofs.Common.{◌≡◌, inl, inr, List, [], ◌∷◌, is_some, refl}
+use Rattle.std.specs.List.{list_any}
+use Rattle.std.proofs.lemmas.Bool.{cases_Bool}
+use Rattle.wild_types.specs.declared.part.Part.{Part}
+use Rattle.wild_types.specs.declared.part.Role.{Role}
+use Rattle.wild_types.specs.Parts.{has_role, part_with}
+
+-- a part of a role is there exactly where there is a first one
+pub there_by_part : (r : Role) (ps : List Part) → is_some (part_with r ps) ≡ list_any (has_role r) ps
+there_by_part r [] = refl
+there_by_part r (p ∷ ps) =
+    elim (cases_Bool (has_role r p)) [
+      | inl t ↦ rw t refl
+      | inr f ↦ rw f (there_by_part r ps)
+    ]

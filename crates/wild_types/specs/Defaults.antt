@@ -1,0 +1,28 @@
+-- What an absent member of a plan is.
+use Rattle.std.specs.Prelude.{false, None, []}
+use Rattle.wild_types.specs.declared.options.Options.{Options}
+
+-- nothing asked for
+abbrev pub no_options : Options
+no_options = record {
+  relax = false;
+  relr = false;
+  strip_all = false;
+  eh_frame_hdr = false;
+  terminator = false;
+  bti = false;
+  versions = false;
+  got_plt_syms = false;
+  execstack = false;
+  new_dtags = false;
+  origin = false;
+  nodelete = false;
+  interpose = false;
+  textrel = false;
+  static_tls = false;
+  variant_pcs = false;
+  only_keep_debug = false;
+  rpath = None;
+  soname = None;
+  auxiliary = [];
+}

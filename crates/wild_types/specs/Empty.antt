@@ -1,0 +1,45 @@
+-- A layout of nothing: what absent members of a plan are.
+--   no_tls         no thread-local data
+--   empty_layout   the layout
+use Rattle.std.specs.Prelude.{None, []}
+use Rattle.wild_types.specs.Defaults.{no_options}
+use Rattle.wild_types.specs.declared.kind.Machine.TheVariants as machine
+use Rattle.wild_types.specs.declared.kind.OutputKind.TheVariants as kind
+use Rattle.wild_types.specs.declared.kind.RelocationModel.TheVariants.{NonRelocatable}
+use Rattle.wild_types.specs.declared.layout.Layout.{Layout}
+use Rattle.wild_types.specs.declared.layout.Tls.{Tls}
+
+-- no thread-local data
+abbrev pub no_tls : Tls
+no_tls = record { start = 0; end = 0; align = 1 }
+
+-- a layout of nothing, for an executable that is loaded at its own addresses
+abbrev pub empty_layout : Layout
+empty_layout = record {
+  machine = machine.X86_64;
+  kind = kind.StaticExecutable NonRelocatable;
+  options = no_options;
+  page_size = 0;
+  parts = [];
+  sections = [];
+  segments = [];
+  tls = no_tls;
+  got_base = 0;
+  got_header = 0;
+  tlsld = None;
+  primary_part = 0;
+  symbols = [];
+  groups = [];
+  dynsyms = [];
+  sysv_hash = None;
+  gnu_hash = None;
+  verdefs = [];
+  thunk_blocks = [];
+  sorted = [];
+  merged = [];
+  identity = record { part = 0; bytes = [] };
+  interp = [];
+  properties = [];
+  entry = None;
+  build_id = None;
+}

@@ -1,0 +1,16 @@
+pub mod Addresses
+pub mod Defaults
+pub mod Empty
+pub mod Faults
+pub mod FilePlaces
+pub mod FileRoles
+pub mod FileSymbols
+pub mod Flags
+pub mod Kinds
+pub mod Lists
+pub mod Lookups
+pub mod Parts
+pub mod ResolvedFlags
+pub mod Rows
+pub mod Shares
+pub mod SymbolSlots

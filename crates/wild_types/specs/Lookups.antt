@@ -1,0 +1,147 @@
+-- What stands where in a layout.
+--   bit flags n            the flag is set
+--   kind_at l k            the type of the section with header index k; SHT_NULL where there is none
+--   is_allocated_part l p  the part lies in a section other than section 0 that is allocated (SHF_ALLOC)
+--   takes_file_bytes l p   the part lies in no section of type SHT_NOBITS
+--   is_filled l s          the input section is loaded and owns bytes of the image
+--   image_size l           the greatest end of a file range of a part or a section
+--   has_address l s        the input section has an address
+--   canonical l i          the symbol that defines symbol i
+--   file_of files i        the first file whose range of symbols has i
+--   place_of s r         the address of the field of a relocation, modulo 2^64
+--   packs l at           the address at a place is recorded by a packed word
+--   has_table l          the output has a table of all its symbols
+use Rattle.std.specs.Prelude.{ℕ, ◌+◌, ◌%◌, ◌^◌, ◌==◌, ◌&&◌, ◌||◌, Bool, true, false, not, if◌then◌else◌, List, [], length, Option, Some, None, nat_lt, nat_le, max, ◌∷◌, drop, option_and_then, unwrap_or, slice_get}
+use Rattle.std.specs.List.{flat_map}
+use Rattle.wild_types.specs.declared.input.InputRelocation.{InputRelocation}
+use Rattle.wild_types.specs.declared.input.InputSection.{InputSection}
+use Rattle.wild_types.specs.declared.file.File.{File}
+use Rattle.wild_types.specs.declared.layout.Layout.{Layout}
+use Rattle.wild_types.specs.Kinds.{is_position_independent}
+use Rattle.std.specs.Int.RustNames.{bit_and}
+use Rattle.wild_records.specs.Abi.Section.{sht_null, sht_nobits, shf_write, shf_alloc, shf_execinstr, shf_tls, shn_loreserve}
+use Rattle.wild_types.specs.declared.part.Part.{Part}
+use Rattle.wild_types.specs.declared.section.Section.{Section}
+use Rattle.wild_types.specs.declared.input.Slot.{Slot}
+use Rattle.wild_types.specs.declared.input.Slot.TheVariants as slot
+use Rattle.wild_types.specs.declared.file.Group.{Group}
+
+-- the flag is set
+unfoldable pub bit : ℕ → ℕ → Bool
+bit flags n = bit_and flags n == n
+
+-- the program may write to the section
+abbrev pub writable : ℕ → Bool
+writable flags = bit flags shf_write
+
+-- the section has room in memory
+abbrev pub allocated : ℕ → Bool
+allocated flags = bit flags shf_alloc
+
+-- the section holds instructions
+abbrev pub executable : ℕ → Bool
+executable flags = bit flags shf_execinstr
+
+-- each thread has its own copy of the section
+abbrev pub thread_local : ℕ → Bool
+thread_local flags = bit flags shf_tls
+
+abbrev pub kind_of : Option Section → ℕ
+kind_of None = sht_null
+kind_of (Some s) = s.kind
+
+-- the type of a section (sh_type); SHT_NULL where there is none
+abbrev pub kind_at : Layout → ℕ → ℕ
+kind_at l k = kind_of (slice_get l.sections k)
+
+abbrev pub flags_of : Option Section → ℕ
+flags_of None = 0
+flags_of (Some s) = s.flags
+
+abbrev pub section_of_part : Option Part → ℕ
+section_of_part None = 0
+section_of_part (Some p) = p.section
+
+-- the header index of the section of a part; 0 where there is none
+abbrev pub section_of : Layout → ℕ → ℕ
+section_of l part = section_of_part (slice_get l.parts part)
+
+-- a section other than section 0 that is allocated
+abbrev pub is_allocated_section : Layout → ℕ → Bool
+is_allocated_section l k = not (k == 0) && allocated (flags_of (slice_get l.sections k))
+
+-- the part lies in an allocated section
+abbrev pub is_allocated_part : Layout → ℕ → Bool
+is_allocated_part l part = is_allocated_section l (section_of l part)
+
+-- the part lies in no section of type SHT_NOBITS
+abbrev pub takes_file_bytes : Layout → ℕ → Bool
+takes_file_bytes l k = not (kind_at l k == sht_nobits)
+
+abbrev pub is_loaded : Slot → Bool
+is_loaded slot.Loaded = true
+is_loaded other = false
+
+abbrev pub is_discarded : Slot → Bool
+is_discarded slot.Discard = true
+is_discarded other = false
+
+-- the input section is loaded and owns bytes of the image: its own, or zeros where it has none
+abbrev pub is_filled : Layout → InputSection → Bool
+is_filled l s = is_loaded s.slot && (if s.nobits then not (s.size == 0) && takes_file_bytes l (section_of l s.part) else not (length s.bytes == 0))
+
+-- an input section's relocations are read where it is loaded and has data
+abbrev pub is_read : InputSection → Bool
+is_read s = is_loaded s.slot && not s.nobits
+
+abbrev pub file_end : Bool → ℕ → ℕ → ℕ
+file_end takes offset size = if takes && not (size == 0) then offset + size else 0
+
+abbrev pub parts_end : Layout → List Part → ℕ
+parts_end l [] = 0
+parts_end l (p ∷ ps) = max (file_end (takes_file_bytes l p.section) p.offset p.size) (parts_end l ps)
+
+abbrev pub sections_end : List Section → ℕ
+sections_end [] = 0
+sections_end (s ∷ ss) = max (file_end (not (s.kind == sht_nobits)) s.offset s.size) (sections_end ss)
+
+-- the greatest end of a file range of a part, or of a section other than section 0
+unfoldable pub image_size : Layout → ℕ
+image_size l = max (parts_end l l.parts) (sections_end (drop 1 l.sections))
+
+-- an input section that is not discarded has an address where that is not 0 or its part is not allocated
+abbrev pub has_address : Layout → InputSection → Bool
+has_address l s = not (is_discarded s.slot) && (not (s.address == 0) || not (is_allocated_part l s.part))
+
+-- the symbol that defines a symbol
+abbrev pub canonical : Layout → ℕ → ℕ
+canonical l i = unwrap_or (option_and_then (λ s. s.definition) (slice_get l.symbols i)) i
+
+-- all files, in the order of processing
+abbrev pub files_of : List Group → List File
+files_of groups = flat_map (λ g. g.files) groups
+
+-- the first file whose range of symbols has i
+abbrev pub file_of : List File → ℕ → Option File
+file_of [] i = None
+file_of (f ∷ fs) i = if nat_le f.first_symbol i && nat_lt i (f.first_symbol + f.symbol_count) then Some f else file_of fs i
+
+-- the address of the field
+abbrev pub place_of : InputSection → InputRelocation → ℕ
+place_of s r = (s.address + r.offset) % 2 ^ 64
+
+-- words of packed relocations are asked for, and the place is one that they can name: an even one
+abbrev pub packs : Layout → ℕ → Bool
+packs l place = l.options.relr && place % 2 == 0
+
+-- no address of a fixed output moves, and only relocations of loaded sections with data are read
+abbrev pub has_moved : Layout → InputSection → Bool
+has_moved l s = is_position_independent l.kind && is_read s
+
+-- the output has a table of all its symbols
+abbrev pub has_table : Layout → Bool
+has_table l = not l.options.strip_all
+
+-- more sections than have an index of 16 bits (gABI, "Special Section Indexes", SHN_LORESERVE)
+abbrev pub has_many_sections : Layout → Bool
+has_many_sections l = nat_lt shn_loreserve (length l.sections)

@@ -1,0 +1,263 @@
+//! What stands where in a layout.
+ghost use Rattle.std.specs.Prelude.{◌≡◌, ◌+◌, ◌^◌, ◌%◌, ◌<◌, true, length, drop, take, slice_range};
+ghost use Rattle.wild_types.specs.FileSymbols.{range_of, own_symbols, loaded_symbols};
+ghost use Rattle.wild_types.specs.Lookups.{place_of, packs, has_moved, writable, allocated, executable, thread_local, kind_at, section_of, is_allocated_section, is_allocated_part, takes_file_bytes, is_loaded, is_discarded, is_filled, is_read, has_address, canonical, has_table, has_many_sections};
+ghost use Rattle.wild_types.specs.SymbolSlots.{names_slot, names_stub};
+
+use crate::file::File;
+use crate::index::{SectionIndex, SymbolIndex};
+use crate::input::{InputRelocation, InputSection, Slot};
+use crate::layout::Layout;
+use crate::symbol::{Symbol, got_of, is_own, plt_of};
+use wild_records::abi::section::{
+    SHF_ALLOC, SHF_EXECINSTR, SHF_TLS, SHF_WRITE, SHN_LORESERVE, SHT_NOBITS, SHT_NULL,
+};
+
+/// Whether the flags have `SHF_WRITE`.
+#[tactic(auto, unfolding(crate::specs::Lookups::bit))]
+pub fn is_writable(flags: u64) -> bool
+    ensures { result ≡ writable flags }
+{
+    flags & SHF_WRITE == SHF_WRITE
+}
+
+/// Whether the flags have `SHF_ALLOC`.
+#[tactic(auto, unfolding(crate::specs::Lookups::bit))]
+pub fn is_allocated(flags: u64) -> bool
+    ensures { result ≡ allocated flags }
+{
+    flags & SHF_ALLOC == SHF_ALLOC
+}
+
+/// Whether the flags have `SHF_EXECINSTR`.
+#[tactic(auto, unfolding(crate::specs::Lookups::bit))]
+pub fn is_executable(flags: u64) -> bool
+    ensures { result ≡ executable flags }
+{
+    flags & SHF_EXECINSTR == SHF_EXECINSTR
+}
+
+/// Whether the flags have `SHF_TLS`.
+#[tactic(auto, unfolding(crate::specs::Lookups::bit))]
+pub fn is_thread_local(flags: u64) -> bool
+    ensures { result ≡ thread_local flags }
+{
+    flags & SHF_TLS == SHF_TLS
+}
+
+impl Slot {
+    /// Whether the section goes into the image as it is.
+    pub fn is_loaded(self) -> bool
+        ensures { result ≡ is_loaded self }
+    {
+        matches!(self, Slot::Loaded)
+    }
+
+    /// Whether the section is left out.
+    pub fn is_discarded(self) -> bool
+        ensures { result ≡ is_discarded self }
+    {
+        matches!(self, Slot::Discard)
+    }
+}
+
+impl Layout {
+    /// The type of the section with that header index; `SHT_NULL` where there is none.
+    pub fn kind_at(&self, index: SectionIndex) -> u32
+        ensures { result ≡ kind_at self.now index }
+    {
+        match self.sections.as_slice().get(index.0) {
+            Some(section) => section.kind,
+            None => SHT_NULL,
+        }
+    }
+
+    /// The header index of the section of a part; 0 where there is none.
+    pub fn section_of(&self, part: usize) -> SectionIndex
+        ensures { result ≡ section_of self.now part }
+    {
+        match self.parts.as_slice().get(part) {
+            Some(part) => part.section,
+            None => SectionIndex(0),
+        }
+    }
+
+    /// Whether a section other than section 0 has `SHF_ALLOC`.
+    pub fn is_allocated_section(&self, index: SectionIndex) -> bool
+        ensures { result ≡ is_allocated_section self.now index }
+    {
+        let flags = match self.sections.as_slice().get(index.0) {
+            Some(section) => section.flags,
+            None => 0,
+        };
+        index.0 != 0 && is_allocated(flags)
+    }
+
+    /// Whether a part lies in an allocated section.
+    pub fn is_allocated_part(&self, part: usize) -> bool
+        ensures { result ≡ is_allocated_part self.now part }
+    {
+        self.is_allocated_section(self.section_of(part))
+    }
+
+    /// Whether the section with that header index has another type than `SHT_NOBITS`.
+    pub fn takes_file_bytes(&self, index: SectionIndex) -> bool
+        ensures { result ≡ takes_file_bytes self.now index }
+    {
+        self.kind_at(index) != SHT_NOBITS
+    }
+
+    /// The symbol that defines a symbol.
+    pub fn canonical(&self, symbol: SymbolIndex) -> SymbolIndex
+        ensures { result ≡ canonical self.now symbol }
+    {
+        match self.symbols.as_slice().get(symbol.0) {
+            Some(found) => found.definition.unwrap_or(symbol),
+            None => symbol,
+        }
+    }
+
+    /// So many symbols from number `first` on, as far as they are there.
+    pub fn symbols_from(&self, first: usize, count: usize) -> &[Symbol]
+        ensures are { result.now ≡ slice_range self.now.symbols first (first + count) }
+        ensures few { first + length result.now < 2 ^ 64 }
+    {
+        let symbols = self.symbols.as_slice();
+        let start = first.min(symbols.len());
+        let end = start + count.min(symbols.len() - start);
+        &symbols[start..end]
+    }
+
+    /// The symbols whose slots a file writes.
+    pub fn own_symbols(&self, file: &File) -> &[Symbol]
+        ensures are { result.now ≡ own_symbols self.now file.now }
+        ensures few { file.now.first_symbol + length result.now < 2 ^ 64 }
+    {
+        let first = file.first_symbol.0;
+        if file.role.writes_slots() {
+            self.symbols_from(first, file.symbol_count)
+        } else {
+            &[]
+        }
+    }
+
+    /// The symbols of a file.
+    pub fn symbols_of(&self, file: &File) -> &[Symbol]
+        ensures are { result.now ≡ range_of self.now.symbols file.now }
+        ensures few { file.now.first_symbol + length result.now < 2 ^ 64 }
+    {
+        some_from(
+            self.symbols.as_slice(),
+            file.first_symbol.0,
+            file.symbol_count,
+        )
+    }
+
+    /// Whether the output has a table of all its symbols.
+    pub fn has_table(&self) -> bool
+        ensures { result ≡ has_table self.now }
+    {
+        !self.options.strip_all
+    }
+
+    /// The symbols of a file that is loaded.
+    pub fn loaded_symbols(&self, file: &File) -> &[Symbol]
+        ensures are { result.now ≡ loaded_symbols self.now file.now }
+        ensures few { file.now.first_symbol + length result.now < 2 ^ 64 }
+    {
+        let symbols = self.symbols_of(file);
+        if file.role.is_loaded() { symbols } else { &[] }
+    }
+
+    /// Whether the address at a place is recorded by a word of packed relocations: these are asked for, and the place is
+    /// an even one.
+    pub fn packs(&self, place: u64) -> bool
+        ensures is { result ≡ packs self.now place }
+        ensures even { result ≡ true → place % 2 ≡ 0 }
+    {
+        self.options.relr && place % 2 == 0
+    }
+
+    /// Whether a section may have addresses that move with the base.
+    pub fn has_moved(&self, section: &InputSection) -> bool
+        ensures { result ≡ has_moved self.now section.now }
+    {
+        self.kind.is_position_independent() && section.is_read()
+    }
+
+    /// Whether the slot of the symbol of that number has a name.
+    pub fn names_slot(&self, index: usize, symbol: &Symbol) -> bool
+        ensures { result ≡ names_slot self.now index symbol.now }
+    {
+        self.options.got_plt_syms
+            && is_own(symbol, index)
+            && symbol.flags.needs_got()
+            && got_of(symbol).is_some()
+    }
+
+    /// Whether its stub has a name.
+    pub fn names_stub(&self, index: usize, symbol: &Symbol) -> bool
+        ensures { result ≡ names_stub self.now index symbol.now }
+    {
+        self.names_slot(index, symbol) && symbol.flags.needs_plt() && plt_of(symbol).is_some()
+    }
+
+    /// Whether there are more sections than have an index of 16 bits.
+    pub fn has_many_sections(&self) -> bool
+        ensures { result ≡ has_many_sections self.now }
+    {
+        self.sections.len() > SHN_LORESERVE as usize
+    }
+}
+
+impl InputSection {
+    /// Whether the section is loaded and owns bytes of the image: its own, or zeros where it has none.
+    pub fn is_filled(&self, layout: &Layout) -> bool
+        ensures { result ≡ is_filled layout.now self.now }
+    {
+        let owns = if self.nobits {
+            self.size != 0 && layout.takes_file_bytes(layout.section_of(self.part))
+        } else {
+            self.bytes.len() != 0
+        };
+        self.slot.is_loaded() && owns
+    }
+
+    /// Whether the relocations are read: those of a loaded section with data are.
+    pub fn is_read(&self) -> bool
+        ensures { result ≡ is_read self.now }
+    {
+        self.slot.is_loaded() && !self.nobits
+    }
+
+    /// Whether the section has an address: one that is not discarded has, where that is not 0 or its part is not
+    /// allocated.
+    pub fn has_address(&self, layout: &Layout) -> bool
+        ensures { result ≡ has_address layout.now self.now }
+    {
+        !self.slot.is_discarded() && (self.address != 0 || !layout.is_allocated_part(self.part))
+    }
+
+    /// The address of the field of a relocation, modulo 2^64.
+    pub fn place_of(&self, relocation: &InputRelocation) -> u64
+        ensures { result ≡ place_of self.now relocation.now }
+    {
+        self.address.wrapping_add(relocation.offset)
+    }
+}
+
+/// At most `count` symbols from `first` on.
+pub fn some_from(symbols: &[Symbol], first: usize, count: usize) -> &[Symbol]
+    ensures { result.now ≡ take count (drop first symbols.now) }
+{
+    let later = if first < symbols.len() {
+        &symbols[first..]
+    } else {
+        &[]
+    };
+    if count < later.len() {
+        &later[..count]
+    } else {
+        later
+    }
+}

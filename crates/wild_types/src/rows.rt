@@ -1,0 +1,29 @@
+//! The rows of the relocation types, by the table of each machine.
+ghost use Rattle.std.specs.Prelude.{◌≡◌};
+ghost use Rattle.wild_types.specs.Rows.{row_of, row_width};
+
+use crate::kind::Machine;
+use wild_reloc::{RelocationKindInfo, x86_64};
+
+/// The row of a relocation type (x86-64 psABI, "Relocation Types"); none where the machine's table has none. No type of
+/// AArch64 is known.
+#[inline]
+#[tactic(auto, unfolding(crate::specs::Rows::row_of))]
+pub fn row_of(machine: Machine, number: u32) -> Option<RelocationKindInfo>
+    ensures { result ≡ row_of machine number }
+{
+    match machine {
+        Machine::X86_64 => x86_64::relocation_from_raw(number),
+        Machine::AArch64 => None,
+    }
+}
+
+/// The bytes of the field that a relocation of that type writes; 0 where it writes none, or has no row.
+pub fn field_bytes(machine: Machine, number: u32) -> usize
+    ensures { result ≡ row_width (row_of machine number) }
+{
+    match row_of(machine, number) {
+        Some(row) => row.width(),
+        None => 0,
+    }
+}

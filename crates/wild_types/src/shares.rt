@@ -1,0 +1,59 @@
+//! A group's shares of the parts of the tables.
+ghost use Rattle.std.specs.Prelude.{◌≡◌};
+ghost use Rattle.wild_types.specs.Shares.{part_of, share_of, insufficient, excessive};
+
+use crate::fault::{At, Error, Fault};
+use crate::layout::Layout;
+use crate::part::{Role, has_role};
+
+/// The place of the first part of a role; the number of parts where there is none.
+pub fn part_of(layout: &Layout, role: Role) -> usize
+    ensures { result ≡ part_of layout.now role }
+{
+    for (i, part) in layout.parts.as_slice().iter().enumerate() {
+        if has_role(role, part) {
+            return i;
+        }
+    }
+    layout.parts.len()
+}
+
+/// The group's share of the part of a role; 0 where there is no such group.
+pub fn share_of(layout: &Layout, group: usize, role: Role) -> u64
+    ensures { result ≡ share_of layout.now group role }
+{
+    match layout.groups.as_slice().get(group) {
+        Some(found) => found.given(part_of(layout, role)),
+        None => 0,
+    }
+}
+
+/// A share that is smaller than what has to be written there.
+pub fn insufficient(layout: &Layout, group: usize, role: Role, given: usize, needed: usize) -> Error
+    ensures { result ≡ insufficient layout.now group role given needed }
+{
+    Error {
+        fault: Fault::InsufficientAllocation {
+            part: part_of(layout, role),
+            group,
+            given: given as u64,
+            needed: needed as u64,
+        },
+        at: At::NOWHERE,
+    }
+}
+
+/// A share that is larger than what has to be written there.
+pub fn excessive(layout: &Layout, group: usize, role: Role, given: usize, needed: usize) -> Error
+    ensures { result ≡ excessive layout.now group role given needed }
+{
+    Error {
+        fault: Fault::ExcessiveAllocation {
+            part: part_of(layout, role),
+            group,
+            given: given as u64,
+            needed: needed as u64,
+        },
+        at: At::NOWHERE,
+    }
+}
