@@ -1,8 +1,8 @@
 -- Symbols and files side by side find the first symbol astray.
-use Rattle.std.proofs.Common.{◌≡◌, ℕ, zero, suc, ◌+◌, ◌-◌, ◌<◌, ◌≤◌, inl, inr, Bool, true, false, List, [], ◌∷◌, ◌++◌, length, take, drop, get_or, refl, sym, ap, ◌∙◌, subst, arith, drop-cons}
+use Rattle.std.proofs.Common.{◌≡◌, ℕ, zero, suc, ◌+◌, ◌-◌, ◌<◌, ◌≤◌, inl, inr, true, false, List, [], ◌∷◌, ◌++◌, length, take, drop, get_or, refl, sym, ap, ◌∙◌, subst, arith, drop-cons}
 use Rattle.std.specs.Prelude.{Option, Some, None, is_some, option_and_then, unwrap_or, Result, Ok, Err, ◌&&◌, ◌==◌, if◌then◌else◌, nat_le, nat_lt}
 use Rattle.std.specs.Bool.{MatchBool}
-use Rattle.std.proofs.lemmas.Bool.{cases_Bool, leb-true}
+use Rattle.std.proofs.lemmas.Bool.{cases_Bool, leb-true, and_parts}
 use Rattle.std.proofs.lemmas.Bool.Decides.{nat_tests}
 use Rattle.std.proofs.lemmas.List.{drop-drop, length-drop, length-take-le}
 use Rattle.wild_types.specs.declared.symbol.Symbol.{Symbol}
@@ -14,10 +14,6 @@ use Rattle.wild_types.specs.Lookups.{files_of, file_of}
 use Rattle.wild_clauses.specs.Indexes.{section_count, symbol_indexes_fit, symbol_misfit}
 use Rattle.wild_clauses.specs.Astray.{ranges_lie, all_ranges_lie, count_in, or_first, found_or, gap_astray, range_astray, file_walk, go_on, files_walk, groups_walk, walk_end}
 use Rattle.wild_types.specs.FileSymbols.{range_of}
-
-and_both : (a b : Bool) → (a && b) ≡ true → (a ≡ true) × (b ≡ true)
-and_both true b h = (refl, h)
-and_both false b h = cc
 
 -- how many input sections the file of a symbol has
 abbrev own : List File → ℕ → ℕ
@@ -165,7 +161,7 @@ files_ascend l next n (f ∷ fs) later lies h =
     behind : option_and_then (λ t. ranges_lie (length l.symbols) t fs) (if nat_le next f.first_symbol && nat_le (f.first_symbol + f.symbol_count) (length l.symbols) then Some (f.first_symbol + f.symbol_count) else None) ≡ Some n → (ranges_lie (length l.symbols) (f.first_symbol + f.symbol_count) fs ≡ Some n → Ascend (length l.symbols) (f.first_symbol + f.symbol_count) (fs ++ later)) → (next ≤ f.first_symbol) × (f.first_symbol + f.symbol_count ≤ length l.symbols) × Ascend (length l.symbols) (f.first_symbol + f.symbol_count) (fs ++ later)
     behind order again =
         elim (cases_Bool (nat_le next f.first_symbol && nat_le (f.first_symbol + f.symbol_count) (length l.symbols))) [
-          | inl t ↦ (let both = and_both (nat_le next f.first_symbol) (nat_le (f.first_symbol + f.symbol_count) (length l.symbols)) t in (leb-true _ _ both.0, leb-true _ _ both.1, again (rw t at order)))
+          | inl t ↦ (let both = and_parts (nat_le next f.first_symbol) (nat_le (f.first_symbol + f.symbol_count) (length l.symbols)) t in (leb-true _ _ both.0, leb-true _ _ both.1, again (rw t at order)))
           | inr u ↦ cc (rw u at order)
         ]
 

@@ -1,9 +1,9 @@
 -- Copies, one after another: no definition is there twice, and all are below a bound.
-use Rattle.std.proofs.Common.{◌≡◌, ℕ, zero, suc, ◌+◌, ◌<◌, ◌≤◌, inl, inr, true, false, List, [], ◌∷◌, ◌++◌, length, take, drop, map, get_or, refl, sym, ap, ◌∙◌, subst, arith, drop-cons}
+use Rattle.std.proofs.Common.{◌≡◌, ℕ, zero, suc, ◌+◌, ◌<◌, ◌≤◌, inl, inr, true, false, List, [], ◌∷◌, ◌++◌, length, take, drop, map, get_or, refl, sym, ap, ◌∙◌, subst, arith, append_assoc}
 use Rattle.std.specs.Prelude.{Option, Some, None, ◌&&◌, ◌||◌, ◌==◌, nat_lt}
 use Rattle.std.specs.List.{list_any, flat_map}
 use Rattle.std.proofs.lemmas.Bool.{cases_Bool, and_parts, and_from, ne_eqb, lt-ltb, ltb-true}
-use Rattle.std.proofs.lemmas.List.{append-nil, map_more}
+use Rattle.std.proofs.lemmas.List.{append-nil, map_more, drop_more}
 use Rattle.std.proofs.lemmas.List.Folds.{list_all-append, list_any-append}
 use Rattle.wild_words.proofs.ListLemmas.{flat_map-more}
 use Rattle.wild_types.specs.declared.file.File.{File}
@@ -57,16 +57,12 @@ none_below b = refl
 pub any_append : (n : ℕ) (xs ys : List ℕ) → list_any (λ d. d == n) (xs ++ ys) ≡ (list_any (λ d. d == n) xs || list_any (λ d. d == n) ys)
 any_append n xs ys = list_any-append (λ d. d == n) xs ys
 
-joined : (xs ys zs : List ℕ) → (xs ++ ys) ++ zs ≡ xs ++ (ys ++ zs)
-joined [] ys zs = refl
-joined (x ∷ xs) ys zs = ap (λ ws. x ∷ ws) (joined xs ys zs)
-
 new_append : (e xs ys : List ℕ) → are_new e (xs ++ ys) ≡ (are_new e xs && are_new (e ++ xs) ys)
 new_append e [] ys = rw (append-nil e) refl
 new_append e (x ∷ xs) ys =
     elim (cases_Bool (list_any (λ d. d == x) e)) [
       | inl t ↦ rw t refl
-      | inr f ↦ rw (f, ← joined e (x ∷ []) xs) (new_append (e ++ x ∷ []) xs ys)
+      | inr f ↦ rw (f, ← append_assoc e (x ∷ []) xs) (new_append (e ++ x ∷ []) xs ys)
     ]
 
 pub starts : (e : List ℕ) (b : ℕ) → are_below b e ≡ true → GoesOn e [] (Some b)
@@ -74,7 +70,7 @@ starts e b h = (refl, rw (append-nil e) h)
 
 more : (e xs ys : List ℕ) (b : ℕ) (o : Option ℕ) → GoesOn e xs (Some b) → GoesOn (e ++ xs) ys o → GoesOn e (xs ++ ys) o
 more e xs ys b None h k = rw (new_append e xs ys, h.0) k
-more e xs ys b (Some c) h k = (rw (new_append e xs ys, h.0) k.0, rw (← joined e xs ys) k.1)
+more e xs ys b (Some c) h k = (rw (new_append e xs ys, h.0) k.0, rw (← append_assoc e xs ys) k.1)
 
 wrong : (e xs ys : List ℕ) → GoesOn e xs None → GoesOn e (xs ++ ys) None
 wrong e xs ys h = rw (new_append e xs ys, h) refl
@@ -84,7 +80,7 @@ wrong e xs ys h = rw (new_append e xs ys, h) refl
 whole : {X : Type 0} (f : X → List ℕ) (xs : List X) (i : ℕ) → flat_map f xs ≡ flat_map f (take i xs) ++ flat_map f (drop i xs)
 whole f xs zero = refl
 whole f [] (suc i) = refl
-whole f (x ∷ xs) (suc i) = ap (λ ys. f x ++ ys) (whole f xs i) ∙ sym (joined (f x) (flat_map f (take i xs)) (flat_map f (drop i xs)))
+whole f (x ∷ xs) (suc i) = ap (λ ys. f x ++ ys) (whole f xs i) ∙ sym (append_assoc (f x) (flat_map f (take i xs)) (flat_map f (drop i xs)))
 
 whole_map : (f : ℕ → ℕ) (xs : List ℕ) (i : ℕ) → map f xs ≡ map f (take i xs) ++ map f (drop i xs)
 whole_map f xs zero = refl
@@ -123,15 +119,10 @@ file_again l e xs i x b o r lt is h k none ends =
 
 -- ---- the groups
 
-next_group : (gs : List Group) (i : ℕ) (g : Group) → i < length gs → drop i gs ≡ get_or gs i g ∷ drop (i + 1) gs
-next_group gs i g lt =
-    let e : suc i ≡ i + 1 = omega arith in
-    subst (λ (n : ℕ). drop i gs ≡ get_or gs i g ∷ drop n gs) e (drop-cons gs i g lt)
-
 pub group_again : (l : Layout) (gs : List Group) (i : ℕ) (g : Group) → i < length gs → GoesOn (flat_map (copied_in l) (take i gs)) (copied_in l (get_or gs i g)) None → copied_again l (flat_map (copied_in l) (take i gs)) i (drop i gs) ≡ Some i
-group_again l gs i g lt h = rw (next_group gs i g lt, h) refl
+group_again l gs i g lt h = rw (drop_more gs i g lt, h) refl
 
 pub group_new : (l : Layout) (gs : List Group) (i : ℕ) (g : Group) (b : ℕ) → i < length gs → GoesOn (flat_map (copied_in l) (take i gs)) (copied_in l (get_or gs i g)) (Some b) → (copied_again l (flat_map (copied_in l) (take i gs)) i (drop i gs) ≡ copied_again l (flat_map (copied_in l) (take (i + 1) gs)) (i + 1) (drop (i + 1) gs)) × (are_below b (flat_map (copied_in l) (take (i + 1) gs)) ≡ true)
 group_new l gs i g b lt h =
     let cut = flat_map-more (copied_in l) gs i g lt in
-    (rw (next_group gs i g lt, h.0, cut) refl, rw cut h.1)
+    (rw (drop_more gs i g lt, h.0, cut) refl, rw cut h.1)

@@ -2,9 +2,10 @@
 use Rattle.std.proofs.Common.{◌≡◌, ℕ, zero, suc, ◌+◌, ◌-◌, ◌<◌, ◌≤◌, inl, inr, ◌==◌, nat_lt, nat_le, Bool, true, false, not, ◌&&◌, ◌||◌, if◌then◌else◌, List, [], ◌∷◌, take, drop, length, get_or, All, Some, None, refl, sym, ap, ◌∙◌, subst, arith, length-drop, drop-cons}
 use Rattle.std.proofs.lemmas.List.{take_all}
 use Rattle.std.specs.List.{list_any}
-use Rattle.std.proofs.lemmas.Bool.{cases_Bool, and_parts, and_from, leb-true, ltb-true, le-leb, lt-leb, lt-ltb, eqb-true, eqb-false}
+use Rattle.std.proofs.lemmas.Bool.{cases_Bool, and_parts, and_from, leb-true, ltb-true, le-leb, lt-leb, lt-ltb, eqb-true, eqb-false, or_right}
 use Rattle.std.proofs.lemmas.Bool.Decides.{nat_tests, same_from_decides}
 use Rattle.std.proofs.lemmas.List.Elements.{All-head, All-tail, All-more, All-weaker}
+use Rattle.wild_words.proofs.Basics.{or_other}
 use Rattle.wild_records.specs.Abi.Section.{sht_nobits}
 use Rattle.wild_records.specs.Abi.Segment.{pt_load}
 use Rattle.wild_types.specs.declared.section.Section.{Section}
@@ -31,18 +32,6 @@ all_below_from t zero h = refl
 all_below_from t (suc n) h = and_from (t n) (all_below t n) (h n (omega arith)) (all_below_from t n (λ k lt. h k (omega arith)))
 
 -- ---- one segment
-
-either_right : (b c : Bool) → c ≡ true → (b || c) ≡ true
-either_right true c h = refl
-either_right false c h = h
-
-only_right : (b c : Bool) → (b || c) ≡ true → b ≡ false → c ≡ true
-only_right true c h e = cc
-only_right false c h e = h
-
-not_both : (b c : Bool) → b ≡ false → (b && c) ≡ false
-not_both true c h = cc
-not_both false c h = refl
 
 -- what a segment says that has a byte
 record Has (on : Side) (s : Section) (a : ℕ) (g : Segment) : Type 0 where
@@ -158,7 +147,7 @@ covers_each on s a [] h b le lt = absurd (let e = leb-true _ _ h in omega arith)
 covers_each on s a (g ∷ gs) h b le lt =
     let more : nat_le (s.address + s.size) a ≡ false = lt-leb _ _ (omega arith) in
     elim (cases_Bool (is_passed a g)) [
-      | inl t ↦ either_right (has_byte on s b g) _ (covers_each on s a gs (rw (more, t) at h) b le lt)
+      | inl t ↦ or_right (has_byte on s b g) _ (covers_each on s a gs (rw (more, t) at h) b le lt)
       | inr f ↦
           elim (cases_Bool (has_byte on s a g)) [
             | inl u ↦ within u (covers_each on s (g.address + size_on on g) gs (rw (more, f, u) at h) b)
@@ -170,7 +159,7 @@ covers_each on s a (g ∷ gs) h b le lt =
     within u k =
         elim (cases_Bool (nat_lt b (g.address + size_on on g))) [
           | inl near ↦ (let here = more_bytes on s a b g u le (ltb-true _ _ near) in rw here)
-          | inr far ↦ either_right (has_byte on s b g) _ (k (grind (arith, nat_tests)) lt)
+          | inr far ↦ or_right (has_byte on s b g) _ (k (grind (arith, nat_tests)) lt)
         ]
 
 covers_all : (page i end : ℕ) (on : Side) (s : Section) (a : ℕ) (gs : List Segment) → segment_out_of_order page i end gs ≡ None → ((b : ℕ) → a ≤ b → b < s.address + s.size → list_any (has_byte on s b) gs ≡ true) → covers on s a gs ≡ true
@@ -185,7 +174,7 @@ covers_all page i end on s a (g ∷ gs) order h =
       | inl t ↦ rw t
       | inr f ↦
           elim (cases_Bool (is_passed a g)) [
-            | inl p ↦ rw (f, p) (covers_all page k.next k.last on s a gs k.rest (λ b le lt. only_right (has_byte on s b g) _ (h b le lt) (passed_none on s a b g p k.sized le)))
+            | inl p ↦ rw (f, p) (covers_all page k.next k.last on s a gs k.rest (λ b le lt. or_other (has_byte on s b g) _ (h b le lt) (passed_none on s a b g p k.sized le)))
             | inr n ↦ (let asked : a < s.address + s.size = grind (arith, nat_tests) in rw (f, n) (here k asked (not_passed a g n) (covers_all page k.next k.last on s (g.address + size_on on g) gs k.rest)))
           ]
     ]
@@ -195,7 +184,7 @@ covers_all page i end on s a (g ∷ gs) order h =
         elim (cases_Bool (has_byte on s a g)) [
           | inl u ↦
               (let to = (Has-from_test on s a g u).to in
-              rw u (again (λ b le lt. only_right (has_byte on s b g) _ (h b (omega arith) lt) (no_byte on s b g (λ q. let far = q.to in omega arith)))))
+              rw u (again (λ b le lt. or_other (has_byte on s b g) _ (h b (omega arith) lt) (no_byte on s b g (λ q. let far = q.to in omega arith)))))
           | inr n ↦
               (let ends = k.ends p.0 in
               let near = p.1 in

@@ -1,9 +1,9 @@
 -- One walk over files and symbols finds the first symbol whose index is not its position in the dynamic symbol table.
-use Rattle.std.proofs.Common.{◌≡◌, ℕ, zero, suc, ◌+◌, ◌-◌, ◌<◌, ◌≤◌, inl, inr, Bool, true, false, List, [], ◌∷◌, ◌++◌, length, take, drop, refl, sym, ap, ◌∙◌, subst, arith}
+use Rattle.std.proofs.Common.{◌≡◌, ℕ, zero, suc, ◌+◌, ◌-◌, ◌<◌, ◌≤◌, inl, inr, Bool, true, false, List, [], ◌∷◌, ◌++◌, length, take, drop, refl, sym, ap, ◌∙◌, subst, arith, append_assoc}
 use Rattle.std.specs.Prelude.{Option, Some, None, Result, Ok, Err, ◌&&◌, ◌||◌, ◌==◌, ◌⊎◌, if◌then◌else◌, nat_le, nat_lt, slice_get, unwrap_or, min, ◌^◌}
-use Rattle.std.proofs.lemmas.Bool.{cases_Bool, eqb-true, eq-eqb, ne_eqb, leb-true}
+use Rattle.std.proofs.lemmas.Bool.{cases_Bool, eqb-true, eq-eqb, ne_eqb, leb-true, and_parts}
 use Rattle.std.proofs.lemmas.Bool.Decides.{nat_tests}
-use Rattle.std.proofs.lemmas.List.{drop-drop, length-drop, length-take-le, length-append}
+use Rattle.std.proofs.lemmas.List.{drop-drop, length-drop, length-take-le, length-append, append-nil}
 use Rattle.wild_types.specs.declared.symbol.Symbol.{Symbol}
 use Rattle.wild_types.specs.declared.file.FileRole.{FileRole}
 use Rattle.wild_types.specs.declared.file.FileRole.TheVariants as file_role
@@ -17,7 +17,6 @@ use Rattle.wild_types.specs.Lists.{first_failing, unless, through}
 use Rattle.wild_clauses.specs.Indexes.{part_index_fits, symbol_misfit, symbol_is_there, section_indexes_fit, file_indexes_fit, group_indexes_fit, listed_misfit, entry_is_there, definition_is_own, range_follows, or_place, range_out_of_order}
 use Rattle.wild_clauses.specs.VersionTables.{parent_is_there}
 use Rattle.wild_clauses.specs.ClauseTests.{fails, first_error, check_indexes}
-use Rattle.wild_types.specs.declared.fault.Clause.{Clause}
 use Rattle.wild_types.specs.Lookups.{section_of, section_of_part, files_of, file_of}
 use Rattle.wild_types.specs.declared.part.Part.{Part}
 use Rattle.wild_types.specs.declared.input.InputSection.{InputSection}
@@ -28,6 +27,7 @@ use Rattle.wild_clauses.specs.Positions.{lists, is_at, fits_at, run_walk, follow
 use Rattle.wild_needs.specs.UndefinedCounts.{counted, undefined_count}
 use Rattle.wild_clauses.proofs.AstrayLemmas.{Ascend, in_range, before_range, behind_range, empty_range}
 use Rattle.wild_needs.proofs.UndefinedLemmas.{groups_count}
+use Rattle.wild_clauses.proofs.ClauseLemmas.{None-from_fails, first_holds, rest_holds}
 
 -- ---- what holds of each
 
@@ -78,10 +78,6 @@ listed_is i k [] = refl
 listed_is i zero (d ∷ ds) = refl
 listed_is i (suc k) (d ∷ ds) = listed_is i k ds
 
-joined : {X : Type 0} (xs ys zs : List X) → (xs ++ ys) ++ zs ≡ xs ++ (ys ++ zs)
-joined [] ys zs = refl
-joined (x ∷ xs) ys zs = ap (λ ws. x ∷ ws) (joined xs ys zs)
-
 -- a symbol without an entry is at a position where it is listed there
 at_listed : (i c n p : ℕ) (B : List ℕ) (ds : List DynamicSymbol) → Others i B → n ≡ length B → is_at ds n false c i (suc p) ≡ is_named i (slice_get (B ++ listed ds) p)
 at_listed i c n p B ds o e =
@@ -94,7 +90,7 @@ at_listed i c n p B ds o e =
 -- one with an entry, behind c others
 at_entry : (i c n p : ℕ) (B R : List ℕ) (ds : List DynamicSymbol) → Others i B → Others i R → c ≡ length B → n ≡ c + 1 + length R → is_at ds n true c i (suc p) ≡ is_named i (slice_get ((B ++ i ∷ R) ++ listed ds) p)
 at_entry i c n p B R ds o q e f =
-    let a = joined B (i ∷ R) (listed ds) in
+    let a = append_assoc B (i ∷ R) (listed ds) in
     let s = skip i B (i ∷ (R ++ listed ds)) p o in
     rw (a, s) (by (cases_Bool (suc p == c + 1)) (cases_Bool (nat_le (length B) p)))
   where
@@ -182,15 +178,11 @@ file_step {X} G symbols next x f fs w =
 abbrev collect : FileRole → ℕ → Symbol → List ℕ → List ℕ
 collect r i s xs = if is_undefined_entry r s then xs ++ i ∷ [] else xs
 
-none_behind : (xs : List ℕ) → xs ≡ xs ++ []
-none_behind [] = refl
-none_behind (x ∷ xs) = ap (λ ws. x ∷ ws) (none_behind xs)
-
 collects : (r : FileRole) (i : ℕ) (xs : List ℕ) (ss : List Symbol) → over collect (all r) i xs ss ≡ xs ++ places_where (is_undefined_entry r) i ss
-collects r i xs [] = none_behind xs
+collects r i xs [] = sym (append-nil xs)
 collects r i xs (s ∷ ss) =
     elim (cases_Bool (is_undefined_entry r s)) [
-      | inl t ↦ rw t (collects r (i + 1) (xs ++ i ∷ []) ss ∙ joined xs (i ∷ []) (places_where (is_undefined_entry r) (i + 1) ss))
+      | inl t ↦ rw t (collects r (i + 1) (xs ++ i ∷ []) ss ∙ append_assoc xs (i ∷ []) (places_where (is_undefined_entry r) (i + 1) ss))
       | inr f ↦ rw f (collects r (i + 1) xs ss)
     ]
 
@@ -199,7 +191,7 @@ nothing_there i xs [] = refl
 nothing_there i xs (s ∷ ss) = nothing_there (i + 1) xs ss
 
 files_collect : (symbols : List Symbol) (next : ℕ) (xs : List ℕ) (fs : List File) → Ascend (length symbols) next fs → over collect (roles fs) next xs (drop next symbols) ≡ xs ++ undefined_entries symbols fs
-files_collect symbols next xs [] h = agree collect (roles []) (all file_role.NotLoaded) next xs (drop next symbols) (λ j le. refl) ∙ nothing_there next xs (drop next symbols) ∙ none_behind xs
+files_collect symbols next xs [] h = agree collect (roles []) (all file_role.NotLoaded) next xs (drop next symbols) (λ j le. refl) ∙ nothing_there next xs (drop next symbols) ∙ sym (append-nil xs)
 files_collect symbols next xs (f ∷ fs) h =
     elim (cases_Bool (f.symbol_count == 0)) [
       | inl t ↦
@@ -211,7 +203,7 @@ files_collect symbols next xs (f ∷ fs) h =
           let gap = nothing_there next xs (take (f.first_symbol - next) (drop next symbols)) in
           let here = collects f.role f.first_symbol xs (range_of symbols f) in
           let own = places_where (is_undefined_entry f.role) f.first_symbol (range_of symbols f) in
-          file_step collect symbols next xs f fs w ∙ rw (gap, here) (files_collect symbols a (xs ++ own) fs w.2 ∙ joined xs own (undefined_entries symbols fs)))
+          file_step collect symbols next xs f fs w ∙ rw (gap, here) (files_collect symbols a (xs ++ own) fs w.2 ∙ append_assoc xs own (undefined_entries symbols fs)))
     ]
 
 -- the same by the roles of the symbols
@@ -220,10 +212,10 @@ by_roles own i [] = []
 by_roles own i (s ∷ ss) = if is_undefined_entry (own i) s then i ∷ by_roles own (i + 1) ss else by_roles own (i + 1) ss
 
 collects_by : (own : ℕ → FileRole) (i : ℕ) (xs : List ℕ) (ss : List Symbol) → over collect own i xs ss ≡ xs ++ by_roles own i ss
-collects_by own i xs [] = none_behind xs
+collects_by own i xs [] = sym (append-nil xs)
 collects_by own i xs (s ∷ ss) =
     elim (cases_Bool (is_undefined_entry (own i) s)) [
-      | inl t ↦ rw t (collects_by own (i + 1) (xs ++ i ∷ []) ss ∙ joined xs (i ∷ []) (by_roles own (i + 1) ss))
+      | inl t ↦ rw t (collects_by own (i + 1) (xs ++ i ∷ []) ss ∙ append_assoc xs (i ∷ []) (by_roles own (i + 1) ss))
       | inr f ↦ rw f (collects_by own (i + 1) xs ss)
     ]
 
@@ -352,7 +344,7 @@ all_found ds own E n i c B (s ∷ ss) long low e f =
         let n' : n ≡ c + 1 + length R = omega (arith, long, long', cut, e) in
         let z : (0 == c + 1) ≡ false = ne_eqb 0 (c + 1) (λ q. omega (arith, q)) in
         let same = fits_as i c n true E ds z (λ p. subst (λ (T : List ℕ). is_at ds n true c i (suc p) ≡ is_named i (slice_get (T ++ listed ds) p)) (sym f') (at_entry i c n p B R ds (others_before i B low) behind e n')) (dynsym_of s) in
-        let joint : (B ++ i ∷ []) ++ R ≡ B ++ i ∷ R = joined B (i ∷ []) R in
+        let joint : (B ++ i ∷ []) ++ R ≡ B ++ i ∷ R = append_assoc B (i ∷ []) R in
         let low' : Each (λ (j : ℕ). j < i + 1) (B ++ i ∷ []) = each_append (λ (j : ℕ). j < i + 1) B (i ∷ []) more (omega arith, tt) in
         let one : length (B ++ i ∷ []) ≡ length B + 1 = length-append B (i ∷ []) in
         let e' : c + 1 ≡ length (B ++ i ∷ []) = omega (arith, e, one) in
@@ -387,10 +379,6 @@ few_entries l h = let same = entries_by_roles l.symbols (files_of l.groups) h in
 
 -- ---- what the clause on indexes says of the ranges
 
-and_both : (a b : Bool) → (a && b) ≡ true → (a ≡ true) × (b ≡ true)
-and_both true b h = (refl, h)
-and_both false b h = cc h
-
 -- a file's range ends within the symbols
 abbrev Fits : ℕ → File → Type 0
 Fits len f = (f.symbol_count == 0 || nat_le (f.first_symbol + f.symbol_count) len) ≡ true
@@ -424,22 +412,10 @@ each_passes test i (x ∷ xs) h =
 
 each_listed : {X : Type 0} (test : X → Bool) (xs : List X) → list_all test xs ≡ true → Each (λ x. test x ≡ true) xs
 each_listed test [] h = tt
-each_listed test (x ∷ xs) h = let w = and_both (test x) (list_all test xs) h in (w.0, each_listed test xs w.1)
+each_listed test (x ∷ xs) h = let w = and_parts (test x) (list_all test xs) h in (w.0, each_listed test xs w.1)
 
 group_fits : (l : Layout) (g : Group) → group_indexes_fit l g ≡ true → Each (Fits (length l.symbols)) g.files
-group_fits l g h = each_weaker (λ (f : File). file_indexes_fit l f ≡ true) (Fits (length l.symbols)) g.files (λ f k. (and_both (f.symbol_count == 0 || nat_le (f.first_symbol + f.symbol_count) (length l.symbols)) (list_all (section_indexes_fit l) f.sections && list_all (symbol_is_there l) f.copies) k).0) (each_listed (file_indexes_fit l) g.files h)
-
-behind_first : (r s : Result (Unit {0}) Clause) → first_error r s ≡ Ok tt → s ≡ Ok tt
-behind_first (Ok u) s h = h
-behind_first (Err e) s h = cc h
-
-first_of : (r s : Result (Unit {0}) Clause) → first_error r s ≡ Ok tt → r ≡ Ok tt
-first_of (Ok u) s h = refl
-first_of (Err e) s h = cc h
-
-nowhere : (n : ℕ) (o : Option ℕ) → fails n o ≡ Ok tt → o ≡ None
-nowhere n None h = refl
-nowhere n (Some i) h = cc h
+group_fits l g h = each_weaker (λ (f : File). file_indexes_fit l f ≡ true) (Fits (length l.symbols)) g.files (λ f k. (and_parts (f.symbol_count == 0 || nat_le (f.first_symbol + f.symbol_count) (length l.symbols)) (list_all (section_indexes_fit l) f.sections && list_all (symbol_is_there l) f.copies) k).0) (each_listed (file_indexes_fit l) g.files h)
 
 pub ranges_ascend : (l : Layout) → check_indexes l ≡ Ok tt → Ascend (length l.symbols) 0 (files_of l.groups)
 unfolding check_indexes
@@ -455,13 +431,13 @@ ranges_ascend l h =
     let later = first_error listed (first_error parents beside) in
     let groups = fails 9 (first_failing (group_indexes_fit l) 0 l.groups) in
     let symbols = fails 9 (symbol_misfit l (files_of l.groups) 0 l.symbols) in
-    let a = behind_first (fails 9 (first_failing (part_index_fits l) 0 l.parts)) (first_error symbols (first_error groups later)) h in
-    let b = behind_first symbols (first_error groups later) a in
-    let e = behind_first parents beside (behind_first listed (first_error parents beside) (behind_first groups later b)) in
-    let c = behind_first copied behind (behind_first entry (first_error copied behind) e) in
-    let d = behind_first own order c in
-    let fit = each_weaker (λ (g : Group). group_indexes_fit l g ≡ true) (λ (g : Group). Each (Fits (length l.symbols)) g.files) l.groups (λ g k. group_fits l g k) (each_passes (group_indexes_fit l) 0 l.groups (nowhere 9 (first_failing (group_indexes_fit l) 0 l.groups) (first_of groups later b))) in
-    groups_ascend (length l.symbols) 0 0 l.groups fit (nowhere 9 (range_out_of_order 0 0 l.groups) d)
+    let a = rest_holds (fails 9 (first_failing (part_index_fits l) 0 l.parts)) (first_error symbols (first_error groups later)) h in
+    let b = rest_holds symbols (first_error groups later) a in
+    let e = rest_holds parents beside (rest_holds listed (first_error parents beside) (rest_holds groups later b)) in
+    let c = rest_holds copied behind (rest_holds entry (first_error copied behind) e) in
+    let d = rest_holds own order c in
+    let fit = each_weaker (λ (g : Group). group_indexes_fit l g ≡ true) (λ (g : Group). Each (Fits (length l.symbols)) g.files) l.groups (λ g k. group_fits l g k) (each_passes (group_indexes_fit l) 0 l.groups (None-from_fails 9 (first_failing (group_indexes_fit l) 0 l.groups) (first_holds groups later b))) in
+    groups_ascend (length l.symbols) 0 0 l.groups fit (None-from_fails 9 (range_out_of_order 0 0 l.groups) d)
 
 -- ---- how many undefined entries there are
 
@@ -490,8 +466,8 @@ section_is l (g ∷ gs) i k = rw (section_is l gs i k) (sym (found_is l g.files 
 
 member : {X : Type 0} (test : X → Bool) (xs : List X) (i : ℕ) (x : X) → list_all test xs ≡ true → slice_get xs i ≡ Some x → test x ≡ true
 member test [] i x h e = cc e
-member test (y ∷ xs) zero x h e = let same : y ≡ x = cc e in rw (← same) (and_both (test y) (list_all test xs) h).0
-member test (y ∷ xs) (suc i) x h e = member test xs i x (and_both (test y) (list_all test xs) h).1 e
+member test (y ∷ xs) zero x h e = let same : y ≡ x = cc e in rw (← same) (and_parts (test y) (list_all test xs) h).0
+member test (y ∷ xs) (suc i) x h e = member test xs i x (and_parts (test y) (list_all test xs) h).1 e
 
 section_below : (l : Layout) (part : ℕ) → list_all part_is_below l.parts ≡ true → nat_lt (section_of l part) symbol_sections ≡ true
 section_below l part h = by (slice_get l.parts part) refl
@@ -514,5 +490,5 @@ place_below l f at.Common h b = refl
 -- where no part and no symbol stands in a section at 0xff00 or behind, no listed symbol does
 pub all_are_below : (l : Layout) (i : ℕ) (s : Symbol) (f : Option File) → all_below l ≡ true → slice_get l.symbols i ≡ Some s → nat_lt (output_section l f s.place) symbol_sections ≡ true
 all_are_below l i s f h e =
-    let w = and_both (list_all part_is_below l.parts) (list_all symbol_is_below l.symbols) h in
+    let w = and_parts (list_all part_is_below l.parts) (list_all symbol_is_below l.symbols) h in
     place_below l f s.place w.0 (member symbol_is_below l.symbols i s w.1 e)

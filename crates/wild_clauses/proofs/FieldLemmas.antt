@@ -1,6 +1,6 @@
 -- No field has more than eight bytes.
-use Rattle.std.proofs.Common.{◌≡◌, ◌+◌, ◌≤◌, ◌==◌, nat_le, Bool, true, false, ◌||◌, Option, Some, None, refl, arith}
-use Rattle.std.proofs.lemmas.Bool.{le-leb}
+use Rattle.std.proofs.Common.{◌≡◌, ◌+◌, ◌≤◌, ◌==◌, nat_le, true, Option, Some, None, arith}
+use Rattle.std.proofs.lemmas.Bool.{le-leb, or_right}
 use Rattle.wild_reloc.specs.Field.{byte_count, size_width}
 use Rattle.wild_reloc.specs.declared.info.Width.{Width}
 use Rattle.wild_reloc.specs.declared.info.Width.TheVariants.{Zero, One, Two, Four, Eight}
@@ -28,12 +28,8 @@ row_width-most : (o : Option RelocationKindInfo) → row_width o ≤ 8
 row_width-most None = omega arith
 row_width-most (Some row) = size_width-most row.size
 
-either_right : (b c : Bool) → c ≡ true → (b || c) ≡ true
-either_right true c h = refl
-either_right false c h = h
-
 -- where eight bytes lie in the section the field does
 pub field_lies_early : (m : Machine) (s : InputSection) (r : InputRelocation) → r.offset + 8 ≤ s.size → field_lies m s r ≡ true
 field_lies_early m s r h =
     let most = row_width-most (row_of m r.number) in
-    either_right (field_bytes m r.number == 0) (nat_le (r.offset + field_bytes m r.number) s.size) (le-leb (r.offset + field_bytes m r.number) s.size (omega arith))
+    or_right (field_bytes m r.number == 0) (nat_le (r.offset + field_bytes m r.number) s.size) (le-leb (r.offset + field_bytes m r.number) s.size (omega arith))

@@ -9,3 +9,4 @@ pub mod PassedLemmas
 pub mod SlotPlaceLemmas
 pub mod StartLemmas
 pub mod VersionLemmas
+pub mod ClauseLemmas

@@ -1,5 +1,5 @@
 -- Versions that are needed, added up over the groups, and the libraries that have them, counted down.
-use Rattle.std.proofs.Common.{◌≡◌, ℕ, ◌-◌, ◌^◌, min, inl, inr, Bool, true, false, List, [], ◌∷◌, length, refl, sym, ap, ◌∙◌, arith}
+use Rattle.std.proofs.Common.{◌≡◌, ℕ, ◌-◌, ◌^◌, min, inl, inr, List, [], ◌∷◌, length, refl, sym, ap, ◌∙◌, arith}
 use Rattle.std.specs.Prelude.{Option, Some, None, Ok, ◌&&◌, option_and_then, nat_le}
 use Rattle.std.specs.List.{filter}
 use Rattle.std.proofs.lemmas.Bool.{cases_Bool, and_parts, leb-true}
@@ -8,12 +8,13 @@ use Rattle.wild_types.specs.declared.file.File.{File}
 use Rattle.wild_types.specs.declared.file.Group.{Group}
 use Rattle.wild_types.specs.declared.layout.Layout.{Layout}
 use Rattle.wild_clauses.specs.Counts.{counts_fit}
-use Rattle.wild_types.specs.Lists.{unless, through, total}
+use Rattle.wild_types.specs.Lists.{through, total}
 use Rattle.wild_types.specs.Lookups.{files_of}
 use Rattle.wild_needs.specs.Versions.{needs_of, has_needs, need_count, file_versions, group_versions, versions_needed, versions_fit, most_versions}
 use Rattle.wild_clauses.specs.VersionTables.{mark_fits, mark_by, mark_step}
-use Rattle.wild_clauses.specs.ClauseTests.{fails, check_counts}
+use Rattle.wild_clauses.specs.ClauseTests.{check_counts}
 use Rattle.wild_types.proofs.ListLemmas.{total-append}
+use Rattle.wild_clauses.proofs.ClauseLemmas.{test_holds}
 
 -- the sum over all files is that over the groups
 groups_sum : (gs : List Group) → total group_versions gs ≡ total file_versions (files_of gs)
@@ -35,10 +36,6 @@ left_behind left next (f ∷ fs) h = by (needs_of f) refl h (λ n e. left_behind
           | inl t ↦ (let b = rest (left - 1) (rw t at again) in rw e (omega (arith, b)))
           | inr u ↦ cc (rw u at again)
         ]
-
-test_holds : (b : Bool) → fails 2 (unless b) ≡ Ok tt → b ≡ true
-test_holds true h = refl
-test_holds false h = cc
 
 -- where the counts fit, few libraries have versions
 pub few_needs : (l : Layout) → check_counts l ≡ Ok tt → min (2 ^ 64 - 1) (need_count l) ≡ need_count l

@@ -1,7 +1,8 @@
 -- Each instruction that relocations fill is the one that its bytes mean.
-use Rattle.std.proofs.Common.{◌≡◌, ℕ, suc, ◌+◌, Bool, true, false, List, [], ◌∷◌, length, get_or, refl, sym, ap, ◌∙◌, arith, subst}
+use Rattle.std.proofs.Common.{◌≡◌, ℕ, suc, ◌+◌, true, List, [], ◌∷◌, length, get_or, refl, sym, ap, ◌∙◌, arith, subst}
 use Rattle.std.specs.Prelude.{◌&&◌, ◌==◌, nat_le, bit_and, Some}
 use Rattle.std.proofs.lemmas.Bool.Decides.{nat_tests}
+use Rattle.std.proofs.lemmas.Bool.{and_parts}
 use Rattle.wild_meaning.specs.Instruction.{Cell, Is, From, Slot, Digit, Any, fits, stands, Template, Number, Word, Set, Add, Subtract, Compare, Call, Jump}
 use Rattle.wild_meaning.specs.CodeX86_64.{bare, rex, rex2, branch, with_slot}
 use Rattle.wild_meaning.specs.ThreadCodeX86_64.{general_call, general_slot_call, far_pair_call, local_call, local_slot_call}
@@ -20,10 +21,6 @@ abbrev pub filled : List Cell → ℕ → List ℕ → List ℕ
 filled [] k whole = []
 filled (c ∷ cs) k whole = spelled c (get_or whole k 0) ∷ filled cs (k + 1) whole
 
-pub both : (a b : Bool) → (a && b) ≡ true → (a ≡ true) × (b ≡ true)
-both true b h = (refl, h)
-both false b h = cc
-
 spelled_is : (c : Cell) (b : ℕ) → fits c b ≡ true → b ≡ spelled c b
 spelled_is (Is n) b h = grind (arith, nat_tests)
 spelled_is (From l u) b h = refl
@@ -38,7 +35,7 @@ from (c ∷ cs) [] whole k same long h = absurd (omega arith)
 from (c ∷ cs) (b ∷ bs) whole k same long h =
     let z : k + 0 ≡ k = omega arith in
     let here : get_or whole k 0 ≡ b = subst (λ (j : ℕ). get_or whole j 0 ≡ b) z (same 0) in
-    let each = both (fits c b) (stands cs bs) h in
+    let each = and_parts (fits c b) (stands cs bs) h in
     let first : b ≡ spelled c b = spelled_is c b each.0 in
     let next : (i : ℕ) → get_or whole (k + 1 + i) 0 ≡ get_or bs i 0 = λ i. subst (λ (j : ℕ). get_or whole j 0 ≡ get_or bs i 0) (omega arith) (same (suc i)) in
     let rest : bs ≡ filled cs (k + 1) whole = from cs bs whole (k + 1) next (omega arith) each.1 in
@@ -107,7 +104,7 @@ local_slot = by_shape local_slot_call (λ bs h a. refl)
 -- ---- a register and a slot
 
 slot_byte : (b : ℕ) → (bit_and b 0xc7 == 5 && true) ≡ true → (bit_and b 0xc7 == 5) ≡ true
-slot_byte b h = (both (bit_and b 0xc7 == 5) true h).0
+slot_byte b h = (and_parts (bit_and b 0xc7 == 5) true h).0
 
 pub bare_mov : IsMeant (with_slot 0x8b Word Set bare)
 unfolding meaning_x86_64
@@ -127,40 +124,40 @@ bare_cmp = by_shape (with_slot 0x3b Word Compare bare) (λ bs h a. rw (slot_byte
 
 pub rex_mov : IsMeant (with_slot 0x8b Word Set rex)
 unfolding meaning_x86_64
-rex_mov = by_shape (with_slot 0x8b Word Set rex) (λ bs h a. let p = both (nat_le 0x48 (get_or bs 0 0) && nat_le (get_or bs 0 0) 0x4f) (bit_and (get_or bs 2 0) 0xc7 == 5 && true) h in rw (p.0, slot_byte (get_or bs 2 0) p.1) refl)
+rex_mov = by_shape (with_slot 0x8b Word Set rex) (λ bs h a. let p = and_parts (nat_le 0x48 (get_or bs 0 0) && nat_le (get_or bs 0 0) 0x4f) (bit_and (get_or bs 2 0) 0xc7 == 5 && true) h in rw (p.0, slot_byte (get_or bs 2 0) p.1) refl)
 
 pub rex_add : IsMeant (with_slot 0x03 Word Add rex)
 unfolding meaning_x86_64
-rex_add = by_shape (with_slot 0x03 Word Add rex) (λ bs h a. let p = both (nat_le 0x48 (get_or bs 0 0) && nat_le (get_or bs 0 0) 0x4f) (bit_and (get_or bs 2 0) 0xc7 == 5 && true) h in rw (p.0, slot_byte (get_or bs 2 0) p.1) refl)
+rex_add = by_shape (with_slot 0x03 Word Add rex) (λ bs h a. let p = and_parts (nat_le 0x48 (get_or bs 0 0) && nat_le (get_or bs 0 0) 0x4f) (bit_and (get_or bs 2 0) 0xc7 == 5 && true) h in rw (p.0, slot_byte (get_or bs 2 0) p.1) refl)
 
 pub rex_sub : IsMeant (with_slot 0x2b Word Subtract rex)
 unfolding meaning_x86_64
-rex_sub = by_shape (with_slot 0x2b Word Subtract rex) (λ bs h a. let p = both (nat_le 0x48 (get_or bs 0 0) && nat_le (get_or bs 0 0) 0x4f) (bit_and (get_or bs 2 0) 0xc7 == 5 && true) h in rw (p.0, slot_byte (get_or bs 2 0) p.1) refl)
+rex_sub = by_shape (with_slot 0x2b Word Subtract rex) (λ bs h a. let p = and_parts (nat_le 0x48 (get_or bs 0 0) && nat_le (get_or bs 0 0) 0x4f) (bit_and (get_or bs 2 0) 0xc7 == 5 && true) h in rw (p.0, slot_byte (get_or bs 2 0) p.1) refl)
 
 pub rex_cmp : IsMeant (with_slot 0x3b Word Compare rex)
 unfolding meaning_x86_64
-rex_cmp = by_shape (with_slot 0x3b Word Compare rex) (λ bs h a. let p = both (nat_le 0x48 (get_or bs 0 0) && nat_le (get_or bs 0 0) 0x4f) (bit_and (get_or bs 2 0) 0xc7 == 5 && true) h in rw (p.0, slot_byte (get_or bs 2 0) p.1) refl)
+rex_cmp = by_shape (with_slot 0x3b Word Compare rex) (λ bs h a. let p = and_parts (nat_le 0x48 (get_or bs 0 0) && nat_le (get_or bs 0 0) 0x4f) (bit_and (get_or bs 2 0) 0xc7 == 5 && true) h in rw (p.0, slot_byte (get_or bs 2 0) p.1) refl)
 
 pub rex_lea : IsMeant (with_slot 0x8d Number Set rex)
 unfolding meaning_x86_64
-rex_lea = by_shape (with_slot 0x8d Number Set rex) (λ bs h a. let p = both (nat_le 0x48 (get_or bs 0 0) && nat_le (get_or bs 0 0) 0x4f) (bit_and (get_or bs 2 0) 0xc7 == 5 && true) h in rw (p.0, slot_byte (get_or bs 2 0) p.1) refl)
+rex_lea = by_shape (with_slot 0x8d Number Set rex) (λ bs h a. let p = and_parts (nat_le 0x48 (get_or bs 0 0) && nat_le (get_or bs 0 0) 0x4f) (bit_and (get_or bs 2 0) 0xc7 == 5 && true) h in rw (p.0, slot_byte (get_or bs 2 0) p.1) refl)
 
 pub rex2_mov : IsMeant (with_slot 0x8b Word Set rex2)
 unfolding meaning_x86_64
-rex2_mov = by_shape (with_slot 0x8b Word Set rex2) (λ bs h a. let p = both (nat_le 0 (get_or bs 1 0) && nat_le (get_or bs 1 0) 0x7f) (bit_and (get_or bs 3 0) 0xc7 == 5 && true) h in rw (p.0, slot_byte (get_or bs 3 0) p.1) refl)
+rex2_mov = by_shape (with_slot 0x8b Word Set rex2) (λ bs h a. let p = and_parts (nat_le 0 (get_or bs 1 0) && nat_le (get_or bs 1 0) 0x7f) (bit_and (get_or bs 3 0) 0xc7 == 5 && true) h in rw (p.0, slot_byte (get_or bs 3 0) p.1) refl)
 
 pub rex2_add : IsMeant (with_slot 0x03 Word Add rex2)
 unfolding meaning_x86_64
-rex2_add = by_shape (with_slot 0x03 Word Add rex2) (λ bs h a. let p = both (nat_le 0 (get_or bs 1 0) && nat_le (get_or bs 1 0) 0x7f) (bit_and (get_or bs 3 0) 0xc7 == 5 && true) h in rw (p.0, slot_byte (get_or bs 3 0) p.1) refl)
+rex2_add = by_shape (with_slot 0x03 Word Add rex2) (λ bs h a. let p = and_parts (nat_le 0 (get_or bs 1 0) && nat_le (get_or bs 1 0) 0x7f) (bit_and (get_or bs 3 0) 0xc7 == 5 && true) h in rw (p.0, slot_byte (get_or bs 3 0) p.1) refl)
 
 pub rex2_sub : IsMeant (with_slot 0x2b Word Subtract rex2)
 unfolding meaning_x86_64
-rex2_sub = by_shape (with_slot 0x2b Word Subtract rex2) (λ bs h a. let p = both (nat_le 0 (get_or bs 1 0) && nat_le (get_or bs 1 0) 0x7f) (bit_and (get_or bs 3 0) 0xc7 == 5 && true) h in rw (p.0, slot_byte (get_or bs 3 0) p.1) refl)
+rex2_sub = by_shape (with_slot 0x2b Word Subtract rex2) (λ bs h a. let p = and_parts (nat_le 0 (get_or bs 1 0) && nat_le (get_or bs 1 0) 0x7f) (bit_and (get_or bs 3 0) 0xc7 == 5 && true) h in rw (p.0, slot_byte (get_or bs 3 0) p.1) refl)
 
 pub rex2_cmp : IsMeant (with_slot 0x3b Word Compare rex2)
 unfolding meaning_x86_64
-rex2_cmp = by_shape (with_slot 0x3b Word Compare rex2) (λ bs h a. let p = both (nat_le 0 (get_or bs 1 0) && nat_le (get_or bs 1 0) 0x7f) (bit_and (get_or bs 3 0) 0xc7 == 5 && true) h in rw (p.0, slot_byte (get_or bs 3 0) p.1) refl)
+rex2_cmp = by_shape (with_slot 0x3b Word Compare rex2) (λ bs h a. let p = and_parts (nat_le 0 (get_or bs 1 0) && nat_le (get_or bs 1 0) 0x7f) (bit_and (get_or bs 3 0) 0xc7 == 5 && true) h in rw (p.0, slot_byte (get_or bs 3 0) p.1) refl)
 
 pub rex2_lea : IsMeant (with_slot 0x8d Number Set rex2)
 unfolding meaning_x86_64
-rex2_lea = by_shape (with_slot 0x8d Number Set rex2) (λ bs h a. let p = both (nat_le 0 (get_or bs 1 0) && nat_le (get_or bs 1 0) 0x7f) (bit_and (get_or bs 3 0) 0xc7 == 5 && true) h in rw (p.0, slot_byte (get_or bs 3 0) p.1) refl)
+rex2_lea = by_shape (with_slot 0x8d Number Set rex2) (λ bs h a. let p = and_parts (nat_le 0 (get_or bs 1 0) && nat_le (get_or bs 1 0) 0x7f) (bit_and (get_or bs 3 0) 0xc7 == 5 && true) h in rw (p.0, slot_byte (get_or bs 3 0) p.1) refl)

@@ -3,8 +3,9 @@
 use Rattle.std.proofs.Common.{◌≡◌, ℕ, zero, suc, ◌+◌, ◌-◌, ◌<◌, ◌≤◌, ◌⊎◌, inl, inr, Bool, true, false, List, [], ◌∷◌, length, get_or, refl, sym, ap, ◌∙◌, arith, subst, drop, take, slice_range}
 use Rattle.std.specs.Prelude.{not, ◌&&◌, ◌||◌, ◌==◌}
 use Rattle.std.specs.List.{list_all}
-use Rattle.std.proofs.lemmas.Bool.{and_parts, cases_lt, eqb-true, or_cases}
+use Rattle.std.proofs.lemmas.Bool.{and_parts, cases_lt, eqb-true, or_cases, or_right}
 use Rattle.std.proofs.lemmas.List.{get_or-drop, drop-drop, length-drop}
+use Rattle.wild_words.proofs.Basics.{not_both}
 use Rattle.wild_types.specs.declared.kind.Machine.TheVariants as machine
 use Rattle.wild_relax.specs.declared.pattern.Cell.{Cell}
 use Rattle.wild_relax.specs.declared.pattern.Cell.TheVariants as its
@@ -16,6 +17,7 @@ use Rattle.wild_relax.specs.Linked.{pattern_of, keeps_bytes}
 use Rattle.wild_meaning.specs.Instruction as own
 use Rattle.wild_meaning.specs.Instruction.{Is, From, Slot, Digit, Any, fits, stands}
 use Rattle.wild_meaning.specs.Sequence.{Instruction, instructions_of}
+use Rattle.wild_effects.proofs.Fills.{is_any}
 
 -- ---- no byte fits both cells
 
@@ -25,10 +27,6 @@ clashes c its.RexWide = not (fits c 0x48) && not (fits c 0x4c)
 clashes c its.Rex2Wide = (not (fits c 0x08) && not (fits c 0x0c)) && (not (fits c 0x48) && not (fits c 0x4c))
 clashes (Is n) its.Slot = not (pattern.fits its.Slot n)
 clashes c d = false
-
-not_both : (b : Bool) → not b ≡ true → b ≡ true → ⊥
-not_both true h e = cc
-not_both false h e = cc
 
 at : (c : own.Cell) (b n : ℕ) → not (fits c n) ≡ true → (b == n) ≡ true → fits c b ≡ true → ⊥
 at c b n h e f = not_both (fits c n) h (subst (λ (x : ℕ). fits c x ≡ true) (eqb-true b n e) f)
@@ -82,11 +80,6 @@ none_stand (c ∷ cs) (d ∷ ds) (b ∷ bs) h e f =
     let y = and_parts (pattern.fits d b) (pattern.stands ds bs) f in
     elim (or_cases (clashes c d) (clash cs ds) h) [ inl k ↦ none_fits c d b k x.0 y.0 | inr k ↦ none_stand cs ds bs k x.1 y.1 ]
 
--- any byte may stand there: it is a field's
-abbrev pub is_any : own.Cell → Bool
-is_any Any = true
-is_any other = false
-
 abbrev pub is_free : Cell → Bool
 is_free its.Any = true
 is_free other = false
@@ -97,15 +90,11 @@ touch [] ds = false
 touch (c ∷ cs) [] = false
 touch (c ∷ cs) (d ∷ ds) = (not (is_any c) && not (is_free d)) || touch cs ds
 
-right : (a b : Bool) → b ≡ true → (a || b) ≡ true
-right true b h = refl
-right false b h = h
-
 touch_at : (cs : List own.Cell) (ds : List Cell) (t : ℕ) → t < length cs → t < length ds → is_any (get_or cs t Any) ≡ false → is_free (get_or ds t its.Any) ≡ false → touch cs ds ≡ true
 touch_at [] ds t l m h g = absurd (omega arith)
 touch_at (c ∷ cs) [] t l m h g = absurd (omega arith)
 touch_at (c ∷ cs) (d ∷ ds) zero l m h g = rw (h, g) refl
-touch_at (c ∷ cs) (d ∷ ds) (suc t) l m h g = right (not (is_any c) && not (is_free d)) (touch cs ds) (touch_at cs ds t (omega arith) (omega arith) h g)
+touch_at (c ∷ cs) (d ∷ ds) (suc t) l m h g = or_right (not (is_any c) && not (is_free d)) (touch cs ds) (touch_at cs ds t (omega arith) (omega arith) h g)
 
 -- the second have a byte of a field of the first
 abbrev pub covers : List own.Cell → List Cell → Bool

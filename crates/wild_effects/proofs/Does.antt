@@ -2,10 +2,9 @@
 use Rattle.std.proofs.Common.{◌≡◌, ℕ, zero, suc, ◌+◌, ◌-◌, ◌%◌, ◌^◌, ◌<◌, ◌≤◌, ◌⊎◌, inl, inr, true, List, [], ◌∷◌, length, get_or, slice_range, refl, sym, ap, ◌∙◌, arith, subst}
 use Rattle.std.specs.Prelude.{nat_le, Some, Option, None, unwrap_or, Contains, slice_index, ⊤}
 use Rattle.std.proofs.lemmas.Bool.{cases_lt, leb-true}
-use Rattle.std.proofs.lemmas.List.{get_or-take, get_or-drop}
 use Rattle.wild_words.specs.Words.{number, Stands}
 use Rattle.wild_words.proofs.RecordLemmas.{Stands-slice}
-use Rattle.wild_words.proofs.OrderLemmas.{length-range}
+use Rattle.wild_words.proofs.Basics.{length-range, range_byte}
 use Rattle.wild_types.specs.declared.kind.Machine.{Machine}
 use Rattle.wild_types.specs.declared.kind.Machine.TheVariants as machine
 use Rattle.wild_types.specs.declared.input.InputRelocation.{InputRelocation}
@@ -431,11 +430,6 @@ all_there l w m item r start o h k lt = by (byte_of o k lt)
 
 abbrev pub new_bytes : World → Memory → Item → ℕ → Instruction → List ℕ
 new_bytes w m item start o = read_all m (place_at w item start) (size_of o)
-
-range_byte : (bs : List ℕ) (a n k : ℕ) → k < n → get_or (slice_range bs a (a + n)) k 0 ≡ slice_index bs (a + k)
-range_byte bs a n k h =
-    let e : a + n - a ≡ n = omega arith in
-    rw e (get_or-take n _ k 0 h ∙ get_or-drop a bs k 0)
 
 pub is_filled : (l : Layout) (w : World) (m : Memory) (item : Item) (r : InputRelocation) (start : ℕ) (o : Instruction) → IsThere l w m item r start o → IsFilled o (old_bytes item start o) (new_bytes w m item start o)
 is_filled l w m item r start o h = record {

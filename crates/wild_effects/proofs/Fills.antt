@@ -1,7 +1,7 @@
 -- An instruction with its fields filled does what its input's bytes demand.
 use Rattle.std.proofs.Common.{◌≡◌, ℕ, zero, suc, ◌+◌, ◌*◌, ◌/◌, ◌%◌, ◌^◌, ◌<◌, ◌≤◌, ◌⊎◌, inl, inr, Bool, true, false, List, [], ◌∷◌, length, get_or, refl, sym, ap, ◌∙◌, arith, subst}
 use Rattle.std.specs.Prelude.{◌&&◌, ◌||◌, nat_le, nat_lt, Some, Option, None, option_map, option_and_then, slice_index, ⊤}
-use Rattle.std.proofs.lemmas.Bool.{leb-true, ltb-true}
+use Rattle.std.proofs.lemmas.Bool.{leb-true, ltb-true, and_parts, or_cases, and_from}
 use Rattle.wild_types.specs.declared.kind.Machine.TheVariants as machine
 use Rattle.wild_meaning.specs.Instruction.{Cell, Is, From, Slot, Digit, Any, fits, stands, Action, Operand, Number, Word, Deed, Set, Add, Subtract, Compare, Call, Jump, Reader, Effect, effect, with_value, as_value}
 use Rattle.wild_meaning.specs.CodeX86_64.{bare, rex, rex2, branch, with_slot}
@@ -11,7 +11,7 @@ use Rattle.wild_records.specs.Abi.Relocation.{r_x86_64_pc32, r_x86_64_plt32, r_x
 use Rattle.wild_meaning.specs.Sequence.{Target, TargetInSlot, AddressInSlot, OffsetInSlot, SymbolPair, OwnPair, Described, DescribedCall, Instruction, Partner, size_of, IsBesidePartner, IsOwnByte, of_field, of_sequence, by_call, by_slot, by_distance, instructions_of}
 use Rattle.wild_effects.specs.Filled.{IsFilled, HasEffect, FilledInstructionsDo}
 use Rattle.wild_effects.proofs.Acts as acts
-use Rattle.wild_effects.proofs.Acts.{both, IsMeant}
+use Rattle.wild_effects.proofs.Acts.{IsMeant}
 
 -- ---- own bytes
 
@@ -22,12 +22,8 @@ beside k (Some p) = nat_lt k p.field || nat_le (p.field + p.width) k
 abbrev is_own : Instruction → ℕ → Bool
 is_own o k = (nat_lt k o.field || nat_le (o.field + o.width) k) && beside k o.partner
 
-either : (a b : Bool) → (a || b) ≡ true → (a ≡ true) ⊎ (b ≡ true)
-either true b h = inl refl
-either false b h = inr h
-
 outside : (k a b : ℕ) → (nat_lt k a || nat_le b k) ≡ true → (k < a) ⊎ (b ≤ k)
-outside k a b h = elim (either (nat_lt k a) (nat_le b k) h) [ inl x ↦ inl (ltb-true k a x) | inr x ↦ inr (leb-true b k x) ]
+outside k a b h = elim (or_cases (nat_lt k a) (nat_le b k) h) [ inl x ↦ inl (ltb-true k a x) | inr x ↦ inr (leb-true b k x) ]
 
 beside_is : (k : ℕ) (p : Option Partner) → beside k p ≡ true → IsBesidePartner k p
 beside_is k None h = tt
@@ -35,12 +31,12 @@ beside_is k (Some p) h = outside k p.field (p.field + p.width) h
 
 own_is : (o : Instruction) (k : ℕ) → k < size_of o → is_own o k ≡ true → IsOwnByte o k
 own_is o k lt h =
-    let two = both (nat_lt k o.field || nat_le (o.field + o.width) k) (beside k o.partner) h in
+    let two = and_parts (nat_lt k o.field || nat_le (o.field + o.width) k) (beside k o.partner) h in
     record { inside = lt; beside = outside k o.field (o.field + o.width) two.0; apart = beside_is k o.partner two.1 }
 
 -- ---- cells that are no field's are own bytes
 
-abbrev is_any : Cell → Bool
+abbrev pub is_any : Cell → Bool
 is_any Any = true
 is_any other = false
 
@@ -55,9 +51,6 @@ fits_any (From l u) b d h = cc
 fits_any Slot b d h = cc
 fits_any (Digit n) b d h = cc
 
-and_true : (a b : Bool) → a ≡ true → b ≡ true → (a && b) ≡ true
-and_true a b h g = rw (h, g) refl
-
 -- from cell k on
 stands_too : (own : ℕ → Bool) (cs : List Cell) (old new whole_old whole_new : List ℕ) (k : ℕ) → ((i : ℕ) → get_or whole_old (k + i) 0 ≡ get_or old i 0) → ((i : ℕ) → get_or whole_new (k + i) 0 ≡ get_or new i 0)
     → length new ≡ length cs → ((i : ℕ) → i < k + length cs → own i ≡ true → get_or whole_new i 0 ≡ get_or whole_old i 0) → covered own cs k ≡ true → stands cs old ≡ true → stands cs new ≡ true
@@ -66,19 +59,19 @@ stands_too own (c ∷ cs) [] new wo wn k so sn long same h s = cc
 stands_too own (c ∷ cs) (b ∷ old) [] wo wn k so sn long same h s = absurd (omega arith)
 stands_too own (c ∷ cs) (b ∷ old) (d ∷ new) wo wn k so sn long same h s =
     let z : k + 0 ≡ k = omega arith in
-    let one = both (fits c b) (stands cs old) s in
-    let two = both (is_any c || own k) (covered own cs (k + 1)) h in
+    let one = and_parts (fits c b) (stands cs old) s in
+    let two = and_parts (is_any c || own k) (covered own cs (k + 1)) h in
     let ob : get_or wo k 0 ≡ b = subst (λ (j : ℕ). get_or wo j 0 ≡ b) z (so 0) in
     let nd : get_or wn k 0 ≡ d = subst (λ (j : ℕ). get_or wn j 0 ≡ d) z (sn 0) in
     let first : fits c d ≡ true =
-    elim (either (is_any c) (own k) two.0) [
+    elim (or_cases (is_any c) (own k) two.0) [
       | inl any ↦ fits_any c b d any
       | inr is ↦ (let e : d ≡ b = sym nd ∙ same k (omega arith) is ∙ ob in subst (λ (x : ℕ). fits c x ≡ true) (sym e) one.0)
     ] in
     let no : (i : ℕ) → get_or wo (k + 1 + i) 0 ≡ get_or old i 0 = λ i. subst (λ (j : ℕ). get_or wo j 0 ≡ get_or old i 0) (omega arith) (so (suc i)) in
     let nn : (i : ℕ) → get_or wn (k + 1 + i) 0 ≡ get_or new i 0 = λ i. subst (λ (j : ℕ). get_or wn j 0 ≡ get_or new i 0) (omega arith) (sn (suc i)) in
     let rest = stands_too own cs old new wo wn (k + 1) no nn (omega arith) (λ i lt is. same i (omega arith) is) two.1 one.1 in
-    and_true (fits c d) (stands cs new) first rest
+    and_from (fits c d) (stands cs new) first rest
 
 from_zero : (bs : List ℕ) (i : ℕ) → get_or bs (0 + i) 0 ≡ get_or bs i 0
 from_zero bs i = subst (λ (j : ℕ). get_or bs j 0 ≡ get_or bs i 0) (omega arith) refl

@@ -1,5 +1,5 @@
 -- Each reference of a loaded section holds.
-use Rattle.std.proofs.Common.{◌≡◌, ℕ, ◌⊎◌, inl, inr, ap, ◌∙◌}
+use Rattle.std.proofs.Common.{◌≡◌, ℕ, inl, inr, refl, ap, ◌∙◌}
 use Rattle.std.specs.Prelude.{Some, Contains}
 use Rattle.std.proofs.lemmas.Option.{slice_get-get_or}
 use Rattle.wild_types.specs.declared.input.InputRelocation.{InputRelocation}
@@ -12,12 +12,13 @@ use Rattle.wild_loader.specs.declared.world.World.{World}
 use Rattle.wild_loader.specs.declared.memory.Memory.{Memory}
 use Rattle.wild_values.specs.Laws.{KeepsInstruction, IsKeptReference, FieldsHold, IsLoadedSection}
 use Rattle.wild_meaning.specs.Item.{item_of, IsReference}
-use Rattle.wild_meaning.specs.Reference.{IsAsked, IsLinkedAlone, HoldsRewritten, HoldsLinked, ReferenceHolds}
-use Rattle.wild_effects.specs.Laws.{RewrittenHold, PartnersHold, InstructionsAreKept, OthersAreKept, KeptInstructionsDo, ItemsHold}
+use Rattle.wild_meaning.specs.Reference.{IsAsked, IsLinkedAlone, IsTakenAlong, HoldsRewritten, LinkedHolds, ReferenceHolds}
+use Rattle.wild_effects.specs.Laws.{RewrittenHold, PartnersHold, RewrittenAreFollowed, InstructionsAreKept, OthersAreKept, KeptInstructionsDo, ItemsHold}
 
 record AreKnown : Type 0 where
   rewritten : RewrittenHold
   partners : PartnersHold
+  followed : RewrittenAreFollowed
   kept : InstructionsAreKept
   does : KeptInstructionsDo
   others : OthersAreKept
@@ -47,15 +48,19 @@ plain k l w m s g f r is asked alone i d has keeps =
       does = k.does l w m s g f i r reference asked alone;
     })
 
+-- the call of a sequence is one of its two references
+partner_holds : (l : Layout) (w : World) (m : Memory) (s : InputSection) (r : InputRelocation) → IsTakenAlong l w m (item_of s) r → HoldsRewritten l w m (item_of s) r
+partner_holds l w m s r t = record { start = t.start; instruction = t.instruction; first = t.first; template = inr (record { second = r; sequence = t.sequence; one = inr refl }); does = t.does }
+
 by_decision : (k : AreKnown) (l : Layout) (w : World) (m : Memory) (s : InputSection) → IsLoadedSection l w m s → FieldsHold l w m s → (r : InputRelocation) → IsReference (item_of s) r → IsAsked l w (item_of s) r → (IsLinkedAlone l (item_of s) r → ⊥) → (i : ℕ) (d : Decision) → HasDecision l s i r d → ReferenceHolds l w m (item_of s) r
 by_decision k l w m s g f r is asked alone i Nothing has = plain k l w m s g f r is asked alone i Nothing has tt
 by_decision k l w m s g f r is asked alone i (Field z v) has = plain k l w m s g f r is asked alone i (Field z v) has tt
 by_decision k l w m s g f r is asked alone i (Moved v packed) has = plain k l w m s g f r is asked alone i (Moved v packed) has tt
 by_decision k l w m s g f r is asked alone i (Left z number symbol addend) has = plain k l w m s g f r is asked alone i (Left z number symbol addend) has tt
 by_decision k l w m s g f r is asked alone i (Rewritten row v) has = inr (k.rewritten l w m s g i r row v has asked)
-by_decision k l w m s g f r is asked alone i Partner has = inr (k.partners l w m s g i r has)
+by_decision k l w m s g f r is asked alone i Partner has = inr (partner_holds l w m s r (k.partners l w m s g i r has))
 
-linked_plain : (k : AreKnown) (l : Layout) (w : World) (m : Memory) (s : InputSection) → IsLoadedSection l w m s → FieldsHold l w m s → (r : InputRelocation) → IsReference (item_of s) r → IsLinkedAlone l (item_of s) r → w.base ≡ 0 → (i : ℕ) (d : Decision) → HasDecision l s i r d → KeepsInstruction d → HoldsLinked l w m (item_of s) r ⊎ HoldsRewritten l w m (item_of s) r
+linked_plain : (k : AreKnown) (l : Layout) (w : World) (m : Memory) (s : InputSection) → IsLoadedSection l w m s → FieldsHold l w m s → (r : InputRelocation) → IsReference (item_of s) r → IsLinkedAlone l (item_of s) r → w.base ≡ 0 → (i : ℕ) (d : Decision) → HasDecision l s i r d → KeepsInstruction d → LinkedHolds l w m (item_of s) r
 linked_plain k l w m s g f r is alone zero i d has keeps =
     let field = f.linked i r (record { decision = d; has = has; keeps = keeps; refers = is.refers }) alone zero in
     inl (record {
@@ -67,17 +72,17 @@ linked_plain k l w m s g f r is alone zero i d has keeps =
       kept = k.kept l w m s g i r d has keeps;
     })
 
-linked_by : (k : AreKnown) (l : Layout) (w : World) (m : Memory) (s : InputSection) → IsLoadedSection l w m s → FieldsHold l w m s → (r : InputRelocation) → IsReference (item_of s) r → IsLinkedAlone l (item_of s) r → w.base ≡ 0 → (i : ℕ) (d : Decision) → HasDecision l s i r d → HoldsLinked l w m (item_of s) r ⊎ HoldsRewritten l w m (item_of s) r
+linked_by : (k : AreKnown) (l : Layout) (w : World) (m : Memory) (s : InputSection) → IsLoadedSection l w m s → FieldsHold l w m s → (r : InputRelocation) → IsReference (item_of s) r → IsLinkedAlone l (item_of s) r → w.base ≡ 0 → (i : ℕ) (d : Decision) → HasDecision l s i r d → LinkedHolds l w m (item_of s) r
 linked_by k l w m s g f r is alone zero i Nothing has = linked_plain k l w m s g f r is alone zero i Nothing has tt
 linked_by k l w m s g f r is alone zero i (Field z v) has = linked_plain k l w m s g f r is alone zero i (Field z v) has tt
 linked_by k l w m s g f r is alone zero i (Moved v packed) has = linked_plain k l w m s g f r is alone zero i (Moved v packed) has tt
 linked_by k l w m s g f r is alone zero i (Left z number symbol addend) has = linked_plain k l w m s g f r is alone zero i (Left z number symbol addend) has tt
-linked_by k l w m s g f r is alone zero i (Rewritten row v) has = inr (k.rewritten l w m s g i r row v has (λ e. zero))
-linked_by k l w m s g f r is alone zero i Partner has = inr (k.partners l w m s g i r has)
+linked_by k l w m s g f r is alone zero i (Rewritten row v) has = absurd (k.followed l s i r row v has alone)
+linked_by k l w m s g f r is alone zero i Partner has = inr (inr (k.partners l w m s g i r has))
 
-pub items : RewrittenHold → PartnersHold → InstructionsAreKept → KeptInstructionsDo → OthersAreKept → ItemsHold
-items rewritten partners kept does others l w m s g f =
-    let k : AreKnown = record { rewritten = rewritten; partners = partners; kept = kept; does = does; others = others } in
+pub items : RewrittenHold → PartnersHold → RewrittenAreFollowed → InstructionsAreKept → KeptInstructionsDo → OthersAreKept → ItemsHold
+items rewritten partners followed kept does others l w m s g f =
+    let k : AreKnown = record { rewritten = rewritten; partners = partners; followed = followed; kept = kept; does = does; others = others } in
     record {
       references = λ r is asked alone. (let at = at_index l w m s r g is.listed in by_decision k l w m s g f r is asked alone at.index at.decision at.has);
       linked = λ r is alone zero. (let at = at_index l w m s r g is.listed in linked_by k l w m s g f r is alone zero at.index at.decision at.has);

@@ -4,12 +4,13 @@ use Rattle.std.specs.Prelude.{pos, not, ◌||◌, All, Contains, Option, Some, N
 use Rattle.std.specs.List.{list_all, range_with_len}
 use Rattle.std.proofs.lemmas.Bool.{and_parts, cases_lt}
 use Rattle.std.proofs.lemmas.Option.{get_or_from_slice_get, slice_get_within, slice_get-get_or}
-use Rattle.std.proofs.lemmas.List.Elements.{All-nil}
+use Rattle.std.proofs.lemmas.List.Elements.{All-nil, All-same}
 use Rattle.std.proofs.lemmas.List.FromFn.{get_or-range_with_len, length-range_with_len}
 use Rattle.wild_words.specs.Words.{word}
-use Rattle.wild_words.specs.Overlay.{Piece}
 use Rattle.wild_words.proofs.WordLemmas.{length-word}
-use Rattle.wild_words.proofs.ListLemmas.{All-flat_map}
+use Rattle.wild_words.proofs.ListLemmas.{All-flat_map, holds_at}
+use Rattle.wild_words.proofs.Basics.{listed_passes}
+use Rattle.wild_words.proofs.OrderLemmas.{Outside}
 use Rattle.wild_records.specs.Abi.Relocation.{r_x86_64_none}
 use Rattle.wild_types.specs.declared.kind.Machine.{Machine}
 use Rattle.wild_types.specs.declared.kind.Machine.TheVariants as machine
@@ -36,7 +37,7 @@ use Rattle.wild_layout.specs.Choice.{question_of}
 use Rattle.wild_layout.specs.Sites.{field_site, template_start, template_site, site_for, site}
 use Rattle.wild_layout.proofs.ChoiceLemmas.{chosen_listed}
 use Rattle.wild_layout.proofs.DecisionLemmas.{IsRewritten, decide_rewritten}
-use Rattle.wild_layout.proofs.SiteLemmas.{All-one, All-of, All-at}
+use Rattle.wild_layout.proofs.SiteLemmas.{All-one}
 use Rattle.wild_loader.specs.Memory.{Holds}
 use Rattle.wild_loader.specs.declared.memory.Memory.{Memory}
 use Rattle.wild_loader.specs.declared.world.World.{World}
@@ -54,13 +55,10 @@ use Rattle.wild_effects.proofs.WindowSites.{site_is}
 use Rattle.wild_effects.proofs.WindowFields.{partner_there, kept_width, window_is}
 use Rattle.wild_effects.proofs.Windows.{formula_width, order, windows_are_alone}
 use Rattle.wild_effects.proofs.Clash.{is_free, are_calls, pair_ok, row_ok, each_row_ok, IsUncovered, apart_templates}
-use Rattle.wild_effects.proofs.KeptTables.{listed_passes, IsFilled, is_filled, own_is_fixed, any_in_field, number_width, partner_width, call_number, row_fixed, each_row_fixed, IsFixed, is_fixed, free_in_field}
+use Rattle.wild_effects.proofs.KeptTables.{IsFilled, is_filled, own_is_fixed, any_in_field, number_width, partner_width, call_number, row_fixed, each_row_fixed, IsFixed, is_fixed, free_in_field}
 use Rattle.wild_effects.proofs.KeptRelocations.{one_decision}
 use Rattle.wild_effects.proofs.KeptModes.{calls_apart}
 use Rattle.wild_effects.proofs.KeptSequences.{AreKept, are_kept}
-
-abbrev Outside : ℕ → Piece → Type 0
-Outside k p = (k < p.at) ⊎ (p.at + length p.bytes ≤ k)
 
 -- ---- a byte in no field
 
@@ -69,7 +67,7 @@ no_field_at : (l : Layout) (s : InputSection) (x j : ℕ) (q : InputRelocation) 
 no_field_at l s x j q x86 out listed = by (x86_64_formula q.number) refl
   where
     there : (f : Formula) → formula_of l.machine q.number ≡ Some f → (x < q.offset) ⊎ (q.offset + form_width f.form ≤ x)
-    there = All-at (λ (r : InputRelocation). (f : Formula) → formula_of l.machine r.number ≡ Some f → (x < r.offset) ⊎ (r.offset + form_width f.form ≤ x)) s.relocations j q out listed
+    there = holds_at (λ (r : InputRelocation). (f : Formula) → formula_of l.machine r.number ≡ Some f → (x < r.offset) ⊎ (r.offset + form_width f.form ≤ x)) s.relocations j q listed out
 
     by : (o : Option Formula) → x86_64_formula q.number ≡ o → (x < q.offset) ⊎ (q.offset + width_of q.number ≤ x)
     by None e = subst (λ (n : ℕ). (x < q.offset) ⊎ (q.offset + n ≤ x)) (sym (ap width_by e)) (order x q.offset)
@@ -109,7 +107,7 @@ in_no_site l s x x86 whole out windows = All-flat_map (Outside x) (site l s) (ra
         let q : InputRelocation = get_or s.relocations j no_relocation in
         let e = whole.each j lt in
         let h : HasDecision l s j q e.0 = record { listed = slice_get-get_or s.relocations j no_relocation lt; decided = e.1 } in
-        All-of (Outside x) (site l s j) (site_for s q e.0) (site_is l s j q e.0 h) (decision_outside l s x j q e.0 x86 out windows h)
+        All-same (Outside x) (site l s j) (site_for s q e.0) (site_is l s j q e.0 h) (decision_outside l s x j q e.0 x86 out windows h)
 
     site_outside : (n d : ℕ) → n < length (range_with_len 0 (length s.relocations)) → All (Outside x) (site l s (get_or (range_with_len 0 (length s.relocations)) n d))
     site_outside n d lt =

@@ -1,22 +1,17 @@
 -- Where relocations keep the instructions that a row would write: what that says of the output.
-use Rattle.std.proofs.Common.{◌≡◌, ℕ, ◌+◌, ◌*◌, ◌/◌, ◌%◌, ◌⊎◌, inl, inr, Bool, true, false, refl, sym, ap, ◌∙◌, arith, subst}
+use Rattle.std.proofs.Common.{◌≡◌, ℕ, ◌+◌, ◌⊎◌, inl, inr, Bool, true, false, refl, sym, ap, ◌∙◌, arith, subst}
 use Rattle.std.specs.Prelude.{Option, Some, None, Ok, not, ◌||◌, slice_get}
-use Rattle.std.specs.Int.RustNames.{bit_and}
 use Rattle.std.proofs.lemmas.Bool.{and_parts, cases_Bool, eq-eqb, or_cases}
-use Rattle.std.proofs.lemmas.Nat.Bits.{and_pow}
+use Rattle.wild_words.proofs.Basics.{implied, or_by}
 use Rattle.wild_records.specs.Abi.Relocation.{r_x86_64_tlsgd, r_x86_64_tlsld, r_x86_64_tlsdesc_call}
-use Rattle.wild_records.specs.Abi.Section.{shf_execinstr}
 use Rattle.wild_types.specs.declared.kind.Machine.TheVariants as machine
-use Rattle.wild_types.specs.declared.kind.OutputKind.{OutputKind}
-use Rattle.wild_types.specs.declared.kind.OutputKind.TheVariants as output
 use Rattle.wild_types.specs.declared.input.InputRelocation.{InputRelocation}
 use Rattle.wild_types.specs.declared.input.InputSection.{InputSection}
-use Rattle.wild_types.specs.declared.symbol.Symbol.{Symbol}
 use Rattle.wild_types.specs.declared.symbol.ValueFlags.{ValueFlags}
 use Rattle.wild_types.specs.declared.layout.Layout.{Layout}
 use Rattle.wild_types.specs.Flags.{has_flag, ifunc, non_interposable}
 use Rattle.wild_types.specs.Kinds.{is_executable, is_static_executable}
-use Rattle.wild_types.specs.Lookups.{bit, executable, canonical}
+use Rattle.wild_types.specs.Lookups.{executable}
 use Rattle.wild_types.specs.Rows.{row_of}
 use Rattle.wild_slot.specs.Treatment.{flags_at, row_treatment, treatment}
 use Rattle.wild_reloc.specs.TableX86_64.{x86_64_row}
@@ -39,11 +34,13 @@ use Rattle.wild_layout.proofs.DecisionLemmas.{decide_rewritten}
 use Rattle.wild_geometry.specs.Loaded.{HasDecision}
 use Rattle.wild_values.specs.Laws.{KeepsInstruction}
 use Rattle.wild_meaning.specs.Item.{item_of}
-use Rattle.wild_meaning.specs.Section.{IsSet}
-use Rattle.wild_meaning.specs.Value.{IsSymbol, IsDefinedBy, HasFlag}
-use Rattle.wild_meaning.specs.World.{IsExecutable}
+use Rattle.wild_meaning.specs.Value.{HasFlag}
 use Rattle.wild_meaning.specs.Sequence.{Instruction}
 use Rattle.wild_meaning.specs.Template.{IsSequence}
+use Rattle.wild_meaning.proofs.SymbolLemmas.{canonical_is}
+use Rattle.wild_meaning.proofs.BitLemmas.{code_bit}
+use Rattle.wild_meaning.proofs.OutputLemmas.{executable_is}
+use Rattle.wild_geometry.proofs.JudgedLemmas.{flag_is}
 use Rattle.wild_effects.proofs.WindowRows.{Applied, applied, applied_by}
 use Rattle.wild_effects.proofs.WindowFields.{row_at}
 use Rattle.wild_effects.proofs.KeptTables.{is_described_call, keeps_all, by_slot, IsAskedFor, asked_for, asked_before, row_fixed, each_row_fixed, is_fixed}
@@ -98,14 +95,6 @@ pub record IsOn (l : Layout) (s : InputSection) (row : Row) : Type 0 where
   pub code : executable s.flags ≡ true
   pub thread : is_thread_local row ≡ true → is_executable l.kind ≡ true
 
-on_by : (a b c : Bool) → (a || b) ≡ true → (b ≡ true → c ≡ true) → (a || c) ≡ true
-on_by true b c h f = refl
-on_by false b c h f = f h
-
-local_executable : (a b : Bool) → (not a || b) ≡ true → a ≡ true → b ≡ true
-local_executable true b h e = h
-local_executable false b h e = cc
-
 pub rewritten_on : (l : Layout) (s : InputSection) (j : ℕ) (q : InputRelocation) (row : Row) (v : ℕ) → HasDecision l s j q (Rewritten row v) → IsOn l s row
 rewritten_on l s j q row v h =
     let w = decide_rewritten l s j q row v h.listed h.decided in
@@ -114,9 +103,9 @@ rewritten_on l s j q row v h =
     let asked = question_of l s q is.chosen.symbol next in
     let a = applied asked row is.applies in
     record {
-      taken = on_by l.options.relax (is_mandatory row asked) (is_static_executable l.kind) a.taken (mandatory_static row asked w.changes);
+      taken = or_by l.options.relax (is_mandatory row asked) (is_static_executable l.kind) a.taken (mandatory_static row asked w.changes);
       code = in_code row asked w.changes a.code;
-      thread = local_executable (is_thread_local row) (is_executable l.kind) a.thread;
+      thread = implied (is_thread_local row) (is_executable l.kind) a.thread;
     }
 
 -- ---- the call through a descriptor
@@ -162,20 +151,6 @@ calls_apart l s i j r q d row v x86 h k number h' number' = by_symbol r.symbol r
 
 -- ---- sequences
 
-canonical_is : (l : Layout) (i c : ℕ) → IsDefinedBy l i c → canonical l i ≡ c
-canonical_is l i c d = by_case d.symbol d.listed d.defined
-  where
-    by_case : (symbol : Symbol) → IsSymbol l i symbol → (symbol.definition ≡ Some c) ⊎ ((symbol.definition ≡ None) × (c ≡ i)) → canonical l i ≡ c
-    by_case symbol listed (inl other) = rw (listed, other) refl
-    by_case symbol listed (inr own) = rw (listed, own.0) (sym own.1)
-
-flag_is : (l : Layout) (i flag : ℕ) (b : Bool) → HasFlag l i flag b → has_flag (flags_at l i) flag ≡ b
-flag_is l i flag b h =
-    let e = canonical_is l i h.definition h.defined in
-    let listed = h.listed in
-    let same : flags_at l i ≡ h.symbol.flags = rw (e, listed) refl in
-    ap (λ (f : ValueFlags). has_flag f flag) same ∙ h.flagged
-
 -- another flag of it
 other_flag : (l : Layout) (i flag other : ℕ) (b : Bool) → HasFlag l i flag b → HasFlag l i other (has_flag (flags_at l i) other)
 other_flag l i flag other b h =
@@ -183,19 +158,6 @@ other_flag l i flag other b h =
     let listed = h.listed in
     let same : flags_at l i ≡ h.symbol.flags = rw (e, listed) refl in
     record { definition = h.definition; defined = h.defined; symbol = h.symbol; listed = h.listed; flagged = ap (λ (f : ValueFlags). has_flag f other) (sym same) }
-
-executable_is : (k : OutputKind) → IsExecutable k → is_executable k ≡ true
-executable_is (output.StaticExecutable any) h = refl
-executable_is (output.DynamicExecutable any) h = refl
-executable_is output.SharedObject h = absurd h
-executable_is output.PartialObject h = absurd h
-
-code_bit : (f : ℕ) → IsSet f shf_execinstr → executable f ≡ true
-unfolding bit
-code_bit f h =
-    let a : bit_and f 4 ≡ f / 4 % 2 * 4 = and_pow f 2 in
-    let e : bit_and f 4 ≡ 4 = omega (arith, a, h) in
-    rw e refl
 
 -- a sequence whose call goes through a slot does not keep its first instruction where rows stand
 pub slot_not_kept : (l : Layout) (s : InputSection) (i : ℕ) (first second : InputRelocation) (d : Decision) (start : ℕ) (o : Instruction) → l.machine ≡ machine.X86_64 → HasDecision l s i first d → KeepsInstruction d → IsSequence l (item_of s) first second start o → by_slot o ≡ true → (l.options.relax || is_static_executable l.kind) ≡ true → ⊥

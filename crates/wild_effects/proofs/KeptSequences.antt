@@ -11,7 +11,6 @@ use Rattle.wild_types.specs.declared.input.InputSection.{InputSection}
 use Rattle.wild_types.specs.declared.layout.Layout.{Layout}
 use Rattle.wild_reloc.specs.FormulaX86_64.{x86_64_formula}
 use Rattle.wild_relax.specs.declared.pattern.GeneralForm.{GeneralForm}
-use Rattle.wild_relax.specs.declared.pattern.GeneralForm.TheVariants as general
 use Rattle.wild_relax.specs.declared.row.Row.{Row}
 use Rattle.wild_relax.specs.RowSequences.{call_form, is_call_number}
 use Rattle.wild_relax.specs.Rows.{number_of}
@@ -28,23 +27,19 @@ use Rattle.wild_meaning.specs.Sequence.{Instruction, instructions_of}
 use Rattle.wild_meaning.specs.Template.{IsSequence}
 use Rattle.wild_effects.proofs.WindowRows.{width_of}
 use Rattle.wild_effects.proofs.WindowFields.{HasSite, has_site}
-use Rattle.wild_effects.proofs.KeptTables.{is_pair, keeps_all, by_slot, IsFilled, is_filled, partner_width, partner_some, partner_kept, pair_number, row_fixed, each_row_fixed, is_fixed}
+use Rattle.wild_effects.proofs.KeptTables.{keeps_all, by_slot, IsFilled, is_filled, partner_width, partner_some, partner_kept, pair_number, row_fixed, each_row_fixed, is_fixed}
 use Rattle.wild_effects.proofs.KeptRelocations.{one_decision, same_owner, kept_takes_none}
 use Rattle.wild_effects.proofs.KeptModes.{rewritten_on, slot_not_kept}
+use Rattle.wild_effects.proofs.RewrittenFree.{no_call, is_first}
 
 -- ---- relocations that begin a sequence
 
-two_pairs : (n : ℕ) → is_pair n ≡ true → (n ≡ r_x86_64_tlsgd) ⊎ (n ≡ r_x86_64_tlsld)
+two_pairs : (n : ℕ) → is_first n ≡ true → (n ≡ r_x86_64_tlsgd) ⊎ (n ≡ r_x86_64_tlsld)
 two_pairs n h = elim (or_cases (n == r_x86_64_tlsgd) (n == r_x86_64_tlsld) h) [ inl e ↦ inl (eqb-true n r_x86_64_tlsgd e) | inr e ↦ inr (eqb-true n r_x86_64_tlsld e) ]
 
-pair_some : (n : ℕ) → is_pair n ≡ true → 0 < width_of n
+pair_some : (n : ℕ) → is_first n ≡ true → 0 < width_of n
 unfolding x86_64_formula
 pair_some n h = elim (two_pairs n h) [ inl e ↦ rw e (omega arith) | inr e ↦ rw e (omega arith) ]
-
-pair_no_call : (n : ℕ) (f : GeneralForm) → is_pair n ≡ true → is_call_number f n ≡ true → ⊥
-pair_no_call n general.Regular h c = elim (two_pairs n h) [ inl e ↦ cc (rw e at c) | inr e ↦ cc (rw e at c) ]
-pair_no_call n general.NoPlt h c = elim (two_pairs n h) [ inl e ↦ cc (rw e at c) | inr e ↦ cc (rw e at c) ]
-pair_no_call n general.Large h c = elim (two_pairs n h) [ inl e ↦ cc (rw e at c) | inr e ↦ cc (rw e at c) ]
 
 -- a relocation that is taken along, behind the one before
 record IsTaken (l : Layout) (s : InputSection) (i : ℕ) (r : InputRelocation) : Type 0 where
@@ -104,7 +99,7 @@ record Facts (l : Layout) (s : InputSection) (first second : InputRelocation) (s
   whole : IsDecided l s
   sequence : IsSequence l (item_of s) first second start o
   filled : IsFilled o
-  pair : is_pair first.number ≡ true
+  pair : is_first first.number ≡ true
   some : 0 < width_of second.number
   one : Decision
   has_one : HasDecision l s i first one
@@ -132,10 +127,10 @@ facts l s first second start o x86 whole q =
     }
 
 -- its first relocation is the call of none
-first_no_call : (l : Layout) (s : InputSection) (i : ℕ) (r : InputRelocation) (d : Decision) → HasDecision l s i r d → is_pair r.number ≡ true → d ≡ Partner → ⊥
+first_no_call : (l : Layout) (s : InputSection) (i : ℕ) (r : InputRelocation) (d : Decision) → HasDecision l s i r d → is_first r.number ≡ true → d ≡ Partner → ⊥
 first_no_call l s i r d h pair e =
     let t = taken_is l s i r (subst (λ (x : Decision). HasDecision l s i r x) e h) in
-    pair_no_call r.number t.form pair t.call
+    no_call t.form r.number pair t.call
 
 -- where it is kept, so is the call
 second_kept : (l : Layout) (s : InputSection) (first second : InputRelocation) (start : ℕ) (o : Instruction) (i : ℕ) → (f : Facts l s first second start o i) → KeepsInstruction f.one → KeepsInstruction f.two
@@ -165,7 +160,7 @@ first_kept l s first second start o i f k = by (keeps_or f.one)
     takes_all : (row : Row) (v : ℕ) → HasDecision l s i first (Rewritten row v) → ⊥
     takes_all row v h =
         let w = decide_rewritten l s i first row v h.listed h.decided in
-        let pair : is_pair (number_of row) ≡ true = subst (λ (n : ℕ). is_pair n ≡ true) w.chosen.number f.pair in
+        let pair : is_first (number_of row) ≡ true = subst (λ (n : ℕ). is_first n ≡ true) w.chosen.number f.pair in
         let skips = (is_fixed row (chosen_listed l s first (slice_get s.relocations (i + 1)) row w.chosen row_fixed each_row_fixed) w.changes).skips pair in
         let made : choice l s i ≡ Ok (Some row) = rw h.listed w.chosen.choice in
         let taken = next_is_partner l s i (ap takes_next made ∙ skips) in

@@ -4,7 +4,7 @@ use Rattle.std.specs.Prelude.{not, ◌&&◌, ◌||◌, ◌==◌, nat_lt, nat_le,
 use Rattle.std.specs.List.{list_all}
 use Rattle.std.proofs.lemmas.Bool.{and_parts, eqb-true, le-leb, leb-true, ltb-true, or_cases}
 use Rattle.std.proofs.lemmas.Bool.Decides.{nat_tests}
-use Rattle.wild_words.proofs.ListLemmas.{All-from_list_all}
+use Rattle.wild_words.proofs.Basics.{listed_passes}
 use Rattle.wild_records.specs.Abi.Relocation.{r_x86_64_pc32, r_x86_64_plt32, r_x86_64_pltoff64, r_x86_64_tlsgd, r_x86_64_tlsld, r_x86_64_tlsdesc_call}
 use Rattle.wild_types.specs.declared.kind.Machine.TheVariants as machine
 use Rattle.wild_reloc.specs.FormulaX86_64.{x86_64_formula}
@@ -27,12 +27,9 @@ use Rattle.wild_meaning.specs.Instruction as own
 use Rattle.wild_meaning.specs.Instruction.{Is, From, Slot, Digit, Any, fits, stands}
 use Rattle.wild_meaning.specs.Sequence.{Partner, Instruction, size_of, IsBesidePartner, IsOwnByte, instructions_of}
 use Rattle.wild_effects.proofs.WindowRows.{width_of, call_width}
-use Rattle.wild_effects.proofs.Clash.{is_any, is_free, below, below_at, stands_more}
-
-pub listed_passes : {X : Type 0} (t : X → Bool) (xs : List X) (x : X) → list_all t xs ≡ true → Contains xs x → t x ≡ true
-listed_passes {X} t xs x h c =
-    let P : X → Type 0 = λ y. t y ≡ true in
-    subst P c.2 (All-from_list_all t xs h c.0 x c.1)
+use Rattle.wild_effects.proofs.Clash.{is_free, below, below_at, stands_more}
+use Rattle.wild_effects.proofs.Fills.{is_any}
+use Rattle.wild_effects.proofs.RewrittenFree.{is_first}
 
 -- ---- instructions
 
@@ -59,9 +56,6 @@ partner_widths (Some p) = nat_lt 0 p.width && widths_are p.width p.numbers
 abbrev pub is_described_call : ℕ → Bool
 is_described_call n = n == r_x86_64_tlsdesc_call
 
-abbrev pub is_pair : ℕ → Bool
-is_pair n = n == r_x86_64_tlsgd || n == r_x86_64_tlsld
-
 -- types of which no row writes other bytes than the field's; and rows of other types write them all
 abbrev pub keeps_all : ℕ → Bool
 keeps_all n = n == r_x86_64_pc32 || (n == r_x86_64_plt32 || n == r_x86_64_pltoff64)
@@ -72,7 +66,7 @@ calls_alone o = if size_of o == 2 then list_all is_described_call o.numbers else
 
 abbrev begins_pair : Instruction → Option Partner → Bool
 begins_pair o None = true
-begins_pair o (Some p) = list_all is_pair o.numbers
+begins_pair o (Some p) = list_all is_first o.numbers
 
 -- the cells of an instruction begin with those of a pattern
 abbrev same_cell : own.Cell → Cell → Bool
@@ -188,8 +182,8 @@ call_number o n f c two =
     let t : list_all is_described_call o.numbers ≡ true = rw two at f.calls in
     eqb-true _ _ (listed_passes is_described_call o.numbers n t c)
 
-pub pair_number : (o : Instruction) (p : Partner) (n : ℕ) → IsFilled o → o.partner ≡ Some p → Contains o.numbers n → is_pair n ≡ true
-pair_number o p n f e c = listed_passes is_pair o.numbers n (subst (λ (q : Option Partner). begins_pair o q ≡ true) e f.pair) c
+pub pair_number : (o : Instruction) (p : Partner) (n : ℕ) → IsFilled o → o.partner ≡ Some p → Contains o.numbers n → is_first n ≡ true
+pair_number o p n f e c = listed_passes is_first o.numbers n (subst (λ (q : Option Partner). begins_pair o q ≡ true) e f.pair) c
 
 pub partner_kept : (o : Instruction) (p : Partner) (n : ℕ) → IsFilled o → o.partner ≡ Some p → Contains p.numbers n → (keeps_all n ≡ true) ⊎ (by_slot o ≡ true)
 partner_kept o p n f e c =
@@ -275,7 +269,7 @@ row_fixed row =
     && (not (keeps_all (number_of row))
     && ((if pattern_size row == 2 then is_described_call (number_of row) else true)
     && ((if is_described_call (number_of row) then is_thread_local row else true)
-    && (if is_pair (number_of row) then is_skip (rewrite_of row).next else true))))
+    && (if is_first (number_of row) then is_skip (rewrite_of row).next else true))))
 
 pub each_row_fixed : list_all row_fixed rows_x86_64 ≡ true
 unfolding x86_64_formula
@@ -286,7 +280,7 @@ pub record IsFixed (row : Row) : Type 0 where
   pub writes : keeps_all (number_of row) ≡ false
   pub calls : (pattern_size row == 2) ≡ true → number_of row ≡ r_x86_64_tlsdesc_call
   pub thread : is_described_call (number_of row) ≡ true → is_thread_local row ≡ true
-  pub skips : is_pair (number_of row) ≡ true → is_skip (rewrite_of row).next ≡ true
+  pub skips : is_first (number_of row) ≡ true → is_skip (rewrite_of row).next ≡ true
 
 pub is_fixed : (row : Row) → row_fixed row ≡ true → keeps_bytes row ≡ false → IsFixed row
 is_fixed row h k =
@@ -299,7 +293,7 @@ is_fixed row h k =
       writes = not_is (keeps_all (number_of row)) b.0;
       calls = λ two. eqb-true _ _ (so (pattern_size row == 2) (is_described_call (number_of row)) c.0 two);
       thread = λ call. so (is_described_call (number_of row)) (is_thread_local row) d.0 call;
-      skips = λ pair. so (is_pair (number_of row)) (is_skip (rewrite_of row).next) d.1 pair;
+      skips = λ pair. so (is_first (number_of row)) (is_skip (rewrite_of row).next) d.1 pair;
     }
   where
     free : (a b : Bool) → (not a || b) ≡ true → a ≡ true → b ≡ true

@@ -33,5 +33,6 @@ mod RewrittenPrefix
 mod RewrittenShorter
 mod RewrittenWider
 mod RewrittenWhole
+mod RewrittenFollowed
 mod KeptDo
 mod Items

@@ -1,8 +1,7 @@
 -- An instruction that is rewritten stands in the input, and no relocation fills its own bytes.
 use Rattle.std.proofs.Common.{◌≡◌, ℕ, ◌+◌, ◌-◌, ◌<◌, ◌≤◌, ◌⊎◌, inl, inr, true, get_or, refl, sym, ◌∙◌, arith, subst}
-use Rattle.std.specs.Prelude.{◌&&◌, ◌==◌, Option, Some, None, Ok, slice_get}
-use Rattle.std.proofs.lemmas.Bool.{cases_Bool, eqb-true}
-use Rattle.std.proofs.lemmas.Bool.Decides.{nat_tests}
+use Rattle.std.specs.Prelude.{◌&&◌, Option, Some, None, Ok, slice_get}
+use Rattle.std.proofs.lemmas.Bool.{eqb-true, and_parts, cases_eq}
 use Rattle.std.proofs.lemmas.List.Elements.{All-from_get_or}
 use Rattle.std.proofs.lemmas.Option.{slice_get-get_or}
 use Rattle.wild_types.specs.declared.kind.Machine.{Machine}
@@ -30,7 +29,7 @@ use Rattle.wild_meaning.specs.Item.{item_of}
 use Rattle.wild_meaning.specs.Field.{formula_of, form_width, InNoField}
 use Rattle.wild_meaning.specs.Sequence.{Partner as Call, IsBesidePartner, IsOwnByte}
 use Rattle.wild_effects.specs.Laws.{IsBesideField, WindowsAreAlone}
-use Rattle.wild_effects.proofs.RewrittenForms.{both, instruction_of}
+use Rattle.wild_effects.proofs.RewrittenForms.{instruction_of}
 use Rattle.wild_effects.proofs.RewrittenPairs.{own_width, partner_for, IsPaired, paired}
 use Rattle.wild_effects.proofs.RewrittenPlaces.{IsPlacedRow, size_is}
 
@@ -46,10 +45,10 @@ pub record IsCalled (l : Layout) (row : Row) (r next : InputRelocation) (distanc
 called_as : (l : Layout) (row : Row) (r next : InputRelocation) (n : ℕ) → (minus_four r.addend && is_partner row (r.offset + n) (info_of l next)) ≡ true → IsCalled l row r next n
 unfolding is_partner
 called_as l row r next n h =
-    let t = both (minus_four r.addend) _ h in
-    let a = both _ _ t.1 in
-    let b = both _ _ a.0 in
-    let c = both _ _ b.0 in
+    let t = and_parts (minus_four r.addend) _ h in
+    let a = and_parts _ _ t.1 in
+    let b = and_parts _ _ a.0 in
+    let c = and_parts _ _ b.0 in
     record { place = eqb-true next.offset (r.offset + n) c.0; getter = c.1; number = b.1; ends = t.0 }
 
 called_at : (l : Layout) (row : Row) (r next : InputRelocation) (o : Option ℕ) (n : ℕ) → o ≡ Some n → is_partner_at row (info_of l r) o (Some (info_of l next)) ≡ true → IsCalled l row r next n
@@ -138,26 +137,20 @@ is_call (Left size number symbol addend) = inr (λ e. cc)
 is_call (Rewritten row v) = inr (λ e. cc)
 is_call Partner = inl refl
 
-pub is_same : (i j : ℕ) → (i ≡ j) ⊎ (i ≡ j → ⊥)
-is_same i j = elim (cases_Bool (i == j)) [ inl t ↦ inl (eqb-true i j t) | inr f ↦ inr (λ e. (let t : (i == j) ≡ true = rw e (eq_self j) in cc)) ]
-  where
-    eq_self : (n : ℕ) → (n == n) ≡ true
-    eq_self n = grind (arith, nat_tests)
-
 each_beside : WindowsAreAlone → (l : Layout) (s : InputSection) (i j : ℕ) (r q : InputRelocation) (row : Row) (v k : ℕ) (d : Decision) → l.machine ≡ machine.X86_64 → IsDecided l s → IsPlacedRow l s i r row v → IsOwnByte (instruction_of row) k → HasDecision l s j q d → IsBesideField l q (template_start row r + k)
 each_beside law l s i j r q row v k d x86 decided p own h =
     let size = size_is l s i r row v p in
     let inside = own.inside in
     let low : template_start row r ≤ template_start row r + k = omega arith in
     let high : template_start row r + k < template_start row r + pattern_size row = omega (arith, size, inside) in
-    elim (is_same i j) [
+    elim (cases_eq i j) [
       | inl e ↦
           (let there : slice_get s.relocations i ≡ Some q = subst (λ (x : ℕ). slice_get s.relocations x ≡ Some q) (sym e) h.listed in
           let same : r ≡ q = (let z : Some r ≡ Some q = sym p.has.listed ∙ there in cc) in
           subst (λ (x : InputRelocation). IsBesideField l x (template_start row r + k)) same (own_beside l s i r row v k x86 p own))
       | inr other ↦ elim (is_call d) [
         | inr plain ↦ law l s x86 decided i j r q row v d p.has h other (λ e c. plain c) (template_start row r + k) low high
-        | inl call ↦ elim (is_same j (i + 1)) [
+        | inl call ↦ elim (cases_eq j (i + 1)) [
           | inr far ↦ law l s x86 decided i j r q row v d p.has h other (λ e c. far e) (template_start row r + k) low high
           | inl next ↦
               (let at : HasDecision l s (i + 1) q Partner = subst (λ (x : ℕ). HasDecision l s x q Partner) next (subst (λ (x : Decision). HasDecision l s j q x) call h) in

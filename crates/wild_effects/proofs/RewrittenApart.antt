@@ -1,9 +1,10 @@
 -- An instruction that is rewritten by itself is free of sequences.
 use Rattle.std.proofs.Common.{◌≡◌, ℕ, zero, suc, ◌+◌, ◌<◌, ◌≤◌, ◌⊎◌, inl, inr, Bool, true, false, List, [], ◌∷◌, get_or, refl, sym, ap, ◌∙◌, arith, subst}
-use Rattle.std.specs.Prelude.{◌&&◌, ◌||◌, not, nat_lt, Some, Contains, slice_get}
+use Rattle.std.specs.Prelude.{◌||◌, not, nat_lt, Some, Contains, slice_get}
 use Rattle.std.specs.List.{list_all}
-use Rattle.std.proofs.lemmas.Bool.{cases_Bool, ltb-true}
+use Rattle.std.proofs.lemmas.Bool.{cases_Bool, ltb-true, cases_eq, and_parts}
 use Rattle.std.proofs.lemmas.Option.{slice_get_within}
+use Rattle.wild_words.proofs.Basics.{implied, or_by, or_first}
 use Rattle.wild_records.specs.Abi.Relocation as abi
 use Rattle.wild_types.specs.declared.kind.Machine.{Machine}
 use Rattle.wild_types.specs.declared.kind.Machine.TheVariants as machine
@@ -38,14 +39,16 @@ use Rattle.wild_meaning.specs.Field.{formula_of, form_width}
 use Rattle.wild_meaning.specs.Value.{IsSymbol, HasFlag}
 use Rattle.wild_meaning.specs.Sequence.{Partner as Call, Instruction, instructions_of}
 use Rattle.wild_meaning.specs.Template.{IsSequence}
+use Rattle.wild_meaning.proofs.SymbolLemmas.{canonical_is}
+use Rattle.wild_meaning.proofs.BitLemmas.{code_bit}
+use Rattle.wild_meaning.proofs.OutputLemmas.{executable_is}
+use Rattle.wild_geometry.proofs.JudgedLemmas.{flag_is}
 use Rattle.wild_effects.specs.Laws.{WindowsAreAlone}
 use Rattle.wild_effects.proofs.RewrittenPlaces.{IsPlacedRow}
-use Rattle.wild_effects.proofs.RewrittenAlone.{is_same}
 use Rattle.wild_effects.proofs.RewrittenSingles.{has_number}
-use Rattle.wild_effects.proofs.RewrittenSymbols.{canonical_is, flag_is, program_told}
 use Rattle.wild_effects.proofs.RewrittenDoes.{on_or_must}
-use Rattle.wild_effects.proofs.RewrittenCalls.{general_slot, local_slot, direct_numbers, only_number, calls_of, stands_so, general_backed, local_backed, exec_bit, IsAskedFor, local_applies, own_applies, open_applies}
-use Rattle.wild_effects.proofs.RewrittenFree.{is_first, takes_it, each_takes, or_of, takes_call}
+use Rattle.wild_effects.proofs.RewrittenCalls.{general_slot, local_slot, direct_numbers, only_number, calls_of, stands_so, general_backed, local_backed, IsAskedFor, local_applies, own_applies, open_applies}
+use Rattle.wild_effects.proofs.RewrittenFree.{is_first, takes_it, each_takes, takes_call}
 
 -- ---- flags
 
@@ -60,15 +63,11 @@ other_flag l i flag other b c h e = record { definition = h.definition; defined 
 
 -- ---- a row that stands asks for the sequence's, too
 
-both_first : (a b : Bool) → (a && b) ≡ true → a ≡ true
-both_first true b h = refl
-both_first false b h = cc
-
 must_be_static : (row : Row) (q : Question) → is_mandatory row q ≡ true → IsChanging row → is_static_executable q.kind ≡ true
 must_be_static IfuncThroughStub q h c = absurd c
-must_be_static (RexGotToImmediate p o) q h c = both_first (is_static_executable q.kind) _ h
-must_be_static IndirectCallToDirect q h c = both_first (is_static_executable q.kind) _ h
-must_be_static IndirectJumpToDirect q h c = both_first (is_static_executable q.kind) _ h
+must_be_static (RexGotToImmediate p o) q h c = (and_parts (is_static_executable q.kind) _ h).0
+must_be_static IndirectCallToDirect q h c = (and_parts (is_static_executable q.kind) _ h).0
+must_be_static IndirectJumpToDirect q h c = (and_parts (is_static_executable q.kind) _ h).0
 must_be_static PlainGotMovToLea q h c = cc
 must_be_static (InitialExecToLocalExec p operation.Add) q h c = cc
 must_be_static (InitialExecToLocalExec p operation.Mov) q h c = h
@@ -87,15 +86,10 @@ must_be_static (GeneralDynamicToLocalExec f) q h c = h
 must_be_static (DescriptorLea p u) q h c = h
 must_be_static DescriptorCall q h c = h
 
-on_by : (on must static : Bool) → (on || must) ≡ true → (must ≡ true → static ≡ true) → (on || static) ≡ true
-on_by true must static h e = refl
-on_by false true static h e = e refl
-on_by false false static h e = cc
-
 is_on : (l : Layout) (s : InputSection) (i : ℕ) (r : InputRelocation) (row : Row) (v : ℕ) → IsPlacedRow l s i r row v → (l.options.relax || is_static_executable l.kind) ≡ true
 is_on l s i r row v p =
     let q = question_of l s r p.chosen.symbol (slice_get s.relocations (i + 1)) in
-    on_by l.options.relax (is_mandatory row q) (is_static_executable l.kind) (on_or_must q row p.stands.here) (λ e. must_be_static row q e p.changing)
+    or_by l.options.relax (is_mandatory row q) (is_static_executable l.kind) (on_or_must q row p.stands.here) (λ e. must_be_static row q e p.changing)
 
 -- ---- the sequence is rewritten
 
@@ -115,7 +109,7 @@ first_is : (n a : ℕ) → n ≡ a → is_first a ≡ true → is_first n ≡ tr
 first_is n a e h = subst (λ (x : ℕ). is_first x ≡ true) (sym e) h
 
 asked_for : (l : Layout) (s : InputSection) (i : ℕ) (r first second : InputRelocation) (row : Row) (v from : ℕ) (o : Instruction) → IsPlacedRow l s i r row v → (q : IsSequence l (item_of s) first second from o) → IsAskedFor l s q.symbol
-asked_for l s i r first second row v from o p q = record { on = is_on l s i r row v p; code = exec_bit s.flags q.stands.code; plain = flag_is l q.symbol ifunc false q.plain; program = program_told l.kind q.executable }
+asked_for l s i r first second row v from o p q = record { on = is_on l s i r row v p; code = code_bit s.flags q.stands.code; plain = flag_is l q.symbol ifunc false q.plain; program = executable_is l.kind q.executable }
 
 general_taken : (l : Layout) (s : InputSection) (i : ℕ) (r first second : InputRelocation) (row : Row) (v from : ℕ) → l.machine ≡ machine.X86_64 → IsDecided l s → IsPlacedRow l s i r row v → (q : IsSequence l (item_of s) first second from general_slot) → IsTakenAlong l s q.has.index first second
 general_taken l s i r first second row v from x86 decided p q =
@@ -185,10 +179,6 @@ has_room row = nat_lt (field_of (pattern_of row)) (pattern_size row) || keeps_by
 each_room : list_all has_room rows_x86_64 ≡ true
 each_room = refl
 
-room_by : (a b : Bool) → b ≡ false → (a || b) ≡ true → a ≡ true
-room_by true b e h = refl
-room_by false b e h = (let t : false ≡ true = sym e ∙ h in cc)
-
 slot_formula : (n k : ℕ) → k < 3 → get_or slot_numbers k n ≡ n → (f : Formula) × (x86_64_formula n ≡ Some f) × (form_width f.form ≡ 4)
 unfolding x86_64_formula
 slot_formula n zero lt e = subst (λ (x : ℕ). (f : Formula) × (x86_64_formula x ≡ Some f) × (form_width f.form ≡ 4)) e (_, refl, refl)
@@ -207,12 +197,12 @@ pub free : WindowsAreAlone → (l : Layout) (s : InputSection) (i : ℕ) (r firs
 free law l s i r first row v from o x86 decided p alone q =
     let j = q.has.index in
     let t = taken_along l s i r first row v from o x86 decided p q in
-    elim (is_same i (j + 1)) [
+    elim (cases_eq i (j + 1)) [
       | inl e ↦ (let a : is_partner l s (j + 1) ≡ false = subst (λ (x : ℕ). is_partner l s x ≡ false) e p.alone in (let b : true ≡ false = sym t.taken ∙ a in cc))
       | inr other ↦
           (let d = decided.each (j + 1) (slice_get_within s.relocations (j + 1) r q.has.next) in
           let before = p.stands.before in
-          let room = ltb-true (field_of (pattern_of row)) (pattern_size row) (room_by _ (keeps_bytes row) p.made.changes (chosen_listed l s r _ row p.chosen has_room each_room)) in
+          let room = ltb-true (field_of (pattern_of row)) (pattern_size row) (or_first _ (keeps_bytes row) (chosen_listed l s r _ row p.chosen has_room each_room) p.made.changes) in
           let low : template_start row r ≤ r.offset = omega (arith, before) in
           let high : r.offset < template_start row r + pattern_size row = omega (arith, before, room) in
           let f = slot_formula r.number t.number.0 t.number.1 t.number.2 in
@@ -225,6 +215,6 @@ free law l s i r first row v from o x86 decided p alone q =
         let there : slice_get s.relocations i ≡ Some first = subst (λ (x : ℕ). slice_get s.relocations x ≡ Some first) at q.has.listed in
         let same : first ≡ r = (let z : Some first ≡ Some r = sym there ∙ p.has.listed in cc) in
         let number : is_first (number_of row) ≡ true = subst (λ (x : ℕ). is_first x ≡ true) p.chosen.number (subst (λ (x : InputRelocation). is_first x.number ≡ true) same t.first_type) in
-        let skips = or_of _ _ (chosen_listed l s r _ row p.chosen takes_it each_takes) number in
+        let skips = implied _ _ (chosen_listed l s r _ row p.chosen takes_it each_takes) number in
         let z : true ≡ false = sym skips ∙ alone in
         cc

@@ -1,18 +1,16 @@
 -- Sequences whose call goes through a slot: where the reader knows one, a row stands at its first relocation.
-use Rattle.std.proofs.Common.{◌≡◌, ℕ, zero, suc, ◌+◌, ◌-◌, ◌*◌, ◌/◌, ◌%◌, ◌<◌, ◌≤◌, ◌⊎◌, inl, inr, Bool, true, false, List, [], ◌∷◌, length, get_or, take, drop, refl, sym, ◌∙◌, arith, subst}
-use Rattle.std.specs.Prelude.{⊤, ◌&&◌, ◌||◌, ◌==◌, nat_le, Option, Some, None, Contains, slice_range, bit_and}
-use Rattle.std.proofs.lemmas.Bool.{eqb-true, le-leb, eq-eqb}
+use Rattle.std.proofs.Common.{◌≡◌, ℕ, zero, suc, ◌+◌, ◌-◌, ◌<◌, ◌≤◌, ◌⊎◌, inl, inr, Bool, true, false, List, [], ◌∷◌, length, get_or, take, drop, refl, sym, ◌∙◌, arith, subst}
+use Rattle.std.specs.Prelude.{⊤, ◌&&◌, ◌||◌, ◌==◌, nat_le, Option, Some, None, Contains, slice_range}
+use Rattle.std.proofs.lemmas.Bool.{eqb-true, le-leb, eq-eqb, and_parts}
 use Rattle.std.proofs.lemmas.List.{take-take}
-use Rattle.std.proofs.lemmas.Nat.Bits.{and_pow}
 use Rattle.wild_records.specs.Abi.Relocation as abi
-use Rattle.wild_records.specs.Abi.Section.{shf_execinstr}
 use Rattle.wild_types.specs.declared.kind.Machine.TheVariants as machine
 use Rattle.wild_types.specs.declared.input.InputRelocation.{InputRelocation}
 use Rattle.wild_types.specs.declared.input.InputSection.{InputSection}
 use Rattle.wild_types.specs.declared.layout.Layout.{Layout}
 use Rattle.wild_types.specs.Flags.{has_flag, interposable, ifunc}
 use Rattle.wild_types.specs.Kinds.{is_executable, is_static_executable}
-use Rattle.wild_types.specs.Lookups.{bit, executable}
+use Rattle.wild_types.specs.Lookups.{executable}
 use Rattle.wild_slot.specs.Treatment.{flags_at}
 use Rattle.wild_relax.specs.declared.pattern.GeneralForm.TheVariants as general
 use Rattle.wild_relax.specs.declared.pattern.LocalForm.TheVariants as local
@@ -25,11 +23,10 @@ use Rattle.wild_relax.specs.Pattern as writer
 use Rattle.wild_relax.specs.Pattern.{stands_before, stands_at}
 use Rattle.wild_relax.specs.Rows.{applies}
 use Rattle.wild_layout.specs.Choice.{question_of}
-use Rattle.wild_meaning.specs.Section.{IsSet}
 use Rattle.wild_meaning.specs.Instruction as judge
 use Rattle.wild_meaning.specs.ThreadCodeX86_64.{general_slot_call, local_slot_call}
 use Rattle.wild_meaning.specs.Sequence.{Partner, Instruction, instructions_of}
-use Rattle.wild_effects.proofs.RewrittenForms.{both, instruction_of}
+use Rattle.wild_effects.proofs.RewrittenForms.{instruction_of}
 use Rattle.wild_effects.proofs.RewrittenSingles.{has_number}
 
 -- ---- each instruction that the reader knows
@@ -229,8 +226,8 @@ all_backed cs [] bs h e = refl
 all_backed [] (d ∷ ds) bs h e = cc
 all_backed (c ∷ cs) (d ∷ ds) [] h e = cc
 all_backed (c ∷ cs) (d ∷ ds) (b ∷ bs) h e =
-    let x = both (backs c d) (backs_all cs ds) h in
-    let y = both (judge.fits c b) (judge.stands cs bs) e in
+    let x = and_parts (backs c d) (backs_all cs ds) h in
+    let y = and_parts (judge.fits c b) (judge.stands cs bs) e in
     rw (backed c d b x.0 y.0, all_backed cs ds bs x.1 y.1) refl
 
 front : (bs : List ℕ) (a k n : ℕ) → k ≤ n → take k (slice_range bs a (a + n)) ≡ slice_range bs a (a + k)
@@ -257,13 +254,6 @@ pub local_backed : backs_all local_slot_call.cells (writer.cells_of (pattern.Loc
 local_backed = refl
 
 -- ---- a row that stands
-
-pub exec_bit : (f : ℕ) → IsSet f shf_execinstr → executable f ≡ true
-unfolding bit
-exec_bit f h =
-    let a : bit_and f 4 ≡ f / 4 % 2 * 4 = and_pow f 2 in
-    let e : bit_and f 4 ≡ 4 = omega (arith, a, h) in
-    rw e refl
 
 -- a relocation whose sequence goes through a slot, where rewriting is on or there is no other way
 pub record IsAskedFor (l : Layout) (s : InputSection) (k : ℕ) : Type 0 where

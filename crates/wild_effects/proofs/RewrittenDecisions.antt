@@ -1,15 +1,13 @@
 -- What is decided where a row stands: no sequence before takes the relocation along, and none is refused.
 use Rattle.std.proofs.Common.{◌≡◌, ℕ, suc, ◌+◌, inl, inr, true, false, refl, arith, subst}
-use Rattle.std.specs.Prelude.{◌==◌, Option, Some, None, Result, Ok, Err, slice_get}
+use Rattle.std.specs.Prelude.{◌==◌, Option, Some, Ok, Err, slice_get}
 use Rattle.std.proofs.lemmas.Bool.{cases_Bool}
 use Rattle.wild_records.specs.Abi.Relocation.{r_x86_64_pc32}
-use Rattle.wild_types.specs.declared.fault.Fault.{Fault}
 use Rattle.wild_types.specs.declared.kind.Machine.TheVariants as machine
 use Rattle.wild_types.specs.declared.input.InputRelocation.{InputRelocation}
 use Rattle.wild_types.specs.declared.input.InputSection.{InputSection}
 use Rattle.wild_types.specs.declared.layout.Layout.{Layout}
 use Rattle.wild_types.specs.Rows.{row_of}
-use Rattle.wild_reloc.specs.declared.info.RelocationKindInfo.{RelocationKindInfo}
 use Rattle.wild_relax.specs.declared.reference.UnknownSequence.{UnknownSequence}
 use Rattle.wild_relax.specs.declared.row.Row.{Row}
 use Rattle.wild_relax.specs.RewriteX86_64.{rewrite_of}
@@ -18,7 +16,8 @@ use Rattle.wild_layout.specs.declared.decision.Decision.{Decision}
 use Rattle.wild_layout.specs.declared.decision.Decision.TheVariants.{Rewritten}
 use Rattle.wild_relax.specs.Rewrite.{is_skip}
 use Rattle.wild_layout.specs.Choice.{question_of, choice_by, choice_of, is_partner}
-use Rattle.wild_layout.specs.Decide.{term_to, refused_with, decide_with, decide}
+use Rattle.wild_layout.specs.Decide.{decide_with, decide}
+use Rattle.wild_layout.proofs.DecisionLemmas.{refused}
 
 -- ---- decisions
 
@@ -30,15 +29,6 @@ rewritten_alone l s i row v h =
       | inl t ↦ cc (rw t at h)
       | inr f ↦ f
     ]
-
--- a row that stands without its sequence has no decision
-refused : (l : Layout) (r : InputRelocation) (e : UnknownSequence) (o : Option RelocationKindInfo) (d : Decision) → refused_with l r e o ≡ Ok d → ⊥
-refused l r e None d h = cc
-refused l r e (Some info) d h = by_term (term_to l r info) refl
-  where
-    by_term : (a : Result ℕ Fault) → term_to l r info ≡ a → ⊥
-    by_term (Err f) is = cc (rw is at h)
-    by_term (Ok a) is = cc (rw is at h)
 
 -- a relocation whose row stands, and that belongs to no sequence before it, has a decision by that row
 pub decided_with : (l : Layout) (s : InputSection) (i : ℕ) (r : InputRelocation) (d : Decision) → slice_get s.relocations i ≡ Some r → is_partner l s i ≡ false → decide l s i ≡ Ok d → decide_with l s r (choice_of l s r (slice_get s.relocations (i + 1))) ≡ Ok d

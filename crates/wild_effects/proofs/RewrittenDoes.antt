@@ -1,6 +1,8 @@
 -- Each row: the code that it writes does what the instruction demands.
-use Rattle.std.proofs.Common.{◌≡◌, ℕ, ◌+◌, ◌^◌, ◌<◌, ◌⊎◌, inl, inr, Bool, true, false, List, refl, sym, ◌∙◌, arith, subst}
+use Rattle.std.proofs.Common.{◌≡◌, ℕ, ◌+◌, ◌^◌, ◌<◌, ◌⊎◌, inl, inr, Bool, true, List, refl, sym, ◌∙◌, arith, subst}
 use Rattle.std.specs.Prelude.{pos, ◌&&◌, ◌||◌, not, Some, slice_get}
+use Rattle.std.proofs.lemmas.Bool.{and_parts, not-true}
+use Rattle.wild_words.proofs.Basics.{or_first}
 use Rattle.wild_types.specs.declared.input.InputRelocation.{InputRelocation}
 use Rattle.wild_types.specs.declared.input.InputSection.{InputSection}
 use Rattle.wild_types.specs.declared.layout.Layout.{Layout}
@@ -31,14 +33,15 @@ use Rattle.wild_meaning.specs.Instruction.{Effect, as_value}
 use Rattle.wild_meaning.specs.InstructionX86_64.{demand_x86_64}
 use Rattle.wild_meaning.specs.Sequence.{Sort, TargetInSlot, AddressInSlot}
 use Rattle.wild_meaning.specs.Template.{reads_alone, effect_of, Demands, IsDemanded, no_effect, DoesDemanded}
+use Rattle.wild_relax.proofs.RowLemmas.{signed_32s, unsigned_32}
 use Rattle.wild_values.specs.Laws.{IsLoadedSection}
-use Rattle.wild_effects.proofs.RewrittenForms.{both, instruction_of}
+use Rattle.wild_effects.proofs.RewrittenForms.{instruction_of}
 use Rattle.wild_effects.proofs.RewrittenPairs.{paired}
 use Rattle.wild_effects.proofs.RewrittenPlaces.{LawsBelow, IsPlacedRow, is_code}
 use Rattle.wild_effects.proofs.RewrittenAlone.{called}
 use Rattle.wild_effects.proofs.RewrittenTerms.{info_is}
-use Rattle.wild_effects.proofs.RewrittenValues.{signed_is, unsigned_is, known_still}
-use Rattle.wild_effects.proofs.RewrittenOperands.{IsOperand, LandsFar, LandsItself, false_of, not_absolute, not_moved, lands_far, lands_itself}
+use Rattle.wild_effects.proofs.RewrittenValues.{known_still}
+use Rattle.wild_effects.proofs.RewrittenOperands.{IsOperand, LandsFar, LandsItself, not_absolute, not_moved, lands_far, lands_itself}
 use Rattle.wild_effects.proofs.RewrittenThreads.{LandsOffset, lands_offset, lands_slot, offset_mode, own_base}
 use Rattle.wild_effects.proofs.RewrittenEffects.{old_of, effect_kept, on_machine, whole_is, does_by}
 
@@ -65,27 +68,27 @@ lea_far : LawsBelow → (l : Layout) (w : World) (m : Memory) (s : InputSection)
     → (not (interposable (flags_at l p.chosen.symbol)) && not (has_flag (flags_at l p.chosen.symbol) absolute || has_link_time_address (flags_at l p.chosen.symbol) && has_fixed_load_address l.kind)) ≡ true → LandsFar l w m s r row v
 lea_far laws l w m s i r row v h p number same ends plain value =
     let k = p.chosen.symbol in
-    let t = both (not (interposable (flags_at l k))) _ value in
-    lands_far laws l w m s i r row v h p number same ends (false_of _ t.0) (false_of _ plain) (λ movable abs. absurd (not_absolute l k t.1 abs))
+    let t = and_parts (not (interposable (flags_at l k))) _ value in
+    lands_far laws l w m s i r row v h p number same ends (not-true _ t.0) (not-true _ plain) (λ movable abs. absurd (not_absolute l k t.1 abs))
 
 pub plain_far : LawsBelow → (l : Layout) (w : World) (m : Memory) (s : InputSection) (i : ℕ) (r : InputRelocation) (row : Row) (v : ℕ) → IsLoadedSection l w m s → (p : IsPlacedRow l s i r row v) → (rewrite_of row).number ≡ 2 → (rewrite_of row).addend r.addend ≡ r.addend → minus_four r.addend ≡ true → not (has_flag (flags_at l p.chosen.symbol) ifunc) ≡ true
     → (not (interposable (flags_at l p.chosen.symbol)) && (has_link_time_address (flags_at l p.chosen.symbol) || has_fixed_load_address l.kind)) ≡ true → LandsFar l w m s r row v
 plain_far laws l w m s i r row v h p number same ends plain value =
     let k = p.chosen.symbol in
-    let t = both (not (interposable (flags_at l k))) _ value in
-    lands_far laws l w m s i r row v h p number same ends (false_of _ t.0) (false_of _ plain) (λ movable abs. absurd (not_moved l k t.1 movable abs))
+    let t = and_parts (not (interposable (flags_at l k))) _ value in
+    lands_far laws l w m s i r row v h p number same ends (not-true _ t.0) (not-true _ plain) (λ movable abs. absurd (not_moved l k t.1 movable abs))
 
 -- of one whose value is known
 number_itself : LawsBelow → (l : Layout) (w : World) (m : Memory) (s : InputSection) (i : ℕ) (r : InputRelocation) (row : Row) (v : ℕ) (held : Bool) → IsLoadedSection l w m s → (p : IsPlacedRow l s i r row v) → ((rewrite_of row).number ≡ 11) ⊎ ((rewrite_of row).number ≡ 10) → (rewrite_of row).addend r.addend ≡ pos 0 → not (has_flag (flags_at l p.chosen.symbol) ifunc) ≡ true
     → (not (interposable (flags_at l p.chosen.symbol)) && ((has_flag (flags_at l p.chosen.symbol) absolute || has_link_time_address (flags_at l p.chosen.symbol) && has_fixed_load_address l.kind) && held)) ≡ true → LandsItself l w m r v
 number_itself laws l w m s i r row v held h p number none plain value =
     let k = p.chosen.symbol in
-    let t = both (not (interposable (flags_at l k))) _ value in
-    let still = known_still l k (both _ held t.1).0 in
+    let t = and_parts (not (interposable (flags_at l k))) _ value in
+    let still = known_still l k (and_parts _ held t.1).0 in
     let known = info_is l w m s i r row v h p in
     elim number [
-      | inl e ↦ lands_itself laws l w m s i r row v Signed h p (signed_is p.made.written.info (subst (λ (n : ℕ). x86_64_row n ≡ Some p.made.written.info) e known)) none (false_of _ t.0) (false_of _ plain) still
-      | inr e ↦ lands_itself laws l w m s i r row v Unsigned h p (unsigned_is p.made.written.info (subst (λ (n : ℕ). x86_64_row n ≡ Some p.made.written.info) e known)) none (false_of _ t.0) (false_of _ plain) still
+      | inl e ↦ lands_itself laws l w m s i r row v Signed h p (signed_32s p.made.written.info (sym (subst (λ (n : ℕ). x86_64_row n ≡ Some p.made.written.info) e known))) none (not-true _ t.0) (not-true _ plain) still
+      | inr e ↦ lands_itself laws l w m s i r row v Unsigned h p (unsigned_32 p.made.written.info (sym (subst (λ (n : ℕ). x86_64_row n ≡ Some p.made.written.info) e known))) none (not-true _ t.0) (not-true _ plain) still
     ]
 
 -- ---- offsets from the thread pointer
@@ -96,7 +99,7 @@ does_offset laws l w m s i r row v n h p demands small lands told same = does_by
 
 -- an own symbol's offset, in a program
 own_offset : LawsBelow → (l : Layout) (w : World) (m : Memory) (s : InputSection) (i : ℕ) (r : InputRelocation) (row : Row) (v : ℕ) → IsLoadedSection l w m s → (p : IsPlacedRow l s i r row v) → (rewrite_of row).number ≡ 23 → (rewrite_of row).addend r.addend ≡ pos 0 → is_executable l.kind ≡ true → not (interposable (flags_at l p.chosen.symbol)) ≡ true → LandsOffset l w r v
-own_offset laws l w m s i r row v h p number none program own = lands_offset laws l w m s i r row v h p number none program (false_of _ own)
+own_offset laws l w m s i r row v h p number none program own = lands_offset laws l w m s i r row v h p number none program (not-true _ own)
 
 -- a sequence's addend counts from its end
 sequence_ends : (l : Layout) (s : InputSection) (i : ℕ) (r : InputRelocation) (row : Row) (v : ℕ) → IsPlacedRow l s i r row v → is_skip (rewrite_of row).next ≡ true → minus_four r.addend ≡ true
@@ -107,18 +110,13 @@ sequence_ends l s i r row v p skips = (let pair = paired row p.changing skips in
 pub on_or_must : (q : Question) (row : Row) → applies q row ≡ true → (q.relax || is_mandatory row q) ≡ true
 unfolding applies
 on_or_must q row h =
-    let a = (both _ _ h).0 in
-    let b = (both _ _ a).0 in
-    let c = (both _ _ b).0 in
-    let d = (both _ _ c).0 in
-    let e = (both _ _ d).0 in
-    let f = (both _ _ e).0 in
-    (both _ _ f).1
-
-pub else_on : (on must : Bool) → (on || must) ≡ true → must ≡ false → on ≡ true
-else_on true must h e = refl
-else_on false true h e = cc
-else_on false false h e = cc
+    let a = (and_parts _ _ h).0 in
+    let b = (and_parts _ _ a).0 in
+    let c = (and_parts _ _ b).0 in
+    let d = (and_parts _ _ c).0 in
+    let e = (and_parts _ _ d).0 in
+    let f = (and_parts _ _ e).0 in
+    (and_parts _ _ f).1
 
 -- ---- the rows
 
@@ -134,8 +132,8 @@ does_row laws l w m s i r (RexGotMovToLea Rex) v h p asked = (let t = lea_far la
 does_row laws l w m s i r (RexGotMovToLea Rex2) v h p asked = (let t = lea_far laws l w m s i r (RexGotMovToLea Rex2) v h p refl refl p.stands.taken.addend p.stands.taken.symbol p.stands.taken.value in does_target laws l w m s i r (RexGotMovToLea Rex2) v t.operand h p t.is t.lands refl (λ a old. refl))
 does_row laws l w m s i r GotMovToImmediate v h p asked = (let t = number_itself laws l w m s i r GotMovToImmediate v _ h p (inr refl) refl p.stands.taken.symbol p.stands.taken.value in does_target laws l w m s i r GotMovToImmediate v t.operand h p t.is t.lands refl (λ a old. refl))
 does_row laws l w m s i r GotMovToLea v h p asked = (let t = lea_far laws l w m s i r GotMovToLea v h p refl refl p.stands.taken.addend p.stands.taken.symbol p.stands.taken.value in does_target laws l w m s i r GotMovToLea v t.operand h p t.is t.lands refl (λ a old. refl))
-does_row laws l w m s i r IndirectCallToDirect v h p asked = (let t = lands_far laws l w m s i r IndirectCallToDirect v h p refl refl p.stands.taken.addend (false_of _ p.stands.taken.value) (false_of _ p.stands.taken.symbol) (λ movable abs. asked refl movable abs) in does_goal laws l w m s i r IndirectCallToDirect v t.operand h p t.is t.lands refl (λ a old. refl))
-does_row laws l w m s i r IndirectJumpToDirect v h p asked = (let t = lands_far laws l w m s i r IndirectJumpToDirect v h p refl refl p.stands.taken.addend (false_of _ p.stands.taken.value) (false_of _ p.stands.taken.symbol) (λ movable abs. asked refl movable abs) in does_goal laws l w m s i r IndirectJumpToDirect v t.operand h p t.is t.lands refl (λ a old. refl))
+does_row laws l w m s i r IndirectCallToDirect v h p asked = (let t = lands_far laws l w m s i r IndirectCallToDirect v h p refl refl p.stands.taken.addend (not-true _ p.stands.taken.value) (not-true _ p.stands.taken.symbol) (λ movable abs. asked refl movable abs) in does_goal laws l w m s i r IndirectCallToDirect v t.operand h p t.is t.lands refl (λ a old. refl))
+does_row laws l w m s i r IndirectJumpToDirect v h p asked = (let t = lands_far laws l w m s i r IndirectJumpToDirect v h p refl refl p.stands.taken.addend (not-true _ p.stands.taken.value) (not-true _ p.stands.taken.symbol) (λ movable abs. asked refl movable abs) in does_goal laws l w m s i r IndirectJumpToDirect v t.operand h p t.is t.lands refl (λ a old. refl))
 does_row laws l w m s i r PlainGotMovToLea v h p asked = (let t = plain_far laws l w m s i r PlainGotMovToLea v h p refl refl p.stands.taken.addend p.stands.taken.symbol p.stands.taken.value in does_target laws l w m s i r PlainGotMovToLea v t.operand h p t.is t.lands refl (λ a old. refl))
 does_row laws l w m s i r (InitialExecToLocalExec Rex o) v h p asked = (let t = own_offset laws l w m s i r (InitialExecToLocalExec Rex o) v h p refl refl p.stands.taken.thread p.stands.taken.value in does_offset laws l w m s i r (InitialExecToLocalExec Rex o) v t.operand h p t.is.offset t.is.small t.lands (λ a old e k. k) (λ a old. refl))
 does_row laws l w m s i r (InitialExecToLocalExec Rex2 o) v h p asked = (let t = own_offset laws l w m s i r (InitialExecToLocalExec Rex2 o) v h p refl refl p.stands.taken.thread p.stands.taken.value in does_offset laws l w m s i r (InitialExecToLocalExec Rex2 o) v t.operand h p t.is.offset t.is.small t.lands (λ a old e k. k) (λ a old. refl))
@@ -150,18 +148,20 @@ does_row laws l w m s i r (GeneralDynamicToInitialExec general.Large) v h p aske
 does_row laws l w m s i r (LocalDynamicToLocalExec local.Regular) v h p asked = does_offset laws l w m s i r (LocalDynamicToLocalExec local.Regular) v 0 h p (own_base l w h.x86 p.stands.taken.thread) (omega arith) refl (λ a old e k. k) (λ a old. refl)
 does_row laws l w m s i r (LocalDynamicToLocalExec local.NoPlt) v h p asked = does_offset laws l w m s i r (LocalDynamicToLocalExec local.NoPlt) v 0 h p (own_base l w h.x86 p.stands.taken.thread) (omega arith) refl (λ a old e k. k) (λ a old. refl)
 does_row laws l w m s i r (LocalDynamicToLocalExec local.Large) v h p asked = does_offset laws l w m s i r (LocalDynamicToLocalExec local.Large) v 0 h p (own_base l w h.x86 p.stands.taken.thread) (omega arith) refl (λ a old e k. k) (λ a old. refl)
-does_row laws l w m s i r (DescriptorLea Rex LocalExec) v h p asked = (let t = own_offset laws l w m s i r (DescriptorLea Rex LocalExec) v h p refl refl p.stands.taken.thread p.stands.taken.value in does_offset laws l w m s i r (DescriptorLea Rex LocalExec) v t.operand h p (inl (offset_mode l s p.stands.taken.thread (else_on l.options.relax _ (on_or_must _ _ p.stands.here)) (is_code l s i r (DescriptorLea Rex LocalExec) v p), t.is.offset)) t.is.small t.lands (λ a old e k. k) (λ a old. refl))
-does_row laws l w m s i r (DescriptorLea Rex InitialExec) v h p asked = (let t = lands_slot laws l w m s i r (DescriptorLea Rex InitialExec) v h p refl refl p.stands.taken.addend in does_offset laws l w m s i r (DescriptorLea Rex InitialExec) v t.operand h p (inl (offset_mode l s p.stands.taken.thread (else_on l.options.relax _ (on_or_must _ _ p.stands.here)) (is_code l s i r (DescriptorLea Rex InitialExec) v p), t.is.offset)) t.is.small t.lands (λ a old e k. k) (λ a old. refl))
-does_row laws l w m s i r (DescriptorLea Rex2 LocalExec) v h p asked = (let t = own_offset laws l w m s i r (DescriptorLea Rex2 LocalExec) v h p refl refl p.stands.taken.thread p.stands.taken.value in does_offset laws l w m s i r (DescriptorLea Rex2 LocalExec) v t.operand h p (inl (offset_mode l s p.stands.taken.thread (else_on l.options.relax _ (on_or_must _ _ p.stands.here)) (is_code l s i r (DescriptorLea Rex2 LocalExec) v p), t.is.offset)) t.is.small t.lands (λ a old e k. k) (λ a old. refl))
-does_row laws l w m s i r (DescriptorLea Rex2 InitialExec) v h p asked = (let t = lands_slot laws l w m s i r (DescriptorLea Rex2 InitialExec) v h p refl refl p.stands.taken.addend in does_offset laws l w m s i r (DescriptorLea Rex2 InitialExec) v t.operand h p (inl (offset_mode l s p.stands.taken.thread (else_on l.options.relax _ (on_or_must _ _ p.stands.here)) (is_code l s i r (DescriptorLea Rex2 InitialExec) v p), t.is.offset)) t.is.small t.lands (λ a old e k. k) (λ a old. refl))
+does_row laws l w m s i r (DescriptorLea Rex LocalExec) v h p asked = (let t = own_offset laws l w m s i r (DescriptorLea Rex LocalExec) v h p refl refl p.stands.taken.thread p.stands.taken.value in does_offset laws l w m s i r (DescriptorLea Rex LocalExec) v t.operand h p (inl (offset_mode l s p.stands.taken.thread (or_first l.options.relax _ (on_or_must _ _ p.stands.here)) (is_code l s i r (DescriptorLea Rex LocalExec) v p), t.is.offset)) t.is.small t.lands (λ a old e k. k) (λ a old. refl))
+does_row laws l w m s i r (DescriptorLea Rex InitialExec) v h p asked = (let t = lands_slot laws l w m s i r (DescriptorLea Rex InitialExec) v h p refl refl p.stands.taken.addend in does_offset laws l w m s i r (DescriptorLea Rex InitialExec) v t.operand h p (inl (offset_mode l s p.stands.taken.thread (or_first l.options.relax _ (on_or_must _ _ p.stands.here)) (is_code l s i r (DescriptorLea Rex InitialExec) v p), t.is.offset)) t.is.small t.lands (λ a old e k. k) (λ a old. refl))
+does_row laws l w m s i r (DescriptorLea Rex2 LocalExec) v h p asked = (let t = own_offset laws l w m s i r (DescriptorLea Rex2 LocalExec) v h p refl refl p.stands.taken.thread p.stands.taken.value in does_offset laws l w m s i r (DescriptorLea Rex2 LocalExec) v t.operand h p (inl (offset_mode l s p.stands.taken.thread (or_first l.options.relax _ (on_or_must _ _ p.stands.here)) (is_code l s i r (DescriptorLea Rex2 LocalExec) v p), t.is.offset)) t.is.small t.lands (λ a old e k. k) (λ a old. refl))
+does_row laws l w m s i r (DescriptorLea Rex2 InitialExec) v h p asked = (let t = lands_slot laws l w m s i r (DescriptorLea Rex2 InitialExec) v h p refl refl p.stands.taken.addend in does_offset laws l w m s i r (DescriptorLea Rex2 InitialExec) v t.operand h p (inl (offset_mode l s p.stands.taken.thread (or_first l.options.relax _ (on_or_must _ _ p.stands.here)) (is_code l s i r (DescriptorLea Rex2 InitialExec) v p), t.is.offset)) t.is.small t.lands (λ a old e k. k) (λ a old. refl))
 does_row laws l w m s i r DescriptorCall v h p asked =
     record {
       value = 0;
       demands = refl;
-      effect = no_effect;
-      demanded = inl (offset_mode l s p.stands.taken.thread (else_on l.options.relax _ (on_or_must _ _ p.stands.here)) (is_code l s i r DescriptorCall v p), refl);
-      bytes = template_of DescriptorCall v (old_of s DescriptorCall r);
-      whole = whole_is l w m s i r DescriptorCall v h p;
-      held = h.section.rewritten i r DescriptorCall v p.has;
-      does = on_machine l.machine (reads_alone w m) _ _ h.x86 ∙ effect_kept laws l w m s i r DescriptorCall v 0 _ h p (omega arith) tt;
+      code = record {
+        effect = no_effect;
+        demanded = inl (offset_mode l s p.stands.taken.thread (or_first l.options.relax _ (on_or_must _ _ p.stands.here)) (is_code l s i r DescriptorCall v p), refl);
+        bytes = template_of DescriptorCall v (old_of s DescriptorCall r);
+        whole = whole_is l w m s i r DescriptorCall v h p;
+        held = h.section.rewritten i r DescriptorCall v p.has;
+        does = on_machine l.machine (reads_alone w m) _ _ h.x86 ∙ effect_kept laws l w m s i r DescriptorCall v 0 _ h p (omega arith) tt;
+      };
     }

@@ -1,6 +1,6 @@
 -- The code that is written in place of an instruction does what that demands, where the value in its field lands.
 use Rattle.std.proofs.Common.{◌≡◌, ℕ, zero, suc, ◌+◌, ◌^◌, ◌<◌, Bool, true, false, List, [], ◌∷◌, length, get_or, drop, refl, sym, ap, ◌∙◌, arith, subst}
-use Rattle.std.specs.Prelude.{ℤ, nat_le, if◌then◌else◌, Option, Some, slice_range}
+use Rattle.std.specs.Prelude.{nat_le, if◌then◌else◌, Option, Some, slice_range}
 use Rattle.std.proofs.lemmas.Bool.{le-leb}
 use Rattle.wild_types.specs.declared.kind.Machine.{Machine}
 use Rattle.wild_types.specs.declared.kind.Machine.TheVariants as machine
@@ -8,14 +8,11 @@ use Rattle.wild_types.specs.declared.input.InputRelocation.{InputRelocation}
 use Rattle.wild_types.specs.declared.input.InputSection.{InputSection}
 use Rattle.wild_types.specs.declared.layout.Layout.{Layout}
 use Rattle.wild_reloc.specs.TableX86_64.{x86_64_row}
-use Rattle.wild_reloc.specs.declared.info.RelocationKind.{RelocationKind}
-use Rattle.wild_reloc.specs.declared.info.RelocationKind.TheVariants as kinds
 use Rattle.wild_reloc.specs.declared.info.RelocationKindInfo.{RelocationKindInfo}
 use Rattle.wild_relax.specs.declared.row.Row.{Row}
 use Rattle.wild_relax.specs.RewriteX86_64.{rewrite_of}
 use Rattle.wild_relax.specs.Linked.{pattern_size, field_in, linked, template_by, template_of}
 use Rattle.wild_relax.specs.Keep.{Lands, demanded}
-use Rattle.wild_layout.specs.Values.{value_by}
 use Rattle.wild_layout.specs.Sites.{template_start}
 use Rattle.wild_layout.proofs.ChoiceLemmas.{length-template}
 use Rattle.wild_loader.specs.declared.memory.Memory.{Memory}
@@ -26,6 +23,7 @@ use Rattle.wild_meaning.specs.ThreadCodeX86_64.{nop_byte}
 use Rattle.wild_meaning.specs.InstructionX86_64.{templates_x86_64, meaning_x86_64, effect_x86_64, demand_x86_64}
 use Rattle.wild_meaning.specs.Sequence.{size_of}
 use Rattle.wild_meaning.specs.Template.{reads_alone, effect_of, Demands, IsDemanded, old_bytes, DoesDemanded}
+use Rattle.wild_layout.proofs.DecideLemmas.{value_below}
 use Rattle.wild_values.specs.Laws.{IsLoadedSection}
 use Rattle.wild_effects.proofs.RewrittenForms.{instruction_of}
 use Rattle.wild_effects.proofs.RewrittenPlaces.{LawsBelow, IsPlacedRow, size_is, cells_stand}
@@ -60,20 +58,6 @@ has_effect v a k t bs lt is long same =
     (with_value act.0 v, rw act.1 refl)
 
 -- ---- the row's bytes in memory
-
-value_below : (l : Layout) (kind : RelocationKind) (n p : ℕ) (a : ℤ) → value_by l kind n a p < 2 ^ 64
-value_below l kinds.Relative n p a = omega arith
-value_below l kinds.GotBaseRelative n p a = omega arith
-value_below l kinds.SymRelGotBase n p a = omega arith
-value_below l kinds.PltRelative n p a = omega arith
-value_below l kinds.PltRelGotBase n p a = omega arith
-value_below l kinds.GotRelative n p a = omega arith
-value_below l kinds.GotRelGotBase n p a = omega arith
-value_below l kinds.TlsGd n p a = omega arith
-value_below l kinds.TlsLd n p a = omega arith
-value_below l kinds.GotTpOff n p a = omega arith
-value_below l kinds.TlsDesc n p a = omega arith
-value_below l other n p a = omega arith
 
 pub value_small : (l : Layout) (s : InputSection) (i : ℕ) (r : InputRelocation) (row : Row) (v : ℕ) → IsPlacedRow l s i r row v → v < 2 ^ 64
 value_small l s i r row v p = (let x = p.made.written in subst (λ (n : ℕ). n < 2 ^ 64) x.value (value_below l x.info.kind x.term _ _))
@@ -117,10 +101,12 @@ does_by laws l w m s i r row v n h p demands small lands same told =
     record {
       value = n;
       demands = demands;
-      effect = e.0;
-      demanded = told a _ e.0 asked;
-      bytes = template_of row v (old_of s row r);
-      whole = whole_is l w m s i r row v h p;
-      held = h.section.rewritten i r row v p.has;
-      does = on_machine l.machine (reads_alone w m) a _ h.x86 ∙ (effect_kept laws l w m s i r row v n a h p small lands ∙ (same a (old_of s row r) ∙ e.1));
+      code = record {
+        effect = e.0;
+        demanded = told a _ e.0 asked;
+        bytes = template_of row v (old_of s row r);
+        whole = whole_is l w m s i r row v h p;
+        held = h.section.rewritten i r row v p.has;
+        does = on_machine l.machine (reads_alone w m) a _ h.x86 ∙ (effect_kept laws l w m s i r row v n a h p small lands ∙ (same a (old_of s row r) ∙ e.1));
+      };
     }

@@ -1,7 +1,7 @@
 -- The instruction that the reader knows for each row: where the pattern of the row stands, the instruction does.
 use Rattle.std.proofs.Common.{◌≡◌, ℕ, Bool, true, false, List, [], ◌∷◌, length, refl, arith, subst}
 use Rattle.std.specs.Prelude.{◌&&◌, ◌||◌, ◌==◌, nat_le, None, Contains}
-use Rattle.std.proofs.lemmas.Bool.{eqb-true}
+use Rattle.std.proofs.lemmas.Bool.{eqb-true, and_parts}
 use Rattle.std.proofs.lemmas.Bool.Decides.{nat_tests}
 use Rattle.wild_records.specs.Abi.Relocation as abi
 use Rattle.wild_types.specs.declared.kind.Machine.TheVariants as machine
@@ -25,10 +25,6 @@ use Rattle.wild_meaning.specs.InstructionX86_64.{descriptor_call, templates_x86_
 use Rattle.wild_meaning.specs.Sequence.{Instruction, TargetInSlot, AddressInSlot, OffsetInSlot, SymbolPair, OwnPair, Described, DescribedCall, of_field, of_sequence, by_call, by_slot, by_distance, instructions_of}
 
 -- ---- cells
-
-pub both : (a b : Bool) → (a && b) ≡ true → (a ≡ true) × (b ≡ true)
-both true b h = (refl, h)
-both false b h = cc
 
 -- what fits the writer's cell fits the reader's
 abbrev pub covers : Cell → judge.Cell → Bool
@@ -84,7 +80,7 @@ pub all_long : (cs : List Cell) (ds : List judge.Cell) → covers_all cs ds ≡ 
 all_long [] [] h = refl
 all_long [] (d ∷ ds) h = cc
 all_long (c ∷ cs) [] h = cc
-all_long (c ∷ cs) (d ∷ ds) h = (let e = all_long cs ds (both (covers c d) (covers_all cs ds) h).1 in omega (arith, e))
+all_long (c ∷ cs) (d ∷ ds) h = (let e = all_long cs ds (and_parts (covers c d) (covers_all cs ds) h).1 in omega (arith, e))
 
 pub all_stand : (cs : List Cell) (ds : List judge.Cell) (bs : List ℕ) → covers_all cs ds ≡ true → writer.stands cs bs ≡ true → judge.stands ds bs ≡ true
 all_stand [] [] bs h e = refl
@@ -92,8 +88,8 @@ all_stand [] (d ∷ ds) bs h e = cc
 all_stand (c ∷ cs) [] bs h e = cc
 all_stand (c ∷ cs) (d ∷ ds) [] h e = cc
 all_stand (c ∷ cs) (d ∷ ds) (b ∷ bs) h e =
-    let x = both (covers c d) (covers_all cs ds) h in
-    let y = both (writer.fits c b) (writer.stands cs bs) e in
+    let x = and_parts (covers c d) (covers_all cs ds) h in
+    let y = and_parts (writer.fits c b) (writer.stands cs bs) e in
     rw (covered c d b x.0 y.0, all_stand cs ds bs x.1 y.1) refl
 
 -- ---- rows

@@ -4,6 +4,7 @@ use Rattle.std.specs.Prelude.{◌||◌, ◌==◌, not, if◌then◌else◌, Opti
 use Rattle.std.specs.List.{list_all}
 use Rattle.std.proofs.lemmas.Bool.{cases_Bool, eqb-true}
 use Rattle.std.proofs.lemmas.Option.{slice_get_within}
+use Rattle.wild_words.proofs.Basics.{implied}
 use Rattle.wild_records.specs.Abi.Relocation as abi
 use Rattle.wild_types.specs.declared.kind.Machine.TheVariants as machine
 use Rattle.wild_types.specs.declared.input.InputRelocation.{InputRelocation}
@@ -60,12 +61,8 @@ takes_it row = not (is_first (number_of row)) || is_skip (rewrite_of row).next
 pub each_takes : list_all takes_it rows_x86_64 ≡ true
 each_takes = refl
 
-pub or_of : (a b : Bool) → (not a || b) ≡ true → a ≡ true → b ≡ true
-or_of true b h e = h
-or_of false b h e = cc
-
 -- no call has one
-no_call : (g : GeneralForm) (n : ℕ) → is_first n ≡ true → is_call_number g n ≡ true → ⊥
+pub no_call : (g : GeneralForm) (n : ℕ) → is_first n ≡ true → is_call_number g n ≡ true → ⊥
 no_call g n h e =
     elim (cases_Bool (n == abi.r_x86_64_tlsgd)) [
       | inl t ↦ never g abi.r_x86_64_tlsgd (known g) (subst (λ (x : ℕ). is_call_number g x ≡ true) (eqb-true n abi.r_x86_64_tlsgd t) e)
@@ -111,7 +108,7 @@ takes_call l s j k r w n x86 decided listed named h lt e stands =
           (let is : choice_of l s r next ≡ Ok (Some x.0) = choice ∙ chosen in
           let c = choice_row l s r next x.0 is in
           let number : is_first (number_of x.0) ≡ true = subst (λ (y : ℕ). is_first y ≡ true) c.number h in
-          takes_along l s j r x.0 listed is (or_of _ _ (chosen_listed l s r next x.0 c takes_it each_takes) number))
+          takes_along l s j r x.0 listed is (implied _ _ (chosen_listed l s r next x.0 c takes_it each_takes) number))
       | inr none ↦
           (let d = decided.each j (slice_get_within s.relocations j r listed) in
           let made = decided_with l s j r d.0 listed (first_alone l s j r listed h) d.1 in

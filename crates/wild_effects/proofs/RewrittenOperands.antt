@@ -2,6 +2,7 @@
 use Rattle.std.proofs.Common.{◌≡◌, ℕ, ◌+◌, ◌-◌, ◌%◌, ◌^◌, ◌<◌, ◌≤◌, inl, inr, Bool, true, false, refl, sym, ap, ◌∙◌, arith, subst}
 use Rattle.std.specs.Prelude.{ℤ, pos, ◌&&◌, ◌||◌, not, Option, Some}
 use Rattle.std.specs.Int.{w64, cast_unsigned}
+use Rattle.std.proofs.lemmas.Bool.{not-true}
 use Rattle.wild_types.specs.declared.kind.RelocationModel.TheVariants as model
 use Rattle.wild_types.specs.declared.kind.OutputKind.{OutputKind}
 use Rattle.wild_types.specs.declared.kind.OutputKind.TheVariants as output
@@ -28,15 +29,13 @@ use Rattle.wild_meaning.specs.Value.{IsAbsolute}
 use Rattle.wild_meaning.specs.Denotes.{Denotes}
 use Rattle.wild_meaning.specs.Item.{item_of, place_at}
 use Rattle.wild_meaning.specs.Formula.{IsTarget, IsGoal}
+use Rattle.wild_geometry.proofs.JudgedLemmas.{flag_is}
 use Rattle.wild_values.specs.Laws.{IsLoadedSection}
+use Rattle.wild_values.proofs.WholeSections.{placed}
 use Rattle.wild_effects.proofs.RewrittenPlaces.{LawsBelow, IsPlacedRow, ended}
-use Rattle.wild_effects.proofs.RewrittenSymbols.{placed, flag_is, denoted_small}
+use Rattle.wild_effects.proofs.RewrittenSymbols.{denoted_small}
 use Rattle.wild_effects.proofs.RewrittenTerms.{written_as, stands_below}
 use Rattle.wild_effects.proofs.RewrittenValues.{gives_distance, gives_number}
-
-pub false_of : (b : Bool) → not b ≡ true → b ≡ false
-false_of true h = cc
-false_of false h = refl
 
 -- ---- whether the value moves
 
@@ -49,7 +48,7 @@ unknown_by false b h e = cc
 
 -- a value that is not known when the image is linked is no absolute one
 pub not_absolute : (l : Layout) (k : ℕ) → not (has_flag (flags_at l k) absolute || has_link_time_address (flags_at l k) && has_fixed_load_address l.kind) ≡ true → IsAbsolute l k → ⊥
-not_absolute l k h a = unknown_by (has_flag (flags_at l k) absolute) _ (false_of _ h) (absolute_flag l k a)
+not_absolute l k h a = unknown_by (has_flag (flags_at l k) absolute) _ (not-true _ h) (absolute_flag l k a)
 
 fixed_not : (k : OutputKind) → has_fixed_load_address k ≡ true → IsMovable k → ⊥
 fixed_not (output.StaticExecutable model.NonRelocatable) h m = m

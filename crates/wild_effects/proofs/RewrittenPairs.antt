@@ -1,7 +1,7 @@
 -- The fields of the instruction of a row: its own, and that of the call of a sequence.
-use Rattle.std.proofs.Common.{◌≡◌, ℕ, ◌+◌, ◌⊎◌, inl, inr, Bool, true, false, refl, sym, arith, subst}
+use Rattle.std.proofs.Common.{◌≡◌, ℕ, ◌+◌, inl, inr, true, false, refl, sym, arith, subst}
 use Rattle.std.specs.Prelude.{◌||◌, ◌==◌, Some, None, Contains}
-use Rattle.std.proofs.lemmas.Bool.{eqb-true}
+use Rattle.std.proofs.lemmas.Bool.{eqb-true, or_cases}
 use Rattle.wild_records.specs.Abi.Relocation as abi
 use Rattle.wild_reloc.specs.Formula.{Formula}
 use Rattle.wild_reloc.specs.FormulaX86_64.{x86_64_formula}
@@ -57,10 +57,6 @@ own_width DescriptorCall f c h = wide_as _ f 0 h refl
 
 -- ---- the call's
 
-either : (a b : Bool) → (a || b) ≡ true → (a ≡ true) ⊎ (b ≡ true)
-either true b h = inl refl
-either false b h = inr h
-
 abbrev pub partner_for : GeneralForm → ℕ → Partner
 partner_for general.Regular n = by_call n
 partner_for general.NoPlt n = by_slot n
@@ -69,14 +65,14 @@ partner_for general.Large n = by_distance n
 -- a property of each relocation type of a call
 each_number : (g : GeneralForm) (P : ℕ → Type 0) (n : ℕ) → is_call_number g n ≡ true → (g ≡ general.Regular → P abi.r_x86_64_pc32 × P abi.r_x86_64_plt32) → (g ≡ general.NoPlt → P abi.r_x86_64_gotpcrel × P abi.r_x86_64_gotpcrelx × P abi.r_x86_64_rex_gotpcrelx) → (g ≡ general.Large → P abi.r_x86_64_pltoff64) → P n
 each_number general.Regular P n h a b c =
-    elim (either (n == abi.r_x86_64_pc32) (n == abi.r_x86_64_plt32) h) [
+    elim (or_cases (n == abi.r_x86_64_pc32) (n == abi.r_x86_64_plt32) h) [
       | inl e ↦ subst P (sym (eqb-true n abi.r_x86_64_pc32 e)) (a refl).0
       | inr e ↦ subst P (sym (eqb-true n abi.r_x86_64_plt32 e)) (a refl).1
     ]
 each_number general.NoPlt P n h a b c =
-    elim (either (n == abi.r_x86_64_gotpcrel || n == abi.r_x86_64_gotpcrelx) (n == abi.r_x86_64_rex_gotpcrelx) h) [
+    elim (or_cases (n == abi.r_x86_64_gotpcrel || n == abi.r_x86_64_gotpcrelx) (n == abi.r_x86_64_rex_gotpcrelx) h) [
       | inr e ↦ subst P (sym (eqb-true n abi.r_x86_64_rex_gotpcrelx e)) (b refl).2
-      | inl t ↦ elim (either (n == abi.r_x86_64_gotpcrel) (n == abi.r_x86_64_gotpcrelx) t) [
+      | inl t ↦ elim (or_cases (n == abi.r_x86_64_gotpcrel) (n == abi.r_x86_64_gotpcrelx) t) [
         | inl e ↦ subst P (sym (eqb-true n abi.r_x86_64_gotpcrel e)) (b refl).0
         | inr e ↦ subst P (sym (eqb-true n abi.r_x86_64_gotpcrelx e)) (b refl).1
       ]

@@ -1,15 +1,14 @@
 -- A section whose relocation is rewritten, with all that is known of its row.
-use Rattle.std.proofs.Common.{◌≡◌, ℕ, ◌+◌, ◌-◌, ◌*◌, ◌/◌, ◌%◌, ◌^◌, true, false, refl, sym, ap, arith, subst}
-use Rattle.std.specs.Prelude.{ℤ, pos, negsuc, slice_get, slice_range, bit_and}
+use Rattle.std.proofs.Common.{◌≡◌, ℕ, ◌+◌, ◌-◌, ◌%◌, ◌^◌, true, false, refl, sym, ap, arith, subst}
+use Rattle.std.specs.Prelude.{ℤ, pos, negsuc, slice_get, slice_range}
 use Rattle.std.specs.Int.{w64, cast_unsigned}
 use Rattle.std.specs.List.{list_all}
 use Rattle.std.proofs.lemmas.Bool.{eqb-true}
-use Rattle.std.proofs.lemmas.Nat.Bits.{and_pow}
 use Rattle.wild_records.specs.Abi.Section.{shf_execinstr}
 use Rattle.wild_types.specs.declared.input.InputRelocation.{InputRelocation}
 use Rattle.wild_types.specs.declared.input.InputSection.{InputSection}
 use Rattle.wild_types.specs.declared.layout.Layout.{Layout}
-use Rattle.wild_types.specs.Lookups.{bit, executable}
+use Rattle.wild_types.specs.Lookups.{executable}
 use Rattle.wild_reloc.specs.declared.info.RelocationKind.TheVariants as kinds
 use Rattle.wild_relax.specs.declared.row.Row.{Row}
 use Rattle.wild_relax.specs.declared.row.Row.TheVariants.{IfuncThroughStub}
@@ -30,6 +29,7 @@ use Rattle.wild_meaning.specs.Section.{IsSet}
 use Rattle.wild_meaning.specs.Instruction.{stands}
 use Rattle.wild_meaning.specs.Sequence.{Sort, Target, DescribedCall, size_of}
 use Rattle.wild_meaning.specs.Template.{CountsFromItsEnd}
+use Rattle.wild_meaning.proofs.BitLemmas.{bit_code}
 use Rattle.wild_values.specs.Laws.{KindGives}
 use Rattle.wild_effects.specs.Laws.{WindowsAreAlone}
 use Rattle.wild_effects.proofs.RewrittenDecisions.{rewritten_alone}
@@ -80,19 +80,12 @@ placed_row laws l s i r row v has =
 
 -- ---- the section has code
 
-bit_exec : (f : ℕ) → executable f ≡ true → IsSet f shf_execinstr
-unfolding bit
-bit_exec f h =
-    let a : bit_and f 4 ≡ f / 4 % 2 * 4 = and_pow f 2 in
-    let e : bit_and f 4 ≡ 4 = eqb-true _ _ h in
-    omega (arith, a, e)
-
 takes_code : (row : Row) (q : Question) → IsChanging row → takes_section row q ≡ true → executable q.section_flags ≡ true
 takes_code IfuncThroughStub q c h = absurd c
 takes_code other q c h = h
 
 pub is_code : (l : Layout) (s : InputSection) (i : ℕ) (r : InputRelocation) (row : Row) (v : ℕ) → IsPlacedRow l s i r row v → IsSet s.flags shf_execinstr
-is_code l s i r row v p = bit_exec s.flags (takes_code row (question_of l s r p.chosen.symbol (slice_get s.relocations (i + 1))) p.changing p.stands.taken.section)
+is_code l s i r row v p = bit_code s.flags (takes_code row (question_of l s r p.chosen.symbol (slice_get s.relocations (i + 1))) p.changing p.stands.taken.section)
 
 -- ---- the addend
 

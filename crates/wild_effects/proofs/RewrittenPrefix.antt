@@ -1,7 +1,7 @@
 -- A load whose relocation type does not tell its prefix: where the byte before it makes a longer instruction of it.
 use Rattle.std.proofs.Common.{◌≡◌, ℕ, zero, suc, ◌+◌, ◌-◌, ◌<◌, ◌≤◌, ◌⊎◌, inl, inr, Bool, true, false, List, [], ◌∷◌, length, take, drop, refl, sym, ◌∙◌, arith, subst}
 use Rattle.std.specs.Prelude.{◌&&◌, ◌==◌, Option, Some, None, All, Contains, slice_range, slice_index}
-use Rattle.std.proofs.lemmas.Bool.{cases_Bool, cases_lt}
+use Rattle.std.proofs.lemmas.Bool.{cases_Bool, cases_lt, and_parts}
 use Rattle.std.proofs.lemmas.List.Elements.{All-nil, All-cons}
 use Rattle.wild_records.specs.Abi.Relocation as abi
 use Rattle.wild_types.specs.declared.kind.Machine.{Machine}
@@ -25,7 +25,7 @@ use Rattle.wild_meaning.specs.CodeX86_64.{rex2, with_slot}
 use Rattle.wild_meaning.specs.Sequence.{AddressInSlot, Instruction, IsOwnByte, of_field, instructions_of}
 use Rattle.wild_meaning.specs.Template.{IsInstruction, IsSingle}
 use Rattle.wild_effects.specs.Laws.{IsBesideField, WindowsAreAlone}
-use Rattle.wild_effects.proofs.RewrittenForms.{both, covers_all, all_stand}
+use Rattle.wild_effects.proofs.RewrittenForms.{covers_all, all_stand}
 use Rattle.wild_effects.proofs.RewrittenPlaces.{IsPlacedRow, is_code}
 use Rattle.wild_effects.proofs.RewrittenAlone.{field_is, in_no_field}
 use Rattle.wild_effects.proofs.RewrittenSingles.{counts, no_longer}
@@ -115,7 +115,7 @@ stands_with l s i r v from t h =
 stands_first : (l : Layout) (s : InputSection) (i : ℕ) (r : InputRelocation) (v from : ℕ) → Plain l s i r v from → judge.stands wide_load.template.cells (slice_range s.bytes from (from + 8)) ≡ true → (slice_index s.bytes from == 0xd5) ≡ true
 stands_first l s i r v from t h =
     let there = subst (λ (bs : List ℕ). judge.stands wide_load.template.cells bs ≡ true) (bytes_are l s i r v from t) h in
-    (both (slice_index s.bytes from == 0xd5) _ there).0
+    (and_parts (slice_index s.bytes from == 0xd5) _ there).0
 
 -- it stands there, with the byte before in no field
 pub record IsWider (l : Layout) (s : InputSection) (i : ℕ) (r : InputRelocation) (v from : ℕ) : Type 0 where

@@ -2,7 +2,7 @@
 use Rattle.std.proofs.Common.{◌≡◌, ℕ, zero, suc, ◌<◌, ◌≤◌, ◌⊎◌, inl, inr, Bool, true, false, List, [], ◌∷◌, length, get_or, refl, sym, arith, subst}
 use Rattle.std.specs.Prelude.{◌||◌, ◌==◌, not, nat_le, is_some, None, Contains}
 use Rattle.std.specs.List.{list_all}
-use Rattle.std.proofs.lemmas.Bool.{cases_Bool, eq-eqb, leb-true}
+use Rattle.std.proofs.lemmas.Bool.{cases_Bool, eq-eqb, leb-true, and_parts}
 use Rattle.wild_types.specs.declared.kind.Machine.{Machine}
 use Rattle.wild_types.specs.declared.kind.Machine.TheVariants as machine
 use Rattle.wild_types.specs.declared.input.InputRelocation.{InputRelocation}
@@ -27,7 +27,7 @@ use Rattle.wild_meaning.specs.Item.{item_of}
 use Rattle.wild_meaning.specs.Sequence.{Instruction, size_of, instructions_of}
 use Rattle.wild_meaning.specs.Template.{IsInstruction, CountsFromItsEnd}
 use Rattle.wild_effects.specs.Laws.{WindowsAreAlone}
-use Rattle.wild_effects.proofs.RewrittenForms.{both, instruction_of}
+use Rattle.wild_effects.proofs.RewrittenForms.{instruction_of}
 use Rattle.wild_effects.proofs.RewrittenPairs.{paired}
 use Rattle.wild_effects.proofs.RewrittenPlaces.{IsPlacedRow, is_code, counts_ended, size_is, cells_stand}
 use Rattle.wild_effects.proofs.RewrittenAlone.{field_is, called, in_no_field}
@@ -104,8 +104,8 @@ has_listed n (x ∷ xs) (suc k) lt e = right (x == n) (has_number n xs) (has_lis
 
 pub passes : (test : Instruction → Bool) (xs : List Instruction) (o : Instruction) (k : ℕ) → k < length xs → get_or xs k o ≡ o → list_all test xs ≡ true → test o ≡ true
 passes test [] o k lt e h = absurd (omega (arith, lt))
-passes test (x ∷ xs) o zero lt e h = subst (λ (y : Instruction). test y ≡ true) e (both (test x) (list_all test xs) h).0
-passes test (x ∷ xs) o (suc k) lt e h = passes test xs o k (omega (arith, lt)) e (both (test x) (list_all test xs) h).1
+passes test (x ∷ xs) o zero lt e h = subst (λ (y : Instruction). test y ≡ true) e (and_parts (test x) (list_all test xs) h).0
+passes test (x ∷ xs) o (suc k) lt e h = passes test xs o k (omega (arith, lt)) e (and_parts (test x) (list_all test xs) h).1
 
 short_by : (a b : Bool) (n k : ℕ) → a ≡ false → b ≡ true → (a || (not b || nat_le n k)) ≡ true → n ≤ k
 short_by true b n k e f h = cc

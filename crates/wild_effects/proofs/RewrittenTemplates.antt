@@ -1,7 +1,8 @@
 -- The instruction of a row is the one that its reference belongs to: by itself, or as a sequence.
 use Rattle.std.proofs.Common.{◌≡◌, ℕ, ◌+◌, ◌⊎◌, inl, inr, Bool, true, false, List, [], ◌∷◌, refl, sym, ◌∙◌}
 use Rattle.std.specs.Prelude.{◌==◌, not, Option, Some, None, slice_get, option_map, unwrap_or}
-use Rattle.std.proofs.lemmas.Bool.{cases_Bool, eqb-true}
+use Rattle.std.proofs.lemmas.Bool.{cases_Bool, eqb-true, not-true}
+use Rattle.wild_words.proofs.Basics.{or_first}
 use Rattle.wild_records.specs.Abi.Relocation as abi
 use Rattle.wild_types.specs.declared.symbol.Symbol.{Symbol}
 use Rattle.wild_types.specs.declared.input.InputRelocation.{InputRelocation}
@@ -26,15 +27,17 @@ use Rattle.wild_loader.specs.declared.world.World.{World}
 use Rattle.wild_meaning.specs.Item.{item_of}
 use Rattle.wild_meaning.specs.Sequence.{TargetInSlot, size_of}
 use Rattle.wild_meaning.specs.Template.{NamesGetter, IsSequence, IsSingle, IsDouble}
+use Rattle.wild_meaning.proofs.OutputLemmas.{is_program}
+use Rattle.wild_geometry.proofs.JudgedLemmas.{flag_is}
 use Rattle.wild_values.specs.Laws.{IsLoadedSection}
 use Rattle.wild_effects.proofs.RewrittenForms.{instruction_of}
 use Rattle.wild_effects.proofs.RewrittenPairs.{partner_for, single}
 use Rattle.wild_effects.proofs.RewrittenPlaces.{LawsBelow, IsPlacedRow}
 use Rattle.wild_effects.proofs.RewrittenAlone.{taken_call, call_place}
 use Rattle.wild_effects.proofs.RewrittenSingles.{is_told, longest, no_longer, stands_there}
-use Rattle.wild_effects.proofs.RewrittenSymbols.{definition, flag_of, flag_is, program_is}
+use Rattle.wild_effects.proofs.RewrittenSymbols.{definition, flag_of}
 use Rattle.wild_effects.proofs.RewrittenTerms.{symbol_there}
-use Rattle.wild_effects.proofs.RewrittenDoes.{on_or_must, else_on}
+use Rattle.wild_effects.proofs.RewrittenDoes.{on_or_must}
 use Rattle.wild_effects.proofs.RewrittenApart.{free}
 
 -- ---- an instruction of one field
@@ -55,18 +58,14 @@ record TakesSequence (l : Layout) (row : Row) (k : ℕ) : Type 0 where
   plain : has_flag (flags_at l k) ifunc ≡ false
   on : number_of row ≡ abi.r_x86_64_tlsgd → has_flag (flags_at l k) non_interposable ≡ false → l.options.relax ≡ true
 
-false_of : (b : Bool) → not b ≡ true → b ≡ false
-false_of true h = cc
-false_of false h = refl
-
 own_not : (b on : Bool) → not (not b) ≡ true → b ≡ false → on ≡ true
 own_not true on h e = cc
 own_not false on h e = cc
 
 takes_sequence : (l : Layout) (w : World) (m : Memory) (s : InputSection) (i : ℕ) (r : InputRelocation) (row : Row) (v : ℕ) → IsLoadedSection l w m s → (p : IsPlacedRow l s i r row v) → is_skip (rewrite_of row).next ≡ true → TakesSequence l row p.chosen.symbol
-takes_sequence l w m s i r (GeneralDynamicToLocalExec f) v h p skips = record { program = p.stands.taken.thread; plain = false_of _ p.stands.taken.symbol; on = λ e k. own_not (has_flag (flags_at l p.chosen.symbol) non_interposable) l.options.relax p.stands.taken.value k }
-takes_sequence l w m s i r (GeneralDynamicToInitialExec f) v h p skips = record { program = p.stands.taken.thread; plain = false_of _ p.stands.taken.symbol; on = λ e k. else_on l.options.relax false (on_or_must _ _ p.stands.here) refl }
-takes_sequence l w m s i r (LocalDynamicToLocalExec f) v h p skips = record { program = p.stands.taken.thread; plain = false_of _ p.stands.taken.symbol; on = λ e k. cc }
+takes_sequence l w m s i r (GeneralDynamicToLocalExec f) v h p skips = record { program = p.stands.taken.thread; plain = not-true _ p.stands.taken.symbol; on = λ e k. own_not (has_flag (flags_at l p.chosen.symbol) non_interposable) l.options.relax p.stands.taken.value k }
+takes_sequence l w m s i r (GeneralDynamicToInitialExec f) v h p skips = record { program = p.stands.taken.thread; plain = not-true _ p.stands.taken.symbol; on = λ e k. or_first l.options.relax false (on_or_must _ _ p.stands.here) refl }
+takes_sequence l w m s i r (LocalDynamicToLocalExec f) v h p skips = record { program = p.stands.taken.thread; plain = not-true _ p.stands.taken.symbol; on = λ e k. cc }
 takes_sequence l w m s i r (DescriptorLea q LocalExec) v h p skips = cc
 takes_sequence l w m s i r (DescriptorLea q InitialExec) v h p skips = cc
 takes_sequence l w m s i r other v h p skips = cc
@@ -93,14 +92,14 @@ names_getter l r h = by_index r.symbol refl h
     by_index None e h = cc
     by_index (Some k) e h = by_symbol k (slice_get l.symbols k) e refl h
 
-sequence_there : LawsBelow → (l : Layout) (w : World) (m : Memory) (s : InputSection) (i : ℕ) (r next : InputRelocation) (row : Row) (v : ℕ) → IsLoadedSection l w m s → IsPlacedRow l s i r row v → is_skip (rewrite_of row).next ≡ true → slice_get s.relocations (i + 1) ≡ Some next → IsSequence l (item_of s) r next (template_start row r) (instruction_of row)
+pub sequence_there : LawsBelow → (l : Layout) (w : World) (m : Memory) (s : InputSection) (i : ℕ) (r next : InputRelocation) (row : Row) (v : ℕ) → IsLoadedSection l w m s → IsPlacedRow l s i r row v → is_skip (rewrite_of row).next ≡ true → slice_get s.relocations (i + 1) ≡ Some next → IsSequence l (item_of s) r next (template_start row r) (instruction_of row)
 sequence_there laws l w m s i r next row v h p skips listed =
     let t = taken_call l s i r next row v p skips listed in
     let takes = takes_sequence l w m s i r row v h p skips in
     let k = p.chosen.symbol in
     let d = definition l k h.laid.definitions (symbol_there l w m s i r row v h p) in
     record {
-      executable = program_is l.kind takes.program;
+      executable = is_program l.kind takes.program;
       stands = stands_there laws.alone l s i r row v h.x86 h.decided p;
       partner = partner_for (call_form row) t.pair.at;
       calls = t.pair.is;

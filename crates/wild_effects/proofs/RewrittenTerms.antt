@@ -1,23 +1,14 @@
 -- The value in the field of a rewritten instruction, as the laws of the kinds take it.
-use Rattle.std.proofs.Common.{◌≡◌, ℕ, ◌+◌, ◌*◌, ◌/◌, ◌%◌, ◌^◌, ◌<◌, ◌≤◌, Bool, true, false, length, refl, sym, ◌∙◌, arith, subst}
+use Rattle.std.proofs.Common.{◌≡◌, ℕ, ◌+◌, ◌%◌, ◌^◌, ◌<◌, ◌≤◌, Bool, true, false, length, refl, sym, ◌∙◌, arith, subst}
 use Rattle.std.specs.Prelude.{◌||◌, nat_le, Some, Ok, All}
-use Rattle.std.specs.Int.RustNames.{bit_and}
 use Rattle.std.specs.List.{list_all}
 use Rattle.std.proofs.lemmas.Bool.{leb-true}
-use Rattle.std.proofs.lemmas.Nat.Bits.{and_pow}
-use Rattle.std.proofs.lemmas.List.Elements.{All-contains}
-use Rattle.wild_records.specs.Abi.Section.{shf_alloc}
-use Rattle.wild_types.specs.declared.kind.Machine.{Machine}
-use Rattle.wild_types.specs.declared.kind.Machine.TheVariants as machine
+use Rattle.wild_words.proofs.ListLemmas.{holds_at}
 use Rattle.wild_types.specs.declared.input.InputRelocation.{InputRelocation}
 use Rattle.wild_types.specs.declared.input.InputSection.{InputSection}
-use Rattle.wild_types.specs.declared.input.Slot.{Slot}
-use Rattle.wild_types.specs.declared.file.File.{File}
-use Rattle.wild_types.specs.declared.file.Group.{Group}
 use Rattle.wild_types.specs.declared.layout.Layout.{Layout}
 use Rattle.wild_slot.specs.declared.treatment.Treatment.TheVariants as treatments
-use Rattle.wild_types.specs.Lookups.{bit, allocated, is_loaded, is_read}
-use Rattle.wild_types.specs.Rows.{row_of}
+use Rattle.wild_types.specs.Lookups.{allocated}
 use Rattle.wild_slot.specs.Treatment.{kind_treatment}
 use Rattle.wild_reloc.specs.Table.{plain}
 use Rattle.wild_reloc.specs.TableX86_64.{x86_64_row}
@@ -29,6 +20,7 @@ use Rattle.wild_reloc.specs.declared.info.Width.{Width}
 use Rattle.wild_reloc.specs.declared.info.Width.TheVariants.{Eight}
 use Rattle.wild_reloc.specs.declared.range.Sign.{Sign}
 use Rattle.wild_reloc.specs.declared.range.Sign.TheVariants.{Signed}
+use Rattle.wild_types.proofs.LookupLemmas.{read_if, row_here}
 use Rattle.wild_relax.specs.declared.row.Row.{Row}
 use Rattle.wild_relax.specs.Pattern.{field_of}
 use Rattle.wild_relax.specs.Rows.{rows_x86_64}
@@ -38,36 +30,23 @@ use Rattle.wild_layout.specs.Decide.{field_at, term_to}
 use Rattle.wild_layout.specs.SymbolValues.{place_of}
 use Rattle.wild_layout.specs.Values.{term_of, value_by}
 use Rattle.wild_layout.specs.SectionPlaces.{SectionLies}
-use Rattle.wild_layout.specs.Geometry.{NamesSymbol, EachSection}
+use Rattle.wild_layout.specs.Geometry.{NamesSymbol}
 use Rattle.wild_layout.specs.Sites.{template_start}
 use Rattle.wild_layout.proofs.ChoiceLemmas.{LiesInItsPattern, chosen_lies, chosen_listed}
 use Rattle.wild_loader.specs.declared.memory.Memory.{Memory}
 use Rattle.wild_loader.specs.declared.world.World.{World}
 use Rattle.wild_meaning.specs.World.{IsMovable}
-use Rattle.wild_meaning.specs.Section.{IsSet}
 use Rattle.wild_meaning.specs.Value.{IsAbsolute}
-use Rattle.wild_meaning.specs.Item.{IsInput, item_of, place_at}
+use Rattle.wild_meaning.specs.Item.{item_of, place_at}
 use Rattle.wild_meaning.specs.Formula.{IsPlaceRelative}
+use Rattle.wild_meaning.proofs.BitLemmas.{alloc_bit}
+use Rattle.wild_geometry.proofs.JudgedLemmas.{each_at}
 use Rattle.wild_values.specs.Laws.{IsLoadedSection}
 use Rattle.wild_values.specs.Terms.{HasTerm}
+use Rattle.wild_values.proofs.WholeSections.{placed}
 use Rattle.wild_effects.proofs.RewrittenPlaces.{IsPlacedRow}
-use Rattle.wild_effects.proofs.RewrittenSymbols.{all_at, placed}
 
 -- ---- the section
-
-alloc_bit : (f : ℕ) → IsSet f shf_alloc → allocated f ≡ true
-unfolding bit
-alloc_bit f h =
-    let a : bit_and f 2 ≡ f / 2 % 2 * 2 = and_pow f 1 in
-    let e : bit_and f 2 ≡ 2 = omega (arith, a, h) in
-    rw e refl
-
-read_if : (s : InputSection) (at : Slot) → s.slot ≡ at → is_loaded at ≡ true → s.nobits ≡ false → is_read s ≡ true
-read_if s at e t n = rw (e, t, n) refl
-
-each_at : (P : InputSection → Type 0) (l : Layout) (s : InputSection) → EachSection l P → IsInput l s → P s
-each_at P l s h k =
-    All-contains P k.file.sections s (All-contains (λ (f : File). All P f.sections) k.group.files k.file (All-contains (λ (g : Group). All (λ (f : File). All P f.sections) g.files) l.groups k.group h k.grouped) k.filed) k.listed
 
 -- what is known of the section's places
 pub record LiesThere (l : Layout) (w : World) (s : InputSection) : Type 0 where
@@ -90,7 +69,7 @@ lies_there l w m s h =
 
 -- the symbol of the relocation is one of the layout's
 pub symbol_there : (l : Layout) (w : World) (m : Memory) (s : InputSection) (i : ℕ) (r : InputRelocation) (row : Row) (v : ℕ) → IsLoadedSection l w m s → (p : IsPlacedRow l s i r row v) → p.chosen.symbol < length l.symbols
-symbol_there l w m s i r row v h p = all_at (NamesSymbol l) s.relocations i r (lies_there l w m s h).symbols p.has.listed p.chosen.symbol p.chosen.named
+symbol_there l w m s i r row v h p = holds_at (NamesSymbol l) s.relocations i r p.has.listed (lies_there l w m s h).symbols p.chosen.symbol p.chosen.named
 
 -- ---- the field's new place
 
@@ -155,13 +134,9 @@ stands_below l w m s i r row v h p =
     let at = field_there l s i r row v p in
     record { place = omega (arith, full, low, inside); ends = omega (arith, full, low, ends, inside); start = omega (arith, at) }
 
-known_row : (m : Machine) (n : ℕ) (info : RelocationKindInfo) → m ≡ machine.X86_64 → row_of m n ≡ Some info → x86_64_row n ≡ Some info
-unfolding row_of
-known_row m n info e h = subst (λ (x : Machine). row_of x n ≡ Some info) e h
-
 -- the row of the relocation type that is written
 pub info_is : (l : Layout) (w : World) (m : Memory) (s : InputSection) (i : ℕ) (r : InputRelocation) (row : Row) (v : ℕ) → IsLoadedSection l w m s → (p : IsPlacedRow l s i r row v) → x86_64_row (rewrite_of row).number ≡ Some p.made.written.info
-info_is l w m s i r row v h p = known_row l.machine (rewrite_of row).number p.made.written.info h.x86 p.made.written.known
+info_is l w m s i r row v h p = row_here l.machine (rewrite_of row).number p.made.written.info h.x86 p.made.written.known
 
 -- the value, by the kind that is written
 pub has_term : (l : Layout) (w : World) (m : Memory) (s : InputSection) (i : ℕ) (r : InputRelocation) (row : Row) (v : ℕ) (k : RelocationKind) (n : Width) (sign : Sign) → IsLoadedSection l w m s → (p : IsPlacedRow l s i r row v) → p.made.written.info ≡ plain k n sign → ((t : ℕ) → term_to l r (plain k n sign) ≡ Ok t → term_of l r.symbol k ≡ Ok t)
@@ -174,7 +149,7 @@ has_term l w m s i r row v k n sign h p is term treated asked =
     record {
       placed = placed l w m s h;
       room = (lies_there l w m s h).room;
-      listed = all_at (NamesSymbol l) s.relocations i r (lies_there l w m s h).symbols p.has.listed;
+      listed = holds_at (NamesSymbol l) s.relocations i r p.has.listed (lies_there l w m s h).symbols;
       row = wide;
       treated = treated;
       term = x.term;

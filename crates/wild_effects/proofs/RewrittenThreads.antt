@@ -1,8 +1,7 @@
 -- What an instruction that is rewritten demands, and that the value in its field lands there: offsets from the thread pointer.
-use Rattle.std.proofs.Common.{◌≡◌, ℕ, ◌+◌, ◌*◌, ◌-◌, ◌%◌, ◌^◌, ◌<◌, ◌≤◌, inl, inr, true, false, refl, sym, ap, ◌∙◌, arith, subst}
-use Rattle.std.specs.Prelude.{ℤ, pos, Option, Some, None, nat_lt, option_and_then, option_map}
+use Rattle.std.proofs.Common.{◌≡◌, ℕ, ◌+◌, ◌-◌, ◌%◌, ◌^◌, ◌<◌, ◌≤◌, inl, inr, true, false, refl, sym, ap, ◌∙◌, arith, subst}
+use Rattle.std.specs.Prelude.{ℤ, pos, Option, Some}
 use Rattle.std.specs.Int.{w64, cast_unsigned}
-use Rattle.std.proofs.lemmas.Bool.{cases_Bool, ltb-true}
 use Rattle.wild_types.specs.declared.kind.Machine.{Machine}
 use Rattle.wild_types.specs.declared.kind.Machine.TheVariants as machine
 use Rattle.wild_types.specs.declared.kind.OutputKind.{OutputKind}
@@ -19,7 +18,6 @@ use Rattle.wild_relax.specs.Question.{minus_four}
 use Rattle.wild_relax.specs.RewriteX86_64.{rewrite_of}
 use Rattle.wild_relax.specs.Linked.{field_in}
 use Rattle.wild_layout.specs.Sites.{template_start}
-use Rattle.wild_loader.specs.Memory.{byte_in, number_in}
 use Rattle.wild_loader.specs.declared.memory.Memory.{Memory}
 use Rattle.wild_loader.specs.declared.world.World.{World}
 use Rattle.wild_meaning.specs.Instruction.{Word, sum_64}
@@ -30,6 +28,7 @@ use Rattle.wild_meaning.specs.Thread.{HasOwnOffset, HasThreadOffset, IsOffsetBas
 use Rattle.wild_meaning.specs.Slot.{HasWord, IsSlot}
 use Rattle.wild_meaning.specs.Formula.{IsOffset, KnowsOffsets, HasOffsetMode}
 use Rattle.wild_meaning.specs.Template.{reads}
+use Rattle.wild_meaning.proofs.WorldLemmas.{word_below}
 use Rattle.wild_values.specs.Laws.{IsLoadedSection}
 use Rattle.wild_effects.proofs.RewrittenPlaces.{LawsBelow, IsPlacedRow, ended}
 use Rattle.wild_effects.proofs.RewrittenTerms.{written_as, stands_below}
@@ -44,20 +43,6 @@ own_below l w k t (inr h) = (let e = h.1 in omega (arith, e))
 thread_below : (l : Layout) (w : World) (k t : ℕ) → HasThreadOffset l w k t → t < 2 ^ 64
 thread_below l w k t (inl h) = (let e = h.1.sum in omega (arith, e))
 thread_below l w k t (inr h) = own_below l w k t h.1
-
-byte_below : (m : Memory) (a b : ℕ) → byte_in m a ≡ Some b → a < 2 ^ 64
-byte_below m a b h =
-    elim (cases_Bool (nat_lt a (2 ^ 64))) [
-      | inl t ↦ ltb-true a (2 ^ 64) t
-      | inr f ↦ cc (rw f at h)
-    ]
-
-word_below : (m : Memory) (a x : ℕ) → HasWord m a x → a < 2 ^ 64
-word_below m a x h = by_byte (byte_in m a) refl h
-  where
-    by_byte : (o : Option ℕ) → byte_in m a ≡ o → option_and_then (λ b. option_map (λ rest. b + 256 * rest) (number_in m (a + 1) 7)) o ≡ Some x → a < 2 ^ 64
-    by_byte None e h = cc
-    by_byte (Some b) e h = byte_below m a b e
 
 -- ---- the offset itself
 
@@ -99,7 +84,7 @@ record HasSlot (l : Layout) (w : World) (m : Memory) (symbol : Option ℕ) (g : 
 slot_at : (l : Layout) (w : World) (m : Memory) (g k : ℕ) (symbol : Option ℕ) → symbol ≡ Some k → IsSlot ThreadOffset l w m symbol g → HasSlot l w m symbol g
 slot_at l w m g k symbol e h =
     let t = subst (λ (o : Option ℕ). IsSlot ThreadOffset l w m o g) e h in
-    record { offset = t.0; word = t.1; is = subst (λ (o : Option ℕ). IsOffset l w o t.0) (sym e) t.2 }
+    record { offset = t.holds.0; word = t.holds.1; is = subst (λ (o : Option ℕ). IsOffset l w o t.holds.0) (sym e) t.holds.2 }
 
 slot_lands : (g c place q v : ℕ) → g < 2 ^ 64 → c ≡ 2 ^ 64 - 4 → v ≡ (g + c + (2 ^ 64 - place)) % 2 ^ 64 → place ≡ q → place ≤ 2 ^ 64 → (q + 4 + v) % 2 ^ 64 ≡ g
 slot_lands g c place q v low a b e high = omega (arith, low, a, b, e, high)

@@ -1,6 +1,7 @@
 -- What the value in the field of a rewritten instruction is, kind by kind.
 use Rattle.std.proofs.Common.{◌≡◌, ℕ, inl, inr, Bool, true, false, refl, sym, ◌∙◌, subst}
 use Rattle.std.specs.Prelude.{length, nat_lt, ◌&&◌, ◌||◌, not, Option, Some, if◌then◌else◌}
+use Rattle.std.proofs.lemmas.Bool.{and_right, or_from}
 use Rattle.wild_types.specs.declared.kind.RelocationModel.TheVariants as model
 use Rattle.wild_types.specs.declared.kind.OutputKind.{OutputKind}
 use Rattle.wild_types.specs.declared.kind.OutputKind.TheVariants as output
@@ -11,17 +12,16 @@ use Rattle.wild_slot.specs.declared.treatment.Treatment.{Treatment}
 use Rattle.wild_slot.specs.declared.treatment.Treatment.TheVariants as treatments
 use Rattle.wild_types.specs.Flags.{has_flag, interposable, has_link_time_address, absolute, ifunc}
 use Rattle.wild_types.specs.Kinds.{is_executable, is_shared_object, is_position_independent, has_fixed_load_address}
-use Rattle.wild_types.specs.Lookups.{allocated}
+use Rattle.wild_types.specs.Lookups.{canonical, allocated}
 use Rattle.wild_slot.specs.Treatment.{flags_at, is_left, is_elsewhere, is_barred, is_narrow, is_chosen, moves, moved_treatment, chosen_treatment, address_treatment, kind_treatment}
 use Rattle.wild_reloc.specs.Table.{plain}
 use Rattle.wild_reloc.specs.TableX86_64.{x86_64_row}
 use Rattle.wild_reloc.specs.Agreement.{plain_value}
 use Rattle.wild_reloc.specs.declared.info.RelocationKind.{RelocationKind}
 use Rattle.wild_reloc.specs.declared.info.RelocationKind.TheVariants as kinds
-use Rattle.wild_reloc.specs.declared.info.RelocationKindInfo.{RelocationKindInfo}
 use Rattle.wild_reloc.specs.declared.info.Width.TheVariants.{Four}
 use Rattle.wild_reloc.specs.declared.range.Sign.{Sign}
-use Rattle.wild_reloc.specs.declared.range.Sign.TheVariants.{Unsigned, Signed}
+use Rattle.wild_reloc.specs.declared.range.Sign.TheVariants.{Signed}
 use Rattle.wild_relax.specs.declared.row.Row.{Row}
 use Rattle.wild_relax.specs.RewriteX86_64.{rewrite_of}
 use Rattle.wild_loader.specs.declared.memory.Memory.{Memory}
@@ -30,33 +30,12 @@ use Rattle.wild_meaning.specs.World.{IsMovable}
 use Rattle.wild_meaning.specs.Value.{IsAbsolute, IsReplaceable}
 use Rattle.wild_meaning.specs.Item.{item_of}
 use Rattle.wild_meaning.specs.Formula.{Gives}
+use Rattle.wild_relax.proofs.RowLemmas.{pc32, tpoff32, gottpoff}
 use Rattle.wild_values.specs.Laws.{IsLoadedSection}
 use Rattle.wild_values.specs.Terms.{IsFollowed}
 use Rattle.wild_effects.proofs.RewrittenPlaces.{LawsBelow, IsPlacedRow}
 use Rattle.wild_effects.proofs.RewrittenSymbols.{definition, own_one}
 use Rattle.wild_effects.proofs.RewrittenTerms.{symbol_there, written_as, wide, info_is, has_term}
-
--- ---- rows of the table
-
-pub pc32_is : (info : RelocationKindInfo) → x86_64_row 2 ≡ Some info → info ≡ plain kinds.Relative Four Signed
-unfolding x86_64_row
-pc32_is info e = cc
-
-pub signed_is : (info : RelocationKindInfo) → x86_64_row 11 ≡ Some info → info ≡ plain kinds.Absolute Four Signed
-unfolding x86_64_row
-signed_is info e = cc
-
-pub unsigned_is : (info : RelocationKindInfo) → x86_64_row 10 ≡ Some info → info ≡ plain kinds.Absolute Four Unsigned
-unfolding x86_64_row
-unsigned_is info e = cc
-
-pub tpoff_is : (info : RelocationKindInfo) → x86_64_row 23 ≡ Some info → info ≡ plain kinds.TpOff Four Signed
-unfolding x86_64_row
-tpoff_is info e = cc
-
-pub gottpoff_is : (info : RelocationKindInfo) → x86_64_row 22 ≡ Some info → info ≡ plain kinds.GotTpOff Four Signed
-unfolding x86_64_row
-gottpoff_is info e = cc
 
 -- ---- treatments of a field of eight bytes
 
@@ -67,10 +46,6 @@ barred_by false b c = refl
 
 not_barred : (l : Layout) (s : InputSection) (k : ℕ) → is_barred l s wide k ≡ false
 not_barred l s k = barred_by (allocated s.flags) (is_position_independent l.kind) (is_elsewhere (flags_at l k))
-
-last_of : (a b : Bool) → b ≡ false → (a && b) ≡ false
-last_of true b h = h
-last_of false b h = refl
 
 by_barred : (b : Bool) → b ≡ false → (if b then treatments.Recompile else treatments.Value wide) ≡ treatments.Value wide
 by_barred true h = cc
@@ -90,16 +65,12 @@ there_by : (b : Bool) (t : Treatment) → t ≡ treatments.Value wide → (if b 
 there_by true t h = h
 there_by false t h = refl
 
-either_not : (a b : Bool) → a ≡ false → b ≡ false → (a || b) ≡ false
-either_not true b h e = cc
-either_not false b h e = e
-
 address_value : (l : Layout) (s : InputSection) (k : ℕ) (symbol : Option ℕ) → symbol ≡ Some k → interposable (flags_at l k) ≡ false → has_flag (flags_at l k) ifunc ≡ false → moves l k ≡ false → kind_treatment l s symbol wide kinds.Absolute ≡ treatments.Value wide
 address_value l s k symbol e own plain_one still =
-    let narrow : is_narrow l s wide ≡ false = last_of (allocated s.flags && is_shared_object l.kind) false refl in
+    let narrow : is_narrow l s wide ≡ false = and_right (allocated s.flags && is_shared_object l.kind) false refl in
     let value = address_by (is_barred l s wide k || is_narrow l s wide) (is_left l s wide k) (is_chosen l s k) (allocated s.flags && moves l k) k (chosen_treatment wide k) (moved_treatment wide)
-    (either_not (is_barred l s wide k) (is_narrow l s wide) (not_barred l s k) narrow) (last_of _ _ own) (last_of _ _ plain_one) (last_of (allocated s.flags) (moves l k) still) in
-    rw e (there_by (nat_lt k (length l.symbols)) (address_treatment l s wide k) value)
+    (or_from (is_barred l s wide k) (is_narrow l s wide) (not_barred l s k) narrow) (and_right _ _ own) (and_right _ _ plain_one) (and_right (allocated s.flags) (moves l k) still) in
+    rw e (there_by (nat_lt (canonical l k) (length l.symbols)) (address_treatment l s wide k) value)
 
 no_library : (k : OutputKind) → is_executable k ≡ true → is_shared_object k ≡ false
 no_library (output.StaticExecutable any) h = refl
@@ -108,7 +79,7 @@ no_library output.SharedObject h = cc
 no_library output.PartialObject h = cc
 
 pointer_value : (l : Layout) (s : InputSection) (k : ℕ) (symbol : Option ℕ) → symbol ≡ Some k → is_executable l.kind ≡ true → kind_treatment l s symbol wide kinds.TpOff ≡ treatments.Value wide
-pointer_value l s k symbol e program = rw e (by_barred (allocated s.flags && is_shared_object l.kind) (last_of (allocated s.flags) (is_shared_object l.kind) (no_library l.kind program)))
+pointer_value l s k symbol e program = rw e (by_barred (allocated s.flags && is_shared_object l.kind) (and_right (allocated s.flags) (is_shared_object l.kind) (no_library l.kind program)))
 
 slot_value : (l : Layout) (s : InputSection) (k : ℕ) (symbol : Option ℕ) → symbol ≡ Some k → kind_treatment l s symbol wide kinds.GotTpOff ≡ treatments.Value wide
 slot_value l s k symbol e = rw e refl
@@ -146,7 +117,7 @@ followed l r q k kind named e own = λ j at. (let same : j ≡ k = (let f : Some
 -- S + A - P
 pub gives_distance : LawsBelow → (l : Layout) (w : World) (m : Memory) (s : InputSection) (i : ℕ) (r : InputRelocation) (row : Row) (v : ℕ) → IsLoadedSection l w m s → (p : IsPlacedRow l s i r row v) → (rewrite_of row).number ≡ 2 → interposable (flags_at l p.chosen.symbol) ≡ false → (IsMovable l.kind → IsAbsolute l p.chosen.symbol → w.base ≡ 0) → Gives (plain_value kinds.Relative) l w m (item_of s) (written_as row r) v
 gives_distance laws l w m s i r row v h p number own asked =
-    let info = pc32_is p.made.written.info (subst (λ (n : ℕ). x86_64_row n ≡ Some p.made.written.info) number (info_is l w m s i r row v h p)) in
+    let info = pc32 p.made.written.info (sym (subst (λ (n : ℕ). x86_64_row n ≡ Some p.made.written.info) number (info_is l w m s i r row v h p))) in
     laws.distance l w m s (written_as row r) v (has_term l w m s i r row v kinds.Relative Four Signed h p info (λ t e. e) (distance_value l s p.chosen.symbol r.symbol p.chosen.named) (λ relative movable abs. asked movable abs))
     (followed l r (written_as row r) p.chosen.symbol kinds.Relative p.chosen.named refl (own_symbol l w m s i r row v h p own))
 
@@ -159,13 +130,13 @@ gives_number laws l w m s i r row v sign h p info own plain_one still =
 -- the offset from the thread pointer
 pub gives_offset : LawsBelow → (l : Layout) (w : World) (m : Memory) (s : InputSection) (i : ℕ) (r : InputRelocation) (row : Row) (v : ℕ) → IsLoadedSection l w m s → (p : IsPlacedRow l s i r row v) → (rewrite_of row).number ≡ 23 → is_executable l.kind ≡ true → interposable (flags_at l p.chosen.symbol) ≡ false → Gives (plain_value kinds.TpOff) l w m (item_of s) (written_as row r) v
 gives_offset laws l w m s i r row v h p number program own =
-    let info = tpoff_is p.made.written.info (subst (λ (n : ℕ). x86_64_row n ≡ Some p.made.written.info) number (info_is l w m s i r row v h p)) in
+    let info = tpoff32 p.made.written.info (sym (subst (λ (n : ℕ). x86_64_row n ≡ Some p.made.written.info) number (info_is l w m s i r row v h p))) in
     laws.pointer l w m s (written_as row r) v (has_term l w m s i r row v kinds.TpOff Four Signed h p info (λ t e. e) (pointer_value l s p.chosen.symbol r.symbol p.chosen.named program) (λ relative movable abs. absurd relative))
     (followed l r (written_as row r) p.chosen.symbol kinds.TpOff p.chosen.named refl (own_symbol l w m s i r row v h p own))
 
 -- the slot of an offset, whichever module has the symbol
 pub gives_slot : LawsBelow → (l : Layout) (w : World) (m : Memory) (s : InputSection) (i : ℕ) (r : InputRelocation) (row : Row) (v : ℕ) → IsLoadedSection l w m s → (p : IsPlacedRow l s i r row v) → (rewrite_of row).number ≡ 22 → Gives (plain_value kinds.GotTpOff) l w m (item_of s) (written_as row r) v
 gives_slot laws l w m s i r row v h p number =
-    let info = gottpoff_is p.made.written.info (subst (λ (n : ℕ). x86_64_row n ≡ Some p.made.written.info) number (info_is l w m s i r row v h p)) in
+    let info = gottpoff p.made.written.info (sym (subst (λ (n : ℕ). x86_64_row n ≡ Some p.made.written.info) number (info_is l w m s i r row v h p))) in
     laws.slot l w m s (written_as row r) v (has_term l w m s i r row v kinds.GotTpOff Four Signed h p info (λ t e. e) (slot_value l s p.chosen.symbol r.symbol p.chosen.named) (λ relative movable abs. absurd relative))
     (λ j at. inr (inl ((λ t. t), (λ t. t))))

@@ -31,7 +31,7 @@ use Rattle.wild_effects.proofs.RewrittenAlone.{called}
 use Rattle.wild_effects.proofs.RewrittenPairs.{paired}
 use Rattle.wild_effects.proofs.RewrittenSingles.{is_told}
 use Rattle.wild_effects.proofs.RewrittenDoes.{GoesWithBase, does_row}
-use Rattle.wild_effects.proofs.RewrittenTemplates.{single_there, double_there, sequence_sort}
+use Rattle.wild_effects.proofs.RewrittenTemplates.{single_there, sequence_there, double_there, sequence_sort}
 use Rattle.wild_effects.proofs.RewrittenPrefix.{wide_load, wide_single, IsWider, wider_or_not}
 use Rattle.wild_effects.proofs.RewrittenShorter.{plain_single}
 use Rattle.wild_effects.proofs.RewrittenWider.{does_wider}
@@ -159,6 +159,6 @@ partners_hold laws l w m s h i r has =
       start = template_start t.row t.first;
       instruction = instruction_of t.row;
       first = t.first;
-      template = inr (double_there laws l w m s b.0 t.first r r t.row t.value h p t.skips t.listed (inr refl));
+      sequence = sequence_there laws l w m s b.0 t.first r t.row t.value h p t.skips t.listed;
       does = does_row laws l w m s b.0 t.first t.row t.value h p (λ sort. absurd (sequence_sort t.row t.skips sort));
     }

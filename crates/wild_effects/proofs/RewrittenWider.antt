@@ -2,8 +2,9 @@
 use Rattle.std.proofs.Common.{◌≡◌, ℕ, zero, suc, ◌+◌, ◌-◌, ◌<◌, ◌≤◌, ◌⊎◌, inl, inr, Bool, true, false, List, [], ◌∷◌, length, get_or, refl, sym, ap, ◌∙◌, arith, subst}
 use Rattle.std.specs.Prelude.{◌&&◌, ◌||◌, ◌==◌, Some, Ok, slice_get, slice_range, slice_index}
 use Rattle.std.specs.List.{list_all}
-use Rattle.std.proofs.lemmas.Bool.{cases_lt}
+use Rattle.std.proofs.lemmas.Bool.{cases_lt, cases_eq}
 use Rattle.wild_words.specs.Words.{place}
+use Rattle.wild_words.proofs.Basics.{listed_passes}
 use Rattle.wild_records.specs.Abi.Relocation as abi
 use Rattle.wild_types.specs.declared.kind.Machine.{Machine}
 use Rattle.wild_types.specs.declared.kind.Machine.TheVariants as machine
@@ -37,15 +38,14 @@ use Rattle.wild_meaning.specs.InstructionX86_64.{effect_x86_64, demand_x86_64}
 use Rattle.wild_meaning.specs.Sequence.{Instruction, instructions_of}
 use Rattle.wild_meaning.specs.Template.{reads_alone, DoesDemanded}
 use Rattle.wild_values.specs.Laws.{IsLoadedSection}
-use Rattle.wild_effects.proofs.Clash.{is_any, is_free, are_calls, pair_ok, row_ok, each_row_ok, IsUncovered, apart_templates}
-use Rattle.wild_effects.proofs.KeptTables.{listed_passes}
+use Rattle.wild_effects.proofs.Clash.{is_free, are_calls, pair_ok, row_ok, each_row_ok, IsUncovered, apart_templates}
 use Rattle.wild_effects.proofs.Kept.{OutOfWindows, input_byte, Window, window, free_not}
 use Rattle.wild_effects.proofs.RewrittenPlaces.{LawsBelow}
-use Rattle.wild_effects.proofs.RewrittenAlone.{is_same}
 use Rattle.wild_effects.proofs.RewrittenTerms.{info_is}
 use Rattle.wild_effects.proofs.RewrittenEffects.{has_effect, template_linked, value_small, old_of, on_machine, whole_is}
 use Rattle.wild_effects.proofs.RewrittenDoes.{plain_far}
 use Rattle.wild_effects.proofs.RewrittenPrefix.{wide_load, Plain, at_field, room, bytes_are, stands_with, IsWider}
+use Rattle.wild_effects.proofs.Fills.{is_any}
 
 -- ---- the prefix stays in memory
 
@@ -127,7 +127,7 @@ apart laws l s i j r q v from w row x86 decided t h other low high = by_cell (is
 
 out_of_windows : LawsBelow → (l : Layout) (s : InputSection) (i : ℕ) (r : InputRelocation) (v from : ℕ) → l.machine ≡ machine.X86_64 → IsDecided l s → IsWider l s i r v from → OutOfWindows l s from
 out_of_windows laws l s i r v from x86 decided t j q row w h =
-    elim (is_same j i) [
+    elim (cases_eq j i) [
       | inl e ↦ inl (own_one (subst (λ (n : ℕ). HasDecision l s n q (Rewritten row w)) e h))
       | inr other ↦ elim (cases_lt from (template_start row q)) [
         | inl before ↦ inl before
@@ -193,12 +193,14 @@ does_wider laws l w m s i r v from h t =
     record {
       value = n;
       demands = far.is.target;
-      effect = e.0;
-      demanded = on_machine l.machine (as_value n) a (slice_range s.bytes from (from + 8)) h.x86 ∙ (ap (λ (bs : List ℕ). demand_x86_64 n a bs) bytes ∙ e.1);
-      bytes = x ∷ template_of PlainGotMovToLea v old;
-      whole = (let z = whole_is l w m s i r PlainGotMovToLea v h p in omega (arith, z));
-      held = held_more m a (place_at w (item_of s) (template_start PlainGotMovToLea r)) x (template_of PlainGotMovToLea v old) next (prefix_stays laws l w m s i r v from h t) (h.section.rewritten i r PlainGotMovToLea v p.has);
-      does = on_machine l.machine (reads_alone w m) a (x ∷ template_of PlainGotMovToLea v old) h.x86 ∙ done;
+      code = record {
+        effect = e.0;
+        demanded = on_machine l.machine (as_value n) a (slice_range s.bytes from (from + 8)) h.x86 ∙ (ap (λ (bs : List ℕ). demand_x86_64 n a bs) bytes ∙ e.1);
+        bytes = x ∷ template_of PlainGotMovToLea v old;
+        whole = (let z = whole_is l w m s i r PlainGotMovToLea v h p in omega (arith, z));
+        held = held_more m a (place_at w (item_of s) (template_start PlainGotMovToLea r)) x (template_of PlainGotMovToLea v old) next (prefix_stays laws l w m s i r v from h t) (h.section.rewritten i r PlainGotMovToLea v p.has);
+        does = on_machine l.machine (reads_alone w m) a (x ∷ template_of PlainGotMovToLea v old) h.x86 ∙ done;
+      };
     }
   where
     both_stand : (a b : Bool) → a ≡ true → b ≡ true → (a && b) ≡ true

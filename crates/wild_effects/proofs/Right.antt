@@ -1,8 +1,7 @@
 -- What the operand of an instruction in memory reads as is what is demanded, by its sort.
 use Rattle.std.proofs.Common.{◌≡◌, ℕ, suc, ◌+◌, ◌-◌, ◌*◌, ◌%◌, ◌^◌, ◌<◌, inl, inr, List, length, refl, sym, ap, ◌∙◌, arith, subst}
-use Rattle.std.specs.Prelude.{Option, Some, None, Result, option_map, option_and_then, Contains, nat_lt, slice_index}
+use Rattle.std.specs.Prelude.{Option, Some, None, Result, option_map, option_and_then, Contains, slice_index}
 use Rattle.std.specs.Int.{w64, cast_unsigned}
-use Rattle.std.proofs.lemmas.Bool.{cases_Bool, ltb-true}
 use Rattle.wild_types.specs.declared.kind.Machine.{Machine}
 use Rattle.wild_types.specs.declared.kind.Machine.TheVariants as machine
 use Rattle.wild_types.specs.declared.input.InputRelocation.{InputRelocation}
@@ -13,6 +12,7 @@ use Rattle.wild_loader.specs.declared.world.World.{World}
 use Rattle.wild_loader.specs.declared.memory.Memory.{Memory}
 use Rattle.wild_loader.specs.Memory.{Holds, byte_in, number_in}
 use Rattle.wild_loader.specs.Changes.{distance_of}
+use Rattle.wild_loader.proofs.Mapped.{byte_below}
 use Rattle.wild_meaning.specs.Instruction.{Operand, Number, Effect, sum_64, as_value}
 use Rattle.wild_meaning.specs.InstructionX86_64.{demand_x86_64}
 use Rattle.wild_meaning.specs.Sequence.{Sort, Target, TargetInSlot, AddressInSlot, OffsetInSlot, SymbolPair, OwnPair, Described, DescribedCall, Instruction, size_of, instructions_of}
@@ -21,22 +21,15 @@ use Rattle.wild_meaning.specs.Field.{form_width}
 use Rattle.wild_meaning.specs.Slot.{IsPair, IsSlot}
 use Rattle.wild_meaning.specs.Formula.{Gives, IsTarget, IsGoal, IsOffset, HasOffsetMode}
 use Rattle.wild_meaning.specs.Template.{CountsFromItsEnd, or_none, sum_of, reads, pair_in, effect_of, Demands, IsDemanded, old_bytes, DoesDemanded}
+use Rattle.wild_meaning.proofs.SymbolLemmas.{target_reached}
 use Rattle.wild_effects.proofs.Fills.{instructions_do}
 use Rattle.wild_effects.proofs.Does.{IsThere, IsDisplaced, FormulaIs, WidthIs, displaced, operand_by, named_by, told_of, formula_is, displaced_by, named_is, field_place, new_bytes, is_filled, all_there, read_holds, length_read, to_slot, to_target, distance_sum}
 
 -- ---- bounds
 
--- no byte is loaded behind the last address
-loaded_below : (m : Memory) (a b : ℕ) → byte_in m a ≡ Some b → a < 2 ^ 64
-loaded_below m a b h =
-    elim (cases_Bool (nat_lt a (2 ^ 64))) [
-      | inl t ↦ ltb-true _ _ t
-      | inr f ↦ cc (rw f at h)
-    ]
-
 -- nor is a number
 number_below : (m : Memory) (a n x : ℕ) → number_in m a (suc n) ≡ Some x → a < 2 ^ 64
-number_below m a n x h = by_first m a n x (byte_in m a) (λ b e. loaded_below m a b e) h
+number_below m a n x h = by_first m a n x (byte_in m a) (λ b e. byte_below m a b e) h
   where
     by_first : (m : Memory) (a n x : ℕ) (o : Option ℕ) → ((b : ℕ) → o ≡ Some b → a < 2 ^ 64) → option_and_then (λ (b : ℕ). option_map (λ (rest : ℕ). b + 256 * rest) (number_in m (a + 1) n)) o ≡ Some x → a < 2 ^ 64
     by_first m a n x None below h = cc
@@ -59,11 +52,6 @@ pub record RightBy (sort : Sort) (l : Layout) (w : World) (m : Memory) (item : I
   pub reads : reads w m operand ≡ Some value
   pub call : sort ≡ DescribedCall → HasOffsetMode l item → ⊥
 
-target_reached : (l : Layout) (w : World) (m : Memory) (symbol : Option ℕ) (a : ℕ) → IsTarget l w m symbol a → IsGoal l w m symbol a
-target_reached l w m None a h = h
-target_reached l w m (Some i) a (inl h) = (a, h, inl refl)
-target_reached l w m (Some i) a (inr h) = (h.value, h.is, h.reaches)
-
 -- the operand in memory
 abbrev operand_of : World → Memory → Item → ℕ → Instruction → Operand
 operand_of w m item start o = (o.template.action (place_at w item start) (new_bytes w m item start o)).operand
@@ -76,7 +64,7 @@ named s l w m item r start o x y e h d n = subst (λ (q : Sort). operand_of w m 
 low_place : (m : Memory) (p : ℕ) (bs : List ℕ) → length bs ≡ 4 → Holds m p bs → p < 2 ^ 64
 low_place m p bs four held =
     let z : p + 0 ≡ p = omega arith in
-    loaded_below m p (slice_index bs 0) (subst (λ (x : ℕ). byte_in m x ≡ Some (slice_index bs 0)) z (held 0 (omega (arith, four))))
+    byte_below m p (slice_index bs 0) (subst (λ (x : ℕ). byte_in m x ≡ Some (slice_index bs 0)) z (held 0 (omega (arith, four))))
 
 -- a field of four bytes whose formula is G + A - P names its slot
 slot_named : (s : Sort) (l : Layout) (w : World) (m : Memory) (item : Item) (r : InputRelocation) (start : ℕ) (o : Instruction) (v : Value) (g : ℕ) → o.sort ≡ s → (h : IsThere l w m item r start o) → o.width ≡ 4 → h.field.formula ≡ displaced v → (cast_unsigned w64 r.addend + 4) % 2 ^ 64 ≡ 0 → g < 2 ^ 64
@@ -124,11 +112,11 @@ right_by TargetInSlot l w m item r start o e h f width counts = by r.symbol refl
     by (Some i) n =
         (let gives = subst (λ (x : Formula). Gives x.value l w m item r h.field.value) f h.field.gives in
         let slot = subst (λ (x : Option ℕ). IsSlot AddressSlot l w m x gives.0) n gives.1 in
-        let small = number_below m gives.0 7 slot.0 slot.1 in
+        let small = number_below m gives.0 7 slot.holds.0 slot.holds.1 in
         record {
-          value = slot.0;
-          demands = subst (λ (x : Option ℕ). IsGoal l w m x slot.0) (sym n) (target_reached l w m (Some i) slot.0 slot.2);
-          reads = reads_by w m _ _ _ (slot_named TargetInSlot l w m item r start o (SlotDistance AddressSlot) gives.0 e h width f counts small gives.2) slot.1;
+          value = slot.holds.0;
+          demands = subst (λ (x : Option ℕ). IsGoal l w m x slot.holds.0) (sym n) (target_reached l w m (Some i) slot.holds.0 slot.holds.2);
+          reads = reads_by w m _ _ _ (slot_named TargetInSlot l w m item r start o (SlotDistance AddressSlot) gives.0 e h width f counts small gives.2) slot.holds.1;
           call = λ no. cc;
         })
 right_by AddressInSlot l w m item r start o e h f width counts = by r.symbol refl
@@ -138,11 +126,11 @@ right_by AddressInSlot l w m item r start o e h f width counts = by r.symbol ref
     by (Some i) n =
         (let gives = subst (λ (x : Formula). Gives x.value l w m item r h.field.value) f h.field.gives in
         let slot = subst (λ (x : Option ℕ). IsSlot AddressSlot l w m x gives.0) n gives.1 in
-        let small = number_below m gives.0 7 slot.0 slot.1 in
+        let small = number_below m gives.0 7 slot.holds.0 slot.holds.1 in
         record {
-          value = slot.0;
-          demands = subst (λ (x : Option ℕ). IsTarget l w m x slot.0) (sym n) slot.2;
-          reads = reads_by w m _ _ _ (slot_named AddressInSlot l w m item r start o (SlotDistance AddressSlot) gives.0 e h width f counts small gives.2) slot.1;
+          value = slot.holds.0;
+          demands = subst (λ (x : Option ℕ). IsTarget l w m x slot.holds.0) (sym n) slot.holds.2;
+          reads = reads_by w m _ _ _ (slot_named AddressInSlot l w m item r start o (SlotDistance AddressSlot) gives.0 e h width f counts small gives.2) slot.holds.1;
           call = λ no. cc;
         })
 right_by OffsetInSlot l w m item r start o e h f width counts = by r.symbol refl
@@ -152,11 +140,11 @@ right_by OffsetInSlot l w m item r start o e h f width counts = by r.symbol refl
     by (Some i) n =
         (let gives = subst (λ (x : Formula). Gives x.value l w m item r h.field.value) f h.field.gives in
         let slot = subst (λ (x : Option ℕ). IsSlot ThreadOffset l w m x gives.0) n gives.1 in
-        let small = number_below m gives.0 7 slot.0 slot.1 in
+        let small = number_below m gives.0 7 slot.holds.0 slot.holds.1 in
         record {
-          value = slot.0;
-          demands = subst (λ (x : Option ℕ). IsOffset l w x slot.0) (sym n) slot.2;
-          reads = reads_by w m _ _ _ (slot_named OffsetInSlot l w m item r start o (SlotDistance ThreadOffset) gives.0 e h width f counts small gives.2) slot.1;
+          value = slot.holds.0;
+          demands = subst (λ (x : Option ℕ). IsOffset l w x slot.holds.0) (sym n) slot.holds.2;
+          reads = reads_by w m _ _ _ (slot_named OffsetInSlot l w m item r start o (SlotDistance ThreadOffset) gives.0 e h width f counts small gives.2) slot.holds.1;
           call = λ no. cc;
         })
 right_by SymbolPair l w m item r start o e h f width counts = by r.symbol refl
@@ -166,11 +154,11 @@ right_by SymbolPair l w m item r start o e h f width counts = by r.symbol refl
     by (Some i) n =
         (let gives = subst (λ (x : Formula). Gives x.value l w m item r h.field.value) f h.field.gives in
         let slot = subst (λ (x : Option ℕ). IsSlot ModulePair l w m x gives.0) n gives.1 in
-        let small = number_below m gives.0 7 slot.1.owner slot.1.first in
+        let small = number_below m gives.0 7 slot.holds.1.owner slot.holds.1.first in
         record {
-          value = slot.0;
-          demands = subst (λ (x : Option ℕ). IsOffset l w x slot.0) (sym n) slot.2;
-          reads = reads_by w m _ _ _ (slot_named SymbolPair l w m item r start o (SlotDistance ModulePair) gives.0 e h width f counts small gives.2) (pair_reads w m gives.0 slot.0 slot.1);
+          value = slot.holds.0;
+          demands = subst (λ (x : Option ℕ). IsOffset l w x slot.holds.0) (sym n) slot.holds.2;
+          reads = reads_by w m _ _ _ (slot_named SymbolPair l w m item r start o (SlotDistance ModulePair) gives.0 e h width f counts small gives.2) (pair_reads w m gives.0 slot.holds.0 slot.holds.1);
           call = λ no. cc;
         })
 right_by OwnPair l w m item r start o e h f width counts = by r.symbol refl
@@ -180,11 +168,11 @@ right_by OwnPair l w m item r start o e h f width counts = by r.symbol refl
     by (Some i) n =
         (let gives = subst (λ (x : Formula). Gives x.value l w m item r h.field.value) f h.field.gives in
         let slot = subst (λ (x : Option ℕ). IsSlot OwnModulePair l w m x gives.0) n gives.1 in
-        let small = number_below m gives.0 7 slot.pair.owner slot.pair.first in
+        let small = number_below m gives.0 7 slot.holds.pair.owner slot.holds.pair.first in
         record {
-          value = slot.begin;
-          demands = slot.counted;
-          reads = reads_by w m _ _ _ (slot_named OwnPair l w m item r start o (SlotDistance OwnModulePair) gives.0 e h width f counts small gives.2) (pair_reads w m gives.0 slot.begin slot.pair);
+          value = slot.holds.begin;
+          demands = slot.holds.counted;
+          reads = reads_by w m _ _ _ (slot_named OwnPair l w m item r start o (SlotDistance OwnModulePair) gives.0 e h width f counts small gives.2) (pair_reads w m gives.0 slot.holds.begin slot.holds.pair);
           call = λ no. cc;
         })
 right_by Described l w m item r start o e h f width counts =
@@ -233,10 +221,12 @@ does_demanded l w m item r start o h =
     record {
       value = right.value;
       demands = right.demands;
-      effect = does.effect;
-      demanded = as_demanded o.sort l item right.value a (old_bytes item start o) does.effect h.x86 right.call does.demanded;
-      bytes = new_bytes w m item start o;
-      whole = length_read m (size_of o) a;
-      held = read_holds m a (size_of o) (all_there l w m item r start o h);
-      does = subst (λ (k : Machine). effect_of k (reads w m) a (new_bytes w m item start o) ≡ Some does.effect) (sym h.x86) does.done;
+      code = record {
+        effect = does.effect;
+        demanded = as_demanded o.sort l item right.value a (old_bytes item start o) does.effect h.x86 right.call does.demanded;
+        bytes = new_bytes w m item start o;
+        whole = length_read m (size_of o) a;
+        held = read_holds m a (size_of o) (all_there l w m item r start o h);
+        does = subst (λ (k : Machine). effect_of k (reads w m) a (new_bytes w m item start o) ≡ Some does.effect) (sym h.x86) does.done;
+      };
     }

@@ -28,6 +28,7 @@ use Rattle.wild_relax.specs.RowSequences.{has_its_sequence, partner_distance, ca
 use Rattle.wild_relax.specs.Rows.{applies, number_of}
 use Rattle.wild_relax.specs.RowSequences as rows
 use Rattle.wild_relax.specs.Linked.{pattern_of, pattern_size}
+use Rattle.wild_relax.proofs.RoomLemmas.{partner_asked}
 use Rattle.wild_layout.specs.declared.decision.Decision.{Decision}
 use Rattle.wild_layout.specs.declared.decision.Decision.TheVariants.{Nothing, Field, Moved, Left, Rewritten, Partner}
 use Rattle.wild_layout.specs.Choice.{info_of, question_of, choice_of}
@@ -39,7 +40,7 @@ use Rattle.wild_layout.proofs.SiteLemmas.{length-template_site}
 use Rattle.wild_layout.proofs.DecisionLemmas.{decide_nothing, decide_moved, decide_left, decide_field, decide_rewritten, decide_partner, sequence_is_rewritten}
 use Rattle.wild_geometry.specs.Loaded.{IsDecided, HasDecision}
 use Rattle.wild_values.specs.Laws.{KeepsInstruction}
-use Rattle.wild_effects.proofs.WindowRows.{chosen_stands, partner_asked, width_of, is_well, each_is_well, field_lies, calls_are_well, call_width_is}
+use Rattle.wild_effects.proofs.WindowRows.{chosen_stands, width_of, is_well, each_is_well, field_lies, calls_are_well, call_width_is}
 
 -- ---- the row that stands at a relocation
 

@@ -1,8 +1,8 @@
 -- The row that stands at a relocation: what was asked of it, and where its field and its bytes lie.
-use Rattle.std.proofs.Common.{◌≡◌, ℕ, ◌+◌, ◌≤◌, ◌⊎◌, inl, inr, Bool, true, false, List, [], ◌∷◌, refl, subst}
+use Rattle.std.proofs.Common.{◌≡◌, ℕ, ◌+◌, ◌≤◌, inl, inr, Bool, true, false, refl, subst}
 use Rattle.std.specs.Prelude.{Option, Some, None, Ok, Err, not, ◌&&◌, ◌||◌, ◌==◌, nat_le, if◌then◌else◌}
 use Rattle.std.specs.List.{list_all}
-use Rattle.std.proofs.lemmas.Bool.{and_parts, eqb-true, leb-true, or_cases}
+use Rattle.std.proofs.lemmas.Bool.{and_parts, eqb-true, leb-true, or_cases, and_from}
 use Rattle.wild_types.specs.Kinds.{is_executable}
 use Rattle.wild_reloc.specs.Formula.{Formula}
 use Rattle.wild_reloc.specs.FormulaX86_64.{x86_64_formula}
@@ -10,27 +10,20 @@ use Rattle.wild_relax.specs.declared.reference.UnknownSequence.{UnknownSequence}
 use Rattle.wild_relax.specs.declared.pattern.GeneralForm.{GeneralForm}
 use Rattle.wild_relax.specs.declared.pattern.GeneralForm.TheVariants as general
 use Rattle.wild_relax.specs.declared.row.Row.{Row}
-use Rattle.wild_relax.specs.First.{first_standing, checked}
+use Rattle.wild_relax.specs.First.{checked}
 use Rattle.wild_relax.specs.Question.{Question, relocation_of, minus_four}
 use Rattle.wild_relax.specs.Pattern.{field_of, stands, stands_before}
 use Rattle.wild_relax.specs.RowPatterns.{always_pattern, counts_from_its_end}
 use Rattle.wild_relax.specs.RowSymbols.{is_thread_local, takes_value, takes_symbol, takes_section}
-use Rattle.wild_relax.specs.RowSequences.{partner_distance, call_form, is_call_number, has_partner, has_its_sequence}
+use Rattle.wild_relax.specs.RowSequences.{partner_distance, call_form, is_call_number, has_its_sequence}
 use Rattle.wild_relax.specs.Rows.{rows_x86_64, number_of, is_mandatory, stands_anywhere, applies, standing_x86_64, unknown_sequence, chosen_x86_64}
 use Rattle.wild_relax.specs.Rewrite.{is_skip}
 use Rattle.wild_relax.specs.RewriteX86_64.{rewrite_of}
 use Rattle.wild_relax.specs.Linked.{pattern_of, pattern_size, keeps_bytes}
 use Rattle.wild_meaning.specs.Field.{form_width}
+use Rattle.wild_relax.proofs.RowLemmas.{stands_first, either}
 
 -- ---- the first row that stands
-
-first_stands : {R : Type 0} (stands : R → Bool) (rows : List R) (r : R) → first_standing stands rows ≡ Some r → stands r ≡ true
-first_stands stands [] r e = cc
-first_stands {R} stands (x ∷ rows) r e = here (stands x) refl (first_stands stands rows r) e
-  where
-    here : (b : Bool) → stands x ≡ b → (first_standing stands rows ≡ Some r → stands r ≡ true) → (if b then Some x else first_standing stands rows) ≡ Some r → stands r ≡ true
-    here true t later e = let same : x ≡ r = cc in subst (λ (y : R). stands y ≡ true) same t
-    here false t later e = later e
 
 checked_is : {R : Type 0} (has : R → Bool) (by : R → UnknownSequence) (o : Option R) (r : R) → checked has by o ≡ Ok (Some r) → (o ≡ Some r) × (has r ≡ true)
 checked_is has by None r e = cc
@@ -45,7 +38,7 @@ pub chosen_stands : (q : Question) (row : Row) → chosen_x86_64 q ≡ Ok (Some 
 unfolding chosen_x86_64 standing_x86_64
 chosen_stands q row e =
     let c = checked_is (has_its_sequence q) (unknown_sequence q) (standing_x86_64 q) row e in
-    (first_stands (applies q) rows_x86_64 row c.0, c.1)
+    (stands_first (applies q) rows_x86_64 row c.0, c.1)
 
 -- ---- what is asked
 
@@ -71,16 +64,9 @@ applied q row h =
     let g = and_parts _ _ f.0 in
     record { number = g.0; taken = g.1; code = f.1; symbol = e.1; thread = d.1; value = c.1; counts = b.1; stands = a.1 }
 
-joined : {a b : Bool} → a ≡ true → b ≡ true → (a && b) ≡ true
-joined h k = rw (h, k) refl
-
 pub applied_by : (q : Question) (row : Row) → Applied q row → applies q row ≡ true
 unfolding applies
-applied_by q row a = joined (joined (joined (joined (joined (joined (joined a.number a.taken) a.code) a.symbol) a.thread) a.value) a.counts) a.stands
-
-pub partner_asked : (q : Question) (row : Row) → has_its_sequence q row ≡ true → has_partner row q ≡ true
-unfolding has_its_sequence
-partner_asked q row h = (and_parts _ _ h).1
+applied_by q row a = and_from _ _ (and_from _ _ (and_from _ _ (and_from _ _ (and_from _ _ (and_from _ _ (and_from _ _ a.number a.taken) a.code) a.symbol) a.thread) a.value) a.counts) a.stands
 
 -- ---- its field
 
@@ -136,12 +122,9 @@ calls_are_well row h k =
     distance_is None e l = cc
     distance_is (Some n) e l = record { distance = n; known = e; lies = leb-true _ _ l }
 
-two_or : (n a b : ℕ) → (n == a || n == b) ≡ true → (n ≡ a) ⊎ (n ≡ b)
-two_or n a b h = elim (or_cases (n == a) (n == b) h) [ inl x ↦ inl (eqb-true n a x) | inr x ↦ inr (eqb-true n b x) ]
-
 -- how wide the field of a call is
 pub call_width_is : (f : GeneralForm) (n : ℕ) → is_call_number f n ≡ true → width_of n ≡ call_width f
 unfolding x86_64_formula
-call_width_is general.Regular n h = elim (two_or n 2 4 h) [ inl e ↦ rw e refl | inr e ↦ rw e refl ]
-call_width_is general.NoPlt n h = elim (or_cases (n == 9 || n == 41) (n == 42) h) [ inl x ↦ elim (two_or n 9 41 x) [ inl e ↦ rw e refl | inr e ↦ rw e refl ] | inr x ↦ rw (eqb-true n 42 x) refl ]
+call_width_is general.Regular n h = elim (either 2 4 n h) [ inl e ↦ rw e refl | inr e ↦ rw e refl ]
+call_width_is general.NoPlt n h = elim (or_cases (n == 9 || n == 41) (n == 42) h) [ inl x ↦ elim (either 9 41 n x) [ inl e ↦ rw e refl | inr e ↦ rw e refl ] | inr x ↦ rw (eqb-true n 42 x) refl ]
 call_width_is general.Large n h = rw (eqb-true n 31 h) refl

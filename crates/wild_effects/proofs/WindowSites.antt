@@ -8,6 +8,7 @@ use Rattle.std.proofs.lemmas.List.Concat.{get_or-flat_map}
 use Rattle.std.proofs.lemmas.List.Folds.{length-flat_map-take}
 use Rattle.std.proofs.lemmas.List.FromFn.{get_or-range_with_len, length-range_with_len}
 use Rattle.wild_words.specs.Overlay.{Piece, Apart}
+use Rattle.wild_words.proofs.OrderLemmas.{Apart-flip}
 use Rattle.wild_types.specs.declared.input.InputRelocation.{InputRelocation}
 use Rattle.wild_types.specs.declared.input.InputSection.{InputSection}
 use Rattle.wild_types.specs.declared.layout.Layout.{Layout}
@@ -58,16 +59,12 @@ ordered l s whole i j p q lt within first second =
     let f = piece_is l s j q within second p in
     subst (λ (x : Piece). Apart p x) f (subst (λ (x : Piece). Apart x (get_or (sites l s) (b + 0) p)) e pair)
 
-flip : (p q : Piece) → Apart p q → Apart q p
-flip p q (inl a) = inr a
-flip p q (inr b) = inl b
-
 -- the sites of two relocations lie apart
 pub sites_apart : (l : Layout) (s : InputSection) → IsDecided l s → (i j : ℕ) (r q : InputRelocation) (d e : Decision) (x y : Piece) → HasDecision l s i r d → HasDecision l s j q e → (i ≡ j → ⊥) → site_for s r d ≡ x ∷ [] → site_for s q e ≡ y ∷ [] → Apart x y
 sites_apart l s whole i j r q d e x y hi hj other fi fj =
     elim (cases_lt i j) [
       | inl low ↦ ordered l s whole i j x y low (slice_get_within s.relocations j q hj.listed) (site_is l s i r d hi ∙ fi) (site_is l s j q e hj ∙ fj)
-      | inr high ↦ flip y x (ordered l s whole j i y x (above high) (slice_get_within s.relocations i r hi.listed) (site_is l s j q e hj ∙ fj) (site_is l s i r d hi ∙ fi))
+      | inr high ↦ Apart-flip y x (ordered l s whole j i y x (above high) (slice_get_within s.relocations i r hi.listed) (site_is l s j q e hj ∙ fj) (site_is l s i r d hi ∙ fi))
     ]
   where
     above : j ≤ i → j < i

@@ -3,6 +3,7 @@
 --   RewrittenStand       an instruction that is rewritten is one that the reader knows, all of it
 --   RewrittenHold        the code that is written in place of an instruction does what that demands
 --   PartnersHold         so it is of the call of a sequence
+--   RewrittenAreFollowed no instruction that is rewritten takes the output's own symbol alone
 --   InstructionsAreKept  an instruction that is not rewritten has its own bytes
 --   SequencesAreKept     both relocations of a sequence keep it, or none does
 --   KeptInstructionsDo   and does what is demanded
@@ -28,7 +29,7 @@ use Rattle.wild_meaning.specs.Item.{Item, item_of, place_at}
 use Rattle.wild_meaning.specs.Field.{formula_of, form_width, IsInputByte}
 use Rattle.wild_meaning.specs.Sequence.{Partner as CallField, Instruction, size_of, IsOwnByte}
 use Rattle.wild_meaning.specs.Template.{IsSequence, IsTemplate, reads, DoesDemanded}
-use Rattle.wild_meaning.specs.Reference.{IsAsked, IsLinkedAlone, HoldsRewritten, IsOther, ItemHolds}
+use Rattle.wild_meaning.specs.Reference.{IsAsked, IsLinkedAlone, HoldsRewritten, IsTakenAlong, IsOther, ItemHolds}
 
 -- byte k lies in no field of the relocation
 abbrev pub IsBesideField : Layout → InputRelocation → ℕ → Type 0
@@ -57,9 +58,13 @@ RewrittenStand = (l : Layout) (w : World) (m : Memory) (s : InputSection) → Is
 abbrev pub RewrittenHold : Type 0
 RewrittenHold = (l : Layout) (w : World) (m : Memory) (s : InputSection) → IsLoadedSection l w m s → (i : ℕ) (r : InputRelocation) (row : Row) (v : ℕ) → HasDecision l s i r (Rewritten row v) → IsAsked l w (item_of s) r → HoldsRewritten l w m (item_of s) r
 
--- the call of a sequence that is rewritten belongs to that
+-- the call of a sequence that is rewritten is taken along by that
 abbrev pub PartnersHold : Type 0
-PartnersHold = (l : Layout) (w : World) (m : Memory) (s : InputSection) → IsLoadedSection l w m s → (i : ℕ) (r : InputRelocation) → HasDecision l s i r Partner → HoldsRewritten l w m (item_of s) r
+PartnersHold = (l : Layout) (w : World) (m : Memory) (s : InputSection) → IsLoadedSection l w m s → (i : ℕ) (r : InputRelocation) → HasDecision l s i r Partner → IsTakenAlong l w m (item_of s) r
+
+-- where an instruction is rewritten its field names a slot of the symbol, so that the symbol is followed whichever module has it
+abbrev pub RewrittenAreFollowed : Type 0
+RewrittenAreFollowed = (l : Layout) (s : InputSection) (i : ℕ) (r : InputRelocation) (row : Row) (v : ℕ) → HasDecision l s i r (Rewritten row v) → IsLinkedAlone l (item_of s) r → ⊥
 
 -- an instruction whose reference keeps it has the input's bytes around its fields, whatever is rewritten beside it
 abbrev pub InstructionsAreKept : Type 0

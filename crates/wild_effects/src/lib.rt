@@ -2,7 +2,7 @@
 #![tactic(auto)]
 
 ghost use Rattle.wild_effects.specs.Filled.{FilledInstructionsDo};
-ghost use Rattle.wild_effects.specs.Laws.{InstructionsAreKept, ItemsHold, KeptInstructionsDo, OthersAreKept, PartnersHold, RewrittenHold, RewrittenStand, SequencesAreKept, WindowsAreAlone};
+ghost use Rattle.wild_effects.specs.Laws.{InstructionsAreKept, ItemsHold, KeptInstructionsDo, OthersAreKept, PartnersHold, RewrittenAreFollowed, RewrittenHold, RewrittenStand, SequencesAreKept, WindowsAreAlone};
 
 use wild_relax::{rewrites_keep_the_effect, rewrites_stay_in_their_patterns};
 use wild_values::{
@@ -36,6 +36,11 @@ pub fn rewritten_instructions_hold()
     distances_of_thread_slots_are_given();
 }
 
+/// The field of an instruction that is rewritten names a slot of its symbol, and not the symbol itself.
+pub fn rewritten_instructions_are_followed()
+    ensures { RewrittenAreFollowed }
+{}
+
 /// Both relocations of a sequence keep it, or none does. An instruction that is not rewritten keeps its bytes, whatever is
 /// rewritten beside it, and so does every byte in no field and no instruction.
 pub fn other_bytes_are_kept()
@@ -59,6 +64,7 @@ pub fn items_hold()
     ensures { ItemsHold }
 {
     rewritten_instructions_hold();
+    rewritten_instructions_are_followed();
     other_bytes_are_kept();
     kept_instructions_do();
 }

@@ -1,8 +1,11 @@
 -- What the tables of a layout fill is known and lies beside each other.
-use Rattle.std.proofs.Common.{◌≡◌, ℕ, ◌+◌, ◌^◌, ◌<◌, ◌≤◌, true, List, [], ◌++◌, length, get_or, refl, sym, arith, subst}
+use Rattle.std.proofs.Common.{◌≡◌, ℕ, ◌+◌, ◌^◌, ◌<◌, ◌≤◌, true, List, [], ◌++◌, get_or, refl, sym, arith, subst}
 use Rattle.std.specs.Prelude.{All, AllPairs, Contains, ◌≢◌, IsPermutation}
 use Rattle.std.specs.List.{flat_map}
 use Rattle.std.proofs.lemmas.List.Elements.{All-nil, All-cons, All-append}
+use Rattle.std.proofs.lemmas.List.{get_or_default}
+use Rattle.wild_words.proofs.Basics.{not_empty}
+use Rattle.wild_words.proofs.ListLemmas.{AllPairs-nil, All-append-right, AllPairs-append, All-flat_map, AllPairs-flat_map}
 use Rattle.wild_records.specs.declared.relocations.Rela.{Rela}
 use Rattle.wild_types.specs.declared.kind.Machine.TheVariants as machine
 use Rattle.wild_types.specs.declared.part.Role.{Role}
@@ -23,6 +26,7 @@ use Rattle.wild_loader.specs.Places.{places}
 use Rattle.wild_loader.specs.declared.memory.Memory.{Memory}
 use Rattle.wild_loader.specs.declared.world.World.{World}
 use Rattle.wild_meaning.specs.World.{IsLoadable, IsLegal, IsBehind}
+use Rattle.wild_geometry.proofs.JudgedLemmas.{each_at}
 use Rattle.wild_slots.specs.Order.{end_of}
 use Rattle.wild_slots.specs.Ascend.{Ascend, PlacesAscend}
 use Rattle.wild_slots.specs.Blocks.{BlocksAreWhole}
@@ -33,13 +37,11 @@ use Rattle.wild_loaded.specs.Laws.{SectionsAreCarried, SegmentsAreLoadable}
 use Rattle.wild_loaded.proofs.PartsHeld.{placed}
 use Rattle.wild_loaded.proofs.SlotSites.{all_sites}
 use Rattle.wild_filled.specs.Laws.{TablesAreMade}
-use Rattle.wild_filled.proofs.PairLemmas.{All-join, All-right, AllPairs-none, AllPairs-join, AllPairs-joining}
 use Rattle.wild_filled.proofs.Fillings.{Table, PackedTable, RelativeTable, GeneralTable, JumpTable, Filling, Misses, AreBeside, IsKnown, Makes, packed_in}
 use Rattle.wild_filled.proofs.FilledTables.{ChangeLaws, AreSorted, tables_made, patches_apart, All-made}
 use Rattle.wild_filled.proofs.Homes.{HomesApart, homes_back, beside_across, behind_misses}
-use Rattle.wild_filled.proofs.KeptSections.{each_at}
 use Rattle.wild_filled.proofs.SectionsApart.{all_sections, section_home, stored_home}
-use Rattle.wild_filled.proofs.PlacesApart.{HavePlaces, places_beside, get_or-any}
+use Rattle.wild_filled.proofs.PlacesApart.{HavePlaces, places_beside}
 use Rattle.wild_filled.proofs.SectionFillings.{section_fillings}
 use Rattle.wild_filled.proofs.FilledSections.{input_of, have_places}
 use Rattle.wild_filled.proofs.SectionsKnown.{SectionLaws, sections_known}
@@ -113,23 +115,20 @@ got_apart l laid = roles_apart l role.Got role.GotRelr refl refl (λ e. cc) laid
 
 tables_beside : (l : Layout) → IsLoadable l.kind → IsLaidOut l → SlotTables l → AllPairs AreBeside (slots_filled l ++ blocks_filled l)
 tables_beside l kind laid t =
-    AllPairs-join AreBeside (slots_filled l) (blocks_filled l) t.got.beside t.block.beside
+    AllPairs-append AreBeside (slots_filled l) (blocks_filled l) t.got.beside t.block.beside
     (λ k d m. (λ i e n. beside_across l (role_home l role.Got) (role_home l role.GotRelr) (get_or (slots_filled l) k d) (get_or (blocks_filled l) i e) laid (role_there l role.Got refl kind laid) (role_there l role.GotRelr refl kind laid) (got_apart l laid) (t.got.within k d m) (t.block.within i e n)))
 
 -- ---- sections
-
-some_filling : (xs : List Filling) (i : ℕ) → i < length xs → 1 ≤ length xs
-some_filling xs i h = omega (arith, h)
 
 pub lies_of : (l : Layout) (s : InputSection) → IsLaidOut l → Contains (all_sections l) s → SectionLies l s
 lies_of l s laid c = each_at (SectionLies l) l s laid.inputs (input_of l s c)
 
 sections_beside : (l : Layout) (r : Role) (xs : List Filling) → is_loaded_role r ≡ true → IsLoadable l.kind → IsLaidOut l → HavePlaces l (section_fillings l) → InTable l r xs → All (λ (x : Filling). All (AreBeside x) xs) (sections_filled l)
 sections_beside l r xs loaded kind laid h t =
-    All-join (λ (x : Filling). All (AreBeside x) xs) (section_fillings l) (all_sections l) (λ i d m. (λ k e n. (λ p f q.
+    All-flat_map (λ (x : Filling). All (AreBeside x) xs) (section_fillings l) (all_sections l) (λ i d m. (λ k e n. (λ p f q.
     let s = get_or (all_sections l) i d in
-    let stored = h.stored i d m (some_filling _ k n) in
-    let c : Contains (all_sections l) s = (i, m, get_or-any (all_sections l) i s d m) in
+    let stored = h.stored i d m (not_empty _ k n) in
+    let c : Contains (all_sections l) s = (i, m, get_or_default (all_sections l) i s d m) in
     beside_across l (section_home l s) (role_home l r) (get_or (section_fillings l s) k e) (get_or xs p f) laid (stored_home l s stored) (role_there l r loaded kind laid) (homes_back (role_home l r) (section_home l s) (section_apart l r s loaded laid (lies_of l s laid c) stored)) (h.within i d m k e n) (t.within p f q))))
 
 both_beside : (xs ys zs : List Filling) → All (λ (x : Filling). All (AreBeside x) ys) xs → All (λ (x : Filling). All (AreBeside x) zs) xs → All (λ (x : Filling). All (AreBeside x) (ys ++ zs)) xs
@@ -138,7 +137,7 @@ both_beside xs ys zs h k = λ i d m. All-append (AreBeside (get_or xs i d)) ys z
 -- those in file bytes lie beside each other
 stored_beside : (l : Layout) → IsLoadable l.kind → IsLaidOut l → HavePlaces l (section_fillings l) → SlotTables l → AllPairs AreBeside (stored_fillings l)
 stored_beside l kind laid h t =
-    AllPairs-join AreBeside (sections_filled l) (slots_filled l ++ blocks_filled l)
+    AllPairs-append AreBeside (sections_filled l) (slots_filled l ++ blocks_filled l)
     (places_beside l (section_fillings l) laid h)
     (tables_beside l kind laid t)
     (both_beside (sections_filled l) (slots_filled l) (blocks_filled l) (sections_beside l role.Got (slots_filled l) refl kind laid h t.got) (sections_beside l role.GotRelr (blocks_filled l) refl kind laid h t.block))
@@ -157,7 +156,7 @@ pub stored_misses : (l : Layout) → IsLoadable l.kind → IsLaidOut l → HaveP
 stored_misses l kind laid h t =
     let P : Filling → Type 0 = λ x. (a : ℕ) → IsBehind l a → Misses a x in
     All-append P (sections_filled l) (slots_filled l ++ blocks_filled l)
-    (All-join P (section_fillings l) (all_sections l) (λ i d m. (λ k e n. (λ a b. behind_misses l (section_home l (get_or (all_sections l) i d)) a (get_or (section_fillings l (get_or (all_sections l) i d)) k e) laid (stored_home l (get_or (all_sections l) i d) (h.stored i d m (some_filling _ k n))) (h.within i d m k e n) b))))
+    (All-flat_map P (section_fillings l) (all_sections l) (λ i d m. (λ k e n. (λ a b. behind_misses l (section_home l (get_or (all_sections l) i d)) a (get_or (section_fillings l (get_or (all_sections l) i d)) k e) laid (stored_home l (get_or (all_sections l) i d) (h.stored i d m (not_empty _ k n))) (h.within i d m k e n) b))))
     (All-append P (slots_filled l) (blocks_filled l) (table_behind l role.Got (slots_filled l) refl kind laid t.got) (table_behind l role.GotRelr (blocks_filled l) refl kind laid t.block))
 
 -- ---- all of them
@@ -169,7 +168,7 @@ all_beside l w laws h =
     let c = copies_of_well l w h in
     let misses = stored_misses l h.kind h.laid have t in
     let behind = copies_behind l w laws.copies c in
-    AllPairs-join AreBeside (stored_fillings l) (copies_filled l w)
+    AllPairs-append AreBeside (stored_fillings l) (copies_filled l w)
     (stored_beside l h.kind h.laid have t)
     (copies_beside l w laws.copies c)
     (λ i d m. (λ k e n. behind_beside l (get_or (stored_fillings l) i d) (get_or (copies_filled l w) k e) (behind k e n) (misses i d m)))
@@ -182,7 +181,7 @@ all_known l w laws h =
     All-append P (stored_fillings l) (copies_filled l w)
     (All-append P (sections_filled l) (slots_filled l ++ blocks_filled l)
     (sections_known l w laws.sections h.x86 h.numbers h.legal h.laid h.decided)
-    (All-append P (slots_filled l) (blocks_filled l) (got_filled l w laws h).known (blocks_known l w (all_sites l) (All-right (SiteIsKnown l w) (pair_sites l) (all_sites l) sites))))
+    (All-append P (slots_filled l) (blocks_filled l) (got_filled l w laws h).known (blocks_known l w (all_sites l) (All-append-right (SiteIsKnown l w) (pair_sites l) (all_sites l) sites))))
     (copies_known l w laws.copies (copies_of_well l w h))
 
 -- ---- packed places
@@ -221,15 +220,15 @@ one_differs w m x y hx hy beside = first x.table x.entry x.width hx.makes beside
 
 places_differ : (w : World) (m : Memory) (xs : List Filling) → All (IsKnown w m) xs → AllPairs AreBeside xs → AllPairs (λ (a b : ℕ). a ≢ b) (flat_map packed_in xs)
 places_differ w m xs known beside =
-    AllPairs-joining (λ (a b : ℕ). a ≢ b) packed_in xs
+    AllPairs-flat_map (λ (a b : ℕ). a ≢ b) packed_in xs
     (λ k d lt. one_alone (get_or xs k d).table (get_or xs k d).entry)
     (λ i j d l n. one_differs w m (get_or xs i d) (get_or xs j d) (known i d (omega (arith, l, n))) (known j d n) (beside i j d l n))
   where
     one_alone : (t : Table) (e : Rela) → AllPairs (λ (a b : ℕ). a ≢ b) (packed_in (record { table = t; entry = e; width = 0 }))
     one_alone PackedTable e = λ i j d l n. absurd (omega (arith, l, n))
-    one_alone RelativeTable e = AllPairs-none (λ (a b : ℕ). a ≢ b)
-    one_alone GeneralTable e = AllPairs-none (λ (a b : ℕ). a ≢ b)
-    one_alone JumpTable e = AllPairs-none (λ (a b : ℕ). a ≢ b)
+    one_alone RelativeTable e = AllPairs-nil (λ (a b : ℕ). a ≢ b)
+    one_alone GeneralTable e = AllPairs-nil (λ (a b : ℕ). a ≢ b)
+    one_alone JumpTable e = AllPairs-nil (λ (a b : ℕ). a ≢ b)
 
 blocks_whole : (l : Layout) → BlocksAreWhole → IsLaidOut l → HasWholeSlots l → AreWhole l
 blocks_whole l law laid whole = λ g c. law l whole.order (let e = (table_ends l role.GotRelr refl laid).1 in omega (arith, e)) (laid.roles role.GotRelr (placed role.GotRelr refl)).missing g c

@@ -1,23 +1,24 @@
 -- The bytes of symbols that are copied: they lie behind file bytes, those of one symbol beside those of another.
 use Rattle.std.proofs.Common.{◌≡◌, ℕ, ◌+◌, ◌-◌, ◌^◌, ◌<◌, ◌≤◌, ◌⊎◌, inl, inr, Bool, true, false, not, List, [], ◌∷◌, ◌++◌, length, get_or, map, replicate, refl, sym, ap, ◌∙◌, arith, subst, append_assoc}
-use Rattle.std.specs.Prelude.{Option, Some, None, Result, Ok, Err, All, AllPairs, Contains, ◌≢◌, if◌then◌else◌, ◌&&◌, ◌==◌, option_and_then, unwrap_or, slice_index}
+use Rattle.std.specs.Prelude.{Some, None, Result, Ok, Err, All, AllPairs, Contains, ◌≢◌, if◌then◌else◌, ◌==◌, slice_index}
 use Rattle.std.specs.List.{flat_map, list_any}
-use Rattle.std.proofs.lemmas.Bool.{cases_Bool, eq-eqb}
+use Rattle.std.proofs.lemmas.Bool.{cases_Bool, eq-eqb, and_parts, not-true}
 use Rattle.std.proofs.lemmas.List.{append-nil, get_or-replicate, length-replicate}
 use Rattle.std.proofs.lemmas.List.Elements.{All-nil, All-cons, All-head, All-tail, All-map, All-contains}
+use Rattle.std.proofs.lemmas.List.Kept.{AllPairs-cons}
+use Rattle.wild_words.proofs.Basics.{All-each, Contains-from_flat_map, map-flat_map}
+use Rattle.wild_words.proofs.ListLemmas.{AllPairs-nil, AllPairs-head, AllPairs-tail, AllPairs-append, flat_map-flat_map}
 use Rattle.wild_records.specs.Abi.Segment.{pt_load}
 use Rattle.wild_records.specs.declared.relocations.Rela.{Rela}
 use Rattle.wild_types.specs.declared.kind.Machine.TheVariants as machine
 use Rattle.wild_types.specs.declared.section.Segment.{Segment}
-use Rattle.wild_types.specs.declared.symbol.Symbol.{Symbol}
-use Rattle.wild_types.specs.declared.file.FileRole.{FileRole}
-use Rattle.wild_types.specs.declared.file.FileRole.TheVariants as file_role
 use Rattle.wild_types.specs.declared.file.File.{File}
 use Rattle.wild_types.specs.declared.file.Group.{Group}
 use Rattle.wild_types.specs.declared.layout.Layout.{Layout}
 use Rattle.wild_types.specs.FileSymbols.{copies_of, copied_in, are_new, copied_again}
 use Rattle.wild_types.specs.FileRoles.{is_library}
 use Rattle.wild_types.specs.Lookups.{canonical}
+use Rattle.wild_types.proofs.FileLemmas.{library_role}
 use Rattle.wild_layout.specs.Numbers.{NumbersFit}
 use Rattle.wild_layout.specs.Faults.{flat_map_from, group_errors}
 use Rattle.wild_layout.specs.Geometry.{IsLaidOut}
@@ -31,14 +32,12 @@ use Rattle.wild_loader.specs.declared.world.World.{World}
 use Rattle.wild_loader.specs.Changes.{change_of, size_of}
 use Rattle.wild_loader.specs.Memory.{byte_in}
 use Rattle.wild_loader.specs.Relocate.{loaded_at}
-use Rattle.wild_meaning.specs.Value.{IsDefinedBy}
 use Rattle.wild_meaning.specs.World.{IsLegal, IsBehind, IsCopied, HasCopy}
+use Rattle.wild_meaning.proofs.SymbolLemmas.{canonical_is}
 use Rattle.wild_loaded.specs.Memory.{image_memory}
 use Rattle.wild_loaded.specs.Stored.{Copies}
 use Rattle.wild_loaded.specs.Laws.{ZerosAreStored, EntriesHaveChanges, CopiesAreThere}
-use Rattle.wild_loaded.proofs.SlotSites.{flat_map-flat_map}
-use Rattle.wild_filled.proofs.PairLemmas.{AllPairs-none, AllPairs-more, AllPairs-join, AllPairs-fewer, All-unmap, AllPairs-first, AllPairs-rest, map-flat_map, Contains-from_flat_map}
-use Rattle.wild_filled.proofs.FilledSections.{All-each}
+use Rattle.wild_filled.proofs.PairLemmas.{AllPairs-fewer, All-unmap}
 use Rattle.wild_filled.proofs.Fillings.{Filling, general_of, AreBeside, IsKnown, place_loaded}
 
 -- ---- fillings
@@ -65,10 +64,6 @@ abbrev pub copies_filled : Layout → World → List Filling
 copies_filled l w = map (copy_filling l w) (all_copies l)
 
 -- ---- what is copied
-
-library_role : (r : FileRole) → is_library r ≡ true → r ≡ file_role.Dynamic
-library_role file_role.Dynamic h = refl
-library_role other h = cc
 
 pub copied_there : (l : Layout) (i : ℕ) → Contains (all_copies l) i → IsCopied l i
 copied_there l i c =
@@ -162,16 +157,8 @@ copies_known l w laws h = All-map (IsKnown w (image_memory l w)) (copy_filling l
 
 -- ---- no two are of one symbol
 
-abbrev Differ : ℕ → ℕ → Type 0
+abbrev pub Differ : ℕ → ℕ → Type 0
 Differ a b = a ≢ b
-
-not_true : (b : Bool) → not b ≡ true → b ≡ false
-not_true false h = refl
-not_true true h = cc
-
-both_true : (a b : Bool) → (a && b) ≡ true → (a ≡ true) × (b ≡ true)
-both_true true b h = (refl, h)
-both_true false b h = cc
 
 none_is : (c : ℕ) (xs : List ℕ) → list_any (λ d. d == c) xs ≡ false → All (λ (d : ℕ). Differ d c) xs
 none_is c [] h = All-nil (λ (d : ℕ). Differ d c)
@@ -182,13 +169,13 @@ none_is c (x ∷ xs) h =
     ]
 
 one_more : (xs : List ℕ) (c : ℕ) → AllPairs Differ xs → All (λ (d : ℕ). Differ d c) xs → AllPairs Differ (xs ++ c ∷ [])
-one_more xs c p h = AllPairs-join Differ xs (c ∷ []) p (AllPairs-more Differ c [] (All-nil (Differ c)) (AllPairs-none Differ)) (λ k d m. All-cons (Differ (get_or xs k d)) c [] (h k d m) (All-nil (Differ (get_or xs k d))))
+one_more xs c p h = AllPairs-append Differ xs (c ∷ []) p (AllPairs-cons Differ c [] (All-nil (Differ c)) (AllPairs-nil Differ)) (λ k d m. All-cons (Differ (get_or xs k d)) c [] (h k d m) (All-nil (Differ (get_or xs k d))))
 
 new_differ : (earlier cs : List ℕ) → AllPairs Differ earlier → are_new earlier cs ≡ true → AllPairs Differ (earlier ++ cs)
 new_differ earlier [] p h = subst (AllPairs Differ) (sym (append-nil earlier)) p
 new_differ earlier (c ∷ cs) p h =
-    let both = both_true (not (list_any (λ d. d == c) earlier)) (are_new (earlier ++ c ∷ []) cs) h in
-    let more = one_more earlier c p (none_is c earlier (not_true (list_any (λ d. d == c) earlier) both.0)) in
+    let both = and_parts (not (list_any (λ d. d == c) earlier)) (are_new (earlier ++ c ∷ []) cs) h in
+    let more = one_more earlier c p (none_is c earlier (not-true (list_any (λ d. d == c) earlier) both.0)) in
     subst (AllPairs Differ) (append_assoc earlier (c ∷ []) cs) (new_differ (earlier ++ c ∷ []) cs more both.1)
 
 groups_differ : (l : Layout) (earlier : List ℕ) (i : ℕ) (gs : List Group) → AllPairs Differ earlier → copied_again l earlier i gs ≡ None → AllPairs Differ (earlier ++ flat_map (copied_in l) gs)
@@ -207,7 +194,7 @@ files_of_groups f gs = flat_map-flat_map f (λ (g : Group). g.files) gs
 -- the definitions of the symbols that are copied
 copies_differ : (l : Layout) → IsLaidOut l → AllPairs Differ (map (canonical l) (all_copies l))
 copies_differ l laid =
-    let all : AllPairs Differ (flat_map (copied_in l) l.groups) = groups_differ l [] 0 l.groups (AllPairs-none Differ) laid.copies in
+    let all : AllPairs Differ (flat_map (copied_in l) l.groups) = groups_differ l [] 0 l.groups (AllPairs-nil Differ) laid.copies in
     let whole : File → List ℕ = λ f. map (canonical l) f.copies in
     let some : File → List ℕ = λ f. map (canonical l) (copies_of f) in
     let files = flat_map (λ (g : Group). g.files) l.groups in
@@ -219,13 +206,6 @@ copies_differ l laid =
     by_role : (f : File) (b : Bool) → (map (canonical l) (if b then f.copies else []) ≡ []) ⊎ (map (canonical l) (if b then f.copies else []) ≡ map (canonical l) f.copies)
     by_role f true = inr refl
     by_role f false = inl refl
-
-canonical_is : (l : Layout) (i c : ℕ) → IsDefinedBy l i c → canonical l i ≡ c
-canonical_is l i c d = ap (λ (o : Option Symbol). unwrap_or (option_and_then (λ (s : Symbol). s.definition) o) i) d.listed ∙ by_definition d.symbol.definition d.defined
-  where
-    by_definition : (o : Option ℕ) → (o ≡ Some c) ⊎ ((o ≡ None) × (c ≡ i)) → unwrap_or o i ≡ c
-    by_definition o (inl e) = ap (λ (x : Option ℕ). unwrap_or x i) e
-    by_definition o (inr e) = ap (λ (x : Option ℕ). unwrap_or x i) e.0 ∙ sym e.1
 
 -- ---- they lie beside each other
 
@@ -242,15 +222,15 @@ two_beside l w i j h a b other =
     sides x y p q n m ep eq en em (inr le) = λ k lk o lo e. omega (arith, ep, eq, en, em, le, lk, lo, e)
 
 beside_in : (l : Layout) (w : World) (xs : List ℕ) → HasCopies l w → All (λ (i : ℕ). IsCopyOf l w i (copy_filling l w i)) xs → AllPairs Differ (map (canonical l) xs) → AllPairs AreBeside (map (copy_filling l w) xs)
-beside_in l w [] h all p = AllPairs-none AreBeside
+beside_in l w [] h all p = AllPairs-nil AreBeside
 beside_in l w (i ∷ xs) h all p =
     let P : ℕ → Type 0 = λ i. IsCopyOf l w i (copy_filling l w i) in
     let first = All-head P i xs all in
     let rest = All-tail P i xs all in
-    let others = All-unmap (Differ (canonical l i)) (canonical l) xs (AllPairs-first Differ (canonical l i) (map (canonical l) xs) p) in
-    AllPairs-more AreBeside (copy_filling l w i) (map (copy_filling l w) xs)
+    let others = All-unmap (Differ (canonical l i)) (canonical l) xs (AllPairs-head Differ (canonical l i) (map (canonical l) xs) p) in
+    AllPairs-cons AreBeside (copy_filling l w i) (map (copy_filling l w) xs)
     (All-map (AreBeside (copy_filling l w i)) (copy_filling l w) xs (λ k d m. two_beside l w i (get_or xs k d) h first (rest k d m) (others k d m)))
-    (beside_in l w xs h rest (AllPairs-rest Differ (canonical l i) (map (canonical l) xs) p))
+    (beside_in l w xs h rest (AllPairs-tail Differ (canonical l i) (map (canonical l) xs) p))
 
 pub copies_beside : (l : Layout) (w : World) → CopyLaws → HasCopies l w → AllPairs AreBeside (copies_filled l w)
 copies_beside l w laws h = beside_in l w (all_copies l) h (All-each (λ (i : ℕ). IsCopyOf l w i (copy_filling l w i)) (all_copies l) (λ i c. copy_of l w i laws h c)) (copies_differ l h.laid)

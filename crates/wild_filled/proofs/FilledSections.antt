@@ -1,10 +1,13 @@
 -- What relocations have tables fill lies in kept sections, beside each other.
 use Rattle.std.proofs.Common.{◌≡◌, ℕ, zero, suc, ◌+◌, ◌<◌, ◌≤◌, ◌⊎◌, inl, inr, Bool, true, false, not, List, [], ◌∷◌, length, get_or, refl, sym, ap, ◌∙◌, arith, subst}
-use Rattle.std.specs.Prelude.{Option, Some, None, All, AllPairs, Contains, option_to_list, if◌then◌else◌, ◌&&◌, slice_get}
+use Rattle.std.specs.Prelude.{Option, Some, None, All, AllPairs, Contains, option_to_list, if◌then◌else◌, slice_get}
 use Rattle.std.specs.List.{flat_map, range_with_len}
 use Rattle.std.proofs.lemmas.List.FromFn.{get_or-range_with_len, length-range_with_len}
 use Rattle.std.proofs.lemmas.Option.{slice_get-get_or}
+use Rattle.std.proofs.lemmas.Bool.{and_parts, not-true}
 use Rattle.wild_words.specs.Overlay.{Piece, Apart}
+use Rattle.wild_words.proofs.Basics.{All-each, Contains-from_flat_map}
+use Rattle.wild_words.proofs.ListLemmas.{AllPairs-nil, Between, AllPairs-flat_map, AllPairs-from_flat_map, holds_at}
 use Rattle.wild_types.specs.declared.input.Slot.{Slot}
 use Rattle.wild_types.specs.declared.input.Slot.TheVariants as slot
 use Rattle.wild_types.specs.declared.input.InputRelocation.{InputRelocation}
@@ -16,24 +19,20 @@ use Rattle.wild_layout.specs.Sites.{field_site, site}
 use Rattle.wild_layout.specs.SectionPlaces.{FieldLies}
 use Rattle.wild_layout.specs.Geometry.{IsLaidOut}
 use Rattle.wild_layout.proofs.DecideLemmas.{field_has_bytes}
-use Rattle.wild_layout.proofs.SiteLemmas.{All-at, site_written, length-field_site, field_lies}
+use Rattle.wild_layout.proofs.SiteLemmas.{site_written, length-field_site, field_lies}
 use Rattle.wild_meaning.specs.Item.{IsInput, IsKeptSection}
+use Rattle.wild_meaning.proofs.BitLemmas.{bit_alloc}
 use Rattle.wild_geometry.specs.Loaded.{HasDecision}
 use Rattle.wild_loaded.specs.Memory.{IsStored, EachDecided}
 use Rattle.wild_loaded.specs.Laws.{SectionsAreCarried}
-use Rattle.wild_filled.proofs.PairLemmas.{AllPairs-joined, AllPairs-joining, AllPairs-none, Across, Contains-from_flat_map}
 use Rattle.wild_filled.proofs.Fillings.{Filling, AreBeside}
-use Rattle.wild_filled.proofs.KeptSections.{IsKeptWell, bit_alloc, kept_well}
+use Rattle.wild_filled.proofs.KeptSections.{IsKeptWell, kept_well}
 use Rattle.wild_filled.proofs.SectionsApart.{all_sections, sections_of, section_home}
 use Rattle.wild_filled.proofs.Homes.{LiesIn}
-use Rattle.wild_filled.proofs.PlacesApart.{HavePlaces, get_or-any}
+use Rattle.wild_filled.proofs.PlacesApart.{HavePlaces}
 use Rattle.wild_filled.proofs.SectionFillings.{section_filling, section_fillings, IsFilledBy, filled_by, filling_decided}
 
 -- ---- the section of a filling
-
-both_of : (a b : Bool) → (a && b) ≡ true → (a ≡ true) × (b ≡ true)
-both_of true b h = (refl, h)
-both_of false b h = cc
 
 pub input_of : (l : Layout) (s : InputSection) → Contains (all_sections l) s → IsInput l s
 input_of l s c =
@@ -73,10 +72,6 @@ loaded_slot : (k : Slot) → is_loaded k ≡ true → k ≡ slot.Loaded
 loaded_slot slot.Loaded h = refl
 loaded_slot other h = cc
 
-not_false : (b : Bool) → not b ≡ true → b ≡ false
-not_false false h = refl
-not_false true h = cc
-
 -- what is known of the relocation of a filling
 pub record IsFilledThere (l : Layout) (s : InputSection) (x : Filling) : Type 0 where
   pub filling : IsFillingOf l s x
@@ -88,14 +83,14 @@ pub record IsFilledThere (l : Layout) (s : InputSection) (x : Filling) : Type 0 
 pub filled_there : (l : Layout) (s : InputSection) (x : Filling) → IsLaidOut l → EachDecided l → Contains (all_sections l) s → IsFillingOf l s x → IsFilledThere l s x
 filled_there l s x laid decided c k =
     let input = input_of l s c in
-    let loaded = both_of (is_loaded s.slot) (not s.nobits) k.reads in
+    let loaded = and_parts (is_loaded s.slot) (not s.nobits) k.reads in
     let d = (decided s input k.reads).each k.index k.within in
     let same = filling_decided l s k.index k.relocation x k.listed k.given in
     let made = sym same ∙ d.1 in
     let by = filled_by l s k.relocation x d.0 made k.given in
-    let kept : IsKeptSection l s = record { input = input; loaded = loaded_slot s.slot loaded.0; room = bit_alloc s.flags by.room; has_data = not_false s.nobits loaded.1 } in
+    let kept : IsKeptSection l s = record { input = input; loaded = loaded_slot s.slot loaded.0; room = bit_alloc s.flags by.room; has_data = not-true s.nobits loaded.1 } in
     let well = kept_well l s laid decided kept in
-    let lies = All-at (FieldLies l.machine s.size) s.relocations k.index k.relocation well.lies.fields k.listed in
+    let lies = holds_at (FieldLies l.machine s.size) s.relocations k.index k.relocation k.listed well.lies.fields in
     let ends = field_lies l s k.relocation by.written.size by.field well.full lies in
     let width = by.width in
     record { filling = k; well = well; by = by; has = record { listed = k.listed; decided = same ∙ by.made }; ends = omega (arith, ends, width) }
@@ -119,22 +114,19 @@ place_sum l s x h =
     let small = h.well.lies.small in
     omega (arith, is, ends, full, small)
 
-pub All-each : {X : Type 0} (P : X → Type 0) (xs : List X) → ((x : X) → Contains xs x → P x) → All P xs
-All-each P xs h = λ k d m. h (get_or xs k d) (k, m, get_or-any xs k (get_or xs k d) d m)
-
 -- ---- two fillings of a section
 
 -- two relocations at different numbers write apart
 pub sites_apart_at : (l : Layout) (s : InputSection) (i j : ℕ) (p q : Piece) → IsKeptWell l s → i < j → j < length s.relocations → site l s i ≡ p ∷ [] → site l s j ≡ q ∷ [] → Apart p q
 sites_apart_at l s i j p q well lt within si sj =
     let n = length s.relocations in
-    let across = AllPairs-joined Apart (site l s) (range_with_len 0 n) well.decisions.apart.apart i j 0 lt (omega (arith, length-range_with_len 0 n, within)) in
+    let across = AllPairs-from_flat_map Apart (site l s) (range_with_len 0 n) well.decisions.apart.apart i j 0 lt (omega (arith, length-range_with_len 0 n, within)) in
     let ri = get_or-range_with_len 0 n i 0 (omega (arith, lt, within)) in
     let rj = get_or-range_with_len 0 n j 0 within in
     let ei : get_or (range_with_len 0 n) i 0 ≡ i = omega (arith, ri) in
     let ej : get_or (range_with_len 0 n) j 0 ≡ j = omega (arith, rj) in
-    let a = subst (λ (x : ℕ). Across Apart (site l s) x (get_or (range_with_len 0 n) j 0)) ei across in
-    let b = subst (λ (y : ℕ). Across Apart (site l s) i y) ej a in
+    let a = subst (λ (x : ℕ). Between Apart (site l s) x (get_or (range_with_len 0 n) j 0)) ei across in
+    let b = subst (λ (y : ℕ). Between Apart (site l s) i y) ej a in
     let c = subst (λ (ps : List Piece). All (λ (x : Piece). All (Apart x) (site l s j)) ps) si b in
     let d = subst (λ (qs : List Piece). All (Apart p) qs) sj (c 0 p (omega arith)) in
     d 0 q (omega arith)
@@ -166,7 +158,7 @@ one_filling : (l : Layout) (s : InputSection) (r : InputRelocation) → AllPairs
 one_filling l s r = by_option (section_filling l s r)
   where
     by_option : (o : Option Filling) → AllPairs AreBeside (option_to_list o)
-    by_option None = AllPairs-none AreBeside
+    by_option None = AllPairs-nil AreBeside
     by_option (Some x) = λ i j d lt m. absurd (omega (arith, lt, m))
 
 -- a filling of one relocation, where there is one
@@ -185,9 +177,9 @@ fillings_beside : (l : Layout) (s : InputSection) → IsLaidOut l → EachDecide
 fillings_beside l s laid decided c = by_test (is_read s) refl
   where
     by_test : (b : Bool) → is_read s ≡ b → AllPairs AreBeside (if b then flat_map (λ (r : InputRelocation). option_to_list (section_filling l s r)) s.relocations else [])
-    by_test false e = AllPairs-none AreBeside
+    by_test false e = AllPairs-nil AreBeside
     by_test true e =
-        AllPairs-joining AreBeside (λ (r : InputRelocation). option_to_list (section_filling l s r)) s.relocations
+        AllPairs-flat_map AreBeside (λ (r : InputRelocation). option_to_list (section_filling l s r)) s.relocations
         (λ k d m. one_filling l s (get_or s.relocations k d))
         (λ i j d lt m. All-each (λ (x : Filling). All (AreBeside x) (option_to_list (section_filling l s (get_or s.relocations j d)))) (option_to_list (section_filling l s (get_or s.relocations i d))) (λ x cx. All-each (AreBeside x) (option_to_list (section_filling l s (get_or s.relocations j d))) (λ y cy. both_beside l s x y i j d laid decided c e lt m cx cy)))
 

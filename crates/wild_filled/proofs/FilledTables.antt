@@ -6,8 +6,11 @@ use Rattle.std.proofs.lemmas.Bool.{cases_Bool, cases_lt, ltb-true}
 use Rattle.std.proofs.lemmas.List.{map-append}
 use Rattle.std.proofs.lemmas.List.Elements.{All-map, All-nil, All-cons, All-head, All-tail, All-append}
 use Rattle.std.proofs.lemmas.List.Sorted.{All-permutation, IsPermutation-trans, IsPermutation-map, IsPermutation-append, IsPermutation-append_right}
+use Rattle.std.proofs.lemmas.List.Kept.{AllPairs-cons}
 use Rattle.wild_words.specs.Words.{word, number}
 use Rattle.wild_words.proofs.WordLemmas.{number-word, length-word}
+use Rattle.wild_words.proofs.Basics.{map-flat_map}
+use Rattle.wild_words.proofs.ListLemmas.{AllPairs-nil, AllPairs-head, AllPairs-tail, flat_map-same}
 use Rattle.wild_records.specs.declared.relocations.Rela.{Rela}
 use Rattle.wild_loader.specs.declared.change.Change.{Change}
 use Rattle.wild_loader.specs.declared.change.Change.TheVariants as changes
@@ -19,16 +22,15 @@ use Rattle.wild_loader.specs.declared.memory.Memory.{Memory}
 use Rattle.wild_loader.specs.declared.memory.Run.{Run}
 use Rattle.wild_loader.specs.declared.tables.Tables.{Tables}
 use Rattle.wild_loader.specs.declared.world.World.{World}
-use Rattle.wild_loader.specs.Changes.{kind_of, change_of, size_of, bytes_after, patch_over}
+use Rattle.wild_loader.specs.Changes.{kind_of, change_of, size_of, patch_over}
 use Rattle.wild_loader.specs.Memory.{Holds, number_in}
 use Rattle.wild_loader.specs.Places.{places}
 use Rattle.wild_loader.specs.Relocate.{loaded_at, rela_patch, place_patch, runs_of_patches}
 use Rattle.wild_loader.specs.SegmentLaws.{IsApart, IsElsewhere}
 use Rattle.wild_loader.specs.Laws.{NumbersAreRead}
 use Rattle.wild_loader.specs.EntryLaws.{PlacesAreMoved, EntriesMakeChanges, OrderIsFree, HasMade, patches_of}
-use Rattle.wild_loaded.proofs.SlotSites.{flat_map-same}
+use Rattle.wild_loader.proofs.EntryLemmas.{length-after}
 use Rattle.wild_filled.specs.Words.{number_or, value_at, place_change, patch_or, entry_change}
-use Rattle.wild_filled.proofs.PairLemmas.{AllPairs-none, AllPairs-more, AllPairs-first, AllPairs-rest, map-flat_map}
 use Rattle.wild_filled.proofs.Permuted.{flat_map-parts}
 use Rattle.wild_filled.proofs.Fillings.{Table, PackedTable, RelativeTable, GeneralTable, JumpTable, Filling, Misses, AreBeside, HasChange, HasWord, Makes, IsKnown, loaded_is, packed_in, relative_in, general_in, jump_in}
 
@@ -40,14 +42,6 @@ pub record ChangeLaws : Type 0 where
   pub moved : PlacesAreMoved
   pub entries : EntriesMakeChanges
   pub order : OrderIsFree
-
--- a change leaves as many bytes as it takes
-pub length-after : (c : Change) (old : List ℕ) → length old ≡ size_of c → length (bytes_after c old) ≡ size_of c
-length-after (changes.Word v) old e = length-word 8 v
-length-after (changes.Half v) old e = length-word 4 v
-length-after (changes.Fill bytes) old e = refl
-length-after (changes.Add v) old e = length-word 8 ((number old + v) % 2 ^ 64)
-length-after (changes.Descriptor o) old e = e
 
 -- the number that memory has at a place
 pub value_is : (w : World) (m : Memory) (a n : ℕ) → NumbersAreRead → n < 2 ^ 64 → Holds m (loaded_at w a) (word 8 n) → value_at w m a ≡ n
@@ -133,13 +127,13 @@ both_apart w m x y laws p hx hy beside =
     beside k (omega (arith, lk, nx)) j (omega (arith, lj, ny)) (omega (arith, e, sx, sy, lowx, lowy))))
 
 pub runs_apart : (w : World) (m : Memory) (xs : List Filling) → ChangeLaws → m.machine ≡ machines.X86_64 → All (IsKnown w m) xs → AllPairs AreBeside xs → AllPairs IsApart (map (run_in w m) xs)
-runs_apart w m [] laws p known beside = AllPairs-none IsApart
+runs_apart w m [] laws p known beside = AllPairs-nil IsApart
 runs_apart w m (x ∷ xs) laws p known beside =
     let first = All-head (IsKnown w m) x xs known in
     let rest = All-tail (IsKnown w m) x xs known in
-    AllPairs-more IsApart (run_in w m x) (map (run_in w m) xs)
-    (All-map (IsApart (run_in w m x)) (run_in w m) xs (λ k d lt. both_apart w m x (get_or xs k d) laws p first (rest k d lt) (AllPairs-first AreBeside x xs beside k d lt)))
-    (runs_apart w m xs laws p rest (AllPairs-rest AreBeside x xs beside))
+    AllPairs-cons IsApart (run_in w m x) (map (run_in w m) xs)
+    (All-map (IsApart (run_in w m x)) (run_in w m) xs (λ k d lt. both_apart w m x (get_or xs k d) laws p first (rest k d lt) (AllPairs-head AreBeside x xs beside k d lt)))
+    (runs_apart w m xs laws p rest (AllPairs-tail AreBeside x xs beside))
 
 -- ---- tables
 

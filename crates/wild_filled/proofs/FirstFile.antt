@@ -7,16 +7,11 @@ use Rattle.wild_types.specs.declared.file.File.{File}
 use Rattle.wild_types.specs.declared.file.Group.{Group}
 use Rattle.wild_types.specs.FileRoles.{is_prelude, is_epilogue}
 use Rattle.wild_types.specs.FilePlaces.{bool_eq, file_placed, later_placed, files_placed, file_misplaced}
+use Rattle.wild_types.proofs.FileLemmas.{same_bool}
 
 -- the first file has xs, the others have nothing
 abbrev pub once : {X : Type 0} → List X → File → List X
 once xs f = if is_prelude f.role then xs else []
-
-same_bool : (b c : Bool) → bool_eq b c ≡ true → b ≡ c
-same_bool true true h = refl
-same_bool true false h = cc
-same_bool false true h = cc
-same_bool false false h = refl
 
 placed_first : (first : Bool) (b : Bool) (f : File) → file_placed first b f ≡ true → is_prelude f.role ≡ first
 placed_first first b f h = same_bool (is_prelude f.role) first (and_parts (bool_eq (is_prelude f.role) first) (bool_eq (is_epilogue f.role) b) h).0

@@ -4,6 +4,7 @@ use Rattle.std.specs.Prelude.{Option, Some, None, All, AllPairs, if◌then◌els
 use Rattle.std.proofs.lemmas.List.{length-append, length-replicate}
 use Rattle.std.proofs.lemmas.List.Concat.{flat_map-append}
 use Rattle.std.proofs.lemmas.List.Elements.{All-nil, All-cons, All-append}
+use Rattle.std.proofs.lemmas.List.Kept.{AllPairs-cons}
 use Rattle.wild_reloc.specs.declared.dynamic.DynamicRelocationKind.TheVariants as entry_kinds
 use Rattle.wild_types.specs.declared.part.Role.TheVariants as role
 use Rattle.wild_slot.specs.declared.slot.SlotWord.{SlotWord}
@@ -20,13 +21,13 @@ use Rattle.wild_layout.specs.Geometry.{IsLaidOut}
 use Rattle.wild_loader.specs.declared.world.World.{World}
 use Rattle.wild_words.specs.Words.{word}
 use Rattle.wild_words.proofs.WordLemmas.{length-word}
+use Rattle.wild_words.proofs.ListLemmas.{AllPairs-nil, AllPairs-append}
 use Rattle.wild_slots.specs.Order.{end_of}
 use Rattle.wild_slots.specs.Ascend.{LiesWithin, Ascend, place_in, PlacesAscend}
 use Rattle.wild_slots.specs.Stand.{StandsAt}
 use Rattle.wild_loaded.specs.Stored.{IsWordStored}
 use Rattle.wild_loaded.specs.Laws.{SlotsAreStored}
 use Rattle.wild_loaded.proofs.SlotSites.{of_site, sites_at, all_sites}
-use Rattle.wild_filled.proofs.PairLemmas.{AllPairs-none, AllPairs-more, AllPairs-join}
 use Rattle.wild_filled.proofs.SlotFillings.{pair_sites, got_sites, made_of, words_by_sites}
 use Rattle.wild_filled.proofs.SlotsKnown.{IsFilledSlots}
 use Rattle.wild_filled.proofs.TableHomes.{table_ends}
@@ -93,7 +94,7 @@ pair_ascends l w law h = by_place l.tlsld refl
     none : made_of (place_in words.Got) (pair_sites l) ≡ [] → PairAscends l
     none e = record {
       within = subst (All (LiesWithin 8 (start_of l role.Got) (end_of l role.Got))) (sym e) (All-nil (LiesWithin 8 (start_of l role.Got) (end_of l role.Got)));
-      ascend = subst (AllPairs (λ (p q : ℕ). p + 8 ≤ q)) (sym e) (AllPairs-none (λ (p q : ℕ). p + 8 ≤ q));
+      ascend = subst (AllPairs (λ (p q : ℕ). p + 8 ≤ q)) (sym e) (AllPairs-nil (λ (p q : ℕ). p + 8 ≤ q));
       ahead = subst (All (λ (p : ℕ). p + 8 ≤ (first_free l).got)) (sym e) (All-nil (λ (p : ℕ). p + 8 ≤ (first_free l).got));
     }
 
@@ -103,7 +104,7 @@ pair_ascends l w law h = by_place l.tlsld refl
         let R : ℕ → ℕ → Type 0 = λ p q. p + 8 ≤ q in
         let Q : ℕ → Type 0 = λ p. p + 8 ≤ (first_free l).got in
         let a : All P (at ∷ (at + 8) ∷ []) = All-cons P at ((at + 8) ∷ []) (record { from = from; to = omega (arith, to) }) (All-cons P (at + 8) [] (record { from = omega (arith, from); to = omega (arith, to) }) (All-nil P)) in
-        let b : AllPairs R (at ∷ (at + 8) ∷ []) = AllPairs-more R at ((at + 8) ∷ []) (All-cons (R at) (at + 8) [] (omega arith) (All-nil (R at))) (AllPairs-more R (at + 8) [] (All-nil (R (at + 8))) (AllPairs-none R)) in
+        let b : AllPairs R (at ∷ (at + 8) ∷ []) = AllPairs-cons R at ((at + 8) ∷ []) (All-cons (R at) (at + 8) [] (omega arith) (All-nil (R at))) (AllPairs-cons R (at + 8) [] (All-nil (R (at + 8))) (AllPairs-nil R)) in
         let c : All Q (at ∷ (at + 8) ∷ []) = All-cons Q at ((at + 8) ∷ []) (omega (arith, ahead)) (All-cons Q (at + 8) [] (omega (arith, ahead)) (All-nil Q)) in
         record { within = subst (All P) (sym e) a; ascend = subst (AllPairs R) (sym e) b; ahead = subst (All Q) (sym e) c }
 
@@ -147,6 +148,6 @@ got_ascends l w ascends law h =
     let joined : xs ++ ys ≡ got_places l = sym (flat_map-append (of_site (place_in words.Got)) (pair_sites l) (all_sites l)) in
     let both : Ascend 8 (start_of l role.Got) (end_of l role.Got) (xs ++ ys) = record {
       within = All-append P xs ys p.within (λ k d m. (let b = all.within k d m in let from = b.from in record { from = omega (arith, from); to = b.to }));
-      ascend = AllPairs-join (λ (p q : ℕ). p + 8 ≤ q) xs ys p.ascend all.ascend (λ k d m. (λ i e n. (let front = p.ahead k d m in let behind = (all.within i e n).from in omega (arith, front, behind))));
+      ascend = AllPairs-append (λ (p q : ℕ). p + 8 ≤ q) xs ys p.ascend all.ascend (λ k d m. (λ i e n. (let front = p.ahead k d m in let behind = (all.within i e n).from in omega (arith, front, behind))));
     } in
     subst (Ascend 8 (start_of l role.Got) (end_of l role.Got)) joined both

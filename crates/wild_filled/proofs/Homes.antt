@@ -1,8 +1,9 @@
 -- Runs of bytes of the image that segments carry to their addresses: where the file shares no byte, memory shares none.
-use Rattle.std.proofs.Common.{◌≡◌, ℕ, zero, suc, ◌+◌, ◌-◌, ◌<◌, ◌≤◌, ◌⊎◌, inl, inr, List, [], ◌∷◌, length, get_or, refl, sym, ap, ◌∙◌, arith, subst}
+use Rattle.std.proofs.Common.{◌≡◌, ℕ, ◌+◌, ◌-◌, ◌<◌, ◌≤◌, ◌⊎◌, inl, inr, length, get_or, sym, ap, ◌∙◌, arith, subst}
 use Rattle.std.specs.Prelude.{Contains}
 use Rattle.std.proofs.lemmas.Bool.{cases_lt}
 use Rattle.std.proofs.lemmas.List.Elements.{All-contains}
+use Rattle.std.proofs.lemmas.List.{get_or_default}
 use Rattle.wild_records.specs.Abi.Segment.{pt_load}
 use Rattle.wild_types.specs.declared.section.Segment.{Segment}
 use Rattle.wild_types.specs.declared.layout.Layout.{Layout}
@@ -40,11 +41,6 @@ pub record LiesIn (h : Home) (x : Filling) : Type 0 where
 
 -- ---- segments
 
-within_any : (xs : List Segment) (k : ℕ) (d e : Segment) → k < length xs → get_or xs k d ≡ get_or xs k e
-within_any [] k d e h = absurd (omega arith)
-within_any (x ∷ xs) zero d e h = refl
-within_any (x ∷ xs) (suc k) d e h = within_any xs k d e (omega arith)
-
 -- an address lies in one loaded segment at most
 one_loaded : (l : Layout) (g h : Segment) (a : ℕ) → IsLaidOut l → Contains l.segments g → Contains l.segments h → g.kind ≡ pt_load → h.kind ≡ pt_load → g.address ≤ a → a < g.address + g.mem_size → h.address ≤ a → a < h.address + h.mem_size → g ≡ h
 one_loaded l g h a laid cg ch kg kh fg tg fh th =
@@ -52,14 +48,14 @@ one_loaded l g h a laid cg ch kg kh fg tg fh th =
       | inl lt ↦ absurd (let e = ascending g h cg.0 ch.0 cg.2 ch.2 lt ch.1 kg kh in omega (arith, e, tg, fh))
       | inr ge ↦ elim (cases_lt ch.0 cg.0) [
         | inl lt ↦ absurd (let e = ascending h g ch.0 cg.0 ch.2 cg.2 lt cg.1 kh kg in omega (arith, e, th, fg))
-        | inr le ↦ sym cg.2 ∙ within_any l.segments cg.0 g h cg.1 ∙ ap (λ (k : ℕ). get_or l.segments k h) (omega (arith, ge, le)) ∙ ch.2
+        | inr le ↦ sym cg.2 ∙ get_or_default l.segments cg.0 g h cg.1 ∙ ap (λ (k : ℕ). get_or l.segments k h) (omega (arith, ge, le)) ∙ ch.2
       ]
     ]
   where
     ascending : (g h : Segment) (i j : ℕ) → get_or l.segments i g ≡ g → get_or l.segments j h ≡ h → i < j → j < length l.segments → g.kind ≡ pt_load → h.kind ≡ pt_load → g.address + g.mem_size ≤ h.address
     ascending g h i j eg eh lt within kg kh =
         let a = laid.loadable.ascend i j g lt within in
-        let eh' : get_or l.segments j g ≡ h = within_any l.segments j g h within ∙ eh in
+        let eh' : get_or l.segments j g ≡ h = get_or_default l.segments j g h within ∙ eh in
         subst (λ (x : Segment). Ascends x h) eg (subst (λ (y : Segment). Ascends (get_or l.segments i g) y) eh' a) kg kh
 
 -- the memory of a loaded segment has its file bytes

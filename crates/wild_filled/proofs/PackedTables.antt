@@ -3,12 +3,13 @@ use Rattle.std.proofs.Common.{◌≡◌, ℕ, suc, ◌+◌, ◌%◌, ◌^◌, �
 use Rattle.std.specs.Prelude.{Some, None, All, AllPairs, Contains, ◌≢◌, IsPermutation, option_to_list, if◌then◌else◌, ◌&&◌, ◌==◌}
 use Rattle.std.specs.List.{flat_map}
 use Rattle.std.proofs.lemmas.Bool.{cases_Bool, eqb-true}
-use Rattle.std.proofs.lemmas.List.{append-nil}
+use Rattle.std.proofs.lemmas.List.{append-nil, get_or_default}
 use Rattle.std.proofs.lemmas.List.Concat.{flat_map-append}
 use Rattle.std.proofs.lemmas.List.Folds.{flat_map-map}
 use Rattle.std.proofs.lemmas.List.Elements.{All-nil, All-cons, All-append, All-map}
 use Rattle.std.proofs.lemmas.List.Sorted.{All-permutation, IsPermutation-sym, IsPermutation-trans, IsPermutation-append_left, IsPermutation-map}
-use Rattle.wild_words.proofs.ListLemmas.{All-flat_map}
+use Rattle.std.proofs.lemmas.List.Kept.{AllPairs-cons}
+use Rattle.wild_words.proofs.ListLemmas.{All-flat_map, AllPairs-nil, AllPairs-head, AllPairs-tail, flat_map-same, flat_map-flat_map}
 use Rattle.wild_types.specs.declared.input.InputRelocation.{InputRelocation}
 use Rattle.wild_types.specs.declared.input.InputSection.{InputSection}
 use Rattle.wild_slot.specs.declared.slot.SlotWord.{SlotWord}
@@ -34,14 +35,14 @@ use Rattle.wild_loader.proofs.Overlaid.{elsewhere}
 use Rattle.wild_tables.specs.Laws.{PlacesAreLoaded}
 use Rattle.wild_slots.specs.Blocks.{IsWhole}
 use Rattle.wild_loaded.specs.Tables.{file_packed, group_words, tables_of}
-use Rattle.wild_loaded.proofs.SlotSites.{flat_map-flat_map, flat_map-same, of_site, file_sites, flat_by_sites, block_by_sites, all_by_sites, groups_by_sites, all_sites}
-use Rattle.wild_filled.proofs.PairLemmas.{AllPairs-none, AllPairs-more, AllPairs-first, AllPairs-rest, All-unmap}
+use Rattle.wild_loaded.proofs.SlotSites.{of_site, file_sites, flat_by_sites, block_by_sites, all_by_sites, groups_by_sites, all_sites}
+use Rattle.wild_filled.proofs.PairLemmas.{All-unmap}
 use Rattle.wild_filled.proofs.Permuted.{flat_map-parts, nested-parts}
 use Rattle.wild_filled.proofs.SectionsApart.{all_sections, by_files}
-use Rattle.wild_filled.proofs.PlacesApart.{get_or-any}
 use Rattle.wild_filled.proofs.FilledTables.{runs_apart_by}
 use Rattle.wild_filled.proofs.SlotFillings.{made_of}
 use Rattle.wild_filled.proofs.TableLists.{packed_list}
+use Rattle.wild_filled.proofs.CopyFillings.{Differ}
 
 -- ---- what is recorded
 
@@ -187,7 +188,7 @@ flat_even l f = subst (All EvenPlace) (sym (flat_by_sites l f)) (All-flat_map Ev
 
 runs_even : (l : Layout) → AreWhole l → All IsEven (all_runs l)
 runs_even l whole =
-    All-flat_map IsEven (group_runs l) l.groups (λ k d b. of_group (get_or l.groups k d) (whole (get_or l.groups k d) (k, b, get_or-any l.groups k (get_or l.groups k d) d b)))
+    All-flat_map IsEven (group_runs l) l.groups (λ k d b. of_group (get_or l.groups k d) (whole (get_or l.groups k d) (k, b, get_or_default l.groups k (get_or l.groups k d) d b)))
   where
     of_file : (f : File) → All IsEven (file_runs l f)
     of_file f =
@@ -203,9 +204,6 @@ runs_even l whole =
 
 -- ---- what a loader finds
 
-abbrev Differ : ℕ → ℕ → Type 0
-Differ a b = a ≢ b
-
 -- a byte at a place
 abbrev byte_run : ℕ → Run
 byte_run a = record { start = a; bytes = 0 ∷ [] }
@@ -218,8 +216,8 @@ differ-order law xs ys moved h = back ys (law (map byte_run xs) (map byte_run ys
     apart a b d = runs_apart_by (byte_run a) (byte_run b) (λ k j lk lj e. d (omega (arith, lk, lj, e)))
 
     there : (xs : List ℕ) → AllPairs Differ xs → AllPairs IsApart (map byte_run xs)
-    there [] h = AllPairs-none IsApart
-    there (x ∷ xs) h = AllPairs-more IsApart (byte_run x) (map byte_run xs) (All-map (IsApart (byte_run x)) byte_run xs (λ k d m. apart x (get_or xs k d) (AllPairs-first Differ x xs h k d m))) (there xs (AllPairs-rest Differ x xs h))
+    there [] h = AllPairs-nil IsApart
+    there (x ∷ xs) h = AllPairs-cons IsApart (byte_run x) (map byte_run xs) (All-map (IsApart (byte_run x)) byte_run xs (λ k d m. apart x (get_or xs k d) (AllPairs-head Differ x xs h k d m))) (there xs (AllPairs-tail Differ x xs h))
 
     differ : (a b : ℕ) → IsApart (byte_run a) (byte_run b) → Differ a b
     differ a b h = λ e. by_side a b e (elsewhere (byte_run a) (byte_run b) 0 h (omega arith))
@@ -229,10 +227,10 @@ differ-order law xs ys moved h = back ys (law (map byte_run xs) (map byte_run ys
         by_side a b e (inr h) = omega (arith, e, h)
 
     back : (ys : List ℕ) → AllPairs IsApart (map byte_run ys) → AllPairs Differ ys
-    back [] h = AllPairs-none Differ
+    back [] h = AllPairs-nil Differ
     back (y ∷ ys) h =
-        let first = All-unmap (IsApart (byte_run y)) byte_run ys (AllPairs-first IsApart (byte_run y) (map byte_run ys) h) in
-        AllPairs-more Differ y ys (λ k d m. differ y (get_or ys k d) (first k d m)) (back ys (AllPairs-rest IsApart (byte_run y) (map byte_run ys) h))
+        let first = All-unmap (IsApart (byte_run y)) byte_run ys (AllPairs-head IsApart (byte_run y) (map byte_run ys) h) in
+        AllPairs-cons Differ y ys (λ k d m. differ y (get_or ys k d) (first k d m)) (back ys (AllPairs-tail IsApart (byte_run y) (map byte_run ys) h))
 
 pub packed_sorted : (l : Layout) → FlatIsARun → PlacesAreLoaded → OrderIsFree → AreWhole l → All (λ (a : ℕ). a < 2 ^ 64) (packed_list l) → AllPairs Differ (packed_list l) → IsPermutation (packed_list l) (places (tables_of l).words)
 packed_sorted l flat law order whole low differ =

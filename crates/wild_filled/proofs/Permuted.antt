@@ -1,19 +1,9 @@
 -- Lists that differ in their order: what is made of each item in parts, part by part.
-use Rattle.std.proofs.Common.{◌≡◌, List, [], ◌∷◌, ◌++◌, sym, subst, append_assoc}
+use Rattle.std.proofs.Common.{List, [], ◌∷◌, ◌++◌}
 use Rattle.std.specs.Prelude.{IsPermutation}
 use Rattle.std.specs.List.{flat_map}
-use Rattle.std.proofs.lemmas.List.Sorted.{IsPermutation-refl, IsPermutation-trans, IsPermutation-append, IsPermutation-append_left, IsPermutation-append_right, IsPermutation-append_comm}
-
--- the middle two of four lists change places
-pub exchanged : {X : Type 0} (a b c d : List X) → IsPermutation ((a ++ b) ++ (c ++ d)) ((a ++ c) ++ (b ++ d))
-exchanged a b c d =
-    let middle = IsPermutation-append_right a (b ++ (c ++ d)) (c ++ (b ++ d)) (inner a b c d) in
-    let from : (a ++ b) ++ (c ++ d) ≡ a ++ (b ++ (c ++ d)) = append_assoc a b (c ++ d) in
-    let to : a ++ (c ++ (b ++ d)) ≡ (a ++ c) ++ (b ++ d) = sym (append_assoc a c (b ++ d)) in
-    subst (λ xs. IsPermutation xs ((a ++ c) ++ (b ++ d))) (sym from) (subst (λ xs. IsPermutation (a ++ (b ++ (c ++ d))) xs) to middle)
-  where
-    inner : {X : Type 0} (a b c d : List X) → IsPermutation (b ++ (c ++ d)) (c ++ (b ++ d))
-    inner a b c d = subst (λ xs. IsPermutation xs (c ++ (b ++ d))) (append_assoc b c d) (subst (λ xs. IsPermutation ((b ++ c) ++ d) xs) (append_assoc c b d) (IsPermutation-append_left d (b ++ c) (c ++ b) (IsPermutation-append_comm b c)))
+use Rattle.std.proofs.lemmas.List.Sorted.{IsPermutation-refl, IsPermutation-trans, IsPermutation-append, IsPermutation-append_right}
+use Rattle.wild_words.proofs.Basics.{middle_exchanged}
 
 pub flat_map-each : {X Y : Type 0} (f g : X → List Y) (xs : List X) → ((x : X) → IsPermutation (f x) (g x)) → IsPermutation (flat_map f xs) (flat_map g xs)
 flat_map-each f g [] h = IsPermutation-refl []
@@ -25,7 +15,7 @@ flat_map-parts f g [] = IsPermutation-refl []
 flat_map-parts f g (x ∷ xs) =
     IsPermutation-trans ((f x ++ g x) ++ flat_map (λ x. f x ++ g x) xs) ((f x ++ g x) ++ (flat_map f xs ++ flat_map g xs)) ((f x ++ flat_map f xs) ++ (g x ++ flat_map g xs))
     (IsPermutation-append_right (f x ++ g x) (flat_map (λ x. f x ++ g x) xs) (flat_map f xs ++ flat_map g xs) (flat_map-parts f g xs))
-    (exchanged (f x) (g x) (flat_map f xs) (flat_map g xs))
+    (middle_exchanged (f x) (g x) (flat_map f xs) (flat_map g xs))
 
 -- two parts of each item of lists
 pub nested-parts : {X Y Z : Type 0} (of : X → List Y) (f g : Y → List Z) (xs : List X) → IsPermutation (flat_map (λ x. flat_map (λ y. f y ++ g y) (of x)) xs) (flat_map (λ x. flat_map f (of x)) xs ++ flat_map (λ x. flat_map g (of x)) xs)

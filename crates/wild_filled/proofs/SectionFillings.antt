@@ -3,6 +3,8 @@ use Rattle.std.proofs.Common.{◌≡◌, ℕ, inl, inr, Bool, true, false, not, 
 use Rattle.std.specs.Prelude.{Option, Some, None, Result, Ok, Err, option_to_list, option_map, if◌then◌else◌, ◌&&◌, ◌==◌, slice_get}
 use Rattle.std.specs.List.{flat_map, filter}
 use Rattle.std.proofs.lemmas.Bool.{cases_Bool}
+use Rattle.wild_words.proofs.Basics.{flat_map-none}
+use Rattle.wild_words.proofs.ListLemmas.{flat_map-same, flat_map-flat_map}
 use Rattle.wild_records.specs.declared.relocations.Rela.{Rela}
 use Rattle.wild_types.specs.declared.fault.Fault.{Fault}
 use Rattle.wild_types.specs.declared.input.InputRelocation.{InputRelocation}
@@ -31,10 +33,9 @@ use Rattle.wild_layout.specs.Left.{entry_for, left_by, left_entry, section_gener
 use Rattle.wild_layout.specs.Moved.{moved_value, listed_entry, section_entries}
 use Rattle.wild_layout.specs.Sites.{Written, written_by}
 use Rattle.wild_layout.proofs.TreatmentLemmas.{row_moved}
-use Rattle.wild_layout.proofs.DecideLemmas.{HasField, IsMoved, decided_moved, decided_left, moved_has}
+use Rattle.wild_layout.proofs.DecideLemmas.{HasField, IsMoved, sized_left, decided_moved, decided_left, moved_has}
 use Rattle.wild_layout.proofs.DecisionLemmas.{decide_base_relative, decide_symbolic, decide_indirect, decide_extent}
 use Rattle.wild_tables.specs.Tables.{relative_entry}
-use Rattle.wild_loaded.proofs.SlotSites.{flat_map-flat_map, flat_map-same}
 use Rattle.wild_filled.proofs.Fillings.{Filling, packed_at, relative_of, general_of, packed_in, relative_in, general_in, jump_in}
 
 -- ---- fillings
@@ -89,17 +90,13 @@ fixed l s r h =
       | inl t ↦ absurd (let moves = known_moves l s r (treated (treatment l s r) t) in let both : true ≡ false = sym moves ∙ h in cc)
     ]
 
-nothing_made : {X Y : Type 0} (f : X → List Y) (xs : List X) → ((x : X) → f x ≡ []) → flat_map f xs ≡ []
-nothing_made f [] h = refl
-nothing_made f (x ∷ xs) h = rw (h x) (nothing_made f xs h)
-
 -- what is made of addresses that move is made of all sections that are read
 read_moved : {X : Type 0} (l : Layout) (s : InputSection) (f : InputRelocation → Option X) → ((r : InputRelocation) → is_moved l s r ≡ false → f r ≡ None) → (if is_read s then flat_map (λ (r : InputRelocation). option_to_list (f r)) s.relocations else []) ≡ moved_of l s f
 read_moved {X} l s f none = by_tests (is_position_independent l.kind) (is_read s) refl
   where
     by_tests : (a b : Bool) → is_position_independent l.kind ≡ a → (if b then flat_map (λ (r : InputRelocation). option_to_list (f r)) s.relocations else []) ≡ (if a && b then flat_map (λ (r : InputRelocation). option_to_list (f r)) s.relocations else [])
     by_tests true b e = refl
-    by_tests false true e = nothing_made (λ (r : InputRelocation). option_to_list (f r)) s.relocations (λ r. ap (λ (o : Option X). option_to_list o) (none r (fixed l s r e)))
+    by_tests false true e = flat_map-none (λ (r : InputRelocation). option_to_list (f r)) s.relocations (λ r. ap (λ (o : Option X). option_to_list o) (none r (fixed l s r e)))
     by_tests false false e = refl
 
 -- what is made of a section's fillings
@@ -198,7 +195,7 @@ jumps_are l s = made_of jump_in l s no_jump (λ r. one r (treatment l s r)) ∙ 
     one r treatments.Unsupported = refl
 
     by_test : (b : Bool) → (if b then flat_map no_jump s.relocations else []) ≡ []
-    by_test true = nothing_made no_jump s.relocations (λ r. refl)
+    by_test true = flat_map-none no_jump s.relocations (λ r. refl)
     by_test false = refl
 
 -- ---- decisions
@@ -303,7 +300,7 @@ treated_filling l s r x d treatments.BaseRelative is made by e =
     moved_there l s r x m.0 (packs l (place_of s r)) (made ∙ ap (λ (y : Decision). Ok y) m.1) (sym same)
 treated_filling l s r x d (treatments.Symbolic i) is made by e = by_left l s r x d (treatments.Symbolic i) (ByteSize Eight) is made e (left_is l s r d (ByteSize Eight) (type_of l.machine Absolute) i (index_of l i) by)
 treated_filling l s r x d (treatments.Indirect i) is made by e = by_left l s r x d (treatments.Indirect i) (ByteSize Eight) is made e (chosen_is l s r d (decided_address l i) by)
-treated_filling l s r x d (treatments.Extent row i) is made by e = by_left l s r x d (treatments.Extent row i) row.size is made e (left_is l s r d row.size r.number i (index_of l i) by)
+treated_filling l s r x d (treatments.Extent row i) is made by e = by_left l s r x d (treatments.Extent row i) row.size is made e (left_is l s r d row.size r.number i (index_of l i) (sized_left l r row i d by))
 treated_filling l s r x d treatments.Recompile is made by e = cc
 treated_filling l s r x d treatments.Unsupported is made by e = cc
 
@@ -350,6 +347,6 @@ left_given l s r z n symbol addend made =
     left_width treatments.BaseRelative h m = cc
     left_width (treatments.Symbolic i) h m = of_size (ByteSize Eight) z (treatments.Symbolic i) (size_is (ByteSize Eight) (left_is l s r (Left z n symbol addend) (ByteSize Eight) (type_of l.machine Absolute) i (index_of l i) m))
     left_width (treatments.Indirect i) h m = of_size (ByteSize Eight) z (treatments.Indirect i) (size_is (ByteSize Eight) (chosen_is l s r (Left z n symbol addend) (decided_address l i) m))
-    left_width (treatments.Extent row i) h m = of_size row.size z (treatments.Extent row i) (size_is row.size (left_is l s r (Left z n symbol addend) row.size r.number i (index_of l i) m))
+    left_width (treatments.Extent row i) h m = of_size row.size z (treatments.Extent row i) (size_is row.size (left_is l s r (Left z n symbol addend) row.size r.number i (index_of l i) (sized_left l r row i (Left z n symbol addend) m)))
     left_width treatments.Recompile h m = cc
     left_width treatments.Unsupported h m = cc

@@ -1,10 +1,11 @@
 -- The bytes that tables fill in kept sections, before any entry is applied.
 use Rattle.std.proofs.Common.{◌≡◌, ℕ, ◌+◌, ◌%◌, ◌^◌, ◌<◌, ◌≤◌, Bool, true, false, length, replicate, refl, sym, ap, ◌∙◌, arith, subst, List}
-use Rattle.std.specs.Prelude.{Some, Ok, All, Contains, slice_get}
-use Rattle.std.proofs.lemmas.Option.{slice_get_within, get_or_from_slice_get}
+use Rattle.std.specs.Prelude.{Some, Ok, All, Contains}
 use Rattle.std.proofs.lemmas.List.{length-replicate}
 use Rattle.wild_words.specs.Words.{word}
 use Rattle.wild_words.proofs.WordLemmas.{length-word}
+use Rattle.wild_words.proofs.Basics.{listed_at, All-each}
+use Rattle.wild_words.proofs.ListLemmas.{All-flat_map}
 use Rattle.wild_records.specs.declared.relocations.Rela.{Rela}
 use Rattle.wild_reloc.specs.Field.{size_width}
 use Rattle.wild_reloc.specs.declared.info.RelocationSize.{RelocationSize}
@@ -39,13 +40,12 @@ use Rattle.wild_geometry.specs.Loaded.{HasDecision, number_at, entry_with, Makes
 use Rattle.wild_loaded.specs.Memory.{image_memory, EachDecided}
 use Rattle.wild_loaded.specs.Stored.{FillsField}
 use Rattle.wild_loaded.specs.Laws.{SectionsAreStored, EntriesHaveChanges}
-use Rattle.wild_filled.proofs.PairLemmas.{All-join}
 use Rattle.wild_filled.proofs.Fillings.{Filling, general_of, HasChange, HasWord, IsKnown, place_loaded}
 use Rattle.wild_filled.proofs.SectionsApart.{all_sections}
 use Rattle.wild_filled.proofs.PlacesApart.{all_places}
 use Rattle.wild_filled.proofs.SectionFillings.{moved_filling, section_fillings, Fills}
 use Rattle.wild_filled.proofs.KeptSections.{IsKeptWell}
-use Rattle.wild_filled.proofs.FilledSections.{IsFilledThere, width_some, filling_known, filled_there, place_sum, All-each}
+use Rattle.wild_filled.proofs.FilledSections.{IsFilledThere, width_some, filling_known, filled_there, place_sum}
 
 -- ---- the changes of entries
 
@@ -120,9 +120,6 @@ pub record SectionLaws : Type 0 where
 pub before : (l : Layout) (w : World) (s : InputSection) → SectionsAreStored → IsLegal l w → IsLaidOut l → IsKeptWell l s → HasSection l w (image_memory l w) s InFile
 before l w s law legal laid well = law l w s legal laid well.kept well.decisions
 
-pub listed_at : (xs : List InputRelocation) (i : ℕ) (r : InputRelocation) → slice_get xs i ≡ Some r → Contains xs r
-listed_at xs i r e = (i, slice_get_within xs i r e, get_or_from_slice_get xs i r r e)
-
 pub value_low : (l : Layout) (s : InputSection) (r : InputRelocation) (v : ℕ) (packed : Bool) → IsMoved l s r v packed → v < 2 ^ 64
 value_low l s r v packed a = subst (λ (n : ℕ). n < 2 ^ 64) a.value (omega arith)
 
@@ -190,5 +187,5 @@ filling_there l w s x laws x86 numbers legal laid h = by_decision h.by.decision 
 -- so it is with all of them
 pub sections_known : (l : Layout) (w : World) → SectionLaws → l.machine ≡ machine.X86_64 → NumbersFit l → IsLegal l w → IsLaidOut l → EachDecided l → All (IsKnown w (image_memory l w)) (all_places l (section_fillings l))
 sections_known l w laws x86 numbers legal laid decided =
-    All-join (IsKnown w (image_memory l w)) (section_fillings l) (all_sections l)
+    All-flat_map (IsKnown w (image_memory l w)) (section_fillings l) (all_sections l)
     (All-each (λ (s : InputSection). All (IsKnown w (image_memory l w)) (section_fillings l s)) (all_sections l) (λ s c. All-each (IsKnown w (image_memory l w)) (section_fillings l s) (λ x cx. filling_there l w s x laws x86 numbers legal laid (filled_there l s x laid decided c (filling_known l s x cx)))))

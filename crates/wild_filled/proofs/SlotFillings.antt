@@ -3,6 +3,7 @@ use Rattle.std.proofs.Common.{◌≡◌, ℕ, Bool, true, false, List, [], ◌�
 use Rattle.std.specs.Prelude.{⊤, Option, Some, None, All, option_to_list, if◌then◌else◌, unwrap_or}
 use Rattle.std.specs.List.{flat_map}
 use Rattle.std.proofs.lemmas.List.Elements.{All-nil, All-cons, All-head, All-tail}
+use Rattle.wild_words.proofs.ListLemmas.{flat_map-same, flat_map-flat_map}
 use Rattle.wild_records.specs.declared.relocations.Rela.{Rela}
 use Rattle.wild_reloc.specs.declared.dynamic.DynamicRelocationKind.TheVariants.{DtpMod}
 use Rattle.wild_slot.specs.declared.slot.SlotWord.{SlotWord}
@@ -25,7 +26,7 @@ use Rattle.wild_layout.specs.SlotBytes.{storage_entries}
 use Rattle.wild_slots.specs.Order.{group_symbols, written_symbols}
 use Rattle.wild_slots.specs.Ascend.{place_in, word_places}
 use Rattle.wild_loaded.specs.Stored.{filled_width}
-use Rattle.wild_loaded.proofs.SlotSites.{flat_map-flat_map, flat_map-same, SlotSite, of_site, sites_at, symbol_sites, file_sites, group_sites, all_sites, by_sites}
+use Rattle.wild_loaded.proofs.SlotSites.{SlotSite, of_site, sites_at, symbol_sites, file_sites, group_sites, all_sites, by_sites}
 use Rattle.wild_filled.proofs.Fillings.{Filling, JumpTable, packed_at, relative_of, general_of, packed_in, relative_in, general_in, jump_in}
 
 -- ---- fillings

@@ -4,10 +4,12 @@ use Rattle.std.specs.Prelude.{⊤, Option, Some, None, All, AllPairs, Contains, 
 use Rattle.std.proofs.lemmas.Bool.{cases_lt}
 use Rattle.std.proofs.lemmas.List.{get_or_append_left, get_or-append_right, length-append}
 use Rattle.std.proofs.lemmas.List.Elements.{All-nil, All-cons, All-head, All-tail, All-contains, All-append}
-use Rattle.std.proofs.lemmas.Option.{slice_get-get_or, slice_get_within, get_or_from_slice_get}
+use Rattle.std.proofs.lemmas.Option.{slice_get-get_or}
+use Rattle.std.proofs.lemmas.List.Kept.{AllPairs-cons}
 use Rattle.wild_words.specs.Words.{word}
-use Rattle.wild_words.proofs.ListLemmas.{All-flat_map}
+use Rattle.wild_words.proofs.ListLemmas.{All-flat_map, AllPairs-nil, AllPairs-head, All-append-left, All-append-right, AllPairs-right}
 use Rattle.wild_words.proofs.WordLemmas.{length-word}
+use Rattle.wild_words.proofs.Basics.{listed_at, All-each}
 use Rattle.wild_records.specs.declared.relocations.Rela.{Rela}
 use Rattle.wild_reloc.specs.Dynamic.{x86_64_type}
 use Rattle.wild_reloc.specs.declared.dynamic.DynamicRelocationKind.{DynamicRelocationKind}
@@ -29,6 +31,7 @@ use Rattle.wild_slot.specs.SlotParts.{is_packed, type_of, entry_at, address_entr
 use Rattle.wild_types.specs.SymbolSlots.{got_of, slots_at}
 use Rattle.wild_needs.specs.SlotShares.{word_size, storage_at, storage_words, block_place}
 use Rattle.wild_types.specs.FileSymbols.{own_symbols}
+use Rattle.wild_types.proofs.FileLemmas.{All-own}
 use Rattle.wild_slot.specs.SymbolWords.{slots_of, resolved_slots}
 use Rattle.wild_slot.specs.Stub.{far_of}
 use Rattle.wild_layout.specs.Numbers.{NumbersFit, SymbolNumbers}
@@ -46,12 +49,10 @@ use Rattle.wild_loaded.specs.Memory.{image_memory}
 use Rattle.wild_loaded.specs.WholeSlots.{HasWholeSlots}
 use Rattle.wild_loaded.specs.Stored.{IsWordStored, filled_width, FillsWords, FillsSlot}
 use Rattle.wild_loaded.specs.Laws.{SlotsAreStored, EntriesHaveChanges}
-use Rattle.wild_loaded.proofs.SitesFit.{All-own, slots_low}
+use Rattle.wild_loaded.proofs.SitesFit.{slots_low}
 use Rattle.wild_loaded.proofs.SlotNumbers.{WordFits, words_fit, storage_fits}
 use Rattle.wild_slots.specs.Entries.{entry_in}
 use Rattle.wild_loaded.proofs.SlotSites.{SlotSite, of_site, sites_at, symbol_sites, file_sites, group_sites, all_sites, site_of}
-use Rattle.wild_filled.proofs.PairLemmas.{All-left, All-right, AllPairs-none, AllPairs-more, AllPairs-right, AllPairs-first}
-use Rattle.wild_filled.proofs.FilledSections.{All-each}
 use Rattle.wild_filled.proofs.Fillings.{Table, PackedTable, RelativeTable, GeneralTable, JumpTable, Filling, Makes, place_entry, packed_at, relative_of, general_of, HasChange, HasWord, IsKnown, place_loaded}
 use Rattle.wild_filled.proofs.SectionsKnown.{MakesThat, makes_that, has_change, RelativeLaws, relative_makes}
 use Rattle.wild_filled.proofs.SlotFillings.{address_filling, slot_filling, block_filling, pair_sites, got_sites, made_of}
@@ -111,9 +112,6 @@ place_there l s x c = by_resolution s.resolution refl
     by_resolution None e = absurd (no_site (slots_at s) (slots_of l s).words x (ap (λ (o : Option Resolution). (resolved_slots l o).words) e) c)
     by_resolution (Some r) e = by_place r r.got_address e refl
 
-pub listed_word : (xs : List SlotWord) (i : ℕ) (x : SlotWord) → slice_get xs i ≡ Some x → Contains xs x
-listed_word xs i x e = (i, slice_get_within xs i x e, get_or_from_slice_get xs i x x e)
-
 word_fills : (w : World) (d : SlotWord) → ((e : SlotEntry) → entry_in d ≡ Some e → FillsSlot w e) → WordFills w d
 word_fills w (Number n) h = tt
 word_fills w (Address a) h = tt
@@ -134,7 +132,7 @@ site_known l w s x laws h listed c =
     record {
       stored = subst (λ (a : ℕ). IsWordStored l w a x.word) is b;
       low = omega (arith, place);
-      fits = All-contains WordFits (slots_of l s).words x.word (words_fit l s numbers) (listed_word (slots_of l s).words k.index x.word k.word);
+      fits = All-contains WordFits (slots_of l s).words x.word (words_fit l s numbers) (listed_at (slots_of l s).words k.index x.word k.word);
       fills = word_fills w x.word (λ e entry. laws.changes.slots l w listed.0 k.index s x.word e h.x86 h.numbers h.legal h.laid h.whole there k.word entry);
     }
 
@@ -163,7 +161,7 @@ pair_known l w x laws h c = by_place l.tlsld refl
         let ends = b.ends in
         let place = k.place in
         let is : at + word_size * k.index ≡ x.at = omega (arith, ends, place) in
-        let listed = listed_word (storage_words l) k.index x.word k.word in
+        let listed = listed_at (storage_words l) k.index x.word k.word in
         record {
           stored = subst (λ (a : ℕ). IsWordStored l w a x.word) is b;
           low = omega (arith, place);
@@ -262,15 +260,15 @@ pub filled_places : (l : Layout) (P : ℕ → Type 0) (xs : List SlotSite) → A
 filled_places l P [] h = All-nil (FromPlace P)
 filled_places l P (x ∷ xs) h =
     All-append (FromPlace P) (of_site (slot_filling l) x) (made_of (slot_filling l) xs)
-    (filled_place l P x (All-left P (of_site (place_in words.Got) x) (made_of (place_in words.Got) xs) h))
-    (filled_places l P xs (All-right P (of_site (place_in words.Got) x) (made_of (place_in words.Got) xs) h))
+    (filled_place l P x (All-append-left P (of_site (place_in words.Got) x) (made_of (place_in words.Got) xs) h))
+    (filled_places l P xs (All-append-right P (of_site (place_in words.Got) x) (made_of (place_in words.Got) xs) h))
 
 -- a filling ahead of others
 filled_more : (w : World) (m : Memory) (low high : ℕ) (f : Filling) (xs : List Filling) → low ≤ f.entry.offset → f.entry.offset + f.width ≤ high → IsKnown w m f → All (λ (y : Filling). f.entry.offset + f.width ≤ y.entry.offset) xs → AreFilled w m low high xs → AreFilled w m low high (f ∷ xs)
 filled_more w m low high f xs from to known ahead h = record {
   from = All-cons (λ (x : Filling). low ≤ x.entry.offset) f xs from h.from;
   to = All-cons (λ (x : Filling). x.entry.offset + x.width ≤ high) f xs to h.to;
-  ascend = AllPairs-more (λ (x y : Filling). x.entry.offset + x.width ≤ y.entry.offset) f xs ahead h.ascend;
+  ascend = AllPairs-cons (λ (x y : Filling). x.entry.offset + x.width ≤ y.entry.offset) f xs ahead h.ascend;
   known = All-cons (IsKnown w m) f xs known h.known;
 }
 
@@ -315,15 +313,15 @@ two_known l w at next_at t e d c to x h s u is width =
 -- the rest of the places
 pub rest_ascend : (low high : ℕ) (xs ys : List ℕ) → Ascend 8 low high (xs ++ ys) → Ascend 8 low high ys
 rest_ascend low high xs ys h = record {
-  within = All-right (LiesWithin 8 low high) xs ys h.within;
+  within = All-append-right (LiesWithin 8 low high) xs ys h.within;
   ascend = AllPairs-right (λ (p q : ℕ). p + 8 ≤ q) xs ys h.ascend;
 }
 
 -- what stands behind a place
 pub behind_place : (low high a : ℕ) (ys : List ℕ) → Ascend 8 low high (a ∷ ys) → All (λ (q : ℕ). a + 8 ≤ q) ys
-behind_place low high a ys h = AllPairs-first (λ (p q : ℕ). p + 8 ≤ q) a ys h.ascend
+behind_place low high a ys h = AllPairs-head (λ (p q : ℕ). p + 8 ≤ q) a ys h.ascend
 
-abbrev got_places : List SlotSite → List ℕ
+abbrev pub got_places : List SlotSite → List ℕ
 got_places xs = made_of (place_in words.Got) xs
 
 -- a filling of one word, and those behind it
@@ -410,7 +408,7 @@ wide_site l w low high at (Plt e) y ys laws x s fits fills u num n h rest =
           wide_more l w low high at (record { table = JumpTable; entry = entry_at l.machine at e; width = filled_width e }) y ys refl (width_most e) is (number_none l y.at y.word num) (number_own y.at y.word num) (two_known l w at y.at JumpTable e (Plt e) y.word (λ r k c. c) x fills s u is both) h rest)
     ]
 
-tail_ascend : (low high : ℕ) (x : SlotSite) (xs : List SlotSite) → Ascend 8 low high (got_places (x ∷ xs)) → Ascend 8 low high (got_places xs)
+pub tail_ascend : (low high : ℕ) (x : SlotSite) (xs : List SlotSite) → Ascend 8 low high (got_places (x ∷ xs)) → Ascend 8 low high (got_places xs)
 tail_ascend low high x xs h = rest_ascend low high (of_site (place_in words.Got) x) (got_places xs) h
 
 -- the fillings of words that ascend
@@ -418,7 +416,7 @@ pub sites_filled : (l : Layout) (w : World) (low high : ℕ) (xs : List SlotSite
 sites_filled l w low high [] laws x spaced known h = record {
   from = All-nil (λ (x : Filling). low ≤ x.entry.offset);
   to = All-nil (λ (x : Filling). x.entry.offset + x.width ≤ high);
-  ascend = AllPairs-none (λ (x y : Filling). x.entry.offset + x.width ≤ y.entry.offset);
+  ascend = AllPairs-nil (λ (x y : Filling). x.entry.offset + x.width ≤ y.entry.offset);
   known = All-nil (IsKnown w (image_memory l w));
 }
 sites_filled l w low high (a ∷ []) laws x spaced known h =
@@ -456,8 +454,8 @@ pub blocks_placed : (P : ℕ → Type 0) (xs : List SlotSite) → All P (made_of
 blocks_placed P [] h = All-nil (FromPlace P)
 blocks_placed P (x ∷ xs) h =
     All-append (FromPlace P) (of_site block_filling x) (made_of block_filling xs)
-    (one x.at x.word (All-left P (of_site block_place x) (made_of block_place xs) h))
-    (blocks_placed P xs (All-right P (of_site block_place x) (made_of block_place xs) h))
+    (one x.at x.word (All-append-left P (of_site block_place x) (made_of block_place xs) h))
+    (blocks_placed P xs (All-append-right P (of_site block_place x) (made_of block_place xs) h))
   where
     one : (at : ℕ) (d : SlotWord) → All P (option_to_list (block_place at d)) → All (FromPlace P) (option_to_list (block_filling at d))
     one at (Number n) h = All-nil (FromPlace P)
@@ -479,7 +477,7 @@ blocks_wide (x ∷ xs) = All-append (λ (x : Filling). x.width ≡ 8) (of_site b
     one at (InBlock a) = All-cons (λ (x : Filling). x.width ≡ 8) (packed_at at) [] refl (All-nil (λ (x : Filling). x.width ≡ 8))
 
 pub blocks_ascend : (low high : ℕ) (xs : List SlotSite) → Ascend 8 low high (made_of block_place xs) → AllPairs (λ (x y : Filling). x.entry.offset + x.width ≤ y.entry.offset) (made_of block_filling xs)
-blocks_ascend low high [] h = AllPairs-none (λ (x y : Filling). x.entry.offset + x.width ≤ y.entry.offset)
+blocks_ascend low high [] h = AllPairs-nil (λ (x y : Filling). x.entry.offset + x.width ≤ y.entry.offset)
 blocks_ascend low high (x ∷ xs) h = one x.at x.word h (blocks_ascend low high xs (rest_ascend low high (of_site block_place x) (made_of block_place xs) h))
   where
     R : Filling → Filling → Type 0
@@ -490,4 +488,4 @@ blocks_ascend low high (x ∷ xs) h = one x.at x.word h (blocks_ascend low high 
     one at (Address a) h rest = rest
     one at (General e) h rest = rest
     one at (Plt e) h rest = rest
-    one at (InBlock a) h rest = AllPairs-more R (packed_at at) (made_of block_filling xs) (blocks_placed (λ (q : ℕ). at + 8 ≤ q) xs (behind_place low high at (made_of block_place xs) h)) rest
+    one at (InBlock a) h rest = AllPairs-cons R (packed_at at) (made_of block_filling xs) (blocks_placed (λ (q : ℕ). at + 8 ≤ q) xs (behind_place low high at (made_of block_place xs) h)) rest

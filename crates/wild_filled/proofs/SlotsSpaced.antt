@@ -24,6 +24,7 @@ use Rattle.wild_types.specs.FileSymbols.{own_symbols}
 use Rattle.wild_slot.specs.SymbolWords.{slots_of, resolved_slots}
 use Rattle.wild_needs.specs.SlotShares.{storage_words}
 use Rattle.wild_slot.specs.Stub.{far_of}
+use Rattle.wild_slot.proofs.SlotLemmas.{items_joined}
 use Rattle.wild_loaded.specs.Stored.{filled_width}
 use Rattle.wild_loaded.proofs.SlotSites.{SlotSite, sites_at, symbol_sites, file_sites, group_sites, all_sites}
 use Rattle.wild_filled.proofs.SlotFillings.{IsPairWord, pair_words, pair_sites, got_sites}
@@ -107,10 +108,6 @@ pair_spaced c x n h = by_fault c.words c.has_stub c.fault x h
     by_fault ws b None x h = by_item ws b x h
     by_fault ws b (Some f) x h = h
 
-items_join : (c : SlotContent) (xs ys : List SlotItem) → with_items c (xs ++ ys) ≡ with_items (with_items c xs) ys
-items_join c [] ys = refl
-items_join c (x ∷ xs) ys = items_join (with_item c x) xs ys
-
 -- ---- the slots of a symbol
 
 offset_plain : (s : Setting) (r : Resolution) → AllPlain (offset_items s r)
@@ -143,7 +140,7 @@ thread_spaced s r =
     let first = all_plain no_slot a (offset_plain s r) tt in
     let second = all_plain (with_items no_slot a) b (module_plain s r) first in
     let third = described (with_items (with_items no_slot a) b) (has_flag r.flags got_tls_descriptor) second in
-    let e : with_items no_slot (a ++ (b ++ c)) ≡ with_items (with_items (with_items no_slot a) b) c = items_join no_slot a (b ++ c) ∙ items_join (with_items no_slot a) b c in
+    let e : with_items no_slot (a ++ (b ++ c)) ≡ with_items (with_items (with_items no_slot a) b) c = items_joined no_slot a (b ++ c) ∙ items_joined (with_items no_slot a) b c in
     subst (λ (x : SlotContent). Spaced x.words) (sym e) third
   where
     described : (c : SlotContent) (b : Bool) → Spaced c.words → Spaced (with_items c (where_so b (descriptor_item s r ∷ number 0 ∷ []))).words

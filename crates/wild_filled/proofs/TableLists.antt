@@ -3,9 +3,11 @@ use Rattle.std.proofs.Common.{◌≡◌, ℕ, List, [], ◌∷◌, ◌++◌, map
 use Rattle.std.specs.Prelude.{IsPermutation}
 use Rattle.std.specs.List.{flat_map}
 use Rattle.std.proofs.lemmas.List.{append-nil}
-use Rattle.std.proofs.lemmas.List.Concat.{flat_map-append}
+use Rattle.std.proofs.lemmas.List.Concat.{flat_map-append, flat_map_single}
 use Rattle.std.proofs.lemmas.List.Folds.{flat_map-map}
 use Rattle.std.proofs.lemmas.List.Sorted.{IsPermutation-refl, IsPermutation-sym, IsPermutation-trans, IsPermutation-append, IsPermutation-append_left, IsPermutation-append_right, IsPermutation-append_comm}
+use Rattle.wild_words.proofs.Basics.{map-flat_map}
+use Rattle.wild_words.proofs.ListLemmas.{flat_map-same, flat_map-flat_map}
 use Rattle.wild_records.specs.declared.relocations.Rela.{Rela}
 use Rattle.wild_types.specs.declared.input.InputSection.{InputSection}
 use Rattle.wild_slot.specs.declared.slot_parts.EntryPart.{EntryPart}
@@ -23,8 +25,7 @@ use Rattle.wild_layout.specs.Left.{section_generals, copy_entry, file_generals}
 use Rattle.wild_layout.specs.SlotBytes.{slot_entries_of, storage_entries}
 use Rattle.wild_loader.specs.declared.world.World.{World}
 use Rattle.wild_loaded.specs.Tables.{relatives, first_generals, generals, tables_of}
-use Rattle.wild_loaded.proofs.SlotSites.{flat_map-flat_map, flat_map-same, of_site, entries_by_sites, all_sites, all_by_sites}
-use Rattle.wild_filled.proofs.PairLemmas.{map-flat_map}
+use Rattle.wild_loaded.proofs.SlotSites.{of_site, entries_by_sites, all_sites, all_by_sites}
 use Rattle.wild_filled.proofs.Permuted.{nested-parts}
 use Rattle.wild_filled.proofs.Fillings.{Filling, packed_in, relative_in, general_in, jump_in}
 use Rattle.wild_filled.proofs.SectionsApart.{all_sections, by_files}
@@ -123,17 +124,13 @@ relative_sorted l =
 abbrev general_list : Layout → List Rela
 general_list l = (flat_map (section_generals l) (all_sections l) ++ (storage_entries l ++ made_of (entry_of entries.General l.machine l.options.relr) (all_sites l))) ++ map (copy_entry l) (all_copies l)
 
-map-one : {X Y : Type 0} (f : X → Y) (xs : List X) → flat_map (λ x. f x ∷ []) xs ≡ map f xs
-map-one f [] = refl
-map-one f (x ∷ xs) = ap (λ ys. f x ∷ ys) (map-one f xs)
-
 all_general : (l : Layout) (w : World) → flat_map general_in (all_fillings l w) ≡ general_list l
 all_general l w =
     in_all general_in l w (flat_map (section_generals l) (all_sections l)) (storage_entries l ++ made_of (entry_of entries.General l.machine l.options.relr) (all_sites l)) [] (map (copy_entry l) (all_copies l))
     (in_sections general_in l (section_generals l) (generals_are l))
     (slots_general l (got_sites l) ∙ flat_map-append (of_site (entry_of entries.General l.machine l.options.relr)) (pair_sites l) (all_sites l) ∙ ap (λ (ys : List Rela). ys ++ made_of (entry_of entries.General l.machine l.options.relr) (all_sites l)) (pair_general l))
     (blocks_general (all_sites l))
-    (flat_map-map general_in (copy_filling l w) (all_copies l) ∙ map-one (copy_entry l) (all_copies l))
+    (flat_map-map general_in (copy_filling l w) (all_copies l) ∙ flat_map_single (copy_entry l) (all_copies l))
     ∙ ap (λ (ys : List Rela). (flat_map (section_generals l) (all_sections l) ++ ys) ++ map (copy_entry l) (all_copies l)) (append-nil (storage_entries l ++ made_of (entry_of entries.General l.machine l.options.relr) (all_sites l)))
 
 -- the entries of files for copies and fields

@@ -1,8 +1,9 @@
 -- The segments carry the bytes of parts and of input sections to their addresses.
-use Rattle.std.proofs.Common.{◌≡◌, ℕ, zero, suc, ◌+◌, ◌-◌, ◌<◌, ◌≤◌, ◌==◌, nat_lt, nat_le, Bool, true, false, not, ◌&&◌, ◌||◌, List, [], ◌∷◌, length, drop, get_or, All, Contains, Option, Some, slice_get, refl, arith, subst}
+use Rattle.std.proofs.Common.{◌≡◌, ℕ, zero, suc, ◌+◌, ◌-◌, ◌<◌, ◌≤◌, ◌==◌, nat_lt, nat_le, true, false, not, ◌&&◌, ◌||◌, List, [], ◌∷◌, length, drop, get_or, All, Contains, Option, Some, slice_get, refl, arith, subst}
 use Rattle.std.specs.List.{list_any}
 use Rattle.std.proofs.lemmas.Bool.{and_parts, and_from, leb-true, ltb-true, eqb-true, eqb-false, ne_eqb, not-true, not_from_false}
 use Rattle.wild_words.proofs.ListLemmas.{Found, Found-from_list_any, ItemAt-within, holds_at}
+use Rattle.wild_words.proofs.Basics.{implied, or_other}
 use Rattle.wild_records.specs.Abi.Section.{sht_nobits}
 use Rattle.wild_records.specs.Abi.Segment.{pt_load}
 use Rattle.wild_types.specs.declared.part.Part.{Part}
@@ -23,14 +24,6 @@ use Rattle.wild_layout.specs.Loadable.{IsMapped, IsPartMapped}
 use Rattle.wild_geometry.proofs.LaidLemmas.{Laid}
 use Rattle.wild_geometry.proofs.SectionLemmas.{Holds, Stood}
 use Rattle.wild_geometry.proofs.PieceLemmas.{place_is}
-
-pub implied : (b c : Bool) → (not b || c) ≡ true → b ≡ true → c ≡ true
-implied true c h e = h
-implied false c h e = cc
-
-pub other : (b c : Bool) → (b || c) ≡ true → b ≡ false → c ≡ true
-other true c h e = cc
-other false c h e = h
 
 -- ---- a section with data
 
@@ -78,7 +71,7 @@ level_by s p h k a =
 
 pub part_level : (l : Layout) (p : Part) → part_lies l p ≡ true → (o : Filled l p.section) → Level o.section p
 part_level l p lies o =
-    let in' : lies_by (slice_get l.sections p.section) p ≡ true = other (p.section == 0) (lies_by (slice_get l.sections p.section) p) lies (ne_eqb _ _ o.later) in
+    let in' : lies_by (slice_get l.sections p.section) p ≡ true = or_other (p.section == 0) (lies_by (slice_get l.sections p.section) p) lies (ne_eqb _ _ o.later) in
     level_by o.section p (subst (λ (x : Option Section). lies_by x p ≡ true) o.is in') o.bits o.allocated
 
 -- ---- the segment of a byte
@@ -95,7 +88,7 @@ carries_by s a g h k =
     let b = and_parts (g.kind == pt_load && (nat_le g.address a && nat_lt a (g.address + g.file_size))) (s.kind == sht_nobits || at_equal_distance s g) h in
     let c = and_parts (g.kind == pt_load) (nat_le g.address a && nat_lt a (g.address + g.file_size)) b.0 in
     let d = and_parts (nat_le g.address a) (nat_lt a (g.address + g.file_size)) c.1 in
-    let e : at_equal_distance s g ≡ true = other (s.kind == sht_nobits) (at_equal_distance s g) b.1 k in
+    let e : at_equal_distance s g ≡ true = or_other (s.kind == sht_nobits) (at_equal_distance s g) b.1 k in
     record { loaded = eqb-true _ _ c.0; from = leb-true _ _ d.0; to = ltb-true _ _ d.1; distance = eqb-true _ _ e }
 
 segment_of : (segments : List Segment) (s : Section) → bytes_are_loaded side.File segments s ≡ true → allocated s.flags ≡ true → (s.kind == sht_nobits) ≡ false → (k : ℕ) → k < s.size → Found (has_byte side.File s (s.address + k)) segments
@@ -144,7 +137,7 @@ pub IsPartMapped-from_laid : (l : Layout) → Laid l → (i : ℕ) (d : Part) �
 IsPartMapped-from_laid l h i d low kind loaded k lt =
     let p = get_or l.parts i d in
     let asked : (is_partial_link l.kind || not (is_loaded_role p.role)) ≡ false = rw (kind, loaded) refl in
-    let both = and_parts (is_allocated_section l p.section) (takes_file_bytes l p.section) (other (is_partial_link l.kind || not (is_loaded_role p.role)) (is_allocated_section l p.section && takes_file_bytes l p.section) (h.parts.loaded i d low) asked) in
+    let both = and_parts (is_allocated_section l p.section) (takes_file_bytes l p.section) (or_other (is_partial_link l.kind || not (is_loaded_role p.role)) (is_allocated_section l p.section && takes_file_bytes l p.section) (h.parts.loaded i d low) asked) in
     let o = Filled-from_tests l p.section (ltb-true _ _ (h.indexes.parts i d low)) both.0 both.1 in
     let c = byte_of_part l h p (h.parts.lie i d low) o k lt in
     (c.segment, record { listed = c.listed; loaded = c.loaded; from = c.from; to = c.to; distance = c.distance })

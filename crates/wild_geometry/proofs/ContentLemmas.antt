@@ -3,6 +3,7 @@ use Rattle.std.proofs.Common.{◌≡◌, ℕ, ◌+◌, ◌*◌, inl, inr, Bool, 
 use Rattle.std.specs.Prelude.{Option, Some, option_map, option_to_list}
 use Rattle.std.proofs.lemmas.Bool.{cases_Bool}
 use Rattle.std.proofs.lemmas.List.{length-append, length-map}
+use Rattle.wild_words.proofs.Basics.{length-if, nil_if, flat_map-none}
 use Rattle.wild_records.specs.Dynamic.{dynamic_entry_size}
 use Rattle.wild_records.specs.SymtabEntry.{symtab_entry_size}
 use Rattle.wild_relr.proofs.SpellLemmas.{length-word_bytes}
@@ -36,6 +37,7 @@ use Rattle.wild_needs.specs.TableSymbols.{has_long, local_count, global_count, t
 use Rattle.wild_needs.specs.Versions.{needs_room}
 use Rattle.wild_symbols.specs.TableEntries.{file_table, table_entries, long_indexes, index_bytes}
 use Rattle.wild_needs.specs.SlotShares.{block_share}
+use Rattle.wild_needs.proofs.DynamicLemmas.{length_needed_entries}
 use Rattle.wild_layout.specs.Content.{whole_bytes, own_bytes, dynamic_room, file_content, dynamic_of, group_bytes, content}
 use Rattle.wild_layout.specs.Left.{left_entry, section_generals, copy_entry, file_generals}
 use Rattle.wild_tables.specs.Tables.{relative_entry}
@@ -43,7 +45,7 @@ use Rattle.wild_layout.specs.Moved.{moved_value, listed_entry, section_entries, 
 use Rattle.wild_layout.specs.SlotBytes.{slot_bytes, header_bytes}
 use Rattle.wild_geometry.proofs.LastGroupLemmas.{has_last, some_if}
 use Rattle.wild_geometry.proofs.SlotLengths.{slot_length, header_length, block_length}
-use Rattle.wild_geometry.proofs.SymbolLengths.{length-group_symbols, length-needed_entries}
+use Rattle.wild_geometry.proofs.SymbolLengths.{length-group_symbols}
 use Rattle.wild_geometry.proofs.HashLengths.{sysv_length, gnu_length}
 
 -- ---- sums
@@ -115,10 +117,6 @@ general_length l f =
 
 -- ---- what one file gives
 
-if_length : {X : Type 0} (b : Bool) (xs : List X) (n : ℕ) → length xs ≡ n → length (if b then xs else []) ≡ (if b then n else 0)
-if_length true xs n h = h
-if_length false xs n h = refl
-
 -- of a part that is told group by group, and to which no file gives anything by itself
 abbrev is_by_group : Role → Bool
 is_by_group role.Dynsym = true
@@ -183,7 +181,7 @@ file_length : (l : Layout) (r : Role) (f : File) → is_by_group r ≡ false →
 file_length l r f n =
     let first = if is_prelude f.role then whole_bytes l r ++ header_bytes l r else [] in
     let a = length-append first (own_bytes l r f) in
-    let b = if_length (is_prelude f.role) (whole_bytes l r ++ header_bytes l r) (first_share l r) (first_length l r) in
+    let b = length-if (is_prelude f.role) (whole_bytes l r ++ header_bytes l r) (first_share l r) (first_length l r) in
     let c = length-append (first ++ own_bytes l r f) (slot_bytes l r f) in
     let d = own_length l r f n in
     let e = slot_length l r f in
@@ -211,17 +209,6 @@ pub zero_if : (b : Bool) → some_if 0 b ≡ 0
 zero_if true = refl
 zero_if false = refl
 
-abbrev no_bytes : List ℕ
-no_bytes = []
-
-nil_if : (b : Bool) → (if b then no_bytes else no_bytes) ≡ []
-nil_if true = refl
-nil_if false = refl
-
-nil_joined : {X : Type 0} (f : X → List ℕ) (xs : List X) → ((x : X) → f x ≡ []) → flat_map f xs ≡ []
-nil_joined f [] h = refl
-nil_joined f (x ∷ xs) h = rw (h x) (nil_joined f xs h)
-
 -- what is told by the group, no file gives
 no_content : (l : Layout) (r : Role) (f : File) → is_by_group r ≡ true → file_content l r f ≡ []
 no_content l role.Dynsym f n = rw (nil_if (is_prelude f.role)) refl
@@ -232,7 +219,7 @@ no_content l role.SymtabGlobal f n = rw (nil_if (is_prelude f.role)) refl
 no_content l other f n = cc
 
 by_group_content : (l : Layout) (r : Role) (g : Group) → is_by_group r ≡ true → content l r g ≡ group_bytes l r g
-by_group_content l r g n = rw (nil_joined (file_content l r) g.files (λ f. no_content l r f n)) refl
+by_group_content l r g n = rw (flat_map-none (file_content l r) g.files (λ f. no_content l r f n)) refl
 
 -- and a file's share of it is its own
 own_share : (l : Layout) (r : Role) (f : File) → first_share l r ≡ 0 → length (slot_bytes l r f) ≡ 0 → share l r f ≡ own_of l r f
@@ -290,8 +277,8 @@ length-dynamic_content l g =
     let needed = entries_bytes (needed_entries l g) in
     let a = length-append needed (if has_last g then dynamic_bytes l (dynamic_room l) else []) in
     let b = length_entries (needed_entries l g) in
-    let c = length-needed_entries l g in
-    let d = if_length (has_last g) (dynamic_bytes l (dynamic_room l)) (length (dynamic_bytes l (dynamic_room l))) refl in
+    let c = length_needed_entries l g in
+    let d = length-if (has_last g) (dynamic_bytes l (dynamic_room l)) (length (dynamic_bytes l (dynamic_room l))) refl in
     rw (dynamic_content l g) (omega arith)
 
 pub dynamic_share : (l : Layout) (g : Group) → group_share l role.Dynamic g ≡ dynamic_entry_size * total (needed_count l) g.files + total (λ (f : File). last_of f.role (dynamic_entry_size * dynamic_count l)) g.files

@@ -2,6 +2,7 @@
 use Rattle.std.proofs.Common.{◌≡◌, ℕ, zero, suc, ◌+◌, ◌-◌, ◌<◌, ◌≤◌, inl, inr, ◌==◌, true, not, ◌&&◌, List, [], ◌∷◌, length, drop, Option, Some, None, slice_get, refl, sym, ap, ◌∙◌, arith, subst}
 use Rattle.std.proofs.lemmas.Bool.{cases_Bool, and_parts, ltb-true, eqb-true, eq-eqb}
 use Rattle.std.proofs.lemmas.Option.{same_Some}
+use Rattle.wild_words.proofs.Basics.{implied}
 use Rattle.wild_records.specs.Abi.Section.{sht_nobits, sht_rela}
 use Rattle.wild_types.specs.declared.part.Part.{Part}
 use Rattle.wild_types.specs.declared.part.Role.{Role}
@@ -15,12 +16,13 @@ use Rattle.wild_clauses.specs.Places.{part_lies}
 use Rattle.wild_clauses.specs.LoadedTables.{holds_entries, entries_astray, stands_in_entries}
 use Rattle.wild_clauses.specs.ClauseTests.{check_entries}
 use Rattle.wild_types.proofs.ListLemmas.{All-from_none_fails}
+use Rattle.wild_clauses.proofs.ClauseLemmas.{None-from_fails}
 use Rattle.wild_layout.specs.Loadable.{EntriesLie, HasEntriesAlone}
-use Rattle.wild_geometry.proofs.ClauseLemmas.{Both-from_first_error, None-from_fails}
+use Rattle.wild_geometry.proofs.ClauseLemmas.{Both-from_first_error}
 use Rattle.wild_geometry.proofs.LaidLemmas.{Laid}
 use Rattle.wild_geometry.proofs.RoleLemmas.{FoundAt-from_find}
 use Rattle.wild_geometry.proofs.TableLemmas.{same_role}
-use Rattle.wild_geometry.proofs.CarriedLemmas.{implied, Filled, Filled-from_tests, part_level}
+use Rattle.wild_geometry.proofs.CarriedLemmas.{Filled, Filled-from_tests, part_level}
 
 -- ---- what the clause says of a section
 

@@ -8,10 +8,10 @@ use Rattle.wild_types.specs.declared.file.Group.{Group}
 use Rattle.wild_types.specs.declared.layout.Layout.{Layout}
 use Rattle.wild_types.specs.FileRoles.{is_prelude, is_epilogue}
 use Rattle.wild_types.specs.FilePlaces.{bool_eq, file_placed, later_placed, files_placed, file_misplaced}
+use Rattle.wild_types.proofs.FileLemmas.{same_bool}
 use Rattle.wild_layout.specs.Content.{whole_bytes, own_bytes, file_content, group_bytes, content}
 use Rattle.wild_layout.specs.SlotBytes.{slot_bytes, header_bytes}
 use Rattle.wild_geometry.proofs.ClauseLemmas.{SharesHold}
-use Rattle.wild_geometry.proofs.LastGroupLemmas.{same_bool}
 
 -- no file and no group gives anything to the part of the role
 pub record StandsOnce (l : Layout) (r : Role) : Type 0 where

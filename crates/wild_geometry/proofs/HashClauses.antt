@@ -10,10 +10,11 @@ use Rattle.wild_needs.specs.DynamicSymbols.{first_listed}
 use Rattle.wild_needs.specs.HashShapes.{sysv_fits, gnu_fits, gnu_shape_fits, bucket_of, bucket_below, bucket_astray}
 use Rattle.wild_types.specs.Lists.{unless}
 use Rattle.wild_clauses.specs.ClauseTests.{fails, first_error, check_hashes}
+use Rattle.wild_clauses.proofs.ClauseLemmas.{None-from_fails}
 use Rattle.wild_hashes.specs.Laws.{ascends, ascends_from}
 use Rattle.wild_hashes.specs.Tables.{gnu_hash_of}
 use Rattle.wild_layout.specs.HashShapes.{HasGnuShape, HasHashShapes}
-use Rattle.wild_geometry.proofs.ClauseLemmas.{Both-from_first_error, None-from_fails, holds_from_unless}
+use Rattle.wild_geometry.proofs.ClauseLemmas.{Both-from_first_error, holds_from_unless}
 
 -- ---- symbols ascend by bucket
 

@@ -1,7 +1,8 @@
 -- How many bytes the hash tables of the dynamic symbols have.
-use Rattle.std.proofs.Common.{◌≡◌, ℕ, Bool, true, false, ◌&&◌, if◌then◌else◌, List, [], length, map, refl, arith}
+use Rattle.std.proofs.Common.{◌≡◌, length, map, refl, arith}
 use Rattle.std.specs.Prelude.{Option, Some, None}
 use Rattle.std.proofs.lemmas.List.{length-append, length-map}
+use Rattle.wild_words.proofs.Basics.{length-if_both}
 use Rattle.wild_types.specs.declared.file.File.{File}
 use Rattle.wild_types.specs.declared.layout.DynamicSymbol.{DynamicSymbol}
 use Rattle.wild_types.specs.declared.layout.SysvHash.{SysvHash}
@@ -32,14 +33,8 @@ length-gnu_bytes l (Some h) =
     let b = length-map l.dynsyms gnu_hash_of in
     omega arith
 
--- the last file's
-last_length : (needs last : Bool) (bytes : List ℕ) (n : ℕ) → length bytes ≡ n → length (if needs && last then bytes else []) ≡ (if needs then (if last then n else 0) else 0)
-last_length true true bytes n h = h
-last_length true false bytes n h = refl
-last_length false last bytes n h = refl
-
 pub sysv_length : (l : Layout) (f : File) → length (of_last l f (sysv_bytes l l.sysv_hash)) ≡ last_dynamic l f.role (sysv_room l l.sysv_hash)
-sysv_length l f = last_length (needs_dynsym l.kind) (is_epilogue f.role) (sysv_bytes l l.sysv_hash) (sysv_room l l.sysv_hash) (length-sysv_bytes l l.sysv_hash)
+sysv_length l f = length-if_both (needs_dynsym l.kind) (is_epilogue f.role) (sysv_bytes l l.sysv_hash) (sysv_room l l.sysv_hash) (length-sysv_bytes l l.sysv_hash)
 
 pub gnu_length : (l : Layout) (f : File) → length (of_last l f (gnu_bytes l l.gnu_hash)) ≡ last_dynamic l f.role (gnu_room l l.gnu_hash)
-gnu_length l f = last_length (needs_dynsym l.kind) (is_epilogue f.role) (gnu_bytes l l.gnu_hash) (gnu_room l l.gnu_hash) (length-gnu_bytes l l.gnu_hash)
+gnu_length l f = length-if_both (needs_dynsym l.kind) (is_epilogue f.role) (gnu_bytes l l.gnu_hash) (gnu_room l l.gnu_hash) (length-gnu_bytes l l.gnu_hash)

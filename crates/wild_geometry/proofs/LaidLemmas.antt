@@ -12,12 +12,13 @@ use Rattle.wild_clauses.specs.VersionTables.{parent_is_there}
 use Rattle.wild_clauses.specs.ClauseTests.{fails, check_inputs, check_indexes, check_fields, check_starts}
 use Rattle.wild_clauses.specs.WellFormed.{first_clause}
 use Rattle.wild_types.proofs.ListLemmas.{All-from_none_fails}
+use Rattle.wild_clauses.proofs.ClauseLemmas.{None-from_fails}
 use Rattle.wild_layout.specs.Faults.{flat_map_from, part_errors}
 use Rattle.wild_layout.specs.SlotOrder.{SlotsFollow, FlagsAgree}
 use Rattle.wild_layout.specs.ListedSymbols.{AreListed}
 use Rattle.wild_layout.specs.HashShapes.{HasHashShapes}
 use Rattle.wild_layout.specs.VersionOrder.{HasVersionsInOrder}
-use Rattle.wild_geometry.proofs.ClauseLemmas.{Both-from_first_error, None-from_fails, NoneFails-from_first_clause, SizesFit, SizesFit-from_check, CountsFit, CountsFit-from_check, OrderHolds-from_check, RolesHold, RolesHold-from_check, PartsLie, PartsLie-from_check, SegmentsHold, SegmentsHold-from_check, SharesHold, SharesHold-from_check}
+use Rattle.wild_geometry.proofs.ClauseLemmas.{Both-from_first_error, NoneFails-from_first_clause, SizesFit, SizesFit-from_check, CountsFit, CountsFit-from_check, OrderHolds-from_check, RolesHold, RolesHold-from_check, PartsLie, PartsLie-from_check, SegmentsHold, SegmentsHold-from_check, SharesHold, SharesHold-from_check}
 use Rattle.wild_geometry.proofs.SlotClauses.{SlotsFollow-from_check, FlagsAgree-from_check}
 use Rattle.wild_geometry.proofs.ListedClauses.{AreListed-from_checks}
 use Rattle.wild_geometry.proofs.HashClauses.{HasHashShapes-from_check}

@@ -3,23 +3,17 @@ use Rattle.std.proofs.Common.{◌≡◌, ℕ, suc, ◌+◌, ◌<◌, ◌≤◌, 
 use Rattle.std.specs.Prelude.{◌==◌, None}
 use Rattle.std.proofs.lemmas.Bool.{cases_Bool, eq-eqb, ne_eqb, eqb-true, eqb-false}
 use Rattle.std.proofs.lemmas.List.{append-nil, append_assoc}
-use Rattle.std.proofs.lemmas.Grind.{flat_map-append}
-use Rattle.wild_words.specs.Record.{spell}
-use Rattle.wild_records.specs.Dynamic.{dynamic_entry_fields}
-use Rattle.wild_records.specs.declared.dynamic.DynamicEntry.{DynamicEntry}
 use Rattle.wild_types.specs.declared.part.Role.TheVariants as role
 use Rattle.wild_types.specs.declared.file.Group.{Group}
 use Rattle.wild_types.specs.declared.layout.Layout.{Layout}
 use Rattle.wild_types.specs.FilePlaces.{file_misplaced}
 use Rattle.wild_needs.specs.DynamicStrings.{needed_entries}
 use Rattle.wild_tables.specs.Dynamic.{entries_bytes, dynamic_bytes}
+use Rattle.wild_tables.proofs.DynamicLemmas.{entries_joined}
 use Rattle.wild_layout.specs.Content.{dynamic_room, content}
 use Rattle.wild_layout.specs.TablePlaces.{table_bytes, all_needed}
 use Rattle.wild_geometry.proofs.ContentLemmas.{dynamic_content}
 use Rattle.wild_geometry.proofs.LastGroupLemmas.{has_last, has_last-group}
-
-entries_joined : (xs ys : List DynamicEntry) → entries_bytes (xs ++ ys) ≡ entries_bytes xs ++ entries_bytes ys
-entries_joined xs ys = flat_map-append (λ (d : DynamicEntry). spell (dynamic_entry_fields d)) xs ys
 
 -- groups of which the last alone has the last file
 groups_last : (l : Layout) (g : Group) (gs : List Group) → ((k : ℕ) (d : Group) → k < length (g ∷ gs) → has_last (get_or (g ∷ gs) k d) ≡ (k + 1 == length (g ∷ gs)))

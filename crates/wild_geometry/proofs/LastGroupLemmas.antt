@@ -8,6 +8,7 @@ use Rattle.wild_types.specs.declared.file.Group.{Group}
 use Rattle.wild_types.specs.FilePlaces.{bool_eq, file_placed, later_placed, files_placed, file_misplaced}
 use Rattle.wild_types.specs.FileRoles.{is_prelude, is_epilogue}
 use Rattle.wild_types.specs.Lists.{total}
+use Rattle.wild_types.proofs.FileLemmas.{same_bool}
 use Rattle.wild_needs.specs.Needs.{last_of}
 
 -- the group has the last file
@@ -17,12 +18,6 @@ has_last g = list_any (λ (f : File). is_epilogue f.role) g.files
 -- a number, or none
 abbrev pub some_if : ℕ → Bool → ℕ
 some_if a b = if b then a else 0
-
-pub same_bool : (b c : Bool) → bool_eq b c ≡ true → b ≡ c
-same_bool true true h = refl
-same_bool true false h = cc
-same_bool false true h = cc
-same_bool false false h = refl
 
 -- one more file in front
 last_step : (a : ℕ) (last own : Bool) (fs : List File) → own ≡ (last && length fs == 0) → total (λ (x : File). last_of x.role a) fs ≡ (if last then (if length fs == 0 then 0 else a) else 0) → (if own then a else 0) + total (λ (x : File). last_of x.role a) fs ≡ (if last then a else 0)

@@ -12,9 +12,10 @@ use Rattle.wild_types.specs.Lists.{first_failing, unless}
 use Rattle.wild_clauses.specs.ZeroFree.{name_fits, option_names_fit, section_name_fits, symbol_name_fits, group_names_fit, listed_name_fits}
 use Rattle.wild_clauses.specs.ClauseTests.{fails, check_dynsyms, check_names}
 use Rattle.wild_types.proofs.ListLemmas.{All-from_none_fails}
+use Rattle.wild_clauses.proofs.ClauseLemmas.{None-from_fails}
 use Rattle.wild_hashes.specs.Reading.{HasNoZero}
 use Rattle.wild_layout.specs.ListedSymbols.{IsEntry, IsThere, AreListed}
-use Rattle.wild_geometry.proofs.ClauseLemmas.{Both-from_first_error, None-from_fails}
+use Rattle.wild_geometry.proofs.ClauseLemmas.{Both-from_first_error}
 
 -- ---- an index is the position of one symbol
 

@@ -3,7 +3,9 @@ use Rattle.std.proofs.Common.{◌≡◌, ℕ, ◌+◌, ◌≤◌, inl, inr, ◌=
 use Rattle.std.specs.List.{list_any}
 use Rattle.std.proofs.lemmas.Bool.{cases_Bool, and_parts, leb-true, eqb-true, eqb-false, ne_eqb}
 use Rattle.std.proofs.lemmas.List.Elements.{All-nil, All-cons}
+use Rattle.std.proofs.lemmas.List.{nil_from_length}
 use Rattle.wild_words.proofs.ListLemmas.{Found-from_list_any}
+use Rattle.wild_words.proofs.Basics.{implied, or_other}
 use Rattle.wild_records.specs.Abi.Segment.{pt_load, pt_dynamic}
 use Rattle.wild_types.specs.declared.part.Part.{Part}
 use Rattle.wild_types.specs.declared.part.Role.{Role}
@@ -17,8 +19,7 @@ use Rattle.wild_clauses.specs.Segments.{is_segment_of, dynamic_astray}
 use Rattle.wild_clauses.specs.LoadedTables.{begins_behind, entries_follow, rest_of_table, is_asked_whole, carries_part, carries_rest, carries_table, table_is_loaded}
 use Rattle.wild_layout.specs.Loadable.{IsStatic, HasSegment, IsCarriedWhole, BeginsBehind, AreCarriedTogether}
 use Rattle.wild_geometry.proofs.LaidLemmas.{Laid}
-use Rattle.wild_geometry.proofs.CarriedLemmas.{implied, other}
-use Rattle.wild_geometry.proofs.RoleLemmas.{FoundAt-from_find, nil_from_length, no_count, nothing_shared}
+use Rattle.wild_geometry.proofs.RoleLemmas.{FoundAt-from_find, no_count, nothing_shared}
 use Rattle.wild_records.specs.declared.dynamic.DynamicEntry.{DynamicEntry}
 use Rattle.wild_needs.specs.Dynamic.{dynamic_entries, dynamic_count}
 use Rattle.wild_loader.specs.Laws.{before_null}
@@ -123,7 +124,7 @@ table_carried l h needs r p asked there some =
     let size = ne_eqb p.size 0 (λ e. omega arith) in
     let none : (not (needs_dynamic l.kind) || not (is_asked_whole l p.role) || p.size == 0) ≡ false = rw (needs, whole, size) refl in
     let test = carries_table p (rest_of_table l.parts p) in
-    let found = Found-from_list_any test l.segments (other (not (needs_dynamic l.kind) || not (is_asked_whole l p.role) || p.size == 0) (list_any test l.segments) loaded none) in
+    let found = Found-from_list_any test l.segments (or_other (not (needs_dynamic l.kind) || not (is_asked_whole l p.role) || p.size == 0) (list_any test l.segments) loaded none) in
     let both = and_parts (carries_part p found.item) (carries_rest (rest_of_table l.parts p) found.item) found.passes in
     record { segment = found.item; listed = found.listed; part = both.0; behind = both.1 }
 
@@ -180,7 +181,7 @@ AreCarriedTogether-from_laid l h needs p q first second some more =
     let f = FoundAt-from_find (has_role role.RelaDynRelative) l.parts p first in
     let rest : rest_of_table l.parts p ≡ Some q = rw f.passes second in
     let P : Option Part → Type 0 = λ o. carries_rest o g ≡ true in
-    let passes = other (q.size == 0) (carries_part q g) (subst P rest c.behind) (ne_eqb q.size 0 (λ e. omega arith)) in
+    let passes = or_other (q.size == 0) (carries_part q g) (subst P rest c.behind) (ne_eqb q.size 0 (λ e. omega arith)) in
     let has = HasPart-from_test p g c.part in
     let has_rest = HasPart-from_test q g passes in
     let low = has.low in

@@ -1,9 +1,10 @@
 -- The parts of roles hold what the groups give to them.
 use Rattle.std.proofs.Common.{◌≡◌, ℕ, zero, suc, ◌+◌, ◌-◌, ◌*◌, ◌<◌, ◌≤◌, inl, inr, ◌==◌, ◌||◌, Bool, true, false, List, [], ◌∷◌, length, get_or, take, find, Contains, Some, None, flat_map, refl, sym, ap, ◌∙◌, arith, subst}
 use Rattle.std.specs.List.{list_any}
-use Rattle.std.proofs.lemmas.Bool.{cases_Bool, eqb-true, eqb-false, eq-eqb, ne_eqb}
+use Rattle.std.proofs.lemmas.Bool.{cases_Bool, eqb-true, eqb-false, eq-eqb}
 use Rattle.std.proofs.lemmas.Option.{same_Some}
 use Rattle.std.proofs.lemmas.List.Elements.{Contains-append_left}
+use Rattle.std.proofs.lemmas.List.{nil_from_length}
 use Rattle.wild_words.specs.Overlay.{Piece}
 use Rattle.wild_words.proofs.ListLemmas.{ItemAt-within, holds_at}
 use Rattle.wild_types.specs.declared.part.Part.{Part}
@@ -22,13 +23,15 @@ use Rattle.wild_records.specs.Dynamic.{dynamic_entry_size}
 use Rattle.wild_tables.specs.Dynamic.{dynamic_bytes}
 use Rattle.wild_tables.proofs.DynamicLemmas.{lengths}
 use Rattle.wild_types.specs.Parts.{role_place, has_role, part_with}
+use Rattle.wild_types.proofs.ListLemmas.{total-prefix}
+use Rattle.wild_types.proofs.PartLemmas.{not_raw}
 use Rattle.wild_layout.specs.Content.{room_behind, dynamic_room, content}
 use Rattle.wild_layout.specs.TablePlaces.{table_bytes, bytes_before, TableLies, HasTable}
 use Rattle.wild_layout.specs.Image.{given_before, some_piece, table_piece, table_pieces, owned_pieces, group_pieces, pieces}
 use Rattle.wild_geometry.proofs.LaidLemmas.{Laid}
 use Rattle.wild_geometry.proofs.InterleaveLemmas.{Contains-flat_map_from}
 use Rattle.wild_geometry.proofs.OrderLemmas.{EndsBy-image}
-use Rattle.wild_geometry.proofs.ShareLemmas.{total_same, total_within, content_is_given, size_from_shares}
+use Rattle.wild_geometry.proofs.ShareLemmas.{total_same, content_is_given, size_from_shares}
 use Rattle.wild_geometry.proofs.ContentLemmas.{length_joined, length-content, length-dynamic_content, dynamic_share}
 use Rattle.wild_geometry.proofs.LastGroupLemmas.{has_last, some_if, group_last}
 use Rattle.wild_geometry.proofs.TableLemmas.{role_at, role_listed, same_role}
@@ -66,10 +69,6 @@ none_passes t (x ∷ xs) h =
 take_all : {X : Type 0} (xs : List X) → take (length xs) xs ≡ xs
 take_all [] = refl
 take_all (x ∷ xs) = ap (λ ys. x ∷ ys) (take_all xs)
-
-pub nil_from_length : {X : Type 0} (xs : List X) → length xs ≡ 0 → xs ≡ []
-nil_from_length [] h = refl
-nil_from_length (x ∷ xs) h = absurd (omega arith)
 
 -- where nothing has to be written, nothing is given
 plain_nothing : (l : Layout) (r : Role) → (role_place r ≡ role_place role.Dynamic → ⊥) → (gs : List Group) → total (group_share l r) gs ≡ 0 → flat_map (content l r) gs ≡ []
@@ -121,7 +120,7 @@ no_count l h shared =
     let share = dynamic_share l (get_or l.groups (length l.groups - 1) item.item) in
     let own = group_last (dynamic_entry_size * dynamic_count l) true 0 l.groups h.shares.files (length l.groups - 1) item.item (omega arith) in
     let own' = rw (eq-eqb _ _ last) at own in
-    let whole = total_within (group_share l role.Dynamic) l.groups (length l.groups - 1) item.item (omega arith) in
+    let whole = total-prefix (group_share l role.Dynamic) l.groups (length l.groups - 1) item.item (omega arith) in
     omega arith
 
 -- and no group gives anything to the dynamic section
@@ -164,9 +163,6 @@ missing_table l h r none =
           subst Q (sym is) (dynamic_nothing l h gone (subst (λ (s : Role). total_share l s ≡ 0) is shared)))
       | inr f ↦ plain_nothing l r (eqb-false _ _ f) l.groups shared
     ]
-
-not_raw : (r : Role) (p : Part) → (role_place r ≡ 0 → ⊥) → p.role ≡ r → has_role role.Raw p ≡ false
-not_raw r p some has = ne_eqb (role_place p.role) 0 (λ e. some (sym (ap role_place has) ∙ e))
 
 -- part i is the part of the role
 table_lies : (l : Layout) → Laid l → (r : Role) → (role_place r ≡ 0 → ⊥) → (p : Part) (i : ℕ) → i < length l.parts → ((d : Part) → get_or l.parts i d ≡ p) → p.role ≡ r → TableLies l r p

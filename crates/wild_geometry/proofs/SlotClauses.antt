@@ -7,8 +7,9 @@ use Rattle.wild_clauses.specs.SlotPlaces.{slots_astray, slot_is_even, block_is_a
 use Rattle.wild_clauses.specs.SlotFlags.{dynamic_is_interposable, stub_is_value, stub_has_slot, one_slot_for_address, thread_slot_alone, resolver_is_own, slot_agrees, resolver_moves, second_slot_fits}
 use Rattle.wild_clauses.specs.ClauseTests.{fails, check_slots, check_slot_flags}
 use Rattle.wild_types.proofs.ListLemmas.{All-from_none_fails}
+use Rattle.wild_clauses.proofs.ClauseLemmas.{None-from_fails}
 use Rattle.wild_layout.specs.SlotOrder.{SlotsFollow, FlagsAgree, SlotsAreInOrder}
-use Rattle.wild_geometry.proofs.ClauseLemmas.{Both-from_first_error, None-from_fails, holds_from_unless, NoneFails-from_first_clause, SharesHold-from_check}
+use Rattle.wild_geometry.proofs.ClauseLemmas.{Both-from_first_error, holds_from_unless, NoneFails-from_first_clause, SharesHold-from_check}
 
 -- ---- clause 11
 

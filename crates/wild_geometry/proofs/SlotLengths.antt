@@ -21,6 +21,7 @@ use Rattle.wild_slot.specs.declared.slot_parts.EntryPart.TheVariants as entries
 use Rattle.wild_types.specs.Lists.{total}
 use Rattle.wild_needs.specs.SlotShares.{word_size, stub_size, words_in, entries_in, header_words, block_words, slot_share, header_share, block_share}
 use Rattle.wild_types.specs.FileSymbols.{own_symbols}
+use Rattle.wild_types.proofs.ListLemmas.{total-none}
 use Rattle.wild_slot.specs.SymbolWords.{slots_of}
 use Rattle.wild_slot.specs.Stub.{stub_x86_64, stub_template, displacement_x86_64}
 use Rattle.wild_tables.specs.Entries.{rela_bytes}
@@ -35,13 +36,6 @@ multiple_joined m zero sum f (x ∷ xs) =
     let b = multiple_joined m zero sum f xs in
     let c = sum (length (f x)) (length (flat_map f xs)) in
     rw a (omega arith)
-
-nothing_of_each : {X : Type 0} (f : X → ℕ) (xs : List X) → ((x : X) → f x ≡ 0) → total f xs ≡ 0
-nothing_of_each f [] h = refl
-nothing_of_each f (x ∷ xs) h =
-    let a = h x in
-    let b = nothing_of_each f xs h in
-    omega arith
 
 -- ---- by file
 
@@ -95,7 +89,7 @@ slot_length l role.RelrDyn f = flat_length l f
 slot_length l other f = nothing
   where
     nothing : 0 ≡ total (λ (s : Symbol). 0) (own_symbols l f)
-    nothing = let e = nothing_of_each (λ (s : Symbol). 0) (own_symbols l f) (λ s. refl) in omega arith
+    nothing = let e = total-none (λ (s : Symbol). 0) (own_symbols l f) (λ s. refl) in omega arith
 
 -- ---- what stands once, and blocks
 

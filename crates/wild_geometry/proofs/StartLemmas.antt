@@ -15,12 +15,13 @@ use Rattle.wild_clauses.specs.GroupStarts.{given_at, place_with, start_places, n
 use Rattle.wild_types.specs.Lists.{total}
 use Rattle.wild_needs.specs.Needs.{group_share}
 use Rattle.wild_types.specs.Parts.{role_place, has_role, part_with}
+use Rattle.wild_types.proofs.ListLemmas.{total-prefix}
 use Rattle.wild_layout.specs.Content.{content}
 use Rattle.wild_layout.specs.TablePlaces.{bytes_before}
 use Rattle.wild_geometry.proofs.ContentLemmas.{length-content}
 use Rattle.wild_geometry.proofs.LaidLemmas.{Laid}
 use Rattle.wild_geometry.proofs.RoleLemmas.{nothing_shared}
-use Rattle.wild_geometry.proofs.ShareLemmas.{total_same, total_within, content_is_given}
+use Rattle.wild_geometry.proofs.ShareLemmas.{total_same, content_is_given}
 use Rattle.wild_geometry.proofs.TableLemmas.{same_role}
 
 -- ---- what the clause says
@@ -98,7 +99,7 @@ record IsTable (r : Role) : Type 0 where
 given_is_content : (l : Layout) → Laid l → (r : Role) → IsTable r → (place : Option ℕ) → place_with r l.parts ≡ place → (j : ℕ) (g : Group) → j < length l.groups → given_at place (get_or l.groups j g) ≡ length (content l r (get_or l.groups j g))
 given_is_content l h r table None is j g n =
     let shared = nothing_shared l h r (none_with r 0 l.parts is) in
-    let one = total_within (group_share l r) l.groups j g n in
+    let one = total-prefix (group_share l r) l.groups j g n in
     let long = length-content l r (get_or l.groups j g) table.dynamic in
     omega arith
 given_is_content l h r table (Some i) is j g n =

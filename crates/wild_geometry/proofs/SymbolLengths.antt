@@ -7,12 +7,13 @@ use Rattle.wild_types.specs.declared.file.File.{File}
 use Rattle.wild_types.specs.declared.file.Group.{Group}
 use Rattle.wild_types.specs.declared.layout.DynamicSymbol.{DynamicSymbol}
 use Rattle.wild_types.specs.declared.layout.Layout.{Layout}
-use Rattle.wild_needs.specs.DynamicStrings.{behind_text, undefined_symbols, entry_names, behind_file, needed_of, needed_from, needed_entries, needed_count}
-use Rattle.wild_types.specs.FileRoles.{is_prelude, is_epilogue, is_library}
-use Rattle.wild_types.specs.Kinds.{needs_dynamic, needs_dynsym}
+use Rattle.wild_needs.specs.DynamicStrings.{undefined_symbols, entry_names, behind_file}
+use Rattle.wild_types.specs.FileRoles.{is_prelude, is_epilogue}
+use Rattle.wild_types.specs.Kinds.{needs_dynsym}
 use Rattle.wild_types.specs.Lists.{total}
 use Rattle.wild_needs.specs.Needs.{dynsym_count}
-use Rattle.wild_symbols.specs.DynamicEntries.{NamedFields, listed, undefined, file_symbols, entry_at, no_fields, entries_at, null_entries, behind_lead, file_entries, entries_from, group_symbols}
+use Rattle.wild_symbols.specs.DynamicEntries.{listed, undefined, file_symbols, entry_at, no_fields, entries_at, null_entries, behind_lead, file_entries, entries_from, group_symbols}
+use Rattle.wild_versions.proofs.BesideLemmas.{length-entries_at}
 
 one_length : {X : Type 0} (b : Bool) (x : X) → length (if b then x ∷ [] else []) ≡ (if b then 1 else 0)
 one_length true x = refl
@@ -27,15 +28,10 @@ names_length l f =
       | inr n ↦ rw n (let us = undefined_symbols l.symbols f in let a = length-map us (undefined f.role) in let b = length-map us (λ (s : Symbol). s.name) in omega arith)
     ]
 
-entries_length : (at : ℕ) (ns : List NamedFields) → length (entries_at at ns) ≡ length ns
-unfolding entries_at
-entries_length at [] = refl
-entries_length at (n ∷ ns) = let e = entries_length (behind_text at n.name) ns in omega arith
-
 file_length : (l : Layout) (at : ℕ) (f : File) → length (file_entries l at f) ≡ (if is_prelude f.role then 1 else 0) + length (entry_names l f)
 file_length l at f =
     let a = length-append (null_entries f) (entries_at (behind_lead l at f) (file_symbols l f)) in
-    let b = entries_length (behind_lead l at f) (file_symbols l f) in
+    let b = length-entries_at (file_symbols l f) (behind_lead l at f) in
     let c = names_length l f in
     let d = one_length (is_prelude f.role) (entry_at 0 no_fields) in
     omega arith
@@ -63,38 +59,4 @@ length-group_symbols l g =
     none l (f ∷ fs) h =
         let a = none l fs h in
         let b : dynsym_count l f ≡ 0 = rw h refl in
-        omega arith
-
--- ---- libraries
-
-needed_length : (at : ℕ) (f : File) → length (needed_of at f) ≡ length (needed_of 0 f)
-needed_length at f =
-    elim (cases_Bool (is_library f.role)) [
-      | inl t ↦ rw t refl
-      | inr n ↦ rw n refl
-    ]
-
-needed_files : (l : Layout) (at : ℕ) (fs : List File) → needs_dynamic l.kind ≡ true → length (needed_from l at fs) ≡ total (needed_count l) fs
-needed_files l at [] needs = refl
-needed_files l at (f ∷ fs) needs =
-    let a = length-append (needed_of at f) (needed_from l (behind_file l at f) fs) in
-    let b = needed_length at f in
-    let c = needed_files l (behind_file l at f) fs needs in
-    let d : needed_count l f ≡ length (needed_of 0 f) = rw needs refl in
-    omega arith
-
--- a group has an entry for each of its libraries
-pub length-needed_entries : (l : Layout) (g : Group) → length (needed_entries l g) ≡ total (needed_count l) g.files
-unfolding needed_entries
-length-needed_entries l g =
-    elim (cases_Bool (needs_dynamic l.kind)) [
-      | inl t ↦ rw t (needed_files l g.dynstr_start g.files t)
-      | inr n ↦ rw n (let e = none l g.files n in omega arith)
-    ]
-  where
-    none : (l : Layout) (fs : List File) → needs_dynamic l.kind ≡ false → total (needed_count l) fs ≡ 0
-    none l [] h = refl
-    none l (f ∷ fs) h =
-        let a = none l fs h in
-        let b : needed_count l f ≡ 0 = rw h refl in
         omega arith

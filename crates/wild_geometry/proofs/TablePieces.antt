@@ -14,6 +14,7 @@ use Rattle.wild_types.specs.declared.layout.Layout.{Layout}
 use Rattle.wild_types.specs.Lookups.{is_filled, takes_file_bytes, image_size}
 use Rattle.wild_types.specs.FilePlaces.{given}
 use Rattle.wild_types.specs.Parts.{role_place, has_role}
+use Rattle.wild_types.proofs.ListLemmas.{total-prefix}
 use Rattle.wild_clauses.specs.Places.{takes_room, ends_low}
 use Rattle.wild_layout.specs.Content.{content}
 use Rattle.wild_layout.specs.Image.{some_piece, given_before, table_piece, table_pieces, owned_pieces, section_piece, pieces}
@@ -22,7 +23,7 @@ use Rattle.wild_layout.specs.SectionPlaces.{PartLies}
 use Rattle.wild_geometry.proofs.InterleaveLemmas.{All-flat_map_from, AllPairs-flat_map_from, All-both, AllPairs-both}
 use Rattle.wild_geometry.proofs.LaidLemmas.{Laid}
 use Rattle.wild_geometry.proofs.OrderLemmas.{Takes, EndsBy-image, Follows, PartsFollow-from_order}
-use Rattle.wild_geometry.proofs.ShareLemmas.{total_to, total_within, size_from_shares, content_is_given, content_of_raw}
+use Rattle.wild_geometry.proofs.ShareLemmas.{total_to, size_from_shares, content_is_given, content_of_raw}
 use Rattle.wild_geometry.proofs.SectionLemmas.{all_sections, Stood, Runs}
 use Rattle.wild_geometry.proofs.PieceLemmas.{parts_apart, piece_of, place_is, section_pieces, section_pieces_by_group, Standing, section_pieces_apart, InImage, section_pieces_within}
 
@@ -59,7 +60,7 @@ given_from_content l h i p m j g n some =
           (let lies = PartLies-from_laid l h i p m in
           let share = lies.tables raw j g n in
           let sum = lies.shares in
-          let within = total_within (given i) l.groups j g n in
+          let within = total-prefix (given i) l.groups j g n in
           record {
             raw = raw;
             takes = not_raw_takes l q (h.parts.room i p m) raw;

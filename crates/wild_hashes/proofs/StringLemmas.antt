@@ -1,8 +1,6 @@
 -- Strings, and bits of hashes.
-use Rattle.std.proofs.Common.{◌≡◌, ℕ, ◌-◌, ◌<◌, ◌≤◌, List, length, refl, sym, ap, ◌∙◌, ◌^◌, ◌/◌, arith, Ok, drop, None, Some, Err, take}
+use Rattle.std.proofs.Common.{◌≡◌, ℕ, ◌<◌, ◌≤◌, List, length, refl, ◌^◌, ◌/◌, arith, Ok, drop, None, Some, Err, take}
 use Rattle.std.specs.Prelude.{bytes_eq, position}
-use Rattle.std.proofs.lemmas.List.{length-drop}
-use Rattle.std.proofs.Math.Seq.{take-length}
 use Rattle.std.proofs.Math.ListN.{drop_of_length-le}
 use Rattle.wild_hashes.specs.Reading.{is_zero, string_at, has_name}
 use Rattle.wild_hashes.specs.declared.fault.LookupFault.TheVariants as faults
@@ -25,7 +23,3 @@ unfolding string_at
 string_ends strings name at n e = rw e refl
 
 pub ruleset string_steps = (no_string, string_cut, string_ends)
-
--- the bytes from an offset on, as code takes them
-pub rest_is : (at : ℕ) (xs : List ℕ) → take (length xs - at) (drop at xs) ≡ drop at xs
-rest_is at xs = let e = length-drop at xs in ap (λ (n : ℕ). take n (drop at xs)) (sym e) ∙ take-length (drop at xs)

@@ -11,10 +11,8 @@ use Rattle.wild_words.specs.Record.{spell}
 use Rattle.wild_words.proofs.WordLemmas.{front-place, word_1}
 use Rattle.wild_words.proofs.RecordLemmas.{length-spell}
 use Rattle.wild_words.proofs.ListLemmas.{flat_map-more}
-use Rattle.wild_records.specs.FileHeader.{file_header_fields, file_header_size}
 use Rattle.wild_records.specs.ProgramHeader.{program_header_fields, program_header_size}
 use Rattle.wild_records.specs.SectionHeader.{section_header_size, section_header_fields}
-use Rattle.wild_records.specs.declared.file_header.FileHeader.{FileHeader}
 use Rattle.wild_records.specs.declared.program_header.ProgramHeader.{ProgramHeader}
 use Rattle.wild_records.specs.declared.section_header.SectionHeader.{SectionHeader}
 use Rattle.wild_types.specs.declared.section.Section.{Section}
@@ -23,10 +21,6 @@ use Rattle.wild_types.specs.Lists.{total}
 use Rattle.wild_types.proofs.ListLemmas.{total-prefix, total-more}
 use Rattle.wild_headers.specs.declared.section_headers.Told.{Told}
 use Rattle.wild_headers.specs.Headers.{told_of, info_at, null_header, section_header, headers_from, section_headers_of}
-
-pub length-file_header : (h : FileHeader) → length (spell (file_header_fields h)) ≡ file_header_size
-unfolding file_header_fields
-length-file_header h = length-spell (file_header_fields h)
 
 pub length-program_header : (h : ProgramHeader) → length (spell (program_header_fields h)) ≡ program_header_size
 unfolding program_header_fields

@@ -1,9 +1,9 @@
 -- Laws of bytes that are taken from the front of others.
-use Rattle.std.proofs.Common.{◌≡◌, ℕ, zero, suc, ◌+◌, ◌<◌, ◌≤◌, true, false, List, [], ◌∷◌, ◌++◌, length, take, drop, get_or, refl, sym, ap, ◌∙◌, arith, subst}
+use Rattle.std.proofs.Common.{◌≡◌, ℕ, ◌+◌, ◌<◌, ◌≤◌, true, false, List, [], ◌++◌, length, take, drop, get_or, refl, sym, ap, ◌∙◌, arith, subst}
 use Rattle.std.specs.Prelude.{Bool, Some, slice_get}
 use Rattle.std.specs.List.{flat_map}
 use Rattle.std.proofs.lemmas.Bool.{and_parts}
-use Rattle.std.proofs.lemmas.List.{append_assoc, get_or_default, drop_more, drop_at, take_at, length-append, append-nil}
+use Rattle.std.proofs.lemmas.List.{append_assoc, get_or_default, drop_more, drop_at, take_at, length-append, append-nil, drop_all}
 use Rattle.std.proofs.lemmas.Option.{slice_get-get_or}
 use Rattle.wild_words.specs.Words.{place}
 use Rattle.wild_words.specs.Overlay.{overlay}
@@ -51,15 +51,9 @@ stands_more_at {X} f xs items i d base now next same h read stands goes =
 pub read_at : {X : Type 0} (xs items : List X) (i : ℕ) (d : X) → items ≡ xs → i < length items → d ≡ get_or items i d → slice_get xs i ≡ Some d
 read_at {X} xs items i d same h read = let P : List X → Type 0 = λ ys. slice_get ys i ≡ Some d in subst P same (slice_get-get_or items i d h ∙ ap (λ (x : X). Some x) (sym read))
 
-drop_past : {X : Type 0} (xs : List X) (i : ℕ) → length xs ≤ i → drop i xs ≡ []
-drop_past [] zero h = refl
-drop_past [] (suc i) h = refl
-drop_past (x ∷ xs) zero h = absurd (omega arith)
-drop_past (x ∷ xs) (suc i) h = drop_past xs i (omega arith)
-
 -- all items
 pub stands_all : {X : Type 0} (f : X → List ℕ) (xs : List X) (i : ℕ) (base now : List ℕ) → length xs ≤ i → StandsBehind f xs base now i → GoesOn (flat_map f xs) base now
-stands_all {X} f xs i base now h stands = λ rest e. stands rest e ∙ ap (λ (ys : List X). flat_map f ys ++ rest) (drop_past xs i h)
+stands_all {X} f xs i base now h stands = λ rest e. stands rest e ∙ ap (λ (ys : List X). flat_map f ys ++ rest) (drop_all i xs h)
 
 -- what stands at the front, cut off
 pub record CutOff (own bytes : List ℕ) (n : ℕ) : Type 0 where

@@ -15,38 +15,9 @@ use Rattle.wild_words.proofs.ListLemmas.{holds_at}
 use Rattle.wild_image.specs.Append.{HasStarts}
 use Rattle.wild_image.specs.Batches.{firsts, AreBatches, IsWithin}
 use Rattle.wild_image.specs.declared.batch.Batch.{Batch}
-use Rattle.wild_image.proofs.FaultLemmas.{refuses_from_at}
+use Rattle.wild_sections.proofs.FaultLemmas.{flat_map_from-append, one_from}
 use Rattle.wild_types.proofs.ListLemmas.{total-append}
-use Rattle.wild_image.proofs.PieceLemmas.{overlay-append}
-
--- ---- what is given for each item with its place, counted from n on
-
-pub flat_map_from-append : {X Y : Type 0} (f : ℕ → X → List Y) (n : ℕ) (xs ys : List X) → flat_map_from f n (xs ++ ys) ≡ flat_map_from f n xs ++ flat_map_from f (n + length xs) ys
-flat_map_from-append f n [] ys = let z : n + 0 ≡ n = omega arith in rw z refl
-flat_map_from-append {X} {Y} f n (x ∷ xs) ys =
-    let z : n + 1 + length xs ≡ n + suc (length xs) = omega arith in
-    ap (λ (r : List Y). f n x ++ r) (flat_map_from-append f (n + 1) xs ys)
-    ∙ sym (append_assoc (f n x) (flat_map_from f (n + 1) xs) (flat_map_from f (n + 1 + length xs) ys))
-    ∙ ap (λ (k : ℕ). (f n x ++ flat_map_from f (n + 1) xs) ++ flat_map_from f k ys) z
-
-one_from : {X Y : Type 0} (f : ℕ → X → List Y) (n i : ℕ) (xs : List X) (x : X) → i < length xs → x ≡ get_or xs i x → flat_map_from f n (take (i + 1) xs) ≡ flat_map_from f n (take i xs) ++ f (n + i) x
-one_from {X} {Y} f n i xs x h read =
-    let long = length-take-le i xs (omega arith) in
-    ap (flat_map_from f n) (take_more xs i x h)
-    ∙ flat_map_from-append f n (take i xs) (get_or xs i x ∷ [])
-    ∙ ap (λ (k : ℕ). flat_map_from f n (take i xs) ++ flat_map_from f k (get_or xs i x ∷ [])) (ap (λ (k : ℕ). n + k) long)
-    ∙ ap (λ (r : List Y). flat_map_from f n (take i xs) ++ r) (append-nil (f (n + i) (get_or xs i x)))
-    ∙ ap (λ (y : X). flat_map_from f n (take i xs) ++ f (n + i) y) (sym read)
-
--- one more item without errors
-pub none_behind : {X : Type 0} (f : ℕ → X → List Error) (n i : ℕ) (xs : List X) (x : X) → i < length xs → x ≡ get_or xs i x → flat_map_from f n (take i xs) ≡ [] → f (n + i) x ≡ [] → flat_map_from f n (take (i + 1) xs) ≡ []
-none_behind f n i xs x h read before here = one_from f n i xs x h read ∙ rw (before, here) refl
-
--- the first error of an item, where those before it have none
-pub refuses_behind : {X : Type 0} (f : ℕ → X → List Error) (n i : ℕ) (xs : List X) (x : X) (e : Error) → i < length xs → x ≡ get_or xs i x → flat_map_from f n (take i xs) ≡ [] → Refuses e (f (n + i) x) → Refuses e (flat_map_from f n xs)
-refuses_behind {X} f n i xs x e h read none here = let P : X → Type 0 = λ y. Refuses e (f (n + i) y) in refuses_from_at f n (n + i) xs i x e refl h none (subst P read here)
-
-pub ruleset first_behind = (refuses_behind, none_behind)
+use Rattle.wild_sections.proofs.PieceLemmas.{overlay-append}
 
 -- one more item's pieces
 pub overlay_behind : {X : Type 0} (f : ℕ → X → List Piece) (n i : ℕ) (xs : List X) (x : X) (base now next : List ℕ) → i < length xs → x ≡ get_or xs i x → now ≡ overlay (flat_map_from f n (take i xs)) base → next ≡ overlay (f (n + i) x) now → next ≡ overlay (flat_map_from f n (take (i + 1) xs)) base

@@ -7,13 +7,14 @@ use Rattle.wild_types.specs.declared.layout.Layout.{Layout}
 use Rattle.wild_types.specs.Faults.{Answers, Refuses}
 use Rattle.wild_clauses.specs.ClauseTests.{check_sizes, check_counts}
 use Rattle.wild_clauses.specs.WellFormed.{first_clause}
+use Rattle.wild_clauses.proofs.ClauseLemmas.{first_holds, rest_holds}
 use Rattle.wild_layout.specs.Faults.{group_errors}
 use Rattle.wild_image.specs.Pieces.{group_parts, group_pairs}
 use Rattle.wild_image.specs.Batches.{batch_errors, batch_bytes, batch_pairs, pairs_at, GivesBatch}
 use Rattle.wild_image.specs.declared.batch.Batch.{Batch}
 use Rattle.wild_image.specs.Jobs.{GivesPiece}
 use Rattle.wild_image.specs.declared.piece.GroupPiece.{GroupPiece}
-use Rattle.wild_image.proofs.OutputLemmas.{first_holds, rest_holds, few_lists}
+use Rattle.wild_image.proofs.OutputLemmas.{few_lists}
 
 -- a layout whose clauses hold has few groups
 pub few_groups : (l : Layout) → first_clause l ≡ Ok tt → length l.groups < 2 ^ 32

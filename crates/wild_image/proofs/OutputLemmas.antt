@@ -1,44 +1,34 @@
 -- Laws of the whole image, and of all faults.
-use Rattle.std.proofs.Common.{suc, if◌then◌else◌, ◌≡◌, ℕ, ◌^◌, ◌<◌, ◌≤◌, ◌-◌, nat_le, List, [], ◌∷◌, ◌++◌, length, Bool, true, false, Result, Ok, Err, refl, ap, ◌∙◌, arith, nat_lt}
-use Rattle.std.specs.Prelude.{All, OnOk}
+use Rattle.std.proofs.Common.{◌≡◌, ℕ, ◌^◌, ◌<◌, ◌-◌, nat_le, List, [], ◌++◌, length, Result, Ok, Err, refl, ap, ◌∙◌, arith, nat_lt}
+use Rattle.std.specs.Prelude.{OnOk}
 use Rattle.std.proofs.lemmas.Bool.{and_parts, ltb-true}
 use Rattle.wild_words.specs.Overlay.{overlay}
-use Rattle.wild_types.specs.declared.fault.Clause.{Clause}
 use Rattle.wild_types.specs.declared.fault.Error.{Error}
-use Rattle.wild_types.specs.declared.part.Part.{Part}
 use Rattle.wild_types.specs.declared.layout.Layout.{Layout}
-use Rattle.wild_types.specs.Lists.{unless}
-use Rattle.wild_types.specs.Parts.{has_role}
 use Rattle.wild_clauses.specs.Places.{relocation_count}
 use Rattle.wild_needs.specs.Needs.{total_share, name_bytes}
 use Rattle.wild_clauses.specs.Counts.{counts_fit}
 use Rattle.wild_needs.specs.Versions.{versions_fit}
-use Rattle.wild_clauses.specs.ClauseTests.{fails, first_error, check_sizes, check_counts}
+use Rattle.wild_clauses.specs.ClauseTests.{check_sizes, check_counts}
 use Rattle.wild_clauses.specs.WellFormed.{first_clause}
 use Rattle.wild_headers.specs.Headers.{section_of_role}
 use Rattle.wild_layout.specs.Image.{group_pieces, pieces, padding, bytes}
 use Rattle.wild_layout.specs.Faults.{clause_errors, flat_map_from, part_errors, group_errors, errors}
 use Rattle.wild_layout.specs.Geometry.{IsLaidOut}
 use Rattle.wild_layout.proofs.FaultLemmas.{clause_holds}
-use Rattle.wild_image.specs.Steps.{FieldsFit}
+use Rattle.wild_sections.specs.Fits.{FieldsFit}
 use Rattle.wild_types.specs.declared.part.Role.{Role}
 use Rattle.wild_types.specs.declared.part.Role.TheVariants as role
 use Rattle.wild_types.specs.Faults.{Refuses}
-use Rattle.wild_image.proofs.FaultLemmas.{Refuses-front, Refuses-behind}
-use Rattle.wild_image.proofs.HashLemmas.{sysv_stands, gnu_stands}
-use Rattle.wild_image.proofs.VersionLemmas.{definitions_fit}
-
-section_below : (r : Role) (n : ℕ) (ps : List Part) → 1 ≤ n → All (λ (p : Part). p.section < n) ps → section_of_role r ps < n
-section_below r n [] h all = omega arith
-section_below r n (p ∷ ps) h all = by (has_role r p) (all 0 p (omega arith)) (section_below r n ps h (λ k d l. all (suc k) d (omega arith)))
-  where
-    by : (b : Bool) {m k : ℕ} → m < n → k < n → (if b then m else k) < n
-    by true x y = x
-    by false x y = y
+use Rattle.wild_clauses.proofs.ClauseLemmas.{test_holds, first_holds, rest_holds}
+use Rattle.wild_headers.proofs.LengthLemmas.{role_below}
+use Rattle.wild_layout.proofs.LayoutLemmas.{definitions_fit}
+use Rattle.wild_sections.proofs.FaultLemmas.{Refuses-front, Refuses-behind}
+use Rattle.wild_contents.proofs.HashLemmas.{sysv_stands, gnu_stands}
 
 -- the section of a role has an index below 2^31
 index_below : (l : Layout) → IsLaidOut l → (r : Role) → section_of_role r l.parts < 2 ^ 31
-index_below l h r = let e = section_below r (length l.sections) l.parts h.some_section h.named in let f = h.sections in omega (arith, e, f)
+index_below l h r = let e = role_below r l.parts (length l.sections) h.some_section h.named in let f = h.sections in omega (arith, e, f)
 
 -- the numbers of a layout that is laid out have their fields
 pub FieldsFit-IsLaidOut : (l : Layout) → IsLaidOut l → FieldsFit l
@@ -62,18 +52,6 @@ image_is (Err x) l one two a b = b
 pub errors_behind : (l : Layout) → clause_errors (first_clause l) ≡ [] → flat_map_from (part_errors l) 0 l.parts ≡ [] → flat_map_from (group_errors l) 0 l.groups ≡ errors l
 unfolding errors
 errors_behind l a b = rw (a, b) refl
-
-pub first_holds : (r s : Result (Unit {0}) Clause) → first_error r s ≡ Ok tt → r ≡ Ok tt
-first_holds (Ok x) s h = refl
-first_holds (Err c) s h = cc
-
-pub rest_holds : (r s : Result (Unit {0}) Clause) → first_error r s ≡ Ok tt → s ≡ Ok tt
-rest_holds (Ok x) s h = h
-rest_holds (Err c) s h = cc
-
-pub test_holds : (b : Bool) → fails 2 (unless b) ≡ Ok tt → b ≡ true
-test_holds true h = refl
-test_holds false h = cc
 
 -- neither relocations nor groups are too many
 pub few_lists : (l : Layout) → check_counts l ≡ Ok tt → (relocation_count l < 2 ^ 32 - 1) × (length l.groups < 2 ^ 32 - 1)

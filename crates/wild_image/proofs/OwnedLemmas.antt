@@ -12,7 +12,8 @@ use Rattle.wild_types.specs.declared.file.Group.{Group}
 use Rattle.wild_types.specs.declared.layout.Layout.{Layout}
 use Rattle.wild_types.specs.Lookups.{is_filled}
 use Rattle.wild_layout.specs.Sites.{section_bytes}
-use Rattle.wild_image.specs.Pieces.{owned_in, group_owned, group_given, group_part, group_parts}
+use Rattle.wild_image.specs.Pieces.{owned_in, group_owned, group_part, group_parts}
+use Rattle.wild_contents.specs.Given.{group_given}
 
 -- bytes behind those of one part
 pub part_extended : (l : Layout) (s : InputSection) (parts : List (List ℕ)) (d new : List ℕ) → is_filled l s ≡ true → s.part < length parts → new ≡ get_or parts s.part d ++ section_bytes l s

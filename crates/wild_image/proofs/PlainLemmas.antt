@@ -1,10 +1,11 @@
 -- Groups that write nothing but their input sections.
 use Rattle.std.proofs.Common.{◌≡◌, ℕ, suc, ◌+◌, ◌<◌, ◌==◌, inl, inr, Bool, true, false, List, [], ◌∷◌, ◌++◌, length, get_or, refl, sym, ap, ◌∙◌, arith, subst}
 use Rattle.std.specs.Prelude.{not, ◌&&◌, min, ◌-◌, ◌^◌, Some, slice_get}
-use Rattle.std.specs.List.{flat_map, list_all, list_any}
+use Rattle.std.specs.List.{list_all, list_any}
 use Rattle.std.proofs.lemmas.Bool.{cases_Bool, cases_order, and_parts, eqb-true, eqb-false}
 use Rattle.std.proofs.lemmas.List.{append-nil, nil_from_length}
 use Rattle.std.proofs.lemmas.Option.{get_or_from_slice_get}
+use Rattle.wild_words.proofs.Basics.{flat_map-none}
 use Rattle.wild_types.specs.declared.file.File.{File}
 use Rattle.wild_types.specs.declared.file.Group.{Group}
 use Rattle.wild_types.specs.declared.layout.Layout.{Layout}
@@ -68,10 +69,6 @@ content_plain l r g plain none =
           ap (λ (q : Role). content l q g) is ∙ nil_from_length (content l role.Dynamic g) (dynamic_plain l g plain (none role.Dynamic)))
       | inr f ↦ nil_from_length (content l r g) (length-content l r g (eqb-false _ _ f) ∙ none r)
     ]
-
-flat_map-none : {X Y : Type 0} (f : X → List Y) (xs : List X) → ((x : X) → f x ≡ []) → flat_map f xs ≡ []
-flat_map-none f [] h = refl
-flat_map-none f (x ∷ xs) h = let a = h x in let b = flat_map-none f xs h in rw (a, b) refl
 
 pub tables_plain : (l : Layout) (g : Group) (bytes : List ℕ) → list_all (is_plain l) g.files ≡ true → ((q : Role) → group_share l q g ≡ 0) → bytes ≡ bytes ++ group_tables l g
 tables_plain l g bytes plain none = let e = flat_map-none (λ (p : Part). content l p.role g) l.parts (λ p. content_plain l p.role g plain none) in rw e (sym (append-nil bytes))

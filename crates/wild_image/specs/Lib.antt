@@ -1,14 +1,6 @@
 pub mod Append
 pub mod Batches
-pub mod Choice
 pub mod Counts
-pub mod Decided
-pub mod General
-pub mod Hashes
-pub mod Homes
 pub mod Jobs
-pub mod Own
 pub mod Pieces
-pub mod Placed
 pub mod Steps
-pub mod Walks

@@ -20,8 +20,8 @@ ghost use Rattle.wild_image.specs.declared.job.Outcome.{Outcome};
 
 use crate::batch::Batch;
 use crate::job::Outcome;
-use crate::section::offset_of;
-use wild_plan::{Error, File, Group, InputSection, Layout, Part, Role};
+use wild_sections::offset_of;
+use wild_types::{Error, File, Group, InputSection, Layout, Part, Role};
 use wild_words::put;
 
 /// Puts the bytes of a section, the first of these, into the image, and tells what stands behind them.

@@ -4,7 +4,7 @@ ghost use Rattle.std.specs.Prelude.{◌≡◌, ◌<◌, ◌≤◌, length, IfOk}
 ghost use Rattle.wild_image.specs.Batches.{AreBatches};
 
 use std::alloc::{AllocError, Global};
-use wild_plan::Group;
+use wild_types::Group;
 
 /// Some groups of a layout, one behind the other.
 #[derive(Drop)]

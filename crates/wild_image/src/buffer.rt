@@ -7,20 +7,17 @@ ghost use Rattle.wild_types.specs.Faults.{Answers};
 ghost use Rattle.wild_layout.specs.Faults.{flat_map_from, section_errors, file_errors, group_errors};
 ghost use Rattle.wild_layout.specs.SectionPlaces.{SectionLies};
 ghost use Rattle.wild_image.specs.Pieces.{section_owned, file_sections, group_sections, group_tables, group_bytes};
-ghost use Rattle.wild_image.specs.Steps.{NeedsFit};
+ghost use Rattle.wild_contents.specs.Given.{NeedsFit};
 ghost use Rattle.wild_image.specs.Batches.{batch_errors, batch_bytes};
 
 use crate::batch::Batch;
-use crate::copies::check_entries;
-use crate::listed::check_symbol_tables;
-use crate::part_bytes::PartBytes;
-use crate::place::InputPlace;
-use crate::tables::add_content;
 use crate::take::{check_data, zeros};
-use crate::values::Resolved;
 use std::alloc::{AllocError, Global};
-use wild_plan::{Error, File, Group, InputSection, Layout, is_plain_group};
+use wild_contents::{PartBytes, add_content, check_entries, check_symbol_tables};
+use wild_needs::is_plain_group;
 use wild_relax::Arch;
+use wild_sections::{InputPlace, Resolved};
+use wild_types::{Error, File, Group, InputSection, Layout};
 
 /// Adds what a group gives to the tables, part by part.
 fn add_group_tables<A: Arch>(
@@ -68,7 +65,7 @@ fn add_section<A: Arch>(
 }
 
 /// Adds the bytes of the sections of a file, or answers their first fault.
-#[tactic(auto, using(crate::proofs::FaultLemmas::first_from))]
+#[tactic(auto, using(wild_sections::proofs::FaultLemmas::first_from))]
 fn add_file_sections<A: Arch>(
     alloc: Global,
     resolved: &Resolved<A>,
@@ -92,7 +89,7 @@ fn add_file_sections<A: Arch>(
 
 /// Adds the bytes of the sections of a file, or answers its first fault: that of its sections, or else of
 /// its copies and slots.
-#[tactic(auto, using(crate::proofs::FaultLemmas::first_of_both), unfolding(wild_layout::specs::Faults::file_errors))]
+#[tactic(auto, using(wild_sections::proofs::FaultLemmas::first_of_both), unfolding(wild_layout::specs::Faults::file_errors))]
 fn add_file<A: Arch>(
     alloc: Global,
     resolved: &Resolved<A>,
@@ -109,7 +106,7 @@ fn add_file<A: Arch>(
 }
 
 /// Adds the bytes of the sections of a group's files, or answers their first fault.
-#[tactic(auto, using(crate::proofs::FaultLemmas::first_from))]
+#[tactic(auto, using(wild_sections::proofs::FaultLemmas::first_from))]
 fn add_files<A: Arch>(
     alloc: Global,
     resolved: &Resolved<A>,
@@ -134,7 +131,7 @@ fn add_files<A: Arch>(
 
 /// Adds the bytes of a group's input sections, or answers its first fault: that of its files, or else of the symbols that
 /// other modules see.
-#[tactic(auto, using(crate::proofs::FaultLemmas::first_of_both), unfolding(wild_layout::specs::Faults::group_errors))]
+#[tactic(auto, using(wild_sections::proofs::FaultLemmas::first_of_both), unfolding(wild_layout::specs::Faults::group_errors))]
 fn add_group_sections<A: Arch>(
     alloc: Global,
     resolved: &Resolved<A>,

@@ -7,13 +7,13 @@ ghost use Rattle.wild_image.specs.Batches.{AreBatches};
 use crate::batch::Batch;
 use crate::buffer::bytes_of_batch;
 use crate::pairs::{Pairs, pairs_of_groups};
-use crate::part_bytes::PartBytes;
-use crate::values::Resolved;
 use std::alloc::{AllocError, Global};
+use wild_contents::PartBytes;
 use wild_crew::{Counted, Job};
 use wild_geometry::layouts_are_laid_out;
-use wild_plan::Error;
 use wild_relax::Arch;
+use wild_sections::Resolved;
+use wild_types::Error;
 
 /// What came of a batch: all its bytes, or its first fault; and what it counted.
 #[derive(Drop)]

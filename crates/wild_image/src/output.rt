@@ -16,13 +16,15 @@ use crate::batch::{Batch, batch_size, batches_of};
 use crate::job::{GroupJob, Outcome};
 use crate::padding::fill_sections;
 use crate::shares::check_shares;
-use crate::values::Resolved;
 use std::alloc::{AllocError, Global};
 use std::thread::Threads;
+use wild_clauses::well_formed;
 use wild_crew::{Gate, OpenGate, gather};
 use wild_geometry::layouts_are_laid_out;
-use wild_plan::{At, EntryWarning, Error, Fault, Layout, elf_entry_address, well_formed};
+use wild_needs::elf_entry_address;
 use wild_relax::Arch;
+use wild_sections::Resolved;
+use wild_types::{At, EntryWarning, Error, Fault, Layout};
 use wild_words::{Bytes, Items};
 
 /// An image, what is said beside it, and how many relocations of each section were read for it.

@@ -8,17 +8,16 @@ ghost use Rattle.wild_layout.specs.Faults.{flat_map_from, part_errors, group_err
 ghost use Rattle.wild_layout.specs.SectionPlaces.{SectionLies};
 ghost use Rattle.wild_image.specs.Pieces.{group_parts, group_pairs};
 ghost use Rattle.wild_image.specs.Jobs.{GivesPiece};
-ghost use Rattle.wild_image.specs.Steps.{NeedsFit};
+ghost use Rattle.wild_contents.specs.Given.{NeedsFit};
 
 use crate::pairs::pairs_of_group;
-use crate::part_bytes::PartBytes;
-use crate::tables::add_tables;
 use crate::take::take_group;
-use crate::values::Resolved;
 use std::alloc::{AllocError, Global};
+use wild_contents::{PartBytes, add_tables};
 use wild_geometry::layouts_are_laid_out;
-use wild_plan::{Error, Group, Layout};
 use wild_relax::Arch;
+use wild_sections::Resolved;
+use wild_types::{Error, Group, Layout};
 use wild_words::Items;
 
 /// How many bytes a group has of a part that stands in the file.

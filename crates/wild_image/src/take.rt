@@ -7,15 +7,11 @@ ghost use Rattle.wild_layout.specs.Faults.{flat_map_from, section_errors, file_e
 ghost use Rattle.wild_layout.specs.SectionPlaces.{SectionLies};
 ghost use Rattle.wild_image.specs.Pieces.{owned_in, file_owned, group_owned};
 
-use crate::copies::check_entries;
-use crate::listed::check_symbol_tables;
-use crate::part_bytes::PartBytes;
-use crate::place::InputPlace;
-use crate::section::write_data;
-use crate::values::Resolved;
 use std::alloc::{AllocError, Global};
-use wild_plan::{Error, File, Group, InputSection};
+use wild_contents::{PartBytes, check_entries, check_symbol_tables};
 use wild_relax::Arch;
+use wild_sections::{InputPlace, Resolved, write_data};
+use wild_types::{Error, File, Group, InputSection};
 
 /// Answers the first fault of a section whose relocations are read and that owns no bytes.
 pub(crate) fn check_data<A: Arch>(
@@ -69,7 +65,7 @@ fn take_section<A: Arch>(
 }
 
 /// Adds the bytes of the sections of a file to those of their parts, or answers their first fault.
-#[tactic(auto, using(crate::proofs::FaultLemmas::first_from))]
+#[tactic(auto, using(wild_sections::proofs::FaultLemmas::first_from))]
 fn take_sections<A: Arch>(
     alloc: Global,
     resolved: &Resolved<A>,
@@ -94,7 +90,7 @@ fn take_sections<A: Arch>(
 
 /// Adds the bytes of the sections of a file to those of their parts, or answers its first fault: that of its sections,
 /// or else of its copies and slots.
-#[tactic(auto, using(crate::proofs::FaultLemmas::first_of_both), unfolding(wild_layout::specs::Faults::file_errors))]
+#[tactic(auto, using(wild_sections::proofs::FaultLemmas::first_of_both), unfolding(wild_layout::specs::Faults::file_errors))]
 fn take_file<A: Arch>(
     alloc: Global,
     resolved: &Resolved<A>,
@@ -112,7 +108,7 @@ fn take_file<A: Arch>(
 }
 
 /// Adds the bytes of the files of a group to those of their parts, or answers their first fault.
-#[tactic(auto, using(crate::proofs::FaultLemmas::first_from))]
+#[tactic(auto, using(wild_sections::proofs::FaultLemmas::first_from))]
 fn take_files<A: Arch>(
     alloc: Global,
     resolved: &Resolved<A>,
@@ -138,7 +134,7 @@ fn take_files<A: Arch>(
 
 /// Adds the bytes of a group to those of their parts, or answers its first fault: that of its files, or else of the symbols
 /// that other modules see.
-#[tactic(auto, using(crate::proofs::FaultLemmas::first_of_both), unfolding(wild_layout::specs::Faults::group_errors))]
+#[tactic(auto, using(wild_sections::proofs::FaultLemmas::first_of_both), unfolding(wild_layout::specs::Faults::group_errors))]
 pub(crate) fn take_group<A: Arch>(
     alloc: Global,
     resolved: &Resolved<A>,

@@ -1,33 +1,30 @@
 -- In a layout without faults each section that is read is decided.
-use Rattle.std.proofs.Common.{◌≡◌, ℕ, zero, suc, ◌+◌, ◌<◌, true, false, List, [], ◌∷◌, ◌++◌, length, get_or, refl, sym, ◌∙◌, arith, subst}
+use Rattle.std.proofs.Common.{◌≡◌, ℕ, zero, suc, ◌+◌, ◌<◌, true, List, [], ◌∷◌, length, get_or, refl, sym, ◌∙◌, arith, subst}
 use Rattle.std.specs.Prelude.{Option, Some, None, Result, Ok, Err, All, Contains, slice_get}
 use Rattle.std.specs.List.{flat_map, range_with_len}
 use Rattle.std.proofs.lemmas.List.Elements.{All-contains}
-use Rattle.std.proofs.lemmas.List.FromFn.{get_or-range_with_len, length-range_with_len}
+use Rattle.wild_words.proofs.Basics.{slice_get_inside, range-Contains}
+use Rattle.wild_words.proofs.ListLemmas.{nil_parts}
 use Rattle.wild_types.specs.declared.fault.At.{At}
 use Rattle.wild_types.specs.declared.fault.Fault.{Fault}
 use Rattle.wild_types.specs.declared.input.InputRelocation.{InputRelocation}
-use Rattle.wild_types.specs.declared.input.Slot.{Slot}
 use Rattle.wild_types.specs.declared.input.InputSection.{InputSection}
 use Rattle.wild_types.specs.declared.file.File.{File}
 use Rattle.wild_types.specs.declared.file.Group.{Group}
 use Rattle.wild_types.specs.declared.layout.Layout.{Layout}
-use Rattle.wild_types.specs.Lookups.{is_read, is_loaded}
+use Rattle.wild_types.specs.Lookups.{is_read}
 use Rattle.wild_layout.specs.declared.decision.Decision.{Decision}
 use Rattle.wild_layout.specs.Decide.{decide}
-use Rattle.wild_layout.specs.Faults.{flat_map_from, group_errors, file_errors, section_errors, refusal_of, refusal_at, relocation_errors, at_offset, overlap_errors}
+use Rattle.wild_layout.specs.Faults.{flat_map_from, group_errors, file_errors, section_errors, refusal_of, refusal_at, relocation_errors, at_offset}
 use Rattle.wild_layout.specs.SectionPlaces.{SectionLies}
 use Rattle.wild_layout.specs.Geometry.{IsLaidOut}
 use Rattle.wild_layout.proofs.SiteLemmas.{sites_apart}
 use Rattle.wild_geometry.specs.Loaded.{IsDecided}
-use Rattle.wild_meaning.specs.Item.{IsInput, IsKeptSection}
+use Rattle.wild_meaning.specs.Item.{IsInput}
+use Rattle.wild_layout.proofs.FaultLemmas.{no_overlap}
 use Rattle.wild_loaded.specs.Memory.{EachDecided}
 
 -- ---- lists of nothing
-
-pub nil_parts : {A : Type 0} (xs ys : List A) → xs ++ ys ≡ [] → (xs ≡ []) × (ys ≡ [])
-nil_parts [] ys h = (refl, h)
-nil_parts (x ∷ xs) ys h = cc
 
 pub nothing_at : {X Y : Type 0} (f : X → List Y) (xs : List X) (x : X) → Contains xs x → flat_map f xs ≡ [] → f x ≡ []
 nothing_at f [] x c none = absurd (omega (arith, c.1))
@@ -45,18 +42,7 @@ nothing_from f i (z ∷ zs) x c none = cases f i z zs x c.0 c.1 c.2 (nil_parts (
     cases {X} {Y} f i z zs x zero l e parts again = let P : X → Type 0 = λ w. f i w ≡ [] in (i, subst P e parts.0)
     cases f i z zs x (suc k) l e parts again = again (k, omega arith, e) parts.1
 
-pub slice_get_inside : {X : Type 0} (xs : List X) (i : ℕ) → i < length xs → (x : X) × (slice_get xs i ≡ Some x)
-slice_get_inside [] i h = absurd (omega arith)
-slice_get_inside (x ∷ xs) zero h = (x, refl)
-slice_get_inside (x ∷ xs) (suc i) h = slice_get_inside xs i (omega arith)
-
 -- ---- sections
-
-read_if : (s : InputSection) (at : Slot) → s.slot ≡ at → is_loaded at ≡ true → s.nobits ≡ false → is_read s ≡ true
-read_if s at e t n = rw (e, t, n) refl
-
-pub kept_is_read : (l : Layout) (s : InputSection) → IsKeptSection l s → is_read s ≡ true
-kept_is_read l s k = read_if s _ k.loaded refl k.has_data
 
 not_refused : (at : At) (d : Result Decision Fault) → refusal_of at d ≡ [] → (x : Decision) × (d ≡ Ok x)
 not_refused at (Ok x) h = (x, refl)
@@ -69,13 +55,6 @@ each_decided l g f k s i m h = listed l g f k s i (slice_get s.relocations i) re
     listed : (l : Layout) (g f k : ℕ) (s : InputSection) (i : ℕ) (o : Option InputRelocation) → slice_get s.relocations i ≡ o → i < length s.relocations → refusal_at g f k (decide l s i) o ≡ [] → (d : Decision) × (decide l s i ≡ Ok d)
     listed l g f k s i None e m h = let here = slice_get_inside s.relocations i m in let both : Some here.0 ≡ None = sym here.1 ∙ e in cc
     listed l g f k s i (Some r) e m h = not_refused (at_offset g f k r.offset) (decide l s i) h
-
-no_overlap : (at : At) (o : Option ℕ) → overlap_errors at o ≡ [] → o ≡ None
-no_overlap at None h = refl
-no_overlap at (Some k) h = cc
-
-range-Contains : (n i : ℕ) → i < n → Contains (range_with_len 0 n) i
-range-Contains n i h = let e = length-range_with_len 0 n in let g = get_or-range_with_len 0 n i i h in (i, omega (arith, e, h), omega (arith, g))
 
 section_decided : (l : Layout) (g f k : ℕ) (s : InputSection) → is_read s ≡ true → SectionLies l s → section_errors l g f k s ≡ [] → IsDecided l s
 unfolding section_errors

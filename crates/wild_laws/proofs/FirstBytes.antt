@@ -19,8 +19,8 @@ use Rattle.wild_meaning.specs.InstructionX86_64.{meaning_x86_64}
 use Rattle.wild_meaning.specs.Sequence.{Instruction, size_of, IsOwnByte}
 use Rattle.wild_meaning.specs.Item.{Item, item_of, place_at}
 use Rattle.wild_meaning.specs.Field.{form_width, IsInputByte}
-use Rattle.wild_meaning.specs.Template.{effect_of, reads, reads_alone, IsInstruction, IsTemplate, DoesDemanded}
-use Rattle.wild_meaning.specs.Reference.{IsAsked, HoldsLinked, HoldsRewritten, ReferenceHolds, ItemHolds}
+use Rattle.wild_meaning.specs.Template.{effect_of, reads, reads_alone, IsInstruction, IsTemplate, DoesWith, DoesDemanded}
+use Rattle.wild_meaning.specs.Reference.{IsAsked, ReferenceHolds, LinkedHolds, ItemHolds}
 use Rattle.wild_laws.specs.FirstTypes.{branch_types, HasFirstTypes, InNoField as NoField, IsBranch}
 use Rattle.wild_laws.proofs.Sequences.{direct}
 use Rattle.wild_laws.proofs.FirstCode.{first_byte, in_no_field, IsFirst, of_section, IsCallOrJump, template_direct, is_branch, old_length, DoesDeed, HasOpcode, call_does, jump_does, call_opcode, jump_opcode}
@@ -71,17 +71,20 @@ does_too : (k : Machine) (w : World) (m : Memory) (a : ℕ) (bs : List ℕ) (e :
 does_too machine.X86_64 w m a bs e h = acts_too w m (meaning_x86_64 a bs) e h
 does_too machine.AArch64 w m a bs e h = h
 
+with_too : (l : Layout) (w : World) (m : Memory) (item : Item) (start : ℕ) (o : Instruction) (v : ℕ) → DoesWith (reads_alone w m) l w m item start o v → DoesWith (reads w m) l w m item start o v
+with_too l w m item start o v d =
+    record { effect = d.effect; demanded = d.demanded; bytes = d.bytes; whole = d.whole; held = d.held; does = does_too l.machine w m (place_at w item start) d.bytes d.effect d.does }
+
 pub does_so : (l : Layout) (w : World) (m : Memory) (item : Item) (r : InputRelocation) (start : ℕ) (o : Instruction) → DoesDemanded (reads_alone w m) l w m item r start o → DoesDemanded (reads w m) l w m item r start o
-does_so l w m item r start o d =
-    record { value = d.value; demands = d.demands; effect = d.effect; demanded = d.demanded; bytes = d.bytes; whole = d.whole; held = d.held; does = does_too l.machine w m (place_at w item start) d.bytes d.effect d.does }
+does_so l w m item r start o d = record { value = d.value; demands = d.demands; code = with_too l w m item start o d.value d.code }
 
 -- ---- opcodes
 
 -- the effect that a call or a jump demands
-demanded_deed : (l : Layout) (w : World) (m : Memory) (s : InputSection) (r : InputRelocation) (start opcode : ℕ) (deed : Deed) → DoesDeed opcode deed → l.machine ≡ machine.X86_64 → IsBranch s r start opcode → (d : DoesDemanded (reads w m) l w m (item_of s) r start (direct opcode deed)) → d.effect.deed ≡ deed
-demanded_deed l w m s r start opcode deed does x branch d =
-    let old : effect_of machine.X86_64 (as_value d.value) (place_at w (item_of s) start) (slice_range s.bytes start (start + 5)) ≡ Some d.effect = subst (λ (k : Machine). effect_of k (as_value d.value) (place_at w (item_of s) start) (slice_range s.bytes start (start + 5)) ≡ Some d.effect) x d.demanded in
-    let is = does (place_at w (item_of s) start) d.value (slice_range s.bytes start (start + 5)) (old_length s r start opcode branch) (first_byte s.bytes start ∙ branch.begins) in
+demanded_deed : (l : Layout) (w : World) (m : Memory) (s : InputSection) (r : InputRelocation) (start opcode : ℕ) (deed : Deed) → DoesDeed opcode deed → l.machine ≡ machine.X86_64 → IsBranch s r start opcode → (v : ℕ) → (d : DoesWith (reads w m) l w m (item_of s) start (direct opcode deed) v) → d.effect.deed ≡ deed
+demanded_deed l w m s r start opcode deed does x branch v d =
+    let old : effect_of machine.X86_64 (as_value v) (place_at w (item_of s) start) (slice_range s.bytes start (start + 5)) ≡ Some d.effect = subst (λ (k : Machine). effect_of k (as_value v) (place_at w (item_of s) start) (slice_range s.bytes start (start + 5)) ≡ Some d.effect) x d.demanded in
+    let is = does (place_at w (item_of s) start) v (slice_range s.bytes start (start + 5)) (old_length s r start opcode branch) (first_byte s.bytes start ∙ branch.begins) in
     ap deed_in (sym (sym is ∙ old)) ∙ refl
   where
     deed_in : Option Effect → Deed
@@ -89,29 +92,29 @@ demanded_deed l w m s r start opcode deed does x branch d =
     deed_in (Some e) = e.deed
 
 -- the loaded code does what the instruction demands, so it begins with the input's opcode
-opcode_kept : (l : Layout) (w : World) (m : Memory) (s : InputSection) (r : InputRelocation) (start opcode : ℕ) (deed : Deed) → DoesDeed opcode deed → HasOpcode opcode deed → l.machine ≡ machine.X86_64 → IsBranch s r start opcode → DoesDemanded (reads w m) l w m (item_of s) r start (direct opcode deed) → IsInputByte w m (item_of s) start
-opcode_kept l w m s r start opcode deed does has x branch d =
+opcode_kept : (l : Layout) (w : World) (m : Memory) (s : InputSection) (r : InputRelocation) (start opcode : ℕ) (deed : Deed) → DoesDeed opcode deed → HasOpcode opcode deed → l.machine ≡ machine.X86_64 → IsBranch s r start opcode → (v : ℕ) → DoesWith (reads w m) l w m (item_of s) start (direct opcode deed) v → IsInputByte w m (item_of s) start
+opcode_kept l w m s r start opcode deed does has x branch v d =
     let a = place_at w (item_of s) start in
     let loaded : effect_of machine.X86_64 (reads w m) a d.bytes ≡ Some d.effect = subst (λ (k : Machine). effect_of k (reads w m) a d.bytes ≡ Some d.effect) x d.does in
     let five = d.whole in
-    let op = has (reads w m) a d.bytes d.effect five loaded (demanded_deed l w m s r start opcode deed does x branch d) in
+    let op = has (reads w m) a d.bytes d.effect five loaded (demanded_deed l w m s r start opcode deed does x branch v d) in
     let z : a + 0 ≡ a = omega arith in
     let held : byte_in m (a + 0) ≡ Some (get_or d.bytes 0 0) = d.held 0 (omega (arith, five)) in
     subst (λ (p : ℕ). byte_in m p ≡ Some (get_or d.bytes 0 0)) z held ∙ ap (λ (b : ℕ). Some b) (op ∙ sym branch.begins)
 
-by_code : (l : Layout) (w : World) (m : Memory) (s : InputSection) (r : InputRelocation) (start : ℕ) (o : Instruction) → l.machine ≡ machine.X86_64 → IsFirst l s r → IsInstruction l (item_of s) r start o → IsCallOrJump o → DoesDemanded (reads w m) l w m (item_of s) r start o → IsInputByte w m (item_of s) start
-by_code l w m s r start o x f t (inl e) d =
+by_code : (l : Layout) (w : World) (m : Memory) (s : InputSection) (r : InputRelocation) (start : ℕ) (o : Instruction) (v : ℕ) → l.machine ≡ machine.X86_64 → IsFirst l s r → IsInstruction l (item_of s) r start o → IsCallOrJump o → DoesWith (reads w m) l w m (item_of s) start o v → IsInputByte w m (item_of s) start
+by_code l w m s r start o v x f t (inl e) d =
     let branch = is_branch l s r start 0xe8 Call x (subst (λ (p : Instruction). IsInstruction l (item_of s) r start p) e t) in
-    opcode_kept l w m s r start 0xe8 Call call_does call_opcode x branch (subst (λ (p : Instruction). DoesDemanded (reads w m) l w m (item_of s) r start p) e d)
-by_code l w m s r start o x f t (inr e) d =
+    opcode_kept l w m s r start 0xe8 Call call_does call_opcode x branch v (subst (λ (p : Instruction). DoesWith (reads w m) l w m (item_of s) start p v) e d)
+by_code l w m s r start o v x f t (inr e) d =
     let branch = is_branch l s r start 0xe9 Jump x (subst (λ (p : Instruction). IsInstruction l (item_of s) r start p) e t) in
-    opcode_kept l w m s r start 0xe9 Jump jump_does jump_opcode x branch (subst (λ (p : Instruction). DoesDemanded (reads w m) l w m (item_of s) r start p) e d)
+    opcode_kept l w m s r start 0xe9 Jump jump_does jump_opcode x branch v (subst (λ (p : Instruction). DoesWith (reads w m) l w m (item_of s) start p v) e d)
 
 -- so it is of each template
-by_template : (l : Layout) (w : World) (m : Memory) (s : InputSection) (r : InputRelocation) (start : ℕ) (o : Instruction) (one : InputRelocation) → l.machine ≡ machine.X86_64 → IsFirst l s r → IsTemplate l (item_of s) r start o one → DoesDemanded (reads w m) l w m (item_of s) one start o → IsInputByte w m (item_of s) start
-by_template l w m s r start o one x f t d =
+by_template : (l : Layout) (w : World) (m : Memory) (s : InputSection) (r : InputRelocation) (start : ℕ) (o : Instruction) (one : InputRelocation) (v : ℕ) → l.machine ≡ machine.X86_64 → IsFirst l s r → IsTemplate l (item_of s) r start o one → DoesWith (reads w m) l w m (item_of s) start o v → IsInputByte w m (item_of s) start
+by_template l w m s r start o one v x f t d =
     let direct = template_direct l s r start o one x f t in
-    by_code l w m s r start o x f direct.stands direct.which (subst (λ (q : InputRelocation). DoesDemanded (reads w m) l w m (item_of s) q start o) direct.same d)
+    by_code l w m s r start o v x f direct.stands direct.which d
 
 -- where the instruction begins, and that its other bytes are in its field
 record IsShort (s : InputSection) (r : InputRelocation) (start : ℕ) (o : Instruction) : Type 0 where
@@ -141,8 +144,16 @@ kept_opcode l w m s r start o one (inr e) t keeps =
     let z : start + 0 ≡ start = omega arith in
     subst (λ (k : ℕ). IsInputByte w m (item_of s) k) z (keeps start (direct 0xe9 Jump) one (subst (λ (p : Instruction). IsTemplate l (item_of s) r start p one) e t) 0 (record { inside = omega arith; beside = inl (omega arith); apart = tt }))
 
--- or its instruction was rewritten
-opcode_there : (l : Layout) (w : World) (m : Memory) (s : InputSection) (r : InputRelocation) (start : ℕ) (o : Instruction) (one : InputRelocation) → l.machine ≡ machine.X86_64 → IsFirst l s r → IsTemplate l (item_of s) r start o one → KeepsBytes l w m s r ⊎ HoldsRewritten l w m (item_of s) r → IsInputByte w m (item_of s) start
+-- or its instruction was rewritten: the loaded code has the effect, with some value
+record HasCode (l : Layout) (w : World) (m : Memory) (s : InputSection) (r : InputRelocation) : Type 0 where
+  start : ℕ
+  instruction : Instruction
+  first : InputRelocation
+  template : IsTemplate l (item_of s) r start instruction first
+  value : ℕ
+  code : DoesWith (reads_alone w m) l w m (item_of s) start instruction value
+
+opcode_there : (l : Layout) (w : World) (m : Memory) (s : InputSection) (r : InputRelocation) (start : ℕ) (o : Instruction) (one : InputRelocation) → l.machine ≡ machine.X86_64 → IsFirst l s r → IsTemplate l (item_of s) r start o one → KeepsBytes l w m s r ⊎ HasCode l w m s r → IsInputByte w m (item_of s) start
 opcode_there l w m s r start o one x f t (inl keeps) = kept_opcode l w m s r start o one (template_direct l s r start o one x f t).which t keeps
 opcode_there l w m s r start o one x f t (inr q) =
     let here = template_direct l s r start o one x f t in
@@ -150,15 +161,16 @@ opcode_there l w m s r start o one x f t (inr q) =
     let a = (short l s r start o x f here.stands here.which).behind in
     let b = (short l s r q.start q.instruction x f there.stands there.which).behind in
     let same : q.start ≡ start = omega (arith, a, b) in
-    subst (λ (k : ℕ). IsInputByte w m (item_of s) k) same (by_template l w m s r q.start q.instruction q.first x f q.template (does_so l w m (item_of s) q.first q.start q.instruction q.does))
+    subst (λ (k : ℕ). IsInputByte w m (item_of s) k) same (by_template l w m s r q.start q.instruction q.first q.value x f q.template (with_too l w m (item_of s) q.start q.instruction q.value q.code))
 
-plain_keeps : (l : Layout) (w : World) (m : Memory) (s : InputSection) (r : InputRelocation) → ReferenceHolds l w m (item_of s) r → KeepsBytes l w m s r ⊎ HoldsRewritten l w m (item_of s) r
+plain_keeps : (l : Layout) (w : World) (m : Memory) (s : InputSection) (r : InputRelocation) → ReferenceHolds l w m (item_of s) r → KeepsBytes l w m s r ⊎ HasCode l w m s r
 plain_keeps l w m s r (inl p) = inl p.kept
-plain_keeps l w m s r (inr q) = inr q
+plain_keeps l w m s r (inr q) = inr (record { start = q.start; instruction = q.instruction; first = q.first; template = q.template; value = q.does.value; code = q.does.code })
 
-linked_keeps : (l : Layout) (w : World) (m : Memory) (s : InputSection) (r : InputRelocation) → HoldsLinked l w m (item_of s) r ⊎ HoldsRewritten l w m (item_of s) r → KeepsBytes l w m s r ⊎ HoldsRewritten l w m (item_of s) r
+linked_keeps : (l : Layout) (w : World) (m : Memory) (s : InputSection) (r : InputRelocation) → LinkedHolds l w m (item_of s) r → KeepsBytes l w m s r ⊎ HasCode l w m s r
 linked_keeps l w m s r (inl p) = inl p.kept
-linked_keeps l w m s r (inr q) = inr q
+linked_keeps l w m s r (inr (inl q)) = inr (record { start = q.start; instruction = q.instruction; first = r; template = inl (q.template, refl); value = q.does.value; code = q.does.code })
+linked_keeps l w m s r (inr (inr q)) = inr (record { start = q.start; instruction = q.instruction; first = q.first; template = inr (record { second = r; sequence = q.sequence; one = inr refl }); value = q.does.value; code = q.does.code })
 
 -- ---- other bytes
 

@@ -1,9 +1,9 @@
 -- The call or the jump that a reference of a first type fills, in the input and in memory.
-use Rattle.std.proofs.Common.{◌≡◌, ℕ, ◌+◌, ◌-◌, ◌%◌, ◌^◌, ◌<◌, ◌≤◌, ◌⊎◌, inl, inr, Bool, true, false, List, [], ◌∷◌, ◌++◌, length, get_or, slice_range, refl, sym, ap, ◌∙◌, arith, subst, eq-eqb}
+use Rattle.std.proofs.Common.{◌≡◌, ℕ, ◌+◌, ◌%◌, ◌^◌, ◌<◌, ◌≤◌, ◌⊎◌, inl, inr, Bool, true, false, List, [], ◌∷◌, ◌++◌, length, get_or, slice_range, refl, sym, ap, ◌∙◌, arith, subst, eq-eqb}
 use Rattle.std.specs.Prelude.{Option, Some, None, Contains, All, slice_index, option_map, option_and_then, not, ◌||◌, ◌==◌, nat_le}
 use Rattle.std.specs.List.{list_all}
-use Rattle.std.proofs.lemmas.Bool.{cases_Bool, and_parts, eqb-true}
-use Rattle.std.proofs.lemmas.List.{length-take, length-drop, get_or-take, get_or-drop}
+use Rattle.std.proofs.lemmas.Bool.{cases_Bool, and_parts, eqb-true, not-true}
+use Rattle.wild_words.proofs.Basics.{listed_at, length-range, range_byte, listed_passes}
 use Rattle.wild_types.specs.declared.kind.Machine.{Machine}
 use Rattle.wild_types.specs.declared.kind.Machine.TheVariants as machine
 use Rattle.wild_types.specs.declared.input.InputRelocation.{InputRelocation}
@@ -17,22 +17,11 @@ use Rattle.wild_meaning.specs.Sequence.{Instruction, size_of, IsOwnByte, instruc
 use Rattle.wild_meaning.specs.Item.{item_of, IsReference}
 use Rattle.wild_meaning.specs.Field.{formula_of, form_width, InNoField}
 use Rattle.wild_meaning.specs.Template.{IsInstruction, IsSequence, IsTemplate}
+use Rattle.wild_meaning.proofs.BitLemmas.{code_bit, bit_code}
 use Rattle.wild_laws.specs.FirstTypes.{address_types, first_types, branch_types, thread_types, HasFirstTypes, InNoField as NoField, IsBranch, IsThreadCall}
-use Rattle.wild_laws.proofs.Bits.{bit_executable, executable_bit}
-use Rattle.wild_laws.proofs.Sequences.{listed_at, passes, is_first, is_thread, thread, one_of, false_of, asking, calling, direct, by_instruction}
+use Rattle.wild_laws.proofs.Sequences.{is_first, is_thread, thread, one_of, asking, calling, direct, by_instruction}
 
 -- ---- bytes
-
--- a byte of a range of bytes
-pub range_byte : (bs : List ℕ) (a n k : ℕ) → k < n → get_or (slice_range bs a (a + n)) k 0 ≡ slice_index bs (a + k)
-range_byte bs a n k h =
-    let e : a + n - a ≡ n = omega arith in
-    rw e (get_or-take n _ k 0 h ∙ get_or-drop a bs k 0)
-
-pub length-range : (bs : List ℕ) (k n : ℕ) → k + n ≤ length bs → length (slice_range bs k (k + n)) ≡ n
-length-range bs k n h =
-    let e : k + n - k ≡ n = omega arith in
-    rw e (simp (length-take, length-drop) (omega arith))
 
 pub first_byte : (bs : List ℕ) (k : ℕ) → get_or (slice_range bs k (k + 5)) 0 0 ≡ slice_index bs k
 first_byte bs k = let z : k + 0 ≡ k = omega arith in range_byte bs k 5 0 (omega arith) ∙ ap (λ (j : ℕ). slice_index bs j) z
@@ -105,8 +94,8 @@ pub record IsFirst (l : Layout) (s : InputSection) (r : InputRelocation) : Type 
 -- of a number of such types
 pub of_type : (l : Layout) (s : InputSection) (r : InputRelocation) (ns : List ℕ) → list_all is_first ns ≡ true → list_all (λ n. not (is_thread n)) ns ≡ true → Contains ns r.number → (IsThreadCall l s r → ⊥) → IsFirst l s r
 of_type l s r ns firsts others c free = record {
-  type = passes is_first ns r.number firsts c;
-  alone = record { asks = false_of (is_thread r.number) (passes (λ (n : ℕ). not (is_thread n)) ns r.number others c); free = free };
+  type = listed_passes is_first ns r.number firsts c;
+  alone = record { asks = not-true (is_thread r.number) (listed_passes (λ (n : ℕ). not (is_thread n)) ns r.number others c); free = free };
 }
 
 pub of_branch : (l : Layout) (s : InputSection) (r : InputRelocation) (k opcode : ℕ) → (IsThreadCall l s r → ⊥) → IsBranch s r k opcode → IsFirst l s r
@@ -122,7 +111,7 @@ of_section l s r types ref = of_type l s r first_types refl refl (types.each r r
     none : IsThreadCall l s r → ⊥
     none c =
         let asks = thread c.first.number c.asks in
-        let other = false_of (is_thread c.first.number) (passes (λ (n : ℕ). not (is_thread n)) first_types c.first.number refl (types.each c.first (listed_at s.relocations c.index c.first c.listed))) in
+        let other = not-true (is_thread c.first.number) (listed_passes (λ (n : ℕ). not (is_thread n)) first_types c.first.number refl (types.each c.first (listed_at s.relocations c.index c.first c.listed))) in
         let both : true ≡ false = sym asks ∙ other in
         cc
 
@@ -154,7 +143,7 @@ is_branch l s r start opcode deed x t =
     let inside = t.inside in
     let z : start + 0 ≡ start = omega arith in
     record {
-      code = executable_bit s.flags t.code;
+      code = code_bit s.flags t.code;
       behind = behind;
       begins = sym (first_byte s.bytes start) ∙ starts opcode field (slice_range s.bytes start (start + 5)) t.stands;
       number = t.number;
@@ -190,7 +179,7 @@ branch_instruction l s r k opcode deed known x branch =
     let behind = branch.behind in
     let ends = branch.inside in
     record {
-      code = bit_executable s.flags branch.code;
+      code = bit_code s.flags branch.code;
       known = subst (λ (m : Machine). Contains (instructions_of m) (direct opcode deed)) (sym x) known;
       number = branch.number;
       field = behind;

@@ -1,6 +1,6 @@
 -- What a formula gives of an address or a distance, and what that is of a symbol that no resolver answers for.
-use Rattle.std.proofs.Common.{◌≡◌, ℕ, ◌+◌, ◌-◌, ◌%◌, ◌^◌, ◌⊎◌, inl, inr, Bool, false, refl, sym, ap, ◌∙◌}
-use Rattle.std.specs.Prelude.{Option, Some, None}
+use Rattle.std.proofs.Common.{◌≡◌, ℕ, ◌+◌, ◌-◌, ◌%◌, ◌^◌, ◌⊎◌, inl, inr, Bool, false, sym, ap, ◌∙◌}
+use Rattle.std.specs.Prelude.{Some}
 use Rattle.wild_types.specs.declared.input.InputRelocation.{InputRelocation}
 use Rattle.wild_types.specs.declared.input.InputSection.{InputSection}
 use Rattle.wild_types.specs.declared.layout.Layout.{Layout}
@@ -11,17 +11,12 @@ use Rattle.wild_loader.specs.declared.world.World.{World}
 use Rattle.wild_meaning.specs.Value.{HasFlag, HasOwnValue, IsReplaceable, moved}
 use Rattle.wild_meaning.specs.Denotes.{HasStub, Denotes}
 use Rattle.wild_meaning.specs.Item.{item_of, place_at}
-use Rattle.wild_meaning.specs.Formula.{IsTarget, IsGoal, Gives}
+use Rattle.wild_meaning.specs.Formula.{IsTarget, Gives}
+use Rattle.wild_meaning.proofs.SymbolLemmas.{target_reached}
 use Rattle.wild_laws.specs.FirstPath.{IsAddress, Demands, NamesAreAddresses}
 use Rattle.wild_laws.proofs.Symbols.{own_value, plain_value}
 
 -- ---- symbols
-
--- what stands for a symbol comes to it
-target_reached : (l : Layout) (w : World) (m : Memory) (symbol : Option ℕ) (a : ℕ) → IsTarget l w m symbol a → IsGoal l w m symbol a
-target_reached l w m None a h = h
-target_reached l w m (Some i) a (inl h) = (a, h, inl refl)
-target_reached l w m (Some i) a (inr h) = (h.value, h.is, h.reaches)
 
 address : (l : Layout) (w : World) (i a : ℕ) → HasFlag l i ifunc false → HasOwnValue l w i a → IsAddress l w i a
 address l w i a f h = record {

@@ -1,7 +1,8 @@
 -- The meaning of all layouts gives what is told by fields, calls and jumps, and other bytes.
-use Rattle.std.proofs.Common.{◌≡◌, ℕ, ◌+◌, ◌%◌, ◌^◌, inl, inr, true, false, slice_range, refl, sym, ap, ◌∙◌, arith, subst, eq-eqb}
-use Rattle.std.specs.Prelude.{Some, slice_index, ◌==◌}
+use Rattle.std.proofs.Common.{◌≡◌, ℕ, ◌+◌, ◌%◌, ◌^◌, inl, inr, slice_range, refl, sym, ap, ◌∙◌, arith, subst}
+use Rattle.std.specs.Prelude.{Some, slice_index}
 use Rattle.std.specs.Int.{w64, cast_unsigned}
+use Rattle.std.proofs.lemmas.Bool.{eqb-false}
 use Rattle.wild_types.specs.declared.kind.Machine.{Machine}
 use Rattle.wild_types.specs.declared.kind.Machine.TheVariants as machine
 use Rattle.wild_types.specs.declared.input.InputRelocation.{InputRelocation}
@@ -14,9 +15,9 @@ use Rattle.wild_meaning.specs.Sequence.{Instruction}
 use Rattle.wild_meaning.specs.Item.{item_of, place_at, IsReference, IsKept}
 use Rattle.wild_meaning.specs.Template.{effect_of, reads, IsInstruction, DoesDemanded}
 use Rattle.wild_meaning.specs.Reference.{IsAsked, ReferenceHolds}
+use Rattle.wild_meaning.proofs.BitLemmas.{bit_alloc}
 use Rattle.wild_laws.specs.FirstTypes.{IsLoadedSection, IsRelocated, IsBranch}
 use Rattle.wild_laws.specs.FirstPath.{BranchReaches, MeaningGivesFields}
-use Rattle.wild_laws.proofs.Bits.{bit_alloc}
 use Rattle.wild_laws.proofs.Sequences.{direct}
 use Rattle.wild_laws.proofs.FirstCode.{first_byte, IsFirst, of_branch, of_address, IsCallOrJump, template_direct, is_branch, branch_template, old_length, DoesDeed, call_does, jump_does}
 use Rattle.wild_laws.proofs.FirstFields.{has_formula}
@@ -36,9 +37,6 @@ once_more : (v x : ℕ) → v ≡ x % 2 ^ 64 → v % 2 ^ 64 ≡ x % 2 ^ 64
 once_more v x e = omega (arith, e)
 
 -- ---- calls and jumps
-
-not_same : (a b : ℕ) → (a == b) ≡ false → a ≡ b → ⊥
-not_same a b n e = let t : (a == b) ≡ true = eq-eqb a b e in let both : true ≡ false = sym t ∙ n in cc
 
 -- bytes are those of one instruction
 same_code : (l : Layout) (s : InputSection) (r : InputRelocation) (k a b start : ℕ) (deed : Deed) → (a ≡ b → ⊥) → l.machine ≡ machine.X86_64 → IsBranch s r k a → IsInstruction l (item_of s) r start (direct b deed) → ⊥
@@ -65,10 +63,10 @@ as_direct l s r start opcode o deed e t = subst (λ (p : Instruction). IsInstruc
 
 call_rewritten : (l : Layout) (w : World) (m : Memory) (s : InputSection) (r one : InputRelocation) (k start : ℕ) (o : Instruction) → l.machine ≡ machine.X86_64 → IsBranch s r k 0xe8 → IsInstruction l (item_of s) r start o → IsCallOrJump o → one ≡ r → DoesDemanded (reads w m) l w m (item_of s) one start o → Does l w m s r k 0xe8 Call
 call_rewritten l w m s r one k start o x branch t (inl e) same d = moved_here l w m s r one k start 0xe8 o Call branch (as_direct l s r start 0xe8 o Call e t) e same d
-call_rewritten l w m s r one k start o x branch t (inr e) same d = absurd (same_code l s r k 0xe8 0xe9 start Jump (not_same 0xe8 0xe9 refl) x branch (as_direct l s r start 0xe9 o Jump e t))
+call_rewritten l w m s r one k start o x branch t (inr e) same d = absurd (same_code l s r k 0xe8 0xe9 start Jump (eqb-false 0xe8 0xe9 refl) x branch (as_direct l s r start 0xe9 o Jump e t))
 
 jump_rewritten : (l : Layout) (w : World) (m : Memory) (s : InputSection) (r one : InputRelocation) (k start : ℕ) (o : Instruction) → l.machine ≡ machine.X86_64 → IsBranch s r k 0xe9 → IsInstruction l (item_of s) r start o → IsCallOrJump o → one ≡ r → DoesDemanded (reads w m) l w m (item_of s) one start o → Does l w m s r k 0xe9 Jump
-jump_rewritten l w m s r one k start o x branch t (inl e) same d = absurd (same_code l s r k 0xe9 0xe8 start Call (not_same 0xe9 0xe8 refl) x branch (as_direct l s r start 0xe8 o Call e t))
+jump_rewritten l w m s r one k start o x branch t (inl e) same d = absurd (same_code l s r k 0xe9 0xe8 start Call (eqb-false 0xe9 0xe8 refl) x branch (as_direct l s r start 0xe8 o Call e t))
 jump_rewritten l w m s r one k start o x branch t (inr e) same d = moved_here l w m s r one k start 0xe9 o Jump branch (as_direct l s r start 0xe9 o Jump e t) e same d
 
 call_does_it : (l : Layout) (w : World) (m : Memory) (s : InputSection) (r : InputRelocation) (k : ℕ) → l.machine ≡ machine.X86_64 → IsFirst l s r → IsBranch s r k 0xe8 → ReferenceHolds l w m (item_of s) r → Does l w m s r k 0xe8 Call
@@ -83,16 +81,16 @@ jump_does_it l w m s r k x f branch (inr q) = let d = template_direct l s r q.st
 goes : (l : Layout) (w : World) (m : Memory) (s : InputSection) (r : InputRelocation) (k opcode : ℕ) (deed : Deed) → DoesDeed opcode deed → l.machine ≡ machine.X86_64 → IsBranch s r k opcode → DoesDemanded (reads w m) l w m (item_of s) r k (direct opcode deed) → BranchReaches l w m s r k deed
 goes l w m s r k opcode deed does x branch d =
     let a = place_at w (item_of s) k in
-    let old : effect_of machine.X86_64 (as_value d.value) a (slice_range s.bytes k (k + 5)) ≡ Some d.effect = subst (λ (mach : Machine). effect_of mach (as_value d.value) a (slice_range s.bytes k (k + 5)) ≡ Some d.effect) x d.demanded in
+    let old : effect_of machine.X86_64 (as_value d.value) a (slice_range s.bytes k (k + 5)) ≡ Some d.code.effect = subst (λ (mach : Machine). effect_of mach (as_value d.value) a (slice_range s.bytes k (k + 5)) ≡ Some d.code.effect) x d.code.demanded in
     let is = does a d.value (slice_range s.bytes k (k + 5)) (old_length s r k opcode branch) (first_byte s.bytes k ∙ branch.begins) in
-    let loaded : effect_of machine.X86_64 (reads w m) a d.bytes ≡ Some d.effect = subst (λ (mach : Machine). effect_of mach (reads w m) a d.bytes ≡ Some d.effect) x d.does in
+    let loaded : effect_of machine.X86_64 (reads w m) a d.code.bytes ≡ Some d.code.effect = subst (λ (mach : Machine). effect_of mach (reads w m) a d.code.bytes ≡ Some d.code.effect) x d.code.does in
     let value = once_more d.value (d.demands.goal + cast_unsigned w64 r.addend + 4) d.demands.is in
     record {
       target = d.demands.goal;
       stands = d.demands.stands;
-      bytes = d.bytes;
-      five = d.whole;
-      held = d.held;
+      bytes = d.code.bytes;
+      five = d.code.whole;
+      held = d.code.held;
       goes = loaded ∙ sym old ∙ is ∙ ap (λ (n : ℕ). Some (record { deed = deed; width = 64; value = n })) value;
     }
 

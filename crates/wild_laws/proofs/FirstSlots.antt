@@ -1,7 +1,8 @@
 -- The call or the jump through a slot that a reference fills, and that its code goes to what comes to the symbol.
 use Rattle.std.proofs.Common.{◌≡◌, ℕ, zero, suc, ◌+◌, ◌-◌, ◌%◌, ◌^◌, ◌<◌, ◌≤◌, ◌⊎◌, inl, inr, true, false, List, [], ◌∷◌, ◌++◌, length, get_or, slice_range, refl, sym, ap, ◌∙◌, arith, subst, eq-eqb}
 use Rattle.std.specs.Prelude.{Some, None, Contains, slice_index, not, ◌&&◌, ◌==◌}
-use Rattle.std.proofs.lemmas.Bool.{and_parts, eqb-true}
+use Rattle.std.proofs.lemmas.Bool.{and_parts, eqb-true, not-true, eqb-false}
+use Rattle.wild_words.proofs.Basics.{length-range, range_byte, listed_passes}
 use Rattle.wild_types.specs.declared.kind.Machine.{Machine}
 use Rattle.wild_types.specs.declared.kind.Machine.TheVariants as machine
 use Rattle.wild_types.specs.declared.input.InputRelocation.{InputRelocation}
@@ -16,11 +17,11 @@ use Rattle.wild_meaning.specs.Item.{item_of, place_at}
 use Rattle.wild_meaning.specs.Field.{InNoField}
 use Rattle.wild_meaning.specs.Template.{effect_of, reads, IsInstruction, IsTemplate, DoesDemanded}
 use Rattle.wild_meaning.specs.Reference.{ReferenceHolds}
+use Rattle.wild_meaning.proofs.BitLemmas.{bit_code}
 use Rattle.wild_laws.specs.FirstTypes.{slot_types, IsSlotBranch, IsThreadCall}
 use Rattle.wild_laws.specs.FirstPath.{SlotBranchReaches}
-use Rattle.wild_laws.proofs.Bits.{bit_executable}
-use Rattle.wild_laws.proofs.Sequences.{passes, is_thread, false_of, is_slot, through, IsThrough, is_through}
-use Rattle.wild_laws.proofs.FirstCode.{range_byte, length-range, in_no_field, IsAlone, single_of, no_sequence}
+use Rattle.wild_laws.proofs.Sequences.{is_thread, is_slot, through, IsThrough, is_through}
+use Rattle.wild_laws.proofs.FirstCode.{in_no_field, IsAlone, single_of, no_sequence}
 use Rattle.wild_laws.proofs.FirstBytes.{does_so}
 
 -- ---- bytes
@@ -56,7 +57,7 @@ second_byte opcode cs (a ∷ b ∷ bs) h =
 
 alone_of : (l : Layout) (s : InputSection) (r : InputRelocation) (k opcode : ℕ) → (IsThreadCall l s r → ⊥) → IsSlotBranch s r k opcode → IsAlone l s r
 alone_of l s r k opcode free branch = record {
-  asks = false_of (is_thread r.number) (passes (λ (n : ℕ). not (is_thread n)) slot_types r.number refl branch.number);
+  asks = not-true (is_thread r.number) (listed_passes (λ (n : ℕ). not (is_thread n)) slot_types r.number refl branch.number);
   free = free;
 }
 
@@ -64,7 +65,7 @@ alone_of l s r k opcode free branch = record {
 which_of : (l : Layout) (s : InputSection) (r : InputRelocation) (k opcode start : ℕ) (o : Instruction) → l.machine ≡ machine.X86_64 → IsSlotBranch s r k opcode → o.partner ≡ None → IsInstruction l (item_of s) r start o → IsThrough o
 which_of l s r k opcode start o x branch single t =
     is_through o r.number (slice_range s.bytes start (start + size_of o)) (subst (λ (m : Machine). Contains (instructions_of m) o) x t.known) single t.number
-    (passes is_slot slot_types r.number refl branch.number)
+    (listed_passes is_slot slot_types r.number refl branch.number)
     t.stands
     (λ low high.
     let here = branch.behind in
@@ -104,7 +105,7 @@ slot_instruction l s r k opcode deed known x branch =
     let behind = branch.behind in
     let ends = branch.inside in
     record {
-      code = bit_executable s.flags branch.code;
+      code = bit_code s.flags branch.code;
       known = subst (λ (m : Machine). Contains (instructions_of m) (through opcode deed)) (sym x) known;
       number = branch.number;
       field = behind;
@@ -155,15 +156,15 @@ does opcode deed each = λ a v bs n h i. six
 goes : (l : Layout) (w : World) (m : Memory) (s : InputSection) (r : InputRelocation) (k opcode : ℕ) (deed : Deed) → DoesDeed opcode deed → l.machine ≡ machine.X86_64 → IsSlotBranch s r k opcode → DoesDemanded (reads w m) l w m (item_of s) r k (through opcode deed) → SlotBranchReaches l w m s r k deed
 goes l w m s r k opcode deed does x branch d =
     let a = place_at w (item_of s) k in
-    let old : effect_of machine.X86_64 (as_value d.value) a (slice_range s.bytes k (k + 6)) ≡ Some d.effect = subst (λ (mach : Machine). effect_of mach (as_value d.value) a (slice_range s.bytes k (k + 6)) ≡ Some d.effect) x d.demanded in
+    let old : effect_of machine.X86_64 (as_value d.value) a (slice_range s.bytes k (k + 6)) ≡ Some d.code.effect = subst (λ (mach : Machine). effect_of mach (as_value d.value) a (slice_range s.bytes k (k + 6)) ≡ Some d.code.effect) x d.code.demanded in
     let is = does a d.value (slice_range s.bytes k (k + 6)) (old_length s r k opcode branch) (old_first s r k opcode branch) (old_second s r k opcode branch) in
-    let loaded : effect_of machine.X86_64 (reads w m) a d.bytes ≡ Some d.effect = subst (λ (mach : Machine). effect_of mach (reads w m) a d.bytes ≡ Some d.effect) x d.does in
+    let loaded : effect_of machine.X86_64 (reads w m) a d.code.bytes ≡ Some d.code.effect = subst (λ (mach : Machine). effect_of mach (reads w m) a d.code.bytes ≡ Some d.code.effect) x d.code.does in
     record {
       target = d.value;
       comes = d.demands;
-      bytes = d.bytes;
-      six = d.whole;
-      held = d.held;
+      bytes = d.code.bytes;
+      six = d.code.whole;
+      held = d.code.held;
       goes = loaded ∙ sym old ∙ is;
     }
 
@@ -171,9 +172,6 @@ goes l w m s r k opcode deed does x branch d =
 
 abbrev Does : Layout → World → Memory → InputSection → InputRelocation → ℕ → ℕ → Deed → Type 0
 Does l w m s r k opcode deed = DoesDemanded (reads w m) l w m (item_of s) r k (through opcode deed)
-
-not_same : (a b : ℕ) → (a == b) ≡ false → a ≡ b → ⊥
-not_same a b n e = let t : (a == b) ≡ true = eq-eqb a b e in let both : true ≡ false = sym t ∙ n in cc
 
 -- of an instruction that is that one
 here : (l : Layout) (w : World) (m : Memory) (s : InputSection) (r one : InputRelocation) (k start opcode : ℕ) (o : Instruction) (deed : Deed) → IsSlotBranch s r k opcode → IsInstruction l (item_of s) r start o → o ≡ through opcode deed → one ≡ r → DoesDemanded (reads w m) l w m (item_of s) one start o → Does l w m s r k opcode deed
@@ -183,7 +181,7 @@ here l w m s r one k start opcode o deed branch t e same d =
 
 -- and of none with the other opcode
 other : (l : Layout) (s : InputSection) (r : InputRelocation) (k start a b : ℕ) (o : Instruction) (deed : Deed) → (b == a) ≡ false → IsSlotBranch s r k a → IsInstruction l (item_of s) r start o → o ≡ through b deed → ⊥
-other l s r k start a b o deed apart branch t e = not_same b a apart (at_start l s r k a start b deed branch (subst (λ (p : Instruction). IsInstruction l (item_of s) r start p) e t)).1
+other l s r k start a b o deed apart branch t e = eqb-false b a apart (at_start l s r k a start b deed branch (subst (λ (p : Instruction). IsInstruction l (item_of s) r start p) e t)).1
 
 call_by : (l : Layout) (w : World) (m : Memory) (s : InputSection) (r one : InputRelocation) (k start : ℕ) (o : Instruction) → IsSlotBranch s r k 0x15 → IsInstruction l (item_of s) r start o → IsThrough o → one ≡ r → DoesDemanded (reads w m) l w m (item_of s) one start o → Does l w m s r k 0x15 Call
 call_by l w m s r one k start o branch t (inl e) same d = here l w m s r one k start 0x15 o Call branch t e same d

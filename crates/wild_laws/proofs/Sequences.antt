@@ -1,29 +1,15 @@
 -- Instructions that relocations fill: of the first types the direct call and the direct jump alone; behind the opcode of a call or a jump
 -- through a slot these two alone; and of a sequence's first field those that ask for a thread address.
 use Rattle.std.proofs.Common.{◌≡◌, ℕ, zero, suc, ◌-◌, ◌<◌, ◌≤◌, ◌⊎◌, inl, inr, Bool, true, false, List, [], ◌∷◌, length, get_or, refl, sym, ap, ◌∙◌, arith, subst, eq-eqb}
-use Rattle.std.specs.Prelude.{Option, Some, None, is_some, Contains, not, ◌&&◌, ◌||◌, ◌==◌, nat_le, nat_lt, drop, slice_get}
+use Rattle.std.specs.Prelude.{Option, Some, None, is_some, Contains, not, ◌&&◌, ◌||◌, ◌==◌, nat_le, nat_lt, drop}
 use Rattle.std.specs.List.{list_all, list_any}
 use Rattle.std.proofs.lemmas.Bool.{cases_Bool, and_parts, eqb-true, ltb-true, leb-true}
-use Rattle.std.proofs.lemmas.Option.{get_or_from_slice_get, slice_get_within}
+use Rattle.wild_words.proofs.Basics.{listed_passes, implied}
 use Rattle.wild_types.specs.declared.kind.Machine.TheVariants as machine
 use Rattle.wild_meaning.specs.Instruction.{Cell, Is, Deed, Number, Word, Call, Jump, stands}
 use Rattle.wild_meaning.specs.CodeX86_64.{branch}
 use Rattle.wild_meaning.specs.Sequence.{Instruction, Partner, Target, TargetInSlot, size_of, of_field, instructions_of}
 use Rattle.wild_laws.specs.FirstTypes.{first_types, branch_types, slot_types, thread_types, call_types}
-
--- ---- lists
-
-pub listed_at : {X : Type 0} (xs : List X) (i : ℕ) (x : X) → slice_get xs i ≡ Some x → Contains xs x
-listed_at xs i x e = (i, slice_get_within xs i x e, get_or_from_slice_get xs i x x e)
-
--- a test that each passes
-pub passes : {X : Type 0} (t : X → Bool) (xs : List X) (x : X) → list_all t xs ≡ true → Contains xs x → t x ≡ true
-passes {X} t xs x h c = at t xs x h c.0 c.1 c.2
-  where
-    at : {X : Type 0} (t : X → Bool) (xs : List X) (x : X) → list_all t xs ≡ true → (k : ℕ) → k < length xs → get_or xs k x ≡ x → t x ≡ true
-    at {X} t [] x h k l e = absurd (omega (arith, l))
-    at {X} t (y ∷ ys) x h zero l e = subst (λ (z : X). t z ≡ true) e (and_parts (t y) (list_all t ys) h).0
-    at {X} t (y ∷ ys) x h (suc k) l e = at t ys x (and_parts (t y) (list_all t ys) h).1 k (omega (arith, l)) e
 
 -- ---- types of relocations
 
@@ -34,7 +20,7 @@ abbrev pub is_first : ℕ → Bool
 is_first n = is_of first_types n
 
 pub first : (n : ℕ) → Contains first_types n → is_first n ≡ true
-first n c = passes is_first first_types n refl c
+first n c = listed_passes is_first first_types n refl c
 
 pub one_of : (ns : List ℕ) (n : ℕ) → is_of ns n ≡ true → Contains ns n
 one_of [] n h = cc
@@ -48,11 +34,7 @@ abbrev pub is_thread : ℕ → Bool
 is_thread n = is_of thread_types n
 
 pub thread : (n : ℕ) → Contains thread_types n → is_thread n ≡ true
-thread n c = passes is_thread thread_types n refl c
-
-pub false_of : (b : Bool) → not b ≡ true → b ≡ false
-false_of false h = refl
-false_of true h = cc
+thread n c = listed_passes is_thread thread_types n refl c
 
 abbrev pub is_slot : ℕ → Bool
 is_slot n = is_of slot_types n
@@ -89,8 +71,8 @@ by_instruction P o n call jump known number f = at P o n call jump known.0 known
     at P o n call jump zero l e number f = subst P e call
     at P o n call jump (suc zero) l e number f = subst P e jump
     at P o n call jump (suc (suc k)) l e number f =
-        let none = passes (λ (p : Instruction). has_none p.numbers) others o others_have_none (k, omega (arith, l), e) in
-        no_other (is_first n) (passes (λ (m : ℕ). not (is_first m)) o.numbers n none number) f
+        let none = listed_passes (λ (p : Instruction). has_none p.numbers) others o others_have_none (k, omega (arith, l), e) in
+        no_other (is_first n) (listed_passes (λ (m : ℕ). not (is_first m)) o.numbers n none number) f
 
 -- ---- sequences
 
@@ -100,14 +82,10 @@ asks_alone o = not (is_some o.partner) || list_all is_thread o.numbers
 all_ask : list_all asks_alone (instructions_of machine.X86_64) ≡ true
 all_ask = refl
 
-behind_test : (a b : Bool) → a ≡ true → (not a || b) ≡ true → b ≡ true
-behind_test true b e h = h
-behind_test false b e h = cc
-
 -- the first field of a sequence asks for a thread address
 pub asking : (o : Instruction) (p : Partner) (n : ℕ) → Contains (instructions_of machine.X86_64) o → o.partner ≡ Some p → Contains o.numbers n → is_thread n ≡ true
 asking o p n known calls number =
-    passes is_thread o.numbers n (behind_test (is_some o.partner) (list_all is_thread o.numbers) (ap (λ (q : Option Partner). is_some q) calls) (passes asks_alone (instructions_of machine.X86_64) o all_ask known)) number
+    listed_passes is_thread o.numbers n (implied (is_some o.partner) (list_all is_thread o.numbers) (listed_passes asks_alone (instructions_of machine.X86_64) o all_ask known) (ap (λ (q : Option Partner). is_some q) calls)) number
 
 abbrev calls_alone : Option Partner → Bool
 calls_alone None = true
@@ -119,7 +97,7 @@ all_call = refl
 -- and the field of its call has a call's type
 pub calling : (o : Instruction) (p : Partner) (n : ℕ) → Contains (instructions_of machine.X86_64) o → o.partner ≡ Some p → Contains p.numbers n → Contains call_types n
 calling o p n known calls number =
-    one_of call_types n (passes (is_of call_types) p.numbers n (subst (λ (q : Option Partner). calls_alone q ≡ true) calls (passes (λ (q : Instruction). calls_alone q.partner) (instructions_of machine.X86_64) o all_call known)) number)
+    one_of call_types n (listed_passes (is_of call_types) p.numbers n (subst (λ (q : Option Partner). calls_alone q ≡ true) calls (listed_passes (λ (q : Instruction). calls_alone q.partner) (instructions_of machine.X86_64) o all_call known)) number)
 
 -- ---- calls and jumps through slots
 
@@ -160,7 +138,7 @@ not_there (c ∷ cs) (x ∷ xs) zero s b h = cc
 not_there (c ∷ cs) (x ∷ xs) (suc j) s b h = not_there cs xs j (and_parts _ (stands cs xs) s).1 b h
 
 no_slot_type : (o : Instruction) (n : ℕ) → list_all (λ m. not (is_slot m)) o.numbers ≡ true → Contains o.numbers n → is_slot n ≡ true → ⊥
-no_slot_type o n none number slot = no_other (is_slot n) (passes (λ (m : ℕ). not (is_slot m)) o.numbers n none number) slot
+no_slot_type o n none number slot = no_other (is_slot n) (listed_passes (λ (m : ℕ). not (is_slot m)) o.numbers n none number) slot
 
 by_tests : (a b c : Bool) → (a || (b || c)) ≡ true → a ≡ false → (b ≡ true) ⊎ (c ≡ true)
 by_tests true b c h n = cc
@@ -187,4 +165,4 @@ is_through o n bs known single number slot stood byte = at o n bs known.0 known.
     at o n bs (suc (suc zero)) l e single number slot stood byte = inl (sym e)
     at o n bs (suc (suc (suc zero))) l e single number slot stood byte = inr (sym e)
     at o n bs (suc (suc (suc (suc k)))) l e single number slot stood byte =
-        absurd (excluded o n bs (passes is_other behind_slots o all_other (k, omega (arith, l), e)) single number slot stood byte)
+        absurd (excluded o n bs (listed_passes is_other behind_slots o all_other (k, omega (arith, l), e)) single number slot stood byte)

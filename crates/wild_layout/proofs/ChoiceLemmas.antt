@@ -8,9 +8,10 @@
 use Rattle.std.proofs.Common.{◌≡◌, ℕ, zero, suc, ◌+◌, ◌-◌, ◌≤◌, inl, inr, Bool, true, false, List, [], ◌∷◌, length, refl, sym, ◌∙◌, arith, subst}
 use Rattle.std.specs.Prelude.{Option, Some, None, Result, Ok, Err, ◌&&◌, ◌||◌, ◌==◌, not, if◌then◌else◌, nat_le, slice_get, slice_range}
 use Rattle.std.specs.List.{list_all}
-use Rattle.std.proofs.lemmas.Bool.{cases_Bool, eqb-true, leb-true, or_cases}
+use Rattle.std.proofs.lemmas.Bool.{cases_Bool, eqb-true, leb-true, or_cases, and_parts}
 use Rattle.wild_words.specs.Words.{place}
 use Rattle.wild_words.proofs.OverlayLemmas.{length-place}
+use Rattle.wild_words.proofs.Basics.{not_both}
 use Rattle.wild_records.specs.Abi.Relocation as abi
 use Rattle.wild_reloc.specs.Field.{size_width, written}
 use Rattle.wild_reloc.specs.TableX86_64.{x86_64_row}
@@ -44,11 +45,8 @@ use Rattle.wild_relax.specs.Rewrite.{rewritten}
 use Rattle.wild_relax.specs.RewriteX86_64.{rewrite_of}
 use Rattle.wild_relax.specs.Linked.{pattern_of, pattern_size, keeps_bytes, field_in, linked, template_by, template_of}
 use Rattle.wild_relax.specs.Relaxation.{chosen_of}
+use Rattle.wild_relax.proofs.RoomLemmas.{needed_stands, partner_asked, number_is}
 use Rattle.wild_layout.specs.Choice.{info_of, question_of, choice_by, choice_of, choice_at, takes_next, is_partner}
-
-both : (a b : Bool) → (a && b) ≡ true → (a ≡ true) × (b ≡ true)
-both true b h = (refl, h)
-both false b h = cc
 
 -- ---- the first row that stands
 
@@ -63,10 +61,10 @@ first_is stands (q ∷ rs) r e = here_or_later stands q rs r (stands q) refl (fi
     here_or_later : {R : Type 0} (stands : R → Bool) (q : R) (rs : List R) (r : R) (b : Bool) → stands q ≡ b → (first_standing stands rs ≡ Some r → IsFirst stands rs r) → (if b then Some q else first_standing stands rs) ≡ Some r → IsFirst stands (q ∷ rs) r
     here_or_later stands q rs r true s later e =
         let same : q ≡ r = cc in
-        record { here = subst (λ x. stands x ≡ true) same s; listed = λ p all. subst (λ x. p x ≡ true) same (both (p q) (list_all p rs) all).0 }
+        record { here = subst (λ x. stands x ≡ true) same s; listed = λ p all. subst (λ x. p x ≡ true) same (and_parts (p q) (list_all p rs) all).0 }
     here_or_later stands q rs r false s later e =
         let l = later e in
-        record { here = l.here; listed = λ p all. l.listed p (both (p q) (list_all p rs) all).1 }
+        record { here = l.here; listed = λ p all. l.listed p (and_parts (p q) (list_all p rs) all).1 }
 
 standing_is : (q : Question) (row : Row) → standing_x86_64 q ≡ Some row → IsFirst (applies q) rows_x86_64 row
 unfolding standing_x86_64
@@ -91,27 +89,11 @@ taken_is q row e = by_standing q row (standing_x86_64 q) refl e
     by_standing q row None is e = cc
     by_standing q row (Some r) is e = by_test q row r (has_its_sequence q r) is refl e
 
--- its relocation type is the row's
-number_is : (q : Question) (row : Row) → applies q row ≡ true → (relocation_of q).number ≡ number_of row
-unfolding applies
-number_is q row h =
-    let a = (both _ _ h).0 in
-    let b = (both _ _ a).0 in
-    let c = (both _ _ b).0 in
-    let d = (both _ _ c).0 in
-    let e = (both _ _ d).0 in
-    let f = (both _ _ e).0 in
-    eqb-true (relocation_of q).number (number_of row) (both _ _ f).0
-
 -- ---- the pattern of a row
 
 always_stands : (q : Question) (row : Row) → applies q row ≡ true → (stands_anywhere row || stands_before q.bytes (relocation_of q).offset (always_pattern row)) ≡ true
 unfolding applies
-always_stands q row h = (both _ _ h).1
-
-needed_stands : (q : Question) (row : Row) → has_its_sequence q row ≡ true → stands_before q.bytes (relocation_of q).offset (needed_pattern row) ≡ true
-unfolding has_its_sequence
-needed_stands q row h = (both _ _ (both _ _ h).0).0
+always_stands q row h = (and_parts _ _ h).1
 
 -- of the patterns that it asks for, the one that is all of it
 whole_stands : (row : Row) (bs : List ℕ) (o : ℕ) → (stands_anywhere row || stands_before bs o (always_pattern row)) ≡ true → stands_before bs o (needed_pattern row) ≡ true → stands_before bs o (pattern_of row) ≡ true
@@ -134,11 +116,11 @@ whole_stands DescriptorCall bs o a n = n
 
 pattern_before : (bs : List ℕ) (o : ℕ) (p : Pattern) → stands_before bs o p ≡ true → field_of p ≤ o
 unfolding stands_before
-pattern_before bs o p h = leb-true (field_of p) o (both _ _ h).0
+pattern_before bs o p h = leb-true (field_of p) o (and_parts _ _ h).0
 
 pattern_inside : (bs : List ℕ) (o : ℕ) (p : Pattern) → stands_before bs o p ≡ true → o - field_of p + length (cells_of p) ≤ length bs
 unfolding stands_before stands_at
-pattern_inside bs o p h = leb-true (o - field_of p + length (cells_of p)) (length bs) (both _ _ (both _ _ h).1).0
+pattern_inside bs o p h = leb-true (o - field_of p + length (cells_of p)) (length bs) (and_parts _ _ (and_parts _ _ h).1).0
 
 -- ---- the row that is chosen
 
@@ -232,8 +214,8 @@ chosen_lies l s r next row c k = by_test row (keeps_bytes row) k (chosen_listed 
     by_test : (row : Row) (b : Bool) → b ≡ false → (b || nat_le 1 (pattern_size row) && nat_le (field_of (pattern_of row) - (rewrite_of row).back + (rewrite_of row).size) (pattern_size row) && nat_le (field_in row + row_width (x86_64_row (rewrite_of row).number)) (pattern_size row)) ≡ true → LiesInItsPattern row
     by_test row true k h = cc
     by_test row false k h =
-        let a = both _ _ h in
-        let b = both _ _ a.0 in
+        let a = and_parts _ _ h in
+        let b = and_parts _ _ a.0 in
         record { some = leb-true _ _ b.0; bytes = leb-true _ _ b.1; field = leb-true _ _ a.1 }
 
 -- what is written in place of a pattern has its length
@@ -298,15 +280,11 @@ sequence_distance DescriptorCall h = cc
 
 call_number : (row : Row) (place : ℕ) (next : RelocationInfo) → rows.is_partner row place next ≡ true → is_call_number (call_form row) next.number ≡ true
 unfolding rows.is_partner
-call_number row place next h = (both _ _ (both _ _ h).0).1
+call_number row place next h = (and_parts _ _ (and_parts _ _ h).0).1
 
 taken_call : (row : Row) (r : RelocationInfo) (d : Option ℕ) (n : ℕ) (next : RelocationInfo) → d ≡ Some n → is_partner_at row r d (Some next) ≡ true → is_call_number (call_form row) next.number ≡ true
 taken_call row r None n next is h = cc
-taken_call row r (Some d) n next is h = call_number row (r.offset + d) next (both _ _ h).1
-
-has_call : (q : Question) (row : Row) → has_its_sequence q row ≡ true → rows.has_partner row q ≡ true
-unfolding has_its_sequence
-has_call q row h = (both _ _ h).1
+taken_call row r (Some d) n next is h = call_number row (r.offset + d) next (and_parts _ _ h).1
 
 -- the type of a relocation that is taken along is that of a call
 pub partner_number : (l : Layout) (s : InputSection) (r : InputRelocation) (next : InputRelocation) (row : Row) → IsChosen l s r (Some next) row → takes_next (Ok (Some row)) ≡ true → is_call_number (call_form row) next.number ≡ true
@@ -314,7 +292,7 @@ partner_number l s r next row c takes =
     let q = question_of l s r c.symbol (Some next) in
     let t = taken_is q row c.chosen in
     let d = sequence_distance row takes in
-    taken_call row (info_of l r) (partner_distance row) d.0 (info_of l next) d.1 (has_call q row t.whole)
+    taken_call row (info_of l r) (partner_distance row) d.0 (info_of l next) d.1 (partner_asked q row t.whole)
 
 -- ---- kinds of fields that a loader may fill
 
@@ -353,10 +331,6 @@ call_stays general.NoPlt n h =
       | inr e ↦ stays_at n abi.r_x86_64_rex_gotpcrelx e refl
     ]
 call_stays general.Large n h = stays_at n abi.r_x86_64_pltoff64 h refl
-
-not_both : (b : Bool) → not b ≡ true → b ≡ true → ⊥
-not_both true h k = cc
-not_both false h k = cc
 
 -- the relocation's kind, by the table
 loads_here : (m : Machine) (n : ℕ) (row : RelocationKindInfo) → m ≡ machine.X86_64 → row_of m n ≡ Some row → loads row.kind ≡ true → loads_at (x86_64_row n) ≡ true

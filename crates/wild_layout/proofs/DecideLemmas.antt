@@ -1,6 +1,6 @@
 -- What a decision says of its relocation.
-use Rattle.std.proofs.Common.{◌≡◌, ℕ, ◌+◌, ◌<◌, ◌≤◌, inl, inr, Bool, true, Some, refl, sym, ap, ◌∙◌, arith, subst}
-use Rattle.std.specs.Prelude.{⊤, Option, None, Result, Ok, Err, nat_lt, if◌then◌else◌, ◌==◌}
+use Rattle.std.proofs.Common.{◌≡◌, ℕ, ◌+◌, ◌<◌, ◌≤◌, inl, inr, Bool, true, Some, refl, sym, ap, ◌∙◌, arith, subst, ℤ, ◌^◌}
+use Rattle.std.specs.Prelude.{◌||◌, ⊤, Option, None, Result, Ok, Err, nat_lt, if◌then◌else◌, ◌==◌}
 use Rattle.std.specs.List.{list_all}
 use Rattle.std.proofs.lemmas.Bool.{cases_Bool, ltb-true}
 use Rattle.wild_types.specs.declared.kind.Machine.{Machine}
@@ -15,7 +15,8 @@ use Rattle.wild_types.specs.Rows.{row_of, row_width, field_bytes}
 use Rattle.wild_types.specs.Lookups.{packs, allocated}
 use Rattle.wild_needs.specs.Entries.{is_left_to_entry}
 use Rattle.wild_slot.specs.SlotParts.{type_of}
-use Rattle.wild_slot.specs.Treatment.{treatment}
+use Rattle.wild_slot.specs.Slots.{is_replaceable}
+use Rattle.wild_slot.specs.Treatment.{flags_at, treatment}
 use Rattle.wild_reloc.specs.Field.{allows, field_width, size_width}
 use Rattle.wild_reloc.specs.TableX86_64.{x86_64_rows, x86_64_row}
 use Rattle.wild_reloc.proofs.TableLemmas.{entry_passes}
@@ -25,13 +26,14 @@ use Rattle.wild_reloc.specs.declared.info.RelocationSize.{RelocationSize}
 use Rattle.wild_reloc.specs.declared.info.RelocationSize.TheVariants.{ByteSize, BitMasking}
 use Rattle.wild_reloc.specs.declared.info.Width.TheVariants.{Zero, One, Two, Four, Eight}
 use Rattle.wild_reloc.specs.declared.dynamic.DynamicRelocationKind.TheVariants.{Absolute, Irelative}
+use Rattle.wild_reloc.specs.declared.info.RelocationKind.TheVariants as kinds
 use Rattle.wild_layout.specs.declared.decision.Decision.{Decision}
 use Rattle.wild_layout.specs.declared.decision.Decision.TheVariants.{Nothing, Field, Moved, Left}
-use Rattle.wild_layout.specs.SymbolValues.{place_of, sum}
+use Rattle.wild_layout.specs.SymbolValues.{place_of, sum, symbol_size}
 use Rattle.wild_layout.specs.SlotValues.{address_of, index_of, decided_address}
 use Rattle.wild_layout.specs.Values.{term_of, value_by}
 use Rattle.wild_layout.specs.SectionPlaces.{FieldLies}
-use Rattle.wild_layout.specs.Decide.{field, field_for, moved_to, added, left_to, chosen_to, decide_by, decided}
+use Rattle.wild_layout.specs.Decide.{field, field_for, moved_to, added, left_to, sized_to, chosen_to, decide_by, decided}
 use Rattle.wild_layout.specs.Left.{left_by, left_entry, entry_for}
 pub use Rattle.wild_layout.proofs.TreatmentLemmas.{has_value, HasValue, IsSilent}
 use Rattle.wild_layout.proofs.TreatmentLemmas.{IsMovedBy, IsLeftBy, IsSizedBy, row_value, row_nothing, row_moved, row_symbolic, row_indirect, row_extent}
@@ -119,6 +121,23 @@ left_alone d z number r i (Some index) h =
     let e : Left z number index (added r) ≡ d = cc in
     subst IsLeftAlone e tt
 
+-- a size that is left to an entry is in range, where it is known
+pub record IsSizedTo (l : Layout) (r : InputRelocation) (row : RelocationKindInfo) (i : ℕ) (o : Result Decision Fault) (d : Decision) : Type 0 where
+  pub left : o ≡ Ok d
+  pub ranged : (is_replaceable l.kind (flags_at l i) || allows row (sum (symbol_size l i) r.addend)) ≡ true
+
+pub sized_parts : (l : Layout) (r : InputRelocation) (row : RelocationKindInfo) (i : ℕ) (o : Result Decision Fault) (d : Decision) → sized_to l r row i o ≡ Ok d → IsSizedTo l r row i o d
+sized_parts l r row i (Err f) d h = cc
+sized_parts l r row i (Ok e) d h =
+    elim (cases_Bool (is_replaceable l.kind (flags_at l i) || allows row (sum (symbol_size l i) r.addend))) [
+      | inl t ↦ (let same : Ok e ≡ Ok d = rw t at h in record { left = same; ranged = t })
+      | inr f ↦ cc (rw f at h)
+    ]
+
+-- the entry that it is left to
+pub sized_left : (l : Layout) (r : InputRelocation) (row : RelocationKindInfo) (i : ℕ) (d : Decision) → sized_to l r row i (left_to row.size r.number r i (index_of l i)) ≡ Ok d → left_to row.size r.number r i (index_of l i) ≡ Ok d
+sized_left l r row i d h = (sized_parts l r row i (left_to row.size r.number r i (index_of l i)) d h).left
+
 chosen_alone : (d : Decision) (l : Layout) (r : InputRelocation) (a : Result ℕ Fault) → chosen_to l r a ≡ Ok d → IsLeftAlone d
 chosen_alone d l r (Err f) h = cc
 chosen_alone d l r (Ok resolver) h =
@@ -152,7 +171,7 @@ treated_field l s r (treatments.Value row) z v is h = let k = known_value l s r 
 treated_field l s r treatments.BaseRelative z v is h = absurd (moved_is_no_field l s r z v (address_of l r.symbol) h)
 treated_field l s r (treatments.Symbolic i) z v is h = absurd (left_alone (Field z v) (ByteSize Eight) (type_of l.machine Absolute) r i (index_of l i) h)
 treated_field l s r (treatments.Indirect i) z v is h = absurd (chosen_alone (Field z v) l r (decided_address l i) h)
-treated_field l s r (treatments.Extent row i) z v is h = absurd (left_alone (Field z v) row.size r.number r i (index_of l i) h)
+treated_field l s r (treatments.Extent row i) z v is h = absurd (left_alone (Field z v) row.size r.number r i (index_of l i) (sized_left l r row i (Field z v) h))
 treated_field l s r treatments.Recompile z v is h = cc
 treated_field l s r treatments.Unsupported z v is h = cc
 
@@ -185,7 +204,7 @@ treated_moved l s r (treatments.Value row) v packed is h = absurd (value_is_not_
 treated_moved l s r treatments.BaseRelative v packed is h = moved_from l s r v packed (address_of l r.symbol) is refl h
 treated_moved l s r (treatments.Symbolic i) v packed is h = absurd (left_alone (Moved v packed) (ByteSize Eight) (type_of l.machine Absolute) r i (index_of l i) h)
 treated_moved l s r (treatments.Indirect i) v packed is h = absurd (chosen_alone (Moved v packed) l r (decided_address l i) h)
-treated_moved l s r (treatments.Extent row i) v packed is h = absurd (left_alone (Moved v packed) row.size r.number r i (index_of l i) h)
+treated_moved l s r (treatments.Extent row i) v packed is h = absurd (left_alone (Moved v packed) row.size r.number r i (index_of l i) (sized_left l r row i (Moved v packed) h))
 treated_moved l s r treatments.Recompile v packed is h = cc
 treated_moved l s r treatments.Unsupported v packed is h = cc
 
@@ -250,7 +269,7 @@ treated_nothing l s r (treatments.Value row) is h = absurd (value_is_some l s r 
 treated_nothing l s r treatments.BaseRelative is h = absurd (moved_is_some l s r (address_of l r.symbol) h)
 treated_nothing l s r (treatments.Symbolic i) is h = absurd (left_alone Nothing (ByteSize Eight) (type_of l.machine Absolute) r i (index_of l i) h)
 treated_nothing l s r (treatments.Indirect i) is h = absurd (chosen_alone Nothing l r (decided_address l i) h)
-treated_nothing l s r (treatments.Extent row i) is h = absurd (left_alone Nothing row.size r.number r i (index_of l i) h)
+treated_nothing l s r (treatments.Extent row i) is h = absurd (left_alone Nothing row.size r.number r i (index_of l i) (sized_left l r row i Nothing h))
 treated_nothing l s r treatments.Recompile is h = cc
 treated_nothing l s r treatments.Unsupported is h = cc
 
@@ -270,15 +289,15 @@ pub record IsLeft (l : Layout) (s : InputSection) (r : InputRelocation) (z : Rel
   pub made : decide_by l s r treated ≡ Ok (Left z number symbol addend)
   pub entry : left_entry l s r ≡ entry_for (place_of s r) number symbol addend
 
-known_symbolic : (l : Layout) (s : InputSection) (r : InputRelocation) (i : ℕ) → treatment l s r ≡ treatments.Symbolic i → (row : RelocationKindInfo) × (row_of l.machine r.number ≡ Some row) × IsLeftBy s r.symbol row i
+pub known_symbolic : (l : Layout) (s : InputSection) (r : InputRelocation) (i : ℕ) → treatment l s r ≡ treatments.Symbolic i → (row : RelocationKindInfo) × (row_of l.machine r.number ≡ Some row) × IsLeftBy s r.symbol row i
 unfolding treatment
 known_symbolic l s r i is = row_symbolic l s r.symbol (row_of l.machine r.number) i is
 
-known_indirect : (l : Layout) (s : InputSection) (r : InputRelocation) (i : ℕ) → treatment l s r ≡ treatments.Indirect i → (row : RelocationKindInfo) × (row_of l.machine r.number ≡ Some row) × IsLeftBy s r.symbol row i
+pub known_indirect : (l : Layout) (s : InputSection) (r : InputRelocation) (i : ℕ) → treatment l s r ≡ treatments.Indirect i → (row : RelocationKindInfo) × (row_of l.machine r.number ≡ Some row) × IsLeftBy s r.symbol row i
 unfolding treatment
 known_indirect l s r i is = row_indirect l s r.symbol (row_of l.machine r.number) i is
 
-known_extent : (l : Layout) (s : InputSection) (r : InputRelocation) (row : RelocationKindInfo) (i : ℕ) → treatment l s r ≡ treatments.Extent row i → (row_of l.machine r.number ≡ Some row) × IsSizedBy s r.symbol row i
+pub known_extent : (l : Layout) (s : InputSection) (r : InputRelocation) (row : RelocationKindInfo) (i : ℕ) → treatment l s r ≡ treatments.Extent row i → (row_of l.machine r.number ≡ Some row) × IsSizedBy s r.symbol row i
 unfolding treatment
 known_extent l s r row i is = row_extent l s r.symbol (row_of l.machine r.number) row i is
 
@@ -367,7 +386,7 @@ treated_left l s r (treatments.Indirect i) z n symbol addend is h =
     same e f g = rw (e, sym f, g) refl
 treated_left l s r (treatments.Extent row i) z n symbol addend is h =
     let k = known_extent l s r row i is in
-    let p = left_parts row.size z r.number n symbol addend r i (index_of l i) h in
+    let p = left_parts row.size z r.number n symbol addend r i (index_of l i) (sized_left l r row i (Left z n symbol addend) h) in
     record {
       field = record { row = row; known = k.0; kind = ap has_value k.1.kind; size = p.size };
       room = k.1.room;
@@ -389,3 +408,18 @@ decided_left l s r z n symbol addend h = treated_left l s r (treatment l s r) z 
 
 pub left_has : (l : Layout) (s : InputSection) (r : InputRelocation) (z : RelocationSize) (n symbol addend : ℕ) → IsLeft l s r z n symbol addend → HasField l r z
 left_has l s r z n symbol addend h = h.field
+
+-- a value is below 2 ^ 64
+pub value_below : (l : Layout) (kind : RelocationKind) (s p : ℕ) (a : ℤ) → value_by l kind s a p < 2 ^ 64
+value_below l kinds.Relative s p a = omega arith
+value_below l kinds.GotBaseRelative s p a = omega arith
+value_below l kinds.SymRelGotBase s p a = omega arith
+value_below l kinds.PltRelative s p a = omega arith
+value_below l kinds.PltRelGotBase s p a = omega arith
+value_below l kinds.GotRelative s p a = omega arith
+value_below l kinds.GotRelGotBase s p a = omega arith
+value_below l kinds.TlsGd s p a = omega arith
+value_below l kinds.TlsLd s p a = omega arith
+value_below l kinds.GotTpOff s p a = omega arith
+value_below l kinds.TlsDesc s p a = omega arith
+value_below l other s p a = omega arith

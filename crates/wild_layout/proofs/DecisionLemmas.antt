@@ -58,7 +58,7 @@ use Rattle.wild_layout.specs.Choice.{choice_of, takes_next, is_partner}
 use Rattle.wild_layout.specs.Decide.{field, field_for, moved_to, added, left_to, chosen_to, decide_by, decided, field_at, value_to, term_to, rewritten_by, rewritten_to, refused_with, decide_with, decide_at, decide}
 use Rattle.wild_layout.proofs.TreatmentLemmas.{HasValue, row_moved, row_symbolic, row_indirect, row_extent}
 use Rattle.wild_layout.proofs.ChoiceLemmas.{IsChosen, choice_row, IsSequence, partner_is_taken, partner_number, loads, no_row, no_partner}
-use Rattle.wild_layout.proofs.DecideLemmas.{HasField}
+use Rattle.wild_layout.proofs.DecideLemmas.{HasField, sized_left}
 
 -- ---- which decisions come from where
 
@@ -109,7 +109,7 @@ treated_keeps l s r (treatments.Value row) d h = value_keeps l s r row (term_of 
 treated_keeps l s r treatments.BaseRelative d h = moved_keeps l s r (address_of l r.symbol) d h
 treated_keeps l s r (treatments.Symbolic i) d h = left_keeps (ByteSize Eight) (type_of l.machine Absolute) r i (index_of l i) d h
 treated_keeps l s r (treatments.Indirect i) d h = chosen_keeps l r (decided_address l i) d h
-treated_keeps l s r (treatments.Extent row i) d h = left_keeps row.size r.number r i (index_of l i) d h
+treated_keeps l s r (treatments.Extent row i) d h = left_keeps row.size r.number r i (index_of l i) d (sized_left l r row i d h)
 treated_keeps l s r treatments.Recompile d h = cc
 treated_keeps l s r treatments.Unsupported d h = cc
 
@@ -118,7 +118,7 @@ unfolding decided
 decided_keeps l s r d h = treated_keeps l s r (treatment l s r) d h
 
 -- a row
-abbrev IsOfRow : Decision → Type 0
+abbrev pub IsOfRow : Decision → Type 0
 IsOfRow (Field z v) = ⊤
 IsOfRow (Rewritten row v) = ⊤
 IsOfRow other = ⊥
@@ -184,7 +184,7 @@ refused_term l r e info (Err f) d is h = cc (rw is at h)
 refused_term l r e info (Ok a) d is h = cc (rw is at h)
 
 -- a sequence that is not there has no decision
-refused : (l : Layout) (r : InputRelocation) (e : UnknownSequence) (o : Option RelocationKindInfo) (d : Decision) → refused_with l r e o ≡ Ok d → ⊥
+pub refused : (l : Layout) (r : InputRelocation) (e : UnknownSequence) (o : Option RelocationKindInfo) (d : Decision) → refused_with l r e o ≡ Ok d → ⊥
 refused l r e None d h = cc
 refused l r e (Some info) d h = refused_term l r e info (term_to l r info) d refl h
 

@@ -3,6 +3,7 @@ use Rattle.std.proofs.Common.{◌≡◌, ℕ, ◌+◌, List, [], ◌∷◌, ◌+
 use Rattle.std.specs.Prelude.{All}
 use Rattle.std.specs.List.{flat_map}
 use Rattle.std.proofs.lemmas.List.Elements.{All-nil, All-cons}
+use Rattle.wild_words.proofs.Basics.{All-from_nothing}
 use Rattle.wild_types.specs.declared.fault.At.{At}
 use Rattle.wild_types.specs.declared.fault.Clause.{Clause}
 use Rattle.wild_types.specs.declared.fault.Fault.{Fault}
@@ -13,9 +14,11 @@ use Rattle.wild_types.specs.declared.file.Group.{Group}
 use Rattle.wild_types.specs.declared.layout.Layout.{Layout}
 use Rattle.wild_types.specs.FileSymbols.{copies_of, own_symbols}
 use Rattle.wild_slot.specs.SymbolWords.{slots_of}
+use Rattle.wild_clauses.specs.WellFormed.{first_clause}
 use Rattle.wild_layout.specs.SymbolValues.{raw_address}
 use Rattle.wild_layout.specs.SlotValues.{index_of}
-use Rattle.wild_layout.specs.Faults.{flat_map_from, clause_errors, overlap_errors, section_errors, at_file, slot_refusal, symbol_errors, slot_errors, copy_fault, fault_errors, copy_errors, file_errors, listed_errors, table_errors, group_errors}
+use Rattle.wild_layout.specs.Faults.{flat_map_from, clause_errors, overlap_errors, section_errors, at_file, slot_refusal, symbol_errors, slot_errors, copy_fault, fault_errors, copy_errors, file_errors, listed_errors, table_errors, group_errors, errors, part_errors}
+use Rattle.wild_layout.specs.Geometry.{IsLaidOut, LayoutsAreLaidOut}
 
 pub clause_holds : (r : Result (Unit {0}) Clause) → clause_errors r ≡ [] → r ≡ Ok tt
 clause_holds (Ok x) h = refl
@@ -83,17 +86,27 @@ slots_of_groups l h = of_files l (λ (f : File). All (HasWholeSlots l) (own_symb
 abbrev pub CanBeCopied : Layout → ℕ → Type 0
 CanBeCopied l i = copy_fault i (index_of l i) (raw_address l (Some i)) ≡ None
 
-no_fault : (at : At) (o : Option Fault) → fault_errors at o ≡ [] → o ≡ None
+pub no_fault : (at : At) (o : Option Fault) → fault_errors at o ≡ [] → o ≡ None
 no_fault at None h = refl
 no_fault at (Some f) h = cc
 
-All-from_empty : {X Y : Type 0} (P : X → Type 0) (f : X → List Y) (xs : List X) → ((x : X) → f x ≡ [] → P x) → flat_map f xs ≡ [] → All P xs
-All-from_empty P f [] each h = All-nil P
-All-from_empty P f (x ∷ xs) each h = All-cons P x xs (each x (first_empty (f x) (flat_map f xs) h)) (All-from_empty P f xs each (rest_empty (f x) (flat_map f xs) h))
-
 pub copies_of_file : (l : Layout) (g k : ℕ) (f : File) → file_errors l g k f ≡ [] → All (CanBeCopied l) (copies_of f)
 copies_of_file l g k f h =
-    All-from_empty (CanBeCopied l) (copy_errors l g k) (copies_of f) (λ i e. no_fault (at_file g k) (copy_fault i (index_of l i) (raw_address l (Some i))) e) (first_empty (flat_map (copy_errors l g k) (copies_of f)) (slot_errors l g k f) (behind_sections l g k f h))
+    All-from_nothing (CanBeCopied l) (copy_errors l g k) (copies_of f) (λ i e. no_fault (at_file g k) (copy_fault i (index_of l i) (raw_address l (Some i))) e) (first_empty (flat_map (copy_errors l g k) (copies_of f)) (slot_errors l g k f) (behind_sections l g k f h))
 
 pub copies_of_groups : (l : Layout) → flat_map_from (group_errors l) 0 l.groups ≡ [] → All (λ (g : Group). All (λ (f : File). All (CanBeCopied l) (copies_of f)) g.files) l.groups
 copies_of_groups l h = of_files l (λ (f : File). All (CanBeCopied l) (copies_of f)) (λ i k f n. copies_of_file l i k f n) h
+
+-- no group has an error where the layout has none
+pub no_group_errors : (l : Layout) → errors l ≡ [] → flat_map_from (group_errors l) 0 l.groups ≡ []
+unfolding errors
+no_group_errors l h = rest_empty (clause_errors (first_clause l) ++ flat_map_from (part_errors l) 0 l.parts) (flat_map_from (group_errors l) 0 l.groups) h
+
+-- a layout without errors is laid out
+pub laid_out : LayoutsAreLaidOut → (l : Layout) → errors l ≡ [] → IsLaidOut l
+unfolding errors
+laid_out laid l h =
+    let clauses = clause_errors (first_clause l) in
+    let shares = flat_map_from (part_errors l) 0 l.parts in
+    let front = first_empty (clauses ++ shares) (flat_map_from (group_errors l) 0 l.groups) h in
+    laid l (clause_holds (first_clause l) (first_empty clauses shares front)) (rest_empty clauses shares front)

@@ -5,3 +5,4 @@ pub mod DecideLemmas
 pub mod DecisionLemmas
 pub mod SitesApart
 pub mod SiteLemmas
+pub mod LayoutLemmas

@@ -1,26 +1,21 @@
 -- The sites of an input section: what each relocation writes, where it lies, and that they are apart.
-use Rattle.std.proofs.Common.{◌≡◌, ℕ, zero, suc, ◌+◌, ◌<◌, ◌≤◌, ◌⊎◌, inl, inr, List, [], ◌∷◌, ◌++◌, length, get_or, slice_range, drop, ◌-◌, refl, sym, ap, ◌∙◌, arith, subst}
+use Rattle.std.proofs.Common.{◌≡◌, ℕ, zero, suc, ◌+◌, ◌<◌, ◌≤◌, ◌⊎◌, inl, inr, List, [], ◌∷◌, ◌++◌, length, get_or, slice_range, refl, sym, ap, ◌∙◌, arith, subst}
 use Rattle.std.specs.Prelude.{Option, Some, None, Result, Ok, Err, All, Contains, slice_get, if◌then◌else◌}
 use Rattle.std.specs.List.{flat_map, range_with_len}
-use Rattle.std.proofs.lemmas.Option.{get_or_from_slice_get, slice_get_within}
-use Rattle.std.proofs.lemmas.List.{length-take-le, length-drop}
-use Rattle.std.proofs.lemmas.List.Elements.{Contains-append_left, Contains-append_right, All-nil}
-use Rattle.wild_words.specs.Overlay.{Piece, AreApart}
-use Rattle.wild_words.proofs.ListLemmas.{All-flat_map}
+use Rattle.std.proofs.lemmas.List.Elements.{Contains-append_left, Contains-append_right, All-nil, All-same}
+use Rattle.wild_words.specs.Overlay.{AreApart, Piece}
+use Rattle.wild_words.proofs.ListLemmas.{All-flat_map, holds_at}
+use Rattle.wild_words.proofs.Basics.{length-range}
 use Rattle.wild_types.specs.declared.fault.Fault.{Fault}
-use Rattle.wild_types.specs.declared.kind.Machine.{Machine}
-use Rattle.wild_types.specs.declared.kind.Machine.TheVariants as machine
-use Rattle.wild_types.specs.Rows.{row_of}
 use Rattle.wild_types.specs.declared.input.InputRelocation.{InputRelocation}
 use Rattle.wild_types.specs.declared.input.InputSection.{InputSection}
 use Rattle.wild_types.specs.declared.layout.Layout.{Layout}
 use Rattle.wild_reloc.specs.Field.{size_width}
-use Rattle.wild_reloc.specs.TableX86_64.{x86_64_row}
-use Rattle.wild_reloc.specs.declared.info.RelocationKindInfo.{RelocationKindInfo}
 use Rattle.wild_reloc.specs.declared.info.RelocationSize.{RelocationSize}
 use Rattle.wild_reloc.specs.declared.info.RelocationSize.TheVariants.{ByteSize}
 use Rattle.wild_reloc.specs.declared.info.Width.TheVariants.{Eight}
 use Rattle.wild_reloc.proofs.PlaceLemmas.{length-size_written}
+use Rattle.wild_types.proofs.LookupLemmas.{row_here}
 use Rattle.wild_layout.specs.declared.decision.Decision.{Decision}
 use Rattle.wild_layout.specs.declared.decision.Decision.TheVariants.{Nothing, Field, Moved, Left, Rewritten, Partner}
 use Rattle.wild_relax.specs.declared.row.Row.{Row}
@@ -33,6 +28,10 @@ use Rattle.wild_layout.proofs.DecideLemmas.{HasField, decided_field, decided_mov
 use Rattle.wild_layout.proofs.ChoiceLemmas.{chosen_lies, length-template}
 use Rattle.wild_layout.proofs.DecisionLemmas.{decide_moved, decide_left, decide_field, IsRewritten, decide_rewritten}
 use Rattle.wild_layout.proofs.SitesApart.{IsFieldIn, fields_apart}
+
+-- the piece ends at n or before
+abbrev pub LiesIn : ℕ → Piece → Type 0
+LiesIn n p = p.at + length p.bytes ≤ n
 
 pub All-one : {X : Type 0} (P : X → Type 0) (x : X) → P x → All P (x ∷ [])
 All-one P x h = λ k d l. one P x h k d l
@@ -123,12 +122,6 @@ site_cases l s i = listed l s i (slice_get s.relocations i) refl
     listed l s i None e = inl refl
     listed l s i (Some r) e = decision l s i r (decide l s i) e refl
 
-pub All-of : (P : Piece → Type 0) (ps qs : List Piece) → ps ≡ qs → All P qs → All P ps
-All-of P ps qs e h = subst (λ (xs : List Piece). All P xs) (sym e) h
-
-pub All-at : {X : Type 0} (P : X → Type 0) (xs : List X) (i : ℕ) (x : X) → All P xs → slice_get xs i ≡ Some x → P x
-All-at P xs i x h e = subst P (get_or_from_slice_get xs i x x e) (h i x (slice_get_within xs i x e))
-
 -- how many bytes a field has
 pub length-field_site : (s : InputSection) (at : ℕ) (z : RelocationSize) (v : ℕ) → length (field_site s at z v).bytes ≡ size_width z
 length-field_site s at z v = length-size_written z v (slice_range s.bytes at (at + size_width z))
@@ -136,23 +129,11 @@ length-field_site s at z v = length-size_written z v (slice_range s.bytes at (at
 pub field_lies : (l : Layout) (s : InputSection) (r : InputRelocation) (z : RelocationSize) → HasField l r z → length s.bytes ≡ s.size → FieldLies l.machine s.size r → r.offset + size_width z ≤ length s.bytes
 field_lies l s r z f full lies = let e = field_ends l r z s.size f lies in omega (arith, e, full)
 
--- how many bytes a window inside the bytes has
-length-window : (bs : List ℕ) (start n : ℕ) → start + n ≤ length bs → length (slice_range bs start (start + n)) ≡ n
-length-window bs start n h =
-    let e : start + n - start ≡ n = omega arith in
-    let d = length-drop start bs in
-    rw e (length-take-le n (drop start bs) (omega (arith, d)))
-
-row_here : (m : Machine) (n : ℕ) (info : RelocationKindInfo) → m ≡ machine.X86_64 → row_of m n ≡ Some info → x86_64_row n ≡ Some info
-unfolding row_of
-row_here machine.AArch64 n info is h = cc
-row_here machine.X86_64 n info is h = h
-
 -- an instruction that is rewritten has the bytes of its pattern
 pub length-template_site : (l : Layout) (s : InputSection) (r : InputRelocation) (next : Option InputRelocation) (row : Row) (v : ℕ) → IsRewritten l s r next row v → length (template_site s r row v).bytes ≡ pattern_size row
 length-template_site l s r next row v w =
     let known = row_here l.machine (rewrite_of row).number w.written.info w.chosen.machine w.written.known in
-    length-template row w.written.info v (slice_range s.bytes (template_start row r) (template_start row r + pattern_size row)) (chosen_lies l s r next row w.chosen w.changes) known (length-window s.bytes (template_start row r) (pattern_size row) w.chosen.inside)
+    length-template row w.written.info v (slice_range s.bytes (template_start row r) (template_start row r + pattern_size row)) (chosen_lies l s r next row w.chosen w.changes) known (length-range s.bytes (template_start row r) (pattern_size row) w.chosen.inside)
 
 -- and lies in the section
 pub template_lies : (l : Layout) (s : InputSection) (r : InputRelocation) (next : Option InputRelocation) (row : Row) (v : ℕ) → IsRewritten l s r next row v → IsFieldIn (length s.bytes) (template_site s r row v)
@@ -166,7 +147,7 @@ template_lies l s r next row v w =
 pub site_is_field : (l : Layout) (s : InputSection) (i : ℕ) → All (FieldLies l.machine (length s.bytes)) s.relocations → All (IsFieldIn (length s.bytes)) (site l s i)
 site_is_field l s i lies =
     elim (site_cases l s i) [
-      | inl none ↦ All-of (IsFieldIn (length s.bytes)) _ [] none (All-nil (IsFieldIn (length s.bytes)))
+      | inl none ↦ All-same (IsFieldIn (length s.bytes)) _ [] none (All-nil (IsFieldIn (length s.bytes)))
       | inr some ↦ by_site l s i lies some
     ]
   where
@@ -180,10 +161,10 @@ site_is_field l s i lies =
     by_site : (l : Layout) (s : InputSection) (i : ℕ) → All (FieldLies l.machine (length s.bytes)) s.relocations → IsSite l s i ⊎ IsTemplateSite l s i → All (IsFieldIn (length s.bytes)) (site l s i)
     by_site l s i lies (inl x) =
         let P = IsFieldIn (length s.bytes) in
-        All-of P _ _ x.is (All-one P (field_site s x.relocation.offset x.written.size x.written.value) (is_field l s x.relocation x.written.size x.written.value x.field (All-at (FieldLies l.machine (length s.bytes)) s.relocations i x.relocation lies x.listed)))
+        All-same P _ _ x.is (All-one P (field_site s x.relocation.offset x.written.size x.written.value) (is_field l s x.relocation x.written.size x.written.value x.field (holds_at (FieldLies l.machine (length s.bytes)) s.relocations i x.relocation x.listed lies)))
     by_site l s i lies (inr x) =
         let P = IsFieldIn (length s.bytes) in
-        All-of P _ _ x.is (All-one P (template_site s x.relocation x.row x.value) (template_lies l s x.relocation (slice_get s.relocations (i + 1)) x.row x.value x.rewritten))
+        All-same P _ _ x.is (All-one P (template_site s x.relocation x.row x.value) (template_lies l s x.relocation (slice_get s.relocations (i + 1)) x.row x.value x.rewritten))
 
 -- the sites of a section lie in its bytes, each apart from the others
 pub sites_apart_in : (l : Layout) (s : InputSection) → All (FieldLies l.machine (length s.bytes)) s.relocations → shared_byte l s ≡ None → AreApart (length s.bytes) (sites l s)

@@ -1,14 +1,15 @@
 -- What a treatment says of its relocation.
 use Rattle.std.proofs.Common.{◌≡◌, ℕ, ◌⊎◌, inl, inr, Bool, true, false, Option, Some, None, refl, sym, ap, ◌∙◌, subst}
-use Rattle.std.specs.Prelude.{⊤, length, nat_lt, if◌then◌else◌, ◌&&◌, ◌||◌, ◌==◌}
-use Rattle.std.proofs.lemmas.Bool.{eqb-true}
+use Rattle.std.specs.Prelude.{⊤, length, nat_lt, ◌&&◌, ◌||◌, ◌==◌}
+use Rattle.std.proofs.lemmas.Bool.{eqb-true, and_parts}
+use Rattle.wild_words.proofs.Basics.{of_if}
 use Rattle.wild_types.specs.declared.input.InputSection.{InputSection}
 use Rattle.wild_types.specs.declared.layout.Layout.{Layout}
 use Rattle.wild_slot.specs.declared.treatment.Treatment.{Treatment}
 use Rattle.wild_slot.specs.declared.treatment.Treatment.TheVariants as treatments
 use Rattle.wild_types.specs.Flags.{has_flag, dynamic, ifunc, interposable}
 use Rattle.wild_types.specs.Kinds.{is_position_independent, is_shared_object}
-use Rattle.wild_types.specs.Lookups.{writable, allocated}
+use Rattle.wild_types.specs.Lookups.{writable, allocated, canonical}
 use Rattle.wild_slot.specs.Treatment.{flags_at, is_left, is_barred, is_narrow, is_chosen, is_sized, moves, address_treatment, distance_treatment, pointer_treatment, size_treatment, named, where_there, kind_treatment, row_treatment}
 use Rattle.wild_reloc.specs.Field.{field_width}
 use Rattle.wild_reloc.specs.declared.info.RelocationKind.{RelocationKind}
@@ -75,15 +76,7 @@ Says l s symbol row (treatments.Indirect i) = IsLeftBy s symbol row i
 Says l s symbol row (treatments.Extent r i) = (row ≡ r) × IsSizedBy s symbol row i
 Says l s symbol row other = ⊤
 
-said_if : (P : Treatment → Type 0) (b : Bool) (t u : Treatment) → (b ≡ true → P t) → (b ≡ false → P u) → P (if b then t else u)
-said_if P true t u h k = h refl
-said_if P false t u h k = k refl
-
 -- ---- by kind
-
-both_true : (a b : Bool) → (a && b) ≡ true → (a ≡ true) × (b ≡ true)
-both_true true b h = (refl, h)
-both_true false b h = cc
 
 left_true : (a b c d : Bool) → (a && b && c && d) ≡ true → (a ≡ true) × (c ≡ true)
 left_true true true true true h = (refl, refl)
@@ -104,24 +97,24 @@ said_address : (l : Layout) (s : InputSection) (row : RelocationKindInfo) (i : �
 said_address l s row i k =
     let P = Says l s (Some i) row in
     let value : HasValue row.kind = ap has_value k in
-    said_if P (is_barred l s row i || is_narrow l s row) _ _ (λ e. tt) (λ e.
-    said_if P (is_left l s row i) _ _
+    of_if P (is_barred l s row i || is_narrow l s row) _ _ (λ e. tt) (λ e.
+    of_if P (is_left l s row i) _ _
     (λ left. (let both = left_true (allocated s.flags) (writable s.flags) (field_width row == 8) (interposable (flags_at l i)) left in record { kind = k; width = eqb-true (field_width row) 8 both.1; named = refl; room = both.0 }))
-    (λ e. said_if P (is_chosen l s i) _ _
-    (λ chosen. said_if P (field_width row == 8) _ _ (λ w. record { kind = k; width = eqb-true (field_width row) 8 w; named = refl; room = first_of_four (allocated s.flags) (writable s.flags) (is_position_independent l.kind) (has_flag (flags_at l i) ifunc) chosen }) (λ w. tt))
-    (λ e. said_if P (allocated s.flags && moves l i) _ _
-    (λ m. (let both = both_true (allocated s.flags) (moves l i) m in said_if P (field_width row == 8) _ _ (λ w. record { kind = k; width = eqb-true (field_width row) 8 w; number = i; named = refl; moves = both.1; room = both.0 }) (λ w. tt)))
+    (λ e. of_if P (is_chosen l s i) _ _
+    (λ chosen. of_if P (field_width row == 8) _ _ (λ w. record { kind = k; width = eqb-true (field_width row) 8 w; named = refl; room = first_of_four (allocated s.flags) (writable s.flags) (is_position_independent l.kind) (has_flag (flags_at l i) ifunc) chosen }) (λ w. tt))
+    (λ e. of_if P (allocated s.flags && moves l i) _ _
+    (λ m. (let both = and_parts (allocated s.flags) (moves l i) m in of_if P (field_width row == 8) _ _ (λ w. record { kind = k; width = eqb-true (field_width row) 8 w; number = i; named = refl; moves = both.1; room = both.0 }) (λ w. tt)))
     (λ m. (refl, value)))))
 
 said_size : (l : Layout) (s : InputSection) (row : RelocationKindInfo) (i : ℕ) → row.kind ≡ kinds.SymbolSize → Says l s (Some i) row (size_treatment l s row i)
 said_size l s row i k =
-    said_if (Says l s (Some i) row) (is_sized l s i) _ _
+    of_if (Says l s (Some i) row) (is_sized l s i) _ _
     (λ sized. (refl, record { kind = k; named = refl; room = first_of_three (allocated s.flags) (interposable (flags_at l i)) (has_flag (flags_at l i) dynamic || is_shared_object l.kind) sized }))
     (λ e. (refl, ap has_value k))
 
 said_distance : (l : Layout) (s : InputSection) (row : RelocationKindInfo) (symbol : Option ℕ) → row.kind ≡ kinds.Relative → Says l s symbol row (distance_treatment l s row symbol)
-said_distance l s row None k = said_if (Says l s None row) (allocated s.flags && is_position_independent l.kind) _ _ (λ e. tt) (λ e. (refl, ap has_value k))
-said_distance l s row (Some i) k = said_if (Says l s (Some i) row) (is_barred l s row i) _ _ (λ e. tt) (λ e. (refl, ap has_value k))
+said_distance l s row None k = of_if (Says l s None row) (allocated s.flags && is_position_independent l.kind) _ _ (λ e. tt) (λ e. (refl, ap has_value k))
+said_distance l s row (Some i) k = of_if (Says l s (Some i) row) (is_barred l s row i) _ _ (λ e. tt) (λ e. (refl, ap has_value k))
 
 said_named : (l : Layout) (s : InputSection) (row : RelocationKindInfo) (symbol : Option ℕ) (by : ℕ → Treatment) → ((i : ℕ) → Says l s (Some i) row (by i)) → Says l s symbol row (named symbol by)
 said_named l s row None by h = tt
@@ -133,13 +126,13 @@ said_value l s row symbol h = said_named l s row symbol (λ i. treatments.Value 
 
 kind_says : (l : Layout) (s : InputSection) (symbol : Option ℕ) (row : RelocationKindInfo) (k : RelocationKind) → row.kind ≡ k → Says l s symbol row (kind_treatment l s symbol row k)
 kind_says l s symbol row kinds.None e = inl e
-kind_says l s symbol row kinds.Absolute e = said_named l s row symbol (λ i. where_there l row i (address_treatment l s row i)) (λ i. said_if (Says l s (Some i) row) (nat_lt i (length l.symbols)) _ _ (λ there. said_address l s row i e) (λ there. (refl, ap has_value e)))
+kind_says l s symbol row kinds.Absolute e = said_named l s row symbol (λ i. where_there l row i (address_treatment l s row i)) (λ i. of_if (Says l s (Some i) row) (nat_lt (canonical l i) (length l.symbols)) _ _ (λ there. said_address l s row i e) (λ there. (refl, ap has_value e)))
 kind_says l s symbol row kinds.Relative e = said_distance l s row symbol e
 kind_says l s symbol row kinds.GotBaseRelative e = (refl, ap has_value e)
 kind_says l s symbol row kinds.SymRelGotBase e = said_value l s row symbol (ap has_value e)
 kind_says l s symbol row kinds.DtpOff e = said_value l s row symbol (ap has_value e)
-kind_says l s symbol row kinds.TpOff e = said_named l s row symbol (λ i. pointer_treatment l s row) (λ i. said_if (Says l s (Some i) row) (allocated s.flags && is_shared_object l.kind) _ _ (λ p. tt) (λ p. (refl, ap has_value e)))
-kind_says l s symbol row kinds.SymbolSize e = said_named l s row symbol (λ i. where_there l row i (size_treatment l s row i)) (λ i. said_if (Says l s (Some i) row) (nat_lt i (length l.symbols)) _ _ (λ there. said_size l s row i e) (λ there. (refl, ap has_value e)))
+kind_says l s symbol row kinds.TpOff e = said_named l s row symbol (λ i. pointer_treatment l s row) (λ i. of_if (Says l s (Some i) row) (allocated s.flags && is_shared_object l.kind) _ _ (λ p. tt) (λ p. (refl, ap has_value e)))
+kind_says l s symbol row kinds.SymbolSize e = said_named l s row symbol (λ i. where_there l row i (size_treatment l s row i)) (λ i. of_if (Says l s (Some i) row) (nat_lt (canonical l i) (length l.symbols)) _ _ (λ there. said_size l s row i e) (λ there. (refl, ap has_value e)))
 kind_says l s symbol row kinds.PltRelative e = said_value l s row symbol (ap has_value e)
 kind_says l s symbol row kinds.PltRelGotBase e = said_value l s row symbol (ap has_value e)
 kind_says l s symbol row kinds.GotRelative e = said_value l s row symbol (ap has_value e)

@@ -2,12 +2,13 @@
 --   field row v            the value v in the row's field, where that takes it
 --   moved_to l s r a       the address a plus A, which moves, at the place
 --   left_to ..             the field is left to an entry with an index in the dynamic symbol table
+--   sized_to ..            where that stores an own symbol's size, it has to fit the field
 --   chosen_to ..           or to one with a resolver
 --   decide_by l s r t      what is decided of a relocation with that treatment
 --   decided l s r          what is decided of a relocation that keeps its instruction
 --   rewritten_to l s r row what is decided of one whose instruction is rewritten by a row
 --   decide l s i           what is decided of relocation i of section s
-use Rattle.std.specs.Prelude.{ℕ, ◌+◌, ◌-◌, ◌%◌, ◌^◌, ◌==◌, Bool, true, false, Option, Some, None, Result, Ok, Err, if◌then◌else◌, slice_get}
+use Rattle.std.specs.Prelude.{ℕ, ◌+◌, ◌-◌, ◌%◌, ◌^◌, ◌==◌, ◌||◌, Bool, true, false, Option, Some, None, Result, Ok, Err, if◌then◌else◌, slice_get}
 use Rattle.std.specs.Int.{w64, cast_unsigned}
 use Rattle.wild_types.specs.declared.fault.Fault.{Fault}
 use Rattle.wild_types.specs.declared.fault.Fault.TheVariants as faults
@@ -18,7 +19,8 @@ use Rattle.wild_types.specs.declared.layout.Layout.{Layout}
 use Rattle.wild_slot.specs.declared.treatment.Treatment.{Treatment}
 use Rattle.wild_slot.specs.declared.treatment.Treatment.TheVariants as treatments
 use Rattle.wild_types.specs.Lookups.{packs}
-use Rattle.wild_slot.specs.Treatment.{treatment}
+use Rattle.wild_slot.specs.Slots.{is_replaceable}
+use Rattle.wild_slot.specs.Treatment.{flags_at, treatment}
 use Rattle.wild_reloc.specs.Field.{allows}
 use Rattle.wild_reloc.specs.declared.info.RelocationKindInfo.{RelocationKindInfo}
 use Rattle.wild_layout.specs.declared.decision.Decision.{Decision}
@@ -36,7 +38,7 @@ use Rattle.wild_relax.specs.declared.row.Row.{Row}
 use Rattle.wild_relax.specs.RewriteX86_64.{rewrite_of}
 use Rattle.wild_relax.specs.Linked.{keeps_bytes}
 use Rattle.wild_layout.specs.Choice.{choice_of, is_partner}
-use Rattle.wild_layout.specs.SymbolValues.{place_of, sum}
+use Rattle.wild_layout.specs.SymbolValues.{place_of, sum, symbol_size}
 use Rattle.wild_layout.specs.SlotValues.{address_of, index_of, decided_address}
 use Rattle.wild_layout.specs.Values.{term_of, value_by}
 
@@ -63,6 +65,11 @@ abbrev pub left_to : RelocationSize → ℕ → InputRelocation → ℕ → Opti
 left_to size number r i None = Err (faults.MissingResolution missing.DynamicSymbol i)
 left_to size number r i (Some index) = Ok (Left size number index (added r))
 
+-- a size is left so; that of an own symbol is known, and with A it has to fit the row's field, also where an entry stores it
+abbrev pub sized_to : Layout → InputRelocation → RelocationKindInfo → ℕ → Result Decision Fault → Result Decision Fault
+sized_to l r row i (Err f) = Err f
+sized_to l r row i (Ok d) = if is_replaceable l.kind (flags_at l i) || allows row (sum (symbol_size l i) r.addend) then Ok d else Err (faults.OutOfRange (sum (symbol_size l i) r.addend))
+
 -- to one with the address of a resolver, as it was decided of the symbol, to whose answer nothing can be added (x86-64 psABI, "Relocation Types",
 -- R_X86_64_IRELATIVE)
 abbrev pub chosen_to : Layout → InputRelocation → Result ℕ Fault → Result Decision Fault
@@ -76,7 +83,7 @@ decide_by l s r (treatments.Value row) = field_for l s r row (term_of l r.symbol
 decide_by l s r treatments.BaseRelative = moved_to l s r (address_of l r.symbol)
 decide_by l s r (treatments.Symbolic i) = left_to (ByteSize Eight) (type_of l.machine Absolute) r i (index_of l i)
 decide_by l s r (treatments.Indirect i) = chosen_to l r (decided_address l i)
-decide_by l s r (treatments.Extent row i) = left_to row.size r.number r i (index_of l i)
+decide_by l s r (treatments.Extent row i) = sized_to l r row i (left_to row.size r.number r i (index_of l i))
 decide_by l s r treatments.Recompile = Err (faults.RecompileWithPic r.number)
 decide_by l s r treatments.Unsupported = Err (faults.UnsupportedRelocation r.number)
 

@@ -1,11 +1,11 @@
 -- What a legal world answers: dynamic symbols by their index, thread-local modules, and resolvers.
-use Rattle.std.proofs.Common.{◌≡◌, ℕ, zero, suc, ◌^◌, ◌<◌, ◌⊎◌, inl, inr, false, List, [], ◌∷◌, length, refl, sym, ap, arith, subst}
+use Rattle.std.proofs.Common.{◌≡◌, ℕ, ◌^◌, ◌<◌, ◌⊎◌, inl, inr, false, length, refl, sym, arith, subst}
 use Rattle.std.specs.Prelude.{Some, Ok, ◌==◌, slice_get}
-use Rattle.std.specs.List.{filter}
 use Rattle.std.specs.Int.{w64, cast_unsigned}
 use Rattle.std.proofs.lemmas.Bool.{cases_Bool, eqb-true}
 use Rattle.std.proofs.lemmas.List.Elements.{All-contains}
 use Rattle.std.proofs.lemmas.Option.{slice_get_within}
+use Rattle.wild_words.proofs.Basics.{slice_get_inside, listed_at}
 use Rattle.wild_types.specs.declared.symbol.Resolution.{Resolution}
 use Rattle.wild_types.specs.declared.symbol.Symbol.{Symbol}
 use Rattle.wild_types.specs.declared.layout.Layout.{Layout}
@@ -13,30 +13,14 @@ use Rattle.wild_needs.specs.DynamicSymbols.{dynamic_symbols}
 use Rattle.wild_layout.specs.Geometry.{IsLaidOut}
 use Rattle.wild_loader.specs.declared.world.Answer.{Answer}
 use Rattle.wild_loader.specs.declared.world.World.{World}
-use Rattle.wild_loader.specs.Changes.{first_value, answer_at, module_and_offset, distance_of}
-use Rattle.wild_meaning.specs.World.{IsLegal, IsAnsweredOnce, IsKnownModule, IsAnswer, IsAnswered}
-use Rattle.wild_loaded.proofs.SlotsHeld.{listed_at}
+use Rattle.wild_loader.specs.Changes.{answer_at, module_and_offset, distance_of}
+use Rattle.wild_meaning.specs.World.{IsLegal, IsAnsweredOnce, IsAnswer, IsAnswered}
+use Rattle.wild_meaning.proofs.WorldLemmas.{first_filtered, distance_known}
 
 -- ---- pairs by their keys
 
--- the one pair of a key is the first
-first_filtered : {V : Type 0} (ps : List (ℕ × V)) (a : ℕ) (v : V) → filter (λ (p : ℕ × V). p.0 == a) ps ≡ (a, v) ∷ [] → first_value ps a ≡ Some v
-first_filtered [] a v h = cc
-first_filtered {V} (p ∷ ps) a v h =
-    elim (cases_Bool (p.0 == a)) [
-      | inl t ↦ (let e = rw t at h in let is : p ≡ (a, v) = head_is p (a, v) (filter (λ (q : ℕ × V). q.0 == a) ps) [] e in rw t (ap (λ (q : ℕ × V). Some q.1) is))
-      | inr f ↦ rw f (first_filtered ps a v (rw f at h))
-    ]
-  where
-    head_is : (x y : ℕ × V) (xs ys : List (ℕ × V)) → x ∷ xs ≡ y ∷ ys → x ≡ y
-    head_is x y xs ys e = cc
-
 pub answered : (w : World) (a : ℕ) → (h : IsAnsweredOnce w a) → answer_at w a ≡ Ok h.answer
 answered w a h = rw (first_filtered w.resolvers a h.answer h.pair) refl
-
--- the distance of a module
-distance_known : (w : World) (m : ℕ) → (h : IsKnownModule w m) → distance_of w m ≡ Ok (cast_unsigned w64 h.distance)
-distance_known w m h = rw (first_filtered w.modules m h.distance h.pair) refl
 
 -- ---- dynamic symbols
 
@@ -46,14 +30,9 @@ pub record IsGiven (w : World) (index : ℕ) : Type 0 where
   pub listed : slice_get w.symbols index ≡ Some answer
   pub is : IsAnswer w answer
 
-item_there : {X : Type 0} (xs : List X) (k : ℕ) → k < length xs → (x : X) × (slice_get xs k ≡ Some x)
-item_there [] k h = absurd (omega arith)
-item_there (x ∷ xs) zero h = (x, refl)
-item_there (x ∷ xs) (suc k) h = item_there xs k (omega arith)
-
 pub given_answer : (l : Layout) (w : World) (index : ℕ) → IsLegal l w → index < length w.symbols → IsGiven w index
 given_answer l w index legal h =
-    let x = item_there w.symbols index h in
+    let x = slice_get_inside w.symbols index h in
     record { answer = x.0; listed = x.1; is = All-contains (IsAnswer w) w.symbols x.0 legal.symbols.each (listed_at w.symbols index x.0 x.1) }
 
 -- the index of a symbol has one

@@ -1,14 +1,13 @@
 -- The bytes of kept sections in the memory of an image that no entry has changed.
 use Rattle.std.proofs.Common.{◌≡◌, ℕ, zero, suc, ◌+◌, ◌-◌, ◌^◌, ◌<◌, ◌≤◌, inl, inr, Bool, true, false, List, [], ◌∷◌, length, get_or, replicate, refl, sym, ap, ◌∙◌, arith, subst}
-use Rattle.std.specs.Prelude.{All, Contains, Some, slice_get, slice_index, if◌then◌else◌, ◌==◌, ◌&&◌, not}
-use Rattle.std.proofs.lemmas.Bool.{cases_Bool, eqb-true}
+use Rattle.std.specs.Prelude.{All, Contains, Some, slice_get, slice_index, if◌then◌else◌, ◌==◌, not}
+use Rattle.std.proofs.lemmas.Bool.{cases_Bool, eqb-true, and_parts}
 use Rattle.std.proofs.lemmas.List.Elements.{All-contains, Contains-append_left, Contains-append_right}
 use Rattle.wild_records.specs.Abi.Segment.{pt_load}
 use Rattle.wild_words.specs.Words.{Stands}
 use Rattle.wild_words.specs.Overlay.{Piece, overlay, AreApart}
 use Rattle.wild_words.proofs.OverlayLemmas.{length-overlay}
 use Rattle.wild_types.specs.declared.section.Segment.{Segment}
-use Rattle.wild_types.specs.declared.input.Slot.{Slot}
 use Rattle.wild_types.specs.declared.input.InputSection.{InputSection}
 use Rattle.wild_types.specs.declared.file.File.{File}
 use Rattle.wild_types.specs.declared.file.Group.{Group}
@@ -26,24 +25,14 @@ use Rattle.wild_loader.specs.declared.world.World.{World}
 use Rattle.wild_loader.specs.declared.memory.Memory.{Memory}
 use Rattle.wild_loader.specs.Memory.{Holds, byte_in}
 use Rattle.wild_loader.specs.SegmentLaws.{BytesAreLoaded}
+use Rattle.wild_meaning.proofs.BitLemmas.{alloc_bit, kept_is_read}
 use Rattle.wild_geometry.specs.Loaded.{IsDecided}
 use Rattle.wild_loaded.specs.Memory.{IsStored, image_memory}
 use Rattle.wild_layout.proofs.SiteLemmas.{Contains-flat_map}
-use Rattle.wild_loaded.proofs.Bits.{alloc_bit}
 use Rattle.wild_loaded.proofs.PartsHeld.{byte_stands, carries_section, byte_carried}
 use Rattle.wild_loaded.proofs.Loads.{piece_stands}
 
 -- ---- sections
-
-read_if : (s : InputSection) (at : Slot) → s.slot ≡ at → is_loaded at ≡ true → s.nobits ≡ false → is_read s ≡ true
-read_if s at e t n = rw (e, t, n) refl
-
-pub kept_is_read : (l : Layout) (s : InputSection) → IsKeptSection l s → is_read s ≡ true
-kept_is_read l s k = read_if s _ k.loaded refl k.has_data
-
-both_of : (a b : Bool) → (a && b) ≡ true → (a ≡ true) × (b ≡ true)
-both_of true b h = (refl, h)
-both_of false b h = cc
 
 pub Contains-flat_map_from : {X Y : Type 0} (f : ℕ → X → List Y) (i : ℕ) (xs : List X) (x : X) (y : Y) → Contains xs x → ((n : ℕ) → Contains (f n x) y) → Contains (flat_map_from f i xs) y
 Contains-flat_map_from f i [] x y c h = absurd (omega (arith, c.1))
@@ -78,7 +67,7 @@ data_bytes l s n = by_bits (s.nobits) n
 -- a section that is read and owns no bytes has none
 pub not_filled : (l : Layout) (s : InputSection) → is_read s ≡ true → s.nobits ≡ false → is_filled l s ≡ false → length s.bytes ≡ 0
 not_filled l s read n f =
-    let loaded = (both_of (is_loaded s.slot) (not s.nobits) read).0 in
+    let loaded = (and_parts (is_loaded s.slot) (not s.nobits) read).0 in
     let e : not (length s.bytes == 0) ≡ false = simp (loaded, n) at f in
     none (length s.bytes) (length s.bytes == 0) refl e
   where

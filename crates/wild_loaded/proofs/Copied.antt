@@ -1,6 +1,6 @@
 -- Symbols that are copied into the output: their addresses, their answers, and what their entries make a loader do.
 use Rattle.std.proofs.Common.{◌≡◌, ℕ, ◌%◌, ◌^◌, ◌<◌, ◌⊎◌, inl, inr, true, refl, sym, ap, ◌∙◌, arith, subst}
-use Rattle.std.specs.Prelude.{Option, Some, None, Result, Ok, Err, All, [], option_and_then, unwrap_or, slice_get}
+use Rattle.std.specs.Prelude.{Option, Some, None, Result, Ok, Err, All, [], unwrap_or, slice_get}
 use Rattle.std.proofs.lemmas.List.Elements.{All-contains}
 use Rattle.wild_types.specs.declared.fault.Fault.{Fault}
 use Rattle.wild_types.specs.declared.kind.Machine.TheVariants as machine
@@ -26,41 +26,15 @@ use Rattle.wild_layout.proofs.FaultLemmas.{CanBeCopied, copies_of_groups}
 use Rattle.wild_loader.specs.declared.world.Answer.{Answer}
 use Rattle.wild_loader.specs.declared.world.World.{World}
 use Rattle.wild_loader.specs.Changes.{kind_of, change_of}
-use Rattle.wild_meaning.specs.Value.{IsDefinedBy, IsResolved, IsUnresolved, StandsAt, HasRaw, HasAnswer}
+use Rattle.wild_meaning.specs.Value.{IsResolved, IsUnresolved, StandsAt, HasRaw, HasAnswer}
 use Rattle.wild_meaning.specs.World.{IsLegal, IsCopied, HasCopy}
+use Rattle.wild_meaning.proofs.SymbolLemmas.{canonical_is, own_definition}
 use Rattle.wild_loaded.specs.Stored.{Copies}
 use Rattle.wild_loaded.specs.Laws.{CopiesAreThere}
 use Rattle.wild_loaded.proofs.Answers.{symbol_answer, index_small}
 use Rattle.wild_loaded.proofs.LeftFields.{IsIndexed, indexed}
 
 -- ---- definitions
-
--- the symbol that defines another is the one that the layout looks up
-pub defined_as : (l : Layout) (i c : ℕ) → IsDefinedBy l i c → canonical l i ≡ c
-defined_as l i c d = ap (λ (o : Option Symbol). unwrap_or (option_and_then (λ (s : Symbol). s.definition) o) i) d.listed ∙ by_case d.defined
-  where
-    by_case : (d.symbol.definition ≡ Some c) ⊎ ((d.symbol.definition ≡ None) × (c ≡ i)) → unwrap_or d.symbol.definition i ≡ c
-    by_case (inl e) = rw e refl
-    by_case (inr e) = rw e.0 (sym e.1)
-
--- one that a symbol names, or itself
-defined_by : (l : Layout) (i : ℕ) (s : Symbol) → slice_get l.symbols (canonical l i) ≡ Some s → IsDefinedBy l i (canonical l i)
-defined_by l i s e = by_symbol (slice_get l.symbols i) refl
-  where
-    by_definition : (x : Symbol) → slice_get l.symbols i ≡ Some x → (o : Option ℕ) → x.definition ≡ o → IsDefinedBy l i (canonical l i)
-    by_definition x there None is =
-        let same : canonical l i ≡ i = ap (λ (o : Option Symbol). unwrap_or (option_and_then (λ (y : Symbol). y.definition) o) i) there ∙ ap (λ (o : Option ℕ). unwrap_or o i) is in
-        record { symbol = x; listed = there; defined = inr (is, same) }
-    by_definition x there (Some c) is =
-        let same : canonical l i ≡ c = ap (λ (o : Option Symbol). unwrap_or (option_and_then (λ (y : Symbol). y.definition) o) i) there ∙ ap (λ (o : Option ℕ). unwrap_or o i) is in
-        record { symbol = x; listed = there; defined = inl (is ∙ ap (λ (k : ℕ). Some k) (sym same)) }
-
-    by_symbol : (o : Option Symbol) → slice_get l.symbols i ≡ o → IsDefinedBy l i (canonical l i)
-    by_symbol (Some x) there = by_definition x there x.definition refl
-    by_symbol None there =
-        let same : canonical l i ≡ i = ap (λ (o : Option Symbol). unwrap_or (option_and_then (λ (y : Symbol). y.definition) o) i) there in
-        let both : Some s ≡ None = sym e ∙ ap (λ (k : ℕ). slice_get l.symbols k) same ∙ there in
-        cc
 
 -- the address of a symbol whose definition has a resolution
 resolved_raw : (l : Layout) (i : ℕ) (s : Symbol) (r : Resolution) → slice_get l.symbols (canonical l i) ≡ Some s → s.resolution ≡ Some r → raw_address l (Some i) ≡ Ok r.raw_value
@@ -70,7 +44,7 @@ resolved_raw l i s r e f = rw (e, f) refl
 has_raw : (l : Layout) (i : ℕ) (s : Symbol) (r : Resolution) → slice_get l.symbols (canonical l i) ≡ Some s → s.resolution ≡ Some r → HasRaw l i r.raw_value
 has_raw l i s r e f = record {
   definition = canonical l i;
-  defined = defined_by l i s e;
+  defined = own_definition l i s e;
   given = inl (record { symbol = s; listed = e; resolution = r; decided = f; value = refl });
 }
 
@@ -101,7 +75,7 @@ copy_there l w i index legal c d =
       record {
         copied = c;
         given = has_raw l i d.symbol d.resolution d.listed d.resolved;
-        answer = record { definition = canonical l i; defined = defined_by l i d.symbol d.listed; symbol = d.symbol; listed = d.listed; resolution = d.resolution; decided = d.resolved; index = index; told = d.told; given = g.listed };
+        answer = record { definition = canonical l i; defined = own_definition l i d.symbol d.listed; symbol = d.symbol; listed = d.listed; resolution = d.resolution; decided = d.resolved; index = index; told = d.told; given = g.listed };
       },
     )
 
@@ -117,7 +91,7 @@ raw_is : (l : Layout) (w : World) (i raw : ℕ) (x : Answer) → HasRaw l i raw 
 raw_is l w i raw x h a = by_case h.given
   where
     same : h.definition ≡ a.definition
-    same = sym (defined_as l i h.definition h.defined) ∙ defined_as l i a.definition a.defined
+    same = sym (canonical_is l i h.definition h.defined) ∙ canonical_is l i a.definition a.defined
 
     here : slice_get l.symbols h.definition ≡ Some a.symbol
     here = ap (λ (k : ℕ). slice_get l.symbols k) same ∙ a.listed
@@ -140,7 +114,7 @@ copied w m index raw x e small given =
 pub copy_fills : (l : Layout) (w : World) (i raw : ℕ) (x : Answer) → l.machine ≡ machine.X86_64 → IsLegal l w → IsLaidOut l → HasCopy l w i raw x → Copies w (copy_entry l i) raw x.bytes
 copy_fills l w i raw x e legal laid h =
     let a = h.answer in
-    let at : canonical l i ≡ a.definition = defined_as l i a.definition a.defined in
+    let at : canonical l i ≡ a.definition = canonical_is l i a.definition a.defined in
     let there : slice_get l.symbols (canonical l i) ≡ Some a.symbol = ap (λ (k : ℕ). slice_get l.symbols k) at ∙ a.listed in
     let address : or_zero (raw_address l (Some i)) ≡ raw = ap or_zero (resolved_raw l i a.symbol a.resolution there a.decided) ∙ raw_is l w i raw x h.given a in
     let index : index_of l i ≡ Some a.index = told there a.decided a.told in

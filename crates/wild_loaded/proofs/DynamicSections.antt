@@ -32,6 +32,7 @@ use Rattle.wild_loader.specs.SegmentLaws.{word_bytes, rela_bytes}
 use Rattle.wild_loader.specs.Laws.{HasDynamic, HasTables, IsTableOf, before_null}
 use Rattle.wild_tables.specs.Dynamic.{dynamic_records, dynamic_bytes, entries_bytes, IsNeeded, NeededAreOfLibraries, LengthsOfRecords, RecordsStand, RecordsFit, EntriesAreFound, TablesAreNamed}
 use Rattle.wild_relr.specs.Laws.{WordsFit}
+use Rattle.wild_loader.proofs.TableLemmas.{no_tag}
 use Rattle.wild_slots.specs.Stand.{PairStands}
 use Rattle.wild_loaded.specs.WholeSlots.{HasWholeSlots}
 use Rattle.wild_loaded.specs.Laws.{DynamicSectionsStand, TablesAreFound}
@@ -68,10 +69,6 @@ pub record HasDynamicPart (l : Layout) : Type 0 where
   pub fits : dynamic_entry_size * dynamic_count l ≤ room
   pub size : part.size ≡ dynamic_entry_size * length (all_needed l) + room
   pub bytes : table_bytes l role.Dynamic ≡ entries_bytes (all_needed l) ++ dynamic_bytes l room
-
-no_tag : (n : ℕ) → tagged n [] ≡ None
-unfolding tagged
-no_tag n = refl
 
 -- some entry is there: DT_FLAGS is one of them
 some_entry : (l : Layout) → EntriesAreFound → needs_dynamic l.kind ≡ true → 1 ≤ dynamic_count l

@@ -1,8 +1,6 @@
 -- What the file header tells.
-use Rattle.std.proofs.Common.{◌≡◌, ℕ, inl, inr, Bool, false, refl, sym, ap, ◌∙◌}
+use Rattle.std.proofs.Common.{◌≡◌, ℕ, Bool, false, refl, sym, ap, ◌∙◌}
 use Rattle.std.specs.Prelude.{Option, Some, None, unwrap_or, option_map, slice_get, if◌then◌else◌}
-use Rattle.wild_types.specs.declared.kind.OutputKind.{OutputKind}
-use Rattle.wild_types.specs.declared.kind.OutputKind.TheVariants as output
 use Rattle.wild_types.specs.declared.symbol.Resolution.{Resolution}
 use Rattle.wild_types.specs.declared.symbol.Symbol.{Symbol}
 use Rattle.wild_types.specs.declared.symbol.ValueFlags.{ValueFlags}
@@ -12,14 +10,14 @@ use Rattle.wild_types.specs.declared.layout.Layout.{Layout}
 use Rattle.wild_types.specs.Addresses.{raw_value}
 use Rattle.wild_needs.specs.EntryPoint.{entry_point, told, entry_by, entry_value}
 use Rattle.wild_types.specs.Flags.{has_flag, ifunc}
-use Rattle.wild_types.specs.Kinds.{is_partial_link}
 use Rattle.wild_types.specs.Lookups.{canonical}
 use Rattle.wild_slot.specs.Treatment.{flags_at}
 use Rattle.wild_headers.specs.Headers.{entry_address, file_type, file_header}
 use Rattle.wild_meaning.specs.Linked.{IsDecidedPlace}
 use Rattle.wild_meaning.specs.World.{IsLoadable}
+use Rattle.wild_meaning.proofs.SymbolLemmas.{canonical_is}
+use Rattle.wild_meaning.proofs.OutputLemmas.{not_partial}
 use Rattle.wild_loaded.specs.Laws.{HeadersTell}
-use Rattle.wild_loaded.proofs.Copied.{defined_as}
 use Rattle.wild_loaded.proofs.FileType.{kind_fits, movable_type}
 use Rattle.wild_loaded.proofs.Loads.{has_headers}
 
@@ -30,12 +28,6 @@ entry_is l = refl
 type_is : (l : Layout) → (file_header l).file_type ≡ file_type l.kind
 unfolding file_header
 type_is l = refl
-
--- an output that is loaded is no relocatable object
-not_partial : (k : OutputKind) → IsLoadable k → is_partial_link k ≡ false
-not_partial output.PartialObject (inl h) = absurd h
-not_partial output.PartialObject (inr h) = absurd h
-not_partial k h = refl
 
 -- the entry is that of its case
 entry_by_case : (l : Layout) (e : Option Entry) → IsLoadable l.kind → l.entry ≡ e → entry_address l ≡ (entry_by l e).address
@@ -57,10 +49,10 @@ raw_is l i c s r is listed decided = rw (is, listed, decided) refl
 
 plain_entry : (l : Layout) (i a : ℕ) → IsDecidedPlace l i a → entry_value l i ≡ Some a
 plain_entry l i a h =
-    let flagged = defined_as l i h.plain.definition h.plain.defined in
+    let flagged = canonical_is l i h.plain.definition h.plain.defined in
     let flags = flags_are l i h.plain.definition h.plain.symbol flagged h.plain.listed in
     let plain : has_flag (flags_at l i) ifunc ≡ false = ap (λ (f : ValueFlags). has_flag f ifunc) flags ∙ h.plain.flagged in
-    let given = raw_is l i h.definition h.given.symbol h.given.resolution (defined_as l i h.definition h.defined) h.given.listed h.given.decided in
+    let given = raw_is l i h.definition h.given.symbol h.given.resolution (canonical_is l i h.definition h.defined) h.given.listed h.given.decided in
     rw plain (given ∙ ap (λ (v : ℕ). Some v) (sym h.given.value))
 
 symbol_entry : (l : Layout) (i a : ℕ) → IsLoadable l.kind → l.entry ≡ Some (entry.Symbol i) → IsDecidedPlace l i a → entry_address l ≡ a

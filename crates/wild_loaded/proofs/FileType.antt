@@ -4,7 +4,7 @@ use Rattle.wild_records.specs.Abi.Header.{et_exec, et_dyn}
 use Rattle.wild_types.specs.declared.kind.RelocationModel.TheVariants as model
 use Rattle.wild_types.specs.declared.kind.OutputKind.{OutputKind}
 use Rattle.wild_types.specs.declared.kind.OutputKind.TheVariants as output
-use Rattle.wild_types.specs.Kinds.{is_position_independent, needs_dynamic, is_fixed_static}
+use Rattle.wild_types.specs.Kinds.{needs_dynamic, is_fixed_static}
 use Rattle.wild_headers.specs.Headers.{file_type}
 use Rattle.wild_meaning.specs.World.{IsFixed, IsMovable, IsLoadable}
 
@@ -42,11 +42,3 @@ plain_fixed (output.DynamicExecutable any) h e = cc
 plain_fixed output.SharedObject h e = cc
 plain_fixed output.PartialObject (inl h) e = absurd h
 plain_fixed output.PartialObject (inr h) e = absurd h
-
--- and does not move
-pub plain_still : (k : OutputKind) → needs_dynamic k ≡ false → is_position_independent k ≡ false
-plain_still (output.StaticExecutable model.NonRelocatable) e = refl
-plain_still (output.StaticExecutable model.Relocatable) e = cc
-plain_still (output.DynamicExecutable any) e = cc
-plain_still output.SharedObject e = cc
-plain_still output.PartialObject e = refl

@@ -4,6 +4,7 @@ use Rattle.std.specs.Prelude.{Some, Contains, slice_get}
 use Rattle.std.specs.Int.{w64}
 use Rattle.std.proofs.lemmas.Int.{of_z-to_z}
 use Rattle.std.proofs.lemmas.List.Elements.{All-contains}
+use Rattle.wild_words.proofs.Basics.{listed_at}
 use Rattle.wild_reloc.specs.Dynamic.{x86_64_type}
 use Rattle.wild_reloc.specs.declared.dynamic.DynamicRelocationKind.{DynamicRelocationKind}
 use Rattle.wild_reloc.specs.declared.dynamic.DynamicRelocationKind.TheVariants.{Absolute, Copy, GotEntry, JumpSlot, Relative, DtpMod, DtpOff, TpOff, TlsDesc, Irelative}
@@ -25,7 +26,6 @@ use Rattle.wild_meaning.specs.World.{IsLegal, HasResolver, IsAnsweredOnce}
 use Rattle.wild_slots.specs.Entries.{NamesSymbols, NamesModules, NamesItself, NamesResolver, IsKnownEntry, entry_in, EntriesAreKnown}
 use Rattle.wild_loaded.specs.WholeSlots.{HasWholeSlots}
 use Rattle.wild_loaded.specs.Stored.{FillsSlot}
-use Rattle.wild_loaded.proofs.SlotsHeld.{listed_at}
 use Rattle.wild_loaded.proofs.Answers.{answered, IsGiven, symbol_answer, index_small, IsKnownPair, known_pair}
 
 abbrev entry : DynamicRelocationKind → ℕ → ℕ → SlotEntry

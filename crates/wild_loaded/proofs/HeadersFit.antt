@@ -1,9 +1,10 @@
 -- The headers of an image have their fields' ranges, and the loader takes them.
-use Rattle.std.proofs.Common.{◌≡◌, ℕ, zero, suc, ◌+◌, ◌-◌, ◌*◌, ◌/◌, ◌%◌, ◌^◌, ◌<◌, ◌≤◌, inl, inr, Bool, true, false, List, [], ◌∷◌, length, get_or, max, refl, sym, ap, ◌∙◌, arith}
+use Rattle.std.proofs.Common.{◌≡◌, ℕ, suc, ◌+◌, ◌-◌, ◌*◌, ◌/◌, ◌%◌, ◌^◌, ◌<◌, ◌≤◌, inl, inr, Bool, true, false, List, [], ◌∷◌, length, max, refl, sym, ap, ◌∙◌, arith}
 use Rattle.std.specs.Prelude.{All, if◌then◌else◌, ◌==◌, nat_lt}
 use Rattle.std.specs.Int.RustNames.{bit_and}
 use Rattle.std.proofs.lemmas.Bool.{cases_Bool, eqb-true, ltb-true}
 use Rattle.std.proofs.lemmas.Nat.Bits.{and_pow}
+use Rattle.std.proofs.lemmas.List.Elements.{All-cons}
 use Rattle.wild_records.specs.Abi.Header.{em_x86_64}
 use Rattle.wild_records.specs.Abi.Section.{shf_compressed, shn_loreserve, shf_alloc}
 use Rattle.wild_records.specs.Abi.Segment.{pt_load, pt_gnu_stack, pf_x}
@@ -13,14 +14,12 @@ use Rattle.wild_records.specs.SectionHeader.{SectionHeaderFits}
 use Rattle.wild_types.specs.declared.kind.Machine.{Machine}
 use Rattle.wild_types.specs.declared.kind.Machine.TheVariants as machine
 use Rattle.wild_types.specs.declared.part.Part.{Part}
-use Rattle.wild_types.specs.declared.part.Role.{Role}
 use Rattle.wild_types.specs.declared.part.Role.TheVariants as role
 use Rattle.wild_types.specs.declared.section.Section.{Section}
 use Rattle.wild_types.specs.declared.section.Segment.{Segment}
 use Rattle.wild_types.specs.declared.layout.Layout.{Layout}
 use Rattle.wild_types.specs.Lists.{total}
 use Rattle.wild_types.specs.Lookups.{bit}
-use Rattle.wild_types.specs.Parts.{has_role}
 use Rattle.wild_needs.specs.Versions.{need_count}
 use Rattle.wild_headers.specs.Headers.{machine_number, or_escape, or_none, name_table, section_of_role, file_header, with_execute, program_header, null_header, uncompressed, told_of, local_symbols, info_at, section_header, headers_from, section_headers_of}
 use Rattle.wild_layout.specs.Numbers.{NumbersFit, SegmentNumbers, SectionNumbers}
@@ -28,6 +27,7 @@ use Rattle.wild_meaning.specs.World.{IsLoadable}
 use Rattle.wild_loaded.proofs.FileType.{type_known, type_fits}
 use Rattle.wild_loader.specs.Headers.{is_loadable_header}
 use Rattle.wild_loader.specs.SegmentLaws.{told_sections, first_size}
+use Rattle.wild_headers.proofs.LengthLemmas.{length-section_headers_of, role_below}
 
 -- ---- bits
 
@@ -67,15 +67,6 @@ none_fits n m h =
     elim (cases_Bool (nat_lt n shn_loreserve)) [
       | inl t ↦ rw t (omega (arith, h))
       | inr f ↦ rw f h
-    ]
-
--- the section of a role is one of n
-role_below : (r : Role) (ps : List Part) (n : ℕ) → 1 ≤ n → All (λ (p : Part). p.section < n) ps → section_of_role r ps < n
-role_below r [] n some h = some
-role_below r (p ∷ ps) n some h =
-    elim (cases_Bool (has_role r p)) [
-      | inl t ↦ rw t (h 0 p (omega arith))
-      | inr f ↦ rw f (role_below r ps n some (λ k d l. h (suc k) d (omega arith)))
     ]
 
 pub name_table_below : (l : Layout) (n : ℕ) → 1 ≤ n → All (λ (p : Part). p.section < n) l.parts → name_table l < n
@@ -190,34 +181,23 @@ null_header_fits l few named =
       back = record { info = omega arith; align = omega arith; entry_size = omega arith };
     }
 
-All-cons' : {X : Type 0} (P : X → Type 0) (x : X) (xs : List X) → P x → All P xs → All P (x ∷ xs)
-All-cons' P x xs h t = λ k d l. at P x xs h t k d l
-  where
-    at : {X : Type 0} (P : X → Type 0) (x : X) (xs : List X) → P x → All P xs → (k : ℕ) (d : X) → k < length (x ∷ xs) → P (get_or (x ∷ xs) k d)
-    at P x xs h t zero d l = h
-    at P x xs h t (suc k) d l = t k d (omega arith)
-
 headers_fit : (l : Layout) (i name : ℕ) (ss : List Section) → name + total (λ (s : Section). length s.name + 1) ss < 2 ^ 32 → All SectionNumbers ss → All SectionHeaderFits (headers_from (told_of l) i name ss)
 headers_fit l i name [] h n = λ k d m. absurd (omega arith)
 headers_fit l i name (s ∷ ss) h n =
-    All-cons' SectionHeaderFits (section_header (info_at (told_of l) i s.info) name s) (headers_from (told_of l) (i + 1) (name + length s.name + 1) ss)
+    All-cons SectionHeaderFits (section_header (info_at (told_of l) i s.info) name s) (headers_from (told_of l) (i + 1) (name + length s.name + 1) ss)
     (section_header_fits (info_at (told_of l) i s.info) name s (info_fits l i s (n 0 s (omega arith))) (omega (arith, h)) (n 0 s (omega arith)))
     (headers_fit l (i + 1) (name + length s.name + 1) ss (omega (arith, h)) (λ k d m. n (suc k) d (omega arith)))
 
 pub section_headers_fit : (l : Layout) (ss : List Section) → length l.sections < 2 ^ 31 → name_table l < 2 ^ 32 → total (λ (s : Section). length s.name + 1) ss < 2 ^ 32 → All SectionNumbers ss → All SectionHeaderFits (section_headers_of l ss)
 section_headers_fit l [] few named h n = λ k d m. absurd (omega arith)
 section_headers_fit l (s ∷ ss) few named h n =
-    All-cons' SectionHeaderFits (null_header l) (headers_from (told_of l) 1 (length s.name + 1) ss)
+    All-cons SectionHeaderFits (null_header l) (headers_from (told_of l) 1 (length s.name + 1) ss)
     (null_header_fits l few named)
     (headers_fit l 1 (length s.name + 1) ss (omega (arith, h)) (λ k d m. n (suc k) d (omega arith)))
 
 length-headers : (l : Layout) (i name : ℕ) (ss : List Section) → length (headers_from (told_of l) i name ss) ≡ length ss
 length-headers l i name [] = refl
 length-headers l i name (s ∷ ss) = ap suc (length-headers l (i + 1) (name + length s.name + 1) ss)
-
-pub length-section_headers : (l : Layout) (ss : List Section) → length (section_headers_of l ss) ≡ length ss
-length-section_headers l [] = refl
-length-section_headers l (s ∷ ss) = ap suc (length-headers l 1 (length s.name + 1) ss)
 
 first_size_is : (l : Layout) (ss : List Section) → 1 ≤ length ss → first_size (section_headers_of l ss) ≡ or_none (length l.sections)
 unfolding null_header
@@ -228,5 +208,5 @@ pub headers_told : (l : Layout) → 1 ≤ length l.sections → told_sections (f
 unfolding file_header
 headers_told l h =
     let f = first_size_is l l.sections h in
-    let n = length-section_headers l l.sections in
+    let n = length-section_headers_of l l.sections in
     ap (λ (m : ℕ). if or_escape (length l.sections) 0 == 0 then m else or_escape (length l.sections) 0) f ∙ sections_told (length l.sections) h ∙ sym n

@@ -8,6 +8,7 @@ use Rattle.std.proofs.lemmas.Int.{of_z-to_z}
 use Rattle.std.proofs.lemmas.List.Elements.{All-contains}
 use Rattle.wild_words.specs.Words.{word}
 use Rattle.wild_words.proofs.WordLemmas.{length-word}
+use Rattle.wild_words.proofs.Basics.{of_if, listed_at}
 use Rattle.wild_records.specs.Abi.Relocation.{r_x86_64_size32, r_x86_64_size64}
 use Rattle.wild_types.specs.declared.fault.Fault.{Fault}
 use Rattle.wild_types.specs.declared.fault.Missing.TheVariants as missing
@@ -45,7 +46,7 @@ use Rattle.wild_layout.specs.SymbolValues.{address_or}
 use Rattle.wild_layout.specs.SlotValues.{index_of, decided_address}
 use Rattle.wild_layout.specs.Numbers.{NumbersFit, SymbolNumbers}
 use Rattle.wild_layout.specs.Geometry.{IsLaidOut}
-use Rattle.wild_layout.proofs.DecideLemmas.{decided_left}
+use Rattle.wild_layout.proofs.DecideLemmas.{sized_left, decided_left}
 use Rattle.wild_geometry.specs.Loaded.{entry_with}
 use Rattle.wild_loader.specs.declared.world.World.{World}
 use Rattle.wild_loader.specs.declared.change.Change.TheVariants as changes
@@ -53,7 +54,6 @@ use Rattle.wild_loader.specs.declared.kind.DynamicKind.TheVariants as kinds
 use Rattle.wild_loader.specs.Changes.{kind_of, change_of, plus}
 use Rattle.wild_meaning.specs.World.{IsLegal, HasResolver, IsAnsweredOnce}
 use Rattle.wild_loaded.specs.Stored.{FillsField}
-use Rattle.wild_loaded.proofs.SlotsHeld.{listed_at}
 use Rattle.wild_loaded.proofs.Answers.{answered, IsGiven, symbol_answer, index_small}
 
 -- ---- rows of sizes
@@ -118,10 +118,6 @@ Tells l n o (treatments.Indirect i) = has_flag (flags_at l i) ifunc ≡ true
 Tells l n o (treatments.Extent row i) = (o ≡ Some row) × (row.kind ≡ row_kinds.SymbolSize)
 Tells l n o other = ⊤
 
-told_if : (P : Treatment → Type 0) (b : Bool) (t u : Treatment) → (b ≡ true → P t) → (b ≡ false → P u) → P (if b then t else u)
-told_if P true t u h k = h refl
-told_if P false t u h k = k refl
-
 told_named : (P : Treatment → Type 0) (symbol : Option ℕ) (by : ℕ → Treatment) → P treatments.Unsupported → ((i : ℕ) → P (by i)) → P (named symbol by)
 told_named P None by u h = u
 told_named P (Some i) by u h = h i
@@ -135,28 +131,28 @@ last_of_four false b c d h = cc
 address_tells : (l : Layout) (s : InputSection) (n : ℕ) (row : RelocationKindInfo) (i : ℕ) → Tells l n (Some row) (address_treatment l s row i)
 address_tells l s n row i =
     let P = Tells l n (Some row) in
-    told_if P (is_barred l s row i || is_narrow l s row) _ _ (λ e. tt) (λ e.
-    told_if P (is_left l s row i) _ _ (λ e. tt) (λ e.
-    told_if P (is_chosen l s i) _ _
-    (λ chosen. told_if P (field_width row == 8) _ _ (λ w. last_of_four (allocated s.flags) (writable s.flags) (is_position_independent l.kind) (has_flag (flags_at l i) ifunc) chosen) (λ w. tt))
-    (λ e. told_if P (allocated s.flags && moves l i) _ _ (λ m. told_if P (field_width row == 8) _ _ (λ w. tt) (λ w. tt)) (λ m. tt))))
+    of_if P (is_barred l s row i || is_narrow l s row) _ _ (λ e. tt) (λ e.
+    of_if P (is_left l s row i) _ _ (λ e. tt) (λ e.
+    of_if P (is_chosen l s i) _ _
+    (λ chosen. of_if P (field_width row == 8) _ _ (λ w. last_of_four (allocated s.flags) (writable s.flags) (is_position_independent l.kind) (has_flag (flags_at l i) ifunc) chosen) (λ w. tt))
+    (λ e. of_if P (allocated s.flags && moves l i) _ _ (λ m. of_if P (field_width row == 8) _ _ (λ w. tt) (λ w. tt)) (λ m. tt))))
 
 distance_tells : (l : Layout) (s : InputSection) (n : ℕ) (row : RelocationKindInfo) (symbol : Option ℕ) → Tells l n (Some row) (distance_treatment l s row symbol)
-distance_tells l s n row None = told_if (Tells l n (Some row)) (allocated s.flags && is_position_independent l.kind) _ _ (λ e. tt) (λ e. tt)
-distance_tells l s n row (Some i) = told_if (Tells l n (Some row)) (is_barred l s row i) _ _ (λ e. tt) (λ e. tt)
+distance_tells l s n row None = of_if (Tells l n (Some row)) (allocated s.flags && is_position_independent l.kind) _ _ (λ e. tt) (λ e. tt)
+distance_tells l s n row (Some i) = of_if (Tells l n (Some row)) (is_barred l s row i) _ _ (λ e. tt) (λ e. tt)
 
 value_tells : (l : Layout) (n : ℕ) (row : RelocationKindInfo) (symbol : Option ℕ) → Tells l n (Some row) (named symbol (λ i. treatments.Value row))
 value_tells l n row symbol = told_named (Tells l n (Some row)) symbol (λ i. treatments.Value row) tt (λ i. tt)
 
 kind_tells : (l : Layout) (s : InputSection) (n : ℕ) (symbol : Option ℕ) (row : RelocationKindInfo) (k : RelocationKind) → row.kind ≡ k → Tells l n (Some row) (kind_treatment l s symbol row k)
 kind_tells l s n symbol row row_kinds.None e = tt
-kind_tells l s n symbol row row_kinds.Absolute e = told_named (Tells l n (Some row)) symbol (λ i. where_there l row i (address_treatment l s row i)) tt (λ i. told_if (Tells l n (Some row)) (nat_lt i (length l.symbols)) _ _ (λ there. address_tells l s n row i) (λ there. tt))
+kind_tells l s n symbol row row_kinds.Absolute e = told_named (Tells l n (Some row)) symbol (λ i. where_there l row i (address_treatment l s row i)) tt (λ i. of_if (Tells l n (Some row)) (nat_lt (canonical l i) (length l.symbols)) _ _ (λ there. address_tells l s n row i) (λ there. tt))
 kind_tells l s n symbol row row_kinds.Relative e = distance_tells l s n row symbol
 kind_tells l s n symbol row row_kinds.GotBaseRelative e = tt
 kind_tells l s n symbol row row_kinds.SymRelGotBase e = value_tells l n row symbol
 kind_tells l s n symbol row row_kinds.DtpOff e = value_tells l n row symbol
-kind_tells l s n symbol row row_kinds.TpOff e = told_named (Tells l n (Some row)) symbol (λ i. pointer_treatment l s row) tt (λ i. told_if (Tells l n (Some row)) (allocated s.flags && is_shared_object l.kind) _ _ (λ p. tt) (λ p. tt))
-kind_tells l s n symbol row row_kinds.SymbolSize e = told_named (Tells l n (Some row)) symbol (λ i. where_there l row i (size_treatment l s row i)) tt (λ i. told_if (Tells l n (Some row)) (nat_lt i (length l.symbols)) _ _ (λ there. told_if (Tells l n (Some row)) (is_sized l s i) _ _ (λ p. (refl, e)) (λ p. tt)) (λ there. tt))
+kind_tells l s n symbol row row_kinds.TpOff e = told_named (Tells l n (Some row)) symbol (λ i. pointer_treatment l s row) tt (λ i. of_if (Tells l n (Some row)) (allocated s.flags && is_shared_object l.kind) _ _ (λ p. tt) (λ p. tt))
+kind_tells l s n symbol row row_kinds.SymbolSize e = told_named (Tells l n (Some row)) symbol (λ i. where_there l row i (size_treatment l s row i)) tt (λ i. of_if (Tells l n (Some row)) (nat_lt (canonical l i) (length l.symbols)) _ _ (λ there. of_if (Tells l n (Some row)) (is_sized l s i) _ _ (λ p. (refl, e)) (λ p. tt)) (λ there. tt))
 kind_tells l s n symbol row row_kinds.PltRelative e = value_tells l n row symbol
 kind_tells l s n symbol row row_kinds.PltRelGotBase e = value_tells l n row symbol
 kind_tells l s n symbol row row_kinds.GotRelative e = value_tells l n row symbol
@@ -339,7 +335,7 @@ by_treatment P l s r z n symbol addend k (treatments.Indirect i) is left made =
     chosen_parts P l z n symbol addend r (decided_address l i) made (λ value e. k.chosen i value flag e)
 by_treatment P l s r z n symbol addend k (treatments.Extent row i) is left made =
     let told = subst (Tells l r.number (row_of l.machine r.number)) is (tells l s r) in
-    left_parts P row.size z r.number n symbol addend r i (index_of l i) made (λ index e. k.size i index row (size_row l.machine r.number row told.0 told.1) e)
+    left_parts P row.size z r.number n symbol addend r i (index_of l i) (sized_left l r row i (Left z n symbol addend) made) (λ index e. k.size i index row (size_row l.machine r.number row told.0 told.1) e)
 by_treatment P l s r z n symbol addend k treatments.Nothing is left made = cc
 by_treatment P l s r z n symbol addend k (treatments.Value row) is left made = cc
 by_treatment P l s r z n symbol addend k treatments.BaseRelative is left made = cc

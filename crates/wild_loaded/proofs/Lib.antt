@@ -1,4 +1,3 @@
-pub mod Bits
 pub mod FileType
 pub mod HeadersFit
 pub mod Loads

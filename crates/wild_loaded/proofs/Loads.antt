@@ -1,10 +1,9 @@
 -- The image of a laid out layout is loaded.
-use Rattle.std.proofs.Common.{◌≡◌, ℕ, zero, suc, ◌+◌, ◌-◌, ◌^◌, ◌<◌, ◌≤◌, inl, inr, List, [], ◌∷◌, length, get_or, map, refl, sym, ap, ◌∙◌, arith, subst}
-use Rattle.std.specs.Prelude.{AllPairs, Contains, drop}
+use Rattle.std.proofs.Common.{◌≡◌, ℕ, zero, suc, ◌+◌, ◌-◌, ◌^◌, ◌<◌, ◌≤◌, inl, inr, List, [], ◌∷◌, length, get_or, map, refl, sym, ◌∙◌, arith, subst}
+use Rattle.std.specs.Prelude.{AllPairs, Contains}
 use Rattle.std.specs.List.{flat_map}
 use Rattle.std.proofs.lemmas.Bool.{cases_lt}
 use Rattle.std.proofs.lemmas.List.{length-map}
-use Rattle.std.proofs.lemmas.List.FromFn.{length-map-range_with_len}
 use Rattle.std.proofs.lemmas.List.Folds.{flat_map-map}
 use Rattle.std.proofs.lemmas.List.Elements.{All-map}
 use Rattle.wild_records.specs.FileHeader.{file_header_size}
@@ -21,7 +20,7 @@ use Rattle.wild_types.specs.declared.section.Segment.{Segment}
 use Rattle.wild_types.specs.declared.layout.Layout.{Layout}
 use Rattle.wild_types.specs.Lookups.{image_size}
 use Rattle.wild_headers.specs.Headers.{file_header, program_header, section_headers_of, name_table, offset_of_role, file_header_bytes, program_header_bytes, section_header_bytes}
-use Rattle.wild_layout.specs.Image.{bytes, pieces, padding, padding_byte}
+use Rattle.wild_layout.specs.Image.{bytes, pieces, padding}
 use Rattle.wild_layout.specs.Numbers.{NumbersFit}
 use Rattle.wild_layout.specs.Loadable.{SegmentLoads, IsStatic as StaticSegment, Ascends}
 use Rattle.wild_layout.specs.TablePlaces.{IsPiece}
@@ -31,15 +30,13 @@ use Rattle.wild_loader.specs.declared.world.World.{World}
 use Rattle.wild_loader.specs.declared.memory.Machine.TheVariants as machines
 use Rattle.wild_loader.specs.SegmentLaws.{HasHeaders, IsLoadable, AreLoadable, Ascends as HeadersAscend}
 use Rattle.wild_loader.specs.Laws.{IsStatic}
+use Rattle.wild_headers.proofs.LengthLemmas.{length-section_headers_of}
+use Rattle.wild_layout.proofs.LayoutLemmas.{length-padding}
 use Rattle.wild_loaded.specs.Owners.{HasOneOwnerEach}
 use Rattle.wild_loaded.specs.Memory.{image_memory}
-use Rattle.wild_loaded.proofs.HeadersFit.{file_header_fits, name_table_below, program_header_fits, section_headers_fit, length-section_headers, headers_told}
+use Rattle.wild_loaded.proofs.HeadersFit.{file_header_fits, name_table_below, program_header_fits, section_headers_fit, headers_told}
 
 -- ---- owners
-
-length-padding : (l : Layout) → length (padding l) ≡ image_size l
-unfolding padding
-length-padding l = length-map-range_with_len (padding_byte (drop 1 l.sections)) 0 (image_size l)
 
 apart_in : (l : Layout) → IsLaidOut l → AreApart (length (padding l)) (pieces l)
 apart_in l laid = subst (λ (n : ℕ). AreApart n (pieces l)) (sym (length-padding l)) laid.owners
@@ -103,7 +100,7 @@ has_headers l m k numbers laid =
       sections_fit = section_headers_fit l l.sections laid.sections (names_low l laid) laid.names numbers.sections;
       sections = table_stands l (offset_of_role role.SectionHeaders l.parts) (section_header_bytes l) laid laid.tables.section_headers;
       section_count = headers_told l laid.some_section;
-      some_section = let n = length-section_headers l l.sections in let some = laid.some_section in omega (arith, n, some);
+      some_section = let n = length-section_headers_of l l.sections in let some = laid.some_section in omega (arith, n, some);
     }
 
 -- ---- segments
@@ -150,14 +147,6 @@ header_to l h e le = le
 pub header_distance : (l : Layout) (h : Segment) (a place : ℕ) → place ≡ h.offset + (a - h.address) → place ≡ (program_header l h).offset + (a - (program_header l h).address)
 unfolding program_header
 header_distance l h a place e = e
-
-pub Contains-map : {X Y : Type 0} (f : X → Y) (xs : List X) (x : X) → Contains xs x → Contains (map f xs) (f x)
-Contains-map f [] x c = absurd (omega (arith, c.1))
-Contains-map f (z ∷ zs) x c = cases f z zs x c.0 c.1 c.2 (λ c'. Contains-map f zs x c')
-  where
-    cases : {X Y : Type 0} (f : X → Y) (z : X) (zs : List X) (x : X) (k : ℕ) → k < length (z ∷ zs) → get_or (z ∷ zs) k x ≡ x → (Contains zs x → Contains (map f zs) (f x)) → Contains (f z ∷ map f zs) (f x)
-    cases f z zs x zero l e again = (0, omega arith, ap f e)
-    cases f z zs x (suc k) l e again = let c = again (k, omega arith, e) in (suc c.0, omega (arith, c.1), c.2)
 
 pub segment_static : (l : Layout) (g : Segment) → StaticSegment g → IsStatic (program_header l g)
 unfolding program_header

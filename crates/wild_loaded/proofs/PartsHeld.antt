@@ -1,19 +1,17 @@
 -- The tables of slots and stubs in the memory of an image that no entry has changed.
-use Rattle.std.proofs.Common.{◌≡◌, ℕ, zero, suc, ◌+◌, ◌-◌, ◌^◌, ◌<◌, ◌≤◌, inl, inr, true, false, List, [], ◌∷◌, length, map, refl, sym, ap, ◌∙◌, arith, subst}
+use Rattle.std.proofs.Common.{◌≡◌, ℕ, zero, suc, ◌+◌, ◌-◌, ◌^◌, ◌<◌, ◌≤◌, true, List, [], ◌∷◌, length, map, refl, sym, ap, ◌∙◌, arith, subst}
 use Rattle.std.specs.Prelude.{Option, Some, None, nat_le, ◌&&◌, slice_get, slice_index}
 use Rattle.std.proofs.lemmas.List.Elements.{All-contains}
 use Rattle.wild_records.specs.Abi.Segment.{pt_load}
 use Rattle.wild_words.specs.Words.{Stands}
 use Rattle.wild_words.proofs.OverlayLemmas.{Stands-inner}
-use Rattle.wild_types.specs.declared.kind.OutputKind.{OutputKind}
-use Rattle.wild_types.specs.declared.kind.OutputKind.TheVariants as output
+use Rattle.wild_words.proofs.Basics.{Contains-map}
 use Rattle.wild_types.specs.declared.part.Part.{Part}
 use Rattle.wild_types.specs.declared.part.Role.{Role}
 use Rattle.wild_types.specs.declared.part.Role.TheVariants as role
 use Rattle.wild_types.specs.declared.section.Segment.{Segment}
 use Rattle.wild_types.specs.declared.input.InputSection.{InputSection}
 use Rattle.wild_types.specs.declared.layout.Layout.{Layout}
-use Rattle.wild_types.specs.Kinds.{is_partial_link}
 use Rattle.wild_types.specs.Lookups.{image_size}
 use Rattle.wild_types.specs.Parts.{role_place, is_loaded_role, part_with}
 use Rattle.wild_clauses.specs.SlotPlaces.{address_of_part, start_of}
@@ -28,11 +26,12 @@ use Rattle.wild_loader.specs.Headers.{machine_of}
 use Rattle.wild_loader.specs.Memory.{Holds, byte_in}
 use Rattle.wild_loader.specs.SegmentLaws.{BytesAreLoaded}
 use Rattle.wild_meaning.specs.World.{IsLoadable, IsLegal}
+use Rattle.wild_meaning.proofs.OutputLemmas.{not_partial}
 use Rattle.wild_slots.specs.Stand.{StandsAt}
 use Rattle.wild_loaded.specs.Memory.{image_memory}
 use Rattle.wild_loaded.specs.Stored.{CarriesByte}
 use Rattle.wild_loaded.specs.Laws.{PartsAreStored}
-use Rattle.wild_loaded.proofs.Loads.{are_loadable, kind_is, header_from, header_to, header_distance, Contains-map}
+use Rattle.wild_loaded.proofs.Loads.{are_loadable, kind_is, header_from, header_to, header_distance}
 
 -- ---- bytes
 
@@ -82,13 +81,6 @@ Holds-inner m a off whole part h st = λ k l.
     rw e (h (off + k) (omega arith) ∙ ap Some (st.same k l))
 
 -- ---- parts
-
-not_partial : (k : OutputKind) → IsLoadable k → is_partial_link k ≡ false
-not_partial (output.StaticExecutable any) h = refl
-not_partial (output.DynamicExecutable any) h = refl
-not_partial output.SharedObject h = refl
-not_partial output.PartialObject (inl h) = absurd h
-not_partial output.PartialObject (inr h) = absurd h
 
 pub placed : (r : Role) → is_loaded_role r ≡ true → role_place r ≡ 0 → ⊥
 placed r h e = by_place (role_place r) e h

@@ -3,12 +3,13 @@ use Rattle.std.proofs.Common.{◌≡◌, ℕ, zero, suc, ◌+◌, ◌*◌, ◌/�
 use Rattle.std.specs.Prelude.{Option, Some, None, Contains, IsPermutation, ◌&&◌, ◌==◌, if◌then◌else◌, slice_get}
 use Rattle.std.specs.List.{flat_map, filter}
 use Rattle.std.proofs.lemmas.Bool.{cases_Bool, cases_lt, eqb-true, eqb-false}
-use Rattle.std.proofs.lemmas.List.{append-nil, append_assoc, length-append}
+use Rattle.std.proofs.lemmas.List.{append-nil, length-append}
 use Rattle.std.proofs.lemmas.List.Elements.{All-nil, All-append, All-contains}
-use Rattle.std.proofs.lemmas.List.Sorted.{IsPermutation-refl, IsPermutation-trans, IsPermutation-append, IsPermutation-append_left, IsPermutation-append_right, IsPermutation-append_comm}
+use Rattle.std.proofs.lemmas.List.Sorted.{IsPermutation-refl, IsPermutation-trans, IsPermutation-append, IsPermutation-append_comm}
 use Rattle.std.proofs.lemmas.Option.{slice_get-get_or}
 use Rattle.std.proofs.lemmas.List.Concat.{flat_map-append}
 use Rattle.wild_words.specs.Words.{Stands}
+use Rattle.wild_words.proofs.Basics.{middle_exchanged}
 use Rattle.wild_records.specs.Abi.Section.{sht_rela, shf_alloc}
 use Rattle.wild_records.specs.Relocations.{rela_size, rela_at, RelaFits}
 use Rattle.wild_records.specs.declared.relocations.Rela.{Rela}
@@ -21,6 +22,7 @@ use Rattle.wild_types.specs.declared.layout.Layout.{Layout}
 use Rattle.wild_types.specs.Lookups.{allocated, takes_file_bytes}
 use Rattle.wild_types.specs.Parts.{role_place, has_role, part_with, is_entry_role, bytes_in}
 use Rattle.wild_types.specs.Kinds.{is_fixed_static}
+use Rattle.wild_types.proofs.PartLemmas.{not_raw}
 use Rattle.wild_headers.specs.Headers.{null_header, info_at, section_header, headers_from, section_headers_of, told_of}
 use Rattle.wild_layout.specs.Image.{bytes}
 use Rattle.wild_layout.specs.SectionPlaces.{RangesApart}
@@ -30,8 +32,9 @@ use Rattle.wild_tables.specs.Laws.{EntriesAreRead, LengthsOfEntries}
 use Rattle.wild_loader.specs.Tables.{has_entries, relas_at}
 use Rattle.wild_loader.specs.SegmentLaws.{rela_bytes}
 use Rattle.wild_loader.specs.Laws.{HoldsEntries, HasSectionTables, section_relas}
-use Rattle.wild_loaded.proofs.Bits.{alloc_bit, bit_alloc}
-use Rattle.wild_loaded.proofs.HeadersFit.{uncompressed-alloc, length-section_headers}
+use Rattle.wild_headers.proofs.LengthLemmas.{length-section_headers_of}
+use Rattle.wild_meaning.proofs.BitLemmas.{alloc_bit, bit_alloc}
+use Rattle.wild_loaded.proofs.HeadersFit.{uncompressed-alloc}
 use Rattle.wild_loaded.proofs.TableBytes.{stands_joined}
 
 -- ---- headers
@@ -250,13 +253,6 @@ lies_in l r es js gs k s x t some there = by_part (part_with r l.parts) refl
 
 -- ---- parts that lie apart
 
-raw_not : (r : Role) (p : Part) → p.role ≡ r → (role_place r ≡ 0 → ⊥) → has_role role.Raw p ≡ false
-raw_not r p e place =
-    elim (cases_Bool (role_place r == 0)) [
-      | inl t ↦ absurd (place (eqb-true (role_place r) 0 t))
-      | inr f ↦ ap (λ (x : Role). role_place x == 0) e ∙ f
-    ]
-
 listed_index : (ps : List Part) (p : Part) → (c : Contains ps p) → slice_get ps c.0 ≡ Some p
 listed_index ps p c = slice_get-get_or ps c.0 p c.1 ∙ ap (λ (q : Part). Some q) c.2
 
@@ -265,7 +261,7 @@ roles_apart : (l : Layout) (r t : Role) (p q : Part) → IsLaidOut l → (role_p
 roles_apart l r t p q laid place other two e f =
     let x = (laid.roles r place).there p e in
     let y = (laid.roles t other).there q f in
-    let takes : (u : Role) (z : Part) → Contains l.parts z → z.role ≡ u → (role_place u ≡ 0 → ⊥) → takes_file_bytes l z.section ≡ true = λ u z c h n. All-contains (λ (o : Part). has_role role.Raw o ≡ false → takes_file_bytes l o.section ≡ true) l.parts z laid.room c (raw_not u z h n) in
+    let takes : (u : Role) (z : Part) → Contains l.parts z → z.role ≡ u → (role_place u ≡ 0 → ⊥) → takes_file_bytes l z.section ≡ true = λ u z c h n. All-contains (λ (o : Part). has_role role.Raw o ≡ false → takes_file_bytes l o.section ≡ true) l.parts z laid.room c (not_raw u z n h) in
     laid.apart x.listed.0 y.listed.0 p q (listed_index l.parts p x.listed) (listed_index l.parts q y.listed)
     (λ same. two (roles_same x.listed.0 y.listed.0 same (listed_index l.parts p x.listed) (listed_index l.parts q y.listed) x.has y.has))
     (takes r p x.listed x.has place) (takes t q y.listed y.has other)
@@ -387,17 +383,9 @@ abbrev joined : ℕ → ℕ → Option Part → List Rela → List Rela
 joined zero k o es = []
 joined (suc n) k o es = in_section k o es ++ joined n (k + 1) o es
 
-crossed : {X : Type 0} (a b c d : List X) → IsPermutation ((a ++ b) ++ (c ++ d)) ((a ++ c) ++ (b ++ d))
-crossed {X} a b c d =
-    let swap = IsPermutation-append_left d (b ++ c) (c ++ b) (IsPermutation-append_comm b c) in
-    let inner = IsPermutation-append_right a ((b ++ c) ++ d) ((c ++ b) ++ d) swap in
-    let left : (a ++ b) ++ (c ++ d) ≡ a ++ ((b ++ c) ++ d) = append_assoc a b (c ++ d) ∙ ap (λ (xs : List X). a ++ xs) (sym (append_assoc b c d)) in
-    let right : (a ++ c) ++ (b ++ d) ≡ a ++ ((c ++ b) ++ d) = append_assoc a c (b ++ d) ∙ ap (λ (xs : List X). a ++ xs) (sym (append_assoc c b d)) in
-    subst (λ (xs : List X). IsPermutation xs ((a ++ c) ++ (b ++ d))) (sym left) (subst (λ (xs : List X). IsPermutation (a ++ ((b ++ c) ++ d)) xs) (sym right) inner)
-
 behind_first_two : {X : Type 0} (xs rest a b c d : List X) → IsPermutation xs (a ++ b) → IsPermutation rest (c ++ d) → IsPermutation (xs ++ rest) ((a ++ c) ++ (b ++ d))
 behind_first_two xs rest a b c d first second =
-    IsPermutation-trans (xs ++ rest) ((a ++ b) ++ (c ++ d)) ((a ++ c) ++ (b ++ d)) (IsPermutation-append xs (a ++ b) rest (c ++ d) first second) (crossed a b c d)
+    IsPermutation-trans (xs ++ rest) ((a ++ b) ++ (c ++ d)) ((a ++ c) ++ (b ++ d)) (IsPermutation-append xs (a ++ b) rest (c ++ d) first second) (middle_exchanged a b c d)
 
 filter-yes : {X : Type 0} (p : X → Bool) (x : X) (xs : List X) → p x ≡ true → filter p (x ∷ xs) ≡ x ∷ filter p xs
 filter-yes p x xs e = rw e refl
@@ -484,7 +472,7 @@ section_tables l js gs x = λ k d lt has. (section_read l js gs k (get_or (secti
 pub all_sections : (l : Layout) (js gs : List Rela) → IsFixedTable l js gs → IsPermutation (section_relas (section_headers_of l l.sections) (relas_of l)) (gs ++ js)
 all_sections l js gs x =
     let hs = section_headers_of l l.sections in
-    let n = length-section_headers l l.sections in
+    let n = length-section_headers_of l l.sections in
     let read = sections_joined l js gs 0 hs x (λ i h e. (let z : i ≡ 0 + i = omega arith in subst (λ (k : ℕ). slice_get hs k ≡ Some h) z e)) in
     let first = ap (λ (m : ℕ). joined m 0 (part_with role.RelaPlt l.parts) js) n ∙ joined_all l role.RelaPlt js js gs x x.jumps in
     let second = ap (λ (m : ℕ). joined m 0 (part_with role.RelaDynGeneral l.parts) gs) n ∙ joined_all l role.RelaDynGeneral gs js gs x x.generals in

@@ -1,7 +1,7 @@
 -- The places of slots have 64 bits, and so have the words that pack a block of them.
-use Rattle.std.proofs.Common.{◌≡◌, ℕ, zero, suc, ◌+◌, ◌-◌, ◌*◌, ◌^◌, ◌<◌, ◌≤◌, Bool, true, false, List, [], ◌∷◌, get_or, refl, arith}
-use Rattle.std.specs.Prelude.{Option, Some, None, All, min, drop, slice_range, unwrap_or, if◌then◌else◌, ◌==◌, ◌||◌}
-use Rattle.std.proofs.lemmas.List.Elements.{All-nil, All-cons, All-head, All-tail, All-take, All-drop}
+use Rattle.std.proofs.Common.{◌≡◌, ℕ, zero, suc, ◌-◌, ◌*◌, ◌^◌, ◌<◌, ◌≤◌, Bool, true, false, List, [], ◌∷◌, get_or, refl, arith}
+use Rattle.std.specs.Prelude.{Option, Some, None, All, min, unwrap_or, if◌then◌else◌, ◌==◌, ◌||◌}
+use Rattle.std.proofs.lemmas.List.Elements.{All-nil, All-cons, All-head, All-tail}
 use Rattle.std.proofs.Math.Nat.{pow-le-pow_right}
 use Rattle.wild_words.proofs.ListLemmas.{All-flat_map}
 use Rattle.wild_relr.specs.Laws.{IsWord}
@@ -14,8 +14,8 @@ use Rattle.wild_types.specs.declared.symbol.Symbol.{Symbol}
 use Rattle.wild_types.specs.declared.layout.Layout.{Layout}
 use Rattle.wild_slot.specs.SlotParts.{next}
 use Rattle.wild_types.specs.SymbolSlots.{resolved_got, slots_at}
-use Rattle.wild_types.specs.FileRoles.{writes_slots}
 use Rattle.wild_types.specs.FileSymbols.{own_symbols}
+use Rattle.wild_types.proofs.FileLemmas.{All-own}
 use Rattle.wild_slot.specs.SymbolWords.{slots_of}
 use Rattle.wild_layout.specs.Numbers.{ResolutionNumbers, SymbolNumbers}
 use Rattle.wild_loaded.proofs.SlotNumbers.{WordFits, words_fit}
@@ -42,14 +42,6 @@ slots_low s n = by_resolution s.resolution n
     by_resolution : (o : Option Resolution) → ((r : Resolution) → o ≡ Some r → ResolutionNumbers r) → unwrap_or (resolved_got o) 0 < 2 ^ 64
     by_resolution None h = omega arith
     by_resolution (Some r) h = by_place r.got_address (h r refl).slots
-
--- what holds of each symbol holds of those of a file
-pub All-own : (P : Symbol → Type 0) (l : Layout) (f : File) → All P l.symbols → All P (own_symbols l f)
-All-own P l f h = by_test (writes_slots f.role)
-  where
-    by_test : (b : Bool) → All P (if b then slice_range l.symbols f.first_symbol (f.first_symbol + f.symbol_count) else [])
-    by_test true = All-take P (f.first_symbol + f.symbol_count - f.first_symbol) (drop f.first_symbol l.symbols) (All-drop P f.first_symbol l.symbols h)
-    by_test false = All-nil P
 
 pub sites_fit : (l : Layout) (f : File) → All SymbolNumbers l.symbols → All SiteFits (file_sites l f)
 sites_fit l f numbers =

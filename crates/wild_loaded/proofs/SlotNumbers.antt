@@ -2,6 +2,7 @@
 use Rattle.std.proofs.Common.{◌≡◌, ℕ, ◌^◌, ◌<◌, [], ◌∷◌, refl, arith}
 use Rattle.std.specs.Prelude.{Option, Some, None, All, not, ◌==◌, ◌&&◌, if◌then◌else◌}
 use Rattle.std.proofs.lemmas.List.Elements.{All-nil, All-cons, All-append}
+use Rattle.wild_words.proofs.Basics.{of_if}
 use Rattle.wild_reloc.specs.declared.dynamic.DynamicRelocationKind.TheVariants.{DtpMod}
 use Rattle.wild_slot.specs.declared.slot.SlotWord.{SlotWord}
 use Rattle.wild_slot.specs.declared.slot.SlotWord.TheVariants.{Number, Address, InBlock, General, Plt}
@@ -18,7 +19,7 @@ use Rattle.wild_slot.specs.SymbolWords.{slots_of, resolved_slots}
 use Rattle.wild_needs.specs.SlotShares.{storage_at, storage_words}
 use Rattle.wild_slot.specs.Stub.{far_of}
 use Rattle.wild_layout.specs.Numbers.{ResolutionNumbers, SymbolNumbers}
-use Rattle.wild_slots.proofs.ItemLemmas.{ItemHas, All-words, of_if, of_named, of_where, of_one, of_stub}
+use Rattle.wild_slots.proofs.ItemLemmas.{ItemHas, All-words, of_named, of_where, of_one, of_stub}
 
 -- what stands in the word, or what a loader makes it of
 abbrev pub WordFits : SlotWord → Type 0

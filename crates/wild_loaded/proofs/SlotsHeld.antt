@@ -1,12 +1,12 @@
 -- The words and stubs of symbols in the memory of an image that no entry has changed.
 use Rattle.std.proofs.Common.{◌≡◌, ℕ, zero, suc, ◌+◌, ◌*◌, ◌^◌, ◌<◌, ◌≤◌, Bool, true, false, List, [], ◌∷◌, length, refl, sym, ap, ◌∙◌, arith, subst}
-use Rattle.std.specs.Prelude.{Option, All, Contains, Some, None, unwrap_or, if◌then◌else◌, slice_get}
+use Rattle.std.specs.Prelude.{Option, All, Some, None, unwrap_or, if◌then◌else◌, slice_get}
 use Rattle.std.proofs.lemmas.List.Elements.{All-contains}
-use Rattle.std.proofs.lemmas.Option.{slice_get_within, get_or_from_slice_get}
 use Rattle.wild_words.specs.Words.{word}
 use Rattle.wild_words.proofs.OverlayLemmas.{length-place}
 use Rattle.wild_words.proofs.WordLemmas.{length-word}
 use Rattle.wild_words.proofs.RecordLemmas.{Stands-left, Stands-right}
+use Rattle.wild_words.proofs.Basics.{of_if, listed_at}
 use Rattle.wild_relr.specs.Written.{word_bytes}
 use Rattle.wild_slot.specs.declared.slot.Setting.{Setting}
 use Rattle.wild_slot.specs.declared.slot.SlotWord.{SlotWord}
@@ -38,7 +38,6 @@ use Rattle.wild_loaded.specs.WholeSlots.{HasWholeSlots}
 use Rattle.wild_loaded.specs.Stored.{IsWordStored, IsStubStored}
 use Rattle.wild_loaded.specs.Laws.{PartsAreStored, SlotsAreStored}
 use Rattle.wild_loaded.proofs.PartsHeld.{stands_held, stands_inner}
-use Rattle.wild_slots.proofs.ItemLemmas.{of_if}
 use Rattle.wild_loaded.proofs.SlotNumbers.{WordFits, own_module, words_fit, storage_fits}
 
 -- what the crate below owes of slots
@@ -72,10 +71,6 @@ word_held l w at d law kind legal laid fits h =
     let s = stands_held l w (role_of_words (part_of_word d)) at (word 8 h.value) law (role_loaded (part_of_word d)) kind legal laid (omega (arith, n)) h.stands in
     let ends = s.ends in
     record { value = h.value; is = h.is; fits = value_fits l.options.relr at h.value d fits h.is; stands = h.stands; ends = omega (arith, ends, n); held = s.held }
-
--- an item at a number is one of the list
-pub listed_at : {X : Type 0} (xs : List X) (i : ℕ) (x : X) → slice_get xs i ≡ Some x → Contains xs x
-listed_at xs i x e = (i, slice_get_within xs i x e, get_or_from_slice_get xs i x x e)
 
 symbol_word : (l : Layout) (w : World) (i at k : ℕ) (s : Symbol) (d : SlotWord) → SlotLaws → PartsAreStored → IsLoadable l.kind → NumbersFit l → IsLegal l w → IsLaidOut l → HasWholeSlots l → slice_get l.symbols i ≡ Some s → got_of s ≡ Some at → slice_get (slots_of l s).words k ≡ Some d → IsWordStored l w (at + word_size * k) d
 symbol_word l w i at k s d laws law kind numbers legal laid slots there got here =

@@ -1,6 +1,6 @@
 -- The tables of an output at its own addresses: nothing moves, and its sections have all entries.
 use Rattle.std.proofs.Common.{◌≡◌, ℕ, zero, suc, ◌+◌, ◌<◌, ◌≤◌, inl, inr, false, List, [], ◌∷◌, ◌++◌, length, get_or, refl, sym, ap, ◌∙◌, arith, subst}
-use Rattle.std.specs.Prelude.{Option, AllPairs, IsPermutation, slice_index}
+use Rattle.std.specs.Prelude.{AllPairs, IsPermutation, slice_index}
 use Rattle.std.specs.List.{flat_map}
 use Rattle.std.proofs.lemmas.Bool.{cases_lt}
 use Rattle.std.proofs.lemmas.List.{length-append, get_or_append_left}
@@ -10,23 +10,26 @@ use Rattle.wild_words.specs.Record.{spell}
 use Rattle.wild_words.specs.Overlay.{Piece, Apart}
 use Rattle.wild_words.proofs.RecordLemmas.{Stands-field}
 use Rattle.wild_words.proofs.WordLemmas.{length-word}
+use Rattle.wild_words.proofs.Basics.{flat_map-none}
 use Rattle.wild_records.specs.Abi.Header.{elfmag}
 use Rattle.wild_records.specs.FileHeader.{file_header_fields}
 use Rattle.wild_records.specs.SectionHeader.{section_header_fields}
 use Rattle.wild_records.specs.declared.relocations.Rela.{Rela}
 use Rattle.wild_records.specs.declared.section_header.SectionHeader.{SectionHeader}
 use Rattle.wild_relr.specs.Packed.{packed_on, packed, block}
+use Rattle.wild_records.proofs.FileHeaderLemmas.{length-file_header}
 use Rattle.wild_types.specs.declared.part.Role.TheVariants as role
-use Rattle.wild_types.specs.declared.input.InputRelocation.{InputRelocation}
 use Rattle.wild_types.specs.declared.input.InputSection.{InputSection}
 use Rattle.wild_types.specs.declared.section.Section.{Section}
 use Rattle.wild_slot.specs.declared.slot_parts.EntryPart.TheVariants as entries
 use Rattle.wild_types.specs.declared.file.Group.{Group}
 use Rattle.wild_types.specs.declared.layout.Layout.{Layout}
-use Rattle.wild_needs.specs.Entries.{moved_of, packed_place, packed_places, words_of}
+use Rattle.wild_needs.specs.Entries.{packed_place, packed_places, words_of}
 use Rattle.wild_types.specs.Kinds.{is_position_independent}
+use Rattle.wild_types.proofs.LookupLemmas.{plain_still}
 use Rattle.wild_needs.specs.SlotShares.{group_block, block_of, words_of_block, block_words}
-use Rattle.wild_headers.proofs.HeaderLemmas.{length-file_header, length-section_header}
+use Rattle.wild_needs.proofs.ShareLemmas.{no_moved}
+use Rattle.wild_headers.proofs.HeaderLemmas.{length-section_header}
 use Rattle.wild_headers.specs.Headers.{file_header, null_header, headers_from, told_of, program_header, section_headers_of, offset_of_role, file_header_bytes, section_header_bytes}
 use Rattle.wild_layout.specs.Image.{pieces}
 use Rattle.wild_layout.specs.Moved.{listed_entry, section_entries}
@@ -39,7 +42,7 @@ use Rattle.wild_slots.specs.Entries.{MovesNothing, FixedOutputsMoveNothing}
 use Rattle.wild_slots.specs.Stand.{PairStands}
 use Rattle.wild_loaded.specs.Tables.{file_packed, group_words, relatives, tables_of}
 use Rattle.wild_loaded.specs.Laws.{SectionTablesAreFound}
-use Rattle.wild_loaded.proofs.FileType.{plain_fixed, plain_still}
+use Rattle.wild_loaded.proofs.FileType.{plain_fixed}
 use Rattle.wild_loaded.proofs.Loads.{segment_static}
 use Rattle.wild_loaded.proofs.PairPlace.{pair_low}
 use Rattle.wild_loaded.proofs.TableBytes.{all_relatives, all_generals, relatives_are, generals_are, jumps_are}
@@ -47,13 +50,6 @@ use Rattle.wild_loaded.proofs.TablesFit.{jumps_fit, all_generals_fit}
 use Rattle.wild_loaded.proofs.SectionTable.{IsFixedTable, relas_of, section_tables, all_sections}
 
 -- ---- nothing moves
-
-nothing_joined : {X Y : Type 0} (f : X → List Y) (xs : List X) → ((x : X) → f x ≡ []) → flat_map f xs ≡ []
-nothing_joined f [] h = refl
-nothing_joined f (x ∷ xs) h = rw (h x) (nothing_joined f xs h)
-
-no_moved : {X : Type 0} (l : Layout) (s : InputSection) (f : InputRelocation → Option X) → is_position_independent l.kind ≡ false → moved_of l s f ≡ []
-no_moved l s f still = rw still refl
 
 no_words : (l : Layout) (s : InputSection) → is_position_independent l.kind ≡ false → words_of l s ≡ []
 unfolding packed_places packed packed_on
@@ -69,14 +65,14 @@ no_block l g h = ap (λ (ps : List ℕ). words_of_block (block_of ps)) h
 
 words_none : (l : Layout) → MovesNothing l → is_position_independent l.kind ≡ false → (tables_of l).words ≡ []
 words_none l h still =
-    nothing_joined (group_words l) l.groups (λ g.
-    ap (λ (ws : List ℕ). ws ++ block_words l g) (nothing_joined (file_packed l) g.files (λ f. ap (λ (ws : List ℕ). ws ++ flat_places_of l f) (nothing_joined (words_of l) f.sections (λ s. no_words l s still)) ∙ h.flat f))
+    flat_map-none (group_words l) l.groups (λ g.
+    ap (λ (ws : List ℕ). ws ++ block_words l g) (flat_map-none (file_packed l) g.files (λ f. ap (λ (ws : List ℕ). ws ++ flat_places_of l f) (flat_map-none (words_of l) f.sections (λ s. no_words l s still)) ∙ h.flat f))
     ∙ no_block l g (h.groups g))
 
 relatives_none : (l : Layout) → MovesNothing l → is_position_independent l.kind ≡ false → all_relatives l ≡ []
 relatives_none l h still =
-    nothing_joined (λ (g : Group). flat_map (relatives l) g.files) l.groups (λ g.
-    nothing_joined (relatives l) g.files (λ f. ap (λ (es : List Rela). es ++ slot_entries_of entries.Relative l f) (nothing_joined (section_entries l) f.sections (λ s. no_entries l s still)) ∙ h.relative f))
+    flat_map-none (λ (g : Group). flat_map (relatives l) g.files) l.groups (λ g.
+    flat_map-none (relatives l) g.files (λ f. ap (λ (es : List Rela). es ++ slot_entries_of entries.Relative l f) (flat_map-none (section_entries l) f.sections (λ s. no_entries l s still)) ∙ h.relative f))
 
 -- ---- where the section headers stand
 

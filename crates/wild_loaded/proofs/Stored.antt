@@ -1,12 +1,12 @@
 -- Kept sections in the memory of an image that no entry has changed: their fields, what is rewritten, their other bytes, and zeros.
-use Rattle.std.proofs.Common.{◌≡◌, ℕ, ◌+◌, ◌<◌, ◌≤◌, List, [], ◌∷◌, length, refl, sym, ap, ◌∙◌, arith, subst}
+use Rattle.std.proofs.Common.{◌≡◌, ℕ, ◌+◌, ◌≤◌, List, [], ◌∷◌, length, refl, sym, ap, ◌∙◌, arith, subst}
 use Rattle.std.specs.Prelude.{Some, Contains, if◌then◌else◌, slice_get, slice_range}
 use Rattle.std.specs.List.{range_with_len}
 use Rattle.std.proofs.lemmas.Option.{slice_get_within}
-use Rattle.std.proofs.lemmas.List.FromFn.{get_or-range_with_len, length-range_with_len}
 use Rattle.wild_words.specs.Words.{word, Stands}
 use Rattle.wild_words.specs.Overlay.{Piece, overlay, AreApart}
 use Rattle.wild_words.proofs.OverlayLemmas.{Stands-overlay, overlay-outside, length-overlay}
+use Rattle.wild_words.proofs.Basics.{range-Contains, Contains-map}
 use Rattle.wild_types.specs.declared.section.Segment.{Segment}
 use Rattle.wild_types.specs.declared.input.InputRelocation.{InputRelocation}
 use Rattle.wild_types.specs.declared.input.InputSection.{InputSection}
@@ -31,12 +31,9 @@ use Rattle.wild_loaded.specs.Laws.{SectionsAreStored, ZerosAreStored}
 use Rattle.wild_loaded.proofs.LeftFields.{left_zeroed}
 use Rattle.wild_loaded.proofs.PartsHeld.{Holds-inner}
 use Rattle.wild_loaded.proofs.Carried.{each_at, section_held, section_ends}
-use Rattle.wild_loaded.proofs.Loads.{are_loadable, kind_is, Contains-map}
+use Rattle.wild_loaded.proofs.Loads.{are_loadable, kind_is}
 
 -- ---- fields
-
-range-Contains : (n i : ℕ) → i < n → Contains (range_with_len 0 n) i
-range-Contains n i h = let e = length-range_with_len 0 n in let g = get_or-range_with_len 0 n i i h in (i, omega (arith, e, h), omega (arith, g))
 
 -- what a relocation writes stands in the section's bytes
 site_stands : (l : Layout) (s : InputSection) (i : ℕ) (r : InputRelocation) (p : Piece) → AreApart (length s.bytes) (sites l s) → slice_get s.relocations i ≡ Some r → site l s i ≡ p ∷ [] → Stands (overlay (sites l s) s.bytes) p.at p.bytes

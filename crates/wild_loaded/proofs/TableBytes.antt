@@ -35,11 +35,12 @@ use Rattle.wild_loader.specs.SegmentLaws.{word_bytes, rela_bytes}
 use Rattle.wild_loader.specs.Laws.{StandsAt, IsTableOf}
 use Rattle.wild_loader.specs.Tables.{offset_in}
 use Rattle.std.proofs.lemmas.List.Elements.{All-contains}
-use Rattle.std.proofs.lemmas.List.{append-nil, append_assoc, length-append, get_or_append_left, get_or-append_right}
+use Rattle.std.proofs.lemmas.List.{append-nil, append_assoc, length-append, get_or_append_left, get_or-append_right, nil_from_length}
 use Rattle.std.proofs.lemmas.List.Concat.{flat_map-append}
+use Rattle.wild_words.proofs.Basics.{Contains-map}
+use Rattle.wild_words.proofs.ListLemmas.{flat_map-same, flat_map-flat_map}
 use Rattle.wild_loaded.specs.Tables.{file_packed, group_words, relatives, generals, tables_of}
-use Rattle.wild_loaded.proofs.SlotSites.{flat_map-flat_map, flat_map-same}
-use Rattle.wild_loaded.proofs.Loads.{Contains-map, kind_is, header_from, header_to}
+use Rattle.wild_loaded.proofs.Loads.{kind_is, header_from, header_to}
 
 -- ---- bytes
 
@@ -141,10 +142,6 @@ words_named l stands laid needs = table_there l role.RelrDyn stands laid (λ e. 
 
 -- ---- entries with addends, of which the relative ones stand first
 
-no_bytes : (xs : List ℕ) → length xs ≡ 0 → xs ≡ []
-no_bytes [] h = refl
-no_bytes (x ∷ xs) h = absurd (omega (arith, h))
-
 part_low : (l : Layout) (p : Part) → IsLaidOut l → Contains l.parts p → p.offset + p.size ≤ 2 ^ 62
 part_low l p laid c = subst (λ (q : Part). q.offset + q.size ≤ 2 ^ 62) c.2 (laid.parts c.0 p c.1).low
 
@@ -198,7 +195,7 @@ empty_table l r (Some p) laid place e none = by_test (p.size == 0) refl none
   where
     by_test : (b : Bool) → (p.size == 0) ≡ b → (if b then None else Some p) ≡ None → table_bytes l r ≡ []
     by_test false z h = cc
-    by_test true z h = (let full = ((laid.roles r place).there p e).size in let s = eqb-true p.size 0 z in no_bytes (table_bytes l r) (omega (arith, s, full)))
+    by_test true z h = (let full = ((laid.roles r place).there p e).size in let s = eqb-true p.size 0 z in nil_from_length (table_bytes l r) (omega (arith, s, full)))
 
 empty_size : (o : Option Part) → dynamic_places.unless_empty o ≡ None → dynamic_places.bytes_of o ≡ 0
 empty_size None h = refl

@@ -8,6 +8,7 @@ use Rattle.std.proofs.lemmas.Bool.{cases_lt}
 use Rattle.std.proofs.lemmas.Int.{ints}
 use Rattle.std.proofs.lemmas.List.Elements.{All-nil, All-cons, All-head, All-tail, All-append, All-map, All-contains}
 use Rattle.wild_words.proofs.ListLemmas.{All-flat_map}
+use Rattle.wild_words.proofs.Basics.{of_if, listed_at}
 use Rattle.wild_records.specs.Relocations.{RelaFits}
 use Rattle.wild_records.specs.declared.relocations.Rela.{Rela}
 use Rattle.wild_reloc.specs.Dynamic.{x86_64_type, aarch64_type}
@@ -48,13 +49,11 @@ use Rattle.wild_layout.specs.SlotBytes.{slot_entries_of, flat_places_of, storage
 use Rattle.wild_layout.specs.SymbolValues.{address_or, raw_address}
 use Rattle.wild_layout.specs.SlotValues.{decided_address}
 use Rattle.wild_types.specs.Addresses.{address_in_section, address_in_file, address_at, placed_value, resolved_or, raw_value}
-use Rattle.wild_slots.proofs.ItemLemmas.{of_if}
 use Rattle.wild_tables.specs.Tables.{relative_entry, relative_type}
 use Rattle.wild_loaded.specs.Tables.{file_packed, group_words, relatives, first_generals, generals, tables_of}
 use Rattle.wild_loaded.proofs.SlotNumbers.{WordFits}
 use Rattle.wild_loaded.proofs.SlotSites.{SlotSite, of_site, file_sites, group_sites, entries_by_sites, flat_by_sites, block_by_sites}
 use Rattle.wild_loaded.proofs.SitesFit.{SiteFits, sites_fit, group_sites_fit, block_fits}
-use Rattle.wild_loaded.proofs.SlotsHeld.{listed_at}
 
 -- ---- each entry
 

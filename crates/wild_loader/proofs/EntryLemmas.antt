@@ -142,20 +142,20 @@ read-bytes m a (suc n) bs h =
     held-cons m a b bs first rest zero l = ap (λ (x : ℕ). byte_in m x) (add-zero a) ∙ first
     held-cons m a b bs first rest (suc k) l = let e : a + suc k ≡ a + 1 + k = omega arith in ap (λ (x : ℕ). byte_in m x) e ∙ rest k (omega arith)
 
--- a change has as many bytes as it takes
-after-size : (c : Change) (old : List ℕ) → length old ≡ size_of c → length (bytes_after c old) ≡ size_of c
-after-size (changes.Word v) old n = length-word 8 v
-after-size (changes.Half v) old n = length-word 4 v
-after-size (changes.Fill bytes) old n = refl
-after-size (changes.Add v) old n = length-word 8 ((number old + v) % 2 ^ 64)
-after-size (changes.Descriptor o) old n = n
+-- a change leaves as many bytes
+pub length-after : (c : Change) (old : List ℕ) → length old ≡ size_of c → length (bytes_after c old) ≡ size_of c
+length-after (changes.Word v) old e = length-word 8 v
+length-after (changes.Half v) old e = length-word 4 v
+length-after (changes.Fill bytes) old e = refl
+length-after (changes.Add v) old e = length-word 8 ((number old + v) % 2 ^ 64)
+length-after (changes.Descriptor o) old e = e
 
 patch-over : (before : Memory) (place : ℕ) (c : Change) (p : Patch) → patch_at before place c ≡ Ok p → MadeOver before p
 unfolding patch_at
 patch-over before place c p h =
     let read = stepped (read_bytes before place (size_of c)) _ p h in
     let both = read-bytes before place (size_of c) read.value read.was in
-    subst (MadeOver before) (same-ok (patch_over place c read.value) p read.next) (record { old = read.value; same = both.0 ∙ sym (after-size c read.value both.0); held = both.1 })
+    subst (MadeOver before) (same-ok (patch_over place c read.value) p read.next) (record { old = read.value; same = both.0 ∙ sym (length-after c read.value both.0); held = both.1 })
 
 pub place-over : (w : World) (before : Memory) (x : ℕ) (p : Patch) → place_patch w before x ≡ Ok p → MadeOver before p
 unfolding place_patch

@@ -12,10 +12,9 @@ use Rattle.wild_loader.specs.Runs.{overlaid}
 use Rattle.std.specs.List.{flat_map}
 use Rattle.std.proofs.lemmas.Bool.{cases_Bool, le-leb, ne_eqb, eqb-false}
 use Rattle.wild_words.specs.Words.{Stands}
-use Rattle.wild_words.specs.Record.{spell}
-use Rattle.wild_words.proofs.RecordLemmas.{length-spell}
+use Rattle.wild_words.proofs.Basics.{length-flat_map_each}
 use Rattle.wild_records.specs.Dynamic.{DynamicEntryIsRead}
-use Rattle.wild_records.specs.FileHeader.{file_header_fields, file_header_at, FileHeaderIsRead, file_header_size}
+use Rattle.wild_records.specs.FileHeader.{file_header_at, FileHeaderIsRead, file_header_size}
 use Rattle.wild_records.specs.ProgramHeader.{program_header_size, ProgramHeaderIsRead}
 use Rattle.wild_records.specs.Relocations.{RelaIsRead, RelrIsRead}
 use Rattle.wild_records.specs.SectionHeader.{section_header_size, section_header_at, SectionHeaderFits, SectionHeaderIsRead}
@@ -24,6 +23,7 @@ use Rattle.wild_records.specs.declared.file_header.FileHeader.{FileHeader}
 use Rattle.wild_records.specs.declared.program_header.ProgramHeader.{ProgramHeader}
 use Rattle.wild_records.specs.declared.relocations.Rela.{Rela}
 use Rattle.wild_records.specs.declared.section_header.SectionHeader.{SectionHeader}
+use Rattle.wild_records.proofs.FileHeaderLemmas.{length-file_header}
 use Rattle.wild_loader.specs.declared.tables.Tables.{Tables}
 use Rattle.wild_loader.specs.declared.world.World.{World}
 use Rattle.wild_loader.specs.Headers.{header, is_loadable_header, machine_of, program_headers, section_count, sections}
@@ -33,26 +33,22 @@ use Rattle.wild_loader.specs.Load.{load, load_with}
 use Rattle.wild_loader.specs.SegmentLaws.{HasHeaders, AreLoadable, loaded_runs, loaded_memory, first_size, program_bytes, section_bytes}
 use Rattle.wild_loader.specs.Laws.{HasDynamic, HasTables, HasSectionTables, section_relas, DynamicImagesAreLoaded, StaticImagesAreLoaded, PlainImagesAreLoaded, IsStatic}
 use Rattle.wild_loader.specs.FilledLaws.{HasSectionTable}
-use Rattle.wild_loader.proofs.RecordLists.{programs-read, sections-read, section-first, length-records, length-program, length-section}
+use Rattle.wild_loader.proofs.RecordLists.{programs-read, sections-read, section-first, length-program, length-section}
 use Rattle.wild_loader.proofs.SegmentLemmas.{segments-loaded}
 use Rattle.wild_loader.proofs.TableLemmas.{lies-table, dynamic-found, sections-found}
 use Rattle.wild_loader.proofs.SectionLemmas.{section-table, one-section, no-table}
 
 -- ---- headers
 
-file_header-front : (e : FileHeader) → length (spell (file_header_fields e)) ≡ file_header_size
-unfolding file_header_fields
-file_header-front e = length-spell (file_header_fields e)
-
 header-read : FileHeaderIsRead → (image : List ℕ) (e : FileHeader) (hs : List ProgramHeader) (ss : List SectionHeader) → HasHeaders image e hs ss → is_loadable_header e ≡ true → header image ≡ Ok e
 unfolding header
 header-read read image e hs ss laid loadable =
-    let front = file_header-front e in
+    let front = length-file_header e in
     let room = laid.file_header.fits in
     let long : nat_le file_header_size (length image) ≡ true = le-leb _ _ (omega arith) in
     let is : file_header_at image 0 ≡ e = read image 0 e laid.fits laid.file_header in
     let programs = laid.programs.fits in
-    let wide = length-records program_bytes program_header_size length-program hs in
+    let wide = length-flat_map_each program_bytes program_header_size length-program hs in
     let count = laid.program_count in
     let table = lies-table image e.program_offset e.program_count program_header_size (omega (arith, wide, count, programs)) in
     rw (long, is, loadable, table) refl
@@ -72,7 +68,7 @@ counted read image e hs ss laid =
     let told = laid.section_count in
     let some = laid.some_section in
     let room = laid.sections.fits in
-    let long = length-records section_bytes section_header_size length-section ss in
+    let long = length-flat_map_each section_bytes section_header_size length-section ss in
     elim (cases_Bool (e.section_count == 0)) [
       | inl t ↦
           (let first = first-told read image ss e.section_offset some laid.sections_fit laid.sections in
@@ -86,7 +82,7 @@ sections-laid : SectionHeaderIsRead → (image : List ℕ) (e : FileHeader) (hs 
 unfolding sections
 sections-laid read image e hs ss laid some =
     let room = laid.sections.fits in
-    let long = length-records section_bytes section_header_size length-section ss in
+    let long = length-flat_map_each section_bytes section_header_size length-section ss in
     let count = counted read image e hs ss laid in
     let table = lies-table image e.section_offset (length ss) section_header_size (omega (arith, room, long)) in
     let there : (e.section_offset == 0) ≡ false = ne_eqb e.section_offset 0 (λ z. omega (arith, some, z)) in
@@ -123,7 +119,7 @@ static-loaded file program section rela w image e hs ss of laid loadable can non
 -- ---- the entries of one section
 
 -- no header is PT_DYNAMIC
-no-dynamic : (hs : List ProgramHeader) → All IsStatic hs → first_dynamic hs ≡ None
+pub no-dynamic : (hs : List ProgramHeader) → All IsStatic hs → first_dynamic hs ≡ None
 unfolding first_dynamic
 no-dynamic [] static = refl
 no-dynamic (h ∷ hs) static = rw (ne_eqb h.kind pt_dynamic (All-head IsStatic h hs static)) (no-dynamic hs (All-tail IsStatic h hs static))

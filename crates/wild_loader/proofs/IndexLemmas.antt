@@ -8,7 +8,7 @@ use Rattle.std.proofs.lemmas.List.Elements.{All-nil, All-cons, Contains-append_r
 use Rattle.std.proofs.lemmas.List.Sorted.{All-permutation, Contains-permutation}
 use Rattle.wild_words.specs.declared.extents.Extent.{Extent}
 use Rattle.wild_words.specs.Extents.{SharesNothing, least_extent}
-use Rattle.wild_words.proofs.ExtentLemmas.{all-apart, apart-beside}
+use Rattle.wild_words.proofs.ExtentLemmas.{all-apart, apart-beside, Within}
 use Rattle.wild_loader.specs.declared.memory.Run.{Run}
 use Rattle.wild_loader.specs.Memory.{byte_of}
 use Rattle.wild_loader.specs.Runs.{extent_of, has_address, with_byte, put_byte}
@@ -95,12 +95,7 @@ extents-put a b (r ∷ rs) =
 
 -- ---- finding
 
--- a run that has an address has it by its extent
-record HasIt (e : Extent) (a : ℕ) : Type 0 where
-  pub low : e.start ≤ a
-  pub high : a < e.end
-
-has-it : (r : Run) (a : ℕ) → has_address r a ≡ true → HasIt (extent_of r) a
+has-it : (r : Run) (a : ℕ) → has_address r a ≡ true → Within (extent_of r) a
 has-it r a t =
     let parts = and_parts (nat_le r.start a) (nat_lt (a - r.start) (length r.bytes)) t in
     let low = leb-true _ _ parts.0 in
@@ -112,8 +107,8 @@ found-by index rs a k i s d is few parted l t =
     let n = length-map rs extent_of in
     let e = get_or-map extent_of rs i d (extent_of d) l in
     let has = has-it (get_or rs i d) a t in
-    let P : Extent → Type 0 = λ x. HasIt x a in
-    let there : HasIt (get_or (map extent_of rs) i (extent_of d)) a = subst P (sym e) has in
+    let P : Extent → Type 0 = λ x. Within x a in
+    let there : Within (get_or (map extent_of rs) i (extent_of d)) a = subst P (sym e) has in
     is.last k i a s (extent_of d) few parted (omega (arith, n, l)) there.low there.high
 
 pub found-none : (index : List (ℕ × ℕ)) (rs : List Run) (a k : ℕ) (d : Run) → IsIndexOf index (map extent_of rs) → k ≤ length index → IsPartedAt index a k → k ≡ 0 → place_of rs a ≡ None
@@ -170,7 +165,7 @@ entries-there (x ∷ xs) n (suc i) e l some =
     ]
 
 -- extents that both have a number, of which no two share one, are the same
-one-extent : (es : List Extent) (i p a : ℕ) (e : Extent) → AllPairs SharesNothing es → i < length es → p < length es → HasIt (get_or es i e) a → HasIt (get_or es p e) a → p ≡ i
+one-extent : (es : List Extent) (i p a : ℕ) (e : Extent) → AllPairs SharesNothing es → i < length es → p < length es → Within (get_or es i e) a → Within (get_or es p e) a → p ≡ i
 one-extent es i p a e apart l m one two =
     elim (cases_lt i p) [
       | inl lower ↦ absurd (both (get_or es i e) (get_or es p e) a (apart i p e lower m) one two)
@@ -180,7 +175,7 @@ one-extent es i p a e apart l m one two =
       ]
     ]
   where
-    both : (x y : Extent) (a : ℕ) → SharesNothing x y → HasIt x a → HasIt y a → ⊥
+    both : (x y : Extent) (a : ℕ) → SharesNothing x y → Within x a → Within y a → ⊥
     both x y a apart one two =
         let a1 = one.low in
         let a2 = one.high in
@@ -196,7 +191,7 @@ index-made rs index none moved sorted = record {
   sorted = sorted;
   sound = λ k s l. let at = entry k s l in at.within;
   last = λ k i a s e few parted l low high.
-      let it : HasIt (get_or es i e) a = record { low = low; high = high } in
+      let it : Within (get_or es i e) a = record { low = low; high = high } in
       let c = Contains-permutation (located 0 es) index ((get_or es i e).start, 0 + i) moved (entries-there es 0 i e l (omega (arith, low, high))) in
       last-one k i a s e few parted l it c.0 c.1 c.2;
 }
@@ -208,7 +203,7 @@ index-made rs index none moved sorted = record {
     entry k s l = All-permutation (IsEntry es) (located 0 es) index moved (entries-sound [] es 0 refl) k s l
 
     -- the entry j of extent i begins at a or below, so the last such entry, k - 1, begins in extent i
-    last-one : (k i a : ℕ) (s : ℕ × ℕ) (e : Extent) → k ≤ length index → IsPartedAt index a k → i < length es → HasIt (get_or es i e) a → (j : ℕ) → j < length index → get_or index j ((get_or es i e).start, 0 + i) ≡ ((get_or es i e).start, 0 + i) → (0 < k) × ((get_or index (k - 1) s).1 ≡ i)
+    last-one : (k i a : ℕ) (s : ℕ × ℕ) (e : Extent) → k ≤ length index → IsPartedAt index a k → i < length es → Within (get_or es i e) a → (j : ℕ) → j < length index → get_or index j ((get_or es i e).start, 0 + i) ≡ ((get_or es i e).start, 0 + i) → (0 < k) × ((get_or index (k - 1) s).1 ≡ i)
     last-one k i a s e few parted l it j m is =
         let low = it.low in
         let high = it.high in
@@ -223,8 +218,8 @@ index-made rs index none moved sorted = record {
         let below = leb-true _ _ (parted.0 (k - 1) s (omega arith) (omega (arith, before))) in
         let start = at.start e in
         let some = at.some e in
-        let one : HasIt (get_or es i e) (get_or index (k - 1) s).0 = record { low = omega (arith, first, rises); high = omega (arith, below, high) } in
-        let two : HasIt (get_or es (get_or index (k - 1) s).1 e) (get_or index (k - 1) s).0 = record { low = omega (arith, start); high = some } in
+        let one : Within (get_or es i e) (get_or index (k - 1) s).0 = record { low = omega (arith, first, rises); high = omega (arith, below, high) } in
+        let two : Within (get_or es (get_or index (k - 1) s).1 e) (get_or index (k - 1) s).0 = record { low = omega (arith, start); high = some } in
         (omega (arith, before), one-extent es i (get_or index (k - 1) s).1 (get_or index (k - 1) s).0 e (all-apart es none) l at.within one two)
 
 -- ---- the loop

@@ -4,7 +4,7 @@ use Rattle.std.specs.Prelude.{Option, Some, nat_lt, option_map}
 use Rattle.std.proofs.lemmas.Bool.{cases_Bool, ltb-true, ltb-false}
 use Rattle.std.proofs.lemmas.List.{append-nil}
 use Rattle.wild_words.specs.Words.{word, number}
-use Rattle.wild_words.proofs.WordLemmas.{length-word}
+use Rattle.wild_words.proofs.WordLemmas.{length-word, number-word_4}
 use Rattle.wild_loader.specs.declared.memory.Machine.{Machine}
 use Rattle.wild_loader.specs.declared.memory.Machine.TheVariants as machines
 use Rattle.wild_loader.specs.declared.memory.Memory.{Memory}
@@ -12,7 +12,7 @@ use Rattle.wild_loader.specs.declared.effect.EffectKind.TheVariants as kinds
 use Rattle.wild_loader.specs.Memory.{number_in, Holds}
 use Rattle.wild_loader.specs.Effect.{step, step_of, step_x86_64, first_effect, templates_x86_64, stands, field, exact, named_at, word_at, sign_extended_32, stub, call_indirect, jump_indirect, call_near, jump_near}
 use Rattle.wild_loader.specs.StepLaws.{stub_bytes, CallsAreRead, CallsOfValuesAreRead, JumpsAreRead, SlotCallsAreRead, SlotJumpsAreRead, StubsAreRead, IsSigned32, StubsOfValuesAreRead}
-use Rattle.wild_loader.proofs.Held.{held-behind, number-front, number_4}
+use Rattle.wild_loader.proofs.Held.{held-behind, number-front}
 use Rattle.wild_loader.proofs.Steps.{stands-held, differs-held, stands-field, skipped, taken}
 
 pub step-x86 : (m : Memory) (a : ℕ) → m.machine ≡ machines.X86_64 → step m a ≡ first_effect templates_x86_64 m a
@@ -52,7 +52,7 @@ call-held = λ m a bs machine n h.
     ∙ taken call_near (jump_near ∷ []) m a (kinds.Call ((a + 5 + sign_extended_32 (number bs)) % 2 ^ 64)) (stands-held m a call_near.cells (0xe8 ∷ bs) (four bs n) h) (ap (λ (o : Option ℕ). option_map kinds.Call o) (named m a 1 5 (number bs) d))
 
 pub call-of_value : CallsOfValuesAreRead
-call-of_value = λ m a v machine h. call-held m a (word 4 v) machine (length-word 4 v) h ∙ ap (λ (x : ℕ). Some (record { length = 5; width = 64; kind = kinds.Call ((a + 5 + sign_extended_32 x) % 2 ^ 64) })) (number_4 v)
+call-of_value = λ m a v machine h. call-held m a (word 4 v) machine (length-word 4 v) h ∙ ap (λ (x : ℕ). Some (record { length = 5; width = 64; kind = kinds.Call ((a + 5 + sign_extended_32 x) % 2 ^ 64) })) (number-word_4 v)
 
 pub jump-held : JumpsAreRead
 jump-held = λ m a bs machine n h.
@@ -110,5 +110,5 @@ signed-value d (inr high) =
 
 pub stub-of_value : StubsOfValuesAreRead
 stub-of_value = λ m a d v machine range h w.
-    let e : sign_extended_32 (number (word 4 d)) ≡ d = ap (λ (x : ℕ). sign_extended_32 x) (number_4 d) ∙ signed-value d range in
+    let e : sign_extended_32 (number (word 4 d)) ≡ d = ap (λ (x : ℕ). sign_extended_32 x) (number-word_4 d) ∙ signed-value d range in
     stub-held m a v (word 4 d) machine (length-word 4 d) h (subst (λ (x : ℕ). number_in m ((a + 11 + x) % 2 ^ 64) 8 ≡ Some v) (sym e) w)

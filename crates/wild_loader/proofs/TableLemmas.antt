@@ -2,10 +2,11 @@
 use Rattle.std.proofs.Common.{◌≡◌, ℕ, zero, suc, ◌+◌, ◌*◌, ◌/◌, ◌^◌, ◌<◌, ◌≤◌, inl, inr, true, false, List, [], ◌∷◌, ◌++◌, length, get_or, refl, sym, ap, ◌∙◌, arith, subst, eq-eqb}
 use Rattle.std.specs.Prelude.{All, ◌&&◌, ◌==◌, nat_lt, nat_le, Option, Some, None, Result, Ok}
 use Rattle.std.specs.List.{flat_map}
-use Rattle.std.proofs.lemmas.List.{append_assoc, append-nil}
+use Rattle.std.proofs.lemmas.List.{append_assoc, append-nil, nil_from_length}
 use Rattle.std.proofs.lemmas.Bool.{cases_Bool, eqb-true, eqb-false, le-leb, lt-ltb, le-ltb, and_right, and_left, and_from}
 use Rattle.wild_records.specs.Abi.Segment.{pt_load}
 use Rattle.wild_words.specs.Words.{Stands}
+use Rattle.wild_words.proofs.Basics.{length-flat_map_each}
 use Rattle.wild_records.specs.Dynamic.{dynamic_entry_size, DynamicEntryIsRead}
 use Rattle.wild_records.specs.Relocations.{rela_size, relr_size, RelaFits, RelaIsRead, RelrIsRead}
 use Rattle.wild_records.specs.declared.dynamic.DynamicEntry.{DynamicEntry}
@@ -19,7 +20,7 @@ use Rattle.wild_loader.specs.Headers.{table_lies}
 use Rattle.wild_loader.specs.Tables.{relas_at, words_at, dynamic_entries, tagged, has_in_memory, offset_in, span_in, span_at, span_of, no_span, section_of, table_of, named_tables, dynamic_tables, has_entries, section_entries}
 use Rattle.wild_loader.specs.SegmentLaws.{AreLoadable, Ascends, rela_bytes, word_bytes}
 use Rattle.wild_loader.specs.Laws.{HasDynamic, StandsAt, IsTableOf, IsTable, HasTables, HoldsEntries, HasSectionTables, section_relas, before_null}
-use Rattle.wild_loader.proofs.RecordLists.{length-records, length-rela, length-word_bytes, relas-read, words-read, dynamics-read}
+use Rattle.wild_loader.proofs.RecordLists.{length-rela, length-word_bytes, relas-read, words-read, dynamics-read}
 use Rattle.wild_loader.proofs.SegmentLemmas.{loadable-rest}
 
 pub lies-table : (image : List ℕ) (at count size : ℕ) → at + size * count ≤ length image → table_lies image at count size ≡ Ok tt
@@ -76,10 +77,6 @@ stands-none image part e =
     let P : List ℕ → Type 0 = λ p. Stands image 0 p in
     subst P (sym e) (record { fits = omega arith; same = λ k l. absurd (omega arith) })
 
-empty-nil : (part : List ℕ) → length part ≡ 0 → part ≡ []
-empty-nil [] e = refl
-empty-nil (b ∷ bs) e = absurd (omega (arith, e))
-
 some-table : (base : ℕ) (image : List ℕ) (hs : List ProgramHeader) (tag size_tag a n : ℕ) (part : List ℕ) → AreLoadable base image hs → (n == 0) ≡ false → n ≡ length part → StandsAt image hs a part → FoundTable image (span_of image hs tag size_tag (Some a) (Some n)) part
 some-table base image hs tag size_tag a n part can some e at = record {
   span = record { offset = offset_in at.segment a; size = length part };
@@ -95,7 +92,7 @@ table-of base image hs tag size_tag (Some a) (Some n) part can is =
           (let z = eqb-true n 0 t in
           let e = is.0 in
           let none : length part ≡ 0 = omega (arith, z, e) in
-          record { span = no_span; is = rw t refl; size = sym none; stands = stands-none image part (empty-nil part none) })
+          record { span = no_span; is = rw t refl; size = sym none; stands = stands-none image part (nil_from_length part none) })
       | inr f ↦
           (let ne = eqb-false n 0 f in
           let e = is.0 in
@@ -116,13 +113,13 @@ found-table base image hs ds tag size_tag part can is = table-of base image hs t
 
 relas-found : RelaIsRead → (image : List ℕ) (s : Span) (rs : List Rela) → All RelaFits rs → s.size ≡ length (flat_map rela_bytes rs) → Stands image s.offset (flat_map rela_bytes rs) → relas_at image (s.size / rela_size) s.offset ≡ rs
 relas-found read image s rs fits size st =
-    let n = length-records rela_bytes rela_size length-rela rs in
+    let n = length-flat_map_each rela_bytes rela_size length-rela rs in
     let count : s.size / rela_size ≡ length rs = omega (arith, n, size) in
     rw count (relas-read read image rs s.offset fits st)
 
 words-found : RelrIsRead → (image : List ℕ) (s : Span) (xs : List ℕ) → All (λ x. x < 2 ^ 64) xs → s.size ≡ length (flat_map word_bytes xs) → Stands image s.offset (flat_map word_bytes xs) → words_at image (s.size / relr_size) s.offset ≡ xs
 words-found read image s xs fits size st =
-    let n = length-records word_bytes relr_size length-word_bytes xs in
+    let n = length-flat_map_each word_bytes relr_size length-word_bytes xs in
     let count : s.size / relr_size ≡ length xs = omega (arith, n, size) in
     rw count (words-read read image xs s.offset fits st)
 
@@ -137,7 +134,7 @@ named-found rela relr base image hs ds t can has =
     let jumps = relas-found rela image j.span t.jumps has.jumps_fit j.size j.stands in
     rw (r.is, a.is, j.is, words, entries, jumps) refl
 
-nothing-read : (image : List ℕ) (n at : ℕ) (ds : List DynamicEntry) → n ≡ 0 → dynamic_entries image (n / dynamic_entry_size) at ≡ ds → [] ≡ ds
+pub nothing-read : (image : List ℕ) (n at : ℕ) (ds : List DynamicEntry) → n ≡ 0 → dynamic_entries image (n / dynamic_entry_size) at ≡ ds → [] ≡ ds
 unfolding dynamic_entries
 nothing-read image n at ds e h =
     let z : n / dynamic_entry_size ≡ 0 = omega (arith, e) in
@@ -176,7 +173,7 @@ sections-found read image (s ∷ ss) of acc has =
       | inl t ↦
           (let holds = has 0 s (omega arith) t in
           let size = holds.size in
-          let n = length-records rela_bytes rela_size length-rela (of s) in
+          let n = length-flat_map_each rela_bytes rela_size length-rela (of s) in
           let fits = holds.stands.fits in
           let lies = lies-table image s.offset s.size 1 (omega (arith, n, size, fits)) in
           let here = holds-read read image s (of s) holds in
@@ -184,3 +181,7 @@ sections-found read image (s ∷ ss) of acc has =
           rw (t, lies, here) (rest ∙ ap Ok (append_assoc acc (of s) (section_relas ss of))))
       | inr f ↦ rw f (sections-found read image ss of acc (λ k d l. has (suc k) d (omega arith)))
     ]
+
+pub no_tag : (n : ℕ) → tagged n [] ≡ None
+unfolding tagged
+no_tag n = refl

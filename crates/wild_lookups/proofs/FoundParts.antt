@@ -1,8 +1,8 @@
 -- The parts of a look-up in the image of a layout without faults.
-use Rattle.std.proofs.Common.{◌≡◌, ◌≢◌, ℕ, zero, suc, ◌-◌, ◌/◌, ◌<◌, ◌≤◌, inl, inr, Bool, true, List, [], ◌∷◌, ◌++◌, length, replicate, Some, None, Ok, get_or, refl, sym, ap, ◌∙◌, arith, subst}
+use Rattle.std.proofs.Common.{◌≡◌, ◌≢◌, ℕ, zero, suc, ◌-◌, ◌/◌, ◌<◌, ◌≤◌, ◌==◌, inl, inr, Bool, true, false, List, [], ◌∷◌, ◌++◌, length, replicate, Some, None, Ok, get_or, refl, sym, ap, ◌∙◌, arith, subst}
 use Rattle.std.specs.Prelude.{Contains, nat_le}
 use Rattle.std.specs.List.{list_any}
-use Rattle.std.proofs.lemmas.Bool.{cases_Bool, le-leb}
+use Rattle.std.proofs.lemmas.Bool.{cases_Bool, le-leb, ne_eqb}
 use Rattle.std.proofs.lemmas.List.Elements.{All-contains}
 use Rattle.wild_records.specs.Abi.Dynamic.{dt_hash, dt_gnu_hash, dt_symtab, dt_strtab, dt_strsz}
 use Rattle.wild_records.specs.declared.dynamic.DynamicEntry.{DynamicEntry}
@@ -17,7 +17,7 @@ use Rattle.wild_types.specs.declared.part.Role.{Role}
 use Rattle.wild_types.specs.declared.part.Role.TheVariants as role
 use Rattle.wild_types.specs.declared.layout.Layout.{Layout}
 use Rattle.wild_needs.specs.Dynamic.{dynamic_number, dynamic_entry, dynamic_count}
-use Rattle.wild_needs.specs.DynamicPlaces.{part_address, part_size}
+use Rattle.wild_needs.specs.DynamicPlaces.{part_address, part_size, filled_part, unless_empty}
 use Rattle.wild_needs.specs.DynamicSymbols.{first_listed}
 use Rattle.wild_types.specs.Kinds.{needs_dynamic}
 use Rattle.wild_types.specs.Lookups.{image_size}
@@ -84,11 +84,11 @@ entries_read l room = before_null (all_needed l ++ dynamic_records l room)
 told : (l : Layout) (room : ℕ) (tag : DynamicTag) → ImageLaws → needs_dynamic l.kind ≡ true → tag ≢ tags.Null → tagged (dynamic_number tag) (entries_read l room) ≡ dynamic_entry l tag
 told l room tag laws needs other = laws.found l (all_needed l) (replicate (room / 16 - dynamic_count l) null_entry) tag (laws.needed.names l l.groups) needs other
 
-pub sysv_told : (l : Layout) (room : ℕ) → ImageLaws → needs_dynamic l.kind ≡ true → tagged dt_hash (entries_read l room) ≡ part_address (part_with role.SysvHash l.parts)
+pub sysv_told : (l : Layout) (room : ℕ) → ImageLaws → needs_dynamic l.kind ≡ true → tagged dt_hash (entries_read l room) ≡ part_address (filled_part l role.SysvHash)
 unfolding dynamic_number dynamic_entry
 sysv_told l room laws needs = told l room tags.SysvHash laws needs (λ e. cc)
 
-pub gnu_told : (l : Layout) (room : ℕ) → ImageLaws → needs_dynamic l.kind ≡ true → tagged dt_gnu_hash (entries_read l room) ≡ part_address (part_with role.GnuHash l.parts)
+pub gnu_told : (l : Layout) (room : ℕ) → ImageLaws → needs_dynamic l.kind ≡ true → tagged dt_gnu_hash (entries_read l room) ≡ part_address (filled_part l role.GnuHash)
 unfolding dynamic_number dynamic_entry
 gnu_told l room laws needs = told l room tags.GnuHash laws needs (λ e. cc)
 
@@ -163,7 +163,11 @@ strings_at image hs p f found =
     let fits : nat_le p.size f.size ≡ true = le-leb _ _ found.room in
     rw (found.is, fits) refl
 
-pub has_parts : (l : Layout) (r : Role) (tag : ℕ) (p : Part) → ImageLaws → NameLaws → (read : IsRead l) → needs_dynamic l.kind ≡ true → is_hash_role r ≡ true → is_look_up_role r ≡ true → (role_place r ≡ 0 → ⊥) → tagged tag (entries_read l read.entries.room) ≡ part_address (part_with r l.parts) → part_with r l.parts ≡ Some p → 1 ≤ p.size → HasParts l tag p
+-- a part that is not empty is a filled one
+filled_is : (l : Layout) (r : Role) (p : Part) → part_with r l.parts ≡ Some p → 1 ≤ p.size → filled_part l r ≡ Some p
+filled_is l r p found some = let e : (p.size == 0) ≡ false = ne_eqb p.size 0 (λ z. omega (arith, some, z)) in ap unless_empty found ∙ rw e refl
+
+pub has_parts : (l : Layout) (r : Role) (tag : ℕ) (p : Part) → ImageLaws → NameLaws → (read : IsRead l) → needs_dynamic l.kind ≡ true → is_hash_role r ≡ true → is_look_up_role r ≡ true → (role_place r ≡ 0 → ⊥) → tagged tag (entries_read l read.entries.room) ≡ part_address (filled_part l r) → part_with r l.parts ≡ Some p → 1 ≤ p.size → HasParts l tag p
 has_parts l r tag p laws names read needs hash asked loaded telling found some =
     let laid = read.laid in
     let room = read.entries.room in
@@ -174,7 +178,7 @@ has_parts l r tag p laws names read needs hash asked loaded telling found some =
     let size = all.whole in
     let table = found_role l role.Dynsym t.table laws.stand laid needs hashes refl (λ e. cc) t.symbols (omega (arith, size)) in
     let strings = found_role l role.Dynstr t.strings laws.stand laid needs hashes refl (λ e. cc) t.names t.some in
-    let here : tagged tag (entries_read l room) ≡ Some p.address = telling ∙ ap part_address found in
+    let here : tagged tag (entries_read l room) ≡ Some p.address = telling ∙ ap part_address (filled_is l r p found some) in
     let symbols : tagged dt_symtab (entries_read l room) ≡ Some t.table.address = symbols_told l room laws needs ∙ ap part_address t.symbols in
     let text : tagged dt_strtab (entries_read l room) ≡ Some t.strings.address = strings_told l room laws needs ∙ ap part_address t.names in
     let text_size : tagged dt_strsz (entries_read l room) ≡ Some t.strings.size = size_told l room laws needs ∙ ap part_size t.names in
@@ -186,8 +190,8 @@ has_parts l r tag p laws names read needs hash asked loaded telling found some =
       numbered = are_numbered l t.table t.strings table.0 (first_of strings.0 t.strings.size) all (record { start = table.1.start; room = table.1.room; strings_start = strings.1.start; strings_size = refl }) laid.indexes laid.dynsyms.named;
     }
 
--- without the part of a table there are none
-pub no_parts : (l : Layout) (r : Role) (tag : ℕ) → ImageLaws → (read : IsRead l) → tagged tag (entries_read l read.entries.room) ≡ part_address (part_with r l.parts) → part_with r l.parts ≡ None → tables_of (bytes l) tag ≡ Ok None
+-- without the part of a table, or with an empty one, there are none
+pub no_parts : (l : Layout) (r : Role) (tag : ℕ) → ImageLaws → (read : IsRead l) → tagged tag (entries_read l read.entries.room) ≡ part_address (filled_part l r) → filled_part l r ≡ None → tables_of (bytes l) tag ≡ Ok None
 no_parts l r tag laws read telling missing =
     let none : tagged tag (entries_read l read.entries.room) ≡ None = telling ∙ ap part_address missing in
     parts_read l tag laws read ∙ rw none refl

@@ -2,6 +2,7 @@
 use Rattle.std.proofs.Common.{◌≡◌, ℕ, ◌+◌, ◌≤◌, inl, inr, ◌==◌, Bool, true, false, ◌&&◌, if◌then◌else◌, List, [], ◌∷◌, ◌++◌, length, map, Some, None, flat_map, refl, ap, ◌∙◌, arith}
 use Rattle.std.proofs.lemmas.Bool.{cases_Bool, and_parts, ne_eqb}
 use Rattle.std.proofs.lemmas.List.{append-nil}
+use Rattle.wild_words.proofs.Basics.{no_bytes}
 use Rattle.wild_types.specs.declared.file.File.{File}
 use Rattle.wild_types.specs.declared.file.Group.{Group}
 use Rattle.wild_types.specs.declared.part.Role.TheVariants as role
@@ -12,6 +13,7 @@ use Rattle.wild_types.specs.FilePlaces.{bool_eq, file_placed, later_placed, file
 use Rattle.wild_needs.specs.DynamicSymbols.{first_listed}
 use Rattle.wild_types.specs.FileRoles.{is_prelude, is_epilogue}
 use Rattle.wild_types.specs.Kinds.{needs_dynsym}
+use Rattle.wild_types.proofs.FileLemmas.{same_bool}
 use Rattle.wild_layout.specs.Content.{file_content, content, of_last, sysv_bytes, gnu_bytes}
 use Rattle.wild_layout.specs.TablePlaces.{table_bytes}
 use Rattle.wild_layout.specs.Geometry.{IsLaidOut}
@@ -20,12 +22,6 @@ use Rattle.wild_hashes.specs.Tables.{sysv_hash_of, gnu_hash_of, gnu_header, gnu_
 -- each file gives these bytes where it is the last one, and else none
 abbrev GivenByLast : (File → List ℕ) → List ℕ → Type 0
 GivenByLast give bs = (f : File) → give f ≡ (if is_epilogue f.role then bs else [])
-
-same_bool : (b c : Bool) → bool_eq b c ≡ true → b ≡ c
-same_bool true true h = refl
-same_bool true false h = cc
-same_bool false true h = cc
-same_bool false false h = refl
 
 -- what one file gives, by its place
 by_place : (give : File → List ℕ) (bs : List ℕ) (first last : Bool) (f : File) → GivenByLast give bs → file_placed first last f ≡ true → give f ≡ (if last then bs else [])
@@ -75,9 +71,6 @@ in_groups of give bs first i (g ∷ x ∷ xs) each group some h =
     ]
 
 -- ---- both tables
-
-abbrev no_bytes : List ℕ
-no_bytes = []
 
 no_front : (b : Bool) (xs : List ℕ) → ((if b then no_bytes else no_bytes) ++ xs) ++ [] ≡ xs
 no_front true xs = append-nil xs

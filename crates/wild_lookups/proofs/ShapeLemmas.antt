@@ -1,6 +1,6 @@
 -- What a layout without faults has: no clause of it fails, and its GNU table is laid out.
-use Rattle.std.proofs.Common.{◌≡◌, List, [], ◌∷◌, ◌++◌, map, Result, Ok, Err, refl}
-use Rattle.wild_types.specs.declared.fault.Clause.{Clause}
+use Rattle.std.proofs.Common.{◌≡◌, [], ◌++◌, map, Ok}
+use Rattle.wild_words.proofs.ListLemmas.{nil_parts}
 use Rattle.wild_types.specs.declared.layout.GnuHash.{GnuHash}
 use Rattle.wild_types.specs.declared.layout.Layout.{Layout}
 use Rattle.wild_clauses.specs.WellFormed.{first_clause}
@@ -9,14 +9,7 @@ use Rattle.wild_layout.specs.Faults.{errors, part_errors, group_errors, flat_map
 use Rattle.wild_layout.specs.HashShapes.{HasGnuShape}
 use Rattle.wild_hashes.specs.Laws.{NeighboursAscend, IsGnuLaidOut}
 use Rattle.wild_hashes.specs.Tables.{gnu_hash_of, gnu_header}
-
-front_nil : {X : Type 0} (xs ys : List X) → xs ++ ys ≡ [] → (xs ≡ []) × (ys ≡ [])
-front_nil [] ys h = (refl, h)
-front_nil (x ∷ xs) ys h = cc
-
-none_told : (r : Result (Unit {0}) Clause) → clause_errors r ≡ [] → r ≡ Ok tt
-none_told (Ok u) h = refl
-none_told (Err e) h = cc
+use Rattle.wild_layout.proofs.FaultLemmas.{clause_holds}
 
 -- no clause fails, and no share
 pub well_formed : (l : Layout) → errors l ≡ [] → (first_clause l ≡ Ok tt) × (flat_map_from (part_errors l) 0 l.parts ≡ [])
@@ -24,9 +17,9 @@ unfolding errors
 well_formed l h =
     let shares = flat_map_from (part_errors l) 0 l.parts in
     let rest = flat_map_from (group_errors l) 0 l.groups in
-    let a = front_nil (clause_errors (first_clause l) ++ shares) rest h in
-    let b = front_nil (clause_errors (first_clause l)) shares a.0 in
-    (none_told (first_clause l) b.0, b.1)
+    let a = nil_parts (clause_errors (first_clause l) ++ shares) rest h in
+    let b = nil_parts (clause_errors (first_clause l)) shares a.0 in
+    (clause_holds (first_clause l) b.0, b.1)
 
 pub gnu_laid_out : (l : Layout) (h : GnuHash) → NeighboursAscend → HasGnuShape l h → GnuHashHeaderFits (gnu_header h) → IsGnuLaidOut (gnu_header h) (map gnu_hash_of l.dynsyms)
 gnu_laid_out l h ascend shape fits = record {

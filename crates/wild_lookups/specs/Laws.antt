@@ -2,7 +2,7 @@
 --   found l name          the first of the listed symbols with that name, by its index in the dynamic symbol table
 --   IsWritten l           an x86-64 output with a dynamic section, without faults
 --   SysvLookUpsFind, GnuLookUpsFind   the look-up of any name in the image gives that symbol, and none where no symbol has the name
---   LookUpsWithoutTable   without the part of a table the look-up in it gives none
+--   LookUpsWithoutTable   without the part of a table, or with an empty one, the look-up in it gives none
 use Rattle.std.specs.Prelude.{◌≡◌, ℕ, true, [], List, Option, Some, None, Ok}
 use Rattle.wild_types.specs.declared.kind.Machine.TheVariants as machine
 use Rattle.wild_types.specs.declared.part.Part.{Part}
@@ -10,6 +10,7 @@ use Rattle.wild_types.specs.declared.part.Role.TheVariants as role
 use Rattle.wild_types.specs.declared.layout.SysvHash.{SysvHash}
 use Rattle.wild_types.specs.declared.layout.GnuHash.{GnuHash}
 use Rattle.wild_types.specs.declared.layout.Layout.{Layout}
+use Rattle.wild_needs.specs.DynamicPlaces.{filled_part}
 use Rattle.wild_needs.specs.DynamicSymbols.{first_listed}
 use Rattle.wild_types.specs.Kinds.{needs_dynamic}
 use Rattle.wild_types.specs.Parts.{part_with}
@@ -38,7 +39,7 @@ SysvLookUpsFind = (l : Layout) (h : SysvHash) (p : Part) (name : List ℕ) → I
 abbrev pub GnuLookUpsFind : Type 0
 GnuLookUpsFind = (l : Layout) (h : GnuHash) (p : Part) (name : List ℕ) → IsWritten l → l.gnu_hash ≡ Some h → part_with role.GnuHash l.parts ≡ Some p → gnu_lookup_in (bytes l) name ≡ Ok (found l name)
 
--- without the part of a table a look-up in it finds none
+-- without the part of a table, or with an empty one, a look-up in it finds none
 pub record LookUpsWithoutTable : Type 0 where
-  pub sysv : (l : Layout) (name : List ℕ) → IsWritten l → part_with role.SysvHash l.parts ≡ None → sysv_lookup_in (bytes l) name ≡ Ok None
-  pub gnu : (l : Layout) (name : List ℕ) → IsWritten l → part_with role.GnuHash l.parts ≡ None → gnu_lookup_in (bytes l) name ≡ Ok None
+  pub sysv : (l : Layout) (name : List ℕ) → IsWritten l → filled_part l role.SysvHash ≡ None → sysv_lookup_in (bytes l) name ≡ Ok None
+  pub gnu : (l : Layout) (name : List ℕ) → IsWritten l → filled_part l role.GnuHash ≡ None → gnu_lookup_in (bytes l) name ≡ Ok None

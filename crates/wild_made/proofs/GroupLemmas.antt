@@ -2,7 +2,7 @@
 use Rattle.std.proofs.Common.{◌≡◌, ℕ, zero, suc, ◌+◌, ◌<◌, ◌≤◌, ◌==◌, inl, inr, true, false, List, [], ◌++◌, refl, sym, ap, ◌∙◌, arith}
 use Rattle.std.specs.Prelude.{Option, Some, None, Ok, nat_lt}
 use Rattle.std.specs.List.{list_all}
-use Rattle.std.proofs.lemmas.Bool.{cases_Bool, cases_eq, le-leb, lt-ltb, le-ltb}
+use Rattle.std.proofs.lemmas.Bool.{cases_Bool, cases_eq, le-leb, lt-ltb, le-ltb, and_from}
 use Rattle.wild_types.specs.declared.file.File.{File}
 use Rattle.wild_types.specs.Lists.{first_failing}
 use Rattle.wild_types.specs.Lookups.{files_of, file_of}
@@ -21,7 +21,7 @@ use Rattle.wild_clauses.specs.ClauseTests.{check_indexes, check_fields, check_dy
 use Rattle.wild_clauses.specs.WellFormed.{first_clause}
 use Rattle.wild_made.specs.Made.{made_section, made_object, made_files, made_symbol, made_group, made_relocation, made, callee}
 use Rattle.wild_made.specs.Laws.{IsCount}
-use Rattle.wild_made.proofs.ListLemmas.{made_from, none_fails, length_made, both_true, list_all_made}
+use Rattle.wild_made.proofs.ListLemmas.{made_from, none_fails, length_made, list_all_made}
 use Rattle.wild_made.proofs.PlaceLemmas.{sections_pass, sizes_hold, counts_hold, order_holds, roles_hold, sections_hold, segments_hold}
 use Rattle.wild_made.proofs.SlotLemmas.{slots_hold}
 use Rattle.wild_made.proofs.FileLemmas.{all_files, through_files}
@@ -39,7 +39,7 @@ relocation_indexes n i c =
 
 section_indexes : (n i : ℕ) → IsCount n → section_indexes_fit (made n) (made_section n i) ≡ true
 unfolding made_section made
-section_indexes n i c = both_true _ _ refl (relocation_indexes n i c)
+section_indexes n i c = and_from _ _ refl (relocation_indexes n i c)
 
 file_indexes : (n i : ℕ) → IsCount n → i < n → group_indexes_fit (made n) (made_group n i) ≡ true
 unfolding made

@@ -1,5 +1,5 @@
 -- Laws of tests over lists made from their places.
-use Rattle.std.proofs.Common.{◌≡◌, ℕ, zero, suc, ◌+◌, ◌*◌, ◌<◌, ◌≤◌, Bool, true, ◌&&◌, List, [], map, length, refl, arith}
+use Rattle.std.proofs.Common.{◌≡◌, ℕ, zero, suc, ◌+◌, ◌*◌, ◌<◌, ◌≤◌, Bool, true, List, [], map, length, refl, arith}
 use Rattle.std.specs.Prelude.{Some, None, slice_get}
 use Rattle.std.specs.List.{list_all, range_with_len}
 use Rattle.wild_types.specs.Lists.{first_failing, total}
@@ -14,9 +14,6 @@ none_fails t f i a zero h = refl
 none_fails t f i a (suc m) h =
     let here : t (f a) ≡ true = h a (omega arith) (omega arith) in
     rw here (none_fails t f (i + 1) (a + 1) m (λ k low high. h k (omega arith) (omega arith)))
-
-pub both_true : (a b : Bool) → a ≡ true → b ≡ true → (a && b) ≡ true
-both_true a b h k = rw (h, k) refl
 
 -- a sum of equal numbers
 pub total_same : {X : Type 0} (t : X → ℕ) (f : ℕ → X) (c a m : ℕ) → ((k : ℕ) → a ≤ k → k < a + m → t (f k) ≡ c) → total t (made_from f a m) ≡ c * m

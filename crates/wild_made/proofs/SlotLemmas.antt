@@ -2,8 +2,9 @@
 use Rattle.std.proofs.Common.{◌≡◌, ℕ, zero, suc, ◌+◌, ◌-◌, ◌<◌, ◌==◌, inl, inr, Bool, true, false, List, [], ◌∷◌, take, drop, refl, ◌∙◌, arith}
 use Rattle.std.specs.Prelude.{None, Ok, not, slice_range, length}
 use Rattle.std.specs.List.{flat_map, list_all}
-use Rattle.std.proofs.lemmas.Bool.{cases_Bool, and_parts, le-ltb}
+use Rattle.std.proofs.lemmas.Bool.{cases_Bool, and_parts, le-ltb, and_from}
 use Rattle.std.proofs.lemmas.List.Concat.{flat_map-append}
+use Rattle.wild_words.proofs.Basics.{flat_map-none}
 use Rattle.wild_relr.specs.Packed.{block}
 use Rattle.wild_types.specs.declared.part.Role.{Role}
 use Rattle.wild_types.specs.declared.part.Role.TheVariants as role
@@ -27,14 +28,14 @@ use Rattle.wild_needs.proofs.SlotBlockLemmas.{places_without}
 use Rattle.wild_clauses.proofs.SlotPlaceLemmas.{step_without}
 use Rattle.wild_layout.specs.Faults.{flat_map_from, symbol_errors, slot_errors}
 use Rattle.wild_made.specs.Made.{made_object, made_files, made_symbol, made_group, made}
-use Rattle.wild_made.proofs.ListLemmas.{made_from, none_fails, both_true, list_all_made}
+use Rattle.wild_made.proofs.ListLemmas.{made_from, none_fails, list_all_made}
 
 -- ---- parts of lists whose items all pass
 
 all_taken : {X : Type 0} (t : X → Bool) (k : ℕ) (xs : List X) → list_all t xs ≡ true → list_all t (take k xs) ≡ true
 all_taken t zero xs h = refl
 all_taken t (suc k) [] h = refl
-all_taken t (suc k) (x ∷ xs) h = let p = and_parts (t x) (list_all t xs) h in both_true (t x) (list_all t (take k xs)) p.0 (all_taken t k xs p.1)
+all_taken t (suc k) (x ∷ xs) h = let p = and_parts (t x) (list_all t xs) h in and_from (t x) (list_all t (take k xs)) p.0 (all_taken t k xs p.1)
 
 all_dropped : {X : Type 0} (t : X → Bool) (k : ℕ) (xs : List X) → list_all t xs ≡ true → list_all t (drop k xs) ≡ true
 all_dropped t zero xs h = h
@@ -64,13 +65,9 @@ without_made n f =
 pub slots_made : (n : ℕ) (r : Role) (f : File) → slot_share (made n) r f ≡ 0
 slots_made n r f = slots_plain (made n) r f (without_made n f)
 
-none_joined : {X Y : Type 0} (f : X → List Y) (xs : List X) → ((x : X) → f x ≡ []) → flat_map f xs ≡ []
-none_joined f [] h = refl
-none_joined f (x ∷ xs) h = rw (h x) (none_joined f xs h)
-
 no_block : (n : ℕ) (g : Group) → group_block (made n) g ≡ []
 unfolding group_block
-no_block n g = none_joined (λ f. flat_map (block_places (made n)) (own_symbols (made n) f)) g.files (λ f. places_without (made n) (own_symbols (made n) f) (without_made n f))
+no_block n g = flat_map-none (λ f. flat_map (block_places (made n)) (own_symbols (made n) f)) g.files (λ f. places_without (made n) (own_symbols (made n) f) (without_made n f))
 
 pub block_made : (n : ℕ) (r : Role) (g : Group) → block_share (made n) r g ≡ 0
 unfolding block

@@ -1,0 +1,26 @@
+pub mod SymbolLemmas
+pub mod WorldLemmas
+pub mod BitLemmas
+pub mod OutputLemmas
+mod Legal
+mod Told
+mod SharedLegal
+mod Read
+mod Refused
+mod SlotPlaces
+mod SharedRefused
+mod SharedThreads
+mod ReplacedLemmas
+mod CopyLegal
+mod CopyRefused
+mod StaticLegal
+mod StaticRefused
+mod Meant
+mod OneReference
+mod CodeRefused
+mod SequenceRefused
+mod SharedCode
+mod StaticLoaded
+mod StaticLinked
+mod CopyLoaded
+mod CopyLinked

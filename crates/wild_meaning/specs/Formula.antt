@@ -4,13 +4,13 @@
 --   table_at l w             GOT
 --   IsOffset l w symbol t    t is S's offset from the thread pointer
 --   IsExtent l w symbol z    z is Z
---   IsWhole l w r n x        x is Z + A, or of an answer in a field of four bytes its low half
+--   IsWhole l r n x          x is Z + A, or of another module's symbol in a field of four bytes its low half
 --   IsGoal l w m symbol a    code that goes to a comes to S
 --   HasOffsetMode l item     a descriptor's reference in the item is the offset itself
 --   Gives value l w m item r x   x is the value of the expression
 --   IsPlaceRelative value    the expression takes a place from an address
 --   GivesLinked value ..     the same with the output's own S, whatever another module has for it
-use Rattle.std.specs.Prelude.{◌≡◌, ℕ, ◌+◌, ◌-◌, ◌%◌, ◌^◌, ◌⊎◌, true, false, ⊤, Option, Some, None}
+use Rattle.std.specs.Prelude.{◌≡◌, ℕ, ◌+◌, ◌-◌, ◌%◌, ◌^◌, ◌⊎◌, true, ⊤, Option, Some, None}
 use Rattle.std.specs.Int.{w64, cast_unsigned}
 use Rattle.wild_records.specs.Abi.Relocation.{r_x86_64_size32}
 use Rattle.wild_records.specs.Abi.Section.{shf_execinstr}
@@ -19,12 +19,10 @@ use Rattle.wild_types.specs.declared.kind.OutputKind.{OutputKind}
 use Rattle.wild_types.specs.declared.kind.OutputKind.TheVariants as output
 use Rattle.wild_types.specs.declared.input.InputRelocation.{InputRelocation}
 use Rattle.wild_types.specs.declared.layout.Layout.{Layout}
-use Rattle.wild_types.specs.Flags.{non_interposable}
 use Rattle.wild_loader.specs.declared.memory.Memory.{Memory}
 use Rattle.wild_loader.specs.declared.world.World.{World}
-use Rattle.wild_loader.specs.declared.world.Answer.{Answer}
 use Rattle.wild_meaning.specs.Section.{IsSet}
-use Rattle.wild_meaning.specs.Value.{HasFlag, HasValue, HasOwnValue, HasAnswer, HasSize}
+use Rattle.wild_meaning.specs.Value.{IsReplaceable, HasValue, HasOwnValue, HasSize}
 use Rattle.wild_meaning.specs.Denotes.{Denotes, Reaches}
 use Rattle.wild_meaning.specs.Thread.{HasThreadOffset, HasOwnOffset, IsOffsetBase}
 use Rattle.wild_meaning.specs.Slot.{IsSlot}
@@ -60,19 +58,17 @@ abbrev pub IsExtent : Layout → World → Option ℕ → ℕ → Type 0
 IsExtent l w None z = ⊥
 IsExtent l w (Some i) z = HasSize l w i z
 
--- the field has four bytes, and the world answers for the symbol, one that others may define: it may have more bytes than such a
+-- the field has four bytes, and a loader stores there the size that another module has: that may have more bytes than such a
 -- field can tell (x86-64 psABI, "Relocation Types": R_X86_64_SIZE32)
-pub record IsShort (l : Layout) (w : World) (r : InputRelocation) : Type 0 where
+pub record IsShort (l : Layout) (r : InputRelocation) : Type 0 where
   pub number : r.number ≡ r_x86_64_size32
   pub symbol : ℕ
   pub named : r.symbol ≡ Some symbol
-  pub interposable : HasFlag l symbol non_interposable false
-  pub answer : Answer
-  pub given : HasAnswer l w symbol answer
+  pub replaceable : IsReplaceable l symbol true
 
 -- x is the number n, or its low 32 bits in such a field
-abbrev pub IsWhole : Layout → World → InputRelocation → (n x : ℕ) → Type 0
-IsWhole l w r n x = (x ≡ n) ⊎ (IsShort l w r × (x ≡ n % 2 ^ 32))
+abbrev pub IsWhole : Layout → InputRelocation → (n x : ℕ) → Type 0
+IsWhole l r n x = (x ≡ n) ⊎ (IsShort l r × (x ≡ n % 2 ^ 32))
 
 -- a program whose descriptors' references in code are offsets: one without a loader that fills descriptors, or one that is
 -- rewritten so
@@ -103,7 +99,7 @@ Gives SlotFromTable l w m item r x = (g : ℕ) × IsSlot AddressSlot l w m r.sym
 Gives TableDistance l w m item r x = x ≡ (table_at l w + cast_unsigned w64 r.addend + (2 ^ 64 - place_at w item r.offset)) % 2 ^ 64
 Gives PointerOffset l w m item r x = (t : ℕ) × IsOffset l w r.symbol t × (x ≡ (t + cast_unsigned w64 r.addend) % 2 ^ 64)
 Gives ModuleOffset l w m item r x = (t b : ℕ) × IsOffset l w r.symbol t × IsOffsetBase l.machine l.kind w b × (x ≡ (t + cast_unsigned w64 r.addend + (2 ^ 64 - b)) % 2 ^ 64)
-Gives Size l w m item r x = (z : ℕ) × IsExtent l w r.symbol z × IsWhole l w r ((z + cast_unsigned w64 r.addend) % 2 ^ 64) x
+Gives Size l w m item r x = (z : ℕ) × IsExtent l w r.symbol z × IsWhole l r ((z + cast_unsigned w64 r.addend) % 2 ^ 64) x
 Gives other l w m item r x = ⊥
 
 -- the expression takes P, Page(P) or GOT from S or L, also where it gives no value yet; GOT + A - P does not, since both

@@ -3,7 +3,7 @@
 --   meaning_x86_64 a bs   what the code of those bytes does at an address
 --   effect_x86_64 ..      that, with what its operand reads as
 --   demand_x86_64 v a bs  the effect where the operand reads as v
-use Rattle.std.specs.Prelude.{ℕ, ◌+◌, ◌++◌, List, [], ◌∷◌, Option, option_and_then}
+use Rattle.std.specs.Prelude.{ℕ, ◌++◌, List, [], ◌∷◌, Option, option_and_then}
 use Rattle.wild_meaning.specs.Instruction.{Cell, Number, Word, Call, Jump, CallDescriptor, Nothing, Template, Action, Reader, Effect, exact, meaning, effect, as_value}
 use Rattle.wild_meaning.specs.CodeX86_64.{bare, rex, rex2, with_prefix, branch, stub}
 use Rattle.wild_meaning.specs.ThreadCodeX86_64.{nop_byte, nops, mov_pointer, lea_number, add_slot, of_number, of_slot, of_pointer, general_call, general_slot_call, far_pair_call, local_call, local_slot_call}

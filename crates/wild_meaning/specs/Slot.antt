@@ -1,16 +1,23 @@
--- What stands in the global offset table (x86-64 psABI, "Global Offset Table (GOT)"; thread-local slots: "ELF Handling For
--- Thread-Local Storage", "TLS Access Models").
+-- What stands in the global offset table, and where (x86-64 psABI, "Global Offset Table (GOT)"; thread-local slots: "ELF Handling
+-- For Thread-Local Storage", "TLS Access Models").
 --   HasWord m g x         the word at an address is x
 --   IsPair w m g t        the module and the offset in the two words at an address stand for t
 --   HoldsSlot sort ..     what stands at an address is what a slot of that sort has of symbol i
---   IsSlot sort ..        the same of a reference's symbol
-use Rattle.std.specs.Prelude.{◌≡◌, ℕ, ◌+◌, ◌%◌, ◌^◌, Option, Some, None, Ok}
+--   behind_first sort f   how far behind the first slot of a symbol with these flags its slot of that sort stands
+--   HasSlot sort l i p    the layout has the slot of that sort of symbol i at p
+--   IsSlot sort ..        g is the loaded address of that slot of a reference's symbol, which has what it is to have
+use Rattle.std.specs.Prelude.{◌≡◌, ℕ, ◌+◌, ◌%◌, ◌^◌, ◌||◌, if◌then◌else◌, Option, Some, None, Ok}
 use Rattle.wild_reloc.specs.Formula.{Slot, AddressSlot, ModulePair, OwnModulePair, ThreadOffset, Descriptor}
+use Rattle.wild_types.specs.declared.symbol.ValueFlags.{ValueFlags}
+use Rattle.wild_types.specs.declared.symbol.Resolution.{Resolution}
+use Rattle.wild_types.specs.declared.symbol.Symbol.{Symbol}
 use Rattle.wild_types.specs.declared.layout.Layout.{Layout}
+use Rattle.wild_types.specs.Flags.{has_flag, got_tls_offset, got_tls_module, ifunc_got_for_address, canonical_plt_got_for_address}
 use Rattle.wild_loader.specs.declared.memory.Memory.{Memory}
 use Rattle.wild_loader.specs.declared.world.World.{World}
 use Rattle.wild_loader.specs.Memory.{number_in}
 use Rattle.wild_loader.specs.Changes.{first_value, distance_of}
+use Rattle.wild_meaning.specs.Value.{IsSymbol, IsDefinedBy}
 use Rattle.wild_meaning.specs.Denotes.{Denotes}
 use Rattle.wild_meaning.specs.Thread.{HasThreadOffset, IsOffsetBase}
 
@@ -43,7 +50,41 @@ HoldsSlot ModulePair l w m i g = (t : ℕ) × IsPair w m g t × HasThreadOffset 
 HoldsSlot OwnModulePair l w m i g = IsOwnPair l w m g
 HoldsSlot Descriptor l w m i g = (t : ℕ) × (first_value m.descriptors g ≡ Some t) × HasThreadOffset l w i t
 
--- g is the address of a slot of that sort for the symbol of a reference; without a symbol there is none
+-- ---- where a slot stands
+
+-- how far behind a symbol's first slot the one of that sort stands: its offset is the first word; a pair stands behind it, and a
+-- descriptor behind both. Of two words for an address the first is the stub's, and references take the second
+abbrev pub behind_first : Slot → ValueFlags → ℕ
+behind_first AddressSlot f = if has_flag f ifunc_got_for_address || has_flag f canonical_plt_got_for_address then 8 else 0
+behind_first ModulePair f = if has_flag f got_tls_offset then 8 else 0
+behind_first Descriptor f = (if has_flag f got_tls_offset then 8 else 0) + (if has_flag f got_tls_module then 16 else 0)
+behind_first other f = 0
+
+-- p is the address that the layout has for the slot of that sort of symbol i's definition
+pub record IsDecidedSlot (sort : Slot) (l : Layout) (i p : ℕ) : Type 0 where
+  pub definition : ℕ
+  pub defined : IsDefinedBy l i definition
+  pub symbol : Symbol
+  pub listed : IsSymbol l definition symbol
+  pub resolution : Resolution
+  pub decided : symbol.resolution ≡ Some resolution
+  pub first : ℕ
+  pub given : resolution.got_address ≡ Some first
+  pub place : p ≡ first + behind_first sort symbol.flags
+
+-- the pair of the output's own module stands once, for all symbols
+abbrev pub HasSlot : Slot → Layout → ℕ → ℕ → Type 0
+HasSlot OwnModulePair l i p = l.tlsld ≡ Some p
+HasSlot sort l i p = IsDecidedSlot sort l i p
+
+-- g is the loaded address of the slot of that sort of symbol i, the only one, and memory has there what such a slot has
+pub record IsSlotOf (sort : Slot) (l : Layout) (w : World) (m : Memory) (i g : ℕ) : Type 0 where
+  pub slot : ℕ
+  pub given : HasSlot sort l i slot
+  pub moves : g ≡ (w.base + slot) % 2 ^ 64
+  pub holds : HoldsSlot sort l w m i g
+
+-- g is G, for the symbol of a reference; without a symbol there is none
 abbrev pub IsSlot : Slot → Layout → World → Memory → Option ℕ → ℕ → Type 0
 IsSlot sort l w m None g = ⊥
-IsSlot sort l w m (Some i) g = HoldsSlot sort l w m i g
+IsSlot sort l w m (Some i) g = IsSlotOf sort l w m i g

@@ -5,7 +5,9 @@
 --   reads w m            what operands read as in memory; `reads_alone` in code that calls no function
 --   Demands ..           v is what the operand of the instruction is to read as
 --   IsDemanded ..        e is the effect that the input's bytes are to have
---   DoesDemanded ..      the loaded code has that effect, as a reader has it
+--   DoesWith ..          the loaded code has that effect, as a reader has it, where the operand reads as v
+--   DoesDemanded ..      so it does with a value that is demanded
+--   DoesLinked ..        so it does with the output's own symbol
 use Rattle.std.specs.Prelude.{◌≡◌, ℕ, ◌+◌, ◌%◌, ◌^◌, ◌≤◌, ◌⊎◌, ⊤, true, false, List, [], ◌∷◌, length, slice_get, slice_range, Option, Some, None, Result, Ok, Err, option_and_then, option_map, Contains}
 use Rattle.std.specs.Int.{w64, cast_unsigned}
 use Rattle.wild_records.specs.Abi.Relocation.{r_x86_64_tlsgd}
@@ -22,7 +24,7 @@ use Rattle.wild_loader.specs.declared.memory.Memory.{Memory}
 use Rattle.wild_loader.specs.declared.world.World.{World}
 use Rattle.wild_loader.specs.Changes.{distance_of}
 use Rattle.wild_loader.specs.Memory.{number_in, Holds}
-use Rattle.wild_meaning.specs.Instruction.{Operand, Number, Word, Pair, Nothing, Reader, Effect, stands, as_value}
+use Rattle.wild_meaning.specs.Instruction.{Number, Word, Pair, Nothing, Reader, Effect, stands, as_value}
 use Rattle.wild_meaning.specs.InstructionX86_64.{effect_x86_64}
 use Rattle.wild_meaning.specs.Sequence.{Sort, Target, TargetInSlot, AddressInSlot, OffsetInSlot, SymbolPair, OwnPair, Described, DescribedCall, Partner, Instruction, size_of, IsOwnByte, instructions_of}
 use Rattle.wild_meaning.specs.World.{IsExecutable}
@@ -32,7 +34,7 @@ use Rattle.wild_meaning.specs.Thread.{IsOffsetBase}
 use Rattle.wild_meaning.specs.Slot.{IsSlot}
 use Rattle.wild_meaning.specs.Item.{Item, place_at}
 use Rattle.wild_meaning.specs.Field.{InNoField}
-use Rattle.wild_meaning.specs.Formula.{IsTarget, IsGoal, IsOffset, HasOffsetMode}
+use Rattle.wild_meaning.specs.Formula.{IsTarget, IsOwnTarget, IsGoal, IsOffset, HasOffsetMode}
 
 -- ---- in the input's bytes
 
@@ -144,7 +146,7 @@ pub record IsBranchTarget (l : Layout) (w : World) (m : Memory) (r : InputReloca
   pub stands : IsTarget l w m r.symbol goal
   pub is : v ≡ (goal + cast_unsigned w64 r.addend + 4) % 2 ^ 64
 
--- the value of a descriptor's reference: the offset itself, or the address of a descriptor
+-- the value of a descriptor's reference: the offset itself, or the address of the symbol's descriptor
 abbrev pub IsDescribed : Layout → World → Memory → Item → InputRelocation → ℕ → Type 0
 IsDescribed l w m item r v = (HasOffsetMode l item × IsOffset l w r.symbol v) ⊎ ((HasOffsetMode l item → ⊥) × (g : ℕ) × IsSlot Descriptor l w m r.symbol g × (v ≡ g % 2 ^ 64))
 
@@ -174,13 +176,36 @@ IsDemanded sort l item v a old e = effect_of l.machine (as_value v) a old ≡ So
 abbrev pub old_bytes : Item → ℕ → Instruction → List ℕ
 old_bytes item start o = slice_range item.bytes start (start + size_of o)
 
--- the loaded code does what the input's instruction does where its operand reads as is demanded
-pub record DoesDemanded (read : Reader) (l : Layout) (w : World) (m : Memory) (item : Item) (first : InputRelocation) (start : ℕ) (o : Instruction) : Type 0 where
-  pub value : ℕ
-  pub demands : Demands o.sort l w m item first value
+-- the loaded code does what the input's instruction does where its operand reads as v
+pub record DoesWith (read : Reader) (l : Layout) (w : World) (m : Memory) (item : Item) (start : ℕ) (o : Instruction) (v : ℕ) : Type 0 where
   pub effect : Effect
-  pub demanded : IsDemanded o.sort l item value (place_at w item start) (old_bytes item start o) effect
+  pub demanded : IsDemanded o.sort l item v (place_at w item start) (old_bytes item start o) effect
   pub bytes : List ℕ
   pub whole : length bytes ≡ size_of o
   pub held : Holds m (place_at w item start) bytes
   pub does : effect_of l.machine read (place_at w item start) bytes ≡ Some effect
+
+-- where it reads as is demanded
+pub record DoesDemanded (read : Reader) (l : Layout) (w : World) (m : Memory) (item : Item) (first : InputRelocation) (start : ℕ) (o : Instruction) : Type 0 where
+  pub value : ℕ
+  pub demands : Demands o.sort l w m item first value
+  pub code : DoesWith read l w m item start o value
+
+-- ---- with the output's own symbol, whatever another module has for it
+
+-- where code goes that goes to S + A, past the four bytes of the field
+pub record IsOwnBranchTarget (l : Layout) (w : World) (r : InputRelocation) (v : ℕ) : Type 0 where
+  pub goal : ℕ
+  pub stands : IsOwnTarget l w r.symbol goal
+  pub is : v ≡ (goal + cast_unsigned w64 r.addend + 4) % 2 ^ 64
+
+-- what an operand of that sort is to read as: code's target alone is S itself; every other one is by a slot, which a loader fills
+abbrev pub DemandsLinked : Sort → Layout → World → InputRelocation → ℕ → Type 0
+DemandsLinked Target l w r v = IsOwnBranchTarget l w r v
+DemandsLinked other l w r v = ⊥
+
+-- the loaded code, which calls no function for it, does what the input's instruction does where its operand reads so
+pub record DoesLinked (l : Layout) (w : World) (m : Memory) (item : Item) (r : InputRelocation) (start : ℕ) (o : Instruction) : Type 0 where
+  pub value : ℕ
+  pub demands : DemandsLinked o.sort l w r value
+  pub code : DoesWith (reads_alone w m) l w m item start o value

@@ -1,11 +1,8 @@
 -- The image of a layout is loaded: its addresses move, what is left to entries is filled, and nothing else changes.
-use Rattle.std.proofs.Common.{◌≡◌, ℕ, ◌+◌, Bool, true, false, List, [], ◌∷◌, length, map, refl, sym, ap, ◌∙◌, arith, subst}
-use Rattle.std.specs.Prelude.{Some, None, Ok, All, Contains, if◌then◌else◌}
-use Rattle.std.proofs.lemmas.Bool.{ne_eqb}
-use Rattle.std.proofs.lemmas.List.Elements.{All-contains, All-head, All-tail, Contains-append_right}
-use Rattle.std.proofs.lemmas.List.{length-map, get_or-map}
-use Rattle.wild_records.specs.Abi.Segment.{pt_dynamic}
-use Rattle.wild_records.specs.declared.program_header.ProgramHeader.{ProgramHeader}
+use Rattle.std.proofs.Common.{◌≡◌, ℕ, ◌+◌, Bool, true, false, [], length, refl, sym, ap, ◌∙◌, arith, subst}
+use Rattle.std.specs.Prelude.{Some, Ok, Contains, if◌then◌else◌}
+use Rattle.std.proofs.lemmas.List.Elements.{All-contains, Contains-append_right}
+use Rattle.wild_words.proofs.Basics.{Contains-map}
 use Rattle.wild_types.specs.declared.kind.Machine.TheVariants as machine
 use Rattle.wild_types.specs.declared.file.FileRole.{FileRole}
 use Rattle.wild_types.specs.declared.file.FileRole.TheVariants as file_role
@@ -25,9 +22,9 @@ use Rattle.wild_loader.specs.declared.world.World.{World}
 use Rattle.wild_loader.specs.Load.{load}
 use Rattle.wild_loader.specs.Memory.{byte_in, Holds}
 use Rattle.wild_loader.specs.Relocate.{loaded_at, patched}
-use Rattle.wild_loader.specs.Tables.{first_dynamic}
-use Rattle.wild_loader.specs.Laws.{IsStatic, section_relas, DynamicImagesAreLoaded, StaticImagesAreLoaded}
+use Rattle.wild_loader.specs.Laws.{section_relas, DynamicImagesAreLoaded, StaticImagesAreLoaded}
 use Rattle.wild_loader.specs.EntryLaws.{patches_of, TablesAreApplied, OrderIsFree}
+use Rattle.wild_loader.proofs.ImageLemmas.{no-dynamic}
 use Rattle.wild_layout.specs.Numbers.{NumbersFit}
 use Rattle.wild_layout.specs.Geometry.{IsLaidOut}
 use Rattle.wild_meaning.specs.World.{IsLoadable, IsLegal, IsBehind, IsCopied, HasCopy}
@@ -38,7 +35,7 @@ use Rattle.wild_loaded.specs.Tables.{tables_of}
 use Rattle.wild_loaded.specs.Laws.{HeadersStand, SegmentsAreLoadable, TablesAreFound, SectionTablesAreFound}
 use Rattle.wild_filled.specs.Words.{place_change, entry_change}
 use Rattle.wild_filled.specs.Laws.{AreMade, TablesAreMade}
-use Rattle.wild_filled.proofs.Fillings.{Filling, IsKnown, place_loaded}
+use Rattle.wild_filled.proofs.Fillings.{IsKnown, place_loaded}
 use Rattle.wild_filled.proofs.KeptSections.{kept_well}
 use Rattle.wild_filled.proofs.FilledSections.{have_places}
 use Rattle.wild_filled.proofs.CopyFillings.{group_copies, all_copies, width_by, copy_width, copy_filling, copies_filled}
@@ -74,9 +71,6 @@ copied_listed : (l : Layout) (i : ℕ) → IsCopied l i → Contains (all_copies
 copied_listed l i c =
     let here : Contains (copies_of c.file) i = subst (λ (b : Bool). Contains (if b then c.file.copies else []) i) (sym (library c.file.role c.library)) c.listed in
     Contains-flat_map group_copies l.groups c.group i c.grouped (Contains-flat_map copies_of c.group.files c.file i c.filed here)
-
-Contains-map : (f : ℕ → Filling) (xs : List ℕ) (x : ℕ) → Contains xs x → Contains (map f xs) (f x)
-Contains-map f xs x c = (c.0, (let n = length-map xs f in let l = c.1 in omega (arith, n, l)), get_or-map f xs c.0 x (f x) c.1 ∙ ap f c.2)
 
 copy_moved : (l : Layout) (w : World) (m : Memory) (i raw : ℕ) (x : Answer) → IsMovedImage l w m → HasCopy l w i raw x → Holds m (w.base + raw) x.bytes
 copy_moved l w m i raw x h c =
@@ -123,11 +117,6 @@ record IsLoadedBy (l : Layout) (w : World) : Type 0 where
   accepted : load w (bytes l) ≡ Ok memory
   applied : HasApplied l w memory
 
-no_dynamic : (hs : List ProgramHeader) → All IsStatic hs → first_dynamic hs ≡ None
-unfolding first_dynamic
-no_dynamic [] static = refl
-no_dynamic (h ∷ hs) static = rw (ne_eqb h.kind pt_dynamic (All-head IsStatic h hs static)) (no_dynamic hs (All-tail IsStatic h hs static))
-
 dynamic_loaded : (l : Layout) (w : World) → ImageLaws → needs_dynamic l.kind ≡ true → l.machine ≡ machine.X86_64 → IsLoadable l.kind → NumbersFit l → IsLegal l w → IsLaidOut l → HasWholeSlots l → AreMade l w → IsLoadedBy l w
 dynamic_loaded l w laws needs x kind numbers legal laid whole made =
     let t = laws.found l needs numbers laid whole in
@@ -145,7 +134,7 @@ static_loaded l w laws plain x kind numbers legal laid whole made =
     let t = laws.sections l kind plain numbers laid whole in
     let before = image_memory l w in
     let rs = section_relas (section_headers_of l l.sections) t.of in
-    let is = laws.static w (bytes l) (file_header l) (headers_of l) (section_headers_of l l.sections) t.of (laws.headers.stand l x kind numbers laid) (laws.headers.taken l x kind) (laws.segments.loadable l w legal laid) (no_dynamic (headers_of l) t.static) t.told t.sections in
+    let is = laws.static w (bytes l) (file_header l) (headers_of l) (section_headers_of l l.sections) t.of (laws.headers.stand l x kind numbers laid) (laws.headers.taken l x kind) (laws.segments.loadable l w legal laid) (no-dynamic (headers_of l) t.static) t.told t.sections in
     let h = has_changed w before (alone rs) laws.applied (alone_made w before (tables_of l) rs t.all made.made) (alone_apart w before (tables_of l) rs laws.order t.words t.all made.apart) in
     let back = alone_changed w before (patched before (patches_of (alone rs) (place_change w before) (entry_change w before))) (tables_of l) rs t.words t.all h in
     record {

@@ -2,9 +2,11 @@
 use Rattle.std.proofs.Common.{◌≡◌, ℕ, zero, suc, ◌+◌, ◌<◌, ◌≤◌, ◌⊎◌, inl, inr, List, [], ◌∷◌, ◌++◌, length, get_or, map, refl, sym, ap, ◌∙◌, arith, subst}
 use Rattle.std.specs.Prelude.{Option, Some, None, Ok, All, AllPairs, Contains, IsPermutation}
 use Rattle.std.proofs.lemmas.Bool.{eq-eqb, ne_eqb}
-use Rattle.std.proofs.lemmas.List.{length-map, get_or-map, map-append, append-nil}
+use Rattle.std.proofs.lemmas.List.{map-append, append-nil}
 use Rattle.std.proofs.lemmas.List.Elements.{All-nil, All-head, All-tail, All-append, All-map, All-contains, Contains-append_left, Contains-append_right}
 use Rattle.std.proofs.lemmas.List.Sorted.{All-permutation, IsPermutation-sym, IsPermutation-map}
+use Rattle.wild_words.proofs.Basics.{All-each, Contains-map}
+use Rattle.wild_words.proofs.ListLemmas.{AllPairs-head, AllPairs-tail}
 use Rattle.wild_records.specs.declared.relocations.Rela.{Rela}
 use Rattle.wild_loader.specs.declared.change.Change.{Change}
 use Rattle.wild_loader.specs.declared.change.Change.TheVariants as changes
@@ -25,8 +27,7 @@ use Rattle.wild_loader.specs.EntryLaws.{HasMade, patches_of, TablesAreApplied, O
 use Rattle.wild_loader.proofs.EntryLemmas.{stepped, same-ok, read-bytes}
 use Rattle.wild_loader.proofs.Overlaid.{elsewhere}
 use Rattle.wild_filled.specs.Words.{place_change, entry_change}
-use Rattle.wild_filled.proofs.PlacesApart.{get_or-any}
-use Rattle.wild_filled.proofs.PairLemmas.{AllPairs-first, AllPairs-rest, All-unmap}
+use Rattle.wild_filled.proofs.PairLemmas.{All-unmap}
 use Rattle.wild_moved.specs.Moved.{IsMade}
 
 -- ---- what is noted
@@ -71,7 +72,7 @@ starts_differ p q h some more e = by_side (elsewhere p q 0 h (omega (arith, some
 noted_first : (ps : List Patch) (p : Patch) (o : ℕ) → AllPairs IsApart (runs_of_patches ps) → All NotesBytes ps → Contains ps p → p.offset ≡ Some o → first_value (notes ps) p.run.start ≡ Some o
 unfolding notes
 noted_first [] p o apart each c is = absurd (omega (arith, c.1))
-noted_first (q ∷ qs) p o apart each c is = by_number c.0 c.1 c.2 (λ k m e. noted_first qs p o (AllPairs-rest IsApart q.run (runs_of_patches qs) apart) (All-tail NotesBytes q qs each) (k, m, e) is)
+noted_first (q ∷ qs) p o apart each c is = by_number c.0 c.1 c.2 (λ k m e. noted_first qs p o (AllPairs-tail IsApart q.run (runs_of_patches qs) apart) (All-tail NotesBytes q qs each) (k, m, e) is)
   where
     here : (q : Patch) (x : Option ℕ) → q.offset ≡ x → x ≡ Some o → first_value (notes (q ∷ qs)) q.run.start ≡ Some o
     here q None e x = cc
@@ -92,15 +93,12 @@ noted_first (q ∷ qs) p o apart each c is = by_number c.0 c.1 c.2 (λ k m e. no
         subst (λ (x : Patch). x.offset ≡ Some o → first_value (notes (q ∷ qs)) x.run.start ≡ Some o) e own is
     by_number (suc k) m e again =
         let c : Contains qs p = (k, omega (arith, m), e) in
-        let others = All-unmap (IsApart q.run) (λ (x : Patch). x.run) qs (AllPairs-first IsApart q.run (runs_of_patches qs) apart) in
+        let others = All-unmap (IsApart q.run) (λ (x : Patch). x.run) qs (AllPairs-head IsApart q.run (runs_of_patches qs) apart) in
         let two = All-contains (λ (x : Patch). IsApart q.run x.run) qs p others c in
         let bytes = All-contains NotesBytes qs p (All-tail NotesBytes q qs each) c o is in
         there q.offset refl (λ same y h. starts_differ q.run p.run two (All-head NotesBytes q qs each y h) bytes same) (again k (omega (arith, m)) e)
 
 -- ---- tables that were applied
-
-Contains-map : {X : Type 0} (f : X → Patch) (xs : List X) (x : X) → Contains xs x → Contains (map f xs) (f x)
-Contains-map f xs x c = (c.0, (let n = length-map xs f in let l = c.1 in omega (arith, n, l)), get_or-map f xs c.0 x (f x) c.1 ∙ ap f c.2)
 
 -- memory has what each place and each entry changes, and every other byte is as before
 pub record HasChanged (w : World) (before : Memory) (t : Tables) (m : Memory) : Type 0 where
@@ -109,9 +107,6 @@ pub record HasChanged (w : World) (before : Memory) (t : Tables) (m : Memory) : 
   pub words : All (λ x. IsMade m (place_change w before x)) (places t.words)
   pub entries : All (λ (e : Rela). IsMade m (entry_change w before e)) (t.entries ++ t.jumps)
   pub others : (a : ℕ) → All (IsElsewhere a) (runs_of_patches (patches_of t (place_change w before) (entry_change w before))) → byte_in m a ≡ byte_in before a
-
-each_made : {X : Type 0} (P : X → Type 0) (xs : List X) → ((x : X) → Contains xs x → P x) → All P xs
-each_made P xs h = λ k d lt. h (get_or xs k d) (k, lt, get_or-any xs k (get_or xs k d) d lt)
 
 pub has_changed : (w : World) (before : Memory) (t : Tables) → TablesAreApplied → HasMade w before t (place_change w before) (entry_change w before) → AllPairs IsApart (runs_of_patches (patches_of t (place_change w before) (entry_change w before)))
     → HasChanged w before t (patched before (patches_of t (place_change w before) (entry_change w before)))
@@ -130,10 +125,10 @@ has_changed w before t law made apart =
     record {
       is = a.is;
       machine = refl;
-      words = each_made (λ x. IsMade m (g x)) (places t.words) (λ x c. record { held = All-contains (λ x. Holds m (g x).run.start (g x).run.bytes) (places t.words) x a.words c; noted = noted (g x) (Contains-append_left (map g (places t.words) ++ map f t.entries) (map f t.jumps) (g x) (Contains-append_left (map g (places t.words)) (map f t.entries) (g x) (Contains-map g (places t.words) x c))) });
+      words = All-each (λ x. IsMade m (g x)) (places t.words) (λ x c. record { held = All-contains (λ x. Holds m (g x).run.start (g x).run.bytes) (places t.words) x a.words c; noted = noted (g x) (Contains-append_left (map g (places t.words) ++ map f t.entries) (map f t.jumps) (g x) (Contains-append_left (map g (places t.words)) (map f t.entries) (g x) (Contains-map g (places t.words) x c))) });
       entries = All-append P t.entries t.jumps
-          (each_made P t.entries (λ e c. record { held = All-contains (λ (e : Rela). Holds m (f e).run.start (f e).run.bytes) t.entries e a.entries c; noted = noted (f e) (Contains-append_left (map g (places t.words) ++ map f t.entries) (map f t.jumps) (f e) (Contains-append_right (map g (places t.words)) (map f t.entries) (f e) (Contains-map f t.entries e c))) }))
-          (each_made P t.jumps (λ e c. record { held = All-contains (λ (e : Rela). Holds m (f e).run.start (f e).run.bytes) t.jumps e a.jumps c; noted = noted (f e) (Contains-append_right (map g (places t.words) ++ map f t.entries) (map f t.jumps) (f e) (Contains-map f t.jumps e c)) }));
+          (All-each P t.entries (λ e c. record { held = All-contains (λ (e : Rela). Holds m (f e).run.start (f e).run.bytes) t.entries e a.entries c; noted = noted (f e) (Contains-append_left (map g (places t.words) ++ map f t.entries) (map f t.jumps) (f e) (Contains-append_right (map g (places t.words)) (map f t.entries) (f e) (Contains-map f t.entries e c))) }))
+          (All-each P t.jumps (λ e c. record { held = All-contains (λ (e : Rela). Holds m (f e).run.start (f e).run.bytes) t.jumps e a.jumps c; noted = noted (f e) (Contains-append_right (map g (places t.words) ++ map f t.entries) (map f t.jumps) (f e) (Contains-map f t.jumps e c)) }));
       others = a.others;
     }
 

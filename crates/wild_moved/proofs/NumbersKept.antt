@@ -16,7 +16,7 @@ use Rattle.wild_loaded.proofs.SlotSites.{SlotSite, of_site}
 use Rattle.wild_filled.proofs.Fillings.{Filling}
 use Rattle.wild_filled.proofs.SlotFillings.{address_filling, slot_filling, made_of}
 use Rattle.wild_filled.proofs.SlotsSpaced.{IsNarrow, IsNumber, SitesSpaced}
-use Rattle.wild_filled.proofs.SlotsKnown.{width_most, two_widths, filled_places, number_none, number_own, behind_place, rest_ascend, second_there}
+use Rattle.wild_filled.proofs.SlotsKnown.{width_most, two_widths, filled_places, number_none, number_own, behind_place, second_there, tail_ascend, got_places}
 
 -- a filling has no byte of the word at a place
 abbrev pub IsClear : ℕ → Filling → Type 0
@@ -85,9 +85,6 @@ one_more l x xs y here rest = λ num. both (here num) (rest num)
     both (inl a) (inr s) = inr (later s)
     both (inl a) (inl b) = inl (All-append (IsClear y.at) (of_site (slot_filling l) x) (made_of (slot_filling l) xs) a b)
 
-abbrev got_places : List SlotSite → List ℕ
-got_places xs = made_of (place_in words.Got) xs
-
 -- a number ahead of other words
 ahead : (l : Layout) (low high : ℕ) (x : SlotSite) (xs : List SlotSite) → Ascend 8 low high (got_places (x ∷ xs)) → IsKept l (x ∷ xs) x
 ahead l low high x xs h = λ num. inl (
@@ -113,9 +110,6 @@ place_listed xs y c num = Contains-flat_map (of_site (place_in words.Got)) xs y 
 -- each word behind one stands 8 bytes behind or more
 later : (low high at : ℕ) (xs : List SlotSite) (y : SlotSite) → Ascend 8 low high (at ∷ got_places xs) → Contains xs y → IsNumber y.word → at + 8 ≤ y.at
 later low high at xs y h c num = All-contains (λ (q : ℕ). at + 8 ≤ q) (got_places xs) y.at (behind_place low high at (got_places xs) h) (place_listed xs y c num)
-
-tail_ascend : (low high : ℕ) (x : SlotSite) (xs : List SlotSite) → Ascend 8 low high (got_places (x ∷ xs)) → Ascend 8 low high (got_places xs)
-tail_ascend low high x xs h = rest_ascend low high (of_site (place_in words.Got) x) (got_places xs) h
 
 -- the filling ahead of a number
 ahead_of : (l : Layout) (low high : ℕ) (x z : SlotSite) (zs : List SlotSite) (y : SlotSite) → (IsNarrow x.word ⊎ (IsNumber z.word × (z.at ≡ next x.at))) → Ascend 8 low high (got_places (x ∷ z ∷ zs)) → Contains (z ∷ zs) y → ((y.at ≡ z.at) ⊎ Contains zs y) → IsNumber y.word → All (IsClear y.at) (of_site (slot_filling l) x) ⊎ IsSecond (x ∷ z ∷ zs) y.at

@@ -2,6 +2,9 @@
 use Rattle.std.proofs.Common.{◌≡◌, ℕ, ◌+◌, ◌<◌, ◌≤◌, ◌⊎◌, inl, inr, true, List, ◌++◌, length, get_or, refl, arith}
 use Rattle.std.specs.Prelude.{All, Contains}
 use Rattle.std.proofs.lemmas.List.Elements.{All-append, All-map}
+use Rattle.std.proofs.lemmas.List.{get_or_default}
+use Rattle.wild_words.proofs.Basics.{not_empty, All-each}
+use Rattle.wild_words.proofs.ListLemmas.{All-flat_map}
 use Rattle.wild_types.specs.declared.part.Role.{Role}
 use Rattle.wild_types.specs.declared.part.Role.TheVariants as role
 use Rattle.wild_types.specs.declared.input.InputSection.{InputSection}
@@ -12,21 +15,16 @@ use Rattle.wild_loader.specs.declared.world.World.{World}
 use Rattle.wild_meaning.specs.World.{IsBehind}
 use Rattle.wild_meaning.specs.Linked.{IsNotCopied}
 use Rattle.wild_loaded.specs.Memory.{IsStored}
-use Rattle.wild_filled.proofs.PairLemmas.{All-join}
 use Rattle.wild_filled.proofs.Fillings.{Filling, Misses, general_of, place_entry}
 use Rattle.wild_filled.proofs.Homes.{Home, HasHome, homes_back, misses_across, behind_misses}
 use Rattle.wild_filled.proofs.SectionsApart.{all_sections, section_home, stored_home}
-use Rattle.wild_filled.proofs.PlacesApart.{misses_all, get_or-any}
+use Rattle.wild_filled.proofs.PlacesApart.{misses_all}
 use Rattle.wild_filled.proofs.SectionFillings.{section_fillings}
-use Rattle.wild_filled.proofs.FilledSections.{All-each}
 use Rattle.wild_filled.proofs.TableHomes.{role_home, role_there, roles_apart, section_apart, InTable}
 use Rattle.wild_filled.proofs.CopyFillings.{all_copies, copy_filling, copies_filled, copies_behind, copy_of}
 use Rattle.wild_filled.proofs.TableLists.{sections_filled, slots_filled, blocks_filled, stored_fillings, all_fillings}
 use Rattle.wild_filled.proofs.AllTables.{copies_of_well, lies_of, stored_misses}
 use Rattle.wild_moved.proofs.MadeChanges.{IsMovedImage}
-
-some_filling : (xs : List Filling) (i : ℕ) → i < length xs → 1 ≤ length xs
-some_filling xs i h = omega (arith, h)
 
 -- missed by all of them
 all_miss : (l : Layout) (w : World) (a : ℕ) → All (Misses a) (sections_filled l) → All (Misses a) (slots_filled l) → All (Misses a) (blocks_filled l) → All (Misses a) (copies_filled l w) → All (Misses a) (all_fillings l w)
@@ -61,10 +59,10 @@ section_misses l w m s k h c stored lt own =
 
 table_misses_sections : (l : Layout) (w : World) (m : Memory) (r : Role) (k : ℕ) → IsMovedImage l w m → is_loaded_role r ≡ true → k < (role_home l r).size → All (Misses ((role_home l r).address + k)) (sections_filled l)
 table_misses_sections l w m r k h loaded lt =
-    All-join (Misses ((role_home l r).address + k)) (section_fillings l) (all_sections l) (λ i d b. (λ j e n.
+    All-flat_map (Misses ((role_home l r).address + k)) (section_fillings l) (all_sections l) (λ i d b. (λ j e n.
     let s = get_or (all_sections l) i d in
-    let stored = h.sections.stored i d b (some_filling _ j n) in
-    let c : Contains (all_sections l) s = (i, b, get_or-any (all_sections l) i s d b) in
+    let stored = h.sections.stored i d b (not_empty _ j n) in
+    let c : Contains (all_sections l) s = (i, b, get_or_default (all_sections l) i s d b) in
     misses_across l (role_home l r) (section_home l s) k (get_or (section_fillings l s) j e) h.well.laid (role_there l r loaded h.well.kind h.well.laid) (stored_home l s stored) (section_apart l r s loaded h.well.laid (lies_of l s h.well.laid c) stored) lt (h.sections.within i d b j e n)))
 
 table_misses_table : (l : Layout) (w : World) (m : Memory) (r t : Role) (k : ℕ) (xs : List Filling) → IsMovedImage l w m → is_loaded_role r ≡ true → is_loaded_role t ≡ true → (r ≡ t → ⊥) → k < (role_home l r).size → InTable l t xs → All (Misses ((role_home l r).address + k)) xs

@@ -1,6 +1,6 @@
 -- A kept section after a loader applied the tables of an image.
 use Rattle.std.proofs.Common.{◌≡◌, ℕ, ◌+◌, ◌%◌, ◌^◌, ◌<◌, ◌≤◌, ◌⊎◌, inl, inr, Bool, true, false, List, [], ◌∷◌, ◌++◌, length, get_or, refl, sym, ap, ◌∙◌, arith, subst}
-use Rattle.std.specs.Prelude.{⊤, Option, Some, Ok, Result, All, Contains, option_to_list, if◌then◌else◌, slice_index}
+use Rattle.std.specs.Prelude.{Option, Some, Ok, Result, All, Contains, option_to_list, if◌then◌else◌, slice_index}
 use Rattle.std.specs.List.{flat_map, range_with_len}
 use Rattle.std.proofs.lemmas.Bool.{cases_lt}
 use Rattle.std.proofs.lemmas.List.Elements.{All-contains, Contains-append_left}
@@ -8,6 +8,9 @@ use Rattle.std.proofs.lemmas.List.FromFn.{get_or-range_with_len, length-range_wi
 use Rattle.std.proofs.lemmas.Option.{slice_get_within}
 use Rattle.wild_words.specs.Words.{word}
 use Rattle.wild_words.specs.Overlay.{Piece, Apart}
+use Rattle.wild_words.proofs.Basics.{listed_at, All-each}
+use Rattle.wild_words.proofs.ListLemmas.{All-from_flat_map}
+use Rattle.wild_words.proofs.OrderLemmas.{Outside}
 use Rattle.wild_types.specs.declared.fault.Fault.{Fault}
 use Rattle.wild_types.specs.declared.input.InputRelocation.{InputRelocation}
 use Rattle.wild_types.specs.declared.input.InputSection.{InputSection}
@@ -28,7 +31,7 @@ use Rattle.wild_layout.specs.Moved.{or_zero, moved_value}
 use Rattle.wild_layout.specs.Sites.{field_site, template_site, site, sites}
 use Rattle.wild_layout.specs.SectionPlaces.{FieldLies}
 use Rattle.wild_layout.proofs.DecideLemmas.{HasField, IsMoved, moved_has, decided_moved, decided_left, field_has_bytes}
-use Rattle.wild_layout.proofs.DecisionLemmas.{decide_moved, decide_left}
+use Rattle.wild_layout.proofs.DecisionLemmas.{decide_moved, decide_left, IsOfRow}
 use Rattle.wild_layout.proofs.SiteLemmas.{Contains-flat_map, site_written, site_rewritten, field_lies}
 use Rattle.wild_meaning.specs.Item.{IsInput}
 use Rattle.wild_tables.specs.Tables.{relative_entry}
@@ -39,15 +42,15 @@ use Rattle.wild_loader.specs.declared.world.World.{World}
 use Rattle.wild_loader.specs.Changes.{bytes_after}
 use Rattle.wild_loader.specs.Memory.{Holds, byte_in}
 use Rattle.wild_loader.specs.Relocate.{loaded_at}
+use Rattle.wild_meaning.proofs.BitLemmas.{kept_is_read}
 use Rattle.wild_geometry.specs.Loaded.{InNoSite, InMemory, HasDecision, ReadsLeft, stored_bytes, HasSection}
 use Rattle.wild_loaded.specs.Memory.{image_memory}
-use Rattle.wild_filled.proofs.PairLemmas.{All-joined}
 use Rattle.wild_filled.proofs.Fillings.{Filling, Misses, IsKnown, packed_at, relative_of, general_of, place_loaded}
 use Rattle.wild_filled.proofs.SectionsApart.{all_sections, sections_of}
-use Rattle.wild_filled.proofs.KeptSections.{IsKeptWell, kept_is_read}
+use Rattle.wild_filled.proofs.KeptSections.{IsKeptWell}
 use Rattle.wild_filled.proofs.SectionFillings.{section_filling, section_fillings, Fills, moved_given, left_given}
-use Rattle.wild_filled.proofs.FilledSections.{IsFilledThere, filling_known, filled_there, filled_site, site_width, site_there, sites_apart_at, place_sum, All-each}
-use Rattle.wild_filled.proofs.SectionsKnown.{before, listed_at, value_low, relative_makes, field_makes, stored_size}
+use Rattle.wild_filled.proofs.FilledSections.{IsFilledThere, filling_known, filled_there, filled_site, site_width, site_there, sites_apart_at, place_sum}
+use Rattle.wild_filled.proofs.SectionsKnown.{before, value_low, relative_makes, field_makes, stored_size}
 use Rattle.wild_filled.proofs.TableLists.{sections_filled, slots_filled, blocks_filled, stored_fillings, all_fillings}
 use Rattle.wild_filled.proofs.CopyFillings.{copies_filled}
 use Rattle.wild_moved.proofs.MadeChanges.{IsMovedImage, kept_at, packed_made, made_over}
@@ -67,10 +70,6 @@ kept_there l w m s k h well lt out =
     let own = All-each (Misses (s.address + k)) (section_fillings l s) (λ x cx. out x (filled_there l s x h.well.laid h.well.decided c (filling_known l s x cx))) in
     kept_at l w m (s.address + k) h (section_misses l w m s k h c stored (omega (arith, lt, full)) own)
 
--- the byte is not the piece's
-abbrev IsElse : ℕ → Piece → Type 0
-IsElse k p = (k < p.at) ⊎ (p.at + length p.bytes ≤ k)
-
 by_side : (at k a n : ℕ) (x : Filling) → n ≡ x.width → x.entry.offset ≡ at + a → (k < a) ⊎ (a + n ≤ k) → Misses (at + k) x
 by_side at k a n x en is (inl h) = λ j lt e. omega (arith, is, h, e)
 by_side at k a n x en is (inr h) = λ j lt e. omega (arith, en, is, h, lt, e)
@@ -79,7 +78,7 @@ by_side at k a n x en is (inr h) = λ j lt e. omega (arith, en, is, h, lt, e)
 of_site : (P : Piece → Type 0) (l : Layout) (s : InputSection) (i : ℕ) (p : Piece) → All P (sites l s) → i < length s.relocations → site l s i ≡ p ∷ [] → P p
 of_site P l s i p all within is =
     let n = length s.relocations in
-    let each = All-joined P (site l s) (range_with_len 0 n) all i 0 (let e = length-range_with_len 0 n in omega (arith, e, within)) in
+    let each = All-from_flat_map P (site l s) (range_with_len 0 n) all i 0 (let e = length-range_with_len 0 n in omega (arith, e, within)) in
     let at : get_or (range_with_len 0 n) i 0 ≡ i = (let e = get_or-range_with_len 0 n i 0 within in omega (arith, e)) in
     let own = subst (λ (j : ℕ). All P (site l s j)) at each in
     let one = subst (λ (ps : List Piece). All P ps) is own in
@@ -91,7 +90,7 @@ outside_site l s k x out h =
     let q = h.filling.relocation in
     let i = h.filling.index in
     let o = filled_site l s q x h.by in
-    by_side s.address k q.offset (length o.bytes) x (site_width l s q x h.by) (place_sum l s x h) (of_site (IsElse k) l s i o out h.filling.within (site_there l s q x i h.by h.has))
+    by_side s.address k q.offset (length o.bytes) x (site_width l s q x h.by) (place_sum l s x h) (of_site (Outside k) l s i o out h.filling.within (site_there l s q x i h.by h.has))
 
 other_there : (l : Layout) (w : World) (m : Memory) (s : InputSection) (k : ℕ) → IsMovedImage l w m → IsKeptWell l s → k < length s.bytes → InNoSite l s k → byte_in m (w.base + s.address + k) ≡ Some (slice_index s.bytes k)
 other_there l w m s k h well lt out =
@@ -102,13 +101,7 @@ other_there l w m s k h well lt out =
 
 -- ---- values, and what is rewritten
 
--- a decision of which no entry fills anything
-abbrev IsStill : Decision → Type 0
-IsStill (Field z v) = ⊤
-IsStill (Rewritten row v) = ⊤
-IsStill other = ⊥
-
-still_fills_none : (l : Layout) (s : InputSection) (r : InputRelocation) (x : Filling) (d : Decision) → IsStill d → Fills l s r x d → ⊥
+still_fills_none : (l : Layout) (s : InputSection) (r : InputRelocation) (x : Filling) (d : Decision) → IsOfRow d → Fills l s r x d → ⊥
 still_fills_none l s r x Nothing still f = absurd still
 still_fills_none l s r x (Field z v) still f = f
 still_fills_none l s r x (Moved v packed) still f = absurd still
@@ -121,7 +114,7 @@ record IsStillSite (l : Layout) (s : InputSection) (i : ℕ) (p : Piece) : Type 
   relocation : InputRelocation
   decision : Decision
   has : HasDecision l s i relocation decision
-  still : IsStill decision
+  still : IsOfRow decision
   is : site l s i ≡ p ∷ []
 
 apart_byte : (at a n b q k : ℕ) (x : Filling) → q ≡ x.width → x.entry.offset ≡ at + b → k < n → (a + n ≤ b) ⊎ (b + q ≤ a) → Misses (at + (a + k)) x
@@ -152,7 +145,7 @@ outside_still l s i p k x well c lt h =
     other q j e d has f =
         let both : Ok c.decision ≡ Ok d = sym c.has.decided ∙ ap (λ (n : ℕ). decide l s n) e ∙ has.decided in
         let same : c.decision ≡ d = cc in
-        still_fills_none l s q x d (subst IsStill same c.still) f
+        still_fills_none l s q x d (subst IsOfRow same c.still) f
 
 -- it is as before
 still_there : (l : Layout) (w : World) (m : Memory) (s : InputSection) (i : ℕ) (p : Piece) → IsMovedImage l w m → IsKeptWell l s → IsStillSite l s i p → Holds (image_memory l w) (w.base + s.address + p.at) p.bytes → Holds m (w.base + s.address + p.at) p.bytes

@@ -5,6 +5,7 @@ use Rattle.std.proofs.lemmas.List.Elements.{All-contains, Contains-append_left, 
 use Rattle.std.proofs.lemmas.Option.{slice_get-get_or, slice_get_within, get_or_from_slice_get}
 use Rattle.wild_words.specs.Words.{word, number}
 use Rattle.wild_words.proofs.WordLemmas.{number-word, length-word}
+use Rattle.wild_words.proofs.Basics.{listed_at}
 use Rattle.wild_types.specs.declared.part.Role.TheVariants as role
 use Rattle.wild_types.specs.declared.file.File.{File}
 use Rattle.wild_types.specs.declared.file.Group.{Group}
@@ -60,14 +61,11 @@ site_there at (suc k) (w ∷ ws) d low e =
 word_at : (w : World) (m : Memory) (at a : ℕ) (d : SlotWord) → NumbersAreRead → w.base + at ≡ a → IsLoadedSite w m at d → (x : ℕ) × (number_in m a 8 ≡ Some x) × IsLoadedWord w m a d x
 word_at w m at a d law is s = subst (λ (b : ℕ). (x : ℕ) × (number_in m b 8 ≡ Some x) × IsLoadedWord w m b d x) is (s.value, number_held m (w.base + at) s.value law s.fits s.held, s.is)
 
-listed_symbol : (xs : List Symbol) (i : ℕ) (x : Symbol) → slice_get xs i ≡ Some x → Contains xs x
-listed_symbol xs i x e = (i, slice_get_within xs i x e, get_or_from_slice_get xs i x x e)
-
 word_loaded : (l : Layout) (w : World) (m : Memory) (i at k : ℕ) (s : Symbol) (d : SlotWord) → IsMovedImage l w m → slice_get l.symbols i ≡ Some s → got_of s ≡ Some at → slice_get (slots_of l s).words k ≡ Some d
     → (x : ℕ) × (number_in m (w.base + at + 8 * k) 8 ≡ Some x) × IsLoadedWord w m (w.base + at + 8 * k) d x
 word_loaded l w m i at k s d h there got here =
     let first : slots_at s ≡ at = ap (λ (o : Option ℕ). unwrap_or o 0) got in
-    let low = slots_low s (All-contains SymbolNumbers l.symbols s h.well.numbers.symbols (listed_symbol l.symbols i s there)) in
+    let low = slots_low s (All-contains SymbolNumbers l.symbols s h.well.numbers.symbols (listed_at l.symbols i s there)) in
     let x = site_there (slots_at s) k (slots_of l s).words d low here in
     let written = (h.laws.stand l h.well.whole.order i at s there got).written in
     let y : SlotSite = record { at = x.place; word = d } in

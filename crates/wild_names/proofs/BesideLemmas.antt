@@ -2,8 +2,7 @@
 use Rattle.std.proofs.Common.{◌≡◌, ℕ, zero, suc, ◌+◌, ◌*◌, List, [], ◌∷◌, ◌++◌, length, Some, slice_get, flat_map, refl, ap, arith, subst}
 use Rattle.std.proofs.lemmas.Option.{same_Some}
 use Rattle.wild_words.specs.Words.{Stands}
-use Rattle.wild_words.proofs.OverlayLemmas.{Stands-inner}
-use Rattle.wild_words.proofs.RecordLemmas.{Stands-left, Stands-right, Stands-whole}
+use Rattle.wild_words.proofs.RecordLemmas.{Stands-left, Stands-right}
 
 -- ---- two lists
 
@@ -47,16 +46,6 @@ belongs_at R (x ∷ xs) (z ∷ zs) (suc k) y h e =
     record { item = later.item; is = later.is; belongs = later.belongs }
 
 -- ---- bytes one behind the other
-
-pub Stands-front : (whole xs ys : List ℕ) (at : ℕ) → Stands whole at (xs ++ ys) → Stands whole at xs
-Stands-front whole xs ys at s =
-    let z : at + 0 ≡ at = omega arith in
-    subst (λ (n : ℕ). Stands whole n xs) z (Stands-inner whole (xs ++ ys) xs at 0 s (Stands-left xs ys))
-
-pub Stands-behind : (whole xs ys : List ℕ) (at : ℕ) → Stands whole at (xs ++ ys) → Stands whole (at + length xs) ys
-Stands-behind whole xs ys at s =
-    let z : at + (length xs + 0) ≡ at + length xs = omega arith in
-    subst (λ (n : ℕ). Stands whole n ys) z (Stands-inner whole (xs ++ ys) ys at (length xs + 0) s (Stands-right xs ys ys 0 (Stands-whole ys)))
 
 -- record k of records of n bytes
 pub Stands-record : {E : Type 0} (spelled : E → List ℕ) (n : ℕ) → ((e : E) → length (spelled e) ≡ n) → (es : List E) (k : ℕ) (e : E) → slice_get es k ≡ Some e → Stands (flat_map spelled es) (n * k) (spelled e)

@@ -1,44 +1,19 @@
 -- Where a layout has no faults each symbol of the table of all symbols has its fields.
-use Rattle.std.proofs.Common.{◌≡◌, ℕ, ◌++◌, List, [], ◌∷◌, All, Option, Some, None, Result, Ok, Err, flat_map, refl, ap}
-use Rattle.std.proofs.lemmas.List.Elements.{All-nil, All-cons, All-contains}
-use Rattle.wild_types.specs.declared.fault.At.{At}
+use Rattle.std.proofs.Common.{◌≡◌, ℕ, ◌++◌, [], All, None, Result, Ok, Err, refl, ap}
+use Rattle.std.proofs.lemmas.List.Elements.{All-contains}
+use Rattle.wild_words.proofs.Basics.{All-from_nothing}
 use Rattle.wild_types.specs.declared.fault.Fault.{Fault}
 use Rattle.wild_types.specs.declared.file.File.{File}
 use Rattle.wild_types.specs.declared.file.Group.{Group}
 use Rattle.wild_types.specs.declared.layout.Layout.{Layout}
 use Rattle.wild_needs.specs.TableSymbols.{TableSymbol, file_items}
-use Rattle.wild_clauses.specs.WellFormed.{first_clause}
 use Rattle.wild_symbols.specs.declared.table.TableFields.{TableFields}
 use Rattle.wild_symbols.specs.TableEntries.{table_fields, or_none_in_table}
-use Rattle.wild_layout.specs.Faults.{errors, flat_map_from, clause_errors, part_errors, at_file, fault_errors, file_errors, listed_errors, lacking_in_table, table_error, table_errors, group_errors}
-use Rattle.wild_layout.specs.Geometry.{IsLaidOut, LayoutsAreLaidOut}
-use Rattle.wild_layout.proofs.FaultLemmas.{clause_holds, first_empty, rest_empty, All-from_none}
+use Rattle.wild_layout.specs.Faults.{flat_map_from, at_file, file_errors, listed_errors, lacking_in_table, table_error, table_errors, group_errors}
+use Rattle.wild_layout.proofs.FaultLemmas.{first_empty, rest_empty, All-from_none, no_fault, no_group_errors}
 use Rattle.wild_names.specs.FieldLaws.{HasTableFields, TableSymbolsHaveFields, entry_with}
 
 -- ---- lists of faults
-
--- what holds of each item that gives nothing holds of all, where all give nothing
-pub All-from_nothing : {X Y : Type 0} (P : X → Type 0) (f : X → List Y) (xs : List X) → ((x : X) → f x ≡ [] → P x) → flat_map f xs ≡ [] → All P xs
-All-from_nothing P f [] each h = All-nil P
-All-from_nothing P f (x ∷ xs) each h = All-cons P x xs (each x (first_empty (f x) (flat_map f xs) h)) (All-from_nothing P f xs each (rest_empty (f x) (flat_map f xs) h))
-
-pub no_fault : (at : At) (o : Option Fault) → fault_errors at o ≡ [] → o ≡ None
-no_fault at None h = refl
-no_fault at (Some f) h = cc
-
--- a layout without faults is laid out
-pub laid_out : LayoutsAreLaidOut → (l : Layout) → errors l ≡ [] → IsLaidOut l
-unfolding errors
-laid_out laid l h =
-    let clauses = clause_errors (first_clause l) in
-    let shares = flat_map_from (part_errors l) 0 l.parts in
-    let front = first_empty (clauses ++ shares) (flat_map_from (group_errors l) 0 l.groups) h in
-    laid l (clause_holds (first_clause l) (first_empty clauses shares front)) (rest_empty clauses shares front)
-
--- and no group has any
-pub no_group : (l : Layout) → errors l ≡ [] → flat_map_from (group_errors l) 0 l.groups ≡ []
-unfolding errors
-no_group l h = rest_empty (clause_errors (first_clause l) ++ flat_map_from (part_errors l) 0 l.parts) (flat_map_from (group_errors l) 0 l.groups) h
 
 -- the last faults of a group are those of the symbols of the tables
 of_tables : (l : Layout) (i : ℕ) (g : Group) → group_errors l i g ≡ [] → flat_map_from (listed_errors l i) 0 g.files ++ flat_map_from (table_errors l i) 0 g.files ≡ []
@@ -75,7 +50,7 @@ table_of_group l i g h = All-from_none (FileHasFields l) (table_errors l i) 0 g.
 
 pub table_has_fields : TableSymbolsHaveFields
 table_has_fields l none g f x in_groups in_files in_items =
-    let groups = All-from_none (GroupHasFields l) (group_errors l) 0 l.groups (table_of_group l) (no_group l none) in
+    let groups = All-from_none (GroupHasFields l) (group_errors l) 0 l.groups (table_of_group l) (no_group_errors l none) in
     let files = All-contains (GroupHasFields l) l.groups g groups in_groups in
     let items = All-contains (FileHasFields l) g.files f files in_files in
     All-contains (HasTableFields l f) (file_items l f) x items in_items

@@ -3,6 +3,7 @@ use Rattle.std.proofs.Common.{◌≡◌, ℕ, ◌+◌, ◌<◌, ◌≤◌, ◌==
 use Rattle.std.proofs.lemmas.Bool.{eq-eqb}
 use Rattle.std.proofs.lemmas.List.Elements.{All-contains}
 use Rattle.wild_words.proofs.ListLemmas.{Found-from_list_any}
+use Rattle.wild_words.proofs.Basics.{All-from_nothing}
 use Rattle.wild_types.specs.declared.fault.Fault.{Fault}
 use Rattle.wild_types.specs.declared.symbol.Symbol.{Symbol}
 use Rattle.wild_types.specs.declared.file.File.{File}
@@ -17,10 +18,10 @@ use Rattle.wild_symbols.specs.DynamicFields.{listed_fields}
 use Rattle.wild_layout.specs.Faults.{errors, at_file, lacking, listed_error, listed_errors, group_errors}
 use Rattle.wild_layout.specs.Geometry.{IsLaidOut, LayoutsAreLaidOut}
 use Rattle.wild_layout.specs.ListedSymbols.{IsThere}
-use Rattle.wild_layout.proofs.FaultLemmas.{All-from_none}
+use Rattle.wild_layout.proofs.FaultLemmas.{All-from_none, no_fault, no_group_errors, laid_out}
 use Rattle.wild_geometry.proofs.LastGroupLemmas.{has_last, has_last-group}
 use Rattle.wild_names.specs.FieldLaws.{HasListedFields, ListedSymbolsHaveFields, listed_with}
-use Rattle.wild_names.proofs.FieldLemmas.{All-from_nothing, no_fault, laid_out, no_group, none_of_listed}
+use Rattle.wild_names.proofs.FieldLemmas.{none_of_listed}
 
 -- ---- they lack nothing
 
@@ -49,7 +50,7 @@ listed_of_group l needs i g h = All-from_none (LastHasListed l) (listed_errors l
 -- the last group has the last file
 none_lacks : (l : Layout) → errors l ≡ [] → needs_dynsym l.kind ≡ true → IsLaidOut l → All (LacksNothing l) l.dynsyms
 none_lacks l none needs laid =
-    by l.groups laid.some_group (λ k d m. has_last-group l.groups laid.files k d m) (All-from_none (GroupHasListed l) (group_errors l) 0 l.groups (listed_of_group l needs) (no_group l none))
+    by l.groups laid.some_group (λ k d m. has_last-group l.groups laid.files k d m) (All-from_none (GroupHasListed l) (group_errors l) 0 l.groups (listed_of_group l needs) (no_group_errors l none))
   where
     in_group : (g : Group) → has_last g ≡ true → GroupHasListed l g → All (LacksNothing l) l.dynsyms
     in_group g last each =

@@ -7,6 +7,7 @@ use Rattle.wild_words.specs.Record.{spell}
 use Rattle.wild_words.proofs.OverlayLemmas.{Stands-inner}
 use Rattle.wild_words.proofs.RecordLemmas.{Stands-left}
 use Rattle.wild_words.proofs.ListLemmas.{flat_map-same, flat_map-flat_map}
+use Rattle.wild_words.proofs.Basics.{nil_if}
 use Rattle.wild_records.specs.declared.symtab_entry.SymtabEntry.{SymtabEntry}
 use Rattle.wild_records.specs.declared.dynamic.DynamicEntry.{DynamicEntry}
 use Rattle.wild_records.specs.Dynamic.{dynamic_entry_fields}
@@ -34,7 +35,7 @@ use Rattle.wild_names.specs.Laws.{IsNamed, HasEntry, HasLibrary, SymbolsStand, L
 use Rattle.wild_names.proofs.BesideLemmas.{Belong, HasBeside, belong-length, belongs_at, Stands-record}
 use Rattle.wild_names.proofs.LibraryLemmas.{NamesLibrary, libraries_belong}
 use Rattle.wild_names.proofs.OrderLemmas.{items_of_all}
-use Rattle.wild_names.proofs.RunLemmas.{nil_if, strings_are_short}
+use Rattle.wild_names.proofs.RunLemmas.{strings_are_short}
 use Rattle.wild_names.proofs.SymbolLemmas.{IsEntryOf, Tells, symbols_belong}
 
 -- bytes in the table of a role stand in the image

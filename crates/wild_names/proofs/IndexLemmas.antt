@@ -1,13 +1,14 @@
 -- The longer section indexes: each entry of the table of all symbols has its own, in order.
-use Rattle.std.proofs.Common.{◌≡◌, ℕ, ◌*◌, inl, inr, ◌||◌, Bool, true, false, if◌then◌else◌, List, [], ◌∷◌, ◌++◌, length, map, filter, find, flat_map, option_map, Some, slice_get, refl, sym, ap, ◌∙◌, arith, subst}
+use Rattle.std.proofs.Common.{◌≡◌, ℕ, ◌*◌, inl, inr, Bool, true, false, if◌then◌else◌, List, [], ◌∷◌, length, map, filter, find, flat_map, option_map, Some, slice_get, refl, sym, ap, ◌∙◌, arith, subst}
 use Rattle.std.specs.List.{list_any}
-use Rattle.std.proofs.lemmas.Bool.{cases_Bool}
-use Rattle.std.proofs.lemmas.List.{append-nil, length-map, map-append}
+use Rattle.std.proofs.lemmas.Bool.{cases_Bool, or_left}
+use Rattle.std.proofs.lemmas.List.{append-nil, length-map}
 use Rattle.std.proofs.lemmas.List.Folds.{flat_map-map}
 use Rattle.std.proofs.lemmas.Option.{slice_get-map}
 use Rattle.wild_words.specs.Words.{Stands, word}
 use Rattle.wild_words.proofs.ListLemmas.{filter-flat_map, flat_map-flat_map, flat_map-same, holds_at}
 use Rattle.wild_words.proofs.WordLemmas.{length-word}
+use Rattle.wild_words.proofs.Basics.{nil_if, map-flat_map}
 use Rattle.wild_types.specs.declared.part.Part.{Part}
 use Rattle.wild_types.specs.declared.part.Role.{Role}
 use Rattle.wild_types.specs.declared.part.Role.TheVariants as role
@@ -28,7 +29,6 @@ use Rattle.wild_names.specs.Laws.{said, side_symbols}
 use Rattle.wild_names.specs.IndexLaws.{HasIndex, LongIndexesStand, index_role, side_table}
 use Rattle.wild_names.proofs.BesideLemmas.{Stands-record}
 use Rattle.wild_names.proofs.ImageLemmas.{in_image}
-use Rattle.wild_names.proofs.RunLemmas.{nil_if}
 use Rattle.wild_names.proofs.ShortEntries.{EntryIsShort, short_side}
 
 -- ---- where a part has them
@@ -41,12 +41,8 @@ found_any t (y ∷ ys) x h =
       | inr f ↦ rw f (found_any t ys x (rw f at h))
     ]
 
-or_first : (a b : Bool) → a ≡ true → (a || b) ≡ true
-or_first true b h = refl
-or_first false b h = cc
-
 asked : (l : Layout) (r : Role) (p : Part) → part_with r l.parts ≡ Some p → has_long l r ≡ true
-asked l r p found = or_first (list_any (has_role r) l.parts) (has_many_sections l) (found_any (has_role r) l.parts p found)
+asked l r p found = or_left (list_any (has_role r) l.parts) (has_many_sections l) (found_any (has_role r) l.parts p found)
 
 given : (b : Bool) (xs : List ℕ) → b ≡ true → (if b then xs else []) ≡ xs
 given true xs h = refl
@@ -102,12 +98,8 @@ has_place false e = absurd (omega arith)
 
 -- ---- the same entries
 
-map_joined : {X Y Z : Type 0} (f : Y → Z) (g : X → List Y) (xs : List X) → map f (flat_map g xs) ≡ flat_map (λ x. map f (g x)) xs
-map_joined f g [] = refl
-map_joined f g (x ∷ xs) = map-append f (g x) (flat_map g xs) ∙ ap (λ ys. map f (g x) ++ ys) (map_joined f g xs)
-
 same_symbols : (l : Layout) (local : Bool) → map said (side_table l local) ≡ side_symbols l local
-same_symbols l local = map_joined said (λ (g : Group). filter (is_side local) (group_table l g)) l.groups
+same_symbols l local = map-flat_map said (λ (g : Group). filter (is_side local) (group_table l g)) l.groups
 
 -- ---- the image
 

@@ -5,6 +5,7 @@ use Rattle.std.proofs.lemmas.List.Elements.{All-contains}
 use Rattle.std.proofs.lemmas.List.Filters.{length-filter_both}
 use Rattle.wild_words.specs.Record.{spell, FieldsAreRead}
 use Rattle.wild_words.specs.Words.{Stands}
+use Rattle.wild_words.proofs.Basics.{nil_if}
 use Rattle.wild_records.specs.SectionHeader.{section_header_fields}
 use Rattle.wild_types.specs.declared.part.Part.{Part}
 use Rattle.wild_types.specs.declared.part.Role.TheVariants as role
@@ -28,7 +29,6 @@ use Rattle.wild_names.specs.Laws.{said, side_symbols}
 use Rattle.wild_names.specs.FieldLaws.{LocalSymbolsAreCounted}
 use Rattle.wild_names.proofs.ImageLemmas.{none_joined}
 use Rattle.wild_names.proofs.InfoLemmas.{section_is, size_is, offset_is, elsewhere, locals_told, info_of, header_at, header_in_image, info_read}
-use Rattle.wild_names.proofs.RunLemmas.{nil_if}
 
 -- ---- their room
 

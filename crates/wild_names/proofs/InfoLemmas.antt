@@ -1,8 +1,6 @@
 -- What the header of a section tells by its parts, and that it is read in the image.
 use Rattle.std.proofs.Common.{◌≡◌, ℕ, zero, suc, ◌+◌, ◌*◌, ◌%◌, ◌^◌, ◌<◌, ◌≤◌, inl, inr, ◌==◌, Bool, true, false, if◌then◌else◌, List, [], ◌∷◌, length, get_or, Option, Some, None, refl, sym, ap, ◌∙◌, arith, subst}
-use Rattle.std.specs.Prelude.{drop}
 use Rattle.std.proofs.lemmas.Bool.{cases_Bool, eq-eqb, ne_eqb}
-use Rattle.std.proofs.lemmas.List.FromFn.{length-map-range_with_len}
 use Rattle.std.proofs.lemmas.Option.{same_Some}
 use Rattle.wild_words.specs.Words.{Stands}
 use Rattle.wild_words.specs.Record.{spell, FieldsAreRead}
@@ -15,13 +13,13 @@ use Rattle.wild_types.specs.declared.part.Role.{Role}
 use Rattle.wild_types.specs.declared.part.Role.TheVariants as role
 use Rattle.wild_types.specs.declared.section.Section.{Section}
 use Rattle.wild_types.specs.declared.layout.Layout.{Layout}
-use Rattle.wild_types.specs.Lookups.{image_size}
 use Rattle.wild_types.specs.Parts.{has_role, part_with}
 use Rattle.wild_headers.specs.Headers.{offset_of_role, section_of_role, size_of_role, null_header, local_symbols, told_of, info_at, section_header, headers_from, section_headers_of, section_header_bytes}
 use Rattle.wild_headers.specs.Laws.{SectionHeadersStand}
 use Rattle.wild_headers.proofs.HeaderLemmas.{length-section_header}
 use Rattle.wild_layout.specs.Geometry.{IsLaidOut}
-use Rattle.wild_layout.specs.Image.{bytes, pieces, padding, padding_byte}
+use Rattle.wild_layout.specs.Image.{bytes, pieces, padding}
+use Rattle.wild_layout.proofs.LayoutLemmas.{length-padding}
 
 -- ---- the part of a role
 
@@ -98,10 +96,6 @@ info_of l (s ∷ ss) (suc k) h some low =
     (rest.0, rest.1 ∙ ap (λ (n : ℕ). info_at (told_of l) n rest.0) z)
 
 -- ---- the image
-
-length-padding : (l : Layout) → length (padding l) ≡ image_size l
-unfolding padding
-length-padding l = length-map-range_with_len (padding_byte (drop 1 l.sections)) 0 (image_size l)
 
 headers_in_image : (l : Layout) → IsLaidOut l → 1 ≤ length (section_header_bytes l) → Stands (bytes l) (offset_of_role role.SectionHeaders l.parts) (section_header_bytes l)
 unfolding bytes

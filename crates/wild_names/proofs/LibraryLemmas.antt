@@ -2,10 +2,10 @@
 use Rattle.std.proofs.Common.{◌≡◌, ℕ, inl, inr, Bool, true, if◌then◌else◌, List, [], ◌∷◌, ◌++◌, filter, flat_map, refl, sym, ap, ◌∙◌, subst}
 use Rattle.std.proofs.lemmas.Bool.{cases_Bool}
 use Rattle.wild_words.specs.Words.{Stands}
+use Rattle.wild_words.proofs.RecordLemmas.{Stands-front}
 use Rattle.wild_records.specs.Abi.Dynamic.{dt_needed}
 use Rattle.wild_records.specs.declared.dynamic.DynamicEntry.{DynamicEntry}
 use Rattle.wild_types.specs.declared.part.Role.TheVariants as role
-use Rattle.wild_types.specs.declared.file.FileRole.{FileRole}
 use Rattle.wild_types.specs.declared.file.FileRole.TheVariants as file_role
 use Rattle.wild_types.specs.declared.file.File.{File}
 use Rattle.wild_types.specs.declared.file.Group.{Group}
@@ -14,12 +14,13 @@ use Rattle.wild_needs.specs.DynamicStrings.{behind_file, lead_strings, entry_nam
 use Rattle.wild_types.specs.FileRoles.{is_library}
 use Rattle.wild_types.specs.Kinds.{needs_dynamic}
 use Rattle.wild_types.specs.Lookups.{files_of}
+use Rattle.wild_types.proofs.FileLemmas.{library_role}
 use Rattle.wild_needs.specs.Versions.{version_names}
 use Rattle.wild_symbols.specs.Strings.{string, string_bytes}
 use Rattle.wild_layout.specs.TablePlaces.{table_bytes, all_needed}
 use Rattle.wild_layout.specs.Geometry.{IsLaidOut}
 use Rattle.wild_names.specs.Laws.{libraries}
-use Rattle.wild_names.proofs.BesideLemmas.{Belong, Stands-front}
+use Rattle.wild_names.proofs.BesideLemmas.{Belong}
 use Rattle.wild_names.proofs.RunLemmas.{strings_of, gathered, files_belong, groups_belong, strings_are_short}
 
 -- the entry names the library, and its name stands where the entry tells
@@ -31,10 +32,6 @@ pub record NamesLibrary (strings : List ℕ) (d : DynamicEntry) (f : File) : Typ
 -- the file, where it is a library
 abbrev library_of : File → List File
 library_of f = if is_library f.role then f ∷ [] else []
-
-library_role : (r : FileRole) → is_library r ≡ true → r ≡ file_role.Dynamic
-library_role file_role.Dynamic h = refl
-library_role r h = cc
 
 leads : (l : Layout) (f : File) → f.role ≡ file_role.Dynamic → lead_strings l f ≡ f.lib_name ∷ []
 leads l f h = rw h refl

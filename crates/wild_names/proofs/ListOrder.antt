@@ -14,7 +14,7 @@ use Rattle.wild_needs.specs.DynamicStrings.{undefined_symbols}
 use Rattle.wild_needs.specs.DynamicSymbols.{is_undefined_entry}
 use Rattle.wild_types.specs.FileRoles.{is_prelude, is_epilogue}
 use Rattle.wild_types.specs.Lookups.{files_of}
-use Rattle.wild_geometry.proofs.LastGroupLemmas.{same_bool}
+use Rattle.wild_types.proofs.FileLemmas.{same_bool}
 
 -- what files give, and what of it is their own; what stands in front of that of the first file, and behind that of the last one
 pub record InOrder (Y : Type 0) : Type 0 where

@@ -1,9 +1,10 @@
 -- What files and groups give, whose strings stand one behind the other.
-use Rattle.std.proofs.Common.{◌≡◌, ℕ, suc, ◌+◌, ◌^◌, ◌<◌, ◌≤◌, Bool, true, false, if◌then◌else◌, List, [], ◌∷◌, ◌++◌, length, take, Some, slice_get, flat_map, refl, sym, ap, ◌∙◌, arith, subst}
+use Rattle.std.proofs.Common.{◌≡◌, ℕ, suc, ◌+◌, ◌^◌, ◌<◌, ◌≤◌, true, List, [], ◌∷◌, ◌++◌, length, take, Some, slice_get, flat_map, refl, sym, ap, ◌∙◌, arith, subst}
 use Rattle.std.proofs.lemmas.List.{length-append, append-nil}
 use Rattle.wild_words.specs.Words.{Stands}
 use Rattle.wild_words.proofs.ListLemmas.{flat_map-same, flat_map-flat_map}
-use Rattle.wild_words.proofs.RecordLemmas.{Stands-whole}
+use Rattle.wild_words.proofs.RecordLemmas.{Stands-whole, Stands-front, Stands-behind}
+use Rattle.wild_words.proofs.Basics.{nil_if}
 use Rattle.wild_types.specs.declared.part.Role.{Role}
 use Rattle.wild_types.specs.declared.part.Role.TheVariants as role
 use Rattle.wild_types.specs.declared.file.File.{File}
@@ -20,7 +21,7 @@ use Rattle.wild_layout.specs.TablePlaces.{table_bytes}
 use Rattle.wild_layout.specs.Geometry.{IsLaidOut}
 use Rattle.wild_symbols.specs.Strings.{string_bytes}
 use Rattle.wild_symbols.proofs.StringLemmas.{length-string_bytes}
-use Rattle.wild_names.proofs.BesideLemmas.{Belong, belong-append, Stands-front, Stands-behind}
+use Rattle.wild_names.proofs.BesideLemmas.{Belong, belong-append}
 
 -- the bytes of a file's strings
 abbrev pub strings_of : Layout → File → List ℕ
@@ -39,20 +40,13 @@ pub files_belong : {E N : Type 0} (R : E → N → Type 0) (give : ℕ → File 
 files_belong R give have l whole small each at [] s = tt
 files_belong R give have l whole small each at (f ∷ fs) s =
     let long = length-string_bytes (file_strings l f) in
-    let later = Stands-behind whole (strings_of l f) (flat_map (strings_of l) fs) at s in
+    let later = Stands-behind whole (strings_of l f) (flat_map (strings_of l) fs) at (length (strings_of l f)) refl s in
     let ends = later.fits in
     let is : at + length (strings_of l f) ≡ behind_file l at f = omega arith in
     let rest = files_belong R give have l whole small each (behind_file l at f) fs (subst (λ (n : ℕ). Stands whole n (flat_map (strings_of l) fs)) is later) in
     belong-append R (give at f) (gathered give l (behind_file l at f) fs) (have f) (flat_map have fs) (each at f (Stands-front whole (strings_of l f) (flat_map (strings_of l) fs) at s)) rest
 
 -- ---- groups
-
-abbrev pub no_bytes : List ℕ
-no_bytes = []
-
-pub nil_if : (b : Bool) → (if b then no_bytes else no_bytes) ≡ []
-nil_if true = refl
-nil_if false = refl
 
 -- a group's strings are those of its files
 file_gives : (l : Layout) (f : File) → file_content l role.Dynstr f ≡ strings_of l f
@@ -69,7 +63,7 @@ pub groups_along : {E N : Type 0} (R : E → N → Type 0) (of : Group → List 
 groups_along R of have l r start whole each at [] starts s = tt
 groups_along R of have l r start whole each at (g ∷ gs) starts s =
     let here = Stands-front whole (content l r g) (flat_map (content l r) gs) at s in
-    let later = Stands-behind whole (content l r g) (flat_map (content l r) gs) at s in
+    let later = Stands-behind whole (content l r g) (flat_map (content l r) gs) at (length (content l r g)) refl s in
     let begins = starts 0 g refl in
     let is : at ≡ start g = omega arith in
     let own = each g (subst (λ (n : ℕ). Stands whole n (content l r g)) is here) in

@@ -5,7 +5,8 @@ use Rattle.std.proofs.lemmas.List.{append-nil, length-append}
 use Rattle.wild_words.specs.Words.{Stands}
 use Rattle.wild_words.specs.Record.{spell}
 use Rattle.wild_words.proofs.ListLemmas.{flat_map-same, flat_map-flat_map}
-use Rattle.wild_words.proofs.RecordLemmas.{Stands-whole}
+use Rattle.wild_words.proofs.RecordLemmas.{Stands-whole, Stands-front, Stands-behind}
+use Rattle.wild_words.proofs.Basics.{nil_if}
 use Rattle.wild_records.specs.SymtabEntry.{symtab_entry_fields}
 use Rattle.wild_records.specs.declared.symtab_entry.SymtabEntry.{SymtabEntry}
 use Rattle.wild_types.specs.declared.part.Role.TheVariants as role
@@ -19,6 +20,7 @@ use Rattle.wild_types.specs.Lists.{total}
 use Rattle.wild_needs.specs.Needs.{share, group_share}
 use Rattle.wild_types.specs.Parts.{role_place}
 use Rattle.wild_types.specs.Lookups.{has_table}
+use Rattle.wild_types.proofs.FileLemmas.{same_bool}
 use Rattle.wild_needs.specs.TableSymbols.{file_items, table_strings}
 use Rattle.wild_symbols.specs.DynamicEntries.{NamedFields, entry_at, no_fields}
 use Rattle.wild_symbols.specs.Strings.{string, string_bytes}
@@ -31,11 +33,10 @@ use Rattle.wild_layout.specs.Content.{file_content, content}
 use Rattle.wild_layout.specs.TablePlaces.{table_bytes}
 use Rattle.wild_layout.specs.Geometry.{IsLaidOut, TablesStand}
 use Rattle.wild_layout.specs.Image.{bytes}
-use Rattle.wild_geometry.proofs.LastGroupLemmas.{same_bool}
 use Rattle.wild_names.specs.Laws.{HasEntry, TableSymbolsStand, table_role, said, side_symbols}
-use Rattle.wild_names.proofs.BesideLemmas.{Belong, HasBeside, belong-length, belongs_at, Stands-front, Stands-behind}
+use Rattle.wild_names.proofs.BesideLemmas.{Belong, HasBeside, belong-length, belongs_at}
 use Rattle.wild_names.proofs.ImageLemmas.{entry_stands, named, none_joined, null_bytes}
-use Rattle.wild_names.proofs.RunLemmas.{groups_along, nil_if}
+use Rattle.wild_names.proofs.RunLemmas.{groups_along}
 use Rattle.wild_names.proofs.SymbolLemmas.{Tells}
 
 -- ---- one group
@@ -46,7 +47,7 @@ unfolding side_entries
 side_belongs local whole small at [] s = tt
 side_belongs local whole small at (n ∷ ns) s =
     let here = Stands-front whole (string n.name) (string_bytes (names_of ns)) at s in
-    let later = Stands-behind whole (string n.name) (string_bytes (names_of ns)) at s in
+    let later = Stands-behind whole (string n.name) (string_bytes (names_of ns)) at (length (string n.name)) refl s in
     let long = length-append n.name (0 ∷ []) in
     let ends = here.fits in
     let is : at + length (string n.name) ≡ behind_text at n.name = omega arith in

@@ -4,6 +4,7 @@ use Rattle.std.proofs.lemmas.Bool.{cases_Bool}
 use Rattle.std.proofs.lemmas.List.{length-append}
 use Rattle.std.proofs.lemmas.Grind.{flat_map-append}
 use Rattle.wild_words.specs.Words.{Stands}
+use Rattle.wild_words.proofs.RecordLemmas.{Stands-front, Stands-behind}
 use Rattle.wild_records.specs.declared.symtab_entry.SymtabEntry.{SymtabEntry}
 use Rattle.wild_types.specs.declared.part.Role.TheVariants as role
 use Rattle.wild_types.specs.declared.file.FileRole.{FileRole}
@@ -22,7 +23,7 @@ use Rattle.wild_symbols.proofs.StringLemmas.{length-string_bytes}
 use Rattle.wild_symbols.specs.DynamicEntries.{NamedFields, listed, undefined, file_symbols, entry_at, no_fields, entries_at, null_entries, behind_lead, file_entries, entries_from, group_symbols}
 use Rattle.wild_layout.specs.TablePlaces.{table_bytes}
 use Rattle.wild_layout.specs.Geometry.{IsLaidOut}
-use Rattle.wild_names.proofs.BesideLemmas.{Belong, belong-append, Stands-front, Stands-behind}
+use Rattle.wild_names.proofs.BesideLemmas.{Belong, belong-append}
 use Rattle.wild_names.proofs.RunLemmas.{strings_of, gathered, files_belong, groups_belong, strings_are_short}
 
 -- the entry says that of the symbol, and its name stands where the entry tells
@@ -44,7 +45,7 @@ unfolding entries_at
 entries_belong whole small at [] s = tt
 entries_belong whole small at (n ∷ ns) s =
     let here = Stands-front whole (string n.name) (string_bytes (names_of ns)) at s in
-    let later = Stands-behind whole (string n.name) (string_bytes (names_of ns)) at s in
+    let later = Stands-behind whole (string n.name) (string_bytes (names_of ns)) at (length (string n.name)) refl s in
     let long = length-append n.name (0 ∷ []) in
     let ends = here.fits in
     let is : at + length (string n.name) ≡ behind_text at n.name = omega arith in
@@ -99,7 +100,7 @@ file_belongs l whole small needs at f s =
     let cut = subst (λ (bs : List ℕ). Stands whole at bs) (strings_are l f needs) s in
     let names = string_bytes (names_of (file_symbols l f)) in
     let versions = string_bytes (version_names l f) in
-    let later = Stands-behind whole (string_bytes (lead_strings l f)) (names ++ versions) at cut in
+    let later = Stands-behind whole (string_bytes (lead_strings l f)) (names ++ versions) at (length (string_bytes (lead_strings l f))) refl cut in
     let long = length-string_bytes (lead_strings l f) in
     let ends = later.fits in
     let is : at + length (string_bytes (lead_strings l f)) ≡ behind_lead l at f = omega arith in

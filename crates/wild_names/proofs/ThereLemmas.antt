@@ -15,13 +15,13 @@ use Rattle.wild_needs.specs.DynamicStrings.{lead_strings, entry_names, file_stri
 use Rattle.wild_types.specs.FileRoles.{is_prelude, is_epilogue}
 use Rattle.wild_types.specs.Kinds.{needs_dynsym}
 use Rattle.wild_types.specs.Parts.{role_place, part_with}
+use Rattle.wild_types.proofs.FileLemmas.{same_bool}
 use Rattle.wild_needs.specs.Versions.{version_names}
 use Rattle.wild_symbols.specs.Strings.{string_bytes}
 use Rattle.wild_symbols.proofs.SymbolLemmas.{length-symbol_bytes}
 use Rattle.wild_layout.specs.Content.{content}
 use Rattle.wild_layout.specs.TablePlaces.{table_bytes}
 use Rattle.wild_layout.specs.Geometry.{IsLaidOut}
-use Rattle.wild_geometry.proofs.LastGroupLemmas.{same_bool}
 use Rattle.wild_names.specs.Laws.{SymbolTablesAreThere, table_symbols}
 use Rattle.wild_names.proofs.BesideLemmas.{Belong, belong-length}
 use Rattle.wild_names.proofs.ImageLemmas.{all_symbols, symbol_table}

@@ -1,14 +1,11 @@
 -- The versions that the output defines: the last file has their table, and their names stand behind those of its symbols.
-use Rattle.std.proofs.Common.{◌≡◌, ℕ, ◌^◌, ◌<◌, ◌≤◌, true, false, List, [], ◌∷◌, ◌++◌, length, Option, Some, None, flat_map, refl, sym, ap, ◌∙◌, arith, subst}
-use Rattle.std.specs.Prelude.{nat_le, ◌&&◌}
-use Rattle.std.proofs.lemmas.Bool.{and_parts, leb-true}
+use Rattle.std.proofs.Common.{◌≡◌, ℕ, ◌≤◌, true, false, List, [], ◌∷◌, ◌++◌, length, Option, Some, None, flat_map, refl, sym, ap, ◌∙◌, arith, subst}
 use Rattle.std.proofs.lemmas.List.{append-nil}
 use Rattle.std.proofs.lemmas.Option.{get_or_from_slice_get, slice_get_within}
 use Rattle.wild_words.specs.Words.{Stands}
 use Rattle.wild_words.proofs.ListLemmas.{flat_map-same, flat_map-flat_map}
+use Rattle.wild_words.proofs.Basics.{nil_if}
 use Rattle.wild_types.specs.declared.part.Role.TheVariants as role
-use Rattle.wild_types.specs.declared.file.FileRole.{FileRole}
-use Rattle.wild_types.specs.declared.file.FileRole.TheVariants as file_role
 use Rattle.wild_types.specs.declared.file.File.{File}
 use Rattle.wild_types.specs.declared.file.Group.{Group}
 use Rattle.wild_types.specs.declared.layout.Layout.{Layout}
@@ -17,7 +14,8 @@ use Rattle.wild_needs.specs.DynamicStrings.{string_start}
 use Rattle.wild_types.specs.FileRoles.{is_prelude, is_epilogue}
 use Rattle.wild_types.specs.Kinds.{needs_dynsym}
 use Rattle.wild_types.specs.Lookups.{files_of}
-use Rattle.wild_needs.specs.Versions.{versions_needed, most_versions, size_with, definitions_size, need_count}
+use Rattle.wild_types.proofs.FileLemmas.{last_role}
+use Rattle.wild_needs.specs.Versions.{size_with, definitions_size}
 use Rattle.wild_symbols.specs.Strings.{string}
 use Rattle.wild_versions.specs.Chain.{name_at}
 use Rattle.wild_versions.specs.Definitions.{known_as, definition_table}
@@ -27,18 +25,15 @@ use Rattle.wild_layout.specs.Content.{file_content, content}
 use Rattle.wild_layout.specs.Geometry.{IsLaidOut, TablesStand}
 use Rattle.wild_layout.specs.TablePlaces.{table_bytes}
 use Rattle.wild_layout.specs.Image.{bytes}
+use Rattle.wild_layout.proofs.LayoutLemmas.{definitions_fit}
 use Rattle.wild_names.specs.VersionLaws.{DefinitionsAreThere, DefinitionsStand}
 use Rattle.wild_names.proofs.ImageLemmas.{named, none_joined}
-use Rattle.wild_names.proofs.RunLemmas.{nil_if, strings_are_short}
+use Rattle.wild_names.proofs.RunLemmas.{strings_are_short}
 use Rattle.wild_names.proofs.VersionOffsets.{names_small}
 use Rattle.wild_names.proofs.ListOrder.{InOrder, all_in_order}
 use Rattle.wild_names.proofs.VersionStarts.{LastStands, last_stands}
 
 -- ---- the table
-
-last_role : (r : FileRole) → is_epilogue r ≡ true → r ≡ file_role.Epilogue
-last_role file_role.Epilogue h = refl
-last_role r h = cc
 
 -- the names of the versions stand at the same offsets, whichever file is the last
 same_offsets : (l : Layout) (e f : File) → is_epilogue e.role ≡ true → is_epilogue f.role ≡ true → definition_offsets l f ≡ definition_offsets l e
@@ -96,12 +91,6 @@ definitions_given l e laid needs h =
 
 -- ---- numbers
 
-few_definitions : (l : Layout) → IsLaidOut l → length l.verdefs < 2 ^ 16
-few_definitions l laid =
-    let a = and_parts (nat_le (length l.verdefs) most_versions) (nat_le (need_count l) most_versions && nat_le (versions_needed l) most_versions) laid.few_versions in
-    let b = leb-true _ _ a.0 in
-    omega arith
-
 some_bytes : (ds : List VersionDefinition) → 1 ≤ length ds → 1 ≤ definitions_size ds
 some_bytes [] h = absurd (omega arith)
 some_bytes (d ∷ ds) h = (let own = some_with d.parent in omega arith)
@@ -132,7 +121,7 @@ definitions_stand stand lengths read names_stand l laid needs table strings foun
           names = names;
           some = some;
           whole = omega arith;
-          found = λ n enough. read (bytes l) names l.options.soname l.verdefs table.offset n (names_small l e.file) (few_definitions l laid) some enough here;
+          found = λ n enough. read (bytes l) names l.options.soname l.verdefs table.offset n (names_small l e.file) (definitions_fit l laid) some enough here;
           parents = hold.parents;
           named = λ k d h.
               let low = slice_get_within l.verdefs k d h in

@@ -11,12 +11,12 @@ use Rattle.wild_types.specs.declared.layout.Layout.{Layout}
 use Rattle.wild_needs.specs.DynamicStrings.{behind_file}
 use Rattle.wild_types.specs.Lists.{through}
 use Rattle.wild_types.specs.Lookups.{files_of}
+use Rattle.wild_types.proofs.FileLemmas.{same_bool}
 use Rattle.wild_needs.specs.Versions.{needs_of, has_needs, need_count}
 use Rattle.wild_clauses.specs.VersionTables.{mark_fits, mark_by, mark_step, needs_in, mark_astray}
 use Rattle.wild_versions.specs.Laws.{Need, EndsOnce}
 use Rattle.wild_versions.specs.Names.{library_offset, need_offsets}
 use Rattle.wild_layout.specs.Geometry.{IsLaidOut}
-use Rattle.wild_geometry.proofs.LastGroupLemmas.{same_bool}
 use Rattle.wild_names.proofs.RunLemmas.{gathered}
 
 -- ---- records

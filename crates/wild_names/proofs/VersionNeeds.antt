@@ -5,6 +5,7 @@ use Rattle.std.proofs.lemmas.List.{append-nil}
 use Rattle.std.proofs.lemmas.Grind.{flat_map-append}
 use Rattle.wild_words.specs.Words.{Stands}
 use Rattle.wild_words.proofs.ListLemmas.{flat_map-same, flat_map-flat_map}
+use Rattle.wild_words.proofs.Basics.{nil_if}
 use Rattle.wild_types.specs.declared.part.Role.TheVariants as role
 use Rattle.wild_types.specs.declared.file.File.{File}
 use Rattle.wild_types.specs.declared.file.Group.{Group}
@@ -26,7 +27,7 @@ use Rattle.wild_layout.specs.TablePlaces.{table_bytes}
 use Rattle.wild_names.specs.VersionLaws.{LibraryNeeds, needed_by, with_needs}
 use Rattle.wild_names.proofs.BesideLemmas.{Belong}
 use Rattle.wild_names.proofs.ImageLemmas.{none_joined}
-use Rattle.wild_names.proofs.RunLemmas.{strings_of, gathered, files_belong, groups_belong, strings_are_short, nil_if}
+use Rattle.wild_names.proofs.RunLemmas.{strings_of, gathered, files_belong, groups_belong, strings_are_short}
 use Rattle.wild_names.proofs.VersionOffsets.{offsets_small}
 use Rattle.wild_names.proofs.VersionMarks.{record_by, record_of, group_records, all_records}
 

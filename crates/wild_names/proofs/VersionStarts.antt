@@ -1,10 +1,10 @@
 -- The strings of the last file stand where the layout's last group tells.
-use Rattle.std.proofs.Common.{◌≡◌, ℕ, zero, suc, ◌+◌, ◌-◌, ◌^◌, ◌<◌, inl, inr, true, List, [], ◌∷◌, length, take, get_or, Option, Some, slice_get, flat_map, sym, ◌∙◌, arith, subst}
+use Rattle.std.proofs.Common.{◌≡◌, ℕ, zero, suc, ◌+◌, ◌-◌, ◌^◌, ◌<◌, inl, inr, true, List, [], ◌∷◌, length, take, get_or, Option, Some, slice_get, flat_map, sym, ◌∙◌, arith, subst, refl}
 use Rattle.std.specs.List.{list_any}
 use Rattle.std.proofs.lemmas.Bool.{cases_Bool, eq-eqb}
 use Rattle.std.proofs.lemmas.Option.{same_Some, slice_get_cases}
 use Rattle.wild_words.specs.Words.{Stands}
-use Rattle.wild_words.proofs.RecordLemmas.{Stands-whole}
+use Rattle.wild_words.proofs.RecordLemmas.{Stands-whole, Stands-front, Stands-behind}
 use Rattle.wild_types.specs.declared.part.Role.{Role}
 use Rattle.wild_types.specs.declared.part.Role.TheVariants as role
 use Rattle.wild_types.specs.declared.file.File.{File}
@@ -19,7 +19,6 @@ use Rattle.wild_layout.specs.Content.{content}
 use Rattle.wild_layout.specs.Geometry.{IsLaidOut}
 use Rattle.wild_layout.specs.TablePlaces.{table_bytes, bytes_before}
 use Rattle.wild_geometry.proofs.LastGroupLemmas.{has_last, has_last-group}
-use Rattle.wild_names.proofs.BesideLemmas.{Stands-front, Stands-behind}
 use Rattle.wild_names.proofs.RunLemmas.{strings_of, group_gives, strings_are_short}
 
 -- the last file, whose strings stand from an offset on
@@ -37,7 +36,7 @@ group_stands l r whole at (x ∷ gs) zero g h s =
     subst (λ (y : Group). Stands whole (at + 0) (content l r y)) (same_Some x g h) (subst (λ (n : ℕ). Stands whole n (content l r x)) z here)
 group_stands l r whole at (x ∷ gs) (suc j) g h s =
     let before = λ (y : Group). length (content l r y) in
-    let later = Stands-behind whole (content l r x) (flat_map (content l r) gs) at s in
+    let later = Stands-behind whole (content l r x) (flat_map (content l r) gs) at (length (content l r x)) refl s in
     let z : at + before x + total before (take j gs) ≡ at + total before (take (suc j) (x ∷ gs)) = omega arith in
     subst (λ (n : ℕ). Stands whole n (content l r g)) z (group_stands l r whole (at + before x) gs j g h later)
 
@@ -47,7 +46,7 @@ file_stands l whole small at [] h s = cc
 file_stands l whole small at (f ∷ fs) h s =
     let long = length-string_bytes (file_strings l f) in
     let here = Stands-front whole (strings_of l f) (flat_map (strings_of l) fs) at s in
-    let later = Stands-behind whole (strings_of l f) (flat_map (strings_of l) fs) at s in
+    let later = Stands-behind whole (strings_of l f) (flat_map (strings_of l) fs) at (length (strings_of l f)) refl s in
     let ends = later.fits in
     let is : at + length (strings_of l f) ≡ behind_file l at f = omega arith in
     elim (cases_Bool (is_epilogue f.role)) [

@@ -2,6 +2,7 @@
 use Rattle.std.proofs.Common.{◌≡◌, ℕ, true, List, [], ◌∷◌, map, flat_map, refl, sym, ap, ◌∙◌}
 use Rattle.std.proofs.lemmas.List.{append-nil}
 use Rattle.wild_words.proofs.ListLemmas.{flat_map-same, flat_map-flat_map}
+use Rattle.wild_words.proofs.Basics.{nil_if}
 use Rattle.wild_types.specs.declared.part.Role.TheVariants as role
 use Rattle.wild_types.specs.declared.file.File.{File}
 use Rattle.wild_types.specs.declared.file.Group.{Group}
@@ -16,7 +17,6 @@ use Rattle.wild_layout.specs.Content.{file_content, content}
 use Rattle.wild_layout.specs.Geometry.{IsLaidOut}
 use Rattle.wild_layout.specs.TablePlaces.{table_bytes}
 use Rattle.wild_names.specs.VersionLaws.{table_versions}
-use Rattle.wild_names.proofs.RunLemmas.{nil_if}
 use Rattle.wild_names.proofs.ListOrder.{InOrder, all_in_order, last_defines_none}
 
 -- ---- one file

@@ -1,8 +1,9 @@
 -- How many entries there are, and their ranges.
-use Rattle.std.proofs.Common.{◌<◌, ◌^◌, Bool, true, false, IfSome, ◌≡◌, ℕ, ◌+◌, List, [], ◌∷◌, ◌++◌, length, map, if◌then◌else◌, is_some, Option, Some, None, refl, arith}
+use Rattle.std.proofs.Common.{◌<◌, ◌^◌, Bool, true, false, IfSome, ◌≡◌, ℕ, ◌+◌, List, [], ◌∷◌, ◌++◌, length, map, if◌then◌else◌, is_some, Option, Some, None, refl, arith, inl, inr}
 use Rattle.std.specs.Prelude.{All, flat_map}
 use Rattle.std.proofs.lemmas.List.Elements.{All-nil, All-cons, All-head, All-tail, All-append}
 use Rattle.std.proofs.lemmas.List.{length-append}
+use Rattle.std.proofs.lemmas.Bool.{cases_Bool}
 use Rattle.wild_records.specs.Abi.Dynamic.{dt_soname, dt_runpath, dt_rpath}
 use Rattle.wild_records.specs.Dynamic.{DynamicEntryFits}
 use Rattle.wild_records.specs.declared.dynamic.DynamicEntry.{DynamicEntry}
@@ -10,8 +11,12 @@ use Rattle.wild_needs.specs.declared.dynamic.DynamicTag.{DynamicTag}
 use Rattle.wild_types.specs.declared.options.Options.{Options}
 use Rattle.wild_types.specs.declared.layout.Layout.{Layout}
 use Rattle.wild_types.specs.Kinds.{needs_dynamic}
+use Rattle.wild_types.specs.declared.file.File.{File}
+use Rattle.wild_types.specs.FileRoles.{is_library}
+use Rattle.wild_types.specs.Lists.{total}
+use Rattle.wild_types.specs.declared.file.Group.{Group}
 use Rattle.wild_needs.specs.Dynamic.{TagFits, all_tags, entry_of, entry_with, tag_entries, dynamic_entries, dynamic_count}
-use Rattle.wild_needs.specs.DynamicStrings.{NamedString, string_start, behind_text, string_entries, named_strings, named, auxiliary_string, path_number, option_strings}
+use Rattle.wild_needs.specs.DynamicStrings.{NamedString, string_start, behind_text, string_entries, named_strings, named, auxiliary_string, path_number, option_strings, needed_of, behind_file, needed_from, needed_count, needed_entries}
 
 -- an entry is one where it has a value
 pub length_entry : (number : ℕ) (value : Option ℕ) (rest : List DynamicEntry) → length (entry_with number value ++ rest) ≡ (if is_some value then 1 else 0) + length rest
@@ -88,3 +93,36 @@ tags_fit l f h = rw h (each_fits l all_tags f)
 pub length_all_tags : length all_tags ≡ 36
 unfolding all_tags
 length_all_tags = refl
+
+-- a file has as many entries wherever its strings stand
+pub needed_length : (at : ℕ) (f : File) → length (needed_of at f) ≡ length (needed_of 0 f)
+needed_length at f =
+    elim (cases_Bool (is_library f.role)) [
+      | inl t ↦ rw t refl
+      | inr n ↦ rw n refl
+    ]
+
+-- those of the libraries of a group are as many as are counted
+pub needed_files : (l : Layout) (at : ℕ) (fs : List File) → needs_dynamic l.kind ≡ true → length (needed_from l at fs) ≡ total (needed_count l) fs
+needed_files l at [] needs = refl
+needed_files l at (f ∷ fs) needs =
+    let a = length-append (needed_of at f) (needed_from l (behind_file l at f) fs) in
+    let b = needed_length at f in
+    let c = needed_files l (behind_file l at f) fs needs in
+    let d : needed_count l f ≡ length (needed_of 0 f) = rw needs refl in
+    omega arith
+
+pub length_needed_entries : (l : Layout) (g : Group) → length (needed_entries l g) ≡ total (needed_count l) g.files
+unfolding needed_entries
+length_needed_entries l g =
+    elim (cases_Bool (needs_dynamic l.kind)) [
+      | inl t ↦ rw t (needed_files l g.dynstr_start g.files t)
+      | inr n ↦ rw n (let e = none l g.files n in omega arith)
+    ]
+  where
+    none : (l : Layout) (fs : List File) → needs_dynamic l.kind ≡ false → total (needed_count l) fs ≡ 0
+    none l [] h = refl
+    none l (f ∷ fs) h =
+        let a = none l fs h in
+        let b : needed_count l f ≡ 0 = rw h refl in
+        omega arith

@@ -22,7 +22,7 @@ use Rattle.wild_types.specs.declared.layout.Layout.{Layout}
 use Rattle.wild_slot.specs.declared.treatment.Treatment.{Treatment}
 use Rattle.wild_slot.specs.declared.treatment.Treatment.TheVariants.{Value, BaseRelative, Symbolic, Indirect, Extent, Recompile}
 use Rattle.wild_needs.specs.Entries.{is_left_to_entry, may_be_left, may_have_entry}
-use Rattle.wild_types.specs.Lookups.{allocated, writable}
+use Rattle.wild_types.specs.Lookups.{allocated, writable, canonical}
 use Rattle.wild_types.specs.Rows.{row_of}
 use Rattle.wild_types.specs.Flags.{has_flag, interposable, dynamic, ifunc}
 use Rattle.wild_types.specs.Kinds.{is_position_independent, is_shared_object}
@@ -58,13 +58,13 @@ there_keeps false t row h = refl
 
 kind_keeps : (l : Layout) (s : InputSection) (o : Option ℕ) (row : RelocationKindInfo) (k : RelocationKind) → allocated s.flags ≡ false → is_left_to_entry (kind_treatment l s o row k) ≡ false
 kind_keeps l s None row kinds.Absolute h = refl
-kind_keeps l s (Some i) row kinds.Absolute h = there_keeps (nat_lt i (length l.symbols)) (address_treatment l s row i) row (rw h refl)
+kind_keeps l s (Some i) row kinds.Absolute h = there_keeps (nat_lt (canonical l i) (length l.symbols)) (address_treatment l s row i) row (rw h refl)
 kind_keeps l s None row kinds.Relative h = rw h refl
 kind_keeps l s (Some i) row kinds.Relative h = rw h refl
 kind_keeps l s None row kinds.TpOff h = refl
 kind_keeps l s (Some i) row kinds.TpOff h = rw h refl
 kind_keeps l s None row kinds.SymbolSize h = refl
-kind_keeps l s (Some i) row kinds.SymbolSize h = there_keeps (nat_lt i (length l.symbols)) (size_treatment l s row i) row (rw h refl)
+kind_keeps l s (Some i) row kinds.SymbolSize h = there_keeps (nat_lt (canonical l i) (length l.symbols)) (size_treatment l s row i) row (rw h refl)
 kind_keeps l s None row other h = refl
 kind_keeps l s (Some i) row other h = refl
 
@@ -121,7 +121,7 @@ kind_stays : (l : Layout) (s : InputSection) (o : Option ℕ) (row : RelocationK
 kind_stays l s None row kinds.Absolute n h m = refl
 kind_stays l s (Some i) row kinds.Absolute n h m =
     let stays = number_known (writable s.flags) (n == r_x86_64_size32) (n == r_x86_64_size64) (field_width row == 8) (n == r_x86_64_64) h m in
-    there_keeps (nat_lt i (length l.symbols)) (address_treatment l s row i) row (address_stays (is_barred l s row i || is_narrow l s row) (allocated s.flags) (writable s.flags) (field_width row == 8) (interposable (flags_at l i)) (is_position_independent l.kind) (has_flag (flags_at l i) ifunc) (moves l i) row i stays)
+    there_keeps (nat_lt (canonical l i) (length l.symbols)) (address_treatment l s row i) row (address_stays (is_barred l s row i || is_narrow l s row) (allocated s.flags) (writable s.flags) (field_width row == 8) (interposable (flags_at l i)) (is_position_independent l.kind) (has_flag (flags_at l i) ifunc) (moves l i) row i stays)
 kind_stays l s None row kinds.Relative n h m = refused_stays (allocated s.flags && is_position_independent l.kind) row
 kind_stays l s (Some i) row kinds.Relative n h m = refused_stays (is_barred l s row i) row
 kind_stays l s None row kinds.TpOff n h m = refl
@@ -179,14 +179,14 @@ plain_size true false other ifunc row i h = refl
 kind_plain : (l : Layout) (s : InputSection) (o : Option ℕ) (row : RelocationKindInfo) (k : RelocationKind) → may_have_entry l o ≡ false → is_left_to_entry (kind_treatment l s o row k) ≡ false
 kind_plain l s None row kinds.Absolute h = refl
 kind_plain l s (Some i) row kinds.Absolute h =
-    there_keeps (nat_lt i (length l.symbols)) (address_treatment l s row i) row (plain_address (is_barred l s row i || is_narrow l s row) (allocated s.flags) (writable s.flags) (field_width row == 8) (interposable (flags_at l i)) (is_position_independent l.kind) (has_flag (flags_at l i) ifunc) (moves l i) row i h)
+    there_keeps (nat_lt (canonical l i) (length l.symbols)) (address_treatment l s row i) row (plain_address (is_barred l s row i || is_narrow l s row) (allocated s.flags) (writable s.flags) (field_width row == 8) (interposable (flags_at l i)) (is_position_independent l.kind) (has_flag (flags_at l i) ifunc) (moves l i) row i h)
 kind_plain l s None row kinds.Relative h = refused_stays (allocated s.flags && is_position_independent l.kind) row
 kind_plain l s (Some i) row kinds.Relative h = refused_stays (is_barred l s row i) row
 kind_plain l s None row kinds.TpOff h = refl
 kind_plain l s (Some i) row kinds.TpOff h = refused_stays (allocated s.flags && is_shared_object l.kind) row
 kind_plain l s None row kinds.SymbolSize h = refl
 kind_plain l s (Some i) row kinds.SymbolSize h =
-    there_keeps (nat_lt i (length l.symbols)) (size_treatment l s row i) row (plain_size (allocated s.flags) (interposable (flags_at l i)) (has_flag (flags_at l i) dynamic || is_shared_object l.kind) (has_flag (flags_at l i) ifunc) row i h)
+    there_keeps (nat_lt (canonical l i) (length l.symbols)) (size_treatment l s row i) row (plain_size (allocated s.flags) (interposable (flags_at l i)) (has_flag (flags_at l i) dynamic || is_shared_object l.kind) (has_flag (flags_at l i) ifunc) row i h)
 kind_plain l s None row other h = refl
 kind_plain l s (Some i) row other h = refl
 

@@ -15,9 +15,6 @@ use Rattle.wild_needs.specs.Dynamic.{tag_entries, dynamic_entries, dynamic_count
 use Rattle.wild_needs.specs.DynamicStrings.{named_strings, string_entries, file_strings, strings_room, needed_count}
 use Rattle.wild_needs.specs.Entries.{listed_place, packed_place, moved_of, listed_places, packed_places, words_of, entry_count, word_count, general_count}
 use Rattle.wild_types.specs.Kinds.{is_position_independent, needs_dynamic}
-use Rattle.wild_types.specs.declared.kind.OutputKind.{OutputKind}
-use Rattle.wild_types.specs.declared.kind.OutputKind.TheVariants.{StaticExecutable, DynamicExecutable, SharedObject, PartialObject}
-use Rattle.wild_types.specs.declared.kind.RelocationModel.TheVariants.{NonRelocatable, Relocatable}
 use Rattle.wild_types.specs.Lists.{total}
 use Rattle.wild_types.specs.Lookups.{has_table}
 use Rattle.wild_needs.specs.TableSymbols.{has_long, file_items, local_count, global_count, table_strings}
@@ -25,27 +22,25 @@ use Rattle.wild_needs.specs.Needs.{whole_of, long_room, own_of, share, group_sha
 use Rattle.wild_types.specs.FileRoles.{is_prelude, is_epilogue}
 use Rattle.wild_types.specs.SymbolSlots.{is_without}
 use Rattle.wild_types.specs.FileSymbols.{own_symbols}
+use Rattle.wild_types.proofs.LookupLemmas.{plain_still}
+use Rattle.wild_types.proofs.ListLemmas.{total-none}
 use Rattle.wild_needs.specs.SlotShares.{is_of_slots, header_share, block_places, group_block, block_share}
 use Rattle.wild_needs.proofs.EntryLemmas.{packed_none}
 use Rattle.wild_needs.proofs.SlotBlockLemmas.{places_without}
 use Rattle.wild_needs.proofs.SlotShareLemmas.{slots_plain, others_share}
 
-total_none : {X : Type 0} (f : X → ℕ) (xs : List X) → ((x : X) → f x ≡ 0) → total f xs ≡ 0
-total_none f [] h = refl
-total_none f (x ∷ xs) h = let a = h x in let b = total_none f xs h in omega (arith, a, b)
-
 -- ---- an output that does not move has no entries and no words
 
-no_moved : {X : Type 0} (l : Layout) (s : InputSection) (f : InputRelocation → Option X) → is_position_independent l.kind ≡ false → moved_of l s f ≡ []
+pub no_moved : {X : Type 0} (l : Layout) (s : InputSection) (f : InputRelocation → Option X) → is_position_independent l.kind ≡ false → moved_of l s f ≡ []
 no_moved l s f h = rw h refl
 
 no_entries : (l : Layout) (f : File) → is_position_independent l.kind ≡ false → entry_count l f ≡ 0
 unfolding listed_places
-no_entries l f h = total_none (λ (s : InputSection). length (listed_places l s)) f.sections (λ s. ap length (no_moved l s (listed_place l s) h))
+no_entries l f h = total-none (λ (s : InputSection). length (listed_places l s)) f.sections (λ s. ap length (no_moved l s (listed_place l s) h))
 
 no_words : (l : Layout) (f : File) → is_position_independent l.kind ≡ false → word_count l f ≡ 0
 unfolding packed_places
-no_words l f h = total_none (λ (s : InputSection). length (words_of l s)) f.sections (λ s. ap (λ (ps : List ℕ). length (packed ps)) (no_moved l s (packed_place l s) h) ∙ ap length packed_none)
+no_words l f h = total-none (λ (s : InputSection). length (words_of l s)) f.sections (λ s. ap (λ (ps : List ℕ). length (packed ps)) (no_moved l s (packed_place l s) h) ∙ ap length packed_none)
 
 -- ---- one without dynamic linking has no dynamic section
 
@@ -56,14 +51,6 @@ no_strings l f h = rw h refl
 no_dynamic : (l : Layout) → needs_dynamic l.kind ≡ false → dynamic_count l ≡ 0
 unfolding dynamic_entries named_strings tag_entries string_entries
 no_dynamic l h = rw h refl
-
--- it does not move
-is_fixed : (k : OutputKind) → needs_dynamic k ≡ false → is_position_independent k ≡ false
-is_fixed (StaticExecutable Relocatable) h = cc
-is_fixed (StaticExecutable NonRelocatable) h = refl
-is_fixed (DynamicExecutable model) h = cc
-is_fixed SharedObject h = cc
-is_fixed PartialObject h = refl
 
 -- ---- one without a table of all symbols has no entries there
 
@@ -97,9 +84,9 @@ general_of l other f = 0
 
 -- without these an output without a dynamic section and a table of all symbols has nothing of its own
 own_none : (l : Layout) (r : Role) (f : File) → needs_dynamic l.kind ≡ false → has_table l ≡ false → general_of l r f ≡ 0 → own_of l r f ≡ 0
-own_none l role.RelaDynRelative f d t g = let e = no_entries l f (is_fixed l.kind d) in rw e refl
+own_none l role.RelaDynRelative f d t g = let e = no_entries l f (plain_still l.kind d) in rw e refl
 own_none l role.RelaDynGeneral f d t g = rw g refl
-own_none l role.RelrDyn f d t g = let e = no_words l f (is_fixed l.kind d) in rw e refl
+own_none l role.RelrDyn f d t g = let e = no_words l f (plain_still l.kind d) in rw e refl
 own_none l role.Dynsym f d t g = rw d refl
 own_none l role.Dynstr f d t g = no_strings l f d
 own_none l role.GnuVersion f d t g =
@@ -152,7 +139,7 @@ share_none l r f d t s w =
 pub no_share : (l : Layout) (r : Role) (n : ℕ) → n ≡ min (2 ^ 64 - 1) (whole_of l r) → needs_dynamic l.kind ≡ false → has_table l ≡ false → is_of_slots r ≡ false → n ≡ 0 → total_share l r ≡ 0
 no_share l r n is d t s none =
     let w : whole_of l r ≡ 0 = least (whole_of l r) n is none in
-    total_none (group_share l r) l.groups (λ g. let files = total_none (share l r) g.files (λ f. share_none l r f d t s w) in let block = no_block l r g s in rw (files, block) refl)
+    total-none (group_share l r) l.groups (λ g. let files = total-none (share l r) g.files (λ f. share_none l r f d t s w) in let block = no_block l r g s in rw (files, block) refl)
   where
     least : (k n : ℕ) → n ≡ min (2 ^ 64 - 1) k → n ≡ 0 → k ≡ 0
     least k n e z = omega (arith, e, z)

@@ -109,7 +109,7 @@ thread_apart s r =
     (where_apart _ (descriptor_item s r ∷ number 0 ∷ []) (two_apart (descriptor_item s r) (number 0) (descriptor_apart s r r.dynamic_symbol_index) refl)))
 
 -- all that stands behind the address
-abbrev behind_plain : Setting → Option ℕ → Resolution → List SlotItem
+abbrev pub behind_plain : Setting → Option ℕ → Resolution → List SlotItem
 behind_plain s far r = stub_items far r.plt_address ++ (ifunc_address_items s r ++ canonical_address_items s r)
 
 behind_apart : (s : Setting) (far : Option ℕ) (r : Resolution) → items_apart (behind_plain s far r) ≡ true

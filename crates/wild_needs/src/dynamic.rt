@@ -341,8 +341,8 @@ pub fn dynamic_entry(layout: &Layout, tag: DynamicTag) -> Option<u64>
             Relr::SIZE as u64,
             part_with(Role::RelrDyn, layout.parts.as_slice()),
         ),
-        DynamicTag::SysvHash => part_address(part_with(Role::SysvHash, layout.parts.as_slice())),
-        DynamicTag::GnuHash => part_address(part_with(Role::GnuHash, layout.parts.as_slice())),
+        DynamicTag::SysvHash => part_address(filled_part(layout, Role::SysvHash)),
+        DynamicTag::GnuHash => part_address(filled_part(layout, Role::GnuHash)),
         DynamicTag::SymbolVersions => {
             part_address(part_with(Role::GnuVersion, layout.parts.as_slice()))
         }

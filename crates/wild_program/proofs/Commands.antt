@@ -1,8 +1,7 @@
 -- The words of one command are not those of another.
-use Rattle.std.proofs.Common.{◌≡◌, ℕ, ◌^◌, ◌<◌, List, [], ◌∷◌, length, sym, ap, ◌∙◌, subst, inr, arith, String, Global, decimal}
+use Rattle.std.proofs.Common.{◌≡◌, ℕ, List, [], ◌∷◌, length, sym, ap, ◌∙◌, subst, inr, arith, String, Global, decimal}
 use Rattle.std.specs.Prelude.{codes}
-use Rattle.std.proofs.lemmas.Fmt.{decimal_is_IsNumeral}
-use Rattle.std.specs.Str.Parse.{digits_value}
+use Rattle.std.proofs.lemmas.Fmt.{decimal_injective}
 use Rattle.wild_program.specs.Exit as exit
 use Rattle.wild_program.specs.Program.{IsLinked, IsMake, Answer, usage, read_fault, too_long, of_plan, of_make, status, text, made_text, Turn, Told, IsDue, IsUntouched, IsSaid}
 use Rattle.wild_program.specs.Clauses.{IsMadeBy}
@@ -15,17 +14,13 @@ two_commands words n l m = absurd (clash (ap length l.1.0) (ap length m.1.0))
     clash : {k : ℕ} → k ≡ 2 → k ≡ 3 → ⊥
     clash a b = omega arith
 
--- a number is told by its text
-decimal_same : (m n : ℕ) → m < 2 ^ 64 → n < 2 ^ 64 → decimal m ≡ decimal n → m ≡ n
-decimal_same m n a b e = sym (decimal_is_IsNumeral m a).1 ∙ ap (digits_value 10) e ∙ (decimal_is_IsNumeral n b).1
-
 one_make : (words : List (String Global)) (m n v w : ℕ) → IsMake words m v → IsMake words n w → m ≡ n
 one_make words m n v w h k =
     let same : codes "make" ∷ decimal m ∷ decimal v ∷ [] ≡ codes "make" ∷ decimal n ∷ decimal w ∷ [] = sym h.0 ∙ k.0 in
     let e : decimal m ≡ decimal n = cc in
     let a = h.2 in
     let b = k.2 in
-    decimal_same m n (omega arith) (omega arith) e
+    decimal_injective m n (omega arith) (omega arith) e
 
 of_answer : (words : List (String Global)) (t : Turn) (u : Told) (said : ℕ) (a : Answer) → IsDue words t a → IsSaid u (status a) (text a) said → (n w : ℕ) → IsMake words n w → IsUntouched t × IsSaid u exit.linked (made_text n) said
 of_answer words t u said usage due h n w m = absurd (due.0 (inr (n, w, m)))

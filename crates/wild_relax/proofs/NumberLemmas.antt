@@ -2,12 +2,12 @@
 use Rattle.std.proofs.Common.{◌≡◌, ℕ, Bool, true, false, List, [], ◌∷◌, refl, sym, ap, ◌∙◌}
 use Rattle.std.specs.Prelude.{Option, Some, cond, ◌&&◌, ◌==◌}
 use Rattle.std.specs.List.{filter}
+use Rattle.std.proofs.lemmas.Bool.{and_parts}
 use Rattle.wild_relax.specs.declared.row.Row.{Row}
 use Rattle.wild_relax.specs.Question.{Question, relocation_of}
 use Rattle.wild_relax.specs.First.{first_standing}
 use Rattle.wild_relax.specs.Rows.{rows_x86_64, number_of, applies, standing_x86_64}
 use Rattle.wild_relax.specs.ByNumber.{rows_with}
-use Rattle.wild_relax.proofs.ShapeLemmas.{parts}
 
 -- a row that does not pass the test does not stand
 kept_or_not : {R : Type 0} (stands p : R → Bool) (r : R) (rs : List R) (s t : Bool) → stands r ≡ s → p r ≡ t → (s ≡ true → t ≡ true) → first_standing stands (filter p rs) ≡ first_standing stands rs
@@ -25,12 +25,12 @@ first_of_kept stands p (r ∷ rs) passes = kept_or_not stands p r rs (stands r) 
 of_its_number : (q : Question) (row : Row) → applies q row ≡ true → ((relocation_of q).number == number_of row) ≡ true
 unfolding applies
 of_its_number q row h =
-    let addend = parts _ _ (parts _ _ h).0 in
-    let value = parts _ _ addend.0 in
-    let thread = parts _ _ value.0 in
-    let symbol = parts _ _ thread.0 in
-    let section = parts _ _ symbol.0 in
-    (parts _ _ section.0).0
+    let addend = and_parts _ _ (and_parts _ _ h).0 in
+    let value = and_parts _ _ addend.0 in
+    let thread = and_parts _ _ value.0 in
+    let symbol = and_parts _ _ thread.0 in
+    let section = and_parts _ _ symbol.0 in
+    (and_parts _ _ section.0).0
 
 pub standing_is : (q : Question) → first_standing (applies q) (rows_with (relocation_of q).number) ≡ standing_x86_64 q
 unfolding rows_with standing_x86_64

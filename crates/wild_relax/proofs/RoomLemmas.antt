@@ -1,8 +1,9 @@
 -- A rewrite that stands has room.
-use Rattle.std.proofs.Common.{◌≡◌, ℕ, ◌+◌, Bool, true, false, List, [], ◌∷◌, length, refl, ap, arith, subst, ⊎_elim, inl, inr}
-use Rattle.std.specs.Prelude.{Option, Some, None, Result, Ok, Err, ◌&&◌, ◌||◌, ◌⊎◌, not, cond, nat_le}
+use Rattle.std.proofs.Common.{◌≡◌, ℕ, ◌+◌, Bool, true, false, List, [], ◌∷◌, length, refl, ap, arith, subst, ⊎_elim}
+use Rattle.std.specs.Prelude.{Option, Some, None, Result, Ok, Err, ◌&&◌, ◌||◌, not, cond, nat_le}
 use Rattle.std.specs.List.{list_all}
 use Rattle.std.proofs.lemmas.Bool.Decides.{nat_tests}
+use Rattle.std.proofs.lemmas.Bool.{and_parts, or_cases, eqb-true}
 use Rattle.wild_relax.specs.declared.reference.UnknownSequence.{UnknownSequence}
 use Rattle.wild_relax.specs.declared.pattern.Pattern.{Pattern}
 use Rattle.wild_relax.specs.declared.row.Row.{Row}
@@ -10,8 +11,8 @@ use Rattle.wild_relax.specs.Question.{Question, relocation_of}
 use Rattle.wild_relax.specs.Pattern.{cells_of, field_of, stands_before, stands_at}
 use Rattle.wild_relax.specs.First.{first_standing, checked}
 use Rattle.wild_relax.specs.RowPatterns.{always_pattern, needed_pattern}
-use Rattle.wild_relax.specs.RowSequences.{has_its_sequence}
-use Rattle.wild_relax.specs.Rows.{rows_x86_64, stands_anywhere, applies, unknown_sequence, standing_x86_64, chosen_x86_64}
+use Rattle.wild_relax.specs.RowSequences.{has_its_sequence, has_partner}
+use Rattle.wild_relax.specs.Rows.{rows_x86_64, stands_anywhere, applies, unknown_sequence, standing_x86_64, chosen_x86_64, number_of}
 use Rattle.wild_relax.specs.Rewrite.{Rewrite, HasRoom}
 use Rattle.wild_relax.specs.RewriteX86_64.{rewrite_of}
 
@@ -19,10 +20,6 @@ use Rattle.wild_relax.specs.RewriteX86_64.{rewrite_of}
 pub record IsFirst {R : Type 0} (stands p : R → Bool) (r : R) : Type 0 where
   pub here : stands r ≡ true
   pub listed : p r ≡ true
-
-both : (a b : Bool) → (a && b) ≡ true → (a ≡ true) × (b ≡ true)
-both true b h = (refl, h)
-both false b h = cc
 
 here_or_later : {R : Type 0} (stands p : R → Bool) (q : R) (b : Bool) (rest : Option R) (r : R) → stands q ≡ b → p q ≡ true → (rest ≡ Some r → IsFirst stands p r) → cond b (Some q) rest ≡ Some r → IsFirst stands p r
 here_or_later stands p q true rest r s l later e =
@@ -33,7 +30,7 @@ here_or_later stands p q false rest r s l later e = later e
 pub first_is : {R : Type 0} (stands p : R → Bool) (rows : List R) (r : R) → list_all p rows ≡ true → first_standing stands rows ≡ Some r → IsFirst stands p r
 first_is stands p [] r all e = cc
 first_is stands p (q ∷ rows) r all e =
-    let parts = both (p q) (list_all p rows) all in
+    let parts = and_parts (p q) (list_all p rows) all in
     here_or_later stands p q (stands q) (first_standing stands rows) r refl parts.0 (first_is stands p rows r parts.1) e
 
 -- a row that is not refused
@@ -71,15 +68,11 @@ by_bytes false b h n = h
 
 pub always_stands : (q : Question) (row : Row) → applies q row ≡ true → not (stands_anywhere row) ≡ true → stands_before q.bytes (relocation_of q).offset (always_pattern row) ≡ true
 unfolding applies
-always_stands q row h n = by_bytes _ _ (both _ _ h).1 n
+always_stands q row h n = by_bytes _ _ (and_parts _ _ h).1 n
 
 pub needed_stands : (q : Question) (row : Row) → has_its_sequence q row ≡ true → stands_before q.bytes (relocation_of q).offset (needed_pattern row) ≡ true
 unfolding has_its_sequence
-needed_stands q row h = (both _ _ (both _ _ h).0).0
-
-either : (a b : Bool) → (a || b) ≡ true → (a ≡ true) ⊎ (b ≡ true)
-either true b h = inl refl
-either false b h = inr h
+needed_stands q row h = (and_parts _ _ (and_parts _ _ h).0).0
 
 -- what a chosen row is
 pub record IsChosenRow (q : Question) (p : Row → Bool) (row : Row) : Type 0 where
@@ -98,6 +91,21 @@ pub chosen_has_room : (q : Question) (row : Row) → chosen_x86_64 q ≡ Ok (Som
 chosen_has_room q row e =
     let first = chosen_is q lies_in_its_own row each_lies e in
     ⊎_elim
-    (λ l. room_in q.bytes (relocation_of q).offset (always_pattern row) (rewrite_of row) (always_stands q row first.here (both _ _ l).0) (both _ _ l).1)
+    (λ l. room_in q.bytes (relocation_of q).offset (always_pattern row) (rewrite_of row) (always_stands q row first.here (and_parts _ _ l).0) (and_parts _ _ l).1)
     (λ l. room_in q.bytes (relocation_of q).offset (needed_pattern row) (rewrite_of row) (needed_stands q row first.whole) l)
-    (either _ _ first.listed)
+    (or_cases _ _ first.listed)
+
+pub partner_asked : (q : Question) (row : Row) → has_its_sequence q row ≡ true → has_partner row q ≡ true
+unfolding has_its_sequence
+partner_asked q row h = (and_parts _ _ h).1
+
+pub number_is : (q : Question) (row : Row) → applies q row ≡ true → (relocation_of q).number ≡ number_of row
+unfolding applies
+number_is q row h =
+    let a = (and_parts _ _ h).0 in
+    let b = (and_parts _ _ a).0 in
+    let c = (and_parts _ _ b).0 in
+    let d = (and_parts _ _ c).0 in
+    let e = (and_parts _ _ d).0 in
+    let f = (and_parts _ _ e).0 in
+    eqb-true (relocation_of q).number (number_of row) (and_parts _ _ f).0

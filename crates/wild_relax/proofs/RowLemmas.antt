@@ -1,7 +1,8 @@
 -- Every rewrite keeps the effect: from the standing pattern and the field to explicit bytes.
-use Rattle.std.proofs.Common.{◌≡◌, ℕ, ◌+◌, ◌^◌, ◌<◌, true, List, [], get_or, refl, sym, ap, ◌∙◌, arith, subst}
-use Rattle.std.specs.Prelude.{Some, ◌⊎◌, ◌==◌, ◌||◌}
+use Rattle.std.proofs.Common.{◌≡◌, ℕ, ◌+◌, ◌^◌, ◌<◌, true, List, [], get_or, refl, sym, ap, ◌∙◌, arith, subst, Bool, false, ◌∷◌}
+use Rattle.std.specs.Prelude.{Some, ◌⊎◌, ◌==◌, ◌||◌, if◌then◌else◌}
 use Rattle.std.proofs.lemmas.Bool.Decides.{nat_tests}
+use Rattle.std.proofs.lemmas.Bool.{and_parts}
 use Rattle.wild_words.specs.Words.{word, number, place}
 use Rattle.wild_reloc.specs.Range.{of_bits, contains}
 use Rattle.wild_reloc.specs.Field.{allows, written}
@@ -27,10 +28,11 @@ use Rattle.wild_relax.specs.Pattern.{cells_of, opcode}
 use Rattle.wild_relax.specs.Linked.{pattern_of, linked}
 use Rattle.wild_relax.specs.Keep.{IsWhole, distance, ReadsNumbers, no_effect, RowsKeep}
 use Rattle.wild_relax.proofs.StubLemmas.{read_back}
-use Rattle.wild_relax.proofs.ShapeLemmas.{parts, filled, shape, shape-stands}
+use Rattle.wild_relax.proofs.ShapeLemmas.{filled, shape, shape-stands}
 use Rattle.wild_relax.proofs.KeepLemmas.{placed, SlotByte, IsWide, Back, lea_bare, lea_rex, lea_rex2, call_direct, jump_direct}
 use Rattle.wild_relax.proofs.ImmediateLemmas.{IsWide2, low_bits, rex_immediate, rex2_immediate, bare_immediate, rex_descriptor, rex2_descriptor, rex_descriptor_slot, rex2_descriptor_slot}
 use Rattle.wild_relax.proofs.SequenceLemmas.{to_number, to_slot_regular, to_slot_no_plt, to_pointer}
+use Rattle.wild_relax.specs.First.{first_standing}
 
 -- ---- fields
 
@@ -84,7 +86,7 @@ lands_at v place end value small e at = omega arith
 
 -- ---- patterns
 
-either : (m n b : ℕ) → (b == m || b == n) ≡ true → (b ≡ m) ⊎ (b ≡ n)
+pub either : (m n b : ℕ) → (b == m || b == n) ≡ true → (b ≡ m) ⊎ (b ≡ n)
 either m n b h = grind (arith, nat_tests)
 
 either_of_four : (b : ℕ) → (b == 0x08 || b == 0x0c || b == 0x48 || b == 0x4c) ≡ true → IsWide2 b
@@ -101,25 +103,25 @@ record IsRex2 (old : List ℕ) : Type 0 where
 rex_facts : (o : Operation) (old : List ℕ) → IsWhole (cells_of (pattern.Wide Rex o)) old → IsRex old
 rex_facts o old whole =
     let all = shape-stands (cells_of (pattern.Wide Rex o)) old whole in
-    let first = parts (get_or old 0 0 == 0x48 || get_or old 0 0 == 0x4c) _ all in
-    let second = parts (opcode o == opcode o) _ first.1 in
-    record { wide = either 0x48 0x4c (get_or old 0 0) first.0; slot = (parts _ _ second.1).0 }
+    let first = and_parts (get_or old 0 0 == 0x48 || get_or old 0 0 == 0x4c) _ all in
+    let second = and_parts (opcode o == opcode o) _ first.1 in
+    record { wide = either 0x48 0x4c (get_or old 0 0) first.0; slot = (and_parts _ _ second.1).0 }
 
 rex2_facts : (o : Operation) (old : List ℕ) → IsWhole (cells_of (pattern.Wide Rex2 o)) old → IsRex2 old
 rex2_facts o old whole =
     let all = shape-stands (cells_of (pattern.Wide Rex2 o)) old whole in
-    let first = parts (get_or old 1 0 == 0x48 || get_or old 1 0 == 0x4c) _ all in
-    let second = parts (opcode o == opcode o) _ first.1 in
-    record { wide = either 0x48 0x4c (get_or old 1 0) first.0; slot = (parts _ _ second.1).0 }
+    let first = and_parts (get_or old 1 0 == 0x48 || get_or old 1 0 == 0x4c) _ all in
+    let second = and_parts (opcode o == opcode o) _ first.1 in
+    record { wide = either 0x48 0x4c (get_or old 1 0) first.0; slot = (and_parts _ _ second.1).0 }
 
 mov_slot : (old : List ℕ) → IsWhole (cells_of pattern.Mov) old → SlotByte (get_or old 1 0)
-mov_slot old whole = (parts _ _ (shape-stands (cells_of pattern.Mov) old whole)).0
+mov_slot old whole = (and_parts _ _ (shape-stands (cells_of pattern.Mov) old whole)).0
 
 lea_facts : (old : List ℕ) → IsWhole (cells_of (pattern.Lea Rex)) old → IsRex old
 lea_facts old whole =
     let all = shape-stands (cells_of (pattern.Lea Rex)) old whole in
-    let first = parts (get_or old 0 0 == 0x48 || get_or old 0 0 == 0x4c) _ all in
-    record { wide = either 0x48 0x4c (get_or old 0 0) first.0; slot = (parts _ _ first.1).0 }
+    let first = and_parts (get_or old 0 0 == 0x48 || get_or old 0 0 == 0x4c) _ all in
+    record { wide = either 0x48 0x4c (get_or old 0 0) first.0; slot = (and_parts _ _ first.1).0 }
 
 record IsRex2Lea (old : List ℕ) : Type 0 where
   wide : IsWide2 (get_or old 1 0)
@@ -128,8 +130,8 @@ record IsRex2Lea (old : List ℕ) : Type 0 where
 lea2_facts : (old : List ℕ) → IsWhole (cells_of (pattern.Lea Rex2)) old → IsRex2Lea old
 lea2_facts old whole =
     let all = shape-stands (cells_of (pattern.Lea Rex2)) old whole in
-    let first = parts (get_or old 1 0 == 0x08 || get_or old 1 0 == 0x0c || get_or old 1 0 == 0x48 || get_or old 1 0 == 0x4c) _ all in
-    record { wide = either_of_four (get_or old 1 0) first.0; slot = (parts _ _ first.1).0 }
+    let first = and_parts (get_or old 1 0 == 0x08 || get_or old 1 0 == 0x0c || get_or old 1 0 == 0x48 || get_or old 1 0 == 0x4c) _ all in
+    record { wide = either_of_four (get_or old 1 0) first.0; slot = (and_parts _ _ first.1).0 }
 
 -- ---- rows
 
@@ -244,3 +246,12 @@ rows_keep (DescriptorLea Rex2 InitialExec) info read a v value old known whole f
     carried (DescriptorLea Rex2 InitialExec) info read a v value (word 4 value) old whole f.bytes (rex2_descriptor_slot read a v value (get_or old 1 0) (get_or old 3 0) (get_or old 4 0) (get_or old 5 0) (get_or old 6 0) (get_or old 7 0) facts.wide facts.slot f.back (slot_at read v (a + 4) (a + 8) value field.lands (omega arith)))
 rows_keep DescriptorCall info read a v value old known whole field =
     call_does_nothing info read a value old whole (nothing info field.row_of) field.numbers
+
+-- the first row that stands stands
+pub stands_first : {R : Type 0} (stands : R → Bool) (rows : List R) (r : R) → first_standing stands rows ≡ Some r → stands r ≡ true
+stands_first stands [] r h = cc
+stands_first stands (x ∷ xs) r h = by_test stands x xs r (stands x) refl h (stands_first stands xs r)
+  where
+    by_test : {R : Type 0} (stands : R → Bool) (x : R) (xs : List R) (r : R) (b : Bool) → stands x ≡ b → (if b then Some x else first_standing stands xs) ≡ Some r → (first_standing stands xs ≡ Some r → stands r ≡ true) → stands r ≡ true
+    by_test stands x xs r true e h again = (let same : x ≡ r = cc in subst (λ y. stands y ≡ true) same e)
+    by_test stands x xs r false e h again = again h

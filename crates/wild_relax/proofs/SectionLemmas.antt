@@ -2,12 +2,13 @@
 use Rattle.std.proofs.Common.{◌≡◌, ℕ, ◌+◌, ◌-◌, ◌≤◌, Bool, true, false, List, [], ◌∷◌, ◌++◌, length, take, drop, refl, sym, ap, ◌∙◌, arith, subst, ⊎_elim, inl, inr}
 use Rattle.std.specs.Prelude.{Some, Ok, ◌⊎◌, ◌||◌, not, slice_range}
 use Rattle.std.specs.List.{list_all}
-use Rattle.std.proofs.lemmas.Bool.{eqb-true}
+use Rattle.std.proofs.lemmas.Bool.{eqb-true, and_parts}
 use Rattle.std.proofs.lemmas.Bool.Decides.{nat_tests}
-use Rattle.std.proofs.lemmas.List.{drop-drop, take-take, drop-take, take-append-drop, length-take-le, length-drop}
+use Rattle.std.proofs.lemmas.List.{drop-drop, take-take, drop-take, take-append-drop}
 use Rattle.std.proofs.lemmas.List.Elements.{All-nil, All-cons}
 use Rattle.wild_words.specs.Words.{word, place}
 use Rattle.wild_words.specs.Overlay.{Piece, PiecesOverAPart}
+use Rattle.wild_words.proofs.Basics.{length-range}
 use Rattle.wild_reloc.specs.Field.{written}
 use Rattle.wild_reloc.specs.TableX86_64.{x86_64_row}
 use Rattle.wild_reloc.specs.declared.info.RelocationKindInfo.{RelocationKindInfo}
@@ -30,7 +31,6 @@ use Rattle.wild_relax.specs.RewriteX86_64.{rewrite_of}
 use Rattle.wild_relax.specs.Linked.{pattern_of, keeps_bytes, field_in, IsChanging}
 use Rattle.wild_relax.specs.Keep.{IsWhole}
 use Rattle.wild_relax.specs.Section.{start_of, window, field_after, ChosenStand, ChosenAreWhole, SectionsAreLinked}
-use Rattle.wild_relax.proofs.ShapeLemmas.{parts}
 use Rattle.wild_relax.proofs.RoomLemmas.{chosen_is, always_stands, needed_stands}
 use Rattle.wild_relax.proofs.RowLemmas.{pc32, signed_32s, unsigned_32, tpoff32, gottpoff, nothing}
 
@@ -42,12 +42,6 @@ pub record IsAt (bs : List ℕ) (offset : ℕ) (p : Pattern) : Type 0 where
   pub inside : offset - field_of p + length (cells_of p) ≤ length bs
   pub whole : IsWhole (cells_of p) (slice_range bs (offset - field_of p) (offset - field_of p + length (cells_of p)))
 
-length-window : (bs : List ℕ) (s n : ℕ) → s + n ≤ length bs → length (slice_range bs s (s + n)) ≡ n
-length-window bs s n h =
-    let e : s + n - s ≡ n = omega arith in
-    let d = length-drop s bs in
-    rw e (length-take-le n (drop s bs) (omega (arith, d)))
-
 at_place : (bs : List ℕ) (offset : ℕ) (p : Pattern) → stands_before bs offset p ≡ true → IsAt bs offset p
 unfolding stands_before stands_at
 at_place bs offset p h =
@@ -55,7 +49,7 @@ at_place bs offset p h =
     record {
       before = grind (arith, nat_tests);
       inside = inside;
-      whole = record { long = length-window bs (offset - field_of p) (length (cells_of p)) inside; same = grind (arith, nat_tests) };
+      whole = record { long = length-range bs (offset - field_of p) (length (cells_of p)) inside; same = grind (arith, nat_tests) };
     }
 
 -- the table has the row
@@ -131,12 +125,12 @@ record IsApplied (q : Question) (row : Row) : Type 0 where
 applied : (q : Question) (row : Row) → applies q row ≡ true → IsApplied q row
 unfolding applies
 applied q row h =
-    let addend = parts _ _ (parts _ _ h).0 in
-    let value = parts _ _ addend.0 in
-    let thread = parts _ _ value.0 in
-    let symbol = parts _ _ thread.0 in
-    let section = parts _ _ symbol.0 in
-    let number = parts _ _ section.0 in
+    let addend = and_parts _ _ (and_parts _ _ h).0 in
+    let value = and_parts _ _ addend.0 in
+    let thread = and_parts _ _ value.0 in
+    let symbol = and_parts _ _ thread.0 in
+    let section = and_parts _ _ symbol.0 in
+    let number = and_parts _ _ section.0 in
     record { number = eqb-true _ _ number.0; symbol = symbol.1; section = section.1; value = value.1; thread = thread.1; addend = addend.1 }
 
 -- and what its sequence has
@@ -147,8 +141,8 @@ record HasSequence (q : Question) (row : Row) : Type 0 where
 sequence_has : (q : Question) (row : Row) → has_its_sequence q row ≡ true → HasSequence q row
 unfolding has_its_sequence
 sequence_has q row h =
-    let partner = parts _ _ h in
-    let addend = parts _ _ partner.0 in
+    let partner = and_parts _ _ h in
+    let addend = and_parts _ _ partner.0 in
     record { addend = addend.1; partner = partner.1 }
 
 joined : (a b m : Bool) → (not a || m) ≡ true → (not b || m) ≡ true → (not (a || b) || m) ≡ true
@@ -258,7 +252,7 @@ place_same : (s n : ℕ) (xs : List ℕ) → s + n ≤ length xs → place s (sl
 unfolding place
 place_same s n xs h =
     let e : s + n - s ≡ n = omega arith in
-    let l = length-window xs s n h in
+    let l = length-range xs s n h in
     let tail : drop (s + length (slice_range xs s (s + n))) xs ≡ drop n (drop s xs) = rw l (sym (drop-drop n s xs)) in
     let middle : slice_range xs s (s + n) ≡ take n (drop s xs) = rw e refl in
     ap (λ (t : List ℕ). take s xs ++ (slice_range xs s (s + n) ++ t)) tail

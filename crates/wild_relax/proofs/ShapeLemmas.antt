@@ -1,7 +1,7 @@
 -- Bytes on which cells stand, spelled by them.
-use Rattle.std.proofs.Common.{◌≡◌, ℕ, suc, ◌+◌, Bool, true, false, List, [], ◌∷◌, length, get_or, refl, sym, ap, ◌∙◌, arith, subst}
-use Rattle.std.specs.Prelude.{◌&&◌}
+use Rattle.std.proofs.Common.{◌≡◌, ℕ, suc, ◌+◌, true, List, [], ◌∷◌, length, get_or, refl, sym, ap, ◌∙◌, arith, subst}
 use Rattle.std.proofs.lemmas.Bool.Decides.{nat_tests}
+use Rattle.std.proofs.lemmas.Bool.{and_parts}
 use Rattle.wild_relax.specs.declared.pattern.Cell.{Cell}
 use Rattle.wild_relax.specs.declared.pattern.Cell.TheVariants.{Is, RexWide, Rex2Wide, Slot, Any}
 use Rattle.wild_relax.specs.Pattern.{fits, stands}
@@ -19,10 +19,6 @@ abbrev pub filled : List Cell → ℕ → List ℕ → List ℕ
 filled [] k whole = []
 filled (c ∷ cs) k whole = spelled c (get_or whole k 0) ∷ filled cs (k + 1) whole
 
-pub parts : (a b : Bool) → (a && b) ≡ true → (a ≡ true) × (b ≡ true)
-parts true b h = (refl, h)
-parts false b h = cc
-
 spelled-is : (c : Cell) (b : ℕ) → fits c b ≡ true → b ≡ spelled c b
 spelled-is (Is n) b h = grind (arith, nat_tests)
 spelled-is RexWide b h = refl
@@ -37,7 +33,7 @@ from (c ∷ cs) [] whole k same long h = absurd (omega arith)
 from (c ∷ cs) (b ∷ bs) whole k same long h =
     let z : k + 0 ≡ k = omega arith in
     let here : get_or whole k 0 ≡ b = subst (λ (j : ℕ). get_or whole j 0 ≡ b) z (same 0) in
-    let each = parts (fits c b) (stands cs bs) h in
+    let each = and_parts (fits c b) (stands cs bs) h in
     let first : b ≡ spelled c b = spelled-is c b each.0 in
     let next : (i : ℕ) → get_or whole (k + 1 + i) 0 ≡ get_or bs i 0 = λ i. subst (λ (j : ℕ). get_or whole j 0 ≡ get_or bs i 0) (omega arith) (same (suc i)) in
     let rest : bs ≡ filled cs (k + 1) whole = from cs bs whole (k + 1) next (omega arith) each.1 in

@@ -4,7 +4,7 @@ use Rattle.std.specs.Prelude.{IsPermutation, All, AllPairs, Contains, ◌==◌}
 use Rattle.std.proofs.lemmas.List.Sorted.{IsPermutation-refl, IsPermutation-sym, IsPermutation-trans, IsPermutation-append_right, IsPermutation-middle, IsPermutation-append_left, IsPermutation-append_comm, Contains-permutation}
 use Rattle.std.proofs.lemmas.List.Elements.{All-nil, All-cons, All-head, All-tail, All-contains, All-push, Contains-get_or, Contains-append_left, Contains-append_right, Contains-append_cases}
 use Rattle.std.proofs.lemmas.List.Kept.{AllPairs-cons}
-use Rattle.std.proofs.lemmas.List.{append_assoc, append-nil, length-append}
+use Rattle.std.proofs.lemmas.List.{append_assoc, append-nil, length_push}
 use Rattle.std.proofs.lemmas.Bool.{cases_Bool, eqb-true, eqb-false}
 use Rattle.wild_words.proofs.ListLemmas.{All-append-left}
 use Rattle.wild_relr.specs.Places.{places_from, places}
@@ -71,9 +71,6 @@ afters-recorded (p ∷ ps) s f h =
 
 -- ---- counting
 
-length-push : (ws : List ℕ) (w : ℕ) → length (ws ++ w ∷ []) ≡ length ws + 1
-length-push ws w = length-append ws (w ∷ [])
-
 pub length-joined : (i : ℕ) (ws : List ℕ) → length (joined i ws) ≡ length ws
 unfolding joined
 length-joined i [] = refl
@@ -82,7 +79,7 @@ length-joined i (w ∷ v ∷ ws) = ap suc (length-joined i (v ∷ ws))
 
 length-chosen : (c : Choice) (s : State) → length (chosen c s).words ≡ length s.words + new_words c
 length-chosen (Joins i) s = let e = length-joined i s.words in omega arith
-length-chosen (Adds w r) s = length-push s.words w
+length-chosen (Adds w r) s = length_push s.words w
 
 run-chosen : (c : Choice) (s : State) → (chosen c s).run ≡ run_after c s.run
 run-chosen (Joins i) s = refl

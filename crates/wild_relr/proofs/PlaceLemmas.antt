@@ -2,10 +2,12 @@
 use Rattle.std.proofs.Common.{◌≡◌, ℕ, zero, suc, ◌+◌, ◌*◌, ◌/◌, ◌%◌, ◌^◌, ◌<◌, ◌≤◌, ◌⊎◌, inl, inr, List, [], ◌∷◌, ◌++◌, refl, sym, ap, ◌∙◌, arith, add-zero}
 use Rattle.std.specs.Prelude.{IsPermutation, All, Contains}
 use Rattle.std.proofs.lemmas.List.Sorted.{IsPermutation-refl, IsPermutation-sym, IsPermutation-trans, IsPermutation-append_right, IsPermutation-middle}
-use Rattle.std.proofs.lemmas.List.Elements.{All-nil, All-cons, All-head, All-tail, All-append, Contains-append_right}
+use Rattle.std.proofs.lemmas.List.Elements.{All-nil, All-cons, All-head, All-tail, All-append}
 use Rattle.std.proofs.lemmas.List.{append_assoc, append-nil}
 use Rattle.std.proofs.lemmas.Bool.{cases_lt}
-use Rattle.std.proofs.Math.Nat.{div-one, pow-suc, div-div-eq-div-mul}
+use Rattle.std.proofs.Math.Nat.{div-one, pow-suc}
+use Rattle.wild_words.proofs.Basics.{half-bit}
+use Rattle.wild_words.proofs.ListLemmas.{Contains-there}
 use Rattle.wild_relr.specs.Places.{window, places_of, next_after, places_from, next_from}
 
 pub window-even : (k next w : ℕ) → w % 2 ≡ 0 → window (suc k) next w ≡ window k (next + 8) (w / 2)
@@ -23,14 +25,6 @@ pub window-none : (k next : ℕ) → window k next 0 ≡ []
 unfolding window
 window-none zero next = refl
 window-none (suc k) next = window-even k next 0 refl ∙ window-none k (next + 8)
-
--- the bit of a further place, of the number and of its half
-half_bit : (w i : ℕ) → w / 2 ^ suc i % 2 ≡ w / 2 / 2 ^ i % 2
-half_bit w i =
-    let p = pow-suc 2 i in
-    let d = div-div-eq-div-mul w 2 (2 ^ i) in
-    let twice : 2 ^ suc i ≡ 2 * 2 ^ i = omega (arith, p) in
-    rw (twice, d) refl
 
 half_sum : (w i : ℕ) → (w + 2 ^ suc i) / 2 ≡ w / 2 + 2 ^ i
 half_sum w i = let p = pow-suc 2 i in omega (arith, p)
@@ -50,7 +44,7 @@ window-adds (suc k) zero next w l h =
     let odd : (w + 1) % 2 ≡ 1 = omega arith in
     rw (window-even k next w even, window-odd k next (w + 1) odd, half, add-zero) (IsPermutation-refl _)
 window-adds (suc k) (suc i) next w l h =
-    let inner : w / 2 / 2 ^ i % 2 ≡ 0 = sym (half_bit w i) ∙ h in
+    let inner : w / 2 / 2 ^ i % 2 ≡ 0 = sym (half-bit w i) ∙ h in
     let again = rw (further next i) at (window-adds k i (next + 8) (w / 2) (omega arith) inner) in
     elim (parity w) [
       | inl even ↦
@@ -62,9 +56,6 @@ window-adds (suc k) (suc i) next w l h =
           (IsPermutation-trans _ _ _ (IsPermutation-sym _ _ (IsPermutation-middle (next ∷ []) (next + 8 * suc i) (window k (next + 8) (w / 2)))) (IsPermutation-append_right (next ∷ []) ((next + 8 * suc i) ∷ window k (next + 8) (w / 2)) (window k (next + 8) (w / 2 + 2 ^ i)) again)))
     ]
 
-Contains-cons : (x y : ℕ) (xs : List ℕ) → Contains xs y → Contains (x ∷ xs) y
-Contains-cons x y xs h = Contains-append_right (x ∷ []) xs y h
-
 -- a bit that is set is a place
 pub window-holds : (k i next w : ℕ) → i < k → w / 2 ^ i % 2 ≡ 1 → Contains (window k next w) (next + 8 * i)
 window-holds zero i next w l h = absurd (omega arith)
@@ -72,11 +63,11 @@ window-holds (suc k) zero next w l h =
     let odd : w % 2 ≡ 1 = omega (arith, div-one w, h) in
     rw (window-odd k next w odd, add-zero) (0, (omega arith), refl)
 window-holds (suc k) (suc i) next w l h =
-    let inner : w / 2 / 2 ^ i % 2 ≡ 1 = sym (half_bit w i) ∙ h in
+    let inner : w / 2 / 2 ^ i % 2 ≡ 1 = sym (half-bit w i) ∙ h in
     let again = rw (further next i) at (window-holds k i (next + 8) (w / 2) (omega arith) inner) in
     elim (parity w) [
       | inl even ↦ rw (window-even k next w even) again
-      | inr odd ↦ rw (window-odd k next w odd) (Contains-cons next _ _ again)
+      | inr odd ↦ rw (window-odd k next w odd) (Contains-there _ next _ again)
     ]
 
 -- no place lies below the window

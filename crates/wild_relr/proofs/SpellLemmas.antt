@@ -7,7 +7,7 @@ use Rattle.wild_words.proofs.WordLemmas.{length-word, front-place}
 use Rattle.wild_words.proofs.OverlayLemmas.{Stands-inner}
 use Rattle.wild_words.proofs.RecordLemmas.{Stands-left, Stands-right, number-stands}
 use Rattle.wild_relr.specs.Written.{words_in, word_bytes, IsSpelled}
-use Rattle.wild_relr.proofs.WriterLemmas.{words_in_next, length-words_in}
+use Rattle.wild_relr.proofs.WriterLemmas.{words_in_next, length_words_in}
 
 pub word_bytes-append : (ws vs : List ℕ) → word_bytes (ws ++ vs) ≡ word_bytes ws ++ word_bytes vs
 word_bytes-append [] vs = refl
@@ -41,7 +41,7 @@ spelled_front bs n l s =
     let v = number_at bs (8 * n) 8 in
     let low : 8 * n ≤ 8 * suc n = omega arith in
     let front : take (8 * n) (take (8 * suc n) bs) ≡ take (8 * n) bs = take-take (8 * n) (8 * suc n) bs low in
-    let len : length (word_bytes (words_in bs n)) ≡ 8 * n = length-word_bytes (words_in bs n) ∙ ap (λ (k : ℕ). 8 * k) (length-words_in bs n) in
+    let len : length (word_bytes (words_in bs n)) ≡ 8 * n = length-word_bytes (words_in bs n) ∙ ap (λ (k : ℕ). 8 * k) (length_words_in bs n) in
     sym front ∙ ap (λ (r : List ℕ). take (8 * n) r) (s ∙ word_bytes-push (words_in bs n) v) ∙ take_at (word_bytes (words_in bs n)) (word 8 v) (8 * n) len
 
 -- another word in place of the last
@@ -53,7 +53,7 @@ spelled_last bs (suc n) at w e z l h s =
 
 -- ---- reading
 
-Stands-word : (ws : List ℕ) (k d : ℕ) → k < length ws → Stands (word_bytes ws) (8 * k) (word 8 (get_or ws k d))
+pub Stands-word : (ws : List ℕ) (k d : ℕ) → k < length ws → Stands (word_bytes ws) (8 * k) (word 8 (get_or ws k d))
 Stands-word [] k d l = absurd (omega (arith, l))
 Stands-word (w ∷ ws) zero d l = Stands-left (word 8 w) (word_bytes ws)
 Stands-word (w ∷ ws) (suc k) d l =

@@ -105,10 +105,10 @@ bitmaps_step n i k l =
     let e : n - i ≡ suc (n - (i + 1)) = omega arith in
     rw e refl
 
-pub length-words_in : (bs : List ℕ) (n : ℕ) → length (words_in bs n) ≡ n
+pub length_words_in : (bs : List ℕ) (n : ℕ) → length (words_in bs n) ≡ n
 unfolding words_in
-length-words_in bs zero = refl
-length-words_in bs (suc n) = length-append (words_in bs n) _ ∙ (let e = length-words_in bs n in omega arith)
+length_words_in bs zero = refl
+length_words_in bs (suc n) = length-append (words_in bs n) _ ∙ (let e = length_words_in bs n in omega arith)
 
 bitmaps_none : (n k : ℕ) → n ≡ 0 → bitmaps n k ≡ []
 unfolding bitmaps
@@ -139,10 +139,10 @@ joins_last (Address a) p i n e h = absurd (no_join (slot (a + 8) p) (a + 8) i (s
 joins_last (Bitmap s) p i n e h = h
 
 pub length_joins : (bs : List ℕ) (r : RelrWriter) (p i : ℕ) → Joins i ≡ choice r.run p → length (after (state bs r) p).words ≡ r.count
-length_joins bs r p i e = rw (← e) (length-joined i (words_in bs r.count) ∙ length-words_in bs r.count)
+length_joins bs r p i e = rw (← e) (length-joined i (words_in bs r.count) ∙ length_words_in bs r.count)
 
 pub length_adds : (bs : List ℕ) (r : RelrWriter) (p w : ℕ) (q : Run) → Adds w q ≡ choice r.run p → length (after (state bs r) p).words ≡ r.count + 1
-length_adds bs r p w q e = rw (← e) (length-append (words_in bs r.count) (w ∷ []) ∙ ap (λ (n : ℕ). n + 1) (length-words_in bs r.count))
+length_adds bs r p w q e = rw (← e) (length-append (words_in bs r.count) (w ∷ []) ∙ ap (λ (n : ℕ). n + 1) (length_words_in bs r.count))
 
 -- ---- blocks
 
@@ -152,7 +152,7 @@ block_stands a b c n base k w z h e x y =
     y ∙ rw (x, q, ← e) (append_assoc (words_in a n) (base ∷ []) (bitmaps w (k - 1)))
 
 pub length-after_block : (bs : List ℕ) (r : RelrWriter) (base n : ℕ) → length (after_block (state bs r) base n).words ≡ r.count + length (block base n)
-length-after_block bs r base n = length-append (words_in bs r.count) (block base n) ∙ ap (λ (k : ℕ). k + length (block base n)) (length-words_in bs r.count)
+length-after_block bs r base n = length-append (words_in bs r.count) (block base n) ∙ ap (λ (k : ℕ). k + length (block base n)) (length_words_in bs r.count)
 
 -- as the code counts
 pub block_counted : (base n r : ℕ) → 0 < base → 0 < n → r ≡ bitmap_count (n - 1) → 1 + r ≡ length (block base n)
@@ -178,7 +178,7 @@ pub block_recorded : (s t : State) (base n : ℕ) → base % 2 ≡ 0 → BlocksH
 block_recorded s t base n h law e z = ap (λ (u : State). places u.words) e ∙ law s base n h z
 
 pub length-after_flat : (bs : List ℕ) (r : RelrWriter) (p : ℕ) → length (after_flat (state bs r) p).words ≡ r.count + 1
-length-after_flat bs r p = length-append (words_in bs r.count) (p ∷ []) ∙ ap (λ (k : ℕ). k + 1) (length-words_in bs r.count)
+length-after_flat bs r p = length-append (words_in bs r.count) (p ∷ []) ∙ ap (λ (k : ℕ). k + 1) (length_words_in bs r.count)
 
 pub word_above : (bs : List ℕ) (at x k : ℕ) → at + 8 ≤ length bs → at + 8 ≤ k → get_or (place at (word 8 x) bs) k 0 ≡ get_or bs k 0
 word_above bs at x k h l =

@@ -96,9 +96,9 @@ is_sized l s i = allocated s.flags && interposable (flags_at l i) && (has_flag (
 abbrev pub size_treatment : Layout → InputSection → RelocationKindInfo → ℕ → Treatment
 size_treatment l s row i = if is_sized l s i then Extent row i else Value row
 
--- a symbol that is not there has no share of what is left to a loader: clauses refuse it later than shares
+-- a symbol that is not there, or whose definition is not, has no share of what is left to a loader: clauses refuse it later than shares
 abbrev pub where_there : Layout → RelocationKindInfo → ℕ → Treatment → Treatment
-where_there l row i t = if nat_lt i (length l.symbols) then t else Value row
+where_there l row i t = if nat_lt (canonical l i) (length l.symbols) then t else Value row
 
 -- the kinds that are known: no value; S + A; S + A - P; GOT + A - P; S + A - GOT; offsets in thread storage; sizes; L + A - P and
 -- L + A - GOT; G + A - P and G + A - GOT, of slots; and the call through a descriptor, which has no value

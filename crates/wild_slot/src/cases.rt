@@ -61,7 +61,7 @@ impl Setting {
 }
 
 /// Whether another module's definition stands in this one's place where there is one.
-fn is_replaceable(kind: OutputKind, flags: ValueFlags) -> bool
+pub fn is_replaceable(kind: OutputKind, flags: ValueFlags) -> bool
     ensures { result ≡ is_replaceable kind flags }
 {
     (flags.is_dynamic() && !flags.needs_copy_relocation())

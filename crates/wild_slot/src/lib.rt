@@ -8,7 +8,7 @@ mod stub;
 mod symbol_slots;
 mod treatment;
 
-pub use cases::{slot_of, storage_pair, thread_pointer};
+pub use cases::{is_replaceable, slot_of, storage_pair, thread_pointer};
 pub use slot::{MAX_WORDS, Setting, SlotEntry, SlotFault, SlotItem, SlotWord, WORD_SIZE};
 pub use slot_parts::{
     EntryPart, WordPart, address_entry, begins_block, count_entries, count_flat, count_words,

@@ -214,7 +214,8 @@ fn size_treatment(
     }
 }
 
-/// What is done with a relocation that names that symbol, where it is there; else its value is written, which it has not.
+/// What is done with a relocation that names that symbol, where its definition is there; else its value is written, which it
+/// has not.
 #[inline]
 fn where_there(
     layout: &Layout,
@@ -224,7 +225,7 @@ fn where_there(
 ) -> Treatment
     ensures { result ≡ where_there layout.now row symbol treatment }
 {
-    if symbol.0 < layout.symbols.len() {
+    if layout.canonical(symbol).0 < layout.symbols.len() {
         treatment
     } else {
         Treatment::Value(row)

@@ -22,8 +22,9 @@ use Rattle.wild_slot.specs.SlotParts.{begins_block}
 use Rattle.wild_clauses.specs.SlotFlags.{takes_block_word, second_slot_fits}
 use Rattle.wild_slot.specs.Stub.{far_of}
 use Rattle.wild_types.specs.ResolvedFlags.{HasItsFlags}
+use Rattle.wild_needs.proofs.SlotBlockLemmas.{behind_plain}
 use Rattle.wild_slots.proofs.ItemLemmas.{ItemHas, More-items, All-words, none_more, of_stub}
-use Rattle.wild_slots.proofs.SlotLemmas.{IsOther, Shape, shape, behind_items, threads_other}
+use Rattle.wild_slots.proofs.SlotLemmas.{IsOther, Shape, shape, threads_other}
 
 -- the word is none of a block
 abbrev pub NotInBlock : SlotWord → Type 0
@@ -115,7 +116,7 @@ packs s r a h =
     ]
 
 -- without second slots nothing stands behind the word
-no_seconds : (s : Setting) (far : Option ℕ) (r : Resolution) → has_flag r.flags ifunc_got_for_address ≡ false → has_flag r.flags canonical_plt_got_for_address ≡ false → All (ItemHas (λ w. ⊥)) (behind_items s far r)
+no_seconds : (s : Setting) (far : Option ℕ) (r : Resolution) → has_flag r.flags ifunc_got_for_address ≡ false → has_flag r.flags canonical_plt_got_for_address ≡ false → All (ItemHas (λ w. ⊥)) (behind_plain s far r)
 no_seconds s far r i c =
     let N : SlotWord → Type 0 = λ w. ⊥ in
     rw (i, c) (All-append (ItemHas N) (stub_items far r.plt_address) [] (of_stub N far r.plt_address) (All-nil (ItemHas N)))
@@ -124,14 +125,14 @@ no_seconds s far r i c =
 abbrev pub Single : Setting → Resolution → List SlotWord → Type 0
 Single s r ws = All (IsOther s r) ws ⊎ (length ws ≤ 1)
 
-single : (s : Setting) (far : Option ℕ) (r : Resolution) → All (ItemHas (λ w. ⊥)) (behind_items s far r) → Single s r (slot s far r).words
+single : (s : Setting) (far : Option ℕ) (r : Resolution) → All (ItemHas (λ w. ⊥)) (behind_plain s far r) → Single s r (slot s far r).words
 unfolding slot
 single s far r a = by_place r.got_address
   where
-    led : (x : SlotItem) → length (with_items no_slot (x ∷ behind_items s far r)).words ≤ 1
-    led (Word w) = let e = none_more (w ∷ []) _ (More-items (λ v. ⊥) (add_item no_slot (Word w)) (behind_items s far r) a) in rw e (omega arith)
-    led Stub = let e = none_more [] _ (More-items (λ v. ⊥) (add_item no_slot Stub) (behind_items s far r) a) in rw e (omega arith)
-    led (Fault f) = let e = none_more [] _ (More-items (λ v. ⊥) (add_item no_slot (Fault f)) (behind_items s far r) a) in rw e (omega arith)
+    led : (x : SlotItem) → length (with_items no_slot (x ∷ behind_plain s far r)).words ≤ 1
+    led (Word w) = let e = none_more (w ∷ []) _ (More-items (λ v. ⊥) (add_item no_slot (Word w)) (behind_plain s far r) a) in rw e (omega arith)
+    led Stub = let e = none_more [] _ (More-items (λ v. ⊥) (add_item no_slot Stub) (behind_plain s far r) a) in rw e (omega arith)
+    led (Fault f) = let e = none_more [] _ (More-items (λ v. ⊥) (add_item no_slot (Fault f)) (behind_plain s far r) a) in rw e (omega arith)
 
     by_slot : (b : Bool) → has_thread_slot r.flags ≡ b → Single s r (with_items no_slot (if b then thread_items s r else address_items s far r)).words
     by_slot true t = inl (All-words (IsOther s r) (thread_items s r) (threads_other s r))

@@ -1,12 +1,12 @@
 -- Each word of a symbol stands at its own address.
-use Rattle.std.proofs.Common.{◌≡◌, ℕ, zero, suc, ◌+◌, ◌*◌, ◌<◌, Bool, true, false, List, [], ◌∷◌, length, get_or, Some, All, refl, ap, subst, arith, slice_get}
+use Rattle.std.proofs.Common.{◌≡◌, ℕ, zero, suc, ◌+◌, ◌*◌, Bool, true, false, List, [], ◌∷◌, Some, All, refl, ap, subst, arith, slice_get}
 use Rattle.std.specs.Prelude.{Option, unwrap_or}
 use Rattle.std.proofs.lemmas.Option.{same_Some}
 use Rattle.wild_words.specs.Words.{word, Stands}
 use Rattle.wild_words.proofs.ListLemmas.{holds_at}
-use Rattle.wild_words.proofs.WordLemmas.{length-word}
-use Rattle.wild_words.proofs.RecordLemmas.{Stands-left, Stands-right}
+use Rattle.wild_words.proofs.RecordLemmas.{Stands-left}
 use Rattle.wild_relr.specs.Written.{word_bytes}
+use Rattle.wild_relr.proofs.SpellLemmas.{Stands-word}
 use Rattle.wild_types.specs.declared.part.Role.TheVariants as role
 use Rattle.wild_types.specs.declared.symbol.Symbol.{Symbol}
 use Rattle.wild_types.specs.declared.layout.Layout.{Layout}
@@ -25,14 +25,6 @@ use Rattle.wild_slots.proofs.StandLemmas.{StandsAt-inner, stands, only}
 
 -- ---- a word of several
 
-word_stands : (ws : List ℕ) (k d : ℕ) → k < length ws → Stands (word_bytes ws) (8 * k) (word 8 (get_or ws k d))
-word_stands [] k d l = absurd (omega (arith, l))
-word_stands (w ∷ ws) zero d l = Stands-left (word 8 w) (word_bytes ws)
-word_stands (w ∷ ws) (suc k) d l =
-    let n = length-word 8 w in
-    let e : length (word 8 w) + 8 * k ≡ 8 * suc k = omega (arith, n) in
-    rw e at (Stands-right (word 8 w) (word_bytes ws) (word 8 (get_or ws k d)) (8 * k) (word_stands ws k d (omega (arith, l))))
-
 -- a word of no block
 part_is : (l : Layout) (at : ℕ) (w : SlotWord) (value : ℕ) → NotInBlock w → word_of words.Got l.options.relr at w ≡ Some value → StandsAt l role.Got at (word 8 value) → WordStands l at w
 part_is l at (Number n) value h e s = record { value = value; is = e; stands = s }
@@ -45,7 +37,7 @@ other_word : (l : Layout) (at k : ℕ) (s : Symbol) (w : SlotWord) → got_of s 
 other_word l at k s w g a t e =
     let from : slots_at s ≡ at = ap (λ (o : Option ℕ). unwrap_or o 0) g in
     let x = word_at l.options.relr (slots_at s) k (slots_of l s).words w a e in
-    let here = word_stands (words_in words.Got l s) k 0 x.within in
+    let here = Stands-word (words_in words.Got l s) k 0 x.within in
     let P : ℕ → Type 0 = λ (v : ℕ). Stands (word_bytes (words_in words.Got l s)) (8 * k) (word 8 v) in
     let Q : ℕ → Type 0 = λ (p : ℕ). word_of words.Got l.options.relr (p + 8 * k) w ≡ Some x.value in
     part_is l (at + 8 * k) w x.value (holds_at NotInBlock (slots_of l s).words k w e a) (subst Q from x.is)

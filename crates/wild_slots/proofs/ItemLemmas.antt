@@ -1,6 +1,6 @@
 -- The words of items, one behind the other.
 use Rattle.std.proofs.Common.{◌≡◌, ℕ, Bool, true, false, List, [], ◌∷◌, ◌++◌, Some, None, All, refl, sym, ap, ◌∙◌, subst}
-use Rattle.std.specs.Prelude.{Option, if◌then◌else◌}
+use Rattle.std.specs.Prelude.{Option}
 use Rattle.std.proofs.lemmas.List.{append-nil, append_assoc}
 use Rattle.std.proofs.lemmas.List.Elements.{All-nil, All-cons, All-head, All-tail, All-append}
 use Rattle.wild_slot.specs.declared.slot.SlotWord.{SlotWord}
@@ -8,6 +8,7 @@ use Rattle.wild_slot.specs.declared.slot.SlotFault.{SlotFault}
 use Rattle.wild_slot.specs.declared.slot.SlotItem.{SlotItem}
 use Rattle.wild_slot.specs.declared.slot.SlotItem.TheVariants.{Word, Stub, Fault}
 use Rattle.wild_slot.specs.Slots.{SlotContent, no_slot, with_item_by, with_item, with_items, named, where_so, stub_item, stub_items}
+use Rattle.wild_slot.proofs.SlotLemmas.{fault_stays}
 
 -- an item that is a word has what is said of it
 abbrev pub ItemHas : (SlotWord → Type 0) → SlotItem → Type 0
@@ -57,10 +58,6 @@ none_more front whole m = none m.more m.is m.each
 
 -- ---- items by cases
 
-pub of_if : {X : Type 0} (P : X → Type 0) (b : Bool) (x y : X) → (b ≡ true → P x) → (b ≡ false → P y) → P (if b then x else y)
-of_if P true x y h k = h refl
-of_if P false x y h k = k refl
-
 pub of_named : (P : SlotWord → Type 0) (o : Option ℕ) (by : ℕ → SlotItem) → ((d : ℕ) → o ≡ Some d → ItemHas P (by d)) → ItemHas P (named o by)
 of_named P None by h = tt
 of_named P (Some d) by h = h d refl
@@ -78,13 +75,6 @@ of_stub P None (Some stub) = of_one P Stub tt
 of_stub P (Some distance) (Some stub) = of_one P (stub_item (Some distance)) tt
 
 -- ---- faults and stubs
-
--- behind a fault nothing changes
-fault_stays : (c : SlotContent) (f : SlotFault) (xs : List SlotItem) → c.fault ≡ Some f → (with_items c xs).fault ≡ Some f
-fault_stays c f [] h = h
-fault_stays c f (x ∷ xs) h =
-    let e : with_item c x ≡ c = ap (λ (o : Option SlotFault). with_item_by o c x) h in
-    fault_stays (with_item c x) f xs (ap (λ (d : SlotContent). d.fault) e ∙ h)
 
 pub fault_first : (o : Option SlotFault) (c : SlotContent) (xs : List SlotItem) → c.fault ≡ o → (with_items c xs).fault ≡ None → o ≡ None
 fault_first None c xs h n = refl

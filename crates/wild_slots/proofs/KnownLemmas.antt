@@ -1,8 +1,9 @@
 -- Which entries the words of slots have, and where they come from.
 use Rattle.std.proofs.Common.{◌≡◌, ℕ, suc, ◌+◌, ◌*◌, ◌%◌, ◌^◌, ◌<◌, inl, inr, List, [], ◌∷◌, get_or, Some, None, All, Contains, refl, sym, ap, ◌∙◌, subst, arith, slice_get}
 use Rattle.std.specs.Prelude.{Option, option_to_list, unwrap_or}
-use Rattle.std.proofs.lemmas.List.Elements.{All-nil, All-cons, All-append, All-weaker, All-contains_itself}
+use Rattle.std.proofs.lemmas.List.Elements.{All-nil, All-cons, All-append, All-weaker, All-contains_itself, All-contains}
 use Rattle.wild_words.proofs.ListLemmas.{All-flat_map}
+use Rattle.wild_words.proofs.Basics.{of_if}
 use Rattle.wild_reloc.specs.declared.dynamic.DynamicRelocationKind.TheVariants.{DtpMod}
 use Rattle.wild_types.specs.declared.file.File.{File}
 use Rattle.wild_types.specs.declared.symbol.Resolution.{Resolution}
@@ -22,18 +23,13 @@ use Rattle.wild_slot.specs.SlotParts.{next, at_places, entry_of}
 use Rattle.wild_slot.specs.Slots.{setting_of, storage_pair}
 use Rattle.wild_types.specs.SymbolSlots.{got_of, slots_at}
 use Rattle.wild_types.specs.FileSymbols.{own_symbols}
+use Rattle.wild_types.proofs.FileLemmas.{All-own}
 use Rattle.wild_slot.specs.SymbolWords.{slots_of}
 use Rattle.wild_needs.specs.SlotShares.{storage_at, storage_words}
 use Rattle.wild_layout.specs.SlotBytes.{symbol_entries, slot_entries_of}
 use Rattle.wild_slots.specs.Entries.{IsKnownEntry, entry_in, EntriesAreKnown, IsOfWord}
-use Rattle.wild_slots.proofs.ItemLemmas.{of_if}
 use Rattle.wild_slots.proofs.SlotLemmas.{IsEntry, IsOther, IsFirst}
-use Rattle.wild_slots.proofs.SymbolPlaces.{All-own}
 use Rattle.wild_slots.proofs.EntryLemmas.{of_words}
-
--- what holds of each item holds of one that is listed
-of_listed : {X : Type 0} (P : X → Type 0) (xs : List X) (x : X) → All P xs → Contains xs x → P x
-of_listed P xs x a c = subst P c.2 (a c.0 x c.1)
 
 -- ---- what entries name
 
@@ -117,8 +113,8 @@ own_storage s (Some at) = own_pair s
 
 pub entries_known : EntriesAreKnown
 entries_known = record {
-  words = λ l s d e f c h. of_listed (IsKnownWord s) (slots_of l s).words d (known_words l s f) c e h;
-  pair = λ l d e c h. of_listed IsOwnWord (storage_words l) d (own_storage (setting_of l) l.tlsld) c e h;
+  words = λ l s d e f c h. All-contains (IsKnownWord s) (slots_of l s).words d (known_words l s f) c e h;
+  pair = λ l d e c h. All-contains IsOwnWord (storage_words l) d (own_storage (setting_of l) l.tlsld) c e h;
 }
 
 -- ---- where they come from
@@ -163,7 +159,7 @@ IsLow s = (at : ℕ) → got_of s ≡ Some at → at < 2 ^ 64
 pub entries_of_words : (l : Layout) (f : File) (part : EntryPart) → All IsLow l.symbols → All (IsOfWord l f part) (slot_entries_of part l f)
 unfolding slot_entries_of
 entries_of_words l f part low =
-    All-flat_map (IsOfWord l f part) (symbol_entries part l) (own_symbols l f) (λ k d lt. one (get_or (own_symbols l f) k d) (All-contains_itself (own_symbols l f) k d lt) (All-own l IsLow low f k d lt))
+    All-flat_map (IsOfWord l f part) (symbol_entries part l) (own_symbols l f) (λ k d lt. one (get_or (own_symbols l f) k d) (All-contains_itself (own_symbols l f) k d lt) (All-own IsLow l f low k d lt))
   where
     one : (s : Symbol) → Contains (own_symbols l f) s → IsLow s → All (IsOfWord l f part) (symbol_entries part l s)
     one s c h =

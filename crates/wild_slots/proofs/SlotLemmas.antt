@@ -3,6 +3,7 @@ use Rattle.std.proofs.Common.{◌≡◌, ℕ, inl, inr, ◌⊎◌, Bool, true, f
 use Rattle.std.specs.Prelude.{Option, not, ◌&&◌, ◌==◌, if◌then◌else◌}
 use Rattle.std.proofs.lemmas.Bool.{and_parts}
 use Rattle.std.proofs.lemmas.List.Elements.{All-nil, All-cons, All-append}
+use Rattle.wild_words.proofs.Basics.{of_if}
 use Rattle.wild_reloc.specs.declared.dynamic.DynamicRelocationKind.{DynamicRelocationKind}
 use Rattle.wild_reloc.specs.declared.dynamic.DynamicRelocationKind.TheVariants.{GotEntry, JumpSlot, DtpMod, DtpOff, TpOff, TlsDesc, Irelative}
 use Rattle.wild_types.specs.declared.symbol.Resolution.{Resolution}
@@ -17,8 +18,9 @@ use Rattle.wild_types.specs.Flags.{has_flag, interposable, has_link_time_address
 use Rattle.wild_types.specs.SymbolSlots.{has_thread_slot, has_dynamic_symbol}
 use Rattle.wild_slot.specs.Storage.{is_outside}
 use Rattle.wild_slot.specs.Slots.{is_replaceable, slot, items_at, with_items, no_slot, add_item, offset_item, module_item, module_offset, module_offset_item, described, descriptor_item, offset_items, module_items, descriptor_items, thread_items, plain_item, stub_items, stub_address, ifunc_address_items, canonical_address_items, address_items, number}
+use Rattle.wild_needs.proofs.SlotBlockLemmas.{behind_plain}
 use Rattle.wild_slots.specs.Entries.{NamesSymbols, NamesModules}
-use Rattle.wild_slots.proofs.ItemLemmas.{ItemHas, More-items, All-words, of_if, of_named, of_where, of_one, of_stub}
+use Rattle.wild_slots.proofs.ItemLemmas.{ItemHas, More-items, All-words, of_named, of_where, of_one, of_stub}
 
 -- ---- what a word may be
 
@@ -120,11 +122,7 @@ stub_other : (s : Setting) (r : Resolution) (o : Option ℕ) → ItemHas (IsOthe
 stub_other s r None = tt
 stub_other s r (Some stub) = of_if (ItemHas (IsOther s r)) (is_position_independent s.kind) _ _ (λ t. t) (λ f. tt)
 
--- what stands behind the word of an address
-abbrev pub behind_items : Setting → Option ℕ → Resolution → List SlotItem
-behind_items s far r = stub_items far r.plt_address ++ (ifunc_address_items s r ++ canonical_address_items s r)
-
-behind_other : (s : Setting) (far : Option ℕ) (r : Resolution) → All (ItemHas (IsOther s r)) (behind_items s far r)
+behind_other : (s : Setting) (far : Option ℕ) (r : Resolution) → All (ItemHas (IsOther s r)) (behind_plain s far r)
 behind_other s far r =
     let W = IsOther s r in
     All-append (ItemHas W) (stub_items far r.plt_address) (ifunc_address_items s r ++ canonical_address_items s r)
@@ -165,7 +163,7 @@ shape s far r = by_place r.got_address
   where
     by_slot : (b : Bool) → has_thread_slot r.flags ≡ b → Shape s far r (with_items no_slot (if b then thread_items s r else address_items s far r)).words
     by_slot true t = inl (All-words (IsOther s r) (thread_items s r) (threads_other s r))
-    by_slot false t = led s far r (plain_item s r) (behind_items s far r) t refl (first_item s r) (behind_other s far r)
+    by_slot false t = led s far r (plain_item s r) (behind_plain s far r) t refl (first_item s r) (behind_other s far r)
 
     by_place : (o : Option ℕ) → Shape s far r (with_items no_slot (items_at s far r o)).words
     by_place None = inl (All-nil (IsOther s r))

@@ -1,7 +1,6 @@
 -- A stub that has a place is there, where nothing failed.
-use Rattle.std.proofs.Common.{◌≡◌, ℕ, inl, inr, Bool, true, false, List, ◌∷◌, ◌++◌, Some, None, refl, ap, ◌∙◌, slice_get}
-use Rattle.std.specs.Prelude.{Option, not, ◌&&◌, if◌then◌else◌, is_some}
-use Rattle.std.proofs.lemmas.Bool.{and_parts, or_cases, not-true}
+use Rattle.std.proofs.Common.{◌≡◌, ℕ, Bool, true, false, List, ◌∷◌, ◌++◌, Some, None, refl, ap, ◌∙◌, slice_get}
+use Rattle.std.specs.Prelude.{Option, if◌then◌else◌}
 use Rattle.wild_words.proofs.ListLemmas.{holds_at}
 use Rattle.wild_types.specs.declared.symbol.Resolution.{Resolution}
 use Rattle.wild_types.specs.declared.symbol.Symbol.{Symbol}
@@ -10,13 +9,12 @@ use Rattle.wild_slot.specs.declared.slot.Setting.{Setting}
 use Rattle.wild_slot.specs.declared.slot.SlotFault.{SlotFault}
 use Rattle.wild_slot.specs.declared.slot.SlotItem.{SlotItem}
 use Rattle.wild_slot.specs.declared.slot.SlotItem.TheVariants.{Stub}
-use Rattle.wild_types.specs.Flags.{has_flag, ifunc}
 use Rattle.wild_types.specs.SymbolSlots.{got_of, resolved_got, plt_of, resolved_plt, has_thread_slot}
 use Rattle.wild_slot.specs.Slots.{SlotContent, setting_of, slot, items_at, no_slot, add_item, with_item, with_item_by, with_items, thread_items, plain_item, stub_item, stub_items, ifunc_address_items, canonical_address_items, address_items}
-use Rattle.wild_clauses.specs.SlotFlags.{thread_slot_alone}
 use Rattle.wild_slot.specs.SymbolWords.{slots_of, resolved_slots}
 use Rattle.wild_slot.specs.Stub.{far_of}
 use Rattle.wild_types.specs.ResolvedFlags.{HasItsFlags}
+use Rattle.wild_clauses.proofs.ClauseLemmas.{not_thread}
 use Rattle.wild_layout.specs.SlotOrder.{FlagsAgree, HasSlotsInOrder}
 use Rattle.wild_slots.proofs.ItemLemmas.{fault_first, stub_stays}
 
@@ -36,14 +34,6 @@ second_made : (x : SlotItem) (far : Option ℕ) (xs : List SlotItem) → (with_i
 second_made x far xs n =
     let first = with_item no_slot x in
     stub_made first far xs (fault_first first.fault first (stub_item far ∷ xs) refl n) n
-
--- a symbol whose stub has a place has no slot for thread-local data
-not_thread : (s : Symbol) (p : ℕ) → thread_slot_alone s ≡ true → plt_of s ≡ Some p → has_thread_slot s.flags ≡ false
-not_thread s p h e =
-    elim (or_cases (not (has_thread_slot s.flags)) (not (has_flag s.flags ifunc) && not (is_some (plt_of s))) h) [
-      | inl a ↦ not-true (has_thread_slot s.flags) a
-      | inr b ↦ (let n = (and_parts (not (has_flag s.flags ifunc)) (not (is_some (plt_of s))) b).1 in cc (rw e at n))
-    ]
 
 made : (s : Setting) (far : Option ℕ) (r : Resolution) (at p : ℕ) → r.got_address ≡ Some at → r.plt_address ≡ Some p → has_thread_slot r.flags ≡ false → (slot s far r).fault ≡ None → (slot s far r).has_stub ≡ true
 unfolding slot

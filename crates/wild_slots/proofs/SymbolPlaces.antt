@@ -1,12 +1,11 @@
 -- Where the words and the stub of a symbol stand that stands behind others.
-use Rattle.std.proofs.Common.{◌≡◌, ℕ, ◌+◌, ◌*◌, ◌^◌, ◌≤◌, Bool, true, false, List, [], ◌∷◌, length, drop, get_or, Some, None, All, refl, sym, ap, ◌∙◌, subst, arith, slice_range}
+use Rattle.std.proofs.Common.{◌≡◌, ℕ, ◌+◌, ◌*◌, ◌^◌, ◌≤◌, Bool, true, false, List, [], ◌∷◌, length, get_or, Some, None, All, refl, sym, ap, ◌∙◌, subst, arith}
 use Rattle.std.specs.Prelude.{Option, if◌then◌else◌, option_to_list, unwrap_or}
 use Rattle.std.proofs.lemmas.Bool.{and_parts, eqb-true}
-use Rattle.std.proofs.lemmas.List.Elements.{All-nil, All-take, All-drop}
+use Rattle.std.proofs.lemmas.List.Elements.{All-nil}
 use Rattle.wild_words.proofs.ListLemmas.{All-flat_map}
 use Rattle.wild_relr.specs.Packed.{slots}
 use Rattle.wild_types.specs.declared.part.Role.TheVariants as role
-use Rattle.wild_types.specs.declared.file.File.{File}
 use Rattle.wild_types.specs.declared.file.Group.{Group}
 use Rattle.wild_types.specs.declared.symbol.Resolution.{Resolution}
 use Rattle.wild_types.specs.declared.symbol.Symbol.{Symbol}
@@ -20,12 +19,12 @@ use Rattle.wild_types.specs.SymbolSlots.{got_of, resolved_got, plt_of, slots_at}
 use Rattle.wild_slot.specs.Slots.{setting_of, slot, with_items, no_slot, items_at}
 use Rattle.wild_clauses.specs.SlotFlags.{second_slot_fits}
 use Rattle.wild_needs.specs.SlotShares.{stub_size, words_in, symbol_share}
-use Rattle.wild_types.specs.FileRoles.{writes_slots}
 use Rattle.wild_types.specs.FileSymbols.{own_symbols}
 use Rattle.wild_slot.specs.SymbolWords.{slots_of, resolved_slots}
 use Rattle.wild_clauses.specs.SlotPlaces.{stands_at}
 use Rattle.wild_slot.specs.Stub.{far_of}
 use Rattle.wild_types.specs.ResolvedFlags.{HasItsFlags}
+use Rattle.wild_types.proofs.FileLemmas.{All-own}
 use Rattle.wild_slots.specs.Order.{group_symbols, written_symbols}
 use Rattle.wild_slots.specs.Ascend.{Ascend, place_in, word_places, stub_places}
 use Rattle.wild_slots.proofs.OrderLemmas.{StandsBehind}
@@ -35,15 +34,8 @@ use Rattle.wild_slots.proofs.AscendLemmas.{Ascend-none, Ascend-one}
 
 -- ---- what holds of each symbol
 
-pub All-own : (l : Layout) (P : Symbol → Type 0) → All P l.symbols → (f : File) → All P (own_symbols l f)
-All-own l P a f = by_role (writes_slots f.role)
-  where
-    by_role : (b : Bool) → All P (if b then slice_range l.symbols f.first_symbol (f.first_symbol + f.symbol_count) else [])
-    by_role true = All-take P _ (drop f.first_symbol l.symbols) (All-drop P f.first_symbol l.symbols a)
-    by_role false = All-nil P
-
 pub All-group : (l : Layout) (P : Symbol → Type 0) → All P l.symbols → (g : Group) → All P (group_symbols l g)
-All-group l P a g = All-flat_map P (own_symbols l) g.files (λ k d lt. All-own l P a (get_or g.files k d))
+All-group l P a g = All-flat_map P (own_symbols l) g.files (λ k d lt. All-own P l (get_or g.files k d) a)
 
 pub All-written : (l : Layout) (P : Symbol → Type 0) → All P l.symbols → All P (written_symbols l)
 All-written l P a = All-flat_map P (group_symbols l) l.groups (λ k d lt. All-group l P a (get_or l.groups k d))

@@ -9,8 +9,7 @@ use Rattle.wild_symbols.specs.Strings.{Strings, string, string_bytes, offset_of,
 use Rattle.wild_symbols.specs.Laws.{LengthsOfStrings, StringsAreBehind, StringsStand}
 
 -- a string whose second piece is empty
-pub joined_with_none : (s : List ℕ) → s ++ [] ≡ s
-joined_with_none s = append-nil s
+pub ruleset joined_with_none = (append-nil)
 
 -- a string in two pieces behind what was there, and its zero behind it
 pub front_of_joined : (at : ℕ) (xs ys out : List ℕ) → at + (length xs + length ys) ≤ length out

@@ -2,10 +2,9 @@
 ghost use Rattle.std.specs.Prelude.{◌≡◌, ◌+◌, ◌≤◌, [], length, take, IfOk};
 ghost use Rattle.wild_symbols.specs.Indexes.{has_index, index_room, with_index, room_for_index, left_of_indexes, indexes_room, room_for_indexes, kept_indexes, front_indexes, indexes_joined};
 
-use crate::faults::{excessive, insufficient};
 use std::alloc::{AllocError, Global};
 use std::marker::Model;
-use wild_types::Error;
+use wild_types::{Error, excessive, insufficient};
 use wild_words::put_u32;
 
 /// The bytes of an index.
@@ -98,7 +97,7 @@ impl IndexTable {
         let room = self.room();
         let needed = self.with_one(index);
         if room < needed {
-            return Err(insufficient(self.part, self.group, room, needed));
+            return Err(insufficient(self.part, self.group, room as u64, needed as u64));
         }
         Ok(())
     }
@@ -124,7 +123,7 @@ impl IndexTable {
     {
         let room = self.room();
         if self.used < room {
-            return Err(excessive(self.part, self.group, room, self.used));
+            return Err(excessive(self.part, self.group, room as u64, self.used as u64));
         }
         Ok(())
     }
@@ -152,7 +151,7 @@ impl IndexTable {
         let room = self.room();
         let needed = self.used + self.room_of(count);
         if room < needed {
-            return Err(insufficient(self.part, self.group, room, needed));
+            return Err(insufficient(self.part, self.group, room as u64, needed as u64));
         }
         Ok(())
     }

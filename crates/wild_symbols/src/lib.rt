@@ -2,7 +2,6 @@
 #![tactic(auto)]
 
 mod dynamic;
-mod faults;
 mod index_table;
 mod laws;
 mod prefix;
@@ -14,7 +13,6 @@ mod writer;
 pub use dynamic::{
     NamedSections, SymbolFields, entry_at, listed_fields, no_fields, undefined_fields,
 };
-pub use faults::{excessive, insufficient};
 pub use index_table::IndexTable;
 pub use laws::{
     entries_are_counted, names_are_strings, prefixes_are_the_writers, runs_are_read,

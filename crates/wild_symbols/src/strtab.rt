@@ -3,10 +3,9 @@ ghost use Rattle.std.specs.Prelude.{◌≡◌, ◌+◌, ◌^◌, ◌<◌, ◌≤
 ghost use Rattle.wild_words.specs.Words.{place};
 ghost use Rattle.wild_symbols.specs.Strings.{string, with_string, room_for_string, left_of_strings, room_for_bytes, kept_strings, front_strings, strings_joined};
 
-use crate::faults::{excessive, insufficient};
 use std::alloc::{AllocError, Global};
 use std::marker::Model;
-use wild_types::Error;
+use wild_types::{Error, excessive, insufficient};
 use wild_words::{put, put_u8};
 
 /// Strings behind each other, each with a zero behind it, from the front of a group's share on. The share begins
@@ -88,7 +87,7 @@ impl StrTabWriter {
         let room = self.room();
         let needed = self.used + (front.len() + back.len() + 1);
         if room < needed {
-            return Err(insufficient(self.part, self.group, room, needed));
+            return Err(insufficient(self.part, self.group, room as u64, needed as u64));
         }
         put_string(self.share.as_mut_slice(), self.used, front, back);
         let offset = self.start + self.used as u32;
@@ -106,7 +105,7 @@ impl StrTabWriter {
     {
         let room = self.room();
         if self.used < room {
-            return Err(excessive(self.part, self.group, room, self.used));
+            return Err(excessive(self.part, self.group, room as u64, self.used as u64));
         }
         Ok(())
     }
@@ -129,7 +128,7 @@ impl StrTabWriter {
         let room = self.room();
         let needed = self.used + bytes as usize;
         if room < needed {
-            return Err(insufficient(self.part, self.group, room, needed));
+            return Err(insufficient(self.part, self.group, room as u64, needed as u64));
         }
         Ok(())
     }

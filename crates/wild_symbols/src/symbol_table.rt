@@ -6,11 +6,10 @@ ghost use Rattle.wild_records.specs.SymtabEntry.{symtab_entry_size, symtab_entry
 ghost use Rattle.wild_records.specs.declared.symtab_entry.SymtabEntry.{SymtabEntry as Entry};
 ghost use Rattle.wild_symbols.specs.Symbols.{symbol_bytes, symbols_in, IsSpelled, symbols_used, with_entry, room_for_entry, left_of_symbols, room_for_entries, kept_symbols, front_symbols, symbols_joined};
 
-use crate::faults::{excessive, insufficient};
 use std::alloc::{AllocError, Global};
 use std::marker::Model;
 use wild_records::{SymtabEntry, symtab_entry_is_read};
-use wild_types::Error;
+use wild_types::{Error, excessive, insufficient};
 use wild_words::put;
 
 /// Symbols behind each other, from the front of a group's share of a part on.
@@ -80,7 +79,12 @@ impl SymbolTable {
         let given = self.room();
         let used = self.used();
         if given - used < SymtabEntry::SIZE {
-            return Err(insufficient(self.part, self.group, given, used + SymtabEntry::SIZE));
+            return Err(insufficient(
+                self.part,
+                self.group,
+                given as u64,
+                (used + SymtabEntry::SIZE) as u64,
+            ));
         }
         Ok(())
     }
@@ -108,7 +112,7 @@ impl SymbolTable {
         let given = self.room();
         let used = self.used();
         if used < given {
-            return Err(excessive(self.part, self.group, given, used));
+            return Err(excessive(self.part, self.group, given as u64, used as u64));
         }
         Ok(())
     }
@@ -124,7 +128,7 @@ impl SymbolTable {
         let given = self.share.len() - self.behind;
         let needed = self.used() + SymtabEntry::SIZE * count as usize;
         if given < needed {
-            return Err(insufficient(self.part, self.group, given, needed));
+            return Err(insufficient(self.part, self.group, given as u64, needed as u64));
         }
         Ok(())
     }

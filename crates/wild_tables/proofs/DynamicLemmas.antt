@@ -228,9 +228,6 @@ tag_count l t ts = length-append (entry_of l t) (flat_map (entry_of l) ts)
 
 -- ---- the whole
 
-pub whole_count : (l : Layout) → dynamic_count l ≡ length (named_strings l) + length (tag_entries l)
-whole_count l = length_dynamic_entries l
-
 pub whole_entries : (l : Layout) → entries_bytes (dynamic_entries l) ≡ entries_bytes (string_entries (string_start l) (named_strings l)) ++ entries_bytes (tag_entries l)
 unfolding dynamic_entries
 whole_entries l = entries_joined (string_entries (string_start l) (named_strings l)) (tag_entries l)
@@ -272,7 +269,7 @@ pub dynamic_written : (l : Layout) (room strings tags : ℕ) (out unused : List 
     → take tags out ++ (unused ++ drop (length out - tags) (drop tags out)) ≡ dynamic_bytes l room
 dynamic_written l room strings tags out unused s t o u w =
     let n : ℕ = length out - tags in
-    let c = whole_count l in
+    let c = length_dynamic_entries l in
     let a = length-take n (drop tags out) in
     let d = length-drop tags out in
     let e : length (take n (drop tags out)) ≡ room - 16 * dynamic_count l = omega (arith, s, t, o, c, a, d) in

@@ -2,7 +2,7 @@
 use Rattle.std.proofs.Common.{◌≡◌, ◌≢◌, ℕ, suc, arith, ◌+◌, ◌==◌, Bool, true, false, not, ◌&&◌, if◌then◌else◌, List, [], ◌∷◌, ◌++◌, length, take, drop, map, replicate, ◌/◌, ◌-◌, Option, Some, None, refl, sym, ap, ◌∙◌, subst}
 use Rattle.std.specs.Prelude.{All, flat_map}
 use Rattle.std.specs.List.{list_all}
-use Rattle.std.proofs.lemmas.Bool.{and_parts, eq-eqb}
+use Rattle.std.proofs.lemmas.Bool.{and_parts, eq-eqb, not-true}
 use Rattle.std.proofs.lemmas.List.{append_assoc, append-nil}
 use Rattle.std.proofs.lemmas.Grind.{flat_map-append}
 use Rattle.wild_records.specs.Abi.Dynamic.{dt_null, dt_needed, dt_soname, dt_runpath, dt_rpath, dt_auxiliary}
@@ -16,6 +16,7 @@ use Rattle.wild_needs.specs.DynamicStrings.{NamedString, named, auxiliary_string
 use Rattle.wild_types.specs.Kinds.{needs_dynamic}
 use Rattle.wild_loader.specs.Laws.{before_null}
 use Rattle.wild_loader.specs.Tables.{tagged}
+use Rattle.wild_loader.proofs.TableLemmas.{no_tag}
 use Rattle.wild_tables.specs.Dynamic.{null_entry, dynamic_records, IsNeeded, NamesTables}
 
 -- ---- tests of numbers
@@ -23,10 +24,6 @@ use Rattle.wild_tables.specs.Dynamic.{null_entry, dynamic_records, IsNeeded, Nam
 -- another number
 abbrev differs : ℕ → ℕ → Bool
 differs m n = not (n == m)
-
-differs_is : (b : Bool) → not b ≡ true → b ≡ false
-differs_is true h = cc h
-differs_is false h = refl
 
 abbrev tag_differs : ℕ → DynamicTag → Bool
 tag_differs m t = differs m (dynamic_number t)
@@ -42,12 +39,12 @@ no_string m = differs m dt_runpath && (differs m dt_rpath && (differs m dt_sonam
 
 entry_kept : (n : ℕ) (v : Option ℕ) (rest : List DynamicEntry) → differs dt_null n ≡ true → before_null (entry_with n v ++ rest) ≡ entry_with n v ++ before_null rest
 entry_kept n None rest h = refl
-entry_kept n (Some v) rest h = let e = differs_is (n == dt_null) h in rw e refl
+entry_kept n (Some v) rest h = let e = not-true (n == dt_null) h in rw e refl
 
 entry_passed : (m n : ℕ) (v : Option ℕ) (rest : List DynamicEntry) → differs m n ≡ true → tagged m (entry_with n v ++ rest) ≡ tagged m rest
 unfolding tagged
 entry_passed m n None rest h = refl
-entry_passed m n (Some v) rest h = let e = differs_is (n == m) h in rw e refl
+entry_passed m n (Some v) rest h = let e = not-true (n == m) h in rw e refl
 
 entry_found : (n : ℕ) (v : Option ℕ) (rest : List DynamicEntry) → tagged n rest ≡ None → tagged n (entry_with n v ++ rest) ≡ v
 unfolding tagged
@@ -170,16 +167,12 @@ record IsAmong (t : DynamicTag) (front back : List DynamicTag) : Type 0 where
   ahead : list_all (tag_differs (dynamic_number t)) front ≡ true
   behind : list_all (tag_differs (dynamic_number t)) back ≡ true
 
-nothing : (n : ℕ) → tagged n [] ≡ None
-unfolding tagged
-nothing n = refl
-
 found_among : (l : Layout) (t : DynamicTag) (front back : List DynamicTag) → IsAmong t front back
     → tagged (dynamic_number t) (flat_map (entry_of l) (front ++ t ∷ back)) ≡ dynamic_entry l t
 found_among l t front back a =
     let n = dynamic_number t in
     let B = flat_map (entry_of l) back in
-    let none : tagged n B ≡ None = ap (tagged n) (sym (append-nil B)) ∙ tags_passed n l back [] a.behind ∙ nothing n in
+    let none : tagged n B ≡ None = ap (tagged n) (sym (append-nil B)) ∙ tags_passed n l back [] a.behind ∙ no_tag n in
     ap (tagged n) (flat_map-append (entry_of l) front (t ∷ back))
     ∙ tags_passed n l front (entry_of l t ++ B) a.ahead
     ∙ entry_found n (dynamic_entry l t) B none
@@ -207,7 +200,7 @@ needed_passed n [] rest o h = refl
 needed_passed n (d ∷ front) rest o h =
     let e : d.tag ≡ dt_needed = h 0 d (omega arith) in
     let further : All IsNeeded front = λ i x l. h (suc i) x (omega (arith, l)) in
-    let other : (d.tag == n) ≡ false = ap (λ (t : ℕ). t == n) e ∙ differs_is (dt_needed == n) o in
+    let other : (d.tag == n) ≡ false = ap (λ (t : ℕ). t == n) e ∙ not-true (dt_needed == n) o in
     rw other (needed_passed n front rest o further)
 
 -- how many tags stand ahead of the first of a number

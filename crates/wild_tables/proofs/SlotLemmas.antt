@@ -5,7 +5,7 @@ use Rattle.std.proofs.lemmas.Bool.{cases_Bool, ltb-false}
 use Rattle.std.specs.Prelude.{OnOk}
 use Rattle.wild_types.specs.declared.fault.Error.{Error}
 use Rattle.wild_types.specs.declared.layout.Layout.{Layout}
-use Rattle.wild_types.specs.Shares.{insufficient}
+use Rattle.wild_types.specs.Shares.{part_of, insufficient}
 use Rattle.wild_types.specs.declared.part.Role.TheVariants as role
 use Rattle.wild_relr.specs.Packing.{State}
 use Rattle.wild_relr.specs.Packed.{after_flat}
@@ -30,7 +30,7 @@ unfolding AllFit
 short_fits l g [] h = tt
 short_fits l g (r ∷ rs) h =
     elim (cases_Bool (nat_lt r.given r.used)) [
-      | inl t ↦ (let e : first_short l g (r ∷ rs) ≡ Err (insufficient l g r.role r.given r.used) = rw t refl in cc)
+      | inl t ↦ (let e : first_short l g (r ∷ rs) ≡ Err (insufficient (part_of l r.role) g r.given r.used) = rw t refl in cc)
       | inr f ↦ (let e : first_short l g rs ≡ Ok tt = rw f at h in (ltb-false _ _ f, short_fits l g rs e))
     ]
 

@@ -7,12 +7,12 @@ use Rattle.wild_relr.specs.declared.run.Choice.TheVariants.{Joins, Adds}
 use Rattle.wild_relr.specs.Packing.{choice, chosen, State, after}
 use Rattle.wild_relr.specs.Written.{word_bytes, state, Lies, IsSpelled}
 use Rattle.wild_relr.specs.declared.writer.RelrWriter.{RelrWriter}
-use Rattle.wild_relr.proofs.WriterLemmas.{length-words_in}
+use Rattle.wild_relr.proofs.WriterLemmas.{length_words_in}
 use Rattle.wild_records.specs.Relocations.{relr_size}
 use Rattle.wild_types.specs.declared.layout.Layout.{Layout}
 use Rattle.wild_types.specs.declared.part.Role.TheVariants.{RelrDyn}
 use Rattle.wild_tables.specs.Tables.{Tables, packed_used, with_words, room_for_words}
-use Rattle.wild_types.specs.Shares.{insufficient}
+use Rattle.wild_types.specs.Shares.{part_of, insufficient}
 use Rattle.wild_relr.proofs.PackedLemmas.{length-joined}
 
 grows_by_one : (c : Choice) (s : State) (room : ℕ) → 8 * length s.words ≤ room → room < 8 * length (chosen c s).words → 8 * length (chosen c s).words ≡ 8 * length s.words + 8
@@ -24,7 +24,7 @@ after_needs : (s : State) (p room : ℕ) → 8 * length s.words ≤ room → roo
 after_needs s p room h l = grows_by_one (choice s.run p) s room h l
 
 pub after_short : (l : Layout) (t : Tables) (p : ℕ) → packed_used t ≤ t.packed.room → t.packed.room < relr_size * length (after t.packed.state p).words
-    → Err (insufficient l t.group RelrDyn t.packed.room (packed_used t + relr_size)) ≡ room_for_words l (with_words (after t.packed.state p) t)
+    → Err (insufficient (part_of l RelrDyn) t.group t.packed.room (packed_used t + relr_size)) ≡ room_for_words l (with_words (after t.packed.state p) t)
 after_short l t p h m =
     let e = after_needs t.packed.state p t.packed.room h m in
     let short : nat_lt t.packed.room (8 * length (after t.packed.state p).words) ≡ true = lt-ltb _ _ m in
@@ -33,4 +33,4 @@ after_short l t p h m =
 -- the bytes of words that stand in a part
 pub words_stand : (bs : List ℕ) (w : RelrWriter) → Lies bs w → take (relr_size * length (state bs w).words) bs ≡ word_bytes (state bs w).words
 unfolding IsSpelled
-words_stand bs w s = let e = length-words_in bs w.count in rw e s.spelled
+words_stand bs w s = let e = length_words_in bs w.count in rw e s.spelled

@@ -14,7 +14,7 @@ use Rattle.wild_types.specs.declared.fault.Fault.{Fault}
 use Rattle.wild_types.specs.declared.fault.Fault.TheVariants as faults
 use Rattle.wild_types.specs.Faults.{nowhere}
 use Rattle.wild_types.specs.declared.layout.Layout.{Layout}
-use Rattle.wild_types.specs.Shares.{insufficient, excessive}
+use Rattle.wild_types.specs.Shares.{part_of, insufficient, excessive}
 use Rattle.wild_tables.specs.Entries.{Entries}
 use Rattle.wild_tables.specs.Words.{Words}
 use Rattle.wild_tables.specs.GotWords.{GotWords, Stubs}
@@ -52,12 +52,12 @@ rooms t =
 -- the first that has too little room
 abbrev pub first_short : Layout → ℕ → List Room → Result (Unit {0}) Error
 first_short l group [] = Ok tt
-first_short l group (r ∷ rs) = if nat_lt r.given r.used then Err (insufficient l group r.role r.given r.used) else first_short l group rs
+first_short l group (r ∷ rs) = if nat_lt r.given r.used then Err (insufficient (part_of l r.role) group r.given r.used) else first_short l group rs
 
 -- the first that has room left
 abbrev pub first_left : Layout → ℕ → List Room → Result (Unit {0}) Error
 first_left l group [] = Ok tt
-first_left l group (r ∷ rs) = if nat_lt r.used r.given then Err (excessive l group r.role r.given r.used) else first_left l group rs
+first_left l group (r ∷ rs) = if nat_lt r.used r.given then Err (excessive (part_of l r.role) group r.given r.used) else first_left l group rs
 
 -- each table has its room; else by how much the first has not
 abbrev pub room_for_all : Layout → Tables → Result (Unit {0}) Error

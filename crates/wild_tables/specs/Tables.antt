@@ -106,14 +106,14 @@ site_word l place value = if packs l place then value else 0
 abbrev pub room_for_entries : Layout → Tables → Result (Unit {0}) Error
 room_for_entries l t =
     if nat_lt t.relative.room (relative_used t)
-    then Err (insufficient l t.group role.RelaDynRelative t.relative.room (relative_used t))
+    then Err (insufficient (part_of l role.RelaDynRelative) t.group t.relative.room (relative_used t))
     else Ok tt
 
 -- the words have their room; else by how much
 abbrev pub room_for_words : Layout → Tables → Result (Unit {0}) Error
 room_for_words l t =
     if nat_lt t.packed.room (packed_used t)
-    then Err (insufficient l t.group role.RelrDyn t.packed.room (packed_used t))
+    then Err (insufficient (part_of l role.RelrDyn) t.group t.packed.room (packed_used t))
     else Ok tt
 
 -- the table that the address at a place goes to has its room

@@ -9,9 +9,7 @@ use Rattle.wild_types.specs.declared.kind.OutputKind.{OutputKind}
 use Rattle.wild_types.specs.declared.options.Options.{Options}
 use Rattle.wild_types.specs.declared.symbol.Resolution.{Resolution}
 use Rattle.wild_types.specs.declared.fault.Error.{Error}
-use Rattle.wild_types.specs.declared.fault.Fault.{Fault}
-use Rattle.wild_types.specs.declared.fault.Fault.TheVariants as faults
-use Rattle.wild_types.specs.Faults.{nowhere}
+use Rattle.wild_types.specs.Shares.{insufficient, excessive}
 use Rattle.wild_slot.specs.declared.slot.Setting.{Setting}
 use Rattle.wild_slot.specs.declared.slot.SlotWord.{SlotWord}
 use Rattle.wild_slot.specs.declared.slot_parts.WordPart.{WordPart}
@@ -48,14 +46,11 @@ content_sizes options at c =
 abbrev pub needed_sizes : OutputKind → Options → Resolution → List ℕ
 needed_sizes kind options r = content_sizes options (unwrap_or r.got_address 0) (slot (open_setting kind options) None r)
 
-abbrev pub differs : Fault → Result (Unit {0}) Error
-differs f = Err (record { fault = f; at = nowhere })
-
 -- of the part in that place
 abbrev pub first_difference : ℕ → List ℕ → List ℕ → Result (Unit {0}) Error
 first_difference i [] ns = Ok tt
 first_difference i (g ∷ gs) [] = Ok tt
 first_difference i (g ∷ gs) (n ∷ ns) =
-    if nat_lt g n then differs (faults.InsufficientAllocation i 0 g n)
-    else if nat_lt n g then differs (faults.ExcessiveAllocation i 0 g n)
+    if nat_lt g n then Err (insufficient i 0 g n)
+    else if nat_lt n g then Err (excessive i 0 g n)
     else first_difference (i + 1) gs ns

@@ -152,7 +152,7 @@ fn write_strings(layout: &Layout, out: &mut [u8]) -> usize
 }
 
 /// Writes the entries of the last file into their room, and zeros behind them.
-#[tactic(auto, using(crate::proofs::DynamicLemmas::whole_count, crate::proofs::DynamicLemmas::whole_entries))]
+#[tactic(auto, using(wild_needs::proofs::DynamicLemmas::length_dynamic_entries, crate::proofs::DynamicLemmas::whole_entries))]
 pub fn write_dynamic(layout: &Layout, out: &mut [u8])
     requires { dynamic_entry_size * dynamic_count layout.now ≤ length out.old }
     ensures { out.new ≡ dynamic_bytes layout.now (length out.old) }

@@ -11,7 +11,7 @@ use crate::stub::StubTable;
 use crate::word::WordTable;
 use wild_records::{Rela, Relr};
 use wild_slot::WORD_SIZE;
-use wild_types::{Error, Layout, Role, excessive, insufficient};
+use wild_types::{Error, Layout, Role, excessive, insufficient, part_of};
 
 /// How many bytes a group's share of a part has, and how many of them are used or needed.
 #[derive(Clone, Copy)]
@@ -27,7 +27,12 @@ pub(crate) fn first_short(layout: &Layout, group: usize, rooms: &[Room]) -> Resu
 {
     for room in rooms {
         if room.given < room.used {
-            return Err(insufficient(layout, group, room.role, room.given, room.used));
+            return Err(insufficient(
+                part_of(layout, room.role),
+                group,
+                room.given as u64,
+                room.used as u64,
+            ));
         }
     }
     Ok(())
@@ -39,7 +44,12 @@ pub(crate) fn first_left(layout: &Layout, group: usize, rooms: &[Room]) -> Resul
 {
     for room in rooms {
         if room.used < room.given {
-            return Err(excessive(layout, group, room.role, room.given, room.used));
+            return Err(excessive(
+                part_of(layout, room.role),
+                group,
+                room.given as u64,
+                room.used as u64,
+            ));
         }
     }
     Ok(())

@@ -1,14 +1,14 @@
 //! Whether sizes of parts are those that a resolution needs.
 ghost use Rattle.std.specs.Prelude.{◌≡◌, ◌*◌, ◌≤◌, length};
 ghost use Rattle.wild_records.specs.Relocations.{rela_size};
-ghost use Rattle.wild_tables.specs.Verify.{open_setting, words_size, entries_size, content_sizes, needed_sizes, differs, first_difference};
+ghost use Rattle.wild_tables.specs.Verify.{open_setting, words_size, entries_size, content_sizes, needed_sizes, first_difference};
 
 use wild_records::{Rela, Relr};
 use wild_slot::{
     EntryPart, STUB_SIZE, Setting, SlotWord, SymbolSlots, WORD_SIZE, WordPart, count_entries,
     count_flat, count_words, slot_of,
 };
-use wild_types::{At, Error, Fault, Machine, Options, OutputKind, Resolution, Tls};
+use wild_types::{Error, Machine, Options, OutputKind, Resolution, Tls, excessive, insufficient};
 
 /// How many roles a part can have.
 pub const ROLES: usize = 30;
@@ -81,32 +81,13 @@ fn first_difference(given: &[u64], needed: &[u64]) -> Result<(), Error>
     for (part, size) in given.iter().enumerate() {
         let need = needed[part];
         if *size < need {
-            return differs(Fault::InsufficientAllocation {
-                part,
-                group: 0,
-                given: *size,
-                needed: need,
-            });
+            return Err(insufficient(part, 0, *size, need));
         }
         if need < *size {
-            return differs(Fault::ExcessiveAllocation {
-                part,
-                group: 0,
-                given: *size,
-                needed: need,
-            });
+            return Err(excessive(part, 0, *size, need));
         }
     }
     Ok(())
-}
-
-fn differs(fault: Fault) -> Result<(), Error>
-    ensures { result ≡ differs fault }
-{
-    Err(Error {
-        fault,
-        at: At::NOWHERE,
-    })
 }
 
 /// Whether the sizes of the parts, one for each role in their order, are those that the slots of a resolution need: its

@@ -37,7 +37,7 @@ impl WordTable {
     }
 
     /// Adds a word behind the others.
-    #[tactic(auto, using(crate::proofs::WordTableLemmas::length_words_in))]
+    #[tactic(auto, using(wild_relr::proofs::WriterLemmas::length_words_in))]
     pub fn push(&mut self, word: u64)
         requires { 8 * (length self.old.words + 1) ≤ self.old.room }
         ensures words { self.new.words ≡ self.old.words ++ word ∷ [] }
@@ -57,7 +57,7 @@ impl WordTable {
     }
 
     /// How many bytes the words have.
-    #[tactic(auto, using(crate::proofs::WordTableLemmas::length_words_in))]
+    #[tactic(auto, using(wild_relr::proofs::WriterLemmas::length_words_in))]
     pub fn used(&self) -> usize
         ensures used { result ≡ 8 * length self.now.words }
         ensures fits { result ≤ self.now.room }

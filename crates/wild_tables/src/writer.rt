@@ -10,7 +10,7 @@ ghost use Rattle.wild_tables.specs.Entries.{rela_bytes};
 ghost use Rattle.wild_tables.specs.Tables.{no_entries, relative_used, packed_used, relative_entry, with_entry, with_words, with_address, with_flat, site_word, room_for_entries, room_for_words, room_for};
 ghost use Rattle.wild_tables.specs.Rooms.{rooms, left_over};
 ghost use Rattle.wild_types.specs.Lookups.{packs};
-ghost use Rattle.wild_types.specs.Shares.{insufficient};
+ghost use Rattle.wild_types.specs.Shares.{part_of, insufficient};
 ghost use Rattle.wild_types.specs.declared.part.Role.TheVariants.{RelrDyn};
 
 mod slots;
@@ -92,19 +92,29 @@ impl TableWriter {
             Err(_) => {
                 let given = self.relative.room();
                 let needed = self.relative.used() + Rela::SIZE;
-                Err(insufficient(layout, self.group, Role::RelaDynRelative, given, needed))
+                Err(insufficient(
+                    part_of(layout, Role::RelaDynRelative),
+                    self.group,
+                    given as u64,
+                    needed as u64,
+                ))
             }
         }
     }
 
     /// The fault of the words' part, which has no room for one more.
     fn no_room_for_word(&self, layout: &Layout) -> Error
-        ensures is { result ≡ insufficient layout.now self.now.group RelrDyn self.now.packed.room (packed_used self.now + relr_size) }
+        ensures is { result ≡ insufficient (part_of layout.now RelrDyn) self.now.group self.now.packed.room (packed_used self.now + relr_size) }
         ensures fits { packed_used self.now ≤ self.now.packed.room }
     {
         let given = self.packed.room();
         let needed = self.packed.used() + Relr::SIZE;
-        insufficient(layout, self.group, Role::RelrDyn, given, needed)
+        insufficient(
+            part_of(layout, Role::RelrDyn),
+            self.group,
+            given as u64,
+            needed as u64,
+        )
     }
 
     /// One place more that is packed.

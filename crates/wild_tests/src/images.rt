@@ -6,7 +6,6 @@ use crate::layouts::layout_of;
 use crate::outside::{CALM, answer};
 use crate::plans::{LINKED, MOVED, PACKED, SLOTTED, SMALLEST, THREE, VERSIONED, changed};
 use std::alloc::Global;
-use std::process::Abort;
 use std::sync::atomic::{AtomicU64, Ordering};
 use std::test::*;
 use std::thread::Threads;
@@ -15,7 +14,7 @@ use wild_image::{
     ElfX86_64, GroupPiece, SizedOutput, check_shares, write, write_gated, write_group,
 };
 use wild_made::make_plan;
-use wild_plan::{Layout, Part, well_formed};
+use wild_plan::{Error, Layout, Part, well_formed};
 
 /// Computed by hand from the definitions.
 pub(crate) const SMALLEST_TEXT: &str = "image 344
@@ -189,14 +188,16 @@ fn text_of(alloc: Global, case: &Told) -> Result<String, Fail> {
 
 #[test]
 fn whole_texts(rt: HostRuntime) -> Result<(), Fail> {
-    let alloc = rt.alloc();
     for case in &WHOLE {
-        let plan = changed(alloc, case.plan, case.changes)?;
-        let whole = text_of(alloc, case)?;
+        let plan = changed(rt.alloc(), case.plan, case.changes)?;
+        let whole = text_of(rt.alloc(), case)?;
         for workers in ["1", "2", "64"] {
-            let (status, text) = answer(&rt, alloc, &["link", workers], plan.as_bytes(), &CALM)?;
-            assert!(rt; status == 0);
-            assert_eq!(rt; text.as_slice(), whole.as_bytes());
+            let words = ["link", workers];
+            let (status, text) = answer(&rt, rt.alloc(), &words, plan.as_bytes(), &CALM)?;
+            assert!(rt;
+                status == 0 && text.as_slice() == whole.as_bytes(),
+                "{workers}"
+            );
         }
     }
     Ok(())
@@ -253,34 +254,42 @@ fn counts_of(alloc: Global, pieces: &[GroupPiece], sections: usize) -> Result<Ve
     Ok(counts)
 }
 
-/// The pieces of all groups are the image.
-fn are_pieces(
-    rt: &(impl Abort + Sync),
-    alloc: Global,
-    layout: &Layout,
-    image: &SizedOutput,
-) -> Result<(), Fail>
+/// Whether each part of the image has what the groups have of it.
+fn has_parts(layout: &Layout, pieces: &[GroupPiece], image: &[u8]) -> bool {
+    for (i, part) in layout.parts.as_slice().iter().enumerate() {
+        if !has_part(layout, i, part, pieces, image) {
+            return false;
+        }
+    }
+    true
+}
+
+/// Whether the pieces of all groups are the image.
+fn are_pieces(alloc: Global, layout: &Layout, image: &SizedOutput) -> Result<bool, Fail>
     requires { layout.now.machine ≡ machine.X86_64 }
 {
     let pieces = pieces_of(alloc, layout)?;
-    assert_eq!(rt; pieces.len(), layout.groups.len());
-    for (i, part) in layout.parts.as_slice().iter().enumerate() {
-        assert!(rt;
-            has_part(layout, i, part, &pieces, image.out.as_slice()),
-            "part {i}"
-        );
-    }
-    let counts = counts_of(alloc, &pieces, image.counts.len())?;
-    assert_eq!(rt; counts.as_slice(), image.counts.as_slice());
-    Ok(())
+    let counts = counts_of(alloc, pieces.as_slice(), image.counts.len())?;
+    Ok(
+        pieces.len() == layout.groups.len()
+            && has_parts(layout, pieces.as_slice(), image.out.as_slice())
+            && counts.as_slice() == image.counts.as_slice(),
+    )
+}
+
+/// The image of a layout by one worker.
+fn written(rt: &(impl Threads + Sync), alloc: Global, layout: &Layout) -> Result<SizedOutput, Error>
+    requires { layout.now.machine ≡ machine.X86_64 }
+{
+    write::<ElfX86_64>(rt, alloc, layout, 1)
 }
 
 #[test]
 fn pieces_of_groups(rt: HostRuntime) -> Result<(), Fail> {
     for plan in [SMALLEST, THREE, SLOTTED, MOVED, PACKED, LINKED, VERSIONED] {
         let layout = layout_of(rt.alloc(), plan)?;
-        let image = write::<ElfX86_64>(&rt, rt.alloc(), &layout, 1)?;
-        are_pieces(&rt, rt.alloc(), &layout, &image)?;
+        let image = written(&rt, rt.alloc(), &layout)?;
+        assert!(rt; are_pieces(rt.alloc(), &layout, &image)?);
     }
     Ok(())
 }
@@ -314,7 +323,6 @@ fn two_workers_meet(rt: HostRuntime) -> Result<(), Fail> {
         met: AtomicU64::new(0),
     };
     let image = write_gated::<ElfX86_64>(&rt, rt.alloc(), &layout, 2, &gate)?;
-    assert_eq!(rt; image.out.len(), 472);
-    assert_eq!(rt; gate.met.load(Ordering::SeqCst), 1);
+    assert!(rt; image.out.len() == 472 && gate.met.load(Ordering::SeqCst) == 1);
     Ok(())
 }

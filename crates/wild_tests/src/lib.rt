@@ -20,6 +20,10 @@ mod plans;
 #[cfg(test)]
 mod program;
 #[cfg(test)]
+mod symbols;
+#[cfg(test)]
+mod tables;
+#[cfg(test)]
 mod versions;
 #[cfg(test)]
 mod wrong;

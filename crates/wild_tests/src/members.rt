@@ -1,7 +1,10 @@
 //! What members of plans mean.
 use crate::layouts::layout_of;
+use std::alloc::Global;
 use std::test::*;
-use wild_plan::{FileRole, Role, Tls};
+use wild_plan::{
+    File, FileRole, Group, Layout, Options, Part, Role, Symbol, VersionDefinition, VersionNeeds,
+};
 
 const ROLES: [(&str, Role); 25] = [
     ("raw", Role::Raw),
@@ -31,14 +34,17 @@ const ROLES: [(&str, Role); 25] = [
     ("strtab", Role::Strtab),
 ];
 
+/// Whether the layout has one part, of that role.
+fn has_role(layout: &Layout, role: Role) -> bool {
+    matches!(layout.parts.as_slice(), [part] if part.role == role)
+}
+
 #[test]
 fn words_of_roles(rt: HostRuntime) -> Result<(), Fail> {
-    let alloc = rt.alloc();
     for (word, role) in &ROLES {
-        let plan = format!(in alloc; r#"{{"parts":[{{"role":"{word}"}}]}}"#)?;
-        let layout = layout_of(alloc, plan.as_str())?;
+        let plan = format!(in rt.alloc(); r#"{{"parts":[{{"role":"{word}"}}]}}"#)?;
         assert!(rt;
-            matches!(layout.parts.as_slice(), [part] if part.role == *role),
+            holds(rt.alloc(), plan.as_str(), Case::Role(*role))?,
             "{word}"
         );
     }
@@ -64,21 +70,20 @@ const FLAGS: [(&str, u32); 16] = [
     ("CANONICAL_PLT_GOT_FOR_ADDRESS", 0x8000),
 ];
 
-/// A resolution has its symbol's flags.
+/// Whether the layout's symbol has these flags, and so has its resolution.
+fn has_flags(layout: &Layout, wanted: u32) -> bool {
+    matches!(layout.symbols.as_slice(), [s] if s.flags.0 == wanted
+        && matches!(s.resolution, Some(found) if found.flags.0 == wanted))
+}
+
 #[test]
 fn words_of_flags(rt: HostRuntime) -> Result<(), Fail> {
-    let alloc = rt.alloc();
     for (word, bit) in &FLAGS {
-        let plan = format!(in alloc;
+        let plan = format!(in rt.alloc();
             r#"{{"symbols":[{{"flags":["GOT","{word}"],"resolution":{{}}}}]}}"#
         )?;
-        let layout = layout_of(alloc, plan.as_str())?;
-        let wanted = *bit | 0x20;
-        assert!(rt;
-            matches!(layout.symbols.as_slice(), [s] if s.flags.0 == wanted
-                && matches!(s.resolution, Some(found) if found.flags.0 == wanted)),
-            "{word}"
-        );
+        let case = Case::Flags(*bit | 0x20);
+        assert!(rt; holds(rt.alloc(), plan.as_str(), case)?, "{word}");
     }
     Ok(())
 }
@@ -86,70 +91,166 @@ fn words_of_flags(rt: HostRuntime) -> Result<(), Fail> {
 const WHOLE: &str =
     r#"{"kind":"static_pie","options":{"relr":true,"strip_all":true,"new_dtags":true,"nodelete":true,"textrel":true,"versions":true,"got_plt_syms":true,"rpath":"2F6c","auxiliary":["61",""]},"parts":[{"role":"file_header","size":64,"address":4194304,"align":8},{}],"tls":{"end":16},"got_base":8192,"got_header":3,"tlsld":12312,"symbols":[{"name":"6F","version":2,"emit":true,"resolution":{"raw_value":4198400,"got":12328,"plt":null}},{"resolution":{"plt":8192}},{}],"groups":[{"dynstr_start":1,"strtab_start":2,"symtab_local_start":24,"symtab_global_start":48,"files":[{"role":"dynamic","verneed":{"last":true,"versions":[{"name":"5632","index":65535}]}},{"role":"script","verneed":null},{"role":"synthetic"}]}],"dynsyms":[{"symbol":1,"name":"66","version":32770}],"sysv_hash":{"buckets":3},"gnu_hash":{"buckets":1,"bloom_count":2,"bloom_shift":6,"base":4294967295},"verdefs":[{"name":"61"},{"name":"62","parent":1}],"entry":{"symbol":1}}"#;
 
+fn has_addresses(layout: &Layout) -> bool {
+    layout.got_base == 8192
+        && layout.got_header == 3
+        && layout.tlsld == Some(12312)
+        && layout.tls.start == 0
+        && layout.tls.end == 16
+        && layout.tls.align == 1
+}
+
+fn has_parts(parts: &[Part]) -> bool {
+    matches!(parts, [a, b] if a.size == 64 && a.address == 4194304 && a.align == 8 && b.align == 1)
+}
+
+fn has_tables(layout: &Layout) -> bool {
+    matches!(layout.sysv_hash, Some(shape) if shape.buckets == 3)
+        && matches!(layout.gnu_hash, Some(shape) if shape.bloom_shift == 6 && shape.base == u32::MAX)
+}
+
+fn has_parents(versions: &[VersionDefinition]) -> bool {
+    matches!(versions, [a, b] if a.parent.is_none() && b.parent == Some(1))
+}
+
+fn has_output(layout: &Layout) -> bool {
+    layout.kind.is_static_executable()
+        && layout.kind.is_position_independent()
+        && layout.entry.is_some()
+        && has_parts(layout.parts.as_slice())
+        && has_parents(layout.verdefs.as_slice())
+}
+
+fn has_options(asked: &Options) -> bool {
+    asked.relr
+        && asked.new_dtags
+        && asked.nodelete
+        && asked.textrel
+        && asked.strip_all
+        && asked.versions
+        && asked.got_plt_syms
+        && !asked.execstack
+        && !asked.origin
+        && !asked.interpose
+        && !asked.static_tls
+}
+
+fn has_texts(asked: &Options) -> bool {
+    matches!(&asked.rpath, Some(path) if path.as_slice() == b"/l".as_slice())
+        && asked.soname.is_none()
+        && asked.auxiliary.len() == 2
+}
+
+fn has_asked(layout: &Layout) -> bool {
+    has_options(&layout.options) && has_texts(&layout.options)
+}
+
 #[test]
 fn members_of_the_output(rt: HostRuntime) -> Result<(), Fail> {
-    let layout = layout_of(rt.alloc(), WHOLE)?;
-    assert!(rt; layout.kind.is_static_executable() && layout.kind.is_position_independent());
-    assert!(rt; layout.got_base == 8192 && layout.got_header == 3 && layout.tlsld == Some(12312));
-    assert!(rt;
-        matches!(
-            layout.tls,
-            Tls {
-                start: 0,
-                end: 16,
-                align: 1
-            }
-        )
-    );
-    assert!(rt;
-        matches!(layout.parts.as_slice(), [a, b] if a.size == 64 && a.address == 4194304 && a.align == 8 && b.align == 1)
-    );
-    assert!(rt; matches!(layout.sysv_hash, Some(shape) if shape.buckets == 3));
-    assert!(rt;
-        matches!(layout.gnu_hash, Some(shape) if shape.bloom_shift == 6 && shape.base == u32::MAX)
-    );
-    assert!(rt;
-        matches!(layout.verdefs.as_slice(), [a, b] if a.parent.is_none() && b.parent == Some(1))
-    );
-    assert!(rt; layout.entry.is_some());
-    let asked = &layout.options;
-    assert!(rt; asked.relr && asked.new_dtags && asked.nodelete && asked.textrel);
-    assert!(rt; asked.strip_all && asked.versions && asked.got_plt_syms);
-    assert!(rt; !asked.execstack && !asked.origin && !asked.interpose && !asked.static_tls);
-    assert!(rt; matches!(&asked.rpath, Some(path) if path.as_slice() == b"/l".as_slice()));
-    assert!(rt; asked.soname.is_none() && asked.auxiliary.as_slice().len() == 2);
+    assert!(rt; holds(rt.alloc(), WHOLE, Case::Output)?);
     Ok(())
+}
+
+fn is_code(symbol: &Symbol) -> bool {
+    symbol.emit
+        && symbol.version == 2
+        && symbol.name.as_slice() == b"o".as_slice()
+        && matches!(symbol.resolution, Some(r) if r.raw_value == 4198400
+            && r.got_address == Some(12328) && r.plt_address.is_none())
+}
+
+fn is_stub(symbol: &Symbol) -> bool {
+    matches!(symbol.resolution, Some(r) if r.got_address.is_none() && r.plt_address == Some(8192))
+}
+
+fn is_nothing(symbol: &Symbol) -> bool {
+    !symbol.emit && symbol.version == 0 && symbol.resolution.is_none()
+}
+
+fn are_symbols(symbols: &[Symbol]) -> bool {
+    matches!(symbols, [code, stub, none] if is_code(code) && is_stub(stub) && is_nothing(none))
+}
+
+fn is_last_need(needs: &VersionNeeds) -> bool {
+    needs.last && matches!(needs.versions.as_slice(), [v] if v.index == 65535)
+}
+
+fn are_files(files: &[File]) -> bool {
+    matches!(files, [library, script, made]
+        if matches!(&library.verneed, Some(needs) if is_last_need(needs))
+            && script.role == FileRole::Script
+            && script.verneed.is_none()
+            && made.role == FileRole::Synthetic)
+}
+
+fn has_starts(group: &Group) -> bool {
+    group.dynstr_start == 1
+        && group.strtab_start == 2
+        && group.symtab_local_start == 24
+        && group.symtab_global_start == 48
+}
+
+fn are_groups(groups: &[Group]) -> bool {
+    matches!(groups, [group] if has_starts(group) && are_files(group.files.as_slice()))
+}
+
+fn has_symbols(layout: &Layout) -> bool {
+    are_symbols(layout.symbols.as_slice())
+        && matches!(layout.dynsyms.as_slice(), [f] if f.version == 32770)
+}
+
+fn has_groups(layout: &Layout) -> bool {
+    are_groups(layout.groups.as_slice())
 }
 
 #[test]
 fn members_of_symbols_and_files(rt: HostRuntime) -> Result<(), Fail> {
-    let layout = layout_of(rt.alloc(), WHOLE)?;
-    assert!(rt;
-        matches!(layout.symbols.as_slice(), [code, stub, none] if code.emit && code.version == 2
-            && code.name.as_slice() == b"o".as_slice()
-            && matches!(code.resolution, Some(r) if r.raw_value == 4198400 && r.got_address == Some(12328) && r.plt_address.is_none())
-            && matches!(stub.resolution, Some(r) if r.got_address.is_none() && r.plt_address == Some(8192))
-            && !none.emit && none.version == 0 && none.resolution.is_none())
-    );
-    assert!(rt; matches!(layout.dynsyms.as_slice(), [f] if f.version == 32770));
-    assert!(rt;
-        matches!(layout.groups.as_slice(), [group] if group.dynstr_start == 1 && group.strtab_start == 2
-            && group.symtab_local_start == 24 && group.symtab_global_start == 48
-            && matches!(group.files.as_slice(), [library, script, made]
-                if matches!(&library.verneed, Some(needs) if needs.last
-                    && matches!(needs.versions.as_slice(), [v] if v.index == 65535))
-                && script.role == FileRole::Script && script.verneed.is_none()
-                && made.role == FileRole::Synthetic))
-    );
+    assert!(rt; holds(rt.alloc(), WHOLE, Case::Files)?);
     Ok(())
+}
+
+fn asks_nothing(asked: &Options) -> bool {
+    !asked.strip_all && !asked.versions && !asked.got_plt_syms
+}
+
+fn has_nothing(layout: &Layout) -> bool {
+    asks_nothing(&layout.options)
+        && layout.sysv_hash.is_none()
+        && layout.gnu_hash.is_none()
+        && layout.verdefs.len() == 0
+        && layout.entry.is_none()
 }
 
 #[test]
 fn members_that_are_absent(rt: HostRuntime) -> Result<(), Fail> {
-    let layout = layout_of(rt.alloc(), "{}")?;
-    let asked = &layout.options;
-    assert!(rt; !asked.strip_all && !asked.versions && !asked.got_plt_syms);
-    assert!(rt; layout.sysv_hash.is_none() && layout.gnu_hash.is_none());
-    assert!(rt; layout.verdefs.as_slice().is_empty() && layout.entry.is_none());
+    assert!(rt; holds(rt.alloc(), "{}", Case::Absent)?);
     Ok(())
+}
+
+/// What a layout has.
+#[derive(Clone, Copy)]
+enum Case {
+    Role(Role),
+    Flags(u32),
+    Output,
+    Files,
+    Absent,
+}
+
+fn has_members(layout: &Layout, case: Case) -> bool {
+    match case {
+        Case::Role(role) => has_role(layout, role),
+        Case::Flags(flags) => has_flags(layout, flags),
+        Case::Output => {
+            has_output(layout) && has_addresses(layout) && has_tables(layout) && has_asked(layout)
+        }
+        Case::Files => has_symbols(layout) && has_groups(layout),
+        Case::Absent => has_nothing(layout),
+    }
+}
+
+/// Whether the plan's layout has that. One function has the layout, whose proof is long.
+fn holds(alloc: Global, plan: &str, case: Case) -> Result<bool, Fail> {
+    let layout = layout_of(alloc, plan)?;
+    Ok(has_members(&layout, case))
 }

@@ -7,46 +7,45 @@ use std::test::*;
 use std::thread::Threads;
 use wild_program::{SureSink, SureSource, run_surely};
 
+/// Words that are no command.
+const NO_COMMANDS: &[&[&str]] = &[
+    &[],
+    &["link"],
+    &["link", "0"],
+    &["link", "65"],
+    &["link", "01"],
+    &["make", "1"],
+    &["make", "0", "1"],
+    &["make", "01", "1"],
+    &["make", "1", "01"],
+    &["make", "65537", "1"],
+    &["--help"],
+];
+
 #[test]
 fn no_command(rt: HostRuntime) -> Result<(), Fail> {
-    let none: [&[&str]; 11] = [
-        &[],
-        &["link"],
-        &["link", "0"],
-        &["link", "65"],
-        &["link", "01"],
-        &["make", "1"],
-        &["make", "0", "1"],
-        &["make", "01", "1"],
-        &["make", "1", "01"],
-        &["make", "65537", "1"],
-        &["--help"],
-    ];
-    for words in &none {
-        let (status, text) = answer(&rt, rt.alloc(), *words, b"{}", &CALM)?;
-        assert!(rt; status == 2);
-        assert_eq!(rt; text.as_slice(), b"usage: link W | make N W\n".as_slice());
+    for words in NO_COMMANDS {
+        let (status, text) = answer(&rt, rt.alloc(), words, b"{}", &CALM)?;
+        let usage = b"usage: link W | make N W\n".as_slice();
+        assert!(rt; status == 2 && text.as_slice() == usage, "{words:?}");
     }
     Ok(())
 }
 
 #[test]
 fn failing_reads(rt: HostRuntime) -> Result<(), Fail> {
+    let plan = SMALLEST.as_bytes();
     for call in 0..3u64 {
         let outside = Outside {
             reads: &[call],
             most: 700,
             ..CALM
         };
-        let (status, text) = answer(
-            &rt,
-            rt.alloc(),
-            &["link", "1"],
-            SMALLEST.as_bytes(),
-            &outside,
-        )?;
-        assert!(rt; status == 4);
-        assert_eq!(rt; text.as_slice(), b"read fault\n".as_slice());
+        let (status, text) = answer(&rt, rt.alloc(), &["link", "1"], plan, &outside)?;
+        assert!(rt;
+            status == 4 && text.as_slice() == b"read fault\n".as_slice(),
+            "{call}"
+        );
     }
     Ok(())
 }
@@ -56,17 +55,21 @@ fn cut_plans(rt: HostRuntime) -> Result<(), Fail> {
     let plan = SMALLEST.as_bytes();
     for end in 0..plan.len() {
         let (status, text) = answer(&rt, rt.alloc(), &["link", "64"], &plan[..end], &CALM)?;
-        assert!(rt; status == 3);
-        assert_eq!(rt; text.as_slice(), b"not a plan: json\n".as_slice());
+        let is_so = status == 3 && text.as_slice() == b"not a plan: json\n".as_slice();
+        assert!(rt; is_so, "{end}");
     }
     Ok(())
+}
+
+/// Whether just so many bytes of the whole text are taken.
+fn is_front(taken: &[u8], count: usize) -> bool {
+    taken.len() == count && SMALLEST_TEXT.as_bytes().starts_with(taken)
 }
 
 /// Each write of the text fails, or takes nothing.
 #[test]
 fn failing_writes(rt: HostRuntime) -> Result<(), Fail> {
-    let words = ["link", "1"];
-    let whole = SMALLEST_TEXT.as_bytes();
+    let plan = SMALLEST.as_bytes();
     for call in 0..90u64 {
         let fails = Outside {
             writes: &[call],
@@ -79,9 +82,9 @@ fn failing_writes(rt: HostRuntime) -> Result<(), Fail> {
             ..CALM
         };
         for outside in &[fails, takes_none] {
-            let (status, taken) = answer(&rt, rt.alloc(), &words, SMALLEST.as_bytes(), outside)?;
-            assert!(rt; status == 5);
-            assert!(rt; whole.starts_with(&taken) && taken.len() == 8 * call as usize);
+            let (status, taken) = answer(&rt, rt.alloc(), &["link", "1"], plan, outside)?;
+            let is_so = status == 5 && is_front(taken.as_slice(), 8 * call as usize);
+            assert!(rt; is_so, "{call}");
         }
     }
     Ok(())
@@ -100,31 +103,34 @@ fn long_plans(rt: HostRuntime) -> Result<(), Fail> {
     let plan = changed(alloc, SMALLEST, &[(last, items.as_str())])?;
     let text = changed(alloc, SMALLEST_TEXT, &[("count 1 1\n", "count 1 1201\n")])?;
     let (status, said) = answer(&rt, alloc, &["link", "2"], plan.as_bytes(), &CALM)?;
-    assert!(rt; status == 0);
-    assert_eq!(rt; said.as_slice(), text.as_bytes());
+    assert!(rt; status == 0 && said.as_slice() == text.as_bytes());
     Ok(())
 }
 
+/// Words of a made plan, and its summary.
+const MADE: &[(&[&str], &str)] = &[
+    (
+        &["make", "1", "1"],
+        "groups 1\nimage 408\ncount 1 8\nsum 16871\n",
+    ),
+    (
+        &["make", "2", "1"],
+        "groups 2\nimage 472\ncount 1 16\nsum 25303\n",
+    ),
+    (
+        &["make", "2", "2"],
+        "groups 2\nimage 472\ncount 1 16\nsum 25303\n",
+    ),
+];
+
 #[test]
 fn made_plans(rt: HostRuntime) -> Result<(), Fail> {
-    let rows: [(&[&str], &str); 3] = [
-        (
-            &["make", "1", "1"],
-            "groups 1\nimage 408\ncount 1 8\nsum 16871\n",
-        ),
-        (
-            &["make", "2", "1"],
-            "groups 2\nimage 472\ncount 1 16\nsum 25303\n",
-        ),
-        (
-            &["make", "2", "2"],
-            "groups 2\nimage 472\ncount 1 16\nsum 25303\n",
-        ),
-    ];
-    for (words, text) in rows {
+    for (words, text) in MADE {
         let (status, said) = answer(&rt, rt.alloc(), words, b"", &CALM)?;
-        assert_eq!(rt; status, 0);
-        assert_eq!(rt; said.as_slice(), text.as_bytes());
+        assert!(rt;
+            status == 0 && said.as_slice() == text.as_bytes(),
+            "{words:?}"
+        );
     }
     Ok(())
 }
@@ -139,13 +145,14 @@ fn status_of(rt: &(impl Threads + Sync), alloc: Global, plan: &str) -> Result<u8
 
 #[test]
 fn sure_runs(rt: HostRuntime) -> Result<(), Fail> {
-    let broken = changed(
+    let plan = changed(
         rt.alloc(),
         SMALLEST,
         &[(r#""number":2,"#, r#""number":6,"#)],
     )?;
-    assert_eq!(rt; status_of(&rt, rt.alloc(), SMALLEST)?, 0);
-    assert_eq!(rt; status_of(&rt, rt.alloc(), broken.as_str())?, 1);
-    assert_eq!(rt; status_of(&rt, rt.alloc(), "[]")?, 3);
+    let whole = status_of(&rt, rt.alloc(), SMALLEST)?;
+    let broken = status_of(&rt, rt.alloc(), plan.as_str())?;
+    let other = status_of(&rt, rt.alloc(), "[]")?;
+    assert!(rt; whole == 0 && broken == 1 && other == 3);
     Ok(())
 }

@@ -17,9 +17,9 @@
 //! int main(int argc, char **argv) { printf("%f %d", pow(argc, 2.5), first() + second()); return pthread_create(0, 0, 0, 0); }
 //! ```
 use crate::layouts::layout_of;
-use std::alloc::Global;
+use std::alloc::{AllocError, Global};
 use std::test::*;
-use wild_plan::{Error, FileRole, Layout};
+use wild_plan::{Error, File, FileRole, Layout};
 use wild_versions::{VersionWriter, file_definitions, file_versions};
 
 /// The versions of the null symbol, `V1`, `first`, `second` and `V2`.
@@ -61,6 +61,11 @@ const NAMES: [(u32, &[u32]); 3] = [
 /// with room for all tables.
 const PLAN: &str =
     r#"{"kind":"shared","options":{"soname":"6c6962612e736f","versions":true},"parts":[{"role":"gnu_version"},{"role":"gnu_version_d"},{"role":"gnu_version_r"}],"symbols":[{},{"version":2},{"version":2},{"version":3},{"version":3}],"groups":[{"files":[{"role":"dynamic","lib_name":"6c69626d2e736f2e36","verneed":{"versions":[{"name":"474c4942435f322e3239","index":4}]}},{"role":"dynamic","lib_name":"6c6962612e736f","verneed":{"versions":[{"name":"5631","index":6},{"name":"5632","index":3}]}},{"role":"dynamic","lib_name":"6c6962632e736f2e36","verneed":{"last":true,"versions":[{"name":"474c4942435f322e322e35","index":5},{"name":"474c4942435f322e3334","index":2}]}}],"part_sizes":[8,91,31]},{"files":[{"role":"prelude"},{"role":"epilogue"}],"part_sizes":[10,92,128],"dynstr_start":13}],"verdefs":[{"name":"62617365"},{"name":"5631"},{"name":"5632","parent":1}]}"#;
+
+/// The writer of a group's versions.
+fn writer(alloc: Global, layout: &Layout, group: usize) -> Result<VersionWriter, AllocError> {
+    VersionWriter::new(alloc, layout, group)
+}
 
 /// Whether the versions are put that the library defines.
 fn put_definitions(writer: &mut VersionWriter, layout: &Layout) -> Result<bool, Fail> {
@@ -104,52 +109,67 @@ fn has(writer: &VersionWriter, symbols: &[u8], definitions: &[u8], needs: &[u8])
         && writer.needs.bytes() == needs
 }
 
+/// Whether the tables are ld's; they are full once the versions that are needed are put.
+fn has_tables_of_ld(
+    writer: &mut VersionWriter,
+    layout: &Layout,
+    copied: bool,
+) -> Result<bool, Fail> {
+    put_symbols(writer, layout, copied)?;
+    let defined = put_definitions(writer, layout)? && writer.check_exhausted().is_err();
+    let needed = put_needs(writer, layout)? && writer.check_exhausted().is_ok();
+    Ok(defined && needed && has(writer, &SYMBOLS, &DEFINITIONS, &NEEDS))
+}
+
 #[test]
 fn writes_what_ld_wrote(rt: HostRuntime) -> Result<(), Fail> {
     let layout = layout_of(rt.alloc(), PLAN)?;
     for copied in [false, true] {
-        let mut writer = VersionWriter::new(rt.alloc(), &layout, 1)?;
-        put_symbols(&mut writer, &layout, copied)?;
-        assert!(rt; put_definitions(&mut writer, &layout)?);
-        assert!(rt; writer.check_exhausted().is_err());
-        assert!(rt; put_needs(&mut writer, &layout)?);
-        assert!(rt; writer.check_exhausted().is_ok());
-        assert!(rt; has(&writer, &SYMBOLS, &DEFINITIONS, &NEEDS));
+        let mut writer = writer(rt.alloc(), &layout, 1)?;
+        assert!(rt; has_tables_of_ld(&mut writer, &layout, copied)?, "{copied}");
     }
     Ok(())
 }
 
-/// What does not fit is refused, and leaves each table as it was.
+/// Whether what does not fit is refused, and leaves each table as it was.
+fn refuses(writer: &mut VersionWriter, layout: &Layout) -> Result<bool, Fail> {
+    let symbols = put_symbols(writer, layout, false).is_err();
+    let definitions = !put_definitions(writer, layout)?;
+    let needs = !put_needs(writer, layout)?;
+    let is_kept = has(writer, &SYMBOLS[..8], &[0; 91], &[0; 31]);
+    Ok(symbols && definitions && needs && is_kept)
+}
+
 #[test]
 fn refuses_what_does_not_fit(rt: HostRuntime) -> Result<(), Fail> {
     let layout = layout_of(rt.alloc(), PLAN)?;
-    let mut writer = VersionWriter::new(rt.alloc(), &layout, 0)?;
-    assert!(rt; put_symbols(&mut writer, &layout, false).is_err());
-    assert!(rt; !put_definitions(&mut writer, &layout)?);
-    assert!(rt; !put_needs(&mut writer, &layout)?);
-    assert!(rt; has(&writer, &SYMBOLS[..8], &[0; 91], &[0; 31]));
+    let mut writer = writer(rt.alloc(), &layout, 0)?;
+    assert!(rt; refuses(&mut writer, &layout)?);
     Ok(())
 }
 
-/// The library's versions are those of its last file, and the null symbol's is that of the first.
-#[test]
-fn gives_what_ld_wrote(rt: HostRuntime) -> Result<(), Fail> {
-    let alloc = rt.alloc();
-    let layout = layout_of(alloc, PLAN)?;
+/// The definitions of a library whose last file that is.
+fn definitions_of(alloc: Global, layout: &Layout, last: &File) -> Result<Vec<u8>, Fail> {
+    if layout.verdefs.len() > 100 {
+        return Err("many versions".into());
+    }
+    Ok(file_definitions(alloc, layout, last)?)
+}
+
+/// Whether the library's versions are those of its last file, and the null symbol's is that of the first.
+fn gives(alloc: Global, layout: &Layout) -> Result<bool, Fail> {
     let library = layout.groups.as_slice().get(1).ok_or("no group")?;
     let [first, last] = library.files.as_slice() else {
         return Err("other files".into());
     };
-    if layout.verdefs.len() > 100 {
-        return Err("many versions".into());
-    }
-    assert_eq!(rt;
-        file_definitions(alloc, &layout, last)?.as_slice(),
-        DEFINITIONS.as_slice()
-    );
-    assert_eq!(rt;
-        file_versions(alloc, &layout, first)?.as_slice(),
-        &SYMBOLS[..2]
-    );
+    let definitions = definitions_of(alloc, layout, last)?;
+    let versions = file_versions(alloc, layout, first)?;
+    Ok(definitions.as_slice() == DEFINITIONS.as_slice() && versions.as_slice() == &SYMBOLS[..2])
+}
+
+#[test]
+fn gives_what_ld_wrote(rt: HostRuntime) -> Result<(), Fail> {
+    let layout = layout_of(rt.alloc(), PLAN)?;
+    assert!(rt; gives(rt.alloc(), &layout)?);
     Ok(())
 }

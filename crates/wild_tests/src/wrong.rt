@@ -168,11 +168,10 @@ fn refused(alloc: Global, plan: &str) -> Result<String, Fail> {
 
 #[test]
 fn first_wrong_members(rt: HostRuntime) -> Result<(), Fail> {
-    let alloc = rt.alloc();
     for (plan, path) in &WRONG {
-        let wanted = format!(in alloc; "not a plan: {path}\n")?;
-        let text = refused(alloc, *plan)?;
-        assert_eq!(rt; text.as_str(), wanted.as_str());
+        let text = refused(rt.alloc(), plan)?;
+        let wanted = format!(in rt.alloc(); "not a plan: {path}\n")?;
+        assert!(rt; text.as_str() == wanted.as_str(), "{path}");
     }
     Ok(())
 }

@@ -3,15 +3,18 @@
 use std::test::Fail;
 use wild_reloc::{AllowedRange, DynamicRelocationKind, RelocationKindInfo, Sign, aarch64, x86_64};
 
+// Whether the value is taken; it is written into the field at the front of the bytes.
+fn is_put(row: &RelocationKindInfo, value: u64, bytes: &mut [u8]) -> bool {
+    row.width() <= bytes.len() && row.write_to_buffer(value, bytes).is_ok()
+}
+
 // The 8 bytes after a write of the field at their front; None where the value is refused.
-fn written(row: RelocationKindInfo, value: u64, before: u64) -> Option<u64> {
+fn written(row: &RelocationKindInfo, value: u64, before: u64) -> Option<u64> {
     let mut bytes = before.to_le_bytes();
-    if bytes.len() < row.width() {
-        return None;
-    }
-    match row.write_to_buffer(value, &mut bytes) {
-        Ok(()) => Some(u64::from_le_bytes(bytes)),
-        Err(_) => None,
+    if is_put(row, value, &mut bytes) {
+        Some(u64::from_le_bytes(bytes))
+    } else {
+        None
     }
 }
 
@@ -155,36 +158,42 @@ const REFUSED_OF_AARCH64: [(u32, u64); 30] = [
 
 #[test]
 fn fields(rt: HostRuntime) -> Result<(), Fail> {
-    for (number, value, field) in X86_64 {
-        let row = x86_64::relocation_from_raw(number).ok_or("no row")?;
-        assert_eq!(rt; written(row, value, PLAIN), field, "{number} of {value:x}");
-    }
-    for (number, value, field) in WORDS_OF_AARCH64 {
-        let row = aarch64::relocation_type_from_raw(number).ok_or("no row")?;
-        assert_eq!(rt;
-            written(row, value, PLAIN),
-            Some(field),
+    for (number, value, field) in &X86_64 {
+        let row = x86_64::relocation_from_raw(*number).ok_or("no row")?;
+        assert!(rt;
+            written(&row, *value, PLAIN) == *field,
             "{number} of {value:x}"
         );
     }
-    for (number, value) in REFUSED_OF_AARCH64 {
-        let row = aarch64::relocation_type_from_raw(number).ok_or("no row")?;
-        assert_eq!(rt; written(row, value, PLAIN), None, "{number} of {value:x}");
+    for (number, value, field) in &WORDS_OF_AARCH64 {
+        let row = aarch64::relocation_type_from_raw(*number).ok_or("no row")?;
+        let found = written(&row, *value, PLAIN);
+        assert!(rt; found == Some(*field), "{number} of {value:x}");
     }
-    for (number, value, before, after) in INSTRUCTIONS_OF_AARCH64 {
-        let row = aarch64::relocation_type_from_raw(number).ok_or("no row")?;
-        let found = written(row, value, u64::from(before));
-        assert_eq!(rt; found, Some(u64::from(after)), "{number} of {value:x}");
+    for (number, value) in &REFUSED_OF_AARCH64 {
+        let row = aarch64::relocation_type_from_raw(*number).ok_or("no row")?;
+        let found = written(&row, *value, PLAIN);
+        assert!(rt; found.is_none(), "{number} of {value:x}");
+    }
+    for (number, value, before, after) in &INSTRUCTIONS_OF_AARCH64 {
+        let row = aarch64::relocation_type_from_raw(*number).ok_or("no row")?;
+        let found = written(&row, *value, u64::from(*before));
+        assert!(rt; found == Some(u64::from(*after)), "{number} of {value:x}");
     }
     Ok(())
 }
 
+/// Whether the range of 16 bits with a sign ends where these values do.
+fn is_overrun() -> bool {
+    let range = AllowedRange::from_bit_size(16, Sign::Signed);
+    range.overrun(0x7fff) == 0
+        && range.overrun(0x8002) == 3
+        && range.overrun(u64::MAX - 0x8000) == 1
+}
+
 #[test]
 fn ranges_and_dynamic_numbers(rt: HostRuntime) {
-    let range = AllowedRange::from_bit_size(16, Sign::Signed);
-    assert_eq!(rt; range.overrun(0x7fff), 0);
-    assert_eq!(rt; range.overrun(0x8002), 3);
-    assert_eq!(rt; range.overrun(u64::MAX - 0x8000), 1);
-    assert_eq!(rt; DynamicRelocationKind::Irelative.x86_64_r_type(), 37);
-    assert_eq!(rt; DynamicRelocationKind::Irelative.aarch64_r_type(), 1032);
+    assert!(rt; is_overrun());
+    assert!(rt; DynamicRelocationKind::Irelative.x86_64_r_type() == 37);
+    assert!(rt; DynamicRelocationKind::Irelative.aarch64_r_type() == 1032);
 }

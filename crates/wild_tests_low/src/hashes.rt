@@ -76,100 +76,111 @@ const LD_SYMBOLS: [u8; 168] = [
 /// Its `.dynstr`.
 const LD_STRINGS: &[u8] = b"\0beta\0gamma_\0exit\0delta\0printf_\0alpha\0";
 
-fn definition(alloc: Global, name: &[u8]) -> Result<DynamicSymbol, AllocError> {
-    Ok(DynamicSymbol {
-        symbol: SymbolIndex(0),
-        name: Bytes::from_vec(Vec::from_slice(alloc, name)?),
-        version: 1,
-    })
+/// The defined symbols of these names.
+fn definitions(alloc: Global, names: &[&[u8]]) -> Result<Vec<DynamicSymbol>, AllocError> {
+    let mut symbols = Vec::new(alloc);
+    for name in names {
+        symbols.push(DynamicSymbol {
+            symbol: SymbolIndex(0),
+            name: Bytes::from_vec(Vec::from_slice(alloc, *name)?),
+            version: 1,
+        })?;
+    }
+    Ok(symbols)
 }
+
+/// Whether the symbols' GNU table of that shape, which is small, is these bytes, which it is written over.
+fn is_gnu(out: &mut [u8], shape: &GnuHash, symbols: &[DynamicSymbol], wanted: &[u8]) -> bool {
+    let has_buckets = 0 < shape.buckets && shape.buckets < 10;
+    let has_words = 0 < shape.bloom_count && shape.bloom_count < 10;
+    let is_short = shape.bloom_shift < 32 && shape.base < 10;
+    if !has_buckets || !has_words || !is_short || symbols.len() >= 10 {
+        return false;
+    }
+    let words = shape.buckets as usize + symbols.len();
+    if out.len() != 16 + 8 * shape.bloom_count as usize + 4 * words {
+        return false;
+    }
+    write_gnu_hash_tables(out, shape, symbols);
+    &*out == wanted
+}
+
+/// Whether the symbols' System V table, of one bucket and with one symbol before them, is these bytes, which it is written over.
+fn is_sysv(out: &mut [u8], symbols: &[DynamicSymbol], wanted: &[u8]) -> bool {
+    if symbols.len() >= 10 || out.len() != 16 + 4 * symbols.len() {
+        return false;
+    }
+    write_sysv_hash_table(out, 1, 1, symbols);
+    &*out == wanted
+}
+
+const SHAPE: GnuHash = GnuHash {
+    buckets: 1,
+    bloom_count: 1,
+    bloom_shift: 6,
+    base: 1,
+};
+
+const LD_SHAPE: GnuHash = GnuHash {
+    buckets: 3,
+    bloom_count: 1,
+    bloom_shift: 6,
+    base: 2,
+};
+
+const EXIT_NAMES: &[&[u8]] = &[b"", b"exit", b"exit"];
+
+const LD_NAMES: &[&[u8]] = &[b"delta", b"beta", b"printf_", b"alpha", b"gamma_"];
 
 #[test]
 fn written(rt: HostRuntime) -> Result<(), AllocError> {
-    let alloc = rt.alloc();
-    let exits = [
-        definition(alloc, b"")?,
-        definition(alloc, b"exit")?,
-        definition(alloc, b"exit")?,
-    ];
-    let shape = GnuHash {
-        buckets: 1,
-        bloom_count: 1,
-        bloom_shift: 6,
-        base: 1,
-    };
-    let mut out = [0xff; 40];
-    write_gnu_hash_tables(&mut out, &shape, &exits[..]);
-    assert_eq!(rt; out, GNU);
-    let mut out = [0xff; 28];
-    write_sysv_hash_table(&mut out, 1, 1, &exits[..]);
-    assert_eq!(rt; out, SYSV);
-    let of_ld = [
-        definition(alloc, b"delta")?,
-        definition(alloc, b"beta")?,
-        definition(alloc, b"printf_")?,
-        definition(alloc, b"alpha")?,
-        definition(alloc, b"gamma_")?,
-    ];
-    let shape = GnuHash {
-        buckets: 3,
-        bloom_count: 1,
-        bloom_shift: 6,
-        base: 2,
-    };
-    let mut out = [0xff; 56];
-    write_gnu_hash_tables(&mut out, &shape, &of_ld[..]);
-    assert_eq!(rt; out, LD_GNU);
+    let exits = definitions(rt.alloc(), EXIT_NAMES)?;
+    assert!(rt; is_gnu(&mut [0xff; 40], &SHAPE, exits.as_slice(), &GNU));
+    assert!(rt; is_sysv(&mut [0xff; 28], exits.as_slice(), &SYSV));
+    let of_ld = definitions(rt.alloc(), LD_NAMES)?;
+    assert!(rt; is_gnu(&mut [0xff; 56], &LD_SHAPE, of_ld.as_slice(), &LD_GNU));
     Ok(())
 }
 
+/// A GNU table, its symbols, their strings, a name, and its index.
+const LOOKED_UP: &[(&[u8], &[u8], &[u8], &[u8], Option<u64>)] = &[
+    (&GNU, &SYMBOLS, b"\0exit\0", b"exit", Some(2)),
+    (&GNU, &SYMBOLS, b"\0exit\0", b"", Some(1)),
+    (&GNU, &SYMBOLS, b"\0exit\0", b"exim", None),
+    (&LD_GNU, &LD_SYMBOLS, LD_STRINGS, b"beta", Some(3)),
+    (&LD_GNU, &LD_SYMBOLS, LD_STRINGS, b"gamma_", Some(6)),
+    (&LD_GNU, &LD_SYMBOLS, LD_STRINGS, b"exit", None),
+];
+
+/// The same of System V tables.
+const LOOKED_UP_SYSV: &[(&[u8], &[u8], &[u8], &[u8], Option<u64>)] = &[
+    (&SYSV, &SYMBOLS, b"\0exit\0", b"exit", Some(2)),
+    (&SYSV, &SYMBOLS, b"\0exit\0", b"", Some(1)),
+    (&SYSV, &SYMBOLS, b"\0exit\0", b"exim", None),
+    (&LD_SYSV, &LD_SYMBOLS, LD_STRINGS, b"alpha", Some(5)),
+    (&LD_SYSV, &LD_SYMBOLS, LD_STRINGS, b"exit", Some(1)),
+    (&LD_SYSV, &LD_SYMBOLS, LD_STRINGS, b"omega", None),
+];
+
 #[test]
 fn looked_up(rt: HostRuntime) {
-    let exits = LookupTables {
-        hashes: &GNU,
-        symbols: &SYMBOLS,
-        strings: b"\0exit\0",
-    };
-    let of_ld = LookupTables {
-        hashes: &LD_GNU,
-        symbols: &LD_SYMBOLS,
-        strings: LD_STRINGS,
-    };
-    let rows: [(LookupTables, &[u8], Option<u64>); 6] = [
-        (exits, b"exit", Some(2)),
-        (exits, b"", Some(1)),
-        (exits, b"exim", None),
-        (of_ld, b"beta", Some(3)),
-        (of_ld, b"gamma_", Some(6)),
-        (of_ld, b"exit", None),
-    ];
-    for (tables, name, index) in rows {
-        assert!(rt;
-            find_gnu_symbol(&tables, name).ok() == Some(index),
-            "GNU, {name:?}"
-        );
+    for (hashes, symbols, strings, name, index) in LOOKED_UP {
+        let tables = LookupTables {
+            hashes,
+            symbols,
+            strings,
+        };
+        let found = find_gnu_symbol(&tables, name).ok();
+        assert!(rt; found == Some(*index), "GNU, {name:?}");
     }
-    let exits = LookupTables {
-        hashes: &SYSV,
-        ..exits
-    };
-    let of_ld = LookupTables {
-        hashes: &LD_SYSV,
-        ..of_ld
-    };
-    let rows: [(LookupTables, &[u8], Option<u64>); 6] = [
-        (exits, b"exit", Some(2)),
-        (exits, b"", Some(1)),
-        (exits, b"exim", None),
-        (of_ld, b"alpha", Some(5)),
-        (of_ld, b"exit", Some(1)),
-        (of_ld, b"omega", None),
-    ];
-    for (tables, name, index) in rows {
-        assert!(rt;
-            find_sysv_symbol(&tables, name).ok() == Some(index),
-            "System V, {name:?}"
-        );
+    for (hashes, symbols, strings, name, index) in LOOKED_UP_SYSV {
+        let tables = LookupTables {
+            hashes,
+            symbols,
+            strings,
+        };
+        let found = find_sysv_symbol(&tables, name).ok();
+        assert!(rt; found == Some(*index), "System V, {name:?}");
     }
 }
 

@@ -6,20 +6,19 @@ use wild_loader::{Effect, EffectKind, Machine, Memory, Run, step_x86_64};
 use wild_words::{Bytes, Items};
 
 /// Memory of an x86-64 image: bytes at addresses.
-fn memory_of(alloc: Global, runs: &[(u64, &[u8])]) -> Result<Memory, Fail> {
-    let mut memory = Memory {
-        machine: Machine::X86_64,
-        runs: Items::new(alloc),
-        descriptors: Items::new(alloc),
-    };
-    for (start, bytes) in runs {
-        let run = Run {
+fn memory_of(alloc: Global, pieces: &[(u64, &[u8])]) -> Result<Memory, Fail> {
+    let mut runs = Vec::new(alloc);
+    for (start, bytes) in pieces {
+        runs.push(Run {
             start: *start,
             bytes: Bytes::from_vec(bytes.to_vec(alloc)?),
-        };
-        memory.runs.push(run).ok().ok_or("memory")?;
+        })?;
     }
-    Ok(memory)
+    Ok(Memory {
+        machine: Machine::X86_64,
+        runs: Items::from_vec(runs),
+        descriptors: Items::new(alloc),
+    })
 }
 
 /// A stub; `call` and `jmp` through its slot; `jmp` to the stub, and one through a word that is not loaded.

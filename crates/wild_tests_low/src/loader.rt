@@ -2,7 +2,9 @@
 
 use std::alloc::Global;
 use std::test::Fail;
-use wild_loader::{Answer, Effect, EffectKind, LoadFault, Machine, World, load_image, step_x86_64};
+use wild_loader::{
+    Answer, Effect, EffectKind, LoadFault, Machine, Memory, World, load_image, step_x86_64,
+};
 use wild_words::{Bytes, Items};
 
 /// A fixed x86-64 executable: a call and two returns at 0x400080, loaded with the headers before them.
@@ -19,23 +21,34 @@ const IMAGE: [u8; 344] =
     \0\0\0\0\0\0\0\0\0\0\0\0\0\0\0\0\x87\0\0\0\0\0\0\0\x11\0\0\0\0\0\0\0\
     \0\0\0\0\0\0\0\0\x01\0\0\0\0\0\0\0\0\0\0\0\0\0\0\0";
 
+/// The answer for the symbol at an address.
+fn answer(address: u64, bytes: Vec<u8>) -> Answer {
+    Answer {
+        address,
+        module: 2,
+        offset: 0x30,
+        size: 3,
+        bytes: Bytes::from_vec(bytes),
+    }
+}
+
+/// Answers for the null symbol and symbol 1.
+fn answers(alloc: Global) -> Result<Vec<Answer>, Fail> {
+    let mut symbols = Vec::new(alloc);
+    symbols.push(answer(0, b"abc".to_vec(alloc)?))?;
+    symbols.push(answer(0x7000, b"abc".to_vec(alloc)?))?;
+    Ok(symbols)
+}
+
 /// A world with an answer for symbol 1, a resolver and two modules.
 pub fn world(alloc: Global, base: u64) -> Result<World, Fail> {
-    let mut symbols = Vec::new(alloc);
-    for address in [0, 0x7000] {
-        symbols.push(Answer {
-            address,
-            module: 2,
-            offset: 0x30,
-            size: 3,
-            bytes: Bytes::from_vec(b"abc".to_vec(alloc)?),
-        })?;
-    }
+    let resolvers = Vec::from_slice(alloc, &[(0x10020, 0x9999)])?;
+    let modules = Vec::from_slice(alloc, &[(2, -0x40), (1, -0x80)])?;
     Ok(World {
         base,
-        symbols: Items::from_vec(symbols),
-        resolvers: Items::from_vec(vec![in alloc; (0x10020, 0x9999)]?),
-        modules: Items::from_vec(vec![in alloc; (2, -0x40), (1, -0x80)]?),
+        symbols: Items::from_vec(answers(alloc)?),
+        resolvers: Items::from_vec(resolvers),
+        modules: Items::from_vec(modules),
         own_module: 1,
     })
 }
@@ -52,34 +65,52 @@ fn changed(alloc: Global, more: u8, edits: &[(usize, u8)]) -> Result<Vec<u8>, Fa
     Ok(image)
 }
 
+/// Addresses above the base, and the bytes there.
+const BYTES: &[(u64, Option<u8>)] = &[
+    (0x3fffff, None),
+    (0x400000, Some(0x7f)),
+    (0x400081, Some(1)),
+    (0x400086, Some(0xc3)),
+    (0x400087, None),
+];
+
+/// Whether memory has the image at that base.
+fn is_loaded(memory: &Memory, base: u64) -> bool {
+    for (address, byte) in BYTES {
+        if memory.byte(base.wrapping_add(*address)) != *byte {
+            return false;
+        }
+    }
+    matches!(memory.machine, Machine::X86_64)
+        && memory.word(base.wrapping_add(0x400000)) == Some(0x0001_0102_464c_457f)
+        && memory.word(base.wrapping_add(0x400080)).is_none()
+}
+
+/// Whether the image at that base calls, and does nothing else.
+fn calls(memory: &Memory, base: u64) -> bool {
+    let call = Effect {
+        length: 5,
+        width: 64,
+        kind: EffectKind::Call {
+            target: base.wrapping_add(0x400086),
+        },
+    };
+    step_x86_64(memory, base.wrapping_add(0x400080)) == Some(call)
+        && step_x86_64(memory, base.wrapping_add(0x400081)).is_none()
+        && step_x86_64(memory, base.wrapping_add(0x400087)).is_none()
+}
+
+/// An image in that world.
+pub fn load(alloc: Global, image: &[u8], base: u64) -> Result<Result<Memory, LoadFault>, Fail> {
+    let world = world(alloc, base)?;
+    Ok(load_image(alloc, image, &world))
+}
+
 #[test]
 fn loads(rt: HostRuntime) -> Result<(), Fail> {
     for base in [0, 0x1000] {
-        let memory = load_image(rt.alloc(), &IMAGE, &world(rt.alloc(), base)?)
-            .ok()
-            .ok_or("refused")?;
-        assert!(rt; matches!(memory.machine, Machine::X86_64));
-        for (address, byte) in [
-            (0x3fffff, None),
-            (0x400000, Some(0x7f)),
-            (0x400081, Some(1)),
-            (0x400086, Some(0xc3)),
-            (0x400087, None),
-        ] {
-            assert_eq!(rt; memory.byte(base + address), byte, "at {address}");
-        }
-        assert_eq!(rt; memory.word(base + 0x400000), Some(0x0001_0102_464c_457f));
-        assert_eq!(rt; memory.word(base + 0x400080), None);
-        let call = Effect {
-            length: 5,
-            width: 64,
-            kind: EffectKind::Call {
-                target: base + 0x400086,
-            },
-        };
-        assert!(rt; step_x86_64(&memory, base + 0x400080) == Some(call));
-        assert!(rt; step_x86_64(&memory, base + 0x400081).is_none());
-        assert!(rt; step_x86_64(&memory, base + 0x400087).is_none());
+        let memory = load(rt.alloc(), &IMAGE, base)?.ok().ok_or("refused")?;
+        assert!(rt; is_loaded(&memory, base) && calls(&memory, base), "{base}");
     }
     Ok(())
 }
@@ -153,14 +184,13 @@ const IMAGES: &[(u8, &[(usize, u8)], u64, Option<LoadFault>)] = &[
 
 #[test]
 fn refused_images(rt: HostRuntime) -> Result<(), Fail> {
-    let alloc = rt.alloc();
     for (more, edits, base, fault) in IMAGES {
-        let image = changed(alloc, *more, edits)?;
-        let found = load_image(alloc, &image, &world(alloc, *base)?).err();
+        let image = changed(rt.alloc(), *more, edits)?;
+        let found = load(rt.alloc(), image.as_slice(), *base)?.err();
         assert!(rt; found == *fault, "{edits:?} at {base}");
     }
-    for short in [&IMAGE[..0], &IMAGE[..63]] {
-        let found = load_image(alloc, short, &world(alloc, 0)?).err();
+    for count in [0, 63usize] {
+        let found = load(rt.alloc(), &IMAGE[..count], 0)?.err();
         assert!(rt; found == Some(LoadFault::NotElf));
     }
     Ok(())

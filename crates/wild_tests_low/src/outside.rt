@@ -1,56 +1,79 @@
 //! Reads and writes that fail, and such that move less than asked.
 
+use std::alloc::Global;
 use std::io::{self, ErrorKind, Read, Write};
 use std::test::Fail;
 use wild_outside::{
-    MemSink, MemSource, ReadFault, Reading, SureSink, SureSource, Writing, read_whole, write_whole,
+    MemSink, MemSource, ReadFault, Reading, Sink, Source, SureSink, SureSource, Writing,
+    read_whole, write_whole,
 };
+
+/// Reads that fail of a source of `image`, how many bytes each read moves at most, the limit, and why the text is not read.
+const SOURCES: &[(&[u64], usize, usize, Option<ReadFault>)] = &[
+    (&[], 99, 5, None),
+    (&[], 1, 5, None),
+    (&[], 99, 4, Some(ReadFault::TooLong)),
+    (&[], 2, 4, Some(ReadFault::TooLong)),
+    (&[0], 99, 5, Some(ReadFault::Failed)),
+    (&[1], 99, 5, Some(ReadFault::Failed)),
+    (&[5], 1, 5, Some(ReadFault::Failed)),
+    (&[6], 1, 5, None),
+];
+
+// A source of `image`.
+fn source_of(alloc: Global, failing: &[u64], most: usize) -> Result<MemSource, Fail> {
+    let failing = failing.to_vec(alloc)?;
+    Ok(MemSource::new(b"image".to_vec(alloc)?, failing, most.max(1)))
+}
+
+// Whether `image` is read, or its read fails for that cause.
+fn is_read<S: Source>(
+    alloc: Global,
+    source: &mut S,
+    limit: usize,
+    fault: &Option<ReadFault>,
+) -> bool {
+    match read_whole(alloc, source, limit.min(99)) {
+        Ok(bytes) => fault.is_none() && bytes.as_slice() == b"image".as_slice(),
+        Err(found) => *fault == Some(found),
+    }
+}
 
 #[test]
 fn sources_in_memory(rt: HostRuntime) -> Result<(), Fail> {
     let alloc = rt.alloc();
-    let rows: [(&[u64], usize, usize, Option<ReadFault>); 8] = [
-        (&[], 99, 5, None),
-        (&[], 1, 5, None),
-        (&[], 99, 4, Some(ReadFault::TooLong)),
-        (&[], 2, 4, Some(ReadFault::TooLong)),
-        (&[0], 99, 5, Some(ReadFault::Failed)),
-        (&[1], 99, 5, Some(ReadFault::Failed)),
-        (&[5], 1, 5, Some(ReadFault::Failed)),
-        (&[6], 1, 5, None),
-    ];
-    for (failing, most, limit, fault) in rows {
-        let text = b"image".to_vec(alloc)?;
-        let mut source = MemSource::new(text, failing.to_vec(alloc)?, most.max(1));
-        match read_whole(alloc, &mut source, limit.min(99)) {
-            Ok(bytes) => {
-                assert!(rt; fault.is_none(), "{failing:?}");
-                assert_eq!(rt; bytes.as_slice(), b"image".as_slice());
-            }
-            Err(found) => assert!(rt; Some(found) == fault, "{failing:?}"),
-        }
+    for (failing, most, limit, fault) in SOURCES {
+        let mut source = source_of(alloc, failing, *most)?;
+        assert!(rt; is_read(alloc, &mut source, *limit, fault), "{failing:?}");
     }
     let mut source = SureSource::new(b"image".to_vec(alloc)?);
-    let bytes = read_whole(alloc, &mut source, 5).ok().ok_or("read")?;
-    assert_eq!(rt; bytes.as_slice(), b"image".as_slice());
+    assert!(rt; is_read(alloc, &mut source, 5, &None));
     Ok(())
+}
+
+/// Writes to a sink that fail, and such that take nothing, how many bytes each takes at most, whether `image` is written, and
+/// what is taken.
+const SINKS: &[(&[u64], &[u64], usize, bool, &[u8])] = &[
+    (&[], &[], 99, true, b"image"),
+    (&[], &[], 2, true, b"image"),
+    (&[0], &[], 99, false, b""),
+    (&[2], &[], 1, false, b"im"),
+    (&[], &[1], 3, false, b"ima"),
+];
+
+// A sink that has taken nothing.
+fn sink_of(alloc: Global, failing: &[u64], empty: &[u64], most: usize) -> Result<MemSink, Fail> {
+    let failing = failing.to_vec(alloc)?;
+    let empty = empty.to_vec(alloc)?;
+    Ok(MemSink::new(Vec::new(alloc), failing, empty, most.max(1)))
 }
 
 #[test]
 fn sinks_in_memory(rt: HostRuntime) -> Result<(), Fail> {
-    let alloc = rt.alloc();
-    let rows: [(&[u64], &[u64], usize, bool, &[u8]); 5] = [
-        (&[], &[], 99, true, b"image"),
-        (&[], &[], 2, true, b"image"),
-        (&[0], &[], 99, false, b""),
-        (&[2], &[], 1, false, b"im"),
-        (&[], &[1], 3, false, b"ima"),
-    ];
-    for (failing, empty, most, all, taken) in rows {
-        let failing = failing.to_vec(alloc)?;
-        let mut sink = MemSink::new(Vec::new(alloc), failing, empty.to_vec(alloc)?, most.max(1));
-        assert_eq!(rt; write_whole(&mut sink, b"image").is_ok(), all);
-        assert_eq!(rt; sink.bytes(), taken);
+    for (failing, empty, most, all, taken) in SINKS {
+        let mut sink = sink_of(rt.alloc(), failing, empty, *most)?;
+        let written = write_whole(&mut sink, b"image").is_ok();
+        assert!(rt; written == *all && sink.bytes() == *taken, "{failing:?}");
     }
     assert!(rt; write_whole(&mut SureSink, b"image").is_ok());
     Ok(())
@@ -122,23 +145,27 @@ const READS: &[(&[Result<usize, ErrorKind>], Option<&[u8]>)] = &[
     ),
 ];
 
+// Whether a read fails, and the next one gives the rest, where there is one.
+fn goes_on<S: Source>(alloc: Global, source: &mut S, rest: &Option<&[u8]>) -> bool {
+    if !matches!(read_whole(alloc, source, 9), Err(ReadFault::Failed)) {
+        return false;
+    }
+    match (read_whole(alloc, source, 9), rest) {
+        (Ok(bytes), Some(rest)) => bytes.as_slice() == *rest,
+        (found, rest) => found.is_err() && rest.is_none(),
+    }
+}
+
 #[test]
-fn reads_that_fail(rt: HostRuntime) -> Result<(), Fail> {
-    let alloc = rt.alloc();
+fn reads_that_fail(rt: HostRuntime) {
     for (calls, rest) in READS {
         let mut source = Reading::new(Listed {
             calls,
             left: b"image",
-            taken: Vec::new(alloc),
+            taken: Vec::new(rt.alloc()),
         });
-        let found = read_whole(alloc, &mut source, 9);
-        assert!(rt; matches!(found, Err(ReadFault::Failed)), "{calls:?}");
-        match (read_whole(alloc, &mut source, 9), rest) {
-            (Ok(bytes), Some(rest)) => assert_eq!(rt; bytes.as_slice(), *rest),
-            (found, rest) => assert!(rt; found.is_err() && rest.is_none(), "{calls:?}"),
-        }
+        assert!(rt; goes_on(rt.alloc(), &mut source, rest), "{calls:?}");
     }
-    Ok(())
 }
 
 /// Writes of which one fails or takes nothing, whether the text behind it is written, and what is written of both.
@@ -164,30 +191,30 @@ const WRITES: &[(&[Result<usize, ErrorKind>], bool, &[u8])] = &[
     ),
 ];
 
+// Whether a write fails, and whether the next one does.
+fn fails_then_writes<K: Sink>(sink: &mut K, goes_on: bool) -> bool {
+    write_whole(sink, b"image").is_err() && write_whole(sink, b"!").is_ok() == goes_on
+}
+
 #[test]
-fn writes_that_fail(rt: HostRuntime) -> Result<(), Fail> {
+fn writes_that_fail(rt: HostRuntime) {
     for (calls, goes_on, taken) in WRITES {
         let mut writer = Listed {
             calls,
             left: b"",
             taken: Vec::new(rt.alloc()),
         };
-        let mut sink = Writing::new(&mut writer);
-        assert!(rt; write_whole(&mut sink, b"image").is_err(), "{calls:?}");
-        assert_eq!(rt; write_whole(&mut sink, b"!").is_ok(), *goes_on, "{calls:?}");
-        assert_eq!(rt; writer.taken.as_slice(), *taken, "{calls:?}");
+        let is_so = fails_then_writes(&mut Writing::new(&mut writer), *goes_on);
+        assert!(rt; is_so && writer.taken.as_slice() == *taken, "{calls:?}");
     }
-    Ok(())
 }
 
 #[test]
-fn readers_and_writers_of_std(rt: HostRuntime) -> Result<(), Fail> {
-    let alloc = rt.alloc();
+fn readers_and_writers_of_std(rt: HostRuntime) {
     let mut source = Reading::new(b"image".as_slice());
-    let bytes = read_whole(alloc, &mut source, 5).ok().ok_or("read")?;
-    let mut out = Vec::new(alloc);
+    assert!(rt; is_read(rt.alloc(), &mut source, 5, &None));
+    let mut out = Vec::new(rt.alloc());
     let mut sink = Writing::new(&mut out);
-    assert!(rt; write_whole(&mut sink, &bytes).is_ok());
-    assert_eq!(rt; out.as_slice(), b"image".as_slice());
-    Ok(())
+    assert!(rt; write_whole(&mut sink, b"image").is_ok());
+    assert!(rt; out.as_slice() == b"image".as_slice());
 }

@@ -202,7 +202,7 @@ fn of_addresses(rt: HostRuntime) -> Result<(), Fail> {
             target: *symbol,
         };
         let found = rewritten(rt.alloc(), &[at_the_end(*number, input)], input, setting)?;
-        assert_eq!(rt; found.as_slice(), *output, "{number} at {address:x}");
+        assert!(rt; found.as_slice() == *output, "{number} at {address:x}");
     }
     Ok(())
 }
@@ -261,7 +261,7 @@ fn of_threads(rt: HostRuntime) -> Result<(), Fail> {
             target: *target,
         };
         let found = rewritten(rt.alloc(), &[at_the_end(*number, input)], input, setting)?;
-        assert_eq!(rt; found.as_slice(), *output, "{number} at {address:x}");
+        assert!(rt; found.as_slice() == *output, "{number} at {address:x}");
     }
     Ok(())
 }

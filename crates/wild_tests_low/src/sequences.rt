@@ -68,6 +68,28 @@ const SEQUENCES: &[Sequence] = &[
         b"\x64\x48\x8b\x04\x25\0\0\0\0\x90\x90\x90\x90"),
 ];
 
+/// The first relocation of a sequence.
+fn first_of(number: u32, offset: u64) -> RelocationInfo {
+    RelocationInfo {
+        number,
+        offset,
+        symbol: Some(0),
+        addend: -4,
+        names_tls_get_addr: false,
+    }
+}
+
+/// The relocation of its call.
+fn call_of(number: u32, offset: u64, addend: i64) -> RelocationInfo {
+    RelocationInfo {
+        number,
+        offset,
+        symbol: Some(1),
+        addend,
+        names_tls_get_addr: true,
+    }
+}
+
 #[test]
 fn of_two_relocations(rt: HostRuntime) -> Result<(), Fail> {
     for (kind, flags, address, target, first, call, input, made, output) in SEQUENCES {
@@ -79,26 +101,14 @@ fn of_two_relocations(rt: HostRuntime) -> Result<(), Fail> {
             symbol: None,
             target: *target,
         };
-        let relocation = RelocationInfo {
-            number: first.0,
-            offset: first.1,
-            symbol: Some(0),
-            addend: -4,
-            names_tls_get_addr: false,
-        };
-        let of_call = RelocationInfo {
-            number: call.0,
-            offset: call.1,
-            symbol: Some(1),
-            addend: call.2,
-            names_tls_get_addr: true,
-        };
+        let relocation = first_of(first.0, first.1);
+        let of_call = call_of(call.0, call.1, call.2);
         let mut bytes = input.to_vec(rt.alloc())?;
         let alone = link(&mut bytes, &[relocation], setting)?;
-        assert!(rt; alone == Err(first.0), "{} alone at {address:x}", first.0);
+        assert!(rt; alone == Err(first.0), "alone at {address:x}");
         let found = link(&mut bytes, &[relocation, of_call], setting)?;
-        assert!(rt; found == Ok(Some(*made)), "{} at {address:x}", first.0);
-        assert_eq!(rt; bytes.as_slice(), *output, "{} at {address:x}", first.0);
+        let is_so = found == Ok(Some(*made)) && bytes.as_slice() == *output;
+        assert!(rt; is_so, "{} at {address:x}", first.0);
     }
     Ok(())
 }
@@ -150,14 +160,15 @@ fn what_is_rewritten(rt: HostRuntime) -> Result<(), Fail> {
         };
         let mut bytes = input.to_vec(rt.alloc())?;
         let found = link(&mut bytes, &[at_the_end(*number, input)], setting)?;
-        assert!(rt; found == *wanted, "{number} of {input:?}");
-        let unchanged = bytes.as_slice() == *input;
-        assert!(rt;
-            unchanged != matches!(wanted, Ok(Some(_))),
-            "{number} of {input:?}"
-        );
+        let is_changed = bytes.as_slice() != *input;
+        let is_so = found == *wanted && is_changed == matches!(wanted, Ok(Some(_)));
+        assert!(rt; is_so, "{number} of {input:?}");
     }
-    // Rewriting turned off.
+    Ok(())
+}
+
+#[test]
+fn nothing_is_rewritten(rt: HostRuntime) -> Result<(), Fail> {
     let mut bytes = *b"\x48\x8b\x2d\0\0\0\0";
     let relocation = at_the_end(42, &bytes);
     let off = Setting {
@@ -169,6 +180,6 @@ fn what_is_rewritten(rt: HostRuntime) -> Result<(), Fail> {
         target: 0x3008,
     };
     assert!(rt; link(&mut bytes, &[relocation], off)? == Ok(None));
-    assert_eq!(rt; bytes, *b"\x48\x8b\x2d\0\0\0\0");
+    assert!(rt; bytes == *b"\x48\x8b\x2d\0\0\0\0");
     Ok(())
 }

@@ -9,32 +9,34 @@ use wild_slot::PltTooFar;
 fn stubs(rt: HostRuntime) {
     let wanted = *b"\xf3\x0f\x1e\xfa\xf2\xff\x25\xf5\x1f\0\0\x0f\x1f\x44\0\0";
     let mut bytes = [0xcc; 16];
-    assert!(rt; ElfX86_64::write_plt_entry(&mut bytes, 0x3000, 0x1000).is_ok());
-    assert_eq!(rt; bytes, wanted);
+    let written = ElfX86_64::write_plt_entry(&mut bytes, 0x3000, 0x1000);
+    assert!(rt; written.is_ok() && bytes == wanted);
     let mut marked = [0xcc; 16];
     let written = ElfX86_64::write_plt_entry_with_bti(&mut marked, 0x3000, 0x1000, true);
-    assert!(rt; written.is_ok());
-    assert_eq!(rt; marked, wanted);
+    assert!(rt; written.is_ok() && marked == wanted);
     let far = ElfX86_64::write_plt_entry(&mut bytes, 0x8000_100b, 0x1000);
-    assert!(rt; matches!(far, Err(PltTooFar { value: 2147483648 })));
-    assert_eq!(rt; bytes, wanted);
+    assert!(rt; matches!(far, Err(PltTooFar { value: 2147483648 })) && bytes == wanted);
+}
+
+/// Whether the row writes so many bytes, whose field begins there, over those of the input.
+fn is_whole(row: Row, size: u64, field: u64) -> bool {
+    row.pattern_size() == size
+        && row.pattern_field() == field
+        && !row.keeps_bytes()
+        && !row.takes_next()
 }
 
 // A whole instruction, written over the bytes of the input by its row.
 #[test]
 fn templates(rt: HostRuntime) {
     let row = Row::IndirectJumpToDirect;
-    assert_eq!(rt; row.pattern_field(), 2);
-    assert_eq!(rt; row.pattern_size(), 6);
-    assert!(rt; !row.keeps_bytes() && !row.takes_next());
     let mut room = *b"\xcc\xff\x25\0\0\0\0\xcc";
     row.write_template(0x1234, &mut room, 1);
-    assert_eq!(rt; room, *b"\xcc\xe9\x34\x12\0\0\x90\xcc");
+    assert!(rt; is_whole(row, 6, 2) && room == *b"\xcc\xe9\x34\x12\0\0\x90\xcc");
     let row = Row::RexGotToImmediate(Prefix::Rex, Operation::Cmp);
     let mut room = *b"\x4c\x3b\x2d\0\0\0\0";
     row.write_template(0x1234, &mut room, 0);
-    assert_eq!(rt; room, *b"\x49\x81\xfd\x34\x12\0\0");
+    assert!(rt; room == *b"\x49\x81\xfd\x34\x12\0\0");
     let sequence = Row::LocalDynamicToLocalExec(LocalForm::Regular);
-    assert!(rt; sequence.takes_next());
-    assert!(rt; Row::Plt32ToPc32.keeps_bytes());
+    assert!(rt; sequence.takes_next() && Row::Plt32ToPc32.keeps_bytes());
 }

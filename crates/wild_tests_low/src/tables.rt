@@ -1,9 +1,9 @@
 //! Tables of entries, applied and refused.
 
-use crate::loader::world;
+use crate::loader::load;
 use std::alloc::Global;
 use std::test::Fail;
-use wild_loader::{LoadFault, Memory, load_image};
+use wild_loader::{LoadFault, Memory};
 use wild_records::abi::dynamic::{DT_JMPREL, DT_PLTRELSZ, DT_RELA, DT_RELASZ, DT_RELR, DT_RELRSZ};
 use wild_records::abi::header::{ELFCLASS64, ELFDATA2LSB, ELFMAG, EM_AARCH64, EM_X86_64, ET_DYN};
 use wild_records::abi::relocation::{
@@ -63,20 +63,8 @@ fn append_headers(image: &mut Vec<u8>, machine: u16) -> Result<(), Fail> {
     Ok(())
 }
 
-/// The place of an entry, its number, its symbol, and its addend.
-type Entry = (u64, u32, u32, i64);
-
-/// Such an image: words of packed relative relocations at 0x140, entries with addends at 0x180, and from 0x400 on the
-/// 8-byte numbers from 0 to 31.
-fn dynamic_image(
-    alloc: Global,
-    machine: u16,
-    tags: &[(u64, u64)],
-    words: &[u64],
-    entries: &[Entry],
-) -> Result<Vec<u8>, Fail> {
-    let mut image = Vec::new(alloc);
-    append_headers(&mut image, machine)?;
+/// Entries of a dynamic section.
+fn append_tags(image: &mut Vec<u8>, tags: &[(u64, u64)]) -> Result<(), Fail> {
     for (tag, value) in tags {
         let mut slot = [0; 16];
         let entry = DynamicEntry {
@@ -86,13 +74,22 @@ fn dynamic_image(
         entry.put(&mut slot);
         image.extend_from_slice(&slot)?;
     }
-    image.resize(0x140, 0)?;
+    Ok(())
+}
+
+fn append_words(image: &mut Vec<u8>, words: &[u64]) -> Result<(), Fail> {
     for word in words {
         let mut slot = [0; 8];
         Relr { entry: *word }.put(&mut slot);
         image.extend_from_slice(&slot)?;
     }
-    image.resize(0x180, 0)?;
+    Ok(())
+}
+
+/// The place of an entry, its number, its symbol, and its addend.
+type Entry = (u64, u32, u32, i64);
+
+fn append_entries(image: &mut Vec<u8>, entries: &[Entry]) -> Result<(), Fail> {
     for (offset, number, symbol, addend) in entries {
         let mut slot = [0; 24];
         let entry = Rela {
@@ -104,11 +101,34 @@ fn dynamic_image(
         entry.put(&mut slot);
         image.extend_from_slice(&slot)?;
     }
-    image.resize(0x400, 0)?;
+    Ok(())
+}
+
+/// The 8-byte numbers from 0 to 31.
+fn append_numbers(image: &mut Vec<u8>) -> Result<(), Fail> {
     for number in 0..32u8 {
         image.extend_from_slice(&[number, 0, 0, 0, 0, 0, 0, 0])?;
     }
-    Ok(image)
+    Ok(())
+}
+
+/// Puts such an image there: words of packed relative relocations at 0x140, entries with addends at 0x180, and numbers from
+/// 0x400 on.
+fn put_image(
+    image: &mut Vec<u8>,
+    machine: u16,
+    tags: &[(u64, u64)],
+    words: &[u64],
+    entries: &[Entry],
+) -> Result<(), Fail> {
+    append_headers(image, machine)?;
+    append_tags(image, tags)?;
+    image.resize(0x140, 0)?;
+    append_words(image, words)?;
+    image.resize(0x180, 0)?;
+    append_entries(image, entries)?;
+    image.resize(0x400, 0)?;
+    append_numbers(image)
 }
 
 /// The tags of both tables; their sizes are those of two words and of three entries.
@@ -127,60 +147,72 @@ fn loaded(
     words: &[u64],
     entries: &[Entry],
 ) -> Result<Result<Memory, LoadFault>, Fail> {
-    let image = dynamic_image(alloc, machine, tags, words, entries)?;
-    Ok(load_image(alloc, &image, &world(alloc, 0x10000)?))
+    let mut image = Vec::new(alloc);
+    put_image(&mut image, machine, tags, words, entries)?;
+    load(alloc, image.as_slice(), 0x10000)
 }
+
+/// Its memory, where it is loaded.
+fn memory_of(
+    alloc: Global,
+    machine: u16,
+    tags: &[(u64, u64)],
+    words: &[u64],
+    entries: &[Entry],
+) -> Result<Memory, Fail> {
+    let loaded = loaded(alloc, machine, tags, words, entries)?;
+    Ok(loaded.ok().ok_or("refused")?)
+}
+
+/// Entries of relative relocations.
+const RELATIVE: &[Entry] = &[
+    (0x440, R_X86_64_RELATIVE, 0, 0x123),
+    (0x448, R_X86_64_RELATIVE, 0, -1),
+    (0x450, R_X86_64_RELATIVE, 0, 0),
+];
+
+/// Words of an image with these entries and, packed, the place 0x400, and bits 1 and 3 of a bitmap from 0x408 on.
+const MOVED: &[(u64, Option<u64>)] = &[
+    (0x10400, Some(0x10000)),
+    (0x10408, Some(0x10001)),
+    (0x10410, Some(2)),
+    (0x10418, Some(0x10003)),
+    (0x10420, Some(4)),
+    (0x10440, Some(0x10123)),
+    (0x10448, Some(0xffff)),
+    (0x10450, Some(0x10000)),
+    (0x10458, Some(11)),
+    (0x10500, Some(0)),
+    (0x105f8, Some(0)),
+    (0x105f9, None),
+];
 
 #[test]
 fn packed_and_relative(rt: HostRuntime) -> Result<(), Fail> {
-    // The place 0x400, then bits 1 and 3 of a bitmap from 0x408 on.
-    let words = &[0x400, 0b1011];
-    let entries = &[
-        (0x440, R_X86_64_RELATIVE, 0, 0x123),
-        (0x448, R_X86_64_RELATIVE, 0, -1),
-        (0x450, R_X86_64_RELATIVE, 0, 0),
-    ];
-    let memory = loaded(rt.alloc(), EM_X86_64, BOTH, words, entries)?
-        .ok()
-        .ok_or("refused")?;
-    for (address, word) in [
-        (0x10400, Some(0x10000)),
-        (0x10408, Some(0x10001)),
-        (0x10410, Some(2)),
-        (0x10418, Some(0x10003)),
-        (0x10420, Some(4)),
-        (0x10440, Some(0x10123)),
-        (0x10448, Some(0xffff)),
-        (0x10450, Some(0x10000)),
-        (0x10458, Some(11)),
-        (0x10500, Some(0)),
-        (0x105f8, Some(0)),
-        (0x105f9, None),
-    ] {
-        assert_eq!(rt; memory.word(address), word, "at {address}");
+    let memory = memory_of(rt.alloc(), EM_X86_64, BOTH, &[0x400, 0b1011], RELATIVE)?;
+    for (address, word) in MOVED {
+        assert!(rt; memory.word(*address) == *word, "at {address}");
     }
     Ok(())
 }
 
 /// Tables of size 0 are none, wherever they are said to stand; of several tags of one kind the first counts.
+const EMPTY: &[(u64, u64)] = &[
+    (DT_RELR, 0x9999),
+    (DT_RELRSZ, 0),
+    (DT_JMPREL, 0u64.wrapping_sub(8)),
+    (DT_PLTRELSZ, 0),
+    (DT_RELA, 0x180),
+    (DT_RELASZ, 24),
+    (DT_RELASZ, 0x9999),
+    (DT_RELA, 0x9999),
+];
+
 #[test]
 fn empty_tables(rt: HostRuntime) -> Result<(), Fail> {
-    let tags = &[
-        (DT_RELR, 0x9999),
-        (DT_RELRSZ, 0),
-        (DT_JMPREL, 0u64.wrapping_sub(8)),
-        (DT_PLTRELSZ, 0),
-        (DT_RELA, 0x180),
-        (DT_RELASZ, 24),
-        (DT_RELASZ, 0x9999),
-        (DT_RELA, 0x9999),
-    ];
     let entries = &[(0x400, R_X86_64_RELATIVE, 0, 5)];
-    let memory = loaded(rt.alloc(), EM_X86_64, tags, &[], entries)?
-        .ok()
-        .ok_or("refused")?;
-    assert_eq!(rt; memory.word(0x10400), Some(0x10005));
-    assert_eq!(rt; memory.word(0x10408), Some(1));
+    let memory = memory_of(rt.alloc(), EM_X86_64, EMPTY, &[], entries)?;
+    assert!(rt; memory.word(0x10400) == Some(0x10005) && memory.word(0x10408) == Some(1));
     Ok(())
 }
 
@@ -237,19 +269,21 @@ const APPLIED: &[(u16, &[Entry], [u64; 3])] = &[
     ),
 ];
 
+/// Whether memory has these words from 0x10400 on.
+fn has_words(memory: &Memory, words: &[u64; 3]) -> bool {
+    memory.word(0x10400) == Some(words[0])
+        && memory.word(0x10408) == Some(words[1])
+        && memory.word(0x10410) == Some(words[2])
+}
+
 #[test]
 fn applied_entries(rt: HostRuntime) -> Result<(), Fail> {
     for (machine, entries, words) in APPLIED {
-        let memory = loaded(rt.alloc(), *machine, ENTRIES, &[], entries)?
-            .ok()
-            .ok_or("refused")?;
-        let [first, second, third] = *words;
-        for (address, word) in [(0x10400, first), (0x10408, second), (0x10410, third)] {
-            assert_eq!(rt; memory.word(address), Some(word), "{entries:?}");
-        }
+        let memory = memory_of(rt.alloc(), *machine, ENTRIES, &[], entries)?;
+        assert!(rt; has_words(&memory, words), "{entries:?}");
         let descriptor = (*machine == EM_AARCH64).then_some(0xffff_ffff_ffff_fff2);
-        assert_eq!(rt; memory.descriptor_at(0x10410), descriptor);
-        assert_eq!(rt; memory.descriptor_at(0x10418), None);
+        assert!(rt; memory.descriptor_at(0x10410) == descriptor);
+        assert!(rt; memory.descriptor_at(0x10418).is_none());
     }
     Ok(())
 }

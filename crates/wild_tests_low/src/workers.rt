@@ -77,6 +77,27 @@ impl Marks {
             ran: [AtomicU64::new(0), AtomicU64::new(0), AtomicU64::new(0)],
         }
     }
+
+    // Whether each group was entered and run once.
+    fn are_once(&self) -> bool {
+        for group in 0..3usize {
+            let entered = self.entered[group].load(Ordering::SeqCst);
+            if entered != 1 || self.ran[group].load(Ordering::SeqCst) != 1 {
+                return false;
+            }
+        }
+        true
+    }
+}
+
+// Whether there is a piece for each of the three groups, in order.
+fn are_pieces(pieces: &[Reads]) -> bool {
+    matches!(pieces, [a, b, c] if a.group == 0 && b.group == 1 && c.group == 2)
+}
+
+// Whether each number was claimed once, and one more by each of so many workers.
+fn has_claims(core: &Core, workers: u32) -> bool {
+    core.next == 3 + u64::from(workers) && core.claims.len() == workers as usize
 }
 
 #[test]
@@ -84,24 +105,11 @@ fn each_group_is_entered_and_run_once(rt: HostRuntime) -> Result<(), Fail> {
     for workers in [1, 2, 64] {
         let job = Marks::new(3);
         let got = gather(&rt, rt.alloc(), &job, 2, workers, &job)?;
-        let pieces = got.pieces.as_slice();
+        assert!(rt; are_pieces(got.pieces.as_slice()) && has_claims(&got.core, workers));
         assert!(rt;
-            pieces.len() == 3
-                && pieces[0].group == 0
-                && pieces[1].group == 1
-                && pieces[2].group == 2
+            got.totals.as_slice() == [0, 7].as_slice() && job.are_once(),
+            "{workers}"
         );
-        assert_eq!(rt; got.totals.as_slice(), [0, 7].as_slice());
-        assert_eq!(rt; got.core.next, 3 + u64::from(workers));
-        assert_eq!(rt; got.core.claims.len(), workers as usize);
-        for group in 0..3usize {
-            assert_eq!(rt;
-                job.entered[group].load(Ordering::SeqCst),
-                1,
-                "gate of {group}"
-            );
-            assert_eq!(rt; job.ran[group].load(Ordering::SeqCst), 1, "runs of {group}");
-        }
     }
     Ok(())
 }
@@ -114,20 +122,19 @@ fn a_worker_without_memory_is_joined(rt: HostRuntime) {
     }
 }
 
+// Whether the first worker claimed 1, and the second 0 and counted it.
+fn are_claimed_and_counted(core: &Core) -> bool {
+    matches!(core.claims.as_slice(), [a, b] if a.as_slice() == [1].as_slice() && b.as_slice() == [0].as_slice())
+        && matches!(core.counts.as_slice(), [a, b] if a.len() == 0 && b.as_slice() == [(0, 5)].as_slice())
+}
+
 #[test]
 fn steps_of_two_workers(rt: HostRuntime) -> Result<(), Fail> {
     let mut core = Core::new(rt.alloc(), 2, 1)?;
     core.step(Step::Claim(1))?;
     core.step(Step::Claim(0))?;
     core.step(Step::Count(1, 0, 5))?;
-    let claims = core.claims.as_slice();
-    let counts = core.counts.as_slice();
-    assert!(rt; claims.len() == 2 && counts.len() == 2);
-    assert_eq!(rt; core.next, 2);
-    assert_eq!(rt; claims[0].as_slice(), [1].as_slice());
-    assert_eq!(rt; claims[1].as_slice(), [0].as_slice());
-    assert_eq!(rt; counts[0].len(), 0);
-    assert_eq!(rt; counts[1].as_slice(), [(0, 5)].as_slice());
+    assert!(rt; core.next == 2 && are_claimed_and_counted(&core));
     Ok(())
 }
 
@@ -159,10 +166,9 @@ fn two_workers_meet(rt: HostRuntime) -> Result<(), Fail> {
         met: AtomicU64::new(0),
     };
     let got = gather(&rt, rt.alloc(), &Marks::new(3), 2, 2, &gate)?;
-    assert_eq!(rt; got.pieces.len(), 3);
-    assert_eq!(rt;
-        gate.met.load(Ordering::SeqCst),
-        1,
+    let met = gate.met.load(Ordering::SeqCst);
+    assert!(rt;
+        got.pieces.len() == 3 && met == 1,
         "the second worker entered no group"
     );
     Ok(())

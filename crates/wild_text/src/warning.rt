@@ -1,16 +1,26 @@
 //! The lines for what is said beside an image.
 ghost use Rattle.std.specs.Prelude.{◌≡◌, ◌++◌, IfOk, OnOk, string_bytes, slice_get};
-ghost use Rattle.std.specs.List.{flat_map};
-ghost use Rattle.wild_text.specs.Answer.{shown_name, name_of, warning_text, warning_line};
+ghost use Rattle.std.specs.List.{flat_map, list_any};
+ghost use Rattle.wild_text.specs.Answer.{is_control, shown_name, name_of, warning_text, warning_line};
 
 use std::alloc::{AllocError, Global};
 use std::fmt::Write;
 use wild_plan::{EntryWarning, Layout, SymbolIndex};
 
-/// A name as it is shown: itself where it is text, else in hex.
+/// Whether a name has a control character of ASCII: a newline would end the line of the warning.
+fn has_control(name: &[u8]) -> bool
+    ensures { result ≡ list_any is_control name.now }
+{
+    name.iter().any(|byte| *byte < b' ' || *byte == 0x7f)
+}
+
+/// A name as it is shown: itself where it is text without control characters, else in hex.
 fn name_text(alloc: Global, name: &[u8]) -> Result<String, AllocError>
     ensures { IfOk result (λ s. string_bytes s ≡ shown_name name.now) }
 {
+    if has_control(name) {
+        return hex::encode(alloc, name);
+    }
     match str::from_utf8(name) {
         Ok(text) => String::from_str(alloc, text),
         Err(_) => hex::encode(alloc, name),

@@ -38,3 +38,8 @@ not_any t (x ∷ xs) =
       | inl e ↦ rw e refl
       | inr f ↦ rw f (not_any t xs)
     ]
+
+-- where each counts 0
+pub total-none : {X : Type 0} (f : X → ℕ) (xs : List X) → ((x : X) → f x ≡ 0) → total f xs ≡ 0
+total-none f [] h = refl
+total-none f (x ∷ xs) h = let a = h x in let b = total-none f xs h in omega (arith, a, b)

@@ -1,7 +1,7 @@
 -- A group's share of the part of a role.
 --   part_of l r               the place of the part of that role; the number of parts where there is none
 --   share_of l group r        the group's share of it
---   insufficient, excessive   a share that is smaller, or larger, than what has to be written there
+--   insufficient part group has needed, excessive ..   the group's share of the part is smaller, or larger, than what has to be written there
 use Rattle.std.specs.Prelude.{ℕ, ◌+◌, if◌then◌else◌, List, [], ◌∷◌, Option, Some, None, slice_get}
 use Rattle.wild_types.specs.declared.part.Part.{Part}
 use Rattle.wild_types.specs.declared.part.Role.{Role}
@@ -31,9 +31,9 @@ abbrev pub share_of : Layout → ℕ → Role → ℕ
 share_of l group r = given_by (part_of l r) (slice_get l.groups group)
 
 -- a share that is smaller than what has to be written there
-abbrev pub insufficient : Layout → ℕ → Role → ℕ → ℕ → Error
-insufficient l group r has needed = record { fault = faults.InsufficientAllocation (part_of l r) group has needed; at = nowhere }
+abbrev pub insufficient : ℕ → ℕ → ℕ → ℕ → Error
+insufficient part group has needed = record { fault = faults.InsufficientAllocation part group has needed; at = nowhere }
 
 -- a share that is larger
-abbrev pub excessive : Layout → ℕ → Role → ℕ → ℕ → Error
-excessive l group r has needed = record { fault = faults.ExcessiveAllocation (part_of l r) group has needed; at = nowhere }
+abbrev pub excessive : ℕ → ℕ → ℕ → ℕ → Error
+excessive part group has needed = record { fault = faults.ExcessiveAllocation part group has needed; at = nowhere }

@@ -28,31 +28,31 @@ pub fn share_of(layout: &Layout, group: usize, role: Role) -> u64
     }
 }
 
-/// A share that is smaller than what has to be written there.
-pub fn insufficient(layout: &Layout, group: usize, role: Role, given: usize, needed: usize) -> Error
-    ensures { result ≡ insufficient layout.now group role given needed }
+/// A group's share of a part, in bytes, is smaller than what has to be written there.
+pub fn insufficient(part: usize, group: usize, given: u64, needed: u64) -> Error
+    ensures { result ≡ insufficient part group given needed }
 {
     Error {
         fault: Fault::InsufficientAllocation {
-            part: part_of(layout, role),
+            part,
             group,
-            given: given as u64,
-            needed: needed as u64,
+            given,
+            needed,
         },
         at: At::NOWHERE,
     }
 }
 
-/// A share that is larger than what has to be written there.
-pub fn excessive(layout: &Layout, group: usize, role: Role, given: usize, needed: usize) -> Error
-    ensures { result ≡ excessive layout.now group role given needed }
+/// A group's share of a part, in bytes, is larger than what has to be written there.
+pub fn excessive(part: usize, group: usize, given: u64, needed: u64) -> Error
+    ensures { result ≡ excessive part group given needed }
 {
     Error {
         fault: Fault::ExcessiveAllocation {
-            part: part_of(layout, role),
+            part,
             group,
-            given: given as u64,
-            needed: needed as u64,
+            given,
+            needed,
         },
         at: At::NOWHERE,
     }

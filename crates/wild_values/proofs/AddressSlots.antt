@@ -21,12 +21,12 @@ use Rattle.wild_loader.specs.declared.memory.Memory.{Memory}
 use Rattle.wild_loader.specs.declared.world.World.{World}
 use Rattle.wild_meaning.specs.Slot.{HasWord}
 use Rattle.wild_meaning.specs.Denotes.{IsStub}
+use Rattle.wild_meaning.proofs.WorldLemmas.{word_below}
 use Rattle.wild_values.specs.Terms.{IsPlaced}
 use Rattle.wild_values.proofs.EntryWords.{got_is_address}
 use Rattle.wild_values.proofs.FirstSlots.{HasFirst, first_held, named_held, items_behind}
 use Rattle.wild_values.proofs.SlotContents.{ItemsHold}
 use Rattle.wild_values.proofs.SlotTerms.{SlotStands, SlotsStand, by_slot}
-use Rattle.wild_values.proofs.StubCode.{word_below}
 use Rattle.wild_values.proofs.SymbolStubs.{stub_from, stub_is}
 use Rattle.wild_values.proofs.Symbols.{IsResolvedBy}
 

@@ -1,8 +1,10 @@
 -- Which references take the output's own symbol, whatever another module has for it.
-use Rattle.std.proofs.Common.{◌≡◌, ℕ, ◌⊎◌, inl, inr, Bool, true, false, Some, refl, sym, ap, ◌∙◌, subst}
+use Rattle.std.proofs.Common.{◌≡◌, ℕ, ◌<◌, ◌⊎◌, inl, inr, Bool, true, false, Some, length, refl, sym, ap, ◌∙◌, subst}
 use Rattle.std.specs.Prelude.{not, ◌&&◌, ◌==◌}
 use Rattle.std.proofs.lemmas.Bool.{eq-eqb}
 use Rattle.std.proofs.lemmas.Option.{slice_get_within}
+use Rattle.wild_meaning.proofs.SymbolLemmas.{canonical_is}
+use Rattle.wild_words.proofs.Basics.{slice_get_inside}
 use Rattle.wild_records.specs.Abi.Section.{shf_write}
 use Rattle.wild_types.specs.declared.input.InputRelocation.{InputRelocation}
 use Rattle.wild_types.specs.declared.input.InputSection.{InputSection}
@@ -11,7 +13,7 @@ use Rattle.wild_slot.specs.declared.treatment.Treatment.{Treatment}
 use Rattle.wild_slot.specs.declared.treatment.Treatment.TheVariants as treatments
 use Rattle.wild_needs.specs.Entries.{is_left_to_entry}
 use Rattle.wild_types.specs.Flags.{has_flag, non_interposable}
-use Rattle.wild_types.specs.Lookups.{writable, allocated}
+use Rattle.wild_types.specs.Lookups.{writable, allocated, canonical}
 use Rattle.wild_types.specs.Rows.{row_of}
 use Rattle.wild_slot.specs.Treatment.{flags_at, is_left, treatment}
 use Rattle.wild_reloc.specs.Agreement.{plain_value}
@@ -30,14 +32,16 @@ use Rattle.wild_meaning.specs.Item.{item_of}
 use Rattle.wild_meaning.specs.Reference.{IsLeftToLoader, IsStubbed, TakesItself, IsLinkedAlone}
 use Rattle.wild_meaning.specs.Section.{IsSet}
 use Rattle.wild_meaning.specs.Value.{HasFlag, IsReplaceable, may_be_replaced}
+use Rattle.wild_meaning.proofs.BitLemmas.{write_bit, bit_write}
+use Rattle.wild_layout.proofs.DecideLemmas.{known_extent, known_indirect, known_symbolic}
+use Rattle.wild_geometry.proofs.JudgedLemmas.{flag_is}
 use Rattle.wild_values.specs.Terms.{IsPlaced, IsFollowed}
-use Rattle.wild_values.proofs.Bits.{write_bit, bit_write}
-use Rattle.wild_values.proofs.EntryKinds.{address_by, chosen_own, symbolic_row, indirect_row, extent_row}
+use Rattle.wild_values.proofs.EntryKinds.{address_by, chosen_own}
 use Rattle.wild_values.proofs.KnownRows.{RowFits}
-use Rattle.wild_values.proofs.Stubbed.{flag_is, stubbed_or_not}
-use Rattle.wild_values.proofs.Symbols.{replaceable_is, replaceable_at, flag_at}
+use Rattle.wild_values.proofs.Stubbed.{stubbed_or_not}
+use Rattle.wild_values.proofs.Symbols.{replaceable_is, replaceable_at, flag_at, definition_there}
 use Rattle.wild_values.proofs.Treated.{address_kept, address_left, address_chosen}
-use Rattle.wild_values.proofs.Written.{IsLeftField, slice_get_inside}
+use Rattle.wild_values.proofs.Written.{IsLeftField}
 
 -- ---- fields that a loader could fill
 
@@ -87,11 +91,15 @@ address_kind kinds.TlsLd v e = cc
 address_kind kinds.TlsDesc v e = cc
 address_kind other v e = cc
 
+-- the definition of a symbol with a flag is one of the layout's symbols
+defined_within : (l : Layout) (i : ℕ) {flag : ℕ} {b : Bool} → HasFlag l i flag b → canonical l i < length l.symbols
+defined_within l i h = rw (canonical_is l i h.definition h.defined) (slice_get_within l.symbols h.definition h.symbol h.listed)
+
 -- so that a field that is written, or moves, is none
 pub not_left : (l : Layout) (s : InputSection) (r : InputRelocation) (row : RelocationKindInfo) (i : ℕ) (t : Treatment) (fits : RowFits r.number row) → HasValue row.kind → allocated s.flags ≡ true → treatment l s r ≡ t → (treatments.Recompile ≡ t → ⊥) → (treatments.Symbolic i ≡ t → ⊥) → row_of l.machine r.number ≡ Some row → r.symbol ≡ Some i → IsLeftToLoader l (item_of s) i fits.formula → ⊥
 not_left l s r row i t fits value room is no_recompile no_entry known named left =
     let kind = address_kind row.kind value (fits.value ∙ left.value) in
-    let treated = address_by l s r row i t (slice_get_within l.symbols i left.interposable.defined.symbol left.interposable.defined.listed) is known kind named in
+    let treated = address_by l s r row i t (defined_within l i left.interposable) is known kind named in
     let kept = address_kept l s row i t treated no_recompile no_entry in
     let asked = left_asked l s row i room left.writable (fits.width ∙ left.wide) left.interposable in
     let e : true ≡ false = sym asked ∙ kept in
@@ -163,7 +171,7 @@ left_follows l w m s index r p listed f known a = by_treatment f.left.treated f.
     by_symbolic i is kind width named =
         let value : f.fits.formula.value ≡ SymbolAddress = sym f.fits.value ∙ ap plain_value kind in
         let t = itself_by l s a.symbol f.fits.formula SymbolAddress value (λ o. o) takes in
-        let left = address_left l s row i i (address_by l s r row i (treatments.Symbolic i) (listed i named) is f.left.field.known kind named) in
+        let left = address_left l s row i i (address_by l s r row i (treatments.Symbolic i) (definition_there l i p.symbols.named (listed i named)) is f.left.field.known kind named) in
         let open_one = left_open l s row i left in
         let z = slice_get_inside l.symbols i (listed i named) in
         let flag = subst (λ (b : Bool). HasFlag l i non_interposable b) open_one.interposable (flag_at l i non_interposable z.0 p.symbols.named z.1) in
@@ -171,7 +179,7 @@ left_follows l w m s index r p listed f known a = by_treatment f.left.treated f.
 
     by_resolver : (i : ℕ) → treatment l s r ≡ treatments.Indirect i → row.kind ≡ kinds.Absolute → field_width row ≡ 8 → r.symbol ≡ Some i → ⊥
     by_resolver i is kind width named =
-        let own = chosen_own l w m s row i p (listed i named) width (address_chosen l s row i i (address_by l s r row i (treatments.Indirect i) (listed i named) is f.left.field.known kind named)) in
+        let own = chosen_own l w m s row i p (listed i named) width (address_chosen l s row i i (address_by l s r row i (treatments.Indirect i) (definition_there l i p.symbols.named (listed i named)) is f.left.field.known kind named)) in
         let none = replaceable_is l i false own.own in
         let some = replaceable_is l a.symbol true a.replaceable in
         let e : false ≡ true = sym none ∙ (ap (λ (k : ℕ). may_be_replaced l.kind (flags_at l k)) (one_symbol i named) ∙ some) in
@@ -179,15 +187,15 @@ left_follows l w m s index r p listed f known a = by_treatment f.left.treated f.
 
     by_treatment : (t : Treatment) → is_left_to_entry t ≡ true → treatment l s r ≡ t → ⊥
     by_treatment (treatments.Symbolic i) left is =
-        let k = symbolic_row l s r i is in
+        let k = known_symbolic l s r i is in
         let e = one_row k.0 k.1 in
         by_symbolic i is (subst (λ (x : RelocationKindInfo). x.kind ≡ kinds.Absolute) e k.2.kind) (subst (λ (x : RelocationKindInfo). field_width x ≡ 8) e k.2.width) k.2.named
     by_treatment (treatments.Indirect i) left is =
-        let k = indirect_row l s r i is in
+        let k = known_indirect l s r i is in
         let e = one_row k.0 k.1 in
         by_resolver i is (subst (λ (x : RelocationKindInfo). x.kind ≡ kinds.Absolute) e k.2.kind) (subst (λ (x : RelocationKindInfo). field_width x ≡ 8) e k.2.width) k.2.named
     by_treatment (treatments.Extent x i) left is =
-        let k = extent_row l s r x i is in
+        let k = known_extent l s r x i is in
         let kind : row.kind ≡ kinds.SymbolSize = subst (λ (y : RelocationKindInfo). y.kind ≡ kinds.SymbolSize) (one_row x k.0) k.1.kind in
         (itself_by l s a.symbol f.fits.formula Size (sym f.fits.value ∙ ap plain_value kind) (λ o. o) takes).0
     by_treatment other left is = cc

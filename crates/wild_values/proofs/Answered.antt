@@ -1,9 +1,9 @@
 -- What the world answers for a symbol is its value: another module's, or the output's own.
 use Rattle.std.proofs.Common.{◌≡◌, ℕ, ◌+◌, ◌-◌, ◌%◌, ◌^◌, inl, inr, Bool, true, false, Some, Ok, refl, arith, subst}
+use Rattle.wild_words.proofs.ListLemmas.{holds_at}
 use Rattle.wild_types.specs.declared.symbol.Resolution.{Resolution}
 use Rattle.wild_types.specs.declared.layout.Layout.{Layout}
 use Rattle.wild_types.specs.Lookups.{canonical}
-use Rattle.wild_layout.proofs.SiteLemmas.{All-at}
 use Rattle.wild_loader.specs.Changes.{distance_of}
 use Rattle.wild_loader.specs.declared.world.Answer.{Answer}
 use Rattle.wild_loader.specs.declared.world.World.{World}
@@ -35,7 +35,7 @@ answered_size l w i x a h = by_whose (may_be_replaced l.kind h.symbol.flags) (an
     by_whose true whose = inl (whose, x, h, refl)
     by_whose false whose = inr (whose, (a.own i x whose h).size)
 
-place_same : (d offset raw start : ℕ) → offset ≡ (raw + (2 ^ 64 - start)) % 2 ^ 64 → (d + offset) % 2 ^ 64 ≡ (d + raw + (2 ^ 64 - start)) % 2 ^ 64
+pub place_same : (d offset raw start : ℕ) → offset ≡ (raw + (2 ^ 64 - start)) % 2 ^ 64 → (d + offset) % 2 ^ 64 ≡ (d + raw + (2 ^ 64 - start)) % 2 ^ 64
 place_same d offset raw start e = omega (arith, e)
 
 -- the distance of its module and its offset there
@@ -50,4 +50,4 @@ answered_offset l w i raw d x a h given known = by_whose (may_be_replaced l.kind
 
 -- an answer's module is known
 pub answer_fits : (l : Layout) (w : World) (d : ℕ) → AnswersSymbols l w → (a : IsAnsweredBy w d) → IsAnswer w a.answer
-answer_fits l w d s a = All-at (IsAnswer w) w.symbols d a.answer s.each a.there
+answer_fits l w d s a = holds_at (IsAnswer w) w.symbols d a.answer a.there s.each

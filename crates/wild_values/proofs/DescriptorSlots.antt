@@ -23,6 +23,7 @@ use Rattle.wild_loader.specs.declared.world.World.{World}
 use Rattle.wild_meaning.specs.Slot.{HasWord}
 use Rattle.wild_meaning.specs.Thread as judge
 use Rattle.wild_meaning.specs.Value.{may_be_replaced}
+use Rattle.wild_meaning.proofs.WorldLemmas.{word_below}
 use Rattle.wild_values.specs.Terms.{IsPlaced}
 use Rattle.wild_values.proofs.Answered.{has_answer, answered_offset}
 use Rattle.wild_values.proofs.EntryWords.{descriptor_filled, own_descriptor_filled}
@@ -30,7 +31,6 @@ use Rattle.wild_values.proofs.FirstSlots.{thread_held}
 use Rattle.wild_values.proofs.OutputKinds.{library_is}
 use Rattle.wild_values.proofs.SlotContents.{ItemsHold}
 use Rattle.wild_values.proofs.SlotTerms.{SlotStands, SlotsStand, by_slot}
-use Rattle.wild_values.proofs.StubCode.{word_below}
 use Rattle.wild_values.proofs.Symbols.{IsResolvedBy, resolved_raw}
 use Rattle.wild_values.proofs.ThreadSlots.{whose_own, index_some, library_same, less_below, looked_same, offset_first}
 use Rattle.wild_values.proofs.ThreadValues.{placed_thread}

@@ -28,8 +28,8 @@ use Rattle.wild_layout.specs.SlotValues.{slot_of, behind_word, behind_pair}
 use Rattle.wild_layout.specs.Values.{term_of}
 use Rattle.wild_meaning.specs.Formula.{KnowsOffsets, HasOffsetMode}
 use Rattle.wild_meaning.specs.Item.{item_of}
+use Rattle.wild_meaning.proofs.BitLemmas.{code_bit}
 use Rattle.wild_values.specs.Terms.{SymbolsFit}
-use Rattle.wild_values.proofs.Bits.{code_bit}
 use Rattle.wild_values.proofs.DescriptorSlots.{thread_of}
 use Rattle.wild_values.proofs.Rows.{row_applies, nothing_stands, unchosen}
 use Rattle.wild_values.proofs.SlotFlags.{symbol_fits, thread_not_chosen}

@@ -1,13 +1,14 @@
 -- What an entry stores in a field that is left to it is what the formula of the relocation gives.
-use Rattle.std.proofs.Common.{◌≡◌, ℕ, suc, ◌+◌, ◌*◌, ◌/◌, ◌%◌, ◌^◌, ◌<◌, ◌⊎◌, inl, inr, Bool, true, false, List, length, Option, Some, None, Result, Ok, Err, refl, sym, ap, ◌∙◌, arith, subst}
-use Rattle.std.specs.Prelude.{FitsSigned, ◌==◌, ◌&&◌, ◌||◌, not, option_and_then, option_map, slice_get}
+use Rattle.std.proofs.Common.{◌≡◌, ℕ, suc, ◌+◌, ◌*◌, ◌/◌, ◌%◌, ◌^◌, ◌<◌, ◌≤◌, ◌-◌, ◌⊎◌, inl, inr, Bool, true, false, List, length, Option, Some, None, Result, Ok, Err, refl, sym, ap, ◌∙◌, arith, subst}
+use Rattle.std.specs.Prelude.{FitsSigned, ◌==◌, ◌&&◌, ◌||◌, not, nat_le, nat_lt, option_and_then, option_map, slice_get}
 use Rattle.std.specs.Int.{w64, cast_unsigned, cast_signed}
 use Rattle.std.specs.List.{list_all}
-use Rattle.std.proofs.lemmas.Bool.{cases_Bool, eqb-true, eq-eqb}
+use Rattle.std.proofs.lemmas.Bool.{cases_Bool, eqb-true, eq-eqb, leb-true, ltb-true, or_cases}
 use Rattle.std.proofs.lemmas.Int.{of_z-to_z}
 use Rattle.wild_words.specs.Words.{word}
 use Rattle.wild_words.specs.Words as words
-use Rattle.wild_words.proofs.WordLemmas.{number-word}
+use Rattle.wild_words.proofs.WordLemmas.{number-word, number-word_2, number-word_4}
+use Rattle.wild_words.proofs.Basics.{slice_get_inside}
 use Rattle.wild_records.specs.Abi.Relocation.{r_x86_64_64, r_x86_64_irelative, r_x86_64_size32, r_x86_64_size64}
 use Rattle.wild_records.proofs.FieldLemmas.{signed_fits}
 use Rattle.wild_types.specs.declared.fault.Fault.{Fault}
@@ -22,16 +23,18 @@ use Rattle.wild_types.specs.declared.layout.Layout.{Layout}
 use Rattle.wild_slot.specs.declared.treatment.Treatment.{Treatment}
 use Rattle.wild_slot.specs.declared.treatment.Treatment.TheVariants as treatments
 use Rattle.wild_needs.specs.Entries.{is_left_to_entry}
-use Rattle.wild_types.specs.Flags.{has_flag, dynamic, ifunc, absolute, non_interposable, copy_relocation, export_dynamic}
-use Rattle.wild_types.specs.Kinds.{is_position_independent, is_shared_object}
+use Rattle.wild_types.specs.Flags.{has_flag, interposable, dynamic, ifunc, absolute, non_interposable, copy_relocation, export_dynamic}
+use Rattle.wild_types.specs.Kinds.{is_position_independent}
 use Rattle.wild_types.specs.Lookups.{canonical, writable, allocated}
 use Rattle.wild_types.specs.Rows.{row_of}
 use Rattle.wild_slot.specs.SlotParts.{type_of}
-use Rattle.wild_slot.specs.Treatment.{flags_at, is_left, is_chosen, is_sized, address_treatment, size_treatment, kind_treatment, treatment}
+use Rattle.wild_slot.specs.Slots.{is_replaceable}
+use Rattle.wild_slot.specs.Treatment.{flags_at, is_left, is_chosen, address_treatment, kind_treatment, treatment}
 use Rattle.wild_reloc.specs.Agreement.{X86_64Agrees, plain_value}
-use Rattle.wild_reloc.specs.Field.{field_width}
+use Rattle.wild_reloc.specs.Field.{allows, field_width}
 use Rattle.wild_reloc.specs.Formula.{Formula, formula, Form, Value, Full, Plain, Unsigned, Reads, SymbolAddress, Size}
 use Rattle.wild_reloc.specs.FormulaX86_64.{x86_64_formula}
+use Rattle.wild_reloc.specs.Table.{plain}
 use Rattle.wild_reloc.specs.TableX86_64.{x86_64_rows, x86_64_row}
 use Rattle.wild_reloc.specs.declared.dynamic.DynamicRelocationKind.TheVariants.{Absolute, Irelative}
 use Rattle.wild_reloc.specs.declared.info.RelocationKind.{RelocationKind}
@@ -39,14 +42,16 @@ use Rattle.wild_reloc.specs.declared.info.RelocationKind.TheVariants as kinds
 use Rattle.wild_reloc.specs.declared.info.RelocationKindInfo.{RelocationKindInfo}
 use Rattle.wild_reloc.specs.declared.info.RelocationSize.{RelocationSize}
 use Rattle.wild_reloc.specs.declared.info.RelocationSize.TheVariants.{ByteSize}
-use Rattle.wild_reloc.specs.declared.info.Width.TheVariants.{Eight}
+use Rattle.wild_reloc.specs.declared.info.Width.TheVariants.{Four, Eight}
+use Rattle.wild_reloc.specs.declared.range.Sign.TheVariants as row_sign
 use Rattle.wild_reloc.proofs.TableLemmas.{entry_passes}
 use Rattle.wild_layout.specs.declared.decision.Decision.TheVariants.{Left}
 use Rattle.wild_layout.specs.Decide.{added, left_to, chosen_to, decide_by, decided}
+use Rattle.wild_layout.specs.SymbolValues.{sum, symbol_size}
 use Rattle.wild_layout.specs.SlotValues.{resolution_of, index_of, decided_address}
-use Rattle.wild_layout.proofs.DecideLemmas.{decided_left}
+use Rattle.wild_layout.proofs.DecideLemmas.{sized_parts, decided_left, known_extent, known_indirect, known_symbolic}
 use Rattle.wild_layout.specs.Geometry.{NamesSymbol}
-use Rattle.wild_layout.proofs.TreatmentLemmas.{has_value, IsLeftBy, IsSizedBy, row_symbolic, row_indirect, row_extent}
+use Rattle.wild_layout.proofs.TreatmentLemmas.{has_value}
 use Rattle.wild_geometry.specs.Loaded.{InMemory, MakesChange, stored_bytes, ReadsLeft}
 use Rattle.wild_loader.specs.Changes.{kind_of, change_of, answer_at}
 use Rattle.wild_loader.specs.declared.change.Change.{Change}
@@ -57,7 +62,7 @@ use Rattle.wild_loader.specs.declared.memory.Machine.TheVariants as processors
 use Rattle.wild_loader.specs.declared.memory.Memory.{Memory}
 use Rattle.wild_loader.specs.declared.world.World.{World}
 use Rattle.wild_meaning.specs.Field.{formula_of}
-use Rattle.wild_meaning.specs.Formula.{IsTarget, IsSum, IsExtent, IsShort, Gives}
+use Rattle.wild_meaning.specs.Formula.{IsTarget, IsSum, IsExtent, IsWhole, Gives}
 use Rattle.wild_meaning.specs.Item.{item_of}
 use Rattle.wild_meaning.specs.Value.{HasRaw, HasOwnValue, HasFlag, HasAnswer, IsReplaceable, may_be_replaced, is_library}
 use Rattle.wild_values.specs.Terms.{IsPlaced}
@@ -65,12 +70,12 @@ use Rattle.wild_values.specs.Laws.{EntriesGive}
 use Rattle.wild_values.proofs.Answered.{has_answer, answered_value, answered_size}
 use Rattle.wild_values.proofs.EntryWords.{IsAnsweredBy, after_known, after_step, change_by}
 use Rattle.wild_values.proofs.KnownRows.{RowFits, row_fits}
+use Rattle.wild_values.proofs.OutputKinds.{library_is}
 use Rattle.wild_values.proofs.SlotFlags.{symbol_fits, resolver_own}
-use Rattle.wild_values.proofs.Symbols.{IsResolvedBy, resolved, resolved_raw, flags_are, replaceable_at, flag_at}
-use Rattle.wild_values.proofs.Tests.{either_of}
+use Rattle.wild_values.proofs.Symbols.{IsResolvedBy, resolved, resolved_raw, flags_are, replaceable_at, flag_at, definition_there, own_size_is}
 use Rattle.wild_values.proofs.Treated.{IsLeftToResolver, treated_by, address_chosen, peeled}
 use Rattle.wild_values.proofs.ValueKinds.{more}
-use Rattle.wild_values.proofs.Written.{row_here, given_some, slice_get_inside}
+use Rattle.wild_values.proofs.Written.{row_here, given_some}
 
 -- ---- what a decision says of the entry
 
@@ -118,21 +123,11 @@ word_step : (n x : ℕ) → words.number (word (suc n) x) ≡ x % 256 + 256 * wo
 unfolding word words.number
 word_step n x = refl
 
-of_one : (x : ℕ) → words.number (word 1 x) ≡ x % 2 ^ 8
-unfolding word words.number
-of_one x = omega arith
-
-of_two : (x : ℕ) → words.number (word 2 x) ≡ x % 2 ^ 16
-of_two x = let a = word_step 1 x in let b = of_one (x / 256) in omega (arith, a, b)
-
 of_three : (x : ℕ) → words.number (word 3 x) ≡ x % 2 ^ 24
-of_three x = let a = word_step 2 x in let b = of_two (x / 256) in omega (arith, a, b)
-
-of_four : (x : ℕ) → words.number (word 4 x) ≡ x % 2 ^ 32
-of_four x = let a = word_step 3 x in let b = of_three (x / 256) in omega (arith, a, b)
+of_three x = let a = word_step 2 x in let b = number-word_2 (x / 256) in omega (arith, a, b)
 
 of_five : (x : ℕ) → words.number (word 5 x) ≡ x % 2 ^ 40
-of_five x = let a = word_step 4 x in let b = of_four (x / 256) in omega (arith, a, b)
+of_five x = let a = word_step 4 x in let b = number-word_4 (x / 256) in omega (arith, a, b)
 
 of_six : (x : ℕ) → words.number (word 6 x) ≡ x % 2 ^ 48
 of_six x = let a = word_step 5 x in let b = of_five (x / 256) in omega (arith, a, b)
@@ -289,7 +284,7 @@ size_types : (n : ℕ) (row : RelocationKindInfo) → row_of machine.X86_64 n �
 unfolding row_of x86_64_row
 size_types n row is kind =
     let t = entry_passes (λ (k : ℕ) (x : RelocationKindInfo). size_number x.kind k) x86_64_rows each_size n row is in
-    elim (either_of (n == r_x86_64_size32) (n == r_x86_64_size64) (subst (λ (k : RelocationKind). size_number k n ≡ true) kind t)) [
+    elim (or_cases (n == r_x86_64_size32) (n == r_x86_64_size64) (subst (λ (k : RelocationKind). size_number k n ≡ true) kind t)) [
       | inl a ↦ inl (eqb-true _ _ a)
       | inr b ↦ inr (eqb-true _ _ b)
     ]
@@ -326,34 +321,37 @@ long_change w d a c low h =
     let same : changes.Word ((x.0.size + cast_unsigned w64 (cast_signed w64 a)) % 2 ^ 64) ≡ c = (let g : made_change (changes.Word ((x.0.size + cast_unsigned w64 (cast_signed w64 a)) % 2 ^ 64)) ≡ made_change c = x.2 in cc) in
     (record { answer = x.0; there = x.1 }, sym same ∙ ap (λ (n : ℕ). changes.Word ((x.0.size + n) % 2 ^ 64)) (of_z-to_z w64 a low))
 
--- an entry has the size of a symbol that others may define
-middle : (a b c : Bool) → (a && b && c) ≡ true → b ≡ true
-middle a true c h = refl
-middle true false c h = cc
-middle false false c h = cc
+-- the row of a size in four bytes
+short_row : row_of machine.X86_64 r_x86_64_size32 ≡ Some (plain kinds.SymbolSize Four row_sign.Unsigned)
+unfolding row_of x86_64_row
+short_row = refl
 
-not_set : (b : Bool) → not b ≡ true → b ≡ false
-not_set true h = cc
-not_set false h = refl
+-- a value that it takes
+short_below : (v : ℕ) → v < 2 ^ 64 → allows (plain kinds.SymbolSize Four row_sign.Unsigned) v ≡ true → v < 2 ^ 32
+short_below v small h = by_tests (nat_lt v (2 ^ 32)) (nat_le (2 ^ 64 - 0) v) (λ t. ltb-true _ _ t) (λ t. leb-true _ _ t) h
+  where
+    by_tests : (a b : Bool) → (a ≡ true → v < 2 ^ 32) → (b ≡ true → 2 ^ 64 - 0 ≤ v) → (a || b) ≡ true → v < 2 ^ 32
+    by_tests true b low high h = low refl
+    by_tests false b low high h = (let n = high h in omega (arith, n, small))
 
-sized : (l : Layout) (s : InputSection) (row r : RelocationKindInfo) (i k : ℕ) → size_treatment l s row i ≡ treatments.Extent r k → is_sized l s i ≡ true
-sized l s row r i k h =
-    elim (cases_Bool (is_sized l s i)) [
-      | inl t ↦ t
-      | inr f ↦ cc (rw f at h)
-    ]
+short_allowed : (n : ℕ) (row : RelocationKindInfo) (v : ℕ) → row_of machine.X86_64 n ≡ Some row → n ≡ r_x86_64_size32 → v < 2 ^ 64 → allows row v ≡ true → v < 2 ^ 32
+short_allowed n row v here e small h =
+    let at = subst (λ (k : ℕ). row_of machine.X86_64 k ≡ Some row) e here in
+    let same : row ≡ plain kinds.SymbolSize Four row_sign.Unsigned = (let both : Some row ≡ Some (plain kinds.SymbolSize Four row_sign.Unsigned) = sym at ∙ short_row in cc) in
+    short_below v small (subst (λ (x : RelocationKindInfo). allows x v ≡ true) same h)
 
-open_flag : (l : Layout) (s : InputSection) (row r : RelocationKindInfo) (i k : ℕ) → size_treatment l s row i ≡ treatments.Extent r k → has_flag (flags_at l i) non_interposable ≡ false
-open_flag l s row r i k h = not_set (has_flag (flags_at l i) non_interposable) (middle (allocated s.flags) (not (has_flag (flags_at l i) non_interposable)) (has_flag (flags_at l i) dynamic || is_shared_object l.kind) (sized l s row r i k h))
+-- whose symbol it is, as the writer has it
+whose_flags : (l : Layout) (f : ValueFlags) → may_be_replaced l.kind f ≡ is_replaceable l.kind f
+whose_flags l f = ap (λ (b : Bool). (has_flag f dynamic && not (has_flag f copy_relocation)) || (b && (has_flag f export_dynamic && interposable f))) (library_is l.kind)
 
-open_symbol : (l : Layout) (w : World) (m : Memory) (i : ℕ) → IsPlaced l w m → i < length l.symbols → has_flag (flags_at l i) non_interposable ≡ false → HasFlag l i non_interposable false
-open_symbol l w m i p listed h =
+whose : (l : Layout) (w : World) (m : Memory) (i : ℕ) → IsPlaced l w m → i < length l.symbols → IsReplaceable l i (is_replaceable l.kind (flags_at l i))
+whose l w m i p listed =
     let z = slice_get_inside l.symbols i listed in
-    subst (λ (b : Bool). HasFlag l i non_interposable b) h (flag_at l i non_interposable z.0 p.symbols.named z.1)
+    subst (λ (b : Bool). IsReplaceable l i b) (whose_flags l (flags_at l i)) (replaceable_at l i z.0 p.symbols.named z.1)
 
-extent_given : (l : Layout) (w : World) (m : Memory) (s : InputSection) (r : InputRelocation) (row : RelocationKindInfo) (i number symbol addend : ℕ) (z : RelocationSize) (bs : List ℕ) (fits : RowFits r.number row) → IsPlaced l w m → FitsSigned w64 r.addend → HasFlag l i non_interposable false → r.symbol ≡ Some i → (r.number ≡ r_x86_64_size32) ⊎ (r.number ≡ r_x86_64_size64)
+extent_given : (l : Layout) (w : World) (m : Memory) (s : InputSection) (r : InputRelocation) (row : RelocationKindInfo) (i number symbol addend : ℕ) (z : RelocationSize) (bs : List ℕ) (fits : RowFits r.number row) → IsPlaced l w m → FitsSigned w64 r.addend → i < length l.symbols → row_of machine.X86_64 r.number ≡ Some row → (is_replaceable l.kind (flags_at l i) || allows row (sum (symbol_size l i) r.addend)) ≡ true → r.symbol ≡ Some i → (r.number ≡ r_x86_64_size32) ⊎ (r.number ≡ r_x86_64_size64)
     → left_to row.size r.number r i (index_of l i) ≡ Ok (Left z number symbol addend) → ReadsLeft InMemory w z number symbol addend bs → IsGiven l w m s r fits.formula bs
-extent_given l w m s r row i number symbol addend z bs fits p signed opened named type made reads = by_type type
+extent_given l w m s r row i number symbol addend z bs fits p signed listed here ranged named type made reads = by_type type
   where
     d : (index_of l i ≡ Some symbol) × (r.number ≡ number) × (added r ≡ addend)
     d = index_given row.size z r.number number symbol addend r i (index_of l i) made
@@ -376,16 +374,25 @@ extent_given l w m s r row i number symbol addend z bs fits p signed opened name
     sum_is : (x : IsAnsweredBy w symbol) → (x.answer.size + addend) % 2 ^ 64 ≡ (x.answer.size + more r) % 2 ^ 64
     sum_is x = ap (λ (k : ℕ). (x.answer.size + k) % 2 ^ 64) (sym d.2)
 
+    -- the low half is the whole of an own symbol's
+    half_is : (x : IsAnsweredBy w symbol) → r.number ≡ r_x86_64_size32 → (b : Bool) → IsReplaceable l i b → (b || allows row (sum (symbol_size l i) r.addend)) ≡ true → IsWhole l r ((x.answer.size + more r) % 2 ^ 64) ((x.answer.size + addend) % 2 ^ 64 % 2 ^ 32)
+    half_is x e true replaced told = inr (record { number = e; symbol = i; named = named; replaceable = replaced }, ap (λ (k : ℕ). k % 2 ^ 32) (sum_is x))
+    half_is x e false own told =
+        let size : x.answer.size ≡ symbol_size l i = own_size_is l i x.answer.size (p.legal.symbols.own i x.answer own (answer x)).size in
+        let same : (x.answer.size + more r) % 2 ^ 64 ≡ sum (symbol_size l i) r.addend = ap (λ (k : ℕ). (k + more r) % 2 ^ 64) size in
+        let low = short_allowed r.number row (sum (symbol_size l i) r.addend) here e (omega arith) told in
+        let sums = sum_is x in
+        inl (omega (arith, sums, same, low))
+
     by_type : (r.number ≡ r_x86_64_size32) ⊎ (r.number ≡ r_x86_64_size64) → IsGiven l w m s r fits.formula bs
     by_type (inl e) =
         let c = short_change w symbol addend reads.0 low (makes r_x86_64_size32 e) in
         let x = c.0 in
         let v = (x.answer.size + addend) % 2 ^ 64 % 2 ^ 32 in
-        let short : IsShort l w r = record { number = e; symbol = i; named = named; interposable = opened; answer = x.answer; given = answer x } in
         let bytes = bytes_are bs reads.0 (changes.Half v) c.1 reads.2 in
         subst (λ (f : Formula). IsGiven l w m s r f bs) (formula_by r_x86_64_size32 (formula Size (Plain 32 Unsigned)) e short_formula) (record {
           value = v;
-          gives = (x.answer.size, extent x, inr (short, ap (λ (k : ℕ). k % 2 ^ 32) (sum_is x)));
+          gives = (x.answer.size, extent x, half_is x e (is_replaceable l.kind (flags_at l i)) (whose l w m i p listed) ranged);
           reads = ap words.number bytes ∙ number-word 4 v (omega arith);
         })
     by_type (inr e) =
@@ -401,32 +408,12 @@ extent_given l w m s r row i number symbol addend z bs fits p signed opened name
 
 -- ---- the entry of a relocation
 
--- what is known of its row
-pub symbolic_row : (l : Layout) (s : InputSection) (r : InputRelocation) (i : ℕ) → treatment l s r ≡ treatments.Symbolic i → (row : RelocationKindInfo) × (row_of l.machine r.number ≡ Some row) × IsLeftBy s r.symbol row i
-unfolding treatment
-symbolic_row l s r i is = row_symbolic l s r.symbol (row_of l.machine r.number) i is
-
-pub indirect_row : (l : Layout) (s : InputSection) (r : InputRelocation) (i : ℕ) → treatment l s r ≡ treatments.Indirect i → (row : RelocationKindInfo) × (row_of l.machine r.number ≡ Some row) × IsLeftBy s r.symbol row i
-unfolding treatment
-indirect_row l s r i is = row_indirect l s r.symbol (row_of l.machine r.number) i is
-
-pub extent_row : (l : Layout) (s : InputSection) (r : InputRelocation) (row : RelocationKindInfo) (i : ℕ) → treatment l s r ≡ treatments.Extent row i → (row_of l.machine r.number ≡ Some row) × IsSizedBy s r.symbol row i
-unfolding treatment
-extent_row l s r row i is = row_extent l s r.symbol (row_of l.machine r.number) row i is
-
 -- the treatment of an address is that of its symbol
-pub address_by : (l : Layout) (s : InputSection) (r : InputRelocation) (row : RelocationKindInfo) (i : ℕ) (t : Treatment) → i < length l.symbols → treatment l s r ≡ t → row_of l.machine r.number ≡ Some row → row.kind ≡ kinds.Absolute → r.symbol ≡ Some i → address_treatment l s row i ≡ t
+pub address_by : (l : Layout) (s : InputSection) (r : InputRelocation) (row : RelocationKindInfo) (i : ℕ) (t : Treatment) → canonical l i < length l.symbols → treatment l s r ≡ t → row_of l.machine r.number ≡ Some row → row.kind ≡ kinds.Absolute → r.symbol ≡ Some i → address_treatment l s row i ≡ t
 address_by l s r row i t inside is known kind named =
     let a : kind_treatment l s r.symbol row row.kind ≡ t = sym (treated_by l s r row known) ∙ is in
     let b : kind_treatment l s r.symbol row kinds.Absolute ≡ t = subst (λ (k : RelocationKind). kind_treatment l s r.symbol row k ≡ t) kind a in
     peeled l row i (address_treatment l s row i) t inside (subst (λ (o : Option ℕ). kind_treatment l s o row kinds.Absolute ≡ t) named b)
-
--- that of a size is its symbol's too
-size_by : (l : Layout) (s : InputSection) (r : InputRelocation) (row : RelocationKindInfo) (i : ℕ) (t : Treatment) → i < length l.symbols → treatment l s r ≡ t → row_of l.machine r.number ≡ Some row → row.kind ≡ kinds.SymbolSize → r.symbol ≡ Some i → size_treatment l s row i ≡ t
-size_by l s r row i t inside is known kind named =
-    let a : kind_treatment l s r.symbol row row.kind ≡ t = sym (treated_by l s r row known) ∙ is in
-    let b : kind_treatment l s r.symbol row kinds.SymbolSize ≡ t = subst (λ (k : RelocationKind). kind_treatment l s r.symbol row k ≡ t) kind a in
-    peeled l row i (size_treatment l s row i) t inside (subst (λ (o : Option ℕ). kind_treatment l s o row kinds.SymbolSize ≡ t) named b)
 
 -- a field with its formula
 pub record FieldGiven (l : Layout) (w : World) (m : Memory) (s : InputSection) (r : InputRelocation) (bs : List ℕ) : Type 0 where
@@ -441,21 +428,21 @@ left_given agrees l w m s r z number symbol addend bs p listed fits made reads =
   where
     by_treatment : (t : Treatment) → is_left_to_entry t ≡ true → treatment l s r ≡ t → decide_by l s r t ≡ Ok (Left z number symbol addend) → FieldGiven l w m s r bs
     by_treatment (treatments.Symbolic i) left is h =
-        let k = symbolic_row l s r i is in
+        let k = known_symbolic l s r i is in
         let f = row_fits r.number k.0 agrees (row_here l r.number k.0 p.x86 k.1) (ap has_value k.2.kind) in
         record { formula = f.formula; known = formula_here l r k.0 p.x86 f; given = symbolic_given l w m s r i number symbol addend z bs f.formula p fits k.2.named (sym f.value ∙ ap plain_value k.2.kind) (f.full k.2.kind k.2.width) h reads }
     by_treatment (treatments.Indirect i) left is h =
-        let k = indirect_row l s r i is in
+        let k = known_indirect l s r i is in
         let f = row_fits r.number k.0 agrees (row_here l r.number k.0 p.x86 k.1) (ap has_value k.2.kind) in
         let inside = listed i k.2.named in
-        let chosen = chosen_own l w m s k.0 i p inside k.2.width (address_chosen l s k.0 i i (address_by l s r k.0 i (treatments.Indirect i) inside is k.1 k.2.kind k.2.named)) in
+        let chosen = chosen_own l w m s k.0 i p inside k.2.width (address_chosen l s k.0 i i (address_by l s r k.0 i (treatments.Indirect i) (definition_there l i p.symbols.named inside) is k.1 k.2.kind k.2.named)) in
         record { formula = f.formula; known = formula_here l r k.0 p.x86 f; given = indirect_given l w m s r i number symbol addend z bs f.formula p inside chosen k.2.named (sym f.value ∙ ap plain_value k.2.kind) (f.full k.2.kind k.2.width) h reads }
     by_treatment (treatments.Extent row i) left is h =
-        let k = extent_row l s r row i is in
+        let k = known_extent l s r row i is in
         let here = row_here l r.number row p.x86 k.0 in
         let f = row_fits r.number row agrees here (ap has_value k.1.kind) in
-        let opened = open_symbol l w m i p (listed i k.1.named) (open_flag l s row row i i (size_by l s r row i (treatments.Extent row i) (listed i k.1.named) is k.0 k.1.kind k.1.named)) in
-        record { formula = f.formula; known = formula_here l r row p.x86 f; given = extent_given l w m s r row i number symbol addend z bs f p fits opened k.1.named (size_types r.number row here k.1.kind) h reads }
+        let sized = sized_parts l r row i (left_to row.size r.number r i (index_of l i)) (Left z number symbol addend) h in
+        record { formula = f.formula; known = formula_here l r row p.x86 f; given = extent_given l w m s r row i number symbol addend z bs f p fits (listed i k.1.named) here sized.ranged k.1.named (size_types r.number row here k.1.kind) sized.left reads }
     by_treatment other left is h = cc
 
 pub entries_give : X86_64Agrees → EntriesGive

@@ -1,10 +1,12 @@
 -- A kept section in memory, and the fields of its relocations.
-use Rattle.std.proofs.Common.{◌≡◌, ℕ, ℤ, ◌+◌, ◌-◌, ◌%◌, ◌^◌, ◌<◌, ◌≤◌, Bool, true, false, List, [], ◌∷◌, length, slice_range, refl, sym, ap, ◌∙◌, arith, subst}
+use Rattle.std.proofs.Common.{◌≡◌, ℕ, ℤ, ◌+◌, ◌%◌, ◌^◌, ◌<◌, ◌≤◌, Bool, true, false, List, [], ◌∷◌, length, slice_range, refl, sym, ap, ◌∙◌, arith, subst}
 use Rattle.std.specs.Prelude.{Some, All, slice_get, if◌then◌else◌, ◌==◌}
 use Rattle.std.specs.List.{list_all}
-use Rattle.std.proofs.lemmas.List.{length-take, length-drop}
+use Rattle.std.proofs.lemmas.Bool.{and_parts}
 use Rattle.wild_words.specs.Words.{word}
 use Rattle.wild_words.proofs.WordLemmas.{number-word, length-word}
+use Rattle.wild_words.proofs.Basics.{length-range}
+use Rattle.wild_words.proofs.ListLemmas.{holds_at}
 use Rattle.wild_types.specs.declared.kind.Machine.{Machine}
 use Rattle.wild_types.specs.declared.kind.Machine.TheVariants as machine
 use Rattle.wild_types.specs.declared.input.InputRelocation.{InputRelocation}
@@ -22,8 +24,8 @@ use Rattle.wild_reloc.specs.declared.info.RelocationSize.{RelocationSize}
 use Rattle.wild_layout.specs.SymbolValues.{place_of}
 use Rattle.wild_layout.specs.Values.{value_by}
 use Rattle.wild_layout.specs.Sites.{field_site}
-use Rattle.wild_layout.proofs.DecideLemmas.{HasField, field_has_bytes}
-use Rattle.wild_layout.proofs.SiteLemmas.{All-at, field_lies}
+use Rattle.wild_layout.proofs.DecideLemmas.{HasField, field_has_bytes, value_below}
+use Rattle.wild_layout.proofs.SiteLemmas.{field_lies}
 use Rattle.wild_layout.specs.SectionPlaces.{FieldLies}
 use Rattle.wild_layout.specs.Geometry.{NamesSymbol}
 use Rattle.wild_layout.specs.Numbers.{AddendFits}
@@ -35,7 +37,6 @@ use Rattle.wild_loader.specs.Memory.{Holds}
 use Rattle.wild_geometry.specs.Loaded.{InMemory, ReadsLeft, HasSection}
 use Rattle.wild_values.specs.Terms.{IsPlaced}
 use Rattle.wild_values.specs.Laws.{KindGives, KindGivesLinked, DescriptorsGive, AddressesGive, AddressesGiveLinked, EntriesGive}
-use Rattle.wild_values.proofs.Tests.{both_of}
 use Rattle.wild_values.proofs.Written.{IsValue, IsAddress, IsLeftField}
 
 -- ---- fields of whole bytes
@@ -57,7 +58,7 @@ whole_keeps Full h = λ old new. tt
 keeps_at : (es : List (ℕ × Formula)) (n : ℕ) (f : Formula) → list_all (λ (e : ℕ × Formula). is_whole e.1.form) es ≡ true → formula_at es n ≡ Some f → KeepsAll f.form
 keeps_at [] n f h known = cc
 keeps_at (e ∷ es) n f h known =
-    let both = both_of (is_whole e.1.form) (list_all (λ (e : ℕ × Formula). is_whole e.1.form) es) h in
+    let both = and_parts (is_whole e.1.form) (list_all (λ (e : ℕ × Formula). is_whole e.1.form) es) h in
     by_test e es n f both.0 (n == e.0) known (keeps_at es n f both.1)
   where
     by_test : (e : ℕ × Formula) (es : List (ℕ × Formula)) (n : ℕ) (f : Formula) → is_whole e.1.form ≡ true → (b : Bool) → (if b then Some e.1 else formula_at es n) ≡ Some f → (formula_at es n ≡ Some f → KeepsAll f.form) → KeepsAll f.form
@@ -119,14 +120,9 @@ pub record IsSectionLoaded (l : Layout) (w : World) (m : Memory) (s : InputSecti
   pub lies : All (FieldLies l.machine s.size) s.relocations
   pub section : HasSection l w m s InMemory
 
-length-range : (bs : List ℕ) (a n : ℕ) → a + n ≤ length bs → length (slice_range bs a (a + n)) ≡ n
-length-range bs a n h =
-    let e : a + n - a ≡ n = omega arith in
-    rw e (simp (length-take, length-drop) (omega arith))
-
 -- the field lies in the section
 pub field_within : (l : Layout) (w : World) (m : Memory) (s : InputSection) (i : ℕ) (r : InputRelocation) (z : RelocationSize) → IsSectionLoaded l w m s → slice_get s.relocations i ≡ Some r → HasField l r z → r.offset + size_width z ≤ length s.bytes
-field_within l w m s i r z h listed f = field_lies l s r z f h.full (All-at (FieldLies l.machine s.size) s.relocations i r h.lies listed)
+field_within l w m s i r z h listed f = field_lies l s r z f h.full (holds_at (FieldLies l.machine s.size) s.relocations i r listed h.lies)
 
 -- the place of a field in memory, which does not wrap
 pub place_is : (l : Layout) (w : World) (m : Memory) (s : InputSection) (i : ℕ) (r : InputRelocation) (z : RelocationSize) → IsSectionLoaded l w m s → slice_get s.relocations i ≡ Some r → HasField l r z → place_at w (item_of s) r.offset ≡ w.base + place_of s r
@@ -147,20 +143,6 @@ place_ends l w m s i r z h listed f =
     omega (arith, e, some, full, low, ends)
 
 -- ---- fields
-
-value_below : (l : Layout) (kind : RelocationKind) (s p : ℕ) (a : ℤ) → value_by l kind s a p < 2 ^ 64
-value_below l kinds.Relative s p a = omega arith
-value_below l kinds.GotBaseRelative s p a = omega arith
-value_below l kinds.SymRelGotBase s p a = omega arith
-value_below l kinds.PltRelative s p a = omega arith
-value_below l kinds.PltRelGotBase s p a = omega arith
-value_below l kinds.GotRelative s p a = omega arith
-value_below l kinds.GotRelGotBase s p a = omega arith
-value_below l kinds.TlsGd s p a = omega arith
-value_below l kinds.TlsLd s p a = omega arith
-value_below l kinds.GotTpOff s p a = omega arith
-value_below l kinds.TlsDesc s p a = omega arith
-value_below l other s p a = omega arith
 
 -- what a field of a row reads as, in the form of a formula
 pub record ReadsForm (row : RelocationKindInfo) (form : Form) (v : ℕ) : Type 0 where

@@ -2,7 +2,7 @@
 use Rattle.std.proofs.Common.{◌≡◌, ℕ, ◌^◌, ◌<◌, ◌⊎◌, inl, inr, Bool, true, false, List, length, refl, subst}
 use Rattle.std.specs.Prelude.{◌==◌, ◌&&◌, ◌||◌, if◌then◌else◌, Option, Some, None}
 use Rattle.std.specs.List.{list_all}
-use Rattle.std.proofs.lemmas.Bool.{eqb-true}
+use Rattle.std.proofs.lemmas.Bool.{eqb-true, and_parts, or_cases}
 use Rattle.wild_records.specs.Abi.Relocation.{r_x86_64_none, r_x86_64_gotpc32_tlsdesc, r_x86_64_code_4_gotpc32_tlsdesc, r_x86_64_tlsdesc_call}
 use Rattle.wild_types.specs.declared.kind.Machine.TheVariants as machine
 use Rattle.wild_reloc.specs.TableX86_64.{x86_64_rows, x86_64_row}
@@ -19,7 +19,6 @@ use Rattle.wild_types.specs.Rows.{row_of}
 use Rattle.wild_layout.proofs.DecideLemmas.{value_has_field}
 use Rattle.wild_layout.proofs.TreatmentLemmas.{HasValue}
 use Rattle.wild_meaning.specs.Field.{form_width}
-use Rattle.wild_values.proofs.Tests.{both_of, either_of}
 
 -- what ties the row of a number that has a value to its formula
 pub record RowFits (n : ℕ) (row : RelocationKindInfo) : Type 0 where
@@ -110,17 +109,17 @@ fits_formula n row (Some f) kind is known mask wide full agrees = record {
 pub row_fits : (n : ℕ) (row : RelocationKindInfo) → X86_64Agrees → row_of machine.X86_64 n ≡ Some row → HasValue row.kind → RowFits n row
 unfolding row_of
 row_fits n row agrees is kind =
-    let tests = both_of _ _ (passes n row is) in
-    let rest = both_of _ _ tests.1 in
-    let last = both_of _ _ rest.1 in
+    let tests = and_parts _ _ (passes n row is) in
+    let rest = and_parts _ _ tests.1 in
+    let last = and_parts _ _ rest.1 in
     fits_formula n row (x86_64_formula n) kind is refl (mask_none row.mask tests.0) rest.0 last.1 (agrees n row is)
 
 -- the type of a row of such a kind
 few_at : (n : ℕ) (row : RelocationKindInfo) (k : RelocationKind) → row_of machine.X86_64 n ≡ Some row → row.kind ≡ k → few_numbers k n ≡ true
 few_at n row k is kind =
-    let tests = both_of _ _ (passes n row is) in
-    let rest = both_of _ _ tests.1 in
-    let last = both_of _ _ rest.1 in
+    let tests = and_parts _ _ (passes n row is) in
+    let rest = and_parts _ _ tests.1 in
+    let last = and_parts _ _ rest.1 in
     subst (λ (k : RelocationKind). few_numbers k n ≡ true) kind last.0
 
 -- a type without a value is for nothing
@@ -134,7 +133,7 @@ call_is n row is kind = eqb-true _ _ (few_at n row kinds.TlsDescCall is kind)
 -- a descriptor has two types
 pub descriptor_is : (n : ℕ) (row : RelocationKindInfo) → row_of machine.X86_64 n ≡ Some row → row.kind ≡ kinds.TlsDesc → (n ≡ r_x86_64_gotpc32_tlsdesc) ⊎ (n ≡ r_x86_64_code_4_gotpc32_tlsdesc)
 descriptor_is n row is kind =
-    elim (either_of _ _ (few_at n row kinds.TlsDesc is kind)) [
+    elim (or_cases _ _ (few_at n row kinds.TlsDesc is kind)) [
       | inl a ↦ inl (eqb-true _ _ a)
       | inr b ↦ inr (eqb-true _ _ b)
     ]

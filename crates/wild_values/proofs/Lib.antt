@@ -1,5 +1,3 @@
-mod Tests
-mod Bits
 pub mod OutputKinds
 mod KnownRows
 mod Rows

@@ -1,5 +1,6 @@
 -- The symbols that no other module may replace: their values are the output's own.
 use Rattle.std.proofs.Common.{◌≡◌, ℕ, ◌<◌, inr, Bool, true, false, Some, Ok, length, sym, ap, ◌∙◌, subst}
+use Rattle.wild_words.proofs.Basics.{slice_get_inside}
 use Rattle.wild_types.specs.declared.symbol.ValueFlags.{ValueFlags}
 use Rattle.wild_types.specs.declared.layout.Layout.{Layout}
 use Rattle.wild_types.specs.Flags.{has_flag, interposable, absolute, dynamic}
@@ -14,7 +15,6 @@ use Rattle.wild_values.proofs.SlotFlags.{symbol_fits, dynamic_interposable}
 use Rattle.wild_values.proofs.Symbols.{replaceable_at, flags_are}
 use Rattle.wild_values.proofs.Targets.{raw_addressed}
 use Rattle.wild_values.proofs.ThreadSlots.{fixed_flags}
-use Rattle.wild_values.proofs.Written.{slice_get_inside}
 
 -- no loader takes such a symbol from another module
 pub own_symbol : (l : Layout) (i : ℕ) → SymbolsFit l → i < length l.symbols → interposable (flags_at l i) ≡ false → IsReplaceable l i false

@@ -1,6 +1,7 @@
 -- The references of a kept section that keep their instructions hold in memory.
 use Rattle.std.proofs.Common.{◌≡◌, ℕ, ◌+◌, ◌%◌, ◌^◌, ◌⊎◌, inl, inr, [], Some, refl, sym, ap, ◌∙◌, arith, subst}
 use Rattle.std.specs.Prelude.{Ok, slice_get}
+use Rattle.wild_words.proofs.ListLemmas.{holds_at}
 use Rattle.wild_records.specs.Abi.Relocation.{r_x86_64_tlsdesc_call}
 use Rattle.wild_types.specs.declared.input.InputRelocation.{InputRelocation}
 use Rattle.wild_types.specs.declared.input.InputSection.{InputSection}
@@ -16,7 +17,6 @@ use Rattle.wild_layout.specs.Geometry.{NamesSymbol}
 use Rattle.wild_layout.specs.Numbers.{AddendFits}
 use Rattle.wild_layout.specs.Values.{term_of}
 use Rattle.wild_layout.proofs.DecideLemmas.{field_has}
-use Rattle.wild_layout.proofs.SiteLemmas.{All-at}
 use Rattle.wild_layout.proofs.TreatmentLemmas.{has_value, HasValue}
 use Rattle.wild_loader.specs.declared.world.World.{World}
 use Rattle.wild_loader.specs.declared.memory.Memory.{Memory}
@@ -61,7 +61,7 @@ term_is l w m s i r h asked v =
     record {
       placed = h.placed;
       room = h.room;
-      listed = All-at (NamesSymbol l) s.relocations i r h.symbols v.plain.has.listed;
+      listed = holds_at (NamesSymbol l) s.relocations i r v.plain.has.listed h.symbols;
       row = v.field.row;
       treated = sym (treated_by l s r v.field.row v.field.known) ∙ v.field.treated;
       term = v.field.term;
@@ -80,7 +80,7 @@ term_is l w m s i r h asked v =
 
 value_followed : (l : Layout) (w : World) (m : Memory) (s : InputSection) (i : ℕ) (r : InputRelocation) → IsSectionLoaded l w m s → (v : IsValue l s i r) → (IsLinkedAlone l (item_of s) r → ⊥) → IsFollowed l r v.field.row.kind
 value_followed l w m s i r h v alone =
-    followed l w m s r v.field.row.kind v.fits.formula h.placed (All-at (NamesSymbol l) s.relocations i r h.symbols v.plain.has.listed) (formula_known l r.number v.fits.formula h.placed.x86 v.fits.known) v.fits.value (λ k named left. not_left l s r v.field.row k (treatments.Value v.field.row) v.fits v.field.kind h.room v.field.treated (λ e. cc) (λ e. cc) v.field.known named left) alone
+    followed l w m s r v.field.row.kind v.fits.formula h.placed (holds_at (NamesSymbol l) s.relocations i r v.plain.has.listed h.symbols) (formula_known l r.number v.fits.formula h.placed.x86 v.fits.known) v.fits.value (λ k named left. not_left l s r v.field.row k (treatments.Value v.field.row) v.fits v.field.kind h.room v.field.treated (λ e. cc) (λ e. cc) v.field.known named left) alone
 
 -- a descriptor's reference that is kept is no offset
 no_offset : (l : Layout) (w : World) (m : Memory) (s : InputSection) (i : ℕ) (r : InputRelocation) → IsSectionLoaded l w m s → (v : IsValue l s i r) → v.field.row.kind ≡ kinds.TlsDesc → HasOffsetMode l (item_of s) → ⊥
@@ -98,7 +98,7 @@ gives_value l w m s i r h asked v alone =
 
 gives_address : (l : Layout) (w : World) (m : Memory) (s : InputSection) (i : ℕ) (r : InputRelocation) → IsSectionLoaded l w m s → (a : IsAddress l s i r) → (IsLinkedAlone l (item_of s) r → ⊥) → Gives a.fits.formula.value l w m (item_of s) r ((a.value + w.base) % 2 ^ 64)
 gives_address l w m s i r h a alone =
-    let listed = All-at (NamesSymbol l) s.relocations i r h.symbols a.plain.has.listed in
+    let listed = holds_at (NamesSymbol l) s.relocations i r a.plain.has.listed h.symbols in
     let known = formula_known l r.number a.fits.formula h.placed.x86 a.fits.known in
     let kind = a.moved.by.kind in
     let value : plain_value kinds.Absolute ≡ a.fits.formula.value = sym (ap plain_value kind) ∙ a.fits.value in
@@ -127,8 +127,8 @@ address_holds l w m s i r h alone a = record {
 
 left_holds : (l : Layout) (w : World) (m : Memory) (s : InputSection) (i : ℕ) (r : InputRelocation) → IsSectionLoaded l w m s → IsLeftField l s i r → FieldHolds l w m (item_of s) r
 left_holds l w m s i r h f =
-    let listed = All-at (NamesSymbol l) s.relocations i r h.symbols f.plain.has.listed in
-    let fits = All-at AddendFits s.relocations i r h.addends f.plain.has.listed in
+    let listed = holds_at (NamesSymbol l) s.relocations i r f.plain.has.listed h.symbols in
+    let fits = holds_at AddendFits s.relocations i r f.plain.has.listed h.addends in
     let b = left_bytes l w m s i r h f in
     let g = h.kinds.entry l w m s r f.size f.number f.symbol f.addend b.0 h.placed listed fits f.plain.own.made b.2 in
     let known = formula_known l r.number f.fits.formula h.placed.x86 f.fits.known in
@@ -227,7 +227,7 @@ address_links l w m s i r h a zero v =
     let known = formula_known l r.number v.fits.formula h.placed.x86 v.fits.known in
     let value : plain_value kinds.Absolute ≡ v.fits.formula.value = sym (ap plain_value v.moved.by.kind) ∙ v.fits.value in
     let bare = bare_by l s a.symbol v.fits.formula value (taken l s r v.fits.formula known a) in
-    let listed = All-at (NamesSymbol l) s.relocations i r h.symbols v.plain.has.listed in
+    let listed = holds_at (NamesSymbol l) s.relocations i r v.plain.has.listed h.symbols in
     let x = (v.value + w.base) % 2 ^ 64 in
     record {
       formula = v.fits.formula;
@@ -248,7 +248,7 @@ takes_none l s r f known offset address a = by_takes (taken l s r f known a)
 written_links : (l : Layout) (w : World) (m : Memory) (s : InputSection) (i : ℕ) (r : InputRelocation) → IsSectionLoaded l w m s → (a : IsLinkedAlone l (item_of s) r) → w.base ≡ 0 → Writes l s i r → FieldIsLinked l w m (item_of s) r
 written_links l w m s i r h a zero (inl v) = value_links l w m s i r h a zero v
 written_links l w m s i r h a zero (inr (inl v)) = address_links l w m s i r h a zero v
-written_links l w m s i r h a zero (inr (inr (inl f))) = absurd (left_follows l w m s i r h.placed (All-at (NamesSymbol l) s.relocations i r h.symbols f.plain.has.listed) f (formula_known l r.number f.fits.formula h.placed.x86 f.fits.known) a)
+written_links l w m s i r h a zero (inr (inr (inl f))) = absurd (left_follows l w m s i r h.placed (holds_at (NamesSymbol l) s.relocations i r f.plain.has.listed h.symbols) f (formula_known l r.number f.fits.formula h.placed.x86 f.fits.known) a)
 written_links l w m s i r h a zero (inr (inr (inr (inl c)))) = absurd (takes_none l s r (formula NoValue NoField) (call_known l w m s i r h c) (λ o. o) (λ o. o) a)
 written_links l w m s i r h a zero (inr (inr (inr (inr f)))) = (let held = row_holds l w m s i r h (λ e. zero) f in absurd (takes_none l s r held.holds.formula held.holds.known held.offset held.address a))
 

@@ -1,7 +1,8 @@
 -- The fields of rows that keep the bytes around them: of an own symbol the distance of its stub is that of itself, and so is the offset from the table.
-use Rattle.std.proofs.Common.{◌≡◌, ℕ, ◌+◌, ◌-◌, ◌%◌, ◌^◌, ◌<◌, ◌⊎◌, inl, inr, Bool, true, false, refl, sym, ap, ◌∙◌, arith, subst}
-use Rattle.std.specs.Prelude.{Option, Some, Ok, slice_get, not}
-use Rattle.std.proofs.lemmas.Bool.{cases_Bool}
+use Rattle.std.proofs.Common.{◌≡◌, ℕ, ◌+◌, ◌-◌, ◌%◌, ◌^◌, ◌<◌, ◌⊎◌, inl, inr, true, false, refl, sym, ap, ◌∙◌, arith, subst}
+use Rattle.std.specs.Prelude.{Option, Some, Ok, slice_get}
+use Rattle.std.proofs.lemmas.Bool.{cases_Bool, not-true}
+use Rattle.wild_words.proofs.ListLemmas.{holds_at}
 use Rattle.wild_records.specs.Abi.Relocation.{r_x86_64_pc32, r_x86_64_plt32, r_x86_64_gotoff64, r_x86_64_pltoff64}
 use Rattle.wild_types.specs.declared.kind.Machine.{Machine}
 use Rattle.wild_types.specs.declared.kind.Machine.TheVariants as machine
@@ -23,6 +24,7 @@ use Rattle.wild_reloc.specs.declared.info.RelocationKind.TheVariants as kinds
 use Rattle.wild_reloc.specs.declared.info.RelocationKindInfo.{RelocationKindInfo}
 use Rattle.wild_reloc.specs.declared.info.RelocationSize.{RelocationSize}
 use Rattle.wild_reloc.specs.declared.info.Width.TheVariants.{Four, Eight}
+use Rattle.wild_reloc.proofs.FormLemmas.{plt32_formula}
 use Rattle.wild_relax.specs.declared.row.Row.{Row}
 use Rattle.wild_relax.specs.declared.row.Row.TheVariants.{Plt32ToPc32, PltOffToGotOff}
 use Rattle.wild_relax.specs.RewriteX86_64.{rewrite_of}
@@ -34,7 +36,6 @@ use Rattle.wild_layout.specs.SlotValues.{is_chosen, address_of}
 use Rattle.wild_layout.specs.Values.{term_of, value_by}
 use Rattle.wild_layout.proofs.ChoiceLemmas.{IsChosen}
 use Rattle.wild_layout.proofs.DecideLemmas.{HasField}
-use Rattle.wild_layout.proofs.SiteLemmas.{All-at}
 use Rattle.wild_layout.proofs.TreatmentLemmas.{HasValue}
 use Rattle.wild_loader.specs.declared.memory.Memory.{Memory}
 use Rattle.wild_loader.specs.declared.world.World.{World}
@@ -131,10 +132,6 @@ pc32_formula : x86_64_formula r_x86_64_pc32 ≡ Some (formula Distance (Plain 32
 unfolding x86_64_formula
 pc32_formula = refl
 
-plt32_formula : x86_64_formula r_x86_64_plt32 ≡ Some (formula StubDistance (Plain 32 Signed))
-unfolding x86_64_formula
-plt32_formula = refl
-
 gotoff64_formula : x86_64_formula r_x86_64_gotoff64 ≡ Some (formula FromTable Full)
 unfolding x86_64_formula
 gotoff64_formula = refl
@@ -161,12 +158,8 @@ record IsOwnTerm (l : Layout) (r : InputRelocation) (term : ℕ) : Type 0 where
 
 value_of_own : (l : Layout) (w : World) (m : Memory) (s : InputSection) (i : ℕ) (r : InputRelocation) (term : ℕ) → IsSectionLoaded l w m s → slice_get s.relocations i ≡ Some r → (t : IsOwnTerm l r term) → IsOwnValue l w t.symbol term
 value_of_own l w m s i r term h listed t =
-    let names : NamesSymbol l r = All-at (NamesSymbol l) s.relocations i r h.symbols listed in
+    let names : NamesSymbol l r = holds_at (NamesSymbol l) s.relocations i r listed h.symbols in
     own_value l w m t.symbol term h.placed (names t.symbol t.named) t.own t.direct t.given
-
-not_true : (b : Bool) → not b ≡ true → b ≡ false
-not_true false h = refl
-not_true true h = cc
 
 stub_distance_holds : (l : Layout) (w : World) (m : Memory) (s : InputSection) (i : ℕ) (r : InputRelocation) (term v : ℕ) → (h : IsSectionLoaded l w m s) → slice_get s.relocations i ≡ Some r → IsAsked l w (item_of s) r → r.number ≡ r_x86_64_plt32 → IsOwnTerm l r term → displacement term r.addend (place_of s r) ≡ v → allows (plain kinds.Relative Four sign.Signed) v ≡ true
     → Holds m (place_at w (item_of s) r.offset) (field_site s r.offset (plain kinds.Relative Four sign.Signed).size v).bytes → RowHolds l w m s r
@@ -226,13 +219,13 @@ row_holds l w m s i r h asked f = by_row f.kept.row f.kept.keeps f.kept.chosen (
     plt : (c : IsChosen l s r (slice_get s.relocations (i + 1)) Plt32ToPc32) → RowStands (question_of l s r c.symbol (slice_get s.relocations (i + 1))) Plt32ToPc32 → row_of l.machine r_x86_64_pc32 ≡ Some k.info → RowHolds l w m s r
     plt c stands known =
         let e = info_is r_x86_64_pc32 k.info (plain kinds.Relative Four sign.Signed) (row_here l r_x86_64_pc32 k.info h.placed.x86 known) pc32_row in
-        stub_distance_holds l w m s i r k.term f.value h f.has.listed asked c.number (own_term (plain kinds.Relative Four sign.Signed) c.symbol e refl c.named (not_true _ stands.value) (not_true _ stands.symbol))
+        stub_distance_holds l w m s i r k.term f.value h f.has.listed asked c.number (own_term (plain kinds.Relative Four sign.Signed) c.symbol e refl c.named (not-true _ stands.value) (not-true _ stands.symbol))
         (subst (λ (x : RelocationKindInfo). value_by l x.kind k.term r.addend (place_of s r) ≡ f.value) e k.value) (subst (λ (x : RelocationKindInfo). allows x f.value ≡ true) e k.allowed) (held (plain kinds.Relative Four sign.Signed) e)
 
     offset : (c : IsChosen l s r (slice_get s.relocations (i + 1)) PltOffToGotOff) → RowStands (question_of l s r c.symbol (slice_get s.relocations (i + 1))) PltOffToGotOff → row_of l.machine r_x86_64_gotoff64 ≡ Some k.info → RowHolds l w m s r
     offset c stands known =
         let e = info_is r_x86_64_gotoff64 k.info (plain kinds.SymRelGotBase Eight sign.Signed) (row_here l r_x86_64_gotoff64 k.info h.placed.x86 known) gotoff64_row in
-        stub_offset_holds l w m s i r k.term f.value h f.has.listed asked c.number (own_term (plain kinds.SymRelGotBase Eight sign.Signed) c.symbol e refl c.named (not_true _ stands.value) (not_true _ stands.symbol))
+        stub_offset_holds l w m s i r k.term f.value h f.has.listed asked c.number (own_term (plain kinds.SymRelGotBase Eight sign.Signed) c.symbol e refl c.named (not-true _ stands.value) (not-true _ stands.symbol))
         (subst (λ (x : RelocationKindInfo). value_by l x.kind k.term r.addend (place_of s r) ≡ f.value) e k.value) (subst (λ (x : RelocationKindInfo). allows x f.value ≡ true) e k.allowed) (held (plain kinds.SymRelGotBase Eight sign.Signed) e)
 
     by_row : (row : Row) → (row ≡ Plt32ToPc32) ⊎ (row ≡ PltOffToGotOff) → (c : IsChosen l s r (slice_get s.relocations (i + 1)) row) → RowStands (question_of l s r c.symbol (slice_get s.relocations (i + 1))) row → row_of l.machine (rewrite_of row).number ≡ Some k.info → RowHolds l w m s r

@@ -1,7 +1,7 @@
 -- Which row of rewrites stands at a relocation, and that none does.
 use Rattle.std.proofs.Common.{◌≡◌, ℕ, zero, suc, ◌≤◌, inl, inr, Bool, true, false, List, [], ◌∷◌, length, refl, arith, subst}
 use Rattle.std.specs.Prelude.{Option, Some, None, Ok, slice_get, ◌&&◌, ◌||◌, ◌==◌, not, if◌then◌else◌}
-use Rattle.std.proofs.lemmas.Bool.{cases_Bool}
+use Rattle.std.proofs.lemmas.Bool.{cases_Bool, and_parts}
 use Rattle.std.proofs.lemmas.Bool.Decides.{nat_tests}
 use Rattle.wild_records.specs.Abi.Relocation.{r_x86_64_pc32}
 use Rattle.wild_types.specs.declared.kind.Machine.{Machine}
@@ -21,19 +21,11 @@ use Rattle.wild_relax.specs.RowPatterns.{always_pattern, counts_from_its_end}
 use Rattle.wild_relax.specs.RowSymbols.{is_thread_local, takes_section, takes_symbol, takes_value}
 use Rattle.wild_relax.specs.RowSequences.{has_its_sequence}
 use Rattle.wild_relax.specs.Rows.{rows_x86_64, number_of, is_mandatory, stands_anywhere, applies, unknown_sequence, standing_x86_64, chosen_x86_64}
+use Rattle.wild_relax.proofs.RowLemmas.{stands_first}
 use Rattle.wild_layout.specs.Choice.{question_of, choice_by, choice_of}
 use Rattle.wild_layout.proofs.ChoiceLemmas.{IsChosen}
-use Rattle.wild_values.proofs.Tests.{both_of}
 
 -- ---- the first row that stands
-
-stands_first : {R : Type 0} (stands : R → Bool) (rows : List R) (r : R) → first_standing stands rows ≡ Some r → stands r ≡ true
-stands_first stands [] r h = cc
-stands_first stands (x ∷ xs) r h = by_test stands x xs r (stands x) refl h (stands_first stands xs r)
-  where
-    by_test : {R : Type 0} (stands : R → Bool) (x : R) (xs : List R) (r : R) (b : Bool) → stands x ≡ b → (if b then Some x else first_standing stands xs) ≡ Some r → (first_standing stands xs ≡ Some r → stands r ≡ true) → stands r ≡ true
-    by_test stands x xs r true e h again = (let same : x ≡ r = cc in subst (λ y. stands y ≡ true) same e)
-    by_test stands x xs r false e h again = again h
 
 none_stands : {R : Type 0} (stands : R → Bool) (rows : List R) (n : ℕ) (r : R) → first_standing stands rows ≡ None → slice_get rows n ≡ Some r → stands r ≡ false
 none_stands stands [] n r h e = cc
@@ -81,11 +73,11 @@ pub record RowStands (q : Question) (row : Row) : Type 0 where
 row_stands : (q : Question) (row : Row) → applies q row ≡ true → RowStands q row
 unfolding applies
 row_stands q row h =
-    let a = both_of _ _ h in
-    let b = both_of _ _ a.0 in
-    let c = both_of _ _ b.0 in
-    let d = both_of _ _ c.0 in
-    let e = both_of _ _ d.0 in
+    let a = and_parts _ _ h in
+    let b = and_parts _ _ a.0 in
+    let c = and_parts _ _ b.0 in
+    let d = and_parts _ _ c.0 in
+    let e = and_parts _ _ d.0 in
     record { symbol = e.1; value = c.1 }
 
 all_of : (a b c d e f g h : Bool) → a ≡ true → b ≡ true → c ≡ true → d ≡ true → e ≡ true → f ≡ true → g ≡ true → h ≡ true → (a && b && c && d && e && f && g && h) ≡ true

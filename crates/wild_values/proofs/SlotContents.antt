@@ -7,6 +7,7 @@ use Rattle.wild_slot.specs.declared.slot.SlotItem.{SlotItem}
 use Rattle.wild_slot.specs.declared.slot.SlotItem.TheVariants.{Word, Stub, Fault}
 use Rattle.wild_slot.specs.declared.slot.SlotWord.{SlotWord}
 use Rattle.wild_slot.specs.Slots.{SlotContent, no_slot, add_item, with_item_by, with_item, with_items}
+use Rattle.wild_slot.proofs.SlotLemmas.{fault_stays}
 use Rattle.wild_geometry.specs.Slots.{IsLoadedWord, HasWords}
 use Rattle.wild_loader.specs.declared.memory.Memory.{Memory}
 use Rattle.wild_loader.specs.declared.world.World.{World}
@@ -40,13 +41,6 @@ record IsWhole (c : SlotContent) (xs : List SlotItem) : Type 0 where
   pub sound : NoFault xs
   pub words : (with_items c xs).words ≡ c.words ++ words_of xs
 
--- a fault stays
-stays : (xs : List SlotItem) (c : SlotContent) (f : SlotFault) → c.fault ≡ Some f → (with_items c xs).fault ≡ Some f
-stays [] c f e = e
-stays (x ∷ xs) c f e =
-    let same : with_item c x ≡ c = ap (λ (o : Option SlotFault). with_item_by o c x) e in
-    subst (λ (d : SlotContent). (with_items d xs).fault ≡ Some f) (sym same) (stays xs c f e)
-
 whole : (xs : List SlotItem) (c : SlotContent) → c.fault ≡ None → (with_items c xs).fault ≡ None → IsWhole c xs
 whole [] c none h = record { sound = tt; words = sym (append-nil c.words) }
 whole (Word v ∷ xs) c none h =
@@ -59,7 +53,7 @@ whole (Stub ∷ xs) c none h =
     record { sound = rest.sound; words = ap (λ (d : SlotContent). (with_items d xs).words) same ∙ rest.words }
 whole (Fault f ∷ xs) c none h =
     let same : with_item c (Fault f) ≡ add_item c (Fault f) = ap (λ (o : Option SlotFault). with_item_by o c (Fault f)) none in
-    let some = stays xs (add_item c (Fault f)) f refl in
+    let some = fault_stays (add_item c (Fault f)) f xs refl in
     let gone = subst (λ (d : SlotContent). (with_items d xs).fault ≡ None) same h in
     cc
 

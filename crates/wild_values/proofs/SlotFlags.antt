@@ -1,6 +1,7 @@
 -- What is known of a symbol's flags, its slots and its stub.
 use Rattle.std.proofs.Common.{◌≡◌, ◌≢◌, ℕ, ◌^◌, ◌<◌, Bool, true, false, Option, Some, None, refl, arith}
 use Rattle.std.specs.Prelude.{◌&&◌, ◌||◌, not, is_some, slice_get}
+use Rattle.wild_words.proofs.ListLemmas.{holds_at}
 use Rattle.wild_types.specs.declared.symbol.Resolution.{Resolution}
 use Rattle.wild_types.specs.declared.symbol.Symbol.{Symbol}
 use Rattle.wild_types.specs.declared.layout.Layout.{Layout}
@@ -10,7 +11,6 @@ use Rattle.wild_clauses.specs.SlotFlags.{dynamic_is_interposable, stub_has_slot,
 use Rattle.wild_types.specs.SymbolSlots.{got_of, plt_of, has_thread_slot}
 use Rattle.wild_layout.specs.Numbers.{SymbolNumbers}
 use Rattle.wild_layout.specs.SlotOrder.{FlagsAgree}
-use Rattle.wild_layout.proofs.SiteLemmas.{All-at}
 use Rattle.wild_values.specs.Terms.{SymbolsFit}
 
 -- a symbol of the layout
@@ -26,10 +26,10 @@ pub record SymbolFits (s : Symbol) : Type 0 where
 
 pub symbol_fits : (l : Layout) (i : ℕ) (s : Symbol) → SymbolsFit l → slice_get l.symbols i ≡ Some s → SymbolFits s
 symbol_fits l i s fit listed =
-    let t = All-at (FlagsAgree l) l.symbols i s fit.flags listed in
+    let t = holds_at (FlagsAgree l) l.symbols i s listed fit.flags in
     record {
-      flags = All-at HasItsFlags l.symbols i s fit.own listed;
-      number = λ r e. (All-at SymbolNumbers l.symbols i s fit.numbers listed r e).value;
+      flags = holds_at HasItsFlags l.symbols i s listed fit.own;
+      number = λ r e. (holds_at SymbolNumbers l.symbols i s listed fit.numbers r e).value;
       stub = t.stub;
       alone = t.alone;
       moves = t.moves;
@@ -47,15 +47,6 @@ slot_of_stub s p h e = some (got_of s) (rw e at h)
     some : (o : Option ℕ) → is_some o ≡ true → (at : ℕ) × (o ≡ Some at)
     some None h = cc
     some (Some at) h = (at, refl)
-
--- which is no thread-local one
-pub plain_stub : (s : Symbol) (p : ℕ) → thread_slot_alone s ≡ true → plt_of s ≡ Some p → has_thread_slot s.flags ≡ false
-plain_stub s p h e = by_tests (has_thread_slot s.flags) (has_flag s.flags ifunc) (rw e at h)
-  where
-    by_tests : (thread chosen : Bool) → (not thread || (not chosen && false)) ≡ true → thread ≡ false
-    by_tests false chosen h = refl
-    by_tests true false h = cc
-    by_tests true true h = cc
 
 -- nor is a symbol with a thread-local slot one that a resolver chooses
 pub thread_not_chosen : (s : Symbol) → thread_slot_alone s ≡ true → has_thread_slot s.flags ≡ true → has_flag s.flags ifunc ≡ false

@@ -1,6 +1,6 @@
 -- A stub in memory: its bytes jump to the word of its slot.
-use Rattle.std.proofs.Common.{◌≡◌, ℕ, ◌+◌, ◌*◌, ◌-◌, ◌%◌, ◌^◌, ◌<◌, inl, inr, true, List, Option, Some, None, refl, sym, arith, subst}
-use Rattle.std.specs.Prelude.{nat_lt, option_and_then, option_map}
+use Rattle.std.proofs.Common.{◌≡◌, ℕ, ◌+◌, ◌-◌, ◌%◌, ◌^◌, ◌<◌, inl, inr, true, List, refl, sym, arith, subst}
+use Rattle.std.specs.Prelude.{nat_lt}
 use Rattle.std.proofs.lemmas.Bool.{cases_Bool, ltb-true, leb-true}
 use Rattle.wild_words.specs.Words.{word, place}
 use Rattle.wild_reloc.specs.Range.{of_bits, contains}
@@ -8,26 +8,12 @@ use Rattle.wild_reloc.specs.declared.range.Sign.TheVariants.{Signed}
 use Rattle.wild_slot.specs.Stub.{stub_x86_64, displacement_x86_64}
 use Rattle.wild_loader.specs.declared.memory.Machine.TheVariants as machines
 use Rattle.wild_loader.specs.declared.memory.Memory.{Memory}
-use Rattle.wild_loader.specs.Memory.{byte_in, number_in, Holds}
+use Rattle.wild_loader.specs.Memory.{Holds}
 use Rattle.wild_loader.specs.StepLaws.{IsSigned32, StubsOfValuesAreRead, stub_bytes}
+use Rattle.wild_loader.proofs.Mapped.{byte_below}
 use Rattle.wild_meaning.specs.Slot.{HasWord}
 use Rattle.wild_meaning.specs.Denotes.{JumpsTo}
-
--- ---- addresses of loaded bytes
-
-pub byte_below : (m : Memory) (a b : ℕ) → byte_in m a ≡ Some b → a < 2 ^ 64
-byte_below m a b h =
-    elim (cases_Bool (nat_lt a (2 ^ 64))) [
-      | inl t ↦ ltb-true a (2 ^ 64) t
-      | inr f ↦ cc (rw f at h)
-    ]
-
-pub word_below : (m : Memory) (a x : ℕ) → HasWord m a x → a < 2 ^ 64
-word_below m a x h = by_byte (byte_in m a) refl h
-  where
-    by_byte : (o : Option ℕ) → byte_in m a ≡ o → option_and_then (λ b. option_map (λ rest. b + 256 * rest) (number_in m (a + 1) 7)) o ≡ Some x → a < 2 ^ 64
-    by_byte None e h = cc
-    by_byte (Some b) e h = byte_below m a b e
+use Rattle.wild_meaning.proofs.WorldLemmas.{word_below}
 
 -- ---- the displacement
 

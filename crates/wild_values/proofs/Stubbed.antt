@@ -13,7 +13,9 @@ use Rattle.wild_layout.specs.SlotValues.{resolution_of, stub_of}
 use Rattle.wild_meaning.specs.Reference.{IsStubbed}
 use Rattle.wild_meaning.specs.Value.{IsSymbol, IsDefinedBy, IsResolved, IsUnresolved, StandsAt, HasRaw, HasFlag}
 use Rattle.wild_meaning.specs.Denotes.{HasStub}
-use Rattle.wild_values.proofs.Symbols.{IsResolvedBy, resolved, resolved_raw, resolved_flag, canonical_is, flags_are}
+use Rattle.wild_meaning.proofs.SymbolLemmas.{canonical_is}
+use Rattle.wild_geometry.proofs.JudgedLemmas.{flag_is}
+use Rattle.wild_values.proofs.Symbols.{IsResolvedBy, resolved, resolved_raw, resolved_flag, flags_are}
 
 -- ---- what is one of its kind
 
@@ -33,10 +35,6 @@ raw_is l i a c s r h d listed decided =
         let two : by.resolution ≡ r = cc in
         by.value ∙ ap (λ (x : Resolution). x.raw_value) two
     by_case (inr un) = (let e : None ≡ Some r = sym (un.0 s listed) ∙ decided in cc)
-
--- the flag of its definition is what the writer knows
-pub flag_is : (l : Layout) (i flag : ℕ) (b : Bool) → HasFlag l i flag b → has_flag (flags_at l i) flag ≡ b
-flag_is l i flag b h = ap (λ (f : ValueFlags). has_flag f flag) (flags_are l i h.definition h.symbol h.defined h.listed) ∙ h.flagged
 
 -- so is its stub
 pub stub_known : (l : Layout) (i p : ℕ) → (h : HasStub l i p) → resolution_of l i ≡ Some h.resolution

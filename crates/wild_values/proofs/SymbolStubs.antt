@@ -11,6 +11,7 @@ use Rattle.wild_types.specs.Lookups.{canonical}
 use Rattle.wild_slot.specs.Slots.{setting_of, stub_item, stub_items, ifunc_address_items, canonical_address_items}
 use Rattle.wild_slot.specs.Stub.{stub_x86_64, far_between, far_of}
 use Rattle.wild_types.specs.SymbolSlots.{resolved_got, resolved_plt, plt_of, has_thread_slot}
+use Rattle.wild_clauses.proofs.ClauseLemmas.{not_thread}
 use Rattle.wild_layout.specs.SlotValues.{resolution_of, stub_of, stub_address}
 use Rattle.wild_loader.specs.StepLaws.{StubsOfValuesAreRead}
 use Rattle.wild_loader.specs.declared.memory.Memory.{Memory}
@@ -21,7 +22,7 @@ use Rattle.wild_meaning.specs.Denotes.{Denotes, HasStub, IsStub, JumpsTo, Reache
 use Rattle.wild_values.specs.Terms.{IsPlaced}
 use Rattle.wild_values.proofs.FirstSlots.{HasFirst, first_held, items_behind}
 use Rattle.wild_values.proofs.SlotContents.{ItemsHold}
-use Rattle.wild_values.proofs.SlotFlags.{symbol_fits, slot_of_stub, plain_stub}
+use Rattle.wild_values.proofs.SlotFlags.{symbol_fits, slot_of_stub}
 use Rattle.wild_values.proofs.StubCode.{stub_jumps, stub_below}
 use Rattle.wild_values.proofs.Symbols.{IsResolvedBy, resolved}
 use Rattle.wild_values.proofs.Written.{given_some}
@@ -72,7 +73,7 @@ stub_from law l w m i stub r p d f =
     let slot = slot_of_stub s stub fits.stub has in
     let at = slot.0 in
     let e : r.got_address ≡ Some at = sym (ap resolved_got d.decided) ∙ slot.1 in
-    let plain : has_thread_slot r.flags ≡ false = ap (λ (f : ValueFlags). has_thread_slot f) flags ∙ plain_stub s stub fits.alone has in
+    let plain : has_thread_slot r.flags ≡ false = ap (λ (f : ValueFlags). has_thread_slot f) flags ∙ not_thread s stub fits.alone has in
     let first = first_held l w m i at r p d e plain in
     let held = (p.slots.symbols (canonical l i) at s d.listed slot.1).stub stub has in
     record {

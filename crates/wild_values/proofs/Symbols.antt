@@ -2,6 +2,7 @@
 use Rattle.std.proofs.Common.{◌≡◌, ℕ, ◌<◌, ◌⊎◌, inl, inr, Bool, true, false, length, get_or, refl, sym, ap, ◌∙◌, subst}
 use Rattle.std.specs.Prelude.{Option, Some, None, All, option_and_then, option_map, unwrap_or, slice_get}
 use Rattle.std.proofs.lemmas.Option.{slice_get-get_or, slice_get_within, get_or_from_slice_get}
+use Rattle.wild_words.proofs.Basics.{slice_get_inside}
 use Rattle.wild_types.specs.declared.symbol.Place.{Place}
 use Rattle.wild_types.specs.declared.symbol.Place.TheVariants as at
 use Rattle.wild_types.specs.declared.symbol.Resolution.{Resolution}
@@ -15,6 +16,7 @@ use Rattle.wild_layout.specs.SymbolValues.{definition_of, is_nowhere, is_undefin
 use Rattle.wild_layout.specs.SlotValues.{resolution_of}
 use Rattle.wild_layout.specs.Geometry.{DefinitionNames}
 use Rattle.wild_meaning.specs.Value.{IsSymbol, IsDefinedBy, IsUndefined, HasRaw, HasFlag, HasOwnSize, IsReplaceable, may_be_replaced}
+use Rattle.wild_meaning.proofs.SymbolLemmas.{canonical_is, own_definition}
 
 -- ---- definitions
 
@@ -29,14 +31,6 @@ definition_listed l i c named d = by_case l i c d.symbol named d.listed d.define
         let names = subst (λ (s : Symbol). DefinitionNames l s) at (named i symbol within) in
         let below : c < length l.symbols = names c other in
         (get_or l.symbols c symbol, slice_get-get_or l.symbols c symbol below)
-
--- the writer's definition is the reader's
-pub canonical_is : (l : Layout) (i c : ℕ) → IsDefinedBy l i c → canonical l i ≡ c
-canonical_is l i c d = by_case l i c d.symbol d.listed d.defined
-  where
-    by_case : (l : Layout) (i c : ℕ) (symbol : Symbol) → IsSymbol l i symbol → (symbol.definition ≡ Some c) ⊎ ((symbol.definition ≡ None) × (c ≡ i)) → canonical l i ≡ c
-    by_case l i c symbol listed (inl other) = rw (listed, other) refl
-    by_case l i c symbol listed (inr own) = rw (listed, own.0) (sym own.1)
 
 -- a listed symbol has a definition
 pub defined_by : (l : Layout) (i : ℕ) (symbol : Symbol) → IsSymbol l i symbol → IsDefinedBy l i (canonical l i)
@@ -58,17 +52,6 @@ pub record IsResolvedBy (l : Layout) (i : ℕ) (r : Resolution) : Type 0 where
   pub listed : IsSymbol l (canonical l i) symbol
   pub defined : IsDefinedBy l i (canonical l i)
   pub decided : symbol.resolution ≡ Some r
-
--- a symbol whose definition is listed is listed itself
-own_definition : (l : Layout) (i : ℕ) (s : Symbol) → slice_get l.symbols (canonical l i) ≡ Some s → IsDefinedBy l i (canonical l i)
-own_definition l i s e = by_symbol (slice_get l.symbols i) refl
-  where
-    by_symbol : (o : Option Symbol) → slice_get l.symbols i ≡ o → IsDefinedBy l i (canonical l i)
-    by_symbol (Some t) is = defined_by l i t is
-    by_symbol None is =
-        let same : canonical l i ≡ i = rw is refl in
-        let there : slice_get l.symbols i ≡ Some s = subst (λ (k : ℕ). slice_get l.symbols k ≡ Some s) same e in
-        cc
 
 pub resolved : (l : Layout) (i : ℕ) (r : Resolution) → resolution_of l i ≡ Some r → IsResolvedBy l i r
 resolved l i r h = by_definition (definition_of l i) refl h
@@ -101,6 +84,13 @@ replaceable_at l i symbol named listed =
     let s = definition_listed l i (canonical l i) named d in
     record { definition = canonical l i; defined = d; symbol = s.0; listed = s.1; told = ap (λ (f : ValueFlags). may_be_replaced l.kind f) (sym (flags_are l i (canonical l i) s.0 d s.1)) }
 
+-- its definition is one of the layout's symbols
+pub definition_there : (l : Layout) (i : ℕ) → All (DefinitionNames l) l.symbols → i < length l.symbols → canonical l i < length l.symbols
+definition_there l i named inside =
+    let z = slice_get_inside l.symbols i inside in
+    let s = definition_listed l i (canonical l i) named (defined_by l i z.0 z.1) in
+    slice_get_within l.symbols (canonical l i) s.0 s.1
+
 -- a flag of its definition
 pub flag_at : (l : Layout) (i flag : ℕ) (symbol : Symbol) → All (DefinitionNames l) l.symbols → IsSymbol l i symbol → HasFlag l i flag (has_flag (flags_at l i) flag)
 flag_at l i flag symbol named listed =
@@ -124,6 +114,14 @@ undefined l i symbol listed h = by_definition l i (defined_by l i symbol listed)
     by_definition : (l : Layout) (i : ℕ) → IsDefinedBy l i (canonical l i) → (o : Option Symbol) → slice_get l.symbols (canonical l i) ≡ o → unwrap_or (option_map (λ (s : Symbol). is_nowhere s.place) o) false ≡ true → IsUndefined l i
     by_definition l i d None e h = cc
     by_definition l i d (Some s) e h = record { definition = canonical l i; defined = d; symbol = s; listed = e; nowhere = nowhere_is s.place h }
+
+-- what the writer knows of its size
+pub own_size_is : (l : Layout) (i z : ℕ) → HasOwnSize l i z → z ≡ symbol_size l i
+own_size_is l i z h =
+    let e = canonical_is l i h.definition h.defined in
+    let listed = h.listed in
+    let same : symbol_size l i ≡ h.symbol.size = rw (e, listed) refl in
+    h.size ∙ sym same
 
 pub sized : (l : Layout) (i : ℕ) (symbol : Symbol) → All (DefinitionNames l) l.symbols → IsSymbol l i symbol → HasOwnSize l i (symbol_size l i)
 sized l i symbol named listed =

@@ -15,10 +15,11 @@ use Rattle.wild_loader.specs.declared.world.World.{World}
 use Rattle.wild_meaning.specs.Formula.{IsTarget}
 use Rattle.wild_meaning.specs.Reference.{IsStubbed}
 use Rattle.wild_meaning.specs.Value.{HasRaw, HasFlag, HasOwnValue, IsAbsolute, IsReplaceable, moved}
+use Rattle.wild_geometry.proofs.JudgedLemmas.{flag_is}
 use Rattle.wild_values.specs.Terms.{IsPlaced}
 use Rattle.wild_values.proofs.SlotFlags.{symbol_fits, resolver_not_absolute}
 use Rattle.wild_values.proofs.Symbols.{definition_listed, flags_are}
-use Rattle.wild_values.proofs.Stubbed.{raw_is, flag_is, stub_given}
+use Rattle.wild_values.proofs.Stubbed.{raw_is, stub_given}
 use Rattle.wild_values.proofs.SymbolStubs.{StubStands, stub_stands, stub_is}
 use Rattle.wild_values.proofs.Values.{has_raw}
 use Rattle.wild_values.proofs.Written.{address_given, given_some}

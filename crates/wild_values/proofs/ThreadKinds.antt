@@ -3,6 +3,7 @@ use Rattle.std.proofs.Common.{◌≡◌, ℕ, ◌+◌, ◌-◌, ◌%◌, ◌^◌
 use Rattle.std.specs.Prelude.{Option, Some, Result, Ok, Err}
 use Rattle.std.specs.Int.{w64, cast_unsigned}
 use Rattle.std.proofs.lemmas.Bool.{cases_Bool}
+use Rattle.wild_words.proofs.Basics.{slice_get_inside}
 use Rattle.wild_types.specs.declared.fault.Fault.{Fault}
 use Rattle.wild_types.specs.declared.kind.Machine.TheVariants as machine
 use Rattle.wild_types.specs.declared.kind.OutputKind.TheVariants as output
@@ -24,12 +25,14 @@ use Rattle.wild_meaning.specs.Reference.{IsStubbed}
 use Rattle.wild_meaning.specs.Thread.{HasOwnOffset, IsOffsetBase}
 use Rattle.wild_meaning.specs.Value.{IsReplaceable}
 use Rattle.wild_meaning.specs.World.{IsExecutable, IsFirstModule}
-use Rattle.wild_values.proofs.Written.{address_given, slice_get_inside}
+use Rattle.wild_meaning.proofs.WorldLemmas.{distance_known}
+use Rattle.wild_meaning.proofs.OutputLemmas.{executable_is}
+use Rattle.wild_values.proofs.Written.{address_given}
 use Rattle.wild_values.proofs.Values.{has_raw}
 use Rattle.wild_values.proofs.Symbols.{undefined}
 use Rattle.wild_values.proofs.Moves.{less_sum}
-use Rattle.wild_values.proofs.OutputKinds.{executable_is, loadable_cases, loaded_program}
-use Rattle.wild_values.proofs.ThreadValues.{thread_place, placed_thread, thread_sum, known_distance, distance_below, pointer_same, own_base, library_base}
+use Rattle.wild_values.proofs.OutputKinds.{loadable_cases, loaded_program}
+use Rattle.wild_values.proofs.ThreadValues.{thread_place, placed_thread, thread_sum, distance_below, pointer_same, own_base, library_base}
 use Rattle.wild_values.proofs.Treated.{symbol_named, pointer_kept}
 use Rattle.wild_values.specs.Terms.{IsPlaced, HasTerm, IsFollowed}
 use Rattle.wild_values.proofs.ValueKinds.{more}
@@ -149,7 +152,7 @@ library_place l w m r x i term p library named given value =
     let raw = has_raw l i a.0 (address_given l (Some i) a.0 a.1) in
     let k = p.legal.symbols.known in
     let d = cast_unsigned w64 k.distance in
-    let own = known_distance w w.own_module k in
+    let own = distance_known w w.own_module k in
     let here = ap (λ (n : ℕ). (n + more r) % 2 ^ 64) a.2 ∙ value in
     record {
       symbol = i;

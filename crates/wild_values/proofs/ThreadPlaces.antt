@@ -2,6 +2,7 @@
 use Rattle.std.proofs.Common.{◌≡◌, ℕ, ◌+◌, ◌-◌, ◌%◌, ◌^◌, ◌<◌, inl, inr, Bool, true, false, List, [], ◌∷◌, Some, None, refl, sym, ap, ◌∙◌, arith, subst}
 use Rattle.std.specs.Prelude.{◌||◌, if◌then◌else◌}
 use Rattle.std.specs.Int.{w64, cast_unsigned}
+use Rattle.std.proofs.lemmas.Bool.{or_left}
 use Rattle.wild_reloc.specs.declared.dynamic.DynamicRelocationKind.TheVariants.{DtpMod}
 use Rattle.wild_types.specs.declared.kind.OutputKind.TheVariants as output
 use Rattle.wild_slot.specs.declared.slot.SlotEntry.{SlotEntry}
@@ -23,22 +24,19 @@ use Rattle.wild_loader.specs.declared.world.World.{World}
 use Rattle.wild_meaning.specs.Slot.{HasWord, IsPair, IsOwnPair}
 use Rattle.wild_meaning.specs.Thread as judge
 use Rattle.wild_meaning.specs.World.{IsExecutable}
+use Rattle.wild_meaning.proofs.WorldLemmas.{distance_known, word_below, next_word}
+use Rattle.wild_meaning.proofs.OutputLemmas.{executable_is}
 use Rattle.wild_values.specs.Terms.{IsPlaced}
 use Rattle.wild_values.proofs.EntryWords.{own_module_filled}
 use Rattle.wild_values.proofs.FirstSlots.{thread_held}
-use Rattle.wild_values.proofs.OutputKinds.{executable_is, loadable_cases}
+use Rattle.wild_values.proofs.OutputKinds.{loadable_cases}
 use Rattle.wild_values.proofs.SlotContents.{word_first, words_behind}
 use Rattle.wild_values.proofs.SlotTerms.{SlotStands, SlotsStand, by_slot}
-use Rattle.wild_values.proofs.StubCode.{word_below}
 use Rattle.wild_values.proofs.Symbols.{IsResolvedBy}
 use Rattle.wild_values.proofs.ThreadSlots.{HasPairWords, HasPair, pair_is, offset_first, pair_behind}
-use Rattle.wild_values.proofs.ThreadValues.{own_distance, known_distance, distance_below, pointer_same, own_base, library_base}
+use Rattle.wild_values.proofs.ThreadValues.{own_distance, distance_below, pointer_same, own_base, library_base}
 
 -- ---- flags
-
-left_of : (a b : Bool) → a ≡ true → (a || b) ≡ true
-left_of true b h = refl
-left_of false b h = cc
 
 middle_of : (a b c : Bool) → b ≡ true → (a || (b || c)) ≡ true
 middle_of true b c h = refl
@@ -49,7 +47,7 @@ middle_of false false c h = cc
 
 offset_stands : (l : Layout) (w : World) (m : Memory) (i at : ℕ) (r : Resolution) → IsPlaced l w m → IsResolvedBy l i r → r.got_address ≡ Some at → has_flag r.flags got_tls_offset ≡ true → SlotStands ThreadOffset l w m i at
 offset_stands l w m i at r p d e asked =
-    let thread : has_thread_slot r.flags ≡ true = left_of (has_flag r.flags got_tls_offset) (has_flag r.flags got_tls_module || has_flag r.flags got_tls_descriptor) asked in
+    let thread : has_thread_slot r.flags ≡ true = or_left (has_flag r.flags got_tls_offset) (has_flag r.flags got_tls_module || has_flag r.flags got_tls_descriptor) asked in
     let x = offset_first l w m i at r p d asked (thread_held l w m i at r p d e thread) in
     record { holds = (x.value, x.there, x.is); below = word_below m (w.base + at) x.value x.there }
 
@@ -99,11 +97,6 @@ record HasOwnPair (l : Layout) (w : World) (m : Memory) (at : ℕ) : Type 0 wher
 own_pair_at : (l : Layout) (w : World) (m : Memory) (i at : ℕ) → HasOwnPair l w m at → SlotStands OwnModulePair l w m i at
 own_pair_at l w m i at h = record { holds = h.pair; below = word_below m (w.base + at) h.owner h.first }
 
-next_word : (w : World) (m : Memory) (at x : ℕ) → HasWord m (w.base + (at + 8)) x → HasWord m (w.base + at + 8) x
-next_word w m at x h =
-    let e : w.base + (at + 8) ≡ w.base + at + 8 = omega arith in
-    subst (λ (a : ℕ). HasWord m a x) e h
-
 -- an executable's counts from the thread pointer
 program_same : (d pointer tp start : ℕ) → (pointer + d) % 2 ^ 64 ≡ start → pointer % 2 ^ 64 ≡ tp → 0 ≡ (d + (tp + (2 ^ 64 - start)) % 2 ^ 64) % 2 ^ 64
 program_same d pointer tp start begins same = omega (arith, begins, same)
@@ -134,7 +127,7 @@ library_pair l w m at p library h =
     let b = word_first w m (at + 8) (Number 0) [] (words_behind w m at (General e) (Number 0 ∷ []) h) in
     let k = p.legal.symbols.known in
     let dist = cast_unsigned w64 k.distance in
-    let known = known_distance w w.own_module k in
+    let known = distance_known w w.own_module k in
     let words : HasPairWords w m at w.own_module 0 = record { first = subst (λ (n : ℕ). HasWord m (w.base + at) n) (own_module_filled w m (w.base + at) a.0 a.2) a.1; second = subst (λ (n : ℕ). HasWord m (w.base + at + 8) n) b.2 (next_word w m at b.0 b.1) } in
     record {
       owner = w.own_module;

@@ -23,15 +23,17 @@ use Rattle.wild_meaning.specs.Slot.{HasWord, IsPair}
 use Rattle.wild_meaning.specs.Thread as judge
 use Rattle.wild_meaning.specs.Value.{HasRaw, IsReplaceable, is_library, may_be_replaced}
 use Rattle.wild_meaning.specs.World.{IsFirstModule}
+use Rattle.wild_meaning.proofs.WorldLemmas.{distance_known, next_word}
+use Rattle.wild_meaning.proofs.OutputLemmas.{is_program}
 use Rattle.wild_values.specs.Terms.{IsPlaced}
-use Rattle.wild_values.proofs.Answered.{has_answer, answered_offset, answer_fits}
+use Rattle.wild_values.proofs.Answered.{has_answer, answered_offset, answer_fits, place_same}
 use Rattle.wild_values.proofs.EntryWords.{module_filled, own_module_filled, offset_filled, thread_filled, own_thread_filled}
 use Rattle.wild_values.proofs.FirstSlots.{own_flags}
-use Rattle.wild_values.proofs.OutputKinds.{is_program, no_library}
+use Rattle.wild_values.proofs.OutputKinds.{no_library}
 use Rattle.wild_values.proofs.SlotContents.{ItemsHold}
 use Rattle.wild_values.proofs.SlotFlags.{symbol_fits, dynamic_interposable}
 use Rattle.wild_values.proofs.Symbols.{IsResolvedBy, replaceable_by, resolved_raw}
-use Rattle.wild_values.proofs.ThreadValues.{known_distance, placed_thread, thread_place, thread_sum, pointer_same}
+use Rattle.wild_values.proofs.ThreadValues.{placed_thread, thread_place, thread_sum, pointer_same}
 
 -- ---- whose symbol it is
 
@@ -125,9 +127,6 @@ pub record HasPair (l : Layout) (w : World) (m : Memory) (i at : ℕ) : Type 0 w
   pub pair : IsPair w m (w.base + at) offset
   pub is : judge.HasThreadOffset l w i offset
 
-own_same : (d raw start offset : ℕ) → offset ≡ (raw + (2 ^ 64 - start)) % 2 ^ 64 → (d + offset) % 2 ^ 64 ≡ (d + raw + (2 ^ 64 - start)) % 2 ^ 64
-own_same d raw start offset e = omega (arith, e)
-
 answer_same : (d offset x : ℕ) → x ≡ (offset + 0) % 2 ^ 64 → (d + x) % 2 ^ 64 ≡ (d + offset) % 2 ^ 64
 answer_same d offset x e = omega (arith, e)
 
@@ -139,24 +138,19 @@ own_pair : (l : Layout) (w : World) (m : Memory) (i at offset : ℕ) (r : Resolu
 own_pair l w m i at offset r p d own words e =
     let k = p.legal.symbols.known in
     let dist = cast_unsigned w64 k.distance in
-    let known = known_distance w w.own_module k in
+    let known = distance_known w w.own_module k in
     let place = placed_thread l w i r.raw_value dist known (resolved_raw l i r d) in
     record {
       owner = w.own_module;
       first = words.first;
       offset = (dist + offset) % 2 ^ 64;
       pair = pair_is w m at w.own_module offset dist known words;
-      is = inr (own, inl (subst (λ (n : ℕ). judge.IsThreadPlace l w i n) (sym (own_same dist r.raw_value l.tls.start offset e)) place));
+      is = inr (own, inl (subst (λ (n : ℕ). judge.IsThreadPlace l w i n) (sym (place_same dist offset r.raw_value l.tls.start e)) place));
     }
 
 -- the second word: the offset of the answer, or the own one
 abbrev second_item : Layout → Resolution → Option ℕ → SlotItem
 second_item l r o = module_offset (setting_of l) r.raw_value o
-
-next_word : (w : World) (m : Memory) (at x : ℕ) → HasWord m (w.base + (at + 8)) x → HasWord m (w.base + at + 8) x
-next_word w m at x h =
-    let e : w.base + (at + 8) ≡ w.base + at + 8 = omega arith in
-    subst (λ (a : ℕ). HasWord m a x) e h
 
 -- of an own symbol each of both is the same
 own_second : (l : Layout) (w : World) (m : Memory) (i at owner : ℕ) (r : Resolution) (rest : List SlotItem) (o : Option ℕ) → IsPlaced l w m → IsResolvedBy l i r → IsReplaceable l i false → (o ≡ None) ⊎ (r.dynamic_symbol_index ≡ o) → owner ≡ w.own_module → HasWord m (w.base + at) owner → ItemsHold w m (at + 8) (second_item l r o ∷ rest) → HasPair l w m i at
@@ -178,7 +172,7 @@ named_pair l w m i at index r rest p by told h =
     let b = offset_filled w m (w.base + (at + 8)) index y.0 y.2 in
     let fits = answer_fits l w index p.legal.symbols b.0 in
     let dist = cast_unsigned w64 fits.known.distance in
-    let known = known_distance w b.0.answer.module fits.known in
+    let known = distance_known w b.0.answer.module fits.known in
     let same : Some a.0.answer ≡ Some b.0.answer = sym a.0.there ∙ b.0.there in
     let one : a.0.answer ≡ b.0.answer = cc in
     let owner_is : x.0 ≡ b.0.answer.module = a.1 ∙ ap (λ z. z.module) one in

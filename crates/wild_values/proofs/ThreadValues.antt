@@ -1,7 +1,6 @@
 -- The offset of a symbol from the thread pointer in a legal world.
-use Rattle.std.proofs.Common.{◌≡◌, ℕ, ℤ, ◌+◌, ◌-◌, ◌%◌, ◌^◌, ◌<◌, inl, inr, Bool, true, false, List, [], ◌∷◌, refl, sym, ap, ◌∙◌, arith, subst}
-use Rattle.std.specs.Prelude.{◌==◌, if◌then◌else◌, Option, Some, Ok}
-use Rattle.std.specs.List.{filter}
+use Rattle.std.proofs.Common.{◌≡◌, ℕ, ℤ, ◌+◌, ◌-◌, ◌%◌, ◌^◌, ◌<◌, inl, inr, refl, sym, ap, ◌∙◌, arith, subst}
+use Rattle.std.specs.Prelude.{◌==◌, Option, Some, Ok}
 use Rattle.std.specs.Int.{w64, cast_unsigned}
 use Rattle.std.proofs.Math.Nat.{zero-mod}
 use Rattle.std.proofs.lemmas.Bool.{cases_Bool, eqb-true}
@@ -19,22 +18,11 @@ use Rattle.wild_loader.specs.Changes.{first_value, distance_of}
 use Rattle.wild_meaning.specs.Value.{HasRaw}
 use Rattle.wild_meaning.specs.Thread.{rounded_up, thread_pointer_of, thread_pointer, HasDistance, IsThreadPlace, IsOffsetBase}
 use Rattle.wild_meaning.specs.World.{first_module, IsExecutable, IsFirstModule, IsKnownModule}
-
--- the only pair for a key is the first one
-only_pair : (ms : List (ℕ × ℤ)) (k : ℕ) (d : ℤ) → filter (λ (m : ℕ × ℤ). m.0 == k) ms ≡ (k, d) ∷ [] → first_value ms k ≡ Some d
-only_pair [] k d h = cc
-only_pair (m ∷ ms) k d h = by_test m ms k d (m.0 == k) h (only_pair ms k d)
-  where
-    by_test : (m : ℕ × ℤ) (ms : List (ℕ × ℤ)) (k : ℕ) (d : ℤ) (b : Bool) → (if b then m ∷ filter (λ (m : ℕ × ℤ). m.0 == k) ms else filter (λ (m : ℕ × ℤ). m.0 == k) ms) ≡ (k, d) ∷ [] → (filter (λ (m : ℕ × ℤ). m.0 == k) ms ≡ (k, d) ∷ [] → first_value ms k ≡ Some d) → (if b then Some m.1 else first_value ms k) ≡ Some d
-    by_test m ms k d true h again = (let e : m ≡ (k, d) = cc in ap (λ (x : ℕ × ℤ). Some x.1) e)
-    by_test m ms k d false h again = again h
+use Rattle.wild_meaning.proofs.WorldLemmas.{first_filtered}
 
 -- so that the world has the distance of its module
 found : (w : World) (m : ℕ) (d : ℤ) → first_value w.modules m ≡ Some d → distance_of w m ≡ Ok (cast_unsigned w64 d)
 found w m d h = ap (λ (o : Option ℤ). known o (faults.NoAnswer m) >>= λ x. Ok (cast_unsigned w64 x)) h
-
-pub known_distance : (w : World) (m : ℕ) → (k : IsKnownModule w m) → distance_of w m ≡ Ok (cast_unsigned w64 k.distance)
-known_distance w m k = found w m k.distance (only_pair w.modules m k.distance k.pair)
 
 -- which is a number of the machine
 pub distance_below : (w : World) (m : ℕ) → (k : IsKnownModule w m) → cast_unsigned w64 k.distance < 2 ^ 64
@@ -43,7 +31,7 @@ distance_below w m k = signed_fits w64 k.distance k.fits
 -- the world has the own module's distance
 pub own_distance : (l : Layout) (w : World) → (f : IsFirstModule l w) → HasDistance w (cast_unsigned w64 f.distance)
 own_distance l w f =
-    let here = only_pair w.modules first_module f.distance f.pair in
+    let here = first_filtered w.modules first_module f.distance f.pair in
     subst (λ (n : ℕ). distance_of w n ≡ Ok (cast_unsigned w64 f.distance)) (sym f.own) (found w first_module f.distance here)
 
 -- the place of a symbol in the data of a module with a distance

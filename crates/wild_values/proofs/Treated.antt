@@ -9,7 +9,7 @@ use Rattle.wild_slot.specs.declared.treatment.Treatment.{Treatment}
 use Rattle.wild_slot.specs.declared.treatment.Treatment.TheVariants as treatments
 use Rattle.wild_types.specs.Flags.{has_flag, absolute}
 use Rattle.wild_types.specs.Kinds.{is_position_independent, is_shared_object}
-use Rattle.wild_types.specs.Lookups.{allocated}
+use Rattle.wild_types.specs.Lookups.{allocated, canonical}
 use Rattle.wild_types.specs.Rows.{row_of}
 use Rattle.wild_slot.specs.Treatment.{is_left, is_barred, is_narrow, is_chosen, is_sized, flags_at, moves, moved_treatment, chosen_treatment, address_treatment, distance_treatment, pointer_treatment, size_treatment, named, where_there, kind_treatment, row_treatment, treatment}
 use Rattle.wild_reloc.specs.Field.{field_width}
@@ -128,9 +128,9 @@ pointer_kept l s row room h = by_tests (allocated s.flags) (is_shared_object l.k
 
 -- ---- symbols that are there
 
--- of a symbol that is there the treatment is its own
-pub there : (l : Layout) (row : RelocationKindInfo) (i : ℕ) (t : Treatment) → i < length l.symbols → where_there l row i t ≡ t
-there l row i t h = let e = lt-ltb i (length l.symbols) h in rw e refl
+-- of a symbol whose definition is there the treatment is its own
+pub there : (l : Layout) (row : RelocationKindInfo) (i : ℕ) (t : Treatment) → canonical l i < length l.symbols → where_there l row i t ≡ t
+there l row i t h = let e = lt-ltb (canonical l i) (length l.symbols) h in rw e refl
 
-pub peeled : (l : Layout) (row : RelocationKindInfo) (i : ℕ) (t u : Treatment) → i < length l.symbols → where_there l row i t ≡ u → t ≡ u
+pub peeled : (l : Layout) (row : RelocationKindInfo) (i : ℕ) (t u : Treatment) → canonical l i < length l.symbols → where_there l row i t ≡ u → t ≡ u
 peeled l row i t u h e = sym (there l row i t h) ∙ e

@@ -3,6 +3,7 @@ use Rattle.std.proofs.Common.{◌≡◌, ℕ, ◌+◌, ◌-◌, ◌%◌, ◌^◌
 use Rattle.std.specs.Prelude.{Option, Some, None, Ok, not, ◌&&◌, ◌||◌}
 use Rattle.std.specs.Int.{w64, cast_unsigned}
 use Rattle.std.proofs.lemmas.Bool.{cases_Bool}
+use Rattle.wild_words.proofs.Basics.{slice_get_inside}
 use Rattle.wild_types.specs.declared.input.InputRelocation.{InputRelocation}
 use Rattle.wild_types.specs.declared.input.InputSection.{InputSection}
 use Rattle.wild_types.specs.declared.layout.Layout.{Layout}
@@ -26,10 +27,9 @@ use Rattle.wild_meaning.specs.Value.{IsSymbol, IsReplaceable, HasOwnSize, moved}
 use Rattle.wild_meaning.specs.Item.{item_of}
 use Rattle.wild_meaning.specs.Formula.{IsSum, IsExtent, Gives, IsOwnTarget, IsOwnSum, GivesLinked, IsPlaceRelative, TakesAddress, TakesOffset, table_at}
 use Rattle.wild_meaning.specs.Reference.{IsStubbed}
-use Rattle.wild_values.proofs.Written.{slice_get_inside}
 use Rattle.wild_values.proofs.OutputKinds.{library_is}
 use Rattle.wild_values.proofs.SlotFlags.{symbol_fits, dynamic_interposable}
-use Rattle.wild_values.proofs.Symbols.{sized, replaceable_at, flags_are}
+use Rattle.wild_values.proofs.Symbols.{sized, replaceable_at, flags_are, definition_there}
 use Rattle.wild_values.proofs.Targets.{IsAddressed, IsOwnAddressed, Follows, addressed, linked}
 use Rattle.wild_values.proofs.Moves.{sum_is, distance_is, table_is, moved_distance}
 use Rattle.wild_values.proofs.Treated.{symbol_named, address_still, distance_still, size_kept, peeled}
@@ -67,7 +67,7 @@ sum_of l w m s r a t = record { symbol = moved t.still w.base a; denoted = t.den
 right_sum : (l : Layout) (w : World) (m : Memory) (s : InputSection) (r : InputRelocation) (x : ℕ) → (h : HasTerm l w m s r kinds.Absolute x) → (t : IsAddressed l w m r.symbol h.term) → (w.base ≡ 0) ⊎ (t.still ≡ true)
 right_sum l w m s r x h t =
     let i = symbol_named r.symbol (λ k. where_there l h.row k (address_treatment l s h.row k)) h.row h.treated in
-    elim (address_still l s h.row i.0 h.room (peeled l h.row i.0 (address_treatment l s h.row i.0) (treatments.Value h.row) (h.listed i.0 i.1) i.2)) [
+    elim (address_still l s h.row i.0 h.room (peeled l h.row i.0 (address_treatment l s h.row i.0) (treatments.Value h.row) (definition_there l i.0 h.placed.symbols.named (h.listed i.0 i.1)) i.2)) [
       | inl fixed ↦ inl (h.placed.still fixed)
       | inr flag ↦ inr (sym (t.flag i.0 i.1) ∙ flag)
     ]
@@ -172,7 +172,7 @@ pub gives_size : (l : Layout) (w : World) (m : Memory) (s : InputSection) (r : I
 gives_size l w m s r x h =
     let i = symbol_named r.symbol (λ k. where_there l h.row k (size_treatment l s h.row k)) h.row h.treated in
     let z = slice_get_inside l.symbols i.0 (h.listed i.0 i.1) in
-    let own = own_size l w m s i.0 z.0 h.placed z.1 h.room (size_kept l s h.row i.0 (peeled l h.row i.0 (size_treatment l s h.row i.0) (treatments.Value h.row) (h.listed i.0 i.1) i.2)) in
+    let own = own_size l w m s i.0 z.0 h.placed z.1 h.room (size_kept l s h.row i.0 (peeled l h.row i.0 (size_treatment l s h.row i.0) (treatments.Value h.row) (definition_there l i.0 h.placed.symbols.named (h.listed i.0 i.1)) i.2)) in
     let given : term_of l (Some i.0) kinds.SymbolSize ≡ Ok h.term = subst (λ (o : Option ℕ). term_of l o kinds.SymbolSize ≡ Ok h.term) i.1 h.given in
     let g : symbol_size l i.0 ≡ h.term = cc in
     let size : IsExtent l w (Some i.0) h.term = inr (own, subst (λ (n : ℕ). HasOwnSize l i.0 n) g (sized l i.0 z.0 h.placed.symbols.named z.1)) in

@@ -1,9 +1,8 @@
 -- The writer's value of a symbol is the symbol's address.
-use Rattle.std.proofs.Common.{◌≡◌, ℕ, suc, ◌+◌, ◌%◌, ◌^◌, ◌<◌, ◌≤◌, ◌⊎◌, inl, inr, Bool, true, false, List, [], ◌∷◌, refl, sym, ap, ◌∙◌, arith, subst}
-use Rattle.std.specs.Prelude.{Option, Some, None, Contains, slice_get, option_and_then, option_map, not, ◌&&◌, ◌==◌, nat_le, nat_lt}
-use Rattle.std.specs.List.{flat_map}
-use Rattle.std.proofs.lemmas.Bool.{cases_Bool, ne_eqb, leb-true, ltb-true}
-use Rattle.std.proofs.lemmas.List.Elements.{Contains-append_cases}
+use Rattle.std.proofs.Common.{◌≡◌, ℕ, suc, ◌+◌, ◌%◌, ◌^◌, ◌<◌, ◌≤◌, ◌⊎◌, inl, inr, true, false, List, [], ◌∷◌, refl, sym, ap, ◌∙◌, arith, subst}
+use Rattle.std.specs.Prelude.{Option, Some, None, Contains, slice_get, option_and_then, option_map, ◌&&◌, ◌==◌, nat_le, nat_lt}
+use Rattle.std.proofs.lemmas.Bool.{cases_Bool, ne_eqb, leb-true, ltb-true, and_parts, not-true, or_cases}
+use Rattle.wild_words.proofs.Basics.{Contains-from_flat_map}
 use Rattle.wild_types.specs.declared.symbol.Place.{Place}
 use Rattle.wild_types.specs.declared.symbol.Place.TheVariants as at
 use Rattle.wild_types.specs.declared.symbol.Symbol.{Symbol}
@@ -18,8 +17,7 @@ use Rattle.wild_types.specs.Lookups.{canonical, has_address, is_discarded, files
 use Rattle.wild_types.specs.Addresses.{raw_value, resolved_or, placed_value, address_at, address_in_file, address_in_section}
 use Rattle.wild_meaning.specs.Section.{IsAllocatedPart, IsPlaced}
 use Rattle.wild_meaning.specs.Value.{IsSymbol, IsDefinedBy, IsOwnFile, StandsAt, IsResolved, IsUnresolved, HasRaw}
-use Rattle.wild_values.proofs.Bits.{alloc_bit}
-use Rattle.wild_values.proofs.Tests.{both_of, either_of}
+use Rattle.wild_meaning.proofs.BitLemmas.{alloc_bit}
 
 -- ---- the own file of a symbol
 
@@ -35,7 +33,7 @@ file_of-found : (files : List File) (i : ℕ) (f : File) → file_of files i ≡
 file_of-found [] i f h = cc
 file_of-found (g ∷ files) i f h =
     elim (cases_Bool (nat_le g.first_symbol i && nat_lt i (g.first_symbol + g.symbol_count))) [
-      | inl t ↦ here g files i f (both_of _ _ t) (rw t at h)
+      | inl t ↦ here g files i f (and_parts _ _ t) (rw t at h)
       | inr n ↦ found_later g files i f (file_of-found files i f (rw n at h))
     ]
   where
@@ -44,18 +42,6 @@ file_of-found (g ∷ files) i f h =
         let same : g ≡ f = cc in
         subst (λ (x : File). IsFoundIn (g ∷ files) i x) same (record { listed = (0, omega arith, refl); from = leb-true _ _ t.0; to = ltb-true _ _ t.1 })
 
--- an item of a list of lists is an item of one of them
-pub Contains-from_flat_map : {X Y : Type 0} (f : X → List Y) (xs : List X) (y : Y) → Contains (flat_map f xs) y → (x : X) × Contains xs x × Contains (f x) y
-Contains-from_flat_map f [] y c = absurd (omega (arith, c.1))
-Contains-from_flat_map {X} f (x ∷ xs) y c =
-    elim (Contains-append_cases (f x) (flat_map f xs) y c) [
-      | inl here ↦ (x, (0, omega arith, refl), here)
-      | inr there ↦ later x xs (Contains-from_flat_map f xs y there)
-    ]
-  where
-    later : (x : X) (xs : List X) → (z : X) × Contains xs z × Contains (f z) y → (z : X) × Contains (x ∷ xs) z × Contains (f z) y
-    later x xs h = (h.0, (suc h.1.0, omega (arith, h.1.1), h.1.2), h.2)
-
 own_file : (l : Layout) (i : ℕ) (f : File) → file_of (files_of l.groups) i ≡ Some f → IsOwnFile l i f
 own_file l i f h =
     let found = file_of-found (files_of l.groups) i f h in
@@ -63,10 +49,6 @@ own_file l i f h =
     record { group = g.0; grouped = g.1; listed = g.2; from = found.from; to = found.to }
 
 -- ---- where a symbol stands
-
-not-true : (b : Bool) → not b ≡ true → b ≡ false
-not-true false h = refl
-not-true true h = cc
 
 not_discarded : (s : Slot) → is_discarded s ≡ false → s ≡ slot.Discard → ⊥
 not_discarded s h e = let t : is_discarded s ≡ is_discarded slot.Discard = ap is_discarded e in cc
@@ -83,10 +65,10 @@ not_allocated l n f h = (let t = allocated_part l n h in cc)
 
 is_placed : (l : Layout) (s : InputSection) → has_address l s ≡ true → IsPlaced l s
 is_placed l s h =
-    let parts = both_of _ _ h in
+    let parts = and_parts _ _ h in
     record {
       kept = not_discarded s.slot (not-true _ parts.0);
-      address = elim (either_of _ _ parts.1) [
+      address = elim (or_cases _ _ parts.1) [
         | inl a ↦ inl (λ z. zero_not s.address (not-true _ a) z)
         | inr b ↦ inr (not_allocated l s.part (not-true _ b))
       ];

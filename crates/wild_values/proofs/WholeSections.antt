@@ -1,25 +1,21 @@
 -- The fields of a kept section that memory has as it was decided hold.
-use Rattle.std.proofs.Common.{◌≡◌, true, false, refl}
+use Rattle.std.proofs.Common.{refl}
 use Rattle.std.specs.Prelude.{All}
-use Rattle.std.proofs.lemmas.List.Elements.{All-contains}
-use Rattle.wild_types.specs.declared.input.Slot.{Slot}
 use Rattle.wild_types.specs.declared.input.InputSection.{InputSection}
-use Rattle.wild_types.specs.declared.file.File.{File}
-use Rattle.wild_types.specs.declared.file.Group.{Group}
 use Rattle.wild_types.specs.declared.layout.Layout.{Layout}
-use Rattle.wild_types.specs.Lookups.{is_loaded, is_read}
 use Rattle.wild_types.specs.ResolvedFlags.{HaveTheirFlags}
+use Rattle.wild_types.proofs.LookupLemmas.{read_if}
 use Rattle.wild_layout.specs.Numbers.{AddendFits, NumbersFit}
 use Rattle.wild_layout.specs.SectionPlaces.{SectionLies}
-use Rattle.wild_layout.specs.Geometry.{IsLaidOut, NamesSymbol, EachSection}
+use Rattle.wild_layout.specs.Geometry.{IsLaidOut, NamesSymbol}
 use Rattle.wild_loader.specs.declared.memory.Memory.{Memory}
 use Rattle.wild_loader.specs.declared.world.World.{World}
-use Rattle.wild_meaning.specs.Item.{IsInput}
+use Rattle.wild_meaning.proofs.BitLemmas.{alloc_bit}
+use Rattle.wild_meaning.proofs.OutputLemmas.{still_fixed, moving_movable}
+use Rattle.wild_geometry.proofs.JudgedLemmas.{each_at}
 use Rattle.wild_values.specs.Terms.{SymbolsFit, IsPlaced}
 use Rattle.wild_values.specs.Laws.{IsLoadedSection, SectionsHold}
-use Rattle.wild_values.proofs.Bits.{alloc_bit}
 use Rattle.wild_values.proofs.Fields.{Tables, KindLaws, LinkedLaws, IsSectionLoaded}
-use Rattle.wild_values.proofs.OutputKinds.{still_fixed, moving_movable}
 use Rattle.wild_values.proofs.References.{field_holds, field_links}
 
 -- ---- a layout in a legal world
@@ -43,13 +39,6 @@ placed l w m s h = record {
 }
 
 -- ---- a kept section
-
-read_if : (s : InputSection) (at : Slot) → s.slot ≡ at → is_loaded at ≡ true → s.nobits ≡ false → is_read s ≡ true
-read_if s at e t n = rw (e, t, n) refl
-
-each_at : (P : InputSection → Type 0) (l : Layout) (s : InputSection) → EachSection l P → IsInput l s → P s
-each_at P l s h k =
-    All-contains P k.file.sections s (All-contains (λ (f : File). All P f.sections) k.group.files k.file (All-contains (λ (g : Group). All (λ (f : File). All P f.sections) g.files) l.groups k.group h k.grouped) k.filed) k.listed
 
 section_loaded : (l : Layout) (w : World) (m : Memory) (s : InputSection) → Tables → KindLaws → LinkedLaws → IsLoadedSection l w m s → IsSectionLoaded l w m s
 section_loaded l w m s tables kinds linked h =

@@ -1,5 +1,5 @@
 -- What the relocations of a decided section write that keep their instructions.
-use Rattle.std.proofs.Common.{◌≡◌, ℕ, zero, suc, ◌+◌, ◌<◌, ◌⊎◌, inl, inr, Bool, List, [], ◌∷◌, length, refl, ap, ◌∙◌, arith, subst}
+use Rattle.std.proofs.Common.{◌≡◌, ℕ, ◌+◌, ◌⊎◌, inl, inr, Bool, refl, ap, ◌∙◌, subst}
 use Rattle.std.specs.Prelude.{Option, Some, None, Ok, slice_get}
 use Rattle.wild_records.specs.Abi.Relocation.{r_x86_64_none, r_x86_64_tlsdesc_call}
 use Rattle.wild_types.specs.declared.kind.Machine.{Machine}
@@ -29,11 +29,6 @@ use Rattle.wild_layout.proofs.DecisionLemmas.{IsOwn, IsKept, decide_nothing, dec
 use Rattle.wild_geometry.specs.Loaded.{HasDecision}
 use Rattle.wild_values.proofs.Treated.{treated_by}
 use Rattle.wild_values.specs.Laws.{KeepsInstruction}
-
-pub slice_get_inside : {X : Type 0} (xs : List X) (i : ℕ) → i < length xs → (x : X) × (slice_get xs i ≡ Some x)
-slice_get_inside [] i h = absurd (omega arith)
-slice_get_inside (x ∷ xs) zero h = (x, refl)
-slice_get_inside (x ∷ xs) (suc i) h = slice_get_inside xs i (omega arith)
 
 -- ---- relocations
 

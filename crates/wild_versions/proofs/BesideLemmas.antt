@@ -12,7 +12,7 @@ use Rattle.wild_symbols.specs.DynamicEntries.{NamedFields, listed, undefined, no
 use Rattle.wild_versions.specs.Symbols.{version_of, listed_version, null_versions, entry_versions, file_versions, group_versions}
 use Rattle.wild_versions.specs.Laws.{VersionsAreBesideSymbols}
 
-length-entries_at : (ns : List NamedFields) (at : ℕ) → length (entries_at at ns) ≡ length ns
+pub length-entries_at : (ns : List NamedFields) (at : ℕ) → length (entries_at at ns) ≡ length ns
 unfolding entries_at
 length-entries_at [] at = refl
 length-entries_at (n ∷ ns) at = let e = length-entries_at ns (behind_text at n.name) in omega (arith, e)

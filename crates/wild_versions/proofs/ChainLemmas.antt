@@ -1,9 +1,8 @@
 -- Bytes behind each other in a room.
-use Rattle.std.proofs.Common.{◌≡◌, ℕ, zero, suc, ◌+◌, ◌<◌, ◌≤◌, ◌==◌, Bool, List, [], ◌∷◌, ◌++◌, length, take, drop, get_or, refl, sym, ap, ◌∙◌, arith}
+use Rattle.std.proofs.Common.{◌≡◌, ℕ, zero, suc, ◌+◌, ◌<◌, ◌≤◌, ◌==◌, Bool, List, [], ◌∷◌, ◌++◌, length, drop, get_or, refl, sym, ap, ◌∙◌, arith}
 use Rattle.std.specs.Prelude.{Option}
 use Rattle.std.proofs.Math.Dec.{eqb-zero-suc, eqb-suc-suc}
 use Rattle.std.proofs.lemmas.List.{append_assoc, append-nil, drop_more, drop_all}
-use Rattle.wild_words.specs.Words.{place}
 use Rattle.wild_words.proofs.WordLemmas.{front-place}
 use Rattle.wild_versions.specs.Room.{Filled, with_bytes}
 use Rattle.wild_types.specs.declared.file.NeededVersion.{NeededVersion}
@@ -14,8 +13,7 @@ use Rattle.wild_needs.specs.Versions.{definition_size, definitions_size}
 use Rattle.wild_versions.specs.Needs.{needed_bytes}
 
 -- what is put behind the first bytes of a share
-pub front_of : (used n : ℕ) (bs share : List ℕ) → n ≡ used + length bs → used ≤ length share → take n (place used bs share) ≡ take used share ++ bs
-front_of used n bs share e h = front-place used n share bs e h
+pub ruleset front_of = (front-place)
 
 -- bytes behind bytes
 pub behind : (xs ys : List ℕ) (t : Filled) → with_bytes ys (with_bytes xs t) ≡ with_bytes (xs ++ ys) t

@@ -1,11 +1,9 @@
 -- Lengths, and what stands where.
-use Rattle.std.proofs.Common.{◌≡◌, ℕ, zero, suc, ◌+◌, ◌*◌, Bool, List, [], ◌∷◌, ◌++◌, length, refl, ap, ◌∙◌, arith, subst}
+use Rattle.std.proofs.Common.{◌≡◌, ℕ, zero, suc, ◌+◌, ◌*◌, Bool, List, [], ◌∷◌, ◌++◌, length, refl, ap, ◌∙◌, arith}
 use Rattle.std.specs.Prelude.{Option, Some, None}
 use Rattle.std.proofs.lemmas.List.{length-append}
-use Rattle.wild_words.specs.Words.{Stands}
 use Rattle.wild_words.specs.Record.{spell}
-use Rattle.wild_words.proofs.OverlayLemmas.{Stands-inner}
-use Rattle.wild_words.proofs.RecordLemmas.{length-spell, Stands-left, Stands-right, Stands-whole}
+use Rattle.wild_words.proofs.RecordLemmas.{length-spell, Stands-front, Stands-behind}
 use Rattle.wild_records.specs.Verdefs.{verdef_fields, verdaux_fields}
 use Rattle.wild_records.specs.Verneeds.{verneed_fields, vernaux_fields}
 use Rattle.wild_records.specs.Versyms.{versym_size, versym_fields, VersymIsRead}
@@ -46,18 +44,6 @@ pub length-vernaux : (r : Vernaux) → length (spell (vernaux_fields r)) ≡ 16
 unfolding vernaux_fields
 length-vernaux r = length-spell (vernaux_fields r)
 
--- ---- what stands where
-
-pub stands_front : (whole xs ys : List ℕ) (at : ℕ) → Stands whole at (xs ++ ys) → Stands whole at xs
-stands_front whole xs ys at s =
-    let z : at + 0 ≡ at = omega arith in
-    subst (λ (n : ℕ). Stands whole n xs) z (Stands-inner whole (xs ++ ys) xs at 0 s (Stands-left xs ys))
-
-pub stands_back : (whole xs ys : List ℕ) (at n : ℕ) → length xs ≡ n → Stands whole at (xs ++ ys) → Stands whole (at + n) ys
-stands_back whole xs ys at n e s =
-    let z : at + (length xs + 0) ≡ at + n = omega (arith, e) in
-    subst (λ (n : ℕ). Stands whole n ys) z (Stands-inner whole (xs ++ ys) ys at (length xs + 0) s (Stands-right xs ys ys 0 (Stands-whole ys)))
-
 -- ---- versions of symbols
 
 pub length-version_bytes : LengthsOfVersions
@@ -69,10 +55,10 @@ pub version_read : VersymIsRead → VersionsAreRead
 version_read read whole [] at k d h s l = absurd (omega (arith, l))
 version_read read whole (v ∷ vs) at zero d h s l =
     let z : at + versym_size * 0 ≡ at = omega arith in
-    rw z (ap (λ (r : Versym). r.version) (read whole at (record { version = v }) (record { version = h 0 d (omega arith) }) (stands_front whole (spelled v) (version_bytes vs) at s)))
+    rw z (ap (λ (r : Versym). r.version) (read whole at (record { version = v }) (record { version = h 0 d (omega arith) }) (Stands-front whole (spelled v) (version_bytes vs) at s)))
 version_read read whole (v ∷ vs) at (suc k) d h s l =
     let z : at + versym_size * suc k ≡ at + 2 + versym_size * k = omega arith in
-    rw z (version_read read whole vs (at + 2) k d (λ j e m. h (suc j) e (omega (arith, m))) (stands_back whole (spelled v) (version_bytes vs) at 2 (length-versym v) s) (omega (arith, l)))
+    rw z (version_read read whole vs (at + 2) k d (λ j e m. h (suc j) e (omega (arith, m))) (Stands-behind whole (spelled v) (version_bytes vs) at 2 (length-versym v) s) (omega (arith, l)))
 
 -- ---- definitions
 

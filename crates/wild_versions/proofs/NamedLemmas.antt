@@ -5,6 +5,7 @@ use Rattle.std.proofs.lemmas.Bool.{ne_eqb}
 use Rattle.std.proofs.lemmas.List.{length-append}
 use Rattle.std.proofs.lemmas.Grind.{flat_map-append}
 use Rattle.wild_words.specs.Words.{Stands}
+use Rattle.wild_words.proofs.RecordLemmas.{Stands-front, Stands-behind}
 use Rattle.wild_records.specs.Abi.Dynamic.{dt_soname}
 use Rattle.wild_types.specs.declared.file.File.{File}
 use Rattle.wild_types.specs.declared.file.FileRole.{FileRole}
@@ -18,13 +19,13 @@ use Rattle.wild_needs.specs.DynamicStrings.{text_room, behind_text, named, auxil
 use Rattle.wild_types.specs.FileRoles.{is_epilogue, is_library}
 use Rattle.wild_types.specs.Kinds.{needs_dynsym}
 use Rattle.wild_types.specs.Lists.{total}
+use Rattle.wild_types.proofs.FileLemmas.{last_role}
 use Rattle.wild_needs.specs.Versions.{needed_names, definition_names, need_names, own_names, needs_of, version_names}
 use Rattle.wild_symbols.specs.Strings.{string, string_bytes}
 use Rattle.wild_versions.specs.Chain.{name_at}
 use Rattle.wild_versions.specs.Definitions.{known_as}
 use Rattle.wild_versions.specs.Names.{told, offsets_from, behind_entries, behind_path, with_own, definition_offsets, need_at}
 use Rattle.wild_versions.specs.Laws.{HasStrings, DefinitionsAreNamed, NeedsAreNamed}
-use Rattle.wild_versions.proofs.LawLemmas.{stands_front, stands_back}
 
 -- ---- strings one behind the other
 
@@ -39,7 +40,7 @@ length-string_bytes (n ∷ ns) =
 -- strings behind others
 later_strings : (strings : List ℕ) (xs ys : List (List ℕ)) (at : ℕ) → Stands strings at (string_bytes (xs ++ ys)) → Stands strings (at + total text_room xs) (string_bytes ys)
 later_strings strings xs ys at s =
-    stands_back strings (string_bytes xs) (string_bytes ys) at (total text_room xs) (length-string_bytes xs) (subst (λ (bs : List ℕ). Stands strings at bs) (flat_map-append string xs ys) s)
+    Stands-behind strings (string_bytes xs) (string_bytes ys) at (total text_room xs) (length-string_bytes xs) (subst (λ (bs : List ℕ). Stands strings at bs) (flat_map-append string xs ys) s)
 
 -- where a string stands, its offset has the field's range
 told_is : (strings : List ℕ) (n : List ℕ) (at : ℕ) → length strings < 2 ^ 32 → Stands strings at (string n) → told at ≡ at
@@ -56,10 +57,10 @@ told_stands strings n at small s = subst (λ (k : ℕ). Stands strings k (string
 named_at : (strings : List ℕ) (ns : List (List ℕ)) (at k : ℕ) (d : List ℕ) → length strings < 2 ^ 32 → Stands strings at (string_bytes ns) → k < length ns → Stands strings (name_at (offsets_from at ns) k) (string (get_or ns k d))
 unfolding offsets_from
 named_at strings [] at k d small s l = absurd (omega (arith, l))
-named_at strings (n ∷ ns) at zero d small s l = told_stands strings n at small (stands_front strings (string n) (string_bytes ns) at s)
+named_at strings (n ∷ ns) at zero d small s l = told_stands strings n at small (Stands-front strings (string n) (string_bytes ns) at s)
 named_at strings (n ∷ ns) at (suc k) d small s l =
     let b = length-append n (0 ∷ []) in
-    let later = stands_back strings (string n) (string_bytes ns) at (length n + 1) b s in
+    let later = Stands-behind strings (string n) (string_bytes ns) at (length n + 1) b s in
     let f = later.fits in
     let e : at + (length n + 1) ≡ behind_text at n = omega (arith, f, small) in
     named_at strings ns (behind_text at n) k d small (subst (λ (i : ℕ). Stands strings i (string_bytes ns)) e later) (omega (arith, l))
@@ -85,7 +86,7 @@ lead_stands l f strings at needs h =
     let P : Bool → Type 0 = λ b. Stands strings at (string_bytes (if b then lead_strings l f ++ (entry_names l f ++ version_names l f) else [])) in
     let s = subst P needs h.stand in
     let rest = entry_names l f ++ version_names l f in
-    stands_front strings (string_bytes (lead_strings l f)) (string_bytes rest) at (subst (λ (bs : List ℕ). Stands strings at bs) (flat_map-append string (lead_strings l f) rest) s)
+    Stands-front strings (string_bytes (lead_strings l f)) (string_bytes rest) at (subst (λ (bs : List ℕ). Stands strings at bs) (flat_map-append string (lead_strings l f) rest) s)
 
 -- ---- versions that are needed
 
@@ -118,8 +119,8 @@ needs_named l f n strings at needs has h =
     let small = h.small in
     let start = behind_entries l at f in
     let s = subst (λ (ns : List (List ℕ)). Stands strings start (string_bytes ns)) (library_names l f n has) (versions_stand l f strings at needs h) in
-    let own = stands_front strings (string f.lib_name) (string_bytes (needed_names n.versions)) start s in
-    let later = stands_back strings (string f.lib_name) (string_bytes (needed_names n.versions)) start (length f.lib_name + 1) (length-append f.lib_name (0 ∷ [])) s in
+    let own = Stands-front strings (string f.lib_name) (string_bytes (needed_names n.versions)) start s in
+    let later = Stands-behind strings (string f.lib_name) (string_bytes (needed_names n.versions)) start (length f.lib_name + 1) (length-append f.lib_name (0 ∷ [])) s in
     let fits = later.fits in
     let e : start + (length f.lib_name + 1) ≡ behind_text start f.lib_name = omega (arith, fits, small) in
     let rest = subst (λ (i : ℕ). Stands strings i (string_bytes (needed_names n.versions))) e later in
@@ -153,13 +154,13 @@ defined_at strings ds at k d small s l =
 
 -- the output's own name stands behind the search path
 own_stands : (strings : List ℕ) (number at : ℕ) (path : Option (List ℕ)) (own : List ℕ) (rest : List (List ℕ)) → length strings < 2 ^ 32 → Stands strings at (string_bytes (texts_of (named number path) ++ own ∷ rest)) → Stands strings (behind_path at path) (string own)
-own_stands strings number at None own rest small s = stands_front strings (string own) (string_bytes rest) at s
+own_stands strings number at None own rest small s = Stands-front strings (string own) (string_bytes rest) at s
 own_stands strings number at (Some text) own rest small s =
     let b = length-append text (0 ∷ []) in
-    let later = stands_back strings (string text) (string_bytes (own ∷ rest)) at (length text + 1) b s in
+    let later = Stands-behind strings (string text) (string_bytes (own ∷ rest)) at (length text + 1) b s in
     let f = later.fits in
     let e : at + (length text + 1) ≡ behind_text at text = omega (arith, f, small) in
-    stands_front strings (string own) (string_bytes rest) (behind_text at text) (subst (λ (i : ℕ). Stands strings i (string_bytes (own ∷ rest))) e later)
+    Stands-front strings (string own) (string_bytes rest) (behind_text at text) (subst (λ (i : ℕ). Stands strings i (string_bytes (own ∷ rest))) e later)
 
 -- the strings of the last file that no symbol has begin with the search path and the output's own name
 option_texts : (o : Options) (own : List ℕ) → o.soname ≡ Some own → texts_of (option_strings o) ≡ texts_of (named (path_number o) o.rpath) ++ own ∷ texts_of (auxiliary_strings o.auxiliary)
@@ -168,10 +169,6 @@ option_texts o own h = by (o.rpath)
     by : (path : Option (List ℕ)) → texts_of (named (path_number o) path ++ (named dt_soname o.soname ++ auxiliary_strings o.auxiliary)) ≡ texts_of (named (path_number o) path) ++ own ∷ texts_of (auxiliary_strings o.auxiliary)
     by None = rw h refl
     by (Some p) = rw h refl
-
-last_role : (r : FileRole) → is_epilogue r ≡ true → r ≡ file_role.Epilogue
-last_role file_role.Epilogue h = refl
-last_role other h = absurd (cc h)
 
 last_leads : (l : Layout) (f : File) → is_epilogue f.role ≡ true → lead_strings l f ≡ dynamic_strings l
 last_leads l f h = rw (last_role f.role h) refl

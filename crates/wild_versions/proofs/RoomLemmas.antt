@@ -2,6 +2,7 @@
 use Rattle.std.proofs.Common.{◌≡◌, ℕ, ◌+◌, ◌*◌, Bool, true, false, ◌&&◌, if◌then◌else◌, List, [], ◌∷◌, length, map, refl, sym, ap, ◌∙◌, arith}
 use Rattle.std.specs.Prelude.{Option, Some, None}
 use Rattle.std.proofs.lemmas.List.{length-append, length-map}
+use Rattle.wild_words.proofs.Basics.{length-if, length-if_both}
 use Rattle.wild_types.specs.declared.file.File.{File}
 use Rattle.wild_types.specs.declared.file.VersionNeeds.{VersionNeeds}
 use Rattle.wild_types.specs.declared.layout.Layout.{Layout}
@@ -19,15 +20,6 @@ use Rattle.wild_versions.specs.Laws.{LengthsOfSymbolVersions, LengthsOfFileDefin
 use Rattle.wild_versions.proofs.LawLemmas.{length-version_bytes, length-definition_table, length-need_bytes}
 use Rattle.wild_versions.proofs.BesideLemmas.{either_beside}
 
-length-if : {X : Type 0} (b : Bool) (xs : List X) (n : ℕ) → length xs ≡ n → length (if b then xs else []) ≡ (if b then n else 0)
-length-if true xs n e = e
-length-if false xs n e = refl
-
-length-both : (b c : Bool) (vs : List ℕ) (n : ℕ) → length vs ≡ n → length (if b && c then vs else []) ≡ (if b then (if c then n else 0) else 0)
-length-both true true vs n e = e
-length-both true false vs n e = refl
-length-both false c vs n e = refl
-
 entries_counted : (l : Layout) (f : File) → length (entry_versions l f) ≡ length (entry_names l f)
 entries_counted l f =
     either_beside (is_epilogue f.role) (map listed_version l.dynsyms) (map (version_of f.role) (undefined_symbols l.symbols f)) (listed_names l.dynsyms) (symbol_names (undefined_symbols l.symbols f))
@@ -43,7 +35,7 @@ versions_counted l f =
 
 pub length-symbol_versions : LengthsOfSymbolVersions
 length-symbol_versions l f =
-    length-version_bytes (symbol_versions l f) ∙ ap (λ (n : ℕ). 2 * n) (length-both l.options.versions (needs_dynsym l.kind) (file_versions l f) _ (versions_counted l f))
+    length-version_bytes (symbol_versions l f) ∙ ap (λ (n : ℕ). 2 * n) (length-if_both l.options.versions (needs_dynsym l.kind) (file_versions l f) _ (versions_counted l f))
 
 pub length-file_definitions : LengthsOfFileDefinitions
 unfolding file_definitions

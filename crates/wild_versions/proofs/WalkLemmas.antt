@@ -6,6 +6,7 @@ use Rattle.std.proofs.lemmas.Bool.{ne_eqb}
 use Rattle.std.proofs.lemmas.Nat.{and_le_r}
 use Rattle.wild_words.specs.Words.{Stands}
 use Rattle.wild_words.specs.Record.{spell}
+use Rattle.wild_words.proofs.RecordLemmas.{Stands-front, Stands-behind}
 use Rattle.wild_records.specs.Abi.Version.{ver_flg_base}
 use Rattle.wild_records.specs.Hashes.{top_bits, sysv_folded, sysv_next, sysv_hash}
 use Rattle.wild_records.specs.Verdefs.{verdef_fields, verdef_at, VerdefFits, VerdefIsRead, verdaux_fields, VerdauxIsRead}
@@ -23,7 +24,7 @@ use Rattle.wild_versions.specs.Needs.{verneed_of, vernaux_of, needed_bytes, need
 use Rattle.wild_versions.specs.Reading.{Defined, Needed, Library, names_from, defined, defined_at, definitions_from, needed, needed_from, library_at, needs_from}
 use Rattle.wild_versions.specs.Laws.{DefinitionsAreRead, NeedsAreRead, name_offsets, defined_as, all_defined, Need, NeedFits, needs_bytes, needed_as, all_needed, library_of}
 use Rattle.wild_versions.proofs.ChainLemmas.{chain-cons}
-use Rattle.wild_versions.proofs.LawLemmas.{length-verdef, length-verdaux, length-verneed, length-vernaux, length-definition, length-need_bytes, stands_front, stands_back}
+use Rattle.wild_versions.proofs.LawLemmas.{length-verdef, length-verdaux, length-verneed, length-vernaux, length-definition, length-need_bytes}
 
 -- ---- numbers have their fields
 
@@ -80,27 +81,27 @@ names_found : VerdauxIsRead → (whole names : List ℕ) (i at : ℕ) (p : Optio
 unfolding names_from
 names_found read whole names i at None h s =
     let r : Verdaux = record { name = name_at names i; next = 0 } in
-    let e = read whole at r (record { name = name_small names i h; next = omega arith }) (stands_front whole (spell (verdaux_fields r)) [] at s) in
+    let e = read whole at r (record { name = name_small names i h; next = omega arith }) (Stands-front whole (spell (verdaux_fields r)) [] at s) in
     rw e refl
 names_found read whole names i at (Some p) h s =
     let r : Verdaux = record { name = name_at names i; next = 8 } in
     let q : Verdaux = record { name = name_at names p; next = 0 } in
-    let e = read whole at r (record { name = name_small names i h; next = omega arith }) (stands_front whole (spell (verdaux_fields r)) (spell (verdaux_fields q) ++ []) at s) in
-    let rest = stands_back whole (spell (verdaux_fields r)) (spell (verdaux_fields q) ++ []) at 8 (length-verdaux r) s in
-    let f = read whole (at + 8) q (record { name = name_small names p h; next = omega arith }) (stands_front whole (spell (verdaux_fields q)) [] (at + 8) rest) in
+    let e = read whole at r (record { name = name_small names i h; next = omega arith }) (Stands-front whole (spell (verdaux_fields r)) (spell (verdaux_fields q) ++ []) at s) in
+    let rest = Stands-behind whole (spell (verdaux_fields r)) (spell (verdaux_fields q) ++ []) at 8 (length-verdaux r) s in
+    let f = read whole (at + 8) q (record { name = name_small names p h; next = omega arith }) (Stands-front whole (spell (verdaux_fields q)) [] (at + 8) rest) in
     rw e (rw f refl)
 
 -- the record of a version
 record_found : VerdefIsRead → (whole names : List ℕ) (soname : Option (List ℕ)) (i at : ℕ) (last : Bool) (d : VersionDefinition) → i + 1 < 2 ^ 16 → Stands whole at (definition_bytes names soname i last d) → verdef_at whole at ≡ verdef_of soname i last d
 record_found read whole names soname i at last d l s =
-    read whole at (verdef_of soname i last d) (verdef_fits soname i last d l) (stands_front whole (spell (verdef_fields (verdef_of soname i last d))) (verdaux_bytes (verdauxes_of names i d)) at s)
+    read whole at (verdef_of soname i last d) (verdef_fits soname i last d l) (Stands-front whole (spell (verdef_fields (verdef_of soname i last d))) (verdaux_bytes (verdauxes_of names i d)) at s)
 
 -- a version with its names
 definition_found : VerdefIsRead → VerdauxIsRead → (whole names : List ℕ) (soname : Option (List ℕ)) (i at : ℕ) (last : Bool) (d : VersionDefinition) → All (λ x. x < 2 ^ 32) names → i + 1 < 2 ^ 16 → Stands whole at (definition_bytes names soname i last d) → defined_at whole at ≡ defined_as names soname i d
 definition_found read read_names whole names soname i at last d h l s =
     let v = verdef_of soname i last d in
     let e = record_found read whole names soname i at last d l s in
-    let back = stands_back whole (spell (verdef_fields v)) (verdaux_bytes (verdauxes_of names i d)) at 20 (length-verdef v) s in
+    let back = Stands-behind whole (spell (verdef_fields v)) (verdaux_bytes (verdauxes_of names i d)) at 20 (length-verdef v) s in
     ap (λ (r : Verdef). defined r (names_from whole r.count (at + r.aux))) e
     ∙ ap (λ (ns : List ℕ). defined v ns) (names_found read_names whole names i (at + 20) d.parent h back)
 
@@ -118,14 +119,14 @@ walked : VerdefIsRead → VerdauxIsRead → (whole names : List ℕ) (soname : O
 walked read read_names whole names soname [] i at n h few some l s = absurd (omega (arith, some))
 walked read read_names whole names soname (d ∷ ds) i at zero h few some l s = absurd (omega (arith, l))
 walked read read_names whole names soname (d ∷ []) i at (suc n) h few some l s =
-    let t = stands_front whole (definition_bytes names soname i true d) (chain (definition_bytes names soname) (i + 1) []) at (subst (λ (bs : List ℕ). Stands whole at bs) (chain-cons (definition_bytes names soname) i d []) s) in
+    let t = Stands-front whole (definition_bytes names soname i true d) (chain (definition_bytes names soname) (i + 1) []) at (subst (λ (bs : List ℕ). Stands whole at bs) (chain-cons (definition_bytes names soname) i d []) s) in
     definitions-suc whole n at (defined_as names soname i d) 0
     (definition_found read read_names whole names soname i at true d h (omega (arith, few)) t)
     (ap (λ (r : Verdef). r.next) (record_found read whole names soname i at true d (omega (arith, few)) t))
 walked read read_names whole names soname (d ∷ e ∷ es) i at (suc n) h few some l s =
     let c = subst (λ (bs : List ℕ). Stands whole at bs) (chain-cons (definition_bytes names soname) i d (e ∷ es)) s in
-    let t = stands_front whole (definition_bytes names soname i false d) (chain (definition_bytes names soname) (i + 1) (e ∷ es)) at c in
-    let back = stands_back whole (definition_bytes names soname i false d) (chain (definition_bytes names soname) (i + 1) (e ∷ es)) at (definition_size d) (length-definition names soname i false d) c in
+    let t = Stands-front whole (definition_bytes names soname i false d) (chain (definition_bytes names soname) (i + 1) (e ∷ es)) at c in
+    let back = Stands-behind whole (definition_bytes names soname i false d) (chain (definition_bytes names soname) (i + 1) (e ∷ es)) at (definition_size d) (length-definition names soname i false d) c in
     definitions-suc whole n at (defined_as names soname i d) (definition_size d)
     (definition_found read read_names whole names soname i at false d h (omega (arith, few)) t)
     (ap (λ (r : Verdef). r.next) (record_found read whole names soname i at false d (omega (arith, few)) t))
@@ -158,12 +159,12 @@ versions_found : VernauxIsRead → (whole names : List ℕ) (vs : List NeededVer
     → Stands whole at (chain (needed_bytes names) i vs) → needed_from whole (length vs) at ≡ all_needed names i vs
 versions_found read whole names [] i at h small s = needed-zero whole at
 versions_found read whole names (v ∷ []) i at h small s =
-    let t = stands_front whole (needed_bytes names i true v) (chain (needed_bytes names) (i + 1) []) at (subst (λ (bs : List ℕ). Stands whole at bs) (chain-cons (needed_bytes names) i v []) s) in
+    let t = Stands-front whole (needed_bytes names i true v) (chain (needed_bytes names) (i + 1) []) at (subst (λ (bs : List ℕ). Stands whole at bs) (chain-cons (needed_bytes names) i v []) s) in
     needed-suc whole 0 at (vernaux_of names i true v) (read whole at (vernaux_of names i true v) (vernaux_fits names i true v h (small 0 v (omega arith))) t)
 versions_found read whole names (v ∷ w ∷ ws) i at h small s =
     let c = subst (λ (bs : List ℕ). Stands whole at bs) (chain-cons (needed_bytes names) i v (w ∷ ws)) s in
-    let t = stands_front whole (needed_bytes names i false v) (chain (needed_bytes names) (i + 1) (w ∷ ws)) at c in
-    let back = stands_back whole (needed_bytes names i false v) (chain (needed_bytes names) (i + 1) (w ∷ ws)) at 16 (length-vernaux (vernaux_of names i false v)) c in
+    let t = Stands-front whole (needed_bytes names i false v) (chain (needed_bytes names) (i + 1) (w ∷ ws)) at c in
+    let back = Stands-behind whole (needed_bytes names i false v) (chain (needed_bytes names) (i + 1) (w ∷ ws)) at 16 (length-vernaux (vernaux_of names i false v)) c in
     needed-suc whole (suc (length ws)) at (vernaux_of names i false v) (read whole at (vernaux_of names i false v) (vernaux_fits names i false v h (small 0 v (omega arith))) t)
     ∙ ap (λ (xs : List Needed). needed_as names i v ∷ xs) (versions_found read whole names (w ∷ ws) (i + 1) (at + 16) h (λ k d l. small (suc k) d (omega (arith, l))) back)
 
@@ -180,12 +181,12 @@ verneed_fits n f =
 
 verneed_found : VerneedIsRead → (whole : List ℕ) (n : Need) (at : ℕ) → NeedFits n → Stands whole at (need_bytes n.file n.names n.needs) → verneed_at whole at ≡ verneed_of n.file n.needs
 verneed_found read whole n at f s =
-    read whole at (verneed_of n.file n.needs) (verneed_fits n f) (stands_front whole (spell (verneed_fields (verneed_of n.file n.needs))) (chain (needed_bytes n.names) 0 n.needs.versions) at s)
+    read whole at (verneed_of n.file n.needs) (verneed_fits n f) (Stands-front whole (spell (verneed_fields (verneed_of n.file n.needs))) (chain (needed_bytes n.names) 0 n.needs.versions) at s)
 
 library_found : VerneedIsRead → VernauxIsRead → (whole : List ℕ) (n : Need) (at : ℕ) → NeedFits n → Stands whole at (need_bytes n.file n.names n.needs) → library_at whole at ≡ library_of n
 library_found read read_versions whole n at f s =
     let v = verneed_of n.file n.needs in
-    let back = stands_back whole (spell (verneed_fields v)) (chain (needed_bytes n.names) 0 n.needs.versions) at 16 (length-verneed v) s in
+    let back = Stands-behind whole (spell (verneed_fields v)) (chain (needed_bytes n.names) 0 n.needs.versions) at 16 (length-verneed v) s in
     ap (λ (r : Verneed). record { file = r.file; versions = needed_from whole r.count (at + r.aux) }) (verneed_found read whole n at f s)
     ∙ ap (λ (vs : List Needed). record { file = n.file; versions = vs }) (versions_found read_versions whole n.names n.needs.versions 0 (at + 16) f.names f.indexes back)
 
@@ -200,13 +201,13 @@ needs_read read read_versions whole [] at n h ends some l s = absurd (omega (ari
 needs_read read read_versions whole (x ∷ xs) at zero h ends some l s = absurd (omega (arith, l))
 needs_read read read_versions whole (x ∷ []) at (suc n) h ends some l s =
     let f = h 0 x (omega arith) in
-    let t = stands_front whole (need_bytes x.file x.names x.needs) [] at s in
+    let t = Stands-front whole (need_bytes x.file x.names x.needs) [] at s in
     needs-suc whole n at (library_of x) 0 (library_found read read_versions whole x at f t)
     (ap (λ (r : Verneed). r.next) (verneed_found read whole x at f t) ∙ ap (λ (b : Bool). next_of b (need_size x.needs)) ends)
 needs_read read read_versions whole (x ∷ y ∷ ys) at (suc n) h ends some l s =
     let f = h 0 x (omega arith) in
-    let t = stands_front whole (need_bytes x.file x.names x.needs) (needs_bytes (y ∷ ys)) at s in
-    let back = stands_back whole (need_bytes x.file x.names x.needs) (needs_bytes (y ∷ ys)) at (need_size x.needs) (length-need_bytes x.file x.names x.needs) s in
+    let t = Stands-front whole (need_bytes x.file x.names x.needs) (needs_bytes (y ∷ ys)) at s in
+    let back = Stands-behind whole (need_bytes x.file x.names x.needs) (needs_bytes (y ∷ ys)) at (need_size x.needs) (length-need_bytes x.file x.names x.needs) s in
     needs-suc whole n at (library_of x) (need_size x.needs) (library_found read read_versions whole x at f t)
     (ap (λ (r : Verneed). r.next) (verneed_found read whole x at f t) ∙ ap (λ (b : Bool). next_of b (need_size x.needs)) ends.0)
     ∙ ap (λ (zs : List Library). library_of x ∷ zs) (go_on (need_size x.needs == 0) [] (needs_from whole n (at + need_size x.needs)) (ne_eqb (need_size x.needs) 0 (λ e. omega (arith, e)))

@@ -4,8 +4,7 @@ ghost use Rattle.wild_versions.specs.Table.{room_for, left_of, empty_table};
 
 use crate::room::FilledRoom;
 use std::alloc::{AllocError, Global};
-use wild_symbols::{excessive, insufficient};
-use wild_types::{Error, Layout, Role, part_of, share_of};
+use wild_types::{Error, Layout, Role, excessive, insufficient, part_of, share_of};
 
 /// Bytes behind each other, from the front of a group's share of a part on.
 #[derive(Drop)]
@@ -45,7 +44,7 @@ impl VersionTable {
         let given = self.filled.room();
         let needed = self.filled.used() + size;
         if given < needed {
-            return Err(insufficient(self.part, self.group, given, needed));
+            return Err(insufficient(self.part, self.group, given as u64, needed as u64));
         }
         Ok(())
     }
@@ -61,7 +60,7 @@ impl VersionTable {
         let given = self.filled.room();
         let used = self.filled.used();
         if used < given {
-            return Err(excessive(self.part, self.group, given, used));
+            return Err(excessive(self.part, self.group, given as u64, used as u64));
         }
         Ok(())
     }

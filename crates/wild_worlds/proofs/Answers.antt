@@ -4,6 +4,7 @@ use Rattle.std.specs.Prelude.{Option, Some, None, Ok, All, map, option_map, slic
 use Rattle.std.proofs.lemmas.List.{length-map}
 use Rattle.std.proofs.lemmas.List.Elements.{All-nil, All-cons}
 use Rattle.std.proofs.lemmas.Option.{slice_get-map, slice_get-get_or, slice_get_within}
+use Rattle.wild_words.proofs.ListLemmas.{holds_at}
 use Rattle.wild_types.specs.declared.symbol.Resolution.{Resolution}
 use Rattle.wild_types.specs.declared.symbol.Symbol.{Symbol}
 use Rattle.wild_types.specs.declared.layout.Layout.{Layout}
@@ -11,7 +12,6 @@ use Rattle.wild_types.specs.Flags.{has_flag, absolute, ifunc}
 use Rattle.wild_needs.specs.DynamicSymbols.{dynamic_symbols}
 use Rattle.wild_layout.specs.Numbers.{SymbolNumbers}
 use Rattle.wild_layout.specs.Geometry.{IsLaidOut}
-use Rattle.wild_layout.proofs.SiteLemmas.{All-at}
 use Rattle.wild_loader.specs.declared.world.Answer.{Answer}
 use Rattle.wild_loader.specs.declared.world.World.{World}
 use Rattle.wild_loader.specs.Changes.{answer_at}
@@ -137,7 +137,7 @@ own_given l w answers o i c s r has defined listed decided = record {
     resolved = record { definition = c; defined = defined; symbol = s; listed = listed; flagged = refl };
     still = has_flag s.flags absolute;
     absolute = record { definition = c; defined = defined; symbol = s; listed = listed; flagged = refl };
-    is = value_by w answers (has_flag s.flags ifunc) (has_flag s.flags absolute) r.raw_value (All-at (λ (t : Symbol). (q : Resolution) → t.resolution ≡ Some q → answer_at w ((w.base + q.raw_value) % 2 ^ 64) ≡ Ok (answers ((w.base + q.raw_value) % 2 ^ 64))) l.symbols c s has.answered listed r decided);
+    is = value_by w answers (has_flag s.flags ifunc) (has_flag s.flags absolute) r.raw_value (holds_at (λ (t : Symbol). (q : Resolution) → t.resolution ≡ Some q → answer_at w ((w.base + q.raw_value) % 2 ^ 64) ≡ Ok (answers ((w.base + q.raw_value) % 2 ^ 64))) l.symbols c s listed has.answered r decided);
   };
   owner = sym has.own;
   offset = λ raw h. ap (λ (n : ℕ). (n + (2 ^ 64 - l.tls.start)) % 2 ^ 64) (sym (raw_is l i c raw s r defined listed decided h));
@@ -234,7 +234,7 @@ answers_symbols l w answers o laid told small numbers has = record {
   each = subst (λ (xs : List Answer). All (IsAnswer w) xs) (sym has.symbols)
       (All-cons (IsAnswer w) null_answer (map (λ (c : ℕ). answer_to l w.base answers o (slice_get l.symbols c)) (dynamic_symbols l)) (null_fits w has.near)
       (each_fits (IsAnswer w) (λ (c : ℕ). answer_to l w.base answers o (slice_get l.symbols c)) (dynamic_symbols l)
-      (λ c. answer_fits l w answers o (slice_get l.symbols c) small numbers has (λ s e. record { numbers = All-at SymbolNumbers l.symbols c s told.numbers.symbols e; size = All-at (λ (t : Symbol). t.size < 2 ^ 64) l.symbols c s told.sizes e }))));
+      (λ c. answer_fits l w answers o (slice_get l.symbols c) small numbers has (λ s e. record { numbers = holds_at SymbolNumbers l.symbols c s e told.numbers.symbols; size = holds_at (λ (t : Symbol). t.size < 2 ^ 64) l.symbols c s e told.sizes }))));
   there = λ k d lt r index decided listed. index_within l w answers o k index (get_or l.symbols k d) r laid has (slice_get-get_or l.symbols k d lt) decided listed;
   own = λ i x is h. owned l w answers o i x laid has is h;
   copies = λ i raw x h. copied l w answers o i raw x laid told.copies has h;

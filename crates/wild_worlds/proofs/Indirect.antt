@@ -1,10 +1,10 @@
 -- The values of symbols whose resolvers answer, and of those that the world answers.
 use Rattle.std.proofs.Common.{◌≡◌, ℕ, ◌+◌, ◌%◌, ◌^◌, inl, inr, true, refl, sym, ap, ◌∙◌, subst}
 use Rattle.std.specs.Prelude.{Ok}
+use Rattle.wild_words.proofs.ListLemmas.{holds_at}
 use Rattle.wild_types.specs.declared.symbol.Symbol.{Symbol}
 use Rattle.wild_types.specs.declared.layout.Layout.{Layout}
 use Rattle.wild_types.specs.Flags.{has_flag, absolute, ifunc}
-use Rattle.wild_layout.proofs.SiteLemmas.{All-at}
 use Rattle.wild_loader.specs.declared.world.World.{World}
 use Rattle.wild_loader.specs.Changes.{answer_at}
 use Rattle.wild_meaning.specs.Value.{IsDefinedBy, IsResolved, HasRaw, HasFlag, HasOwnValue}
@@ -21,7 +21,7 @@ answered_once : (l : Layout) (w : World) (i c raw : ℕ) → IsLegal l w → IsD
 answered_once l w i c raw legal d res f =
     let same = one_symbol l i f.definition c f.symbol res.symbol f.defined d f.listed res.listed in
     let flagged : has_flag res.symbol.flags ifunc ≡ true = sym (ap (λ (s : Symbol). has_flag s.flags ifunc) same) ∙ f.flagged in
-    subst (λ (n : ℕ). IsAnsweredOnce w ((w.base + n) % 2 ^ 64)) (sym res.value) (All-at (HasResolver w) l.symbols c res.symbol legal.resolvers res.listed flagged res.resolution res.decided)
+    subst (λ (n : ℕ). IsAnsweredOnce w ((w.base + n) % 2 ^ 64)) (sym res.value) (holds_at (HasResolver w) l.symbols c res.symbol res.listed legal.resolvers flagged res.resolution res.decided)
 
 -- an own one's value, whose resolver answers it
 own_answer : (l : Layout) (w : World) (i a : ℕ) → HasFlag l i ifunc true → HasOwnValue l w i a → (raw : ℕ) × HasRaw l i raw × (answer_at w ((w.base + raw) % 2 ^ 64) ≡ Ok a)

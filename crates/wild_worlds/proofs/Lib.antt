@@ -1,5 +1,6 @@
 mod Absolute
 mod Premises
+mod OneSlot
 mod Worked
 mod Resolvers
 mod Indirect

@@ -3,6 +3,7 @@ use Rattle.std.proofs.Common.{◌≡◌, ℕ, ◌+◌, ◌%◌, ◌^◌, ◌⊎�
 use Rattle.std.specs.Prelude.{Option, Some, None, Contains, ◌≢◌, not, ◌&&◌, ◌||◌, ◌==◌}
 use Rattle.std.specs.List.{list_all}
 use Rattle.std.proofs.lemmas.Bool.{cases_Bool, and_parts, eqb-true}
+use Rattle.wild_words.proofs.Basics.{listed_passes}
 use Rattle.wild_records.specs.Abi.Relocation.{r_x86_64_gotpcrel, r_x86_64_gotpcrelx}
 use Rattle.wild_records.specs.Abi.Section.{shf_execinstr}
 use Rattle.wild_types.specs.declared.kind.RelocationModel.TheVariants as model
@@ -26,11 +27,10 @@ use Rattle.wild_meaning.specs.Section.{IsSet}
 use Rattle.wild_meaning.specs.Sequence.{Sort, TargetInSlot, Partner, Instruction, instructions_of}
 use Rattle.wild_meaning.specs.Template.{IsTemplate}
 use Rattle.wild_meaning.specs.Reference.{HasPlace, GoesThroughSlot, IsExcepted, IsAsked, IsLeftToLoader, IsStubbed, TakesItself, IsLinkedAlone}
+use Rattle.wild_meaning.proofs.BitLemmas.{bit_alloc, thread_local_bit}
 use Rattle.wild_worlds.specs.Worlds.{KindsAreLoaded}
 use Rattle.wild_worlds.specs.References.{SectionsAreKept, RelocationsRefer, ReferencesAreAsked, SlotsAreAsked, FewAreLinkedAlone, BlanksAreAsked, ResolversAreNotAbsolute}
 use Rattle.wild_worlds.specs.Symbols.{AddressesMove}
-use Rattle.wild_laws.proofs.Bits.{bit_alloc, thread_local_bit}
-use Rattle.wild_laws.proofs.Sequences.{passes}
 use Rattle.wild_laws.proofs.Symbols.{not_both, not_replaceable, own_value, moved_value}
 
 -- ---- kinds
@@ -134,10 +134,10 @@ slot_number : (l : Layout) (item : Item) (r : InputRelocation) → l.machine ≡
 slot_number l item r x h = by_template l item r h.start h.instruction h.first x h.through h.template
   where
     parts : (l : Layout) (o : Instruction) → l.machine ≡ machine.X86_64 → Contains (instructions_of l.machine) o → o.sort ≡ TargetInSlot → (is_alone o.partner ≡ true) × (list_all is_slot_number o.numbers ≡ true)
-    parts l o x known e = through_parts o (passes goes_alone (instructions_of machine.X86_64) o all_go_alone (subst (λ (m : Machine). Contains (instructions_of m) o) x known)) e
+    parts l o x known e = through_parts o (listed_passes goes_alone (instructions_of machine.X86_64) o all_go_alone (subst (λ (m : Machine). Contains (instructions_of m) o) x known)) e
 
     by_template : (l : Layout) (item : Item) (r : InputRelocation) (start : ℕ) (o : Instruction) (one : InputRelocation) → l.machine ≡ machine.X86_64 → o.sort ≡ TargetInSlot → IsTemplate l item r start o one → Contains (r_x86_64_gotpcrel ∷ r_x86_64_gotpcrelx ∷ []) r.number
-    by_template l item r start o one x e (inl t) = slot_numbers r.number (passes is_slot_number o.numbers r.number (parts l o x t.0.stands.known e).1 t.0.stands.number)
+    by_template l item r start o one x e (inl t) = slot_numbers r.number (listed_passes is_slot_number o.numbers r.number (parts l o x t.0.stands.known e).1 t.0.stands.number)
     by_template l item r start o one x e (inr t) =
         let alone : is_alone (Some t.sequence.partner) ≡ true = subst (λ (p : Option Partner). is_alone p ≡ true) t.sequence.calls (parts l o x t.sequence.stands.known e).0 in
         cc

@@ -4,19 +4,20 @@ use Rattle.std.specs.Prelude.{Some, None, Contains, slice_range, slice_get, ◌�
 use Rattle.std.specs.List.{list_all}
 use Rattle.std.proofs.lemmas.Bool.{leb-true, le-leb}
 use Rattle.std.proofs.lemmas.Option.{slice_get_past}
+use Rattle.wild_words.proofs.Basics.{listed_passes}
 use Rattle.wild_records.specs.Abi.Relocation.{r_x86_64_none, r_x86_64_pc32, r_x86_64_plt32, r_x86_64_gotpcrel, r_x86_64_gotpcrelx, r_x86_64_rex_gotpcrelx, r_x86_64_tlsgd}
 use Rattle.wild_types.specs.declared.kind.Machine.{Machine}
 use Rattle.wild_types.specs.declared.kind.Machine.TheVariants as machine
 use Rattle.wild_types.specs.declared.input.InputRelocation.{InputRelocation}
 use Rattle.wild_types.specs.declared.layout.Layout.{Layout}
 use Rattle.wild_types.specs.Flags.{non_interposable}
-use Rattle.wild_reloc.specs.Formula.{Formula, formula, Plain, Signed, StubDistance, SlotDistance, ModulePair}
+use Rattle.wild_reloc.specs.Formula.{Formula, formula, Plain, Signed, SlotDistance, ModulePair}
 use Rattle.wild_reloc.specs.FormulaX86_64.{x86_64_formula}
+use Rattle.wild_reloc.proofs.FormLemmas.{plt32_formula}
 use Rattle.wild_meaning.specs.Instruction.{stands, Call, Jump}
 use Rattle.wild_meaning.specs.Field.{formula_of, form_width, InNoField}
 use Rattle.wild_meaning.specs.Sequence.{Instruction, size_of, instructions_of, IsOwnByte, by_call}
 use Rattle.wild_meaning.specs.Template.{CountsFromItsEnd, IsInstruction, IsSequence}
-use Rattle.wild_laws.proofs.Sequences.{passes}
 use Rattle.wild_laws.proofs.Symbols.{not_both}
 use Rattle.wild_worlds.specs.Worked.{WorkedBranchesAreAsked, WorkedAddressesAreAsked, IsWorked, IsPaired, AsksForThreadAddress, worked_relocation, worked_item, direct_code, indirect_code, load_code, direct_branch, indirect_branch, load, general, pair_relocation, getter_relocation, general_item}
 
@@ -42,7 +43,7 @@ is_within number offset n o = list_all (λ m. not (m == number)) o.numbers || (n
 within : (number offset n from : ℕ) (o : Instruction) → list_all (is_within number offset n) (instructions_of machine.X86_64) ≡ true → Contains (instructions_of machine.X86_64) o → Contains o.numbers number → offset ≡ from + o.field → size_of o ≤ n
 within number offset n from o all known filled e =
     let near : nat_le o.field offset ≡ true = le-leb o.field offset (omega (arith, e)) in
-    leb-true (size_of o) n (third (list_all (λ (m : ℕ). not (m == number)) o.numbers) (nat_le o.field offset) (nat_le (size_of o) n) (passes (is_within number offset n) (instructions_of machine.X86_64) o all known) (λ none. not_itself number (passes (λ (m : ℕ). not (m == number)) o.numbers number none filled)) near)
+    leb-true (size_of o) n (third (list_all (λ (m : ℕ). not (m == number)) o.numbers) (nat_le o.field offset) (nat_le (size_of o) n) (listed_passes (is_within number offset n) (instructions_of machine.X86_64) o all known) (λ none. not_itself number (listed_passes (λ (m : ℕ). not (m == number)) o.numbers number none filled)) near)
   where
     third : (a b c : Bool) → (a || (not b || c)) ≡ true → (a ≡ true → ⊥) → b ≡ true → c ≡ true
     third true b c h never e = absurd (never refl)
@@ -121,10 +122,6 @@ worked_load l address x =
 tlsgd_formula : x86_64_formula r_x86_64_tlsgd ≡ Some (formula (SlotDistance ModulePair) (Plain 32 Signed))
 unfolding x86_64_formula
 tlsgd_formula = refl
-
-plt32_formula : x86_64_formula r_x86_64_plt32 ≡ Some (formula StubDistance (Plain 32 Signed))
-unfolding x86_64_formula
-plt32_formula = refl
 
 width : (m : Machine) (n : ℕ) (f g : Formula) → m ≡ machine.X86_64 → x86_64_formula n ≡ Some g → formula_of m n ≡ Some f → form_width f.form ≡ form_width g.form
 width m n f g x is h =

@@ -14,10 +14,10 @@ use Rattle.wild_loader.specs.Changes.{distance_of}
 use Rattle.std.specs.Prelude.{Result, Ok}
 use Rattle.wild_meaning.specs.Thread.{thread_pointer, IsOwnDistance}
 use Rattle.wild_meaning.specs.World.{IsExecutable, IsFirstModule, IsLegal, AnswersSymbols, first_module}
+use Rattle.wild_layout.proofs.FaultLemmas.{laid_out}
 use Rattle.wild_worlds.specs.Worlds.{KnowsModule, AreAddresses, Others, AreNumbers, IsTold, ZeroIsLegal, MovedIsLegal, HasWorld, WorldsAreThere, other_module}
 use Rattle.wild_worlds.specs.Symbols.{OffsetsCount}
 use Rattle.wild_worlds.proofs.Premises.{apart_kinds}
-use Rattle.wild_laws.proofs.NoErrors.{laid_out}
 use Rattle.wild_worlds.proofs.Resolvers.{pairs_of, HasPairs, has_resolvers, are_answered}
 use Rattle.wild_worlds.proofs.Answers.{answers_of, HasAnswers, others_found, answers_symbols}
 use Rattle.wild_values.specs.Laws.{ThreadPlacesAreKnown}

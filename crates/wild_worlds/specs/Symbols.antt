@@ -3,7 +3,11 @@
 --   ResolversAnswer    those that are IFUNCs
 --   WorldsAnswer       replaceable ones, and all with an index
 --   OffsetsCount       places in the thread's data
-use Rattle.std.specs.Prelude.{◌≡◌, ℕ, ◌+◌, ◌-◌, ◌%◌, ◌^◌, ◌<◌, true, false, Some, Ok}
+--   SlotsAreOne        slots
+--   SizesAreWhole      sizes
+use Rattle.std.specs.Prelude.{◌≡◌, ℕ, ◌+◌, ◌-◌, ◌%◌, ◌^◌, ◌<◌, true, false, Option, Some, Ok}
+use Rattle.wild_reloc.specs.Formula.{Slot}
+use Rattle.wild_types.specs.declared.input.InputRelocation.{InputRelocation}
 use Rattle.wild_types.specs.declared.layout.Layout.{Layout}
 use Rattle.wild_types.specs.Flags.{absolute, ifunc}
 use Rattle.wild_loader.specs.declared.world.World.{World}
@@ -14,7 +18,8 @@ use Rattle.wild_meaning.specs.World.{IsExecutable, IsLegal}
 use Rattle.wild_meaning.specs.Thread.{thread_pointer, IsThreadPlace}
 use Rattle.wild_meaning.specs.Value.{IsDefinedBy, IsResolved, HasRaw, HasFlag, IsReplaceable, HasAnswer, HasValue}
 use Rattle.wild_meaning.specs.Denotes.{HasStub, Reaches, Denotes}
-use Rattle.wild_meaning.specs.Formula.{IsGoal}
+use Rattle.wild_meaning.specs.Slot.{IsSlot}
+use Rattle.wild_meaning.specs.Formula.{IsGoal, IsWhole}
 
 -- of the output's own symbols that are no IFUNC: the address of one that is not absolute moves with the base, an absolute one's value
 -- does not; without a stub no other address stands for the symbol, and code that goes to it comes to that
@@ -43,3 +48,11 @@ pub record WorldsAnswer : Type 0 where
 pub record OffsetsCount : Type 0 where
   pub there : (l : Layout) (w : World) (i raw : ℕ) → IsExecutable l.kind → IsLegal l w → HasRaw l i raw → (t : ℕ) × IsThreadPlace l w i t
   pub less : (l : Layout) (w : World) (i t : ℕ) → IsExecutable l.kind → IsLegal l w → IsThreadPlace l w i t → (raw : ℕ) × HasRaw l i raw × (t ≡ (raw + (2 ^ 64 - thread_pointer l % 2 ^ 64)) % 2 ^ 64)
+
+-- G is one address in a world, whatever memory has: no other word with the same content is a symbol's slot
+abbrev pub SlotsAreOne : Type 0
+SlotsAreOne = (sort : Slot) (l : Layout) (w : World) (m n : Memory) (symbol : Option ℕ) (g h : ℕ) → IsSlot sort l w m symbol g → IsSlot sort l w n symbol h → g ≡ h
+
+-- a field with the size of an own symbol has all of it, also one of four bytes
+abbrev pub SizesAreWhole : Type 0
+SizesAreWhole = (l : Layout) (r : InputRelocation) (i n x : ℕ) → r.symbol ≡ Some i → IsReplaceable l i false → IsWhole l r n x → x ≡ n

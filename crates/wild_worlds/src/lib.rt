@@ -3,7 +3,7 @@
 
 ghost use Rattle.wild_worlds.specs.Worlds.{ZeroIsLegal, MovedIsLegal, NoneHasNone, WorldsAreThere, KindsAreLoaded};
 ghost use Rattle.wild_worlds.specs.References.{SectionsAreKept, RelocationsRefer, ReferencesAreAsked, SlotsAreAsked, FewAreLinkedAlone, BlanksAreAsked};
-ghost use Rattle.wild_worlds.specs.Symbols.{AddressesMove, ResolversAnswer, WorldsAnswer, OffsetsCount};
+ghost use Rattle.wild_worlds.specs.Symbols.{AddressesMove, ResolversAnswer, WorldsAnswer, OffsetsCount, SlotsAreOne, SizesAreWhole};
 ghost use Rattle.wild_worlds.specs.Worked.{WorkedAddressesAreAsked, WorkedBranchesAreAsked};
 
 use wild_geometry::layouts_are_laid_out;
@@ -15,7 +15,7 @@ use wild_values::thread_places_are_known;
 /// is a reference, and is asked unless its symbol is absolute and its value takes a place from it, or its instruction goes
 /// through a slot; few take the output's own symbol alone; the address of an own symbol that is not absolute moves with the base,
 /// an IFUNC's value is what its resolver answers, a replaceable symbol's what the world does; an offset from the thread pointer is
-/// an address less that; the worked examples have calls and jumps, an address that is loaded from a slot, and a sequence that asks
+/// an address less that; a symbol has one slot of a sort, and of an own one the whole size is asked; the worked examples have calls and jumps, an address that is loaded from a slot, and a sequence that asks
 /// for a thread address.
 pub fn premises_are_met()
     ensures zero { ZeroIsLegal }
@@ -33,6 +33,8 @@ pub fn premises_are_met()
     ensures resolvers { ResolversAnswer }
     ensures answers { WorldsAnswer }
     ensures offsets { OffsetsCount }
+    ensures one { SlotsAreOne }
+    ensures whole { SizesAreWhole }
     ensures branches { WorkedBranchesAreAsked }
     ensures loads { WorkedAddressesAreAsked }
 {

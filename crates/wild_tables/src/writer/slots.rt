@@ -22,7 +22,9 @@ use wild_slot::{
     EntryPart, STUB_SIZE, Setting, SlotEntry, SlotWord, WORD_SIZE, WordPart, count_entries,
     count_flat, count_words, entry_at, slot_of, storage_pair, type_of,
 };
-use wild_types::{At, Error, Fault, Layout, Missing, Resolution, Role, SymbolIndex, insufficient};
+use wild_types::{
+    At, Error, Fault, Layout, Missing, Resolution, Role, SymbolIndex, insufficient, part_of,
+};
 
 impl TableWriter {
     /// The tables' rooms with words from a place on and a stub.
@@ -224,15 +226,7 @@ impl TableWriter {
             Err(_) => {
                 let given = self.packed.room();
                 let needed = self.packed.used() as u64 + 8 * block_words(base, n);
-                Err(Error {
-                    fault: Fault::InsufficientAllocation {
-                        part: self.packed_part,
-                        group: self.group,
-                        given: given as u64,
-                        needed,
-                    },
-                    at: At::NOWHERE,
-                })
+                Err(insufficient(self.packed_part, self.group, given as u64, needed))
             }
         }
     }
@@ -248,7 +242,12 @@ impl TableWriter {
             Err(_) => {
                 let given = self.general.room();
                 let needed = self.general.used() + Rela::SIZE;
-                Err(insufficient(layout, self.group, Role::RelaDynGeneral, given, needed))
+                Err(insufficient(
+                    part_of(layout, Role::RelaDynGeneral),
+                    self.group,
+                    given as u64,
+                    needed as u64,
+                ))
             }
         }
     }

@@ -1,9 +1,9 @@
 //! Plans with a relocation that cannot be written, and which of two faults is the first.
 use super::Broken;
-use crate::plans::{SMALLEST, THREE, WIDE};
+use crate::plans::{SMALLEST, THREE, VERSIONED, WIDE};
 
 /// A row for each fault of a relocation.
-pub(super) const REFERENCES: [Broken; 45] = [
+pub(super) const REFERENCES: [Broken; 48] = [
     // relocations
     Broken {
         plan: SMALLEST,
@@ -149,6 +149,37 @@ pub(super) const REFERENCES: [Broken; 45] = [
         plan: SMALLEST,
         changes: &[(r#""raw_value":4194438"#, r#""raw_value":2151678084"#)],
         answer: "image 344",
+    },
+    // a size that is left to an entry: another module's, and the output's own
+    Broken {
+        plan: VERSIONED,
+        changes: &[(
+            r#""number":1,"symbol":0,"addend":5}"#,
+            r#""number":32,"symbol":1,"addend":4294967288}"#,
+        )],
+        answer: "image 5512",
+    },
+    Broken {
+        plan: VERSIONED,
+        changes: &[
+            (
+                r#""number":1,"symbol":0,"addend":5}"#,
+                r#""number":32,"symbol":1,"addend":4294967287}"#,
+            ),
+            (r#"["EXPORT_DYNAMIC"]"#, "[]"),
+        ],
+        answer: "image 5512",
+    },
+    Broken {
+        plan: VERSIONED,
+        changes: &[
+            (
+                r#""number":1,"symbol":0,"addend":5}"#,
+                r#""number":32,"symbol":1,"addend":4294967288}"#,
+            ),
+            (r#"["EXPORT_DYNAMIC"]"#, "[]"),
+        ],
+        answer: "refused OutOfRange value=4294967296 at group=0 file=2 section=0 offset=8",
     },
     // overlapping fields
     Broken {

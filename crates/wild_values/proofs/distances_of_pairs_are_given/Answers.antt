@@ -2,7 +2,7 @@ use Rattle.std.proofs.Common.{◌+◌, ◌%◌, ◌^◌}
 use Rattle.wild_slot.specs.declared.treatment.Treatment.TheVariants as treatments
 use Rattle.wild_reloc.specs.declared.info.RelocationKind.TheVariants as kinds
 use Rattle.wild_reloc.specs.Formula.{ModulePair}
-use Rattle.wild_values.proofs.SlotTerms.{slot_given}
+use Rattle.wild_values.proofs.SlotTerms.{pair_slots, slot_given}
 use Rattle.wild_values.proofs.ThreadPlaces.{pairs_stand}
 use Rattle.wild_values.proofs.Relatives.{less_place}
 use Rattle.wild_values.proofs.Treated.{symbol_named}
@@ -11,5 +11,5 @@ use Rattle.wild_values.proofs.distances_of_pairs_are_given.Goals as goal
 pub returns : goal.returns
 returns c = λ l w m s r x h f.
     let i = symbol_named r.symbol (λ i. treatments.Value h.row) h.row h.treated in
-    let there = slot_given kinds.TlsGd ModulePair l w m r.symbol i.0 h.term (pairs_stand l w m h.placed) i.1 h.given in
+    let there = slot_given kinds.TlsGd ModulePair l w m r.symbol i.0 h.term (pair_slots l h.placed.symbols.own) (pairs_stand l w m h.placed) i.1 h.given in
     ((w.base + h.term) % 2 ^ 64, there, less_place l w m s r kinds.TlsGd x h h.value)

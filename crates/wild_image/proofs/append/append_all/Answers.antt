@@ -6,8 +6,8 @@ use Rattle.wild_types.specs.declared.file.Group.{Group}
 use Rattle.wild_layout.specs.SectionPlaces.{SectionLies}
 use Rattle.wild_image.specs.declared.job.Outcome.{Outcome}
 use Rattle.wild_image.specs.Batches.{batch_errors, batch_pieces}
-use Rattle.wild_image.proofs.PieceLemmas.{overlay_read}
-use Rattle.wild_image.proofs.FaultLemmas.{none_more, refuses_read}
+use Rattle.wild_sections.proofs.PieceLemmas.{overlay_read}
+use Rattle.wild_sections.proofs.FaultLemmas.{none_more, refuses_read}
 use Rattle.wild_image.proofs.JobLemmas.{bytes_given, fault_given}
 use Rattle.wild_image.proofs.TableLemmas.{starts_at_first}
 use Rattle.wild_image.proofs.BatchLemmas.{cut_of, batches_within, batches_end, holds_within, next_first, next_starts, next_more}

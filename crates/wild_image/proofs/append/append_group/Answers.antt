@@ -2,7 +2,7 @@ use Rattle.std.proofs.Common.{◌∙◌, sym, ap}
 use Rattle.wild_words.specs.Overlay.{overlay}
 use Rattle.wild_layout.specs.Image.{table_pieces, owned_pieces}
 use Rattle.wild_image.proofs.AppendLemmas.{group_begins, group_goes_on, group_ends}
-use Rattle.wild_image.proofs.PieceLemmas.{overlay-append}
+use Rattle.wild_sections.proofs.PieceLemmas.{overlay-append}
 use Rattle.wild_image.proofs.append.append_group.Goals as goal
 
 pub append_tables-rest-requires-clause-own : goal.append_tables-rest-requires-clause-own

@@ -1,6 +1,6 @@
 use Rattle.wild_layout.specs.Faults.{file_errors}
 use Rattle.wild_image.specs.Pieces.{file_sections}
-use Rattle.wild_image.proofs.FaultLemmas.{none_from}
+use Rattle.wild_sections.proofs.FaultLemmas.{none_from}
 use Rattle.wild_image.proofs.OwnedLemmas.{bytes_read}
 use Rattle.wild_image.proofs.buffer.add_files.Goals as goal
 

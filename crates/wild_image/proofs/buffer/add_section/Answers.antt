@@ -1,6 +1,6 @@
 use Rattle.std.proofs.Common.{◌≡◌, ◌++◌, List, ℕ, ap, ◌∙◌, true, rules}
 use Rattle.wild_types.specs.Lookups.{is_filled}
-use Rattle.wild_image.proofs.PieceLemmas.{section_zeros}
+use Rattle.wild_sections.proofs.PieceLemmas.{section_zeros}
 use Rattle.wild_image.proofs.buffer.add_section.Goals as goal
 
 pub returns-in_ok-extend-clause-bytes : goal.returns-in_ok-extend-clause-bytes

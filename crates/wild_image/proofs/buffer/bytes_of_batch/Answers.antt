@@ -4,7 +4,7 @@ use Rattle.std.proofs.lemmas.Result.{err_from_is_err_and}
 use Rattle.std.specs.List.{flat_map}
 use Rattle.wild_layout.specs.Faults.{flat_map_from, group_errors}
 use Rattle.wild_image.specs.Pieces.{group_bytes}
-use Rattle.wild_image.proofs.BatchLemmas.{none_behind, refuses_behind}
+use Rattle.wild_sections.proofs.FaultLemmas.{none_behind, refuses_behind}
 use Rattle.wild_image.proofs.OwnedLemmas.{bytes_read}
 use Rattle.wild_image.proofs.buffer.bytes_of_batch.Goals as goal
 

@@ -7,9 +7,9 @@ use Rattle.wild_image.specs.Jobs.{GivesPiece}
 use Rattle.wild_image.proofs.GatherLemmas.{section_below}
 use Rattle.wild_image.proofs.OutputLemmas.{FieldsFit-IsLaidOut}
 use Rattle.wild_words.proofs.ListLemmas.{holds_at}
-use Rattle.wild_image.specs.Steps.{NeedsFit}
+use Rattle.wild_contents.specs.Given.{NeedsFit}
 use Rattle.wild_image.proofs.JobLemmas.{piece_found}
-use Rattle.wild_image.proofs.VersionLemmas.{needs_fit}
+use Rattle.wild_contents.proofs.VersionLemmas.{needs_fit}
 use Rattle.wild_image.proofs.piece.write_group.Goals as goal
 
 pub new-requires-clause-fits : goal.new-requires-clause-fits

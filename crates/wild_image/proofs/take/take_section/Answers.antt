@@ -1,6 +1,6 @@
 use Rattle.std.proofs.Common.{◌≡◌, ◌++◌, List, ℕ, get_or, ap, ◌∙◌, true, rules}
 use Rattle.wild_types.specs.Lookups.{is_filled}
-use Rattle.wild_image.proofs.PieceLemmas.{section_zeros}
+use Rattle.wild_sections.proofs.PieceLemmas.{section_zeros}
 use Rattle.wild_image.proofs.OwnedLemmas.{part_extended}
 use Rattle.wild_image.proofs.take.take_section.Goals as goal
 

@@ -4,8 +4,8 @@ use Rattle.std.proofs.lemmas.Option.{slice_get-get_or}
 use Rattle.wild_types.specs.declared.file.File.{File}
 use Rattle.wild_types.specs.declared.file.Group.{Group}
 use Rattle.wild_layout.specs.SectionPlaces.{SectionLies}
-use Rattle.wild_image.specs.Steps.{NeedsFit}
-use Rattle.wild_image.proofs.VersionLemmas.{needs_fit}
+use Rattle.wild_contents.specs.Given.{NeedsFit}
+use Rattle.wild_contents.proofs.VersionLemmas.{needs_fit}
 use Rattle.wild_image.proofs.JobLemmas.{gives_found, pairs_found, few_groups}
 use Rattle.wild_image.proofs.BatchLemmas.{cut_of, batches_within, batches_end, holds_within}
 use Rattle.wild_image.proofs.job.GroupJobJobOutcome.run.Goals as goal

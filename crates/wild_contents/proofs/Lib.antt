@@ -1,0 +1,11 @@
+pub mod ChangedLemmas
+pub mod OwnLemmas
+pub mod SlotLemmas
+pub mod GeneralLemmas
+pub mod StringLemmas
+pub mod DynamicLemmas
+pub mod SymbolLemmas
+pub mod WalkLemmas
+pub mod SymtabFaultLemmas
+pub mod HashLemmas
+pub mod VersionLemmas

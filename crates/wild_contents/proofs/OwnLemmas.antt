@@ -1,0 +1,120 @@
+-- Laws of what a file gives to the tables that a loader reads.
+use Rattle.std.proofs.Common.{◌≡◌, ℕ, ◌+◌, ◌*◌, ◌%◌, ◌<◌, ◌≤◌, ◌==◌, ◌&&◌, inl, inr, true, false, List, [], ◌∷◌, ◌++◌, length, take, get_or, refl, sym, ap, ◌∙◌, arith}
+use Rattle.std.specs.Prelude.{Option, Some, None, option_to_list, slice_get}
+use Rattle.std.specs.List.{flat_map}
+use Rattle.std.proofs.lemmas.Bool.{cases_Bool, and_parts, eqb-true}
+use Rattle.std.proofs.lemmas.List.{append-nil, length-append, take_all}
+use Rattle.wild_words.proofs.ListLemmas.{flat_map-more, flat_map-flat_map}
+use Rattle.wild_records.specs.Relocations.{relr_size}
+use Rattle.wild_relr.specs.declared.run.Choice.{Choice}
+use Rattle.wild_relr.specs.declared.run.Choice.TheVariants.{Joins, Adds}
+use Rattle.wild_relr.specs.Packing.{State, choice, chosen, after}
+use Rattle.wild_relr.specs.Packed.{packed, packed_on, afters, nothing}
+use Rattle.wild_relr.specs.Written.{word_bytes}
+use Rattle.wild_relr.proofs.PackedLemmas.{afters-packed, length-joined}
+use Rattle.wild_types.specs.declared.input.InputRelocation.{InputRelocation}
+use Rattle.wild_types.specs.declared.input.InputSection.{InputSection}
+use Rattle.wild_types.specs.declared.part.Part.{Part}
+use Rattle.wild_types.specs.declared.file.Group.{Group}
+use Rattle.wild_types.specs.declared.layout.Layout.{Layout}
+use Rattle.wild_types.specs.Lookups.{place_of, packs, has_moved}
+use Rattle.wild_needs.specs.Entries.{is_moved, packed_place, packed_places, words_of}
+use Rattle.wild_tables.specs.Entries.{rela_bytes}
+use Rattle.wild_layout.specs.Moved.{listed_entry, section_entries}
+use Rattle.wild_layout.specs.Content.{content}
+use Rattle.wild_contents.specs.Given.{role_of, group_given}
+use Rattle.wild_contents.specs.Own.{entry_bytes, section_entry_bytes, section_word_bytes, packed_in}
+
+-- all of them, where a loop has ended
+pub all_joined : {X : Type 0} (f : X → List ℕ) (xs : List X) (i : ℕ) (base now whole : List ℕ) → length xs ≤ i → now ≡ base ++ flat_map f (take i xs) → whole ≡ flat_map f xs → now ≡ base ++ whole
+all_joined {X} f xs i base now whole end before is = before ∙ ap (λ (ys : List X). base ++ flat_map f ys) (take_all i xs end) ∙ ap (λ (ys : List ℕ). base ++ ys) (sym is)
+
+-- nothing to add
+pub none_added : (bytes own : List ℕ) → own ≡ [] → bytes ≡ bytes ++ own
+none_added bytes own none = sym (append-nil bytes) ∙ ap (λ (ys : List ℕ). bytes ++ ys) (sym none)
+
+-- what a group gives to a part, by the part's role
+pub given_is : (l : Layout) (i : ℕ) (p : Part) (g : Group) → slice_get l.parts i ≡ Some p → group_given l i g ≡ content l p.role g
+given_is l i p g e = ap (λ (o : Option Part). content l (role_of o) g) e
+
+-- ---- entries
+
+pub listed_entries : (l : Layout) (s : InputSection) → has_moved l s ≡ true → section_entry_bytes l s ≡ flat_map (entry_bytes l s) s.relocations
+unfolding section_entry_bytes entry_bytes section_entries
+listed_entries l s h = rw h (sym (sym (flat_map-flat_map _ (λ r. option_to_list (listed_entry l s r)) s.relocations)))
+
+pub no_entries : (l : Layout) (s : InputSection) → has_moved l s ≡ false → section_entry_bytes l s ≡ []
+unfolding section_entry_bytes section_entries
+no_entries l s h = rw h refl
+
+pub entries_joined : (l : Layout) (ss : List InputSection) → rela_bytes (flat_map (section_entries l) ss) ≡ flat_map (section_entry_bytes l) ss
+unfolding section_entry_bytes
+entries_joined l ss = sym (sym (flat_map-flat_map _ (section_entries l) ss))
+
+-- ---- words
+
+by_choice_few : (c : Choice) (s : State) → length (chosen c s).words ≤ length s.words + 1
+by_choice_few (Joins i) s = let e = length-joined i s.words in omega (arith, e)
+by_choice_few (Adds w r) s = let e = length-append s.words (w ∷ []) in omega (arith, e)
+
+-- a place adds a word at most
+pub one_more : (s : State) (p : ℕ) → length (after s p).words ≤ length s.words + 1
+one_more s p = by_choice_few (choice s.run p) s
+
+pub never_full : (s : State) (p room : ℕ) → relr_size * (length s.words + 1) ≤ room → room < relr_size * length (after s p).words → ⊥
+never_full s p room h m = let e = one_more s p in omega (arith, e, h, m)
+
+-- a place that is packed is even
+pub packed_even : (l : Layout) (s : InputSection) (r : InputRelocation) (p : ℕ) → packed_place l s r ≡ Some p → p % 2 ≡ 0
+packed_even l s r p h =
+    elim (cases_Bool (is_moved l s r && packs l (place_of s r))) [
+      | inl t ↦
+          (let both = and_parts (is_moved l s r) (packs l (place_of s r)) t in
+          let even = and_parts l.options.relr (place_of s r % 2 == 0) both.1 in
+          let e : place_of s r ≡ p = cc (rw t at h) in
+          ap (λ (n : ℕ). n % 2) (sym e) ∙ eqb-true _ _ even.1)
+      | inr f ↦ cc (rw f at h)
+    ]
+
+pub afters-append : (ps qs : List ℕ) (s : State) → afters s (ps ++ qs) ≡ afters (afters s ps) qs
+unfolding afters
+afters-append [] qs s = refl
+afters-append (p ∷ ps) qs s = afters-append ps qs (after s p)
+
+pub afters_none : (s : State) → afters s [] ≡ s
+unfolding afters
+afters_none s = refl
+
+pub afters_one : (s : State) (p : ℕ) → afters s (p ∷ []) ≡ after s p
+unfolding afters
+afters_one s p = refl
+
+-- the place of a relocation, where that is packed
+pub packed_some : (l : Layout) (s : InputSection) (r : InputRelocation) (p : ℕ) (now : State) → packed_place l s r ≡ Some p → afters now (packed_in l s r) ≡ after now p
+packed_some l s r p now e = ap (λ (o : Option ℕ). afters now (option_to_list o)) e ∙ afters_one now p
+
+pub not_packed : (l : Layout) (s : InputSection) (r : InputRelocation) (now : State) → packed_place l s r ≡ None → afters now (packed_in l s r) ≡ now
+not_packed l s r now e = ap (λ (o : Option ℕ). afters now (option_to_list o)) e ∙ afters_none now
+
+-- one more item's places
+pub run_more : {X : Type 0} (f : X → List ℕ) (xs : List X) (i : ℕ) (d : X) (first now next : State) → i < length xs → now ≡ afters first (flat_map f (take i xs)) → next ≡ afters now (f (get_or xs i d)) → next ≡ afters first (flat_map f (take (i + 1) xs))
+run_more f xs i d first now next h before is =
+    is ∙ ap (λ (x : State). afters x (f (get_or xs i d))) before
+    ∙ sym (afters-append (flat_map f (take i xs)) (f (get_or xs i d)) first)
+    ∙ ap (afters first) (sym (flat_map-more f xs i d h))
+
+-- the words of a run, place by place
+pub run_words : (ps : List ℕ) → (afters nothing ps).words ≡ packed ps
+run_words ps = afters-packed ps []
+
+pub packed_words : (l : Layout) (s : InputSection) → has_moved l s ≡ true → section_word_bytes l s ≡ word_bytes (packed (flat_map (packed_in l s) s.relocations))
+unfolding section_word_bytes packed_places
+packed_words l s h = rw h refl
+
+pub no_words : (l : Layout) (s : InputSection) → has_moved l s ≡ false → section_word_bytes l s ≡ []
+unfolding section_word_bytes packed_places packed packed_on
+no_words l s h = rw h refl
+
+pub words_joined : (l : Layout) (ss : List InputSection) → word_bytes (flat_map (words_of l) ss) ≡ flat_map (section_word_bytes l) ss
+unfolding section_word_bytes
+words_joined l ss = sym (sym (flat_map-flat_map _ (words_of l) ss))

@@ -1,0 +1,91 @@
+-- Laws of what slots and stubs give to the parts.
+use Rattle.std.proofs.Common.{◌≡◌, ℕ, suc, ◌-◌, ◌*◌, ◌^◌, ◌<◌, ◌≤◌, ◌==◌, inl, inr, min, List, [], ◌∷◌, ◌++◌, length, take, refl, sym, ap, ◌∙◌, arith}
+use Rattle.std.specs.Prelude.{replicate}
+use Rattle.std.specs.List.{flat_map}
+use Rattle.std.proofs.lemmas.Bool.{cases_Bool, ne_eqb}
+use Rattle.std.proofs.lemmas.List.{append-nil, append_assoc}
+use Rattle.wild_words.specs.Words.{word}
+use Rattle.wild_words.proofs.ListLemmas.{flat_map-flat_map}
+use Rattle.wild_relr.specs.Packed.{bitmaps, bitmap_count, block}
+use Rattle.wild_relr.specs.Written.{word_bytes}
+use Rattle.wild_types.specs.declared.file.File.{File}
+use Rattle.wild_types.specs.declared.layout.Layout.{Layout}
+use Rattle.wild_types.specs.declared.symbol.Symbol.{Symbol}
+use Rattle.wild_slot.specs.declared.slot_parts.WordPart.{WordPart}
+use Rattle.wild_slot.specs.declared.slot_parts.EntryPart.{EntryPart}
+use Rattle.wild_types.specs.FileSymbols.{own_symbols}
+use Rattle.wild_needs.specs.SlotShares.{words_in}
+use Rattle.wild_tables.specs.Entries.{rela_bytes}
+use Rattle.wild_layout.specs.SlotBytes.{symbol_entries, flat_in, slot_words_of, slot_entries_of, flat_places_of}
+use Rattle.wild_contents.specs.Own.{symbol_word_bytes, symbol_entry_bytes, symbol_flat_bytes}
+use Rattle.wild_contents.proofs.OwnLemmas.{all_joined}
+
+-- ---- the symbols of a file
+
+-- all of them, where a loop over them has ended
+pub all_symbols : (f : Symbol → List ℕ) (items own : List Symbol) (i : ℕ) (base now whole : List ℕ) → items ≡ own → length items ≤ i → now ≡ base ++ flat_map f (take i items) → whole ≡ flat_map f own → now ≡ base ++ whole
+all_symbols f items own i base now whole same end before is = all_joined f items i base now whole end before (is ∙ ap (flat_map f) (sym same))
+
+pub words_joined : (part : WordPart) (l : Layout) (f : File) → word_bytes (slot_words_of part l f) ≡ flat_map (symbol_word_bytes part l) (own_symbols l f)
+unfolding slot_words_of symbol_word_bytes
+words_joined part l f = sym (sym (flat_map-flat_map _ (words_in part l) (own_symbols l f)))
+
+pub entries_joined : (part : EntryPart) (l : Layout) (f : File) → rela_bytes (slot_entries_of part l f) ≡ flat_map (symbol_entry_bytes part l) (own_symbols l f)
+unfolding slot_entries_of symbol_entry_bytes
+entries_joined part l f = sym (sym (flat_map-flat_map _ (symbol_entries part l) (own_symbols l f)))
+
+pub places_joined : (l : Layout) (f : File) → word_bytes (flat_places_of l f) ≡ flat_map (symbol_flat_bytes l) (own_symbols l f)
+unfolding flat_places_of symbol_flat_bytes
+places_joined l f = sym (sym (flat_map-flat_map _ (flat_in l) (own_symbols l f)))
+
+-- ---- words, one after another
+
+-- the next word of some, where what is to come is the rest
+pub word_next : (now next whole : List ℕ) (w : ℕ) (ws rest : List ℕ) → ws ≡ w ∷ rest → now ++ word_bytes ws ≡ whole → next ≡ now ++ word_bytes (w ∷ []) → next ++ word_bytes rest ≡ whole
+word_next now next whole w ws rest cons before step =
+    ap (λ (ys : List ℕ). ys ++ word_bytes rest) step ∙ append_assoc now (word_bytes (w ∷ [])) (word_bytes rest)
+    ∙ ap (λ (ys : List ℕ). now ++ (ys ++ word_bytes rest)) (append-nil (word 8 w))
+    ∙ ap (λ (vs : List ℕ). now ++ word_bytes vs) (sym cons) ∙ before
+
+-- no word is to come
+pub words_end : (now whole ws : List ℕ) → ws ≡ [] → now ++ word_bytes ws ≡ whole → now ≡ whole
+words_end now whole ws none all = sym (append-nil now) ∙ ap (λ (vs : List ℕ). now ++ word_bytes vs) (sym none) ∙ all
+
+pub one_zero : (n m : ℕ) → n ≡ suc m → replicate {A = ℕ} n 0 ≡ 0 ∷ replicate {A = ℕ} m 0
+one_zero n m e = rw e refl
+
+-- ---- bitmap words
+
+-- one word more, of the next 63 slots
+next_bitmap : (k c d : ℕ) → c ≡ suc d → bitmaps c k ≡ (2 * 2 ^ min k 63 - 1) ∷ bitmaps d (k - 63)
+unfolding bitmaps
+next_bitmap k c d e = rw e refl
+
+pub bitmaps_next : (k : ℕ) → 0 < k → bitmaps (bitmap_count k) k ≡ (2 * 2 ^ min k 63 - 1) ∷ bitmaps (bitmap_count (k - 63)) (k - 63)
+bitmaps_next k some = next_bitmap k (bitmap_count k) (bitmap_count (k - 63)) (omega (arith, some))
+
+pub bitmaps_none : (k : ℕ) → k ≡ 0 → bitmaps (bitmap_count k) k ≡ []
+unfolding bitmaps
+bitmaps_none k e = rw e refl
+
+-- ---- blocks
+
+pub no_base : (base n : ℕ) → base ≡ 0 → block base n ≡ []
+unfolding block
+no_base base n e = rw e refl
+
+pub no_slots : (base n : ℕ) → n ≡ 0 → block base n ≡ []
+unfolding block
+no_slots base n e =
+    elim (cases_Bool (base == 0)) [
+      | inl t ↦ rw (e, t) refl
+      | inr f ↦ rw (e, f) refl
+    ]
+
+some_slots : (base n : ℕ) → (base ≡ 0 → ⊥) → (n ≡ 0 → ⊥) → block base n ≡ base ∷ bitmaps (bitmap_count (n - 1)) (n - 1)
+unfolding block
+some_slots base n h k = let b = ne_eqb base 0 h in let c = ne_eqb n 0 k in rw (b, c) refl
+
+-- the address of a block and its bitmap words, one behind the other
+pub block_added : (old now next : List ℕ) (base n : ℕ) → (base ≡ 0 → ⊥) → (n ≡ 0 → ⊥) → now ≡ old ++ word_bytes (base ∷ []) → next ≡ now ++ word_bytes (bitmaps (bitmap_count (n - 1)) (n - 1)) → next ≡ old ++ word_bytes (block base n)
+block_added old now next base n h k first rest = rest ∙ word_next old now (old ++ word_bytes (block base n)) base (block base n) (bitmaps (bitmap_count (n - 1)) (n - 1)) (some_slots base n h k) refl first

@@ -1,0 +1,5 @@
+pub mod General
+pub mod Given
+pub mod Hashes
+pub mod Own
+pub mod Walks

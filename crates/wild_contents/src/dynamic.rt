@@ -1,0 +1,124 @@
+//! The entries of a group in the dynamic section (gABI, "Dynamic Section"): those of its libraries, and all others where it
+//! has the last file.
+ghost use Rattle.std.specs.Prelude.{◌≡◌, ◌++◌, Some, OnOk};
+ghost use Rattle.wild_needs.specs.DynamicStrings.{needed_of, needed_entries, needed_count};
+ghost use Rattle.std.specs.List.{list_any};
+ghost use Rattle.wild_types.specs.declared.file.File.{File};
+ghost use Rattle.wild_types.specs.FileRoles.{is_epilogue};
+ghost use Rattle.wild_types.specs.Lists.{total};
+ghost use Rattle.wild_tables.specs.Dynamic.{entries_bytes, dynamic_bytes};
+ghost use Rattle.wild_layout.specs.Content.{room_behind, dynamic_room, dynamic_of};
+
+use crate::part_bytes::PartBytes;
+use std::alloc::{AllocError, Global};
+use wild_needs::{behind_file, dynamic_count, needed_count};
+use wild_records::DynamicEntry;
+use wild_records::abi::dynamic::DT_NEEDED;
+use wild_tables::write_dynamic;
+use wild_types::{File, Group, Layout, Role, share_of};
+
+/// Adds the entry of a library whose name stands at an offset.
+fn add_library(file: &File, at: u64, bytes: &mut PartBytes) -> Result<(), AllocError>
+    ensures { OnOk result (bytes.new ≡ bytes.old ++ entries_bytes (needed_of at file.now)) }
+{
+    if file.role.is_library() {
+        let entry = DynamicEntry {
+            tag: DT_NEEDED,
+            value: at,
+        };
+        let mut room = [0; DynamicEntry::SIZE];
+        entry.put(&mut room);
+        bytes.extend(&room)?;
+    }
+    Ok(())
+}
+
+/// Adds the entries of a group's libraries, each with the offset of its name in the string table.
+#[tactic(auto, unfolding(wild_needs::specs::DynamicStrings::needed_entries))]
+fn add_libraries(layout: &Layout, group: &Group, bytes: &mut PartBytes) -> Result<(), AllocError>
+    ensures { OnOk result (bytes.new ≡ bytes.old ++ entries_bytes (needed_entries layout.now group.now)) }
+{
+    if !layout.kind.needs_dynamic() {
+        return Ok(());
+    }
+    let mut at = group.dynstr_start;
+    for file in group.files.as_slice() {
+        add_library(file, at, bytes)?;
+        at = behind_file(layout, at, file);
+    }
+    Ok(())
+}
+
+/// How many entries some files have for libraries.
+fn needed_of_files(layout: &Layout, files: &[File]) -> usize
+    ensures { result ≡ total (needed_count layout.now) files.now }
+{
+    let mut count = 0;
+    for file in files {
+        count += needed_count(layout, file);
+    }
+    count
+}
+
+/// The room of the last file in the dynamic section, where that is a file of this group.
+#[tactic(auto, using(wild_needs::proofs::DynamicLemmas::length_needed_entries))]
+fn room_behind(layout: &Layout, group: &Group) -> u64
+    ensures { result ≡ room_behind layout.now (Some group.now) }
+{
+    let needed = needed_of_files(layout, group.files.as_slice()) as u64;
+    let last = layout.groups.len().saturating_sub(1);
+    share_of(layout, last, Role::Dynamic).saturating_sub(needed.saturating_mul(
+        DynamicEntry::SIZE as u64,
+    ))
+}
+
+/// The room of the last file in the dynamic section.
+fn dynamic_room(layout: &Layout) -> u64
+    ensures { result ≡ dynamic_room layout.now }
+{
+    let groups = layout.groups.as_slice();
+    match groups.get(groups.len().saturating_sub(1)) {
+        Some(group) => room_behind(layout, group),
+        None => 0,
+    }
+}
+
+/// Whether the group has the last file.
+pub fn has_last(group: &Group) -> bool
+    ensures { result ≡ list_any (λ (f : File). is_epilogue f.role) group.now.files }
+{
+    group
+        .files
+        .as_slice()
+        .iter()
+        .any(|file| file.role.is_epilogue())
+}
+
+/// Adds the entries of the last file, in its room; that has never less bytes than they where the shares are what is needed.
+#[tactic(auto, using(crate::proofs::DynamicLemmas::dynamic_by))]
+fn add_last(alloc: Global, layout: &Layout, bytes: &mut PartBytes) -> Result<(), AllocError>
+    ensures { OnOk result (bytes.new ≡ bytes.old ++ dynamic_bytes layout.now (dynamic_room layout.now)) }
+{
+    let needed = dynamic_count(layout).saturating_mul(DynamicEntry::SIZE);
+    let size = needed.max(dynamic_room(layout) as usize);
+    let mut room = vec![in alloc; 0u8; size]?;
+    write_dynamic(layout, &mut room);
+    bytes.extend(&room)
+}
+
+/// Adds the entries of a group.
+#[tactic(auto, using(crate::proofs::DynamicLemmas::group_joined, crate::proofs::DynamicLemmas::group_without))]
+pub(crate) fn add_group_dynamic(
+    alloc: Global,
+    layout: &Layout,
+    group: &Group,
+    bytes: &mut PartBytes,
+) -> Result<(), AllocError>
+    ensures { OnOk result (bytes.new ≡ bytes.old ++ dynamic_of layout.now group.now) }
+{
+    add_libraries(layout, group, bytes)?;
+    if has_last(group) {
+        add_last(alloc, layout, bytes)?;
+    }
+    Ok(())
+}

@@ -1,0 +1,105 @@
+//! The entries with addends of a file: for each address that moves and is not packed, one by which a loader stores the
+//! sum of base and value (gABI, "Relocation").
+ghost use Rattle.std.specs.Prelude.{◌≡◌, [], ◌∷◌, ◌++◌, OnOk};
+ghost use Rattle.std.specs.List.{flat_map};
+ghost use Rattle.wild_needs.specs.Entries.{listed_place};
+ghost use Rattle.wild_tables.specs.Entries.{rela_bytes};
+ghost use Rattle.wild_layout.specs.Moved.{file_entries};
+ghost use Rattle.wild_contents.specs.Own.{entry_bytes, section_entry_bytes};
+
+use crate::part_bytes::PartBytes;
+use std::alloc::AllocError;
+use wild_needs::is_moved;
+use wild_records::Rela;
+use wild_relax::Arch;
+use wild_sections::{Resolved, moved_value};
+use wild_tables::relative_entry;
+use wild_types::{File, InputRelocation, InputSection, Layout};
+
+/// The place of a relocation, where that has an entry.
+fn listed_place(
+    layout: &Layout,
+    section: &InputSection,
+    relocation: &InputRelocation,
+) -> Option<u64>
+    ensures { result ≡ listed_place layout.now section.now relocation.now }
+{
+    let place = section.place_of(relocation);
+    if is_moved(layout, section, relocation) && !layout.packs(place) {
+        Some(place)
+    } else {
+        None
+    }
+}
+
+/// Adds an entry.
+pub(crate) fn add_entry(entry: Rela, bytes: &mut PartBytes) -> Result<(), AllocError>
+    ensures { OnOk result (bytes.new ≡ bytes.old ++ rela_bytes (entry ∷ [])) }
+{
+    let mut room = [0; Rela::SIZE];
+    entry.put(&mut room);
+    bytes.extend(&room)
+}
+
+/// Adds the entry of a relocation, where it has one.
+#[tactic(auto, unfolding(crate::specs::Own::entry_bytes))]
+fn add_listed<A: Arch>(
+    resolved: &Resolved<A>,
+    section: &InputSection,
+    relocation: &InputRelocation,
+    bytes: &mut PartBytes,
+) -> Result<(), AllocError>
+    ensures { OnOk result (bytes.new ≡ bytes.old ++ entry_bytes resolved.now.layout.now section.now relocation.now) }
+{
+    match listed_place(resolved.layout, section, relocation) {
+        Some(place) => {
+            let value = moved_value(resolved, relocation);
+            add_entry(relative_entry(resolved.layout, place, value), bytes)
+        }
+        None => Ok(()),
+    }
+}
+
+/// Adds the entries of the relocations of a section.
+fn add_all_listed<A: Arch>(
+    resolved: &Resolved<A>,
+    section: &InputSection,
+    bytes: &mut PartBytes,
+) -> Result<(), AllocError>
+    ensures { OnOk result (bytes.new ≡ bytes.old ++ flat_map (entry_bytes resolved.now.layout.now section.now) section.now.relocations) }
+{
+    for relocation in section.relocations.as_slice() {
+        add_listed(resolved, section, relocation, bytes)?;
+    }
+    Ok(())
+}
+
+/// Adds the entries of a section.
+#[tactic(auto, using(crate::proofs::OwnLemmas::listed_entries, crate::proofs::OwnLemmas::no_entries))]
+fn add_section_entries<A: Arch>(
+    resolved: &Resolved<A>,
+    section: &InputSection,
+    bytes: &mut PartBytes,
+) -> Result<(), AllocError>
+    ensures { OnOk result (bytes.new ≡ bytes.old ++ section_entry_bytes resolved.now.layout.now section.now) }
+{
+    if resolved.layout.has_moved(section) {
+        add_all_listed(resolved, section, bytes)?;
+    }
+    Ok(())
+}
+
+/// Adds the entries of a file.
+#[tactic(auto, using(crate::proofs::OwnLemmas::entries_joined))]
+pub(crate) fn add_entries<A: Arch>(
+    resolved: &Resolved<A>,
+    file: &File,
+    bytes: &mut PartBytes,
+) -> Result<(), AllocError>
+    ensures { OnOk result (bytes.new ≡ bytes.old ++ rela_bytes (file_entries resolved.now.layout.now file.now)) }
+{
+    for section in file.sections.as_slice() {
+        add_section_entries(resolved, section, bytes)?;
+    }
+    Ok(())
+}

@@ -1,0 +1,159 @@
+//! The entries of a file that name a symbol or a resolver: those of the symbols that it has copied into the output, and
+//! those of fields that are left to a loader (gABI, "Relocation"; x86-64 psABI, "Relocation Types").
+ghost use Rattle.std.specs.Prelude.{◌≡◌, ◌++◌, OnOk};
+ghost use Rattle.std.specs.List.{flat_map};
+ghost use Rattle.wild_types.specs.FileSymbols.{copies_of};
+ghost use Rattle.wild_slot.specs.Treatment.{treatment};
+ghost use Rattle.wild_tables.specs.Entries.{rela_bytes};
+ghost use Rattle.wild_layout.specs.Left.{entry_for, index_or_zero, copy_entry, file_generals};
+ghost use Rattle.wild_contents.specs.General.{left_in, left_bytes, section_general_bytes, copy_bytes};
+
+use crate::entries::add_entry;
+use crate::part_bytes::PartBytes;
+use std::alloc::AllocError;
+use wild_records::Rela;
+use wild_relax::Arch;
+use wild_reloc::DynamicRelocationKind;
+use wild_sections::{Resolved, added, decided_address, index_of, or_zero, raw_address};
+use wild_slot::{Treatment, treatment_of, type_of};
+use wild_types::{File, InputRelocation, InputSection, Layout, SymbolIndex};
+
+/// An entry for a place, with the low 32 bits of an index in the dynamic symbol table and an addend modulo 2^64.
+fn entry_for(place: u64, number: u32, symbol: u64, addend: u64) -> Rela
+    ensures { result ≡ entry_for place number symbol addend }
+{
+    Rela {
+        offset: place,
+        number,
+        symbol: (symbol % (1 << 32)) as u32,
+        addend: addend.cast_signed(),
+    }
+}
+
+/// The index of a symbol in the dynamic symbol table; 0 where it has none.
+fn index_or_zero(layout: &Layout, symbol: SymbolIndex) -> u64
+    ensures { result ≡ index_or_zero layout.now symbol }
+{
+    index_of(layout, symbol).unwrap_or(0)
+}
+
+/// The entry of a relocation, where its field is left to one.
+#[tactic(auto, unfolding(crate::specs::General::left_in))]
+fn left_entry(layout: &Layout, section: &InputSection, relocation: &InputRelocation) -> Option<Rela>
+    ensures { result ≡ left_in layout.now section.now relocation.now }
+{
+    let place = section.place_of(relocation);
+    match treatment_of(layout, section, relocation) {
+        Treatment::Symbolic(symbol) => {
+            let number = type_of(layout.machine, DynamicRelocationKind::Absolute);
+            let index = index_or_zero(layout, symbol);
+            Some(entry_for(place, number, index, added(relocation)))
+        }
+        Treatment::Indirect(symbol) => {
+            let number = type_of(layout.machine, DynamicRelocationKind::Irelative);
+            let resolver = or_zero(decided_address(layout, symbol));
+            Some(entry_for(place, number, 0, resolver))
+        }
+        Treatment::Extent(_, symbol) => {
+            let index = index_or_zero(layout, symbol);
+            Some(entry_for(place, relocation.number, index, added(relocation)))
+        }
+        _ => None,
+    }
+}
+
+/// Adds the entry of a relocation, where its field is left to one.
+#[tactic(auto, unfolding(crate::specs::General::left_bytes))]
+fn add_left(
+    layout: &Layout,
+    section: &InputSection,
+    relocation: &InputRelocation,
+    bytes: &mut PartBytes,
+) -> Result<(), AllocError>
+    ensures { OnOk result (bytes.new ≡ bytes.old ++ left_bytes layout.now section.now relocation.now) }
+{
+    match left_entry(layout, section, relocation) {
+        Some(entry) => add_entry(entry, bytes),
+        None => Ok(()),
+    }
+}
+
+/// Adds the entries of the relocations of a section.
+fn add_all_left(
+    layout: &Layout,
+    section: &InputSection,
+    bytes: &mut PartBytes,
+) -> Result<(), AllocError>
+    ensures { OnOk result (bytes.new ≡ bytes.old ++ flat_map (left_bytes layout.now section.now) section.now.relocations) }
+{
+    for relocation in section.relocations.as_slice() {
+        add_left(layout, section, relocation, bytes)?;
+    }
+    Ok(())
+}
+
+/// Adds the entries of a section.
+#[tactic(auto, using(crate::proofs::GeneralLemmas::section_left, crate::proofs::GeneralLemmas::none_left))]
+fn add_section_left(
+    layout: &Layout,
+    section: &InputSection,
+    bytes: &mut PartBytes,
+) -> Result<(), AllocError>
+    ensures { OnOk result (bytes.new ≡ bytes.old ++ section_general_bytes layout.now section.now) }
+{
+    if section.is_read() {
+        add_all_left(layout, section, bytes)?;
+    }
+    Ok(())
+}
+
+/// Adds the entries of the sections of a file.
+fn add_sections_left(layout: &Layout, file: &File, bytes: &mut PartBytes) -> Result<(), AllocError>
+    ensures { OnOk result (bytes.new ≡ bytes.old ++ flat_map (section_general_bytes layout.now) file.now.sections) }
+{
+    for section in file.sections.as_slice() {
+        add_section_left(layout, section, bytes)?;
+    }
+    Ok(())
+}
+
+/// The entry by which a loader copies a symbol's bytes to its address.
+fn copy_entry<A: Arch>(resolved: &Resolved<A>, symbol: SymbolIndex) -> Rela
+    ensures { result ≡ copy_entry resolved.now.layout.now symbol }
+{
+    let layout = resolved.layout;
+    entry_for(
+        or_zero(raw_address(resolved, Some(symbol))),
+        type_of(layout.machine, DynamicRelocationKind::Copy),
+        index_or_zero(layout, symbol),
+        0,
+    )
+}
+
+/// Adds the entries of the symbols that a file has copied.
+#[tactic(auto, unfolding(crate::specs::General::copy_bytes))]
+fn add_copies<A: Arch>(
+    resolved: &Resolved<A>,
+    file: &File,
+    bytes: &mut PartBytes,
+) -> Result<(), AllocError>
+    ensures { OnOk result (bytes.new ≡ bytes.old ++ flat_map (copy_bytes resolved.now.layout.now) (copies_of file.now)) }
+{
+    for symbol in file.copied() {
+        add_entry(copy_entry(resolved, *symbol), bytes)?;
+    }
+    Ok(())
+}
+
+/// Adds the entries of a file: its copies', and then its fields'.
+#[tactic(auto, using(crate::proofs::GeneralLemmas::generals_joined))]
+pub(crate) fn add_generals<A: Arch>(
+    resolved: &Resolved<A>,
+    file: &File,
+    bytes: &mut PartBytes,
+) -> Result<(), AllocError>
+    ensures { OnOk result (bytes.new ≡ bytes.old ++ rela_bytes (file_generals resolved.now.layout.now file.now)) }
+{
+    add_copies(resolved, file, bytes)?;
+    add_sections_left(resolved.layout, file, bytes)
+}

@@ -1,0 +1,42 @@
+//! What a file gives to the parts that a loader reads, and to those of the table of all symbols.
+ghost use Rattle.std.specs.Prelude.{◌≡◌, ◌++◌, OnOk};
+ghost use Rattle.wild_layout.specs.Content.{own_bytes};
+
+use crate::entries::add_entries;
+use crate::hashes::{add_gnu, add_sysv};
+use crate::left::add_generals;
+use crate::part_bytes::PartBytes;
+use crate::strings::add_file_strings;
+use crate::symtab::{add_file_indexes, add_file_names};
+use crate::versions::{add_definitions, add_versions};
+use crate::words::add_words;
+use std::alloc::{AllocError, Global};
+use wild_relax::Arch;
+use wild_sections::Resolved;
+use wild_types::{File, Role};
+
+/// Adds what a file gives to a part of that role, of those that a loader reads and of those of the table of all symbols.
+pub(crate) fn add_own<A: Arch>(
+    alloc: Global,
+    resolved: &Resolved<A>,
+    role: Role,
+    file: &File,
+    bytes: &mut PartBytes,
+) -> Result<(), AllocError>
+    ensures { OnOk result (bytes.new ≡ bytes.old ++ own_bytes resolved.now.layout.now role file.now) }
+{
+    match role {
+        Role::RelaDynRelative => add_entries(resolved, file, bytes),
+        Role::RelrDyn => add_words(alloc, resolved.layout, file, bytes),
+        Role::RelaDynGeneral => add_generals(resolved, file, bytes),
+        Role::Dynstr => add_file_strings(resolved.layout, file, bytes),
+        Role::GnuVersion => add_versions(alloc, resolved.layout, file, bytes),
+        Role::GnuVersionD => add_definitions(alloc, resolved, file, bytes),
+        Role::SysvHash => add_sysv(alloc, resolved, file, bytes),
+        Role::GnuHash => add_gnu(alloc, resolved, file, bytes),
+        Role::SymtabShndxLocal => add_file_indexes(resolved, role, true, file, bytes),
+        Role::SymtabShndxGlobal => add_file_indexes(resolved, role, false, file, bytes),
+        Role::Strtab => add_file_names(resolved, file, bytes),
+        _ => Ok(()),
+    }
+}

@@ -1,0 +1,73 @@
+//! Why the slots of a file's symbols are not written.
+ghost use Rattle.std.specs.Prelude.{◌≡◌, Some};
+ghost use Rattle.wild_types.specs.Faults.{Answers};
+ghost use Rattle.wild_slot.specs.SymbolWords.{slots_of};
+ghost use Rattle.wild_layout.specs.Faults.{at_file, slot_fault, slot_refusal, symbol_errors, slot_errors};
+
+use wild_sections::InputPlace;
+use wild_slot::{SlotFault, SymbolSlots};
+use wild_types::{Error, Fault, File, Layout, Missing, Resolution, Symbol};
+
+/// The fault of the slots of a symbol with that number.
+fn fault_of(index: usize, fault: SlotFault) -> Fault
+    ensures { result ≡ slot_fault index fault }
+{
+    match fault {
+        SlotFault::NoDynamicSymbol => Fault::MissingResolution {
+            what: Missing::DynamicSymbol,
+            symbol: index,
+        },
+        SlotFault::NoStub => Fault::MissingResolution {
+            what: Missing::Stub,
+            symbol: index,
+        },
+        SlotFault::PltTooFar { value } => Fault::PltTooFar { value },
+        SlotFault::TlsOutOfSegment { value } => Fault::TlsOutOfSegment { value },
+        SlotFault::StaticTlsDesc => Fault::StaticTlsDesc { symbol: index },
+    }
+}
+
+/// What keeps the slots of a symbol from being written; a symbol without a slot has none.
+#[tactic(auto, unfolding(wild_slot::specs::SymbolWords::slots_of, wild_slot::specs::Slots::slot))]
+fn fault_in(layout: &Layout, symbol: &Symbol) -> Option<SlotFault>
+    ensures { result ≡ (slots_of layout.now symbol.now).fault }
+{
+    match symbol.resolution {
+        Some(
+            Resolution {
+                got_address: Some(_),
+                ..
+            },
+        ) => SymbolSlots::of(layout, symbol).fault(),
+        _ => None,
+    }
+}
+
+/// Refuses slots of the symbol with that number that are not written.
+fn check_symbol(
+    layout: &Layout,
+    place: InputPlace,
+    index: usize,
+    symbol: &Symbol,
+) -> Result<(), Error>
+    ensures { Answers result (symbol_errors layout.now place.group place.file index symbol.now) }
+{
+    match fault_in(layout, symbol) {
+        Some(fault) => Err(Error {
+            fault: fault_of(index, fault),
+            at: place.file(),
+        }),
+        None => Ok(()),
+    }
+}
+
+/// Refuses slots of a file's symbols that are not written: answers the first fault in the order of the symbols.
+#[tactic(auto, using(wild_sections::proofs::FaultLemmas::first_behind), unfolding(wild_layout::specs::Faults::slot_errors))]
+pub(crate) fn check_slots(layout: &Layout, place: InputPlace, file: &File) -> Result<(), Error>
+    ensures { Answers result (slot_errors layout.now place.group place.file file.now) }
+{
+    for (i, symbol) in layout.own_symbols(file).iter().enumerate() {
+        check_symbol(layout, place, file.first_symbol.0 + i, symbol)?;
+    }
+    Ok(())
+}

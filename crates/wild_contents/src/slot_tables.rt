@@ -1,0 +1,125 @@
+//! What stands once at the start of the global offset table, and the words that pack a group's block of slots.
+ghost use Rattle.std.specs.Prelude.{◌≡◌, ◌-◌, ◌*◌, ◌^◌, ◌++◌, min, replicate, unwrap_or, OnOk};
+ghost use Rattle.wild_relr.specs.Packed.{bitmaps, bitmap_count};
+ghost use Rattle.wild_relr.specs.Written.{word_bytes};
+ghost use Rattle.wild_slot.specs.SlotParts.{slot_words};
+ghost use Rattle.wild_needs.specs.SlotShares.{storage_words, words_of_block};
+ghost use Rattle.wild_slot.specs.declared.slot_parts.WordPart.TheVariants as words;
+ghost use Rattle.wild_tables.specs.Entries.{rela_bytes};
+ghost use Rattle.wild_layout.specs.SlotBytes.{storage_entries, header_bytes, block_bytes};
+
+use crate::part_bytes::PartBytes;
+use crate::slot_words::{add_slot_entries, add_slot_words, add_word};
+use std::alloc::AllocError;
+use wild_needs::{Block, group_block};
+use wild_slot::{EntryPart, Setting, WordPart, storage_pair};
+use wild_types::{Group, Layout, Role};
+
+/// Adds so many words that are 0.
+fn add_zeros(count: u64, bytes: &mut PartBytes) -> Result<(), AllocError>
+    ensures { OnOk result (bytes.new ≡ bytes.old ++ word_bytes (replicate count 0)) }
+{
+    for _ in 0..count {
+        add_word(0, bytes)?;
+    }
+    Ok(())
+}
+
+/// Adds the pair of the output's own thread-local data, where it has a place.
+fn add_pair(layout: &Layout, bytes: &mut PartBytes) -> Result<(), AllocError>
+    ensures { OnOk result (bytes.new ≡ bytes.old ++ word_bytes (slot_words words.Got layout.now.options.relr (unwrap_or layout.now.tlsld 0) (storage_words layout.now))) }
+{
+    match layout.tlsld {
+        Some(place) => {
+            let pair = storage_pair(&Setting::of(layout));
+            add_slot_words(WordPart::Got, layout.options.relr, place, &pair, bytes)
+        }
+        None => Ok(()),
+    }
+}
+
+/// Adds the entries of that pair.
+fn add_pair_entries(layout: &Layout, bytes: &mut PartBytes) -> Result<(), AllocError>
+    ensures { OnOk result (bytes.new ≡ bytes.old ++ rela_bytes (storage_entries layout.now)) }
+{
+    match layout.tlsld {
+        Some(place) => {
+            let pair = storage_pair(&Setting::of(layout));
+            let relr = layout.options.relr;
+            add_slot_entries(
+                EntryPart::General,
+                layout.machine,
+                relr,
+                place,
+                &pair,
+                bytes,
+            )
+        }
+        None => Ok(()),
+    }
+}
+
+/// Adds what stands once of a part of that role: reserved words, which are 0, and that pair.
+pub(crate) fn add_header(
+    layout: &Layout,
+    role: Role,
+    bytes: &mut PartBytes,
+) -> Result<(), AllocError>
+    ensures { OnOk result (bytes.new ≡ bytes.old ++ header_bytes layout.now role) }
+{
+    match role {
+        Role::Got => {
+            add_zeros(layout.got_header, bytes)?;
+            add_pair(layout, bytes)
+        }
+        Role::RelaDynGeneral => add_pair_entries(layout, bytes),
+        _ => Ok(()),
+    }
+}
+
+/// The bitmap word of so many slots, all of whose bits are set, at most 63.
+#[tactic(auto, using(wild_relr::proofs::WriterLemmas::full_shift))]
+fn full_bitmap(slots: u64) -> u64
+    ensures { result ≡ 2 * 2 ^ min slots 63 - 1 }
+{
+    u64::MAX >> (63 - slots.min(63))
+}
+
+/// Adds the bitmap words of so many slots.
+fn add_bitmaps(slots: u64, bytes: &mut PartBytes) -> Result<(), AllocError>
+    ensures { OnOk result (bytes.new ≡ bytes.old ++ word_bytes (bitmaps (bitmap_count slots) slots)) }
+{
+    let mut rest = slots;
+    while rest > 0 {
+        add_word(full_bitmap(rest), bytes)?;
+        rest = rest.saturating_sub(63);
+    }
+    Ok(())
+}
+
+/// Adds the words that pack a block: its address, and the bitmap words of the slots behind its first (gABI, "Relative
+/// Relocation Table").
+fn add_words_of_block(block: Block, bytes: &mut PartBytes) -> Result<(), AllocError>
+    ensures { OnOk result (bytes.new ≡ bytes.old ++ word_bytes (words_of_block block)) }
+{
+    if block.base == 0 || block.count == 0 {
+        return Ok(());
+    }
+    add_word(block.base, bytes)?;
+    add_bitmaps(block.count - 1, bytes)
+}
+
+/// Adds the words that pack a group's block of slots, where the part of that role has them.
+pub(crate) fn add_block(
+    layout: &Layout,
+    role: Role,
+    group: &Group,
+    bytes: &mut PartBytes,
+) -> Result<(), AllocError>
+    ensures { OnOk result (bytes.new ≡ bytes.old ++ block_bytes layout.now role group.now) }
+{
+    if matches!(role, Role::RelrDyn) {
+        add_words_of_block(group_block(layout, group), bytes)?;
+    }
+    Ok(())
+}

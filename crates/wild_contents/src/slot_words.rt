@@ -1,0 +1,79 @@
+//! Words of slots in the parts that they give something to.
+ghost use Rattle.std.specs.Prelude.{◌≡◌, ◌∷◌, [], ◌++◌, OnOk};
+ghost use Rattle.wild_slot.specs.SlotParts.{slot_words, slot_entries, flat_places};
+ghost use Rattle.wild_relr.specs.Written.{word_bytes};
+ghost use Rattle.wild_tables.specs.Entries.{rela_bytes};
+
+use crate::entries::add_entry;
+use crate::part_bytes::PartBytes;
+use std::alloc::AllocError;
+use wild_slot::{EntryPart, SlotWord, WordPart, entry_of, flat_place, next_word, word_of};
+use wild_types::Machine;
+
+/// Adds a word.
+#[tactic(auto, using(wild_words::proofs::WordLemmas::word_8))]
+pub(crate) fn add_word(word: u64, bytes: &mut PartBytes) -> Result<(), AllocError>
+    ensures { OnOk result (bytes.new ≡ bytes.old ++ word_bytes (word ∷ [])) }
+{
+    bytes.extend(&word.to_le_bytes())
+}
+
+/// Adds what words, which stand from a place on, have in a part.
+pub(crate) fn add_slot_words(
+    part: WordPart,
+    relr: bool,
+    place: u64,
+    words: &[SlotWord],
+    bytes: &mut PartBytes,
+) -> Result<(), AllocError>
+    ensures { OnOk result (bytes.new ≡ bytes.old ++ word_bytes (slot_words part relr place words.now)) }
+{
+    let mut place = place;
+    for word in words {
+        if let Some(value) = word_of(part, relr, place, *word) {
+            add_word(value, bytes)?;
+        }
+        place = next_word(place);
+    }
+    Ok(())
+}
+
+/// Adds the entries of words in a part.
+pub(crate) fn add_slot_entries(
+    part: EntryPart,
+    machine: Machine,
+    relr: bool,
+    place: u64,
+    words: &[SlotWord],
+    bytes: &mut PartBytes,
+) -> Result<(), AllocError>
+    ensures { OnOk result (bytes.new ≡ bytes.old ++ rela_bytes (slot_entries part machine relr place words.now)) }
+{
+    let mut place = place;
+    for word in words {
+        if let Some(entry) = entry_of(part, machine, relr, place, *word) {
+            add_entry(entry, bytes)?;
+        }
+        place = next_word(place);
+    }
+    Ok(())
+}
+
+/// Adds the places of words that have a RELR word of their own.
+pub(crate) fn add_flat_places(
+    relr: bool,
+    place: u64,
+    words: &[SlotWord],
+    bytes: &mut PartBytes,
+) -> Result<(), AllocError>
+    ensures { OnOk result (bytes.new ≡ bytes.old ++ word_bytes (flat_places relr place words.now)) }
+{
+    let mut place = place;
+    for word in words {
+        if let Some(packed) = flat_place(relr, place, *word) {
+            add_word(packed, bytes)?;
+        }
+        place = next_word(place);
+    }
+    Ok(())
+}

@@ -1,0 +1,162 @@
+//! The entries of a group in the dynamic symbol table (gABI, "Symbol Table"): the null symbol, file by file the symbols
+//! that other modules define, and in the last file those that other modules see. Their names stand one behind the other in
+//! the string table, from where the group's strings begin.
+ghost use Rattle.std.specs.Prelude.{◌≡◌, ◌++◌, [], ◌∷◌, List, map, true, OnOk, IfOk};
+ghost use Rattle.std.specs.List.{filter};
+ghost use Rattle.wild_needs.specs.DynamicStrings.{behind_text, undefined_symbols};
+ghost use Rattle.wild_needs.specs.DynamicSymbols.{is_undefined_entry};
+ghost use Rattle.wild_types.specs.Kinds.{needs_dynsym};
+ghost use Rattle.wild_symbols.specs.Symbols.{symbol_bytes};
+ghost use Rattle.wild_symbols.specs.DynamicEntries.{NamedFields, undefined, listed, file_symbols, entry_at, entries_at, null_entries, behind_lead, file_entries, group_symbols};
+
+use crate::listed::listed_or_none;
+use crate::part_bytes::PartBytes;
+use std::alloc::AllocError;
+use wild_needs::{behind_file, is_undefined_entry, lead_room};
+use wild_records::SymtabEntry;
+use wild_relax::Arch;
+use wild_sections::Resolved;
+use wild_symbols::{SymbolFields, entry_at, no_fields, undefined_fields};
+use wild_types::{DynamicSymbol, File, FileRole, Group, Layout, Symbol};
+
+/// Adds an entry.
+pub(crate) fn add_entry(entry: SymtabEntry, bytes: &mut PartBytes) -> Result<(), AllocError>
+    ensures { OnOk result (bytes.new ≡ bytes.old ++ symbol_bytes (entry ∷ [])) }
+{
+    let mut room = [0; SymtabEntry::SIZE];
+    entry.put(&mut room);
+    bytes.extend(&room)
+}
+
+/// The offset behind a string and its zero, at most 2^64 - 1.
+pub(crate) fn behind_text(at: u64, text: &[u8]) -> u64
+    ensures { result ≡ behind_text at text.now }
+{
+    at.saturating_add((text.len() as u64).saturating_add(1))
+}
+
+/// Adds the entry of a symbol whose name stands at an offset, and tells the offset behind that.
+fn add_symbol(
+    at: u64,
+    name: &[u8],
+    fields: SymbolFields,
+    bytes: &mut PartBytes,
+) -> Result<u64, AllocError>
+    ensures entry { OnOk result (bytes.new ≡ bytes.old ++ symbol_bytes (entry_at at fields ∷ [])) }
+    ensures next { IfOk result (λ next. next ≡ behind_text at name.now) }
+{
+    add_entry(entry_at(at, fields), bytes)?;
+    Ok(behind_text(at, name))
+}
+
+/// Adds the entries of the symbols that other modules define, of some of a file of that role.
+fn add_undefined(
+    role: FileRole,
+    symbols: &[Symbol],
+    at: u64,
+    bytes: &mut PartBytes,
+) -> Result<(), AllocError>
+    ensures { OnOk result (bytes.new ≡ bytes.old ++ symbol_bytes (entries_at at (map (undefined role) (filter (is_undefined_entry role) symbols.now)))) }
+{
+    let mut at = at;
+    for symbol in symbols {
+        if is_undefined_entry(role, symbol) {
+            let fields = undefined_fields(role, symbol);
+            at = add_symbol(at, symbol.name.as_slice(), fields, bytes)?;
+        }
+    }
+    Ok(())
+}
+
+/// Adds the entries of the symbols that other modules see.
+fn add_listed<A: Arch>(
+    resolved: &Resolved<A>,
+    symbols: &[DynamicSymbol],
+    at: u64,
+    bytes: &mut PartBytes,
+) -> Result<(), AllocError>
+    requires table { needs_dynsym resolved.now.layout.now.kind ≡ true }
+    ensures { OnOk result (bytes.new ≡ bytes.old ++ symbol_bytes (entries_at at (map (listed resolved.now.layout.now) symbols.now))) }
+{
+    let mut at = at;
+    for symbol in symbols {
+        let fields = listed_or_none(resolved, symbol);
+        at = add_symbol(at, symbol.name.as_slice(), fields, bytes)?;
+    }
+    Ok(())
+}
+
+/// Adds the entries of the symbols of a file, whose names begin at an offset.
+fn add_symbols<A: Arch>(
+    resolved: &Resolved<A>,
+    file: &File,
+    at: u64,
+    bytes: &mut PartBytes,
+) -> Result<(), AllocError>
+    requires table { needs_dynsym resolved.now.layout.now.kind ≡ true }
+    ensures { OnOk result (bytes.new ≡ bytes.old ++ symbol_bytes (entries_at at (file_symbols resolved.now.layout.now file.now))) }
+{
+    let layout = resolved.layout;
+    if file.role.is_epilogue() {
+        add_listed(resolved, layout.dynsyms.as_slice(), at, bytes)
+    } else {
+        add_undefined(file.role, layout.symbols_of(file), at, bytes)
+    }
+}
+
+/// Adds the null symbol, where the file is the first one.
+fn add_null(file: &File, bytes: &mut PartBytes) -> Result<(), AllocError>
+    ensures { OnOk result (bytes.new ≡ bytes.old ++ symbol_bytes (null_entries file.now)) }
+{
+    if file.role.is_prelude() {
+        add_entry(entry_at(0, no_fields()), bytes)?;
+    }
+    Ok(())
+}
+
+/// The offset behind the strings that no symbol has for its name, of a file whose strings begin at an offset.
+fn behind_lead(layout: &Layout, at: u64, file: &File) -> u64
+    ensures { result ≡ behind_lead layout.now at file.now }
+{
+    at.saturating_add(lead_room(layout, file))
+}
+
+/// Adds the entries of a file whose strings begin at an offset.
+#[tactic(auto, using(crate::proofs::SymbolLemmas::file_joined))]
+fn add_file<A: Arch>(
+    resolved: &Resolved<A>,
+    file: &File,
+    at: u64,
+    bytes: &mut PartBytes,
+) -> Result<(), AllocError>
+    requires table { needs_dynsym resolved.now.layout.now.kind ≡ true }
+    ensures { OnOk result (bytes.new ≡ bytes.old ++ symbol_bytes (file_entries resolved.now.layout.now at file.now)) }
+{
+    add_null(file, bytes)?;
+    add_symbols(
+        resolved,
+        file,
+        behind_lead(resolved.layout, at, file),
+        bytes,
+    )
+}
+
+/// Adds the entries of a group.
+#[tactic(auto, unfolding(wild_symbols::specs::DynamicEntries::group_symbols))]
+pub(crate) fn add_group_symbols<A: Arch>(
+    resolved: &Resolved<A>,
+    group: &Group,
+    bytes: &mut PartBytes,
+) -> Result<(), AllocError>
+    ensures { OnOk result (bytes.new ≡ bytes.old ++ symbol_bytes (group_symbols resolved.now.layout.now group.now)) }
+{
+    if !resolved.layout.kind.needs_dynsym() {
+        return Ok(());
+    }
+    let mut at = group.dynstr_start;
+    for file in group.files.as_slice() {
+        add_file(resolved, file, at, bytes)?;
+        at = behind_file(resolved.layout, at, file);
+    }
+    Ok(())
+}

@@ -1,0 +1,53 @@
+//! The versions of dynamic symbols, those that the output defines, and those that it needs of libraries (LSB, "Symbol
+//! Versioning").
+ghost use Rattle.std.specs.Prelude.{◌≡◌, ◌++◌, OnOk};
+ghost use Rattle.wild_versions.specs.Symbols.{version_bytes};
+ghost use Rattle.wild_versions.specs.Names.{symbol_versions, file_definitions, group_needs};
+ghost use Rattle.wild_contents.specs.Given.{NeedsFit};
+
+use crate::part_bytes::PartBytes;
+use std::alloc::{AllocError, Global};
+use wild_relax::Arch;
+use wild_sections::Resolved;
+use wild_types::{File, Group, Layout};
+use wild_versions::{file_definitions, file_versions, group_needs};
+
+/// Adds the versions of the symbols that a file has in the dynamic symbol table.
+pub(crate) fn add_versions(
+    alloc: Global,
+    layout: &Layout,
+    file: &File,
+    bytes: &mut PartBytes,
+) -> Result<(), AllocError>
+    ensures { OnOk result (bytes.new ≡ bytes.old ++ version_bytes (symbol_versions layout.now file.now)) }
+{
+    let versions = file_versions(alloc, layout, file)?;
+    bytes.extend(&versions)
+}
+
+/// Adds the versions that the output defines, where the file is the last one.
+pub(crate) fn add_definitions<A: Arch>(
+    alloc: Global,
+    resolved: &Resolved<A>,
+    file: &File,
+    bytes: &mut PartBytes,
+) -> Result<(), AllocError>
+    ensures { OnOk result (bytes.new ≡ bytes.old ++ file_definitions resolved.now.layout.now file.now) }
+{
+    let definitions = file_definitions(alloc, resolved.layout, file)?;
+    bytes.extend(&definitions)
+}
+
+/// Adds the versions that are needed of a group's libraries.
+pub(crate) fn add_needs(
+    alloc: Global,
+    layout: &Layout,
+    group: &Group,
+    bytes: &mut PartBytes,
+) -> Result<(), AllocError>
+    requires { NeedsFit group.now }
+    ensures { OnOk result (bytes.new ≡ bytes.old ++ group_needs layout.now group.now) }
+{
+    let needs = group_needs(alloc, layout, group)?;
+    bytes.extend(&needs)
+}

@@ -1,6 +1,0 @@
-use Rattle.std.proofs.Common.{◌≡◌, take}
-use Rattle.wild_image.specs.Decided.{decided_extents}
-use Rattle.wild_image.proofs.overlap.extents_of.Given as goal
-
-abbrev pub invariant-loop-i : goal.invariant-loop-i
-invariant-loop-i l = l.extents.items ≡ decided_extents (take l.i l.relocations) (take l.i l.decisions)

@@ -1,5 +1,0 @@
-use Rattle.wild_image.proofs.AscendingLemmas.{HasAscended}
-use Rattle.wild_image.proofs.section.write_ascending.Given as goal
-
-abbrev pub invariant-loop-index : goal.invariant-loop-index
-invariant-loop-index g l = HasAscended l.resolved.layout.now l.place.group l.place.file l.place.section l.section l.index l.reach l.room

@@ -1,7 +1,0 @@
-use Rattle.std.proofs.Common.{◌≡◌, ◌++◌, drop}
-use Rattle.wild_needs.specs.Versions.{needed_names}
-use Rattle.wild_symbols.specs.Strings.{string_bytes}
-use Rattle.wild_image.proofs.strings.add_needed_names.Given as goal
-
-abbrev pub invariant-loop-version : goal.invariant-loop-version
-invariant-loop-version l = l.bytes ++ string_bytes (needed_names (drop l.version-index l.versions)) ≡ l.initial.bytes ++ string_bytes (needed_names l.versions)

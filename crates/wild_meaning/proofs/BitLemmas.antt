@@ -1,0 +1,65 @@
+-- Flags of sections, as the writer tests them and as the reader does.
+use Rattle.std.proofs.Common.{◌≡◌, ℕ, ◌*◌, ◌/◌, ◌%◌, true, refl, arith}
+use Rattle.std.specs.Int.RustNames.{bit_and}
+use Rattle.std.proofs.lemmas.Nat.Bits.{and_pow}
+use Rattle.std.proofs.lemmas.Bool.{eqb-true}
+use Rattle.wild_records.specs.Abi.Section.{shf_alloc, shf_execinstr, shf_write, shf_tls}
+use Rattle.wild_types.specs.Lookups.{bit, allocated, executable, is_read, writable, thread_local}
+use Rattle.wild_types.specs.declared.input.InputSection.{InputSection}
+use Rattle.wild_types.specs.declared.layout.Layout.{Layout}
+use Rattle.wild_types.proofs.LookupLemmas.{read_if}
+use Rattle.wild_meaning.specs.Section.{IsSet}
+use Rattle.wild_meaning.specs.Item.{IsKeptSection}
+
+pub alloc_bit : (f : ℕ) → IsSet f shf_alloc → allocated f ≡ true
+unfolding bit
+alloc_bit f h =
+    let a : bit_and f 2 ≡ f / 2 % 2 * 2 = and_pow f 1 in
+    let e : bit_and f 2 ≡ 2 = omega (arith, a, h) in
+    rw e refl
+
+pub bit_alloc : (f : ℕ) → allocated f ≡ true → IsSet f shf_alloc
+unfolding bit
+bit_alloc f h =
+    let a : bit_and f 2 ≡ f / 2 % 2 * 2 = and_pow f 1 in
+    let e : bit_and f 2 ≡ 2 = eqb-true _ _ h in
+    omega (arith, a, e)
+
+pub write_bit : (f : ℕ) → IsSet f shf_write → writable f ≡ true
+unfolding bit
+write_bit f h =
+    let a : bit_and f 1 ≡ f / 1 % 2 * 1 = and_pow f 0 in
+    let e : bit_and f 1 ≡ 1 = omega (arith, a, h) in
+    rw e refl
+
+pub bit_write : (f : ℕ) → writable f ≡ true → IsSet f shf_write
+unfolding bit
+bit_write f h =
+    let a : bit_and f 1 ≡ f / 1 % 2 * 1 = and_pow f 0 in
+    let e : bit_and f 1 ≡ 1 = eqb-true _ _ h in
+    omega (arith, a, e)
+
+pub code_bit : (f : ℕ) → IsSet f shf_execinstr → executable f ≡ true
+unfolding bit
+code_bit f h =
+    let a : bit_and f 4 ≡ f / 4 % 2 * 4 = and_pow f 2 in
+    let e : bit_and f 4 ≡ 4 = omega (arith, a, h) in
+    rw e refl
+
+pub bit_code : (f : ℕ) → executable f ≡ true → IsSet f shf_execinstr
+unfolding bit
+bit_code f h =
+    let a : bit_and f 4 ≡ f / 4 % 2 * 4 = and_pow f 2 in
+    let e : bit_and f 4 ≡ 4 = eqb-true _ _ h in
+    omega (arith, a, e)
+
+pub thread_local_bit : (f : ℕ) → IsSet f shf_tls → thread_local f ≡ true
+unfolding bit
+thread_local_bit f h =
+    let a : bit_and f 1024 ≡ f / 1024 % 2 * 1024 = and_pow f 10 in
+    let e : bit_and f 1024 ≡ 1024 = omega (arith, a, h) in
+    rw e refl
+
+-- a kept section is one that the writer reads
+pub kept_is_read : (l : Layout) (s : InputSection) → IsKeptSection l s → is_read s ≡ true
+kept_is_read l s k = read_if s _ k.loaded refl k.has_data

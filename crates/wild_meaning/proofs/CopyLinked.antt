@@ -1,0 +1,163 @@
+-- The image of the worked program with a copied symbol is linked in its world.
+use Rattle.std.proofs.Common.{◌≡◌, ℕ, zero, suc, ◌+◌, ◌-◌, ◌<◌, ◌≤◌, ◌⊎◌, inl, inr, true, false, List, [], ◌∷◌, ◌++◌, refl, sym, ap, ◌∙◌, subst, arith}
+use Rattle.std.specs.Prelude.{Some, None, Contains, All, slice_index_or, replicate}
+use Rattle.std.proofs.lemmas.List.{get_or-replicate}
+use Rattle.std.proofs.lemmas.List.Elements.{All-from_recursion, All-contains}
+use lib.IntN.{pos}
+use Rattle.wild_words.specs.Words.{number}
+use Rattle.wild_words.specs.Record.{spell}
+use Rattle.wild_words.proofs.RecordLemmas.{Stands-left}
+use Rattle.wild_records.specs.Abi.Relocation.{r_x86_64_64}
+use Rattle.wild_records.specs.FileHeader.{file_header_fields}
+use Rattle.wild_records.specs.ProgramHeader.{program_header_fields}
+use Rattle.wild_records.specs.SectionHeader.{section_header_fields}
+use Rattle.wild_records.specs.Relocations.{rela_fields}
+use Rattle.wild_reloc.specs.Formula.{formula, SymbolAddress, Full}
+use Rattle.wild_types.specs.declared.input.InputRelocation.{InputRelocation}
+use Rattle.wild_types.specs.declared.input.InputSection.{InputSection}
+use Rattle.wild_types.specs.declared.file.File.{File}
+use Rattle.wild_types.specs.declared.file.Group.{Group}
+use Rattle.wild_types.specs.declared.layout.Entry.TheVariants as entry
+use Rattle.wild_types.specs.Flags.{has_flag}
+use Rattle.wild_loader.specs.declared.world.Answer.{Answer}
+use Rattle.wild_loader.specs.Memory.{byte_in, Holds}
+use Rattle.wild_meaning.specs.Value.{HasValue}
+use Rattle.wild_meaning.specs.World.{HasCopy, IsBehind}
+use Rattle.wild_meaning.specs.Item.{Item, IsInput, IsKept, item_of}
+use Rattle.wild_meaning.specs.Reference.{IsLinkedAlone, ReferenceHolds, ItemHolds}
+use Rattle.wild_meaning.specs.Linked.{IsBlank, IsNotCopied, IsDecidedPlace}
+use Rattle.wild_meaning.specs.Worked.{reference, group_of}
+use Rattle.wild_meaning.specs.WorkedCopy.{copying, copying_data, copying_item, copying_blank, copying_object, copying_library, copying_world, copied_symbol, start_symbol, copied_answer, copied_bytes}
+use Rattle.wild_meaning.specs.WorkedCopyImage.{copying_memory, copying_header, copying_first, copying_second, copying_section, copying_entry, copying_words}
+use Rattle.wild_meaning.specs.CopyRefusals.{CopyingImageIsLinked}
+use Rattle.wild_meaning.proofs.Told.{only, raw_of}
+use Rattle.wild_meaning.proofs.Read.{held_from}
+use Rattle.wild_meaning.proofs.Refused.{not_alone, no_template}
+use Rattle.wild_meaning.proofs.CopyLegal.{copied_own, has_copy, copy_is}
+use Rattle.wild_meaning.proofs.CopyLoaded.{copying_loaded}
+use Rattle.wild_meaning.proofs.CopyRefused.{address_formula, copied_is_own, no_code}
+
+abbrev copied_reference : InputRelocation
+copied_reference = reference 0 r_x86_64_64 0 (pos 0)
+
+copied_value : HasValue copying copying_world 0 0x23100
+unfolding has_flag
+copied_value = inr (record { definition = 0; defined = record { symbol = copied_symbol; listed = refl; defined = inr (refl, refl) }; symbol = copied_symbol; listed = refl; told = refl }, copied_own.address)
+
+words_number : number copying_words ≡ 0x23100
+unfolding number
+words_number = refl
+
+copied_holds : ReferenceHolds copying copying_world copying_memory copying_item copied_reference
+copied_holds = inl (record {
+  formula = formula SymbolAddress Full;
+  known = address_formula;
+  value = 0x23100;
+  gives = record { symbol = 0x23100; denoted = inl copied_value; sum = refl };
+  field = record { bytes = copying_words; wide = refl; held = held_from copying_memory 0x21000 copying_words refl; reads = words_number; keeps = tt };
+  kept = λ start o first t. absurd (no_template copying copying_item copied_reference start o first no_code t);
+  does = λ start o first t. absurd (no_template copying copying_item copied_reference start o first no_code t);
+})
+
+abbrev Both : InputRelocation → Type 0
+Both r = ReferenceHolds copying copying_world copying_memory copying_item r × (IsLinkedAlone copying copying_item r → ⊥)
+
+each : All Both copying_item.relocations
+each = All-from_recursion Both copying_item.relocations ((copied_holds, (λ x. not_alone copying copying_item copied_reference _ 0 copied_is_own.symbol address_formula refl copied_is_own.is (λ e. absurd (let both : true ≡ false = sym e ∙ copied_is_own.own in cc)) x)), tt)
+
+no_other : (k : ℕ) → k < 8 → (k < 0) ⊎ (8 ≤ k) → ⊥
+no_other k lt (inl h) = omega (arith, h)
+no_other k lt (inr h) = omega (arith, lt, h)
+
+item_holds : ItemHolds copying copying_world copying_memory copying_item
+item_holds = record {
+  references = λ r ref asked alone. (All-contains Both copying_item.relocations r each ref.listed).0;
+  linked = λ r ref alone base. absurd ((All-contains Both copying_item.relocations r each ref.listed).1 alone);
+  others = λ k lt other. absurd (no_other k lt (other.fields 0 copied_reference (omega arith) (formula SymbolAddress Full) address_formula));
+}
+
+-- its sections are the object's
+abbrev sections : List InputSection
+sections = copying_data ∷ copying_blank ∷ []
+
+listed_in : (s : InputSection) → IsInput copying s → Contains sections s
+listed_in s h =
+    let group : group_of (copying_object ∷ copying_library ∷ []) ≡ h.group = only _ h.group h.grouped in
+    let filed : Contains (copying_object ∷ copying_library ∷ []) h.file = subst (λ (g : Group). Contains g.files h.file) (sym group) h.filed in
+    by s h.file filed.0 filed.1 filed.2 h.listed
+  where
+    by : (s : InputSection) (f : File) (k : ℕ) → k < 2 → slice_index_or (copying_object ∷ copying_library ∷ []) k f ≡ f → Contains f.sections s → Contains sections s
+    by s f zero lt e listed = subst (λ (g : File). Contains g.sections s) (sym e) listed
+    by s f (suc zero) lt e listed = absurd (let none : Contains [] s = subst (λ (g : File). Contains g.sections s) (sym e) listed in omega (arith, none.1))
+    by s f (suc (suc k)) lt e listed = absurd (omega (arith, lt))
+
+abbrev SectionHolds : InputSection → Type 0
+SectionHolds s = s.nobits ≡ false → ItemHolds copying copying_world copying_memory (item_of s)
+
+items_hold : (item : Item) → IsKept copying item → ItemHolds copying copying_world copying_memory item
+items_hold item h =
+    let there : SectionHolds h.section = All-contains SectionHolds sections h.section (All-from_recursion SectionHolds sections ((λ e. item_holds), ((λ e. absurd (let both : true ≡ false = e in cc)), tt))) (listed_in h.section h.kept.input) in
+    subst (λ (i : Item). ItemHolds copying copying_world copying_memory i) (sym h.is) (there h.kept.has_data)
+
+-- ---- zeros
+
+zeros_first : Holds copying_memory 0x23000 (replicate 256 0)
+zeros_first = held_from copying_memory 0x23000 (replicate 256 0) refl
+
+zeros_last : Holds copying_memory 0x23108 (replicate 248 0)
+zeros_last = held_from copying_memory 0x23108 (replicate 248 0) refl
+
+zero_at : (k : ℕ) → k < 0x200 → (0x3000 + k < 0x3100) ⊎ (0x3100 + 8 ≤ 0x3000 + k) → byte_in copying_memory (0x23000 + k) ≡ Some 0
+zero_at k lt (inl h) = zeros_first k (omega (arith, h)) ∙ ap Some (get_or-replicate 256 k 0 0 (omega (arith, h)))
+zero_at k lt (inr h) = behind k lt h ((k - 264)) (omega (arith, h))
+  where
+    behind : (k : ℕ) → k < 0x200 → 0x3100 + 8 ≤ 0x3000 + k → (j : ℕ) → k ≡ 264 + j → byte_in copying_memory (0x23000 + k) ≡ Some 0
+    behind k lt h j e =
+        let at : 0x23108 + j ≡ 0x23000 + k = omega (arith, e) in
+        subst (λ (a : ℕ). byte_in copying_memory a ≡ Some 0) at (zeros_last j (omega (arith, e, lt)) ∙ ap Some (get_or-replicate 248 j 0 0 (omega (arith, e, lt))))
+
+abbrev IsZero : InputSection → Type 0
+IsZero s = s.nobits ≡ true → (k : ℕ) → k < s.size → IsNotCopied copying copying_world (s.address + k) → byte_in copying_memory (copying_world.base + s.address + k) ≡ Some 0
+
+zeros : (s : InputSection) (k : ℕ) → IsBlank copying s → k < s.size → IsBehind copying (s.address + k) → IsNotCopied copying copying_world (s.address + k) → byte_in copying_memory (copying_world.base + s.address + k) ≡ Some 0
+zeros s k h lt behind beside =
+    let there : IsZero s = All-contains IsZero sections s (All-from_recursion IsZero sections ((λ e. absurd (let both : false ≡ true = e in cc)), ((λ e k lt beside. zero_at k lt (beside 0 0x3100 copied_answer has_copy)), tt))) (listed_in s h.input) in
+    there h.blank k lt beside
+
+copies : (i raw : ℕ) (x : Answer) → HasCopy copying copying_world i raw x → Holds copying_memory (copying_world.base + raw) x.bytes
+copies i raw x h =
+    let is = copy_is i raw x h in
+    subst (λ (y : Answer). Holds copying_memory (copying_world.base + raw) y.bytes) (sym is.2) (subst (λ (a : ℕ). Holds copying_memory (copying_world.base + a) copied_bytes) (sym is.1) (held_from copying_memory 0x23100 copied_bytes refl))
+
+-- ---- the whole
+
+begins : (i a : ℕ) → copying.entry ≡ Some (entry.Symbol i) → IsDecidedPlace copying i a → 0x1100 ≡ a
+begins i a e h =
+    let one : Some (entry.Symbol 1) ≡ Some (entry.Symbol i) = e in
+    let same : 1 ≡ i = cc in
+    let there : IsDecidedPlace copying 1 a = subst (λ (k : ℕ). IsDecidedPlace copying k a) (sym same) h in
+    sym (raw_of copying 1 a start_symbol _ refl refl (record { definition = there.definition; defined = there.defined; given = inl there.given }))
+
+pub copying_linked : CopyingImageIsLinked
+copying_linked = record {
+  memory = copying_memory;
+  accepted = copying_loaded;
+  machine = refl;
+  kept = items_hold;
+  zeros = zeros;
+  copies = copies;
+  header = record {
+    header = copying_header;
+    fits = record {
+      front = record { magic = omega arith; class = omega arith; encoding = omega arith; ident_version = omega arith; os_abi = omega arith; abi_version = omega arith; file_type = omega arith };
+      middle = record { machine = omega arith; version = omega arith; entry = omega arith; program_offset = omega arith; section_offset = omega arith; flags = omega arith; header_size = omega arith };
+      back = record { program_entry_size = omega arith; program_count = omega arith; section_entry_size = omega arith; section_count = omega arith; name_table = omega arith };
+    };
+    stands = Stands-left (spell (file_header_fields copying_header)) (spell (program_header_fields copying_first) ++ (spell (program_header_fields copying_second) ++ (spell (section_header_fields copying_section) ++ (spell (rela_fields copying_entry) ++ copying_words))));
+    fixed = λ f. absurd f;
+    movable = λ _. refl;
+    address = λ a e. absurd (let one : Some (entry.Symbol 1) ≡ Some (entry.Address a) = e in cc);
+    symbol = begins;
+    none = λ e. absurd (let one : Some (entry.Symbol 1) ≡ None = e in cc);
+  };
+}

@@ -1,0 +1,67 @@
+-- What memory has of a reference in data: its field reads as its formula.
+use Rattle.std.proofs.Common.{◌≡◌, ℕ, inl, inr, true, false, sym, ◌∙◌, subst}
+use Rattle.std.specs.Prelude.{◌≢◌, Some, Contains}
+use Rattle.wild_records.specs.Abi.Relocation.{r_x86_64_none}
+use Rattle.wild_records.specs.Abi.Section.{shf_execinstr}
+use Rattle.wild_reloc.specs.Formula.{Formula}
+use Rattle.wild_types.specs.declared.input.InputRelocation.{InputRelocation}
+use Rattle.wild_types.specs.declared.symbol.Symbol.{Symbol}
+use Rattle.wild_types.specs.declared.layout.Layout.{Layout}
+use Rattle.wild_types.specs.Flags.{has_flag, absolute}
+use Rattle.wild_loader.specs.declared.memory.Memory.{Memory}
+use Rattle.wild_loader.specs.declared.world.World.{World}
+use Rattle.wild_meaning.specs.Section.{IsSet}
+use Rattle.wild_meaning.specs.Value.{HasFlag, IsReplaceable, may_be_replaced}
+use Rattle.wild_meaning.specs.Item.{Item}
+use Rattle.wild_meaning.specs.Field.{formula_of, FieldReads}
+use Rattle.wild_meaning.specs.Formula.{Gives}
+use Rattle.wild_meaning.specs.Sequence.{Instruction}
+use Rattle.wild_meaning.specs.Template.{IsTemplate}
+use Rattle.wild_meaning.specs.Reference.{HoldsPlain, ReferenceHolds, IsExcepted, IsLinkedAlone, TakesItself, ItemHolds}
+use Rattle.wild_meaning.proofs.Told.{told, flag_of, owner_of}
+
+-- ---- which references are asked
+
+pub not_excepted : (l : Layout) (item : Item) (r : InputRelocation) (i : ℕ) (t : Symbol) → r.symbol ≡ Some i → told l i ≡ Some t → has_flag t.flags absolute ≡ false → IsExcepted l item r → ⊥
+not_excepted l item r i t named e moves h =
+    let both : Some i ≡ Some h.symbol = sym named ∙ h.named in
+    let same : h.symbol ≡ i = cc in
+    let still : HasFlag l i absolute true = subst (λ (k : ℕ). HasFlag l k absolute true) same h.absolute in
+    let flags : true ≡ false = sym (flag_of l i absolute true t e still) ∙ moves in
+    cc
+
+pub not_alone : (l : Layout) (item : Item) (r : InputRelocation) (f : Formula) (i : ℕ) (t : Symbol) → formula_of l.machine r.number ≡ Some f → r.symbol ≡ Some i → told l i ≡ Some t → (may_be_replaced l.kind t.flags ≡ true → TakesItself l item i f → ⊥) → IsLinkedAlone l item r → ⊥
+not_alone l item r f i t known named e takes h =
+    let both : Some i ≡ Some h.symbol = sym named ∙ h.named in
+    let same : h.symbol ≡ i = cc in
+    let formulas : Some h.formula ≡ Some f = sym h.known ∙ known in
+    let one : h.formula ≡ f = cc in
+    let other : IsReplaceable l i true = subst (λ (k : ℕ). IsReplaceable l k true) same h.replaceable in
+    let there : TakesItself l item i h.formula = subst (λ (k : ℕ). TakesItself l item k h.formula) same h.takes in
+    takes (owner_of l i true t e other) (subst (λ (g : Formula). TakesItself l item i g) one there)
+
+-- ---- in data
+
+-- a field of data belongs to no instruction
+pub no_template : (l : Layout) (item : Item) (r : InputRelocation) (start : ℕ) (o : Instruction) (first : InputRelocation) → (IsSet item.flags shf_execinstr → ⊥) → IsTemplate l item r start o first → ⊥
+no_template l item r start o first plain (inl h) = plain h.0.stands.code
+no_template l item r start o first plain (inr h) = plain h.sequence.stands.code
+
+-- what memory has of a reference in data
+pub record HasValueThere (l : Layout) (w : World) (m : Memory) (item : Item) (r : InputRelocation) (f : Formula) : Type 0 where
+  pub value : ℕ
+  pub gives : Gives f.value l w m item r value
+  pub field : FieldReads w m item r f.form value
+
+pub plain_there : (l : Layout) (w : World) (m : Memory) (item : Item) (r : InputRelocation) (f : Formula) → formula_of l.machine r.number ≡ Some f → HoldsPlain l w m item r → HasValueThere l w m item r f
+plain_there l w m item r f known h = let both : Some h.formula ≡ Some f = sym h.known ∙ known in let same : h.formula ≡ f = cc in subst (λ (g : Formula). HasValueThere l w m item r g) same (record { value = h.value; gives = h.gives; field = h.field })
+
+data_there : (l : Layout) (w : World) (m : Memory) (item : Item) (r : InputRelocation) (f : Formula) → (IsSet item.flags shf_execinstr → ⊥) → formula_of l.machine r.number ≡ Some f → ReferenceHolds l w m item r → HasValueThere l w m item r f
+data_there l w m item r f plain known (inl h) = plain_there l w m item r f known h
+data_there l w m item r f plain known (inr h) = absurd (no_template l item r h.start h.instruction h.first plain h.template)
+
+-- it has its value where it is asked
+pub value_there : (l : Layout) (w : World) (m : Memory) (item : Item) (r : InputRelocation) (f : Formula) (i : ℕ) (t : Symbol) → ItemHolds l w m item → (IsSet item.flags shf_execinstr → ⊥) → Contains item.relocations r → r.number ≢ r_x86_64_none → formula_of l.machine r.number ≡ Some f → r.symbol ≡ Some i → told l i ≡ Some t → has_flag t.flags absolute ≡ false → (may_be_replaced l.kind t.flags ≡ true → TakesItself l item i f → ⊥) → HasValueThere l w m item r f
+value_there l w m item r f i t holds plain listed refers known named e moves takes =
+    data_there l w m item r f plain known
+    (holds.references r (record { listed = listed; refers = refers }) (λ x. absurd (not_excepted l item r i t named e moves x)) (λ x. not_alone l item r f i t known named e takes x))

@@ -1,0 +1,147 @@
+-- A sequence of which one instruction was rewritten, and the call left, is refused.
+use Rattle.std.proofs.Common.{◌≡◌, ℕ, zero, suc, ◌+◌, ◌<◌, ◌≤◌, ◌⊎◌, inl, inr, true, false, List, [], ◌∷◌, refl, sym, ap, ◌∙◌, subst, arith}
+use Rattle.std.specs.Prelude.{Some, None, slice_get, slice_range}
+use Rattle.std.proofs.lemmas.List.Elements.{All-from_recursion}
+use Rattle.wild_records.specs.Abi.Relocation.{r_x86_64_plt32, r_x86_64_tlsgd}
+use Rattle.wild_reloc.specs.Formula.{Formula, formula, StubDistance, SlotDistance, ModulePair, Plain, Signed}
+use Rattle.wild_reloc.specs.FormulaX86_64.{x86_64_formula}
+use Rattle.wild_types.specs.declared.kind.Machine.TheVariants as machine
+use Rattle.wild_types.specs.declared.input.InputRelocation.{InputRelocation}
+use Rattle.wild_types.specs.Flags.{has_flag, ifunc}
+use Rattle.wild_loader.specs.declared.memory.Memory.{Memory}
+use Rattle.wild_loader.specs.Memory.{Holds}
+use Rattle.wild_meaning.specs.Instruction.{Reader, stands}
+use Rattle.wild_meaning.specs.InstructionX86_64.{meaning_x86_64, effect_x86_64}
+use Rattle.wild_meaning.specs.ThreadCodeX86_64.{general_call, general_slot_call, far_pair_call}
+use Rattle.wild_meaning.specs.Value.{HasFlag}
+use Rattle.wild_meaning.specs.Item.{IsKept}
+use Rattle.wild_meaning.specs.Field.{form_width, InNoField}
+use Rattle.wild_meaning.specs.Sequence.{Instruction, SymbolPair, size_of, of_sequence, by_call, by_slot, by_distance, instructions_of}
+use Rattle.wild_meaning.specs.Template.{IsInstruction, IsSequence, IsTemplate, reads, reads_alone, DoesDemanded}
+use Rattle.wild_meaning.specs.Reference.{ReferenceHolds}
+use Rattle.wild_meaning.specs.Worked.{Refuses}
+use Rattle.wild_meaning.specs.WorkedStatic.{static_pie, static_pie_world, general_code, general_item, pair_reference, getter_reference, thread_symbol, getter_symbol}
+use Rattle.wild_meaning.specs.StaticRefusals.{Has, half_sequence}
+use Rattle.wild_meaning.proofs.Meant.{meant}
+use Rattle.wild_meaning.proofs.OneReference.{Among, pick, has, has_is, fills, fills_is, same_bytes}
+use Rattle.wild_meaning.proofs.StaticRefused.{thread_is, holds_there}
+
+pub pair_formula : x86_64_formula r_x86_64_tlsgd ≡ Some (formula (SlotDistance ModulePair) (Plain 32 Signed))
+unfolding x86_64_formula
+pair_formula = refl
+
+plt_formula : x86_64_formula r_x86_64_plt32 ≡ Some (formula StubDistance (Plain 32 Signed))
+unfolding x86_64_formula
+plt_formula = refl
+
+abbrev pub general : Instruction
+general = of_sequence general_call 4 SymbolPair r_x86_64_tlsgd (by_call 12)
+
+-- ---- the sequence stands there
+
+past : (n offset k : ℕ) (g f : Formula) → x86_64_formula n ≡ Some g → form_width g.form ≡ 4 → (k < offset) ⊎ (offset + 4 ≤ k) → x86_64_formula n ≡ Some f → (k < offset) ⊎ (offset + form_width f.form ≤ k)
+past n offset k g f known wide (inl h) e = inl h
+past n offset k g f known wide (inr h) e =
+    let one : Some g ≡ Some f = sym known ∙ e in
+    let same : g ≡ f = cc in
+    let width : form_width f.form ≡ 4 = sym (ap (λ (x : Formula). form_width x.form) same) ∙ wide in
+    inr (omega (arith, width, h))
+
+beside_both : (k : ℕ) → (k < 4) ⊎ (8 ≤ k) → (k < 12) ⊎ (16 ≤ k) → InNoField static_pie general_item k
+beside_both k a b = All-from_recursion (λ (q : InputRelocation). (f : Formula) → x86_64_formula q.number ≡ Some f → (k < q.offset) ⊎ (q.offset + form_width f.form ≤ k)) (pair_reference ∷ getter_reference ∷ []) ((λ f e. past r_x86_64_tlsgd 4 k _ f pair_formula refl a e), ((λ f e. past r_x86_64_plt32 12 k _ f plt_formula refl b e), tt))
+
+general_kept : IsKept static_pie general_item
+general_kept = record {
+  section = general_code;
+  kept = record { input = record { group = _; grouped = (0, omega arith, refl); file = _; filed = (0, omega arith, refl); listed = (2, omega arith, refl) }; loaded = refl; room = refl; has_data = refl };
+  is = refl;
+}
+
+general_stands : IsInstruction static_pie general_item pair_reference 0 general
+general_stands = record {
+  code = refl;
+  known = (25, omega arith, refl);
+  number = (0, omega arith, refl);
+  field = refl;
+  inside = omega arith;
+  stands = refl;
+  counts = refl;
+  alone = λ k h. subst (λ (j : ℕ). InNoField static_pie general_item j) (let e : k ≡ 0 + k = omega arith in e) (beside_both k h.beside h.apart);
+}
+
+plain_thread : HasFlag static_pie 2 ifunc false
+unfolding has_flag
+plain_thread = record { definition = 2; defined = record { symbol = thread_symbol; listed = refl; defined = inr (refl, refl) }; symbol = thread_symbol; listed = refl; flagged = refl }
+
+general_sequence : IsSequence static_pie general_item pair_reference getter_reference 0 general
+general_sequence = record {
+  executable = tt;
+  stands = general_stands;
+  partner = by_call 12;
+  calls = refl;
+  has = record { index = 0; listed = refl; next = refl; field = refl; number = (1, omega arith, refl); getter = record { index = 3; named = refl; symbol = getter_symbol; listed = refl; getter = refl } };
+  symbol = 2;
+  named = refl;
+  plain = plain_thread;
+  rewritten = λ e other. refl;
+}
+
+pub general_template : IsTemplate static_pie general_item pair_reference 0 general pair_reference
+general_template = inr (record { second = getter_reference; sequence = general_sequence; one = inl refl })
+
+pub getter_template : IsTemplate static_pie general_item getter_reference 0 general pair_reference
+getter_template = inr (record { second = getter_reference; sequence = general_sequence; one = inr refl })
+
+-- ---- and it does nothing that is known
+
+general_done : (read : Reader) → effect_x86_64 read 0x41020 half_sequence ≡ None
+unfolding meaning_x86_64
+general_done read = refl
+
+general_refused : (read : Reader) (m : Memory) → Holds m 0x41020 half_sequence → DoesDemanded read static_pie static_pie_world m general_item pair_reference 0 general → ⊥
+general_refused read m held d =
+    let h = meant read static_pie static_pie_world m general_item pair_reference 0 general d in
+    let bytes : h.bytes ≡ half_sequence = same_bytes m 0x41020 h.bytes half_sequence h.whole h.held held in
+    let does : None ≡ Some h.effect = sym (general_done read) ∙ subst (λ (bs : List ℕ). effect_x86_64 read 0x41020 bs ≡ Some h.effect) bytes h.does in
+    cc
+
+-- no instruction alone has the relocation
+abbrev IsNone : Instruction → Type 0
+IsNone o = ⊥
+
+-- a sequence of that relocation does not do what is demanded, where it stands in the item's bytes
+abbrev IsNotDone : Reader → Memory → Instruction → Type 0
+IsNotDone read m o = (start : ℕ) → 4 ≡ start + o.field → stands o.template.cells (slice_range general_item.bytes start (start + size_of o)) ≡ true → DoesDemanded read static_pie static_pie_world m general_item pair_reference start o → ⊥
+
+-- other code does not stand there
+not_there : (start at : ℕ) (o : Instruction) → start ≡ at → stands o.template.cells (slice_range general_item.bytes at (at + size_of o)) ≡ false → stands o.template.cells (slice_range general_item.bytes start (start + size_of o)) ≡ true → ⊥
+not_there start at o e never s =
+    let there : stands o.template.cells (slice_range general_item.bytes at (at + size_of o)) ≡ true = subst (λ (k : ℕ). stands o.template.cells (slice_range general_item.bytes k (k + size_of o)) ≡ true) e s in
+    let none : false ≡ true = sym never ∙ there in
+    cc
+
+no_sequence : (read : Reader) (m : Memory) → Holds m 0x41020 half_sequence → Among (λ (o : Instruction). has r_x86_64_tlsgd o.numbers) (IsNotDone read m) (instructions_of machine.X86_64)
+no_sequence read m held = (
+  (λ start f s d. let at : start ≡ 0 = omega (arith, f) in general_refused read m held (subst (λ (k : ℕ). DoesDemanded read static_pie static_pie_world m general_item pair_reference k general) at d)),
+  ((λ start f s d. not_there start 0 (of_sequence general_slot_call 4 SymbolPair r_x86_64_tlsgd (by_slot 12)) (omega (arith, f)) refl s), ((λ start f s d. not_there start 1 (of_sequence far_pair_call 3 SymbolPair r_x86_64_tlsgd (by_distance 9)) (omega (arith, f)) refl s), tt)),
+)
+
+-- the first relocation of a sequence is the first one
+first_is : (first second : InputRelocation) (i : ℕ) → slice_get general_item.relocations i ≡ Some first → slice_get general_item.relocations (i + 1) ≡ Some second → first ≡ pair_reference
+first_is first second zero a b = let one : Some pair_reference ≡ Some first = a in cc
+first_is first second (suc zero) a b = absurd (let none : None ≡ Some second = b in cc)
+first_is first second (suc (suc i)) a b = absurd (let none : None ≡ Some first = a in cc)
+
+not_done : (read : Reader) (m : Memory) → Holds m 0x41020 half_sequence → (start : ℕ) (o : Instruction) (first : InputRelocation) → IsTemplate static_pie general_item pair_reference start o first → DoesDemanded read static_pie static_pie_world m general_item first start o → ⊥
+not_done read m held start o first (inl s) d = pick (fills r_x86_64_tlsgd) IsNone (instructions_of machine.X86_64) tt o s.0.stands.known (fills_is r_x86_64_tlsgd o s.0.stands.number s.0.single)
+not_done read m held start o first (inr s) d =
+    let at : first ≡ pair_reference = first_is first s.second s.sequence.has.index s.sequence.has.listed s.sequence.has.next in
+    let there : IsInstruction static_pie general_item pair_reference start o = subst (λ (r : InputRelocation). IsInstruction static_pie general_item r start o) at s.sequence.stands in
+    pick (λ (p : Instruction). has r_x86_64_tlsgd p.numbers) (IsNotDone read m) (instructions_of machine.X86_64) (no_sequence read m held) o there.known (has_is r_x86_64_tlsgd o.numbers there.number) start there.field there.stands (subst (λ (r : InputRelocation). DoesDemanded read static_pie static_pie_world m general_item r start o) at d)
+
+refused : (m : Memory) → Holds m 0x41020 half_sequence → ReferenceHolds static_pie static_pie_world m general_item pair_reference → ⊥
+refused m held (inl h) = not_done (reads static_pie_world m) m held 0 general pair_reference general_template (h.does 0 general pair_reference general_template)
+refused m held (inr h) = not_done (reads_alone static_pie_world m) m held h.start h.instruction h.first h.template h.does
+
+pub wrong_sequence : Refuses static_pie static_pie_world (Has 0x41020 half_sequence)
+wrong_sequence image h x = refused h.memory x (holds_there h.memory general_item pair_reference _ 2 0x3008 (h.kept general_item general_kept) (0, omega arith, refl) (omega arith) pair_formula refl thread_is)

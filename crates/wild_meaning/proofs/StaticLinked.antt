@@ -1,0 +1,390 @@
+-- The image of the worked program without a dynamic linker is linked in its world.
+use Rattle.std.proofs.Common.{◌≡◌, ℕ, zero, suc, ◌+◌, ◌-◌, ◌%◌, ◌^◌, ◌<◌, ◌≤◌, ◌⊎◌, inl, inr, true, false, List, [], ◌∷◌, ◌++◌, length, refl, sym, ◌∙◌, subst, arith}
+use Rattle.std.specs.Prelude.{Some, None, Contains, All, slice_index}
+use Rattle.std.proofs.lemmas.List.Elements.{All-from_recursion, All-contains}
+use lib.IntN.{pos}
+use Rattle.wild_words.specs.Words.{number}
+use Rattle.wild_words.specs.Record.{spell}
+use Rattle.wild_words.proofs.RecordLemmas.{Stands-left}
+use Rattle.wild_records.specs.Abi.Relocation.{r_x86_64_64, r_x86_64_tpoff64}
+use Rattle.wild_records.specs.FileHeader.{file_header_fields}
+use Rattle.wild_records.specs.ProgramHeader.{program_header_fields}
+use Rattle.wild_reloc.specs.Formula.{Formula, formula, SymbolAddress, PointerOffset, Full}
+use Rattle.wild_reloc.specs.FormulaX86_64.{x86_64_formula}
+use Rattle.wild_types.specs.declared.file.FileRole.TheVariants as file_role
+use Rattle.wild_types.specs.declared.file.File.{File}
+use Rattle.wild_types.specs.declared.file.Group.{Group}
+use Rattle.wild_types.specs.declared.input.InputRelocation.{InputRelocation}
+use Rattle.wild_types.specs.declared.input.InputSection.{InputSection}
+use Rattle.wild_types.specs.declared.layout.Entry.TheVariants as entry
+use Rattle.wild_types.specs.declared.symbol.Symbol.{Symbol}
+use Rattle.wild_types.specs.Flags.{has_flag}
+use Rattle.wild_loader.specs.Memory.{byte_in, Holds}
+use Rattle.wild_meaning.specs.Instruction.{Call, Set, SetThreadAddress, as_value}
+use Rattle.wild_meaning.specs.InstructionX86_64.{meaning_x86_64, effect_x86_64}
+use Rattle.wild_meaning.specs.Value.{IsDefinedBy, IsSymbol, HasValue}
+use Rattle.wild_meaning.specs.Thread.{HasThreadOffset}
+use Rattle.wild_meaning.specs.Item.{Item, IsInput, IsKept, item_of}
+use Rattle.wild_meaning.specs.Template.{DoesDemanded, reads_alone}
+use Rattle.wild_meaning.specs.Reference.{IsLinkedAlone, IsOther, ReferenceHolds, ItemHolds}
+use Rattle.wild_meaning.specs.Linked.{IsBlank}
+use Rattle.wild_meaning.specs.Worked.{reference, file_of, group_of}
+use Rattle.wild_meaning.specs.WorkedStatic.{static_pie, static_pie_world, branch_code, branch_item, branch_reference, load_code, load_item, load_reference, general_code, general_item, pair_reference, getter_reference, described_code, described_item, described_reference, static_data, static_item, first_function, second_function, thread_symbol, getter_symbol}
+use Rattle.wild_meaning.specs.WorkedImage.{static_memory, static_header, static_segment, static_content}
+use Rattle.wild_meaning.specs.StaticRefusals.{StaticImageIsLinked}
+use Rattle.wild_meaning.proofs.Told.{only, IsPlainOwn}
+use Rattle.wild_meaning.proofs.Read.{held_from}
+use Rattle.wild_meaning.proofs.Refused.{not_alone, no_template}
+use Rattle.wild_meaning.proofs.Meant.{done}
+use Rattle.wild_meaning.proofs.OneReference.{effect_with}
+use Rattle.wild_meaning.proofs.StaticLegal.{no_library}
+use Rattle.wild_meaning.proofs.StaticLoaded.{static_loaded}
+use Rattle.wild_meaning.proofs.StaticRefused.{first_is, second_is, thread_is, address_formula, pointer_formula, no_code}
+use Rattle.wild_meaning.proofs.CodeRefused.{plt_formula, load_formula, descriptor_formula, call, call_template, call_demanded, load, load_template, load_demanded, described, described_template, described_demanded}
+use Rattle.wild_meaning.proofs.SequenceRefused.{pair_formula, general, general_template, getter_template}
+
+-- ---- symbols
+
+defined : (i : ℕ) (s : Symbol) → IsSymbol static_pie i s → s.definition ≡ None → IsDefinedBy static_pie i i
+defined i s listed own = record { symbol = s; listed = listed; defined = inr (own, refl) }
+
+first_value : HasValue static_pie static_pie_world 0 (0x40000 + 0x1200)
+unfolding has_flag
+first_value = inr (
+  record { definition = 0; defined = defined 0 first_function refl refl; symbol = first_function; listed = refl; told = refl },
+  record {
+    raw = 0x1200;
+    given = record { definition = 0; defined = defined 0 first_function refl refl; given = inl (record { symbol = first_function; listed = refl; resolution = _; decided = refl; value = refl }) };
+    indirect = false;
+    resolved = record { definition = 0; defined = defined 0 first_function refl refl; symbol = first_function; listed = refl; flagged = refl };
+    still = false;
+    absolute = record { definition = 0; defined = defined 0 first_function refl refl; symbol = first_function; listed = refl; flagged = refl };
+    is = refl;
+  },
+)
+
+second_value : HasValue static_pie static_pie_world 1 (0x40000 + 0x1210)
+unfolding has_flag
+second_value = inr (
+  record { definition = 1; defined = defined 1 second_function refl refl; symbol = second_function; listed = refl; told = refl },
+  record {
+    raw = 0x1210;
+    given = record { definition = 1; defined = defined 1 second_function refl refl; given = inl (record { symbol = second_function; listed = refl; resolution = _; decided = refl; value = refl }) };
+    indirect = false;
+    resolved = record { definition = 1; defined = defined 1 second_function refl refl; symbol = second_function; listed = refl; flagged = refl };
+    still = false;
+    absolute = record { definition = 1; defined = defined 1 second_function refl refl; symbol = second_function; listed = refl; flagged = refl };
+    is = refl;
+  },
+)
+
+thread_offset : HasThreadOffset static_pie static_pie_world 2 (2 ^ 64 - 8)
+unfolding has_flag
+thread_offset = inr (
+  record { definition = 2; defined = defined 2 thread_symbol refl refl; symbol = thread_symbol; listed = refl; told = refl },
+  inl (record {
+    raw = 0x3008;
+    given = record { definition = 2; defined = defined 2 thread_symbol refl refl; given = inl (record { symbol = thread_symbol; listed = refl; resolution = _; decided = refl; value = refl }) };
+    distance = 2 ^ 64 - 16;
+    own = refl;
+    sum = refl;
+  }),
+)
+
+getter_is : IsPlainOwn static_pie 3 0x1220
+unfolding has_flag
+getter_is = record { symbol = getter_symbol; resolution = _; is = refl; decided = refl; raw_is = refl; own = refl; plain = refl; moves = refl; unstubbed = refl }
+
+-- a reference to an own symbol does not take the output's own alone
+own_alone : (item : Item) (r : InputRelocation) (f : Formula) (i raw : ℕ) → x86_64_formula r.number ≡ Some f → r.symbol ≡ Some i → IsPlainOwn static_pie i raw → IsLinkedAlone static_pie item r → ⊥
+own_alone item r f i raw known named p x = not_alone static_pie item r f i p.symbol known named p.is (λ e. absurd (let both : true ≡ false = sym e ∙ p.own in cc)) x
+
+-- what holds of an item's references, one by one
+abbrev Both : Item → InputRelocation → Type 0
+Both item r = ReferenceHolds static_pie static_pie_world static_memory item r × (IsLinkedAlone static_pie item r → ⊥)
+
+all_hold : (item : Item) → All (Both item) item.relocations → ((k : ℕ) → k < length item.bytes → IsOther static_pie item k → byte_in static_memory (static_pie_world.base + item.address + k) ≡ Some (slice_index item.bytes k)) → ItemHolds static_pie static_pie_world static_memory item
+all_hold item all others = record {
+  references = λ r ref asked alone. (All-contains (Both item) item.relocations r all ref.listed).0;
+  linked = λ r ref alone base. absurd ((All-contains (Both item) item.relocations r all ref.listed).1 alone);
+  others = others;
+}
+
+-- ---- branch
+
+branch_done : effect_x86_64 (reads_alone static_pie_world static_memory) 0x41000 (0xe8 ∷ 0xfb ∷ 0x01 ∷ 0 ∷ 0 ∷ []) ≡ Some (effect_with Call 64 0x41200)
+unfolding meaning_x86_64 number
+branch_done = refl
+
+branch_held : Holds static_memory 0x41000 (0xe8 ∷ 0xfb ∷ 0x01 ∷ 0 ∷ 0 ∷ [])
+branch_held = held_from static_memory 0x41000 (0xe8 ∷ 0xfb ∷ 0x01 ∷ 0 ∷ 0 ∷ []) refl
+
+branch_holds : ReferenceHolds static_pie static_pie_world static_memory branch_item branch_reference
+branch_holds = inr (record {
+  start = 0;
+  instruction = call;
+  first = branch_reference;
+  template = call_template;
+  does = done (reads_alone static_pie_world static_memory) static_pie static_pie_world static_memory branch_item branch_reference 0 call (record {
+    value = 0x41200;
+    demands = record { goal = 0x41200; stands = inl first_value; is = refl };
+    effect = effect_with Call 64 0x41200;
+    demanded = call_demanded 0x41200;
+    bytes = 0xe8 ∷ 0xfb ∷ 0x01 ∷ 0 ∷ 0 ∷ [];
+    whole = refl;
+    held = branch_held;
+    does = branch_done;
+  });
+})
+
+branch_others : (k : ℕ) → k < 7 → (k < 0) ⊎ (5 ≤ k) → byte_in static_memory (0x41000 + k) ≡ Some (slice_index branch_item.bytes k)
+branch_others k lt (inl h) = absurd (omega (arith, h))
+branch_others k lt (inr h) = at k lt h
+  where
+    at : (k : ℕ) → k < 7 → 5 ≤ k → byte_in static_memory (0x41000 + k) ≡ Some (slice_index branch_item.bytes k)
+    at zero lt h = absurd (omega (arith, h))
+    at (suc zero) lt h = absurd (omega (arith, h))
+    at (suc (suc zero)) lt h = absurd (omega (arith, h))
+    at (suc (suc (suc zero))) lt h = absurd (omega (arith, h))
+    at (suc (suc (suc (suc zero)))) lt h = absurd (omega (arith, h))
+    at (suc (suc (suc (suc (suc zero))))) lt h = refl
+    at (suc (suc (suc (suc (suc (suc zero)))))) lt h = refl
+    at (suc (suc (suc (suc (suc (suc (suc k))))))) lt h = absurd (omega (arith, lt))
+
+branch_item_holds : ItemHolds static_pie static_pie_world static_memory branch_item
+branch_item_holds = all_hold branch_item (All-from_recursion (Both branch_item) branch_item.relocations ((branch_holds, own_alone branch_item branch_reference _ 0 0x1200 plt_formula refl first_is), tt))
+    (λ k lt other. branch_others k lt (other.templates branch_reference 0 call branch_reference (record { listed = (0, omega arith, refl); refers = λ e. omega arith }) call_template))
+
+-- ---- load
+
+load_done : effect_x86_64 (reads_alone static_pie_world static_memory) 0x41010 (0x48 ∷ 0x8d ∷ 0x05 ∷ 0xe9 ∷ 0x01 ∷ 0 ∷ 0 ∷ []) ≡ Some (effect_with (Set 0) 64 0x41200)
+unfolding meaning_x86_64 number
+load_done = refl
+
+load_held : Holds static_memory 0x41010 (0x48 ∷ 0x8d ∷ 0x05 ∷ 0xe9 ∷ 0x01 ∷ 0 ∷ 0 ∷ [])
+load_held = held_from static_memory 0x41010 (0x48 ∷ 0x8d ∷ 0x05 ∷ 0xe9 ∷ 0x01 ∷ 0 ∷ 0 ∷ []) refl
+
+load_holds : ReferenceHolds static_pie static_pie_world static_memory load_item load_reference
+load_holds = inr (record {
+  start = 0;
+  instruction = load;
+  first = load_reference;
+  template = load_template;
+  does = done (reads_alone static_pie_world static_memory) static_pie static_pie_world static_memory load_item load_reference 0 load (record {
+    value = 0x41200;
+    demands = inl first_value;
+    effect = effect_with (Set 0) 64 0x41200;
+    demanded = load_demanded 0x41200;
+    bytes = 0x48 ∷ 0x8d ∷ 0x05 ∷ 0xe9 ∷ 0x01 ∷ 0 ∷ 0 ∷ [];
+    whole = refl;
+    held = load_held;
+    does = load_done;
+  });
+})
+
+load_others : (k : ℕ) → k < 9 → (k < 0) ⊎ (7 ≤ k) → byte_in static_memory (0x41010 + k) ≡ Some (slice_index load_item.bytes k)
+load_others k lt (inl h) = absurd (omega (arith, h))
+load_others k lt (inr h) = at k lt h
+  where
+    at : (k : ℕ) → k < 9 → 7 ≤ k → byte_in static_memory (0x41010 + k) ≡ Some (slice_index load_item.bytes k)
+    at zero lt h = absurd (omega (arith, h))
+    at (suc zero) lt h = absurd (omega (arith, h))
+    at (suc (suc zero)) lt h = absurd (omega (arith, h))
+    at (suc (suc (suc zero))) lt h = absurd (omega (arith, h))
+    at (suc (suc (suc (suc zero)))) lt h = absurd (omega (arith, h))
+    at (suc (suc (suc (suc (suc zero))))) lt h = absurd (omega (arith, h))
+    at (suc (suc (suc (suc (suc (suc zero)))))) lt h = absurd (omega (arith, h))
+    at (suc (suc (suc (suc (suc (suc (suc zero))))))) lt h = refl
+    at (suc (suc (suc (suc (suc (suc (suc (suc zero)))))))) lt h = refl
+    at (suc (suc (suc (suc (suc (suc (suc (suc (suc k))))))))) lt h = absurd (omega (arith, lt))
+
+load_item_holds : ItemHolds static_pie static_pie_world static_memory load_item
+load_item_holds = all_hold load_item (All-from_recursion (Both load_item) load_item.relocations ((load_holds, own_alone load_item load_reference _ 0 0x1200 load_formula refl first_is), tt))
+    (λ k lt other. load_others k lt (other.templates load_reference 0 load load_reference (record { listed = (0, omega arith, refl); refers = λ e. omega arith }) load_template))
+
+-- ---- described
+
+described_done : effect_x86_64 (reads_alone static_pie_world static_memory) 0x41040 (0x48 ∷ 0xc7 ∷ 0xc0 ∷ 0xf8 ∷ 0xff ∷ 0xff ∷ 0xff ∷ []) ≡ Some (effect_with (Set 0) 64 (2 ^ 64 - 8))
+unfolding meaning_x86_64 number
+described_done = refl
+
+described_held : Holds static_memory 0x41040 (0x48 ∷ 0xc7 ∷ 0xc0 ∷ 0xf8 ∷ 0xff ∷ 0xff ∷ 0xff ∷ [])
+described_held = held_from static_memory 0x41040 (0x48 ∷ 0xc7 ∷ 0xc0 ∷ 0xf8 ∷ 0xff ∷ 0xff ∷ 0xff ∷ []) refl
+
+described_holds : ReferenceHolds static_pie static_pie_world static_memory described_item described_reference
+described_holds = inr (record {
+  start = 0;
+  instruction = described;
+  first = described_reference;
+  template = described_template;
+  does = done (reads_alone static_pie_world static_memory) static_pie static_pie_world static_memory described_item described_reference 0 described (record {
+    value = (2 ^ 64 - 8);
+    demands = inl ((tt, refl), thread_offset);
+    effect = effect_with (Set 0) 64 (2 ^ 64 - 8);
+    demanded = described_demanded (2 ^ 64 - 8);
+    bytes = 0x48 ∷ 0xc7 ∷ 0xc0 ∷ 0xf8 ∷ 0xff ∷ 0xff ∷ 0xff ∷ [];
+    whole = refl;
+    held = described_held;
+    does = described_done;
+  });
+})
+
+described_others : (k : ℕ) → k < 9 → (k < 0) ⊎ (7 ≤ k) → byte_in static_memory (0x41040 + k) ≡ Some (slice_index described_item.bytes k)
+described_others k lt (inl h) = absurd (omega (arith, h))
+described_others k lt (inr h) = at k lt h
+  where
+    at : (k : ℕ) → k < 9 → 7 ≤ k → byte_in static_memory (0x41040 + k) ≡ Some (slice_index described_item.bytes k)
+    at zero lt h = absurd (omega (arith, h))
+    at (suc zero) lt h = absurd (omega (arith, h))
+    at (suc (suc zero)) lt h = absurd (omega (arith, h))
+    at (suc (suc (suc zero))) lt h = absurd (omega (arith, h))
+    at (suc (suc (suc (suc zero)))) lt h = absurd (omega (arith, h))
+    at (suc (suc (suc (suc (suc zero))))) lt h = absurd (omega (arith, h))
+    at (suc (suc (suc (suc (suc (suc zero)))))) lt h = absurd (omega (arith, h))
+    at (suc (suc (suc (suc (suc (suc (suc zero))))))) lt h = refl
+    at (suc (suc (suc (suc (suc (suc (suc (suc zero)))))))) lt h = refl
+    at (suc (suc (suc (suc (suc (suc (suc (suc (suc k))))))))) lt h = absurd (omega (arith, lt))
+
+described_item_holds : ItemHolds static_pie static_pie_world static_memory described_item
+described_item_holds = all_hold described_item (All-from_recursion (Both described_item) described_item.relocations ((described_holds, own_alone described_item described_reference _ 2 0x3008 descriptor_formula refl thread_is), tt))
+    (λ k lt other. described_others k lt (other.templates described_reference 0 described described_reference (record { listed = (0, omega arith, refl); refers = λ e. omega arith }) described_template))
+
+-- ---- a sequence
+
+general_demanded : (v : ℕ) → effect_x86_64 (as_value v) 0x41020 general_item.bytes ≡ Some (effect_with (SetThreadAddress 0) 64 (v % 2 ^ 64))
+unfolding meaning_x86_64
+general_demanded v = refl
+
+general_done : effect_x86_64 (reads_alone static_pie_world static_memory) 0x41020 (0x64 ∷ 0x48 ∷ 0x8b ∷ 0x04 ∷ 0x25 ∷ 0 ∷ 0 ∷ 0 ∷ 0 ∷ 0x48 ∷ 0x8d ∷ 0x80 ∷ 0xf8 ∷ 0xff ∷ 0xff ∷ 0xff ∷ []) ≡ Some (effect_with (SetThreadAddress 0) 64 (2 ^ 64 - 8))
+unfolding meaning_x86_64 number
+general_done = refl
+
+general_held : Holds static_memory 0x41020 (0x64 ∷ 0x48 ∷ 0x8b ∷ 0x04 ∷ 0x25 ∷ 0 ∷ 0 ∷ 0 ∷ 0 ∷ 0x48 ∷ 0x8d ∷ 0x80 ∷ 0xf8 ∷ 0xff ∷ 0xff ∷ 0xff ∷ [])
+general_held = held_from static_memory 0x41020 (0x64 ∷ 0x48 ∷ 0x8b ∷ 0x04 ∷ 0x25 ∷ 0 ∷ 0 ∷ 0 ∷ 0 ∷ 0x48 ∷ 0x8d ∷ 0x80 ∷ 0xf8 ∷ 0xff ∷ 0xff ∷ 0xff ∷ []) refl
+
+general_does : DoesDemanded (reads_alone static_pie_world static_memory) static_pie static_pie_world static_memory general_item pair_reference 0 general
+general_does = done (reads_alone static_pie_world static_memory) static_pie static_pie_world static_memory general_item pair_reference 0 general (record {
+  value = 2 ^ 64 - 8;
+  demands = thread_offset;
+  effect = effect_with (SetThreadAddress 0) 64 (2 ^ 64 - 8);
+  demanded = general_demanded (2 ^ 64 - 8);
+  bytes = 0x64 ∷ 0x48 ∷ 0x8b ∷ 0x04 ∷ 0x25 ∷ 0 ∷ 0 ∷ 0 ∷ 0 ∷ 0x48 ∷ 0x8d ∷ 0x80 ∷ 0xf8 ∷ 0xff ∷ 0xff ∷ 0xff ∷ [];
+  whole = refl;
+  held = general_held;
+  does = general_done;
+})
+
+pair_holds : ReferenceHolds static_pie static_pie_world static_memory general_item pair_reference
+pair_holds = inr (record { start = 0; instruction = general; first = pair_reference; template = general_template; does = general_does })
+
+getter_holds : ReferenceHolds static_pie static_pie_world static_memory general_item getter_reference
+getter_holds = inr (record { start = 0; instruction = general; first = pair_reference; template = getter_template; does = general_does })
+
+no_rest : (k : ℕ) → k < 16 → (k < 0) ⊎ (16 ≤ k) → ⊥
+no_rest k lt (inl h) = omega (arith, h)
+no_rest k lt (inr h) = omega (arith, lt, h)
+
+general_item_holds : ItemHolds static_pie static_pie_world static_memory general_item
+general_item_holds = all_hold general_item (All-from_recursion (Both general_item) general_item.relocations ((pair_holds, own_alone general_item pair_reference _ 2 0x3008 pair_formula refl thread_is), ((getter_holds, own_alone general_item getter_reference _ 3 0x1220 plt_formula refl getter_is), tt)))
+    (λ k lt other. absurd (no_rest k lt (other.templates pair_reference 0 general pair_reference (record { listed = (0, omega arith, refl); refers = λ e. omega arith }) general_template)))
+
+-- ---- data
+
+address_number : number (0x10 ∷ 0x12 ∷ 0x04 ∷ 0 ∷ 0 ∷ 0 ∷ 0 ∷ 0 ∷ []) ≡ 0x41210
+unfolding number
+address_number = refl
+
+offset_number : number (0xf8 ∷ 0xff ∷ 0xff ∷ 0xff ∷ 0xff ∷ 0xff ∷ 0xff ∷ 0xff ∷ []) ≡ 2 ^ 64 - 8
+unfolding number
+offset_number = refl
+
+abbrev address_reference : InputRelocation
+address_reference = reference 0 r_x86_64_64 1 (pos 0)
+
+abbrev offset_reference : InputRelocation
+offset_reference = reference 8 r_x86_64_tpoff64 2 (pos 0)
+
+address_holds : ReferenceHolds static_pie static_pie_world static_memory static_item address_reference
+address_holds = inl (record {
+  formula = formula SymbolAddress Full;
+  known = address_formula;
+  value = 0x41210;
+  gives = record { symbol = 0x41210; denoted = inl second_value; sum = refl };
+  field = record { bytes = 0x10 ∷ 0x12 ∷ 0x04 ∷ 0 ∷ 0 ∷ 0 ∷ 0 ∷ 0 ∷ []; wide = refl; held = held_from static_memory 0x41100 (0x10 ∷ 0x12 ∷ 0x04 ∷ 0 ∷ 0 ∷ 0 ∷ 0 ∷ 0 ∷ []) refl; reads = address_number; keeps = tt };
+  kept = λ start o first t. absurd (no_template static_pie static_item address_reference start o first no_code t);
+  does = λ start o first t. absurd (no_template static_pie static_item address_reference start o first no_code t);
+})
+
+offset_holds : ReferenceHolds static_pie static_pie_world static_memory static_item offset_reference
+offset_holds = inl (record {
+  formula = formula PointerOffset Full;
+  known = pointer_formula;
+  value = 2 ^ 64 - 8;
+  gives = (2 ^ 64 - 8, thread_offset, refl);
+  field = record { bytes = 0xf8 ∷ 0xff ∷ 0xff ∷ 0xff ∷ 0xff ∷ 0xff ∷ 0xff ∷ 0xff ∷ []; wide = refl; held = held_from static_memory 0x41108 (0xf8 ∷ 0xff ∷ 0xff ∷ 0xff ∷ 0xff ∷ 0xff ∷ 0xff ∷ 0xff ∷ []) refl; reads = offset_number; keeps = tt };
+  kept = λ start o first t. absurd (no_template static_pie static_item offset_reference start o first no_code t);
+  does = λ start o first t. absurd (no_template static_pie static_item offset_reference start o first no_code t);
+})
+
+no_other : (k : ℕ) → k < 16 → (k < 0) ⊎ (8 ≤ k) → (k < 8) ⊎ (16 ≤ k) → ⊥
+no_other k lt (inl a) b = omega (arith, a)
+no_other k lt (inr a) (inl b) = omega (arith, a, b)
+no_other k lt (inr a) (inr b) = omega (arith, lt, b)
+
+static_item_holds : ItemHolds static_pie static_pie_world static_memory static_item
+static_item_holds = all_hold static_item (All-from_recursion (Both static_item) static_item.relocations ((address_holds, own_alone static_item address_reference _ 1 0x1210 address_formula refl second_is), ((offset_holds, own_alone static_item offset_reference _ 2 0x3008 pointer_formula refl thread_is), tt)))
+    (λ k lt other. absurd (no_other k lt (other.fields 0 address_reference (omega arith) (formula SymbolAddress Full) address_formula) (other.fields 1 address_reference (omega arith) (formula PointerOffset Full) pointer_formula)))
+
+-- ---- the whole
+
+abbrev sections : List InputSection
+sections = branch_code ∷ load_code ∷ general_code ∷ described_code ∷ static_data ∷ []
+
+-- its sections are these
+listed_in : (s : InputSection) → IsInput static_pie s → Contains sections s
+listed_in s h =
+    let group = only (group_of (file_of file_role.Object sections [] ∷ [])) h.group h.grouped in
+    let filed : Contains (file_of file_role.Object sections [] ∷ []) h.file = subst (λ (g : Group). Contains g.files h.file) (sym group) h.filed in
+    let file = only (file_of file_role.Object sections []) h.file filed in
+    subst (λ (f : File). Contains f.sections s) (sym file) h.listed
+
+abbrev SectionHolds : InputSection → Type 0
+SectionHolds s = ItemHolds static_pie static_pie_world static_memory (item_of s)
+
+items_hold : (item : Item) → IsKept static_pie item → ItemHolds static_pie static_pie_world static_memory item
+items_hold item h =
+    let there : SectionHolds h.section = All-contains SectionHolds sections h.section (All-from_recursion SectionHolds sections (branch_item_holds, (load_item_holds, (general_item_holds, (described_item_holds, (static_item_holds, tt)))))) (listed_in h.section h.kept.input) in
+    subst (λ (i : Item). ItemHolds static_pie static_pie_world static_memory i) (sym h.is) there
+
+abbrev HasData : InputSection → Type 0
+HasData s = s.nobits ≡ false
+
+no_blank : (s : InputSection) → IsBlank static_pie s → ⊥
+no_blank s h =
+    let has : HasData s = All-contains HasData sections s (All-from_recursion HasData sections (refl, (refl, (refl, (refl, (refl, tt)))))) (listed_in s h.input) in
+    let both : true ≡ false = sym h.blank ∙ has in
+    cc
+
+pub static_linked : StaticImageIsLinked
+static_linked = record {
+  memory = static_memory;
+  accepted = static_loaded;
+  machine = refl;
+  kept = items_hold;
+  zeros = λ s k h _ _ _. absurd (no_blank s h);
+  copies = λ i raw x h. absurd (no_library i h.copied);
+  header = record {
+    header = static_header;
+    fits = record {
+      front = record { magic = omega arith; class = omega arith; encoding = omega arith; ident_version = omega arith; os_abi = omega arith; abi_version = omega arith; file_type = omega arith };
+      middle = record { machine = omega arith; version = omega arith; entry = omega arith; program_offset = omega arith; section_offset = omega arith; flags = omega arith; header_size = omega arith };
+      back = record { program_entry_size = omega arith; program_count = omega arith; section_entry_size = omega arith; section_count = omega arith; name_table = omega arith };
+    };
+    stands = Stands-left (spell (file_header_fields static_header)) (spell (program_header_fields static_segment) ++ static_content);
+    fixed = λ f. absurd f;
+    movable = λ _. refl;
+    address = λ a e. (let one : Some (entry.Address 0x1000) ≡ Some (entry.Address a) = e in let same : 0x1000 ≡ a = cc in same);
+    symbol = λ i a e _. absurd (let one : Some (entry.Address 0x1000) ≡ Some (entry.Symbol i) = e in cc);
+    none = λ e. absurd (let one : Some (entry.Address 0x1000) ≡ None = e in cc);
+  };
+}

@@ -1,0 +1,20 @@
+-- What a loader makes of the image of the worked program without a dynamic linker.
+use Rattle.std.proofs.Common.{◌≡◌, refl}
+use Rattle.std.specs.Prelude.{Ok}
+use Rattle.wild_words.specs.Words.{word, number}
+use Rattle.wild_words.specs.Extents.{least_extent}
+use Rattle.wild_records.specs.FileHeader.{file_header_fields, file_header_at}
+use Rattle.wild_records.specs.ProgramHeader.{program_header_fields, program_header_at}
+use Rattle.wild_loader.specs.Headers.{header, program_headers, sections}
+use Rattle.wild_loader.specs.Segments.{load_segment, load_segments, segments}
+use Rattle.wild_loader.specs.Tables.{first_dynamic, section_entries, section_tables, tables}
+use Rattle.wild_loader.specs.Places.{places_from}
+use Rattle.wild_loader.specs.Runs.{overlaid}
+use Rattle.wild_loader.specs.Relocate.{add_all, apart, notes, relocate}
+use Rattle.wild_loader.specs.Load.{load, load_with}
+use Rattle.wild_meaning.specs.WorkedStatic.{static_pie_world}
+use Rattle.wild_meaning.specs.WorkedImage.{static_image, static_memory}
+
+pub static_loaded : load static_pie_world static_image ≡ Ok static_memory
+unfolding load load_with header program_headers segments load_segment load_segments tables first_dynamic section_tables sections section_entries relocate add_all apart notes overlaid places_from least_extent file_header_at file_header_fields program_header_at program_header_fields number word
+static_loaded = refl

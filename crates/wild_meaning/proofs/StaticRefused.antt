@@ -1,0 +1,102 @@
+-- Wrong data of the worked program without a dynamic linker are refused.
+use Rattle.std.proofs.Common.{◌≡◌, ℕ, ◌-◌, ◌^◌, ◌<◌, true, false, refl, sym, ap, ◌∙◌, arith}
+use Rattle.std.specs.Prelude.{◌≢◌, Some, Contains}
+use lib.IntN.{pos}
+use Rattle.wild_records.specs.Abi.Relocation.{r_x86_64_none, r_x86_64_64, r_x86_64_tpoff64}
+use Rattle.wild_records.specs.Abi.Section.{shf_execinstr}
+use Rattle.wild_records.specs.FileHeader.{FileHeaderIsRead}
+use Rattle.wild_records.specs.declared.file_header.FileHeader.{FileHeader}
+use Rattle.wild_reloc.specs.Formula.{Formula, formula, SymbolAddress, PointerOffset, Full}
+use Rattle.wild_reloc.specs.FormulaX86_64.{x86_64_formula}
+use Rattle.wild_types.specs.declared.input.InputRelocation.{InputRelocation}
+use Rattle.wild_types.specs.Flags.{has_flag}
+use Rattle.wild_loader.specs.declared.memory.Memory.{Memory}
+use Rattle.wild_meaning.specs.Section.{IsSet}
+use Rattle.wild_meaning.specs.Item.{Item, IsKept}
+use Rattle.wild_meaning.specs.Reference.{ItemHolds, ReferenceHolds}
+use Rattle.wild_meaning.specs.Worked.{Refuses, reference}
+use Rattle.wild_meaning.specs.WorkedStatic.{static_pie, static_pie_world, static_data, static_item, first_function, second_function, thread_symbol}
+use Rattle.wild_meaning.specs.Refusals.{HasWrongNumber}
+use Rattle.wild_meaning.specs.StaticRefusals.{WrongDataAreRefused}
+use Rattle.wild_meaning.specs.Thread.{HasThreadOffset}
+use Rattle.wild_meaning.proofs.Told.{IsPlainOwn, denoted, own_offset, somewhere}
+use Rattle.wild_meaning.proofs.Read.{full_of}
+use Rattle.wild_meaning.proofs.Refused.{HasValueThere, value_there, not_excepted, not_alone}
+
+-- ---- symbols and sections
+
+pub first_is : IsPlainOwn static_pie 0 0x1200
+unfolding has_flag
+first_is = record { symbol = first_function; resolution = _; is = refl; decided = refl; raw_is = refl; own = refl; plain = refl; moves = refl; unstubbed = refl }
+
+pub second_is : IsPlainOwn static_pie 1 0x1210
+unfolding has_flag
+second_is = record { symbol = second_function; resolution = _; is = refl; decided = refl; raw_is = refl; own = refl; plain = refl; moves = refl; unstubbed = refl }
+
+pub thread_is : IsPlainOwn static_pie 2 0x3008
+unfolding has_flag
+thread_is = record { symbol = thread_symbol; resolution = _; is = refl; decided = refl; raw_is = refl; own = refl; plain = refl; moves = refl; unstubbed = refl }
+
+-- an own symbol's offset
+pub thread_offset : (t : ℕ) → HasThreadOffset static_pie static_pie_world 2 t → t ≡ 2 ^ 64 - 8
+thread_offset t h = own_offset static_pie static_pie_world 2 0x3008 (2 ^ 64 - 16) t thread_is (omega arith) (somewhere static_pie 2 0 thread_symbol refl refl) refl h
+
+kept : IsKept static_pie static_item
+kept = record {
+  section = static_data;
+  kept = record {
+    input = record { group = _; grouped = (0, omega arith, refl); file = _; filed = (0, omega arith, refl); listed = (4, omega arith, refl) };
+    loaded = refl;
+    room = refl;
+    has_data = refl;
+  };
+  is = refl;
+}
+
+-- ---- formulas
+
+pub address_formula : x86_64_formula r_x86_64_64 ≡ Some (formula SymbolAddress Full)
+unfolding x86_64_formula
+address_formula = refl
+
+pub pointer_formula : x86_64_formula r_x86_64_tpoff64 ≡ Some (formula PointerOffset Full)
+unfolding x86_64_formula
+pointer_formula = refl
+
+pub no_code : IsSet 3 shf_execinstr → ⊥
+no_code e = omega arith
+
+pub refers : (n : ℕ) → 0 < n → n ≢ r_x86_64_none
+refers n h e = omega (arith, h, let z : n ≡ 0 = e in z)
+
+-- a reference to an own symbol holds
+pub holds_there : (m : Memory) (item : Item) (r : InputRelocation) (f : Formula) (i raw : ℕ) → ItemHolds static_pie static_pie_world m item → Contains item.relocations r → 0 < r.number → x86_64_formula r.number ≡ Some f → r.symbol ≡ Some i → IsPlainOwn static_pie i raw → ReferenceHolds static_pie static_pie_world m item r
+holds_there m item r f i raw h listed number known named p =
+    h.references r (record { listed = listed; refers = refers r.number number }) (λ x. absurd (not_excepted static_pie item r i p.symbol named p.is p.moves x)) (λ x. not_alone static_pie item r f i p.symbol known named p.is (λ e. absurd (let both : true ≡ false = sym e ∙ p.own in cc)) x)
+
+own_there : (m : Memory) (r : InputRelocation) (f : Formula) (i raw : ℕ) → ItemHolds static_pie static_pie_world m static_item → Contains static_item.relocations r → 0 < r.number → x86_64_formula r.number ≡ Some f → r.symbol ≡ Some i → IsPlainOwn static_pie i raw → HasValueThere static_pie static_pie_world m static_item r f
+own_there m r f i raw holds listed number known named p =
+    value_there static_pie static_pie_world m static_item r f i p.symbol holds no_code listed (refers r.number number) known named p.is p.moves (λ e. absurd (let both : true ≡ false = sym e ∙ p.own in cc))
+
+wrong_address : Refuses static_pie static_pie_world (HasWrongNumber 0x41100 8 0x41210)
+wrong_address image h x =
+    let r = reference 0 r_x86_64_64 1 (pos 0) in
+    let v = own_there h.memory r _ 1 0x1210 (h.kept static_item kept) (0, omega arith, refl) (omega arith) address_formula refl second_is in
+    let is : v.value ≡ x.number = full_of static_pie_world h.memory static_item r v.value x.number v.field x.there in
+    let address : v.gives.symbol ≡ 0x41210 = denoted static_pie static_pie_world h.memory 1 0x1210 v.gives.symbol second_is v.gives.denoted in
+    x.wrong (omega (arith, is, address, v.gives.sum))
+
+wrong_offset : Refuses static_pie static_pie_world (HasWrongNumber 0x41108 8 (2 ^ 64 - 8))
+wrong_offset image h x =
+    let r = reference 8 r_x86_64_tpoff64 2 (pos 0) in
+    let v = own_there h.memory r _ 2 0x3008 (h.kept static_item kept) (1, omega arith, refl) (omega arith) pointer_formula refl thread_is in
+    let is : v.value ≡ x.number = full_of static_pie_world h.memory static_item r v.value x.number v.field x.there in
+    let offset : v.gives.0 ≡ 2 ^ 64 - 8 = thread_offset v.gives.0 v.gives.1 in
+    x.wrong (omega (arith, is, offset, v.gives.2))
+
+pub wrong_data : FileHeaderIsRead → WrongDataAreRefused
+wrong_data read = record {
+  address = wrong_address;
+  offset = wrong_offset;
+  begin = λ image h wrong. let is = read image 0 h.header.header h.header.fits h.header.stands in wrong (ap (λ (e : FileHeader). e.entry) is ∙ h.header.address 0x1000 refl);
+}

@@ -1,0 +1,43 @@
+-- The definition of a symbol, as the judge and as the writer find it.
+use Rattle.std.proofs.Common.{◌≡◌, ℕ, ◌⊎◌, inl, inr, refl, sym, ap, ◌∙◌}
+use Rattle.std.specs.Prelude.{Option, Some, None, option_and_then, unwrap_or, slice_get}
+use Rattle.wild_types.specs.declared.symbol.Symbol.{Symbol}
+use Rattle.wild_types.specs.declared.layout.Layout.{Layout}
+use Rattle.wild_types.specs.Lookups.{canonical}
+use Rattle.wild_loader.specs.declared.world.World.{World}
+use Rattle.wild_loader.specs.declared.memory.Memory.{Memory}
+use Rattle.wild_meaning.specs.Value.{IsDefinedBy}
+use Rattle.wild_meaning.specs.Formula.{IsTarget, IsGoal}
+
+-- the symbol that defines another is the one that the layout looks up
+pub canonical_is : (l : Layout) (i c : ℕ) → IsDefinedBy l i c → canonical l i ≡ c
+canonical_is l i c d = ap (λ (o : Option Symbol). unwrap_or (option_and_then (λ (s : Symbol). s.definition) o) i) d.listed ∙ by_case d.defined
+  where
+    by_case : (d.symbol.definition ≡ Some c) ⊎ ((d.symbol.definition ≡ None) × (c ≡ i)) → unwrap_or d.symbol.definition i ≡ c
+    by_case (inl e) = rw e refl
+    by_case (inr e) = rw e.0 (sym e.1)
+
+-- and the one that the layout looks up defines it
+pub own_definition : (l : Layout) (i : ℕ) (s : Symbol) → slice_get l.symbols (canonical l i) ≡ Some s → IsDefinedBy l i (canonical l i)
+own_definition l i s e = by_symbol (slice_get l.symbols i) refl
+  where
+    by_definition : (x : Symbol) → slice_get l.symbols i ≡ Some x → (o : Option ℕ) → x.definition ≡ o → IsDefinedBy l i (canonical l i)
+    by_definition x there None is =
+        let same : canonical l i ≡ i = ap (λ (o : Option Symbol). unwrap_or (option_and_then (λ (y : Symbol). y.definition) o) i) there ∙ ap (λ (o : Option ℕ). unwrap_or o i) is in
+        record { symbol = x; listed = there; defined = inr (is, same) }
+    by_definition x there (Some c) is =
+        let same : canonical l i ≡ c = ap (λ (o : Option Symbol). unwrap_or (option_and_then (λ (y : Symbol). y.definition) o) i) there ∙ ap (λ (o : Option ℕ). unwrap_or o i) is in
+        record { symbol = x; listed = there; defined = inl (is ∙ ap (λ (k : ℕ). Some k) (sym same)) }
+
+    by_symbol : (o : Option Symbol) → slice_get l.symbols i ≡ o → IsDefinedBy l i (canonical l i)
+    by_symbol (Some x) there = by_definition x there x.definition refl
+    by_symbol None there =
+        let same : canonical l i ≡ i = ap (λ (o : Option Symbol). unwrap_or (option_and_then (λ (y : Symbol). y.definition) o) i) there in
+        let both : Some s ≡ None = sym e ∙ ap (λ (k : ℕ). slice_get l.symbols k) same ∙ there in
+        cc
+
+-- a target is a goal
+pub target_reached : (l : Layout) (w : World) (m : Memory) (symbol : Option ℕ) (a : ℕ) → IsTarget l w m symbol a → IsGoal l w m symbol a
+target_reached l w m None a h = h
+target_reached l w m (Some i) a (inl h) = (a, h, inl refl)
+target_reached l w m (Some i) a (inr h) = (h.value, h.is, h.reaches)

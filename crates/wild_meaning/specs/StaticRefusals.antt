@@ -1,0 +1,56 @@
+-- What is refused of the worked program without a dynamic linker, in its world.
+--   StaticPieWorldIsLegal   the world is legal
+--   WrongDataAreRefused     an address that does not move, an offset that does, the beginning of the program
+--   WrongCodeIsRefused      a branch, a load and a sequence that do something else
+--   StaticImageIsLinked     and an image that is linked
+use Rattle.std.specs.Prelude.{◌≢◌, ℕ, ◌-◌, ◌^◌, List, [], ◌∷◌}
+use Rattle.wild_records.specs.FileHeader.{file_header_at}
+use Rattle.wild_loader.specs.declared.memory.Memory.{Memory}
+use Rattle.wild_loader.specs.Memory.{Holds}
+use Rattle.wild_meaning.specs.World.{IsLegal}
+use Rattle.wild_meaning.specs.Linked.{IsLinked}
+use Rattle.wild_meaning.specs.Worked.{Refuses}
+use Rattle.wild_meaning.specs.WorkedStatic.{static_pie, static_pie_world}
+use Rattle.wild_meaning.specs.WorkedImage.{static_image}
+use Rattle.wild_meaning.specs.Refusals.{HasWrongNumber}
+
+abbrev pub StaticPieWorldIsLegal : Type 0
+StaticPieWorldIsLegal = IsLegal static_pie static_pie_world
+
+-- memory has these bytes at an address
+abbrev pub Has : ℕ → List ℕ → Memory → Type 0
+Has a bs m = Holds m a bs
+
+-- an address that does not move with the base, an offset from the thread pointer that does, and an entry that does
+pub record WrongDataAreRefused : Type 0 where
+  pub address : Refuses static_pie static_pie_world (HasWrongNumber 0x41100 8 0x41210)
+  pub offset : Refuses static_pie static_pie_world (HasWrongNumber 0x41108 8 (2 ^ 64 - 8))
+  pub begin : (image : List ℕ) → IsLinked static_pie static_pie_world image → (file_header_at image 0).entry ≢ 0x1000 → ⊥
+
+-- `call second`, where the input calls the first function
+abbrev pub another_branch : List ℕ
+another_branch = 0xe8 ∷ 0x0b ∷ 0x02 ∷ 0 ∷ 0 ∷ []
+
+-- `lea rax, [rip + first + 1]`, where the input loads the first function's address
+abbrev pub load_past : List ℕ
+load_past = 0x48 ∷ 0x8d ∷ 0x05 ∷ 0xea ∷ 0x01 ∷ 0 ∷ 0 ∷ []
+
+-- `mov rax, -8`, a nop, and the call that was there
+abbrev pub half_sequence : List ℕ
+half_sequence = 0x48 ∷ 0xc7 ∷ 0xc0 ∷ 0xf8 ∷ 0xff ∷ 0xff ∷ 0xff ∷ 0x90 ∷ 0x66 ∷ 0x66 ∷ 0x48 ∷ 0xe8 ∷ 0xf0 ∷ 0x01 ∷ 0 ∷ 0 ∷ []
+
+-- `lea rax, [rip + descriptor]`, where the offset itself is asked
+abbrev pub descriptor_load : List ℕ
+descriptor_load = 0x48 ∷ 0x8d ∷ 0x05 ∷ 0xd1 ∷ 0x0f ∷ 0 ∷ 0 ∷ []
+
+-- a branch to another symbol; a load that was rewritten to one byte past the symbol; a sequence of which the first instruction was
+-- rewritten, and the call left; a descriptor's address where its offset is asked
+pub record WrongCodeIsRefused : Type 0 where
+  pub branch : Refuses static_pie static_pie_world (Has 0x41000 another_branch)
+  pub load : Refuses static_pie static_pie_world (Has 0x41010 load_past)
+  pub sequence : Refuses static_pie static_pie_world (Has 0x41020 half_sequence)
+  pub descriptor : Refuses static_pie static_pie_world (Has 0x41040 descriptor_load)
+
+-- an image is linked in the world, so none of this is refused for want of one
+abbrev pub StaticImageIsLinked : Type 0
+StaticImageIsLinked = IsLinked static_pie static_pie_world static_image

@@ -1,0 +1,71 @@
+-- A worked program that is loaded anywhere, with a symbol of a library that is copied into it.
+--   copied_bytes     what the library has of the symbol
+--   copying          the layout
+--   copying_world    a world with base 0x20000, whose bytes to be copied are not all 0
+use Rattle.std.specs.Prelude.{ℕ, List, [], ◌∷◌, Some, None}
+use lib.IntN.{pos}
+use Rattle.wild_records.specs.Abi.Relocation.{r_x86_64_64}
+use Rattle.wild_types.specs.Empty.{empty_layout}
+use Rattle.wild_types.specs.declared.kind.OutputKind.TheVariants as output
+use Rattle.wild_types.specs.declared.kind.RelocationModel.TheVariants as model
+use Rattle.wild_types.specs.declared.symbol.Symbol.{Symbol}
+use Rattle.wild_types.specs.declared.input.InputSection.{InputSection}
+use Rattle.wild_types.specs.declared.file.FileRole.TheVariants as file_role
+use Rattle.wild_types.specs.declared.file.File.{File}
+use Rattle.wild_types.specs.declared.layout.Entry.TheVariants as entry
+use Rattle.wild_types.specs.declared.layout.Layout.{Layout}
+use Rattle.wild_loader.specs.declared.world.Answer.{Answer}
+use Rattle.wild_loader.specs.declared.world.World.{World}
+use Rattle.wild_meaning.specs.Item.{Item, item_of}
+use Rattle.wild_meaning.specs.Worked.{given, reference, input, blank, file_of, group_of, loaded}
+
+-- a library's symbol of 8 bytes, which is copied (DYNAMIC, COPY_RELOCATION)
+abbrev pub copied_symbol : Symbol
+copied_symbol = given 0x402 0x3100 8 (Some 1) None None
+
+-- where the program begins (NON_INTERPOSABLE)
+abbrev pub start_symbol : Symbol
+start_symbol = given 8 0x1100 0 None None None
+
+-- data with the address of the copied symbol
+abbrev pub copying_data : InputSection
+copying_data = input 0x1000 3 (0 ∷ 0 ∷ 0 ∷ 0 ∷ 0 ∷ 0 ∷ 0 ∷ 0 ∷ []) (reference 0 r_x86_64_64 0 (pos 0) ∷ [])
+
+abbrev pub copying_item : Item
+copying_item = item_of copying_data
+
+-- data that are 0, behind file bytes; the copied symbol stands in them
+abbrev pub copying_blank : InputSection
+copying_blank = blank 0x3000 0x200
+
+abbrev pub copying_object : File
+copying_object = file_of file_role.Object (copying_data ∷ copying_blank ∷ []) []
+
+abbrev pub copying_library : File
+copying_library = file_of file_role.Dynamic [] (0 ∷ [])
+
+-- the layout: data from 0x1000 on, file bytes up to 0x3000, zeros up to 0x4000
+abbrev pub copying : Layout
+copying = record empty_layout {
+  kind = output.DynamicExecutable model.Relocatable;
+  page_size = 0x1000;
+  segments = loaded 0x1000 0x2000 0x3000 ∷ [];
+  symbols = copied_symbol ∷ start_symbol ∷ [];
+  groups = group_of (copying_object ∷ copying_library ∷ []) ∷ [];
+  entry = Some (entry.Symbol 1);
+}
+
+-- what the library has of the symbol
+abbrev pub copied_bytes : List ℕ
+copied_bytes = 1 ∷ 2 ∷ 3 ∷ 4 ∷ 5 ∷ 6 ∷ 7 ∷ 8 ∷ []
+
+abbrev pub null_answer : Answer
+null_answer = record { address = 0; «module» = 1; offset = 0; size = 0; bytes = [] }
+
+-- the symbol is the program's own, at its place there
+abbrev pub copied_answer : Answer
+copied_answer = record { address = 0x23100; «module» = 1; offset = 0x3100; size = 8; bytes = copied_bytes }
+
+-- a world with base 0x20000
+abbrev pub copying_world : World
+copying_world = record { base = 0x20000; symbols = null_answer ∷ copied_answer ∷ []; resolvers = []; modules = (1, pos 0) ∷ []; own_module = 1 }

@@ -1,0 +1,61 @@
+//! What the definitions refuse: worked layouts, legal worlds of theirs, and images that are not linked there.
+ghost use Rattle.wild_meaning.specs.CopyRefusals.{CopyingWorldIsLegal, WrongCopyIsRefused, WrongZeroIsRefused, WrongPlaceOfCopyIsRefused, WrongMachineIsRefused, WrongHeadersAreRefused, CopyingImageIsLinked};
+ghost use Rattle.wild_meaning.specs.Replaced.{DynamicIsReplaceable, ExportedIsReplaceable, AnswersAreTaken};
+ghost use Rattle.wild_meaning.specs.SharedRefusals.{SharedWorldIsLegal, WrongSlotsAreRefused, WrongAddressesAreRefused, WrongOffsetsAreRefused, WrongModulesAreRefused, WrongDescriptorsAreRefused, WrongSizeIsRefused, WrongByteIsRefused, WrongCodeOfLibraryIsRefused};
+ghost use Rattle.wild_meaning.specs.StaticRefusals.{StaticPieWorldIsLegal, WrongDataAreRefused, WrongCodeIsRefused, StaticImageIsLinked};
+
+use wild_records::file_header_is_read;
+
+/// Each worked layout has a legal world at a base other than 0.
+pub fn worked_worlds_are_legal()
+    ensures shared { SharedWorldIsLegal }
+    ensures copying { CopyingWorldIsLegal }
+    ensures static_pie { StaticPieWorldIsLegal }
+{}
+
+/// A symbol of another module, and one of a library's own that others see and may define, may be another module's; a legal world has
+/// another address for it.
+pub fn symbols_are_replaced()
+    ensures dynamic { DynamicIsReplaceable }
+    ensures exported { ExportedIsReplaceable }
+    ensures taken { AnswersAreTaken }
+{}
+
+/// No image of the worked shared object is linked in its world where memory is wrong in one place: a slot of an address or an offset,
+/// a word with an address, an offset from the thread pointer, the module of a pair, the offset of a descriptor, a size, a byte in no
+/// field, code that is given an offset where it asks for a descriptor.
+pub fn wrong_shared_objects_are_refused()
+    ensures slots { WrongSlotsAreRefused }
+    ensures addresses { WrongAddressesAreRefused }
+    ensures offsets { WrongOffsetsAreRefused }
+    ensures modules { WrongModulesAreRefused }
+    ensures descriptors { WrongDescriptorsAreRefused }
+    ensures size { WrongSizeIsRefused }
+    ensures byte { WrongByteIsRefused }
+    ensures code { WrongCodeOfLibraryIsRefused }
+{}
+
+/// No image of the worked program with a copied symbol is linked in its world where a copied byte is another, a byte of a section without
+/// data is not 0, the address of the copied symbol is not its copy's, or the file header tells another machine, kind or beginning. One image
+/// is linked there.
+pub fn wrong_copies_are_refused()
+    ensures copy { WrongCopyIsRefused }
+    ensures zero { WrongZeroIsRefused }
+    ensures place { WrongPlaceOfCopyIsRefused }
+    ensures machine { WrongMachineIsRefused }
+    ensures header { WrongHeadersAreRefused }
+    ensures linked { CopyingImageIsLinked }
+{
+    file_header_is_read();
+}
+
+/// No image of the worked program without a dynamic linker is linked in its world where an address does not move, an offset does, or the
+/// entry does; where a branch goes to another symbol, a load comes to a byte past its symbol, a sequence is half rewritten, or code is
+/// given a descriptor where it asks for an offset. One image is linked there.
+pub fn wrong_programs_are_refused()
+    ensures words { WrongDataAreRefused }
+    ensures code { WrongCodeIsRefused }
+    ensures linked { StaticImageIsLinked }
+{
+    file_header_is_read();
+}

@@ -1,0 +1,70 @@
+-- What was decided lies in its section, and a rewritten instruction has the bytes of its pattern.
+use Rattle.std.proofs.Common.{◌≡◌, ℕ, ◌+◌, ◌≤◌, length, slice_range, refl, sym, subst}
+use Rattle.std.specs.Prelude.{Some, Ok, All, slice_get}
+use Rattle.wild_words.proofs.Basics.{length-range}
+use Rattle.wild_words.proofs.ListLemmas.{holds_at}
+use Rattle.wild_types.specs.declared.input.InputRelocation.{InputRelocation}
+use Rattle.wild_types.specs.declared.input.InputSection.{InputSection}
+use Rattle.wild_types.specs.declared.layout.Layout.{Layout}
+use Rattle.wild_reloc.specs.TableX86_64.{x86_64_row}
+use Rattle.wild_reloc.specs.declared.info.RelocationKindInfo.{RelocationKindInfo}
+use Rattle.wild_reloc.specs.declared.info.RelocationSize.TheVariants.{ByteSize}
+use Rattle.wild_reloc.specs.declared.info.Width.TheVariants.{Eight}
+use Rattle.wild_relax.specs.declared.pattern.GeneralForm.TheVariants as general
+use Rattle.wild_relax.specs.declared.pattern.LocalForm.TheVariants as local
+use Rattle.wild_relax.specs.declared.row.DescriptorUse.TheVariants.{LocalExec, InitialExec}
+use Rattle.wild_relax.specs.declared.row.Row.{Row}
+use Rattle.wild_relax.specs.declared.row.Row.TheVariants.{IfuncThroughStub, RexGotToImmediate, RexGotMovToLea, GotMovToImmediate, GotMovToLea, IndirectCallToDirect, IndirectJumpToDirect, PlainGotMovToLea, InitialExecToLocalExec, Plt32ToPc32, PltOffToGotOff, GeneralDynamicToLocalExec, GeneralDynamicToInitialExec, LocalDynamicToLocalExec, DescriptorLea, DescriptorCall}
+use Rattle.wild_relax.specs.Linked.{pattern_size}
+use Rattle.wild_relax.specs.RewriteX86_64.{rewrite_of}
+use Rattle.wild_relax.proofs.TemplateLemmas.{length-template}
+use Rattle.wild_layout.specs.declared.decision.Decision.{Decision}
+use Rattle.wild_layout.specs.declared.decision.Decision.TheVariants.{Nothing, Field, Moved, Left, Rewritten, Partner}
+use Rattle.wild_layout.specs.Decide.{decide}
+use Rattle.wild_layout.specs.SectionPlaces.{FieldLies}
+use Rattle.wild_layout.specs.Sites.{template_start, template_site}
+use Rattle.wild_layout.proofs.DecideLemmas.{decided_moved, decided_left, moved_has, left_has, field_ends}
+use Rattle.wild_layout.proofs.DecisionLemmas.{decide_moved, decide_left, decide_rewritten}
+use Rattle.wild_layout.proofs.SiteLemmas.{decide_field_has}
+use Rattle.wild_sections.specs.Decided.{TemplateLies, DecisionLies}
+
+-- each type that is written has a row
+row_known : (row : Row) → (info : RelocationKindInfo) × (Some info ≡ x86_64_row (rewrite_of row).number)
+unfolding x86_64_row
+row_known IfuncThroughStub = (_, refl)
+row_known (RexGotToImmediate p o) = (_, refl)
+row_known (RexGotMovToLea p) = (_, refl)
+row_known GotMovToImmediate = (_, refl)
+row_known GotMovToLea = (_, refl)
+row_known IndirectCallToDirect = (_, refl)
+row_known IndirectJumpToDirect = (_, refl)
+row_known PlainGotMovToLea = (_, refl)
+row_known (InitialExecToLocalExec p o) = (_, refl)
+row_known Plt32ToPc32 = (_, refl)
+row_known PltOffToGotOff = (_, refl)
+row_known (GeneralDynamicToLocalExec general.Regular) = (_, refl)
+row_known (GeneralDynamicToLocalExec general.NoPlt) = (_, refl)
+row_known (GeneralDynamicToLocalExec general.Large) = (_, refl)
+row_known (GeneralDynamicToInitialExec f) = (_, refl)
+row_known (LocalDynamicToLocalExec local.Regular) = (_, refl)
+row_known (LocalDynamicToLocalExec local.Large) = (_, refl)
+row_known (LocalDynamicToLocalExec local.NoPlt) = (_, refl)
+row_known (DescriptorLea p LocalExec) = (_, refl)
+row_known (DescriptorLea p InitialExec) = (_, refl)
+row_known DescriptorCall = (_, refl)
+
+pub length-instruction : (s : InputSection) (r : InputRelocation) (row : Row) (v : ℕ) → TemplateLies (length s.bytes) r row → length (template_site s r row v).bytes ≡ pattern_size row
+length-instruction s r row v lies =
+    let known = row_known row in
+    length-template row known.0 v (slice_range s.bytes (template_start row r) (template_start row r + pattern_size row)) lies.changes known.1 (length-range s.bytes (template_start row r) (pattern_size row) lies.ends)
+
+-- what was decided of a relocation lies where the clauses say
+pub decision_lies : (l : Layout) (s : InputSection) (i n : ℕ) (r : InputRelocation) (d : Decision) → slice_get s.relocations i ≡ Some r → n ≡ length s.bytes → All (FieldLies l.machine n) s.relocations → decide l s i ≡ Ok d → DecisionLies n r d
+decision_lies l s i n r Nothing listed whole lies is = tt
+decision_lies l s i n r (Field z v) listed whole lies is = field_ends l r z n (decide_field_has l s i r z v listed is) (holds_at (FieldLies l.machine n) s.relocations i r listed lies)
+decision_lies l s i n r (Moved v packed) listed whole lies is = field_ends l r (ByteSize Eight) n (moved_has l s r v packed (decided_moved l s r v packed (decide_moved l s i r v packed listed is).made)) (holds_at (FieldLies l.machine n) s.relocations i r listed lies)
+decision_lies l s i n r (Left z k j a) listed whole lies is = field_ends l r z n (left_has l s r z k j a (decided_left l s r z k j a (decide_left l s i r z k j a listed is).made)) (holds_at (FieldLies l.machine n) s.relocations i r listed lies)
+decision_lies l s i n r (Rewritten row v) listed whole lies is =
+    let w = decide_rewritten l s i r row v listed is in
+    record { changes = w.changes; ends = subst (λ (m : ℕ). template_start row r + pattern_size row ≤ m) (sym whole) w.chosen.inside }
+decision_lies l s i n r Partner listed whole lies is = tt

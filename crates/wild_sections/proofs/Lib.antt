@@ -1,0 +1,9 @@
+pub mod FaultLemmas
+pub mod PieceLemmas
+pub mod ValueLemmas
+pub mod DistanceLemmas
+pub mod ChoiceLemmas
+pub mod InstructionLemmas
+pub mod DecidedLemmas
+pub mod AscendingLemmas
+pub mod HomeLemmas

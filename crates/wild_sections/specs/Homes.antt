@@ -1,0 +1,33 @@
+-- The files of symbols, as far as the dynamic symbol table tells of them.
+--   home_of l place f   the role of a symbol's file, and the header index of the section in which the symbol stands
+--   home_in l i f       the same for symbol i, as one of file f
+--   HasHomes l homes    a table of these for all symbols, where the output has a dynamic symbol table
+use Rattle.std.specs.Prelude.{◌≡◌, ℕ, ◌<◌, true, List, length, Option, Some, None, slice_get, slice_index_or}
+use Rattle.wild_types.specs.declared.symbol.Place.{Place}
+use Rattle.wild_types.specs.declared.symbol.Place.TheVariants as at
+use Rattle.wild_types.specs.declared.symbol.Symbol.{Symbol}
+use Rattle.wild_types.specs.declared.file.File.{File}
+use Rattle.wild_types.specs.declared.layout.Layout.{Layout}
+use Rattle.wild_needs.specs.DynamicSymbols.{output_section}
+use Rattle.wild_types.specs.Kinds.{needs_dynsym}
+use Rattle.wild_types.specs.Lookups.{files_of}
+use Rattle.wild_symbols.specs.DynamicFields.{role_of}
+use Rattle.wild_sections.specs.declared.home.Home.{Home}
+use Rattle.wild_sections.specs.Placed.{found}
+
+-- of a symbol at a place in a file
+abbrev pub home_of : Layout → Place → Option File → Home
+home_of l place f = record { role = role_of f; section = output_section l f place }
+
+abbrev pub place_or : Option Symbol → Place
+place_or None = at.Undefined
+place_or (Some s) = s.place
+
+-- of symbol i, as one of file f
+abbrev pub home_in : Layout → ℕ → File → Home
+home_in l i f = home_of l (place_or (slice_get l.symbols i)) (Some f)
+
+-- the table of these, where there is a dynamic symbol table
+pub record HasHomes (l : Layout) (homes : List (Option Home)) : Type 0 where
+  pub count : needs_dynsym l.kind ≡ true → length homes ≡ length l.symbols
+  pub all : needs_dynsym l.kind ≡ true → (k : ℕ) → k < length homes → slice_index_or homes k None ≡ found (home_in l) (files_of l.groups) k

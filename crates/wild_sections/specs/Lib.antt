@@ -1,0 +1,6 @@
+pub mod Choice
+pub mod Decided
+pub mod Fits
+pub mod Homes
+pub mod Placed
+pub mod Values

@@ -1,0 +1,183 @@
+//! Which rewrite of instructions stands at a relocation. Rows are asked of two relocations at most, which stand on the stack.
+ghost use Rattle.std.specs.Prelude.{◌≡◌, ◌<◌, length};
+ghost use Rattle.wild_relax.specs.Relaxation.{chosen_of};
+ghost use Rattle.wild_layout.specs.Choice.{same_names, is_getter, info_of, choice, takes_next, is_partner};
+ghost use Rattle.wild_sections.specs.Choice.{nameless, asked_of, infos_from, may_take_next, may_be_partner};
+
+use crate::values::Resolved;
+use wild_records::abi::relocation::{R_X86_64_PC32, R_X86_64_TLSGD, R_X86_64_TLSLD};
+use wild_relax::{Arch, Relaxation, RelocationInfo, Row, UnknownSequence};
+use wild_slot::flags_at;
+use wild_types::{InputRelocation, InputSection, Layout, SymbolIndex};
+
+/// The function that tells the address of a thread-local symbol ("ELF Handling For Thread-Local Storage", "Run-Time Handling
+/// of TLS").
+const GETTER: [u8; 14] = *b"__tls_get_addr";
+
+/// Whether two names are one.
+fn same_names(one: &[u8], other: &[u8]) -> bool
+    ensures { result ≡ same_names one.now other.now }
+{
+    match (one.split_first(), other.split_first()) {
+        (None, None) => true,
+        (Some((a, one)), Some((b, other))) => *a == *b && same_names(one, other),
+        _ => false,
+    }
+}
+
+/// Whether the symbol that a relocation names is that function.
+fn is_getter(layout: &Layout, symbol: Option<SymbolIndex>) -> bool
+    ensures { result ≡ is_getter layout.now symbol }
+{
+    let Some(symbol) = symbol else {
+        return false;
+    };
+    match layout.symbols.as_slice().get(symbol.0) {
+        Some(found) => same_names(found.name.as_slice(), &GETTER),
+        None => false,
+    }
+}
+
+/// What the rows ask of a relocation by itself, but for its symbol's name.
+#[inline]
+fn nameless(relocation: &InputRelocation) -> RelocationInfo
+    ensures { result ≡ nameless relocation.now }
+{
+    RelocationInfo {
+        number: relocation.number,
+        offset: relocation.offset,
+        symbol: match relocation.symbol {
+            Some(symbol) => Some(symbol.0),
+            None => None,
+        },
+        addend: relocation.addend,
+        names_tls_get_addr: false,
+    }
+}
+
+/// What the rows ask of a relocation by itself.
+fn info_of(layout: &Layout, relocation: &InputRelocation) -> RelocationInfo
+    ensures { result ≡ info_of layout.now relocation.now }
+{
+    RelocationInfo {
+        names_tls_get_addr: is_getter(layout, relocation.symbol),
+        ..nameless(relocation)
+    }
+}
+
+/// The row that stands at the first of these relocations, which names that symbol, or why it is refused.
+fn asked<A: Arch>(
+    resolved: &Resolved<A>,
+    section: &InputSection,
+    symbol: SymbolIndex,
+    relocations: &[RelocationInfo],
+) -> Result<Option<Row>, UnknownSequence>
+    ensures { result ≡ chosen_of resolved.now.layout.now.machine (asked_of resolved.now.layout.now section.now symbol relocations.now) }
+{
+    let layout = resolved.layout;
+    let found = A::new_relaxation(
+        relocations,
+        0,
+        section.bytes.as_slice(),
+        flags_at(layout, symbol),
+        layout.kind,
+        section.flags,
+        layout.options.relax,
+        resolved.address(symbol),
+        section.address,
+    );
+    match found {
+        Ok(None) => Ok(None),
+        Ok(Some(relaxation)) => Ok(Some(relaxation.row())),
+        Err(unknown) => Err(unknown),
+    }
+}
+
+/// Whether rows of that relocation type write a whole sequence, whose call has the next relocation.
+#[inline(always)]
+pub(crate) fn may_take_next(number: u32) -> bool
+    ensures { result ≡ may_take_next number }
+{
+    number == R_X86_64_TLSGD || number == R_X86_64_TLSLD
+}
+
+/// The row that stands at a relocation, with the next one in sight.
+fn choice_with_next<A: Arch>(
+    resolved: &Resolved<A>,
+    section: &InputSection,
+    index: usize,
+    symbol: SymbolIndex,
+) -> Result<Option<Row>, UnknownSequence>
+    requires index { index < length section.now.relocations }
+    ensures { result ≡ chosen_of resolved.now.layout.now.machine (asked_of resolved.now.layout.now section.now symbol (infos_from resolved.now.layout.now section.now.relocations index)) }
+{
+    let relocations = section.relocations.as_slice();
+    let own = info_of(resolved.layout, &relocations[index]);
+    match relocations.get(index + 1) {
+        Some(next) => {
+            asked(
+                resolved,
+                section,
+                symbol,
+                &[own, info_of(resolved.layout, next)],
+            )
+        }
+        None => asked(resolved, section, symbol, &[own]),
+    }
+}
+
+/// The row that stands at a relocation of a section, or why it is refused. The next one and the names are looked at where a
+/// row of the type asks for them.
+pub(crate) fn choice<A: Arch>(
+    resolved: &Resolved<A>,
+    section: &InputSection,
+    index: usize,
+) -> Result<Option<Row>, UnknownSequence>
+    requires index { index < length section.now.relocations }
+    ensures { result ≡ choice resolved.now.layout.now section.now index }
+{
+    let relocation = &section.relocations.as_slice()[index];
+    let Some(symbol) = relocation.symbol else {
+        return Ok(None);
+    };
+    if relocation.number == R_X86_64_PC32 {
+        return Ok(None);
+    }
+    if may_take_next(relocation.number) {
+        choice_with_next(resolved, section, index, symbol)
+    } else {
+        asked(resolved, section, symbol, &[nameless(relocation)])
+    }
+}
+
+/// Whether a row writes a whole sequence.
+fn takes_next(choice: Result<Option<Row>, UnknownSequence>) -> bool
+    ensures { result ≡ takes_next choice }
+{
+    match choice {
+        Ok(Some(row)) => row.takes_next(),
+        Ok(None) | Err(_) => false,
+    }
+}
+
+/// Whether the relocation before is of a type whose rows may take this one along.
+#[inline(always)]
+pub(crate) fn may_be_partner(relocations: &[InputRelocation], index: usize) -> bool
+    requires index { index < length relocations.now }
+    ensures { result ≡ may_be_partner relocations.now index }
+{
+    index > 0 && may_take_next(relocations[index - 1].number)
+}
+
+/// Whether a relocation of a section is the call of the sequence before it, which is rewritten as a whole.
+pub(crate) fn is_partner<A: Arch>(
+    resolved: &Resolved<A>,
+    section: &InputSection,
+    index: usize,
+) -> bool
+    requires index { index < length section.now.relocations }
+    ensures { result ≡ is_partner resolved.now.layout.now section.now index }
+{
+    may_be_partner(section.relocations.as_slice(), index)
+        && takes_next(choice(resolved, section, index - 1))
+}

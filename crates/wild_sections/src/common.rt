@@ -1,0 +1,74 @@
+//! The most common relocations, which are decided without a look at anything else.
+ghost use Rattle.std.specs.Prelude.{◌≡◌, ℕ, ◌<◌, length, Ok, Some};
+ghost use Rattle.wild_records.specs.Abi.Relocation.{r_x86_64_pc32};
+ghost use Rattle.wild_reloc.specs.declared.info.RelocationSize.TheVariants.{ByteSize};
+ghost use Rattle.wild_reloc.specs.declared.info.Width.TheVariants.{Four};
+ghost use Rattle.wild_layout.specs.declared.decision.Decision.TheVariants.{Field};
+ghost use Rattle.wild_layout.specs.Decide.{decided, decide};
+
+use crate::choice::may_be_partner;
+use crate::relocation::{distance_for, is_fixed_distance};
+use crate::values::Resolved;
+use wild_layout::Decision;
+use wild_records::abi::relocation::R_X86_64_PC32;
+use wild_relax::Arch;
+use wild_reloc::{RelocationSize, Width};
+use wild_types::{Fault, InputRelocation, InputSection};
+
+/// The type of most relocations of x86-64 code. It is asked for first, so that where it is met its row is known.
+const COMMON: u32 = R_X86_64_PC32;
+
+/// The value, where it is one in a field of four bytes.
+#[inline(always)]
+fn in_four(decided: Result<Decision, Fault>) -> Option<u64>
+    ensures { (value : ℕ) → result ≡ Some value → decided ≡ Ok (Field (ByteSize Four) value) }
+{
+    match decided {
+        Ok(
+            Decision::Field {
+                size: RelocationSize::ByteSize(Width::Four),
+                value,
+            },
+        ) => Some(value),
+        _ => None,
+    }
+}
+
+/// The same, of a relocation that has the most common type.
+#[inline(always)]
+fn value_of_common<A: Arch>(
+    resolved: &Resolved<A>,
+    section: &InputSection,
+    relocation: &InputRelocation,
+) -> Option<u64>
+    requires { relocation.now.number ≡ r_x86_64_pc32 }
+    ensures { (value : ℕ) → result ≡ Some value → decided resolved.now.layout.now section.now relocation.now ≡ Ok (Field (ByteSize Four) value) }
+{
+    let row = A::relocation_from_raw(COMMON);
+    match &row {
+        Some(found) if is_fixed_distance(resolved.layout, found) => {
+            in_four(distance_for(resolved, section, relocation, found))
+        }
+        _ => None,
+    }
+}
+
+/// The value in a field of four bytes that is decided of a relocation of the most common type, in an output that does
+/// not move; none where something else is to be done.
+#[inline(always)]
+pub(crate) fn common_value<A: Arch>(
+    resolved: &Resolved<A>,
+    section: &InputSection,
+    index: usize,
+) -> Option<u64>
+    requires index { index < length section.now.relocations }
+    ensures { (value : ℕ) → result ≡ Some value → decide resolved.now.layout.now section.now index ≡ Ok (Field (ByteSize Four) value) }
+{
+    let relocations = section.relocations.as_slice();
+    let relocation = &relocations[index];
+    if relocation.number == COMMON && !may_be_partner(relocations, index) {
+        value_of_common(resolved, section, relocation)
+    } else {
+        None
+    }
+}

@@ -1,0 +1,147 @@
+//! The writing of one relocation, as it was decided: its field, 0 where that is left to a loader, or a whole instruction.
+ghost use Rattle.std.specs.Prelude.{◌≡◌, ℕ, ◌+◌, ◌≤◌, Some, length, if◌then◌else◌};
+ghost use Rattle.wild_words.specs.Words.{word, place};
+ghost use Rattle.wild_reloc.specs.declared.info.RelocationSize.TheVariants.{ByteSize};
+ghost use Rattle.wild_reloc.specs.declared.info.Width.TheVariants.{Four};
+ghost use Rattle.wild_reloc.specs.Field.{size_width};
+ghost use Rattle.wild_layout.specs.Sites.{template_start};
+ghost use Rattle.wild_sections.specs.Decided.{put_field, reach_of_field, put_template, TemplateLies, reach_of_template, put_decision, DecisionLies, reach_behind};
+
+use crate::relocation::ADDRESS;
+use wild_layout::Decision;
+use wild_relax::Row;
+use wild_reloc::RelocationSize;
+use wild_types::InputRelocation;
+use wild_words::put;
+
+/// What stands in the field of an address that moves: the address where it is packed, and 0 beside an entry.
+#[inline]
+fn standing(value: u64, packed: bool) -> u64
+    ensures { result ≡ (if packed then value else 0) }
+{
+    if packed { value } else { 0 }
+}
+
+/// Where the instruction of a row begins.
+#[inline]
+pub(crate) fn template_start(row: Row, relocation: &InputRelocation) -> u64
+    ensures { result ≡ template_start row relocation.now }
+{
+    relocation.offset.saturating_sub(row.pattern_field())
+}
+
+/// Writes a whole instruction by its row, with a value in the field.
+fn write_template(relocation: &InputRelocation, row: Row, value: u64, room: &mut [u8])
+    requires lies { TemplateLies (length room.old) relocation.now row }
+    ensures { room.new ≡ put_template room.old (template_start row relocation.now) row value }
+{
+    let start = template_start(row, relocation);
+    row.write_template(value, room, start as usize);
+}
+
+/// Writes a relocation over the bytes of its section, as it was decided.
+#[inline]
+pub(crate) fn write_decision(relocation: &InputRelocation, decision: Decision, room: &mut [u8])
+    requires lies { DecisionLies (length room.old) relocation.now decision }
+    ensures { room.new ≡ put_decision room.old relocation.now decision }
+{
+    let at = relocation.offset as usize;
+    match decision {
+        Decision::Nothing | Decision::Partner => {}
+        Decision::Field { size, value } => size.write_at(value, room, at),
+        Decision::Left { size, .. } => size.write_at(0, room, at),
+        Decision::Moved { value, packed } => {
+            ADDRESS.write_at(standing(value, packed), room, at);
+        }
+        Decision::Rewritten { row, value } => write_template(relocation, row, value, room),
+    }
+}
+
+/// Writes a field, where it begins at `reach` or behind: where it ends then; none where it begins before.
+#[inline]
+fn field_behind(
+    reach: u64,
+    offset: u64,
+    size: RelocationSize,
+    value: u64,
+    room: &mut [u8],
+) -> Option<u64>
+    requires lies { offset + size_width size ≤ length room.old }
+    ensures reach { result ≡ reach_of_field reach offset size }
+    ensures written { (end : ℕ) → result ≡ Some end → room.new ≡ put_field room.old offset size value }
+{
+    if offset < reach {
+        return None;
+    }
+    size.write_at(value, room, offset as usize);
+    Some(offset + size.width() as u64)
+}
+
+/// Writes a whole instruction, where it begins at `reach` or behind: where it ends then; none where it begins before.
+fn template_behind(
+    reach: u64,
+    relocation: &InputRelocation,
+    row: Row,
+    value: u64,
+    room: &mut [u8],
+) -> Option<u64>
+    requires lies { TemplateLies (length room.old) relocation.now row }
+    ensures reach { result ≡ reach_of_template reach (template_start row relocation.now) row }
+    ensures written { (end : ℕ) → result ≡ Some end → room.new ≡ put_template room.old (template_start row relocation.now) row value }
+{
+    let start = template_start(row, relocation);
+    if start < reach {
+        return None;
+    }
+    write_template(relocation, row, value, room);
+    Some(start + row.pattern_size() as u64)
+}
+
+/// The four low bytes of a value, into the room.
+#[inline(always)]
+#[tactic(auto, using(wild_words::proofs::WordLemmas::low_word_4))]
+fn put_four(value: u64, room: &mut [u8], at: usize)
+    requires { at + 4 ≤ length room.old }
+    ensures { room.new ≡ place at (word 4 value) room.old }
+{
+    put(room, at, &value.to_le_bytes()[..4]);
+}
+
+/// Writes a field of four bytes, where it begins at `reach` or behind: where it ends then; none where it begins before.
+#[inline(always)]
+pub(crate) fn four_behind(reach: u64, offset: u64, value: u64, room: &mut [u8]) -> Option<u64>
+    requires lies { offset + 4 ≤ length room.old }
+    ensures reach { result ≡ reach_of_field reach offset (ByteSize Four) }
+    ensures written { (end : ℕ) → result ≡ Some end → room.new ≡ put_field room.old offset (ByteSize Four) value }
+{
+    if reach > offset {
+        return None;
+    }
+    put_four(value, room, offset as usize);
+    Some(offset + 4)
+}
+
+/// Writes a relocation, where its field begins at `reach` or behind: where it ends then; none where it begins
+/// before.
+#[inline]
+pub(crate) fn write_behind(
+    reach: u64,
+    relocation: &InputRelocation,
+    decision: Decision,
+    room: &mut [u8],
+) -> Option<u64>
+    requires lies { DecisionLies (length room.old) relocation.now decision }
+    ensures reach { result ≡ reach_behind reach relocation.now decision }
+    ensures written { (end : ℕ) → result ≡ Some end → room.new ≡ put_decision room.old relocation.now decision }
+{
+    let offset = relocation.offset;
+    match decision {
+        Decision::Nothing | Decision::Partner => Some(reach),
+        Decision::Field { size, value } => field_behind(reach, offset, size, value, room),
+        Decision::Left { size, .. } => field_behind(reach, offset, size, 0, room),
+        Decision::Moved { value, packed } => {
+            field_behind(reach, offset, ADDRESS, standing(value, packed), room)
+        }
+        Decision::Rewritten { row, value } => template_behind(reach, relocation, row, value, room),
+    }
+}

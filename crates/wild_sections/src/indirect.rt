@@ -1,0 +1,157 @@
+//! Addresses of stubs and slots, by which relocations reach a symbol (x86-64 psABI, "Procedure Linkage Table", "Global
+//! Offset Table (GOT)").
+ghost use Rattle.std.specs.Prelude.{◌≡◌};
+ghost use Rattle.wild_layout.specs.SymbolValues.{address_or};
+ghost use Rattle.wild_layout.specs.SlotValues.{resolution_of, index_of, decided_address, stub_of, is_chosen, stub_address, has_second_slot, behind_word, behind_pair, slot_among, slot_decided, slot_of, slot_address};
+
+use wild_reloc::RelocationKind;
+use wild_slot::{flags_at, next_word};
+use wild_types::{Fault, Layout, Missing, Resolution, SymbolIndex, ValueFlags, has_thread_slot};
+
+/// An address, or what the symbol lacks.
+#[inline]
+pub(crate) fn address_or(
+    what: Missing,
+    symbol: SymbolIndex,
+    address: Option<u64>,
+) -> Result<u64, Fault>
+    ensures { result ≡ address_or what symbol address }
+{
+    match address {
+        Some(address) => Ok(address),
+        None => Err(Fault::MissingResolution {
+            what,
+            symbol: symbol.0,
+        }),
+    }
+}
+
+/// What was decided of the symbol's definition.
+fn resolution_of(layout: &Layout, symbol: SymbolIndex) -> Option<Resolution>
+    ensures { result ≡ resolution_of layout.now symbol }
+{
+    match layout.symbols.as_slice().get(layout.canonical(symbol).0) {
+        Some(found) => found.resolution,
+        None => None,
+    }
+}
+
+/// The index of the symbol's definition in the dynamic symbol table.
+pub fn index_of(layout: &Layout, symbol: SymbolIndex) -> Option<u64>
+    ensures { result ≡ index_of layout.now symbol }
+{
+    match resolution_of(layout, symbol) {
+        Some(resolution) => resolution.dynamic_symbol_index,
+        None => None,
+    }
+}
+
+/// The address that was decided of a symbol, its resolver's where a resolver chooses it; or that none was.
+pub fn decided_address(layout: &Layout, symbol: SymbolIndex) -> Result<u64, Fault>
+    ensures { result ≡ decided_address layout.now symbol }
+{
+    let decided = match resolution_of(layout, symbol) {
+        Some(resolution) => Some(resolution.raw_value),
+        None => None,
+    };
+    address_or(Missing::Address, symbol, decided)
+}
+
+/// Whether a resolver chooses the function that the symbol names.
+#[inline]
+pub(crate) fn is_chosen(layout: &Layout, symbol: SymbolIndex) -> bool
+    ensures { result ≡ is_chosen layout.now symbol }
+{
+    flags_at(layout, symbol).is_ifunc()
+}
+
+/// Where the symbol's stub stands.
+fn stub_of(layout: &Layout, symbol: SymbolIndex) -> Option<u64>
+    ensures { result ≡ stub_of layout.now symbol }
+{
+    match resolution_of(layout, symbol) {
+        Some(resolution) => resolution.plt_address,
+        None => None,
+    }
+}
+
+/// The address of the stub of the symbol that a relocation names, 0 where it names none; or that it has no stub.
+pub(crate) fn stub_address(layout: &Layout, symbol: Option<SymbolIndex>) -> Result<u64, Fault>
+    ensures { result ≡ stub_address layout.now symbol }
+{
+    match symbol {
+        Some(symbol) => address_or(Missing::Stub, symbol, stub_of(layout, symbol)),
+        None => Ok(0),
+    }
+}
+
+/// Whether references to the address use a slot of their own.
+fn has_second_slot(flags: ValueFlags) -> bool
+    ensures { result ≡ has_second_slot flags }
+{
+    flags.needs_ifunc_got_for_address() || flags.needs_canonical_plt_got_for_address()
+}
+
+/// The place, behind a word where there is one.
+fn behind_word(word: bool, place: u64) -> u64
+    ensures { result ≡ behind_word word place }
+{
+    if word { next_word(place) } else { place }
+}
+
+/// The place, behind a pair of words where there is one.
+fn behind_pair(pair: bool, place: u64) -> u64
+    ensures { result ≡ behind_pair pair place }
+{
+    if pair { place.wrapping_add(16) } else { place }
+}
+
+/// Where the slot of a kind stands among those of a symbol with these flags, whose first is there.
+fn slot_among(kind: RelocationKind, flags: ValueFlags, first: u64) -> Option<u64>
+    ensures { result ≡ slot_among kind flags first }
+{
+    let offset = flags.needs_got_tls_offset();
+    let module = flags.needs_got_tls_module();
+    match kind {
+        RelocationKind::GotTpOff if offset => Some(first),
+        RelocationKind::TlsGd if module => Some(behind_word(offset, first)),
+        RelocationKind::TlsDesc if flags.needs_got_tls_descriptor() => {
+            Some(behind_pair(module, behind_word(offset, first)))
+        }
+        RelocationKind::GotTpOff | RelocationKind::TlsGd | RelocationKind::TlsDesc => None,
+        _ if has_thread_slot(flags) => None,
+        _ => Some(behind_word(has_second_slot(flags), first)),
+    }
+}
+
+/// Where the slot of a kind stands, as it was decided.
+fn slot_decided(kind: RelocationKind, resolution: Option<Resolution>) -> Option<u64>
+    ensures { result ≡ slot_decided kind resolution }
+{
+    let resolution = resolution?;
+    slot_among(kind, resolution.flags, resolution.got_address?)
+}
+
+/// Where the symbol's slot of a kind stands; the pair of the output's own thread-local data stands once.
+fn slot_of(layout: &Layout, kind: RelocationKind, symbol: SymbolIndex) -> Option<u64>
+    ensures { result ≡ slot_of layout.now kind symbol }
+{
+    match kind {
+        RelocationKind::TlsLd => layout.tlsld,
+        _ => slot_decided(kind, resolution_of(layout, symbol)),
+    }
+}
+
+/// The address of that slot of the symbol that a relocation names, 0 where it names none; or that it has no slot.
+pub(crate) fn slot_address(
+    layout: &Layout,
+    kind: RelocationKind,
+    symbol: Option<SymbolIndex>,
+) -> Result<u64, Fault>
+    ensures { result ≡ slot_address layout.now kind symbol }
+{
+    match symbol {
+        Some(symbol) => address_or(Missing::Slot, symbol, slot_of(layout, kind, symbol)),
+        None => Ok(0),
+    }
+}

@@ -1,0 +1,24 @@
+//! What the relocations of an input section write: each decided, and its field filled in.
+#![tactic(auto)]
+
+mod choice;
+mod common;
+mod fields;
+mod home;
+mod indirect;
+mod overlap;
+mod place;
+mod placed;
+mod relocation;
+mod resolve;
+mod rewritten;
+mod section;
+mod values;
+
+pub use home::{Home, section_in_file};
+pub use indirect::{decided_address, index_of};
+pub use place::InputPlace;
+pub use relocation::added;
+pub use resolve::{moved_value, or_zero, raw_address};
+pub use section::{offset_of, write_data};
+pub use values::Resolved;

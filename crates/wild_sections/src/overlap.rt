@@ -1,0 +1,103 @@
+//! The least byte of a section that two relocations write.
+ghost use Rattle.std.specs.Prelude.{◌≡◌, length, IfOk};
+ghost use Rattle.wild_words.specs.Extents.{least_extent};
+ghost use Rattle.wild_sections.specs.Decided.{field_extent, template_extent, decided_extent, decided_extents, ascends};
+
+use crate::fields::template_start;
+use crate::relocation::ADDRESS;
+use std::alloc::{AllocError, Global};
+use wild_layout::Decision;
+use wild_relax::Row;
+use wild_reloc::RelocationSize;
+use wild_types::InputRelocation;
+use wild_words::{Extent, least_shared};
+
+/// Where a field stands.
+#[inline]
+fn field_extent(offset: u64, size: RelocationSize) -> Extent
+    ensures { result ≡ field_extent offset size }
+{
+    Extent {
+        start: offset,
+        end: offset as u128 + size.width() as u128,
+    }
+}
+
+/// Where the instruction of a row stands.
+fn template_extent(relocation: &InputRelocation, row: Row) -> Extent
+    ensures { result ≡ template_extent relocation.now row }
+{
+    let start = template_start(row, relocation);
+    Extent {
+        start,
+        end: start as u128 + row.pattern_size() as u128,
+    }
+}
+
+/// Where a relocation writes; none where it writes nothing.
+#[inline]
+fn extent_of(relocation: &InputRelocation, decision: Decision) -> Option<Extent>
+    ensures { result ≡ decided_extent relocation.now decision }
+{
+    match decision {
+        Decision::Nothing | Decision::Partner => None,
+        Decision::Field { size, .. } | Decision::Left { size, .. } => {
+            Some(field_extent(relocation.offset, size))
+        }
+        Decision::Moved { .. } => Some(field_extent(relocation.offset, ADDRESS)),
+        Decision::Rewritten { row, .. } => Some(template_extent(relocation, row)),
+    }
+}
+
+/// Whether each field begins where those before it end, or behind.
+#[tactic(auto, unfolding(crate::specs::Decided::ascends, crate::specs::Decided::decided_extents))]
+fn is_ascending(relocations: &[InputRelocation], decisions: &[Decision]) -> bool
+    requires { length decisions.now ≡ length relocations.now }
+    ensures { result ≡ ascends 0 (decided_extents relocations.now decisions.now) }
+{
+    let mut reach: u128 = 0;
+    for i in 0..decisions.len() {
+        if let Some(extent) = extent_of(&relocations[i], decisions[i]) {
+            if (extent.start as u128) < reach {
+                return false;
+            }
+            reach = reach.max(extent.end);
+        }
+    }
+    true
+}
+
+/// Where the fields are.
+fn extents_of(
+    alloc: Global,
+    relocations: &[InputRelocation],
+    decisions: &[Decision],
+) -> Result<Vec<Extent>, AllocError>
+    requires { length decisions.now ≡ length relocations.now }
+    ensures { IfOk result (λ v. v.items ≡ decided_extents relocations.now decisions.now) }
+{
+    let mut extents = Vec::with_capacity(alloc, decisions.len())?;
+    for i in 0..decisions.len() {
+        if let Some(extent) = extent_of(&relocations[i], decisions[i]) {
+            extents.push(extent)?;
+        }
+    }
+    Ok(extents)
+}
+
+/// The least byte of a section that two relocations write. Fields in order are seen once; others are sorted.
+#[tactic(auto, using(crate::proofs::DecidedLemmas::ascending_shares_none))]
+pub(crate) fn shared_byte(
+    alloc: Global,
+    relocations: &[InputRelocation],
+    decisions: &[Decision],
+) -> Result<Option<u64>, AllocError>
+    requires { length decisions.now ≡ length relocations.now }
+    ensures { IfOk result (λ o. o ≡ least_extent (decided_extents relocations.now decisions.now)) }
+{
+    if is_ascending(relocations, decisions) {
+        return Ok(None);
+    }
+    let mut extents = extents_of(alloc, relocations, decisions)?;
+    Ok(least_shared(&mut extents))
+}

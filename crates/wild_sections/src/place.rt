@@ -1,0 +1,47 @@
+//! Where an input section stands, for the places of faults.
+ghost use Rattle.std.specs.Prelude.{◌≡◌};
+ghost use Rattle.wild_layout.specs.Faults.{at_file, at_offset, at_section};
+
+use wild_types::At;
+
+/// An input section: its group, the place of its file in that, and its own place in the file.
+#[derive(Clone, Copy)]
+pub struct InputPlace {
+    pub group: usize,
+    pub file: usize,
+    pub section: usize,
+}
+
+impl InputPlace {
+    /// The file.
+    pub fn file(self) -> At
+        ensures { result ≡ at_file self.group self.file }
+    {
+        At {
+            group: Some(self.group),
+            file: Some(self.file),
+            section: None,
+            offset: None,
+        }
+    }
+
+    /// The section.
+    pub fn section(self) -> At
+        ensures { result ≡ at_section self.group self.file self.section }
+    {
+        At {
+            section: Some(self.section),
+            ..self.file()
+        }
+    }
+
+    /// An offset in the section.
+    pub fn offset(self, offset: u64) -> At
+        ensures { result ≡ at_offset self.group self.file self.section offset }
+    {
+        At {
+            offset: Some(offset),
+            ..self.section()
+        }
+    }
+}

@@ -1,0 +1,84 @@
+//! What the first of the files that have a symbol tells of it, for all symbols. Where the files' ranges of symbols ascend,
+//! each symbol is seen once.
+ghost use Rattle.std.specs.Prelude.{◌≡◌, ℕ, ◌<◌, [], ◌∷◌, length, None, slice_index_or};
+ghost use Rattle.std.specs.Option.{option_or};
+ghost use Rattle.wild_types.specs.Lookups.{files_of};
+ghost use Rattle.wild_sections.specs.Placed.{stands_in, found};
+
+use wild_types::{File, Layout, Place, Symbol};
+
+/// What a file tells of a symbol.
+pub(crate) trait Told: Copy {
+    ghost use Rattle.std.specs.Prelude.{◌≡◌, ℕ};
+    ghost use Rattle.wild_types.specs.declared.file.File.{File};
+    ghost use Rattle.wild_types.specs.declared.layout.Layout.{Layout};
+
+    // What a file tells of the symbol of that number
+    ghost told: { Layout → ℕ → File → Self };
+
+    /// What a file tells of the symbol of that number.
+    fn tell(layout: &Layout, index: usize, file: &File) -> Self
+        ensures { result ≡ told layout.now index file.now };
+}
+
+/// The address of a symbol of a file.
+fn stands_in(layout: &Layout, file: &File, symbol: &Symbol) -> Option<u64>
+    ensures { result ≡ stands_in layout.now symbol.now.place symbol.now.value file.now }
+{
+    let Place::Section(index) = symbol.place else {
+        return None;
+    };
+    match file.sections.as_slice().get(index) {
+        Some(section) if section.has_address(layout) => {
+            Some(section.address.wrapping_add(symbol.value))
+        }
+        _ => None,
+    }
+}
+
+/// An address; none where the symbol has none in its file.
+impl Told for Option<u64> {
+    ghost use Rattle.wild_sections.specs.Placed.{address_in};
+
+    ghost told = { address_in };
+
+    #[inline]
+    fn tell(layout: &Layout, index: usize, file: &File) -> Option<u64> {
+        match layout.symbols.as_slice().get(index) {
+            Some(symbol) => stands_in(layout, file, symbol),
+            None => None,
+        }
+    }
+}
+
+/// Places the symbols of a file that no earlier file has.
+fn place_file<T: Told>(layout: &Layout, file: &File, placed: &mut [Option<T>])
+    ensures { (k : ℕ) → k < length placed.old → slice_index_or placed.new k None
+        ≡ option_or (slice_index_or placed.old k None) (found (T.told layout.now) (file.now ∷ []) k) }
+{
+    let first = file.first_symbol.0;
+    let end = first.saturating_add(file.symbol_count).min(placed.len());
+    for i in first..end {
+        placed[i] = placed[i].or(Some(T::tell(layout, i, file)));
+    }
+}
+
+/// Places the symbols of some files.
+fn place_files<T: Told>(layout: &Layout, files: &[File], placed: &mut [Option<T>])
+    ensures { (k : ℕ) → k < length placed.old → slice_index_or placed.new k None
+        ≡ option_or (slice_index_or placed.old k None) (found (T.told layout.now) files.now k) }
+{
+    for file in files {
+        place_file(layout, file, placed);
+    }
+}
+
+/// Places all symbols.
+pub(crate) fn place_groups<T: Told>(layout: &Layout, placed: &mut [Option<T>])
+    ensures { (k : ℕ) → k < length placed.old → slice_index_or placed.new k None
+        ≡ option_or (slice_index_or placed.old k None) (found (T.told layout.now) (files_of layout.now.groups) k) }
+{
+    for group in layout.groups.as_slice() {
+        place_files(layout, group.files.as_slice(), placed);
+    }
+}

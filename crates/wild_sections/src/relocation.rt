@@ -1,0 +1,221 @@
+//! What is decided of one relocation that keeps its instruction.
+ghost use Rattle.std.specs.Prelude.{◌≡◌, true, false};
+ghost use Rattle.wild_types.specs.Kinds.{is_position_independent};
+ghost use Rattle.wild_types.specs.Rows.{row_of};
+ghost use Rattle.wild_reloc.specs.declared.info.RelocationKind.TheVariants.{Relative};
+ghost use Rattle.wild_layout.specs.SlotValues.{address_of, index_of, decided_address};
+ghost use Rattle.wild_layout.specs.Values.{term_of};
+ghost use Rattle.wild_slot.specs.SlotParts.{type_of};
+ghost use Rattle.wild_layout.specs.Decide.{field, field_for, moved_to, left_to, sized_to, chosen_to, added, decided};
+
+use crate::indirect::{decided_address, index_of};
+use crate::resolve::{address_of, displacement, sum, symbol_size, term_of, value_by};
+use crate::values::Resolved;
+use wild_layout::Decision;
+use wild_relax::Arch;
+use wild_reloc::{
+    DynamicRelocationKind, RelocationKind, RelocationKindInfo, RelocationSize, Width,
+};
+use wild_slot::{Treatment, flags_at, is_replaceable, row_treatment, type_of};
+use wild_types::{Fault, InputRelocation, InputSection, Layout, Missing, SymbolIndex};
+
+/// The field of an address that moves.
+pub(crate) const ADDRESS: RelocationSize = RelocationSize::ByteSize(Width::Eight);
+
+/// A value in the field of a row, where that takes it.
+#[inline]
+fn field(row: &RelocationKindInfo, value: u64) -> Result<Decision, Fault>
+    ensures { result ≡ field row.now value }
+{
+    if row.allows(value) {
+        Ok(Decision::Field {
+            size: row.size,
+            value,
+        })
+    } else {
+        Err(Fault::OutOfRange { value })
+    }
+}
+
+/// The value of a row's kind in its field.
+#[inline]
+fn field_for<A: Arch>(
+    resolved: &Resolved<A>,
+    section: &InputSection,
+    relocation: &InputRelocation,
+    row: &RelocationKindInfo,
+) -> Result<Decision, Fault>
+    ensures { result ≡ field_for resolved.now.layout.now section.now relocation.now row.now (term_of resolved.now.layout.now relocation.now.symbol row.now.kind) }
+{
+    let term = term_of(resolved, relocation.symbol, row.kind)?;
+    field(
+        row,
+        value_by(
+            resolved.layout,
+            row.kind,
+            term,
+            relocation.addend,
+            section.place_of(relocation),
+        ),
+    )
+}
+
+/// An address that moves with the base: packed, or listed as an entry.
+#[inline]
+fn moved_to<A: Arch>(
+    resolved: &Resolved<A>,
+    section: &InputSection,
+    relocation: &InputRelocation,
+) -> Result<Decision, Fault>
+    ensures { result ≡ moved_to resolved.now.layout.now section.now relocation.now (address_of resolved.now.layout.now relocation.now.symbol) }
+{
+    let address = address_of(resolved, relocation.symbol)?;
+    Ok(Decision::Moved {
+        value: sum(address, relocation.addend),
+        packed: resolved.layout.packs(section.place_of(relocation)),
+    })
+}
+
+/// The addend as an entry has it, modulo 2^64.
+pub fn added(relocation: &InputRelocation) -> u64
+    ensures { result ≡ added relocation.now }
+{
+    relocation.addend.cast_unsigned()
+}
+
+/// The field is left to an entry of that number, which names the symbol by its index in the dynamic symbol table.
+fn left_to(
+    layout: &Layout,
+    size: RelocationSize,
+    number: u32,
+    relocation: &InputRelocation,
+    symbol: SymbolIndex,
+) -> Result<Decision, Fault>
+    ensures { result ≡ left_to size number relocation.now symbol (index_of layout.now symbol) }
+{
+    match index_of(layout, symbol) {
+        Some(index) => Ok(Decision::Left {
+            size,
+            number,
+            symbol: index,
+            addend: added(relocation),
+        }),
+        None => Err(Fault::MissingResolution {
+            what: Missing::DynamicSymbol,
+            symbol: symbol.0,
+        }),
+    }
+}
+
+/// The field of a size is left so; that of an own symbol is known, and has to fit the field.
+fn sized_to(
+    layout: &Layout,
+    relocation: &InputRelocation,
+    row: &RelocationKindInfo,
+    symbol: SymbolIndex,
+) -> Result<Decision, Fault>
+    ensures { result ≡ sized_to layout.now relocation.now row.now symbol (left_to row.now.size relocation.now.number relocation.now symbol (index_of layout.now symbol)) }
+{
+    let left = left_to(layout, row.size, relocation.number, relocation, symbol)?;
+    let value = sum(symbol_size(layout, symbol), relocation.addend);
+    if is_replaceable(layout.kind, flags_at(layout, symbol)) || row.allows(value) {
+        Ok(left)
+    } else {
+        Err(Fault::OutOfRange { value })
+    }
+}
+
+/// The field is left to an entry with the address of a resolver, to whose answer nothing can be added.
+fn chosen_to(
+    layout: &Layout,
+    relocation: &InputRelocation,
+    symbol: SymbolIndex,
+) -> Result<Decision, Fault>
+    ensures { result ≡ chosen_to layout.now relocation.now (decided_address layout.now symbol) }
+{
+    let resolver = decided_address(layout, symbol)?;
+    if added(relocation) != 0 {
+        return Err(Fault::IfuncAddend {
+            addend: relocation.addend,
+        });
+    }
+    Ok(Decision::Left {
+        size: ADDRESS,
+        number: type_of(layout.machine, DynamicRelocationKind::Irelative),
+        symbol: 0,
+        addend: resolver,
+    })
+}
+
+/// The same, where the kind is S + A - P.
+#[inline]
+pub(crate) fn distance_for<A: Arch>(
+    resolved: &Resolved<A>,
+    section: &InputSection,
+    relocation: &InputRelocation,
+    row: &RelocationKindInfo,
+) -> Result<Decision, Fault>
+    requires kind { row.now.kind ≡ Relative }
+    ensures { result ≡ field_for resolved.now.layout.now section.now relocation.now row.now (term_of resolved.now.layout.now relocation.now.symbol row.now.kind) }
+{
+    let address = address_of(resolved, relocation.symbol)?;
+    let place = section.place_of(relocation);
+    field(row, displacement(address, relocation.addend, place))
+}
+
+/// Whether the kind is S + A - P in an output that does not move, so that its value is written whatever the symbol is.
+#[inline]
+pub(crate) fn is_fixed_distance(layout: &Layout, row: &RelocationKindInfo) -> bool
+    ensures kind { result ≡ true → row.now.kind ≡ Relative }
+    ensures fixed { result ≡ true → is_position_independent layout.now.kind ≡ false }
+{
+    matches!(row.kind, RelocationKind::Relative) && !layout.kind.is_position_independent()
+}
+
+/// What is decided of a relocation that keeps its instruction.
+#[inline(always)]
+pub(crate) fn decided<A: Arch>(
+    resolved: &Resolved<A>,
+    section: &InputSection,
+    relocation: &InputRelocation,
+) -> Result<Decision, Fault>
+    ensures { result ≡ decided resolved.now.layout.now section.now relocation.now }
+{
+    let row = A::relocation_from_raw(relocation.number);
+    match &row {
+        Some(found) if is_fixed_distance(resolved.layout, found) => {
+            distance_for(resolved, section, relocation, found)
+        }
+        _ => decided_by(resolved, section, relocation, row),
+    }
+}
+
+/// The same, by the row of its type.
+#[tactic(auto, unfolding(wild_layout::specs::Decide::decided, wild_slot::specs::Treatment::treatment))]
+fn decided_by<A: Arch>(
+    resolved: &Resolved<A>,
+    section: &InputSection,
+    relocation: &InputRelocation,
+    row: Option<RelocationKindInfo>,
+) -> Result<Decision, Fault>
+    requires row { row ≡ row_of resolved.now.layout.now.machine relocation.now.number }
+    ensures { result ≡ decided resolved.now.layout.now section.now relocation.now }
+{
+    match row_treatment(resolved.layout, section, relocation.symbol, row) {
+        Treatment::Nothing => Ok(Decision::Nothing),
+        Treatment::Value(row) => field_for(resolved, section, relocation, &row),
+        Treatment::BaseRelative => moved_to(resolved, section, relocation),
+        Treatment::Symbolic(symbol) => {
+            let number = type_of(resolved.layout.machine, DynamicRelocationKind::Absolute);
+            left_to(resolved.layout, ADDRESS, number, relocation, symbol)
+        }
+        Treatment::Indirect(symbol) => chosen_to(resolved.layout, relocation, symbol),
+        Treatment::Extent(row, symbol) => sized_to(resolved.layout, relocation, &row, symbol),
+        Treatment::Recompile => Err(Fault::RecompileWithPic {
+            number: relocation.number,
+        }),
+        Treatment::Unsupported => Err(Fault::UnsupportedRelocation {
+            number: relocation.number,
+        }),
+    }
+}

@@ -1,0 +1,216 @@
+//! The value that a relocation writes.
+ghost use Rattle.std.specs.Prelude.{◌≡◌};
+ghost use Rattle.wild_layout.specs.SymbolValues.{sum, displacement, less, storage_start, is_undefined, symbol_size, raw_address};
+ghost use Rattle.wild_layout.specs.SlotValues.{address_of};
+ghost use Rattle.wild_layout.specs.Values.{behind, pointer_offset, size_of, term_of, value_by};
+ghost use Rattle.wild_layout.specs.Moved.{or_zero, moved_value};
+
+use crate::indirect::{address_or, is_chosen, slot_address, stub_address};
+use crate::values::Resolved;
+use wild_relax::Arch;
+use wild_reloc::RelocationKind;
+use wild_slot::thread_pointer;
+use wild_types::{Fault, InputRelocation, Layout, Machine, Missing, Place, SymbolIndex};
+
+/// The address that was decided of the symbol that a relocation names, or where that stands, 0 where it names none; or
+/// that it has no address.
+#[inline]
+pub fn raw_address<A: Arch>(
+    resolved: &Resolved<A>,
+    symbol: Option<SymbolIndex>,
+) -> Result<u64, Fault>
+    ensures { result ≡ raw_address resolved.now.layout.now symbol }
+{
+    match symbol {
+        Some(symbol) => address_or(Missing::Address, symbol, resolved.address(symbol)),
+        None => Ok(0),
+    }
+}
+
+/// The address of the symbol that a relocation names, that of its stub where a resolver chooses it, 0 where it names
+/// none; or what the symbol lacks.
+#[inline]
+pub(crate) fn address_of<A: Arch>(
+    resolved: &Resolved<A>,
+    symbol: Option<SymbolIndex>,
+) -> Result<u64, Fault>
+    ensures { result ≡ address_of resolved.now.layout.now symbol }
+{
+    match symbol {
+        Some(named) if is_chosen(resolved.layout, named) => stub_address(resolved.layout, symbol),
+        _ => raw_address(resolved, symbol),
+    }
+}
+
+/// S + A.
+#[inline]
+pub(crate) fn sum(symbol: u64, addend: i64) -> u64
+    ensures { result ≡ sum symbol addend }
+{
+    symbol.wrapping_add_signed(addend)
+}
+
+/// An address, or 0 where there is none.
+#[inline]
+pub fn or_zero(address: Result<u64, Fault>) -> u64
+    ensures { result ≡ or_zero address }
+{
+    match address {
+        Ok(address) => address,
+        Err(_) => 0,
+    }
+}
+
+/// S + A of a relocation whose address moves; A where the symbol has no address.
+#[inline]
+pub fn moved_value<A: Arch>(resolved: &Resolved<A>, relocation: &InputRelocation) -> u64
+    ensures { result ≡ moved_value resolved.now.layout.now relocation.now }
+{
+    sum(
+        or_zero(address_of(resolved, relocation.symbol)),
+        relocation.addend,
+    )
+}
+
+/// S + A - P.
+#[inline]
+pub(crate) fn displacement(symbol: u64, addend: i64, place: u64) -> u64
+    ensures { result ≡ displacement symbol addend place }
+{
+    sum(symbol, addend).wrapping_sub(place)
+}
+
+/// One address less another.
+#[inline]
+fn less(address: u64, start: u64) -> u64
+    ensures { result ≡ less address start }
+{
+    address.wrapping_sub(start)
+}
+
+/// Where offsets in a module's thread storage are counted from.
+fn storage_start(layout: &Layout) -> u64
+    ensures { result ≡ storage_start layout.now }
+{
+    if matches!(layout.machine, Machine::X86_64) && layout.kind.is_executable() {
+        thread_pointer(layout.machine, layout.tls)
+    } else {
+        layout.tls.start
+    }
+}
+
+/// Whether the symbol's definition is undefined.
+fn is_undefined(layout: &Layout, symbol: SymbolIndex) -> bool
+    ensures { result ≡ is_undefined layout.now symbol }
+{
+    match layout.symbols.as_slice().get(layout.canonical(symbol).0) {
+        Some(found) => matches!(found.place, Place::Undefined),
+        None => false,
+    }
+}
+
+/// How many bytes the symbol's definition has.
+pub(crate) fn symbol_size(layout: &Layout, symbol: SymbolIndex) -> u64
+    ensures { result ≡ symbol_size layout.now symbol }
+{
+    match layout.symbols.as_slice().get(layout.canonical(symbol).0) {
+        Some(found) => found.size,
+        None => 0,
+    }
+}
+
+/// How many bytes the symbol that a relocation names has.
+fn size_of(layout: &Layout, symbol: Option<SymbolIndex>) -> u64
+    ensures { result ≡ size_of layout.now symbol }
+{
+    match symbol {
+        Some(symbol) => symbol_size(layout, symbol),
+        None => 0,
+    }
+}
+
+/// An address, as far as there is one, counted from a start.
+fn behind(start: u64, address: Result<u64, Fault>) -> Result<u64, Fault>
+    ensures { result ≡ behind start address }
+{
+    match address {
+        Ok(address) => Ok(less(address, start)),
+        Err(fault) => Err(fault),
+    }
+}
+
+/// The offset of a symbol from the thread pointer; an undefined one has none, and counts as 0.
+fn pointer_offset<A: Arch>(
+    resolved: &Resolved<A>,
+    symbol: Option<SymbolIndex>,
+) -> Result<u64, Fault>
+    ensures { result ≡ pointer_offset resolved.now.layout.now symbol }
+{
+    let Some(named) = symbol else {
+        return Ok(0);
+    };
+    if is_undefined(resolved.layout, named) {
+        return Ok(0);
+    }
+    let pointer = thread_pointer(resolved.layout.machine, resolved.layout.tls);
+    behind(pointer, raw_address(resolved, symbol))
+}
+
+/// What A is added to, by the kind of the row; or what the symbol lacks.
+#[inline]
+pub(crate) fn term_of<A: Arch>(
+    resolved: &Resolved<A>,
+    symbol: Option<SymbolIndex>,
+    kind: RelocationKind,
+) -> Result<u64, Fault>
+    ensures { result ≡ term_of resolved.now.layout.now symbol kind }
+{
+    match kind {
+        RelocationKind::GotBaseRelative => Ok(resolved.layout.got_base),
+        RelocationKind::SymbolSize => Ok(size_of(resolved.layout, symbol)),
+        RelocationKind::TpOff => pointer_offset(resolved, symbol),
+        RelocationKind::DtpOff => {
+            behind(
+                storage_start(resolved.layout),
+                raw_address(resolved, symbol),
+            )
+        }
+        RelocationKind::PltRelative | RelocationKind::PltRelGotBase => {
+            stub_address(resolved.layout, symbol)
+        }
+        RelocationKind::GotRelative
+        | RelocationKind::GotRelGotBase
+        | RelocationKind::TlsGd
+        | RelocationKind::TlsLd
+        | RelocationKind::GotTpOff
+        | RelocationKind::TlsDesc => slot_address(resolved.layout, kind, symbol),
+        _ => address_of(resolved, symbol),
+    }
+}
+
+/// The value that a relocation of that kind writes, for what A is added to, with that addend at that place.
+#[inline]
+pub(crate) fn value_by(
+    layout: &Layout,
+    kind: RelocationKind,
+    term: u64,
+    addend: i64,
+    place: u64,
+) -> u64
+    ensures { result ≡ value_by layout.now kind term addend place }
+{
+    match kind {
+        RelocationKind::Relative
+        | RelocationKind::GotBaseRelative
+        | RelocationKind::PltRelative
+        | RelocationKind::GotRelative
+        | RelocationKind::TlsGd
+        | RelocationKind::TlsLd
+        | RelocationKind::GotTpOff
+        | RelocationKind::TlsDesc => displacement(term, addend, place),
+        RelocationKind::SymRelGotBase
+        | RelocationKind::PltRelGotBase
+        | RelocationKind::GotRelGotBase => displacement(term, addend, layout.got_base),
+        _ => sum(term, addend),
+    }
+}
