@@ -25,7 +25,7 @@ use Rattle.wild_clauses.specs.Indexes.{part_index_fits, symbol_misfit, group_ind
 use Rattle.wild_types.specs.FileSymbols.{copied_again}
 use Rattle.wild_clauses.specs.SlotPlaces.{slots_astray, slot_is_even, block_is_asked, block_has_base, pair_follows}
 use Rattle.wild_needs.specs.DynamicSymbols.{dynamic_symbols, misplaced, misfit, first_listed}
-use Rattle.wild_clauses.specs.SlotFlags.{dynamic_is_interposable, stub_is_value, stub_has_slot, one_slot_for_address, thread_slot_alone, resolver_is_own, slot_agrees, resolver_moves, second_slot_fits}
+use Rattle.wild_clauses.specs.SlotFlags.{first_asked_failing, dynamic_is_interposable, stub_is_value, stub_has_slot, one_slot_for_address, thread_slot_alone, resolver_is_own, slot_agrees, resolver_moves, second_slot_fits}
 use Rattle.wild_clauses.specs.Contents.{addresses, each_section, share_mismatch, has_share_for_each_part, section_misplaced, length_fits, discarded_is_empty, part_is_raw, allocation_agrees, bytes_take_room, fields_lie, tls_fits}
 use Rattle.wild_types.specs.FilePlaces.{file_misplaced}
 use Rattle.wild_clauses.specs.GroupStarts.{start_places, no_starts, start_astray}
@@ -150,15 +150,15 @@ check_dynsyms l =
 -- clause 14: flags and slots
 unfoldable pub check_slot_flags : Layout → Result (Unit {0}) Clause
 check_slot_flags l =
-    first_error (fails 14 (first_failing dynamic_is_interposable 0 l.symbols))
-    (first_error (fails 14 (first_failing stub_is_value 0 l.symbols))
-    (first_error (fails 14 (first_failing stub_has_slot 0 l.symbols))
-    (first_error (fails 14 (first_failing one_slot_for_address 0 l.symbols))
-    (first_error (fails 14 (first_failing thread_slot_alone 0 l.symbols))
-    (first_error (fails 14 (first_failing resolver_is_own 0 l.symbols))
-    (first_error (fails 14 (first_failing slot_agrees 0 l.symbols))
-    (first_error (fails 14 (first_failing resolver_moves 0 l.symbols))
-    (fails 14 (first_failing (second_slot_fits l) 0 l.symbols)))))))))
+    first_error (fails 14 (first_asked_failing l dynamic_is_interposable 0 l.symbols))
+    (first_error (fails 14 (first_asked_failing l stub_is_value 0 l.symbols))
+    (first_error (fails 14 (first_asked_failing l stub_has_slot 0 l.symbols))
+    (first_error (fails 14 (first_asked_failing l one_slot_for_address 0 l.symbols))
+    (first_error (fails 14 (first_asked_failing l thread_slot_alone 0 l.symbols))
+    (first_error (fails 14 (first_asked_failing l resolver_is_own 0 l.symbols))
+    (first_error (fails 14 (first_asked_failing l slot_agrees 0 l.symbols))
+    (first_error (fails 14 (first_asked_failing l resolver_moves 0 l.symbols))
+    (fails 14 (first_asked_failing l (second_slot_fits l) 0 l.symbols)))))))))
 
 -- clause 15: thread-local data
 unfoldable pub check_tls : Layout → Result (Unit {0}) Clause

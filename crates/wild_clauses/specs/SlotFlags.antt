@@ -1,8 +1,10 @@
 -- Clause 14: what is known of a symbol agrees with its slots and its stub (x86-64 psABI, "Global Offset Table (GOT)",
--- "Procedure Linkage Table"; ELF Handling For Thread-Local Storage). A symbol's flags and resolution are those that the layout
--- gives for it, also where another symbol defines it.
+-- "Procedure Linkage Table"; ELF Handling For Thread-Local Storage). A symbol that another one defines and that has no resolution of
+-- its own is not asked: nothing goes by its flags.
+--   is_asked l i s                 symbol i is asked
+--   first_asked_failing l t i ss   the place of the first of those that are asked and fail a test, counted from i on
 --   takes_block_word l s         the slot is one of a block of packed words
-use Rattle.std.specs.Prelude.{ℕ, ◌==◌, Bool, true, not, ◌&&◌, ◌||◌, Option, Some, None, is_some}
+use Rattle.std.specs.Prelude.{ℕ, ◌+◌, ◌==◌, Bool, true, not, ◌&&◌, ◌||◌, if◌then◌else◌, List, [], ◌∷◌, Option, Some, None, is_some}
 use Rattle.wild_types.specs.declared.symbol.Resolution.{Resolution}
 use Rattle.wild_types.specs.declared.symbol.Symbol.{Symbol}
 use Rattle.wild_types.specs.declared.layout.Layout.{Layout}
@@ -10,6 +12,16 @@ use Rattle.wild_types.specs.FilePlaces.{bool_eq}
 use Rattle.wild_types.specs.SymbolSlots.{got_of, plt_of, has_dynamic_symbol, has_thread_slot}
 use Rattle.wild_types.specs.Flags.{has_flag, interposable, has_link_time_address, absolute, dynamic, ifunc, got_slot, copy_relocation, canonical_plt, ifunc_got_for_address, canonical_plt_got_for_address}
 use Rattle.wild_types.specs.Kinds.{is_position_independent}
+use Rattle.wild_types.specs.Lookups.{canonical}
+
+-- ---- who is asked
+
+abbrev pub is_asked : Layout → ℕ → Symbol → Bool
+is_asked l i s = canonical l i == i || is_some s.resolution
+
+abbrev pub first_asked_failing : Layout → (Symbol → Bool) → ℕ → List Symbol → Option ℕ
+first_asked_failing l test i [] = None
+first_asked_failing l test i (s ∷ ss) = if is_asked l i s && not (test s) then Some i else first_asked_failing l test (i + 1) ss
 
 -- ---- the tests, in their order
 

@@ -1,13 +1,13 @@
 //! Clause 14: what is known of a symbol agrees with its slots and its stub.
 ghost use Rattle.std.specs.Prelude.{◌≡◌};
 ghost use Rattle.wild_types.specs.SymbolSlots.{got_of, plt_of, has_dynamic_symbol, has_thread_slot};
-ghost use Rattle.wild_clauses.specs.SlotFlags.{dynamic_is_interposable, is_value, stub_is_value, stub_has_slot, one_slot_for_address, thread_slot_alone, resolver_is_own, slot_agrees, resolver_moves, takes_block_word, second_slot_fits};
+ghost use Rattle.wild_clauses.specs.SlotFlags.{is_asked, first_asked_failing, dynamic_is_interposable, is_value, stub_is_value, stub_has_slot, one_slot_for_address, thread_slot_alone, resolver_is_own, slot_agrees, resolver_moves, takes_block_word, second_slot_fits};
 ghost use Rattle.wild_clauses.specs.ClauseTests.{check_slot_flags};
 
 use crate::verdict::fails;
 use wild_types::{
-    Clause, Layout, Resolution, Symbol, Test, ValueFlags, first_failing, got_of,
-    has_dynamic_symbol, has_thread_slot, plt_of,
+    Clause, Layout, Resolution, Symbol, SymbolIndex, Test, ValueFlags, got_of, has_dynamic_symbol,
+    has_thread_slot, plt_of,
 };
 
 /// A symbol that a loader looks up may be replaced.
@@ -147,18 +147,30 @@ impl Test<Symbol> for SecondSlotFits<'_> {
     }
 }
 
+/// The place of the first symbol that is asked and fails the test: one that no other symbol defines, or that has a resolution of its own.
+fn first_asked_failing<C: Test<Symbol>>(layout: &Layout, test: &C) -> Option<usize>
+    ensures { result ≡ first_asked_failing layout.now (C.test test.now) 0 layout.now.symbols }
+{
+    for (i, symbol) in layout.symbols.as_slice().iter().enumerate() {
+        let is_own = layout.canonical(SymbolIndex(i)).0 == i;
+        if (is_own || symbol.resolution.is_some()) && !test.passes(symbol) {
+            return Some(i);
+        }
+    }
+    None
+}
+
 #[tactic(auto, unfolding(crate::specs::ClauseTests::check_slot_flags))]
 pub(crate) fn check_slot_flags(layout: &Layout) -> Result<(), Clause>
     ensures { result ≡ check_slot_flags layout.now }
 {
-    let symbols = layout.symbols.as_slice();
-    fails(14, first_failing(&DynamicIsInterposable, symbols))?;
-    fails(14, first_failing(&StubIsValue, symbols))?;
-    fails(14, first_failing(&StubHasSlot, symbols))?;
-    fails(14, first_failing(&OneSlotForAddress, symbols))?;
-    fails(14, first_failing(&ThreadSlotAlone, symbols))?;
-    fails(14, first_failing(&ResolverIsOwn, symbols))?;
-    fails(14, first_failing(&SlotAgrees, symbols))?;
-    fails(14, first_failing(&ResolverMoves, symbols))?;
-    fails(14, first_failing(&SecondSlotFits { layout }, symbols))
+    fails(14, first_asked_failing(layout, &DynamicIsInterposable))?;
+    fails(14, first_asked_failing(layout, &StubIsValue))?;
+    fails(14, first_asked_failing(layout, &StubHasSlot))?;
+    fails(14, first_asked_failing(layout, &OneSlotForAddress))?;
+    fails(14, first_asked_failing(layout, &ThreadSlotAlone))?;
+    fails(14, first_asked_failing(layout, &ResolverIsOwn))?;
+    fails(14, first_asked_failing(layout, &SlotAgrees))?;
+    fails(14, first_asked_failing(layout, &ResolverMoves))?;
+    fails(14, first_asked_failing(layout, &SecondSlotFits { layout }))
 }

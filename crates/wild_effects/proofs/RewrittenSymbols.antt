@@ -10,7 +10,7 @@ use Rattle.wild_types.specs.Flags.{has_flag, interposable, dynamic, ifunc, non_i
 use Rattle.wild_types.specs.Lookups.{canonical}
 use Rattle.wild_slot.specs.Treatment.{flags_at}
 use Rattle.wild_layout.specs.Geometry.{DefinitionNames}
-use Rattle.wild_layout.specs.SlotOrder.{FlagsAgree}
+use Rattle.wild_layout.specs.SlotOrder.{EachAgrees}
 use Rattle.wild_layout.specs.Numbers.{SymbolNumbers}
 use Rattle.wild_loader.specs.declared.memory.Memory.{Memory}
 use Rattle.wild_loader.specs.declared.world.World.{World}
@@ -65,11 +65,11 @@ kept_by false copied true false true h e = refl
 kept_by false copied false exported true h e = refl
 kept_by other copied library exported false h e = cc
 
-pub own_one : (l : Layout) (i : ℕ) → All (FlagsAgree l) l.symbols → IsDefined l i → interposable (flags_at l i) ≡ false → IsReplaceable l i false
+pub own_one : (l : Layout) (i : ℕ) → EachAgrees l → IsDefined l i → interposable (flags_at l i) ≡ false → IsReplaceable l i false
 own_one l i flags d h =
     let f = d.symbol.flags in
     let kept : interposable f ≡ false = sym (ap (λ (x : ValueFlags). interposable x) d.flags) ∙ h in
-    record { definition = canonical l i; defined = d.defined; symbol = d.symbol; listed = d.listed; told = kept_by (has_flag f dynamic) (has_flag f copy_relocation) (is_library l.kind) (has_flag f export_dynamic) (has_flag f non_interposable) (holds_at (FlagsAgree l) l.symbols (canonical l i) d.symbol d.listed flags).interposable kept }
+    record { definition = canonical l i; defined = d.defined; symbol = d.symbol; listed = d.listed; told = kept_by (has_flag f dynamic) (has_flag f copy_relocation) (is_library l.kind) (has_flag f export_dynamic) (has_flag f non_interposable) (flags.defined i d.symbol d.listed).interposable kept }
 
 -- ---- values are numbers of the machine
 

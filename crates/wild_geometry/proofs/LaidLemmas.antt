@@ -14,12 +14,12 @@ use Rattle.wild_clauses.specs.WellFormed.{first_clause}
 use Rattle.wild_types.proofs.ListLemmas.{All-from_none_fails}
 use Rattle.wild_clauses.proofs.ClauseLemmas.{None-from_fails}
 use Rattle.wild_layout.specs.Faults.{flat_map_from, part_errors}
-use Rattle.wild_layout.specs.SlotOrder.{SlotsFollow, FlagsAgree}
+use Rattle.wild_layout.specs.SlotOrder.{SlotsFollow, EachAgrees}
 use Rattle.wild_layout.specs.ListedSymbols.{AreListed}
 use Rattle.wild_layout.specs.HashShapes.{HasHashShapes}
 use Rattle.wild_layout.specs.VersionOrder.{HasVersionsInOrder}
 use Rattle.wild_geometry.proofs.ClauseLemmas.{Both-from_first_error, NoneFails-from_first_clause, SizesFit, SizesFit-from_check, CountsFit, CountsFit-from_check, OrderHolds-from_check, RolesHold, RolesHold-from_check, PartsLie, PartsLie-from_check, SegmentsHold, SegmentsHold-from_check, SharesHold, SharesHold-from_check}
-use Rattle.wild_geometry.proofs.SlotClauses.{SlotsFollow-from_check, FlagsAgree-from_check}
+use Rattle.wild_geometry.proofs.SlotClauses.{SlotsFollow-from_check, EachAgrees-from_checks}
 use Rattle.wild_geometry.proofs.ListedClauses.{AreListed-from_checks}
 use Rattle.wild_geometry.proofs.HashClauses.{HasHashShapes-from_check}
 use Rattle.wild_geometry.proofs.VersionClauses.{HasVersionsInOrder-from_check}
@@ -97,7 +97,7 @@ pub record Laid (l : Layout) : Type 0 where
   pub fields : All (λ g. each_section (fields_lie l.machine) g ≡ true) l.groups
   pub slots : SlotsFollow l
   pub dynsyms : AreListed l
-  pub slot_flags : All (FlagsAgree l) l.symbols
+  pub slot_flags : EachAgrees l
   pub starts : start_astray (start_places l.parts) no_starts 0 l.groups ≡ None
   pub hashes : HasHashShapes l
   pub versions : HasVersionsInOrder l
@@ -119,7 +119,7 @@ Laid-from_clauses l h n =
       fields = FieldsLie-from_check l c.fields;
       slots = SlotsFollow-from_check l c.slots;
       dynsyms = AreListed-from_checks l c.dynsyms c.names;
-      slot_flags = FlagsAgree-from_check l c.slot_flags;
+      slot_flags = EachAgrees-from_checks l c.indexes c.slot_flags;
       starts = StartsFollow-from_check l c.starts;
       hashes = HasHashShapes-from_check l c.hashes;
       versions = HasVersionsInOrder-from_check l c.versions;

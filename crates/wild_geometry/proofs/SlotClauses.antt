@@ -1,14 +1,24 @@
 -- What it says that the clauses on slots and on flags hold.
-use Rattle.std.proofs.Common.{◌≡◌, ℕ, true, All, Option, Ok, subst}
-use Rattle.std.proofs.lemmas.Bool.{eqb-true}
+use Rattle.std.proofs.Common.{◌≡◌, ℕ, zero, suc, ◌+◌, ◌<◌, inl, inr, Bool, true, false, All, List, [], ◌∷◌, length, get_or, Option, Some, None, Ok, refl, sym, ap, ◌∙◌, arith, subst}
+use Rattle.std.specs.Prelude.{◌==◌, ◌&&◌, ◌||◌, not, if◌then◌else◌, is_some, option_and_then, unwrap_or, slice_get}
+use Rattle.std.proofs.lemmas.Bool.{cases_Bool, eq-eqb, eqb-true}
+use Rattle.std.proofs.lemmas.Option.{get_or_from_slice_get, slice_get_within}
+use Rattle.wild_words.proofs.ListLemmas.{holds_at}
 use Rattle.wild_types.specs.declared.layout.Layout.{Layout}
+use Rattle.wild_types.specs.declared.symbol.Symbol.{Symbol}
+use Rattle.wild_types.specs.Lookups.{canonical, files_of}
 use Rattle.wild_types.specs.Lists.{first_failing, unless}
 use Rattle.wild_clauses.specs.SlotPlaces.{slots_astray, slot_is_even, block_is_asked, block_has_base, pair_follows, pair_follows_by}
-use Rattle.wild_clauses.specs.SlotFlags.{dynamic_is_interposable, stub_is_value, stub_has_slot, one_slot_for_address, thread_slot_alone, resolver_is_own, slot_agrees, resolver_moves, second_slot_fits}
-use Rattle.wild_clauses.specs.ClauseTests.{fails, check_slots, check_slot_flags}
+use Rattle.wild_clauses.specs.SlotFlags.{is_asked, first_asked_failing, dynamic_is_interposable, stub_is_value, stub_has_slot, one_slot_for_address, thread_slot_alone, resolver_is_own, slot_agrees, resolver_moves, second_slot_fits}
+use Rattle.wild_clauses.specs.ClauseTests.{fails, check_indexes, check_slots, check_slot_flags}
+use Rattle.wild_clauses.specs.Indexes.{part_index_fits, symbol_misfit, group_indexes_fit, listed_misfit, entry_is_there, definition_is_own, defines_itself}
+use Rattle.wild_types.specs.FileSymbols.{copied_again}
+use Rattle.wild_clauses.specs.VersionTables.{parent_is_there}
 use Rattle.wild_types.proofs.ListLemmas.{All-from_none_fails}
 use Rattle.wild_clauses.proofs.ClauseLemmas.{None-from_fails}
-use Rattle.wild_layout.specs.SlotOrder.{SlotsFollow, FlagsAgree, SlotsAreInOrder}
+use Rattle.wild_layout.specs.SlotOrder.{SlotsFollow, FlagsAgree, EachAgrees, SlotsAreInOrder}
+use Rattle.wild_meaning.specs.Value.{IsDefinedBy}
+use Rattle.wild_meaning.proofs.SymbolLemmas.{own_definition}
 use Rattle.wild_geometry.proofs.ClauseLemmas.{Both-from_first_error, holds_from_unless, NoneFails-from_first_clause, SharesHold-from_check}
 
 -- ---- clause 11
@@ -30,28 +40,96 @@ SlotsFollow-from_check l h =
 
 -- ---- clause 14
 
-pub FlagsAgree-from_check : (l : Layout) → check_slot_flags l ≡ Ok tt → All (FlagsAgree l) l.symbols
+-- a symbol that is asked passes
+asked_at : (l : Layout) (t : Symbol → Bool) (i k j : ℕ) (ss : List Symbol) (d : Symbol) → j ≡ i + k → k < length ss → first_asked_failing l t i ss ≡ None → is_asked l j (get_or ss k d) ≡ true → t (get_or ss k d) ≡ true
+asked_at l t i k j [] d e low none a = absurd (omega (arith, low))
+asked_at l t i zero j (s ∷ ss) d e low none a =
+    let same : j ≡ i = omega (arith, e) in
+    let here : is_asked l i s ≡ true = subst (λ (n : ℕ). is_asked l n s ≡ true) same a in
+    elim (cases_Bool (t s)) [
+      | inl y ↦ y
+      | inr n ↦ cc (rw (here, n) at none)
+    ]
+asked_at l t i (suc k) j (s ∷ ss) d e low none a =
+    asked_at l t (i + 1) k j ss d (omega (arith, e)) (omega (arith, low)) (behind (is_asked l i s && not (t s)) none) a
+  where
+    behind : (b : Bool) → (if b then Some i else first_asked_failing l t (i + 1) ss) ≡ None → first_asked_failing l t (i + 1) ss ≡ None
+    behind true h = cc
+    behind false h = h
+
+asked : (l : Layout) (t : Symbol → Bool) (i : ℕ) (s : Symbol) → first_asked_failing l t 0 l.symbols ≡ None → slice_get l.symbols i ≡ Some s → is_asked l i s ≡ true → t s ≡ true
+asked l t i s none e a =
+    let is : get_or l.symbols i s ≡ s = get_or_from_slice_get l.symbols i s s e in
+    subst (λ (x : Symbol). t x ≡ true) is (asked_at l t 0 i i l.symbols s (omega arith) (slice_get_within l.symbols i s e) none (subst (λ (x : Symbol). is_asked l i x ≡ true) (sym is) a))
+
+-- what clause 14 says of a symbol that is asked
+agrees : (l : Layout) → check_slot_flags l ≡ Ok tt → (i : ℕ) (s : Symbol) → slice_get l.symbols i ≡ Some s → is_asked l i s ≡ true → FlagsAgree l s
 unfolding check_slot_flags
-FlagsAgree-from_check l h =
-    let a = Both-from_first_error (fails 14 (first_failing dynamic_is_interposable 0 l.symbols)) _ h in
-    let b = Both-from_first_error (fails 14 (first_failing stub_is_value 0 l.symbols)) _ a.rest in
-    let c = Both-from_first_error (fails 14 (first_failing stub_has_slot 0 l.symbols)) _ b.rest in
-    let d = Both-from_first_error (fails 14 (first_failing one_slot_for_address 0 l.symbols)) _ c.rest in
-    let e = Both-from_first_error (fails 14 (first_failing thread_slot_alone 0 l.symbols)) _ d.rest in
-    let f = Both-from_first_error (fails 14 (first_failing resolver_is_own 0 l.symbols)) _ e.rest in
-    let g = Both-from_first_error (fails 14 (first_failing slot_agrees 0 l.symbols)) _ f.rest in
-    let i = Both-from_first_error (fails 14 (first_failing resolver_moves 0 l.symbols)) _ g.rest in
-    let interposable = All-from_none_fails dynamic_is_interposable 0 l.symbols (None-from_fails 14 _ a.first) in
-    let stub = All-from_none_fails stub_has_slot 0 l.symbols (None-from_fails 14 _ c.first) in
-    let alone = All-from_none_fails thread_slot_alone 0 l.symbols (None-from_fails 14 _ e.first) in
-    let chosen = All-from_none_fails resolver_is_own 0 l.symbols (None-from_fails 14 _ f.first) in
-    let moves = All-from_none_fails resolver_moves 0 l.symbols (None-from_fails 14 _ i.first) in
-    let second = All-from_none_fails (second_slot_fits l) 0 l.symbols (None-from_fails 14 _ i.rest) in
-    λ k s low. record { interposable = interposable k s low; stub = stub k s low; alone = alone k s low; chosen = chosen k s low; moves = moves k s low; second = second k s low }
+agrees l h i s at is =
+    let a = Both-from_first_error (fails 14 (first_asked_failing l dynamic_is_interposable 0 l.symbols)) _ h in
+    let b = Both-from_first_error (fails 14 (first_asked_failing l stub_is_value 0 l.symbols)) _ a.rest in
+    let c = Both-from_first_error (fails 14 (first_asked_failing l stub_has_slot 0 l.symbols)) _ b.rest in
+    let d = Both-from_first_error (fails 14 (first_asked_failing l one_slot_for_address 0 l.symbols)) _ c.rest in
+    let e = Both-from_first_error (fails 14 (first_asked_failing l thread_slot_alone 0 l.symbols)) _ d.rest in
+    let f = Both-from_first_error (fails 14 (first_asked_failing l resolver_is_own 0 l.symbols)) _ e.rest in
+    let g = Both-from_first_error (fails 14 (first_asked_failing l slot_agrees 0 l.symbols)) _ f.rest in
+    let m = Both-from_first_error (fails 14 (first_asked_failing l resolver_moves 0 l.symbols)) _ g.rest in
+    record {
+      interposable = asked l dynamic_is_interposable i s (None-from_fails 14 _ a.first) at is;
+      stub = asked l stub_has_slot i s (None-from_fails 14 _ c.first) at is;
+      alone = asked l thread_slot_alone i s (None-from_fails 14 _ e.first) at is;
+      chosen = asked l resolver_is_own i s (None-from_fails 14 _ f.first) at is;
+      moves = asked l resolver_moves i s (None-from_fails 14 _ m.first) at is;
+      second = asked l (second_slot_fits l) i s (None-from_fails 14 _ m.rest) at is;
+    }
+
+-- ---- a definition is its own (clause 9)
+
+definitions_are_own : (l : Layout) → check_indexes l ≡ Ok tt → All (λ (s : Symbol). definition_is_own l s ≡ true) l.symbols
+unfolding check_indexes
+definitions_are_own l h =
+    let a = Both-from_first_error (fails 9 (first_failing (part_index_fits l) 0 l.parts)) _ h in
+    let b = Both-from_first_error (fails 9 (symbol_misfit l (files_of l.groups) 0 l.symbols)) _ a.rest in
+    let c = Both-from_first_error (fails 9 (first_failing (group_indexes_fit l) 0 l.groups)) _ b.rest in
+    let d = Both-from_first_error (fails 9 (listed_misfit l)) _ c.rest in
+    let e = Both-from_first_error (fails 9 (first_failing (parent_is_there l) 0 l.verdefs)) _ d.rest in
+    let f = Both-from_first_error (fails 9 (unless (entry_is_there l l.entry))) _ e.rest in
+    let g = Both-from_first_error (fails 9 (copied_again l [] 0 l.groups)) _ f.rest in
+    let m = Both-from_first_error (fails 9 (first_failing (definition_is_own l) 0 l.symbols)) _ g.rest in
+    All-from_none_fails (definition_is_own l) 0 l.symbols (None-from_fails 9 _ m.first)
+
+final : (l : Layout) (c : ℕ) (s : Symbol) → slice_get l.symbols c ≡ Some s → defines_itself c (Some s) ≡ true → canonical l c ≡ c
+final l c s e h = ap (λ (o : Option Symbol). unwrap_or (option_and_then (λ (y : Symbol). y.definition) o) c) e ∙ by_definition s.definition refl h
+  where
+    by_definition : (o : Option ℕ) → s.definition ≡ o → defines_itself c (Some s) ≡ true → unwrap_or s.definition c ≡ c
+    by_definition None is t = rw is refl
+    by_definition (Some j) is t = rw is (eqb-true j c (rw is at t))
+
+own_is_final : (l : Layout) → check_indexes l ≡ Ok tt → (i : ℕ) (s : Symbol) → slice_get l.symbols (canonical l i) ≡ Some s → canonical l (canonical l i) ≡ canonical l i
+own_is_final l h i s e = by_how (own_definition l i s e)
+  where
+    by_how : IsDefinedBy l i (canonical l i) → canonical l (canonical l i) ≡ canonical l i
+    by_how d = elim d.defined [
+      | inl named ↦
+          (let own = holds_at (λ (x : Symbol). definition_is_own l x ≡ true) l.symbols i d.symbol d.listed (definitions_are_own l h) in
+          let itself : defines_itself (canonical l i) (slice_get l.symbols (canonical l i)) ≡ true = rw named at own in
+          final l (canonical l i) s e (subst (λ (o : Option Symbol). defines_itself (canonical l i) o ≡ true) e itself))
+      | inr alone ↦ ap (canonical l) alone.1
+    ]
+
+pub EachAgrees-from_checks : (l : Layout) → check_indexes l ≡ Ok tt → check_slot_flags l ≡ Ok tt → EachAgrees l
+EachAgrees-from_checks l indexes flags = record {
+  defined = λ i s e. agrees l flags (canonical l i) s e (let same : (canonical l (canonical l i) == canonical l i) ≡ true = eq-eqb _ _ (own_is_final l indexes i s e) in rw same refl);
+  resolved = λ i s e some. agrees l flags i s e (or_right (canonical l i == i) (is_some s.resolution) some);
+}
+  where
+    or_right : (a b : Bool) → b ≡ true → (a || b) ≡ true
+    or_right true b h = refl
+    or_right false b h = h
 
 -- ---- the order of slots
 
 pub slots_in_order : SlotsAreInOrder
 slots_in_order = λ l h own.
     let c = NoneFails-from_first_clause l h in
-    record { slots = SlotsFollow-from_check l c.slots; flags = FlagsAgree-from_check l c.slot_flags; resolved = own; files = (SharesHold-from_check l c.shares).files }
+    record { slots = SlotsFollow-from_check l c.slots; flags = EachAgrees-from_checks l c.indexes c.slot_flags; resolved = own; files = (SharesHold-from_check l c.shares).files }

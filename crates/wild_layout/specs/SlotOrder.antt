@@ -2,14 +2,16 @@
 -- (GOT)", "Procedure Linkage Table"; ELF Handling For Thread-Local Storage).
 --   SlotsFollow l        slots and stubs follow each other
 --   FlagsAgree l s       a symbol's flags agree with its slots and its stub
+--   EachAgrees l         so it is with each definition, and with each symbol that has a resolution
 --   HasSlotsInOrder l    the symbols' slots and stubs follow each other, and so do the files
 --   SlotsAreInOrder      the law
-use Rattle.std.specs.Prelude.{◌≡◌, ℕ, ◌+◌, ◌*◌, true, Some, None, Ok, All}
+use Rattle.std.specs.Prelude.{◌≡◌, ℕ, ◌+◌, ◌*◌, true, Some, None, Ok, All, is_some, slice_get}
 use Rattle.wild_types.specs.declared.part.Part.{Part}
 use Rattle.wild_types.specs.declared.part.Role.TheVariants as role
 use Rattle.wild_types.specs.declared.symbol.Symbol.{Symbol}
 use Rattle.wild_types.specs.declared.layout.Layout.{Layout}
 use Rattle.wild_types.specs.FilePlaces.{file_misplaced}
+use Rattle.wild_types.specs.Lookups.{canonical}
 use Rattle.wild_needs.specs.SlotShares.{word_size}
 use Rattle.wild_clauses.specs.SlotPlaces.{start_of, slots_astray, slot_is_even, block_has_base}
 use Rattle.wild_clauses.specs.SlotFlags.{dynamic_is_interposable, stub_has_slot, thread_slot_alone, resolver_is_own, resolver_moves, second_slot_fits}
@@ -34,10 +36,15 @@ pub record FlagsAgree (l : Layout) (s : Symbol) : Type 0 where
   pub moves : resolver_moves s ≡ true
   pub second : second_slot_fits l s ≡ true
 
+-- so it is with the definition of each symbol, and with each symbol that has a resolution
+pub record EachAgrees (l : Layout) : Type 0 where
+  pub defined : (i : ℕ) (s : Symbol) → slice_get l.symbols (canonical l i) ≡ Some s → FlagsAgree l s
+  pub resolved : (i : ℕ) (s : Symbol) → slice_get l.symbols i ≡ Some s → is_some s.resolution ≡ true → FlagsAgree l s
+
 -- slots and stubs follow each other, flags and slots agree, and the first file is the only one that writes what stands once
 pub record HasSlotsInOrder (l : Layout) : Type 0 where
   pub slots : SlotsFollow l
-  pub flags : All (FlagsAgree l) l.symbols
+  pub flags : EachAgrees l
   pub resolved : HaveTheirFlags l
   pub files : file_misplaced true 0 l.groups ≡ None
 

@@ -1,9 +1,10 @@
 -- The clauses on indexes, fields, the dynamic symbol table, flags and names hold of the plan of n groups, and so do all.
-use Rattle.std.proofs.Common.{◌≡◌, ℕ, zero, suc, ◌+◌, ◌<◌, ◌≤◌, ◌==◌, inl, inr, true, false, List, [], ◌++◌, refl, sym, ap, ◌∙◌, arith}
-use Rattle.std.specs.Prelude.{Option, Some, None, Ok, nat_lt}
+use Rattle.std.proofs.Common.{◌≡◌, ℕ, zero, suc, ◌+◌, ◌<◌, ◌≤◌, ◌==◌, inl, inr, Bool, true, false, List, [], ◌++◌, refl, sym, ap, ◌∙◌, arith}
+use Rattle.std.specs.Prelude.{Option, Some, None, Ok, nat_lt, not, ◌&&◌, if◌then◌else◌}
 use Rattle.std.specs.List.{list_all}
 use Rattle.std.proofs.lemmas.Bool.{cases_Bool, cases_eq, le-leb, lt-ltb, le-ltb, and_from}
 use Rattle.wild_types.specs.declared.file.File.{File}
+use Rattle.wild_types.specs.declared.symbol.Symbol.{Symbol}
 use Rattle.wild_types.specs.Lists.{first_failing}
 use Rattle.wild_types.specs.Lookups.{files_of, file_of}
 use Rattle.wild_types.specs.Rows.{row_of}
@@ -16,7 +17,7 @@ use Rattle.wild_clauses.specs.Indexes.{group_indexes_fit, file_indexes_fit, sect
 use Rattle.wild_types.specs.FileSymbols.{copied_in, copied_again}
 use Rattle.wild_types.specs.Flags.{has_flag}
 use Rattle.wild_needs.specs.DynamicSymbols.{dynamic_symbols, misplaced}
-use Rattle.wild_clauses.specs.SlotFlags.{dynamic_is_interposable, stub_is_value, stub_has_slot, one_slot_for_address, thread_slot_alone, resolver_is_own, slot_agrees, resolver_moves, second_slot_fits}
+use Rattle.wild_clauses.specs.SlotFlags.{is_asked, first_asked_failing, dynamic_is_interposable, stub_is_value, stub_has_slot, one_slot_for_address, thread_slot_alone, resolver_is_own, slot_agrees, resolver_moves, second_slot_fits}
 use Rattle.wild_clauses.specs.ClauseTests.{check_indexes, check_fields, check_dynsyms, check_slot_flags, check_tls, check_starts, check_hashes, check_names}
 use Rattle.wild_clauses.specs.WellFormed.{first_clause}
 use Rattle.wild_made.specs.Made.{made_section, made_object, made_files, made_symbol, made_group, made_relocation, made, callee}
@@ -157,19 +158,28 @@ pub dynsyms_hold : (n : ℕ) → check_dynsyms (made n) ≡ Ok tt
 unfolding check_dynsyms made
 dynsyms_hold n = rw (no_dynsym_misplaced (dynamic_symbols (made n)) 0 0 n) refl
 
+none_asked_fails : (n : ℕ) (t : Symbol → Bool) (i a m : ℕ) → ((k : ℕ) → t (made_symbol k) ≡ true) → first_asked_failing (made n) t i (made_from made_symbol a m) ≡ None
+none_asked_fails n t i a zero h = refl
+none_asked_fails n t i a (suc m) h = passed (is_asked (made n) i (made_symbol a)) (t (made_symbol a)) (h a) ∙ none_asked_fails n t (i + 1) (a + 1) m h
+  where
+    passed : (b c : Bool) → c ≡ true → (if b && not c then Some i else first_asked_failing (made n) t (i + 1) (made_from made_symbol (a + 1) m)) ≡ first_asked_failing (made n) t (i + 1) (made_from made_symbol (a + 1) m)
+    passed true true h = refl
+    passed true false h = cc
+    passed false c h = refl
+
 pub slot_flags_hold : (n : ℕ) → check_slot_flags (made n) ≡ Ok tt
 unfolding check_slot_flags made has_flag
 slot_flags_hold n =
     rw (
-      none_fails dynamic_is_interposable made_symbol 0 0 n (λ k low high. refl),
-      none_fails stub_is_value made_symbol 0 0 n (λ k low high. refl),
-      none_fails stub_has_slot made_symbol 0 0 n (λ k low high. refl),
-      none_fails one_slot_for_address made_symbol 0 0 n (λ k low high. refl),
-      none_fails thread_slot_alone made_symbol 0 0 n (λ k low high. refl),
-      none_fails resolver_is_own made_symbol 0 0 n (λ k low high. refl),
-      none_fails slot_agrees made_symbol 0 0 n (λ k low high. refl),
-      none_fails resolver_moves made_symbol 0 0 n (λ k low high. refl),
-      none_fails (second_slot_fits (made n)) made_symbol 0 0 n (λ k low high. refl),
+      none_asked_fails n dynamic_is_interposable 0 0 n (λ k. refl),
+      none_asked_fails n stub_is_value 0 0 n (λ k. refl),
+      none_asked_fails n stub_has_slot 0 0 n (λ k. refl),
+      none_asked_fails n one_slot_for_address 0 0 n (λ k. refl),
+      none_asked_fails n thread_slot_alone 0 0 n (λ k. refl),
+      none_asked_fails n resolver_is_own 0 0 n (λ k. refl),
+      none_asked_fails n slot_agrees 0 0 n (λ k. refl),
+      none_asked_fails n resolver_moves 0 0 n (λ k. refl),
+      none_asked_fails n (second_slot_fits (made n)) 0 0 n (λ k. refl),
     ) refl
 
 -- ---- all clauses

@@ -1,3 +1,4 @@
+mod Resolved
 pub mod ItemLemmas
 mod SlotLemmas
 mod WalkLemmas

@@ -1,8 +1,9 @@
 -- The places of all words and stubs ascend.
-use Rattle.std.proofs.Common.{◌≡◌, ℕ, ◌+◌, ◌*◌, ◌^◌, ◌≤◌, inl, inr, List, [], length, All, sym, ap, ◌∙◌, subst, arith}
+use Rattle.std.proofs.Common.{◌≡◌, ℕ, ◌+◌, ◌*◌, ◌^◌, ◌≤◌, inl, inr, List, [], length, get_or, All, sym, ap, ◌∙◌, subst, arith}
 use Rattle.std.specs.List.{flat_map}
 use Rattle.std.proofs.lemmas.Bool.{cases_lt}
 use Rattle.std.proofs.lemmas.List.{length-append, nil_from_length}
+use Rattle.std.proofs.lemmas.Option.{slice_get-get_or}
 use Rattle.wild_relr.specs.Packed.{slots}
 use Rattle.wild_relr.specs.Written.{word_bytes}
 use Rattle.wild_relr.proofs.SpellLemmas.{length-word_bytes}
@@ -43,7 +44,7 @@ none_written l e = ap (λ (gs : List Group). flat_map (group_symbols l) gs) (nil
 -- ---- what each symbol shows
 
 all_fit : (l : Layout) → HasSlotsInOrder l → All (IsFit l) l.symbols
-all_fit l h = λ k d lt. record { flags = h.resolved k d lt; second = (h.flags k d lt).second }
+all_fit l h = λ k d lt. record { flags = h.resolved k d lt; second = λ some. (h.flags.resolved k (get_or l.symbols k d) (slice_get-get_or l.symbols k d lt) some).second }
 
 ascends_from : (n free base share : ℕ) (ps : List ℕ) → free ≡ base → Ascend n free (free + share) ps → Ascend n base (base + share) ps
 ascends_from n free base share ps e a = let P : ℕ → Type 0 = λ (p : ℕ). Ascend n p (p + share) ps in subst P e a

@@ -30,9 +30,10 @@ use Rattle.wild_needs.specs.SlotShares.{symbol_share, header_words, storage_word
 use Rattle.wild_clauses.specs.SlotPlaces.{start_of, stands_at}
 use Rattle.wild_layout.specs.TablePlaces.{table_bytes}
 use Rattle.wild_types.specs.ResolvedFlags.{HasItsFlags}
-use Rattle.wild_layout.specs.SlotOrder.{FlagsAgree, HasSlotsInOrder}
+use Rattle.wild_layout.specs.SlotOrder.{HasSlotsInOrder}
 use Rattle.wild_slots.specs.Order.{group_symbols, written_symbols, IsWritten}
 use Rattle.wild_slots.specs.Stand.{StandsAt, WordsStand, SymbolStands}
+use Rattle.wild_slots.proofs.Resolved.{has_resolution}
 use Rattle.wild_slots.proofs.WalkLemmas.{Cut, Cut-from_contains}
 use Rattle.wild_slots.proofs.OrderLemmas.{StandsBehind, AreInOrder-from_test}
 use Rattle.wild_slots.proofs.TableLemmas.{symbol_bytes, IsTable, got_table, block_table, stub_table, length-symbols, headless, headed}
@@ -138,7 +139,7 @@ pub only : (l : Layout) → HasSlotsInOrder l → (i at : ℕ) (s : Symbol) → 
 only l h i at s e g t =
     let b = begins (slots_of l s).words t in
     let own = holds_at HasItsFlags l.symbols i s e h.resolved in
-    let second = (holds_at (FlagsAgree l) l.symbols i s e h.flags).second in
+    let second = (h.flags.resolved i s e (has_resolution s at g)).second in
     let rest = only_word l s at b.value b.rest own second g b.is in
     record { value = b.value; is = b.is ∙ ap (λ (ws : List SlotWord). InBlock b.value ∷ ws) rest }
 

@@ -15,7 +15,8 @@ use Rattle.wild_slot.specs.SymbolWords.{slots_of, resolved_slots}
 use Rattle.wild_slot.specs.Stub.{far_of}
 use Rattle.wild_types.specs.ResolvedFlags.{HasItsFlags}
 use Rattle.wild_clauses.proofs.ClauseLemmas.{not_thread}
-use Rattle.wild_layout.specs.SlotOrder.{FlagsAgree, HasSlotsInOrder}
+use Rattle.wild_layout.specs.SlotOrder.{HasSlotsInOrder}
+use Rattle.wild_slots.proofs.Resolved.{has_resolution}
 use Rattle.wild_slots.proofs.ItemLemmas.{fault_first, stub_stays}
 
 -- the item of a stub, where nothing failed before it or behind it
@@ -54,7 +55,7 @@ made s far r at p g q t n = by_got r.got_address g n
 pub stub_there : (l : Layout) → HasSlotsInOrder l → (i at p : ℕ) (s : Symbol) → slice_get l.symbols i ≡ Some s → got_of s ≡ Some at → plt_of s ≡ Some p → (slots_of l s).fault ≡ None → (slots_of l s).has_stub ≡ true
 unfolding slots_of
 stub_there l h i at p s e g q n =
-    let t = not_thread s p (holds_at (FlagsAgree l) l.symbols i s e h.flags).alone q in
+    let t = not_thread s p (h.flags.resolved i s e (has_resolution s at g)).alone q in
     by_resolution (holds_at HasItsFlags l.symbols i s e h.resolved) t s.resolution refl g q n
   where
     by_resolution : HasItsFlags s → has_thread_slot s.flags ≡ false → (o : Option Resolution) → s.resolution ≡ o → resolved_got o ≡ Some at → resolved_plt o ≡ Some p → (resolved_slots l o).fault ≡ None → (resolved_slots l o).has_stub ≡ true

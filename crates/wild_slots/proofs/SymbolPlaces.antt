@@ -1,6 +1,6 @@
 -- Where the words and the stub of a symbol stand that stands behind others.
 use Rattle.std.proofs.Common.{◌≡◌, ℕ, ◌+◌, ◌*◌, ◌^◌, ◌≤◌, Bool, true, false, List, [], ◌∷◌, length, get_or, Some, None, All, refl, sym, ap, ◌∙◌, subst, arith}
-use Rattle.std.specs.Prelude.{Option, if◌then◌else◌, option_to_list, unwrap_or}
+use Rattle.std.specs.Prelude.{Option, if◌then◌else◌, option_to_list, unwrap_or, is_some}
 use Rattle.std.proofs.lemmas.Bool.{and_parts, eqb-true}
 use Rattle.std.proofs.lemmas.List.Elements.{All-nil}
 use Rattle.wild_words.proofs.ListLemmas.{All-flat_map}
@@ -27,6 +27,7 @@ use Rattle.wild_types.specs.ResolvedFlags.{HasItsFlags}
 use Rattle.wild_types.proofs.FileLemmas.{All-own}
 use Rattle.wild_slots.specs.Order.{group_symbols, written_symbols}
 use Rattle.wild_slots.specs.Ascend.{Ascend, place_in, word_places, stub_places}
+use Rattle.wild_slots.proofs.Resolved.{has_resolution}
 use Rattle.wild_slots.proofs.OrderLemmas.{StandsBehind}
 use Rattle.wild_slots.proofs.BlockWordLemmas.{NotInBlock, FirstAlone, first_alone, none_in_block, begins, only_word}
 use Rattle.wild_slots.proofs.PlaceLemmas.{nothing_given, no_block_words, places_follow, all_words}
@@ -121,7 +122,7 @@ block_slots l s free h = by_place (got_of s) refl
 -- what is known of each symbol
 pub record IsFit (l : Layout) (s : Symbol) : Type 0 where
   pub flags : HasItsFlags s
-  pub second : second_slot_fits l s ≡ true
+  pub second : is_some s.resolution ≡ true → second_slot_fits l s ≡ true
 
 other_none : (l : Layout) (s : Symbol) (free a : ℕ) (ws : List SlotWord) → ws ≡ InBlock a ∷ [] → at_places (place_in words.Got) (slots_at s) ws ≡ slots free (length (slot_words words.Got l.options.relr (slots_at s) ws))
 unfolding slots
@@ -146,7 +147,7 @@ other_slots l s free fit h low = by_place (got_of s) refl
     by_start : (at : ℕ) → got_of s ≡ Some at → (b : Bool) → begins_block (slots_of l s).words ≡ b → word_places words.Got l s ≡ slots free.got (length (words_in words.Got l s))
     by_start at g true t =
         let b = begins (slots_of l s).words t in
-        let rest = only_word l s at b.value b.rest fit.flags fit.second g b.is in
+        let rest = only_word l s at b.value b.rest fit.flags (fit.second (has_resolution s at g)) g b.is in
         other_none l s free.got b.value (slots_of l s).words (b.is ∙ ap (λ (ws : List SlotWord). InBlock b.value ∷ ws) rest)
     by_start at g false t = others_follow l.options.relr (slots_at s) free.got (slots_of l s).words (none_in_block (slots_of l s).words t (first_alone l s)) (λ some. rw t at (h.words at g)) low
 

@@ -92,7 +92,7 @@ described_plain l i slot fit h = by_slot kinds.TlsDesc l i slot (λ (n : ℕ). h
     by_flag : (r : Resolution) (at : ℕ) → IsResolvedBy l i r → (b : Bool) → has_flag r.flags got_tls_descriptor ≡ b → (if b then Some (behind_pair (has_flag r.flags got_tls_module) (behind_word (has_flag r.flags got_tls_offset) at)) else None) ≡ Some slot → has_flag (flags_at l i) ifunc ≡ false
     by_flag r at d false asked h = cc
     by_flag r at d true asked h =
-        let fits = symbol_fits l (canonical l i) d.symbol fit d.listed in
+        let fits = symbol_fits l i d.symbol fit d.listed in
         let flags : r.flags ≡ d.symbol.flags = fits.flags r d.decided in
         let thread : has_thread_slot d.symbol.flags ≡ true = subst (λ (f : ValueFlags). has_thread_slot f ≡ true) flags (thread_of r.flags asked) in
         ap (λ (f : ValueFlags). has_flag f ifunc) (flags_are l i (canonical l i) d.symbol d.defined d.listed) ∙ thread_not_chosen d.symbol fits.alone thread

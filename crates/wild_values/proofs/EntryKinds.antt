@@ -71,7 +71,7 @@ use Rattle.wild_values.proofs.Answered.{has_answer, answered_value, answered_siz
 use Rattle.wild_values.proofs.EntryWords.{IsAnsweredBy, after_known, after_step, change_by}
 use Rattle.wild_values.proofs.KnownRows.{RowFits, row_fits}
 use Rattle.wild_values.proofs.OutputKinds.{library_is}
-use Rattle.wild_values.proofs.SlotFlags.{symbol_fits, resolver_own}
+use Rattle.wild_values.proofs.SlotFlags.{symbol_fits, resolver_own, listed_at}
 use Rattle.wild_values.proofs.Symbols.{IsResolvedBy, resolved, resolved_raw, flags_are, replaceable_at, flag_at, definition_there, own_size_is}
 use Rattle.wild_values.proofs.Treated.{IsLeftToResolver, treated_by, address_chosen, peeled}
 use Rattle.wild_values.proofs.ValueKinds.{more}
@@ -240,7 +240,7 @@ chosen_own l w m s row i p listed width h =
     let whose = replaceable_at l i z.0 p.symbols.named z.1 in
     let c = whose.definition in
     let flags = flags_are l i c whose.symbol whose.defined whose.listed in
-    let fits = symbol_fits l c whose.symbol p.symbols whose.listed in
+    let fits = symbol_fits l i whose.symbol p.symbols (listed_at l i c whose.symbol whose.defined whose.listed) in
     let asked : has_flag (flags_at l i) ifunc ≡ true = last_of (allocated s.flags && writable s.flags && is_position_independent l.kind) (has_flag (flags_at l i) ifunc) h.chosen in
     let none : has_flag (flags_at l i) dynamic ≡ false = ap (λ (f : ValueFlags). has_flag f dynamic) flags ∙ resolver_own whose.symbol fits.chosen (sym (ap (λ (f : ValueFlags). has_flag f ifunc) flags) ∙ asked) in
     let t = resolver_flags l s row i width h.own h.chosen none in
@@ -256,7 +256,7 @@ indirect_given l w m s r i number symbol addend z bs f p listed chosen named val
     let d = resolver_given l z number symbol addend r (decided_address l i) made in
     let by = decided_resolved l i addend d.0 in
     let raw = subst (λ (a : ℕ). HasRaw l i a) by.2 (resolved_raw l i by.0 by.1) in
-    let low = subst (λ (a : ℕ). a < 2 ^ 64) by.2 ((symbol_fits l (canonical l i) by.1.symbol p.symbols by.1.listed).number by.0 by.1.decided) in
+    let low = subst (λ (a : ℕ). a < 2 ^ 64) by.2 ((symbol_fits l i by.1.symbol p.symbols by.1.listed).number by.0 by.1.decided) in
     let n = chosen_type l number p.x86 d.1 in
     let makes = subst (λ (k : ℕ). MakesChange w k symbol addend reads.0) (sym n) reads.1 in
     let c = resolver_change w symbol addend reads.0 low makes in

@@ -164,7 +164,7 @@ named_held l w m i at r rest kind word p by is filled h = by_index r.dynamic_sym
 own_held : (l : Layout) (w : World) (m : Memory) (i at : ℕ) (r : Resolution) (rest : List SlotItem) → IsPlaced l w m → IsResolvedBy l i r → has_dynamic_symbol r.flags ≡ false → ItemsHold w m at (own_item (setting_of l) r ∷ rest) → HasFirst l w m i at rest
 own_held l w m i at r rest p d looked held =
     let s = d.symbol in
-    let fits = symbol_fits l (canonical l i) s p.symbols d.listed in
+    let fits = symbol_fits l i s p.symbols d.listed in
     let flags : r.flags ≡ s.flags = fits.flags r d.decided in
     let dyn = not_dynamic r.flags looked in
     let own : may_be_replaced l.kind s.flags ≡ false = ap (λ (f : ValueFlags). may_be_replaced l.kind f) (sym flags) ∙ own_flags l.kind r.flags looked in

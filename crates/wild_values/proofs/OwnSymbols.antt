@@ -11,7 +11,7 @@ use Rattle.wild_loader.specs.declared.memory.Memory.{Memory}
 use Rattle.wild_loader.specs.declared.world.World.{World}
 use Rattle.wild_meaning.specs.Value.{HasValue, IsAbsolute, IsReplaceable, moved}
 use Rattle.wild_values.specs.Terms.{SymbolsFit, IsPlaced}
-use Rattle.wild_values.proofs.SlotFlags.{symbol_fits, dynamic_interposable}
+use Rattle.wild_values.proofs.SlotFlags.{symbol_fits, dynamic_interposable, listed_at}
 use Rattle.wild_values.proofs.Symbols.{replaceable_at, flags_are}
 use Rattle.wild_values.proofs.Targets.{raw_addressed}
 use Rattle.wild_values.proofs.ThreadSlots.{fixed_flags}
@@ -22,7 +22,7 @@ own_symbol l i fit listed own =
     let z = slice_get_inside l.symbols i listed in
     let whose = replaceable_at l i z.0 fit.named z.1 in
     let f = flags_are l i whose.definition whose.symbol whose.defined whose.listed in
-    let fits = symbol_fits l whose.definition whose.symbol fit whose.listed in
+    let fits = symbol_fits l i whose.symbol fit (listed_at l i whose.definition whose.symbol whose.defined whose.listed) in
     let open_one : has_flag (flags_at l i) dynamic ≡ true → interposable (flags_at l i) ≡ true = λ d.
     ap (λ (x : ValueFlags). interposable x) f ∙ dynamic_interposable whose.symbol fits.interposable (sym (ap (λ (x : ValueFlags). has_flag x dynamic) f) ∙ d) in
     subst (λ (b : Bool). IsReplaceable l i b) (fixed_flags l (flags_at l i) open_one own) whose

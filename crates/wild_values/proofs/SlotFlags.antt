@@ -1,6 +1,9 @@
 -- What is known of a symbol's flags, its slots and its stub.
-use Rattle.std.proofs.Common.{◌≡◌, ◌≢◌, ℕ, ◌^◌, ◌<◌, Bool, true, false, Option, Some, None, refl, arith}
+use Rattle.std.proofs.Common.{◌≡◌, ◌≢◌, ℕ, ◌^◌, ◌<◌, Bool, true, false, Option, Some, None, refl, arith, subst, sym}
 use Rattle.std.specs.Prelude.{◌&&◌, ◌||◌, not, is_some, slice_get}
+use Rattle.wild_meaning.proofs.SymbolLemmas.{canonical_is}
+use Rattle.wild_meaning.specs.Value.{IsDefinedBy}
+use Rattle.wild_types.specs.Lookups.{canonical}
 use Rattle.wild_words.proofs.ListLemmas.{holds_at}
 use Rattle.wild_types.specs.declared.symbol.Resolution.{Resolution}
 use Rattle.wild_types.specs.declared.symbol.Symbol.{Symbol}
@@ -10,10 +13,9 @@ use Rattle.wild_types.specs.ResolvedFlags.{HasItsFlags}
 use Rattle.wild_clauses.specs.SlotFlags.{dynamic_is_interposable, stub_has_slot, thread_slot_alone, resolver_is_own, resolver_moves}
 use Rattle.wild_types.specs.SymbolSlots.{got_of, plt_of, has_thread_slot}
 use Rattle.wild_layout.specs.Numbers.{SymbolNumbers}
-use Rattle.wild_layout.specs.SlotOrder.{FlagsAgree}
 use Rattle.wild_values.specs.Terms.{SymbolsFit}
 
--- a symbol of the layout
+-- a definition of the layout
 pub record SymbolFits (s : Symbol) : Type 0 where
   pub flags : HasItsFlags s
   pub number : (r : Resolution) → s.resolution ≡ Some r → r.raw_value < 2 ^ 64
@@ -24,18 +26,22 @@ pub record SymbolFits (s : Symbol) : Type 0 where
   pub chosen : resolver_is_own s ≡ true
   pub index : (r : Resolution) (d : ℕ) → s.resolution ≡ Some r → r.dynamic_symbol_index ≡ Some d → d ≢ 0
 
-pub symbol_fits : (l : Layout) (i : ℕ) (s : Symbol) → SymbolsFit l → slice_get l.symbols i ≡ Some s → SymbolFits s
+-- the definition of a symbol is where the layout looks it up
+pub listed_at : (l : Layout) (i c : ℕ) (s : Symbol) → IsDefinedBy l i c → slice_get l.symbols c ≡ Some s → slice_get l.symbols (canonical l i) ≡ Some s
+listed_at l i c s d e = subst (λ (k : ℕ). slice_get l.symbols k ≡ Some s) (sym (canonical_is l i c d)) e
+
+pub symbol_fits : (l : Layout) (i : ℕ) (s : Symbol) → SymbolsFit l → slice_get l.symbols (canonical l i) ≡ Some s → SymbolFits s
 symbol_fits l i s fit listed =
-    let t = holds_at (FlagsAgree l) l.symbols i s listed fit.flags in
+    let t = fit.flags.defined i s listed in
     record {
-      flags = holds_at HasItsFlags l.symbols i s listed fit.own;
-      number = λ r e. (holds_at SymbolNumbers l.symbols i s listed fit.numbers r e).value;
+      flags = holds_at HasItsFlags l.symbols (canonical l i) s listed fit.own;
+      number = λ r e. (holds_at SymbolNumbers l.symbols (canonical l i) s listed fit.numbers r e).value;
       stub = t.stub;
       alone = t.alone;
       moves = t.moves;
       interposable = t.interposable;
       chosen = t.chosen;
-      index = λ r d e told. (let n = (fit.dynsyms.indexed i d s r listed e told).1 in λ z. absurd (omega (arith, n, z)));
+      index = λ r d e told. (let n = (fit.dynsyms.indexed (canonical l i) d s r listed e told).1 in λ z. absurd (omega (arith, n, z)));
     }
 
 -- ---- what the tests say

@@ -67,7 +67,7 @@ resolved_stub l i stub h = by_resolution (resolution_of l i) refl h
 pub stub_from : StubsOfValuesAreRead → (l : Layout) (w : World) (m : Memory) (i stub : ℕ) (r : Resolution) → IsPlaced l w m → IsResolvedBy l i r → r.plt_address ≡ Some stub → StubStands l w m i stub
 stub_from law l w m i stub r p d f =
     let s = d.symbol in
-    let fits = symbol_fits l (canonical l i) s p.symbols d.listed in
+    let fits = symbol_fits l i s p.symbols d.listed in
     let flags : r.flags ≡ s.flags = fits.flags r d.decided in
     let has : plt_of s ≡ Some stub = ap resolved_plt d.decided ∙ f in
     let slot = slot_of_stub s stub fits.stub has in

@@ -17,7 +17,7 @@ use Rattle.wild_meaning.specs.Reference.{IsStubbed}
 use Rattle.wild_meaning.specs.Value.{HasRaw, HasFlag, HasOwnValue, IsAbsolute, IsReplaceable, moved}
 use Rattle.wild_geometry.proofs.JudgedLemmas.{flag_is}
 use Rattle.wild_values.specs.Terms.{IsPlaced}
-use Rattle.wild_values.proofs.SlotFlags.{symbol_fits, resolver_not_absolute}
+use Rattle.wild_values.proofs.SlotFlags.{symbol_fits, resolver_not_absolute, listed_at}
 use Rattle.wild_values.proofs.Symbols.{definition_listed, flags_are}
 use Rattle.wild_values.proofs.Stubbed.{raw_is, stub_given}
 use Rattle.wild_values.proofs.SymbolStubs.{StubStands, stub_stands, stub_is}
@@ -89,7 +89,7 @@ chosen_moves law l w m i a p chosen h =
     let stub = stub_stands law l w m i a p h in
     let s = stub.given.symbol in
     let flags = flags_are l i stub.given.definition s stub.given.defined stub.given.listed in
-    let fits = symbol_fits l stub.given.definition s p.symbols stub.given.listed in
+    let fits = symbol_fits l i s p.symbols (listed_at l i stub.given.definition s stub.given.defined stub.given.listed) in
     let moves : has_flag s.flags absolute ≡ false = resolver_not_absolute s fits.moves (sym (ap (λ (f : ValueFlags). has_flag f ifunc) flags) ∙ chosen) in
     (stub, ap (λ (f : ValueFlags). has_flag f absolute) flags ∙ moves)
 

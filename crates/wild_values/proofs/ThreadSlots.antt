@@ -39,12 +39,12 @@ use Rattle.wild_values.proofs.ThreadValues.{placed_thread, thread_place, thread_
 
 pub whose_own : (l : Layout) (w : World) (m : Memory) (i : ℕ) (r : Resolution) → IsPlaced l w m → IsResolvedBy l i r → may_be_replaced l.kind r.flags ≡ false → IsReplaceable l i false
 whose_own l w m i r p d own =
-    let flags : r.flags ≡ d.symbol.flags = (symbol_fits l (canonical l i) d.symbol p.symbols d.listed).flags r d.decided in
+    let flags : r.flags ≡ d.symbol.flags = (symbol_fits l i d.symbol p.symbols d.listed).flags r d.decided in
     subst (λ (b : Bool). IsReplaceable l i b) (ap (λ (f : ValueFlags). may_be_replaced l.kind f) (sym flags) ∙ own) (replaceable_by l i r d)
 
 -- an index that was decided is behind the null symbol
 pub index_some : (l : Layout) (w : World) (m : Memory) (i d : ℕ) (r : Resolution) → IsPlaced l w m → IsResolvedBy l i r → r.dynamic_symbol_index ≡ Some d → d ≢ 0
-index_some l w m i d r p by e = (symbol_fits l (canonical l i) by.symbol p.symbols by.listed).index r d by.decided e
+index_some l w m i d r p by e = (symbol_fits l i by.symbol p.symbols by.listed).index r d by.decided e
 
 -- ---- the offset
 
@@ -211,7 +211,7 @@ pair_held l w m i at r rest p d h = by_tests (is_executable l.kind) (has_flag r.
   where
     open_one : has_flag r.flags dynamic ≡ true → interposable r.flags ≡ true
     open_one e =
-        let fits = symbol_fits l (canonical l i) d.symbol p.symbols d.listed in
+        let fits = symbol_fits l i d.symbol p.symbols d.listed in
         let flags : r.flags ≡ d.symbol.flags = fits.flags r d.decided in
         ap (λ (f : ValueFlags). interposable f) flags ∙ dynamic_interposable d.symbol fits.interposable (ap (λ (f : ValueFlags). has_flag f dynamic) (sym flags) ∙ e)
 

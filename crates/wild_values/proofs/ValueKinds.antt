@@ -28,7 +28,7 @@ use Rattle.wild_meaning.specs.Item.{item_of}
 use Rattle.wild_meaning.specs.Formula.{IsSum, IsExtent, Gives, IsOwnTarget, IsOwnSum, GivesLinked, IsPlaceRelative, TakesAddress, TakesOffset, table_at}
 use Rattle.wild_meaning.specs.Reference.{IsStubbed}
 use Rattle.wild_values.proofs.OutputKinds.{library_is}
-use Rattle.wild_values.proofs.SlotFlags.{symbol_fits, dynamic_interposable}
+use Rattle.wild_values.proofs.SlotFlags.{symbol_fits, dynamic_interposable, listed_at}
 use Rattle.wild_values.proofs.Symbols.{sized, replaceable_at, flags_are, definition_there}
 use Rattle.wild_values.proofs.Targets.{IsAddressed, IsOwnAddressed, Follows, addressed, linked}
 use Rattle.wild_values.proofs.Moves.{sum_is, distance_is, table_is, moved_distance}
@@ -150,7 +150,7 @@ own_size l w m s i symbol p listed room kept =
     let whose = replaceable_at l i symbol p.symbols.named listed in
     let c = whose.definition in
     let f = flags_are l i c whose.symbol whose.defined whose.listed in
-    let fits = symbol_fits l c whose.symbol p.symbols whose.listed in
+    let fits = symbol_fits l i whose.symbol p.symbols (listed_at l i c whose.symbol whose.defined whose.listed) in
     let open_one : has_flag (flags_at l i) dynamic ≡ true → interposable (flags_at l i) ≡ true = λ d.
     ap (λ (x : ValueFlags). interposable x) f ∙ dynamic_interposable whose.symbol fits.interposable (sym (ap (λ (x : ValueFlags). has_flag x dynamic) f) ∙ d) in
     let none = by_tests (allocated s.flags) (has_flag (flags_at l i) non_interposable) (has_flag (flags_at l i) dynamic) (has_flag (flags_at l i) copy_relocation) (is_shared_object l.kind) (has_flag (flags_at l i) export_dynamic) room open_one kept in

@@ -19,7 +19,7 @@ use Rattle.wild_reloc.specs.declared.info.RelocationKindInfo.{RelocationKindInfo
 use Rattle.wild_layout.specs.SymbolValues.{place_of}
 use Rattle.wild_layout.specs.Values.{term_of, value_by}
 use Rattle.wild_layout.specs.Geometry.{DefinitionNames, NamesSymbol}
-use Rattle.wild_layout.specs.SlotOrder.{FlagsAgree}
+use Rattle.wild_layout.specs.SlotOrder.{EachAgrees}
 use Rattle.wild_layout.specs.ListedSymbols.{AreListed}
 use Rattle.wild_layout.specs.Numbers.{SymbolNumbers}
 use Rattle.wild_geometry.specs.Slots.{HasSlots}
@@ -37,7 +37,7 @@ use Rattle.wild_meaning.specs.Reference.{IsStubbed}
 pub record SymbolsFit (l : Layout) : Type 0 where
   pub named : All (DefinitionNames l) l.symbols
   pub own : HaveTheirFlags l
-  pub flags : All (FlagsAgree l) l.symbols
+  pub flags : EachAgrees l
   pub dynsyms : AreListed l
   pub numbers : All SymbolNumbers l.symbols
 

@@ -1,12 +1,12 @@
 -- In a layout without faults no IFUNC is absolute.
-use Rattle.std.proofs.Common.{◌≡◌, Bool, true, false, sym, ap, ◌∙◌}
-use Rattle.std.specs.Prelude.{◌||◌, not}
+use Rattle.std.proofs.Common.{◌≡◌, Bool, true, false, sym, ap, ◌∙◌, subst, ℕ}
+use Rattle.std.specs.Prelude.{◌||◌, not, slice_get, Some}
+use Rattle.wild_meaning.proofs.SymbolLemmas.{canonical_is}
 use Rattle.wild_words.proofs.ListLemmas.{holds_at}
 use Rattle.wild_types.specs.declared.symbol.Symbol.{Symbol}
 use Rattle.wild_types.specs.Flags.{has_flag, absolute, ifunc}
 use Rattle.wild_clauses.specs.SlotFlags.{resolver_moves}
 use Rattle.wild_layout.specs.Geometry.{LayoutsAreLaidOut}
-use Rattle.wild_layout.specs.SlotOrder.{FlagsAgree}
 use Rattle.wild_layout.proofs.FaultLemmas.{laid_out}
 use Rattle.wild_laws.proofs.Symbols.{one_symbol}
 use Rattle.wild_worlds.specs.References.{ResolversAreNotAbsolute}
@@ -21,6 +21,6 @@ never_both s h i a = by_flags (has_flag s.flags ifunc) (has_flag s.flags absolut
 
 pub not_absolute : LayoutsAreLaidOut → ResolversAreNotAbsolute
 not_absolute laws = λ l i none f a.
-    let moves = (holds_at (FlagsAgree l) l.symbols f.definition f.symbol f.listed (laid_out laws l none).slot_flags).moves in
+    let moves = ((laid_out laws l none).slot_flags.defined i f.symbol (subst (λ (k : ℕ). slice_get l.symbols k ≡ Some f.symbol) (sym (canonical_is l i f.definition f.defined)) f.listed)).moves in
     let same = one_symbol l i a.definition f.definition a.symbol f.symbol a.defined f.defined a.listed f.listed in
     never_both f.symbol moves f.flagged (sym (ap (λ (s : Symbol). has_flag s.flags absolute) same) ∙ a.flagged)
