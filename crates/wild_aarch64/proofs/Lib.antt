@@ -1,0 +1,9 @@
+pub mod ListLemmas
+pub mod ReadLemmas
+pub mod FieldLemmas
+pub mod NumberLemmas
+pub mod WrittenLemmas
+pub mod RunLemmas
+pub mod RowLemmas
+pub mod BranchLemmas
+pub mod StubLemmas

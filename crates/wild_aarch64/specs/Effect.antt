@@ -1,0 +1,74 @@
+-- What code comes to, and what code of the input asks for.
+--   Reader              what operands read as
+--   effect reader a ws  what the words at an address do, with what their operand reads as
+--   demand v a ws       what they do where their fields are filled so that the operand reads as v
+--   words_of bytes      the words of code that stand in bytes
+use Rattle.std.specs.Prelude.{◌≡◌, ℕ, List, [], ◌∷◌, map, Option, Some, option_map, option_and_then}
+use Rattle.wild_words.specs.Words.{number}
+use Rattle.wild_aarch64.specs.declared.operand.Operand.{Operand}
+use Rattle.wild_aarch64.specs.declared.operand.Operand.TheVariants.{Number}
+use Rattle.wild_aarch64.specs.declared.operand.Deed.{Deed}
+use Rattle.wild_aarch64.specs.declared.operand.Action.{Action}
+use Rattle.wild_aarch64.specs.declared.code.Code.{Code}
+use Rattle.wild_aarch64.specs.declared.code.Code.TheVariants.{Adr, Adrp, Movz, Movk, Movn, Add, Ldr, Access, Literal, B, Bl, BranchIf, Br, Blr, Hint}
+use Rattle.wild_aarch64.specs.Code.{read}
+use Rattle.wild_aarch64.specs.Machine.{run, meaning}
+
+-- what operands read as
+abbrev pub Reader : Type 0
+Reader = Operand → Option ℕ
+
+-- what is done, and with which number
+pub record Effect : Type 0 where
+  pub deed : Deed
+  pub value : ℕ
+
+abbrev pub comes_to : Deed → ℕ → Effect
+comes_to deed v = record { deed = deed; value = v }
+
+abbrev pub performed : Reader → Action → Option Effect
+performed reader act = option_map (comes_to act.deed) (reader act.operand)
+
+-- what the words at an address do, with what their operand reads as
+abbrev pub effect : Reader → ℕ → List ℕ → Option Effect
+effect reader a ws = option_and_then (performed reader) (meaning a ws)
+
+-- the instruction with its field cleared
+abbrev pub cleared : Code → Code
+cleared (Adr r j) = Adr r 0
+cleared (Adrp r j) = Adrp r 0
+cleared (Movz r s i) = Movz r s 0
+cleared (Movk r s i) = Movk r s 0
+cleared (Movn r s i) = Movn r s 0
+cleared (Add r q j) = Add r q 0
+cleared (Ldr r q j) = Ldr r q 0
+cleared (Access key j) = Access key 0
+cleared (Literal key j) = Literal key 0
+cleared (B j) = B 0
+cleared (Bl j) = Bl 0
+cleared (BranchIf key j) = BranchIf key 0
+cleared (Br q) = Br q
+cleared (Blr q) = Blr q
+cleared Hint = Hint
+
+-- whatever it is, the operand reads as v
+abbrev pub as_value : ℕ → Reader
+as_value v operand = Some v
+
+-- words whose fields relocations fill: what a field had plays no part
+abbrev pub shapes : List ℕ → List (Option Code)
+shapes ws = map (λ w. option_map cleared (read w)) ws
+
+-- what the words of the input at an address ask for, where their fields are to stand for v
+abbrev pub demand : ℕ → ℕ → List ℕ → Option Effect
+demand v a ws = option_and_then (performed (as_value v)) (run (shapes ws) a [])
+
+-- numbers read as themselves
+abbrev pub ReadsNumbers : Reader → Type 0
+ReadsNumbers reader = (x : ℕ) → reader (Number x) ≡ Some x
+
+-- the words of four bytes each, the lowest byte first, whatever the order of data (Arm Architecture Reference Manual, B2.6.2,
+-- "Instruction endianness")
+abbrev pub words_of : List ℕ → List ℕ
+words_of (a ∷ b ∷ c ∷ e ∷ bytes) = number (a ∷ b ∷ c ∷ e ∷ []) ∷ words_of bytes
+words_of bytes = []

@@ -1,0 +1,77 @@
+-- Laws of AArch64 code.
+--   FormsAreRead, FieldsAreWritten   words of a form are read as it; a number in their field is its immediate
+--   HintsAreSkipped, HintsAreLost    words that do nothing, in front of a run and behind it
+--   JumpsAreFollowed                 words that jump do so also with others behind them
+--   TemplatesDescend                 the longest template is the first
+--   RowsKeep, BranchesKeep           what is written does what the words of the input demand
+--   RowsAreSteps                     and is one step
+use Rattle.std.specs.Prelude.{◌≡◌, ℕ, ◌+◌, ◌<◌, ◌≤◌, true, List, [], ◌∷◌, ◌++◌, length, map, Option, Some, option_map, Contains}
+use Rattle.wild_aarch64.specs.declared.code.Code.{Code}
+use Rattle.wild_aarch64.specs.declared.code.Code.TheVariants.{Hint}
+use Rattle.wild_aarch64.specs.Slice.{Form, stands}
+use Rattle.wild_aarch64.specs.Forms.{forms}
+use Rattle.wild_aarch64.specs.Code.{read}
+use Rattle.wild_aarch64.specs.Immediate.{inserted, immediate, cut}
+use Rattle.wild_aarch64.specs.declared.operand.Operand.{Operand}
+use Rattle.wild_aarch64.specs.declared.operand.Deed.TheVariants.{Jumps}
+use Rattle.wild_aarch64.specs.Machine.{Known, does, run, meaning}
+use Rattle.wild_aarch64.specs.Registers.{follow_words}
+use Rattle.wild_aarch64.specs.Effect.{Reader, ReadsNumbers, effect, demand, shapes}
+use Rattle.wild_aarch64.specs.Template.{templates, size_of, descends, step_of, taking}
+use Rattle.wild_aarch64.specs.Row.{Row, rows, written, Comes, branches, branch_bits, distance, IsReached}
+
+-- ---- forms
+
+-- the order of the table plays no part
+abbrev pub FormsAreRead : Type 0
+FormsAreRead = (f : Form) → Contains forms f → (w : ℕ) → stands f.fixed w ≡ true → read w ≡ Some (f.code w (immediate f.field w))
+
+-- with a number in its field a word is the same instruction, with the same registers and that number's low bits
+abbrev pub FieldIsWritten : Form → Type 0
+FieldIsWritten f = (w x : ℕ) → stands f.fixed w ≡ true → read (inserted f.field x w) ≡ Some (f.code w (cut f.field x))
+
+abbrev pub FieldsAreWritten : Type 0
+FieldsAreWritten = (f : Form) → Contains forms f → FieldIsWritten f
+
+-- ---- runs
+
+abbrev pub HintsAreSkipped : Type 0
+HintsAreSkipped = (cs : List (Option Code)) (a : ℕ) (ks : Known) → run (Some Hint ∷ cs) a ks ≡ run cs (a + 4) ks
+
+abbrev pub HintsAreLost : Type 0
+HintsAreLost = (cs : List (Option Code)) (a : ℕ) (ks : Known) → run (cs ++ (Some Hint ∷ [])) a ks ≡ run cs a ks
+
+abbrev pub JumpsAreFollowed : Type 0
+JumpsAreFollowed = (a : ℕ) (ws rest : List ℕ) (x : Operand) → meaning a ws ≡ Some (does Jumps x) → follow_words (ws ++ rest) a [] ≡ Some (does Jumps x)
+
+abbrev pub TemplatesDescend : Type 0
+TemplatesDescend = descends 4 (map size_of templates) ≡ true
+
+-- ---- rewrites
+
+-- these instructions
+abbrev pub some_codes : List Code → List (Option Code)
+some_codes cs = map (λ c. Some c) cs
+
+-- what a row writes does what the words demand that it stands for, where its fields come from what they stand for
+abbrev pub RowKeeps : Row → Type 0
+RowKeeps row = (r : ℕ) (ws : List ℕ) (reader : Reader) → ReadsNumbers reader → (base a x v : ℕ) → row.first ≤ r → r < 31 → shapes ws ≡ some_codes (row.old r)
+    → Comes row.target reader base a x v → effect reader (base + a) (written row.new r a x) ≡ demand v (base + a) ws
+
+abbrev pub RowsKeep : Type 0
+RowsKeep = (row : Row) → Contains rows row → RowKeeps row
+
+-- what a row writes is one step, whatever stands behind it
+abbrev pub RowIsStep : Row → Type 0
+RowIsStep row = (r b a x : ℕ) (rest : List ℕ) → row.first ≤ r → r < 31 → step_of b (written row.new r a x ++ rest) ≡ option_map (taking (length row.new)) (meaning b (written row.new r a x))
+
+abbrev pub RowsAreSteps : Type 0
+RowsAreSteps = (row : Row) → Contains rows row → RowIsStep row
+
+-- a branch with the distance in its field goes where its word demands
+abbrev pub BranchKeeps : Form → Type 0
+BranchKeeps f = (w : ℕ) (reader : Reader) → ReadsNumbers reader → (base a x v : ℕ) → stands f.fixed w ≡ true → IsReached f.field base a x v
+    → effect reader (base + a) (inserted f.field (branch_bits f.field (distance a x)) w ∷ []) ≡ demand v (base + a) (w ∷ [])
+
+abbrev pub BranchesKeep : Type 0
+BranchesKeep = (f : Form) → Contains branches f → BranchKeeps f

@@ -1,0 +1,12 @@
+pub mod Immediate
+pub mod Slice
+pub mod Forms
+pub mod Code
+pub mod Machine
+pub mod Registers
+pub mod Effect
+pub mod Template
+pub mod Row
+pub mod Stub
+pub mod Filled
+pub mod Laws

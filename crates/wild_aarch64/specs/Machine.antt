@@ -1,0 +1,171 @@
+-- What a run of instructions does: the registers that it sets are followed, as far as addresses go.
+--   Operand, Deed, Action   what a register or a target is; what is done with it; both
+--   Known, known r ks       what the registers that were set have
+--   acts a ks c             what the instruction at an address does
+--   run cs a ks             what instructions do, one behind the other
+--   meaning a ws            what the words at an address do
+use Rattle.std.specs.Prelude.{ℕ, ◌+◌, ◌*◌, ◌/◌, ◌%◌, ◌^◌, ◌==◌, Bool, true, false, ◌&&◌, ◌||◌, if◌then◌else◌, List, [], ◌∷◌, map, Option, Some, None}
+use Rattle.wild_aarch64.specs.declared.operand.Operand.{Operand}
+use Rattle.wild_aarch64.specs.declared.operand.Deed.{Deed}
+use Rattle.wild_aarch64.specs.declared.operand.Action.{Action}
+use Rattle.wild_aarch64.specs.declared.operand.Operand.TheVariants.{Number, Word, Offset, Register, WordOf}
+use Rattle.wild_aarch64.specs.declared.operand.Deed.TheVariants.{Sets, Jumps, Calls, MayJump, Nothing}
+use Rattle.wild_aarch64.specs.declared.code.Code.{Code}
+use Rattle.wild_aarch64.specs.declared.code.Code.TheVariants.{Adr, Adrp, Movz, Movk, Movn, Add, Ldr, Access, Literal, B, Bl, BranchIf, Br, Blr, Hint}
+use Rattle.wild_aarch64.specs.declared.code.Shift.{Shift}
+use Rattle.wild_aarch64.specs.declared.code.Shift.TheVariants.{By0, By16, By32, By48}
+use Rattle.wild_aarch64.specs.Code.{read}
+
+abbrev pub does : Deed → Operand → Action
+does deed operand = record { deed = deed; operand = operand }
+
+-- the code at an address is gone to, or that whose address stands there
+abbrev pub jump_to : ℕ → Action
+jump_to a = does Jumps (Number a)
+
+abbrev pub jump_through : ℕ → Action
+jump_through a = does Jumps (Word a)
+
+-- x + y, modulo 2^64
+abbrev pub sum_64 : ℕ → ℕ → ℕ
+sum_64 x y = (x + y) % 2 ^ 64
+
+-- the first byte of the page of 4096 bytes that an address is in
+abbrev pub page : ℕ → ℕ
+page a = a / 4096 * 4096
+
+-- ---- registers
+
+-- what the registers that were set have, the last one first
+abbrev pub Known : Type 0
+Known = List (ℕ × Operand)
+
+-- what a register has; one that was not set has what it had before
+abbrev pub known : ℕ → Known → Operand
+known r [] = Register r 0
+known r (k ∷ ks) = if k.0 == r then k.1 else known r ks
+
+-- no register was set but these two
+abbrev pub only : ℕ → ℕ → Known → Bool
+only p q [] = true
+only p q (k ∷ ks) = (k.0 == p || k.0 == q) && only p q ks
+
+-- a number more
+abbrev pub plus : ℕ → Operand → Option Operand
+plus j (Number x) = Some (Number (sum_64 x j))
+plus j (Register r k) = Some (Register r (sum_64 k j))
+plus j other = None
+
+-- the word there
+abbrev pub loaded : Option Operand → Option Operand
+loaded (Some (Number x)) = Some (Word x)
+loaded (Some (Register r k)) = Some (WordOf r k)
+loaded other = None
+
+-- the number, shifted
+abbrev pub shifted : Shift → ℕ → ℕ
+shifted By0 i = i
+shifted By16 i = i * 2 ^ 16
+shifted By32 i = i * 2 ^ 32
+shifted By48 i = i * 2 ^ 48
+
+-- x with the number in place of 16 of its bits
+abbrev pub with_bits : Shift → ℕ → ℕ → ℕ
+with_bits By0 i x = x / 2 ^ 16 * 2 ^ 16 + i
+with_bits By16 i x = x / 2 ^ 32 * 2 ^ 32 + i * 2 ^ 16 + x % 2 ^ 16
+with_bits By32 i x = x / 2 ^ 48 * 2 ^ 48 + i * 2 ^ 32 + x % 2 ^ 32
+with_bits By48 i x = i * 2 ^ 48 + x % 2 ^ 48
+
+abbrev pub changed : Shift → ℕ → Operand → Option Operand
+changed s i (Number x) = Some (Number (with_bits s i x))
+changed s i other = None
+
+-- ---- one instruction
+
+-- the run goes on with these registers, ends, or is not told
+pub data Next : Type 0 where
+  On : Known → Next
+  End : Action → Next
+  Stuck : Next
+
+-- register 31 is none: what is set there is lost, or it is the stack pointer (C1.2.5, "Register names")
+abbrev pub set : ℕ → Known → Operand → Next
+set r ks x = if r == 31 then Stuck else On ((r, x) ∷ ks)
+
+abbrev pub sets : ℕ → Known → Option Operand → Next
+sets r ks None = Stuck
+sets r ks (Some x) = set r ks x
+
+-- code that goes elsewhere may have used the two registers that calls leave to linkers (aapcs64, "General-purpose Registers": IP0, IP1)
+abbrev pub leaves : Known → Deed → Operand → Next
+leaves ks deed x = if only 16 17 ks then End (does deed x) else Stuck
+
+-- a condition may ask for any register: none was set
+abbrev pub leaves_if : ℕ → Known → Operand → Next
+leaves_if key [] x = End (does (MayJump key) x)
+leaves_if key (k ∷ ks) x = Stuck
+
+-- a target in a register is told where it is a number or a word in memory
+abbrev pub goes : Known → Operand → Next
+goes ks (Number x) = leaves ks Jumps (Number x)
+goes ks (Word x) = leaves ks Jumps (Word x)
+goes ks other = Stuck
+
+-- the function of a descriptor, whose address is in register 0, leaves the offset there; the register of its own address is free ("ELF
+-- for the Arm 64-bit Architecture", "Thread Local Storage", "TLS descriptors")
+abbrev pub described : ℕ → Known → Operand → Operand → Next
+described r ks (Word g) (Number h) = if g == h && only 0 r ks then On ((0, Offset g) ∷ []) else Stuck
+described r ks x y = Stuck
+
+-- what the instruction at an address does (C6.2); of `movn`, other loads and stores, and loads of a place nothing is told
+abbrev pub acts : ℕ → Known → Code → Next
+acts a ks (Adr r j) = set r ks (Number (sum_64 a j))
+acts a ks (Adrp r j) = set r ks (Number (sum_64 (page a) j))
+acts a ks (Movz r s i) = set r ks (Number (shifted s i))
+acts a ks (Movk r s i) = sets r ks (changed s i (known r ks))
+acts a ks (Movn r s i) = Stuck
+acts a ks (Add r q j) = sets r ks (plus j (known q ks))
+acts a ks (Ldr r q j) = sets r ks (loaded (plus j (known q ks)))
+acts a ks (Access key j) = Stuck
+acts a ks (Literal key j) = Stuck
+acts a ks (B j) = leaves ks Jumps (Number (sum_64 a j))
+acts a ks (Bl j) = leaves ks Calls (Number (sum_64 a j))
+acts a ks (BranchIf key j) = leaves_if key ks (Number (sum_64 a j))
+acts a ks (Br q) = goes ks (known q ks)
+acts a ks (Blr q) = described q ks (known q ks) (known 0 ks)
+acts a ks Hint = On ks
+
+-- the same of a word, which may be no instruction of the table
+abbrev pub step : ℕ → Known → Option Code → Next
+step a ks None = Stuck
+step a ks (Some c) = acts a ks c
+
+-- ---- a run
+
+-- what is left behind: nothing, or one register that was set
+abbrev pub outcome : Known → Option Action
+outcome [] = Some (does Nothing (Number 0))
+outcome (k ∷ ks) = if only k.0 k.0 ks then Some (does (Sets k.0) k.1) else None
+
+abbrev pub is_hint : Option Code → Bool
+is_hint (Some Hint) = true
+is_hint other = false
+
+-- nothing is done
+abbrev pub all_hints : List (Option Code) → Bool
+all_hints [] = true
+all_hints (c ∷ cs) = is_hint c && all_hints cs
+
+abbrev pub goes_on : Next → (Known → Option Action) → Bool → Option Action
+goes_on (On ks) rest ends = rest ks
+goes_on (End act) rest ends = if ends then Some act else None
+goes_on Stuck rest ends = None
+
+-- instructions of 4 bytes, one behind the other; behind one that goes elsewhere there is nothing but hints
+abbrev pub run : List (Option Code) → ℕ → Known → Option Action
+run [] a ks = outcome ks
+run (c ∷ cs) a ks = goes_on (step a ks c) (λ next. run cs (a + 4) next) (all_hints cs)
+
+-- what the words at an address do
+abbrev pub meaning : ℕ → List ℕ → Option Action
+meaning a ws = run (map read ws) a []

@@ -1,0 +1,151 @@
+-- Rewrites of code as data: the instructions that are read, and the words that are written, with what relocations put into them ("ELF for
+-- the Arm 64-bit Architecture", "Relocation").
+--   Part, filled          what a relocation puts into a word
+--   Piece, written        the words at an address, for a register and what their fields come from
+--   Target, Comes         what the fields come from, and what it stands for in the loaded image
+--   Row, rows             the table
+--   branches, IsReached   branches, whose words stay but for their field
+use Rattle.std.specs.Prelude.{◌≡◌, ℕ, ◌+◌, ◌-◌, ◌*◌, ◌/◌, ◌%◌, ◌^◌, ◌<◌, ◌≤◌, Bool, true, false, if◌then◌else◌, List, [], ◌∷◌, Some}
+use Rattle.wild_aarch64.specs.declared.code.Code.{Code}
+use Rattle.wild_aarch64.specs.declared.operand.Operand.TheVariants.{Word}
+use Rattle.wild_aarch64.specs.declared.template.Template.TheVariants as templates
+use Rattle.wild_aarch64.specs.Slice.{Form}
+use Rattle.wild_aarch64.specs.Forms.{branch, call, conditions}
+use Rattle.wild_aarch64.specs.Machine.{page}
+use Rattle.wild_aarch64.specs.Effect.{Reader}
+use Rattle.wild_aarch64.specs.Template.{codes_of}
+use Rattle.wild_aarch64.specs.Immediate.{Field, Imm12, Imm14, Imm16, Imm19, Imm21, Imm26, inserted}
+
+-- s - p, modulo 2^64
+abbrev pub distance : ℕ → ℕ → ℕ
+distance p s = (s + (2 ^ 64 - p)) % 2 ^ 64
+
+-- ---- what is written
+
+-- what a relocation puts into a word: nothing; bits 16 to 31 or 0 to 15 of an offset; the distance of a slot's page, or the low bits of
+-- its address; or a distance
+pub data Part : Type 0 where
+  Kept : Part
+  HighOffset : Part
+  LowOffset : Part
+  SlotPage : Part
+  SlotLow : Part
+  Distance : Part
+
+-- the word at a with that part of x in its field
+abbrev pub filled : Part → ℕ → ℕ → ℕ → ℕ
+filled Kept a x w = w
+filled HighOffset a x w = inserted Imm16 (x % 2 ^ 32 / 2 ^ 16) w
+filled LowOffset a x w = inserted Imm16 (x % 2 ^ 16) w
+filled SlotPage a x w = inserted Imm21 (distance (page a) (page x) % 2 ^ 33 / 2 ^ 12) w
+filled SlotLow a x w = inserted Imm12 (x % 2 ^ 12 / 2 ^ 3) w
+filled Distance a x w = inserted Imm21 (distance a x % 2 ^ 21) w
+
+-- a word to be written: its bits, whether the register's number is added to them, and its field
+pub record Piece : Type 0 where
+  pub word : ℕ
+  pub named : Bool
+  pub part : Part
+
+abbrev pub piece : ℕ → Bool → Part → Piece
+piece word named part = record { word = word; named = named; part = part }
+
+abbrev pub word_of : Piece → ℕ → ℕ
+word_of p r = if p.named then p.word + r else p.word
+
+-- the words at an address
+abbrev pub written : List Piece → ℕ → ℕ → ℕ → List ℕ
+written [] r a x = []
+written (p ∷ ps) r a x = filled p.part a x (word_of p r) ∷ written ps r (a + 4) x
+
+-- ---- what it stands for
+
+-- what the fields come from: an offset from the thread pointer, the slot of one, or an address that is named k bytes behind the code's start
+pub data Target : Type 0 where
+  ThreadOffset : Target
+  OffsetSlot : Target
+  Address : ℕ → Target
+
+-- from p to s it is less than half, or half backwards
+pub record Within (half p s : ℕ) : Type 0 where
+  pub above : p ≤ s + half
+  pub below : s < p + half
+
+-- the code at a and the address x stand base above where they are linked, and v is x there
+pub record IsPlaced (base a x v : ℕ) : Type 0 where
+  pub code : base + a + 16 < 2 ^ 64
+  pub top : base + x < 2 ^ 64
+  pub value : v ≡ base + x
+
+-- the same of a slot, which reads as v; the image moves by whole pages
+pub record IsRead (reader : Reader) (base a x v : ℕ) : Type 0 where
+  pub aligned : x % 8 ≡ 0
+  pub pages : base % 4096 ≡ 0
+  pub code : base + a + 16 < 2 ^ 64
+  pub top : base + x < 2 ^ 64
+  pub slot : reader (Word (base + x)) ≡ Some v
+
+-- v is what the target stands for; x is what the fields are made of
+abbrev pub Comes : Target → Reader → ℕ → ℕ → ℕ → ℕ → Type 0
+Comes ThreadOffset reader base a x v = (x < 2 ^ 32) × (v ≡ x)
+Comes OffsetSlot reader base a x v = IsRead reader base a x v × Within (2 ^ 32) (page (a + 8)) (page x)
+Comes (Address k) reader base a x v = IsPlaced base a x v × Within (2 ^ 20) (a + k) x
+
+-- ---- the table
+
+-- a row: what is read, for a register from the first on and below 31, with its fields cleared; what is written; what its fields come from
+pub record Row : Type 0 where
+  pub old : ℕ → List Code
+  pub first : ℕ
+  pub new : List Piece
+  pub target : Target
+
+abbrev pub row : (ℕ → List Code) → ℕ → List Piece → Target → Row
+row old first new target = record { old = old; first = first; new = new; target = target }
+
+abbrev pub nop : Piece
+nop = piece 0xd503201f false Kept
+
+-- a descriptor's call to `movz x0`, `movk x0` of its offset
+abbrev pub call_to_offset : Row
+call_to_offset = row (codes_of templates.DescriptorCall) 1 (nop ∷ nop ∷ piece 0xd2a00000 false HighOffset ∷ piece 0xf2800000 false LowOffset ∷ []) ThreadOffset
+
+-- a descriptor's call to `adrp x0`, `ldr x0, [x0]` of the slot of its offset
+abbrev pub call_to_slot : Row
+call_to_slot = row (codes_of templates.DescriptorCall) 1 (nop ∷ nop ∷ piece 0x90000000 false SlotPage ∷ piece 0xf9400000 false SlotLow ∷ []) OffsetSlot
+
+-- the slot of an offset to `movz`, `movk` of the offset
+abbrev pub slot_to_offset : Row
+slot_to_offset = row (codes_of templates.SlotPair) 0 (piece 0xd2a00000 true HighOffset ∷ piece 0xf2800000 true LowOffset ∷ []) ThreadOffset
+
+-- `adrp`, `add` to `nop`, `adr` of the same address
+abbrev pub address_to_near : Row
+address_to_near = row (codes_of templates.AddressPair) 0 (nop ∷ piece 0x10000000 true Distance ∷ []) (Address 4)
+
+-- the table
+abbrev pub rows : List Row
+rows = call_to_offset ∷ call_to_slot ∷ slot_to_offset ∷ address_to_near ∷ []
+
+-- ---- branches, whose words stay
+
+-- the relocation types of branches: a distance in words, signed (JUMP26, CALL26; CONDBR19; TSTBR14)
+abbrev pub branches : List Form
+branches = branch ∷ call ∷ conditions
+
+-- half of the range of a branch with that field
+abbrev pub reach_of : Field → ℕ
+reach_of Imm14 = 2 ^ 15
+reach_of Imm19 = 2 ^ 20
+reach_of Imm26 = 2 ^ 27
+reach_of other = 0
+
+-- the distance as its field has it
+abbrev pub branch_bits : Field → ℕ → ℕ
+branch_bits field j = j % (2 * reach_of field) / 2 ^ 2
+
+-- a branch at a to x, both in the image that stands base above where it is linked; v is x there
+pub record IsReached (field : Field) (base a x v : ℕ) : Type 0 where
+  pub placed : IsPlaced base a x v
+  pub near : Within (reach_of field) a x
+  pub start : a % 4 ≡ 0
+  pub goal : x % 4 ≡ 0

@@ -1,0 +1,321 @@
+//! Instructions, read off their words (Arm Architecture Reference Manual, C4.1).
+ghost use Rattle.std.specs.Prelude.{◌≡◌, ◌^◌, ◌*◌, ◌<◌, ◌≤◌, ◌==◌};
+ghost use Rattle.wild_aarch64.specs.Slice.{bits, signed};
+ghost use Rattle.wild_aarch64.specs.Forms.{hw};
+ghost use Rattle.wild_aarch64.specs.Code.{read, read_address, read_access, read_vector_access, read_literal, read_transfer, read_condition};
+ghost use Rattle.wild_aarch64.specs.Immediate.{immediate, kept, Imm12, Imm14, Imm16, Imm19, Imm21};
+
+/// By how many bits the number of a wide move is shifted.
+#[derive(Clone, Copy, Debug, PartialEq, Eq, Drop)]
+pub enum Shift {
+    By0,
+    By16,
+    By32,
+    By48,
+}
+
+/// What an instruction is: its registers, then its number. A distance is modulo 2^64.
+#[derive(Clone, Copy, Debug, PartialEq, Eq, Drop)]
+pub enum Code {
+    /// `adr`: the register gets the place and the distance.
+    Adr(u32, u64),
+    /// `adrp`: the register gets the page of the place and the distance.
+    Adrp(u32, u64),
+    /// `movz`: the register gets the number, shifted.
+    Movz(u32, Shift, u16),
+    /// `movk`: the register's 16 bits from there on become the number.
+    Movk(u32, Shift, u16),
+    /// `movn`: the register gets the complement of the number, shifted.
+    Movn(u32, Shift, u16),
+    /// `add`: the first register gets the second and the number.
+    Add(u32, u32, u64),
+    /// `ldr` of 64 bits: the first register gets the word at the second and the number.
+    Ldr(u32, u32, u64),
+    /// Another load or store at a register and the number; the other bits of the word say which.
+    Access(u32, u64),
+    /// A load of what stands at the distance; the other bits of the word say which.
+    Literal(u32, u64),
+    /// `b`: the code at the distance is gone to.
+    B(u64),
+    /// `bl`: the code at the distance is called.
+    Bl(u64),
+    /// The code at the distance is gone to on a condition, which the other bits of the word say.
+    BranchIf(u32, u64),
+    /// `br`: the code at the register's address is gone to.
+    Br(u32),
+    /// `blr`: the code at the register's address is called.
+    Blr(u32),
+    /// `nop` or `bti c`: nothing is done.
+    Hint,
+}
+
+// So many bits of the word, from bit `low` on.
+fn bits_of(word: u32, low: u32, count: u32) -> u32
+    requires low { low < 32 }
+    requires count { count < 32 }
+    ensures { result ≡ bits low count word }
+{
+    word / (1 << low) % (1 << count)
+}
+
+// The bits from `low` on are the value.
+fn has(word: u32, low: u32, count: u32, value: u32) -> bool
+    requires low { low < 32 }
+    requires count { count < 32 }
+    ensures { result ≡ (bits low count word == value) }
+{
+    bits_of(word, low, count) == value
+}
+
+// The number of `count` bits, read as signed, modulo 2^64.
+fn signed_number(count: u32, number: u64) -> u64
+    requires some { 1 ≤ count }
+    requires below { count < 64 }
+    requires small { number < 2 ^ count }
+    ensures { result ≡ signed count number }
+{
+    if number < 1 << (count - 1) {
+        number
+    } else {
+        number + (u64::MAX - (1 << count) + 1)
+    }
+}
+
+// The immediate of `adr` and `adrp`.
+fn immediate_21(word: u32) -> u64
+    ensures value { result ≡ immediate Imm21 word }
+    ensures small { result < 2 ^ 21 }
+{
+    u64::from(word / 0x2000_0000 % 4) + u64::from(word / 0x20 % 0x8_0000) * 4
+}
+
+// The number of a wide move.
+fn immediate_16(word: u32) -> u16
+    ensures { result ≡ immediate Imm16 word }
+{
+    (word / 0x20 % 0x1_0000) as u16
+}
+
+// The distance of 19 bits, in words.
+fn distance_19(word: u32) -> u64
+    ensures { result ≡ signed 21 (immediate Imm19 word * 4) }
+{
+    signed_number(21, u64::from(bits_of(word, 5, 19)) * 4)
+}
+
+fn shift_of(word: u32) -> Shift
+    ensures { result ≡ hw word }
+{
+    match bits_of(word, 21, 2) {
+        0 => Shift::By0,
+        1 => Shift::By16,
+        2 => Shift::By32,
+        _ => Shift::By48,
+    }
+}
+
+// What the word has beside its 12 bits.
+fn kept_12(word: u32) -> u32
+    ensures { result ≡ kept Imm12 word }
+{
+    word % 0x400 + word / 0x40_0000 * 0x400
+}
+
+fn kept_14(word: u32) -> u32
+    ensures { result ≡ kept Imm14 word }
+{
+    word % 0x20 + word / 0x8_0000 * 0x20
+}
+
+fn kept_19(word: u32) -> u32
+    ensures { result ≡ kept Imm19 word }
+{
+    word % 0x20 + word / 0x100_0000 * 0x20
+}
+
+// An address, a sum or a number in a register.
+#[tactic(auto, unfolding(crate::specs::Code::read_address))]
+fn address_code(word: u32) -> Option<Code>
+    ensures { result ≡ read_address word }
+{
+    let class = has(word, 26, 3, 4);
+    let to = word % 32;
+    let from = word / 32 % 32;
+    if class && has(word, 24, 5, 16) && has(word, 31, 1, 1) {
+        return Some(Code::Adrp(to, signed_number(33, immediate_21(word) * 4096)));
+    }
+    if class && has(word, 24, 5, 16) && has(word, 31, 1, 0) {
+        return Some(Code::Adr(to, signed_number(21, immediate_21(word))));
+    }
+    if class && has(word, 24, 5, 17) && has(word, 22, 10, 0x244) {
+        return Some(Code::Add(to, from, u64::from(bits_of(word, 10, 12))));
+    }
+    if class && has(word, 24, 5, 17) && has(word, 22, 10, 0x245) {
+        return Some(Code::Add(to, from, u64::from(bits_of(word, 10, 12)) * 4096));
+    }
+    if class && has(word, 24, 5, 18) && has(word, 23, 9, 0x1a5) {
+        return Some(Code::Movz(to, shift_of(word), immediate_16(word)));
+    }
+    if class && has(word, 24, 5, 18) && has(word, 23, 9, 0x1e5) {
+        return Some(Code::Movk(to, shift_of(word), immediate_16(word)));
+    }
+    if class && has(word, 24, 5, 18) && has(word, 23, 9, 0x125) {
+        return Some(Code::Movn(to, shift_of(word), immediate_16(word)));
+    }
+    None
+}
+
+// A load or store other than `ldr` of 64 bits, whose number counts in units of so many bytes.
+fn access(word: u32, unit: u64) -> Code
+    requires { unit ≤ 16 }
+    ensures { result ≡ Code.Access (kept Imm12 word) (immediate Imm12 word * unit) }
+{
+    Code::Access(kept_12(word), u64::from(bits_of(word, 10, 12)) * unit)
+}
+
+// A load or store of a general register.
+#[tactic(auto, unfolding(crate::specs::Code::read_access))]
+fn access_code(word: u32) -> Option<Code>
+    ensures { result ≡ read_access word }
+{
+    let class = has(word, 26, 3, 6) && has(word, 24, 2, 1);
+    if class && has(word, 29, 3, 7) && has(word, 22, 2, 1) {
+        let offset = u64::from(bits_of(word, 10, 12)) * 8;
+        return Some(Code::Ldr(word % 32, word / 32 % 32, offset));
+    }
+    if class && has(word, 29, 3, 1) {
+        return Some(access(word, 1));
+    }
+    if class && has(word, 29, 3, 3) {
+        return Some(access(word, 2));
+    }
+    if class && has(word, 29, 3, 5) && (has(word, 23, 1, 0) || has(word, 22, 2, 2)) {
+        return Some(access(word, 4));
+    }
+    if class && has(word, 29, 3, 7) && (has(word, 22, 2, 0) || has(word, 22, 2, 2)) {
+        return Some(access(word, 8));
+    }
+    None
+}
+
+// A load or store of a vector register.
+#[tactic(auto, unfolding(crate::specs::Code::read_vector_access))]
+fn vector_access_code(word: u32) -> Option<Code>
+    ensures { result ≡ read_vector_access word }
+{
+    let class = has(word, 26, 3, 7) && has(word, 24, 2, 1);
+    if class && has(word, 29, 3, 1) && has(word, 23, 1, 0) {
+        return Some(access(word, 1));
+    }
+    if class && has(word, 29, 3, 1) && has(word, 23, 1, 1) {
+        return Some(access(word, 16));
+    }
+    if class && has(word, 29, 3, 3) && has(word, 23, 1, 0) {
+        return Some(access(word, 2));
+    }
+    if class && has(word, 29, 3, 5) && has(word, 23, 1, 0) {
+        return Some(access(word, 4));
+    }
+    if class && has(word, 29, 3, 7) && has(word, 23, 1, 0) {
+        return Some(access(word, 8));
+    }
+    None
+}
+
+// A load of what stands at a distance.
+#[tactic(auto, unfolding(crate::specs::Code::read_literal))]
+fn literal_code(word: u32) -> Option<Code>
+    ensures { result ≡ read_literal word }
+{
+    let code = Code::Literal(kept_19(word), distance_19(word));
+    if has(word, 26, 3, 6) && has(word, 24, 2, 0) && has(word, 29, 1, 0) {
+        return Some(code);
+    }
+    if has(word, 26, 3, 7) && has(word, 24, 2, 0) && has(word, 29, 1, 0) && has(word, 31, 1, 0) {
+        return Some(code);
+    }
+    if has(word, 26, 3, 7) && has(word, 24, 2, 0) && has(word, 29, 3, 4) {
+        return Some(code);
+    }
+    None
+}
+
+// An instruction that goes elsewhere, or does nothing.
+#[tactic(auto, unfolding(crate::specs::Code::read_transfer))]
+fn transfer_code(word: u32) -> Option<Code>
+    ensures { result ≡ read_transfer word }
+{
+    let class = has(word, 26, 3, 5);
+    let from = word / 32 % 32;
+    if class && has(word, 26, 6, 53) && has(word, 10, 22, 0x35_87c0) && has(word, 0, 5, 0) {
+        return Some(Code::Br(from));
+    }
+    if class && has(word, 26, 6, 53) && has(word, 10, 22, 0x35_8fc0) && has(word, 0, 5, 0) {
+        return Some(Code::Blr(from));
+    }
+    if class && has(word, 26, 6, 53) && word == 0xd503_201f {
+        return Some(Code::Hint);
+    }
+    if class && has(word, 26, 6, 53) && word == 0xd503_245f {
+        return Some(Code::Hint);
+    }
+    if class && has(word, 26, 6, 5) {
+        return Some(Code::B(signed_number(28, u64::from(bits_of(word, 0, 26)) * 4)));
+    }
+    if class && has(word, 26, 6, 37) {
+        return Some(Code::Bl(signed_number(28, u64::from(bits_of(word, 0, 26)) * 4)));
+    }
+    None
+}
+
+// An instruction that goes elsewhere on a condition.
+#[tactic(auto, unfolding(crate::specs::Code::read_condition))]
+fn condition_code(word: u32) -> Option<Code>
+    ensures { result ≡ read_condition word }
+{
+    let class = has(word, 26, 3, 5);
+    let near = Code::BranchIf(
+        kept_14(word),
+        signed_number(16, u64::from(bits_of(word, 5, 14)) * 4),
+    );
+    let far = Code::BranchIf(kept_19(word), distance_19(word));
+    if class && has(word, 26, 6, 21) && has(word, 24, 2, 0) && has(word, 4, 1, 0) {
+        return Some(far);
+    }
+    if class && has(word, 26, 6, 13) && has(word, 25, 1, 0) {
+        return Some(far);
+    }
+    if class && has(word, 26, 6, 45) && has(word, 25, 1, 0) {
+        return Some(far);
+    }
+    if class && has(word, 26, 6, 13) && has(word, 25, 1, 1) {
+        return Some(near);
+    }
+    if class && has(word, 26, 6, 45) && has(word, 25, 1, 1) {
+        return Some(near);
+    }
+    None
+}
+
+/// The instruction of a word; none where no form of the table stands.
+#[tactic(auto, unfolding(crate::specs::Code::read))]
+pub fn code_of(word: u32) -> Option<Code>
+    ensures { result ≡ read word }
+{
+    if let Some(code) = address_code(word) {
+        return Some(code);
+    }
+    if let Some(code) = access_code(word) {
+        return Some(code);
+    }
+    if let Some(code) = vector_access_code(word) {
+        return Some(code);
+    }
+    if let Some(code) = literal_code(word) {
+        return Some(code);
+    }
+    if let Some(code) = transfer_code(word) {
+        return Some(code);
+    }
+    condition_code(word)
+}

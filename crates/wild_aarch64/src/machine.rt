@@ -1,0 +1,231 @@
+//! What instructions do, one behind the other.
+ghost use Rattle.std.specs.Prelude.{◌≡◌, ◌+◌, ◌^◌, ◌<◌, ◌≤◌, [], length, map};
+ghost use Rattle.wild_aarch64.specs.Machine.{sum_64, known, plus, loaded, shifted, with_bits, changed, step, sets, leaves, leaves_if, goes, described, all_hints, meaning};
+ghost use Rattle.wild_aarch64.specs.Registers.{entries_of, next_of, count, next_count, follow_words};
+ghost use Rattle.wild_aarch64.specs.Code.{read};
+
+use crate::code::{Code, Shift, code_of};
+use crate::operand::{Action, Deed, Operand};
+use crate::registers::{Entry, Registers};
+
+const PAGE: u64 = 4096;
+
+/// How a run goes on.
+#[derive(Clone, Copy, Debug, PartialEq, Eq, Drop)]
+pub enum NextStep {
+    /// With these registers.
+    On(Registers),
+    /// It ends.
+    End(Action),
+    /// It is not told.
+    Stuck,
+}
+
+// A number more.
+fn sum_of(operand: Operand, number: u64) -> Option<Operand>
+    ensures { result ≡ plus number operand }
+{
+    match operand {
+        Operand::Number(x) => Some(Operand::Number(x.wrapping_add(number))),
+        Operand::Register(r, k) => Some(Operand::Register(r, k.wrapping_add(number))),
+        _ => None,
+    }
+}
+
+// The word there.
+fn word_at(address: Option<Operand>) -> Option<Operand>
+    ensures { result ≡ loaded address }
+{
+    match address {
+        Some(Operand::Number(x)) => Some(Operand::Word(x)),
+        Some(Operand::Register(r, k)) => Some(Operand::WordOf(r, k)),
+        _ => None,
+    }
+}
+
+fn shifted(shift: Shift, number: u16) -> u64
+    ensures { result ≡ shifted shift number }
+{
+    let number = u64::from(number);
+    match shift {
+        Shift::By0 => number,
+        Shift::By16 => number * 0x1_0000,
+        Shift::By32 => number * 0x1_0000_0000,
+        Shift::By48 => number * 0x1_0000_0000_0000,
+    }
+}
+
+// The number in place of 16 bits of `x`.
+fn with_bits(shift: Shift, number: u16, x: u64) -> u64
+    ensures { result ≡ with_bits shift number x }
+{
+    let number = u64::from(number);
+    match shift {
+        Shift::By0 => x / 0x1_0000 * 0x1_0000 + number,
+        Shift::By16 => x / 0x1_0000_0000 * 0x1_0000_0000 + number * 0x1_0000 + x % 0x1_0000,
+        Shift::By32 => {
+            x / 0x1_0000_0000_0000 * 0x1_0000_0000_0000 + number * 0x1_0000_0000 + x % 0x1_0000_0000
+        }
+        Shift::By48 => number * 0x1_0000_0000_0000 + x % 0x1_0000_0000_0000,
+    }
+}
+
+fn changed(shift: Shift, number: u16, operand: Operand) -> Option<Operand>
+    ensures { result ≡ changed shift number operand }
+{
+    match operand {
+        Operand::Number(x) => Some(Operand::Number(with_bits(shift, number, x))),
+        _ => None,
+    }
+}
+
+// Register 31 is none.
+fn set_to(registers: Registers, register: u32, operand: Option<Operand>) -> NextStep
+    requires { count registers < 4 }
+    ensures is { next_of result ≡ sets register (entries_of registers) operand }
+    ensures small { next_count result ≤ count registers + 1 }
+{
+    match operand {
+        None => NextStep::Stuck,
+        Some(_) if register == 31 => NextStep::Stuck,
+        Some(operand) => NextStep::On(registers.with(register, operand)),
+    }
+}
+
+// Code that goes elsewhere may have used registers 16 and 17.
+fn leaves(registers: Registers, deed: Deed, operand: Operand) -> NextStep
+    ensures is { next_of result ≡ leaves (entries_of registers) deed operand }
+    ensures small { next_count result ≡ 0 }
+{
+    if registers.are_only(16, 17) {
+        NextStep::End(Action { deed, operand })
+    } else {
+        NextStep::Stuck
+    }
+}
+
+// A condition may ask for any register: none was set.
+fn leaves_if(key: u32, registers: Registers, operand: Operand) -> NextStep
+    ensures is { next_of result ≡ leaves_if key (entries_of registers) operand }
+    ensures small { next_count result ≡ 0 }
+{
+    match registers {
+        Registers::Empty => NextStep::End(Action {
+            deed: Deed::MayJump(key),
+            operand,
+        }),
+        _ => NextStep::Stuck,
+    }
+}
+
+fn goes_to(registers: Registers, target: Operand) -> NextStep
+    ensures is { next_of result ≡ goes (entries_of registers) target }
+    ensures small { next_count result ≡ 0 }
+{
+    match target {
+        Operand::Number(_) | Operand::Word(_) => leaves(registers, Deed::Jumps, target),
+        _ => NextStep::Stuck,
+    }
+}
+
+fn descriptor_call(register: u32, registers: Registers) -> NextStep
+    ensures is { next_of result ≡ described register (entries_of registers) (known register (entries_of registers)) (known 0 (entries_of registers)) }
+    ensures small { next_count result ≤ 1 }
+{
+    let Operand::Word(function) = registers.operand_of(register) else {
+        return NextStep::Stuck;
+    };
+    let Operand::Number(descriptor) = registers.operand_of(0) else {
+        return NextStep::Stuck;
+    };
+    if function == descriptor && registers.are_only(0, register) {
+        NextStep::On(Registers::One(Entry {
+            register: 0,
+            operand: Operand::Offset(function),
+        }))
+    } else {
+        NextStep::Stuck
+    }
+}
+
+// The address at a distance.
+fn at_distance(address: u64, distance: u64) -> Operand
+    ensures { result ≡ Operand.Number (sum_64 address distance) }
+{
+    Operand::Number(address.wrapping_add(distance))
+}
+
+/// What an instruction at a place does; a word that is none is not told.
+pub fn step_of(place: u64, registers: Registers, code: Option<Code>) -> NextStep
+    requires { count registers < 4 }
+    ensures is { next_of result ≡ step place (entries_of registers) code }
+    ensures small { next_count result ≤ count registers + 1 }
+{
+    let Some(code) = code else {
+        return NextStep::Stuck;
+    };
+    match code {
+        Code::Adr(r, j) => set_to(registers, r, Some(at_distance(place, j))),
+        Code::Adrp(r, j) => set_to(registers, r, Some(at_distance(place / PAGE * PAGE, j))),
+        Code::Movz(r, s, i) => set_to(registers, r, Some(Operand::Number(shifted(s, i)))),
+        Code::Movk(r, s, i) => set_to(registers, r, changed(s, i, registers.operand_of(r))),
+        Code::Add(r, q, j) => set_to(registers, r, sum_of(registers.operand_of(q), j)),
+        Code::Ldr(r, q, j) => set_to(registers, r, word_at(sum_of(registers.operand_of(q), j))),
+        Code::Movn(_, _, _) | Code::Access(_, _) | Code::Literal(_, _) => NextStep::Stuck,
+        Code::B(j) => leaves(registers, Deed::Jumps, at_distance(place, j)),
+        Code::Bl(j) => leaves(registers, Deed::Calls, at_distance(place, j)),
+        Code::BranchIf(key, j) => leaves_if(key, registers, at_distance(place, j)),
+        Code::Br(q) => goes_to(registers, registers.operand_of(q)),
+        Code::Blr(q) => descriptor_call(q, registers),
+        Code::Hint => NextStep::On(registers),
+    }
+}
+
+/// What the first of the words at a place does that goes elsewhere.
+pub fn branch_of(words: &[u32], place: u64) -> Option<Action>
+    requires few { length words.now ≤ 4 }
+    requires top { place + 16 < 2 ^ 64 }
+    ensures { result ≡ follow_words words.now place [] }
+{
+    let mut registers = Registers::Empty;
+    let mut at = place;
+    for &word in words {
+        match step_of(at, registers, code_of(word)) {
+            NextStep::On(next) => registers = next,
+            NextStep::End(action) => return Some(action),
+            NextStep::Stuck => return None,
+        }
+        at += 4;
+    }
+    None
+}
+
+fn do_nothing(words: &[u32]) -> bool
+    ensures { result ≡ all_hints (map read words.now) }
+{
+    for &word in words {
+        if code_of(word) != Some(Code::Hint) {
+            return false;
+        }
+    }
+    true
+}
+
+/// What the words at a place do; none where they do more than one thing, or nothing is told of one.
+pub fn meaning_of(words: &[u32], place: u64) -> Option<Action>
+    requires few { length words.now ≤ 4 }
+    requires top { place + 16 < 2 ^ 64 }
+    ensures { result ≡ meaning place words.now }
+{
+    let mut registers = Registers::Empty;
+    let mut at = place;
+    for i in 0..words.len() {
+        match step_of(at, registers, code_of(words[i])) {
+            NextStep::On(next) => registers = next,
+            NextStep::End(action) if do_nothing(&words[i + 1..]) => return Some(action),
+            _ => return None,
+        }
+        at += 4;
+    }
+    registers.outcome()
+}
