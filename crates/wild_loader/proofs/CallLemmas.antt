@@ -1,83 +1,117 @@
 -- A call of five bytes, read back into its bytes.
-use Rattle.std.proofs.Common.{◌≡◌, ℕ, ◌+◌, ◌%◌, ◌^◌, inl, inr, Bool, true, false, List, [], ◌∷◌, length, refl, sym, ap, ◌∙◌, arith}
-use Rattle.std.specs.Prelude.{◌&&◌, ◌==◌, Option, Some, None, option_map}
-use Rattle.std.proofs.lemmas.Bool.{cases_Bool, eqb-true}
+use Rattle.std.proofs.Common.{◌≡◌, ℕ, ◌+◌, ◌%◌, ◌^◌, inl, inr, true, false, List, [], ◌∷◌, ◌++◌, length, take, refl, sym, ap, ◌∙◌, subst}
+use Rattle.std.specs.Prelude.{◌==◌, not, Option, Some, None, option_map, option_and_then}
+use Rattle.std.specs.Option.{option_or}
+use Rattle.std.proofs.lemmas.Bool.{cases_Bool, eqb-true, and_parts}
+use Rattle.wild_words.specs.Words.{number}
+use Rattle.wild_loader.specs.declared.memory.Machine.{Machine}
 use Rattle.wild_loader.specs.declared.memory.Memory.{Memory}
-use Rattle.wild_loader.specs.declared.effect.Cell.{Cell}
-use Rattle.wild_loader.specs.declared.effect.Cell.TheVariants.{Is}
 use Rattle.wild_loader.specs.declared.effect.Effect.{Effect}
-use Rattle.wild_loader.specs.declared.effect.EffectKind.{EffectKind}
-use Rattle.wild_loader.specs.declared.effect.EffectKind.TheVariants as kinds
-use Rattle.wild_loader.specs.Memory.{byte_in, number_in}
-use Rattle.wild_loader.specs.Effect.{Template, fits_loaded, stands_in, field, effect_of, first_effect, templates_x86_64, named_at, sign_extended_32, stub, call_indirect, jump_indirect, call_near, jump_near}
+use Rattle.wild_loader.specs.declared.effect.Value.{Value}
+use Rattle.wild_loader.specs.declared.effect.Value.TheVariants as values
+use Rattle.wild_loader.specs.Memory.{byte_in, number_in, Holds}
+use Rattle.wild_loader.specs.declared.instruction.Operand.TheVariants.{Number, Word}
+use Rattle.wild_loader.specs.declared.instruction.Action.{Action}
+use Rattle.wild_loader.specs.declared.instruction.Deed.TheVariants.{Call, Jump}
+use Rattle.wild_loader.specs.Instruction.{Template, stands, signed_32}
+use Rattle.wild_loader.specs.CodeX86_64.{branch, bare, rex, rex2, with_prefix}
+use Rattle.wild_loader.specs.InstructionX86_64.{whole_sequences, short}
+use Rattle.wild_loader.specs.Effect.{window, first_standing, narrowed, value_in, effect_of, step, step_of, step_x86_64}
 use Rattle.wild_loader.specs.StepLaws.{CallsAreNear}
-use Rattle.wild_loader.proofs.Steps.{skipped, stood}
-use Rattle.wild_loader.proofs.StepLemmas.{step-x86}
+use Rattle.wild_loader.proofs.Held.{held-first, held-rest, number-front}
+use Rattle.wild_loader.proofs.StandLemmas.{standing-append, standing_passes}
+use Rattle.wild_loader.proofs.Windows.{held-window}
 
 abbrev call_to : ℕ → Effect
-call_to t = record { length = 5; width = 64; kind = kinds.Call t }
+call_to t = record { length = 5; width = 64; deed = Call; value = values.Number t }
 
--- ---- bytes
+abbrev call_near : Template
+call_near = branch (0xe8 ∷ []) Number Call
 
-first_fits : (c : ℕ) (o : Option ℕ) (rest : Bool) → (fits_loaded (Is c) o && rest) ≡ true → o ≡ Some c
-first_fits c None rest h = cc
-first_fits c (Some b) rest h = ap (λ (x : ℕ). Some x) (eqb-true b c (left (b == c) rest h))
-  where
-    left : (p q : Bool) → (p && q) ≡ true → p ≡ true
-    left true q h = refl
-    left false q h = cc
+abbrev jump_near : Template
+jump_near = branch (0xe9 ∷ []) Number Jump
 
-first_byte : (m : Memory) (a c : ℕ) (cs : List Cell) → stands_in m a (Is c ∷ cs) ≡ true → byte_in m a ≡ Some c
-unfolding stands_in
-first_byte m a c cs h = first_fits c (byte_in m a) (stands_in m (a + 1) cs) h
+-- the templates in front of the two of five bytes
+abbrev before : List Template
+before = whole_sequences ++ (with_prefix rex2 ++ (with_prefix rex ++ (with_prefix bare ++ (branch (0x67 ∷ 0xe8 ∷ []) Number Call ∷ branch (0xff ∷ 0x15 ∷ []) Word Call ∷ branch (0xff ∷ 0x25 ∷ []) Word Jump ∷ []))))
 
 -- ---- effects
 
--- code of another length is no call of five bytes
-no_call : (cells : List Cell) (o : Option EffectKind) (t : ℕ) → (length cells ≡ 5 → ⊥) → option_map (effect_of cells 64) o ≡ Some (call_to t) → ⊥
-no_call cells None t wide h = cc
-no_call cells (Some k) t wide h = wide (let same : effect_of cells 64 k ≡ call_to t = cc in ap (λ (e : Effect). e.length) same)
+-- the length and the deed of an effect are the code's
+sized : (m : Memory) (size : ℕ) (act : Action) (o : Option Value) (e : Effect) → option_map (λ (v : Value). record { length = size; width = act.width; deed = act.deed; value = narrowed act.width v }) o ≡ Some e → (e.length ≡ size) × (e.deed ≡ act.deed)
+sized m size act None e h = cc
+sized m size act (Some v) e h =
+    let same : record { length = size; width = act.width; deed = act.deed; value = narrowed act.width v } ≡ e = cc in
+    (ap (λ (x : Effect). x.length) (sym same), ap (λ (x : Effect). x.deed) (sym same))
 
--- nor is a jump
-no_jump : (cells : List Cell) (o : Option ℕ) (t : ℕ) → option_map (effect_of cells 64) (option_map kinds.Jump o) ≡ Some (call_to t) → ⊥
-no_jump cells None t h = cc
-no_jump cells (Some v) t h = (let same : effect_of cells 64 (kinds.Jump v) ≡ call_to t = cc in let kind : kinds.Jump v ≡ kinds.Call t = ap (λ (e : Effect). e.kind) same in cc)
+pub of_size : (m : Memory) (a : ℕ) (bs : List ℕ) (t : Template) (e : Effect) → effect_of m a bs t ≡ Some e → (e.length ≡ length t.cells) × (e.deed ≡ (t.action a (take (length t.cells) bs)).deed)
+of_size m a bs t e h = sized m (length t.cells) (t.action a (take (length t.cells) bs)) (value_in m (t.action a (take (length t.cells) bs)).operand) e h
 
--- the displacement of a call
-displaced : (from t : ℕ) (o : Option ℕ) → option_map (effect_of call_near.cells 64) (option_map kinds.Call (option_map (λ displacement. (from + sign_extended_32 displacement) % 2 ^ 64) o)) ≡ Some (call_to t)
-    → (displacement : ℕ) × (o ≡ Some displacement) × ((from + sign_extended_32 displacement) % 2 ^ 64 ≡ t)
-displaced from t None h = cc
-displaced from t (Some d) h = (d, refl, (let same : effect_of call_near.cells 64 (kinds.Call ((from + sign_extended_32 d) % 2 ^ 64)) ≡ call_to t = cc in let kind : kinds.Call ((from + sign_extended_32 d) % 2 ^ 64) ≡ kinds.Call t = ap (λ (e : Effect). e.kind) same in cc))
+-- ---- the template
 
--- ---- the table
+none_is_five : (t : Template) → not (length t.cells == 5) ≡ true → length t.cells ≡ 5 → ⊥
+none_is_five t h e = (let f : not (5 == 5) ≡ true = subst (λ (n : ℕ). not (n == 5) ≡ true) e h in cc)
 
-abbrev IsNear : Memory → ℕ → ℕ → Type 0
-IsNear m a t = (byte_in m a ≡ Some 0xe8) × (displacement : ℕ) × (number_in m (a + 1) 4 ≡ Some displacement) × ((a + 5 + sign_extended_32 displacement) % 2 ^ 64 ≡ t)
+-- what stands is none of other templates
+not_other : (m : Memory) (a t : ℕ) (bs : List ℕ) (x : Template) → not (length x.cells == 5) ≡ true → effect_of m a bs x ≡ Some (call_to t) → ⊥
+not_other m a t bs x other h = (let e : 5 ≡ length x.cells = (of_size m a bs x (call_to t) h).0 in none_is_five x other (sym e))
 
--- a template that is none, before others that are
-past : (x : Template) (ts : List Template) (m : Memory) (a t : ℕ) → first_effect (x ∷ ts) m a ≡ Some (call_to t) → (option_map (effect_of x.cells x.width) (x.kind m a) ≡ Some (call_to t) → ⊥) → first_effect ts m a ≡ Some (call_to t)
-past x ts m a t h never =
-    elim (cases_Bool (stands_in m a x.cells)) [
-      | inl y ↦ absurd (never (sym (stood x ts m a y) ∙ h))
-      | inr n ↦ sym (skipped x ts m a n) ∙ h
-    ]
+not_jump : (m : Memory) (a t : ℕ) (bs : List ℕ) → effect_of m a bs jump_near ≡ Some (call_to t) → ⊥
+not_jump m a t bs h = (let e : Call ≡ Jump = (of_size m a bs jump_near (call_to t) h).1 in cc)
 
-nearest : (m : Memory) (a t : ℕ) → first_effect (call_near ∷ jump_near ∷ []) m a ≡ Some (call_to t) → IsNear m a t
-nearest m a t h =
-    elim (cases_Bool (stands_in m a call_near.cells)) [
-      | inl y ↦
-          (let d = displaced (a + 5) t (number_in m (a + 1) 4) (sym (stood call_near (jump_near ∷ []) m a y) ∙ h) in
-          (first_byte m a 0xe8 field y, d.0, d.1, d.2))
-      | inr n ↦ absurd (none m a t (past jump_near [] m a t (sym (skipped call_near (jump_near ∷ []) m a n) ∙ h) (no_jump jump_near.cells (named_at m a 1 5) t)))
+abbrev Found : Memory → ℕ → ℕ → List ℕ → Option Template → Type 0
+Found m a t bs found = option_and_then (effect_of m a bs) found ≡ Some (call_to t)
+
+-- behind the call
+after : (m : Memory) (a t : ℕ) (bs : List ℕ) → Found m a t bs (first_standing (jump_near ∷ short) bs) → ⊥
+unfolding first_standing
+after m a t bs h =
+    elim (cases_Bool (stands jump_near.cells bs)) [
+      | inl y ↦ not_jump m a t bs (rw y at h)
+      | inr n ↦ last (first_standing short bs) (rw n at h) (λ x e. standing_passes (λ (t : Template). not (length t.cells == 5)) short bs x refl e)
     ]
   where
-    none : (m : Memory) (a t : ℕ) → first_effect [] m a ≡ Some (call_to t) → ⊥
-    none m a t h = cc
+    last : (found : Option Template) → Found m a t bs found → ((x : Template) → found ≡ Some x → not (length x.cells == 5) ≡ true) → ⊥
+    last None h other = cc
+    last (Some x) h other = not_other m a t bs x (other x refl) h
+
+stands_call : (m : Memory) (a t : ℕ) (bs : List ℕ) → Found m a t bs (first_standing (call_near ∷ (jump_near ∷ short)) bs) → (stands call_near.cells bs ≡ true) × (effect_of m a bs call_near ≡ Some (call_to t))
+unfolding first_standing
+stands_call m a t bs h =
+    elim (cases_Bool (stands call_near.cells bs)) [
+      | inl y ↦ (y, rw y at h)
+      | inr n ↦ absurd (after m a t bs (rw n at h))
+    ]
+
+by_call : (m : Memory) (a t : ℕ) (bs : List ℕ) (found : Option Template) → found ≡ first_standing before bs → Found m a t bs (option_or found (first_standing (call_near ∷ (jump_near ∷ short)) bs)) → (stands call_near.cells bs ≡ true) × (effect_of m a bs call_near ≡ Some (call_to t))
+by_call m a t bs None e h = stands_call m a t bs h
+by_call m a t bs (Some x) e h = absurd (not_other m a t bs x (standing_passes (λ (t : Template). not (length t.cells == 5)) before bs x refl (sym e)) h)
+
+-- ---- bytes
+
+abbrev IsNear : Memory → ℕ → ℕ → Type 0
+IsNear m a t = (byte_in m a ≡ Some 0xe8) × (displacement : ℕ) × (number_in m (a + 1) 4 ≡ Some displacement) × ((a + 5 + signed_32 displacement) % 2 ^ 64 ≡ t)
+
+near : (m : Memory) (a t : ℕ) (bs : List ℕ) → Holds m a bs → stands call_near.cells bs ≡ true → effect_of m a bs call_near ≡ Some (call_to t) → IsNear m a t
+near m a t [] held s h = cc
+near m a t (x ∷ []) held s h = absurd (let f : false ≡ true = (and_parts (x == 0xe8) false s).1 in cc)
+near m a t (x ∷ b ∷ []) held s h = absurd (let f : false ≡ true = (and_parts (x == 0xe8) false s).1 in cc)
+near m a t (x ∷ b ∷ c ∷ []) held s h = absurd (let f : false ≡ true = (and_parts (x == 0xe8) false s).1 in cc)
+near m a t (x ∷ b ∷ c ∷ d ∷ []) held s h = absurd (let f : false ≡ true = (and_parts (x == 0xe8) false s).1 in cc)
+near m a t (x ∷ b ∷ c ∷ d ∷ e ∷ more) held s h =
+    let opcode : x ≡ 0xe8 = eqb-true x 0xe8 (and_parts (x == 0xe8) true s).0 in
+    let first : byte_in m a ≡ Some x = held-first m a x (b ∷ c ∷ d ∷ e ∷ more) held in
+    let behind = number-front m (a + 1) (b ∷ c ∷ d ∷ e ∷ []) more (held-rest m a x (b ∷ c ∷ d ∷ e ∷ more) held) in
+    let same : record { length = 5; width = 64; deed = Call; value = values.Number ((a + 5 + signed_32 (number (b ∷ c ∷ d ∷ e ∷ []))) % 2 ^ 64) } ≡ call_to t = cc in
+    let value : values.Number ((a + 5 + signed_32 (number (b ∷ c ∷ d ∷ e ∷ []))) % 2 ^ 64) ≡ values.Number t = ap (λ (e : Effect). e.value) same in
+    (first ∙ ap (λ (n : ℕ). Some n) opcode, number (b ∷ c ∷ d ∷ e ∷ []), behind, (let target : (a + 5 + signed_32 (number (b ∷ c ∷ d ∷ e ∷ []))) % 2 ^ 64 ≡ t = cc in target))
 
 pub call-near : CallsAreNear
+unfolding step_x86_64
 call-near = λ m a t machine h.
-    let all : first_effect templates_x86_64 m a ≡ Some (call_to t) = sym (step-x86 m a machine) ∙ h in
-    let calls = past stub (call_indirect ∷ jump_indirect ∷ call_near ∷ jump_near ∷ []) m a t all (no_call stub.cells (stub.kind m a) t (λ e. (let e' : 16 ≡ 5 = e in absurd (omega (arith, e'))))) in
-    let jumps = past call_indirect (jump_indirect ∷ call_near ∷ jump_near ∷ []) m a t calls (no_call call_indirect.cells (call_indirect.kind m a) t (λ e. (let e' : 6 ≡ 5 = e in absurd (omega (arith, e'))))) in
-    let near = past jump_indirect (call_near ∷ jump_near ∷ []) m a t jumps (no_call jump_indirect.cells (jump_indirect.kind m a) t (λ e. (let e' : 6 ≡ 5 = e in absurd (omega (arith, e'))))) in
-    nearest m a t near
+    let bs = window m a 22 in
+    let run : step m a ≡ step_x86_64 m a = ap (λ (k : Machine). step_of k m a) machine in
+    let found : Found m a t bs (first_standing (before ++ (call_near ∷ (jump_near ∷ short))) bs) = sym run ∙ h in
+    let turn : Found m a t bs (option_or (first_standing before bs) (first_standing (call_near ∷ (jump_near ∷ short)) bs)) = subst (λ (o : Option Template). Found m a t bs o) (standing-append before (call_near ∷ (jump_near ∷ short)) bs) found in
+    let call = by_call m a t bs (first_standing before bs) refl turn in
+    near m a t bs (held-window m a 22) call.0 call.1

@@ -29,7 +29,7 @@ use Rattle.wild_loader.specs.declared.world.World.{World}
 use Rattle.wild_loader.specs.Headers.{header, is_loadable_header, machine_of, program_headers, section_count, sections}
 use Rattle.wild_loader.specs.Tables.{tables, first_dynamic, section_tables, section_entries}
 use Rattle.wild_loader.specs.Relocate.{relocate, add_all, apart, notes}
-use Rattle.wild_loader.specs.Load.{load, load_with}
+use Rattle.wild_loader.specs.Load.{load, image_at, image_with}
 use Rattle.wild_loader.specs.SegmentLaws.{HasHeaders, AreLoadable, loaded_runs, loaded_memory, first_size, program_bytes, section_bytes}
 use Rattle.wild_loader.specs.Laws.{HasDynamic, HasTables, HasSectionTables, section_relas, DynamicImagesAreLoaded, StaticImagesAreLoaded, PlainImagesAreLoaded, IsStatic}
 use Rattle.wild_loader.specs.FilledLaws.{HasSectionTable}
@@ -92,7 +92,7 @@ sections-laid read image e hs ss laid some =
 -- ---- the whole
 
 loaded_by : FileHeaderIsRead → ProgramHeaderIsRead → (w : World) (image : List ℕ) (e : FileHeader) (hs : List ProgramHeader) (ss : List SectionHeader) (t : Tables) → HasHeaders image e hs ss → is_loadable_header e ≡ true → AreLoadable w.base image hs → tables image e hs ≡ Ok t → load w image ≡ relocate w (loaded_memory (machine_of e) w.base image hs) t
-unfolding load load_with
+unfolding load image_at image_with
 loaded_by file program w image e hs ss t laid loadable can found =
     let head = header-read file image e hs ss laid loadable in
     let programs = programs-laid program image e hs ss laid in

@@ -1,100 +1,108 @@
 -- The effects of the known instructions of x86-64 in memory that has their bytes.
-use Rattle.std.proofs.Common.{◌≡◌, ℕ, ◌+◌, ◌%◌, ◌^◌, inl, inr, true, List, [], ◌∷◌, ◌++◌, length, refl, sym, ap, ◌∙◌, arith, subst}
+use Rattle.std.proofs.Common.{◌≡◌, ℕ, ◌+◌, ◌%◌, ◌^◌, ◌≤◌, inl, inr, List, [], ◌∷◌, ◌++◌, length, get_or, refl, sym, ap, ◌∙◌, arith, subst}
 use Rattle.std.specs.Prelude.{Option, Some, nat_lt, option_map}
 use Rattle.std.proofs.lemmas.Bool.{cases_Bool, ltb-true, ltb-false}
-use Rattle.std.proofs.lemmas.List.{append-nil}
 use Rattle.wild_words.specs.Words.{word, number}
 use Rattle.wild_words.proofs.WordLemmas.{length-word, number-word_4}
 use Rattle.wild_loader.specs.declared.memory.Machine.{Machine}
 use Rattle.wild_loader.specs.declared.memory.Machine.TheVariants as machines
 use Rattle.wild_loader.specs.declared.memory.Memory.{Memory}
-use Rattle.wild_loader.specs.declared.effect.EffectKind.TheVariants as kinds
+use Rattle.wild_loader.specs.declared.effect.Effect.{Effect}
+use Rattle.wild_loader.specs.declared.effect.Value.{Value}
+use Rattle.wild_loader.specs.declared.effect.Value.TheVariants as values
 use Rattle.wild_loader.specs.Memory.{number_in, Holds}
-use Rattle.wild_loader.specs.Effect.{step, step_of, step_x86_64, first_effect, templates_x86_64, stands, field, exact, named_at, word_at, sign_extended_32, stub, call_indirect, jump_indirect, call_near, jump_near}
+use Rattle.wild_loader.specs.declared.instruction.Operand.TheVariants.{Number, Word}
+use Rattle.wild_loader.specs.declared.instruction.Deed.{Deed}
+use Rattle.wild_loader.specs.declared.instruction.Deed.TheVariants.{Call, Jump}
+use Rattle.wild_loader.specs.Instruction.{Template, signed_32}
+use Rattle.wild_loader.specs.CodeX86_64.{branch, stub}
+use Rattle.wild_loader.specs.InstructionX86_64.{templates_x86_64}
+use Rattle.wild_loader.specs.Effect.{window, first_standing, narrowed, effect_of, step, step_of, step_x86_64}
 use Rattle.wild_loader.specs.StepLaws.{stub_bytes, CallsAreRead, CallsOfValuesAreRead, JumpsAreRead, SlotCallsAreRead, SlotJumpsAreRead, StubsAreRead, IsSigned32, StubsOfValuesAreRead}
-use Rattle.wild_loader.proofs.Held.{held-behind, number-front}
-use Rattle.wild_loader.proofs.Steps.{stands-held, differs-held, stands-field, skipped, taken}
+use Rattle.wild_loader.proofs.Windows.{window-held}
 
-pub step-x86 : (m : Memory) (a : ℕ) → m.machine ≡ machines.X86_64 → step m a ≡ first_effect templates_x86_64 m a
+-- where a template stands at the front of bytes, whatever is behind them, memory that has the bytes does what it does
+stepped : (m : Memory) (a : ℕ) (bs : List ℕ) (t : Template) → m.machine ≡ machines.X86_64 → length bs ≤ 22 → Holds m a bs → ((more : List ℕ) → first_standing templates_x86_64 (bs ++ more) ≡ Some t)
+    → (more : List ℕ) × (step m a ≡ effect_of m a (bs ++ more) t)
 unfolding step_x86_64
-step-x86 m a e = ap (λ (k : Machine). step_of k m a) e
+stepped m a bs t machine short h stands =
+    let w = window-held m a bs 22 short h in
+    let front : first_standing templates_x86_64 (window m a 22) ≡ Some t = ap (λ (xs : List ℕ). first_standing templates_x86_64 xs) w.1 ∙ stands w.0 in
+    let run : step m a ≡ step_x86_64 m a = ap (λ (k : Machine). step_of k m a) machine in
+    let does : step_x86_64 m a ≡ effect_of m a (window m a 22) t = rw front refl in
+    (w.0, run ∙ does ∙ ap (λ (xs : List ℕ). effect_of m a xs t) w.1)
 
--- ---- operands
+-- four bytes
+four_are : (bs : List ℕ) → length bs ≡ 4 → get_or bs 0 0 ∷ get_or bs 1 0 ∷ get_or bs 2 0 ∷ get_or bs 3 0 ∷ [] ≡ bs
+four_are [] n = absurd (omega (arith, n))
+four_are (a ∷ []) n = absurd (omega (arith, n))
+four_are (a ∷ b ∷ []) n = absurd (omega (arith, n))
+four_are (a ∷ b ∷ c ∷ []) n = absurd (omega (arith, n))
+four_are (a ∷ b ∷ c ∷ d ∷ []) n = refl
+four_are (a ∷ b ∷ c ∷ d ∷ e ∷ bs) n = absurd (omega (arith, n))
 
--- the number in a field behind an opcode
-displacement : (m : Memory) (a : ℕ) (opcode bs more : List ℕ) → length bs ≡ 4 → Holds m a (opcode ++ (bs ++ more)) → number_in m (a + length opcode) 4 ≡ Some (number bs)
-displacement m a opcode bs more n h =
-    let front = number-front m (a + length opcode) bs more (held-behind m a opcode (bs ++ more) h) in
-    subst (λ (k : ℕ). number_in m (a + length opcode) k ≡ Some (number bs)) n front
-
-named : (m : Memory) (a at end d : ℕ) → number_in m (a + at) 4 ≡ Some d → named_at m a at end ≡ Some ((a + end + sign_extended_32 d) % 2 ^ 64)
-named m a at end d e = rw e refl
-
-word_named : (m : Memory) (a at end d v : ℕ) → number_in m (a + at) 4 ≡ Some d → number_in m ((a + end + sign_extended_32 d) % 2 ^ 64) 8 ≡ Some v → word_at m a at end ≡ Some v
-word_named m a at end d v e w = rw e w
-
--- four bytes and no more
-four : (bs : List ℕ) → length bs ≡ 4 → stands field bs ≡ true
-four bs n = subst (λ (xs : List ℕ). stands field xs ≡ true) (append-nil bs) (stands-field bs [] [] n)
-
-with-nil : (m : Memory) (a : ℕ) (bs : List ℕ) → Holds m a bs → Holds m a (bs ++ [])
-with-nil m a bs h = subst (λ (xs : List ℕ). Holds m a xs) (sym (append-nil bs)) h
+-- what holds of four bytes each, holds of a field of four
+of_four : (P : List ℕ → Type 0) → ((a b c d : ℕ) → P (a ∷ b ∷ c ∷ d ∷ [])) → (bs : List ℕ) → length bs ≡ 4 → P bs
+of_four P each bs n = subst P (four_are bs n) (each (get_or bs 0 0) (get_or bs 1 0) (get_or bs 2 0) (get_or bs 3 0))
 
 -- ---- instructions
 
+-- code of so many bytes that does that with a number
+abbrev done : ℕ → Deed → ℕ → Option Effect
+done size deed n = Some (record { length = size; width = 64; deed = deed; value = values.Number n })
+
+-- the same with what memory has
+abbrev done_with : ℕ → Deed → Option ℕ → Option Effect
+done_with size deed o = option_map (λ (v : Value). record { length = size; width = 64; deed = deed; value = narrowed 64 v }) (option_map values.Number o)
+
+call_four : (m : Memory) (x b c d e : ℕ) → m.machine ≡ machines.X86_64 → Holds m x (0xe8 ∷ b ∷ c ∷ d ∷ e ∷ []) → step m x ≡ done 5 Call ((x + 5 + signed_32 (number (b ∷ c ∷ d ∷ e ∷ []))) % 2 ^ 64)
+unfolding first_standing
+call_four m x b c d e machine h = (stepped m x (0xe8 ∷ b ∷ c ∷ d ∷ e ∷ []) (branch (0xe8 ∷ []) Number Call) machine (omega arith) h (λ more. refl)).1
+
+jump_four : (m : Memory) (x b c d e : ℕ) → m.machine ≡ machines.X86_64 → Holds m x (0xe9 ∷ b ∷ c ∷ d ∷ e ∷ []) → step m x ≡ done 5 Jump ((x + 5 + signed_32 (number (b ∷ c ∷ d ∷ e ∷ []))) % 2 ^ 64)
+unfolding first_standing
+jump_four m x b c d e machine h = (stepped m x (0xe9 ∷ b ∷ c ∷ d ∷ e ∷ []) (branch (0xe9 ∷ []) Number Jump) machine (omega arith) h (λ more. refl)).1
+
+slot_call_four : (m : Memory) (x b c d e : ℕ) → m.machine ≡ machines.X86_64 → Holds m x (0xff ∷ 0x15 ∷ b ∷ c ∷ d ∷ e ∷ []) → step m x ≡ done_with 6 Call (number_in m ((x + 6 + signed_32 (number (b ∷ c ∷ d ∷ e ∷ []))) % 2 ^ 64) 8)
+unfolding first_standing
+slot_call_four m x b c d e machine h = (stepped m x (0xff ∷ 0x15 ∷ b ∷ c ∷ d ∷ e ∷ []) (branch (0xff ∷ 0x15 ∷ []) Word Call) machine (omega arith) h (λ more. refl)).1
+
+slot_jump_four : (m : Memory) (x b c d e : ℕ) → m.machine ≡ machines.X86_64 → Holds m x (0xff ∷ 0x25 ∷ b ∷ c ∷ d ∷ e ∷ []) → step m x ≡ done_with 6 Jump (number_in m ((x + 6 + signed_32 (number (b ∷ c ∷ d ∷ e ∷ []))) % 2 ^ 64) 8)
+unfolding first_standing
+slot_jump_four m x b c d e machine h = (stepped m x (0xff ∷ 0x25 ∷ b ∷ c ∷ d ∷ e ∷ []) (branch (0xff ∷ 0x25 ∷ []) Word Jump) machine (omega arith) h (λ more. refl)).1
+
+stub_four : (m : Memory) (x b c d e : ℕ) → m.machine ≡ machines.X86_64 → Holds m x (stub_bytes (b ∷ c ∷ d ∷ e ∷ [])) → step m x ≡ done_with 16 Jump (number_in m ((x + 11 + signed_32 (number (b ∷ c ∷ d ∷ e ∷ []))) % 2 ^ 64) 8)
+unfolding first_standing
+stub_four m x b c d e machine h = (stepped m x (stub_bytes (b ∷ c ∷ d ∷ e ∷ [])) stub machine (omega arith) h (λ more. refl)).1
+
 pub call-held : CallsAreRead
-call-held = λ m a bs machine n h.
-    let d = displacement m a (0xe8 ∷ []) bs [] n (with-nil m a (0xe8 ∷ bs) h) in
-    step-x86 m a machine
-    ∙ skipped stub (call_indirect ∷ jump_indirect ∷ call_near ∷ jump_near ∷ []) m a (differs-held m a stub.cells (0xe8 ∷ bs) refl h)
-    ∙ skipped call_indirect (jump_indirect ∷ call_near ∷ jump_near ∷ []) m a (differs-held m a call_indirect.cells (0xe8 ∷ bs) refl h)
-    ∙ skipped jump_indirect (call_near ∷ jump_near ∷ []) m a (differs-held m a jump_indirect.cells (0xe8 ∷ bs) refl h)
-    ∙ taken call_near (jump_near ∷ []) m a (kinds.Call ((a + 5 + sign_extended_32 (number bs)) % 2 ^ 64)) (stands-held m a call_near.cells (0xe8 ∷ bs) (four bs n) h) (ap (λ (o : Option ℕ). option_map kinds.Call o) (named m a 1 5 (number bs) d))
+call-held = λ m a field machine n h.
+    of_four (λ (bs : List ℕ). Holds m a (0xe8 ∷ bs) → step m a ≡ done 5 Call ((a + 5 + signed_32 (number bs)) % 2 ^ 64)) (λ b c d e held. call_four m a b c d e machine held) field n h
 
 pub call-of_value : CallsOfValuesAreRead
-call-of_value = λ m a v machine h. call-held m a (word 4 v) machine (length-word 4 v) h ∙ ap (λ (x : ℕ). Some (record { length = 5; width = 64; kind = kinds.Call ((a + 5 + sign_extended_32 x) % 2 ^ 64) })) (number-word_4 v)
+call-of_value = λ m a v machine h. call-held m a (word 4 v) machine (length-word 4 v) h ∙ ap (λ (x : ℕ). done 5 Call ((a + 5 + signed_32 x) % 2 ^ 64)) (number-word_4 v)
 
 pub jump-held : JumpsAreRead
-jump-held = λ m a bs machine n h.
-    let d = displacement m a (0xe9 ∷ []) bs [] n (with-nil m a (0xe9 ∷ bs) h) in
-    step-x86 m a machine
-    ∙ skipped stub (call_indirect ∷ jump_indirect ∷ call_near ∷ jump_near ∷ []) m a (differs-held m a stub.cells (0xe9 ∷ bs) refl h)
-    ∙ skipped call_indirect (jump_indirect ∷ call_near ∷ jump_near ∷ []) m a (differs-held m a call_indirect.cells (0xe9 ∷ bs) refl h)
-    ∙ skipped jump_indirect (call_near ∷ jump_near ∷ []) m a (differs-held m a jump_indirect.cells (0xe9 ∷ bs) refl h)
-    ∙ skipped call_near (jump_near ∷ []) m a (differs-held m a call_near.cells (0xe9 ∷ bs) refl h)
-    ∙ taken jump_near [] m a (kinds.Jump ((a + 5 + sign_extended_32 (number bs)) % 2 ^ 64)) (stands-held m a jump_near.cells (0xe9 ∷ bs) (four bs n) h) (ap (λ (o : Option ℕ). option_map kinds.Jump o) (named m a 1 5 (number bs) d))
+jump-held = λ m a field machine n h.
+    of_four (λ (bs : List ℕ). Holds m a (0xe9 ∷ bs) → step m a ≡ done 5 Jump ((a + 5 + signed_32 (number bs)) % 2 ^ 64)) (λ b c d e held. jump_four m a b c d e machine held) field n h
 
 pub slot_call-held : SlotCallsAreRead
-slot_call-held = λ m a v bs machine n h w.
-    let d = displacement m a (0xff ∷ 0x15 ∷ []) bs [] n (with-nil m a (0xff ∷ 0x15 ∷ bs) h) in
-    step-x86 m a machine
-    ∙ skipped stub (call_indirect ∷ jump_indirect ∷ call_near ∷ jump_near ∷ []) m a (differs-held m a stub.cells (0xff ∷ 0x15 ∷ bs) refl h)
-    ∙ taken call_indirect (jump_indirect ∷ call_near ∷ jump_near ∷ []) m a (kinds.Call v) (stands-held m a call_indirect.cells (0xff ∷ 0x15 ∷ bs) (four bs n) h) (ap (λ (o : Option ℕ). option_map kinds.Call o) (word_named m a 2 6 (number bs) v d w))
+slot_call-held = λ m a v field machine n h w.
+    of_four (λ (bs : List ℕ). Holds m a (0xff ∷ 0x15 ∷ bs) → step m a ≡ done_with 6 Call (number_in m ((a + 6 + signed_32 (number bs)) % 2 ^ 64) 8)) (λ b c d e held. slot_call_four m a b c d e machine held) field n h
+    ∙ ap (λ (o : Option ℕ). done_with 6 Call o) w
 
 pub slot_jump-held : SlotJumpsAreRead
-slot_jump-held = λ m a v bs machine n h w.
-    let d = displacement m a (0xff ∷ 0x25 ∷ []) bs [] n (with-nil m a (0xff ∷ 0x25 ∷ bs) h) in
-    step-x86 m a machine
-    ∙ skipped stub (call_indirect ∷ jump_indirect ∷ call_near ∷ jump_near ∷ []) m a (differs-held m a stub.cells (0xff ∷ 0x25 ∷ bs) refl h)
-    ∙ skipped call_indirect (jump_indirect ∷ call_near ∷ jump_near ∷ []) m a (differs-held m a call_indirect.cells (0xff ∷ 0x25 ∷ bs) refl h)
-    ∙ taken jump_indirect (call_near ∷ jump_near ∷ []) m a (kinds.Jump v) (stands-held m a jump_indirect.cells (0xff ∷ 0x25 ∷ bs) (four bs n) h) (ap (λ (o : Option ℕ). option_map kinds.Jump o) (word_named m a 2 6 (number bs) v d w))
-
--- the opcode of a stub's jump with what stands before it, and the `nop` behind its displacement
-abbrev stub_start : List ℕ
-stub_start = 0xf3 ∷ 0x0f ∷ 0x1e ∷ 0xfa ∷ 0xf2 ∷ 0xff ∷ 0x25 ∷ []
-
-abbrev stub_end : List ℕ
-stub_end = 0x0f ∷ 0x1f ∷ 0x44 ∷ 0x00 ∷ 0x00 ∷ []
+slot_jump-held = λ m a v field machine n h w.
+    of_four (λ (bs : List ℕ). Holds m a (0xff ∷ 0x25 ∷ bs) → step m a ≡ done_with 6 Jump (number_in m ((a + 6 + signed_32 (number bs)) % 2 ^ 64) 8)) (λ b c d e held. slot_jump_four m a b c d e machine held) field n h
+    ∙ ap (λ (o : Option ℕ). done_with 6 Jump o) w
 
 pub stub-held : StubsAreRead
-stub-held = λ m a v bs machine n h w.
-    let d = displacement m a stub_start bs stub_end n h in
-    let whole : stands (field ++ exact stub_end) (bs ++ stub_end) ≡ true = stands-field bs stub_end (exact stub_end) n in
-    step-x86 m a machine
-    ∙ taken stub (call_indirect ∷ jump_indirect ∷ call_near ∷ jump_near ∷ []) m a (kinds.Jump v) (stands-held m a stub.cells (stub_bytes bs) whole h) (ap (λ (o : Option ℕ). option_map kinds.Jump o) (word_named m a 7 11 (number bs) v d w))
+stub-held = λ m a v field machine n h w.
+    of_four (λ (bs : List ℕ). Holds m a (stub_bytes bs) → step m a ≡ done_with 16 Jump (number_in m ((a + 11 + signed_32 (number bs)) % 2 ^ 64) 8)) (λ b c d e held. stub_four m a b c d e machine held) field n h
+    ∙ ap (λ (o : Option ℕ). done_with 16 Jump o) w
 
 -- four bytes of a signed number of 32 bits are read as it
-signed-value : (d : ℕ) → IsSigned32 d → sign_extended_32 (d % 2 ^ 32) ≡ d
+signed-value : (d : ℕ) → IsSigned32 d → signed_32 (d % 2 ^ 32) ≡ d
 signed-value d (inl low) =
     elim (cases_Bool (nat_lt (d % 2 ^ 32) (2 ^ 31))) [
       | inl t ↦ rw t (omega (arith, low))
@@ -110,5 +118,5 @@ signed-value d (inr high) =
 
 pub stub-of_value : StubsOfValuesAreRead
 stub-of_value = λ m a d v machine range h w.
-    let e : sign_extended_32 (number (word 4 d)) ≡ d = ap (λ (x : ℕ). sign_extended_32 x) (number-word_4 d) ∙ signed-value d range in
+    let e : signed_32 (number (word 4 d)) ≡ d = ap (λ (x : ℕ). signed_32 x) (number-word_4 d) ∙ signed-value d range in
     stub-held m a v (word 4 d) machine (length-word 4 d) h (subst (λ (x : ℕ). number_in m ((a + 11 + x) % 2 ^ 64) 8 ≡ Some v) (sym e) w)

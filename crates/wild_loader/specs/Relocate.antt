@@ -30,10 +30,10 @@ rela_patch w m r = known (kind_of m.machine r.number) (faults.UnknownDynamic r.n
 unfoldable pub place_patch : World → Memory → ℕ → Result Patch LoadFault
 place_patch w m place = patch_at m (loaded_at w place) (changes.Add w.base)
 
--- the changes with those that each of a list makes, or the first fault
-unfoldable pub add_all : {X : Type 0} → (X → Result Patch LoadFault) → List X → List Patch → Result (List Patch) LoadFault
-add_all make [] patches = Ok patches
-add_all make (x ∷ xs) patches = make x >>= λ p. add_all make xs (patches ++ p ∷ [])
+-- changes with those that each of a list makes, or the first fault; a change may be of any sort
+unfoldable pub add_all : {X P : Type 0} → (X → Result P LoadFault) → List X → List P → Result (List P) LoadFault
+add_all make [] changes = Ok changes
+add_all make (x ∷ xs) changes = make x >>= λ p. add_all make xs (changes ++ p ∷ [])
 
 -- the changes with those of entries
 abbrev pub add_relas : World → Memory → List Rela → List Patch → Result (List Patch) LoadFault

@@ -8,28 +8,36 @@ mod fault;
 mod headers;
 mod image;
 mod index;
+mod instruction;
 mod kind;
 mod laws;
 mod memory;
 mod places;
+mod reach;
 mod relocate;
 mod runs;
 mod segments;
+mod table;
 mod tables;
+mod template;
 mod world;
 
 pub use change::{Change, Patch};
-pub use effect::{Effect, EffectKind, step_x86_64};
+pub use effect::{Effect, Value, step, step_x86_64};
 pub use fault::LoadFault;
-pub use image::load_image;
+pub use image::{Image, load_image, read_image};
+pub use instruction::{Action, Cell, Deed, Operand};
 pub use kind::DynamicKind;
 pub use laws::{
     bytes_are_loaded, calls_are_read, dynamic_images_are_loaded, entries_make_changes,
-    entries_store_words, jumps_are_read, linked_images_are_loaded, numbers_are_read, parts_are_put,
-    relocated_tables_are_applied, slot_calls_are_read, slot_jumps_are_read,
-    static_images_are_loaded, stubs_are_read, tables_are_applied, tables_are_filled,
-    words_are_places,
+    entries_store_words, images_are_moved, jumps_are_read, linked_images_are_loaded,
+    numbers_are_read, parts_are_put, relocated_tables_are_applied, slot_calls_are_read,
+    slot_jumps_are_read, static_images_are_loaded, steps_are_meant, stubs_are_read,
+    tables_are_applied, tables_are_filled, words_are_places,
 };
 pub use memory::{Machine, Memory, Run};
+pub use reach::reaches;
+pub use table::template_x86_64;
 pub use tables::{Span, Tables};
+pub use template::{Operation, Place, Prefix, Register, Sort, Template};
 pub use world::{Answer, World};

@@ -1,0 +1,73 @@
+-- The instructions of x86-64 that references belong to, and those that linkers write in their place.
+--   templates_x86_64      the templates, the longest first
+--   meaning_x86_64 a bs   what the code of those bytes does at an address
+--   effect_x86_64 ..      that, with what its operand reads as
+--   demand_x86_64 v a bs  the effect where the operand reads as v
+use Rattle.std.specs.Prelude.{ℕ, ◌++◌, List, [], ◌∷◌, Option, option_and_then}
+use Rattle.wild_loader.specs.declared.instruction.Cell.{Cell}
+use Rattle.wild_loader.specs.declared.instruction.Operand.TheVariants.{Number, Word}
+use Rattle.wild_loader.specs.declared.instruction.Action.{Action}
+use Rattle.wild_loader.specs.declared.instruction.Deed.TheVariants.{Call, Jump, CallDescriptor, Nothing}
+use Rattle.wild_loader.specs.Instruction.{Template, Reader, Effect, exact, Idle, meaning, effect, as_value}
+use Rattle.wild_loader.specs.CodeX86_64.{bare, rex, rex2, with_prefix, branch, stub}
+use Rattle.wild_loader.specs.ThreadCodeX86_64.{nop_byte, nops, mov_pointer, lea_number, add_slot, of_number, of_slot, of_pointer, general_call, general_slot_call, far_pair_call, local_call, local_slot_call}
+
+abbrev pub whole_sequences : List Template
+whole_sequences =
+    far_pair_call
+    ∷ of_number (mov_pointer ++ (lea_number ++ nops 6))
+    ∷ of_pointer (mov_pointer ++ nops 13)
+    ∷ general_call
+    ∷ general_slot_call
+    ∷ of_number (mov_pointer ++ lea_number)
+    ∷ of_slot (mov_pointer ++ add_slot)
+    ∷ stub
+    ∷ local_slot_call
+    ∷ of_pointer (mov_pointer ++ nops 4)
+    ∷ local_call
+    ∷ of_pointer (exact (0x66 ∷ 0x66 ∷ 0x66 ∷ []) ++ mov_pointer)
+    ∷ []
+
+abbrev pub branches : List Template
+branches =
+    branch (0x67 ∷ 0xe8 ∷ []) Number Call
+    ∷ branch (0xff ∷ 0x15 ∷ []) Word Call
+    ∷ branch (0xff ∷ 0x25 ∷ []) Word Jump
+    ∷ branch (0xe8 ∷ []) Number Call
+    ∷ branch (0xe9 ∷ []) Number Jump
+    ∷ []
+
+abbrev pub does_nothing : List Cell → Template
+does_nothing cells = record { cells = cells; action = λ a bs. record { deed = Nothing; width = 64; operand = Number 0 } }
+
+-- `call [rax]`, with a descriptor's address in rax ("ELF Handling For Thread-Local Storage", "TLS Descriptors")
+abbrev pub descriptor_call : Template
+descriptor_call = record { cells = exact (0xff ∷ 0x10 ∷ []); action = λ a bs. record { deed = CallDescriptor 0; width = 64; operand = Number 0 } }
+
+-- that, and what does nothing
+abbrev pub short : List Template
+short =
+    descriptor_call
+    ∷ does_nothing (exact (0x66 ∷ nop_byte ∷ []))
+    ∷ does_nothing (exact (nop_byte ∷ []))
+    ∷ []
+
+-- the longest first
+abbrev pub templates_x86_64 : List Template
+templates_x86_64 = whole_sequences ++ (with_prefix rex2 ++ (with_prefix rex ++ (with_prefix bare ++ (branches ++ short))))
+
+-- `nop` stands behind the instruction that is written in place of a longer one
+abbrev pub idle_x86_64 : Idle
+idle_x86_64 = record { nop = nop_byte ∷ []; in_front = 0 }
+
+-- what the code of those bytes does at an address
+unfoldable pub meaning_x86_64 : ℕ → List ℕ → Option Action
+meaning_x86_64 a bs = meaning idle_x86_64 templates_x86_64 a bs
+
+-- that, with what its operand reads as
+abbrev pub effect_x86_64 : Reader → ℕ → List ℕ → Option Effect
+effect_x86_64 read a bs = option_and_then (effect read) (meaning_x86_64 a bs)
+
+-- the effect where the operand reads as v
+abbrev pub demand_x86_64 : ℕ → ℕ → List ℕ → Option Effect
+demand_x86_64 v a bs = effect_x86_64 (as_value v) a bs
