@@ -3,6 +3,7 @@
 
 pub mod aarch64;
 mod dynamic;
+mod expression;
 mod info;
 mod instruction;
 mod laws;
@@ -13,8 +14,12 @@ mod range;
 pub mod x86_64;
 
 pub use dynamic::DynamicRelocationKind;
+pub use expression::{Class, Expression, SlotSort, Taken, Term};
 pub use info::{OutOfRange, PageMask, RelocationKind, RelocationKindInfo, RelocationSize, Width};
 pub use instruction::{AArch64Instruction, BitMask};
-pub use laws::{fields_of_aarch64, fields_of_x86_64, rows_have_no_bias, widths_of_fields};
+pub use laws::{
+    fields_of_aarch64, fields_of_x86_64, narrow_fields_are_barred, rows_have_no_bias,
+    widths_of_fields,
+};
 pub use names::{DisplayRelocation, RelName};
 pub use range::{AllowedRange, Sign};

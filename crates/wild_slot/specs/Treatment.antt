@@ -1,13 +1,15 @@
 -- What is done with a relocation, as far as the layout alone says it: no value is taken.
 --   flags_at l i          what is known of the value of the symbol that defines symbol i
 --   is_left l s row i     the address of symbol i is left to a dynamic entry
---   is_barred l s row i   the field is too narrow for an address that another module may define
+--   is_barred l s n i     the field of type n cannot hold symbol i's address or distance, which another module may define
 --   moves l i             the address of symbol i moves with the base
 --   is_chosen l s i       the address of symbol i is what a resolver answers, stored by a loader
---   is_narrow l s row     the field is too narrow for an address of a library
+--   is_narrow l s n       the field of type n cannot hold an address of a library
 --   is_sized l s i        the size of symbol i is left to a dynamic entry
 --   treatment l s r       what is done with relocation r of section s
 use Rattle.std.specs.Prelude.{ℕ, Bool, not, ◌&&◌, ◌||◌, ◌==◌, nat_lt, if◌then◌else◌, length, Option, Some, None, option_map, unwrap_or, slice_get}
+use Rattle.wild_types.specs.declared.kind.Machine.{Machine}
+use Rattle.wild_types.specs.declared.kind.Machine.TheVariants as machine
 use Rattle.wild_types.specs.declared.symbol.Symbol.{Symbol}
 use Rattle.wild_types.specs.declared.symbol.ValueFlags.{ValueFlags}
 use Rattle.wild_types.specs.declared.input.InputRelocation.{InputRelocation}
@@ -19,9 +21,12 @@ use Rattle.wild_types.specs.Flags.{has_flag, interposable, absolute, dynamic, co
 use Rattle.wild_types.specs.Kinds.{is_position_independent, is_shared_object}
 use Rattle.wild_types.specs.Lookups.{canonical, writable, allocated}
 use Rattle.wild_types.specs.Rows.{row_of}
+use Rattle.wild_reloc.specs.Barred.{is_listed, barred_x86_64, barred_in_shared_x86_64, barred_aarch64, barred_in_shared_aarch64}
 use Rattle.wild_reloc.specs.Field.{field_width}
 use Rattle.wild_reloc.specs.declared.info.RelocationKind.{RelocationKind}
-use Rattle.wild_reloc.specs.declared.info.RelocationKind.TheVariants as kinds
+use Rattle.wild_reloc.specs.Expression.{expression_of}
+use Rattle.wild_reloc.specs.declared.expression.Class.{Class}
+use Rattle.wild_reloc.specs.declared.expression.Class.TheVariants as class
 use Rattle.wild_reloc.specs.declared.info.RelocationKindInfo.{RelocationKindInfo}
 
 -- what is known of the definition's value
@@ -38,15 +43,25 @@ is_left l s row i = allocated s.flags && writable s.flags && field_width row == 
 abbrev pub is_elsewhere : ValueFlags → Bool
 is_elsewhere f = (interposable f || has_flag f dynamic) && not (has_flag f copy_relocation || has_flag f plt_stub)
 
--- an address of another module is not known when the output is linked, and only a field of 8 bytes can be left to a
--- loader (x86-64 psABI, "Position-Independent Code")
-abbrev pub is_barred : Layout → InputSection → RelocationKindInfo → ℕ → Bool
-is_barred l s row i = allocated s.flags && is_position_independent l.kind && not (field_width row == 8) && is_elsewhere (flags_at l i)
+-- the relocation types of a machine that are listed for such a symbol
+abbrev pub is_barred_type : Machine → ℕ → Bool
+is_barred_type machine.X86_64 n = is_listed n barred_x86_64
+is_barred_type machine.AArch64 n = is_listed n barred_aarch64
 
--- an address in a library is known only where it is loaded, and only a field of 8 bytes has room for it (x86-64 psABI,
+-- and those that are listed for shared objects
+abbrev pub is_barred_in_shared : Machine → ℕ → Bool
+is_barred_in_shared machine.X86_64 n = is_listed n barred_in_shared_x86_64
+is_barred_in_shared machine.AArch64 n = is_listed n barred_in_shared_aarch64
+
+-- an address of another module is not known when the output is linked, and a field of such a type cannot be left to a
+-- loader (x86-64 psABI, "Position-Independent Code")
+abbrev pub is_barred : Layout → InputSection → (n i : ℕ) → Bool
+is_barred l s n i = allocated s.flags && is_position_independent l.kind && is_barred_type l.machine n && is_elsewhere (flags_at l i)
+
+-- an address in a library is known only where it is loaded, and a field of such a type has no room for it (x86-64 psABI,
 -- "Position-Independent Code")
-abbrev pub is_narrow : Layout → InputSection → RelocationKindInfo → Bool
-is_narrow l s row = allocated s.flags && is_shared_object l.kind && not (field_width row == 8)
+abbrev pub is_narrow : Layout → InputSection → (n : ℕ) → Bool
+is_narrow l s n = allocated s.flags && is_shared_object l.kind && is_barred_in_shared l.machine n
 
 -- the address moves with the base: the output does, and the value is not absolute (gABI, "Symbol Table", SHN_ABS)
 abbrev pub moves : Layout → ℕ → Bool
@@ -66,10 +81,10 @@ is_chosen l s i = allocated s.flags && writable s.flags && is_position_independe
 abbrev pub chosen_treatment : RelocationKindInfo → ℕ → Treatment
 chosen_treatment row i = if field_width row == 8 then Indirect i else Recompile
 
--- S + A of symbol i
-abbrev pub address_treatment : Layout → InputSection → RelocationKindInfo → ℕ → Treatment
-address_treatment l s row i =
-    if is_barred l s row i || is_narrow l s row then Recompile
+-- S + A of symbol i, by a relocation of type n
+abbrev pub address_treatment : Layout → InputSection → (n : ℕ) → RelocationKindInfo → ℕ → Treatment
+address_treatment l s n row i =
+    if is_barred l s n i || is_narrow l s n then Recompile
     else if is_left l s row i then Symbolic i
     else if is_chosen l s i then chosen_treatment row i
     else if allocated s.flags && moves l i then moved_treatment row
@@ -81,9 +96,9 @@ named None by = Unsupported
 named (Some i) by = by i
 
 -- S + A - P: without a symbol it is the distance from address 0, which moves
-abbrev pub distance_treatment : Layout → InputSection → RelocationKindInfo → Option ℕ → Treatment
-distance_treatment l s row None = if allocated s.flags && is_position_independent l.kind then Recompile else Value row
-distance_treatment l s row (Some i) = if is_barred l s row i then Recompile else Value row
+abbrev pub distance_treatment : Layout → InputSection → (n : ℕ) → RelocationKindInfo → Option ℕ → Treatment
+distance_treatment l s n row None = if allocated s.flags && is_position_independent l.kind then Recompile else Value row
+distance_treatment l s n row (Some i) = if is_barred l s n i then Recompile else Value row
 
 -- an offset from the thread pointer is known in an executable alone (ELF Handling For Thread-Local Storage, "Local Exec")
 abbrev pub pointer_treatment : Layout → InputSection → RelocationKindInfo → Treatment
@@ -100,32 +115,25 @@ size_treatment l s row i = if is_sized l s i then Extent row i else Value row
 abbrev pub where_there : Layout → RelocationKindInfo → ℕ → Treatment → Treatment
 where_there l row i t = if nat_lt (canonical l i) (length l.symbols) then t else Value row
 
--- the kinds that are known: no value; S + A; S + A - P; GOT + A - P; S + A - GOT; offsets in thread storage; sizes; L + A - P and
--- L + A - GOT; G + A - P and G + A - GOT, of slots; and the call through a descriptor, which has no value
-abbrev pub kind_treatment : Layout → InputSection → Option ℕ → RelocationKindInfo → RelocationKind → Treatment
-kind_treatment l s symbol row kinds.None = Nothing
-kind_treatment l s symbol row kinds.Absolute = named symbol (λ i. where_there l row i (address_treatment l s row i))
-kind_treatment l s symbol row kinds.Relative = distance_treatment l s row symbol
-kind_treatment l s symbol row kinds.GotBaseRelative = Value row
-kind_treatment l s symbol row kinds.SymRelGotBase = named symbol (λ i. Value row)
-kind_treatment l s symbol row kinds.DtpOff = named symbol (λ i. Value row)
-kind_treatment l s symbol row kinds.TpOff = named symbol (λ i. pointer_treatment l s row)
-kind_treatment l s symbol row kinds.SymbolSize = named symbol (λ i. where_there l row i (size_treatment l s row i))
-kind_treatment l s symbol row kinds.PltRelative = named symbol (λ i. Value row)
-kind_treatment l s symbol row kinds.PltRelGotBase = named symbol (λ i. Value row)
-kind_treatment l s symbol row kinds.GotRelative = named symbol (λ i. Value row)
-kind_treatment l s symbol row kinds.GotRelGotBase = named symbol (λ i. Value row)
-kind_treatment l s symbol row kinds.TlsGd = named symbol (λ i. Value row)
-kind_treatment l s symbol row kinds.TlsLd = named symbol (λ i. Value row)
-kind_treatment l s symbol row kinds.GotTpOff = named symbol (λ i. Value row)
-kind_treatment l s symbol row kinds.TlsDesc = named symbol (λ i. Value row)
-kind_treatment l s symbol row kinds.TlsDescCall = named symbol (λ i. Nothing)
-kind_treatment l s symbol row other = Unsupported
+-- by the class of the kind's expression
+abbrev pub class_treatment : Layout → InputSection → (n : ℕ) → Option ℕ → RelocationKindInfo → Class → Treatment
+class_treatment l s n symbol row class.Nothing = Nothing
+class_treatment l s n symbol row class.Mark = named symbol (λ i. Nothing)
+class_treatment l s n symbol row class.Free = Value row
+class_treatment l s n symbol row class.Plain = named symbol (λ i. Value row)
+class_treatment l s n symbol row class.Address = named symbol (λ i. where_there l row i (address_treatment l s n row i))
+class_treatment l s n symbol row class.Distance = distance_treatment l s n row symbol
+class_treatment l s n symbol row class.Pointer = named symbol (λ i. pointer_treatment l s row)
+class_treatment l s n symbol row class.Extent = named symbol (λ i. where_there l row i (size_treatment l s row i))
+class_treatment l s n symbol row class.Unknown = Unsupported
 
-unfoldable pub row_treatment : Layout → InputSection → Option ℕ → Option RelocationKindInfo → Treatment
-row_treatment l s symbol None = Unsupported
-row_treatment l s symbol (Some row) = kind_treatment l s symbol row row.kind
+abbrev pub kind_treatment : Layout → InputSection → (n : ℕ) → Option ℕ → RelocationKindInfo → RelocationKind → Treatment
+kind_treatment l s n symbol row kind = class_treatment l s n symbol row (expression_of kind).class
+
+unfoldable pub row_treatment : Layout → InputSection → (n : ℕ) → Option ℕ → Option RelocationKindInfo → Treatment
+row_treatment l s n symbol None = Unsupported
+row_treatment l s n symbol (Some row) = kind_treatment l s n symbol row row.kind
 
 -- what is done with a relocation, by its row
 unfoldable pub treatment : Layout → InputSection → InputRelocation → Treatment
-treatment l s r = row_treatment l s r.symbol (row_of l.machine r.number)
+treatment l s r = row_treatment l s r.number r.symbol (row_of l.machine r.number)

@@ -1,11 +1,11 @@
 //! What is done with a relocation, as far as the layout alone says it: no value is taken.
 ghost use Rattle.std.specs.Prelude.{◌≡◌};
-ghost use Rattle.wild_slot.specs.Treatment.{flags_at, is_left, is_elsewhere, is_barred, is_narrow, is_chosen, chosen_treatment, moves, moved_treatment, address_treatment, distance_treatment, pointer_treatment, is_sized, size_treatment, where_there, row_treatment, treatment};
+ghost use Rattle.wild_slot.specs.Treatment.{flags_at, is_left, is_elsewhere, is_barred_type, is_barred_in_shared, is_barred, is_narrow, is_chosen, chosen_treatment, moves, moved_treatment, address_treatment, distance_treatment, pointer_treatment, is_sized, size_treatment, where_there, class_treatment, row_treatment, treatment};
 
-use wild_reloc::{RelocationKind, RelocationKindInfo};
+use wild_reloc::{Class, RelocationKindInfo, aarch64, x86_64};
 use wild_types::{
-    InputRelocation, InputSection, Layout, SymbolIndex, ValueFlags, is_allocated, is_writable,
-    row_of,
+    InputRelocation, InputSection, Layout, Machine, SymbolIndex, ValueFlags, is_allocated,
+    is_writable, row_of,
 };
 
 /// What is done with a relocation.
@@ -63,28 +63,47 @@ fn is_elsewhere(flags: ValueFlags) -> bool
         && !(flags.needs_copy_relocation() || flags.needs_plt())
 }
 
-/// Whether the field is too narrow for the address of the symbol, which another module may define.
+/// Whether the field of that type cannot hold the address of a symbol that another module may define, or its distance.
 #[inline]
-fn is_barred(
-    layout: &Layout,
-    section: &InputSection,
-    row: &RelocationKindInfo,
-    symbol: SymbolIndex,
-) -> bool
-    ensures { result ≡ is_barred layout.now section.now row.now symbol }
+fn is_barred_type(machine: Machine, number: u32) -> bool
+    ensures { result ≡ is_barred_type machine number }
+{
+    match machine {
+        Machine::X86_64 => x86_64::is_barred(number),
+        Machine::AArch64 => aarch64::is_barred(number),
+    }
+}
+
+/// Whether the field of that type cannot hold an address of a shared object.
+#[inline]
+fn is_barred_in_shared(machine: Machine, number: u32) -> bool
+    ensures { result ≡ is_barred_in_shared machine number }
+{
+    match machine {
+        Machine::X86_64 => x86_64::is_barred_in_shared(number),
+        Machine::AArch64 => aarch64::is_barred_in_shared(number),
+    }
+}
+
+/// Whether the field of that type cannot hold what the symbol is, which another module may define.
+#[inline]
+fn is_barred(layout: &Layout, section: &InputSection, number: u32, symbol: SymbolIndex) -> bool
+    ensures { result ≡ is_barred layout.now section.now number symbol }
 {
     is_allocated(section.flags)
         && layout.kind.is_position_independent()
-        && row.width() != 8
+        && is_barred_type(layout.machine, number)
         && is_elsewhere(flags_at(layout, symbol))
 }
 
-/// Whether the field is too narrow for an address of a library.
+/// Whether the field of that type cannot hold an address of this library.
 #[inline]
-fn is_narrow(layout: &Layout, section: &InputSection, row: &RelocationKindInfo) -> bool
-    ensures { result ≡ is_narrow layout.now section.now row.now }
+fn is_narrow(layout: &Layout, section: &InputSection, number: u32) -> bool
+    ensures { result ≡ is_narrow layout.now section.now number }
 {
-    is_allocated(section.flags) && layout.kind.is_shared_object() && row.width() != 8
+    is_allocated(section.flags)
+        && layout.kind.is_shared_object()
+        && is_barred_in_shared(layout.machine, number)
 }
 
 /// Whether the address of the symbol moves with the base.
@@ -135,12 +154,13 @@ fn chosen_treatment(row: &RelocationKindInfo, symbol: SymbolIndex) -> Treatment
 fn address_treatment(
     layout: &Layout,
     section: &InputSection,
+    number: u32,
     row: RelocationKindInfo,
     symbol: SymbolIndex,
 ) -> Treatment
-    ensures { result ≡ address_treatment layout.now section.now row symbol }
+    ensures { result ≡ address_treatment layout.now section.now number row symbol }
 {
-    if is_barred(layout, section, &row, symbol) || is_narrow(layout, section, &row) {
+    if is_barred(layout, section, number, symbol) || is_narrow(layout, section, number) {
         Treatment::Recompile
     } else if is_left(layout, section, &row, symbol) {
         Treatment::Symbolic(symbol)
@@ -158,13 +178,14 @@ fn address_treatment(
 fn distance_treatment(
     layout: &Layout,
     section: &InputSection,
+    number: u32,
     row: RelocationKindInfo,
     symbol: Option<SymbolIndex>,
 ) -> Treatment
-    ensures { result ≡ distance_treatment layout.now section.now row symbol }
+    ensures { result ≡ distance_treatment layout.now section.now number row symbol }
 {
     let refused = match symbol {
-        Some(symbol) => is_barred(layout, section, &row, symbol),
+        Some(symbol) => is_barred(layout, section, number, symbol),
         None => is_allocated(section.flags) && layout.kind.is_position_independent(),
     };
     if refused {
@@ -232,33 +253,32 @@ fn where_there(
     }
 }
 
-/// What is done with a relocation that names that symbol, by the row of its type.
+/// What is done with a relocation of that type that names that symbol, by the class of its expression.
 #[inline]
-#[tactic(auto, unfolding(crate::specs::Treatment::row_treatment))]
-pub fn row_treatment(
+fn class_treatment(
     layout: &Layout,
     section: &InputSection,
+    number: u32,
     symbol: Option<SymbolIndex>,
-    row: Option<RelocationKindInfo>,
+    row: RelocationKindInfo,
+    class: Class,
 ) -> Treatment
-    ensures { result ≡ row_treatment layout.now section.now symbol row }
+    ensures { result ≡ class_treatment layout.now section.now number symbol row class }
 {
-    let Some(row) = row else {
-        return Treatment::Unsupported;
-    };
-    match (row.kind, symbol) {
-        (RelocationKind::None, _) | (RelocationKind::TlsDescCall, Some(_)) => Treatment::Nothing,
-        (RelocationKind::Absolute, Some(symbol)) => {
+    match (class, symbol) {
+        (Class::Nothing, _) | (Class::Mark, Some(_)) => Treatment::Nothing,
+        (Class::Free, _) | (Class::Plain, Some(_)) => Treatment::Value(row),
+        (Class::Address, Some(symbol)) => {
             where_there(
                 layout,
                 row,
                 symbol,
-                address_treatment(layout, section, row, symbol),
+                address_treatment(layout, section, number, row, symbol),
             )
         }
-        (RelocationKind::Relative, symbol) => distance_treatment(layout, section, row, symbol),
-        (RelocationKind::TpOff, Some(_)) => pointer_treatment(layout, section, row),
-        (RelocationKind::SymbolSize, Some(symbol)) => {
+        (Class::Distance, symbol) => distance_treatment(layout, section, number, row, symbol),
+        (Class::Pointer, Some(_)) => pointer_treatment(layout, section, row),
+        (Class::Extent, Some(symbol)) => {
             where_there(
                 layout,
                 row,
@@ -266,18 +286,32 @@ pub fn row_treatment(
                 size_treatment(layout, section, row, symbol),
             )
         }
-        (RelocationKind::GotBaseRelative, _)
-        | (RelocationKind::SymRelGotBase, Some(_))
-        | (RelocationKind::DtpOff, Some(_))
-        | (RelocationKind::PltRelative, Some(_))
-        | (RelocationKind::PltRelGotBase, Some(_))
-        | (RelocationKind::GotRelative, Some(_))
-        | (RelocationKind::GotRelGotBase, Some(_))
-        | (RelocationKind::TlsGd, Some(_))
-        | (RelocationKind::TlsLd, Some(_))
-        | (RelocationKind::GotTpOff, Some(_))
-        | (RelocationKind::TlsDesc, Some(_)) => Treatment::Value(row),
         _ => Treatment::Unsupported,
+    }
+}
+
+/// The same, by the row of the type.
+#[inline]
+#[tactic(auto, unfolding(crate::specs::Treatment::row_treatment))]
+pub fn row_treatment(
+    layout: &Layout,
+    section: &InputSection,
+    number: u32,
+    symbol: Option<SymbolIndex>,
+    row: Option<RelocationKindInfo>,
+) -> Treatment
+    ensures { result ≡ row_treatment layout.now section.now number symbol row }
+{
+    match row {
+        Some(row) => class_treatment(
+            layout,
+            section,
+            number,
+            symbol,
+            row,
+            row.kind.expression().class,
+        ),
+        None => Treatment::Unsupported,
     }
 }
 
@@ -291,5 +325,5 @@ pub fn treatment_of(
     ensures { result ≡ treatment layout.now section.now relocation.now }
 {
     let row = row_of(layout.machine, relocation.number);
-    row_treatment(layout, section, relocation.symbol, row)
+    row_treatment(layout, section, relocation.number, relocation.symbol, row)
 }

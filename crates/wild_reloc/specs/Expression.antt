@@ -1,0 +1,78 @@
+-- The expression that each kind of relocation stands for, in its parts (x86-64 psABI, "Relocation Types"; aaelf64, "Relocation
+-- operations").
+--   expression_of kind   what A is added to, what is taken from the sum, and what decides how it is treated
+--   expressed e          the formula's value that an expression says
+use Rattle.std.specs.Prelude.{Bool, true, false}
+use Rattle.wild_reloc.specs.declared.info.RelocationKind.{RelocationKind}
+use Rattle.wild_reloc.specs.declared.info.RelocationKind.TheVariants as kinds
+use Rattle.wild_reloc.specs.declared.expression.SlotSort.{SlotSort}
+use Rattle.wild_reloc.specs.declared.expression.SlotSort.TheVariants as sorts
+use Rattle.wild_reloc.specs.declared.expression.Term.{Term}
+use Rattle.wild_reloc.specs.declared.expression.Term.TheVariants as term
+use Rattle.wild_reloc.specs.declared.expression.Taken.{Taken}
+use Rattle.wild_reloc.specs.declared.expression.Taken.TheVariants as taken
+use Rattle.wild_reloc.specs.declared.expression.Class.{Class}
+use Rattle.wild_reloc.specs.declared.expression.Class.TheVariants as class
+use Rattle.wild_reloc.specs.declared.expression.Expression.{Expression}
+use Rattle.wild_reloc.specs.Formula.{Slot, Value}
+use Rattle.wild_reloc.specs.Formula as formula
+
+abbrev pub expression : Term → Taken → Class → Expression
+expression t less c = record { term = t; taken = less; class = c }
+
+-- the kinds, each with its expression
+abbrev pub expression_of : RelocationKind → Expression
+expression_of kinds.None = expression term.Nothing taken.Nothing class.Nothing
+expression_of kinds.Absolute = expression term.Symbol taken.Nothing class.Address
+expression_of kinds.AbsoluteLowPart = expression term.Symbol taken.Nothing class.Unknown
+expression_of kinds.Relative = expression term.Symbol taken.Place class.Distance
+expression_of kinds.SymRelGotBase = expression term.Symbol taken.Table class.Plain
+expression_of kinds.PltRelative = expression term.Stub taken.Place class.Plain
+expression_of kinds.PltRelGotBase = expression term.Stub taken.Table class.Plain
+expression_of kinds.GotBaseRelative = expression term.Table taken.Place class.Free
+expression_of kinds.Got = expression (term.Slot sorts.Address) taken.Nothing class.Unknown
+expression_of kinds.GotRelative = expression (term.Slot sorts.Address) taken.Place class.Plain
+expression_of kinds.GotRelGotBase = expression (term.Slot sorts.Address) taken.Table class.Plain
+expression_of kinds.TlsGd = expression (term.Slot sorts.Pair) taken.Place class.Plain
+expression_of kinds.TlsGdGot = expression (term.Slot sorts.Pair) taken.Nothing class.Unknown
+expression_of kinds.TlsLd = expression (term.Slot sorts.OwnPair) taken.Place class.Plain
+expression_of kinds.DtpOff = expression term.ModuleOffset taken.Nothing class.Plain
+expression_of kinds.GotTpOff = expression (term.Slot sorts.Offset) taken.Place class.Plain
+expression_of kinds.GotTpOffGot = expression (term.Slot sorts.Offset) taken.Nothing class.Unknown
+expression_of kinds.TpOff = expression term.PointerOffset taken.Nothing class.Pointer
+expression_of kinds.TlsDesc = expression (term.Slot sorts.Descriptor) taken.Place class.Plain
+expression_of kinds.TlsDescGot = expression (term.Slot sorts.Descriptor) taken.Nothing class.Unknown
+expression_of kinds.TlsDescCall = expression term.Nothing taken.Nothing class.Mark
+expression_of kinds.SymbolSize = expression term.Size taken.Nothing class.Extent
+
+-- the class has a value: an address, a distance, an offset or a size
+abbrev pub writes : Class → Bool
+writes class.Nothing = false
+writes class.Mark = false
+writes class.Unknown = false
+writes other = true
+
+-- ---- as the formulas have it
+
+abbrev pub slot_sort : SlotSort → Slot
+slot_sort sorts.Address = formula.AddressSlot
+slot_sort sorts.Pair = formula.ModulePair
+slot_sort sorts.OwnPair = formula.OwnModulePair
+slot_sort sorts.Offset = formula.ThreadOffset
+slot_sort sorts.Descriptor = formula.Descriptor
+
+-- the formula's value with that term, from which so much is taken
+abbrev pub expressed : Term → Taken → Value
+expressed term.Symbol taken.Nothing = formula.SymbolAddress
+expressed term.Symbol taken.Place = formula.Distance
+expressed term.Symbol taken.Table = formula.FromTable
+expressed term.Stub taken.Place = formula.StubDistance
+expressed term.Stub taken.Table = formula.StubFromTable
+expressed (term.Slot sort) taken.Nothing = formula.SlotAddress (slot_sort sort)
+expressed (term.Slot sort) taken.Place = formula.SlotDistance (slot_sort sort)
+expressed (term.Slot sort) taken.Table = formula.SlotFromTable
+expressed term.Table less = formula.TableDistance
+expressed term.Size less = formula.Size
+expressed term.PointerOffset less = formula.PointerOffset
+expressed term.ModuleOffset less = formula.ModuleOffset
+expressed other less = formula.NoValue
