@@ -5,11 +5,13 @@ use Rattle.std.proofs.lemmas.Nat.Bits.{and_pow}
 use Rattle.std.proofs.lemmas.Bool.{eqb-true}
 use Rattle.wild_records.specs.Abi.Section.{shf_alloc, shf_execinstr, shf_write, shf_tls}
 use Rattle.wild_types.specs.Lookups.{bit, allocated, executable, is_read, writable, thread_local}
+use Rattle.wild_types.specs.declared.input.Slot.{Slot}
+use Rattle.wild_types.specs.declared.input.Slot.TheVariants as slot
 use Rattle.wild_types.specs.declared.input.InputSection.{InputSection}
 use Rattle.wild_types.specs.declared.layout.Layout.{Layout}
 use Rattle.wild_types.proofs.LookupLemmas.{read_if}
 use Rattle.wild_meaning.specs.Section.{IsSet}
-use Rattle.wild_meaning.specs.Item.{IsKeptSection}
+use Rattle.wild_meaning.specs.Item.{IsLoadedSlot, IsKeptSection}
 
 pub alloc_bit : (f : ℕ) → IsSet f shf_alloc → allocated f ≡ true
 unfolding bit
@@ -60,6 +62,17 @@ thread_local_bit f h =
     let e : bit_and f 1024 ≡ 1024 = omega (arith, a, h) in
     rw e refl
 
+-- the sorts of sections that are loaded as they are
+pub loaded_is : (t : Slot) → IsLoadedSlot t → t ≡ slot.Loaded
+loaded_is slot.Loaded h = refl
+loaded_is slot.Sorted h = absurd h
+loaded_is slot.Discard h = absurd h
+loaded_is slot.Debug h = absurd h
+loaded_is slot.Frame h = absurd h
+loaded_is slot.Merge h = absurd h
+loaded_is slot.Rela h = absurd h
+loaded_is slot.Group h = absurd h
+
 -- a kept section is one that the writer reads
 pub kept_is_read : (l : Layout) (s : InputSection) → IsKeptSection l s → is_read s ≡ true
-kept_is_read l s k = read_if s _ k.loaded refl k.has_data
+kept_is_read l s k = read_if s _ (loaded_is s.slot k.loaded) refl k.has_data

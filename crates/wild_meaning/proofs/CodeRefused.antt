@@ -8,10 +8,13 @@ use Rattle.wild_reloc.specs.FormulaX86_64.{x86_64_formula}
 use Rattle.wild_types.specs.declared.kind.Machine.TheVariants as machine
 use Rattle.wild_loader.specs.declared.memory.Memory.{Memory}
 use Rattle.wild_loader.specs.Memory.{Holds}
-use Rattle.wild_meaning.specs.Instruction.{Reader, Number, Word, Deed, Set, Add, Subtract, Compare, Call, Jump, stands, as_value, with_value}
-use Rattle.wild_meaning.specs.InstructionX86_64.{meaning_x86_64, effect_x86_64}
-use Rattle.wild_meaning.specs.CodeX86_64.{rex, with_slot, branch}
-use Rattle.wild_meaning.specs.Item.{IsKept}
+use Rattle.wild_loader.specs.declared.instruction.Operand.TheVariants.{Number, Word}
+use Rattle.wild_loader.specs.declared.instruction.Deed.{Deed}
+use Rattle.wild_loader.specs.declared.instruction.Deed.TheVariants.{Set, Add, Subtract, Compare, Call, Jump}
+use Rattle.wild_loader.specs.Instruction.{Reader, stands, as_value, with_value}
+use Rattle.wild_loader.specs.InstructionX86_64.{meaning_x86_64, effect_x86_64}
+use Rattle.wild_loader.specs.CodeX86_64.{rex, with_slot, branch}
+use Rattle.wild_meaning.specs.Item.{IsKept, OfSection}
 use Rattle.wild_meaning.specs.Field.{InNoField}
 use Rattle.wild_meaning.specs.Sequence.{Instruction, Target, AddressInSlot, Described, size_of, of_field, instructions_of}
 use Rattle.wild_meaning.specs.Template.{IsDescribed, IsInstruction, IsTemplate, DoesDemanded}
@@ -20,7 +23,8 @@ use Rattle.wild_meaning.specs.WorkedStatic.{static_pie, static_pie_world, branch
 use Rattle.wild_meaning.specs.StaticRefusals.{Has, another_branch, load_past, descriptor_load}
 use Rattle.wild_meaning.proofs.Told.{denoted}
 use Rattle.wild_meaning.proofs.Meant.{meant}
-use Rattle.wild_meaning.proofs.OneReference.{beside, effect_with, value_in, ReadsNumbers, IsNotDone, Among, fills, same_bytes, single_refused, template_there}
+use Rattle.wild_meaning.proofs.AmongLemmas.{Among}
+use Rattle.wild_meaning.proofs.OneReference.{beside, effect_with, value_in, ReadsNumbers, IsNotDone, fills, same_bytes, single_refused, template_there}
 use Rattle.wild_meaning.proofs.StaticRefused.{first_is, thread_is, thread_offset, holds_there}
 
 -- ---- formulas
@@ -39,11 +43,7 @@ abbrev pub call : Instruction
 call = of_field (branch (0xe8 ∷ []) Number Call) 1 Target (r_x86_64_pc32 ∷ r_x86_64_plt32 ∷ [])
 
 branch_kept : IsKept static_pie branch_item
-branch_kept = record {
-  section = branch_code;
-  kept = record { input = record { group = _; grouped = (0, omega arith, refl); file = _; filed = (0, omega arith, refl); listed = (0, omega arith, refl) }; loaded = refl; room = refl; has_data = refl };
-  is = refl;
-}
+branch_kept = OfSection branch_code (record { input = record { group = _; grouped = (0, omega arith, refl); file = _; filed = (0, omega arith, refl); listed = (0, omega arith, refl) }; loaded = tt; room = refl; has_data = refl }) refl
 
 call_stands : IsInstruction static_pie branch_item branch_reference 0 call
 call_stands = record {
@@ -98,11 +98,7 @@ abbrev pub load : Instruction
 load = of_slot 0x8b Set
 
 load_kept : IsKept static_pie load_item
-load_kept = record {
-  section = load_code;
-  kept = record { input = record { group = _; grouped = (0, omega arith, refl); file = _; filed = (0, omega arith, refl); listed = (1, omega arith, refl) }; loaded = refl; room = refl; has_data = refl };
-  is = refl;
-}
+load_kept = OfSection load_code (record { input = record { group = _; grouped = (0, omega arith, refl); file = _; filed = (0, omega arith, refl); listed = (1, omega arith, refl) }; loaded = tt; room = refl; has_data = refl }) refl
 
 load_stands : IsInstruction static_pie load_item load_reference 0 load
 load_stands = record {
@@ -168,11 +164,7 @@ abbrev pub described : Instruction
 described = of_field (with_slot 0x8d Number Set rex) 3 Described (r_x86_64_gotpc32_tlsdesc ∷ [])
 
 described_kept : IsKept static_pie described_item
-described_kept = record {
-  section = described_code;
-  kept = record { input = record { group = _; grouped = (0, omega arith, refl); file = _; filed = (0, omega arith, refl); listed = (3, omega arith, refl) }; loaded = refl; room = refl; has_data = refl };
-  is = refl;
-}
+described_kept = OfSection described_code (record { input = record { group = _; grouped = (0, omega arith, refl); file = _; filed = (0, omega arith, refl); listed = (3, omega arith, refl) }; loaded = tt; room = refl; has_data = refl }) refl
 
 described_stands : IsInstruction static_pie described_item described_reference 0 described
 described_stands = record {

@@ -55,7 +55,7 @@ copy_is i raw x h =
     )
 
 behind : (k : ℕ) → k < 8 → IsBehind copying (0x3100 + k)
-behind k lt = record { segment = loaded 0x1000 0x2000 0x3000; listed = (0, omega arith, refl); loads = refl; from = omega arith; to = omega (arith, lt) }
+behind k lt = record { segment = loaded 0x3000 0 0x200; listed = (1, omega arith, refl); loads = refl; from = omega arith; to = omega (arith, lt) }
 
 room : (i raw : ℕ) (x : Answer) → HasCopy copying copying_world i raw x → HasRoomFor copying raw x
 room i raw x h =
@@ -97,7 +97,7 @@ pub copying_legal : CopyingWorldIsLegal
 copying_legal = record {
   legal = record {
     aligned = refl;
-    ends = All-from_recursion (λ (g : Segment). g.kind ≡ pt_load → copying_world.base + g.address + g.mem_size ≤ 2 ^ 64) copying.segments ((λ k. omega arith), tt);
+    ends = All-from_recursion (λ (g : Segment). g.kind ≡ pt_load → copying_world.base + g.address + g.mem_size ≤ 2 ^ 64) copying.segments ((λ k. omega arith), ((λ k. omega arith), ((λ k. omega arith), tt)));
     fixed = λ f. absurd f;
     first = λ x. record { own = refl; distance = _; pair = refl; is = record { fits = omega arith; begins = refl } };
     resolvers = All-from_recursion (HasResolver copying_world) copying.symbols (not_indirect copying_world copied_symbol plain_copied, (not_indirect copying_world start_symbol plain_start, tt));

@@ -10,8 +10,7 @@ use Rattle.wild_words.proofs.RecordLemmas.{Stands-left}
 use Rattle.wild_records.specs.Abi.Relocation.{r_x86_64_64}
 use Rattle.wild_records.specs.FileHeader.{file_header_fields}
 use Rattle.wild_records.specs.ProgramHeader.{program_header_fields}
-use Rattle.wild_records.specs.SectionHeader.{section_header_fields}
-use Rattle.wild_records.specs.Relocations.{rela_fields}
+use Rattle.wild_records.specs.declared.program_header.ProgramHeader.{ProgramHeader}
 use Rattle.wild_reloc.specs.Formula.{formula, SymbolAddress, Full}
 use Rattle.wild_types.specs.declared.input.InputRelocation.{InputRelocation}
 use Rattle.wild_types.specs.declared.input.InputSection.{InputSection}
@@ -21,20 +20,22 @@ use Rattle.wild_types.specs.declared.layout.Entry.TheVariants as entry
 use Rattle.wild_types.specs.Flags.{has_flag}
 use Rattle.wild_loader.specs.declared.world.Answer.{Answer}
 use Rattle.wild_loader.specs.Memory.{byte_in, Holds}
+use Rattle.wild_loader.specs.Tables.{first_dynamic}
 use Rattle.wild_meaning.specs.Value.{HasValue}
 use Rattle.wild_meaning.specs.World.{HasCopy, IsBehind}
-use Rattle.wild_meaning.specs.Item.{Item, IsInput, IsKept, item_of}
+use Rattle.wild_meaning.specs.Item.{Item, IsInput, IsKept, item_of, OfSection}
 use Rattle.wild_meaning.specs.Reference.{IsLinkedAlone, ReferenceHolds, ItemHolds}
+use Rattle.wild_meaning.specs.Segments.{AreTold, HasSegments}
 use Rattle.wild_meaning.specs.Linked.{IsBlank, IsNotCopied, IsDecidedPlace}
 use Rattle.wild_meaning.specs.Worked.{reference, group_of}
 use Rattle.wild_meaning.specs.WorkedCopy.{copying, copying_data, copying_item, copying_blank, copying_object, copying_library, copying_world, copied_symbol, start_symbol, copied_answer, copied_bytes}
-use Rattle.wild_meaning.specs.WorkedCopyImage.{copying_memory, copying_header, copying_first, copying_second, copying_section, copying_entry, copying_words}
+use Rattle.wild_meaning.specs.WorkedCopyImage.{copying_image, copying_memory, copying_header, copying_first, copying_second, copying_third, copying_words, copying_tables}
 use Rattle.wild_meaning.specs.CopyRefusals.{CopyingImageIsLinked}
 use Rattle.wild_meaning.proofs.Told.{only, raw_of}
 use Rattle.wild_meaning.proofs.Read.{held_from}
 use Rattle.wild_meaning.proofs.Refused.{not_alone, no_template}
 use Rattle.wild_meaning.proofs.CopyLegal.{copied_own, has_copy, copy_is}
-use Rattle.wild_meaning.proofs.CopyLoaded.{copying_loaded}
+use Rattle.wild_meaning.proofs.CopyLoaded.{copying_loaded, copying_programs, copying_dynamic}
 use Rattle.wild_meaning.proofs.CopyRefused.{address_formula, copied_is_own, no_code}
 
 abbrev copied_reference : InputRelocation
@@ -95,9 +96,9 @@ abbrev SectionHolds : InputSection → Type 0
 SectionHolds s = s.nobits ≡ false → ItemHolds copying copying_world copying_memory (item_of s)
 
 items_hold : (item : Item) → IsKept copying item → ItemHolds copying copying_world copying_memory item
-items_hold item h =
-    let there : SectionHolds h.section = All-contains SectionHolds sections h.section (All-from_recursion SectionHolds sections ((λ e. item_holds), ((λ e. absurd (let both : true ≡ false = e in cc)), tt))) (listed_in h.section h.kept.input) in
-    subst (λ (i : Item). ItemHolds copying copying_world copying_memory i) (sym h.is) (there h.kept.has_data)
+items_hold item (OfSection s kept is) =
+    let there : SectionHolds s = All-contains SectionHolds sections s (All-from_recursion SectionHolds sections ((λ e. item_holds), ((λ e. absurd (let both : true ≡ false = e in cc)), tt))) (listed_in s kept.input) in
+    subst (λ (i : Item). ItemHolds copying copying_world copying_memory i) (sym is) (there kept.has_data)
 
 -- ---- zeros
 
@@ -131,6 +132,15 @@ copies i raw x h =
 
 -- ---- the whole
 
+copying_segments : HasSegments copying copying_image copying_header
+copying_segments = record {
+  told = subst (λ (hs : List ProgramHeader). AreTold copying.segments hs) (sym copying_programs) (
+    record { kind = refl; address = refl; file_size = refl; mem_size = refl; flags = λ k. refl },
+    (record { kind = refl; address = refl; file_size = refl; mem_size = refl; flags = λ k. refl }, (record { kind = refl; address = refl; file_size = refl; mem_size = refl; flags = λ k. absurd (let no : 2 ≡ 1 = k in omega (arith, no)) }, tt)),
+  );
+  dynamic = λ d. (copying_third, ap first_dynamic copying_programs ∙ copying_dynamic);
+}
+
 begins : (i a : ℕ) → copying.entry ≡ Some (entry.Symbol i) → IsDecidedPlace copying i a → 0x1100 ≡ a
 begins i a e h =
     let one : Some (entry.Symbol 1) ≡ Some (entry.Symbol i) = e in
@@ -153,11 +163,12 @@ copying_linked = record {
       middle = record { machine = omega arith; version = omega arith; entry = omega arith; program_offset = omega arith; section_offset = omega arith; flags = omega arith; header_size = omega arith };
       back = record { program_entry_size = omega arith; program_count = omega arith; section_entry_size = omega arith; section_count = omega arith; name_table = omega arith };
     };
-    stands = Stands-left (spell (file_header_fields copying_header)) (spell (program_header_fields copying_first) ++ (spell (program_header_fields copying_second) ++ (spell (section_header_fields copying_section) ++ (spell (rela_fields copying_entry) ++ copying_words))));
+    stands = Stands-left (spell (file_header_fields copying_header)) (spell (program_header_fields copying_first) ++ (spell (program_header_fields copying_second) ++ (spell (program_header_fields copying_third) ++ (copying_words ++ copying_tables))));
     fixed = λ f. absurd f;
     movable = λ _. refl;
     address = λ a e. absurd (let one : Some (entry.Symbol 1) ≡ Some (entry.Address a) = e in cc);
     symbol = begins;
     none = λ e. absurd (let one : Some (entry.Symbol 1) ≡ None = e in cc);
+    segments = copying_segments;
   };
 }

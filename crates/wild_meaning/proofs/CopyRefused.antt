@@ -13,7 +13,7 @@ use Rattle.wild_loader.specs.declared.memory.Machine.TheVariants as processors
 use Rattle.wild_loader.specs.Memory.{byte_in}
 use Rattle.wild_meaning.specs.Section.{IsSet}
 use Rattle.wild_meaning.specs.World.{IsBehind}
-use Rattle.wild_meaning.specs.Item.{IsKept}
+use Rattle.wild_meaning.specs.Item.{IsKept, OfSection}
 use Rattle.wild_meaning.specs.Linked.{IsBlank, IsNotCopied, IsDecidedPlace}
 use Rattle.wild_meaning.specs.Worked.{reference, loaded}
 use Rattle.wild_meaning.specs.WorkedCopy.{copying, copying_data, copying_item, copying_blank, copying_world, copied_symbol, start_symbol, copied_answer}
@@ -33,7 +33,7 @@ wrong_copy image h x =
 blank_is : IsBlank copying copying_blank
 blank_is = record {
   input = record { group = _; grouped = (0, omega arith, refl); file = _; filed = (0, omega arith, refl); listed = (1, omega arith, refl) };
-  loaded = refl;
+  loaded = tt;
   room = refl;
   shared = λ e. omega arith;
   blank = refl;
@@ -44,7 +44,7 @@ not_copied i raw x h = let is = copy_is i raw x h in inl (omega (arith, is.1))
 
 pub wrong_zero : WrongZeroIsRefused
 wrong_zero image h x =
-    let behind : IsBehind copying 0x3080 = record { segment = loaded 0x1000 0x2000 0x3000; listed = (0, omega arith, refl); loads = refl; from = omega arith; to = omega arith } in
+    let behind : IsBehind copying 0x3080 = record { segment = loaded 0x3000 0 0x200; listed = (1, omega arith, refl); loads = refl; from = omega arith; to = omega arith } in
     let there : byte_in h.memory 0x23080 ≡ Some 0 = h.zeros copying_blank 0x80 blank_is (omega arith) behind not_copied in
     let both : Some x.byte ≡ Some 0 = sym x.there ∙ there in
     let same : x.byte ≡ 0 = cc in
@@ -60,16 +60,7 @@ unfolding x86_64_formula
 address_formula = refl
 
 kept : IsKept copying copying_item
-kept = record {
-  section = copying_data;
-  kept = record {
-    input = record { group = _; grouped = (0, omega arith, refl); file = _; filed = (0, omega arith, refl); listed = (0, omega arith, refl) };
-    loaded = refl;
-    room = refl;
-    has_data = refl;
-  };
-  is = refl;
-}
+kept = OfSection copying_data (record { input = record { group = _; grouped = (0, omega arith, refl); file = _; filed = (0, omega arith, refl); listed = (0, omega arith, refl) }; loaded = tt; room = refl; has_data = refl }) refl
 
 pub no_code : IsSet 3 shf_execinstr → ⊥
 no_code e = omega arith

@@ -16,7 +16,9 @@ mod CopyRefused
 mod StaticLegal
 mod StaticRefused
 mod Meant
+pub mod AmongLemmas
 mod OneReference
+pub mod PairLemmas
 mod CodeRefused
 mod SequenceRefused
 mod SharedCode
@@ -24,3 +26,4 @@ mod StaticLoaded
 mod StaticLinked
 mod CopyLoaded
 mod CopyLinked
+mod SegmentsRefused

@@ -8,7 +8,7 @@ use Rattle.wild_types.specs.declared.layout.Layout.{Layout}
 use Rattle.wild_loader.specs.declared.memory.Memory.{Memory}
 use Rattle.wild_loader.specs.declared.world.World.{World}
 use Rattle.wild_loader.specs.Memory.{Holds}
-use Rattle.wild_meaning.specs.Instruction.{Reader, Effect}
+use Rattle.wild_loader.specs.Instruction.{Reader, Effect}
 use Rattle.wild_meaning.specs.Sequence.{Instruction, size_of}
 use Rattle.wild_meaning.specs.Item.{Item, place_at}
 use Rattle.wild_meaning.specs.Template.{Demands, IsDemanded, old_bytes, effect_of, DoesDemanded}

@@ -1,5 +1,4 @@
 -- Code with one reference: which instruction it is, and that it is refused where it does something else.
---   pick ..           of a list's elements that pass a test, what holds of each of those
 --   single_refused    a reference of code with one reference is refused where the loaded bytes do something else
 use Rattle.std.proofs.Common.{◌≡◌, ℕ, zero, suc, ◌+◌, ◌<◌, ◌≤◌, ◌⊎◌, inl, inr, Bool, true, false, List, [], ◌∷◌, length, get_or, refl, sym, ap, ◌∙◌, subst, arith, eq-eqb}
 use Rattle.std.specs.Prelude.{◌==◌, ◌&&◌, ◌||◌, not, nat_le, Option, Some, None, Contains, slice_get, slice_range, slice_index_or}
@@ -16,39 +15,18 @@ use Rattle.wild_loader.specs.declared.memory.Memory.{Memory}
 use Rattle.wild_loader.specs.declared.world.World.{World}
 use Rattle.wild_loader.specs.Memory.{Holds}
 use Rattle.wild_loader.proofs.Held.{held-first, held-rest}
-use Rattle.wild_meaning.specs.Instruction.{Reader, Number, Deed, Effect, stands}
+use Rattle.wild_loader.specs.declared.instruction.Operand.TheVariants.{Number}
+use Rattle.wild_loader.specs.declared.instruction.Deed.{Deed}
+use Rattle.wild_loader.specs.Instruction.{Reader, Effect, stands}
 use Rattle.wild_meaning.specs.Item.{Item}
 use Rattle.wild_meaning.specs.Field.{form_width, formula_of, InNoField}
 use Rattle.wild_meaning.specs.Sequence.{Instruction, Partner, size_of, instructions_of}
 use Rattle.wild_meaning.specs.Template.{IsInstruction, IsTemplate, reads, reads_alone, DoesDemanded}
 use Rattle.wild_meaning.specs.Reference.{ReferenceHolds}
+use Rattle.wild_meaning.proofs.AmongLemmas.{Among, pick}
+use Rattle.wild_meaning.proofs.PairLemmas.{as_pair}
 
 -- ---- of a list
-
-abbrev pub both : Bool → Type 0 → Type 0 → Type 0
-both true A B = A × B
-both false A B = B
-
--- P holds of each element that passes
-abbrev pub Among : {X : Type 0} → (X → Bool) → (X → Type 0) → List X → Type 0
-Among test P [] = Unit {0}
-Among test P (x ∷ xs) = both (test x) (P x) (Among test P xs)
-
-pub pick : {X : Type 0} (test : X → Bool) (P : X → Type 0) (xs : List X) → Among test P xs → (o : X) → Contains xs o → test o ≡ true → P o
-pick {X} test P xs h o c t = by test P xs h o c.0 c.1 c.2 t
-  where
-    first : (b : Bool) (A B : Type 0) → b ≡ true → both b A B → A
-    first true A B e h = h.0
-    first false A B e h = absurd (let f : false ≡ true = e in cc)
-
-    rest : (b : Bool) (A B : Type 0) → both b A B → B
-    rest true A B h = h.1
-    rest false A B h = h
-
-    by : {X : Type 0} (test : X → Bool) (P : X → Type 0) (xs : List X) → Among test P xs → (o : X) (k : ℕ) → k < length xs → slice_index_or xs k o ≡ o → test o ≡ true → P o
-    by test P [] h o k lt e t = absurd (omega (arith, lt))
-    by test P (x ∷ xs) h o zero lt e t = subst P e (first (test x) (P x) (Among test P xs) (ap test e ∙ t) h)
-    by test P (x ∷ xs) h o (suc k) lt e t = by test P xs (rest (test x) (P x) (Among test P xs) h) o k (omega (arith, lt)) e t
 
 abbrev pub has : ℕ → List ℕ → Bool
 has n [] = false
@@ -69,15 +47,15 @@ has_is n ms c = by n ms c.0 c.1 c.2
     by n (m ∷ ms) zero lt e = front (m == n) (eq-eqb m n e) (has n ms)
     by n (m ∷ ms) (suc k) lt e = back (m == n) (has n ms) (by n ms k (omega (arith, lt)) e)
 
-abbrev pub is_none : Option Partner → Bool
-is_none None = true
-is_none (Some p) = false
+abbrev pub is_none : List Partner → Bool
+is_none [] = true
+is_none (p ∷ ps) = false
 
 -- an instruction alone that the relocations of a number fill
 abbrev pub fills : ℕ → Instruction → Bool
-fills n o = has n o.numbers && is_none o.partner
+fills n o = has n o.numbers && is_none o.partners
 
-pub fills_is : (n : ℕ) (o : Instruction) → Contains o.numbers n → o.partner ≡ None → fills n o ≡ true
+pub fills_is : (n : ℕ) (o : Instruction) → Contains o.numbers n → o.partners ≡ [] → fills n o ≡ true
 fills_is n o c e = let a = has_is n o.numbers c in rw (a, e) refl
 
 -- ---- in memory
@@ -120,7 +98,7 @@ not_done : (read : Reader) (l : Layout) (w : World) (m : Memory) (item : Item) (
 not_done read l w m item r start o first x one all (inl s) d =
     let known : Contains (instructions_of machine.X86_64) o = subst (λ (k : Machine). Contains (instructions_of k) o) x s.0.stands.known in
     pick (fills r.number) (IsNotDone read l w m item r) (instructions_of machine.X86_64) all o known (fills_is r.number o s.0.stands.number s.0.single) start s.0.stands.field s.0.stands.stands (subst (λ (f : InputRelocation). DoesDemanded read l w m item f start o) s.1 d)
-not_done read l w m item r start o first x one all (inr s) d = absurd (not_next item r s.second s.sequence.has.index one s.sequence.has.next)
+not_done read l w m item r start o first x one all (inr s) d = let t = (as_pair l item first s.rest start o x s.sequence).pair in absurd (not_next item r _ t.has.index one t.has.next)
 
 pub single_refused : (l : Layout) (w : World) (m : Memory) (item : Item) (r : InputRelocation) (o : Instruction) → l.machine ≡ machine.X86_64 → item.relocations ≡ r ∷ [] → IsTemplate l item r 0 o r → ((read : Reader) → ReadsNumbers read → Among (fills r.number) (IsNotDone read l w m item r) (instructions_of machine.X86_64)) → ReferenceHolds l w m item r → ⊥
 single_refused l w m item r o x one t all (inl h) = not_done (reads w m) l w m item r 0 o r x one (all (reads w m) (λ n. refl)) t (h.does 0 o r t)
@@ -168,13 +146,13 @@ within number offset n from o all known filled e =
     third false b c h e f = absurd (let both : false ≡ true = e in cc)
 
 -- the one relocation of code that begins with an instruction belongs to it
-pub template_there : (l : Layout) (item : Item) (r : InputRelocation) (o : Instruction) → l.machine ≡ machine.X86_64 → item.relocations ≡ r ∷ [] → o.partner ≡ None → list_all (is_within r.number r.offset (size_of o)) (instructions_of machine.X86_64) ≡ true → IsInstruction l item r 0 o → IsTemplate l item r 0 o r
+pub template_there : (l : Layout) (item : Item) (r : InputRelocation) (o : Instruction) → l.machine ≡ machine.X86_64 → item.relocations ≡ r ∷ [] → o.partners ≡ [] → list_all (is_within r.number r.offset (size_of o)) (instructions_of machine.X86_64) ≡ true → IsInstruction l item r 0 o → IsTemplate l item r 0 o r
 template_there l item r o x one single all t = inl (
   record {
     single = single;
     stands = t;
     longest = λ from p none s. within r.number r.offset (size_of o) from p all (subst (λ (k : Machine). Contains (instructions_of k) p) x s.known) s.number s.field;
-    free = λ a from p q. not_next item r r q.has.index one q.has.next;
+    free = λ a rest from p q c. (let t = (as_pair l item a rest from p x q).pair in not_next item r _ t.has.index one t.has.next);
   },
   refl,
 )

@@ -10,20 +10,22 @@ use Rattle.wild_types.specs.declared.input.InputRelocation.{InputRelocation}
 use Rattle.wild_types.specs.Flags.{has_flag, ifunc}
 use Rattle.wild_loader.specs.declared.memory.Memory.{Memory}
 use Rattle.wild_loader.specs.Memory.{Holds}
-use Rattle.wild_meaning.specs.Instruction.{Reader, stands}
-use Rattle.wild_meaning.specs.InstructionX86_64.{meaning_x86_64, effect_x86_64}
-use Rattle.wild_meaning.specs.ThreadCodeX86_64.{general_call, general_slot_call, far_pair_call}
+use Rattle.wild_loader.specs.Instruction.{Reader, stands}
+use Rattle.wild_loader.specs.InstructionX86_64.{meaning_x86_64, effect_x86_64}
+use Rattle.wild_loader.specs.ThreadCodeX86_64.{general_call, general_slot_call, far_pair_call}
 use Rattle.wild_meaning.specs.Value.{HasFlag}
-use Rattle.wild_meaning.specs.Item.{IsKept}
+use Rattle.wild_meaning.specs.Item.{IsKept, OfSection}
 use Rattle.wild_meaning.specs.Field.{form_width, InNoField}
-use Rattle.wild_meaning.specs.Sequence.{Instruction, SymbolPair, size_of, of_sequence, by_call, by_slot, by_distance, instructions_of}
+use Rattle.wild_meaning.specs.Sequence.{Instruction, SymbolPair, size_of, of_sequence, of_symbol, by_call, by_slot, by_distance, instructions_of}
 use Rattle.wild_meaning.specs.Template.{IsInstruction, IsSequence, IsTemplate, reads, reads_alone, DoesDemanded}
 use Rattle.wild_meaning.specs.Reference.{ReferenceHolds}
 use Rattle.wild_meaning.specs.Worked.{Refuses}
 use Rattle.wild_meaning.specs.WorkedStatic.{static_pie, static_pie_world, general_code, general_item, pair_reference, getter_reference, thread_symbol, getter_symbol}
 use Rattle.wild_meaning.specs.StaticRefusals.{Has, half_sequence}
 use Rattle.wild_meaning.proofs.Meant.{meant}
-use Rattle.wild_meaning.proofs.OneReference.{Among, pick, has, has_is, fills, fills_is, same_bytes}
+use Rattle.wild_meaning.proofs.AmongLemmas.{Among, pick}
+use Rattle.wild_meaning.proofs.OneReference.{has, has_is, fills, fills_is, same_bytes}
+use Rattle.wild_meaning.proofs.PairLemmas.{as_pair}
 use Rattle.wild_meaning.proofs.StaticRefused.{thread_is, holds_there}
 
 pub pair_formula : x86_64_formula r_x86_64_tlsgd ≡ Some (formula (SlotDistance ModulePair) (Plain 32 Signed))
@@ -35,7 +37,7 @@ unfolding x86_64_formula
 plt_formula = refl
 
 abbrev pub general : Instruction
-general = of_sequence general_call 4 SymbolPair r_x86_64_tlsgd (by_call 12)
+general = of_sequence general_call 4 SymbolPair r_x86_64_tlsgd of_symbol (by_call 12)
 
 -- ---- the sequence stands there
 
@@ -51,11 +53,7 @@ beside_both : (k : ℕ) → (k < 4) ⊎ (8 ≤ k) → (k < 12) ⊎ (16 ≤ k) �
 beside_both k a b = All-from_recursion (λ (q : InputRelocation). (f : Formula) → x86_64_formula q.number ≡ Some f → (k < q.offset) ⊎ (q.offset + form_width f.form ≤ k)) (pair_reference ∷ getter_reference ∷ []) ((λ f e. past r_x86_64_tlsgd 4 k _ f pair_formula refl a e), ((λ f e. past r_x86_64_plt32 12 k _ f plt_formula refl b e), tt))
 
 general_kept : IsKept static_pie general_item
-general_kept = record {
-  section = general_code;
-  kept = record { input = record { group = _; grouped = (0, omega arith, refl); file = _; filed = (0, omega arith, refl); listed = (2, omega arith, refl) }; loaded = refl; room = refl; has_data = refl };
-  is = refl;
-}
+general_kept = OfSection general_code (record { input = record { group = _; grouped = (0, omega arith, refl); file = _; filed = (0, omega arith, refl); listed = (2, omega arith, refl) }; loaded = tt; room = refl; has_data = refl }) refl
 
 general_stands : IsInstruction static_pie general_item pair_reference 0 general
 general_stands = record {
@@ -66,31 +64,30 @@ general_stands = record {
   inside = omega arith;
   stands = refl;
   counts = refl;
-  alone = λ k h. subst (λ (j : ℕ). InNoField static_pie general_item j) (let e : k ≡ 0 + k = omega arith in e) (beside_both k h.beside h.apart);
+  alone = λ k h. subst (λ (j : ℕ). InNoField static_pie general_item j) (let e : k ≡ 0 + k = omega arith in e) (beside_both k h.beside h.apart.0);
 }
 
 plain_thread : HasFlag static_pie 2 ifunc false
 unfolding has_flag
 plain_thread = record { definition = 2; defined = record { symbol = thread_symbol; listed = refl; defined = inr (refl, refl) }; symbol = thread_symbol; listed = refl; flagged = refl }
 
-general_sequence : IsSequence static_pie general_item pair_reference getter_reference 0 general
+general_sequence : IsSequence static_pie general_item pair_reference (getter_reference ∷ []) 0 general
 general_sequence = record {
-  executable = tt;
   stands = general_stands;
-  partner = by_call 12;
-  calls = refl;
-  has = record { index = 0; listed = refl; next = refl; field = refl; number = (1, omega arith, refl); getter = record { index = 3; named = refl; symbol = getter_symbol; listed = refl; getter = refl } };
+  several = omega arith;
+  index = 0;
+  listed = refl;
+  has = (record { listed = refl; field = refl; number = (1, omega arith, refl); names = record { index = 3; named = refl; symbol = getter_symbol; listed = refl; getter = refl } }, tt);
   symbol = 2;
   named = refl;
-  plain = plain_thread;
-  rewritten = λ e other. refl;
+  met = (tt, (plain_thread, ((λ other. refl), tt)));
 }
 
 pub general_template : IsTemplate static_pie general_item pair_reference 0 general pair_reference
-general_template = inr (record { second = getter_reference; sequence = general_sequence; one = inl refl })
+general_template = inr (record { rest = getter_reference ∷ []; sequence = general_sequence; one = (0, omega arith, refl) })
 
 pub getter_template : IsTemplate static_pie general_item getter_reference 0 general pair_reference
-getter_template = inr (record { second = getter_reference; sequence = general_sequence; one = inr refl })
+getter_template = inr (record { rest = getter_reference ∷ []; sequence = general_sequence; one = (1, omega arith, refl) })
 
 -- ---- and it does nothing that is known
 
@@ -123,7 +120,7 @@ not_there start at o e never s =
 no_sequence : (read : Reader) (m : Memory) → Holds m 0x41020 half_sequence → Among (λ (o : Instruction). has r_x86_64_tlsgd o.numbers) (IsNotDone read m) (instructions_of machine.X86_64)
 no_sequence read m held = (
   (λ start f s d. let at : start ≡ 0 = omega (arith, f) in general_refused read m held (subst (λ (k : ℕ). DoesDemanded read static_pie static_pie_world m general_item pair_reference k general) at d)),
-  ((λ start f s d. not_there start 0 (of_sequence general_slot_call 4 SymbolPair r_x86_64_tlsgd (by_slot 12)) (omega (arith, f)) refl s), ((λ start f s d. not_there start 1 (of_sequence far_pair_call 3 SymbolPair r_x86_64_tlsgd (by_distance 9)) (omega (arith, f)) refl s), tt)),
+  ((λ start f s d. not_there start 0 (of_sequence general_slot_call 4 SymbolPair r_x86_64_tlsgd of_symbol (by_slot 12)) (omega (arith, f)) refl s), ((λ start f s d. not_there start 1 (of_sequence far_pair_call 3 SymbolPair r_x86_64_tlsgd of_symbol (by_distance 9)) (omega (arith, f)) refl s), tt)),
 )
 
 -- the first relocation of a sequence is the first one
@@ -135,7 +132,8 @@ first_is first second (suc (suc i)) a b = absurd (let none : None ≡ Some first
 not_done : (read : Reader) (m : Memory) → Holds m 0x41020 half_sequence → (start : ℕ) (o : Instruction) (first : InputRelocation) → IsTemplate static_pie general_item pair_reference start o first → DoesDemanded read static_pie static_pie_world m general_item first start o → ⊥
 not_done read m held start o first (inl s) d = pick (fills r_x86_64_tlsgd) IsNone (instructions_of machine.X86_64) tt o s.0.stands.known (fills_is r_x86_64_tlsgd o s.0.stands.number s.0.single)
 not_done read m held start o first (inr s) d =
-    let at : first ≡ pair_reference = first_is first s.second s.sequence.has.index s.sequence.has.listed s.sequence.has.next in
+    let q = (as_pair static_pie general_item first s.rest start o refl s.sequence).pair in
+    let at : first ≡ pair_reference = first_is first _ q.has.index q.has.listed q.has.next in
     let there : IsInstruction static_pie general_item pair_reference start o = subst (λ (r : InputRelocation). IsInstruction static_pie general_item r start o) at s.sequence.stands in
     pick (λ (p : Instruction). has r_x86_64_tlsgd p.numbers) (IsNotDone read m) (instructions_of machine.X86_64) (no_sequence read m held) o there.known (has_is r_x86_64_tlsgd o.numbers there.number) start there.field there.stands (subst (λ (r : InputRelocation). DoesDemanded read static_pie static_pie_world m general_item r start o) at d)
 

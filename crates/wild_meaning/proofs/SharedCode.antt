@@ -9,10 +9,12 @@ use Rattle.wild_types.specs.declared.kind.Machine.TheVariants as machine
 use Rattle.wild_loader.specs.declared.memory.Memory.{Memory}
 use Rattle.wild_loader.specs.Memory.{Holds}
 use Rattle.wild_loader.specs.Changes.{first_value}
-use Rattle.wild_meaning.specs.Instruction.{Reader, Number, Set, as_value, with_value}
-use Rattle.wild_meaning.specs.InstructionX86_64.{meaning_x86_64, effect_x86_64}
-use Rattle.wild_meaning.specs.CodeX86_64.{rex, with_slot}
-use Rattle.wild_meaning.specs.Item.{IsKept}
+use Rattle.wild_loader.specs.declared.instruction.Operand.TheVariants.{Number}
+use Rattle.wild_loader.specs.declared.instruction.Deed.TheVariants.{Set}
+use Rattle.wild_loader.specs.Instruction.{Reader, as_value, with_value}
+use Rattle.wild_loader.specs.InstructionX86_64.{meaning_x86_64, effect_x86_64}
+use Rattle.wild_loader.specs.CodeX86_64.{rex, with_slot}
+use Rattle.wild_meaning.specs.Item.{IsKept, OfSection}
 use Rattle.wild_meaning.specs.Field.{InNoField}
 use Rattle.wild_meaning.specs.Sequence.{Instruction, Described, of_field, instructions_of}
 use Rattle.wild_meaning.specs.Template.{IsDescribed, IsInstruction, IsTemplate, DoesDemanded}
@@ -21,18 +23,15 @@ use Rattle.wild_meaning.specs.SharedRefusals.{WrongCodeOfLibraryIsRefused, offse
 use Rattle.wild_meaning.proofs.Meant.{meant}
 use Rattle.wild_meaning.proofs.SlotPlaces.{slot_holds}
 use Rattle.wild_meaning.proofs.Refused.{not_excepted, not_alone}
-use Rattle.wild_meaning.proofs.OneReference.{beside, effect_with, value_in, ReadsNumbers, IsNotDone, Among, fills, same_bytes, single_refused, template_there}
+use Rattle.wild_meaning.proofs.AmongLemmas.{Among}
+use Rattle.wild_meaning.proofs.OneReference.{beside, effect_with, value_in, ReadsNumbers, IsNotDone, fills, same_bytes, single_refused, template_there}
 use Rattle.wild_meaning.proofs.SharedRefused.{thread_is, refers, descriptor_formula}
 
 abbrev described : Instruction
 described = of_field (with_slot 0x8d Number Set rex) 3 Described (r_x86_64_gotpc32_tlsdesc ∷ [])
 
 code_kept : IsKept shared code_item
-code_kept = record {
-  section = shared_code;
-  kept = record { input = record { group = _; grouped = (0, omega arith, refl); file = _; filed = (0, omega arith, refl); listed = (1, omega arith, refl) }; loaded = refl; room = refl; has_data = refl };
-  is = refl;
-}
+code_kept = OfSection shared_code (record { input = record { group = _; grouped = (0, omega arith, refl); file = _; filed = (0, omega arith, refl); listed = (1, omega arith, refl) }; loaded = tt; room = refl; has_data = refl }) refl
 
 described_stands : IsInstruction shared code_item shared_reference 0 described
 described_stands = record {

@@ -69,7 +69,7 @@ none_own (suc (suc (suc (suc i)))) x own h = let both : None ≡ Some own.define
 pub shared_legal : SharedWorldIsLegal
 shared_legal = record {
   aligned = refl;
-  ends = All-from_recursion (λ (g : Segment). g.kind ≡ pt_load → shared_world.base + g.address + g.mem_size ≤ 2 ^ 64) shared.segments ((λ k. omega arith), tt);
+  ends = All-from_recursion (λ (g : Segment). g.kind ≡ pt_load → shared_world.base + g.address + g.mem_size ≤ 2 ^ 64) shared.segments ((λ k. omega arith), ((λ k. omega arith), tt));
   fixed = λ f. absurd f;
   first = λ x. absurd x;
   resolvers = resolvers;

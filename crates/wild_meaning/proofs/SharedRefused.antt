@@ -15,7 +15,7 @@ use Rattle.wild_loader.specs.declared.memory.Memory.{Memory}
 use Rattle.wild_loader.specs.declared.world.Answer.{Answer}
 use Rattle.wild_loader.specs.Memory.{byte_in}
 use Rattle.wild_meaning.specs.Section.{IsSet}
-use Rattle.wild_meaning.specs.Item.{IsKept}
+use Rattle.wild_meaning.specs.Item.{IsKept, OfSection}
 use Rattle.wild_meaning.specs.Field.{form_width, InNoField}
 use Rattle.wild_meaning.specs.Reference.{ItemHolds, IsOther, TakesItself}
 use Rattle.wild_meaning.specs.Slot.{IsSlot, behind_first}
@@ -30,16 +30,7 @@ use Rattle.wild_meaning.proofs.Refused.{HasValueThere, value_there, no_template}
 
 -- its data is kept
 pub kept : IsKept shared shared_item
-kept = record {
-  section = shared_data;
-  kept = record {
-    input = record { group = _; grouped = (0, omega arith, refl); file = _; filed = (0, omega arith, refl); listed = (0, omega arith, refl) };
-    loaded = refl;
-    room = refl;
-    has_data = refl;
-  };
-  is = refl;
-}
+kept = OfSection shared_data (record { input = record { group = _; grouped = (0, omega arith, refl); file = _; filed = (0, omega arith, refl); listed = (0, omega arith, refl) }; loaded = tt; room = refl; has_data = refl }) refl
 
 -- ---- formulas
 

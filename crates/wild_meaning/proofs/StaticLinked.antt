@@ -9,6 +9,7 @@ use Rattle.wild_words.proofs.RecordLemmas.{Stands-left}
 use Rattle.wild_records.specs.Abi.Relocation.{r_x86_64_64, r_x86_64_tpoff64}
 use Rattle.wild_records.specs.FileHeader.{file_header_fields}
 use Rattle.wild_records.specs.ProgramHeader.{program_header_fields}
+use Rattle.wild_records.specs.declared.program_header.ProgramHeader.{ProgramHeader}
 use Rattle.wild_reloc.specs.Formula.{Formula, formula, SymbolAddress, PointerOffset, Full}
 use Rattle.wild_reloc.specs.FormulaX86_64.{x86_64_formula}
 use Rattle.wild_types.specs.declared.file.FileRole.TheVariants as file_role
@@ -20,17 +21,19 @@ use Rattle.wild_types.specs.declared.layout.Entry.TheVariants as entry
 use Rattle.wild_types.specs.declared.symbol.Symbol.{Symbol}
 use Rattle.wild_types.specs.Flags.{has_flag}
 use Rattle.wild_loader.specs.Memory.{byte_in, Holds}
-use Rattle.wild_meaning.specs.Instruction.{Call, Set, SetThreadAddress, as_value}
-use Rattle.wild_meaning.specs.InstructionX86_64.{meaning_x86_64, effect_x86_64}
+use Rattle.wild_loader.specs.declared.instruction.Deed.TheVariants.{Call, Set, SetThreadAddress}
+use Rattle.wild_loader.specs.Instruction.{as_value}
+use Rattle.wild_loader.specs.InstructionX86_64.{meaning_x86_64, effect_x86_64}
 use Rattle.wild_meaning.specs.Value.{IsDefinedBy, IsSymbol, HasValue}
 use Rattle.wild_meaning.specs.Thread.{HasThreadOffset}
-use Rattle.wild_meaning.specs.Item.{Item, IsInput, IsKept, item_of}
+use Rattle.wild_meaning.specs.Item.{Item, IsInput, IsKept, item_of, OfSection}
 use Rattle.wild_meaning.specs.Template.{DoesDemanded, reads_alone}
 use Rattle.wild_meaning.specs.Reference.{IsLinkedAlone, IsOther, ReferenceHolds, ItemHolds}
+use Rattle.wild_meaning.specs.Segments.{AreTold, HasSegments}
 use Rattle.wild_meaning.specs.Linked.{IsBlank}
 use Rattle.wild_meaning.specs.Worked.{reference, file_of, group_of}
 use Rattle.wild_meaning.specs.WorkedStatic.{static_pie, static_pie_world, branch_code, branch_item, branch_reference, load_code, load_item, load_reference, general_code, general_item, pair_reference, getter_reference, described_code, described_item, described_reference, static_data, static_item, first_function, second_function, thread_symbol, getter_symbol}
-use Rattle.wild_meaning.specs.WorkedImage.{static_memory, static_header, static_segment, static_content}
+use Rattle.wild_meaning.specs.WorkedImage.{static_image, static_memory, static_header, static_segment, static_content}
 use Rattle.wild_meaning.specs.StaticRefusals.{StaticImageIsLinked}
 use Rattle.wild_meaning.proofs.Told.{only, IsPlainOwn}
 use Rattle.wild_meaning.proofs.Read.{held_from}
@@ -38,7 +41,7 @@ use Rattle.wild_meaning.proofs.Refused.{not_alone, no_template}
 use Rattle.wild_meaning.proofs.Meant.{done}
 use Rattle.wild_meaning.proofs.OneReference.{effect_with}
 use Rattle.wild_meaning.proofs.StaticLegal.{no_library}
-use Rattle.wild_meaning.proofs.StaticLoaded.{static_loaded}
+use Rattle.wild_meaning.proofs.StaticLoaded.{static_loaded, static_programs}
 use Rattle.wild_meaning.proofs.StaticRefused.{first_is, second_is, thread_is, address_formula, pointer_formula, no_code}
 use Rattle.wild_meaning.proofs.CodeRefused.{plt_formula, load_formula, descriptor_formula, call, call_template, call_demanded, load, load_template, load_demanded, described, described_template, described_demanded}
 use Rattle.wild_meaning.proofs.SequenceRefused.{pair_formula, general, general_template, getter_template}
@@ -352,9 +355,9 @@ abbrev SectionHolds : InputSection → Type 0
 SectionHolds s = ItemHolds static_pie static_pie_world static_memory (item_of s)
 
 items_hold : (item : Item) → IsKept static_pie item → ItemHolds static_pie static_pie_world static_memory item
-items_hold item h =
-    let there : SectionHolds h.section = All-contains SectionHolds sections h.section (All-from_recursion SectionHolds sections (branch_item_holds, (load_item_holds, (general_item_holds, (described_item_holds, (static_item_holds, tt)))))) (listed_in h.section h.kept.input) in
-    subst (λ (i : Item). ItemHolds static_pie static_pie_world static_memory i) (sym h.is) there
+items_hold item (OfSection s kept is) =
+    let there : SectionHolds s = All-contains SectionHolds sections s (All-from_recursion SectionHolds sections (branch_item_holds, (load_item_holds, (general_item_holds, (described_item_holds, (static_item_holds, tt)))))) (listed_in s kept.input) in
+    subst (λ (i : Item). ItemHolds static_pie static_pie_world static_memory i) (sym is) there
 
 abbrev HasData : InputSection → Type 0
 HasData s = s.nobits ≡ false
@@ -364,6 +367,12 @@ no_blank s h =
     let has : HasData s = All-contains HasData sections s (All-from_recursion HasData sections (refl, (refl, (refl, (refl, (refl, tt)))))) (listed_in s h.input) in
     let both : true ≡ false = sym h.blank ∙ has in
     cc
+
+static_segments : HasSegments static_pie static_image static_header
+static_segments = record {
+  told = subst (λ (hs : List ProgramHeader). AreTold static_pie.segments hs) (sym static_programs) (record { kind = refl; address = refl; file_size = refl; mem_size = refl; flags = λ k. refl }, tt);
+  dynamic = λ d. absurd d;
+}
 
 pub static_linked : StaticImageIsLinked
 static_linked = record {
@@ -386,5 +395,6 @@ static_linked = record {
     address = λ a e. (let one : Some (entry.Address 0x1000) ≡ Some (entry.Address a) = e in let same : 0x1000 ≡ a = cc in same);
     symbol = λ i a e _. absurd (let one : Some (entry.Address 0x1000) ≡ Some (entry.Symbol i) = e in cc);
     none = λ e. absurd (let one : Some (entry.Address 0x1000) ≡ None = e in cc);
+    segments = static_segments;
   };
 }

@@ -1,5 +1,5 @@
 -- What a loader makes of the image of the worked program without a dynamic linker.
-use Rattle.std.proofs.Common.{◌≡◌, refl}
+use Rattle.std.proofs.Common.{◌≡◌, [], ◌∷◌, refl}
 use Rattle.std.specs.Prelude.{Ok}
 use Rattle.wild_words.specs.Words.{word, number}
 use Rattle.wild_words.specs.Extents.{least_extent}
@@ -11,10 +11,15 @@ use Rattle.wild_loader.specs.Tables.{first_dynamic, section_entries, section_tab
 use Rattle.wild_loader.specs.Places.{places_from}
 use Rattle.wild_loader.specs.Runs.{overlaid}
 use Rattle.wild_loader.specs.Relocate.{add_all, apart, notes, relocate}
-use Rattle.wild_loader.specs.Load.{load, load_with}
+use Rattle.wild_loader.specs.Load.{load, image_at, image_with}
 use Rattle.wild_meaning.specs.WorkedStatic.{static_pie_world}
-use Rattle.wild_meaning.specs.WorkedImage.{static_image, static_memory}
+use Rattle.wild_meaning.specs.WorkedImage.{static_image, static_segment, static_memory}
 
 pub static_loaded : load static_pie_world static_image ≡ Ok static_memory
-unfolding load load_with header program_headers segments load_segment load_segments tables first_dynamic section_tables sections section_entries relocate add_all apart notes overlaid places_from least_extent file_header_at file_header_fields program_header_at program_header_fields number word
+unfolding load image_at image_with header program_headers segments load_segment load_segments tables first_dynamic section_tables sections section_entries relocate add_all apart notes overlaid places_from least_extent file_header_at file_header_fields program_header_at program_header_fields number word
 static_loaded = refl
+
+-- its program header
+pub static_programs : program_headers static_image 1 64 ≡ static_segment ∷ []
+unfolding program_headers file_header_fields program_header_at program_header_fields number word
+static_programs = refl

@@ -12,7 +12,7 @@ use Rattle.wild_types.specs.declared.input.InputRelocation.{InputRelocation}
 use Rattle.wild_types.specs.Flags.{has_flag}
 use Rattle.wild_loader.specs.declared.memory.Memory.{Memory}
 use Rattle.wild_meaning.specs.Section.{IsSet}
-use Rattle.wild_meaning.specs.Item.{Item, IsKept}
+use Rattle.wild_meaning.specs.Item.{Item, IsKept, OfSection}
 use Rattle.wild_meaning.specs.Reference.{ItemHolds, ReferenceHolds}
 use Rattle.wild_meaning.specs.Worked.{Refuses, reference}
 use Rattle.wild_meaning.specs.WorkedStatic.{static_pie, static_pie_world, static_data, static_item, first_function, second_function, thread_symbol}
@@ -42,16 +42,7 @@ pub thread_offset : (t : ℕ) → HasThreadOffset static_pie static_pie_world 2 
 thread_offset t h = own_offset static_pie static_pie_world 2 0x3008 (2 ^ 64 - 16) t thread_is (omega arith) (somewhere static_pie 2 0 thread_symbol refl refl) refl h
 
 kept : IsKept static_pie static_item
-kept = record {
-  section = static_data;
-  kept = record {
-    input = record { group = _; grouped = (0, omega arith, refl); file = _; filed = (0, omega arith, refl); listed = (4, omega arith, refl) };
-    loaded = refl;
-    room = refl;
-    has_data = refl;
-  };
-  is = refl;
-}
+kept = OfSection static_data (record { input = record { group = _; grouped = (0, omega arith, refl); file = _; filed = (0, omega arith, refl); listed = (4, omega arith, refl) }; loaded = tt; room = refl; has_data = refl }) refl
 
 -- ---- formulas
 

@@ -1,13 +1,18 @@
 -- The definition of a symbol, as the judge and as the writer find it.
-use Rattle.std.proofs.Common.{◌≡◌, ℕ, ◌⊎◌, inl, inr, refl, sym, ap, ◌∙◌}
+use Rattle.std.proofs.Common.{◌≡◌, ℕ, ◌⊎◌, inl, inr, refl, sym, ap, ◌∙◌, subst}
 use Rattle.std.specs.Prelude.{Option, Some, None, option_and_then, unwrap_or, slice_get}
+use Rattle.wild_reloc.specs.Formula.{Value}
+use Rattle.wild_types.specs.declared.kind.Machine.{Machine}
+use Rattle.wild_types.specs.declared.kind.Machine.TheVariants as machine
+use Rattle.wild_types.specs.declared.input.InputRelocation.{InputRelocation}
 use Rattle.wild_types.specs.declared.symbol.Symbol.{Symbol}
 use Rattle.wild_types.specs.declared.layout.Layout.{Layout}
 use Rattle.wild_types.specs.Lookups.{canonical}
 use Rattle.wild_loader.specs.declared.world.World.{World}
 use Rattle.wild_loader.specs.declared.memory.Memory.{Memory}
 use Rattle.wild_meaning.specs.Value.{IsDefinedBy}
-use Rattle.wild_meaning.specs.Formula.{IsTarget, IsGoal}
+use Rattle.wild_meaning.specs.Item.{Item}
+use Rattle.wild_meaning.specs.Formula.{IsTarget, IsOwnTarget, IsReferent, IsOwnReferent, IsGoal}
 
 -- the symbol that defines another is the one that the layout looks up
 pub canonical_is : (l : Layout) (i c : ℕ) → IsDefinedBy l i c → canonical l i ≡ c
@@ -41,3 +46,14 @@ pub target_reached : (l : Layout) (w : World) (m : Memory) (symbol : Option ℕ)
 target_reached l w m None a h = h
 target_reached l w m (Some i) a (inl h) = (a, h, inl refl)
 target_reached l w m (Some i) a (inr h) = (h.value, h.is, h.reaches)
+
+-- ---- S on x86-64, whatever the expression
+
+pub referent_is : (v : Value) (l : Layout) (w : World) (m : Memory) (item : Item) (r : InputRelocation) (a : ℕ) → l.machine ≡ machine.X86_64 → IsTarget l w m r.symbol a → IsReferent l.machine v l w m item r a
+referent_is v l w m item r a x h = subst (λ (k : Machine). IsReferent k v l w m item r a) (sym x) h
+
+pub referent_stands : (v : Value) (l : Layout) (w : World) (m : Memory) (item : Item) (r : InputRelocation) (a : ℕ) → l.machine ≡ machine.X86_64 → IsReferent l.machine v l w m item r a → IsTarget l w m r.symbol a
+referent_stands v l w m item r a x h = subst (λ (k : Machine). IsReferent k v l w m item r a) x h
+
+pub own_referent_is : (v : Value) (l : Layout) (w : World) (item : Item) (r : InputRelocation) (a : ℕ) → l.machine ≡ machine.X86_64 → IsOwnTarget l w r.symbol a → IsOwnReferent l.machine v l w item r a
+own_referent_is v l w item r a x h = subst (λ (k : Machine). IsOwnReferent k v l w item r a) (sym x) h

@@ -1,20 +1,23 @@
 -- What a formula gives for a relocation of an item, in a world and a memory.
---   IsTarget l w m symbol a  a is what S is, its value or its stub: so it is what L is
---   IsSum l w m r x          x is S + A
+--   IsTarget l w m symbol a  a stands for a reference's symbol: it is its value, or its stub
+--   IsReferent ..            a is S in a reference, or L: on x86-64 what stands for its symbol
+--   IsSum value l w m item r x   x is S + A
 --   table_at l w             GOT
 --   IsOffset l w symbol t    t is S's offset from the thread pointer
 --   IsExtent l w symbol z    z is Z
 --   IsWhole l r n x          x is Z + A, or of another module's symbol in a field of four bytes its low half
 --   IsGoal l w m symbol a    code that goes to a comes to S
 --   HasOffsetMode l item     a descriptor's reference in the item is the offset itself
---   Gives value l w m item r x   x is the value of the expression
 --   IsPlaceRelative value    the expression takes a place from an address
+--   Gives value l w m item r x   x is the value of the expression
 --   GivesLinked value ..     the same with the output's own S, whatever another module has for it
 use Rattle.std.specs.Prelude.{◌≡◌, ℕ, ◌+◌, ◌-◌, ◌%◌, ◌^◌, ◌⊎◌, true, ⊤, Option, Some, None}
 use Rattle.std.specs.Int.{w64, cast_unsigned}
 use Rattle.wild_records.specs.Abi.Relocation.{r_x86_64_size32}
 use Rattle.wild_records.specs.Abi.Section.{shf_execinstr}
-use Rattle.wild_reloc.specs.Formula.{Value, NoValue, SymbolAddress, Distance, PageDistance, FromTable, StubDistance, StubFromTable, TableDistance, SlotDistance, SlotFromTable, AddressSlot, Descriptor, ModuleOffset, PointerOffset, Size}
+use Rattle.wild_reloc.specs.Formula.{Value, NoValue, SymbolAddress, SymbolPart, Distance, PageDistance, FromTable, StubDistance, StubFromTable, TableDistance, SlotDistance, SlotFromTable, AddressSlot, Descriptor, ModuleOffset, PointerOffset, Size}
+use Rattle.wild_types.specs.declared.kind.Machine.{Machine}
+use Rattle.wild_types.specs.declared.kind.Machine.TheVariants as machine
 use Rattle.wild_types.specs.declared.kind.OutputKind.{OutputKind}
 use Rattle.wild_types.specs.declared.kind.OutputKind.TheVariants as output
 use Rattle.wild_types.specs.declared.input.InputRelocation.{InputRelocation}
@@ -23,7 +26,9 @@ use Rattle.wild_loader.specs.declared.memory.Memory.{Memory}
 use Rattle.wild_loader.specs.declared.world.World.{World}
 use Rattle.wild_meaning.specs.Section.{IsSet}
 use Rattle.wild_meaning.specs.Value.{IsReplaceable, HasValue, HasOwnValue, HasSize}
-use Rattle.wild_meaning.specs.Denotes.{Denotes, Reaches}
+use Rattle.wild_loader.specs.Reach.{Reaches}
+use Rattle.wild_meaning.specs.Denotes.{Denotes}
+use Rattle.wild_meaning.specs.ReferentAArch64.{IsAbsent, own_place, StandsOnAArch64}
 use Rattle.wild_meaning.specs.Thread.{HasThreadOffset, HasOwnOffset, IsOffsetBase}
 use Rattle.wild_meaning.specs.Slot.{IsSlot}
 use Rattle.wild_meaning.specs.Item.{Item, place_at}
@@ -33,20 +38,52 @@ abbrev pub IsTarget : Layout → World → Memory → Option ℕ → ℕ → Typ
 IsTarget l w m None a = a ≡ 0
 IsTarget l w m (Some i) a = Denotes l w m i a
 
--- x is S + A
-pub record IsSum (l : Layout) (w : World) (m : Memory) (r : InputRelocation) (x : ℕ) : Type 0 where
-  pub symbol : ℕ
-  pub denoted : IsTarget l w m r.symbol symbol
-  pub sum : x ≡ (symbol + cast_unsigned w64 r.addend) % 2 ^ 64
-
 -- code that goes to a comes to what S is
 abbrev pub IsGoal : Layout → World → Memory → Option ℕ → ℕ → Type 0
 IsGoal l w m None a = a ≡ 0
 IsGoal l w m (Some i) a = (v : ℕ) × HasValue l w i v × Reaches m a v
 
+-- the expression takes P, Page(P) or GOT from S or L, also where it gives no value yet; GOT + A - P does not, since both
+-- move
+abbrev pub IsPlaceRelative : Value → Type 0
+IsPlaceRelative Distance = ⊤
+IsPlaceRelative PageDistance = ⊤
+IsPlaceRelative FromTable = ⊤
+IsPlaceRelative StubDistance = ⊤
+IsPlaceRelative StubFromTable = ⊤
+IsPlaceRelative other = ⊥
+
+-- ---- S and L
+
+-- the expression takes a place from a symbol that is not there
+abbrev pub TakesOwnPlace : Value → Layout → ℕ → Type 0
+TakesOwnPlace value l i = IsPlaceRelative value × IsAbsent l i
+
+-- S or L there: of a symbol that is not there the reference's own place
+abbrev pub IsReferentOnAArch64 : Value → Layout → World → Memory → Item → InputRelocation → Option ℕ → ℕ → Type 0
+IsReferentOnAArch64 value l w m item r None a = a ≡ 0
+IsReferentOnAArch64 value l w m item r (Some i) a = (TakesOwnPlace value l i × (a ≡ own_place w item r)) ⊎ ((TakesOwnPlace value l i → ⊥) × StandsOnAArch64 value l w m i a)
+
+-- a is S, or L, in a reference with that expression, whose place and addend may have a part in it
+abbrev pub IsReferent : Machine → Value → Layout → World → Memory → Item → InputRelocation → ℕ → Type 0
+IsReferent machine.X86_64 value l w m item r a = IsTarget l w m r.symbol a
+IsReferent machine.AArch64 value l w m item r a = IsReferentOnAArch64 value l w m item r r.symbol a
+
+-- x is S + A
+pub record IsSum (value : Value) (l : Layout) (w : World) (m : Memory) (item : Item) (r : InputRelocation) (x : ℕ) : Type 0 where
+  pub symbol : ℕ
+  pub denoted : IsReferent l.machine value l w m item r symbol
+  pub sum : x ≡ (symbol + cast_unsigned w64 r.addend) % 2 ^ 64
+
+-- ---- the other terms
+
 -- GOT: the loaded address of the global offset table
 abbrev pub table_at : Layout → World → ℕ
 table_at l w = (w.base + l.got_base) % 2 ^ 64
+
+-- the page of 4096 bytes in which an address lies (Arm Architecture Reference Manual, ADRP)
+abbrev pub page_of : ℕ → ℕ
+page_of n = n - n % 4096
 
 -- t is the offset of S from the thread pointer; without a symbol there is none
 abbrev pub IsOffset : Layout → World → Option ℕ → ℕ → Type 0
@@ -70,17 +107,17 @@ pub record IsShort (l : Layout) (r : InputRelocation) : Type 0 where
 abbrev pub IsWhole : Layout → InputRelocation → (n x : ℕ) → Type 0
 IsWhole l r n x = (x ≡ n) ⊎ (IsShort l r × (x ≡ n % 2 ^ 32))
 
--- a program whose descriptors' references in code are offsets: one without a loader that fills descriptors, or one that is
--- rewritten so
-abbrev pub KnowsOffsets : OutputKind → Layout → Type 0
-KnowsOffsets (output.StaticExecutable any) l = ⊤
-KnowsOffsets (output.DynamicExecutable any) l = l.options.relax ≡ true
-KnowsOffsets other l = ⊥
+-- a program of x86-64 whose descriptors' references in code are offsets: one without a loader that fills descriptors, or one that
+-- is rewritten so. On AArch64 a descriptor's instructions are taken as a whole
+abbrev pub KnowsOffsets : Machine → OutputKind → Layout → Type 0
+KnowsOffsets machine.X86_64 (output.StaticExecutable any) l = ⊤
+KnowsOffsets machine.X86_64 (output.DynamicExecutable any) l = l.options.relax ≡ true
+KnowsOffsets machine kind l = ⊥
 
 -- in the item's code the reference to a descriptor is the offset itself, and no descriptor's address ("ELF Handling For
 -- Thread-Local Storage", "Linker Relaxations")
 abbrev pub HasOffsetMode : Layout → Item → Type 0
-HasOffsetMode l item = KnowsOffsets l.kind l × IsSet item.flags shf_execinstr
+HasOffsetMode l item = KnowsOffsets l.machine l.kind l × IsSet item.flags shf_execinstr
 
 -- x is the value of the expression (x86-64 psABI, "Relocation Types"; aaelf64, "Relocation operations"; thread-local ones:
 -- "ELF Handling For Thread-Local Storage", "TLS Access Models"). The call through a descriptor has no value, and where descriptors'
@@ -88,11 +125,13 @@ HasOffsetMode l item = KnowsOffsets l.kind l × IsSet item.flags shf_execinstr
 -- image yet
 abbrev pub Gives : Value → Layout → World → Memory → Item → InputRelocation → ℕ → Type 0
 Gives NoValue l w m item r x = HasOffsetMode l item → ⊥
-Gives SymbolAddress l w m item r x = IsSum l w m r x
-Gives Distance l w m item r x = (t : ℕ) × IsSum l w m r t × (x ≡ (t + (2 ^ 64 - place_at w item r.offset)) % 2 ^ 64)
-Gives FromTable l w m item r x = (t : ℕ) × IsSum l w m r t × (x ≡ (t + (2 ^ 64 - table_at l w)) % 2 ^ 64)
-Gives StubDistance l w m item r x = (a : ℕ) × IsTarget l w m r.symbol a × (x ≡ (a + cast_unsigned w64 r.addend + (2 ^ 64 - place_at w item r.offset)) % 2 ^ 64)
-Gives StubFromTable l w m item r x = (a : ℕ) × IsTarget l w m r.symbol a × (x ≡ (a + cast_unsigned w64 r.addend + (2 ^ 64 - table_at l w)) % 2 ^ 64)
+Gives SymbolAddress l w m item r x = IsSum SymbolAddress l w m item r x
+Gives SymbolPart l w m item r x = IsSum SymbolPart l w m item r x
+Gives Distance l w m item r x = (t : ℕ) × IsSum Distance l w m item r t × (x ≡ (t + (2 ^ 64 - place_at w item r.offset)) % 2 ^ 64)
+Gives PageDistance l w m item r x = (t : ℕ) × IsSum PageDistance l w m item r t × (x ≡ (page_of t + (2 ^ 64 - page_of (place_at w item r.offset))) % 2 ^ 64)
+Gives FromTable l w m item r x = (t : ℕ) × IsSum FromTable l w m item r t × (x ≡ (t + (2 ^ 64 - table_at l w)) % 2 ^ 64)
+Gives StubDistance l w m item r x = (a : ℕ) × IsReferent l.machine StubDistance l w m item r a × (x ≡ (a + cast_unsigned w64 r.addend + (2 ^ 64 - place_at w item r.offset)) % 2 ^ 64)
+Gives StubFromTable l w m item r x = (a : ℕ) × IsReferent l.machine StubFromTable l w m item r a × (x ≡ (a + cast_unsigned w64 r.addend + (2 ^ 64 - table_at l w)) % 2 ^ 64)
 Gives (SlotDistance Descriptor) l w m item r x = (g : ℕ) × IsSlot Descriptor l w m r.symbol g × (HasOffsetMode l item → ⊥) × (x ≡ (g + cast_unsigned w64 r.addend + (2 ^ 64 - place_at w item r.offset)) % 2 ^ 64)
 Gives (SlotDistance sort) l w m item r x = (g : ℕ) × IsSlot sort l w m r.symbol g × (x ≡ (g + cast_unsigned w64 r.addend + (2 ^ 64 - place_at w item r.offset)) % 2 ^ 64)
 Gives SlotFromTable l w m item r x = (g : ℕ) × IsSlot AddressSlot l w m r.symbol g × (x ≡ (g + cast_unsigned w64 r.addend + (2 ^ 64 - table_at l w)) % 2 ^ 64)
@@ -102,16 +141,6 @@ Gives ModuleOffset l w m item r x = (t b : ℕ) × IsOffset l w r.symbol t × Is
 Gives Size l w m item r x = (z : ℕ) × IsExtent l w r.symbol z × IsWhole l r ((z + cast_unsigned w64 r.addend) % 2 ^ 64) x
 Gives other l w m item r x = ⊥
 
--- the expression takes P, Page(P) or GOT from S or L, also where it gives no value yet; GOT + A - P does not, since both
--- move
-abbrev pub IsPlaceRelative : Value → Type 0
-IsPlaceRelative Distance = ⊤
-IsPlaceRelative PageDistance = ⊤
-IsPlaceRelative FromTable = ⊤
-IsPlaceRelative StubDistance = ⊤
-IsPlaceRelative StubFromTable = ⊤
-IsPlaceRelative other = ⊥
-
 -- ---- a symbol as the output itself has it
 
 -- a is the value of the output's own symbol; without one there is none
@@ -119,10 +148,20 @@ abbrev pub IsOwnTarget : Layout → World → Option ℕ → ℕ → Type 0
 IsOwnTarget l w None a = ⊥
 IsOwnTarget l w (Some i) a = HasOwnValue l w i a
 
+-- on AArch64, of a symbol that is not there, the reference's own place
+abbrev pub IsOwnReferentOnAArch64 : Value → Layout → World → Item → InputRelocation → Option ℕ → ℕ → Type 0
+IsOwnReferentOnAArch64 value l w item r None a = ⊥
+IsOwnReferentOnAArch64 value l w item r (Some i) a = (TakesOwnPlace value l i × (a ≡ own_place w item r)) ⊎ ((TakesOwnPlace value l i → ⊥) × HasOwnValue l w i a)
+
+-- a is S in a reference with that expression
+abbrev pub IsOwnReferent : Machine → Value → Layout → World → Item → InputRelocation → ℕ → Type 0
+IsOwnReferent machine.X86_64 value l w item r a = IsOwnTarget l w r.symbol a
+IsOwnReferent machine.AArch64 value l w item r a = IsOwnReferentOnAArch64 value l w item r r.symbol a
+
 -- x is S + A
-pub record IsOwnSum (l : Layout) (w : World) (r : InputRelocation) (x : ℕ) : Type 0 where
+pub record IsOwnSum (value : Value) (l : Layout) (w : World) (item : Item) (r : InputRelocation) (x : ℕ) : Type 0 where
   pub symbol : ℕ
-  pub denoted : IsOwnTarget l w r.symbol symbol
+  pub denoted : IsOwnReferent l.machine value l w item r symbol
   pub sum : x ≡ (symbol + cast_unsigned w64 r.addend) % 2 ^ 64
 
 -- t is the own symbol's offset from the thread pointer
@@ -132,9 +171,11 @@ IsOwnOffset l w (Some i) t = HasOwnOffset l w i t
 
 -- x is the value of the expression where S is the output's own: the expressions that take S, or its offset
 abbrev pub GivesLinked : Value → Layout → World → Item → InputRelocation → ℕ → Type 0
-GivesLinked SymbolAddress l w item r x = IsOwnSum l w r x
-GivesLinked Distance l w item r x = (t : ℕ) × IsOwnSum l w r t × (x ≡ (t + (2 ^ 64 - place_at w item r.offset)) % 2 ^ 64)
-GivesLinked FromTable l w item r x = (t : ℕ) × IsOwnSum l w r t × (x ≡ (t + (2 ^ 64 - table_at l w)) % 2 ^ 64)
+GivesLinked SymbolAddress l w item r x = IsOwnSum SymbolAddress l w item r x
+GivesLinked SymbolPart l w item r x = IsOwnSum SymbolPart l w item r x
+GivesLinked Distance l w item r x = (t : ℕ) × IsOwnSum Distance l w item r t × (x ≡ (t + (2 ^ 64 - place_at w item r.offset)) % 2 ^ 64)
+GivesLinked PageDistance l w item r x = (t : ℕ) × IsOwnSum PageDistance l w item r t × (x ≡ (page_of t + (2 ^ 64 - page_of (place_at w item r.offset))) % 2 ^ 64)
+GivesLinked FromTable l w item r x = (t : ℕ) × IsOwnSum FromTable l w item r t × (x ≡ (t + (2 ^ 64 - table_at l w)) % 2 ^ 64)
 GivesLinked PointerOffset l w item r x = (t : ℕ) × IsOwnOffset l w r.symbol t × (x ≡ (t + cast_unsigned w64 r.addend) % 2 ^ 64)
 GivesLinked ModuleOffset l w item r x = (t b : ℕ) × IsOwnOffset l w r.symbol t × IsOffsetBase l.machine l.kind w b × (x ≡ (t + cast_unsigned w64 r.addend + (2 ^ 64 - b)) % 2 ^ 64)
 GivesLinked other l w item r x = ⊥
@@ -142,6 +183,7 @@ GivesLinked other l w item r x = ⊥
 -- the expression has the symbol's address, of itself or on a page
 abbrev pub TakesAddress : Value → Type 0
 TakesAddress SymbolAddress = ⊤
+TakesAddress SymbolPart = ⊤
 TakesAddress Distance = ⊤
 TakesAddress PageDistance = ⊤
 TakesAddress FromTable = ⊤

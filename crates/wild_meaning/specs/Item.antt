@@ -1,10 +1,12 @@
 -- What references are asked of.
 --   Item             input bytes that are loaded, with their relocations
---   IsKept l item    the item is one of the layout's: an input section that is loaded, allocated and has data
+--   IsLoadedSlot s   a section of that sort is loaded as it is
+--   IsKept l item    the item is one of the layout's: the bytes of an input section that is loaded, allocated and has data
 --   IsReference ..   a relocation of an item that refers to something
-use Rattle.std.specs.Prelude.{◌≡◌, ◌≢◌, ℕ, ◌+◌, false, List, Contains}
+use Rattle.std.specs.Prelude.{◌≡◌, ◌≢◌, ℕ, ◌+◌, false, ⊤, List, Contains}
 use Rattle.wild_records.specs.Abi.Relocation.{r_x86_64_none}
 use Rattle.wild_records.specs.Abi.Section.{shf_alloc}
+use Rattle.wild_types.specs.declared.input.Slot.{Slot}
 use Rattle.wild_types.specs.declared.input.Slot.TheVariants as slot
 use Rattle.wild_types.specs.declared.input.InputRelocation.{InputRelocation}
 use Rattle.wild_types.specs.declared.input.InputSection.{InputSection}
@@ -38,18 +40,22 @@ pub record IsInput (l : Layout) (s : InputSection) : Type 0 where
   pub filed : Contains group.files file
   pub listed : Contains file.sections s
 
+-- the sorts of input sections that are loaded as they are
+abbrev pub IsLoadedSlot : Slot → Type 0
+IsLoadedSlot slot.Loaded = ⊤
+IsLoadedSlot other = ⊥
+
 -- an input section that is loaded, allocated and has data
 pub record IsKeptSection (l : Layout) (s : InputSection) : Type 0 where
   pub input : IsInput l s
-  pub loaded : s.slot ≡ slot.Loaded
+  pub loaded : IsLoadedSlot s.slot
   pub room : IsSet s.flags shf_alloc
   pub has_data : s.nobits ≡ false
 
 abbrev pub item_of : InputSection → Item
 item_of s = record { address = s.address; flags = s.flags; bytes = s.bytes; relocations = s.relocations }
 
--- an item of the layout that stands in memory
-pub record IsKept (l : Layout) (item : Item) : Type 0 where
-  pub section : InputSection
-  pub kept : IsKeptSection l section
-  pub is : item ≡ item_of section
+-- an item of the layout that stands in memory: what it is made of
+pub data IsKept (l : Layout) (item : Item) : Type 0 where
+  -- an input section
+  OfSection : (s : InputSection) → IsKeptSection l s → item ≡ item_of s → IsKept l item

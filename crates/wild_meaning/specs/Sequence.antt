@@ -1,17 +1,21 @@
--- The instructions of x86-64 that relocations fill: which bytes are their fields, and what their operands stand for.
+-- The instructions that relocations fill: which bytes are their fields, and what their operands stand for.
 --   Sort               what an operand stands for
---   Partner            the field of the call in a sequence
+--   Named              what the relocation of a further field names
+--   Partner            a further field of a sequence
+--   Condition          when instructions are a sequence
 --   Instruction        an instruction, or a sequence of them, with its fields
 --   instructions_of m  those of a machine
 --   IsOwnByte o k      byte k of an instruction is in none of its fields
-use Rattle.std.specs.Prelude.{ℕ, ◌+◌, ◌<◌, ◌≤◌, ◌⊎◌, ⊤, List, [], ◌∷◌, ◌++◌, length, Option, Some, None}
+use Rattle.std.specs.Prelude.{ℕ, ◌+◌, ◌<◌, ◌≤◌, ◌⊎◌, ⊤, List, [], ◌∷◌, ◌++◌, length}
 use Rattle.wild_records.specs.Abi.Relocation.{r_x86_64_pc32, r_x86_64_plt32, r_x86_64_gotpcrel, r_x86_64_gotpcrelx, r_x86_64_rex_gotpcrelx, r_x86_64_code_4_gotpcrelx, r_x86_64_gottpoff, r_x86_64_code_4_gottpoff, r_x86_64_gotpc32_tlsdesc, r_x86_64_code_4_gotpc32_tlsdesc, r_x86_64_tlsdesc_call, r_x86_64_tlsgd, r_x86_64_tlsld, r_x86_64_pltoff64}
 use Rattle.wild_types.specs.declared.kind.Machine.{Machine}
 use Rattle.wild_types.specs.declared.kind.Machine.TheVariants as machine
-use Rattle.wild_meaning.specs.Instruction.{Number, Word, Set, Add, Subtract, Compare, Call, Jump, Template}
-use Rattle.wild_meaning.specs.CodeX86_64.{Prefix, bare, rex, rex2, with_slot, branch}
-use Rattle.wild_meaning.specs.ThreadCodeX86_64.{general_call, general_slot_call, far_pair_call, local_call, local_slot_call}
-use Rattle.wild_meaning.specs.InstructionX86_64.{descriptor_call}
+use Rattle.wild_loader.specs.declared.instruction.Operand.TheVariants.{Number, Word}
+use Rattle.wild_loader.specs.declared.instruction.Deed.TheVariants.{Set, Add, Subtract, Compare, Call, Jump}
+use Rattle.wild_loader.specs.Instruction.{Template}
+use Rattle.wild_loader.specs.CodeX86_64.{Prefix, bare, rex, rex2, with_slot, branch}
+use Rattle.wild_loader.specs.ThreadCodeX86_64.{general_call, general_slot_call, far_pair_call, local_call, local_slot_call}
+use Rattle.wild_loader.specs.InstructionX86_64.{descriptor_call}
 
 -- code, which is called or gone to, itself or by its address in a slot; an address in a slot; an offset from the thread pointer in
 -- a slot; the pair of a symbol, and that of the output's own thread-local data; a descriptor; or nothing, at the call through one
@@ -25,44 +29,67 @@ pub data Sort : Type 0 where
   Described : Sort
   DescribedCall : Sort
 
--- where the field of the call begins in a sequence, how many bytes it has, and the relocation types that fill it
+-- what the relocation of a further field names: the function that gives thread addresses, or the symbol of the first relocation
+pub data Named : Type 0 where
+  Getter : Named
+  SameSymbol : Named
+
+-- where a further field of a sequence begins, how many bytes it has, the relocation types that fill it, and what these name
 pub record Partner : Type 0 where
   pub field : ℕ
   pub width : ℕ
   pub numbers : List ℕ
+  pub names : Named
+
+-- instructions are a sequence in executables alone; where no resolver answers for the symbol; and, of a symbol that others may
+-- define, where instructions are rewritten. Else each is an instruction of its own
+pub data Condition : Type 0 where
+  InExecutable : Condition
+  WithoutResolver : Condition
+  RewrittenIfReplaceable : Condition
 
 -- an instruction, where its field begins and how many bytes that has, what its operand stands for, the relocation types that fill
--- the field, and the call of a sequence
+-- the field; and of a sequence its further fields, whose relocations follow the first one, and when it is one
 pub record Instruction : Type 0 where
   pub template : Template
   pub field : ℕ
   pub width : ℕ
   pub sort : Sort
   pub numbers : List ℕ
-  pub partner : Option Partner
+  pub partners : List Partner
+  pub conditions : List Condition
 
 abbrev pub size_of : Instruction → ℕ
 size_of o = length o.template.cells
 
-abbrev pub IsBesidePartner : ℕ → Option Partner → Type 0
-IsBesidePartner k None = ⊤
-IsBesidePartner k (Some p) = (k < p.field) ⊎ (p.field + p.width ≤ k)
+-- byte k is in no further field
+abbrev pub IsBesidePartners : ℕ → List Partner → Type 0
+IsBesidePartners k [] = ⊤
+IsBesidePartners k (p ∷ ps) = ((k < p.field) ⊎ (p.field + p.width ≤ k)) × IsBesidePartners k ps
 
 -- byte k of the instruction is in none of its fields
 pub record IsOwnByte (o : Instruction) (k : ℕ) : Type 0 where
   pub inside : k < size_of o
   pub beside : (k < o.field) ⊎ (o.field + o.width ≤ k)
-  pub apart : IsBesidePartner k o.partner
+  pub apart : IsBesidePartners k o.partners
 
 -- ---- x86-64
 
 -- one field of four bytes
 abbrev pub of_field : Template → ℕ → Sort → List ℕ → Instruction
-of_field t field sort numbers = record { template = t; field = field; width = 4; sort = sort; numbers = numbers; partner = None }
+of_field t field sort numbers = record { template = t; field = field; width = 4; sort = sort; numbers = numbers; partners = []; conditions = [] }
 
 -- the same with a call
-abbrev pub of_sequence : Template → ℕ → Sort → ℕ → Partner → Instruction
-of_sequence t field sort number partner = record { template = t; field = field; width = 4; sort = sort; numbers = number ∷ []; partner = Some partner }
+abbrev pub of_sequence : Template → ℕ → Sort → ℕ → List Condition → Partner → Instruction
+of_sequence t field sort number conditions call = record {
+  template = t;
+  field = field;
+  width = 4;
+  sort = sort;
+  numbers = number ∷ [];
+  partners = call ∷ [];
+  conditions = conditions;
+}
 
 -- `call` and `jmp`, direct and through a slot; R_X86_64_GOTPCRELX is for instructions without a prefix, as these are (x86-64
 -- psABI, "Relocation Types")
@@ -102,27 +129,34 @@ abbrev pub of_descriptors : List Instruction
 of_descriptors =
     of_field (with_slot 0x8d Number Set rex) 3 Described (r_x86_64_gotpc32_tlsdesc ∷ [])
     ∷ of_field (with_slot 0x8d Number Set rex2) 4 Described (r_x86_64_code_4_gotpc32_tlsdesc ∷ [])
-    ∷ record { template = descriptor_call; field = 0; width = 0; sort = DescribedCall; numbers = r_x86_64_tlsdesc_call ∷ []; partner = None }
+    ∷ record { template = descriptor_call; field = 0; width = 0; sort = DescribedCall; numbers = r_x86_64_tlsdesc_call ∷ []; partners = []; conditions = [] }
     ∷ []
 
--- the calls of sequences (x86-64 psABI, "Thread-Local Storage")
+-- the calls of sequences (x86-64 psABI, "Thread-Local Storage"), which name the function that gives thread addresses
 abbrev pub by_call : ℕ → Partner
-by_call n = record { field = n; width = 4; numbers = r_x86_64_pc32 ∷ r_x86_64_plt32 ∷ [] }
+by_call n = record { field = n; width = 4; numbers = r_x86_64_pc32 ∷ r_x86_64_plt32 ∷ []; names = Getter }
 
 abbrev pub by_slot : ℕ → Partner
-by_slot n = record { field = n; width = 4; numbers = r_x86_64_gotpcrel ∷ r_x86_64_gotpcrelx ∷ r_x86_64_rex_gotpcrelx ∷ [] }
+by_slot n = record { field = n; width = 4; numbers = r_x86_64_gotpcrel ∷ r_x86_64_gotpcrelx ∷ r_x86_64_rex_gotpcrelx ∷ []; names = Getter }
 
 abbrev pub by_distance : ℕ → Partner
-by_distance n = record { field = n; width = 8; numbers = r_x86_64_pltoff64 ∷ [] }
+by_distance n = record { field = n; width = 8; numbers = r_x86_64_pltoff64 ∷ []; names = Getter }
+
+-- when a linker may take a sequence as one: a pair of the output's own, and one of a symbol, which another module may have
+abbrev pub of_output : List Condition
+of_output = InExecutable ∷ WithoutResolver ∷ []
+
+abbrev pub of_symbol : List Condition
+of_symbol = InExecutable ∷ WithoutResolver ∷ RewrittenIfReplaceable ∷ []
 
 abbrev pub sequences : List Instruction
 sequences =
-    of_sequence general_call 4 SymbolPair r_x86_64_tlsgd (by_call 12)
-    ∷ of_sequence general_slot_call 4 SymbolPair r_x86_64_tlsgd (by_slot 12)
-    ∷ of_sequence far_pair_call 3 SymbolPair r_x86_64_tlsgd (by_distance 9)
-    ∷ of_sequence local_call 3 OwnPair r_x86_64_tlsld (by_call 8)
-    ∷ of_sequence local_slot_call 3 OwnPair r_x86_64_tlsld (by_slot 9)
-    ∷ of_sequence far_pair_call 3 OwnPair r_x86_64_tlsld (by_distance 9)
+    of_sequence general_call 4 SymbolPair r_x86_64_tlsgd of_symbol (by_call 12)
+    ∷ of_sequence general_slot_call 4 SymbolPair r_x86_64_tlsgd of_symbol (by_slot 12)
+    ∷ of_sequence far_pair_call 3 SymbolPair r_x86_64_tlsgd of_symbol (by_distance 9)
+    ∷ of_sequence local_call 3 OwnPair r_x86_64_tlsld of_output (by_call 8)
+    ∷ of_sequence local_slot_call 3 OwnPair r_x86_64_tlsld of_output (by_slot 9)
+    ∷ of_sequence far_pair_call 3 OwnPair r_x86_64_tlsld of_output (by_distance 9)
     ∷ []
 
 -- the instructions of a machine that relocations may fill

@@ -1,6 +1,6 @@
 -- The instruction of the input that a reference belongs to, and what it demands.
 --   IsInstruction ..     an instruction stands in the input's bytes, with a relocation at its field
---   IsSequence ..        it is a sequence with a call, whose relocation is the next one
+--   IsSequence ..        it is a sequence, whose further relocations are those behind the first
 --   IsTemplate ..        it is the one that a reference belongs to; `first` is the relocation of its field
 --   reads w m            what operands read as in memory; `reads_alone` in code that calls no function
 --   Demands ..           v is what the operand of the instruction is to read as
@@ -8,42 +8,46 @@
 --   DoesWith ..          the loaded code has that effect, as a reader has it, where the operand reads as v
 --   DoesDemanded ..      so it does with a value that is demanded
 --   DoesLinked ..        so it does with the output's own symbol
-use Rattle.std.specs.Prelude.{◌≡◌, ℕ, ◌+◌, ◌%◌, ◌^◌, ◌≤◌, ◌⊎◌, ⊤, true, false, List, [], ◌∷◌, length, slice_get, slice_range, Option, Some, None, Result, Ok, Err, option_and_then, option_map, Contains}
+use Rattle.std.specs.Prelude.{◌≡◌, ℕ, ◌+◌, ◌%◌, ◌^◌, ◌<◌, ◌≤◌, ◌⊎◌, ⊤, true, false, List, [], ◌∷◌, length, slice_get, slice_range, Option, Some, None, Result, Ok, Err, option_and_then, option_map, Contains}
 use Rattle.std.specs.Int.{w64, cast_unsigned}
-use Rattle.wild_records.specs.Abi.Relocation.{r_x86_64_tlsgd}
 use Rattle.wild_records.specs.Abi.Section.{shf_execinstr}
 use Rattle.wild_types.specs.declared.kind.Machine.{Machine}
 use Rattle.wild_types.specs.declared.kind.Machine.TheVariants as machine
 use Rattle.wild_types.specs.declared.input.InputRelocation.{InputRelocation}
-use Rattle.wild_types.specs.declared.symbol.Symbol.{Symbol}
 use Rattle.wild_types.specs.declared.layout.Layout.{Layout}
-use Rattle.wild_types.specs.Flags.{ifunc, non_interposable}
-use Rattle.wild_reloc.specs.Formula.{Descriptor}
+use Rattle.wild_reloc.specs.Formula.{Distance, StubDistance, Descriptor}
 use Rattle.wild_loader.specs.declared.fault.LoadFault.{LoadFault}
 use Rattle.wild_loader.specs.declared.memory.Memory.{Memory}
 use Rattle.wild_loader.specs.declared.world.World.{World}
 use Rattle.wild_loader.specs.Changes.{distance_of}
 use Rattle.wild_loader.specs.Memory.{number_in, Holds}
-use Rattle.wild_meaning.specs.Instruction.{Number, Word, Pair, Nothing, Reader, Effect, stands, as_value}
-use Rattle.wild_meaning.specs.InstructionX86_64.{effect_x86_64}
-use Rattle.wild_meaning.specs.Sequence.{Sort, Target, TargetInSlot, AddressInSlot, OffsetInSlot, SymbolPair, OwnPair, Described, DescribedCall, Partner, Instruction, size_of, IsOwnByte, instructions_of}
-use Rattle.wild_meaning.specs.World.{IsExecutable}
+use Rattle.wild_loader.specs.declared.instruction.Operand.TheVariants.{Number, Word, Pair}
+use Rattle.wild_loader.specs.declared.instruction.Deed.TheVariants.{Nothing}
+use Rattle.wild_loader.specs.Instruction.{Reader, Effect, stands, as_value}
+use Rattle.wild_loader.specs.InstructionX86_64.{effect_x86_64}
+use Rattle.wild_meaning.specs.Sequence.{Sort, Target, TargetInSlot, AddressInSlot, OffsetInSlot, SymbolPair, OwnPair, Described, DescribedCall, Instruction, size_of, IsOwnByte, instructions_of}
 use Rattle.wild_meaning.specs.Section.{IsSet}
-use Rattle.wild_meaning.specs.Value.{IsSymbol, HasFlag}
+use Rattle.wild_meaning.specs.Partners.{HasPartners, AreMet}
 use Rattle.wild_meaning.specs.Thread.{IsOffsetBase}
 use Rattle.wild_meaning.specs.Slot.{IsSlot}
 use Rattle.wild_meaning.specs.Item.{Item, place_at}
 use Rattle.wild_meaning.specs.Field.{InNoField}
-use Rattle.wild_meaning.specs.Formula.{IsTarget, IsOwnTarget, IsGoal, IsOffset, HasOffsetMode}
+use Rattle.wild_meaning.specs.Formula.{IsTarget, IsReferent, IsOwnReferent, IsGoal, IsOffset, HasOffsetMode}
 
 -- ---- in the input's bytes
 
--- a field through a slot counts from its end: the addend takes back its four bytes. A branch may go past its symbol, and the call
--- through a descriptor adds nothing
-abbrev pub CountsFromItsEnd : Sort → InputRelocation → Type 0
-CountsFromItsEnd Target r = ⊤
-CountsFromItsEnd DescribedCall r = ⊤
-CountsFromItsEnd other r = (cast_unsigned w64 r.addend + 4) % 2 ^ 64 ≡ 0
+-- what a field's distance counts from, behind the start of the field: its end, four bytes on (Intel SDM, "RIP-Relative
+-- Addressing"); or the instruction, whose word has the field (Arm ARM, "PC-relative address calculation")
+abbrev pub counts_from : Machine → ℕ
+counts_from machine.X86_64 = 4
+counts_from machine.AArch64 = 0
+
+-- the addend of a field through a slot takes back what it counts from, and no more. A branch may go past its symbol, and the call
+-- through a descriptor has no field
+abbrev pub AddsNothing : Machine → Sort → InputRelocation → Type 0
+AddsNothing m Target r = ⊤
+AddsNothing m DescribedCall r = ⊤
+AddsNothing m other r = (cast_unsigned w64 r.addend + counts_from m) % 2 ^ 64 ≡ 0
 
 -- the instruction stands in the item's bytes at start, in code, with the relocation at its field; no relocation fills its own
 -- bytes, which would make another instruction of it
@@ -54,59 +58,36 @@ pub record IsInstruction (l : Layout) (item : Item) (r : InputRelocation) (start
   pub field : r.offset ≡ start + o.field
   pub inside : start + size_of o ≤ length item.bytes
   pub stands : stands o.template.cells (slice_range item.bytes start (start + size_of o)) ≡ true
-  pub counts : CountsFromItsEnd o.sort r
+  pub counts : AddsNothing l.machine o.sort r
   pub alone : (k : ℕ) → IsOwnByte o k → InNoField l item (start + k)
 
--- `__tls_get_addr` ("ELF Handling For Thread-Local Storage", "Run-Time Handling of TLS")
-abbrev pub tls_get_addr : List ℕ
-tls_get_addr = 95 ∷ 95 ∷ 116 ∷ 108 ∷ 115 ∷ 95 ∷ 103 ∷ 101 ∷ 116 ∷ 95 ∷ 97 ∷ 100 ∷ 100 ∷ 114 ∷ []
-
--- the relocation names the function that gives thread addresses
-pub record NamesGetter (l : Layout) (r : InputRelocation) : Type 0 where
-  pub index : ℕ
-  pub named : r.symbol ≡ Some index
-  pub symbol : Symbol
-  pub listed : IsSymbol l index symbol
-  pub getter : symbol.name ≡ tls_get_addr
-
--- the relocation behind the first is that of the call
-pub record HasPartner (l : Layout) (item : Item) (first second : InputRelocation) (start : ℕ) (p : Partner) : Type 0 where
+-- a sequence: its first relocation, and those behind it
+pub record IsSequence (l : Layout) (item : Item) (first : InputRelocation) (rest : List InputRelocation) (start : ℕ) (o : Instruction) : Type 0 where
+  pub stands : IsInstruction l item first start o
+  pub several : 0 < length o.partners
   pub index : ℕ
   pub listed : slice_get item.relocations index ≡ Some first
-  pub next : slice_get item.relocations (index + 1) ≡ Some second
-  pub field : second.offset ≡ start + p.field
-  pub number : Contains p.numbers second.number
-  pub getter : NamesGetter l second
-
--- a sequence of an executable that asks for a thread address, whose symbol no resolver answers for; of a symbol that others may
--- define it is one where instructions are rewritten. Else the call is an instruction of its own
-pub record IsSequence (l : Layout) (item : Item) (first second : InputRelocation) (start : ℕ) (o : Instruction) : Type 0 where
-  pub executable : IsExecutable l.kind
-  pub stands : IsInstruction l item first start o
-  pub partner : Partner
-  pub calls : o.partner ≡ Some partner
-  pub has : HasPartner l item first second start partner
+  pub has : HasPartners l item first start (index + 1) o.partners rest
   pub symbol : ℕ
   pub named : first.symbol ≡ Some symbol
-  pub plain : HasFlag l symbol ifunc false
-  pub rewritten : first.number ≡ r_x86_64_tlsgd → HasFlag l symbol non_interposable false → l.options.relax ≡ true
+  pub met : AreMet l symbol o.conditions
 
--- an instruction of one field, which is no sequence's call; of several that stand there the longest
+-- an instruction of one field, which is no sequence's further one; of several that stand there the longest
 pub record IsSingle (l : Layout) (item : Item) (r : InputRelocation) (start : ℕ) (o : Instruction) : Type 0 where
-  pub single : o.partner ≡ None
+  pub single : o.partners ≡ []
   pub stands : IsInstruction l item r start o
-  pub longest : (from : ℕ) (p : Instruction) → p.partner ≡ None → IsInstruction l item r from p → size_of p ≤ size_of o
-  pub free : (first : InputRelocation) (from : ℕ) (p : Instruction) → IsSequence l item first r from p → ⊥
+  pub longest : (from : ℕ) (p : Instruction) → p.partners ≡ [] → IsInstruction l item r from p → size_of p ≤ size_of o
+  pub free : (first : InputRelocation) (rest : List InputRelocation) (from : ℕ) (p : Instruction) → IsSequence l item first rest from p → Contains rest r → ⊥
 
--- the relocation is one of the two of a sequence
-pub record IsDouble (l : Layout) (item : Item) (r : InputRelocation) (start : ℕ) (o : Instruction) (first : InputRelocation) : Type 0 where
-  pub second : InputRelocation
-  pub sequence : IsSequence l item first second start o
-  pub one : (r ≡ first) ⊎ (r ≡ second)
+-- the relocation is one of a sequence's
+pub record IsOfSequence (l : Layout) (item : Item) (r : InputRelocation) (start : ℕ) (o : Instruction) (first : InputRelocation) : Type 0 where
+  pub rest : List InputRelocation
+  pub sequence : IsSequence l item first rest start o
+  pub one : Contains (first ∷ rest) r
 
 -- the instruction that a reference belongs to, with the relocation of its first field
 abbrev pub IsTemplate : Layout → Item → InputRelocation → ℕ → Instruction → InputRelocation → Type 0
-IsTemplate l item r start o first = (IsSingle l item r start o × (first ≡ r)) ⊎ IsDouble l item r start o first
+IsTemplate l item r start o first = (IsSingle l item r start o × (first ≡ r)) ⊎ IsOfSequence l item r start o first
 
 -- ---- in memory
 
@@ -140,11 +121,11 @@ effect_of machine.AArch64 read a bs = None
 
 -- ---- what is demanded
 
--- where code goes that goes to S + A or L + A, past the four bytes of the field
-pub record IsBranchTarget (l : Layout) (w : World) (m : Memory) (r : InputRelocation) (v : ℕ) : Type 0 where
+-- where code goes that goes to S + A or L + A, from where its field counts
+pub record IsBranchTarget (l : Layout) (w : World) (m : Memory) (item : Item) (r : InputRelocation) (v : ℕ) : Type 0 where
   pub goal : ℕ
-  pub stands : IsTarget l w m r.symbol goal
-  pub is : v ≡ (goal + cast_unsigned w64 r.addend + 4) % 2 ^ 64
+  pub stands : IsReferent l.machine StubDistance l w m item r goal
+  pub is : v ≡ (goal + cast_unsigned w64 r.addend + counts_from l.machine) % 2 ^ 64
 
 -- the value of a descriptor's reference: the offset itself, or the address of the symbol's descriptor
 abbrev pub IsDescribed : Layout → World → Memory → Item → InputRelocation → ℕ → Type 0
@@ -153,7 +134,7 @@ IsDescribed l w m item r v = (HasOffsetMode l item × IsOffset l w r.symbol v) �
 -- v is what an operand of that sort is to read as: what comes to S; what stands for S; its offset from the thread pointer; what
 -- offsets in the output's own thread-local data count from; or what a descriptor's reference is
 abbrev pub Demands : Sort → Layout → World → Memory → Item → InputRelocation → ℕ → Type 0
-Demands Target l w m item r v = IsBranchTarget l w m r v
+Demands Target l w m item r v = IsBranchTarget l w m item r v
 Demands TargetInSlot l w m item r v = IsGoal l w m r.symbol v
 Demands AddressInSlot l w m item r v = IsTarget l w m r.symbol v
 Demands OffsetInSlot l w m item r v = IsOffset l w r.symbol v
@@ -193,19 +174,19 @@ pub record DoesDemanded (read : Reader) (l : Layout) (w : World) (m : Memory) (i
 
 -- ---- with the output's own symbol, whatever another module has for it
 
--- where code goes that goes to S + A, past the four bytes of the field
-pub record IsOwnBranchTarget (l : Layout) (w : World) (r : InputRelocation) (v : ℕ) : Type 0 where
+-- where code goes that goes to S + A, from where its field counts
+pub record IsOwnBranchTarget (l : Layout) (w : World) (item : Item) (r : InputRelocation) (v : ℕ) : Type 0 where
   pub goal : ℕ
-  pub stands : IsOwnTarget l w r.symbol goal
-  pub is : v ≡ (goal + cast_unsigned w64 r.addend + 4) % 2 ^ 64
+  pub stands : IsOwnReferent l.machine Distance l w item r goal
+  pub is : v ≡ (goal + cast_unsigned w64 r.addend + counts_from l.machine) % 2 ^ 64
 
 -- what an operand of that sort is to read as: code's target alone is S itself; every other one is by a slot, which a loader fills
-abbrev pub DemandsLinked : Sort → Layout → World → InputRelocation → ℕ → Type 0
-DemandsLinked Target l w r v = IsOwnBranchTarget l w r v
-DemandsLinked other l w r v = ⊥
+abbrev pub DemandsLinked : Sort → Layout → World → Item → InputRelocation → ℕ → Type 0
+DemandsLinked Target l w item r v = IsOwnBranchTarget l w item r v
+DemandsLinked other l w item r v = ⊥
 
 -- the loaded code, which calls no function for it, does what the input's instruction does where its operand reads so
 pub record DoesLinked (l : Layout) (w : World) (m : Memory) (item : Item) (r : InputRelocation) (start : ℕ) (o : Instruction) : Type 0 where
   pub value : ℕ
-  pub demands : DemandsLinked o.sort l w r value
+  pub demands : DemandsLinked o.sort l w item r value
   pub code : DoesWith (reads_alone w m) l w m item start o value

@@ -4,10 +4,11 @@
 --   input address flags bytes rs         an input section with data
 --   blank address size                   one without
 --   loaded address file_size mem_size    a segment that is loaded
+--   dynamic_at address size              that of a dynamic section
 --   one_file file                        the groups of one file
 --   Refuses l w Wrong                    no image of a layout is linked in a world where memory is wrong in that way
 use Rattle.std.specs.Prelude.{ℕ, ℤ, true, false, List, [], ◌∷◌, length, Option, Some, None}
-use Rattle.wild_records.specs.Abi.Segment.{pt_load}
+use Rattle.wild_records.specs.Abi.Segment.{pt_load, pt_dynamic}
 use Rattle.wild_types.specs.declared.section.Segment.{Segment}
 use Rattle.wild_types.specs.declared.symbol.Place.TheVariants as at
 use Rattle.wild_types.specs.declared.symbol.Symbol.{Symbol}
@@ -122,6 +123,10 @@ loaded address file_size mem_size = record {
   mem_size = mem_size;
   align = 0x1000;
 }
+
+-- one that has the dynamic section
+abbrev pub dynamic_at : ℕ → ℕ → Segment
+dynamic_at address size = record (loaded address size size) { kind = pt_dynamic }
 
 -- no image of the layout is linked in the world where memory is wrong in that way
 abbrev pub Refuses : Layout → World → (Memory → Type 0) → Type 0

@@ -17,7 +17,7 @@ use Rattle.wild_types.specs.declared.layout.Layout.{Layout}
 use Rattle.wild_loader.specs.declared.world.Answer.{Answer}
 use Rattle.wild_loader.specs.declared.world.World.{World}
 use Rattle.wild_meaning.specs.Item.{Item, item_of}
-use Rattle.wild_meaning.specs.Worked.{given, reference, input, blank, file_of, group_of, loaded}
+use Rattle.wild_meaning.specs.Worked.{given, reference, input, blank, file_of, group_of, loaded, dynamic_at}
 
 -- a library's symbol of 8 bytes, which is copied (DYNAMIC, COPY_RELOCATION)
 abbrev pub copied_symbol : Symbol
@@ -44,12 +44,12 @@ copying_object = file_of file_role.Object (copying_data ∷ copying_blank ∷ []
 abbrev pub copying_library : File
 copying_library = file_of file_role.Dynamic [] (0 ∷ [])
 
--- the layout: data from 0x1000 on, file bytes up to 0x3000, zeros up to 0x4000
+-- the layout: data from 0x1000 on, with the dynamic section, and zeros from 0x3000 to 0x3200
 abbrev pub copying : Layout
 copying = record empty_layout {
   kind = output.DynamicExecutable model.Relocatable;
   page_size = 0x1000;
-  segments = loaded 0x1000 0x2000 0x3000 ∷ [];
+  segments = loaded 0x1000 0x50 0x50 ∷ loaded 0x3000 0 0x200 ∷ dynamic_at 0x1020 0x30 ∷ [];
   symbols = copied_symbol ∷ start_symbol ∷ [];
   groups = group_of (copying_object ∷ copying_library ∷ []) ∷ [];
   entry = Some (entry.Symbol 1);

@@ -16,7 +16,7 @@ use Rattle.wild_types.specs.declared.layout.Layout.{Layout}
 use Rattle.wild_loader.specs.declared.world.Answer.{Answer}
 use Rattle.wild_loader.specs.declared.world.World.{World}
 use Rattle.wild_meaning.specs.Item.{Item, item_of}
-use Rattle.wild_meaning.specs.Worked.{given, reference, input, one_file, loaded}
+use Rattle.wild_meaning.specs.Worked.{given, reference, input, one_file, loaded, dynamic_at}
 
 -- its own symbol, with a slot (NON_INTERPOSABLE, GOT)
 abbrev pub own_symbol : Symbol
@@ -77,12 +77,12 @@ shared_code = input 0x1080 6 (0x48 ∷ 0x8d ∷ 0x05 ∷ 0 ∷ 0 ∷ 0 ∷ 0 ∷
 abbrev pub code_item : Item
 code_item = item_of shared_code
 
--- the layout: data and code from 0x1000 on, slots at 0x2000, thread-local data from 0x3000 to 0x3010
+-- the layout: data and code from 0x1000 on, slots at 0x2000, the dynamic section behind them, thread-local data from 0x3000 to 0x3010
 abbrev pub shared : Layout
 shared = record empty_layout {
   kind = output.SharedObject;
   page_size = 0x1000;
-  segments = loaded 0x1000 0x2010 0x2010 ∷ [];
+  segments = loaded 0x1000 0x2010 0x2010 ∷ dynamic_at 0x2060 0x40 ∷ [];
   tls = record { start = 0x3000; end = 0x3010; align = 8 };
   got_base = 0x2000;
   tlsld = Some 0x2048;

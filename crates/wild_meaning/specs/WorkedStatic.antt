@@ -17,7 +17,7 @@ use Rattle.wild_types.specs.declared.layout.Entry.TheVariants as entry
 use Rattle.wild_types.specs.declared.layout.Layout.{Layout}
 use Rattle.wild_loader.specs.declared.world.World.{World}
 use Rattle.wild_meaning.specs.Item.{Item, item_of}
-use Rattle.wild_meaning.specs.Template.{tls_get_addr}
+use Rattle.wild_meaning.specs.Partners.{tls_get_addr}
 use Rattle.wild_meaning.specs.Worked.{given, reference, input, one_file, loaded}
 
 -- functions: one with a slot (NON_INTERPOSABLE, GOT), and one without
@@ -91,7 +91,7 @@ static_pie = record empty_layout {
   kind = output.StaticExecutable model.Relocatable;
   options = record no_options { relax = true };
   page_size = 0x1000;
-  segments = loaded 0x1000 0x2010 0x2010 ∷ [];
+  segments = loaded 0x1000 0x110 0x110 ∷ [];
   tls = record { start = 0x3000; end = 0x3010; align = 16 };
   got_base = 0x2000;
   symbols = first_function ∷ second_function ∷ thread_symbol ∷ getter_symbol ∷ [];

@@ -1,6 +1,7 @@
 //! What the definitions refuse: worked layouts, legal worlds of theirs, and images that are not linked there.
 ghost use Rattle.wild_meaning.specs.CopyRefusals.{CopyingWorldIsLegal, WrongCopyIsRefused, WrongZeroIsRefused, WrongPlaceOfCopyIsRefused, WrongMachineIsRefused, WrongHeadersAreRefused, CopyingImageIsLinked};
 ghost use Rattle.wild_meaning.specs.Replaced.{DynamicIsReplaceable, ExportedIsReplaceable, AnswersAreTaken};
+ghost use Rattle.wild_meaning.specs.SegmentRefusals.{WrongSegmentsAreRefused, NoDynamicIsRefused};
 ghost use Rattle.wild_meaning.specs.SharedRefusals.{SharedWorldIsLegal, WrongSlotsAreRefused, WrongAddressesAreRefused, WrongOffsetsAreRefused, WrongModulesAreRefused, WrongDescriptorsAreRefused, WrongSizeIsRefused, WrongByteIsRefused, WrongCodeOfLibraryIsRefused};
 ghost use Rattle.wild_meaning.specs.StaticRefusals.{StaticPieWorldIsLegal, WrongDataAreRefused, WrongCodeIsRefused, StaticImageIsLinked};
 
@@ -56,6 +57,15 @@ pub fn wrong_programs_are_refused()
     ensures words { WrongDataAreRefused }
     ensures code { WrongCodeIsRefused }
     ensures linked { StaticImageIsLinked }
+{
+    file_header_is_read();
+}
+
+/// No image is linked whose segments are not the layout's, as a loader maps them, nor one that a dynamic linker loads and that has no
+/// dynamic section.
+pub fn wrong_segments_are_refused()
+    ensures segments { WrongSegmentsAreRefused }
+    ensures dynamic { NoDynamicIsRefused }
 {
     file_header_is_read();
 }

@@ -1,0 +1,55 @@
+-- What the further relocations of a sequence are, and when instructions are one.
+--   NamesGetter ..    the relocation names the function that gives thread addresses
+--   HasPartner ..     a relocation fills a further field of a sequence
+--   HasPartners ..    those from an index on fill all of them
+--   IsMet, AreMet ..  a condition is met, all are
+use Rattle.std.specs.Prelude.{◌≡◌, ℕ, ◌+◌, ⊤, true, false, List, [], ◌∷◌, slice_get, Some, Contains}
+use Rattle.wild_types.specs.declared.input.InputRelocation.{InputRelocation}
+use Rattle.wild_types.specs.declared.symbol.Symbol.{Symbol}
+use Rattle.wild_types.specs.declared.layout.Layout.{Layout}
+use Rattle.wild_types.specs.Flags.{ifunc, non_interposable}
+use Rattle.wild_meaning.specs.Sequence.{Named, Getter, SameSymbol, Partner, Condition, InExecutable, WithoutResolver, RewrittenIfReplaceable}
+use Rattle.wild_meaning.specs.World.{IsExecutable}
+use Rattle.wild_meaning.specs.Value.{IsSymbol, HasFlag}
+use Rattle.wild_meaning.specs.Item.{Item}
+
+-- `__tls_get_addr` ("ELF Handling For Thread-Local Storage", "Run-Time Handling of TLS")
+abbrev pub tls_get_addr : List ℕ
+tls_get_addr = 95 ∷ 95 ∷ 116 ∷ 108 ∷ 115 ∷ 95 ∷ 103 ∷ 101 ∷ 116 ∷ 95 ∷ 97 ∷ 100 ∷ 100 ∷ 114 ∷ []
+
+-- the relocation names the function that gives thread addresses
+pub record NamesGetter (l : Layout) (r : InputRelocation) : Type 0 where
+  pub index : ℕ
+  pub named : r.symbol ≡ Some index
+  pub symbol : Symbol
+  pub listed : IsSymbol l index symbol
+  pub getter : symbol.name ≡ tls_get_addr
+
+-- it names what that of a further field is to name
+abbrev pub NamesIt : Layout → InputRelocation → InputRelocation → Named → Type 0
+NamesIt l first r Getter = NamesGetter l r
+NamesIt l first r SameSymbol = r.symbol ≡ first.symbol
+
+-- the relocation at an index fills a further field of a sequence
+pub record HasPartner (l : Layout) (item : Item) (first r : InputRelocation) (start index : ℕ) (p : Partner) : Type 0 where
+  pub listed : slice_get item.relocations index ≡ Some r
+  pub field : r.offset ≡ start + p.field
+  pub number : Contains p.numbers r.number
+  pub names : NamesIt l first r p.names
+
+-- the relocations from an index on fill the further fields, in their order
+abbrev pub HasPartners : Layout → Item → InputRelocation → ℕ → ℕ → List Partner → List InputRelocation → Type 0
+HasPartners l item first start index [] [] = ⊤
+HasPartners l item first start index [] (r ∷ rs) = ⊥
+HasPartners l item first start index (p ∷ ps) [] = ⊥
+HasPartners l item first start index (p ∷ ps) (r ∷ rs) = HasPartner l item first r start index p × HasPartners l item first start (index + 1) ps rs
+
+-- of a sequence that names symbol i
+abbrev pub IsMet : Layout → ℕ → Condition → Type 0
+IsMet l i InExecutable = IsExecutable l.kind
+IsMet l i WithoutResolver = HasFlag l i ifunc false
+IsMet l i RewrittenIfReplaceable = HasFlag l i non_interposable false → l.options.relax ≡ true
+
+abbrev pub AreMet : Layout → ℕ → List Condition → Type 0
+AreMet l i [] = ⊤
+AreMet l i (c ∷ cs) = IsMet l i c × AreMet l i cs

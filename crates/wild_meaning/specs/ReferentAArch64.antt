@@ -1,0 +1,54 @@
+-- What S and L are on AArch64.
+--   IsAbsent l i             nothing defines symbol i, and nothing has to
+--   own_place w item r       what stands for it in a reference that takes a place from it
+--   IsOneAddress l w m i a   a is the one address that stands for symbol i
+--   StandsOnAArch64 ..       a stands for symbol i in an expression
+use Rattle.std.specs.Prelude.{◌≡◌, ℕ, ◌+◌, ◌%◌, ◌^◌, ◌⊎◌, true, false, if◌then◌else◌, List, [], ◌∷◌}
+use Rattle.wild_records.specs.Abi.Relocation.{r_aarch64_tstbr14, r_aarch64_condbr19, r_aarch64_jump26, r_aarch64_call26}
+use Rattle.wild_reloc.specs.Barred.{is_listed}
+use Rattle.wild_reloc.specs.Formula.{Value, SymbolPart, PageDistance, StubDistance}
+use Rattle.wild_types.specs.declared.input.InputRelocation.{InputRelocation}
+use Rattle.wild_types.specs.declared.layout.Layout.{Layout}
+use Rattle.wild_types.specs.Flags.{ifunc, undefined_weak, plt_stub}
+use Rattle.wild_loader.specs.declared.memory.Memory.{Memory}
+use Rattle.wild_loader.specs.declared.world.World.{World}
+use Rattle.wild_meaning.specs.Value.{HasRaw, HasFlag, HasValue}
+use Rattle.wild_loader.specs.Reach.{Reaches}
+use Rattle.wild_meaning.specs.Denotes.{HasStub, Denotes}
+use Rattle.wild_meaning.specs.Item.{Item, place_at}
+
+-- ---- a weak symbol that is not there (aaelf64, "Weak references", "Relocations for control-flow instructions")
+
+-- nothing defines the symbol, which is weak, and no stub goes on to what another module has for it (gABI, "Symbol Table":
+-- STB_WEAK)
+pub record IsAbsent (l : Layout) (i : ℕ) : Type 0 where
+  pub weak : HasFlag l i undefined_weak true
+  pub stubless : HasFlag l i plt_stub false
+
+-- the relocation types of branches
+abbrev pub branch_types : List ℕ
+branch_types = r_aarch64_tstbr14 ∷ r_aarch64_condbr19 ∷ r_aarch64_jump26 ∷ r_aarch64_call26 ∷ []
+
+-- so a distance is A, and a branch goes on behind itself
+abbrev pub own_place : World → Item → InputRelocation → ℕ
+own_place w item r = (place_at w item r.offset + (if is_listed r.number branch_types then 4 else 0)) % 2 ^ 64
+
+-- ---- a symbol that is there
+
+-- the stub at p is what the output takes for symbol i's address: the symbol is one that a resolver answers for, or stands at its
+-- stub (x86-64 psABI, "Function Addresses")
+pub record IsStandIn (l : Layout) (i p : ℕ) : Type 0 where
+  pub stub : HasStub l i p
+  pub stands : HasFlag l i ifunc true ⊎ HasRaw l i p
+
+-- a is the one address that stands for symbol i: such a stub's, else its value
+abbrev pub IsOneAddress : Layout → World → Memory → ℕ → ℕ → Type 0
+IsOneAddress l w m i a = ((p : ℕ) × IsStandIn l i p × (a ≡ (w.base + p) % 2 ^ 64) × Denotes l w m i a) ⊎ (((p : ℕ) → IsStandIn l i p → ⊥) × HasValue l w i a)
+
+-- on AArch64 several instructions have a part each of one address, and a branch may go by a thunk (aaelf64, "Relocation operations",
+-- "Call and Jump relocations")
+abbrev pub StandsOnAArch64 : Value → Layout → World → Memory → ℕ → ℕ → Type 0
+StandsOnAArch64 SymbolPart l w m i a = IsOneAddress l w m i a
+StandsOnAArch64 PageDistance l w m i a = IsOneAddress l w m i a
+StandsOnAArch64 StubDistance l w m i a = (v : ℕ) × HasValue l w i v × Reaches m a v
+StandsOnAArch64 other l w m i a = Denotes l w m i a
