@@ -6,12 +6,12 @@
 --   loads k                   a loader may fill a field of that kind
 --   no_row, no_partner        a relocation of such a kind has no row, and is taken along by none
 use Rattle.std.proofs.Common.{◌≡◌, ℕ, zero, suc, ◌+◌, ◌-◌, ◌≤◌, inl, inr, Bool, true, false, List, [], ◌∷◌, length, refl, sym, ◌∙◌, arith, subst}
-use Rattle.std.specs.Prelude.{Option, Some, None, Result, Ok, Err, ◌&&◌, ◌||◌, ◌==◌, not, if◌then◌else◌, nat_le, slice_get, slice_range}
+use Rattle.std.specs.Prelude.{Option, Some, None, is_some, Result, Ok, Err, ◌&&◌, ◌||◌, ◌==◌, not, if◌then◌else◌, nat_le, slice_get, slice_range}
 use Rattle.std.specs.List.{list_all}
 use Rattle.std.proofs.lemmas.Bool.{cases_Bool, eqb-true, leb-true, or_cases, and_parts}
 use Rattle.wild_words.specs.Words.{place}
 use Rattle.wild_words.proofs.OverlayLemmas.{length-place}
-use Rattle.wild_words.proofs.Basics.{not_both}
+use Rattle.wild_words.proofs.Basics.{not_both, implied, or_other}
 use Rattle.wild_records.specs.Abi.Relocation as abi
 use Rattle.wild_reloc.specs.Field.{size_width, written}
 use Rattle.wild_reloc.specs.TableX86_64.{x86_64_row}
@@ -31,12 +31,11 @@ use Rattle.wild_relax.specs.declared.pattern.GeneralForm.{GeneralForm}
 use Rattle.wild_relax.specs.declared.pattern.GeneralForm.TheVariants as general
 use Rattle.wild_relax.specs.declared.pattern.LocalForm.TheVariants as local
 use Rattle.wild_relax.specs.declared.pattern.Pattern.{Pattern}
-use Rattle.wild_relax.specs.declared.row.DescriptorUse.TheVariants.{LocalExec, InitialExec}
 use Rattle.wild_relax.specs.declared.row.Row.{Row}
 use Rattle.wild_relax.specs.declared.row.Row.TheVariants.{IfuncThroughStub, RexGotToImmediate, RexGotMovToLea, GotMovToImmediate, GotMovToLea, IndirectCallToDirect, IndirectJumpToDirect, PlainGotMovToLea, InitialExecToLocalExec, Plt32ToPc32, PltOffToGotOff, GeneralDynamicToLocalExec, GeneralDynamicToInitialExec, LocalDynamicToLocalExec, DescriptorLea, DescriptorCall}
 use Rattle.wild_relax.specs.Question.{Question, relocation_of}
 use Rattle.wild_relax.specs.Pattern.{field_of, cells_of, stands_before, stands_at}
-use Rattle.wild_relax.specs.First.{first_standing, checked}
+use Rattle.wild_relax.specs.First.{checked}
 use Rattle.wild_relax.specs.RowPatterns.{always_pattern, needed_pattern}
 use Rattle.wild_relax.specs.RowSequences.{partner_distance, call_form, is_call_number, is_partner_at, has_its_sequence}
 use Rattle.wild_relax.specs.Rows.{rows_x86_64, number_of, stands_anywhere, applies, unknown_sequence, standing_x86_64, chosen_x86_64}
@@ -45,49 +44,10 @@ use Rattle.wild_relax.specs.Rewrite.{rewritten}
 use Rattle.wild_relax.specs.RewriteX86_64.{rewrite_of}
 use Rattle.wild_relax.specs.Linked.{pattern_of, pattern_size, keeps_bytes, field_in, linked, template_by, template_of}
 use Rattle.wild_relax.specs.Relaxation.{chosen_of}
-use Rattle.wild_relax.proofs.RoomLemmas.{needed_stands, partner_asked, number_is}
+use Rattle.wild_relax.proofs.EveryRow.{each_row}
+use Rattle.wild_relax.proofs.RewriteLemmas.{length-bytes, bytes_inside, field_inside}
+use Rattle.wild_relax.proofs.RoomLemmas.{needed_stands, partner_asked, number_is, standing_first, chosen_is}
 use Rattle.wild_layout.specs.Choice.{info_of, question_of, choice_by, choice_of, choice_at, takes_next, is_partner}
-
--- ---- the first row that stands
-
-record IsFirst {R : Type 0} (stands : R → Bool) (rs : List R) (r : R) : Type 0 where
-  here : stands r ≡ true
-  listed : (p : R → Bool) → list_all p rs ≡ true → p r ≡ true
-
-first_is : {R : Type 0} (stands : R → Bool) (rs : List R) (r : R) → first_standing stands rs ≡ Some r → IsFirst stands rs r
-first_is stands [] r e = cc
-first_is stands (q ∷ rs) r e = here_or_later stands q rs r (stands q) refl (first_is stands rs r) e
-  where
-    here_or_later : {R : Type 0} (stands : R → Bool) (q : R) (rs : List R) (r : R) (b : Bool) → stands q ≡ b → (first_standing stands rs ≡ Some r → IsFirst stands rs r) → (if b then Some q else first_standing stands rs) ≡ Some r → IsFirst stands (q ∷ rs) r
-    here_or_later stands q rs r true s later e =
-        let same : q ≡ r = cc in
-        record { here = subst (λ x. stands x ≡ true) same s; listed = λ p all. subst (λ x. p x ≡ true) same (and_parts (p q) (list_all p rs) all).0 }
-    here_or_later stands q rs r false s later e =
-        let l = later e in
-        record { here = l.here; listed = λ p all. l.listed p (and_parts (p q) (list_all p rs) all).1 }
-
-standing_is : (q : Question) (row : Row) → standing_x86_64 q ≡ Some row → IsFirst (applies q) rows_x86_64 row
-unfolding standing_x86_64
-standing_is q row e = first_is (applies q) rows_x86_64 row e
-
--- a row that is not refused
-record IsTaken (q : Question) (row : Row) : Type 0 where
-  first : IsFirst (applies q) rows_x86_64 row
-  whole : has_its_sequence q row ≡ true
-
-taken_is : (q : Question) (row : Row) → chosen_x86_64 q ≡ Ok (Some row) → IsTaken q row
-unfolding chosen_x86_64
-taken_is q row e = by_standing q row (standing_x86_64 q) refl e
-  where
-    by_test : (q : Question) (row r : Row) (b : Bool) → standing_x86_64 q ≡ Some r → has_its_sequence q r ≡ b → (if b then Ok (Some r) else Err (unknown_sequence q r)) ≡ Ok (Some row) → IsTaken q row
-    by_test q row r true is h e =
-        let same : r ≡ row = cc in
-        subst (IsTaken q) same (record { first = standing_is q r is; whole = h })
-    by_test q row r false is h e = cc
-
-    by_standing : (q : Question) (row : Row) (o : Option Row) → standing_x86_64 q ≡ o → checked (has_its_sequence q) (unknown_sequence q) o ≡ Ok (Some row) → IsTaken q row
-    by_standing q row None is e = cc
-    by_standing q row (Some r) is e = by_test q row r (has_its_sequence q r) is refl e
 
 -- ---- the pattern of a row
 
@@ -143,8 +103,8 @@ choice_row l s r next row h = by_symbol l s r next row r.symbol h refl h
     by_machine : (l : Layout) (s : InputSection) (r : InputRelocation) (next : Option InputRelocation) (row : Row) (i : ℕ) (m : Machine) → choice_of l s r next ≡ Ok (Some row) → l.machine ≡ m → r.symbol ≡ Some i → (r.number == abi.r_x86_64_pc32) ≡ false → chosen_of m (question_of l s r i next) ≡ Ok (Some row) → IsChosen l s r next row
     by_machine l s r next row i machine.AArch64 all is named other e = cc
     by_machine l s r next row i machine.X86_64 all is named other e =
-        let t = taken_is (question_of l s r i next) row e in
-        let stands = whole_stands row s.bytes r.offset (always_stands (question_of l s r i next) row t.first.here) (needed_stands (question_of l s r i next) row t.whole) in
+        let t = chosen_is (question_of l s r i next) (λ (r : Row). true) row refl e in
+        let stands = whole_stands row s.bytes r.offset (always_stands (question_of l s r i next) row t.here) (needed_stands (question_of l s r i next) row t.whole) in
         record {
           choice = all;
           machine = is;
@@ -152,7 +112,7 @@ choice_row l s r next row h = by_symbol l s r next row r.symbol h refl h
           named = named;
           other = other;
           chosen = e;
-          number = number_is (question_of l s r i next) row t.first.here;
+          number = number_is (question_of l s r i next) row t.here;
           before = pattern_before s.bytes r.offset (pattern_of row) stands;
           inside = pattern_inside s.bytes r.offset (pattern_of row) stands;
         }
@@ -167,41 +127,13 @@ choice_row l s r next row h = by_symbol l s r next row r.symbol h refl h
 
 -- what each row of the table has
 pub chosen_listed : (l : Layout) (s : InputSection) (r : InputRelocation) (next : Option InputRelocation) (row : Row) → IsChosen l s r next row → (p : Row → Bool) → list_all p rows_x86_64 ≡ true → p row ≡ true
-chosen_listed l s r next row c p all = (taken_is (question_of l s r c.symbol next) row c.chosen).first.listed p all
+chosen_listed l s r next row c p all = (chosen_is (question_of l s r c.symbol next) p row all c.chosen).listed
 
 -- ---- the bytes that a row writes
 
--- a rewrite replaces as many bytes as it says
-size_is : (row : Row) (old : List ℕ) → length ((rewrite_of row).bytes old) ≡ (rewrite_of row).size
-size_is IfuncThroughStub old = refl
-size_is (RexGotToImmediate p o) old = refl
-size_is (RexGotMovToLea p) old = refl
-size_is GotMovToImmediate old = refl
-size_is GotMovToLea old = refl
-size_is IndirectCallToDirect old = refl
-size_is IndirectJumpToDirect old = refl
-size_is PlainGotMovToLea old = refl
-size_is (InitialExecToLocalExec p o) old = refl
-size_is Plt32ToPc32 old = refl
-size_is PltOffToGotOff old = refl
-size_is (GeneralDynamicToLocalExec general.Regular) old = refl
-size_is (GeneralDynamicToLocalExec general.NoPlt) old = refl
-size_is (GeneralDynamicToLocalExec general.Large) old = refl
-size_is (GeneralDynamicToInitialExec f) old = refl
-size_is (LocalDynamicToLocalExec local.Regular) old = refl
-size_is (LocalDynamicToLocalExec local.Large) old = refl
-size_is (LocalDynamicToLocalExec local.NoPlt) old = refl
-size_is (DescriptorLea p LocalExec) old = refl
-size_is (DescriptorLea p InitialExec) old = refl
-size_is DescriptorCall old = refl
-
 -- a row that changes bytes has some, with the bytes that it replaces and its field among them
-abbrev lies_in_its_pattern : Row → Bool
-lies_in_its_pattern row = keeps_bytes row || nat_le 1 (pattern_size row) && nat_le (field_of (pattern_of row) - (rewrite_of row).back + (rewrite_of row).size) (pattern_size row) && nat_le (field_in row + row_width (x86_64_row (rewrite_of row).number)) (pattern_size row)
-
-each_lies : list_all lies_in_its_pattern rows_x86_64 ≡ true
-unfolding x86_64_row
-each_lies = refl
+abbrev has_bytes : Row → Bool
+has_bytes row = keeps_bytes row || nat_le 1 (pattern_size row)
 
 pub record LiesInItsPattern (row : Row) : Type 0 where
   pub some : 1 ≤ pattern_size row
@@ -209,14 +141,11 @@ pub record LiesInItsPattern (row : Row) : Type 0 where
   pub field : field_in row + row_width (x86_64_row (rewrite_of row).number) ≤ pattern_size row
 
 pub chosen_lies : (l : Layout) (s : InputSection) (r : InputRelocation) (next : Option InputRelocation) (row : Row) → IsChosen l s r next row → keeps_bytes row ≡ false → LiesInItsPattern row
-chosen_lies l s r next row c k = by_test row (keeps_bytes row) k (chosen_listed l s r next row c lies_in_its_pattern each_lies)
-  where
-    by_test : (row : Row) (b : Bool) → b ≡ false → (b || nat_le 1 (pattern_size row) && nat_le (field_of (pattern_of row) - (rewrite_of row).back + (rewrite_of row).size) (pattern_size row) && nat_le (field_in row + row_width (x86_64_row (rewrite_of row).number)) (pattern_size row)) ≡ true → LiesInItsPattern row
-    by_test row true k h = cc
-    by_test row false k h =
-        let a = and_parts _ _ h in
-        let b = and_parts _ _ a.0 in
-        record { some = leb-true _ _ b.0; bytes = leb-true _ _ b.1; field = leb-true _ _ a.1 }
+chosen_lies l s r next row c k = record {
+  some = leb-true 1 (pattern_size row) (or_other (keeps_bytes row) (nat_le 1 (pattern_size row)) (each_row has_bytes refl row) k);
+  bytes = bytes_inside row;
+  field = field_inside row k;
+}
 
 -- what is written in place of a pattern has its length
 pub length-template : (row : Row) (info : RelocationKindInfo) (v : ℕ) (old : List ℕ) → LiesInItsPattern row → x86_64_row (rewrite_of row).number ≡ Some info → length old ≡ pattern_size row → length (template_of row v old) ≡ pattern_size row
@@ -228,7 +157,7 @@ length-template row info v old lies known long =
     by_row row info v old field bytes long =
         let k = field_of (pattern_of row) - (rewrite_of row).back in
         let w = length-size_written info.size v [] in
-        let z = size_is row (slice_range old k (k + (rewrite_of row).size)) in
+        let z = length-bytes row (slice_range old k (k + (rewrite_of row).size)) in
         let first = length-place k old ((rewrite_of row).bytes (slice_range old k (k + (rewrite_of row).size))) (omega (arith, z, bytes, long)) in
         length-place (field_in row) (rewritten (rewrite_of row) (field_of (pattern_of row)) old) (written info v []) (omega (arith, w, first, field, long)) ∙ first ∙ long
 
@@ -255,28 +184,15 @@ partner_is_taken l s (suc j) h = let t = by_relocation l s j (slice_get s.reloca
     by_relocation l s j (Some r) e h = by_choice l s j r (choice_of l s r (slice_get s.relocations (j + 1))) e refl h
 
 -- such a row asks for its call
-sequence_distance : (row : Row) → takes_next (Ok (Some row)) ≡ true → (d : ℕ) × (partner_distance row ≡ Some d)
-sequence_distance IfuncThroughStub h = cc
-sequence_distance (RexGotToImmediate p o) h = cc
-sequence_distance (RexGotMovToLea p) h = cc
-sequence_distance GotMovToImmediate h = cc
-sequence_distance GotMovToLea h = cc
-sequence_distance IndirectCallToDirect h = cc
-sequence_distance IndirectJumpToDirect h = cc
-sequence_distance PlainGotMovToLea h = cc
-sequence_distance (InitialExecToLocalExec p o) h = cc
-sequence_distance Plt32ToPc32 h = cc
-sequence_distance PltOffToGotOff h = cc
-sequence_distance (GeneralDynamicToLocalExec general.Regular) h = (8, refl)
-sequence_distance (GeneralDynamicToLocalExec general.NoPlt) h = (8, refl)
-sequence_distance (GeneralDynamicToLocalExec general.Large) h = (6, refl)
-sequence_distance (GeneralDynamicToInitialExec f) h = (8, refl)
-sequence_distance (LocalDynamicToLocalExec local.Regular) h = (5, refl)
-sequence_distance (LocalDynamicToLocalExec local.Large) h = (6, refl)
-sequence_distance (LocalDynamicToLocalExec local.NoPlt) h = (6, refl)
-sequence_distance (DescriptorLea p LocalExec) h = cc
-sequence_distance (DescriptorLea p InitialExec) h = cc
-sequence_distance DescriptorCall h = cc
+abbrev asks_for_its_call : Row → Bool
+asks_for_its_call row = not (takes_next (Ok (Some row))) || is_some (partner_distance row)
+
+each_asks : list_all asks_for_its_call rows_x86_64 ≡ true
+each_asks = refl
+
+some_is : {X : Type 0} (o : Option X) → is_some o ≡ true → (x : X) × (o ≡ Some x)
+some_is None h = cc
+some_is (Some x) h = (x, refl)
 
 call_number : (row : Row) (place : ℕ) (next : RelocationInfo) → rows.is_partner row place next ≡ true → is_call_number (call_form row) next.number ≡ true
 unfolding rows.is_partner
@@ -290,8 +206,8 @@ taken_call row r (Some d) n next is h = call_number row (r.offset + d) next (and
 pub partner_number : (l : Layout) (s : InputSection) (r : InputRelocation) (next : InputRelocation) (row : Row) → IsChosen l s r (Some next) row → takes_next (Ok (Some row)) ≡ true → is_call_number (call_form row) next.number ≡ true
 partner_number l s r next row c takes =
     let q = question_of l s r c.symbol (Some next) in
-    let t = taken_is q row c.chosen in
-    let d = sequence_distance row takes in
+    let t = chosen_is q asks_for_its_call row each_asks c.chosen in
+    let d = some_is (partner_distance row) (implied _ _ t.listed takes) in
     taken_call row (info_of l r) (partner_distance row) d.0 (info_of l next) d.1 (partner_asked q row t.whole)
 
 -- ---- kinds of fields that a loader may fill
@@ -345,9 +261,9 @@ none_stands q h = by_standing q (standing_x86_64 q) refl h
     by_standing : (q : Question) (o : Option Row) → standing_x86_64 q ≡ o → loads_at (x86_64_row (relocation_of q).number) ≡ true → checked (has_its_sequence q) (unknown_sequence q) o ≡ Ok None
     by_standing q None is h = refl
     by_standing q (Some row) is h =
-        let first = standing_is q row is in
+        let first = standing_first q (λ (x : Row). not (loads_at (x86_64_row (number_of x)))) row each_stays is in
         let e = number_is q row first.here in
-        absurd (not_both _ (first.listed (λ (x : Row). not (loads_at (x86_64_row (number_of x)))) each_stays) (subst (λ (n : ℕ). loads_at (x86_64_row n) ≡ true) e h))
+        absurd (not_both _ first.listed (subst (λ (n : ℕ). loads_at (x86_64_row n) ≡ true) e h))
 
 pub no_row : (l : Layout) (s : InputSection) (r : InputRelocation) (next : Option InputRelocation) (row : RelocationKindInfo) → row_of l.machine r.number ≡ Some row → loads row.kind ≡ true → choice_of l s r next ≡ Ok None
 unfolding choice_by

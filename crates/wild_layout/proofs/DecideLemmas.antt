@@ -27,16 +27,19 @@ use Rattle.wild_reloc.specs.declared.info.RelocationSize.TheVariants.{ByteSize, 
 use Rattle.wild_reloc.specs.declared.info.Width.TheVariants.{Zero, One, Two, Four, Eight}
 use Rattle.wild_reloc.specs.declared.dynamic.DynamicRelocationKind.TheVariants.{Absolute, Irelative}
 use Rattle.wild_reloc.specs.declared.info.RelocationKind.TheVariants as kinds
+use Rattle.wild_reloc.specs.declared.expression.Taken.{Taken}
+use Rattle.wild_reloc.specs.declared.expression.Taken.TheVariants as taken
+use Rattle.wild_reloc.specs.Expression.{expression_of}
 use Rattle.wild_layout.specs.declared.decision.Decision.{Decision}
 use Rattle.wild_layout.specs.declared.decision.Decision.TheVariants.{Nothing, Field, Moved, Left}
 use Rattle.wild_layout.specs.SymbolValues.{place_of, sum, symbol_size}
 use Rattle.wild_layout.specs.SlotValues.{address_of, index_of, decided_address}
-use Rattle.wild_layout.specs.Values.{term_of, value_by}
+use Rattle.wild_layout.specs.Values.{term_of, value_less, value_by}
 use Rattle.wild_layout.specs.SectionPlaces.{FieldLies}
 use Rattle.wild_layout.specs.Decide.{field, field_for, moved_to, added, left_to, sized_to, chosen_to, decide_by, decided}
 use Rattle.wild_layout.specs.Left.{left_by, left_entry, entry_for}
-pub use Rattle.wild_layout.proofs.TreatmentLemmas.{has_value, HasValue, IsSilent}
-use Rattle.wild_layout.proofs.TreatmentLemmas.{IsMovedBy, IsLeftBy, IsSizedBy, row_value, row_nothing, row_moved, row_symbolic, row_indirect, row_extent}
+pub use Rattle.wild_slot.proofs.TreatmentLemmas.{has_value, HasValue, IsSilent}
+use Rattle.wild_slot.proofs.TreatmentLemmas.{IsMovedBy, IsLeftBy, IsLeftToResolver, IsSizedBy, row_value, row_nothing, row_moved, row_symbolic, row_indirect, row_extent}
 
 -- ---- rows
 
@@ -155,15 +158,15 @@ moved_is_no_field l s r z v (Ok a) h = cc
 
 known_value : (l : Layout) (s : InputSection) (r : InputRelocation) (row : RelocationKindInfo) → treatment l s r ≡ treatments.Value row → (row_of l.machine r.number ≡ Some row) × HasValue row.kind
 unfolding treatment
-known_value l s r row is = row_value l s r.symbol (row_of l.machine r.number) row is
+known_value l s r row is = row_value l s r.number r.symbol (row_of l.machine r.number) row is
 
 known_moved : (l : Layout) (s : InputSection) (r : InputRelocation) → treatment l s r ≡ treatments.BaseRelative → (row : RelocationKindInfo) × (row_of l.machine r.number ≡ Some row) × IsMovedBy l s r.symbol row
 unfolding treatment
-known_moved l s r is = row_moved l s r.symbol (row_of l.machine r.number) is
+known_moved l s r is = row_moved l s r.number r.symbol (row_of l.machine r.number) is
 
 known_nothing : (l : Layout) (s : InputSection) (r : InputRelocation) → treatment l s r ≡ treatments.Nothing → IsNothing l r
 unfolding treatment
-known_nothing l s r is = let k = row_nothing l s r.symbol (row_of l.machine r.number) is in record { row = k.0; known = k.1; kind = k.2 }
+known_nothing l s r is = let k = row_nothing l s r.number r.symbol (row_of l.machine r.number) is in record { row = k.0; known = k.1; kind = k.2 }
 
 treated_field : (l : Layout) (s : InputSection) (r : InputRelocation) (t : Treatment) (z : RelocationSize) (v : ℕ) → treatment l s r ≡ t → decide_by l s r t ≡ Ok (Field z v) → IsField l s r z v
 treated_field l s r treatments.Nothing z v is h = cc
@@ -291,15 +294,15 @@ pub record IsLeft (l : Layout) (s : InputSection) (r : InputRelocation) (z : Rel
 
 pub known_symbolic : (l : Layout) (s : InputSection) (r : InputRelocation) (i : ℕ) → treatment l s r ≡ treatments.Symbolic i → (row : RelocationKindInfo) × (row_of l.machine r.number ≡ Some row) × IsLeftBy s r.symbol row i
 unfolding treatment
-known_symbolic l s r i is = row_symbolic l s r.symbol (row_of l.machine r.number) i is
+known_symbolic l s r i is = row_symbolic l s r.number r.symbol (row_of l.machine r.number) i is
 
-pub known_indirect : (l : Layout) (s : InputSection) (r : InputRelocation) (i : ℕ) → treatment l s r ≡ treatments.Indirect i → (row : RelocationKindInfo) × (row_of l.machine r.number ≡ Some row) × IsLeftBy s r.symbol row i
+pub known_indirect : (l : Layout) (s : InputSection) (r : InputRelocation) (i : ℕ) → treatment l s r ≡ treatments.Indirect i → (row : RelocationKindInfo) × (row_of l.machine r.number ≡ Some row) × IsLeftBy s r.symbol row i × IsLeftToResolver l s row i
 unfolding treatment
-known_indirect l s r i is = row_indirect l s r.symbol (row_of l.machine r.number) i is
+known_indirect l s r i is = row_indirect l s r.number r.symbol (row_of l.machine r.number) i is
 
-pub known_extent : (l : Layout) (s : InputSection) (r : InputRelocation) (row : RelocationKindInfo) (i : ℕ) → treatment l s r ≡ treatments.Extent row i → (row_of l.machine r.number ≡ Some row) × IsSizedBy s r.symbol row i
+pub known_extent : (l : Layout) (s : InputSection) (r : InputRelocation) (row : RelocationKindInfo) (i : ℕ) → treatment l s r ≡ treatments.Extent row i → (row_of l.machine r.number ≡ Some row) × IsSizedBy l s r.symbol row i
 unfolding treatment
-known_extent l s r row i is = row_extent l s r.symbol (row_of l.machine r.number) row i is
+known_extent l s r row i is = row_extent l s r.number r.symbol (row_of l.machine r.number) row i is
 
 -- of an address in 8 bytes
 left_field : (l : Layout) (s : InputSection) (r : InputRelocation) (row : RelocationKindInfo) (i : ℕ) → row_of l.machine r.number ≡ Some row → IsLeftBy s r.symbol row i → HasField l r (ByteSize Eight)
@@ -411,15 +414,9 @@ left_has l s r z n symbol addend h = h.field
 
 -- a value is below 2 ^ 64
 pub value_below : (l : Layout) (kind : RelocationKind) (s p : ℕ) (a : ℤ) → value_by l kind s a p < 2 ^ 64
-value_below l kinds.Relative s p a = omega arith
-value_below l kinds.GotBaseRelative s p a = omega arith
-value_below l kinds.SymRelGotBase s p a = omega arith
-value_below l kinds.PltRelative s p a = omega arith
-value_below l kinds.PltRelGotBase s p a = omega arith
-value_below l kinds.GotRelative s p a = omega arith
-value_below l kinds.GotRelGotBase s p a = omega arith
-value_below l kinds.TlsGd s p a = omega arith
-value_below l kinds.TlsLd s p a = omega arith
-value_below l kinds.GotTpOff s p a = omega arith
-value_below l kinds.TlsDesc s p a = omega arith
-value_below l other s p a = omega arith
+value_below l kind s p a = below (expression_of kind).taken
+  where
+    below : (less : Taken) → value_less l less s a p < 2 ^ 64
+    below taken.Nothing = omega arith
+    below taken.Place = omega arith
+    below taken.Table = omega arith

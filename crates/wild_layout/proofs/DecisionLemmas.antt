@@ -12,8 +12,10 @@
 --   decide_alone                    without a row, and taken along by none, a relocation is decided of by itself
 --   decide_loads, decide_base_relative, decide_symbolic, decide_indirect, decide_extent    a field that a loader may fill is decided of by itself
 use Rattle.std.proofs.Common.{◌≡◌, ℕ, ◌+◌, ◌%◌, ◌^◌, ◌⊎◌, inl, inr, Bool, true, false, refl, sym, ap, ◌∙◌, arith, subst}
-use Rattle.std.specs.Prelude.{⊤, Option, Some, None, Result, Ok, Err, ◌==◌, if◌then◌else◌, slice_get}
-use Rattle.std.proofs.lemmas.Bool.{cases_Bool}
+use Rattle.std.specs.Prelude.{⊤, Option, Some, None, Result, Ok, Err, ◌==◌, ◌||◌, not, if◌then◌else◌, slice_get}
+use Rattle.std.specs.List.{list_all}
+use Rattle.std.proofs.lemmas.Bool.{cases_Bool, not-true}
+use Rattle.wild_words.proofs.Basics.{not_both}
 use Rattle.wild_records.specs.Abi.Relocation as abi
 use Rattle.wild_reloc.specs.Field.{allows}
 use Rattle.wild_reloc.specs.Table.{plain}
@@ -49,6 +51,7 @@ use Rattle.wild_relax.specs.RowSequences.{call_form, is_call_number}
 use Rattle.wild_relax.specs.Rows.{number_of}
 use Rattle.wild_relax.specs.RewriteX86_64.{rewrite_of}
 use Rattle.wild_relax.specs.Linked.{keeps_bytes}
+use Rattle.wild_relax.proofs.EveryRow.{every_row, each_implied}
 use Rattle.wild_layout.specs.declared.decision.Decision.{Decision}
 use Rattle.wild_layout.specs.declared.decision.Decision.TheVariants.{Nothing, Field, Moved, Left, Rewritten, Partner}
 use Rattle.wild_layout.specs.SymbolValues.{place_of}
@@ -56,7 +59,7 @@ use Rattle.wild_layout.specs.SlotValues.{address_of, index_of, decided_address}
 use Rattle.wild_layout.specs.Values.{term_of, value_by}
 use Rattle.wild_layout.specs.Choice.{choice_of, takes_next, is_partner}
 use Rattle.wild_layout.specs.Decide.{field, field_for, moved_to, added, left_to, chosen_to, decide_by, decided, field_at, value_to, term_to, rewritten_by, rewritten_to, refused_with, decide_with, decide_at, decide}
-use Rattle.wild_layout.proofs.TreatmentLemmas.{HasValue, row_moved, row_symbolic, row_indirect, row_extent}
+use Rattle.wild_slot.proofs.TreatmentLemmas.{HasValue, row_moved, row_symbolic, row_indirect, row_extent}
 use Rattle.wild_layout.proofs.ChoiceLemmas.{IsChosen, choice_row, IsSequence, partner_is_taken, partner_number, loads, no_row, no_partner}
 use Rattle.wild_layout.proofs.DecideLemmas.{HasField, sized_left}
 
@@ -354,30 +357,16 @@ pub decide_partner : (l : Layout) (s : InputSection) (i : ℕ) (r : InputRelocat
 decide_partner l s i r listed h = decide_cases l s i r Partner listed h (λ own. absurd (decided_keeps l s r Partner own.made)) (λ row c m. absurd (of_row (keeps_bytes row) m.by.info.size row m.value Partner m.is)) (λ t e. partner_is_taken l s i t)
 
 -- the relocation of such a row is no call
+abbrev is_no_call : GeneralForm → Row → Bool
+is_no_call f row = not (is_call_number f (number_of row))
+
+each_is_no_call : (f : GeneralForm) → list_all (λ (row : Row). not (takes_next (Ok (Some row))) || is_no_call f row) every_row ≡ true
+each_is_no_call general.Regular = refl
+each_is_no_call general.NoPlt = refl
+each_is_no_call general.Large = refl
+
 sequence_is_no_call : (row : Row) (f : GeneralForm) → takes_next (Ok (Some row)) ≡ true → is_call_number f (number_of row) ≡ true → ⊥
-sequence_is_no_call IfuncThroughStub f t h = cc
-sequence_is_no_call (RexGotToImmediate p o) f t h = cc
-sequence_is_no_call (RexGotMovToLea p) f t h = cc
-sequence_is_no_call GotMovToImmediate f t h = cc
-sequence_is_no_call GotMovToLea f t h = cc
-sequence_is_no_call IndirectCallToDirect f t h = cc
-sequence_is_no_call IndirectJumpToDirect f t h = cc
-sequence_is_no_call PlainGotMovToLea f t h = cc
-sequence_is_no_call (InitialExecToLocalExec p o) f t h = cc
-sequence_is_no_call Plt32ToPc32 f t h = cc
-sequence_is_no_call PltOffToGotOff f t h = cc
-sequence_is_no_call (GeneralDynamicToLocalExec g) general.Regular t h = cc
-sequence_is_no_call (GeneralDynamicToLocalExec g) general.NoPlt t h = cc
-sequence_is_no_call (GeneralDynamicToLocalExec g) general.Large t h = cc
-sequence_is_no_call (GeneralDynamicToInitialExec g) general.Regular t h = cc
-sequence_is_no_call (GeneralDynamicToInitialExec g) general.NoPlt t h = cc
-sequence_is_no_call (GeneralDynamicToInitialExec g) general.Large t h = cc
-sequence_is_no_call (LocalDynamicToLocalExec g) general.Regular t h = cc
-sequence_is_no_call (LocalDynamicToLocalExec g) general.NoPlt t h = cc
-sequence_is_no_call (LocalDynamicToLocalExec g) general.Large t h = cc
-sequence_is_no_call (DescriptorLea p LocalExec) f t h = cc
-sequence_is_no_call (DescriptorLea p InitialExec) f t h = cc
-sequence_is_no_call DescriptorCall f t h = cc
+sequence_is_no_call row f t h = not_both (is_call_number f (number_of row)) (each_implied (λ (r : Row). takes_next (Ok (Some r))) (is_no_call f) (each_is_no_call f) row t) h
 
 -- and so it is not taken along itself
 pub sequence_is_alone : (l : Layout) (s : InputSection) (j : ℕ) (row : Row) → IsSequence l s j row → is_partner l s j ≡ false
@@ -395,27 +384,7 @@ sequence_is_alone l s j row q =
         sequence_is_no_call row (call_form w) takes (subst (λ (x : ℕ). is_call_number (call_form w) x ≡ true) c.number n)
 
 sequence_changes : (row : Row) → takes_next (Ok (Some row)) ≡ true → keeps_bytes row ≡ false
-sequence_changes IfuncThroughStub t = cc
-sequence_changes (RexGotToImmediate p o) t = refl
-sequence_changes (RexGotMovToLea p) t = refl
-sequence_changes GotMovToImmediate t = refl
-sequence_changes GotMovToLea t = refl
-sequence_changes IndirectCallToDirect t = refl
-sequence_changes IndirectJumpToDirect t = refl
-sequence_changes PlainGotMovToLea t = refl
-sequence_changes (InitialExecToLocalExec p o) t = refl
-sequence_changes Plt32ToPc32 t = cc
-sequence_changes PltOffToGotOff t = cc
-sequence_changes (GeneralDynamicToLocalExec general.Regular) t = refl
-sequence_changes (GeneralDynamicToLocalExec general.NoPlt) t = refl
-sequence_changes (GeneralDynamicToLocalExec general.Large) t = refl
-sequence_changes (GeneralDynamicToInitialExec f) t = refl
-sequence_changes (LocalDynamicToLocalExec local.Regular) t = refl
-sequence_changes (LocalDynamicToLocalExec local.Large) t = refl
-sequence_changes (LocalDynamicToLocalExec local.NoPlt) t = refl
-sequence_changes (DescriptorLea p LocalExec) t = refl
-sequence_changes (DescriptorLea p InitialExec) t = refl
-sequence_changes DescriptorCall t = refl
+sequence_changes row t = not-true (keeps_bytes row) (each_implied (λ (r : Row). takes_next (Ok (Some r))) (λ (r : Row). not (keeps_bytes r)) refl row t)
 
 -- what is decided of the relocation of such a row is its rewrite
 pub sequence_is_rewritten : (l : Layout) (s : InputSection) (j : ℕ) (row : Row) (d : Decision) → IsSequence l s j row → decide l s j ≡ Ok d → (v : ℕ) × (d ≡ Rewritten row v)
@@ -458,16 +427,16 @@ decide_loads l s i r row listed known h = decide_alone l s i r listed (no_partne
 
 pub decide_base_relative : (l : Layout) (s : InputSection) (i : ℕ) (r : InputRelocation) → slice_get s.relocations i ≡ Some r → treatment l s r ≡ treatments.BaseRelative → decide l s i ≡ decided l s r
 unfolding treatment
-decide_base_relative l s i r listed is = let k = row_moved l s r.symbol (row_of l.machine r.number) is in decide_loads l s i r k.0 listed k.1 (ap loads k.2.kind)
+decide_base_relative l s i r listed is = let k = row_moved l s r.number r.symbol (row_of l.machine r.number) is in decide_loads l s i r k.0 listed k.1 (ap loads k.2.kind)
 
 pub decide_symbolic : (l : Layout) (s : InputSection) (i : ℕ) (r : InputRelocation) (n : ℕ) → slice_get s.relocations i ≡ Some r → treatment l s r ≡ treatments.Symbolic n → decide l s i ≡ decided l s r
 unfolding treatment
-decide_symbolic l s i r n listed is = let k = row_symbolic l s r.symbol (row_of l.machine r.number) n is in decide_loads l s i r k.0 listed k.1 (ap loads k.2.kind)
+decide_symbolic l s i r n listed is = let k = row_symbolic l s r.number r.symbol (row_of l.machine r.number) n is in decide_loads l s i r k.0 listed k.1 (ap loads k.2.kind)
 
 pub decide_indirect : (l : Layout) (s : InputSection) (i : ℕ) (r : InputRelocation) (n : ℕ) → slice_get s.relocations i ≡ Some r → treatment l s r ≡ treatments.Indirect n → decide l s i ≡ decided l s r
 unfolding treatment
-decide_indirect l s i r n listed is = let k = row_indirect l s r.symbol (row_of l.machine r.number) n is in decide_loads l s i r k.0 listed k.1 (ap loads k.2.kind)
+decide_indirect l s i r n listed is = let k = row_indirect l s r.number r.symbol (row_of l.machine r.number) n is in decide_loads l s i r k.0 listed k.1 (ap loads k.2.kind)
 
 pub decide_extent : (l : Layout) (s : InputSection) (i : ℕ) (r : InputRelocation) (row : RelocationKindInfo) (n : ℕ) → slice_get s.relocations i ≡ Some r → treatment l s r ≡ treatments.Extent row n → decide l s i ≡ decided l s r
 unfolding treatment
-decide_extent l s i r row n listed is = let k = row_extent l s r.symbol (row_of l.machine r.number) row n is in decide_loads l s i r row listed k.0 (ap loads k.1.kind)
+decide_extent l s i r row n listed is = let k = row_extent l s r.number r.symbol (row_of l.machine r.number) row n is in decide_loads l s i r row listed k.0 (ap loads k.1.kind)

@@ -1,6 +1,6 @@
 pub mod FaultLemmas
-pub mod TreatmentLemmas
 pub mod ChoiceLemmas
+pub mod AskedLemmas
 pub mod DecideLemmas
 pub mod DecisionLemmas
 pub mod SitesApart

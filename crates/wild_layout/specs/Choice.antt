@@ -1,11 +1,14 @@
 -- The rewrite of an instruction that stands at a relocation.
---   info_of l r            what the rows of rewrites ask of a relocation by itself
---   question_of ..         what they ask of one that names symbol i, with the relocation behind it
+--   info_of l r            what the rows of rewrites ask of a relocation by itself; `nameless` but for its symbol's name
+--   asked_of ..            what they ask of the first of some relocations, which names symbol i
+--   question_of ..         the same, with the relocation behind it
 --   choice_of l s r next   the row that stands, or why it is refused
 --   choice l s i           the same of relocation i of section s
 --   is_partner l s i       relocation i is the call of the sequence before it, which is rewritten as a whole
-use Rattle.std.specs.Prelude.{ℕ, zero, suc, ◌+◌, ◌==◌, Bool, true, false, if◌then◌else◌, List, [], ◌∷◌, Option, Some, None, option_to_list, option_map, unwrap_or, Result, Ok, slice_get}
-use Rattle.wild_records.specs.Abi.Relocation.{r_x86_64_pc32}
+--   may_take_next n        rows of that relocation type write a whole sequence
+--   may_be_partner rs i    the relocation before is of such a type
+use Rattle.std.specs.Prelude.{ℕ, zero, suc, ◌+◌, ◌==◌, Bool, true, false, ◌||◌, if◌then◌else◌, List, [], ◌∷◌, ◌++◌, Option, Some, None, option_to_list, option_map, unwrap_or, Result, Ok, slice_get}
+use Rattle.wild_records.specs.Abi.Relocation.{r_x86_64_pc32, r_x86_64_tlsgd, r_x86_64_tlsld}
 use Rattle.wild_types.specs.declared.input.InputRelocation.{InputRelocation}
 use Rattle.wild_types.specs.declared.input.InputSection.{InputSection}
 use Rattle.wild_types.specs.declared.symbol.Symbol.{Symbol}
@@ -37,10 +40,14 @@ is_getter l (Some i) = unwrap_or (option_map (λ (s : Symbol). same_names s.name
 abbrev pub info_of : Layout → InputRelocation → RelocationInfo
 info_of l r = record { number = r.number; offset = r.offset; symbol = r.symbol; addend = r.addend; names_tls_get_addr = is_getter l r.symbol }
 
--- what they ask of one that names symbol i: the flags are those of its definition, and the value is the address that the layout has
-abbrev pub question_of : Layout → InputSection → InputRelocation → ℕ → Option InputRelocation → Question
-question_of l s r i next = record {
-  relocations = info_of l r ∷ option_to_list (option_map (info_of l) next);
+abbrev pub nameless : InputRelocation → RelocationInfo
+nameless r = record { number = r.number; offset = r.offset; symbol = r.symbol; addend = r.addend; names_tls_get_addr = false }
+
+-- what they ask of the first of these, which names symbol i: the flags are those of its definition, and the value is the address
+-- that the layout has
+abbrev pub asked_of : Layout → InputSection → ℕ → List RelocationInfo → Question
+asked_of l s i infos = record {
+  relocations = infos;
   at = 0;
   bytes = s.bytes;
   flags = flags_at l i;
@@ -50,6 +57,13 @@ question_of l s r i next = record {
   value = raw_value l i;
   address = s.address;
 }
+
+-- a relocation, if there is one, and the one behind it
+abbrev pub infos_of : Layout → Option InputRelocation → Option InputRelocation → List RelocationInfo
+infos_of l r next = option_to_list (option_map (info_of l) r) ++ option_to_list (option_map (info_of l) next)
+
+abbrev pub question_of : Layout → InputSection → InputRelocation → ℕ → Option InputRelocation → Question
+question_of l s r i next = asked_of l s i (infos_of l (Some r) next)
 
 -- the row that stands, or why it is refused. S of an IFUNC is its stub in any case, so the row that says so for R_X86_64_PC32 has
 -- nothing to do here
@@ -79,3 +93,15 @@ takes_next other = false
 abbrev pub is_partner : Layout → InputSection → ℕ → Bool
 is_partner l s zero = false
 is_partner l s (suc i) = takes_next (choice l s i)
+
+-- rows of that relocation type write a whole sequence
+abbrev pub may_take_next : ℕ → Bool
+may_take_next n = n == r_x86_64_tlsgd || n == r_x86_64_tlsld
+
+abbrev pub takes_along : Option InputRelocation → Bool
+takes_along r = unwrap_or (option_map (λ (x : InputRelocation). may_take_next x.number) r) false
+
+-- the relocation before is of such a type
+abbrev pub may_be_partner : List InputRelocation → ℕ → Bool
+may_be_partner rs zero = false
+may_be_partner rs (suc i) = takes_along (slice_get rs i)

@@ -2,7 +2,7 @@
 --   address_of l r        S: the address of the symbol, or of its stub where a resolver chooses it
 --   index_of l i          the index of the symbol in the dynamic symbol table
 --   stub_of l i           L: the address of the symbol's stub
---   slot_of l kind i      G: where the slot stands that the kind names
+--   slot_of l sort i      G: where the slot of that sort stands
 use Rattle.std.specs.Prelude.{ℕ, ◌+◌, ◌%◌, ◌^◌, ◌||◌, Bool, if◌then◌else◌, Option, Some, None, Result, Ok, option_and_then, option_map}
 use Rattle.wild_types.specs.declared.fault.Fault.{Fault}
 use Rattle.wild_types.specs.declared.fault.Missing.TheVariants as missing
@@ -14,8 +14,8 @@ use Rattle.wild_types.specs.Addresses.{raw_value}
 use Rattle.wild_types.specs.Flags.{has_flag, ifunc, got_tls_offset, got_tls_module, got_tls_descriptor, ifunc_got_for_address, canonical_plt_got_for_address}
 use Rattle.wild_types.specs.SymbolSlots.{has_thread_slot}
 use Rattle.wild_slot.specs.Treatment.{flags_at}
-use Rattle.wild_reloc.specs.declared.info.RelocationKind.{RelocationKind}
-use Rattle.wild_reloc.specs.declared.info.RelocationKind.TheVariants as kinds
+use Rattle.wild_reloc.specs.declared.expression.SlotSort.{SlotSort}
+use Rattle.wild_reloc.specs.declared.expression.SlotSort.TheVariants as sorts
 use Rattle.wild_layout.specs.SymbolValues.{definition_of, address_or, raw_address}
 
 -- what was decided of the symbol's definition
@@ -56,23 +56,23 @@ behind_word b at = if b then (at + 8) % 2 ^ 64 else at
 abbrev pub behind_pair : Bool → ℕ → ℕ
 behind_pair b at = if b then (at + 16) % 2 ^ 64 else at
 
--- where the slot of a kind stands among those of a symbol with these flags, whose first is there: the one that references to an
+-- where the slot of a sort stands among those of a symbol with these flags, whose first is there: the one that references to an
 -- address use is the second where there are two; the pair of a module stands behind the offset, and the descriptor behind both
-abbrev pub slot_among : RelocationKind → ValueFlags → ℕ → Option ℕ
-slot_among kinds.GotTpOff f at = if has_flag f got_tls_offset then Some at else None
-slot_among kinds.TlsGd f at = if has_flag f got_tls_module then Some (behind_word (has_flag f got_tls_offset) at) else None
-slot_among kinds.TlsDesc f at = if has_flag f got_tls_descriptor then Some (behind_pair (has_flag f got_tls_module) (behind_word (has_flag f got_tls_offset) at)) else None
+abbrev pub slot_among : SlotSort → ValueFlags → ℕ → Option ℕ
+slot_among sorts.Offset f at = if has_flag f got_tls_offset then Some at else None
+slot_among sorts.Pair f at = if has_flag f got_tls_module then Some (behind_word (has_flag f got_tls_offset) at) else None
+slot_among sorts.Descriptor f at = if has_flag f got_tls_descriptor then Some (behind_pair (has_flag f got_tls_module) (behind_word (has_flag f got_tls_offset) at)) else None
 slot_among other f at = if has_thread_slot f then None else Some (behind_word (has_second_slot f) at)
 
-abbrev pub slot_decided : RelocationKind → Option Resolution → Option ℕ
-slot_decided kind None = None
-slot_decided kind (Some r) = option_and_then (slot_among kind r.flags) r.got_address
+abbrev pub slot_decided : SlotSort → Option Resolution → Option ℕ
+slot_decided sort None = None
+slot_decided sort (Some r) = option_and_then (slot_among sort r.flags) r.got_address
 
--- G, by the kind: the pair of the output's own data stands once
-abbrev pub slot_of : Layout → RelocationKind → ℕ → Option ℕ
-slot_of l kinds.TlsLd i = l.tlsld
-slot_of l kind i = slot_decided kind (resolution_of l i)
+-- G, by the sort: the pair of the output's own data stands once
+abbrev pub slot_of : Layout → SlotSort → ℕ → Option ℕ
+slot_of l sorts.OwnPair i = l.tlsld
+slot_of l sort i = slot_decided sort (resolution_of l i)
 
-abbrev pub slot_address : Layout → RelocationKind → Option ℕ → Result ℕ Fault
-slot_address l kind None = Ok 0
-slot_address l kind (Some i) = address_or missing.Slot i (slot_of l kind i)
+abbrev pub slot_address : Layout → SlotSort → Option ℕ → Result ℕ Fault
+slot_address l sort None = Ok 0
+slot_address l sort (Some i) = address_or missing.Slot i (slot_of l sort i)

@@ -3,8 +3,9 @@ use Rattle.std.proofs.Common.{◌≡◌, ℕ, ◌+◌, ◌*◌, ◌/◌, ◌%◌
 use Rattle.std.specs.Prelude.{Some, ◌⊎◌}
 use Rattle.std.proofs.lemmas.Bool.Decides.{nat_tests}
 use Rattle.wild_words.specs.Words.{word, number, place}
-use Rattle.wild_meaning.specs.Instruction.{Reader, Word, signed_32, sum_64}
-use Rattle.wild_meaning.specs.InstructionX86_64.{meaning_x86_64}
+use Rattle.wild_loader.specs.declared.instruction.Operand.TheVariants.{Word}
+use Rattle.wild_loader.specs.Instruction.{Reader, signed_32, sum_64}
+use Rattle.wild_loader.specs.InstructionX86_64.{meaning_x86_64}
 use Rattle.wild_relax.specs.declared.pattern.Prefix.TheVariants.{Rex, Rex2}
 use Rattle.wild_relax.specs.declared.pattern.Operation.{Operation}
 use Rattle.wild_relax.specs.declared.pattern.Operation.TheVariants as operation

@@ -2,8 +2,8 @@
 use Rattle.std.proofs.Common.{◌≡◌, ℕ, ◌+◌, true, List, [], ◌∷◌, refl, ⊎_elim}
 use Rattle.std.specs.Prelude.{◌⊎◌, ◌==◌, bit_and}
 use Rattle.wild_words.specs.Words.{word, number, place}
-use Rattle.wild_meaning.specs.Instruction.{Reader, signed_32, sum_64}
-use Rattle.wild_meaning.specs.InstructionX86_64.{meaning_x86_64, effect_x86_64, demand_x86_64}
+use Rattle.wild_loader.specs.Instruction.{Reader, signed_32, sum_64}
+use Rattle.wild_loader.specs.InstructionX86_64.{meaning_x86_64, effect_x86_64, demand_x86_64}
 use Rattle.wild_relax.specs.declared.pattern.Prefix.TheVariants.{Rex, Rex2}
 use Rattle.wild_relax.specs.declared.row.Row.{Row}
 use Rattle.wild_relax.specs.declared.row.Row.TheVariants.{RexGotMovToLea, GotMovToLea, IndirectCallToDirect, IndirectJumpToDirect}

@@ -1,4 +1,5 @@
 pub mod StubLemmas
+pub mod EveryRow
 pub mod RewriteLemmas
 pub mod RoomLemmas
 pub mod ShapeLemmas
@@ -9,3 +10,5 @@ pub mod RowLemmas
 pub mod SectionLemmas
 pub mod NumberLemmas
 pub mod TemplateLemmas
+pub mod AArch64Lemmas
+pub mod FieldsAArch64Lemmas

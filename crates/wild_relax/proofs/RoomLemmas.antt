@@ -1,6 +1,6 @@
 -- A rewrite that stands has room.
 use Rattle.std.proofs.Common.{◌≡◌, ℕ, ◌+◌, Bool, true, false, List, [], ◌∷◌, length, refl, ap, arith, subst, ⊎_elim}
-use Rattle.std.specs.Prelude.{Option, Some, None, Result, Ok, Err, ◌&&◌, ◌||◌, not, cond, nat_le}
+use Rattle.std.specs.Prelude.{Option, Some, None, Ok, Err, ◌&&◌, ◌||◌, not, cond, nat_le}
 use Rattle.std.specs.List.{list_all}
 use Rattle.std.proofs.lemmas.Bool.Decides.{nat_tests}
 use Rattle.std.proofs.lemmas.Bool.{and_parts, or_cases, eqb-true}
@@ -73,6 +73,11 @@ always_stands q row h n = by_bytes _ _ (and_parts _ _ h).1 n
 pub needed_stands : (q : Question) (row : Row) → has_its_sequence q row ≡ true → stands_before q.bytes (relocation_of q).offset (needed_pattern row) ≡ true
 unfolding has_its_sequence
 needed_stands q row h = (and_parts _ _ (and_parts _ _ h).0).0
+
+-- what the first row that stands is
+pub standing_first : (q : Question) (p : Row → Bool) (row : Row) → list_all p rows_x86_64 ≡ true → standing_x86_64 q ≡ Some row → IsFirst (applies q) p row
+unfolding standing_x86_64
+standing_first q p row all e = first_is (applies q) p rows_x86_64 row all e
 
 -- what a chosen row is
 pub record IsChosenRow (q : Question) (p : Row → Bool) (row : Row) : Type 0 where

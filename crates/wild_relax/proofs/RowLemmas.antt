@@ -13,8 +13,9 @@ use Rattle.wild_reloc.specs.declared.info.Width.TheVariants.{Zero, Four}
 use Rattle.wild_reloc.specs.declared.info.RelocationKind.{RelocationKind}
 use Rattle.wild_reloc.specs.declared.info.RelocationKind.TheVariants as kinds
 use Rattle.wild_reloc.specs.declared.info.RelocationKindInfo.{RelocationKindInfo}
-use Rattle.wild_meaning.specs.Instruction.{Reader, Word, sum_64}
-use Rattle.wild_meaning.specs.InstructionX86_64.{effect_x86_64, demand_x86_64, meaning_x86_64}
+use Rattle.wild_loader.specs.declared.instruction.Operand.TheVariants.{Word}
+use Rattle.wild_loader.specs.Instruction.{Reader, sum_64}
+use Rattle.wild_loader.specs.InstructionX86_64.{effect_x86_64, demand_x86_64, meaning_x86_64}
 use Rattle.wild_relax.specs.declared.pattern.Prefix.TheVariants.{Rex, Rex2}
 use Rattle.wild_relax.specs.declared.pattern.Operation.{Operation}
 use Rattle.wild_relax.specs.declared.pattern.Operation.TheVariants as operation

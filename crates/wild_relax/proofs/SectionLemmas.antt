@@ -1,18 +1,16 @@
 -- A rewrite in its section.
 use Rattle.std.proofs.Common.{◌≡◌, ℕ, ◌+◌, ◌-◌, ◌≤◌, Bool, true, false, List, [], ◌∷◌, ◌++◌, length, take, drop, refl, sym, ap, ◌∙◌, arith, subst, ⊎_elim, inl, inr}
-use Rattle.std.specs.Prelude.{Some, Ok, ◌⊎◌, ◌||◌, not, slice_range}
+use Rattle.std.specs.Prelude.{Some, Ok, ◌⊎◌, ◌||◌, not, nat_le, slice_range}
 use Rattle.std.specs.List.{list_all}
-use Rattle.std.proofs.lemmas.Bool.{eqb-true, and_parts}
+use Rattle.std.proofs.lemmas.Bool.{eqb-true, leb-true, and_parts}
 use Rattle.std.proofs.lemmas.Bool.Decides.{nat_tests}
 use Rattle.std.proofs.lemmas.List.{drop-drop, take-take, drop-take, take-append-drop}
 use Rattle.std.proofs.lemmas.List.Elements.{All-nil, All-cons}
-use Rattle.wild_words.specs.Words.{word, place}
+use Rattle.wild_words.specs.Words.{place}
 use Rattle.wild_words.specs.Overlay.{Piece, PiecesOverAPart}
-use Rattle.wild_words.proofs.Basics.{length-range}
+use Rattle.wild_words.proofs.Basics.{length-range, implied, or_other}
 use Rattle.wild_reloc.specs.Field.{written}
-use Rattle.wild_reloc.specs.TableX86_64.{x86_64_row}
-use Rattle.wild_reloc.specs.declared.info.RelocationKindInfo.{RelocationKindInfo}
-use Rattle.wild_relax.specs.declared.pattern.Prefix.TheVariants.{Rex, Rex2}
+use Rattle.wild_reloc.proofs.PlaceLemmas.{length-size_written}
 use Rattle.wild_relax.specs.declared.pattern.GeneralForm.TheVariants as general
 use Rattle.wild_relax.specs.declared.pattern.LocalForm.TheVariants as local
 use Rattle.wild_relax.specs.declared.pattern.Pattern.{Pattern}
@@ -32,7 +30,9 @@ use Rattle.wild_relax.specs.Linked.{pattern_of, keeps_bytes, field_in, IsChangin
 use Rattle.wild_relax.specs.Keep.{IsWhole}
 use Rattle.wild_relax.specs.Section.{start_of, window, field_after, ChosenStand, ChosenAreWhole, SectionsAreLinked}
 use Rattle.wild_relax.proofs.RoomLemmas.{chosen_is, always_stands, needed_stands}
-use Rattle.wild_relax.proofs.RowLemmas.{pc32, signed_32s, unsigned_32, tpoff32, gottpoff, nothing}
+use Rattle.wild_relax.proofs.EveryRow.{each_row}
+use Rattle.wild_relax.proofs.RewriteLemmas.{length-bytes, bytes_inside}
+use Rattle.wild_relax.proofs.TemplateLemmas.{field_fits}
 
 -- ---- the pattern stands in the input
 
@@ -63,23 +63,12 @@ each_is_listed = refl
 -- and so it changes bytes, or none
 changes : (row : Row) → is_listed row ≡ true → keeps_bytes row ≡ false → IsChanging row
 changes IfuncThroughStub l h = cc
-changes (RexGotToImmediate p o) l h = tt
-changes (RexGotMovToLea p) l h = tt
-changes GotMovToImmediate l h = tt
-changes GotMovToLea l h = tt
-changes IndirectCallToDirect l h = tt
-changes IndirectJumpToDirect l h = tt
-changes PlainGotMovToLea l h = tt
-changes (InitialExecToLocalExec p o) l h = tt
 changes Plt32ToPc32 l h = cc
 changes PltOffToGotOff l h = cc
-changes (GeneralDynamicToLocalExec f) l h = tt
 changes (GeneralDynamicToInitialExec general.Regular) l h = tt
 changes (GeneralDynamicToInitialExec general.NoPlt) l h = tt
 changes (GeneralDynamicToInitialExec general.Large) l h = cc
-changes (LocalDynamicToLocalExec f) l h = tt
-changes (DescriptorLea p u) l h = tt
-changes DescriptorCall l h = tt
+changes other l h = tt
 
 -- the row stands only on that pattern
 record IsAlways (row : Row) : Type 0 where
@@ -177,74 +166,31 @@ chosen_are_whole q row e = (chosen_at q row e).whole
 
 -- ---- the rewrite and the field lie in the pattern
 
--- how many bytes the field has
-abbrev width : Row → ℕ
-width (LocalDynamicToLocalExec f) = 0
-width DescriptorCall = 0
-width other = 4
+-- a row that changes bytes begins in its pattern
+abbrev begins_inside : Row → Bool
+begins_inside row = keeps_bytes row || (not (is_listed row) || nat_le (rewrite_of row).back (field_of (pattern_of row)))
 
-record IsInside (row : Row) : Type 0 where
-  back : (rewrite_of row).back ≤ field_of (pattern_of row)
-  size : (old : List ℕ) → length ((rewrite_of row).bytes old) ≡ (rewrite_of row).size
-  bytes : field_of (pattern_of row) - (rewrite_of row).back + (rewrite_of row).size ≤ length (cells_of (pattern_of row))
-  field : field_in row + width row ≤ length (cells_of (pattern_of row))
+back_inside : (row : Row) → keeps_bytes row ≡ false → is_listed row ≡ true → (rewrite_of row).back ≤ field_of (pattern_of row)
+back_inside row keeps listed =
+    let h = or_other (keeps_bytes row) (not (is_listed row) || nat_le (rewrite_of row).back (field_of (pattern_of row))) (each_row begins_inside refl row) keeps in
+    leb-true _ _ (implied (is_listed row) (nat_le (rewrite_of row).back (field_of (pattern_of row))) h listed)
 
-inside : (row : Row) → IsChanging row → IsInside row
-inside IfuncThroughStub known = absurd known
-inside (RexGotToImmediate Rex o) known = record { back = omega arith; size = λ old. refl; bytes = omega arith; field = omega arith }
-inside (RexGotToImmediate Rex2 o) known = record { back = omega arith; size = λ old. refl; bytes = omega arith; field = omega arith }
-inside (RexGotMovToLea Rex) known = record { back = omega arith; size = λ old. refl; bytes = omega arith; field = omega arith }
-inside (RexGotMovToLea Rex2) known = record { back = omega arith; size = λ old. refl; bytes = omega arith; field = omega arith }
-inside GotMovToImmediate known = record { back = omega arith; size = λ old. refl; bytes = omega arith; field = omega arith }
-inside GotMovToLea known = record { back = omega arith; size = λ old. refl; bytes = omega arith; field = omega arith }
-inside IndirectCallToDirect known = record { back = omega arith; size = λ old. refl; bytes = omega arith; field = omega arith }
-inside IndirectJumpToDirect known = record { back = omega arith; size = λ old. refl; bytes = omega arith; field = omega arith }
-inside PlainGotMovToLea known = record { back = omega arith; size = λ old. refl; bytes = omega arith; field = omega arith }
-inside (InitialExecToLocalExec Rex o) known = record { back = omega arith; size = λ old. refl; bytes = omega arith; field = omega arith }
-inside (InitialExecToLocalExec Rex2 o) known = record { back = omega arith; size = λ old. refl; bytes = omega arith; field = omega arith }
-inside Plt32ToPc32 known = absurd known
-inside PltOffToGotOff known = absurd known
-inside (GeneralDynamicToLocalExec general.Regular) known = record { back = omega arith; size = λ old. refl; bytes = omega arith; field = omega arith }
-inside (GeneralDynamicToLocalExec general.NoPlt) known = record { back = omega arith; size = λ old. refl; bytes = omega arith; field = omega arith }
-inside (GeneralDynamicToLocalExec general.Large) known = record { back = omega arith; size = λ old. refl; bytes = omega arith; field = omega arith }
-inside (GeneralDynamicToInitialExec general.Regular) known = record { back = omega arith; size = λ old. refl; bytes = omega arith; field = omega arith }
-inside (GeneralDynamicToInitialExec general.NoPlt) known = record { back = omega arith; size = λ old. refl; bytes = omega arith; field = omega arith }
-inside (GeneralDynamicToInitialExec general.Large) known = absurd known
-inside (LocalDynamicToLocalExec local.Regular) known = record { back = omega arith; size = λ old. refl; bytes = omega arith; field = omega arith }
-inside (LocalDynamicToLocalExec local.Large) known = record { back = omega arith; size = λ old. refl; bytes = omega arith; field = omega arith }
-inside (LocalDynamicToLocalExec local.NoPlt) known = record { back = omega arith; size = λ old. refl; bytes = omega arith; field = omega arith }
-inside (DescriptorLea Rex LocalExec) known = record { back = omega arith; size = λ old. refl; bytes = omega arith; field = omega arith }
-inside (DescriptorLea Rex2 LocalExec) known = record { back = omega arith; size = λ old. refl; bytes = omega arith; field = omega arith }
-inside (DescriptorLea Rex InitialExec) known = record { back = omega arith; size = λ old. refl; bytes = omega arith; field = omega arith }
-inside (DescriptorLea Rex2 InitialExec) known = record { back = omega arith; size = λ old. refl; bytes = omega arith; field = omega arith }
-inside DescriptorCall known = record { back = omega arith; size = λ old. refl; bytes = omega arith; field = omega arith }
-
-as_long : (info other : RelocationKindInfo) (value : ℕ) → info ≡ other → length (written info value []) ≡ length (written other value [])
-as_long info other value e = ap (λ i. length (written i value [])) e
-
-field_long : (row : Row) (info : RelocationKindInfo) (value : ℕ) → IsChanging row → Some info ≡ x86_64_row (rewrite_of row).number → length (written info value []) ≡ width row
-unfolding word
-field_long IfuncThroughStub info value known e = absurd known
-field_long (RexGotToImmediate p o) info value known e = as_long info _ value (signed_32s info e)
-field_long (RexGotMovToLea p) info value known e = as_long info _ value (pc32 info e)
-field_long GotMovToImmediate info value known e = as_long info _ value (unsigned_32 info e)
-field_long GotMovToLea info value known e = as_long info _ value (pc32 info e)
-field_long IndirectCallToDirect info value known e = as_long info _ value (pc32 info e)
-field_long IndirectJumpToDirect info value known e = as_long info _ value (pc32 info e)
-field_long PlainGotMovToLea info value known e = as_long info _ value (pc32 info e)
-field_long (InitialExecToLocalExec p o) info value known e = as_long info _ value (tpoff32 info e)
-field_long Plt32ToPc32 info value known e = absurd known
-field_long PltOffToGotOff info value known e = absurd known
-field_long (GeneralDynamicToLocalExec general.Regular) info value known e = as_long info _ value (tpoff32 info e)
-field_long (GeneralDynamicToLocalExec general.NoPlt) info value known e = as_long info _ value (tpoff32 info e)
-field_long (GeneralDynamicToLocalExec general.Large) info value known e = as_long info _ value (tpoff32 info e)
-field_long (GeneralDynamicToInitialExec f) info value known e = as_long info _ value (gottpoff info e)
-field_long (LocalDynamicToLocalExec local.Regular) info value known e = as_long info _ value (nothing info e)
-field_long (LocalDynamicToLocalExec local.Large) info value known e = as_long info _ value (nothing info e)
-field_long (LocalDynamicToLocalExec local.NoPlt) info value known e = as_long info _ value (nothing info e)
-field_long (DescriptorLea p LocalExec) info value known e = as_long info _ value (tpoff32 info e)
-field_long (DescriptorLea p InitialExec) info value known e = as_long info _ value (gottpoff info e)
-field_long DescriptorCall info value known e = as_long info _ value (nothing info e)
+changing_writes : (row : Row) → IsChanging row → (keeps_bytes row ≡ false) × (is_listed row ≡ true)
+changing_writes IfuncThroughStub c = absurd c
+changing_writes Plt32ToPc32 c = absurd c
+changing_writes PltOffToGotOff c = absurd c
+changing_writes (GeneralDynamicToLocalExec general.Regular) c = (refl, refl)
+changing_writes (GeneralDynamicToLocalExec general.NoPlt) c = (refl, refl)
+changing_writes (GeneralDynamicToLocalExec general.Large) c = (refl, refl)
+changing_writes (GeneralDynamicToInitialExec general.Regular) c = (refl, refl)
+changing_writes (GeneralDynamicToInitialExec general.NoPlt) c = (refl, refl)
+changing_writes (GeneralDynamicToInitialExec general.Large) c = absurd c
+changing_writes (LocalDynamicToLocalExec local.Regular) c = (refl, refl)
+changing_writes (LocalDynamicToLocalExec local.NoPlt) c = (refl, refl)
+changing_writes (LocalDynamicToLocalExec local.Large) c = (refl, refl)
+changing_writes (DescriptorLea p LocalExec) c = (refl, refl)
+changing_writes (DescriptorLea p InitialExec) c = (refl, refl)
+changing_writes other c = (refl, refl)
 
 -- ---- the section
 
@@ -281,15 +227,15 @@ sections_are_linked over q row info value chosen known e =
     let part = window q row in
     let w = rewrite_of row in
     let k = field_of (pattern_of row) - w.back in
-    let fits = inside row known in
-    let back = fits.back in
-    let bytes_fit = fits.bytes in
-    let field_fits = fits.field in
+    let writes = changing_writes row known in
+    let back = back_inside row writes.0 writes.1 in
+    let bytes_fit = bytes_inside row in
+    let room_is = field_fits row info writes.0 e in
     let before = at.before in
     let within = at.inside in
     let long : length part ≡ n = at.whole.long in
-    let field_is = field_long row info value known e in
-    let size_is = fits.size (slice_range part k (k + w.size)) in
+    let field_is = length-size_written info.size value [] in
+    let size_is = length-bytes row (slice_range part k (k + w.size)) in
     let same : place s part xs ≡ xs = place_same s n xs within in
     let a : o - w.back ≡ s + k = omega arith in
     let b : field_after q row ≡ s + field_in row = omega arith in

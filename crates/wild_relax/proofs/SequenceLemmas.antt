@@ -2,8 +2,9 @@
 use Rattle.std.proofs.Common.{◌≡◌, ℕ, ◌+◌, List, [], refl}
 use Rattle.std.specs.Prelude.{Some}
 use Rattle.wild_words.specs.Words.{word, number, place}
-use Rattle.wild_meaning.specs.Instruction.{Reader, Word, sum_64}
-use Rattle.wild_meaning.specs.InstructionX86_64.{meaning_x86_64, effect_x86_64, demand_x86_64}
+use Rattle.wild_loader.specs.declared.instruction.Operand.TheVariants.{Word}
+use Rattle.wild_loader.specs.Instruction.{Reader, sum_64}
+use Rattle.wild_loader.specs.InstructionX86_64.{meaning_x86_64, effect_x86_64, demand_x86_64}
 use Rattle.wild_relax.specs.declared.pattern.GeneralForm.{GeneralForm}
 use Rattle.wild_relax.specs.declared.pattern.GeneralForm.TheVariants as general
 use Rattle.wild_relax.specs.declared.pattern.LocalForm.{LocalForm}

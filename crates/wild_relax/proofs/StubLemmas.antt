@@ -4,8 +4,8 @@ use Rattle.std.proofs.lemmas.Bool.Decides.{nat_tests}
 use Rattle.wild_words.specs.Words.{word, number, place}
 use Rattle.wild_reloc.specs.Range.{of_bits, contains}
 use Rattle.wild_reloc.specs.declared.range.Sign.TheVariants.{Signed}
-use Rattle.wild_meaning.specs.Instruction.{signed_32, sum_64}
-use Rattle.wild_meaning.specs.InstructionX86_64.{meaning_x86_64}
+use Rattle.wild_loader.specs.Instruction.{signed_32, sum_64}
+use Rattle.wild_loader.specs.InstructionX86_64.{meaning_x86_64}
 use Rattle.wild_slot.specs.Stub.{displacement_x86_64}
 use Rattle.wild_relax.specs.Laws.{StubsJump}
 

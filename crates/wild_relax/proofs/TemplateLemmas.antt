@@ -1,155 +1,60 @@
 -- The field of what a row writes.
-use Rattle.std.proofs.Common.{◌≡◌, ℕ, ◌+◌, ◌-◌, ◌≤◌, false, List, [], length, take, drop, refl, sym, ap, ◌∙◌, arith}
-use Rattle.std.specs.Prelude.{Some, slice_range}
+use Rattle.std.proofs.Common.{◌≡◌, ℕ, ◌+◌, ◌-◌, ◌≤◌, Bool, true, false, List, [], length, take, drop, refl, sym, ap, ◌∙◌, arith, subst}
+use Rattle.std.specs.Prelude.{Option, Some, None, slice_range}
 use borrow.Rule.Slice.PartMut.{put_mid}
 use Rattle.wild_words.specs.Words.{place}
 use Rattle.wild_words.proofs.WordLemmas.{place_put_mid}
 use Rattle.wild_words.proofs.OverlayLemmas.{length-place}
 use Rattle.wild_reloc.proofs.PlaceLemmas.{length-size_written}
-use Rattle.wild_reloc.specs.Field.{written, byte_count, size_width, size_written}
+use Rattle.wild_reloc.specs.Field.{size_width, size_written}
 use Rattle.wild_reloc.specs.TableX86_64.{x86_64_row}
-use Rattle.wild_reloc.specs.declared.info.Width.{Width}
-use Rattle.wild_reloc.specs.declared.info.Width.TheVariants.{Zero, Four}
+use Rattle.wild_reloc.specs.declared.info.RelocationSize.{RelocationSize}
 use Rattle.wild_reloc.specs.declared.info.RelocationSize.TheVariants.{ByteSize}
 use Rattle.wild_reloc.specs.declared.info.RelocationKindInfo.{RelocationKindInfo}
-use Rattle.wild_relax.specs.declared.pattern.Prefix.TheVariants.{Rex, Rex2}
-use Rattle.wild_relax.specs.declared.pattern.GeneralForm.TheVariants as general
-use Rattle.wild_relax.specs.declared.pattern.LocalForm.TheVariants as local
-use Rattle.wild_relax.specs.declared.row.DescriptorUse.TheVariants.{LocalExec, InitialExec}
 use Rattle.wild_relax.specs.declared.row.Row.{Row}
-use Rattle.wild_relax.specs.declared.row.Row.TheVariants.{IfuncThroughStub, RexGotToImmediate, RexGotMovToLea, GotMovToImmediate, GotMovToLea, IndirectCallToDirect, IndirectJumpToDirect, PlainGotMovToLea, InitialExecToLocalExec, Plt32ToPc32, PltOffToGotOff, GeneralDynamicToLocalExec, GeneralDynamicToInitialExec, LocalDynamicToLocalExec, DescriptorLea, DescriptorCall}
+use Rattle.wild_types.specs.Rows.{row_width}
 use Rattle.wild_relax.specs.Pattern.{field_of}
 use Rattle.wild_relax.specs.Rewrite.{rewritten, replaced}
 use Rattle.wild_relax.specs.RewriteX86_64.{rewrite_of}
-use Rattle.wild_relax.specs.Linked.{pattern_of, pattern_size, keeps_bytes, field_in, linked, template_of, template_by}
-use Rattle.wild_relax.proofs.RowLemmas.{pc32, signed_32s, unsigned_32, tpoff32, gottpoff, nothing}
-
--- the bytes of the field
-abbrev pub width_of : Row → Width
-width_of (LocalDynamicToLocalExec f) = Zero
-width_of DescriptorCall = Zero
-width_of other = Four
-
-size_is : (info other : RelocationKindInfo) → info ≡ other → info.size ≡ other.size
-size_is info other e = ap (λ (i : RelocationKindInfo). i.size) e
-
-field_size : (row : Row) (info : RelocationKindInfo) → keeps_bytes row ≡ false → Some info ≡ x86_64_row (rewrite_of row).number → info.size ≡ ByteSize (width_of row)
-field_size IfuncThroughStub info h e = cc
-field_size Plt32ToPc32 info h e = cc
-field_size PltOffToGotOff info h e = cc
-field_size (RexGotToImmediate Rex o) info h e = size_is info _ (signed_32s info e)
-field_size (RexGotToImmediate Rex2 o) info h e = size_is info _ (signed_32s info e)
-field_size (RexGotMovToLea Rex) info h e = size_is info _ (pc32 info e)
-field_size (RexGotMovToLea Rex2) info h e = size_is info _ (pc32 info e)
-field_size GotMovToImmediate info h e = size_is info _ (unsigned_32 info e)
-field_size GotMovToLea info h e = size_is info _ (pc32 info e)
-field_size IndirectCallToDirect info h e = size_is info _ (pc32 info e)
-field_size IndirectJumpToDirect info h e = size_is info _ (pc32 info e)
-field_size PlainGotMovToLea info h e = size_is info _ (pc32 info e)
-field_size (InitialExecToLocalExec Rex o) info h e = size_is info _ (tpoff32 info e)
-field_size (InitialExecToLocalExec Rex2 o) info h e = size_is info _ (tpoff32 info e)
-field_size (GeneralDynamicToLocalExec general.Regular) info h e = size_is info _ (tpoff32 info e)
-field_size (GeneralDynamicToLocalExec general.NoPlt) info h e = size_is info _ (tpoff32 info e)
-field_size (GeneralDynamicToLocalExec general.Large) info h e = size_is info _ (tpoff32 info e)
-field_size (GeneralDynamicToInitialExec general.Regular) info h e = size_is info _ (gottpoff info e)
-field_size (GeneralDynamicToInitialExec general.NoPlt) info h e = size_is info _ (gottpoff info e)
-field_size (GeneralDynamicToInitialExec general.Large) info h e = size_is info _ (gottpoff info e)
-field_size (LocalDynamicToLocalExec local.Regular) info h e = size_is info _ (nothing info e)
-field_size (LocalDynamicToLocalExec local.Large) info h e = size_is info _ (nothing info e)
-field_size (LocalDynamicToLocalExec local.NoPlt) info h e = size_is info _ (nothing info e)
-field_size (DescriptorLea Rex LocalExec) info h e = size_is info _ (tpoff32 info e)
-field_size (DescriptorLea Rex2 LocalExec) info h e = size_is info _ (tpoff32 info e)
-field_size (DescriptorLea Rex InitialExec) info h e = size_is info _ (gottpoff info e)
-field_size (DescriptorLea Rex2 InitialExec) info h e = size_is info _ (gottpoff info e)
-field_size DescriptorCall info h e = size_is info _ (nothing info e)
-
-room_of : (row : Row) → keeps_bytes row ≡ false → field_in row + byte_count (width_of row) ≤ pattern_size row
-room_of IfuncThroughStub h = cc
-room_of Plt32ToPc32 h = cc
-room_of PltOffToGotOff h = cc
-room_of (RexGotToImmediate Rex o) h = omega arith
-room_of (RexGotToImmediate Rex2 o) h = omega arith
-room_of (RexGotMovToLea Rex) h = omega arith
-room_of (RexGotMovToLea Rex2) h = omega arith
-room_of GotMovToImmediate h = omega arith
-room_of GotMovToLea h = omega arith
-room_of IndirectCallToDirect h = omega arith
-room_of IndirectJumpToDirect h = omega arith
-room_of PlainGotMovToLea h = omega arith
-room_of (InitialExecToLocalExec Rex o) h = omega arith
-room_of (InitialExecToLocalExec Rex2 o) h = omega arith
-room_of (GeneralDynamicToLocalExec general.Regular) h = omega arith
-room_of (GeneralDynamicToLocalExec general.NoPlt) h = omega arith
-room_of (GeneralDynamicToLocalExec general.Large) h = omega arith
-room_of (GeneralDynamicToInitialExec general.Regular) h = omega arith
-room_of (GeneralDynamicToInitialExec general.NoPlt) h = omega arith
-room_of (GeneralDynamicToInitialExec general.Large) h = omega arith
-room_of (LocalDynamicToLocalExec local.Regular) h = omega arith
-room_of (LocalDynamicToLocalExec local.Large) h = omega arith
-room_of (LocalDynamicToLocalExec local.NoPlt) h = omega arith
-room_of (DescriptorLea Rex LocalExec) h = omega arith
-room_of (DescriptorLea Rex2 LocalExec) h = omega arith
-room_of (DescriptorLea Rex InitialExec) h = omega arith
-room_of (DescriptorLea Rex2 InitialExec) h = omega arith
-room_of DescriptorCall h = omega arith
+use Rattle.wild_relax.specs.Linked.{pattern_of, pattern_size, keeps_bytes, field_in, template_of, template_by}
+use Rattle.wild_relax.proofs.EveryRow.{each_row}
+use Rattle.wild_relax.proofs.RewriteLemmas.{length-bytes, bytes_inside, field_inside}
 
 -- it lies in the pattern
 pub field_fits : (row : Row) (info : RelocationKindInfo) → keeps_bytes row ≡ false → Some info ≡ x86_64_row (rewrite_of row).number → field_in row + size_width info.size ≤ pattern_size row
-field_fits row info h e = rw (field_size row info h e) (room_of row h)
+field_fits row info h e = subst (λ (o : Option RelocationKindInfo). field_in row + row_width o ≤ pattern_size row) (sym e) (field_inside row h)
 
 -- and its bytes are the value's alone
-over_any : (info : RelocationKindInfo) (w : Width) (value : ℕ) (over : List ℕ) → info.size ≡ ByteSize w → size_written info.size value over ≡ written info value []
-over_any info w value over e = rw e refl
+abbrev is_bytes : RelocationSize → Bool
+is_bytes (ByteSize w) = true
+is_bytes other = false
+
+abbrev are_bytes : Option RelocationKindInfo → Bool
+are_bytes None = true
+are_bytes (Some info) = is_bytes info.size
+
+each_in_bytes : (row : Row) → are_bytes (x86_64_row (rewrite_of row).number) ≡ true
+unfolding x86_64_row
+each_in_bytes row = each_row (λ (r : Row). are_bytes (x86_64_row (rewrite_of r).number)) refl row
+
+over_any : (z : RelocationSize) (value : ℕ) (over : List ℕ) → is_bytes z ≡ true → size_written z value over ≡ size_written z value []
+over_any (ByteSize w) value over h = refl
+over_any other value over h = cc
 
 pub template_is : (row : Row) (info : RelocationKindInfo) (value : ℕ) (old over : List ℕ) → keeps_bytes row ≡ false → Some info ≡ x86_64_row (rewrite_of row).number
     → place (field_in row) (size_written info.size value over) (rewritten (rewrite_of row) (field_of (pattern_of row)) old) ≡ template_of row value old
 unfolding template_of
 template_is row info value old over h e =
-    ap (λ (bs : List ℕ). place (field_in row) bs (rewritten (rewrite_of row) (field_of (pattern_of row)) old)) (over_any info (width_of row) value over (field_size row info h e))
+    ap (λ (bs : List ℕ). place (field_in row) bs (rewritten (rewrite_of row) (field_of (pattern_of row)) old)) (over_any info.size value over (subst (λ (o : Option RelocationKindInfo). are_bytes o ≡ true) (sym e) (each_in_bytes row)))
     ∙ ap (template_by row value old) e
 
 -- ---- the bytes around it
 
-record BytesFit (row : Row) : Type 0 where
-  long : (old : List ℕ) → length ((rewrite_of row).bytes old) ≡ (rewrite_of row).size
-  inside : field_of (pattern_of row) - (rewrite_of row).back + (rewrite_of row).size ≤ pattern_size row
-
-bytes_fit : (row : Row) → keeps_bytes row ≡ false → BytesFit row
-bytes_fit IfuncThroughStub h = cc
-bytes_fit Plt32ToPc32 h = cc
-bytes_fit PltOffToGotOff h = cc
-bytes_fit (RexGotToImmediate Rex o) h = record { long = λ old. refl; inside = omega arith }
-bytes_fit (RexGotToImmediate Rex2 o) h = record { long = λ old. refl; inside = omega arith }
-bytes_fit (RexGotMovToLea Rex) h = record { long = λ old. refl; inside = omega arith }
-bytes_fit (RexGotMovToLea Rex2) h = record { long = λ old. refl; inside = omega arith }
-bytes_fit GotMovToImmediate h = record { long = λ old. refl; inside = omega arith }
-bytes_fit GotMovToLea h = record { long = λ old. refl; inside = omega arith }
-bytes_fit IndirectCallToDirect h = record { long = λ old. refl; inside = omega arith }
-bytes_fit IndirectJumpToDirect h = record { long = λ old. refl; inside = omega arith }
-bytes_fit PlainGotMovToLea h = record { long = λ old. refl; inside = omega arith }
-bytes_fit (InitialExecToLocalExec Rex o) h = record { long = λ old. refl; inside = omega arith }
-bytes_fit (InitialExecToLocalExec Rex2 o) h = record { long = λ old. refl; inside = omega arith }
-bytes_fit (GeneralDynamicToLocalExec general.Regular) h = record { long = λ old. refl; inside = omega arith }
-bytes_fit (GeneralDynamicToLocalExec general.NoPlt) h = record { long = λ old. refl; inside = omega arith }
-bytes_fit (GeneralDynamicToLocalExec general.Large) h = record { long = λ old. refl; inside = omega arith }
-bytes_fit (GeneralDynamicToInitialExec general.Regular) h = record { long = λ old. refl; inside = omega arith }
-bytes_fit (GeneralDynamicToInitialExec general.NoPlt) h = record { long = λ old. refl; inside = omega arith }
-bytes_fit (GeneralDynamicToInitialExec general.Large) h = record { long = λ old. refl; inside = omega arith }
-bytes_fit (LocalDynamicToLocalExec local.Regular) h = record { long = λ old. refl; inside = omega arith }
-bytes_fit (LocalDynamicToLocalExec local.Large) h = record { long = λ old. refl; inside = omega arith }
-bytes_fit (LocalDynamicToLocalExec local.NoPlt) h = record { long = λ old. refl; inside = omega arith }
-bytes_fit (DescriptorLea Rex LocalExec) h = record { long = λ old. refl; inside = omega arith }
-bytes_fit (DescriptorLea Rex2 LocalExec) h = record { long = λ old. refl; inside = omega arith }
-bytes_fit (DescriptorLea Rex InitialExec) h = record { long = λ old. refl; inside = omega arith }
-bytes_fit (DescriptorLea Rex2 InitialExec) h = record { long = λ old. refl; inside = omega arith }
-bytes_fit DescriptorCall h = record { long = λ old. refl; inside = omega arith }
-
 length-rewritten : (row : Row) (old : List ℕ) → keeps_bytes row ≡ false → length old ≡ pattern_size row → length (rewritten (rewrite_of row) (field_of (pattern_of row)) old) ≡ length old
 length-rewritten row old h long =
-    let fit = bytes_fit row h in
     let at = field_of (pattern_of row) - (rewrite_of row).back in
-    let inside = fit.inside in
-    let bytes = fit.long (slice_range old at (at + (rewrite_of row).size)) in
+    let inside = bytes_inside row in
+    let bytes = length-bytes row (slice_range old at (at + (rewrite_of row).size)) in
     length-place at old ((rewrite_of row).bytes (slice_range old at (at + (rewrite_of row).size))) (omega arith)
 
 pub length-template : (row : Row) (info : RelocationKindInfo) (value : ℕ) (old : List ℕ) → keeps_bytes row ≡ false → Some info ≡ x86_64_row (rewrite_of row).number → length old ≡ pattern_size row → length (template_of row value old) ≡ pattern_size row

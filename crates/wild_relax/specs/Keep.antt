@@ -5,8 +5,10 @@ use Rattle.std.specs.Prelude.{◌≡◌, ℕ, ◌+◌, ◌-◌, ◌%◌, ◌^◌
 use Rattle.wild_reloc.specs.Field.{allows}
 use Rattle.wild_reloc.specs.TableX86_64.{x86_64_row}
 use Rattle.wild_reloc.specs.declared.info.RelocationKindInfo.{RelocationKindInfo}
-use Rattle.wild_meaning.specs.Instruction.{Reader, Number, Word, Nothing, Effect, sum_64}
-use Rattle.wild_meaning.specs.InstructionX86_64.{effect_x86_64, demand_x86_64}
+use Rattle.wild_loader.specs.declared.instruction.Operand.TheVariants.{Number, Word}
+use Rattle.wild_loader.specs.declared.instruction.Deed.TheVariants.{Nothing}
+use Rattle.wild_loader.specs.Instruction.{Reader, Effect, sum_64}
+use Rattle.wild_loader.specs.InstructionX86_64.{effect_x86_64, demand_x86_64}
 use Rattle.wild_relax.specs.declared.pattern.Cell.{Cell}
 use Rattle.wild_relax.specs.declared.row.DescriptorUse.TheVariants.{LocalExec, InitialExec}
 use Rattle.wild_relax.specs.declared.row.Row.{Row}

@@ -1,7 +1,7 @@
 -- What is written does what is asked of it.
 use Rattle.std.specs.Prelude.{◌≡◌, ℕ, ◌+◌, ◌%◌, ◌^◌, ◌<◌, true, Some}
-use Rattle.wild_meaning.specs.Instruction.{jump_through}
-use Rattle.wild_meaning.specs.InstructionX86_64.{meaning_x86_64}
+use Rattle.wild_loader.specs.Instruction.{jump_through}
+use Rattle.wild_loader.specs.InstructionX86_64.{meaning_x86_64}
 use Rattle.wild_slot.specs.Stub.{stub_x86_64}
 
 -- a stub that reaches its slot jumps, wherever the output stands, to the address in that slot

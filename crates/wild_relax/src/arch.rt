@@ -3,11 +3,11 @@ ghost use Rattle.std.specs.Prelude.{◌≡◌, false, length, replicate, if◌th
 ghost use Rattle.wild_types.specs.Lookups.{executable};
 ghost use Rattle.std.specs.List.{list_any};
 
-use crate::reference::{RelocationInfo, UnknownSequence};
+use crate::reference::{Reference, UnknownSequence};
 use crate::relaxation::Relaxation;
 use wild_reloc::{DynamicRelocationKind, RelName, RelocationKindInfo};
 use wild_slot::PltTooFar;
-use wild_types::{Layout, Machine, OutputKind, ValueFlags};
+use wild_types::{Layout, Machine};
 
 /// A machine that images are written for.
 pub trait Arch {
@@ -19,7 +19,7 @@ pub trait Arch {
     ghost use Rattle.wild_reloc.specs.declared.names.RelName.{RelName};
     ghost use Rattle.std.specs.Prelude.{Result, IfOk, IfSome};
     ghost use Rattle.wild_relax.specs.declared.reference.UnknownSequence.{UnknownSequence};
-    ghost use Rattle.wild_relax.specs.Question.{Question, entry_at};
+    ghost use Rattle.wild_relax.specs.Question.{Question, question, relocation_of};
     ghost use Rattle.wild_relax.specs.Rewrite.{HasRoom};
     ghost use Rattle.wild_relax.specs.Relaxation.{rows_of, chosen_of};
     ghost use Rattle.wild_slot.specs.Stub.{Stub};
@@ -117,34 +117,12 @@ pub trait Arch {
         ensures written { OnOk result (plt_entry.new ≡ (Self.stub got_address plt_address bti).bytes) }
         ensures unchanged { OnErr result (plt_entry.new ≡ plt_entry.old) };
 
-    /// The first rewrite that stands at relocation `at` of a section; none where none stands. `section_bytes` are the bytes
-    /// of the input, never rewritten ones; `flags` and `sym_addr` are those of the symbol, where it has an address, and
-    /// `section_flags` are `sh_flags`. A symbol of merged strings has another value for each addend: no rewrite is asked
-    /// for it. The bytes that a rewrite replaces are in the section.
-    fn new_relaxation(
-        relocations: &[RelocationInfo],
-        at: usize,
-        section_bytes: &[u8],
-        flags: ValueFlags,
-        output_kind: OutputKind,
-        section_flags: u64,
-        relax: bool,
-        sym_addr: Option<u64>,
-        section_address: u64,
-    ) -> Result<Option<Self::Relaxation>, UnknownSequence>
-        ensures first { result ≡ Self.relaxation (record {
-          relocations = relocations.now;
-          at = at;
-          bytes = section_bytes.now;
-          flags = flags;
-          kind = output_kind;
-          section_flags = section_flags;
-          relax = relax;
-          value = sym_addr;
-          address = section_address;
-        }) }
+    /// The first rewrite that stands at the relocation; none where none stands. The bytes that it replaces are in the
+    /// section.
+    fn new_relaxation(reference: &Reference) -> Result<Option<Self::Relaxation>, UnknownSequence>
+        ensures first { result ≡ Self.relaxation (question reference.now) }
         ensures room { IfOk result (λ found. IfSome found (λ r.
-            HasRoom (Self.Relaxation.rewrite r) (entry_at relocations.now at).offset (length section_bytes.now))) };
+            HasRoom (Self.Relaxation.rewrite r) (relocation_of (question reference.now)).offset (length reference.now.bytes.now))) };
 
     /// The rewrites are the machine's own.
     ghost same_machine: { Self.Relaxation.machine ≡ Self.machine };

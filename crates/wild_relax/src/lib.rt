@@ -1,8 +1,10 @@
 //! What differs between the machines, and the rewrites of instructions that need no slot or stub.
 #![tactic(auto)]
 
+pub mod aarch64;
 mod arch;
 mod laws;
+mod laws_aarch64;
 mod pattern;
 mod reference;
 mod relaxation;
@@ -16,8 +18,9 @@ pub use arch::Arch;
 pub use laws::{
     rewrites_keep_the_effect, rewrites_stay_in_their_patterns, stubs_jump_to_their_slots,
 };
+pub use laws_aarch64::{aarch64_code_reaches, aarch64_fields_agree};
 pub use pattern::{Cell, GeneralForm, LocalForm, Operation, Prefix};
-pub use reference::{RelocationInfo, UnknownSequence};
+pub use reference::{Reference, RelocationInfo, UnknownSequence};
 pub use relaxation::{Relaxation, RelaxationKind, RelocationModifier};
 pub use row::{DescriptorUse, Row};
 pub use x86_64::{ElfX86_64, ElfX86_64Relaxation};

@@ -35,17 +35,27 @@ const NOTHING: RelocationInfo = RelocationInfo {
     names_tls_get_addr: false,
 };
 
-// A relocation, with all that a row asks of it.
+/// A relocation, with all that a row asks of it. A symbol of merged strings has another value for each addend: no row is
+/// asked for it.
 #[derive(Clone, Copy)]
-pub(crate) struct Reference<'a> {
+pub struct Reference<'a> {
+    /// Relocations of the section, this one and the one behind it among them.
     pub relocations: &'a [RelocationInfo],
+    /// Its place in that list.
     pub at: usize,
+    /// The section's bytes, those of the input, never rewritten ones.
     pub bytes: &'a [u8],
+    /// The symbol's flags.
     pub flags: ValueFlags,
+    /// The output's.
     pub kind: OutputKind,
+    /// The section's `sh_flags`.
     pub section_flags: u64,
+    /// Whether instructions are rewritten.
     pub relax: bool,
+    /// The symbol's address, where it has one.
     pub value: Option<u64>,
+    /// The section's address.
     pub address: u64,
 }
 

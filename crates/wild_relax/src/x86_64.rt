@@ -1,16 +1,13 @@
 //! x86-64 (x86-64 psABI).
 use crate::arch::Arch;
-use crate::reference::{Reference, RelocationInfo, UnknownSequence};
+use crate::reference::{Reference, UnknownSequence};
 use crate::relaxation::{Relaxation, RelaxationKind, RelocationModifier};
 use crate::rewrite;
 use crate::row::{Row, choose, is_mandatory};
 use crate::thread::pointer_x86_64;
-use wild_records::abi::relocation::{
-    R_X86_64_8, R_X86_64_16, R_X86_64_32, R_X86_64_32S, R_X86_64_PC8, R_X86_64_PC16, R_X86_64_PC32,
-};
 use wild_reloc::{DynamicRelocationKind, RelName, RelocationKindInfo, x86_64};
 use wild_slot::{PltTooFar, write_stub};
-use wild_types::{Layout, Machine, OutputKind, ValueFlags, is_executable, row_of};
+use wild_types::{Layout, Machine, is_executable, row_of};
 
 /// x86-64.
 pub struct ElfX86_64;
@@ -20,7 +17,7 @@ impl Arch for ElfX86_64 {
     ghost use Rattle.wild_types.specs.declared.kind.Machine.TheVariants.{X86_64};
     ghost use Rattle.wild_reloc.specs.Dynamic.{x86_64_type};
     ghost use Rattle.wild_reloc.specs.declared.names.RelName.TheVariants as names;
-    ghost use Rattle.wild_relax.specs.Barred.{barred_x86_64, barred_in_shared_x86_64};
+    ghost use Rattle.wild_reloc.specs.Barred.{barred_x86_64, barred_in_shared_x86_64};
     ghost use Rattle.wild_slot.specs.Stub.{stub_x86_64};
     ghost use Rattle.wild_relax.specs.Thread.{pointer_x86_64};
     ghost use Rattle.wild_relax.specs.Rows.{chosen_x86_64};
@@ -75,23 +72,11 @@ impl Arch for ElfX86_64 {
     }
 
     fn is_disallowed_for_interposable_symbols(number: u32) -> bool {
-        matches!(
-            number,
-            R_X86_64_8
-                | R_X86_64_16
-                | R_X86_64_32
-                | R_X86_64_32S
-                | R_X86_64_PC8
-                | R_X86_64_PC16
-                | R_X86_64_PC32
-        )
+        x86_64::is_barred(number)
     }
 
     fn is_disallowed_in_shared_object(number: u32) -> bool {
-        matches!(
-            number,
-            R_X86_64_8 | R_X86_64_16 | R_X86_64_32 | R_X86_64_32S
-        )
+        x86_64::is_barred_in_shared(number)
     }
 
     fn get_dynamic_relocation_type(kind: DynamicRelocationKind) -> u32 {
@@ -120,32 +105,13 @@ impl Arch for ElfX86_64 {
     }
 
     fn new_relaxation(
-        relocations: &[RelocationInfo],
-        at: usize,
-        section_bytes: &[u8],
-        flags: ValueFlags,
-        output_kind: OutputKind,
-        section_flags: u64,
-        relax: bool,
-        sym_addr: Option<u64>,
-        section_address: u64,
+        reference: &Reference,
     ) -> Result<Option<ElfX86_64Relaxation>, UnknownSequence> {
-        let reference = Reference {
-            relocations,
-            at,
-            bytes: section_bytes,
-            flags,
-            kind: output_kind,
-            section_flags,
-            relax,
-            value: sym_addr,
-            address: section_address,
-        };
-        match choose(&reference)? {
+        match choose(reference)? {
             None => Ok(None),
             Some(row) => Ok(Some(ElfX86_64Relaxation {
                 row,
-                mandatory: is_mandatory(row, &reference),
+                mandatory: is_mandatory(row, reference),
             })),
         }
     }

@@ -1,22 +1,16 @@
 -- What was decided lies in its section, and a rewritten instruction has the bytes of its pattern.
-use Rattle.std.proofs.Common.{◌≡◌, ℕ, ◌+◌, ◌≤◌, length, slice_range, refl, sym, subst}
+use Rattle.std.proofs.Common.{◌≡◌, ℕ, ◌+◌, ◌≤◌, length, slice_range, sym, subst}
 use Rattle.std.specs.Prelude.{Some, Ok, All, slice_get}
 use Rattle.wild_words.proofs.Basics.{length-range}
 use Rattle.wild_words.proofs.ListLemmas.{holds_at}
 use Rattle.wild_types.specs.declared.input.InputRelocation.{InputRelocation}
 use Rattle.wild_types.specs.declared.input.InputSection.{InputSection}
 use Rattle.wild_types.specs.declared.layout.Layout.{Layout}
-use Rattle.wild_reloc.specs.TableX86_64.{x86_64_row}
-use Rattle.wild_reloc.specs.declared.info.RelocationKindInfo.{RelocationKindInfo}
 use Rattle.wild_reloc.specs.declared.info.RelocationSize.TheVariants.{ByteSize}
 use Rattle.wild_reloc.specs.declared.info.Width.TheVariants.{Eight}
-use Rattle.wild_relax.specs.declared.pattern.GeneralForm.TheVariants as general
-use Rattle.wild_relax.specs.declared.pattern.LocalForm.TheVariants as local
-use Rattle.wild_relax.specs.declared.row.DescriptorUse.TheVariants.{LocalExec, InitialExec}
 use Rattle.wild_relax.specs.declared.row.Row.{Row}
-use Rattle.wild_relax.specs.declared.row.Row.TheVariants.{IfuncThroughStub, RexGotToImmediate, RexGotMovToLea, GotMovToImmediate, GotMovToLea, IndirectCallToDirect, IndirectJumpToDirect, PlainGotMovToLea, InitialExecToLocalExec, Plt32ToPc32, PltOffToGotOff, GeneralDynamicToLocalExec, GeneralDynamicToInitialExec, LocalDynamicToLocalExec, DescriptorLea, DescriptorCall}
 use Rattle.wild_relax.specs.Linked.{pattern_size}
-use Rattle.wild_relax.specs.RewriteX86_64.{rewrite_of}
+use Rattle.wild_relax.proofs.RewriteLemmas.{written_row}
 use Rattle.wild_relax.proofs.TemplateLemmas.{length-template}
 use Rattle.wild_layout.specs.declared.decision.Decision.{Decision}
 use Rattle.wild_layout.specs.declared.decision.Decision.TheVariants.{Nothing, Field, Moved, Left, Rewritten, Partner}
@@ -28,34 +22,9 @@ use Rattle.wild_layout.proofs.DecisionLemmas.{decide_moved, decide_left, decide_
 use Rattle.wild_layout.proofs.SiteLemmas.{decide_field_has}
 use Rattle.wild_sections.specs.Decided.{TemplateLies, DecisionLies}
 
--- each type that is written has a row
-row_known : (row : Row) → (info : RelocationKindInfo) × (Some info ≡ x86_64_row (rewrite_of row).number)
-unfolding x86_64_row
-row_known IfuncThroughStub = (_, refl)
-row_known (RexGotToImmediate p o) = (_, refl)
-row_known (RexGotMovToLea p) = (_, refl)
-row_known GotMovToImmediate = (_, refl)
-row_known GotMovToLea = (_, refl)
-row_known IndirectCallToDirect = (_, refl)
-row_known IndirectJumpToDirect = (_, refl)
-row_known PlainGotMovToLea = (_, refl)
-row_known (InitialExecToLocalExec p o) = (_, refl)
-row_known Plt32ToPc32 = (_, refl)
-row_known PltOffToGotOff = (_, refl)
-row_known (GeneralDynamicToLocalExec general.Regular) = (_, refl)
-row_known (GeneralDynamicToLocalExec general.NoPlt) = (_, refl)
-row_known (GeneralDynamicToLocalExec general.Large) = (_, refl)
-row_known (GeneralDynamicToInitialExec f) = (_, refl)
-row_known (LocalDynamicToLocalExec local.Regular) = (_, refl)
-row_known (LocalDynamicToLocalExec local.Large) = (_, refl)
-row_known (LocalDynamicToLocalExec local.NoPlt) = (_, refl)
-row_known (DescriptorLea p LocalExec) = (_, refl)
-row_known (DescriptorLea p InitialExec) = (_, refl)
-row_known DescriptorCall = (_, refl)
-
 pub length-instruction : (s : InputSection) (r : InputRelocation) (row : Row) (v : ℕ) → TemplateLies (length s.bytes) r row → length (template_site s r row v).bytes ≡ pattern_size row
 length-instruction s r row v lies =
-    let known = row_known row in
+    let known = written_row row in
     length-template row known.0 v (slice_range s.bytes (template_start row r) (template_start row r + pattern_size row)) lies.changes known.1 (length-range s.bytes (template_start row r) (pattern_size row) lies.ends)
 
 -- what was decided of a relocation lies where the clauses say

@@ -2,7 +2,7 @@ pub mod FaultLemmas
 pub mod PieceLemmas
 pub mod ValueLemmas
 pub mod DistanceLemmas
-pub mod ChoiceLemmas
+pub mod DecisionLemmas
 pub mod InstructionLemmas
 pub mod DecidedLemmas
 pub mod AscendingLemmas

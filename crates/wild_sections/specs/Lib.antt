@@ -1,4 +1,3 @@
-pub mod Choice
 pub mod Decided
 pub mod Fits
 pub mod Homes

@@ -1,12 +1,11 @@
 //! Which rewrite of instructions stands at a relocation. Rows are asked of two relocations at most, which stand on the stack.
-ghost use Rattle.std.specs.Prelude.{◌≡◌, ◌<◌, length};
+ghost use Rattle.std.specs.Prelude.{◌≡◌, ◌<◌, ◌+◌, length, slice_get};
 ghost use Rattle.wild_relax.specs.Relaxation.{chosen_of};
-ghost use Rattle.wild_layout.specs.Choice.{same_names, is_getter, info_of, choice, takes_next, is_partner};
-ghost use Rattle.wild_sections.specs.Choice.{nameless, asked_of, infos_from, may_take_next, may_be_partner};
+ghost use Rattle.wild_layout.specs.Choice.{same_names, is_getter, info_of, nameless, asked_of, infos_of, choice, takes_next, is_partner, may_take_next, may_be_partner};
 
 use crate::values::Resolved;
 use wild_records::abi::relocation::{R_X86_64_PC32, R_X86_64_TLSGD, R_X86_64_TLSLD};
-use wild_relax::{Arch, Relaxation, RelocationInfo, Row, UnknownSequence};
+use wild_relax::{Arch, Reference, Relaxation, RelocationInfo, Row, UnknownSequence};
 use wild_slot::flags_at;
 use wild_types::{InputRelocation, InputSection, Layout, SymbolIndex};
 
@@ -75,18 +74,18 @@ fn asked<A: Arch>(
     ensures { result ≡ chosen_of resolved.now.layout.now.machine (asked_of resolved.now.layout.now section.now symbol relocations.now) }
 {
     let layout = resolved.layout;
-    let found = A::new_relaxation(
+    let reference = Reference {
         relocations,
-        0,
-        section.bytes.as_slice(),
-        flags_at(layout, symbol),
-        layout.kind,
-        section.flags,
-        layout.options.relax,
-        resolved.address(symbol),
-        section.address,
-    );
-    match found {
+        at: 0,
+        bytes: section.bytes.as_slice(),
+        flags: flags_at(layout, symbol),
+        kind: layout.kind,
+        section_flags: section.flags,
+        relax: layout.options.relax,
+        value: resolved.address(symbol),
+        address: section.address,
+    };
+    match A::new_relaxation(&reference) {
         Ok(None) => Ok(None),
         Ok(Some(relaxation)) => Ok(Some(relaxation.row())),
         Err(unknown) => Err(unknown),
@@ -109,7 +108,8 @@ fn choice_with_next<A: Arch>(
     symbol: SymbolIndex,
 ) -> Result<Option<Row>, UnknownSequence>
     requires index { index < length section.now.relocations }
-    ensures { result ≡ chosen_of resolved.now.layout.now.machine (asked_of resolved.now.layout.now section.now symbol (infos_from resolved.now.layout.now section.now.relocations index)) }
+    ensures { result ≡ chosen_of resolved.now.layout.now.machine (asked_of resolved.now.layout.now section.now symbol
+        (infos_of resolved.now.layout.now (slice_get section.now.relocations index) (slice_get section.now.relocations (index + 1)))) }
 {
     let relocations = section.relocations.as_slice();
     let own = info_of(resolved.layout, &relocations[index]);

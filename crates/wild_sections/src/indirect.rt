@@ -4,7 +4,7 @@ ghost use Rattle.std.specs.Prelude.{◌≡◌};
 ghost use Rattle.wild_layout.specs.SymbolValues.{address_or};
 ghost use Rattle.wild_layout.specs.SlotValues.{resolution_of, index_of, decided_address, stub_of, is_chosen, stub_address, has_second_slot, behind_word, behind_pair, slot_among, slot_decided, slot_of, slot_address};
 
-use wild_reloc::RelocationKind;
+use wild_reloc::SlotSort;
 use wild_slot::{flags_at, next_word};
 use wild_types::{Fault, Layout, Missing, Resolution, SymbolIndex, ValueFlags, has_thread_slot};
 
@@ -106,52 +106,52 @@ fn behind_pair(pair: bool, place: u64) -> u64
     if pair { place.wrapping_add(16) } else { place }
 }
 
-/// Where the slot of a kind stands among those of a symbol with these flags, whose first is there.
-fn slot_among(kind: RelocationKind, flags: ValueFlags, first: u64) -> Option<u64>
-    ensures { result ≡ slot_among kind flags first }
+/// Where the slot of a sort stands among those of a symbol with these flags, whose first is there.
+fn slot_among(sort: SlotSort, flags: ValueFlags, first: u64) -> Option<u64>
+    ensures { result ≡ slot_among sort flags first }
 {
     let offset = flags.needs_got_tls_offset();
     let module = flags.needs_got_tls_module();
-    match kind {
-        RelocationKind::GotTpOff if offset => Some(first),
-        RelocationKind::TlsGd if module => Some(behind_word(offset, first)),
-        RelocationKind::TlsDesc if flags.needs_got_tls_descriptor() => {
+    match sort {
+        SlotSort::Offset if offset => Some(first),
+        SlotSort::Pair if module => Some(behind_word(offset, first)),
+        SlotSort::Descriptor if flags.needs_got_tls_descriptor() => {
             Some(behind_pair(module, behind_word(offset, first)))
         }
-        RelocationKind::GotTpOff | RelocationKind::TlsGd | RelocationKind::TlsDesc => None,
+        SlotSort::Offset | SlotSort::Pair | SlotSort::Descriptor => None,
         _ if has_thread_slot(flags) => None,
         _ => Some(behind_word(has_second_slot(flags), first)),
     }
 }
 
-/// Where the slot of a kind stands, as it was decided.
-fn slot_decided(kind: RelocationKind, resolution: Option<Resolution>) -> Option<u64>
-    ensures { result ≡ slot_decided kind resolution }
+/// Where the slot of a sort stands, as it was decided.
+fn slot_decided(sort: SlotSort, resolution: Option<Resolution>) -> Option<u64>
+    ensures { result ≡ slot_decided sort resolution }
 {
     let resolution = resolution?;
-    slot_among(kind, resolution.flags, resolution.got_address?)
+    slot_among(sort, resolution.flags, resolution.got_address?)
 }
 
-/// Where the symbol's slot of a kind stands; the pair of the output's own thread-local data stands once.
-fn slot_of(layout: &Layout, kind: RelocationKind, symbol: SymbolIndex) -> Option<u64>
-    ensures { result ≡ slot_of layout.now kind symbol }
+/// Where the symbol's slot of a sort stands; the pair of the output's own thread-local data stands once.
+fn slot_of(layout: &Layout, sort: SlotSort, symbol: SymbolIndex) -> Option<u64>
+    ensures { result ≡ slot_of layout.now sort symbol }
 {
-    match kind {
-        RelocationKind::TlsLd => layout.tlsld,
-        _ => slot_decided(kind, resolution_of(layout, symbol)),
+    match sort {
+        SlotSort::OwnPair => layout.tlsld,
+        _ => slot_decided(sort, resolution_of(layout, symbol)),
     }
 }
 
 /// The address of that slot of the symbol that a relocation names, 0 where it names none; or that it has no slot.
 pub(crate) fn slot_address(
     layout: &Layout,
-    kind: RelocationKind,
+    sort: SlotSort,
     symbol: Option<SymbolIndex>,
 ) -> Result<u64, Fault>
-    ensures { result ≡ slot_address layout.now kind symbol }
+    ensures { result ≡ slot_address layout.now sort symbol }
 {
     match symbol {
-        Some(symbol) => address_or(Missing::Slot, symbol, slot_of(layout, kind, symbol)),
+        Some(symbol) => address_or(Missing::Slot, symbol, slot_of(layout, sort, symbol)),
         None => Ok(0),
     }
 }

@@ -201,7 +201,13 @@ fn decided_by<A: Arch>(
     requires row { row ≡ row_of resolved.now.layout.now.machine relocation.now.number }
     ensures { result ≡ decided resolved.now.layout.now section.now relocation.now }
 {
-    match row_treatment(resolved.layout, section, relocation.symbol, row) {
+    match row_treatment(
+        resolved.layout,
+        section,
+        relocation.number,
+        relocation.symbol,
+        row,
+    ) {
         Treatment::Nothing => Ok(Decision::Nothing),
         Treatment::Value(row) => field_for(resolved, section, relocation, &row),
         Treatment::BaseRelative => moved_to(resolved, section, relocation),

@@ -2,13 +2,13 @@
 ghost use Rattle.std.specs.Prelude.{◌≡◌};
 ghost use Rattle.wild_layout.specs.SymbolValues.{sum, displacement, less, storage_start, is_undefined, symbol_size, raw_address};
 ghost use Rattle.wild_layout.specs.SlotValues.{address_of};
-ghost use Rattle.wild_layout.specs.Values.{behind, pointer_offset, size_of, term_of, value_by};
+ghost use Rattle.wild_layout.specs.Values.{behind, pointer_offset, size_of, term_value, value_less, term_of, value_by};
 ghost use Rattle.wild_layout.specs.Moved.{or_zero, moved_value};
 
 use crate::indirect::{address_or, is_chosen, slot_address, stub_address};
 use crate::values::Resolved;
 use wild_relax::Arch;
-use wild_reloc::RelocationKind;
+use wild_reloc::{RelocationKind, Taken, Term};
 use wild_slot::thread_pointer;
 use wild_types::{Fault, InputRelocation, Layout, Machine, Missing, Place, SymbolIndex};
 
@@ -156,7 +156,32 @@ fn pointer_offset<A: Arch>(
     behind(pointer, raw_address(resolved, symbol))
 }
 
-/// What A is added to, by the kind of the row; or what the symbol lacks.
+/// What A is added to; or what the symbol lacks.
+#[inline]
+fn term_value<A: Arch>(
+    resolved: &Resolved<A>,
+    symbol: Option<SymbolIndex>,
+    term: Term,
+) -> Result<u64, Fault>
+    ensures { result ≡ term_value resolved.now.layout.now symbol term }
+{
+    match term {
+        Term::Table => Ok(resolved.layout.got_base),
+        Term::Size => Ok(size_of(resolved.layout, symbol)),
+        Term::PointerOffset => pointer_offset(resolved, symbol),
+        Term::ModuleOffset => {
+            behind(
+                storage_start(resolved.layout),
+                raw_address(resolved, symbol),
+            )
+        }
+        Term::Stub => stub_address(resolved.layout, symbol),
+        Term::Slot(sort) => slot_address(resolved.layout, sort, symbol),
+        Term::Symbol | Term::Nothing => address_of(resolved, symbol),
+    }
+}
+
+/// The same, by the kind of the row.
 #[inline]
 pub(crate) fn term_of<A: Arch>(
     resolved: &Resolved<A>,
@@ -165,26 +190,18 @@ pub(crate) fn term_of<A: Arch>(
 ) -> Result<u64, Fault>
     ensures { result ≡ term_of resolved.now.layout.now symbol kind }
 {
-    match kind {
-        RelocationKind::GotBaseRelative => Ok(resolved.layout.got_base),
-        RelocationKind::SymbolSize => Ok(size_of(resolved.layout, symbol)),
-        RelocationKind::TpOff => pointer_offset(resolved, symbol),
-        RelocationKind::DtpOff => {
-            behind(
-                storage_start(resolved.layout),
-                raw_address(resolved, symbol),
-            )
-        }
-        RelocationKind::PltRelative | RelocationKind::PltRelGotBase => {
-            stub_address(resolved.layout, symbol)
-        }
-        RelocationKind::GotRelative
-        | RelocationKind::GotRelGotBase
-        | RelocationKind::TlsGd
-        | RelocationKind::TlsLd
-        | RelocationKind::GotTpOff
-        | RelocationKind::TlsDesc => slot_address(resolved.layout, kind, symbol),
-        _ => address_of(resolved, symbol),
+    term_value(resolved, symbol, kind.expression().term)
+}
+
+/// The sum of what A is added to and A, less what is taken from it.
+#[inline]
+fn value_less(layout: &Layout, taken: Taken, term: u64, addend: i64, place: u64) -> u64
+    ensures { result ≡ value_less layout.now taken term addend place }
+{
+    match taken {
+        Taken::Nothing => sum(term, addend),
+        Taken::Place => displacement(term, addend, place),
+        Taken::Table => displacement(term, addend, layout.got_base),
     }
 }
 
@@ -199,18 +216,5 @@ pub(crate) fn value_by(
 ) -> u64
     ensures { result ≡ value_by layout.now kind term addend place }
 {
-    match kind {
-        RelocationKind::Relative
-        | RelocationKind::GotBaseRelative
-        | RelocationKind::PltRelative
-        | RelocationKind::GotRelative
-        | RelocationKind::TlsGd
-        | RelocationKind::TlsLd
-        | RelocationKind::GotTpOff
-        | RelocationKind::TlsDesc => displacement(term, addend, place),
-        RelocationKind::SymRelGotBase
-        | RelocationKind::PltRelGotBase
-        | RelocationKind::GotRelGotBase => displacement(term, addend, layout.got_base),
-        _ => sum(term, addend),
-    }
+    value_less(layout, kind.expression().taken, term, addend, place)
 }

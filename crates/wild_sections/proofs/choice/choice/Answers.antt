@@ -1,5 +1,6 @@
 use Rattle.std.proofs.Common.{◌∙◌, sym}
-use Rattle.wild_sections.proofs.ChoiceLemmas.{nameless_choice, common_choice, asked_choice, alone_choice, read_at, no_symbol}
+use Rattle.wild_layout.proofs.AskedLemmas.{nameless_choice, common_choice, asked_choice, alone_choice}
+use Rattle.wild_sections.proofs.DecisionLemmas.{read_at, no_symbol}
 use Rattle.wild_sections.proofs.choice.choice.Goals as goal
 
 pub returns-in_default : goal.returns-in_default

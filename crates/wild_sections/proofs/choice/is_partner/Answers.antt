@@ -1,7 +1,7 @@
 use Rattle.std.proofs.Common.{◌≡◌, ◌∙◌, List, false, sym, subst}
 use Rattle.wild_types.specs.declared.input.InputRelocation.{InputRelocation}
-use Rattle.wild_sections.specs.Choice.{may_be_partner}
-use Rattle.wild_sections.proofs.ChoiceLemmas.{none_before}
+use Rattle.wild_layout.specs.Choice.{may_be_partner}
+use Rattle.wild_layout.proofs.AskedLemmas.{none_before}
 use Rattle.wild_sections.proofs.choice.is_partner.Goals as goal
 
 pub returns-else-may_be_partner : goal.returns-else-may_be_partner

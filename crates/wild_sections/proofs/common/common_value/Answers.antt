@@ -1,7 +1,7 @@
 use Rattle.std.proofs.Common.{◌≡◌, ◌∙◌, List, false, sym, subst}
 use Rattle.wild_types.specs.declared.input.InputRelocation.{InputRelocation}
-use Rattle.wild_sections.specs.Choice.{may_be_partner}
-use Rattle.wild_sections.proofs.ChoiceLemmas.{read_at, common_keeps}
+use Rattle.wild_layout.specs.Choice.{may_be_partner}
+use Rattle.wild_sections.proofs.DecisionLemmas.{read_at, common_keeps}
 use Rattle.wild_sections.proofs.common.common_value.Goals as goal
 
 pub returns-then-not-may_be_partner : goal.returns-then-not-may_be_partner

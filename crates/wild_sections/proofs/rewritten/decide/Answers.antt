@@ -1,7 +1,7 @@
 use Rattle.std.proofs.Common.{◌∙◌, ap, sym}
 use Rattle.std.specs.Prelude.{Option, Ok}
 use Rattle.wild_relax.specs.declared.row.Row.{Row}
-use Rattle.wild_sections.proofs.ChoiceLemmas.{read_at, decided_with}
+use Rattle.wild_sections.proofs.DecisionLemmas.{read_at, decided_with}
 use Rattle.wild_sections.proofs.rewritten.decide.Goals as goal
 
 pub returns-in-Ok-None : goal.returns-in-Ok-None

@@ -1,5 +1,5 @@
 use Rattle.std.proofs.Common.{sym}
-use Rattle.wild_sections.proofs.ChoiceLemmas.{read_at, ok_has_none, err_is_first}
+use Rattle.wild_sections.proofs.DecisionLemmas.{read_at, ok_has_none, err_is_first}
 use Rattle.wild_sections.proofs.section.decide_at.Goals as goal
 
 pub returns-in-Ok-clause-faults : goal.returns-in-Ok-clause-faults

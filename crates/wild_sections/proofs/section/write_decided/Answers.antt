@@ -1,4 +1,4 @@
-use Rattle.wild_sections.proofs.ChoiceLemmas.{read_at}
+use Rattle.wild_sections.proofs.DecisionLemmas.{read_at}
 use Rattle.wild_sections.proofs.InstructionLemmas.{decision_lies}
 use Rattle.wild_sections.proofs.section.write_decided.Goals as goal
 

@@ -2,7 +2,7 @@ use Rattle.std.proofs.Common.{refl}
 use Rattle.wild_reloc.specs.declared.info.RelocationSize.TheVariants.{ByteSize}
 use Rattle.wild_reloc.specs.declared.info.Width.TheVariants.{Four}
 use Rattle.wild_layout.specs.declared.decision.Decision.TheVariants.{Field}
-use Rattle.wild_sections.proofs.ChoiceLemmas.{read_at, ok_has_none}
+use Rattle.wild_sections.proofs.DecisionLemmas.{read_at, ok_has_none}
 use Rattle.wild_sections.proofs.InstructionLemmas.{decision_lies}
 use Rattle.wild_sections.proofs.section.write_next.Goals as goal
 

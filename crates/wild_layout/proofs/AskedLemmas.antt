@@ -1,0 +1,149 @@
+-- How the rows of rewrites are asked: the relocation behind one, and names, only where a row of its type asks for them.
+--   none_before       behind another type none is taken along
+--   common_choice ..  no row stands at a distance, or without a symbol
+--   asked_choice      else the rows are asked, with the next relocation in sight
+--   alone_choice      or, where no row of the type takes another along, with no name and no other relocation
+use Rattle.std.proofs.Common.{◌≡◌, ℕ, suc, ◌+◌, inl, inr, Bool, true, false, List, [], ◌∷◌, refl, sym, ap, ◌∙◌, arith, subst}
+use Rattle.std.specs.Prelude.{Option, Some, None, is_some, Ok, not, ◌||◌, ◌==◌, slice_get}
+use Rattle.std.specs.List.{list_all}
+use Rattle.std.proofs.lemmas.Bool.{cases_Bool, eqb-true, both_ways}
+use Rattle.wild_words.proofs.Basics.{implied}
+use Rattle.wild_records.specs.Abi.Relocation.{r_x86_64_pc32}
+use Rattle.wild_types.specs.declared.kind.Machine.{Machine}
+use Rattle.wild_types.specs.declared.kind.Machine.TheVariants as machine
+use Rattle.wild_types.specs.declared.input.InputRelocation.{InputRelocation}
+use Rattle.wild_types.specs.declared.input.InputSection.{InputSection}
+use Rattle.wild_types.specs.declared.layout.Layout.{Layout}
+use Rattle.wild_relax.specs.declared.row.Row.{Row}
+use Rattle.wild_relax.specs.First.{checked}
+use Rattle.wild_relax.specs.RowSequences.{partner_distance, has_its_sequence}
+use Rattle.wild_relax.specs.Rows.{rows_x86_64, number_of, applies, unknown_sequence, standing_x86_64, chosen_x86_64}
+use Rattle.wild_relax.specs.Relaxation.{chosen_of}
+use Rattle.wild_relax.proofs.RoomLemmas.{number_is, standing_first}
+use Rattle.wild_layout.specs.Choice.{nameless, asked_of, infos_of, question_of, choice_by, choice_at, choice, takes_next, is_partner, may_take_next, may_be_partner}
+use Rattle.wild_layout.proofs.ChoiceLemmas.{choice_row, chosen_listed, partner_is_taken}
+
+-- ---- rows that write a whole sequence
+
+-- they stand at two relocation types alone
+abbrev is_marked : Row → Bool
+is_marked row = not (takes_next (Ok (Some row))) || may_take_next (number_of row)
+
+each_is_marked : list_all is_marked rows_x86_64 ≡ true
+each_is_marked = refl
+
+-- behind another type none is taken along
+pub none_before : (l : Layout) (s : InputSection) (i : ℕ) → may_be_partner s.relocations i ≡ false → is_partner l s i ≡ false
+none_before l s i h =
+    elim (cases_Bool (is_partner l s i)) [
+      | inr f ↦ f
+      | inl t ↦
+          (let p = partner_is_taken l s i t in
+          let q = p.3 in
+          let c = choice_row l s q.relocation (slice_get s.relocations (p.0 + 1)) p.2 q.is in
+          let n = subst (λ (x : ℕ). may_take_next x ≡ true) (sym c.number) (implied _ _ (chosen_listed l s q.relocation (slice_get s.relocations (p.0 + 1)) p.2 c is_marked each_is_marked) q.takes) in
+          absurd (there s.relocations p.0 q.relocation q.listed n (subst (λ (k : ℕ). may_be_partner s.relocations k ≡ false) p.1 h)))
+    ]
+  where
+    there : (rs : List InputRelocation) (j : ℕ) (r : InputRelocation) → slice_get rs j ≡ Some r → may_take_next r.number ≡ true → may_be_partner rs (j + 1) ≡ false → ⊥
+    there rs j r e n h =
+        let s : j + 1 ≡ suc j = omega arith in
+        let f : may_be_partner rs (suc j) ≡ false = subst (λ (k : ℕ). may_be_partner rs k ≡ false) s h in
+        both_ways (may_take_next r.number) (rw e at f) n
+
+-- ---- relocations without a row
+
+pub no_choice : (l : Layout) (s : InputSection) (r : InputRelocation) (next : Option InputRelocation) (o : Option ℕ) → r.number ≡ r_x86_64_pc32 → choice_by l s r next o ≡ Ok None
+unfolding choice_by
+no_choice l s r next None number = refl
+no_choice l s r next (Some i) number = rw number refl
+
+-- ---- what is asked
+
+-- without a symbol, or of a distance, nothing stands
+pub nameless_choice : (l : Layout) (s : InputSection) (i : ℕ) (r : InputRelocation) → slice_get s.relocations i ≡ Some r → r.symbol ≡ None → choice l s i ≡ Ok None
+unfolding choice_by
+nameless_choice l s i r listed none = rw (listed, none) refl
+
+pub common_choice : (l : Layout) (s : InputSection) (i : ℕ) (r : InputRelocation) (n : ℕ) → slice_get s.relocations i ≡ Some r → r.symbol ≡ Some n → r.number ≡ r_x86_64_pc32 → choice l s i ≡ Ok None
+unfolding choice_by
+common_choice l s i r n listed named number = rw (listed, named, number) refl
+
+other_number : (n k : ℕ) → (n ≡ k → ⊥) → (n == k) ≡ false
+other_number n k h =
+    elim (cases_Bool (n == k)) [
+      | inr f ↦ f
+      | inl t ↦ absurd (h (eqb-true n k t))
+    ]
+
+-- else the rows are asked, with the next relocation in sight
+asked_by : (l : Layout) (s : InputSection) (r : InputRelocation) (next : Option InputRelocation) (n : ℕ) → (r.number == r_x86_64_pc32) ≡ false → choice_by l s r next (Some n) ≡ chosen_of l.machine (question_of l s r n next)
+unfolding choice_by
+asked_by l s r next n f = rw f refl
+
+at_relocation : (l : Layout) (s : InputSection) (o next : Option InputRelocation) (r : InputRelocation) → o ≡ Some r → choice_at l s o next ≡ choice_by l s r next r.symbol
+at_relocation l s o next r e = ap (λ (x : Option InputRelocation). choice_at l s x next) e
+
+named_choice : (l : Layout) (s : InputSection) (i : ℕ) (r : InputRelocation) (n : ℕ) → slice_get s.relocations i ≡ Some r → r.symbol ≡ Some n → (r.number ≡ r_x86_64_pc32 → ⊥) → choice l s i ≡ chosen_of l.machine (question_of l s r n (slice_get s.relocations (i + 1)))
+named_choice l s i r n listed named other =
+    let next = slice_get s.relocations (i + 1) in
+    at_relocation l s (slice_get s.relocations i) next r listed
+    ∙ ap (choice_by l s r next) named
+    ∙ asked_by l s r next n (other_number r.number r_x86_64_pc32 other)
+
+pub asked_choice : (l : Layout) (s : InputSection) (i : ℕ) (r : InputRelocation) (n : ℕ) → slice_get s.relocations i ≡ Some r → r.symbol ≡ Some n → (r.number ≡ r_x86_64_pc32 → ⊥) → choice l s i ≡ chosen_of l.machine (asked_of l s n (infos_of l (slice_get s.relocations i) (slice_get s.relocations (i + 1))))
+asked_choice l s i r n listed named other =
+    named_choice l s i r n listed named other
+    ∙ ap (λ (o : Option InputRelocation). chosen_of l.machine (asked_of l s n (infos_of l o (slice_get s.relocations (i + 1))))) (sym listed)
+
+-- ---- rows that ask for no name and no other relocation
+
+-- what stands does not hang on them
+same_standing : (l : Layout) (s : InputSection) (r : InputRelocation) (n : ℕ) (next : Option InputRelocation) → standing_x86_64 (asked_of l s n (nameless r ∷ [])) ≡ standing_x86_64 (question_of l s r n next)
+unfolding standing_x86_64 applies
+same_standing l s r n next = refl
+
+-- and of types whose rows take no other along, neither does what they need
+abbrev is_by_itself : Row → Bool
+is_by_itself row = may_take_next (number_of row) || not (is_some (partner_distance row))
+
+each_by_itself : list_all is_by_itself rows_x86_64 ≡ true
+each_by_itself = refl
+
+no_distance : (o : Option ℕ) → not (is_some o) ≡ true → o ≡ None
+no_distance None h = refl
+no_distance (Some d) h = cc
+
+same_sequence : (l : Layout) (s : InputSection) (r : InputRelocation) (n : ℕ) (next : Option InputRelocation) (row : Row) → partner_distance row ≡ None → has_its_sequence (asked_of l s n (nameless r ∷ [])) row ≡ has_its_sequence (question_of l s r n next) row
+unfolding has_its_sequence
+same_sequence l s r n next row e = rw e refl
+
+other_one : (a b : Bool) → (a || b) ≡ true → a ≡ false → b ≡ true
+other_one true b h e = cc
+other_one false b h e = h
+
+same_chosen : (l : Layout) (s : InputSection) (r : InputRelocation) (n : ℕ) (next : Option InputRelocation) → may_take_next r.number ≡ false → chosen_x86_64 (asked_of l s n (nameless r ∷ [])) ≡ chosen_x86_64 (question_of l s r n next)
+unfolding chosen_x86_64
+same_chosen l s r n next h =
+    let same = same_standing l s r n next in
+    by l s r n next (standing_x86_64 (asked_of l s n (nameless r ∷ []))) (standing_x86_64 (question_of l s r n next)) refl same h
+  where
+    by : (l : Layout) (s : InputSection) (r : InputRelocation) (n : ℕ) (next : Option InputRelocation) (a b : Option Row) → standing_x86_64 (asked_of l s n (nameless r ∷ [])) ≡ a → a ≡ b → may_take_next r.number ≡ false
+        → checked (has_its_sequence (asked_of l s n (nameless r ∷ []))) (unknown_sequence (asked_of l s n (nameless r ∷ []))) a ≡ checked (has_its_sequence (question_of l s r n next)) (unknown_sequence (question_of l s r n next)) b
+    by l s r n next None None is e h = refl
+    by l s r n next None (Some b) is e h = cc
+    by l s r n next (Some a) None is e h = cc
+    by l s r n next (Some a) (Some b) is e h =
+        let same : a ≡ b = cc in
+        let first = standing_first (asked_of l s n (nameless r ∷ [])) is_by_itself a each_by_itself is in
+        let number : may_take_next (number_of a) ≡ false = subst (λ (x : ℕ). may_take_next x ≡ false) (number_is (asked_of l s n (nameless r ∷ [])) a first.here) h in
+        let alone = no_distance (partner_distance a) (other_one _ _ first.listed number) in
+        let sequence = same_sequence l s r n next a alone in
+        subst (λ (x : Row). checked (has_its_sequence (asked_of l s n (nameless r ∷ []))) (unknown_sequence (asked_of l s n (nameless r ∷ []))) (Some a) ≡ checked (has_its_sequence (question_of l s r n next)) (unknown_sequence (question_of l s r n next)) (Some x)) same (rw sequence refl)
+
+pub alone_choice : (l : Layout) (s : InputSection) (i : ℕ) (r : InputRelocation) (n : ℕ) → slice_get s.relocations i ≡ Some r → r.symbol ≡ Some n → (r.number ≡ r_x86_64_pc32 → ⊥) → may_take_next r.number ≡ false → choice l s i ≡ chosen_of l.machine (asked_of l s n (nameless r ∷ []))
+alone_choice l s i r n listed named other h = named_choice l s i r n listed named other ∙ sym (by l s r n (slice_get s.relocations (i + 1)) l.machine h)
+  where
+    by : (l : Layout) (s : InputSection) (r : InputRelocation) (n : ℕ) (next : Option InputRelocation) (m : Machine) → may_take_next r.number ≡ false → chosen_of m (asked_of l s n (nameless r ∷ [])) ≡ chosen_of m (question_of l s r n next)
+    by l s r n next machine.X86_64 h = same_chosen l s r n next h
+    by l s r n next machine.AArch64 h = refl

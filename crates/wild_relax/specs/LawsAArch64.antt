@@ -1,0 +1,19 @@
+-- What is written for AArch64 does what is asked of it.
+--   StubsOfAArch64Jump   a stub jumps to the address in its slot
+--   ThunksReach          a thunk jumps to its target
+use Rattle.std.specs.Prelude.{◌≡◌, ℕ, ◌+◌, ◌%◌, Bool, true, Some}
+use Rattle.wild_aarch64.specs.Machine.{meaning, jump_to, jump_through}
+use Rattle.wild_aarch64.specs.Effect.{words_of}
+use Rattle.wild_aarch64.specs.Stub.{StandsAt}
+use Rattle.wild_relax.specs.StubAArch64.{stub_aarch64}
+use Rattle.wild_relax.specs.ThunkAArch64.{thunk_aarch64}
+
+-- a stub that reaches its slot, a multiple of 8, jumps to the address there, at every base that is a multiple of a page
+abbrev pub StubsOfAArch64Jump : Type 0
+StubsOfAArch64Jump = (base slot stub : ℕ) (bti : Bool) → (stub_aarch64 slot stub bti).reaches ≡ true → slot % 8 ≡ 0 → StandsAt base stub slot
+    → meaning (base + stub) (words_of (stub_aarch64 slot stub bti).bytes) ≡ Some (jump_through (base + slot))
+
+-- a thunk that reaches its target jumps there, at every such base
+abbrev pub ThunksReach : Type 0
+ThunksReach = (base thunk target : ℕ) → (thunk_aarch64 thunk target).reaches ≡ true → StandsAt base thunk target
+    → meaning (base + thunk) (words_of (thunk_aarch64 thunk target).bytes) ≡ Some (jump_to (base + target))

@@ -1,0 +1,18 @@
+//! Laws of what is written for AArch64.
+ghost use Rattle.wild_relax.specs.FieldsAArch64.{FieldsAgree, PartsAreFields, TypesHaveForms};
+ghost use Rattle.wild_relax.specs.LawsAArch64.{StubsOfAArch64Jump, ThunksReach};
+
+/// A stub jumps to the address in its slot, with a landing pad in front too; a thunk jumps to its target: at every base that is a
+/// multiple of a page.
+pub fn aarch64_code_reaches()
+    ensures stubs { StubsOfAArch64Jump }
+    ensures thunks { ThunksReach }
+{}
+
+/// Relocation types write the fields that code is read by; each that fills an instruction has forms of words with its field; the
+/// parts of a rewrite are what its relocation types write.
+pub fn aarch64_fields_agree()
+    ensures fields { FieldsAgree }
+    ensures types { TypesHaveForms }
+    ensures parts { PartsAreFields }
+{}
