@@ -1,4 +1,3 @@
-pub mod ChangedLemmas
 pub mod OwnLemmas
 pub mod SlotLemmas
 pub mod GeneralLemmas

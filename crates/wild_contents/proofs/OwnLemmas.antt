@@ -1,6 +1,6 @@
 -- Laws of what a file gives to the tables that a loader reads.
 use Rattle.std.proofs.Common.{◌≡◌, ℕ, ◌+◌, ◌*◌, ◌%◌, ◌<◌, ◌≤◌, ◌==◌, ◌&&◌, inl, inr, true, false, List, [], ◌∷◌, ◌++◌, length, take, get_or, refl, sym, ap, ◌∙◌, arith}
-use Rattle.std.specs.Prelude.{Option, Some, None, option_to_list, slice_get}
+use Rattle.std.specs.Prelude.{Option, Some, None, option_to_list}
 use Rattle.std.specs.List.{flat_map}
 use Rattle.std.proofs.lemmas.Bool.{cases_Bool, and_parts, eqb-true}
 use Rattle.std.proofs.lemmas.List.{append-nil, length-append, take_all}
@@ -14,15 +14,11 @@ use Rattle.wild_relr.specs.Written.{word_bytes}
 use Rattle.wild_relr.proofs.PackedLemmas.{afters-packed, length-joined}
 use Rattle.wild_types.specs.declared.input.InputRelocation.{InputRelocation}
 use Rattle.wild_types.specs.declared.input.InputSection.{InputSection}
-use Rattle.wild_types.specs.declared.part.Part.{Part}
-use Rattle.wild_types.specs.declared.file.Group.{Group}
 use Rattle.wild_types.specs.declared.layout.Layout.{Layout}
 use Rattle.wild_types.specs.Lookups.{place_of, packs, has_moved}
 use Rattle.wild_needs.specs.Entries.{is_moved, packed_place, packed_places, words_of}
 use Rattle.wild_tables.specs.Entries.{rela_bytes}
 use Rattle.wild_layout.specs.Moved.{listed_entry, section_entries}
-use Rattle.wild_layout.specs.Content.{content}
-use Rattle.wild_contents.specs.Given.{role_of, group_given}
 use Rattle.wild_contents.specs.Own.{entry_bytes, section_entry_bytes, section_word_bytes, packed_in}
 
 -- all of them, where a loop has ended
@@ -32,10 +28,6 @@ all_joined {X} f xs i base now whole end before is = before ∙ ap (λ (ys : Lis
 -- nothing to add
 pub none_added : (bytes own : List ℕ) → own ≡ [] → bytes ≡ bytes ++ own
 none_added bytes own none = sym (append-nil bytes) ∙ ap (λ (ys : List ℕ). bytes ++ ys) (sym none)
-
--- what a group gives to a part, by the part's role
-pub given_is : (l : Layout) (i : ℕ) (p : Part) (g : Group) → slice_get l.parts i ≡ Some p → group_given l i g ≡ content l p.role g
-given_is l i p g e = ap (λ (o : Option Part). content l (role_of o) g) e
 
 -- ---- entries
 

@@ -1,6 +1,6 @@
 -- Laws of what slots and stubs give to the parts.
-use Rattle.std.proofs.Common.{◌≡◌, ℕ, suc, ◌-◌, ◌*◌, ◌^◌, ◌<◌, ◌≤◌, ◌==◌, inl, inr, min, List, [], ◌∷◌, ◌++◌, length, take, refl, sym, ap, ◌∙◌, arith}
-use Rattle.std.specs.Prelude.{replicate}
+use Rattle.std.proofs.Common.{◌≡◌, ℕ, suc, ◌-◌, ◌*◌, ◌^◌, ◌<◌, ◌≤◌, ◌==◌, inl, inr, min, List, [], ◌∷◌, ◌++◌, length, take, refl, sym, ap, ◌∙◌, subst, arith}
+use Rattle.std.specs.Prelude.{replicate, Option, Some, None, Result, Ok, Err, OnOk}
 use Rattle.std.specs.List.{flat_map}
 use Rattle.std.proofs.lemmas.Bool.{cases_Bool, ne_eqb}
 use Rattle.std.proofs.lemmas.List.{append-nil, append_assoc}
@@ -10,33 +10,71 @@ use Rattle.wild_relr.specs.Packed.{bitmaps, bitmap_count, block}
 use Rattle.wild_relr.specs.Written.{word_bytes}
 use Rattle.wild_types.specs.declared.file.File.{File}
 use Rattle.wild_types.specs.declared.layout.Layout.{Layout}
-use Rattle.wild_types.specs.declared.symbol.Symbol.{Symbol}
+use Rattle.wild_types.specs.declared.part.Role.{Role}
+use Rattle.wild_types.specs.declared.part.Role.TheVariants as role
 use Rattle.wild_slot.specs.declared.slot_parts.WordPart.{WordPart}
+use Rattle.wild_slot.specs.declared.slot_parts.WordPart.TheVariants as words
 use Rattle.wild_slot.specs.declared.slot_parts.EntryPart.{EntryPart}
+use Rattle.wild_slot.specs.declared.slot_parts.EntryPart.TheVariants as entries
 use Rattle.wild_types.specs.FileSymbols.{own_symbols}
 use Rattle.wild_needs.specs.SlotShares.{words_in}
 use Rattle.wild_tables.specs.Entries.{rela_bytes}
-use Rattle.wild_layout.specs.SlotBytes.{symbol_entries, flat_in, slot_words_of, slot_entries_of, flat_places_of}
-use Rattle.wild_contents.specs.Own.{symbol_word_bytes, symbol_entry_bytes, symbol_flat_bytes}
-use Rattle.wild_contents.proofs.OwnLemmas.{all_joined}
+use Rattle.wild_layout.specs.SlotBytes.{symbol_entries, flat_in, slot_words_of, slot_entries_of, stubs_of, flat_places_of, slot_bytes}
+use Rattle.wild_contents.specs.Own.{slot_part, symbol_slot_bytes}
+use Rattle.wild_contents.specs.declared.slots.SlotPart.{SlotPart}
+use Rattle.wild_contents.specs.declared.slots.SlotPart.TheVariants as parts
+use Rattle.wild_contents.proofs.OwnLemmas.{none_added}
 
 -- ---- the symbols of a file
 
--- all of them, where a loop over them has ended
-pub all_symbols : (f : Symbol → List ℕ) (items own : List Symbol) (i : ℕ) (base now whole : List ℕ) → items ≡ own → length items ≤ i → now ≡ base ++ flat_map f (take i items) → whole ≡ flat_map f own → now ≡ base ++ whole
-all_symbols f items own i base now whole same end before is = all_joined f items i base now whole end before (is ∙ ap (flat_map f) (sym same))
-
-pub words_joined : (part : WordPart) (l : Layout) (f : File) → word_bytes (slot_words_of part l f) ≡ flat_map (symbol_word_bytes part l) (own_symbols l f)
-unfolding slot_words_of symbol_word_bytes
+words_joined : (part : WordPart) (l : Layout) (f : File) → word_bytes (slot_words_of part l f) ≡ flat_map (symbol_slot_bytes (parts.Words part) l) (own_symbols l f)
+unfolding slot_words_of symbol_slot_bytes
 words_joined part l f = sym (sym (flat_map-flat_map _ (words_in part l) (own_symbols l f)))
 
-pub entries_joined : (part : EntryPart) (l : Layout) (f : File) → rela_bytes (slot_entries_of part l f) ≡ flat_map (symbol_entry_bytes part l) (own_symbols l f)
-unfolding slot_entries_of symbol_entry_bytes
+entries_joined : (part : EntryPart) (l : Layout) (f : File) → rela_bytes (slot_entries_of part l f) ≡ flat_map (symbol_slot_bytes (parts.Entries part) l) (own_symbols l f)
+unfolding slot_entries_of symbol_slot_bytes
 entries_joined part l f = sym (sym (flat_map-flat_map _ (symbol_entries part l) (own_symbols l f)))
 
-pub places_joined : (l : Layout) (f : File) → word_bytes (flat_places_of l f) ≡ flat_map (symbol_flat_bytes l) (own_symbols l f)
-unfolding flat_places_of symbol_flat_bytes
+places_joined : (l : Layout) (f : File) → word_bytes (flat_places_of l f) ≡ flat_map (symbol_slot_bytes parts.Places l) (own_symbols l f)
+unfolding flat_places_of symbol_slot_bytes
 places_joined l f = sym (sym (flat_map-flat_map _ (flat_in l) (own_symbols l f)))
+
+stubs_joined : (l : Layout) (f : File) → stubs_of l f ≡ flat_map (symbol_slot_bytes parts.Stubs l) (own_symbols l f)
+unfolding stubs_of symbol_slot_bytes
+stubs_joined l f = refl
+
+found : (l : Layout) (f : File) (p q : SlotPart) (bs : List ℕ) → Some p ≡ Some q → bs ≡ flat_map (symbol_slot_bytes p l) (own_symbols l f) → bs ≡ flat_map (symbol_slot_bytes q l) (own_symbols l f)
+found l f p q bs e is = let same : p ≡ q = cc in subst (λ (x : SlotPart). bs ≡ flat_map (symbol_slot_bytes x l) (own_symbols l f)) same is
+
+-- what a file gives to the part of a role, symbol by symbol
+slots_found : (l : Layout) (r : Role) (f : File) (p : SlotPart) → slot_part r ≡ Some p → slot_bytes l r f ≡ flat_map (symbol_slot_bytes p l) (own_symbols l f)
+slots_found l role.Got f p e = found l f (parts.Words words.Got) p _ e (words_joined words.Got l f)
+slots_found l role.GotRelr f p e = found l f (parts.Words words.Block) p _ e (words_joined words.Block l f)
+slots_found l role.PltGot f p e = found l f parts.Stubs p _ e (stubs_joined l f)
+slots_found l role.RelaPlt f p e = found l f (parts.Entries entries.Plt) p _ e (entries_joined entries.Plt l f)
+slots_found l role.RelaDynRelative f p e = found l f (parts.Entries entries.Relative) p _ e (entries_joined entries.Relative l f)
+slots_found l role.RelaDynGeneral f p e = found l f (parts.Entries entries.General) p _ e (entries_joined entries.General l f)
+slots_found l role.RelrDyn f p e = found l f parts.Places p _ e (places_joined l f)
+slots_found l other f p e = cc
+
+no_slots_found : (l : Layout) (r : Role) (f : File) → slot_part r ≡ None → slot_bytes l r f ≡ []
+no_slots_found l role.Got f e = cc
+no_slots_found l role.GotRelr f e = cc
+no_slots_found l role.PltGot f e = cc
+no_slots_found l role.RelaPlt f e = cc
+no_slots_found l role.RelaDynRelative f e = cc
+no_slots_found l role.RelaDynGeneral f e = cc
+no_slots_found l role.RelrDyn f e = cc
+no_slots_found l other f e = refl
+
+pub some_slots : {E : Type 0} (result : Result (Unit {0}) E) (l : Layout) (r : Role) (f : File) (p : SlotPart) (bs now : List ℕ) → slot_part r ≡ Some p → OnOk result (now ≡ bs ++ flat_map (symbol_slot_bytes p l) (own_symbols l f)) → OnOk result (now ≡ bs ++ slot_bytes l r f)
+some_slots (Ok u) l r f p bs now e is = is ∙ ap (λ (ys : List ℕ). bs ++ ys) (sym (slots_found l r f p e))
+some_slots (Err i) l r f p bs now e is = is
+
+pub none_of_slots : (l : Layout) (r : Role) (f : File) (bs : List ℕ) → slot_part r ≡ None → bs ≡ bs ++ slot_bytes l r f
+none_of_slots l r f bs e = none_added bs (slot_bytes l r f) (no_slots_found l r f e)
+
+pub ruleset slots_joined = (some_slots, none_of_slots)
 
 -- ---- words, one after another
 
@@ -82,10 +120,10 @@ no_slots base n e =
       | inr f ↦ rw (e, f) refl
     ]
 
-some_slots : (base n : ℕ) → (base ≡ 0 → ⊥) → (n ≡ 0 → ⊥) → block base n ≡ base ∷ bitmaps (bitmap_count (n - 1)) (n - 1)
+slots_of_block : (base n : ℕ) → (base ≡ 0 → ⊥) → (n ≡ 0 → ⊥) → block base n ≡ base ∷ bitmaps (bitmap_count (n - 1)) (n - 1)
 unfolding block
-some_slots base n h k = let b = ne_eqb base 0 h in let c = ne_eqb n 0 k in rw (b, c) refl
+slots_of_block base n h k = let b = ne_eqb base 0 h in let c = ne_eqb n 0 k in rw (b, c) refl
 
 -- the address of a block and its bitmap words, one behind the other
 pub block_added : (old now next : List ℕ) (base n : ℕ) → (base ≡ 0 → ⊥) → (n ≡ 0 → ⊥) → now ≡ old ++ word_bytes (base ∷ []) → next ≡ now ++ word_bytes (bitmaps (bitmap_count (n - 1)) (n - 1)) → next ≡ old ++ word_bytes (block base n)
-block_added old now next base n h k first rest = rest ∙ word_next old now (old ++ word_bytes (block base n)) base (block base n) (bitmaps (bitmap_count (n - 1)) (n - 1)) (some_slots base n h k) refl first
+block_added old now next base n h k first rest = rest ∙ word_next old now (old ++ word_bytes (block base n)) base (block base n) (bitmaps (bitmap_count (n - 1)) (n - 1)) (slots_of_block base n h k) refl first

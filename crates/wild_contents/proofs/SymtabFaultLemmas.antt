@@ -1,43 +1,40 @@
 -- The first fault of the symbols of `.symtab`.
-use Rattle.std.proofs.Common.{◌≡◌, ℕ, ◌+◌, ◌<◌, false, List, [], ◌∷◌, ◌++◌, length, take, get_or, refl, sym, ap, ◌∙◌, arith, subst}
+use Rattle.std.proofs.Common.{◌≡◌, ℕ, ◌+◌, false, List, [], ◌∷◌, ◌++◌, refl, sym, ap, ◌∙◌, subst, Result, Ok, Err}
 use Rattle.std.specs.List.{flat_map}
-use Rattle.std.proofs.lemmas.List.{length-take-le, take_more}
-use Rattle.std.proofs.lemmas.List.Concat.{flat_map-append}
 use Rattle.wild_types.specs.declared.fault.Error.{Error}
-use Rattle.wild_types.specs.declared.symbol.Symbol.{Symbol}
-use Rattle.wild_needs.specs.declared.table.Pass.{Pass}
 use Rattle.wild_types.specs.declared.file.File.{File}
 use Rattle.wild_types.specs.declared.layout.Layout.{Layout}
-use Rattle.wild_types.specs.Faults.{Refuses}
-use Rattle.wild_needs.specs.TableSymbols.{TableSymbol, symbol_items, pass_items, file_items}
+use Rattle.wild_types.specs.Faults.{Answers, Refuses}
+use Rattle.wild_needs.specs.Runs.{Ran, none, more, stop}
+use Rattle.wild_needs.specs.TableSymbols.{TableSymbol, file_items}
 use Rattle.wild_types.specs.Lookups.{has_table}
-use Rattle.wild_layout.specs.Faults.{flat_map_from, table_errors}
-use Rattle.wild_sections.proofs.FaultLemmas.{refuses_from_at, none_from_at}
+use Rattle.wild_layout.specs.Faults.{flat_map_from, table_error, table_errors}
+use Rattle.wild_contents.specs.Walks.{Looked, Passes, Lacks}
+use Rattle.wild_sections.proofs.FaultLemmas.{Refuses-front, Refuses-behind}
 
--- what the symbols from number n on give, in one pass
-pub items_errors : (f : TableSymbol → List Error) (l : Layout) (p : Pass) (n : ℕ) (ss : List Symbol) → flat_map_from (λ i s. flat_map f (symbol_items l p i s)) n ss ≡ flat_map f (pass_items l p n ss)
-items_errors f l p n [] = refl
-items_errors f l p n (s ∷ ss) = ap (λ es. flat_map f (symbol_items l p n s) ++ es) (items_errors f l p (n + 1) ss) ∙ sym (flat_map-append f (symbol_items l p n s) (pass_items l p (n + 1) ss))
+pub pass_one : (a : Looked) (x : TableSymbol) → table_error a.layout a.at a.file x ≡ [] → Ran Passes Lacks a (x ∷ []) (Ok tt) a
+pass_one a x h = more (h, refl) none
 
--- the first error of a symbol that a loop read with its place, where those before it have none
-pub refuses_symbol : (f : TableSymbol → List Error) (l : Layout) (p : Pass) (n i : ℕ) (ss : List Symbol) (s : Symbol) (e : Error) → i < length ss → s ≡ get_or ss i s
-    → flat_map f (pass_items l p n (take i ss)) ≡ [] → Refuses e (flat_map f (symbol_items l p (n + i) s)) → Refuses e (flat_map f (pass_items l p n ss))
-refuses_symbol f l p n i ss s e low read none h =
-    let F : ℕ → Symbol → List Error = λ j x. flat_map f (symbol_items l p j x) in
-    let P : Symbol → Type 0 = λ x. Refuses e (F (n + i) x) in
-    subst (λ (es : List Error). Refuses e es) (items_errors f l p n ss) (refuses_from_at F n (n + i) ss i s e refl low (items_errors f l p n (take i ss) ∙ none) (subst P read h))
+pub lack_one : (a : Looked) (x : TableSymbol) (e : Error) → Refuses e (table_error a.layout a.at a.file x) → Ran Passes Lacks a (x ∷ []) (Err e) a
+lack_one a x e h = stop h
 
--- one more symbol without errors
-pub none_symbol : (f : TableSymbol → List Error) (l : Layout) (p : Pass) (n i : ℕ) (ss : List Symbol) (s : Symbol) → i < length ss → s ≡ get_or ss i s
-    → flat_map f (pass_items l p n (take i ss)) ≡ [] → flat_map f (symbol_items l p (n + i) s) ≡ [] → flat_map f (pass_items l p n (take (i + 1) ss)) ≡ []
-none_symbol f l p n i ss s low read before here =
-    let F : ℕ → Symbol → List Error = λ j x. flat_map f (symbol_items l p j x) in
-    let P : Symbol → Type 0 = λ x. F (n + i) x ≡ [] in
-    let e = length-take-le i ss (omega (arith, low)) in
-    sym (items_errors f l p n (take (i + 1) ss)) ∙ ap (flat_map_from F n) (take_more ss i s low)
-    ∙ none_from_at F n (n + i) (take i ss) (get_or ss i s) (omega (arith, e)) (items_errors f l p n (take i ss) ∙ before) (subst P read here)
+pub ruleset looks = (pass_one, lack_one)
 
-pub ruleset first_symbol = (refuses_symbol, none_symbol)
+-- the faults of symbols that were looked at
+abbrev errors_of : Looked → List TableSymbol → List Error
+errors_of a xs = flat_map (table_error a.layout a.at a.file) xs
+
+passed : {a b : Looked} {xs : List TableSymbol} {u : Unit {0}} → Ran Passes Lacks a xs (Ok u) b → errors_of a xs ≡ []
+passed none = refl
+passed {a = a} (more {b = b} {x = x} {xs = xs} h t) = ap (λ (es : List Error). es ++ errors_of a xs) h.0 ∙ ap (λ (c : Looked). errors_of c xs) (sym h.1) ∙ passed t
+
+lacked : {a b : Looked} {xs : List TableSymbol} {e : Error} → Ran Passes Lacks a xs (Err e) b → Refuses e (errors_of a xs)
+lacked {a = a} {e = e} (stop {x = x} {xs = xs} h) = Refuses-front e (table_error a.layout a.at a.file x) (errors_of a xs) h
+lacked {a = a} {e = e} (more {b = b} {x = x} {xs = xs} h t) = Refuses-behind e (table_error a.layout a.at a.file x) (errors_of a xs) h.0 (subst (λ (c : Looked). Refuses e (errors_of c xs)) h.1 (lacked t))
+
+pub looked : (a b : Looked) (xs : List TableSymbol) (r : Result (Unit {0}) Error) → Ran Passes Lacks a xs r b → Answers r (flat_map (table_error a.layout a.at a.file) xs)
+looked a b xs (Ok u) run = passed run
+looked a b xs (Err e) run = lacked run
 
 -- an output without the table has no faults of it
 pub no_table : (l : Layout) (group n : ℕ) (fs : List File) → has_table l ≡ false → flat_map_from (table_errors l group) n fs ≡ []

@@ -1,22 +1,25 @@
 -- What a file gives to the tables that a loader reads, relocation by relocation, section by section and symbol by symbol.
 --   entry_bytes l s r      the bytes of the entry of relocation r of an input section; none where it has none
 --   packed_in l s r        its place, where that is packed
---   symbol_word_bytes p l s, symbol_entry_bytes p l s, symbol_flat_bytes l s
---                          the bytes of the words of a symbol's slots in a part, of their entries in one, and of their
---                          places that have a RELR word of their own
-use Rattle.std.specs.Prelude.{ℕ, List, option_to_list}
+--   symbol_slot_bytes p l s   what a part takes of a symbol's slots and its stub: the bytes of words, of entries, of places that
+--                          have a RELR word of their own, or the stub; slot_part r: which of them the part of a role takes
+use Rattle.std.specs.Prelude.{ℕ, List, Option, Some, None, option_to_list}
 use Rattle.wild_types.specs.declared.input.InputRelocation.{InputRelocation}
 use Rattle.wild_types.specs.declared.input.InputSection.{InputSection}
 use Rattle.wild_types.specs.declared.symbol.Symbol.{Symbol}
 use Rattle.wild_types.specs.declared.layout.Layout.{Layout}
-use Rattle.wild_slot.specs.declared.slot_parts.WordPart.{WordPart}
-use Rattle.wild_slot.specs.declared.slot_parts.EntryPart.{EntryPart}
+use Rattle.wild_types.specs.declared.part.Role.{Role}
+use Rattle.wild_types.specs.declared.part.Role.TheVariants as role
+use Rattle.wild_slot.specs.declared.slot_parts.WordPart.TheVariants as words
+use Rattle.wild_slot.specs.declared.slot_parts.EntryPart.TheVariants as entries
+use Rattle.wild_contents.specs.declared.slots.SlotPart.{SlotPart}
+use Rattle.wild_contents.specs.declared.slots.SlotPart.TheVariants as parts
 use Rattle.wild_needs.specs.Entries.{packed_place, words_of}
 use Rattle.wild_needs.specs.SlotShares.{words_in}
 use Rattle.wild_relr.specs.Written.{word_bytes}
 use Rattle.wild_tables.specs.Entries.{rela_bytes}
 use Rattle.wild_layout.specs.Moved.{listed_entry, section_entries}
-use Rattle.wild_layout.specs.SlotBytes.{symbol_entries, flat_in}
+use Rattle.wild_layout.specs.SlotBytes.{symbol_entries, flat_in, stub_bytes}
 
 -- the bytes of the entry of a relocation; none where it has none
 unfoldable pub entry_bytes : Layout → InputSection → InputRelocation → List ℕ
@@ -34,14 +37,20 @@ section_word_bytes l s = word_bytes (words_of l s)
 abbrev pub packed_in : Layout → InputSection → InputRelocation → List ℕ
 packed_in l s r = option_to_list (packed_place l s r)
 
--- the words of a symbol's slots in a part
-unfoldable pub symbol_word_bytes : WordPart → Layout → Symbol → List ℕ
-symbol_word_bytes part l s = word_bytes (words_in part l s)
+-- what a part takes of a symbol's slots and its stub
+unfoldable pub symbol_slot_bytes : SlotPart → Layout → Symbol → List ℕ
+symbol_slot_bytes (parts.Words part) l s = word_bytes (words_in part l s)
+symbol_slot_bytes (parts.Entries part) l s = rela_bytes (symbol_entries part l s)
+symbol_slot_bytes parts.Places l s = word_bytes (flat_in l s)
+symbol_slot_bytes parts.Stubs l s = stub_bytes l s
 
--- their entries in one
-unfoldable pub symbol_entry_bytes : EntryPart → Layout → Symbol → List ℕ
-symbol_entry_bytes part l s = rela_bytes (symbol_entries part l s)
-
--- their places that have a RELR word of their own
-unfoldable pub symbol_flat_bytes : Layout → Symbol → List ℕ
-symbol_flat_bytes l s = word_bytes (flat_in l s)
+-- what the part of a role takes of them, if anything
+abbrev pub slot_part : Role → Option SlotPart
+slot_part role.Got = Some (parts.Words words.Got)
+slot_part role.GotRelr = Some (parts.Words words.Block)
+slot_part role.PltGot = Some parts.Stubs
+slot_part role.RelaPlt = Some (parts.Entries entries.Plt)
+slot_part role.RelaDynRelative = Some (parts.Entries entries.Relative)
+slot_part role.RelaDynGeneral = Some (parts.Entries entries.General)
+slot_part role.RelrDyn = Some parts.Places
+slot_part other = None

@@ -26,4 +26,4 @@ pub use copies::check_entries;
 pub use dynamic::has_last;
 pub use listed::check_symbol_tables;
 pub use part_bytes::PartBytes;
-pub use tables::{add_content, add_tables};
+pub use tables::add_content;

@@ -34,9 +34,9 @@ pub(crate) fn add_own<A: Arch>(
         Role::GnuVersionD => add_definitions(alloc, resolved, file, bytes),
         Role::SysvHash => add_sysv(alloc, resolved, file, bytes),
         Role::GnuHash => add_gnu(alloc, resolved, file, bytes),
-        Role::SymtabShndxLocal => add_file_indexes(resolved, role, true, file, bytes),
-        Role::SymtabShndxGlobal => add_file_indexes(resolved, role, false, file, bytes),
-        Role::Strtab => add_file_names(resolved, file, bytes),
+        Role::SymtabShndxLocal => add_file_indexes(alloc, resolved, role, true, file, bytes),
+        Role::SymtabShndxGlobal => add_file_indexes(alloc, resolved, role, false, file, bytes),
+        Role::Strtab => add_file_names(alloc, resolved, file, bytes),
         _ => Ok(()),
     }
 }

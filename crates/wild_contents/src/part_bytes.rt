@@ -27,6 +27,15 @@ impl Model for PartBytes {
 }
 
 impl PartBytes {
+    /// No bytes.
+    pub fn empty(alloc: Global) -> Self
+        ensures { result ≡ [] }
+    {
+        PartBytes {
+            entries: Vec::new(alloc),
+        }
+    }
+
     /// No bytes, with room for so many.
     pub fn with_room(alloc: Global, count: usize) -> Result<Self, AllocError>
         ensures { IfOk result (λ v. v ≡ []) }

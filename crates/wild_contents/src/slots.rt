@@ -1,11 +1,11 @@
 //! What the slots and stubs of a file's symbols give to the parts (x86-64 psABI, "Global Offset Table (GOT)", "Procedure
 //! Linkage Table").
 ghost use Rattle.std.specs.Prelude.{◌≡◌, ◌++◌, unwrap_or, OnOk};
+ghost use Rattle.std.specs.List.{flat_map};
+ghost use Rattle.wild_types.specs.FileSymbols.{own_symbols};
 ghost use Rattle.wild_types.specs.SymbolSlots.{plt_of};
-ghost use Rattle.wild_relr.specs.Written.{word_bytes};
-ghost use Rattle.wild_tables.specs.Entries.{rela_bytes};
-ghost use Rattle.wild_layout.specs.SlotBytes.{stub_bytes, slot_words_of, slot_entries_of, stubs_of, flat_places_of, slot_bytes};
-ghost use Rattle.wild_contents.specs.Own.{symbol_word_bytes, symbol_entry_bytes, symbol_flat_bytes};
+ghost use Rattle.wild_layout.specs.SlotBytes.{stub_bytes, slot_bytes};
+ghost use Rattle.wild_contents.specs.Own.{slot_part, symbol_slot_bytes};
 
 use crate::part_bytes::PartBytes;
 use crate::slot_words::{add_flat_places, add_slot_entries, add_slot_words};
@@ -13,67 +13,33 @@ use std::alloc::AllocError;
 use wild_slot::{EntryPart, STUB_SIZE, SymbolSlots, WordPart, put_stub};
 use wild_types::{File, Layout, Role, Symbol};
 
-/// Adds the words of a symbol in a part.
-#[tactic(auto, unfolding(crate::specs::Own::symbol_word_bytes))]
-fn add_words_of(
-    part: WordPart,
-    layout: &Layout,
-    symbol: &Symbol,
-    bytes: &mut PartBytes,
-) -> Result<(), AllocError>
-    ensures { OnOk result (bytes.new ≡ bytes.old ++ symbol_word_bytes part layout.now symbol.now) }
-{
-    let slots = SymbolSlots::of(layout, symbol);
-    let relr = layout.options.relr;
-    add_slot_words(part, relr, symbol.slots_at(), slots.words(), bytes)
+/// What a part takes of the slots and stubs of symbols.
+#[derive(Clone, Copy)]
+enum SlotPart {
+    /// Words.
+    Words(WordPart),
+    /// Entries, each with the place of its word.
+    Entries(EntryPart),
+    /// Places that have a RELR word of their own.
+    Places,
+    /// Stubs.
+    Stubs,
 }
 
-/// Adds the words of a file's symbols in a part.
-#[tactic(auto, using(crate::proofs::SlotLemmas::words_joined))]
-fn add_words(
-    part: WordPart,
-    layout: &Layout,
-    file: &File,
-    bytes: &mut PartBytes,
-) -> Result<(), AllocError>
-    ensures { OnOk result (bytes.new ≡ bytes.old ++ word_bytes (slot_words_of part layout.now file.now)) }
+/// What the part of a role takes of them, if anything.
+fn slot_part(role: Role) -> Option<SlotPart>
+    ensures { result ≡ slot_part role }
 {
-    for symbol in layout.own_symbols(file) {
-        add_words_of(part, layout, symbol, bytes)?;
+    match role {
+        Role::Got => Some(SlotPart::Words(WordPart::Got)),
+        Role::GotRelr => Some(SlotPart::Words(WordPart::Block)),
+        Role::PltGot => Some(SlotPart::Stubs),
+        Role::RelaPlt => Some(SlotPart::Entries(EntryPart::Plt)),
+        Role::RelaDynRelative => Some(SlotPart::Entries(EntryPart::Relative)),
+        Role::RelaDynGeneral => Some(SlotPart::Entries(EntryPart::General)),
+        Role::RelrDyn => Some(SlotPart::Places),
+        _ => None,
     }
-    Ok(())
-}
-
-/// Adds the entries of a symbol in a part.
-#[tactic(auto, unfolding(crate::specs::Own::symbol_entry_bytes))]
-fn add_entries_of(
-    part: EntryPart,
-    layout: &Layout,
-    symbol: &Symbol,
-    bytes: &mut PartBytes,
-) -> Result<(), AllocError>
-    ensures { OnOk result (bytes.new ≡ bytes.old ++ symbol_entry_bytes part layout.now symbol.now) }
-{
-    let slots = SymbolSlots::of(layout, symbol);
-    let relr = layout.options.relr;
-    let place = symbol.slots_at();
-    add_slot_entries(part, layout.machine, relr, place, slots.words(), bytes)
-}
-
-/// Adds the entries of a file's symbols in a part.
-#[tactic(auto, using(crate::proofs::SlotLemmas::entries_joined))]
-fn add_entries(
-    part: EntryPart,
-    layout: &Layout,
-    file: &File,
-    bytes: &mut PartBytes,
-) -> Result<(), AllocError>
-    ensures { OnOk result (bytes.new ≡ bytes.old ++ rela_bytes (slot_entries_of part layout.now file.now)) }
-{
-    for symbol in layout.own_symbols(file) {
-        add_entries_of(part, layout, symbol, bytes)?;
-    }
-    Ok(())
 }
 
 /// The address of a symbol's stub; 0 where it has none.
@@ -98,39 +64,46 @@ fn add_stub(layout: &Layout, symbol: &Symbol, bytes: &mut PartBytes) -> Result<(
     Ok(())
 }
 
-/// Adds the stubs of a file's symbols.
-#[tactic(auto, unfolding(wild_layout::specs::SlotBytes::stubs_of))]
-fn add_stubs(layout: &Layout, file: &File, bytes: &mut PartBytes) -> Result<(), AllocError>
-    ensures { OnOk result (bytes.new ≡ bytes.old ++ stubs_of layout.now file.now) }
-{
-    for symbol in layout.own_symbols(file) {
-        add_stub(layout, symbol, bytes)?;
-    }
-    Ok(())
-}
-
-/// Adds the places of a symbol's words that have a RELR word of their own.
-#[tactic(auto, unfolding(crate::specs::Own::symbol_flat_bytes))]
-fn add_places_of(layout: &Layout, symbol: &Symbol, bytes: &mut PartBytes) -> Result<(), AllocError>
-    ensures { OnOk result (bytes.new ≡ bytes.old ++ symbol_flat_bytes layout.now symbol.now) }
+/// Adds what a part takes of a symbol's slots and its stub.
+#[tactic(auto, unfolding(crate::specs::Own::symbol_slot_bytes))]
+fn add_symbol(
+    part: SlotPart,
+    layout: &Layout,
+    symbol: &Symbol,
+    bytes: &mut PartBytes,
+) -> Result<(), AllocError>
+    ensures { OnOk result (bytes.new ≡ bytes.old ++ symbol_slot_bytes part layout.now symbol.now) }
 {
     let slots = SymbolSlots::of(layout, symbol);
     let relr = layout.options.relr;
-    add_flat_places(relr, symbol.slots_at(), slots.words(), bytes)
+    let place = symbol.slots_at();
+    match part {
+        SlotPart::Words(part) => add_slot_words(part, relr, place, slots.words(), bytes),
+        SlotPart::Entries(part) => {
+            add_slot_entries(part, layout.machine, relr, place, slots.words(), bytes)
+        }
+        SlotPart::Places => add_flat_places(relr, place, slots.words(), bytes),
+        SlotPart::Stubs => add_stub(layout, symbol, bytes),
+    }
 }
 
-/// Adds such places of a file's symbols.
-#[tactic(auto, using(crate::proofs::SlotLemmas::places_joined))]
-fn add_places(layout: &Layout, file: &File, bytes: &mut PartBytes) -> Result<(), AllocError>
-    ensures { OnOk result (bytes.new ≡ bytes.old ++ word_bytes (flat_places_of layout.now file.now)) }
+/// Adds what a part takes of the slots and stubs of a file's symbols.
+fn add_symbols(
+    part: SlotPart,
+    layout: &Layout,
+    file: &File,
+    bytes: &mut PartBytes,
+) -> Result<(), AllocError>
+    ensures { OnOk result (bytes.new ≡ bytes.old ++ flat_map (symbol_slot_bytes part layout.now) (own_symbols layout.now file.now)) }
 {
     for symbol in layout.own_symbols(file) {
-        add_places_of(layout, symbol, bytes)?;
+        add_symbol(part, layout, symbol, bytes)?;
     }
     Ok(())
 }
 
 /// Adds what a file's slots and stubs give to a part of that role.
+#[tactic(auto, using(crate::proofs::SlotLemmas::slots_joined))]
 pub(crate) fn add_slots(
     layout: &Layout,
     role: Role,
@@ -139,14 +112,8 @@ pub(crate) fn add_slots(
 ) -> Result<(), AllocError>
     ensures { OnOk result (bytes.new ≡ bytes.old ++ slot_bytes layout.now role file.now) }
 {
-    match role {
-        Role::Got => add_words(WordPart::Got, layout, file, bytes),
-        Role::GotRelr => add_words(WordPart::Block, layout, file, bytes),
-        Role::PltGot => add_stubs(layout, file, bytes),
-        Role::RelaPlt => add_entries(EntryPart::Plt, layout, file, bytes),
-        Role::RelaDynRelative => add_entries(EntryPart::Relative, layout, file, bytes),
-        Role::RelaDynGeneral => add_entries(EntryPart::General, layout, file, bytes),
-        Role::RelrDyn => add_places(layout, file, bytes),
-        _ => Ok(()),
+    match slot_part(role) {
+        Some(part) => add_symbols(part, layout, file, bytes),
+        None => Ok(()),
     }
 }

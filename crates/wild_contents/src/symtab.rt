@@ -1,50 +1,30 @@
 //! The parts of `.symtab` (gABI, "Symbol Table"): the entries of its local symbols and of the others, their longer section indexes,
-//! and the names. One walk goes over the symbols of a file for each of them, and computes of a symbol what its part takes.
-ghost use Rattle.std.specs.Prelude.{◌≡◌, [], ◌++◌, map, if◌then◌else◌, OnOk, IfOk, ℕ};
-ghost use Rattle.wild_words.specs.Words.{word};
+//! and the names. Each is what one walk over the symbols of a file gives to a sink, which computes of a symbol what its part takes.
+ghost use Rattle.std.specs.Prelude.{◌≡◌, ◌++◌, ℕ, OnOk, IfOk};
 ghost use Rattle.wild_types.specs.declared.file.File.{File};
 ghost use Rattle.wild_types.specs.declared.layout.Layout.{Layout};
+ghost use Rattle.wild_needs.specs.declared.table.TablePart.TheVariants.{Side, Long};
+ghost use Rattle.wild_words.specs.Words.{word};
 ghost use Rattle.wild_needs.specs.DynamicStrings.{behind_text};
-ghost use Rattle.wild_needs.specs.TableSymbols.{item, file_items, suffix, where_asked, slot_items, own_item, symbol_items, pass_items, passes, items_of, table_strings};
-ghost use Rattle.wild_types.specs.FileSymbols.{loaded_symbols};
+ghost use Rattle.wild_needs.specs.TableSymbols.{suffix, table_strings};
 ghost use Rattle.wild_symbols.specs.Strings.{string, string_bytes};
 ghost use Rattle.wild_symbols.specs.Symbols.{symbol_bytes};
-ghost use Rattle.wild_symbols.specs.TableEntries.{named_entry, null_entry, null_entries, file_table, is_side, fields_of, table_entries};
+ghost use Rattle.wild_symbols.specs.TableEntries.{is_side, null_entry, null_entries, file_table, fields_of, table_entries};
 ghost use Rattle.wild_layout.specs.Content.{indexes_of};
-ghost use Rattle.wild_contents.specs.Walks.{entry_of, side_bytes, long_bytes, sink_bytes, Walks};
+ghost use Rattle.wild_contents.specs.Walks.{entry_of, taken_bytes, with_entry, Walks};
 
 use crate::part_bytes::PartBytes;
 use crate::symbols::{add_entry, behind_text};
-use std::alloc::AllocError;
-use wild_needs::{Named, Pass, has_long, is_local, passes};
+use std::alloc::{AllocError, Global};
+use std::marker::Model;
+use std::mem::replace;
+use wild_needs::{Named, TablePart, TableSink, give_table, has_long, is_on, suffix};
 use wild_relax::Arch;
 use wild_sections::{Resolved, section_in_file};
 use wild_symbols::{
     TableFields, entry_at, names_are_strings, no_fields, null_table_fields, table_fields,
 };
 use wild_types::{Fault, File, Group, Role, Symbol, SymbolIndex};
-
-/// What a walk over the symbols writes of each.
-#[derive(Clone, Copy)]
-pub(crate) enum Sink {
-    /// The entry, if it is a local one, or if it is none.
-    Side(bool),
-    /// The longer section index, of the same.
-    Long(bool),
-    /// The name.
-    Strings,
-}
-
-/// What a name has behind the symbol's.
-fn suffix(named: Named) -> &'static [u8]
-    ensures { result.now ≡ suffix named }
-{
-    match named {
-        Named::Itself => b"",
-        Named::Slot => b"$got",
-        Named::Stub => b"$plt",
-    }
-}
 
 /// What the entry of a symbol of a file says, or of the name of its slot or its stub; or what it lacks.
 pub(crate) fn fields_of<A: Arch>(
@@ -92,11 +72,7 @@ fn fields_or_none<A: Arch>(
 fn is_side(local: bool, named: Named, symbol: &Symbol) -> bool
     ensures { (l : Layout) (f : File) (i : ℕ) → result ≡ is_side local (entry_of l f named i symbol.now) }
 {
-    if local {
-        is_local(named, symbol)
-    } else {
-        !is_local(named, symbol)
-    }
+    is_on(local, named, symbol)
 }
 
 /// Adds a section index of 32 bits.
@@ -124,238 +100,167 @@ fn behind_name(at: u64, named: Named, symbol: &Symbol) -> u64
     at.saturating_add(room.saturating_add(1))
 }
 
-/// A walk over the symbols of a file, for one of the parts.
+/// A part of `.symtab`, written for a file.
 #[derive(Drop)]
-struct Walk<'r, 'l, 'f, A: Arch> {
+struct TableBytes<'r, 'l, 'f, A: Arch> {
     resolved: &'r Resolved<'l, A>,
     file: &'f File,
-    sink: Sink,
+    part: TablePart,
+    at: u64,
+    bytes: PartBytes,
 }
 
-impl<'r, 'l, 'f, A: Arch> Walk<'r, 'l, 'f, A> {
-    /// Adds the entry of a symbol, on its side.
+impl<'r, 'l, 'f, A: Arch> Model for TableBytes<'r, 'l, 'f, A> {
+    ghost use Rattle.wild_contents.specs.Walks.{Written};
+
+    ghost Value = { Written };
+
+    ghost view = { λ w. record { layout = w.resolved.now.layout.now; file = w.file.now; part = w.part; at = w.at; bytes = w.bytes } };
+}
+
+impl<'r, 'l, 'f, A: Arch> TableSink for TableBytes<'r, 'l, 'f, A> {
+    ghost use Rattle.wild_contents.specs.Walks.{Writes};
+
+    type Error = AllocError;
+
+    ghost goes = { Writes };
+
+    ghost refuses = { λ a x e b. Unit {0} };
+
+    #[inline(always)]
+    #[tactic(auto, using(crate::proofs::WalkLemmas::writes))]
+    fn take(&mut self, named: Named, index: usize, symbol: &Symbol) -> Result<(), AllocError> {
+        self.add(named, index, symbol)?;
+        self.at = behind_name(self.at, named, symbol);
+        Ok(())
+    }
+}
+
+impl<'r, 'l, 'f, A: Arch> TableBytes<'r, 'l, 'f, A> {
+    /// The bytes, and where the next name stands.
+    fn into_parts(self) -> (PartBytes, u64)
+        ensures bytes { result.0 ≡ self.entry.bytes }
+        ensures at { result.1 ≡ self.entry.at }
+    {
+        (self.bytes, self.at)
+    }
+
+    /// Adds the entry of a symbol, or of the name of its slot or its stub, on its side.
     fn add_side(
-        &self,
+        &mut self,
         local: bool,
         named: Named,
         index: usize,
         symbol: &Symbol,
-        at: u64,
-        bytes: &mut PartBytes,
     ) -> Result<(), AllocError>
-        ensures { OnOk result (bytes.new ≡ bytes.old ++ side_bytes local at (entry_of self.now.resolved.now.layout.now self.now.file.now named index symbol.now)) }
+        ensures { OnOk result (self.new ≡ record self.old { bytes = self.old.bytes ++ taken_bytes (Side local) self.old.at (entry_of self.old.layout self.old.file named index symbol.now) }) }
     {
         if is_side(local, named, symbol) {
             let fields = fields_or_none(self.resolved, self.file, named, index, symbol);
-            add_entry(entry_at(at, fields.fields), bytes)?;
+            add_entry(entry_at(self.at, fields.fields), &mut self.bytes)?;
         }
         Ok(())
     }
 
     /// Adds its longer section index, on its side.
     fn add_long(
-        &self,
+        &mut self,
         local: bool,
         named: Named,
         index: usize,
         symbol: &Symbol,
-        bytes: &mut PartBytes,
     ) -> Result<(), AllocError>
-        ensures { OnOk result (bytes.new ≡ bytes.old ++ long_bytes local (entry_of self.now.resolved.now.layout.now self.now.file.now named index symbol.now)) }
+        ensures { OnOk result (self.new ≡ record self.old { bytes = self.old.bytes ++ taken_bytes (Long local) self.old.at (entry_of self.old.layout self.old.file named index symbol.now) }) }
     {
         if is_side(local, named, symbol) {
             let fields = fields_or_none(self.resolved, self.file, named, index, symbol);
-            add_index(fields.long, bytes)?;
+            add_index(fields.long, &mut self.bytes)?;
         }
         Ok(())
     }
 
     /// Adds what the part takes of it.
-    fn add(
-        &self,
-        named: Named,
-        index: usize,
-        symbol: &Symbol,
-        at: u64,
-        bytes: &mut PartBytes,
-    ) -> Result<(), AllocError>
-        ensures { OnOk result (bytes.new ≡ bytes.old ++ sink_bytes self.now.sink at (entry_of self.now.resolved.now.layout.now self.now.file.now named index symbol.now)) }
+    fn add(&mut self, named: Named, index: usize, symbol: &Symbol) -> Result<(), AllocError>
+        ensures { OnOk result (self.new ≡ record self.old { bytes = self.old.bytes ++ taken_bytes self.old.part self.old.at (entry_of self.old.layout self.old.file named index symbol.now) }) }
     {
-        match self.sink {
-            Sink::Side(local) => self.add_side(local, named, index, symbol, at, bytes),
-            Sink::Long(local) => self.add_long(local, named, index, symbol, bytes),
-            Sink::Strings => add_name(named, symbol, bytes),
+        match self.part {
+            TablePart::Side(local) => self.add_side(local, named, index, symbol),
+            TablePart::Long(local) => self.add_long(local, named, index, symbol),
+            TablePart::Strings => add_name(named, symbol, &mut self.bytes),
         }
-    }
-
-    /// Adds what the part takes of a symbol, or of the name of its slot or its stub, where that is asked for, and tells the
-    /// offset behind the name.
-    #[tactic(auto, using(crate::proofs::WalkLemmas::walks))]
-    fn add_asked(
-        &self,
-        asked: bool,
-        named: Named,
-        index: usize,
-        symbol: &Symbol,
-        at: u64,
-        bytes: &mut PartBytes,
-    ) -> Result<u64, AllocError>
-        ensures { IfOk result (λ next. Walks self.now.sink bytes.old at bytes.new next (map (named_entry self.now.resolved.now.layout.now self.now.file.now) (where_asked asked (item named index symbol.now)))) }
-    {
-        if asked {
-            self.add(named, index, symbol, at, bytes)?;
-            return Ok(behind_name(at, named, symbol));
-        }
-        Ok(at)
-    }
-
-    /// The same of the names of its slot and its stub.
-    #[tactic(auto, using(crate::proofs::WalkLemmas::walks_both))]
-    fn add_slots(
-        &self,
-        index: usize,
-        symbol: &Symbol,
-        at: u64,
-        bytes: &mut PartBytes,
-    ) -> Result<u64, AllocError>
-        ensures { IfOk result (λ next. Walks self.now.sink bytes.old at bytes.new next (map (named_entry self.now.resolved.now.layout.now self.now.file.now) (slot_items self.now.resolved.now.layout.now index symbol.now))) }
-    {
-        let slot = self.resolved.layout.names_slot(index, symbol);
-        let stub = self.resolved.layout.names_stub(index, symbol);
-        let behind = self.add_asked(slot, Named::Slot, index, symbol, at, bytes)?;
-        self.add_asked(stub, Named::Stub, index, symbol, behind, bytes)
-    }
-
-    /// The same, where the pass has them.
-    #[tactic(auto, using(crate::proofs::WalkLemmas::walks_none))]
-    fn add_slots_in(
-        &self,
-        pass: Pass,
-        index: usize,
-        symbol: &Symbol,
-        at: u64,
-        bytes: &mut PartBytes,
-    ) -> Result<u64, AllocError>
-        ensures { IfOk result (λ next. Walks self.now.sink bytes.old at bytes.new next (map (named_entry self.now.resolved.now.layout.now self.now.file.now) (if pass.slots then slot_items self.now.resolved.now.layout.now index symbol.now else []))) }
-    {
-        if pass.slots {
-            self.add_slots(index, symbol, at, bytes)
-        } else {
-            Ok(at)
-        }
-    }
-
-    /// The same of the symbol itself, where the pass has those.
-    #[tactic(auto, using(crate::proofs::WalkLemmas::walks_none))]
-    fn add_own_in(
-        &self,
-        pass: Pass,
-        index: usize,
-        symbol: &Symbol,
-        at: u64,
-        bytes: &mut PartBytes,
-    ) -> Result<u64, AllocError>
-        ensures { IfOk result (λ next. Walks self.now.sink bytes.old at bytes.new next (map (named_entry self.now.resolved.now.layout.now self.now.file.now) (if pass.own then own_item index symbol.now else []))) }
-    {
-        if pass.own {
-            self.add_asked(symbol.emit, Named::Itself, index, symbol, at, bytes)
-        } else {
-            Ok(at)
-        }
-    }
-
-    /// The same of all that the symbol gives in a pass.
-    #[tactic(auto, using(crate::proofs::WalkLemmas::walks_both))]
-    fn add_symbol(
-        &self,
-        pass: Pass,
-        index: usize,
-        symbol: &Symbol,
-        at: u64,
-        bytes: &mut PartBytes,
-    ) -> Result<u64, AllocError>
-        ensures { IfOk result (λ next. Walks self.now.sink bytes.old at bytes.new next (map (named_entry self.now.resolved.now.layout.now self.now.file.now) (symbol_items self.now.resolved.now.layout.now pass index symbol.now))) }
-    {
-        let behind = self.add_slots_in(pass, index, symbol, at, bytes)?;
-        self.add_own_in(pass, index, symbol, behind, bytes)
-    }
-
-    /// The same of all symbols of the file, in a pass.
-    #[tactic(auto, using(crate::proofs::WalkLemmas::walk_symbols))]
-    fn add_pass(&self, pass: Pass, at: u64, bytes: &mut PartBytes) -> Result<u64, AllocError>
-        ensures { IfOk result (λ next. Walks self.now.sink bytes.old at bytes.new next (map (named_entry self.now.resolved.now.layout.now self.now.file.now) (pass_items self.now.resolved.now.layout.now pass self.now.file.now.first_symbol (loaded_symbols self.now.resolved.now.layout.now self.now.file.now)))) }
-    {
-        let file = self.file;
-        let first = file.first_symbol.0;
-        let symbols = self.resolved.layout.loaded_symbols(file);
-        let mut at = at;
-        for (i, symbol) in symbols.iter().enumerate() {
-            at = self.add_symbol(pass, first + i, symbol, at, bytes)?;
-        }
-        Ok(at)
-    }
-
-    /// The same, pass by pass.
-    #[tactic(auto, using(crate::proofs::WalkLemmas::walk_passes))]
-    fn add_passes(&self, at: u64, bytes: &mut PartBytes) -> Result<u64, AllocError>
-        ensures { IfOk result (λ next. Walks self.now.sink bytes.old at bytes.new next (map (named_entry self.now.resolved.now.layout.now self.now.file.now) (items_of self.now.resolved.now.layout.now (passes self.now.file.now.role) self.now.file.now))) }
-    {
-        let mut at = at;
-        for pass in passes(self.file.role) {
-            at = self.add_pass(*pass, at, bytes)?;
-        }
-        Ok(at)
     }
 
     /// Adds what the part takes of the entry of zeros, whose name is empty.
-    fn add_zeros(&self, at: u64, bytes: &mut PartBytes) -> Result<(), AllocError>
-        ensures { OnOk result (bytes.new ≡ bytes.old ++ sink_bytes self.now.sink at null_entry) }
+    fn add_zeros(&mut self) -> Result<(), AllocError>
+        ensures { OnOk result (self.new ≡ with_entry null_entry self.old) }
     {
-        match self.sink {
-            Sink::Side(true) => add_entry(entry_at(at, no_fields()), bytes),
-            Sink::Long(true) => add_index(0, bytes),
-            Sink::Strings => bytes.extend(&[0]),
-            _ => Ok(()),
+        match self.part {
+            TablePart::Side(true) => add_entry(entry_at(self.at, no_fields()), &mut self.bytes)?,
+            TablePart::Long(true) => add_index(0, &mut self.bytes)?,
+            TablePart::Strings => self.bytes.extend(&[0])?,
+            _ => {}
         }
+        self.at = behind_text(self.at, &[]);
+        Ok(())
     }
 
     /// The same, where the file is the first one of an output with such a table.
     #[tactic(auto, using(crate::proofs::WalkLemmas::walks))]
-    fn add_null(&self, at: u64, bytes: &mut PartBytes) -> Result<u64, AllocError>
-        ensures { IfOk result (λ next. Walks self.now.sink bytes.old at bytes.new next (null_entries self.now.resolved.now.layout.now self.now.file.now)) }
+    fn add_null(&mut self) -> Result<(), AllocError>
+        ensures walks { OnOk result (Walks self.old.part self.old.bytes self.old.at self.new.bytes self.new.at (null_entries self.old.layout self.old.file)) }
+        ensures kept { OnOk result ((self.new.layout ≡ self.old.layout) × (self.new.file ≡ self.old.file) × (self.new.part ≡ self.old.part)) }
     {
-        if !(self.resolved.layout.has_table() && self.file.role.is_prelude()) {
-            return Ok(at);
-        }
-        self.add_zeros(at, bytes)?;
-        Ok(behind_text(at, &[]))
-    }
-
-    /// Adds what the part takes of all symbols of the file, where the output has such a table.
-    #[tactic(auto, using(crate::proofs::WalkLemmas::walks_none), unfolding(wild_needs::specs::TableSymbols::file_items))]
-    fn add_items(&self, at: u64, bytes: &mut PartBytes) -> Result<u64, AllocError>
-        ensures { IfOk result (λ next. Walks self.now.sink bytes.old at bytes.new next (map (named_entry self.now.resolved.now.layout.now self.now.file.now) (file_items self.now.resolved.now.layout.now self.now.file.now))) }
-    {
-        if self.resolved.layout.has_table() {
-            self.add_passes(at, bytes)
+        if self.resolved.layout.has_table() && self.file.role.is_prelude() {
+            self.add_zeros()
         } else {
-            Ok(at)
+            Ok(())
         }
     }
+}
 
-    /// Adds what the part takes of the file, whose names begin at an offset of the strings, and tells the offset behind them.
-    #[tactic(auto, using(crate::proofs::WalkLemmas::walks_on))]
-    fn add_file(&self, at: u64, bytes: &mut PartBytes) -> Result<u64, AllocError>
-        ensures { IfOk result (λ next. Walks self.now.sink bytes.old at bytes.new next (file_table self.now.resolved.now.layout.now self.now.file.now)) }
-    {
-        let behind = self.add_null(at, bytes)?;
-        self.add_items(behind, bytes)
-    }
+/// Bytes with what a part takes of a file behind them, whose names begin at an offset of the strings, and the offset behind these.
+fn with_file<A: Arch>(
+    resolved: &Resolved<A>,
+    part: TablePart,
+    file: &File,
+    at: u64,
+    bytes: PartBytes,
+) -> Result<(PartBytes, u64), AllocError>
+    ensures { IfOk result (λ r. Walks part bytes at r.0 r.1 (file_table resolved.now.layout.now file.now)) }
+{
+    let mut table = TableBytes {
+        resolved,
+        file,
+        part,
+        at,
+        bytes,
+    };
+    table.add_null()?;
+    give_table(resolved.layout, file, &mut table)?;
+    Ok(table.into_parts())
+}
+
+/// Adds what a part takes of a file, and tells the offset behind its names.
+fn add_file<A: Arch>(
+    alloc: Global,
+    resolved: &Resolved<A>,
+    part: TablePart,
+    file: &File,
+    at: u64,
+    bytes: &mut PartBytes,
+) -> Result<u64, AllocError>
+    ensures { IfOk result (λ next. Walks part bytes.old at bytes.new next (file_table resolved.now.layout.now file.now)) }
+{
+    let before = replace(bytes, PartBytes::empty(alloc));
+    let (written, next) = with_file(resolved, part, file, at, before)?;
+    *bytes = written;
+    Ok(next)
 }
 
 /// Adds the entries of a group among the local symbols, or among the others.
 #[tactic(auto, using(crate::proofs::WalkLemmas::walk_files))]
 pub(crate) fn add_group_table<A: Arch>(
+    alloc: Global,
     resolved: &Resolved<A>,
     local: bool,
     group: &Group,
@@ -365,12 +270,7 @@ pub(crate) fn add_group_table<A: Arch>(
 {
     let mut at = group.strtab_start;
     for file in group.files.as_slice() {
-        let walk = Walk {
-            resolved,
-            file,
-            sink: Sink::Side(local),
-        };
-        at = walk.add_file(at, bytes)?;
+        at = add_file(alloc, resolved, TablePart::Side(local), file, at, bytes)?;
     }
     Ok(())
 }
@@ -378,6 +278,7 @@ pub(crate) fn add_group_table<A: Arch>(
 /// Adds the longer section indexes of a file's local symbols, or of the others, where a part of that role has them.
 #[tactic(auto, using(crate::proofs::WalkLemmas::walk_indexes))]
 pub(crate) fn add_file_indexes<A: Arch>(
+    alloc: Global,
     resolved: &Resolved<A>,
     role: Role,
     local: bool,
@@ -387,12 +288,7 @@ pub(crate) fn add_file_indexes<A: Arch>(
     ensures { OnOk result (bytes.new ≡ bytes.old ++ indexes_of resolved.now.layout.now role local file.now) }
 {
     if has_long(resolved.layout, role) {
-        let walk = Walk {
-            resolved,
-            file,
-            sink: Sink::Long(local),
-        };
-        walk.add_file(0, bytes)?;
+        add_file(alloc, resolved, TablePart::Long(local), file, 0, bytes)?;
     }
     Ok(())
 }
@@ -400,18 +296,14 @@ pub(crate) fn add_file_indexes<A: Arch>(
 /// Adds the names of a file, each with a zero behind it.
 #[tactic(auto, using(crate::proofs::WalkLemmas::names_walked))]
 pub(crate) fn add_file_names<A: Arch>(
+    alloc: Global,
     resolved: &Resolved<A>,
     file: &File,
     bytes: &mut PartBytes,
 ) -> Result<(), AllocError>
     ensures { OnOk result (bytes.new ≡ bytes.old ++ string_bytes (table_strings resolved.now.layout.now file.now)) }
 {
-    let walk = Walk {
-        resolved,
-        file,
-        sink: Sink::Strings,
-    };
     names_are_strings();
-    walk.add_file(0, bytes)?;
+    add_file(alloc, resolved, TablePart::Strings, file, 0, bytes)?;
     Ok(())
 }

@@ -1,11 +1,11 @@
 //! What the groups give to the parts: the headers and the names of the sections, which stand once in an image and are the
 //! prelude's, what each file gives to the parts that a loader reads, and what its slots and stubs do.
-ghost use Rattle.std.specs.Prelude.{◌≡◌, ◌<◌, ℕ, [], ◌++◌, if◌then◌else◌, length, Some, IfOk, OnOk, slice_get, slice_index_or};
+ghost use Rattle.std.specs.Prelude.{◌≡◌, [], ◌++◌, if◌then◌else◌, length, IfOk, OnOk};
 ghost use Rattle.wild_needs.specs.Needs.{whole_of};
 ghost use Rattle.wild_types.specs.FileRoles.{is_prelude};
 ghost use Rattle.wild_layout.specs.Content.{whole_bytes, file_content, group_bytes, content};
 ghost use Rattle.wild_layout.specs.SlotBytes.{header_bytes};
-ghost use Rattle.wild_contents.specs.Given.{group_given, NeedsFit};
+ghost use Rattle.wild_contents.specs.Given.{NeedsFit};
 
 use crate::dynamic::add_group_dynamic;
 use crate::own::add_own;
@@ -22,7 +22,7 @@ use wild_headers::{
 use wild_needs::whole_of;
 use wild_relax::Arch;
 use wild_sections::Resolved;
-use wild_types::{File, Group, Part, Role};
+use wild_types::{File, Group, Role};
 
 /// Fills the room of what stands once in an image.
 fn fill_whole<A: Arch>(resolved: &Resolved<A>, role: Role, room: &mut [u8])
@@ -99,8 +99,8 @@ fn add_group<A: Arch>(
         Role::Dynsym => add_group_symbols(resolved, group, bytes),
         Role::GnuVersionR => add_needs(alloc, resolved.layout, group, bytes),
         Role::Dynamic => add_group_dynamic(alloc, resolved.layout, group, bytes),
-        Role::SymtabLocal => add_group_table(resolved, true, group, bytes),
-        Role::SymtabGlobal => add_group_table(resolved, false, group, bytes),
+        Role::SymtabLocal => add_group_table(alloc, resolved, true, group, bytes),
+        Role::SymtabGlobal => add_group_table(alloc, resolved, false, group, bytes),
         _ => add_block(resolved.layout, role, group, bytes),
     }
 }
@@ -120,38 +120,4 @@ pub fn add_content<A: Arch>(
         add_file_content(alloc, resolved, role, file, bytes)?;
     }
     add_group(alloc, resolved, role, group, bytes)
-}
-
-/// Adds what a group gives to part i.
-#[tactic(auto, using(crate::proofs::OwnLemmas::given_is))]
-fn add_given<A: Arch>(
-    alloc: Global,
-    resolved: &Resolved<A>,
-    group: &Group,
-    i: usize,
-    part: &Part,
-    bytes: &mut PartBytes,
-) -> Result<(), AllocError>
-    requires part { slice_get resolved.now.layout.now.parts i ≡ Some part.now }
-    requires few { NeedsFit group.now }
-    ensures { OnOk result (bytes.new ≡ bytes.old ++ group_given resolved.now.layout.now i group.now) }
-{
-    add_content(alloc, resolved, part.role, group, bytes)
-}
-
-/// Adds to each part what a group gives to it.
-pub fn add_tables<A: Arch>(
-    alloc: Global,
-    resolved: &Resolved<A>,
-    group: &Group,
-    parts: &mut [PartBytes],
-) -> Result<(), AllocError>
-    requires room { length parts.old ≡ length resolved.now.layout.now.parts }
-    requires few { NeedsFit group.now }
-    ensures { OnOk result ((k : ℕ) → k < length parts.old → slice_index_or parts.new k [] ≡ slice_index_or parts.old k [] ++ group_given resolved.now.layout.now k group.now) }
-{
-    for (i, part) in resolved.layout.parts.as_slice().iter().enumerate() {
-        add_given(alloc, resolved, group, i, part, &mut parts[i])?;
-    }
-    Ok(())
 }

@@ -1,19 +1,21 @@
 -- Laws of what a group owns of each part.
-use Rattle.std.proofs.Common.{◌≡◌, ℕ, ◌+◌, ◌<◌, inl, inr, true, List, [], ◌++◌, length, take, set, get_or, replicate, refl, sym, ap, ◌∙◌, arith, subst}
-use Rattle.std.specs.Prelude.{Result, Ok, Err, OnOk}
+use Rattle.std.proofs.Common.{◌≡◌, ℕ, ◌+◌, ◌<◌, inl, inr, true, List, [], ◌∷◌, ◌++◌, length, map, take, set, get_or, refl, sym, ap, ◌∙◌, arith, subst}
+use Rattle.std.specs.Prelude.{Option, Some, slice_get}
 use Rattle.std.specs.List.{flat_map}
+use Rattle.wild_words.proofs.Basics.{slice_get_inside}
 use Rattle.wild_words.proofs.ListLemmas.{flat_map-more}
-use Rattle.wild_types.specs.declared.fault.Error.{Error}
 use Rattle.std.proofs.lemmas.Bool.{cases_eq, eq-eqb, ne_eqb}
-use Rattle.std.proofs.lemmas.List.{append-nil, append_assoc, get_or-set_same, get_or-set_other, get_or_default, get_or-replicate}
+use Rattle.std.proofs.lemmas.List.{append-nil, append_assoc, get_or-set_same, get_or-set_other, get_or_default, get_or-map, map_more, length-map}
+use Rattle.std.proofs.lemmas.Option.{get_or_from_slice_get, slice_get_within}
 use Rattle.std.proofs.lemmas.List.FromFn.{fill_by_all}
+use Rattle.wild_types.specs.declared.part.Part.{Part}
 use Rattle.wild_types.specs.declared.input.InputSection.{InputSection}
 use Rattle.wild_types.specs.declared.file.Group.{Group}
 use Rattle.wild_types.specs.declared.layout.Layout.{Layout}
 use Rattle.wild_types.specs.Lookups.{is_filled}
 use Rattle.wild_layout.specs.Sites.{section_bytes}
-use Rattle.wild_image.specs.Pieces.{owned_in, group_owned, group_part, group_parts}
-use Rattle.wild_contents.specs.Given.{group_given}
+use Rattle.wild_layout.specs.Content.{content}
+use Rattle.wild_image.specs.Pieces.{role_of, group_given, owned_in, group_owned, group_part, group_parts}
 
 -- bytes behind those of one part
 pub part_extended : (l : Layout) (s : InputSection) (parts : List (List ℕ)) (d new : List ℕ) → is_filled l s ≡ true → s.part < length parts → new ≡ get_or parts s.part d ++ section_bytes l s
@@ -47,15 +49,25 @@ bytes_read {X} f xs i x base now next h read before step =
     ∙ append_assoc base (flat_map f (take i xs)) (f (get_or xs i x))
     ∙ ap (λ (ys : List ℕ). base ++ ys) (sym (flat_map-more f xs i x h))
 
--- all parts of a group, from nothing: first what it gives, then what its input sections own
-pub parts_are : (l : Layout) (g : Group) (base tables parts : List (List ℕ)) → base ≡ replicate (length l.parts) [] → length parts ≡ length l.parts → ((k : ℕ) → k < length l.parts → get_or tables k [] ≡ get_or base k [] ++ group_given l k g) → ((k : ℕ) → k < length l.parts → get_or parts k [] ≡ get_or tables k [] ++ group_owned l k g) → parts ≡ group_parts l g
-unfolding group_parts
-parts_are l g base tables parts none long given each =
-    fill_by_all (group_part l g) parts (length l.parts) [] long (λ k low.
-    each k low ∙ ap (λ (ys : List ℕ). ys ++ group_owned l k g) (given k low ∙ ap (λ (xs : List (List ℕ)). get_or xs k [] ++ group_given l k g) none ∙ ap (λ (ys : List ℕ). ys ++ group_given l k g) (get_or-replicate (length l.parts) k [] [] low)))
+-- one more item of a list that a loop makes
+pub map_read : {X Y : Type 0} (f : X → Y) (xs : List X) (i : ℕ) (x : X) (now next : List Y) → slice_get xs i ≡ Some x → now ≡ map f (take i xs) → next ≡ now ++ f x ∷ [] → next ≡ map f (take (i + 1) xs)
+map_read {X} {Y} f xs i x now next at before step =
+    let read = get_or_from_slice_get xs i x x at in
+    step ∙ ap (λ (ys : List Y). ys ++ f x ∷ []) before ∙ ap (λ (y : X). map f (take i xs) ++ f y ∷ []) (sym read) ∙ sym (map_more f xs i x (slice_get_within xs i x at))
 
--- the same, for what a call answered
-pub parts_are_ok : (result : Result (Unit {0}) Error) (l : Layout) (g : Group) (base tables parts : List (List ℕ)) → base ≡ replicate (length l.parts) [] → length parts ≡ length l.parts → length tables ≡ length l.parts → ((k : ℕ) → k < length l.parts → get_or tables k [] ≡ get_or base k [] ++ group_given l k g)
-    → OnOk result ((k : ℕ) → k < length tables → get_or parts k [] ≡ get_or tables k [] ++ group_owned l k g) → OnOk result (parts ≡ group_parts l g)
-parts_are_ok (Ok x) l g base tables parts none long room given each = parts_are l g base tables parts none long given (λ k low. each k (omega arith))
-parts_are_ok (Err x) l g base tables parts none long room given each = each
+-- what a group gives to part k
+table_at : (l : Layout) (g : Group) (k : ℕ) → k < length l.parts → get_or (map (λ (p : Part). content l p.role g) l.parts) k [] ≡ group_given l k g
+table_at l g k low =
+    let there = slice_get_inside l.parts k low in
+    let p = there.0 in
+    get_or-map (λ (q : Part). content l q.role g) l.parts k p [] low
+    ∙ ap (λ (q : Part). content l q.role g) (get_or_from_slice_get l.parts k p p there.1)
+    ∙ sym (ap (λ (o : Option Part). content l (role_of o) g) there.1)
+
+-- all parts of a group: first what it gives, then what its input sections own
+pub parts_are : (l : Layout) (g : Group) (tables parts : List (List ℕ)) → tables ≡ map (λ (p : Part). content l p.role g) l.parts → length parts ≡ length tables → ((k : ℕ) → k < length tables → get_or parts k [] ≡ get_or tables k [] ++ group_owned l k g) → parts ≡ group_parts l g
+unfolding group_parts
+parts_are l g tables parts given long each =
+    let count : length tables ≡ length l.parts = ap length given ∙ length-map l.parts (λ (p : Part). content l p.role g) in
+    fill_by_all (group_part l g) parts (length l.parts) [] (long ∙ count) (λ k low.
+    each k (omega (arith, low, count)) ∙ ap (λ (ys : List ℕ). ys ++ group_owned l k g) (ap (λ (xs : List (List ℕ)). get_or xs k []) given ∙ table_at l g k low))

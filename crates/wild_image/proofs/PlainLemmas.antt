@@ -1,77 +1,17 @@
--- Groups that write nothing but their input sections.
+-- Groups that need nothing but their input sections.
 use Rattle.std.proofs.Common.{◌≡◌, ℕ, suc, ◌+◌, ◌<◌, ◌==◌, inl, inr, Bool, true, false, List, [], ◌∷◌, ◌++◌, length, get_or, refl, sym, ap, ◌∙◌, arith, subst}
-use Rattle.std.specs.Prelude.{not, ◌&&◌, min, ◌-◌, ◌^◌, Some, slice_get}
-use Rattle.std.specs.List.{list_all, list_any}
-use Rattle.std.proofs.lemmas.Bool.{cases_Bool, cases_order, and_parts, eqb-true, eqb-false}
-use Rattle.std.proofs.lemmas.List.{append-nil, nil_from_length}
+use Rattle.std.specs.Prelude.{min, ◌-◌, ◌^◌, Some, slice_get}
+use Rattle.std.proofs.lemmas.Bool.{cases_order}
 use Rattle.std.proofs.lemmas.Option.{get_or_from_slice_get}
-use Rattle.wild_words.proofs.Basics.{flat_map-none}
-use Rattle.wild_types.specs.declared.file.File.{File}
 use Rattle.wild_types.specs.declared.file.Group.{Group}
 use Rattle.wild_types.specs.declared.layout.Layout.{Layout}
 use Rattle.wild_types.specs.declared.part.Part.{Part}
 use Rattle.wild_types.specs.declared.part.Role.{Role}
 use Rattle.wild_types.specs.declared.part.Role.TheVariants as role
 use Rattle.wild_types.specs.FilePlaces.{given}
-use Rattle.wild_needs.specs.Entries.{general_count}
-use Rattle.wild_types.specs.Kinds.{needs_dynamic}
-use Rattle.wild_types.specs.Lists.{total}
-use Rattle.wild_types.specs.Parts.{role_place}
-use Rattle.wild_needs.specs.Needs.{has_plain_role, is_plain, share, group_share, needs_of, needs}
-use Rattle.wild_types.specs.FileRoles.{is_prelude, is_epilogue}
-use Rattle.wild_types.specs.Lookups.{has_table}
-use Rattle.wild_types.specs.SymbolSlots.{is_without}
-use Rattle.wild_types.specs.FileSymbols.{own_symbols}
-use Rattle.wild_needs.specs.SlotShares.{block_share}
-use Rattle.wild_tables.specs.Dynamic.{dynamic_bytes}
-use Rattle.wild_layout.specs.Content.{dynamic_room, content}
+use Rattle.wild_needs.specs.Needs.{group_share, needs_of, needs}
 use Rattle.wild_layout.specs.Faults.{flat_map_from, has_spare, share_errors}
-use Rattle.wild_geometry.proofs.ContentLemmas.{length-content, length-dynamic_content, dynamic_share}
-use Rattle.wild_geometry.proofs.LastGroupLemmas.{has_last, some_if}
-use Rattle.wild_geometry.proofs.TableLemmas.{same_role}
-use Rattle.wild_image.specs.Pieces.{group_tables}
 use Rattle.wild_image.specs.Steps.{share_faults, part_faults}
-
--- neither their files nor their block of slots
-pub nothing_shared : (l : Layout) (g : Group) → ((q : Role) → total (share l q) g.files ≡ 0) → ((q : Role) → block_share l q g ≡ 0) → (q : Role) → group_share l q g ≡ 0
-nothing_shared l g files block q = let a = files q in let b = block q in omega (arith, a, b)
-
--- ---- what they give to the tables
-
--- none of their files is the last one
-not_last : (l : Layout) (files : List File) → list_all (is_plain l) files ≡ true → list_any (λ (f : File). is_epilogue f.role) files ≡ false
-not_last l [] h = refl
-not_last l (f ∷ files) h =
-    let p = and_parts (is_plain l f) (list_all (is_plain l) files) h in
-    let r = and_parts (has_plain_role l f) (list_all is_without (own_symbols l f) && general_count l f == 0) p.0 in
-    let q = and_parts (not (needs_dynamic l.kind) && not (has_table l) && not (is_prelude f.role)) (not (is_epilogue f.role)) r.0 in
-    let a = no (is_epilogue f.role) q.1 in
-    rw a (not_last l files p.1)
-  where
-    no : (b : Bool) → not b ≡ true → b ≡ false
-    no true h = cc
-    no false h = refl
-
-dynamic_plain : (l : Layout) (g : Group) → list_all (is_plain l) g.files ≡ true → group_share l role.Dynamic g ≡ 0 → length (content l role.Dynamic g) ≡ 0
-dynamic_plain l g plain none =
-    let last = not_last l g.files plain in
-    let size = length (dynamic_bytes l (dynamic_room l)) in
-    let a : some_if size (has_last g) ≡ 0 = rw last refl in
-    let b = dynamic_share l g in
-    let c = length-dynamic_content l g in
-    omega (arith, a, b, c, none)
-
-content_plain : (l : Layout) (r : Role) (g : Group) → list_all (is_plain l) g.files ≡ true → ((q : Role) → group_share l q g ≡ 0) → content l r g ≡ []
-content_plain l r g plain none =
-    elim (cases_Bool (role_place r == role_place role.Dynamic)) [
-      | inl t ↦
-          (let is = same_role r role.Dynamic (eqb-true _ _ t) in
-          ap (λ (q : Role). content l q g) is ∙ nil_from_length (content l role.Dynamic g) (dynamic_plain l g plain (none role.Dynamic)))
-      | inr f ↦ nil_from_length (content l r g) (length-content l r g (eqb-false _ _ f) ∙ none r)
-    ]
-
-pub tables_plain : (l : Layout) (g : Group) (bytes : List ℕ) → list_all (is_plain l) g.files ≡ true → ((q : Role) → group_share l q g ≡ 0) → bytes ≡ bytes ++ group_tables l g
-tables_plain l g bytes plain none = let e = flat_map-none (λ (p : Part). content l p.role g) l.parts (λ p. content_plain l p.role g plain none) in rw e (sym (append-nil bytes))
 
 -- ---- what they need
 

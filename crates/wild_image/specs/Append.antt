@@ -2,9 +2,15 @@
 --   BeginsWith own bytes   the bytes begin with its own
 --   GoesOn own from to     what stands behind its own
 --   HasStarts l j starts   what the groups before group j are given of each part
-use Rattle.std.specs.Prelude.{◌≡◌, ℕ, ◌<◌, List, ◌++◌, length, slice_index, slice_index_or}
+--   GivesItsShares l g     a group gives to each table what it is given of it
+use Rattle.std.specs.Prelude.{◌≡◌, ℕ, ◌<◌, List, ◌++◌, length, if◌then◌else◌, Some, slice_get, slice_index, slice_index_or}
 use Rattle.wild_types.specs.declared.part.Part.{Part}
+use Rattle.wild_types.specs.declared.part.Role.TheVariants.{Raw}
+use Rattle.wild_types.specs.declared.file.Group.{Group}
 use Rattle.wild_types.specs.declared.layout.Layout.{Layout}
+use Rattle.wild_types.specs.FilePlaces.{given}
+use Rattle.wild_types.specs.Parts.{has_role}
+use Rattle.wild_layout.specs.Content.{content}
 use Rattle.wild_layout.specs.Image.{given_before}
 use Rattle.wild_layout.specs.SectionPlaces.{PartLies}
 
@@ -24,3 +30,7 @@ pub record HasStarts (l : Layout) (j : ℕ) (starts : List ℕ) : Type 0 where
 -- each part, as its groups share it
 abbrev pub EachPartLies : Layout → Type 0
 EachPartLies l = (i : ℕ) (p : Part) → i < length l.parts → PartLies l i (slice_index_or l.parts i p)
+
+-- a group gives to each table what it is given of it
+abbrev pub GivesItsShares : Layout → Group → Type 0
+GivesItsShares l g = (i : ℕ) (p : Part) → slice_get l.parts i ≡ Some p → length (content l p.role g) ≡ (if has_role Raw p then 0 else given i g)

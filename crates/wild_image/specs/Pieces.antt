@@ -1,12 +1,15 @@
 -- What a group has of each part, and what it counts.
+--   group_given l part g  what a group gives to a part: the content of the part's role
 --   owned_in l part s     the bytes of an input section, where it owns some of that part
 --   group_owned l part g  those of a group's input sections, one behind the other in the order of processing
 --   group_parts l g       what the group gives to each part, with those behind it
 --   group_bytes l g       what the group gives to the tables, part by part, and behind that its input sections' bytes
 --   group_pairs l g       a pair of a section and a number for each input section that is read
-use Rattle.std.specs.Prelude.{ℕ, ◌==◌, ◌&&◌, if◌then◌else◌, List, [], ◌∷◌, ◌++◌, map, length}
+use Rattle.std.specs.Prelude.{ℕ, ◌==◌, ◌&&◌, if◌then◌else◌, List, [], ◌∷◌, ◌++◌, map, length, Option, None, Some, slice_get}
 use Rattle.std.specs.List.{flat_map, range_with_len}
 use Rattle.wild_types.specs.declared.part.Part.{Part}
+use Rattle.wild_types.specs.declared.part.Role.{Role}
+use Rattle.wild_types.specs.declared.part.Role.TheVariants as role
 use Rattle.wild_types.specs.declared.input.InputSection.{InputSection}
 use Rattle.wild_types.specs.declared.file.File.{File}
 use Rattle.wild_types.specs.declared.file.Group.{Group}
@@ -14,7 +17,15 @@ use Rattle.wild_types.specs.declared.layout.Layout.{Layout}
 use Rattle.wild_types.specs.Lookups.{section_of, is_filled, is_read}
 use Rattle.wild_layout.specs.Sites.{section_bytes}
 use Rattle.wild_layout.specs.Content.{content}
-use Rattle.wild_contents.specs.Given.{group_given}
+
+-- the role of a part; raw where there is none
+abbrev pub role_of : Option Part → Role
+role_of None = role.Raw
+role_of (Some p) = p.role
+
+-- what a group gives to a part
+abbrev pub group_given : Layout → ℕ → Group → List ℕ
+group_given l part g = content l (role_of (slice_get l.parts part)) g
 
 -- the bytes of an input section, where it owns some of that part
 abbrev pub owned_in : Layout → ℕ → InputSection → List ℕ

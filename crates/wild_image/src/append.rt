@@ -77,7 +77,7 @@ fn append_files<'b>(layout: &Layout, group: &Group, bytes: &'b [u8], out: &mut [
 }
 
 /// How many of its bytes a group gives to a part: none of a raw one.
-fn table_size(part: &Part, group: &Group, i: usize) -> u64
+pub(crate) fn table_size(part: &Part, group: &Group, i: usize) -> u64
     ensures { result ≡ (if has_role Raw part.now then 0 else given i group.now) }
 {
     match part.role {

@@ -1,23 +1,45 @@
 //! All bytes of a group in one buffer: what it gives to the tables, part by part, and behind that its input
 //! sections' bytes in the order of processing.
-ghost use Rattle.std.specs.Prelude.{◌≡◌, ◌+◌, ◌<◌, ◌^◌, ◌++◌, length, IfOk, OnOk, All};
+ghost use Rattle.std.specs.Prelude.{◌≡◌, ◌+◌, ◌<◌, ◌^◌, ◌++◌, true, false, length, replicate, Some, slice_get, IfOk, OnOk, All};
 ghost use Rattle.wild_types.specs.declared.file.File.{File};
 ghost use Rattle.wild_types.specs.declared.file.Group.{Group};
 ghost use Rattle.wild_types.specs.Faults.{Answers};
+ghost use Rattle.wild_types.specs.Lookups.{is_filled, is_read};
 ghost use Rattle.wild_layout.specs.Faults.{flat_map_from, section_errors, file_errors, group_errors};
+ghost use Rattle.wild_layout.specs.Content.{content};
 ghost use Rattle.wild_layout.specs.SectionPlaces.{SectionLies};
+ghost use Rattle.wild_image.specs.Append.{GivesItsShares};
 ghost use Rattle.wild_image.specs.Pieces.{section_owned, file_sections, group_sections, group_tables, group_bytes};
 ghost use Rattle.wild_contents.specs.Given.{NeedsFit};
 ghost use Rattle.wild_image.specs.Batches.{batch_errors, batch_bytes};
 
+use crate::append::table_size;
 use crate::batch::Batch;
-use crate::take::{check_data, zeros};
 use std::alloc::{AllocError, Global};
 use wild_contents::{PartBytes, add_content, check_entries, check_symbol_tables};
-use wild_needs::is_plain_group;
 use wild_relax::Arch;
-use wild_sections::{InputPlace, Resolved};
-use wild_types::{Error, File, Group, InputSection, Layout};
+use wild_sections::{InputPlace, Resolved, write_data};
+use wild_types::{Error, File, Group, InputSection, Layout, Part};
+
+/// Adds what a group gives to part i. Where it is given nothing, nothing is looked at.
+fn add_table<A: Arch>(
+    alloc: Global,
+    resolved: &Resolved<A>,
+    group: &Group,
+    i: usize,
+    part: &Part,
+    bytes: &mut PartBytes,
+) -> Result<(), AllocError>
+    requires part { slice_get resolved.now.layout.now.parts i ≡ Some part.now }
+    requires gives { GivesItsShares resolved.now.layout.now group.now }
+    requires few { NeedsFit group.now }
+    ensures { OnOk result (bytes.new ≡ bytes.old ++ content resolved.now.layout.now part.now.role group.now) }
+{
+    if table_size(part, group, i) == 0 {
+        return Ok(());
+    }
+    add_content(alloc, resolved, part.role, group, bytes)
+}
 
 /// Adds what a group gives to the tables, part by part.
 fn add_group_tables<A: Arch>(
@@ -26,16 +48,37 @@ fn add_group_tables<A: Arch>(
     group: &Group,
     bytes: &mut PartBytes,
 ) -> Result<(), AllocError>
-    requires { NeedsFit group.now }
+    requires gives { GivesItsShares resolved.now.layout.now group.now }
+    requires few { NeedsFit group.now }
     ensures { OnOk result (bytes.new ≡ bytes.old ++ group_tables resolved.now.layout.now group.now) }
 {
-    if is_plain_group(resolved.layout, group) {
-        return Ok(());
-    }
-    for part in resolved.layout.parts.as_slice() {
-        add_content(alloc, resolved, part.role, group, bytes)?;
+    for (i, part) in resolved.layout.parts.as_slice().iter().enumerate() {
+        add_table(alloc, resolved, group, i, part, bytes)?;
     }
     Ok(())
+}
+
+/// Answers the first fault of a section whose relocations are read and that owns no bytes.
+fn check_data<A: Arch>(
+    alloc: Global,
+    resolved: &Resolved<A>,
+    place: InputPlace,
+    section: &InputSection,
+) -> Result<(), Error>
+    requires read { is_read section.now ≡ true }
+    requires none { is_filled resolved.now.layout.now section.now ≡ false }
+    requires lies { SectionLies resolved.now.layout.now section.now }
+    ensures faults { Answers result (section_errors resolved.now.layout.now place.group place.file place.section section.now) }
+{
+    let mut room = [0; 0];
+    write_data(alloc, resolved, place, section, &mut room)
+}
+
+/// So many zeros.
+fn zeros(alloc: Global, count: usize) -> Result<Vec<u8>, AllocError>
+    ensures { IfOk result (λ v. v.items ≡ replicate count 0) }
+{
+    Ok(vec![in alloc; 0u8; count]?)
 }
 
 /// Adds the bytes of a section, or answers its first fault.
@@ -167,7 +210,7 @@ fn room_of_groups(layout: &Layout, groups: &[Group]) -> usize {
 
 /// Adds all bytes of a group, or answers its first fault.
 #[tactic(auto, unfolding(crate::specs::Pieces::group_bytes))]
-fn add_group<A: Arch>(
+pub(crate) fn add_group<A: Arch>(
     alloc: Global,
     resolved: &Resolved<A>,
     index: usize,
@@ -175,6 +218,7 @@ fn add_group<A: Arch>(
     bytes: &mut PartBytes,
 ) -> Result<(), Error>
     requires lies { All (λ (f : File). All (SectionLies resolved.now.layout.now) f.sections) group.now.files }
+    requires gives { GivesItsShares resolved.now.layout.now group.now }
     requires few { NeedsFit group.now }
     ensures faults { Answers result (group_errors resolved.now.layout.now index group.now) }
     ensures bytes { OnOk result (bytes.new ≡ bytes.old ++ group_bytes resolved.now.layout.now group.now) }
@@ -190,6 +234,7 @@ pub(crate) fn bytes_of_batch<A: Arch>(
     batch: &Batch,
 ) -> Result<PartBytes, Error>
     requires lies { All (λ (g : Group). All (λ (f : File). All (SectionLies resolved.now.layout.now) f.sections) g.files) batch.now.groups.now }
+    requires gives { All (GivesItsShares resolved.now.layout.now) batch.now.groups.now }
     requires few { All NeedsFit batch.now.groups.now }
     requires small { batch.now.first + length batch.now.groups.now < 2 ^ 64 }
     ensures faults { Answers result (batch_errors resolved.now.layout.now batch.now) }

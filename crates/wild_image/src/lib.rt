@@ -4,13 +4,13 @@
 mod append;
 mod batch;
 mod buffer;
+mod cut;
 mod job;
 mod output;
 mod padding;
 mod pairs;
 mod piece;
 mod shares;
-mod take;
 
 pub use output::{SizedOutput, write, write_gated};
 pub use padding::fill_padding_for_sections;

@@ -1,8 +1,9 @@
 -- Words of packed relocations, counted; no field is left to an entry where the section is not loaded, the type is none of
 -- those that entries fill, or the symbol is none that entries name.
-use Rattle.std.proofs.Common.{◌≡◌, ℕ, ◌+◌, ◌≤◌, Bool, true, false, List, [], ◌∷◌, length, drop, Option, Some, None, refl, ap, ◌∙◌, arith}
-use Rattle.std.specs.Prelude.{◌==◌, ◌&&◌, ◌||◌, not, nat_lt, if◌then◌else◌}
+use Rattle.std.proofs.Common.{◌≡◌, ℕ, ◌+◌, ◌≤◌, Bool, true, false, List, [], ◌∷◌, length, drop, Option, Some, None, refl, sym, ap, ◌∙◌, arith, subst}
+use Rattle.std.specs.Prelude.{◌==◌, ◌&&◌, ◌||◌, not}
 use Rattle.std.specs.List.{flat_map, filter, list_all}
+use Rattle.std.proofs.lemmas.Bool.{eq-eqb}
 use Rattle.std.proofs.lemmas.List.{drop_all}
 use Rattle.wild_records.specs.Abi.Relocation.{r_x86_64_64, r_x86_64_size32, r_x86_64_size64}
 use Rattle.wild_relr.specs.declared.run.Run.{Run}
@@ -20,13 +21,14 @@ use Rattle.wild_types.specs.declared.kind.Machine.{Machine}
 use Rattle.wild_types.specs.declared.kind.Machine.TheVariants as machine
 use Rattle.wild_types.specs.declared.layout.Layout.{Layout}
 use Rattle.wild_slot.specs.declared.treatment.Treatment.{Treatment}
-use Rattle.wild_slot.specs.declared.treatment.Treatment.TheVariants.{Value, BaseRelative, Symbolic, Indirect, Extent, Recompile}
+use Rattle.wild_slot.specs.declared.treatment.Treatment.TheVariants.{Symbolic, Indirect, Extent}
 use Rattle.wild_needs.specs.Entries.{is_left_to_entry, may_be_left, may_have_entry}
-use Rattle.wild_types.specs.Lookups.{allocated, writable, canonical}
+use Rattle.wild_types.specs.Lookups.{allocated, writable}
 use Rattle.wild_types.specs.Rows.{row_of}
 use Rattle.wild_types.specs.Flags.{has_flag, interposable, dynamic, ifunc}
 use Rattle.wild_types.specs.Kinds.{is_position_independent, is_shared_object}
-use Rattle.wild_slot.specs.Treatment.{flags_at, is_barred, is_narrow, moves, address_treatment, size_treatment, kind_treatment, row_treatment, treatment}
+use Rattle.wild_slot.specs.Treatment.{flags_at, row_treatment, treatment}
+use Rattle.wild_slot.proofs.TreatmentLemmas.{IsLeftBy, Says, row_said}
 
 -- a place more, in front
 pub counted_more : (r : Run) (p : ℕ) (ps : List ℕ) → counted r (p ∷ ps) ≡ new_words (choice r p) + counted (run_after (choice r p) r) ps
@@ -51,31 +53,25 @@ counted_end f r s xs i n end h =
 
 -- ---- fields that are left to entries
 
--- a symbol that is not there leaves none
-there_keeps : (there : Bool) (t : Treatment) (row : RelocationKindInfo) → is_left_to_entry t ≡ false → is_left_to_entry (if there then t else Value row) ≡ false
-there_keeps true t row h = h
-there_keeps false t row h = refl
+never : (b : Bool) → (b ≡ true → ⊥) → b ≡ false
+never true h = absurd (h refl)
+never false h = refl
 
-kind_keeps : (l : Layout) (s : InputSection) (o : Option ℕ) (row : RelocationKindInfo) (k : RelocationKind) → allocated s.flags ≡ false → is_left_to_entry (kind_treatment l s o row k) ≡ false
-kind_keeps l s None row kinds.Absolute h = refl
-kind_keeps l s (Some i) row kinds.Absolute h = there_keeps (nat_lt (canonical l i) (length l.symbols)) (address_treatment l s row i) row (rw h refl)
-kind_keeps l s None row kinds.Relative h = rw h refl
-kind_keeps l s (Some i) row kinds.Relative h = rw h refl
-kind_keeps l s None row kinds.TpOff h = refl
-kind_keeps l s (Some i) row kinds.TpOff h = rw h refl
-kind_keeps l s None row kinds.SymbolSize h = refl
-kind_keeps l s (Some i) row kinds.SymbolSize h = there_keeps (nat_lt (canonical l i) (length l.symbols)) (size_treatment l s row i) row (rw h refl)
-kind_keeps l s None row other h = refl
-kind_keeps l s (Some i) row other h = refl
+-- the section is allocated
+entry_room : (l : Layout) (s : InputSection) (symbol : Option ℕ) (row : RelocationKindInfo) (t : Treatment) → Says l s symbol row t → is_left_to_entry t ≡ true → allocated s.flags ≡ true
+entry_room l s symbol row (Symbolic i) h e = h.0.room
+entry_room l s symbol row (Indirect i) h e = h.0.room
+entry_room l s symbol row (Extent r i) h e = h.1.room
+entry_room l s symbol row other h e = cc
 
-row_keeps : (l : Layout) (s : InputSection) (o : Option ℕ) (row : Option RelocationKindInfo) → allocated s.flags ≡ false → is_left_to_entry (row_treatment l s o row) ≡ false
+row_keeps : (l : Layout) (s : InputSection) (n : ℕ) (o : Option ℕ) (row : Option RelocationKindInfo) → allocated s.flags ≡ false → is_left_to_entry (row_treatment l s n o row) ≡ false
 unfolding row_treatment
-row_keeps l s o None h = refl
-row_keeps l s o (Some row) h = kind_keeps l s o row row.kind h
+row_keeps l s n o None h = refl
+row_keeps l s n o (Some row) h = never _ (λ e. (let both : true ≡ false = sym (entry_room l s o row (row_treatment l s n o (Some row)) (row_said l s n o row) e) ∙ h in cc))
 
 keeps : (l : Layout) (s : InputSection) (r : InputRelocation) → allocated s.flags ≡ false → is_left_to_entry (treatment l s r) ≡ false
 unfolding treatment
-keeps l s r h = row_keeps l s r.symbol (row_of l.machine r.number) h
+keeps l s r h = row_keeps l s r.number r.symbol (row_of l.machine r.number) h
 
 -- in a section that is not loaded none is
 pub none_left : (l : Layout) (s : InputSection) (rs : List InputRelocation) → allocated s.flags ≡ false → length (filter (λ r. is_left_to_entry (treatment l s r)) rs) ≡ 0
@@ -93,55 +89,44 @@ has_number other width n = true
 each_has_number : list_all (λ (e : ℕ × RelocationKindInfo). has_number e.1.kind (field_width e.1) e.0) x86_64_rows ≡ true
 each_has_number = refl
 
--- an address
-address_stays : (refused loaded writes eight left fixed ifunc moved : Bool) (row : RelocationKindInfo) (i : ℕ) → (writes && eight) ≡ false → is_left_to_entry (if refused then Recompile else if loaded && writes && eight && left then Symbolic i else if loaded && writes && fixed && ifunc then (if eight then Indirect i else Recompile) else if loaded && moved then (if eight then BaseRelative else Recompile) else Value row) ≡ false
-address_stays true loaded writes eight left fixed ifunc moved row i h = refl
-address_stays false false writes eight left fixed ifunc moved row i h = refl
-address_stays false true false true left fixed ifunc true row i h = refl
-address_stays false true false false left fixed ifunc true row i h = refl
-address_stays false true false eight left fixed ifunc false row i h = refl
-address_stays false true true true left fixed ifunc moved row i h = cc
-address_stays false true true false left true true moved row i h = refl
-address_stays false true true false left true false true row i h = refl
-address_stays false true true false left true false false row i h = refl
-address_stays false true true false left false ifunc true row i h = refl
-address_stays false true true false left false ifunc false row i h = refl
+number_known : (eight same : Bool) → eight ≡ true → (not eight || same) ≡ true → same ≡ true
+number_known true same e h = h
+number_known false same e h = cc
 
-refused_stays : (refused : Bool) (row : RelocationKindInfo) → is_left_to_entry (if refused then Recompile else Value row) ≡ false
-refused_stays true row = refl
-refused_stays false row = refl
+writes_there : (a b c d : Bool) → (a && b && c && d) ≡ true → b ≡ true
+writes_there true true c d h = refl
+writes_there true false c d h = cc
+writes_there false b c d h = cc
 
-number_known : (writes size other eight same : Bool) → (not eight || same) ≡ true → (same && writes || (size || other)) ≡ false → (writes && eight) ≡ false
-number_known false size other eight same h m = refl
-number_known true size other false same h m = refl
-number_known true size other true false h m = cc
-number_known true size other true true h m = cc
+first_left : (a b c : Bool) → a ≡ true → b ≡ true → ((a && b) || c) ≡ true
+first_left true true c e h = refl
+first_left true false c e h = cc
+first_left false b c e h = cc
 
-kind_stays : (l : Layout) (s : InputSection) (o : Option ℕ) (row : RelocationKindInfo) (k : RelocationKind) (n : ℕ) → has_number k (field_width row) n ≡ true → may_be_left s n ≡ false → is_left_to_entry (kind_treatment l s o row k) ≡ false
-kind_stays l s None row kinds.Absolute n h m = refl
-kind_stays l s (Some i) row kinds.Absolute n h m =
-    let stays = number_known (writable s.flags) (n == r_x86_64_size32) (n == r_x86_64_size64) (field_width row == 8) (n == r_x86_64_64) h m in
-    there_keeps (nat_lt (canonical l i) (length l.symbols)) (address_treatment l s row i) row (address_stays (is_barred l s row i || is_narrow l s row) (allocated s.flags) (writable s.flags) (field_width row == 8) (interposable (flags_at l i)) (is_position_independent l.kind) (has_flag (flags_at l i) ifunc) (moves l i) row i stays)
-kind_stays l s None row kinds.Relative n h m = refused_stays (allocated s.flags && is_position_independent l.kind) row
-kind_stays l s (Some i) row kinds.Relative n h m = refused_stays (is_barred l s row i) row
-kind_stays l s None row kinds.TpOff n h m = refl
-kind_stays l s (Some i) row kinds.TpOff n h m = refused_stays (allocated s.flags && is_shared_object l.kind) row
-kind_stays l s None row kinds.SymbolSize n h m = refl
-kind_stays l s (Some i) row kinds.SymbolSize n h m = no_size (n == r_x86_64_64 && writable s.flags) (n == r_x86_64_size32 || n == r_x86_64_size64) h m
-  where
-    no_size : {X : Type 0} (a b : Bool) → b ≡ true → (a || b) ≡ false → X
-    no_size true true h m = cc
-    no_size false true h m = cc
-    no_size a false h m = cc
-kind_stays l s None row other n h m = refl
-kind_stays l s (Some i) row other n h m = refl
+last_left : (a b : Bool) → b ≡ true → (a || b) ≡ true
+last_left true b h = refl
+last_left false b h = h
 
-row_stays : (l : Layout) (s : InputSection) (o : Option ℕ) (n : ℕ) (row : Option RelocationKindInfo) → x86_64_row n ≡ row → may_be_left s n ≡ false → is_left_to_entry (row_treatment l s o row) ≡ false
+-- an address that an entry fills has that number, and stands where the program may write
+address_number : (s : InputSection) (symbol : Option ℕ) (row : RelocationKindInfo) (i n : ℕ) → has_number row.kind (field_width row) n ≡ true → IsLeftBy s symbol row i → writable s.flags ≡ true → may_be_left s n ≡ true
+address_number s symbol row i n h by writes =
+    let number : has_number kinds.Absolute (field_width row) n ≡ true = subst (λ (k : RelocationKind). has_number k (field_width row) n ≡ true) by.kind h in
+    first_left (n == r_x86_64_64) (writable s.flags) (n == r_x86_64_size32 || n == r_x86_64_size64) (number_known (field_width row == 8) (n == r_x86_64_64) (eq-eqb (field_width row) 8 by.width) number) writes
+
+entry_number : (l : Layout) (s : InputSection) (symbol : Option ℕ) (row : RelocationKindInfo) (n : ℕ) (t : Treatment) → has_number row.kind (field_width row) n ≡ true → Says l s symbol row t → is_left_to_entry t ≡ true → may_be_left s n ≡ true
+entry_number l s symbol row n (Symbolic i) h says e = address_number s symbol row i n h says.0 (writes_there (allocated s.flags) (writable s.flags) (field_width row == 8) (interposable (flags_at l i)) says.1)
+entry_number l s symbol row n (Indirect i) h says e = address_number s symbol row i n h says.0 (writes_there (allocated s.flags) (writable s.flags) (is_position_independent l.kind) (has_flag (flags_at l i) ifunc) says.1.chosen)
+entry_number l s symbol row n (Extent r i) h says e = last_left (n == r_x86_64_64 && writable s.flags) (n == r_x86_64_size32 || n == r_x86_64_size64) (subst (λ (k : RelocationKind). has_number k (field_width row) n ≡ true) says.1.kind h)
+entry_number l s symbol row n other h says e = cc
+
+row_stays : (l : Layout) (s : InputSection) (o : Option ℕ) (n : ℕ) (row : Option RelocationKindInfo) → x86_64_row n ≡ row → may_be_left s n ≡ false → is_left_to_entry (row_treatment l s n o row) ≡ false
 unfolding row_treatment x86_64_row
 row_stays l s o n None known m = refl
-row_stays l s o n (Some row) known m = kind_stays l s o row row.kind n (entry_passes (λ (k : ℕ) (r : RelocationKindInfo). has_number r.kind (field_width r) k) x86_64_rows each_has_number n row known) m
+row_stays l s o n (Some row) known m =
+    let number = entry_passes (λ (k : ℕ) (r : RelocationKindInfo). has_number r.kind (field_width r) k) x86_64_rows each_has_number n row known in
+    never _ (λ e. (let both : true ≡ false = sym (entry_number l s o row n (row_treatment l s n o (Some row)) number (row_said l s n o row) e) ∙ m in cc))
 
-machine_stays : (l : Layout) (s : InputSection) (o : Option ℕ) (k : Machine) (n : ℕ) → may_be_left s n ≡ false → is_left_to_entry (row_treatment l s o (row_of k n)) ≡ false
+machine_stays : (l : Layout) (s : InputSection) (o : Option ℕ) (k : Machine) (n : ℕ) → may_be_left s n ≡ false → is_left_to_entry (row_treatment l s n o (row_of k n)) ≡ false
 unfolding row_treatment row_of
 machine_stays l s o machine.AArch64 n m = refl
 machine_stays l s o machine.X86_64 n m = row_stays l s o n (x86_64_row n) refl m
@@ -153,49 +138,34 @@ others_stay l s r m = machine_stays l s r.symbol l.machine r.number m
 
 -- ---- symbols that entries do not name
 
-plain_address : (refused loaded writes eight left fixed ifunc moved : Bool) (row : RelocationKindInfo) (i : ℕ) → (left || ifunc) ≡ false → is_left_to_entry (if refused then Recompile else if loaded && writes && eight && left then Symbolic i else if loaded && writes && fixed && ifunc then (if eight then Indirect i else Recompile) else if loaded && moved then (if eight then BaseRelative else Recompile) else Value row) ≡ false
-plain_address true loaded writes eight left fixed ifunc moved row i h = refl
-plain_address false false writes eight left fixed ifunc moved row i h = refl
-plain_address false true writes eight true fixed ifunc moved row i h = cc
-plain_address false true writes eight false fixed true moved row i h = cc
-plain_address false true false true false fixed false true row i h = refl
-plain_address false true false false false fixed false true row i h = refl
-plain_address false true false true false fixed false false row i h = refl
-plain_address false true false false false fixed false false row i h = refl
-plain_address false true true true false true false true row i h = refl
-plain_address false true true true false false false true row i h = refl
-plain_address false true true false false true false true row i h = refl
-plain_address false true true false false false false true row i h = refl
-plain_address false true true true false true false false row i h = refl
-plain_address false true true true false false false false row i h = refl
-plain_address false true true false false true false false row i h = refl
-plain_address false true true false false false false false row i h = refl
+last_true : (a b c d : Bool) → (a && b && c && d) ≡ true → d ≡ true
+last_true true true true d h = h
+last_true true true false d h = cc
+last_true true false c d h = cc
+last_true false b c d h = cc
 
-plain_size : (loaded left other ifunc : Bool) (row : RelocationKindInfo) (i : ℕ) → (left || ifunc) ≡ false → is_left_to_entry (if loaded && left && other then Extent row i else Value row) ≡ false
-plain_size false left other ifunc row i h = refl
-plain_size true true other ifunc row i h = cc
-plain_size true false other ifunc row i h = refl
+second_true : (a b c : Bool) → (a && b && c) ≡ true → b ≡ true
+second_true true true c h = refl
+second_true true false c h = cc
+second_true false b c h = cc
 
-kind_plain : (l : Layout) (s : InputSection) (o : Option ℕ) (row : RelocationKindInfo) (k : RelocationKind) → may_have_entry l o ≡ false → is_left_to_entry (kind_treatment l s o row k) ≡ false
-kind_plain l s None row kinds.Absolute h = refl
-kind_plain l s (Some i) row kinds.Absolute h =
-    there_keeps (nat_lt (canonical l i) (length l.symbols)) (address_treatment l s row i) row (plain_address (is_barred l s row i || is_narrow l s row) (allocated s.flags) (writable s.flags) (field_width row == 8) (interposable (flags_at l i)) (is_position_independent l.kind) (has_flag (flags_at l i) ifunc) (moves l i) row i h)
-kind_plain l s None row kinds.Relative h = refused_stays (allocated s.flags && is_position_independent l.kind) row
-kind_plain l s (Some i) row kinds.Relative h = refused_stays (is_barred l s row i) row
-kind_plain l s None row kinds.TpOff h = refl
-kind_plain l s (Some i) row kinds.TpOff h = refused_stays (allocated s.flags && is_shared_object l.kind) row
-kind_plain l s None row kinds.SymbolSize h = refl
-kind_plain l s (Some i) row kinds.SymbolSize h =
-    there_keeps (nat_lt (canonical l i) (length l.symbols)) (size_treatment l s row i) row (plain_size (allocated s.flags) (interposable (flags_at l i)) (has_flag (flags_at l i) dynamic || is_shared_object l.kind) (has_flag (flags_at l i) ifunc) row i h)
-kind_plain l s None row other h = refl
-kind_plain l s (Some i) row other h = refl
+open_one : (a b : Bool) → a ≡ true → (a || b) ≡ true
+open_one true b h = refl
+open_one false b h = cc
 
-row_plain : (l : Layout) (s : InputSection) (o : Option ℕ) (row : Option RelocationKindInfo) → may_have_entry l o ≡ false → is_left_to_entry (row_treatment l s o row) ≡ false
+-- others may define the symbol, or a resolver chooses it
+entry_symbol : (l : Layout) (s : InputSection) (symbol : Option ℕ) (row : RelocationKindInfo) (t : Treatment) → Says l s symbol row t → is_left_to_entry t ≡ true → may_have_entry l symbol ≡ true
+entry_symbol l s symbol row (Symbolic i) h e = rw h.0.named (open_one (interposable (flags_at l i)) (has_flag (flags_at l i) ifunc) (last_true (allocated s.flags) (writable s.flags) (field_width row == 8) (interposable (flags_at l i)) h.1))
+entry_symbol l s symbol row (Indirect i) h e = rw h.0.named (last_left (interposable (flags_at l i)) (has_flag (flags_at l i) ifunc) (last_true (allocated s.flags) (writable s.flags) (is_position_independent l.kind) (has_flag (flags_at l i) ifunc) h.1.chosen))
+entry_symbol l s symbol row (Extent r i) h e = rw h.1.named (open_one (interposable (flags_at l i)) (has_flag (flags_at l i) ifunc) (second_true (allocated s.flags) (interposable (flags_at l i)) (has_flag (flags_at l i) dynamic || is_shared_object l.kind) h.1.sized))
+entry_symbol l s symbol row other h e = cc
+
+row_plain : (l : Layout) (s : InputSection) (n : ℕ) (o : Option ℕ) (row : Option RelocationKindInfo) → may_have_entry l o ≡ false → is_left_to_entry (row_treatment l s n o row) ≡ false
 unfolding row_treatment
-row_plain l s o None h = refl
-row_plain l s o (Some row) h = kind_plain l s o row row.kind h
+row_plain l s n o None h = refl
+row_plain l s n o (Some row) h = never _ (λ e. (let both : true ≡ false = sym (entry_symbol l s o row (row_treatment l s n o (Some row)) (row_said l s n o row) e) ∙ h in cc))
 
 -- the field of a relocation of another symbol is left to none
 pub plain_stay : (l : Layout) (s : InputSection) (r : InputRelocation) → may_have_entry l r.symbol ≡ false → is_left_to_entry (treatment l s r) ≡ false
 unfolding treatment
-plain_stay l s r h = row_plain l s r.symbol (row_of l.machine r.number) h
+plain_stay l s r h = row_plain l s r.number r.symbol (row_of l.machine r.number) h

@@ -1,5 +1,6 @@
 pub mod DynamicLemmas
 pub mod EntryLemmas
+pub mod RunLemmas
 pub mod ShareLemmas
 pub mod SlotBlockLemmas
 pub mod SlotShareLemmas

@@ -6,7 +6,9 @@ pub mod Entries
 pub mod EntryPoint
 pub mod HashShapes
 pub mod Needs
+pub mod Runs
 pub mod SlotShares
+pub mod TableCounts
 pub mod TableSymbols
 pub mod UndefinedCounts
 pub mod Versions

@@ -10,6 +10,7 @@ mod slot_shares;
 mod strings;
 mod table;
 mod versions;
+mod walk;
 
 pub use dynamic::{DynamicTag, dynamic_count, dynamic_entries_fit, dynamic_entry};
 pub use dynsyms::{dynsym_of, is_undefined_entry, table_length, undefined_count};
@@ -23,7 +24,11 @@ pub use strings::{
     behind_file, entry_name_count, entry_room, epilogue_string_bytes, lead_room, needed_count,
     string_start, strings_have_their_room, strings_room, text_room,
 };
-pub use table::{Named, Pass, global_count, has_long, is_local, local_count, passes, table_room};
+pub use table::{
+    Named, Pass, TablePart, global_count, has_long, is_local, is_on, local_count, passes, suffix,
+    table_room,
+};
 pub use versions::{
     definition_size, definitions_size, need_count, need_size, needs_of, version_room,
 };
+pub use walk::{TableSink, give_table};

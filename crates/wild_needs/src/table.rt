@@ -1,14 +1,13 @@
-//! Which symbols `.symtab` has (gABI, "Symbol Table").
-ghost use Rattle.std.specs.Prelude.{◌≡◌, ℕ, ◌+◌, ◌-◌, ◌^◌, ◌<◌, ◌≤◌, length, map, min};
-ghost use Rattle.wild_needs.specs.declared.table.Named.TheVariants.{Itself};
+//! Which symbols `.symtab` has, and how much its parts take of them (gABI, "Symbol Table").
+ghost use Rattle.std.specs.Prelude.{◌≡◌, ℕ, ◌-◌, ◌^◌, ◌≤◌, length, min};
 ghost use Rattle.wild_needs.specs.DynamicStrings.{text_room};
 ghost use Rattle.wild_types.specs.Lists.{total};
-ghost use Rattle.wild_types.specs.Lookups.{has_table};
-ghost use Rattle.wild_types.specs.SymbolSlots.{names_slot, names_stub};
-ghost use Rattle.wild_needs.specs.TableSymbols.{slot_items, symbol_items, pass_items, passes, file_items, item_name, is_local_symbol, is_local_by, item, is_on, side, local_count, global_count, table_strings, has_long};
-ghost use Rattle.wild_types.specs.FileSymbols.{loaded_symbols};
+ghost use Rattle.wild_needs.specs.TableCounts.{taken};
+ghost use Rattle.wild_needs.specs.TableSymbols.{passes, file_items, suffix, is_local_symbol, is_local_by, item, is_on, local_count, global_count, table_strings, has_long};
 
 use crate::strings::text_room;
+use crate::walk::{TableSink, give_table};
+use std::convert::Infallible;
 use wild_records::abi::section::SHN_LORESERVE;
 use wild_records::abi::symbol::STB_LOCAL;
 use wild_types::{File, FileRole, Layout, Role, Symbol, is_there};
@@ -32,9 +31,6 @@ pub struct Pass {
     /// The symbols themselves.
     pub own: bool,
 }
-
-/// How many bytes the names of slots and stubs have behind the symbol's: `$got`, `$plt`.
-const SUFFIX_SIZE: u64 = 4;
 
 /// The walks over the symbols of a file of that role, in their order.
 pub fn passes(role: FileRole) -> &'static [Pass]
@@ -84,128 +80,111 @@ pub fn is_local(named: Named, symbol: &Symbol) -> bool
     }
 }
 
-/// Whether the symbol's own entry stands among the local symbols, or among the others.
-fn is_on(local: bool, symbol: &Symbol) -> bool
-    ensures { (i : ℕ) → result ≡ is_on local (item Itself i symbol.now) }
+/// Whether that name of a symbol stands among the local symbols, or among the others.
+pub fn is_on(local: bool, named: Named, symbol: &Symbol) -> bool
+    ensures { (i : ℕ) → result ≡ is_on local (item named i symbol.now) }
 {
     if local {
-        is_local_symbol(symbol)
+        is_local(named, symbol)
     } else {
-        !is_local_symbol(symbol)
+        !is_local(named, symbol)
     }
 }
 
-/// How many names the slot and the stub of the symbol of that number have.
-fn slot_name_count(layout: &Layout, index: usize, symbol: &Symbol) -> usize
-    ensures count { result ≡ length (slot_items layout.now index symbol.now) }
-    ensures few { result ≤ 2 }
+/// What a name has behind the symbol's.
+pub fn suffix(named: Named) -> &'static [u8]
+    ensures is { result.now ≡ suffix named }
+    ensures few { length result.now ≤ 4 }
 {
-    usize::from(layout.names_slot(index, symbol)) + usize::from(layout.names_stub(index, symbol))
-}
-
-/// How many entries a symbol gives in a pass among the local symbols, or among the others.
-#[tactic(auto, using(crate::proofs::TableLemmas::length_of_symbol))]
-fn count_of(layout: &Layout, local: bool, pass: Pass, index: usize, symbol: &Symbol) -> usize
-    ensures count { result ≡ length (side local (symbol_items layout.now pass index symbol.now)) }
-    ensures few { result ≤ 3 }
-{
-    let slots = if pass.slots && local {
-        slot_name_count(layout, index, symbol)
-    } else {
-        0
-    };
-    slots + usize::from(pass.own && symbol.emit && is_on(local, symbol))
-}
-
-/// How many entries symbols give in a pass among the local symbols, or among the others, counted from number `first` on, at most
-/// 2^64 - 1.
-#[tactic(auto, using(crate::proofs::TableLemmas::pass_step))]
-fn pass_count(layout: &Layout, local: bool, pass: Pass, first: usize, symbols: &[Symbol]) -> u64
-    requires { first + length symbols.now < 2 ^ 64 }
-    ensures { result ≡ min (2 ^ 64 - 1) (length (side local (pass_items layout.now pass first symbols.now))) }
-{
-    let mut count: u64 = 0;
-    for (i, symbol) in symbols.iter().enumerate() {
-        count = count.saturating_add(count_of(layout, local, pass, first + i, symbol) as u64);
+    match named {
+        Named::Itself => b"",
+        Named::Slot => b"$got",
+        Named::Stub => b"$plt",
     }
-    count
 }
 
-/// How many entries a file gives among the local symbols, or among the others, at most 2^64 - 1.
-#[tactic(auto, unfolding(crate::specs::TableSymbols::file_items), using(crate::proofs::TableLemmas::length_side))]
-fn side_count(layout: &Layout, local: bool, file: &File) -> u64
-    ensures { result ≡ min (2 ^ 64 - 1) (length (side local (file_items layout.now file.now))) }
+/// A part of `.symtab`.
+#[derive(Clone, Copy)]
+pub enum TablePart {
+    /// The entries of the local symbols, or those of the others.
+    Side(bool),
+    /// The longer section indexes, of the same.
+    Long(bool),
+    /// The names.
+    Strings,
+}
+
+/// What a part takes of a symbol, at most 2^64 - 1.
+#[tactic(auto, using(crate::proofs::TableLemmas::name_room))]
+fn taken(part: TablePart, named: Named, symbol: &Symbol) -> u64
+    ensures { (i : ℕ) → result ≡ min (2 ^ 64 - 1) (taken part (item named i symbol.now)) }
 {
-    let mut count: u64 = 0;
-    if layout.has_table() {
-        let symbols = layout.loaded_symbols(file);
-        for pass in passes(file.role) {
-            let found = pass_count(layout, local, *pass, file.first_symbol.0, symbols);
-            count = count.saturating_add(found);
+    match part {
+        TablePart::Side(local) | TablePart::Long(local) => {
+            u64::from(is_on(local, named, symbol))
         }
+        TablePart::Strings => text_room(&symbol.name).saturating_add(suffix(named).len() as u64),
     }
-    count
+}
+
+/// How much a part takes of symbols, at most 2^64 - 1.
+#[derive(Drop)]
+struct Count {
+    part: TablePart,
+    sum: u64,
+}
+
+impl TableSink for Count {
+    ghost use Rattle.wild_needs.specs.TableCounts.{Counts};
+
+    type Error = Infallible;
+
+    ghost goes = { Counts };
+
+    ghost refuses = { λ a x e b. ⊥ };
+
+    #[inline(always)]
+    #[tactic(auto, using(crate::proofs::TableLemmas::counts))]
+    fn take(&mut self, named: Named, index: usize, symbol: &Symbol) -> Result<(), Infallible> {
+        self.sum = self.sum.saturating_add(taken(self.part, named, symbol));
+        Ok(())
+    }
+}
+
+/// How much a part takes of a file's symbols, at most 2^64 - 1.
+#[tactic(auto, using(crate::proofs::TableLemmas::counts))]
+fn count_of(layout: &Layout, part: TablePart, file: &File) -> u64
+    ensures { result ≡ min (2 ^ 64 - 1) (total (taken part) (file_items layout.now file.now)) }
+{
+    let mut count = Count { part, sum: 0 };
+    match give_table(layout, file, &mut count) {
+        Ok(()) => count.sum,
+        Err(never) => match never {},
+    }
 }
 
 /// How many entries a file has among the local symbols, at most 2^64 - 1.
+#[tactic(auto, using(crate::proofs::TableLemmas::sides_taken))]
 pub fn local_count(layout: &Layout, file: &File) -> u64
     ensures { result ≡ min (2 ^ 64 - 1) (local_count layout.now file.now) }
 {
     let null = u64::from(layout.has_table() && file.role.is_prelude());
-    null.saturating_add(side_count(layout, true, file))
+    null.saturating_add(count_of(layout, TablePart::Side(true), file))
 }
 
 /// How many entries a file has among the other symbols, at most 2^64 - 1.
+#[tactic(auto, using(crate::proofs::TableLemmas::sides_taken))]
 pub fn global_count(layout: &Layout, file: &File) -> u64
     ensures { result ≡ min (2 ^ 64 - 1) (global_count layout.now file.now) }
 {
-    side_count(layout, false, file)
-}
-
-/// How many bytes the strings of a symbol have in a pass, at most 2^64 - 1.
-#[tactic(auto, using(crate::proofs::TableLemmas::room_of_symbol))]
-fn names_room(layout: &Layout, pass: Pass, index: usize, symbol: &Symbol) -> u64
-    ensures { result ≡ min (2 ^ 64 - 1) (total text_room (map item_name (symbol_items layout.now pass index symbol.now))) }
-{
-    let own = text_room(&symbol.name);
-    let with_suffix = own.saturating_add(SUFFIX_SIZE);
-    let slots = if pass.slots {
-        with_suffix.saturating_mul(slot_name_count(layout, index, symbol) as u64)
-    } else {
-        0
-    };
-    if pass.own && symbol.emit {
-        slots.saturating_add(own)
-    } else {
-        slots
-    }
-}
-
-/// How many bytes the strings of symbols have in a pass, counted from number `first` on, at most 2^64 - 1.
-#[tactic(auto, using(crate::proofs::TableLemmas::pass_room_step))]
-fn pass_room(layout: &Layout, pass: Pass, first: usize, symbols: &[Symbol]) -> u64
-    requires { first + length symbols.now < 2 ^ 64 }
-    ensures { result ≡ min (2 ^ 64 - 1) (total text_room (map item_name (pass_items layout.now pass first symbols.now))) }
-{
-    let mut room: u64 = 0;
-    for (i, symbol) in symbols.iter().enumerate() {
-        room = room.saturating_add(names_room(layout, pass, first + i, symbol));
-    }
-    room
+    count_of(layout, TablePart::Side(false), file)
 }
 
 /// How many bytes the strings of a file have in the table of all symbols, at most 2^64 - 1.
-#[tactic(auto, unfolding(crate::specs::TableSymbols::table_strings, crate::specs::TableSymbols::file_items), using(crate::proofs::TableLemmas::room_joined))]
+#[tactic(auto, unfolding(crate::specs::TableSymbols::table_strings), using(crate::proofs::TableLemmas::strings_taken))]
 pub fn table_room(layout: &Layout, file: &File) -> u64
     ensures { result ≡ min (2 ^ 64 - 1) (total text_room (table_strings layout.now file.now)) }
 {
-    if !layout.has_table() {
-        return 0;
-    }
-    let symbols = layout.loaded_symbols(file);
-    let mut room = u64::from(file.role.is_prelude());
-    for pass in passes(file.role) {
-        room = room.saturating_add(pass_room(layout, *pass, file.first_symbol.0, symbols));
-    }
-    room
+    let null = u64::from(layout.has_table() && file.role.is_prelude());
+    null.saturating_add(count_of(layout, TablePart::Strings, file))
 }

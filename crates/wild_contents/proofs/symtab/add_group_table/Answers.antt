@@ -4,7 +4,7 @@ use Rattle.std.proofs.lemmas.List.{take_all}
 use Rattle.wild_types.specs.declared.file.File.{File}
 use Rattle.wild_symbols.specs.TableEntries.{file_table}
 use Rattle.wild_contents.specs.Walks.{Walks}
-use Rattle.wild_contents.specs.declared.symtab.Sink.TheVariants.{Side}
+use Rattle.wild_needs.specs.declared.table.TablePart.TheVariants.{Side}
 use Rattle.wild_contents.proofs.WalkLemmas.{table_walked}
 use Rattle.wild_contents.proofs.symtab.add_group_table.Goals as goal
 

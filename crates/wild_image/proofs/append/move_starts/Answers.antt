@@ -1,6 +1,6 @@
 use Rattle.std.proofs.Common.{◌<◌, length, arith}
 use Rattle.wild_words.proofs.ListLemmas.{ItemAt-within}
-use Rattle.wild_contents.proofs.ChangedLemmas.{changed_more}
+use Rattle.wild_image.proofs.ChangedLemmas.{changed_more}
 use Rattle.wild_image.proofs.TableLemmas.{start_fits, start_moved}
 use Rattle.wild_image.proofs.append.move_starts.Goals as goal
 

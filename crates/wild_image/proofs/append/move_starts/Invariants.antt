@@ -1,6 +1,6 @@
 use Rattle.std.proofs.Common.{◌+◌}
 use Rattle.wild_layout.specs.Image.{given_before}
-use Rattle.wild_contents.proofs.ChangedLemmas.{Changed}
+use Rattle.wild_image.proofs.ChangedLemmas.{Changed}
 use Rattle.wild_image.proofs.append.move_starts.Given as goal
 
 abbrev pub invariant-loop-i : goal.invariant-loop-i

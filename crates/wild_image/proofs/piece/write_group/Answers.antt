@@ -3,9 +3,11 @@ use Rattle.std.specs.Prelude.{slice_get, Some}
 use Rattle.std.proofs.lemmas.Option.{slice_get_read}
 use Rattle.wild_types.specs.declared.layout.Layout.{Layout}
 use Rattle.wild_layout.specs.Geometry.{IsLaidOut}
+use Rattle.wild_image.specs.Append.{GivesItsShares}
 use Rattle.wild_image.specs.Jobs.{GivesPiece}
 use Rattle.wild_image.proofs.GatherLemmas.{section_below}
 use Rattle.wild_image.proofs.OutputLemmas.{FieldsFit-IsLaidOut}
+use Rattle.wild_image.proofs.TableLemmas.{gives_its_shares}
 use Rattle.wild_words.proofs.ListLemmas.{holds_at}
 use Rattle.wild_contents.specs.Given.{NeedsFit}
 use Rattle.wild_image.proofs.JobLemmas.{piece_found}
@@ -21,6 +23,14 @@ piece_of-requires-clause-few g c =
     let all = needs_fit l (c.layouts_are_laid_out.ensures l c.requires.clauses c.requires.shares) in
     let found = c.index-as_slice-group.result in
     holds_at NeedsFit l.groups c.args.group found (slice_get_read l.groups (length l.groups) c.args.group found (search rules) c.requires.group (search rules)) all
+
+pub piece_of-requires-clause-gives : goal.piece_of-requires-clause-gives
+piece_of-requires-clause-gives g c =
+    let l = c.args.layout.now in
+    let found = c.index-as_slice-group.result in
+    let at : slice_get l.groups c.args.group ≡ Some found = slice_get_read l.groups (length l.groups) c.args.group found (search rules) c.requires.group (search rules) in
+    let gives = gives_its_shares l c.args.group found (c.layouts_are_laid_out.ensures l c.requires.clauses c.requires.shares).parts at in
+    subst (λ (m : Layout). GivesItsShares m found) (sym c.in_ok-resolved.ensures) gives
 
 pub piece_of-requires-clause-sections : goal.piece_of-requires-clause-sections
 piece_of-requires-clause-sections g c = λ part.

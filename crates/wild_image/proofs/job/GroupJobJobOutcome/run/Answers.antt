@@ -5,8 +5,10 @@ use Rattle.wild_types.specs.declared.file.File.{File}
 use Rattle.wild_types.specs.declared.file.Group.{Group}
 use Rattle.wild_layout.specs.SectionPlaces.{SectionLies}
 use Rattle.wild_contents.specs.Given.{NeedsFit}
+use Rattle.wild_image.specs.Append.{GivesItsShares}
 use Rattle.wild_contents.proofs.VersionLemmas.{needs_fit}
 use Rattle.wild_image.proofs.JobLemmas.{gives_found, pairs_found, few_groups}
+use Rattle.wild_image.proofs.TableLemmas.{all_give}
 use Rattle.wild_image.proofs.BatchLemmas.{cut_of, batches_within, batches_end, holds_within}
 use Rattle.wild_image.proofs.job.GroupJobJobOutcome.run.Goals as goal
 
@@ -18,6 +20,15 @@ bytes_of_batch-bytes-requires-clause-lies g c =
     let at : slice_get bs c.args.group ≡ Some found = slice_get-get_or bs c.args.group c.index-self-group.result c.requires in
     let within = batches_within l.groups l.groups 0 bs c.args.group found refl (cut_of l.groups bs c.args.self.now.batches_are) at in
     holds_within (λ (g : Group). All (λ (f : File). All (SectionLies l) f.sections) g.files) l.groups found within (c.layouts_are_laid_out.ensures l c.args.self.now.clauses c.args.self.now.shares).inputs
+
+pub bytes_of_batch-bytes-requires-clause-gives : goal.bytes_of_batch-bytes-requires-clause-gives
+bytes_of_batch-bytes-requires-clause-gives g c =
+    let l = c.args.self.now.resolved.layout.now in
+    let bs = c.args.self.now.batches.now in
+    let found = get_or bs c.args.group c.index-self-group.result in
+    let at : slice_get bs c.args.group ≡ Some found = slice_get-get_or bs c.args.group c.index-self-group.result c.requires in
+    let within = batches_within l.groups l.groups 0 bs c.args.group found refl (cut_of l.groups bs c.args.self.now.batches_are) at in
+    holds_within (GivesItsShares l) l.groups found within (all_give l (c.layouts_are_laid_out.ensures l c.args.self.now.clauses c.args.self.now.shares).parts)
 
 pub bytes_of_batch-bytes-requires-clause-few : goal.bytes_of_batch-bytes-requires-clause-few
 bytes_of_batch-bytes-requires-clause-few g c =

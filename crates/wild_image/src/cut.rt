@@ -1,0 +1,133 @@
+//! All bytes of a group, cut into what it has of each part.
+ghost use Rattle.std.specs.Prelude.{◌≡◌, ◌<◌, ◌++◌, ℕ, [], length, map, All, IfOk, OnOk, slice_index_or};
+ghost use Rattle.wild_types.specs.declared.file.File.{File};
+ghost use Rattle.wild_types.specs.declared.part.Part.{Part};
+ghost use Rattle.wild_layout.specs.Content.{content};
+ghost use Rattle.wild_layout.specs.SectionPlaces.{SectionLies};
+ghost use Rattle.wild_image.specs.Append.{BeginsWith, GoesOn, GivesItsShares};
+ghost use Rattle.wild_image.specs.Pieces.{section_owned, file_sections, group_tables, group_sections, group_bytes, owned_in, file_owned, group_owned, group_parts};
+
+use crate::append::table_size;
+use std::alloc::{AllocError, Global};
+use wild_contents::PartBytes;
+use wild_types::{File, Group, InputSection, Layout};
+use wild_words::Items;
+
+/// What a group gives to each part, the first of these bytes; tells what stands behind that.
+fn cut_tables<'b>(
+    alloc: Global,
+    layout: &Layout,
+    group: &Group,
+    bytes: &'b [u8],
+    parts: &mut Vec<PartBytes>,
+) -> Result<&'b [u8], AllocError>
+    requires gives { GivesItsShares layout.now group.now }
+    requires own { BeginsWith (group_tables layout.now group.now) bytes.now }
+    requires none { parts.old.items ≡ [] }
+    ensures parts { OnOk result (parts.new.items ≡ map (λ (p : Part). content layout.now p.role group.now) layout.now.parts) }
+    ensures rest { IfOk result (λ r. GoesOn (group_tables layout.now group.now) bytes.now r.now) }
+{
+    let mut rest = bytes;
+    for (i, part) in layout.parts.as_slice().iter().enumerate() {
+        let (own, behind) = rest.split_at(table_size(part, group, i) as usize);
+        let mut piece = PartBytes::with_room(alloc, own.len())?;
+        piece.extend(own)?;
+        parts.push(piece)?;
+        rest = behind;
+    }
+    Ok(rest)
+}
+
+/// Adds the bytes of a section, the first of these, to those of its part, and tells what stands behind them.
+fn cut_section<'b>(
+    layout: &Layout,
+    section: &InputSection,
+    bytes: &'b [u8],
+    parts: &mut [PartBytes],
+) -> Result<&'b [u8], AllocError>
+    requires lies { SectionLies layout.now section.now }
+    requires room { length parts.old ≡ length layout.now.parts }
+    requires own { BeginsWith (section_owned layout.now section.now) bytes.now }
+    ensures owned { OnOk result ((k : ℕ) → k < length parts.old → slice_index_or parts.new k [] ≡ slice_index_or parts.old k [] ++ owned_in layout.now k section.now) }
+    ensures rest { IfOk result (λ r. GoesOn (section_owned layout.now section.now) bytes.now r.now) }
+{
+    if !section.is_filled(layout) {
+        return Ok(bytes);
+    }
+    let (own, rest) = bytes.split_at(section.size as usize);
+    parts[section.part].extend(own)?;
+    Ok(rest)
+}
+
+/// Adds the bytes of the sections of a file to those of their parts, and tells what stands behind them.
+fn cut_file<'b>(
+    layout: &Layout,
+    file: &File,
+    bytes: &'b [u8],
+    parts: &mut [PartBytes],
+) -> Result<&'b [u8], AllocError>
+    requires lies { All (SectionLies layout.now) file.now.sections }
+    requires room { length parts.old ≡ length layout.now.parts }
+    requires own { BeginsWith (file_sections layout.now file.now) bytes.now }
+    ensures owned { OnOk result ((k : ℕ) → k < length parts.old → slice_index_or parts.new k [] ≡ slice_index_or parts.old k [] ++ file_owned layout.now k file.now) }
+    ensures rest { IfOk result (λ r. GoesOn (file_sections layout.now file.now) bytes.now r.now) }
+{
+    let mut rest = bytes;
+    for section in file.sections.as_slice() {
+        rest = cut_section(layout, section, rest, parts)?;
+    }
+    Ok(rest)
+}
+
+/// Adds the bytes of a group's input sections to those of their parts.
+fn cut_files(
+    layout: &Layout,
+    group: &Group,
+    bytes: &[u8],
+    parts: &mut [PartBytes],
+) -> Result<(), AllocError>
+    requires lies { All (λ (f : File). All (SectionLies layout.now) f.sections) group.now.files }
+    requires room { length parts.old ≡ length layout.now.parts }
+    requires own { BeginsWith (group_sections layout.now group.now) bytes.now }
+    ensures owned { OnOk result ((k : ℕ) → k < length parts.old → slice_index_or parts.new k [] ≡ slice_index_or parts.old k [] ++ group_owned layout.now k group.now) }
+{
+    let mut rest = bytes;
+    for file in group.files.as_slice() {
+        rest = cut_file(layout, file, rest, parts)?;
+    }
+    Ok(())
+}
+
+/// Adds the bytes of a group's input sections to what it gives to each part: then that is all that it has.
+fn fill_parts(
+    layout: &Layout,
+    group: &Group,
+    bytes: &[u8],
+    parts: &mut [PartBytes],
+) -> Result<(), AllocError>
+    requires lies { All (λ (f : File). All (SectionLies layout.now) f.sections) group.now.files }
+    requires tables { parts.old ≡ map (λ (p : Part). content layout.now p.role group.now) layout.now.parts }
+    requires own { BeginsWith (group_sections layout.now group.now) bytes.now }
+    ensures { OnOk result (parts.new ≡ group_parts layout.now group.now) }
+{
+    cut_files(layout, group, bytes, parts)?;
+    Ok(())
+}
+
+/// All bytes of a group, cut into what it has of each part.
+pub(crate) fn cut_group(
+    alloc: Global,
+    layout: &Layout,
+    group: &Group,
+    bytes: &[u8],
+) -> Result<Items<PartBytes>, AllocError>
+    requires inputs { All (λ (f : File). All (SectionLies layout.now) f.sections) group.now.files }
+    requires gives { GivesItsShares layout.now group.now }
+    requires bytes { bytes.now ≡ group_bytes layout.now group.now }
+    ensures { IfOk result (λ v. v ≡ group_parts layout.now group.now) }
+{
+    let mut parts = Vec::with_capacity(alloc, layout.parts.len())?;
+    let rest = cut_tables(alloc, layout, group, bytes, &mut parts)?;
+    fill_parts(layout, group, rest, &mut parts)?;
+    Ok(Items::from_vec(parts))
+}

@@ -1,0 +1,151 @@
+//! The one walk over the symbols that `.symtab` has of a file (gABI, "Symbol Table"). What is done with each is a sink's: it is counted,
+//! written, or looked at for what it lacks.
+ghost use Rattle.std.specs.Prelude.{[], if◌then◌else◌};
+ghost use Rattle.wild_types.specs.FileSymbols.{loaded_symbols};
+ghost use Rattle.wild_needs.specs.TableSymbols.{item, where_asked, slot_items, own_item, symbol_items, pass_items, file_items};
+ghost use Rattle.wild_needs.specs.Runs.{Ran};
+
+use crate::table::{Named, Pass, passes};
+use wild_types::{File, Layout, Symbol};
+
+/// Where the symbols of `.symtab` go, one after another.
+pub trait TableSink {
+    ghost use Rattle.std.specs.Prelude.{[], ◌∷◌};
+    ghost use Rattle.wild_needs.specs.TableSymbols.{TableSymbol, item};
+    ghost use Rattle.wild_needs.specs.Runs.{Ran};
+
+    /// Why a symbol is refused.
+    type Error: Drop;
+
+    /// From one state to another, with the symbol taken.
+    ghost goes: { Self → TableSymbol → Self → Type 0 };
+
+    /// In a state the symbol is refused for a reason, which leaves a state.
+    ghost refuses: { Self → TableSymbol → Self.Error → Self → Type 0 };
+
+    /// Takes the symbol of that number, or the name of its slot or its stub, or refuses it.
+    fn take(&mut self, named: Named, index: usize, symbol: &Symbol) -> Result<(), Self::Error>
+        ensures { Ran goes refuses self.old (item named index symbol.now ∷ []) result self.new };
+}
+
+/// Gives a symbol, or the name of its slot or its stub, where that is asked for.
+#[inline(always)]
+#[tactic(auto, using(crate::proofs::RunLemmas::runs))]
+fn give_asked<S: TableSink>(
+    asked: bool,
+    named: Named,
+    index: usize,
+    symbol: &Symbol,
+    sink: &mut S,
+) -> Result<(), S::Error>
+    ensures { Ran S.goes S.refuses sink.old (where_asked asked (item named index symbol.now)) result sink.new }
+{
+    if asked {
+        sink.take(named, index, symbol)
+    } else {
+        Ok(())
+    }
+}
+
+/// Gives the names of a symbol's slot and its stub.
+#[inline(always)]
+#[tactic(auto, using(crate::proofs::RunLemmas::runs))]
+fn give_slots<S: TableSink>(
+    layout: &Layout,
+    index: usize,
+    symbol: &Symbol,
+    sink: &mut S,
+) -> Result<(), S::Error>
+    ensures { Ran S.goes S.refuses sink.old (slot_items layout.now index symbol.now) result sink.new }
+{
+    let slot = layout.names_slot(index, symbol);
+    let stub = layout.names_stub(index, symbol);
+    give_asked(slot, Named::Slot, index, symbol, sink)?;
+    give_asked(stub, Named::Stub, index, symbol, sink)
+}
+
+/// The same, where the pass has them.
+#[inline(always)]
+#[tactic(auto, using(crate::proofs::RunLemmas::runs))]
+fn give_slots_in<S: TableSink>(
+    layout: &Layout,
+    pass: Pass,
+    index: usize,
+    symbol: &Symbol,
+    sink: &mut S,
+) -> Result<(), S::Error>
+    ensures { Ran S.goes S.refuses sink.old (if pass.slots then slot_items layout.now index symbol.now else []) result sink.new }
+{
+    if pass.slots {
+        give_slots(layout, index, symbol, sink)
+    } else {
+        Ok(())
+    }
+}
+
+/// Gives the symbol itself, where the pass has those.
+#[inline(always)]
+#[tactic(auto, using(crate::proofs::RunLemmas::runs))]
+fn give_own_in<S: TableSink>(
+    pass: Pass,
+    index: usize,
+    symbol: &Symbol,
+    sink: &mut S,
+) -> Result<(), S::Error>
+    ensures { Ran S.goes S.refuses sink.old (if pass.own then own_item index symbol.now else []) result sink.new }
+{
+    if pass.own {
+        give_asked(symbol.emit, Named::Itself, index, symbol, sink)
+    } else {
+        Ok(())
+    }
+}
+
+/// Gives all that a symbol has in a pass.
+#[inline(always)]
+#[tactic(auto, using(crate::proofs::RunLemmas::runs))]
+fn give_symbol<S: TableSink>(
+    layout: &Layout,
+    pass: Pass,
+    index: usize,
+    symbol: &Symbol,
+    sink: &mut S,
+) -> Result<(), S::Error>
+    ensures { Ran S.goes S.refuses sink.old (symbol_items layout.now pass index symbol.now) result sink.new }
+{
+    give_slots_in(layout, pass, index, symbol, sink)?;
+    give_own_in(pass, index, symbol, sink)
+}
+
+/// Gives all that the symbols of a file have in a pass.
+#[inline(always)]
+#[tactic(auto, using(crate::proofs::RunLemmas::symbol_loops))]
+fn give_pass<S: TableSink>(
+    layout: &Layout,
+    pass: Pass,
+    file: &File,
+    sink: &mut S,
+) -> Result<(), S::Error>
+    ensures { Ran S.goes S.refuses sink.old (pass_items layout.now pass file.now.first_symbol (loaded_symbols layout.now file.now)) result sink.new }
+{
+    let first = file.first_symbol.0;
+    let symbols = layout.loaded_symbols(file);
+    for (i, symbol) in symbols.iter().enumerate() {
+        give_symbol(layout, pass, first + i, symbol, sink)?;
+    }
+    Ok(())
+}
+
+/// Gives the symbols that `.symtab` has of a file, until one is refused.
+#[inline]
+#[tactic(auto, using(crate::proofs::RunLemmas::runs), unfolding(crate::specs::TableSymbols::file_items))]
+pub fn give_table<S: TableSink>(layout: &Layout, file: &File, sink: &mut S) -> Result<(), S::Error>
+    ensures { Ran S.goes S.refuses sink.old (file_items layout.now file.now) result sink.new }
+{
+    if layout.has_table() {
+        for pass in passes(file.role) {
+            give_pass(layout, *pass, file, sink)?;
+        }
+    }
+    Ok(())
+}
