@@ -14,14 +14,20 @@ use Rattle.wild_reloc.specs.FormulaX86_64.{x86_64_formula}
 use Rattle.wild_loader.specs.declared.memory.Memory.{Memory}
 use Rattle.wild_loader.specs.declared.world.World.{World}
 use Rattle.wild_loader.specs.Memory.{byte_in}
-use Rattle.wild_meaning.specs.Instruction.{Operand, Number, Word, Pair, Deed, Call, Jump, Action, Effect, effect, with_value, as_value}
-use Rattle.wild_meaning.specs.InstructionX86_64.{meaning_x86_64}
+use Rattle.wild_loader.specs.declared.instruction.Operand.{Operand}
+use Rattle.wild_loader.specs.declared.instruction.Operand.TheVariants.{Number, Word, Pair}
+use Rattle.wild_loader.specs.declared.instruction.Action.{Action}
+use Rattle.wild_loader.specs.declared.instruction.Deed.{Deed}
+use Rattle.wild_loader.specs.declared.instruction.Deed.TheVariants.{Call, Jump}
+use Rattle.wild_loader.specs.Instruction.{Effect, effect, with_value, as_value}
+use Rattle.wild_loader.specs.InstructionX86_64.{meaning_x86_64}
 use Rattle.wild_meaning.specs.Sequence.{Instruction, size_of, IsOwnByte}
 use Rattle.wild_meaning.specs.Item.{Item, item_of, place_at}
 use Rattle.wild_meaning.specs.Field.{form_width, IsInputByte}
 use Rattle.wild_meaning.specs.Template.{effect_of, reads, reads_alone, IsInstruction, IsTemplate, DoesWith, DoesDemanded}
-use Rattle.wild_meaning.specs.Reference.{IsAsked, ReferenceHolds, LinkedHolds, ItemHolds}
+use Rattle.wild_meaning.specs.Reference.{ReferenceHolds, LinkedHolds, ItemHolds}
 use Rattle.wild_laws.specs.FirstTypes.{branch_types, HasFirstTypes, InNoField as NoField, IsBranch}
+use Rattle.wild_laws.specs.FirstPath.{EachIsAsked}
 use Rattle.wild_laws.proofs.Sequences.{direct}
 use Rattle.wild_laws.proofs.FirstCode.{first_byte, in_no_field, IsFirst, of_section, IsCallOrJump, template_direct, is_branch, old_length, DoesDeed, HasOpcode, call_does, jump_does, call_opcode, jump_opcode}
 
@@ -170,7 +176,7 @@ plain_keeps l w m s r (inr q) = inr (record { start = q.start; instruction = q.i
 linked_keeps : (l : Layout) (w : World) (m : Memory) (s : InputSection) (r : InputRelocation) → LinkedHolds l w m (item_of s) r → KeepsBytes l w m s r ⊎ HasCode l w m s r
 linked_keeps l w m s r (inl p) = inl p.kept
 linked_keeps l w m s r (inr (inl q)) = inr (record { start = q.start; instruction = q.instruction; first = r; template = inl (q.template, refl); value = q.does.value; code = q.does.code })
-linked_keeps l w m s r (inr (inr q)) = inr (record { start = q.start; instruction = q.instruction; first = q.first; template = inr (record { second = r; sequence = q.sequence; one = inr refl }); value = q.does.value; code = q.does.code })
+linked_keeps l w m s r (inr (inr q)) = inr (record { start = q.start; instruction = q.instruction; first = q.first; template = inr (record { rest = q.rest; sequence = q.sequence; one = (let lt = q.one.1 in (suc q.one.0, omega (arith, lt), q.one.2)) }); value = q.does.value; code = q.does.code })
 
 -- ---- other bytes
 
@@ -199,15 +205,16 @@ at_start : (k start size offset : ℕ) → size ≡ 5 → offset ≡ start + 1 �
 at_start k start size offset five e from to (inl a) = omega (arith, e, from, a)
 at_start k start size offset five e from to (inr b) = absurd (omega (arith, five, e, to, b))
 
-pub other_byte : (l : Layout) (w : World) (m : Memory) (s : InputSection) (k : ℕ) → l.machine ≡ machine.X86_64 → HasFirstTypes s → w.base ≡ 0 → ((r : InputRelocation) → IsAsked l w (item_of s) r) → ItemHolds l w m (item_of s) → k < length s.bytes → NoField s k → IsInputByte w m (item_of s) k
-other_byte l w m s k x types base asked holds lt out =
+pub other_byte : (l : Layout) (w : World) (m : Memory) (s : InputSection) (k : ℕ) → l.machine ≡ machine.X86_64 → HasFirstTypes s → EachIsAsked l w s → ItemHolds l w m (item_of s) → k < length s.bytes → NoField s k → IsInputByte w m (item_of s) k
+other_byte l w m s k x types asked holds lt out =
     stable (byte_in m (place_at w (item_of s) k)) (slice_index s.bytes k) (λ never. holds.others k lt (record {
       fields = in_no_field l s k x out;
       templates = λ r start o one ref t. beside k start (size_of o) (λ from to.
           (let f = of_section l s r types ref in
+          let told = asked r (record { listed = ref.listed; refers = ref.refers }) in
           let d = template_direct l s r start o one x f t in
           let code = short l s r start o x f d.stands d.which in
           let here : start ≡ k = at_start k start (size_of o) r.offset code.five code.behind from to (outside s r k out ref.listed code.number) in
           let done : IsInputByte w m (item_of s) start → ⊥ = λ h. never (subst (λ (j : ℕ). IsInputByte w m (item_of s) j) here h) in
-          done (opcode_there l w m s r start o one x f t (plain_keeps l w m s r (holds.references r ref (asked r) (λ alone. done (opcode_there l w m s r start o one x f t (linked_keeps l w m s r (holds.linked r ref alone base)))))))));
+          done (opcode_there l w m s r start o one x f t (plain_keeps l w m s r (holds.references r ref told.0 (λ alone. done (opcode_there l w m s r start o one x f t (linked_keeps l w m s r (holds.linked r ref alone (told.1 alone))))))))));
     }))

@@ -10,13 +10,19 @@ use Rattle.wild_types.specs.declared.input.InputRelocation.{InputRelocation}
 use Rattle.wild_types.specs.declared.input.InputSection.{InputSection}
 use Rattle.wild_types.specs.declared.layout.Layout.{Layout}
 use Rattle.wild_reloc.specs.Formula.{Formula}
-use Rattle.wild_meaning.specs.Instruction.{Cell, Is, Deed, Call, Jump, Template, Action, Reader, Effect, exact, field, stands, fills, meaning, effect, with_value, as_value}
-use Rattle.wild_meaning.specs.ThreadCodeX86_64.{nop_byte}
-use Rattle.wild_meaning.specs.InstructionX86_64.{templates_x86_64, meaning_x86_64, effect_x86_64}
+use Rattle.wild_loader.specs.declared.instruction.Cell.{Cell}
+use Rattle.wild_loader.specs.declared.instruction.Cell.TheVariants.{Is}
+use Rattle.wild_loader.specs.declared.instruction.Action.{Action}
+use Rattle.wild_loader.specs.declared.instruction.Deed.{Deed}
+use Rattle.wild_loader.specs.declared.instruction.Deed.TheVariants.{Call, Jump}
+use Rattle.wild_loader.specs.Instruction.{Template, Reader, Effect, exact, field, stands, fills, first_meaning, effect, with_value, as_value}
+use Rattle.wild_loader.specs.ThreadCodeX86_64.{nop_byte}
+use Rattle.wild_loader.specs.InstructionX86_64.{templates_x86_64, meaning_x86_64, effect_x86_64}
 use Rattle.wild_meaning.specs.Sequence.{Instruction, size_of, IsOwnByte, instructions_of}
 use Rattle.wild_meaning.specs.Item.{item_of, IsReference}
 use Rattle.wild_meaning.specs.Field.{formula_of, form_width, InNoField}
 use Rattle.wild_meaning.specs.Template.{IsInstruction, IsSequence, IsTemplate}
+use Rattle.wild_meaning.proofs.PairLemmas.{IsGetterCall, IsDouble, as_its_call, as_double}
 use Rattle.wild_meaning.proofs.BitLemmas.{code_bit, bit_code}
 use Rattle.wild_laws.specs.FirstTypes.{address_types, first_types, branch_types, thread_types, HasFirstTypes, InNoField as NoField, IsBranch, IsThreadCall}
 use Rattle.wild_laws.proofs.Sequences.{is_first, is_thread, thread, one_of, asking, calling, direct, by_instruction}
@@ -47,11 +53,11 @@ no_field l s k x out = subst (λ (mach : Machine). All (λ (r : InputRelocation)
 -- ---- the template of a reference
 
 -- the first of a sequence asks for a thread address
-first_asks : (l : Layout) (s : InputSection) (a b : InputRelocation) (start : ℕ) (o : Instruction) → l.machine ≡ machine.X86_64 → IsSequence l (item_of s) a b start o → is_thread a.number ≡ true
+first_asks : (l : Layout) (s : InputSection) (a b : InputRelocation) (start : ℕ) (o : Instruction) → l.machine ≡ machine.X86_64 → IsGetterCall l (item_of s) a b start o → is_thread a.number ≡ true
 first_asks l s a b start o x q = asking o q.partner a.number (subst (λ (m : Machine). Contains (instructions_of m) o) x q.stands.known) q.calls q.stands.number
 
 -- the second of a sequence is the call of the function that gives thread addresses, behind one that asks for such an address
-second_calls : (l : Layout) (s : InputSection) (a b : InputRelocation) (start : ℕ) (o : Instruction) → l.machine ≡ machine.X86_64 → IsSequence l (item_of s) a b start o → IsThreadCall l s b
+second_calls : (l : Layout) (s : InputSection) (a b : InputRelocation) (start : ℕ) (o : Instruction) → l.machine ≡ machine.X86_64 → IsGetterCall l (item_of s) a b start o → IsThreadCall l s b
 second_calls l s a b start o x q = record {
   number = calling o q.partner b.number (subst (λ (m : Machine). Contains (instructions_of m) o) x q.stands.known) q.calls q.has.number;
   getter = q.has.getter;
@@ -62,8 +68,8 @@ second_calls l s a b start o x q = record {
   asks = one_of thread_types a.number (first_asks l s a b start o x q);
 }
 
-pub no_sequence : (l : Layout) (s : InputSection) (a b : InputRelocation) (start : ℕ) (o : Instruction) → l.machine ≡ machine.X86_64 → (IsThreadCall l s b → ⊥) → IsSequence l (item_of s) a b start o → ⊥
-no_sequence l s a b start o x free q = free (second_calls l s a b start o x q)
+pub no_sequence : (l : Layout) (s : InputSection) (a b : InputRelocation) (rest : List InputRelocation) (start : ℕ) (o : Instruction) → l.machine ≡ machine.X86_64 → (IsThreadCall l s b → ⊥) → IsSequence l (item_of s) a rest start o → Contains rest b → ⊥
+no_sequence l s a b rest start o x free q c = free (second_calls l s a b start o x (as_its_call l (item_of s) a b rest start o x q c))
 
 -- the reference is one of an instruction alone
 pub record IsAlone (l : Layout) (s : InputSection) (r : InputRelocation) : Type 0 where
@@ -72,13 +78,16 @@ pub record IsAlone (l : Layout) (s : InputSection) (r : InputRelocation) : Type 
 
 pub record IsSingleOf (l : Layout) (s : InputSection) (r : InputRelocation) (start : ℕ) (o : Instruction) (one : InputRelocation) : Type 0 where
   pub same : one ≡ r
-  pub single : o.partner ≡ None
+  pub single : o.partners ≡ []
   pub stands : IsInstruction l (item_of s) r start o
 
 pub single_of : (l : Layout) (s : InputSection) (r : InputRelocation) (start : ℕ) (o : Instruction) (one : InputRelocation) → l.machine ≡ machine.X86_64 → IsAlone l s r → IsTemplate l (item_of s) r start o one → IsSingleOf l s r start o one
 single_of l s r start o one x alone (inl t) = record { same = t.1; single = t.0.single; stands = t.0.stands }
-single_of l s r start o one x alone (inr t) = absurd (by_place t.one)
+single_of l s r start o one x alone (inr part) = absurd (by_place t.one)
   where
+    t : IsDouble l (item_of s) r start o one
+    t = as_double l (item_of s) r start o one x part
+
     by_place : (r ≡ one) ⊎ (r ≡ t.second) → ⊥
     by_place (inl e) =
         let asks : is_thread r.number ≡ true = subst (λ (q : InputRelocation). is_thread q.number ≡ true) (sym e) (first_asks l s one t.second start o x t.sequence) in
@@ -199,7 +208,7 @@ branch_template l s r k opcode deed known x f branch = inl (
     single = refl;
     stands = branch_instruction l s r k opcode deed known x branch;
     longest = λ from p none t. short p (which_of l s r from p x f t);
-    free = λ a from p q. no_sequence l s a r from p x f.alone.free q;
+    free = λ a rest from p q c. no_sequence l s a r rest from p x f.alone.free q c;
   },
   refl,
 )
@@ -251,7 +260,7 @@ third true true c h x y = h
 third true false c h x y = cc
 third false b c h x y = cc
 
-here : (is : Deed → Bool) (opcode a : ℕ) (bs : List ℕ) (t : Template) (act : Action) → length bs ≡ 5 → fits_deed is opcode a bs t ≡ true → fills nop_byte t bs ≡ true → Some (t.action a bs) ≡ Some act → is act.deed ≡ true → get_or bs 0 0 ≡ opcode
+here : (is : Deed → Bool) (opcode a : ℕ) (bs : List ℕ) (t : Template) (act : Action) → length bs ≡ 5 → fits_deed is opcode a bs t ≡ true → fills (nop_byte ∷ []) t bs ≡ true → Some (t.action a bs) ≡ Some act → is act.deed ≡ true → get_or bs 0 0 ≡ opcode
 here is opcode a bs t act n fit full same does =
     let one : t.action a bs ≡ act = cc in
     let parts = and_parts _ _ full in
@@ -260,11 +269,11 @@ here is opcode a bs t act n fit full same does =
     let deed : is (t.action a bs).deed ≡ true = subst (λ (x : Action). is x.deed ≡ true) (sym one) does in
     begins opcode t.cells bs (third _ _ _ fit size deed) stood.0
 
-opcode_of : (is : Deed → Bool) (opcode a : ℕ) (bs : List ℕ) (ts : List Template) (act : Action) → length bs ≡ 5 → list_all (fits_deed is opcode a bs) ts ≡ true → meaning nop_byte ts a bs ≡ Some act → is act.deed ≡ true → get_or bs 0 0 ≡ opcode
+opcode_of : (is : Deed → Bool) (opcode a : ℕ) (bs : List ℕ) (ts : List Template) (act : Action) → length bs ≡ 5 → list_all (fits_deed is opcode a bs) ts ≡ true → first_meaning (nop_byte ∷ []) ts a bs ≡ Some act → is act.deed ≡ true → get_or bs 0 0 ≡ opcode
 opcode_of is opcode a bs [] act n fit h does = cc
 opcode_of is opcode a bs (t ∷ ts) act n fit h does =
     let both = and_parts (fits_deed is opcode a bs t) (list_all (fits_deed is opcode a bs) ts) fit in
-    elim (cases_Bool (fills nop_byte t bs)) [
+    elim (cases_Bool (fills (nop_byte ∷ []) t bs)) [
       | inl y ↦ here is opcode a bs t act n both.0 y (rw y at h) does
       | inr f ↦ opcode_of is opcode a bs ts act n both.1 (rw f at h) does
     ]
@@ -277,7 +286,7 @@ deed_of read act e h = by_value act e (read act.operand) h
     by_value act e None h = cc
     by_value act e (Some v) h = let same : with_value act v ≡ e = cc in ap (λ (x : Effect). x.deed) (sym same)
 
-by_action : (is : Deed → Bool) (opcode : ℕ) (read : Reader) (a : ℕ) (bs : List ℕ) (e : Effect) → length bs ≡ 5 → list_all (fits_deed is opcode a bs) templates_x86_64 ≡ true → (o : Option Action) → meaning nop_byte templates_x86_64 a bs ≡ o → option_and_then (effect read) o ≡ Some e → is e.deed ≡ true → get_or bs 0 0 ≡ opcode
+by_action : (is : Deed → Bool) (opcode : ℕ) (read : Reader) (a : ℕ) (bs : List ℕ) (e : Effect) → length bs ≡ 5 → list_all (fits_deed is opcode a bs) templates_x86_64 ≡ true → (o : Option Action) → first_meaning (nop_byte ∷ []) templates_x86_64 a bs ≡ o → option_and_then (effect read) o ≡ Some e → is e.deed ≡ true → get_or bs 0 0 ≡ opcode
 by_action is opcode read a bs e n fit None m h does = cc
 by_action is opcode read a bs e n fit (Some act) m h does = opcode_of is opcode a bs templates_x86_64 act n fit m (subst (λ (d : Deed). is d ≡ true) (deed_of read act e h) does)
 
@@ -297,8 +306,8 @@ jumps_fit a bs = refl
 
 pub call_opcode : HasOpcode 0xe8 Call
 unfolding meaning_x86_64
-call_opcode = λ read a bs e n h deed. by_action is_call 0xe8 read a bs e n (calls_fit a bs) (meaning nop_byte templates_x86_64 a bs) refl h (ap is_call deed)
+call_opcode = λ read a bs e n h deed. by_action is_call 0xe8 read a bs e n (calls_fit a bs) (first_meaning (nop_byte ∷ []) templates_x86_64 a bs) refl h (ap is_call deed)
 
 pub jump_opcode : HasOpcode 0xe9 Jump
 unfolding meaning_x86_64
-jump_opcode = λ read a bs e n h deed. by_action is_jump 0xe9 read a bs e n (jumps_fit a bs) (meaning nop_byte templates_x86_64 a bs) refl h (ap is_jump deed)
+jump_opcode = λ read a bs e n h deed. by_action is_jump 0xe9 read a bs e n (jumps_fit a bs) (first_meaning (nop_byte ∷ []) templates_x86_64 a bs) refl h (ap is_jump deed)

@@ -11,7 +11,7 @@ use Rattle.wild_reloc.specs.Formula.{SymbolAddress, Distance, Formula, formula, 
 use Rattle.wild_reloc.specs.FormulaX86_64.{x86_64_formula}
 use Rattle.wild_loader.specs.declared.memory.Memory.{Memory}
 use Rattle.wild_loader.specs.declared.world.World.{World}
-use Rattle.wild_meaning.specs.Instruction.{Call, Jump}
+use Rattle.wild_loader.specs.declared.instruction.Deed.TheVariants.{Call, Jump}
 use Rattle.wild_meaning.specs.Sequence.{Instruction}
 use Rattle.wild_meaning.specs.Item.{item_of}
 use Rattle.wild_meaning.specs.Field.{formula_of}
@@ -86,7 +86,7 @@ writes_address n c = at n c.0 c.1 c.2
 plain_formula : (l : Layout) (w : World) (m : Memory) (s : InputSection) (r : InputRelocation) → l.machine ≡ machine.X86_64 → WritesAddress r.number → HoldsPlain l w m (item_of s) r → HasFormula l w m s r
 plain_formula l w m s r x known p =
     let formula = subst (λ (k : Machine). formula_of k r.number ≡ Some p.formula) x p.known in
-    let d = demanded_of l w m s r p.formula.value p.value (known p.formula formula) p.gives in
+    let d = demanded_of l w m s r p.formula.value p.value x (known p.formula formula) p.gives in
     record {
       formula = p.formula;
       known = formula;

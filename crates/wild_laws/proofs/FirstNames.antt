@@ -1,6 +1,7 @@
 -- What a formula gives of an address or a distance, and what that is of a symbol that no resolver answers for.
 use Rattle.std.proofs.Common.{◌≡◌, ℕ, ◌+◌, ◌-◌, ◌%◌, ◌^◌, ◌⊎◌, inl, inr, Bool, false, sym, ap, ◌∙◌}
 use Rattle.std.specs.Prelude.{Some}
+use Rattle.wild_types.specs.declared.kind.Machine.TheVariants as machine
 use Rattle.wild_types.specs.declared.input.InputRelocation.{InputRelocation}
 use Rattle.wild_types.specs.declared.input.InputSection.{InputSection}
 use Rattle.wild_types.specs.declared.layout.Layout.{Layout}
@@ -12,7 +13,7 @@ use Rattle.wild_meaning.specs.Value.{HasFlag, HasOwnValue, IsReplaceable, moved}
 use Rattle.wild_meaning.specs.Denotes.{HasStub, Denotes}
 use Rattle.wild_meaning.specs.Item.{item_of, place_at}
 use Rattle.wild_meaning.specs.Formula.{IsTarget, Gives}
-use Rattle.wild_meaning.proofs.SymbolLemmas.{target_reached}
+use Rattle.wild_meaning.proofs.SymbolLemmas.{target_reached, referent_stands}
 use Rattle.wild_laws.specs.FirstPath.{IsAddress, Demands, NamesAreAddresses}
 use Rattle.wild_laws.proofs.Symbols.{own_value, plain_value}
 
@@ -51,10 +52,10 @@ pub record IsDemanded (l : Layout) (w : World) (m : Memory) (s : InputSection) (
 abbrev pub IsKnown : Value → Type 0
 IsKnown v = (v ≡ SymbolAddress) ⊎ (v ≡ Distance)
 
-pub demanded_of : (l : Layout) (w : World) (m : Memory) (s : InputSection) (r : InputRelocation) (v : Value) (x : ℕ) → IsKnown v → Gives v l w m (item_of s) r x → IsDemanded l w m s r v x
-demanded_of l w m s r SymbolAddress x k g = record { target = g.symbol; denoted = g.denoted; demanded = g.sum }
-demanded_of l w m s r Distance x k g = record { target = g.1.symbol; denoted = g.1.denoted; demanded = g.2 ∙ ap (λ (n : ℕ). (n + (2 ^ 64 - place_at w (item_of s) r.offset)) % 2 ^ 64) g.1.sum }
-demanded_of l w m s r other x k g =
+pub demanded_of : (l : Layout) (w : World) (m : Memory) (s : InputSection) (r : InputRelocation) (v : Value) (x : ℕ) → l.machine ≡ machine.X86_64 → IsKnown v → Gives v l w m (item_of s) r x → IsDemanded l w m s r v x
+demanded_of l w m s r SymbolAddress x x86 k g = record { target = g.symbol; denoted = referent_stands SymbolAddress l w m (item_of s) r g.symbol x86 g.denoted; demanded = g.sum }
+demanded_of l w m s r Distance x x86 k g = record { target = g.1.symbol; denoted = referent_stands Distance l w m (item_of s) r g.1.symbol x86 g.1.denoted; demanded = g.2 ∙ ap (λ (n : ℕ). (n + (2 ^ 64 - place_at w (item_of s) r.offset)) % 2 ^ 64) g.1.sum }
+demanded_of l w m s r other x x86 k g =
     elim k [
       | inl e ↦ cc
       | inr e ↦ cc

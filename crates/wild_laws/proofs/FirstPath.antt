@@ -8,17 +8,24 @@ use Rattle.wild_types.specs.declared.kind.Machine.TheVariants as machine
 use Rattle.wild_types.specs.declared.input.InputRelocation.{InputRelocation}
 use Rattle.wild_types.specs.declared.input.InputSection.{InputSection}
 use Rattle.wild_types.specs.declared.layout.Layout.{Layout}
+use Rattle.wild_reloc.specs.Formula.{Formula, StubDistance}
+use Rattle.wild_reloc.specs.FormulaX86_64.{x86_64_formula}
 use Rattle.wild_loader.specs.declared.memory.Memory.{Memory}
 use Rattle.wild_loader.specs.declared.world.World.{World}
-use Rattle.wild_meaning.specs.Instruction.{Deed, Call, Jump, as_value}
+use Rattle.wild_loader.specs.declared.instruction.Deed.{Deed}
+use Rattle.wild_loader.specs.declared.instruction.Deed.TheVariants.{Call, Jump}
+use Rattle.wild_loader.specs.Instruction.{as_value}
 use Rattle.wild_meaning.specs.Sequence.{Instruction}
-use Rattle.wild_meaning.specs.Item.{item_of, place_at, IsReference, IsKept}
+use Rattle.wild_meaning.specs.Item.{item_of, place_at, IsLoadedSlot, IsKept, OfSection}
 use Rattle.wild_meaning.specs.Template.{effect_of, reads, IsInstruction, DoesDemanded}
-use Rattle.wild_meaning.specs.Reference.{IsAsked, ReferenceHolds}
+use Rattle.wild_meaning.specs.Field.{formula_of}
+use Rattle.wild_meaning.specs.Reference.{ReferenceHolds}
 use Rattle.wild_meaning.proofs.BitLemmas.{bit_alloc}
+use Rattle.wild_meaning.proofs.SymbolLemmas.{referent_stands}
 use Rattle.wild_laws.specs.FirstTypes.{IsLoadedSection, IsRelocated, IsBranch}
-use Rattle.wild_laws.specs.FirstPath.{BranchReaches, MeaningGivesFields}
+use Rattle.wild_laws.specs.FirstPath.{BranchReaches, IsFollowed, HasValueOf, HasInstruction, DoesInstruction, MeaningGivesFields}
 use Rattle.wild_laws.proofs.Sequences.{direct}
+use Rattle.wild_meaning.proofs.PairLemmas.{counts_four}
 use Rattle.wild_laws.proofs.FirstCode.{first_byte, IsFirst, of_branch, of_address, IsCallOrJump, template_direct, is_branch, branch_template, old_length, DoesDeed, call_does, jump_does}
 use Rattle.wild_laws.proofs.FirstFields.{has_formula}
 use Rattle.wild_laws.proofs.FirstBytes.{does_so, other_byte}
@@ -26,11 +33,7 @@ use Rattle.wild_laws.proofs.FirstSlots.{slot_call_goes, slot_jump_goes}
 
 -- such a section is kept
 kept : (l : Layout) (s : InputSection) → IsLoadedSection l s → IsKept l (item_of s)
-kept l s h = record {
-  section = s;
-  kept = record { input = record { group = h.group; grouped = h.grouped; file = h.file; filed = h.filed; listed = h.listed }; loaded = h.loaded; room = bit_alloc s.flags h.carried; has_data = h.has_data };
-  is = refl;
-}
+kept l s h = OfSection s (record { input = record { group = h.group; grouped = h.grouped; file = h.file; filed = h.filed; listed = h.listed }; loaded = subst IsLoadedSlot (sym h.loaded) tt; room = bit_alloc s.flags h.carried; has_data = h.has_data }) refl
 
 -- a number that is taken twice modulo 2^64
 once_more : (v x : ℕ) → v ≡ x % 2 ^ 64 → v % 2 ^ 64 ≡ x % 2 ^ 64
@@ -84,29 +87,45 @@ goes l w m s r k opcode deed does x branch d =
     let old : effect_of machine.X86_64 (as_value d.value) a (slice_range s.bytes k (k + 5)) ≡ Some d.code.effect = subst (λ (mach : Machine). effect_of mach (as_value d.value) a (slice_range s.bytes k (k + 5)) ≡ Some d.code.effect) x d.code.demanded in
     let is = does a d.value (slice_range s.bytes k (k + 5)) (old_length s r k opcode branch) (first_byte s.bytes k ∙ branch.begins) in
     let loaded : effect_of machine.X86_64 (reads w m) a d.code.bytes ≡ Some d.code.effect = subst (λ (mach : Machine). effect_of mach (reads w m) a d.code.bytes ≡ Some d.code.effect) x d.code.does in
-    let value = once_more d.value (d.demands.goal + cast_unsigned w64 r.addend + 4) d.demands.is in
+    let is_there = subst (λ (n : ℕ). d.value ≡ (d.demands.goal + cast_unsigned w64 r.addend + n) % 2 ^ 64) (counts_four l.machine x) d.demands.is in
+    let value = once_more d.value (d.demands.goal + cast_unsigned w64 r.addend + 4) is_there in
     record {
       target = d.demands.goal;
-      stands = d.demands.stands;
+      stands = referent_stands StubDistance l w m (item_of s) r d.demands.goal x d.demands.stands;
       bytes = d.code.bytes;
       five = d.code.whole;
       held = d.code.held;
       goes = loaded ∙ sym old ∙ is ∙ ap (λ (n : ℕ). Some (record { deed = deed; width = 64; value = n })) value;
     }
 
+-- ---- every type
+
+value_of : (l : Layout) (w : World) (m : Memory) (s : InputSection) (r : InputRelocation) (f : Formula) → l.machine ≡ machine.X86_64 → x86_64_formula r.number ≡ Some f → (HasInstruction l s r → ⊥) → ReferenceHolds l w m (item_of s) r → HasValueOf l w m s r f
+value_of l w m s r f x is none (inl p) =
+    let known = subst (λ (k : Machine). formula_of k r.number ≡ Some p.formula) x p.known in
+    let both : Some p.formula ≡ Some f = sym known ∙ is in
+    let same : p.formula ≡ f = cc in
+    subst (λ (g : Formula). HasValueOf l w m s r g) same (record { value = p.value; gives = p.gives; field = record { bytes = p.field.bytes; wide = p.field.wide; held = p.field.held; reads = p.field.reads } })
+value_of l w m s r f x is none (inr q) = absurd (none (record { start = q.start; instruction = q.instruction; first = q.first; template = q.template }))
+
+does_instruction : (l : Layout) (w : World) (m : Memory) (s : InputSection) (r : InputRelocation) → HasInstruction l s r → ReferenceHolds l w m (item_of s) r → DoesInstruction l w m s r
+does_instruction l w m s r i (inl p) = record { of = i; does = p.does i.start i.instruction i.first i.template }
+does_instruction l w m s r i (inr q) = record { of = record { start = q.start; instruction = q.instruction; first = q.first; template = q.template }; does = does_so l w m (item_of s) q.first q.start q.instruction q.does }
+
 -- ---- the whole
 
 pub meaning_gives_fields : MeaningGivesFields
-meaning_gives_fields = λ l w image x base linked s loaded.
+meaning_gives_fields = λ l w image x linked s loaded.
     let m = linked.memory in
-    let holds = linked.kept (item_of s) (kept l s loaded) in
-    let asked : (r : InputRelocation) → IsAsked l w (item_of s) r = λ r e. base in
-    let refers : (r : InputRelocation) → IsRelocated s r → IsReference (item_of s) r = λ r one. record { listed = one.listed; refers = one.refers } in
+    let all = linked.kept (item_of s) (kept l s loaded) in
+    let holds : (r : InputRelocation) → IsRelocated s r → IsFollowed l w s r → ReferenceHolds l w m (item_of s) r = λ r one follows. all.references r (record { listed = one.listed; refers = one.refers }) follows.0 follows.1 in
     record {
-      references = λ r one follows type none free. has_formula l w m s r x type (of_address l s r type free) none (holds.references r (refers r one) (asked r) follows);
-      calls = λ r k one follows free branch. goes l w m s r k 0xe8 Call call_does x branch (call_does_it l w m s r k x (of_branch l s r k 0xe8 free branch) branch (holds.references r (refers r one) (asked r) follows));
-      jumps = λ r k one follows free branch. goes l w m s r k 0xe9 Jump jump_does x branch (jump_does_it l w m s r k x (of_branch l s r k 0xe9 free branch) branch (holds.references r (refers r one) (asked r) follows));
-      slot_calls = λ r k one follows free branch. slot_call_goes l w m s r k x free branch (holds.references r (refers r one) (asked r) follows);
-      slot_jumps = λ r k one follows free branch. slot_jump_goes l w m s r k x free branch (holds.references r (refers r one) (asked r) follows);
-      others = λ types k lt out. other_byte l w m s k x types base asked holds lt out;
+      references = λ r one follows type none free. has_formula l w m s r x type (of_address l s r type free) none (holds r one follows);
+      calls = λ r k one follows free branch. goes l w m s r k 0xe8 Call call_does x branch (call_does_it l w m s r k x (of_branch l s r k 0xe8 free branch) branch (holds r one follows));
+      jumps = λ r k one follows free branch. goes l w m s r k 0xe9 Jump jump_does x branch (jump_does_it l w m s r k x (of_branch l s r k 0xe9 free branch) branch (holds r one follows));
+      slot_calls = λ r k one follows free branch. slot_call_goes l w m s r k x free branch (holds r one follows);
+      slot_jumps = λ r k one follows free branch. slot_jump_goes l w m s r k x free branch (holds r one follows);
+      fields = λ r f one follows is none. value_of l w m s r f x is none (holds r one follows);
+      instructions = λ r one follows i. does_instruction l w m s r i (holds r one follows);
+      others = λ types asked k lt out. other_byte l w m s k x types asked all lt out;
     }

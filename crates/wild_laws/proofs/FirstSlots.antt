@@ -1,6 +1,6 @@
 -- The call or the jump through a slot that a reference fills, and that its code goes to what comes to the symbol.
 use Rattle.std.proofs.Common.{◌≡◌, ℕ, zero, suc, ◌+◌, ◌-◌, ◌%◌, ◌^◌, ◌<◌, ◌≤◌, ◌⊎◌, inl, inr, true, false, List, [], ◌∷◌, ◌++◌, length, get_or, slice_range, refl, sym, ap, ◌∙◌, arith, subst, eq-eqb}
-use Rattle.std.specs.Prelude.{Some, None, Contains, slice_index, not, ◌&&◌, ◌==◌}
+use Rattle.std.specs.Prelude.{Some, Contains, slice_index, not, ◌&&◌, ◌==◌}
 use Rattle.std.proofs.lemmas.Bool.{and_parts, eqb-true, not-true, eqb-false}
 use Rattle.wild_words.proofs.Basics.{length-range, range_byte, listed_passes}
 use Rattle.wild_types.specs.declared.kind.Machine.{Machine}
@@ -10,12 +10,16 @@ use Rattle.wild_types.specs.declared.input.InputSection.{InputSection}
 use Rattle.wild_types.specs.declared.layout.Layout.{Layout}
 use Rattle.wild_loader.specs.declared.memory.Memory.{Memory}
 use Rattle.wild_loader.specs.declared.world.World.{World}
-use Rattle.wild_meaning.specs.Instruction.{Cell, Is, Deed, Call, Jump, exact, field, stands, as_value}
-use Rattle.wild_meaning.specs.InstructionX86_64.{meaning_x86_64, effect_x86_64}
-use Rattle.wild_meaning.specs.Sequence.{Instruction, size_of, IsOwnByte, instructions_of}
+use Rattle.wild_loader.specs.declared.instruction.Cell.{Cell}
+use Rattle.wild_loader.specs.declared.instruction.Cell.TheVariants.{Is}
+use Rattle.wild_loader.specs.declared.instruction.Deed.{Deed}
+use Rattle.wild_loader.specs.declared.instruction.Deed.TheVariants.{Call, Jump}
+use Rattle.wild_loader.specs.Instruction.{exact, field, stands, as_value}
+use Rattle.wild_loader.specs.InstructionX86_64.{meaning_x86_64, effect_x86_64}
+use Rattle.wild_meaning.specs.Sequence.{Instruction, TargetInSlot, size_of, IsOwnByte, instructions_of}
 use Rattle.wild_meaning.specs.Item.{item_of, place_at}
 use Rattle.wild_meaning.specs.Field.{InNoField}
-use Rattle.wild_meaning.specs.Template.{effect_of, reads, IsInstruction, IsTemplate, DoesDemanded}
+use Rattle.wild_meaning.specs.Template.{AddsNothing, effect_of, reads, IsInstruction, IsTemplate, DoesDemanded}
 use Rattle.wild_meaning.specs.Reference.{ReferenceHolds}
 use Rattle.wild_meaning.proofs.BitLemmas.{bit_code}
 use Rattle.wild_laws.specs.FirstTypes.{slot_types, IsSlotBranch, IsThreadCall}
@@ -62,7 +66,7 @@ alone_of l s r k opcode free branch = record {
 }
 
 -- the reference's instruction is a call or a jump through a slot
-which_of : (l : Layout) (s : InputSection) (r : InputRelocation) (k opcode start : ℕ) (o : Instruction) → l.machine ≡ machine.X86_64 → IsSlotBranch s r k opcode → o.partner ≡ None → IsInstruction l (item_of s) r start o → IsThrough o
+which_of : (l : Layout) (s : InputSection) (r : InputRelocation) (k opcode start : ℕ) (o : Instruction) → l.machine ≡ machine.X86_64 → IsSlotBranch s r k opcode → o.partners ≡ [] → IsInstruction l (item_of s) r start o → IsThrough o
 which_of l s r k opcode start o x branch single t =
     is_through o r.number (slice_range s.bytes start (start + size_of o)) (subst (λ (m : Machine). Contains (instructions_of m) o) x t.known) single t.number
     (listed_passes is_slot slot_types r.number refl branch.number)
@@ -111,7 +115,7 @@ slot_instruction l s r k opcode deed known x branch =
       field = behind;
       inside = omega (arith, behind, ends);
       stands = stands_from opcode (slice_range s.bytes k (k + 6)) (old_length s r k opcode branch) (old_first s r k opcode branch) (old_second s r k opcode branch);
-      counts = branch.addend;
+      counts = subst (λ (m : Machine). AddsNothing m TargetInSlot r) (sym x) branch.addend;
       alone = λ j own. own_byte l s k opcode j deed (in_no_field l s k x branch.free) (in_no_field l s (k + 1) x branch.free_too) own;
     }
 
@@ -125,7 +129,7 @@ slot_template l s r k opcode deed known x free branch = inl (
     single = refl;
     stands = slot_instruction l s r k opcode deed known x branch;
     longest = λ from p none t. short p (which_of l s r k opcode from p x branch none t);
-    free = λ a from p q. no_sequence l s a r from p x free q;
+    free = λ a rest from p q c. no_sequence l s a r rest from p x free q c;
   },
   refl,
 )

@@ -1,14 +1,20 @@
 -- Instructions that relocations fill: of the first types the direct call and the direct jump alone; behind the opcode of a call or a jump
 -- through a slot these two alone; and of a sequence's first field those that ask for a thread address.
 use Rattle.std.proofs.Common.{◌≡◌, ℕ, zero, suc, ◌-◌, ◌<◌, ◌≤◌, ◌⊎◌, inl, inr, Bool, true, false, List, [], ◌∷◌, length, get_or, refl, sym, ap, ◌∙◌, arith, subst, eq-eqb}
-use Rattle.std.specs.Prelude.{Option, Some, None, is_some, Contains, not, ◌&&◌, ◌||◌, ◌==◌, nat_le, nat_lt, drop}
+use Rattle.std.specs.Prelude.{Contains, not, ◌&&◌, ◌||◌, ◌==◌, nat_le, nat_lt, drop}
 use Rattle.std.specs.List.{list_all, list_any}
 use Rattle.std.proofs.lemmas.Bool.{cases_Bool, and_parts, eqb-true, ltb-true, leb-true}
 use Rattle.wild_words.proofs.Basics.{listed_passes, implied}
 use Rattle.wild_types.specs.declared.kind.Machine.TheVariants as machine
-use Rattle.wild_meaning.specs.Instruction.{Cell, Is, Deed, Number, Word, Call, Jump, stands}
-use Rattle.wild_meaning.specs.CodeX86_64.{branch}
+use Rattle.wild_loader.specs.declared.instruction.Cell.{Cell}
+use Rattle.wild_loader.specs.declared.instruction.Cell.TheVariants.{Is}
+use Rattle.wild_loader.specs.declared.instruction.Operand.TheVariants.{Number, Word}
+use Rattle.wild_loader.specs.declared.instruction.Deed.{Deed}
+use Rattle.wild_loader.specs.declared.instruction.Deed.TheVariants.{Call, Jump}
+use Rattle.wild_loader.specs.Instruction.{stands}
+use Rattle.wild_loader.specs.CodeX86_64.{branch}
 use Rattle.wild_meaning.specs.Sequence.{Instruction, Partner, Target, TargetInSlot, size_of, of_field, instructions_of}
+use Rattle.wild_meaning.proofs.PairLemmas.{are_several, the_one}
 use Rattle.wild_laws.specs.FirstTypes.{first_types, branch_types, slot_types, thread_types, call_types}
 
 -- ---- types of relocations
@@ -77,27 +83,26 @@ by_instruction P o n call jump known number f = at P o n call jump known.0 known
 -- ---- sequences
 
 abbrev asks_alone : Instruction → Bool
-asks_alone o = not (is_some o.partner) || list_all is_thread o.numbers
+asks_alone o = not (are_several o.partners) || list_all is_thread o.numbers
 
 all_ask : list_all asks_alone (instructions_of machine.X86_64) ≡ true
 all_ask = refl
 
 -- the first field of a sequence asks for a thread address
-pub asking : (o : Instruction) (p : Partner) (n : ℕ) → Contains (instructions_of machine.X86_64) o → o.partner ≡ Some p → Contains o.numbers n → is_thread n ≡ true
+pub asking : (o : Instruction) (p : Partner) (n : ℕ) → Contains (instructions_of machine.X86_64) o → o.partners ≡ p ∷ [] → Contains o.numbers n → is_thread n ≡ true
 asking o p n known calls number =
-    listed_passes is_thread o.numbers n (implied (is_some o.partner) (list_all is_thread o.numbers) (listed_passes asks_alone (instructions_of machine.X86_64) o all_ask known) (ap (λ (q : Option Partner). is_some q) calls)) number
+    listed_passes is_thread o.numbers n (implied (are_several o.partners) (list_all is_thread o.numbers) (listed_passes asks_alone (instructions_of machine.X86_64) o all_ask known) (ap are_several calls)) number
 
-abbrev calls_alone : Option Partner → Bool
-calls_alone None = true
-calls_alone (Some p) = list_all (is_of call_types) p.numbers
+abbrev calls_alone : Partner → Bool
+calls_alone p = list_all (is_of call_types) p.numbers
 
-all_call : list_all (λ (o : Instruction). calls_alone o.partner) (instructions_of machine.X86_64) ≡ true
+all_call : list_all (λ (o : Instruction). list_all calls_alone o.partners) (instructions_of machine.X86_64) ≡ true
 all_call = refl
 
 -- and the field of its call has a call's type
-pub calling : (o : Instruction) (p : Partner) (n : ℕ) → Contains (instructions_of machine.X86_64) o → o.partner ≡ Some p → Contains p.numbers n → Contains call_types n
+pub calling : (o : Instruction) (p : Partner) (n : ℕ) → Contains (instructions_of machine.X86_64) o → o.partners ≡ p ∷ [] → Contains p.numbers n → Contains call_types n
 calling o p n known calls number =
-    one_of call_types n (listed_passes (is_of call_types) p.numbers n (subst (λ (q : Option Partner). calls_alone q ≡ true) calls (listed_passes (λ (q : Instruction). calls_alone q.partner) (instructions_of machine.X86_64) o all_call known)) number)
+    one_of call_types n (listed_passes (is_of call_types) p.numbers n (listed_passes calls_alone o.partners p (listed_passes (λ (q : Instruction). list_all calls_alone q.partners) (instructions_of machine.X86_64) o all_call known) (the_one o.partners p calls)) number)
 
 -- ---- calls and jumps through slots
 
@@ -118,7 +123,7 @@ has_other o = nat_le 2 o.field && (nat_lt o.field (size_of o) && begins_apart (d
 
 -- a sequence, or no slot's type, or another opcode
 abbrev is_other : Instruction → Bool
-is_other o = is_some o.partner || (list_all (λ n. not (is_slot n)) o.numbers || has_other o)
+is_other o = are_several o.partners || (list_all (λ n. not (is_slot n)) o.numbers || has_other o)
 
 abbrev behind_slots : List Instruction
 behind_slots = behind others
@@ -145,9 +150,9 @@ by_tests true b c h n = cc
 by_tests false true c h n = inl refl
 by_tests false false c h n = inr h
 
-excluded : (o : Instruction) (n : ℕ) (bs : List ℕ) → is_other o ≡ true → o.partner ≡ None → Contains o.numbers n → is_slot n ≡ true → stands o.template.cells bs ≡ true → (2 ≤ o.field → o.field < size_of o → get_or bs (o.field - 2) 0 ≡ 0xff) → ⊥
+excluded : (o : Instruction) (n : ℕ) (bs : List ℕ) → is_other o ≡ true → o.partners ≡ [] → Contains o.numbers n → is_slot n ≡ true → stands o.template.cells bs ≡ true → (2 ≤ o.field → o.field < size_of o → get_or bs (o.field - 2) 0 ≡ 0xff) → ⊥
 excluded o n bs other single number slot stood byte =
-    elim (by_tests (is_some o.partner) (list_all (λ m. not (is_slot m)) o.numbers) (has_other o) other (ap (λ (q : Option Partner). is_some q) single)) [
+    elim (by_tests (are_several o.partners) (list_all (λ m. not (is_slot m)) o.numbers) (has_other o) other (ap are_several single)) [
       | inl none ↦ no_slot_type o n none number slot
       | inr h ↦
           let low = and_parts (nat_le 2 o.field) _ h in
@@ -156,10 +161,10 @@ excluded o n bs other single number slot stood byte =
     ]
 
 -- an instruction of a slot's type behind the byte ff is a call or a jump through one
-pub is_through : (o : Instruction) (n : ℕ) (bs : List ℕ) → Contains (instructions_of machine.X86_64) o → o.partner ≡ None → Contains o.numbers n → is_slot n ≡ true → stands o.template.cells bs ≡ true → (2 ≤ o.field → o.field < size_of o → get_or bs (o.field - 2) 0 ≡ 0xff) → IsThrough o
+pub is_through : (o : Instruction) (n : ℕ) (bs : List ℕ) → Contains (instructions_of machine.X86_64) o → o.partners ≡ [] → Contains o.numbers n → is_slot n ≡ true → stands o.template.cells bs ≡ true → (2 ≤ o.field → o.field < size_of o → get_or bs (o.field - 2) 0 ≡ 0xff) → IsThrough o
 is_through o n bs known single number slot stood byte = at o n bs known.0 known.1 known.2 single number slot stood byte
   where
-    at : (o : Instruction) (n : ℕ) (bs : List ℕ) (k : ℕ) → k < length (instructions_of machine.X86_64) → get_or (instructions_of machine.X86_64) k o ≡ o → o.partner ≡ None → Contains o.numbers n → is_slot n ≡ true → stands o.template.cells bs ≡ true → (2 ≤ o.field → o.field < size_of o → get_or bs (o.field - 2) 0 ≡ 0xff) → IsThrough o
+    at : (o : Instruction) (n : ℕ) (bs : List ℕ) (k : ℕ) → k < length (instructions_of machine.X86_64) → get_or (instructions_of machine.X86_64) k o ≡ o → o.partners ≡ [] → Contains o.numbers n → is_slot n ≡ true → stands o.template.cells bs ≡ true → (2 ≤ o.field → o.field < size_of o → get_or bs (o.field - 2) 0 ≡ 0xff) → IsThrough o
     at o n bs zero l e single number slot stood byte = absurd (no_slot_type o n (subst (λ (p : Instruction). list_all (λ m. not (is_slot m)) p.numbers ≡ true) e refl) number slot)
     at o n bs (suc zero) l e single number slot stood byte = absurd (no_slot_type o n (subst (λ (p : Instruction). list_all (λ m. not (is_slot m)) p.numbers ≡ true) e refl) number slot)
     at o n bs (suc (suc zero)) l e single number slot stood byte = inl (sym e)

@@ -1,9 +1,9 @@
--- What an image owes an x86-64 layout at base 0, where each fixed output is, told by fields, calls and jumps alone. It follows from
--- the meaning of all layouts.
+-- What an image owes an x86-64 layout in any world, told by fields, calls and jumps. It follows from the meaning of all layouts.
 --   HasFormula ..          the field in memory is the formula's
 --   BranchReaches ..       a direct call or jump goes to what stands for its symbol
 --   SlotBranchReaches ..   one through a slot goes to what comes to its symbol
---   HoldsByFields ..       what these say of an input section
+--   IsFollowed ..          a reference is asked in the world, and not of the output's own symbol alone
+--   HoldsByFields ..       what these say of an input section; of other types by what the judge has for them
 --   NamesAreAddresses      what this says of symbols that no resolver answers for
 use Rattle.std.specs.Prelude.{◌≡◌, ℕ, ℤ, ◌+◌, ◌-◌, ◌%◌, ◌^◌, ◌<◌, false, List, length, Some, Contains, slice_index}
 use Rattle.std.specs.Int.{w64, cast_unsigned}
@@ -19,14 +19,17 @@ use Rattle.wild_loader.specs.declared.world.World.{World}
 use Rattle.wild_loader.specs.declared.memory.Memory.{Memory}
 use Rattle.wild_loader.specs.Memory.{Holds, byte_in}
 use Rattle.wild_meaning.specs.Value.{IsSymbol, IsDefinedBy, HasRaw, HasFlag, IsReplaceable, moved}
-use Rattle.wild_meaning.specs.Denotes.{HasStub, Denotes, Reaches}
+use Rattle.wild_loader.specs.Reach.{Reaches}
+use Rattle.wild_meaning.specs.Denotes.{HasStub, Denotes}
 use Rattle.wild_meaning.specs.Field.{form_width}
-use Rattle.wild_meaning.specs.Formula.{IsTarget, IsGoal}
-use Rattle.wild_meaning.specs.Instruction.{Deed, Call, Jump}
-use Rattle.wild_meaning.specs.InstructionX86_64.{effect_x86_64}
-use Rattle.wild_meaning.specs.Template.{reads}
+use Rattle.wild_meaning.specs.Formula.{IsTarget, IsGoal, Gives}
+use Rattle.wild_loader.specs.declared.instruction.Deed.{Deed}
+use Rattle.wild_loader.specs.declared.instruction.Deed.TheVariants.{Call, Jump}
+use Rattle.wild_loader.specs.InstructionX86_64.{effect_x86_64}
+use Rattle.wild_meaning.specs.Sequence.{Instruction}
+use Rattle.wild_meaning.specs.Template.{reads, IsTemplate, DoesDemanded}
 use Rattle.wild_meaning.specs.Item.{item_of}
-use Rattle.wild_meaning.specs.Reference.{IsLinkedAlone}
+use Rattle.wild_meaning.specs.Reference.{IsAsked, IsLinkedAlone}
 use Rattle.wild_meaning.specs.Linked.{IsLinked}
 use Rattle.wild_laws.specs.FirstTypes.{IsLoadedSection, IsRelocated, address_types, HasFirstTypes, address_at, InNoField, IsBranch, IsBranchField, IsSlotBranch, IsThreadCall}
 
@@ -77,23 +80,48 @@ pub record HasFormula (l : Layout) (w : World) (m : Memory) (s : InputSection) (
   pub demanded : Demands formula.value target r.addend (address_at w s r.offset) value
   pub field : HasField m formula.form (address_at w s r.offset) value
 
--- whichever module has the relocation's symbol, the reference is not to the output's own alone
-abbrev pub IsFollowed : Layout → InputSection → InputRelocation → Type 0
-IsFollowed l s r = IsLinkedAlone l (item_of s) r → ⊥
+-- the reference is asked in the world, and whichever module has the relocation's symbol, it is not to the output's own alone
+abbrev pub IsFollowed : Layout → World → InputSection → InputRelocation → Type 0
+IsFollowed l w s r = IsAsked l w (item_of s) r × (IsLinkedAlone l (item_of s) r → ⊥)
+
+-- each reference of the section is asked, one to the output's own symbol alone at base 0
+abbrev pub EachIsAsked : Layout → World → InputSection → Type 0
+EachIsAsked l w s = (r : InputRelocation) → IsRelocated s r → IsAsked l w (item_of s) r × (IsLinkedAlone l (item_of s) r → w.base ≡ 0)
+
+-- the field reads as the judge's formula of the relocation's type, whichever that is
+pub record HasValueOf (l : Layout) (w : World) (m : Memory) (s : InputSection) (r : InputRelocation) (f : Formula) : Type 0 where
+  pub value : ℕ
+  pub gives : Gives f.value l w m (item_of s) r value
+  pub field : HasField m f.form (address_at w s r.offset) value
+
+-- an instruction of the input has the reference
+pub record HasInstruction (l : Layout) (s : InputSection) (r : InputRelocation) : Type 0 where
+  pub start : ℕ
+  pub instruction : Instruction
+  pub first : InputRelocation
+  pub template : IsTemplate l (item_of s) r start instruction first
+
+-- the loaded code does what such an instruction demands
+pub record DoesInstruction (l : Layout) (w : World) (m : Memory) (s : InputSection) (r : InputRelocation) : Type 0 where
+  pub of : HasInstruction l s r
+  pub does : DoesDemanded (reads w m) l w m (item_of s) of.first of.start of.instruction
 
 -- each address and each distance in no call and no jump has its field as the formula, each call and each jump reaches its symbol, but
--- for a call that gives a thread address, and where no other instruction has a relocation every byte in no field is the input's
+-- for a call that gives a thread address; of every other type too a reference in no instruction has its field as the formula, and in
+-- one the code does what that demands; and where no other instruction has a relocation every byte in no field is the input's
 pub record HoldsByFields (l : Layout) (w : World) (m : Memory) (s : InputSection) : Type 0 where
-  pub references : (r : InputRelocation) → IsRelocated s r → IsFollowed l s r → Contains address_types r.number → (IsBranchField s r → ⊥) → (IsThreadCall l s r → ⊥) → HasFormula l w m s r
-  pub calls : (r : InputRelocation) (k : ℕ) → IsRelocated s r → IsFollowed l s r → (IsThreadCall l s r → ⊥) → IsBranch s r k 0xe8 → BranchReaches l w m s r k Call
-  pub jumps : (r : InputRelocation) (k : ℕ) → IsRelocated s r → IsFollowed l s r → (IsThreadCall l s r → ⊥) → IsBranch s r k 0xe9 → BranchReaches l w m s r k Jump
-  pub slot_calls : (r : InputRelocation) (k : ℕ) → IsRelocated s r → IsFollowed l s r → (IsThreadCall l s r → ⊥) → IsSlotBranch s r k 0x15 → SlotBranchReaches l w m s r k Call
-  pub slot_jumps : (r : InputRelocation) (k : ℕ) → IsRelocated s r → IsFollowed l s r → (IsThreadCall l s r → ⊥) → IsSlotBranch s r k 0x25 → SlotBranchReaches l w m s r k Jump
-  pub others : HasFirstTypes s → (k : ℕ) → k < length s.bytes → InNoField s k → byte_in m (address_at w s k) ≡ Some (slice_index s.bytes k)
+  pub references : (r : InputRelocation) → IsRelocated s r → IsFollowed l w s r → Contains address_types r.number → (IsBranchField s r → ⊥) → (IsThreadCall l s r → ⊥) → HasFormula l w m s r
+  pub calls : (r : InputRelocation) (k : ℕ) → IsRelocated s r → IsFollowed l w s r → (IsThreadCall l s r → ⊥) → IsBranch s r k 0xe8 → BranchReaches l w m s r k Call
+  pub jumps : (r : InputRelocation) (k : ℕ) → IsRelocated s r → IsFollowed l w s r → (IsThreadCall l s r → ⊥) → IsBranch s r k 0xe9 → BranchReaches l w m s r k Jump
+  pub slot_calls : (r : InputRelocation) (k : ℕ) → IsRelocated s r → IsFollowed l w s r → (IsThreadCall l s r → ⊥) → IsSlotBranch s r k 0x15 → SlotBranchReaches l w m s r k Call
+  pub slot_jumps : (r : InputRelocation) (k : ℕ) → IsRelocated s r → IsFollowed l w s r → (IsThreadCall l s r → ⊥) → IsSlotBranch s r k 0x25 → SlotBranchReaches l w m s r k Jump
+  pub fields : (r : InputRelocation) (f : Formula) → IsRelocated s r → IsFollowed l w s r → x86_64_formula r.number ≡ Some f → (HasInstruction l s r → ⊥) → HasValueOf l w m s r f
+  pub instructions : (r : InputRelocation) → IsRelocated s r → IsFollowed l w s r → HasInstruction l s r → DoesInstruction l w m s r
+  pub others : HasFirstTypes s → EachIsAsked l w s → (k : ℕ) → k < length s.bytes → InNoField s k → byte_in m (address_at w s k) ≡ Some (slice_index s.bytes k)
 
--- an image that meets the meaning of all layouts at base 0 meets this one
+-- an image that meets the meaning of all layouts in a world, at whatever base, meets this one
 abbrev pub MeaningGivesFields : Type 0
-MeaningGivesFields = (l : Layout) (w : World) (image : List ℕ) → l.machine ≡ machine.X86_64 → w.base ≡ 0 → (linked : IsLinked l w image) → (s : InputSection) → IsLoadedSection l s → HoldsByFields l w linked.memory s
+MeaningGivesFields = (l : Layout) (w : World) (image : List ℕ) → l.machine ≡ machine.X86_64 → (linked : IsLinked l w image) → (s : InputSection) → IsLoadedSection l s → HoldsByFields l w linked.memory s
 
 -- ---- symbols
 

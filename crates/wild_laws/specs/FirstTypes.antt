@@ -20,7 +20,7 @@ use Rattle.wild_reloc.specs.Formula.{Formula}
 use Rattle.wild_reloc.specs.FormulaX86_64.{x86_64_formula}
 use Rattle.wild_loader.specs.declared.world.World.{World}
 use Rattle.wild_meaning.specs.Field.{form_width}
-use Rattle.wild_meaning.specs.Template.{NamesGetter}
+use Rattle.wild_meaning.specs.Partners.{NamesGetter}
 
 -- an input section of the layout that is loaded, allocated and has data
 pub record IsLoadedSection (l : Layout) (s : InputSection) : Type 0 where

@@ -113,7 +113,7 @@ kind_test : (l : Layout) (g : Segment) → ((program_header l g).kind == pt_dyna
 unfolding program_header
 kind_test l g = refl
 
-first_header : (l : Layout) (gs : List Segment) (g : Segment) → first_dynamic gs ≡ Some g → found_dynamic (map (program_header l) gs) ≡ Some (program_header l g)
+pub first_header : (l : Layout) (gs : List Segment) (g : Segment) → first_dynamic gs ≡ Some g → found_dynamic (map (program_header l) gs) ≡ Some (program_header l g)
 unfolding found_dynamic
 first_header l [] g h = cc
 first_header l (x ∷ xs) g h =

@@ -1,6 +1,11 @@
--- What the file header tells.
-use Rattle.std.proofs.Common.{◌≡◌, ℕ, Bool, false, refl, sym, ap, ◌∙◌}
+-- What the file header and the program headers tell.
+use Rattle.std.proofs.Common.{◌≡◌, ℕ, Bool, true, false, List, [], ◌∷◌, map, refl, sym, ap, ◌∙◌, subst}
 use Rattle.std.specs.Prelude.{Option, Some, None, unwrap_or, option_map, slice_get, if◌then◌else◌}
+use Rattle.wild_records.specs.ProgramHeader.{ProgramHeaderIsRead}
+use Rattle.wild_records.specs.declared.program_header.ProgramHeader.{ProgramHeader}
+use Rattle.wild_types.specs.declared.kind.OutputKind.{OutputKind}
+use Rattle.wild_types.specs.declared.kind.OutputKind.TheVariants as output
+use Rattle.wild_types.specs.declared.section.Segment.{Segment}
 use Rattle.wild_types.specs.declared.symbol.Resolution.{Resolution}
 use Rattle.wild_types.specs.declared.symbol.Symbol.{Symbol}
 use Rattle.wild_types.specs.declared.symbol.ValueFlags.{ValueFlags}
@@ -10,14 +15,24 @@ use Rattle.wild_types.specs.declared.layout.Layout.{Layout}
 use Rattle.wild_types.specs.Addresses.{raw_value}
 use Rattle.wild_needs.specs.EntryPoint.{entry_point, told, entry_by, entry_value}
 use Rattle.wild_types.specs.Flags.{has_flag, ifunc}
+use Rattle.wild_types.specs.Kinds.{needs_dynamic}
 use Rattle.wild_types.specs.Lookups.{canonical}
 use Rattle.wild_slot.specs.Treatment.{flags_at}
-use Rattle.wild_headers.specs.Headers.{entry_address, file_type, file_header}
+use Rattle.wild_headers.specs.Headers.{entry_address, file_type, file_header, program_header, section_headers_of}
+use Rattle.wild_layout.specs.Image.{bytes}
+use Rattle.wild_layout.specs.Geometry.{IsLaidOut}
+use Rattle.wild_loader.specs.Headers.{program_headers}
+use Rattle.wild_loader.specs.SegmentLaws.{HasHeaders}
+use Rattle.wild_loader.specs.Tables.{first_dynamic}
+use Rattle.wild_loader.proofs.RecordLists.{programs-read}
+use Rattle.wild_meaning.specs.Segments.{AreTold, HasDynamicLinker, HasSegments}
 use Rattle.wild_meaning.specs.Linked.{IsDecidedPlace}
 use Rattle.wild_meaning.specs.World.{IsLoadable}
 use Rattle.wild_meaning.proofs.SymbolLemmas.{canonical_is}
 use Rattle.wild_meaning.proofs.OutputLemmas.{not_partial}
 use Rattle.wild_loaded.specs.Laws.{HeadersTell}
+use Rattle.wild_loaded.specs.Memory.{headers_of}
+use Rattle.wild_loaded.proofs.DynamicSections.{first_header}
 use Rattle.wild_loaded.proofs.FileType.{kind_fits, movable_type}
 use Rattle.wild_loaded.proofs.Loads.{has_headers}
 
@@ -61,8 +76,38 @@ symbol_entry l i a k is h =
     let value = plain_entry l i a h in
     by ∙ rw value refl
 
-pub header_told : HeadersTell
-header_told = λ l m k numbers laid.
+-- ---- segments
+
+-- each program header tells its segment
+each_told : (l : Layout) (gs : List Segment) → AreTold gs (map (program_header l) gs)
+unfolding program_header
+each_told l [] = tt
+each_told l (g ∷ gs) = (record { kind = refl; address = refl; file_size = refl; mem_size = refl; flags = λ k. rw k refl }, each_told l gs)
+
+linked_dynamically : (k : OutputKind) → HasDynamicLinker k → needs_dynamic k ≡ true
+linked_dynamically (output.StaticExecutable any) h = absurd h
+linked_dynamically (output.DynamicExecutable any) h = refl
+linked_dynamically output.SharedObject h = refl
+linked_dynamically output.PartialObject h = absurd h
+
+-- a loader reads them, and finds the dynamic section among them
+segments_told : ProgramHeaderIsRead → (l : Layout) → IsLaidOut l → HasHeaders (bytes l) (file_header l) (headers_of l) (section_headers_of l l.sections) → HasSegments l (bytes l) (file_header l)
+segments_told law l laid headers =
+    let e = file_header l in
+    let count = headers.program_count in
+    let read : program_headers (bytes l) e.program_count e.program_offset ≡ headers_of l = rw count (programs-read law (bytes l) (headers_of l) e.program_offset headers.programs_fit headers.programs) in
+    record {
+      told = subst (λ (hs : List ProgramHeader). AreTold l.segments hs) (sym read) (each_told l l.segments);
+      dynamic = λ linker.
+          (let p = laid.loadable.movable (linked_dynamically l.kind linker) in
+          let s = laid.loadable.dynamic p.0 p.1 in
+          (program_header l s.segment, ap first_dynamic read ∙ first_header l l.segments s.segment s.first));
+    }
+
+-- ---- the whole
+
+pub header_told : ProgramHeaderIsRead → HeadersTell
+header_told law = λ l m k numbers laid.
     let headers = has_headers l m k numbers laid in
     record {
       header = file_header l;
@@ -73,4 +118,5 @@ header_told = λ l m k numbers laid.
       address = λ a e. entry_is l ∙ entry_by_case l (Some (entry.Address a)) k e;
       symbol = λ i a e d. entry_is l ∙ symbol_entry l i a k e d;
       none = λ e. entry_is l ∙ entry_by_case l None k e;
+      segments = segments_told law l laid headers;
     }

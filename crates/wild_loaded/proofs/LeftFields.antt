@@ -1,6 +1,6 @@
 -- What the entries of fields make a loader do in a legal world, and what these fields are in the file.
 use Rattle.std.proofs.Common.{◌≡◌, ℕ, ◌+◌, ◌%◌, ◌^◌, ◌<◌, ◌⊎◌, inl, inr, Bool, true, false, List, replicate, refl, sym, ap, arith, subst}
-use Rattle.std.specs.Prelude.{⊤, length, nat_lt, Option, Some, None, Result, Ok, Err, option_map, option_and_then, ◌==◌, ◌&&◌, ◌||◌, if◌then◌else◌, slice_get}
+use Rattle.std.specs.Prelude.{length, Option, Some, None, Result, Ok, Err, option_map, option_and_then, ◌==◌, ◌&&◌, ◌||◌, if◌then◌else◌, slice_get}
 use Rattle.std.specs.List.{list_all}
 use Rattle.std.specs.Int.{w64}
 use Rattle.std.proofs.lemmas.Bool.{cases_Bool, eqb-true}
@@ -8,7 +8,7 @@ use Rattle.std.proofs.lemmas.Int.{of_z-to_z}
 use Rattle.std.proofs.lemmas.List.Elements.{All-contains}
 use Rattle.wild_words.specs.Words.{word}
 use Rattle.wild_words.proofs.WordLemmas.{length-word}
-use Rattle.wild_words.proofs.Basics.{of_if, listed_at}
+use Rattle.wild_words.proofs.Basics.{listed_at}
 use Rattle.wild_records.specs.Abi.Relocation.{r_x86_64_size32, r_x86_64_size64}
 use Rattle.wild_types.specs.declared.fault.Fault.{Fault}
 use Rattle.wild_types.specs.declared.fault.Missing.TheVariants as missing
@@ -24,12 +24,12 @@ use Rattle.wild_slot.specs.declared.treatment.Treatment.{Treatment}
 use Rattle.wild_slot.specs.declared.treatment.Treatment.TheVariants as treatments
 use Rattle.wild_needs.specs.Entries.{is_left_to_entry}
 use Rattle.wild_types.specs.Flags.{has_flag, ifunc}
-use Rattle.wild_types.specs.Kinds.{is_position_independent, is_shared_object}
+use Rattle.wild_types.specs.Kinds.{is_position_independent}
 use Rattle.wild_types.specs.Lookups.{writable, allocated, canonical}
 use Rattle.wild_types.specs.Rows.{row_of}
 use Rattle.wild_slot.specs.SlotParts.{type_of}
-use Rattle.wild_slot.specs.Treatment.{flags_at, is_left, is_barred, is_narrow, is_chosen, is_sized, moves, address_treatment, distance_treatment, pointer_treatment, size_treatment, named, where_there, kind_treatment, row_treatment, treatment}
-use Rattle.wild_reloc.specs.Field.{size_width, field_width, size_written}
+use Rattle.wild_slot.specs.Treatment.{flags_at, treatment}
+use Rattle.wild_reloc.specs.Field.{size_width, size_written}
 use Rattle.wild_reloc.specs.TableX86_64.{x86_64_rows, x86_64_row}
 use Rattle.wild_reloc.proofs.TableLemmas.{entry_passes}
 use Rattle.wild_reloc.specs.declared.dynamic.DynamicRelocationKind.TheVariants.{Absolute, Irelative}
@@ -46,7 +46,7 @@ use Rattle.wild_layout.specs.SymbolValues.{address_or}
 use Rattle.wild_layout.specs.SlotValues.{index_of, decided_address}
 use Rattle.wild_layout.specs.Numbers.{NumbersFit, SymbolNumbers}
 use Rattle.wild_layout.specs.Geometry.{IsLaidOut}
-use Rattle.wild_layout.proofs.DecideLemmas.{sized_left, decided_left}
+use Rattle.wild_layout.proofs.DecideLemmas.{sized_left, decided_left, known_indirect, known_extent}
 use Rattle.wild_geometry.specs.Loaded.{entry_with}
 use Rattle.wild_loader.specs.declared.world.World.{World}
 use Rattle.wild_loader.specs.declared.change.Change.TheVariants as changes
@@ -112,66 +112,11 @@ size_row machine.AArch64 n row known kind = cc
 
 -- ---- what a treatment says
 
--- the function that a resolver chooses; the row of a size
-abbrev Tells : Layout → ℕ → Option RelocationKindInfo → Treatment → Type 0
-Tells l n o (treatments.Indirect i) = has_flag (flags_at l i) ifunc ≡ true
-Tells l n o (treatments.Extent row i) = (o ≡ Some row) × (row.kind ≡ row_kinds.SymbolSize)
-Tells l n o other = ⊤
-
-told_named : (P : Treatment → Type 0) (symbol : Option ℕ) (by : ℕ → Treatment) → P treatments.Unsupported → ((i : ℕ) → P (by i)) → P (named symbol by)
-told_named P None by u h = u
-told_named P (Some i) by u h = h i
-
 last_of_four : (a b c d : Bool) → (a && b && c && d) ≡ true → d ≡ true
 last_of_four true true true d h = h
 last_of_four true true false d h = cc
 last_of_four true false c d h = cc
 last_of_four false b c d h = cc
-
-address_tells : (l : Layout) (s : InputSection) (n : ℕ) (row : RelocationKindInfo) (i : ℕ) → Tells l n (Some row) (address_treatment l s row i)
-address_tells l s n row i =
-    let P = Tells l n (Some row) in
-    of_if P (is_barred l s row i || is_narrow l s row) _ _ (λ e. tt) (λ e.
-    of_if P (is_left l s row i) _ _ (λ e. tt) (λ e.
-    of_if P (is_chosen l s i) _ _
-    (λ chosen. of_if P (field_width row == 8) _ _ (λ w. last_of_four (allocated s.flags) (writable s.flags) (is_position_independent l.kind) (has_flag (flags_at l i) ifunc) chosen) (λ w. tt))
-    (λ e. of_if P (allocated s.flags && moves l i) _ _ (λ m. of_if P (field_width row == 8) _ _ (λ w. tt) (λ w. tt)) (λ m. tt))))
-
-distance_tells : (l : Layout) (s : InputSection) (n : ℕ) (row : RelocationKindInfo) (symbol : Option ℕ) → Tells l n (Some row) (distance_treatment l s row symbol)
-distance_tells l s n row None = of_if (Tells l n (Some row)) (allocated s.flags && is_position_independent l.kind) _ _ (λ e. tt) (λ e. tt)
-distance_tells l s n row (Some i) = of_if (Tells l n (Some row)) (is_barred l s row i) _ _ (λ e. tt) (λ e. tt)
-
-value_tells : (l : Layout) (n : ℕ) (row : RelocationKindInfo) (symbol : Option ℕ) → Tells l n (Some row) (named symbol (λ i. treatments.Value row))
-value_tells l n row symbol = told_named (Tells l n (Some row)) symbol (λ i. treatments.Value row) tt (λ i. tt)
-
-kind_tells : (l : Layout) (s : InputSection) (n : ℕ) (symbol : Option ℕ) (row : RelocationKindInfo) (k : RelocationKind) → row.kind ≡ k → Tells l n (Some row) (kind_treatment l s symbol row k)
-kind_tells l s n symbol row row_kinds.None e = tt
-kind_tells l s n symbol row row_kinds.Absolute e = told_named (Tells l n (Some row)) symbol (λ i. where_there l row i (address_treatment l s row i)) tt (λ i. of_if (Tells l n (Some row)) (nat_lt (canonical l i) (length l.symbols)) _ _ (λ there. address_tells l s n row i) (λ there. tt))
-kind_tells l s n symbol row row_kinds.Relative e = distance_tells l s n row symbol
-kind_tells l s n symbol row row_kinds.GotBaseRelative e = tt
-kind_tells l s n symbol row row_kinds.SymRelGotBase e = value_tells l n row symbol
-kind_tells l s n symbol row row_kinds.DtpOff e = value_tells l n row symbol
-kind_tells l s n symbol row row_kinds.TpOff e = told_named (Tells l n (Some row)) symbol (λ i. pointer_treatment l s row) tt (λ i. of_if (Tells l n (Some row)) (allocated s.flags && is_shared_object l.kind) _ _ (λ p. tt) (λ p. tt))
-kind_tells l s n symbol row row_kinds.SymbolSize e = told_named (Tells l n (Some row)) symbol (λ i. where_there l row i (size_treatment l s row i)) tt (λ i. of_if (Tells l n (Some row)) (nat_lt (canonical l i) (length l.symbols)) _ _ (λ there. of_if (Tells l n (Some row)) (is_sized l s i) _ _ (λ p. (refl, e)) (λ p. tt)) (λ there. tt))
-kind_tells l s n symbol row row_kinds.PltRelative e = value_tells l n row symbol
-kind_tells l s n symbol row row_kinds.PltRelGotBase e = value_tells l n row symbol
-kind_tells l s n symbol row row_kinds.GotRelative e = value_tells l n row symbol
-kind_tells l s n symbol row row_kinds.GotRelGotBase e = value_tells l n row symbol
-kind_tells l s n symbol row row_kinds.TlsGd e = value_tells l n row symbol
-kind_tells l s n symbol row row_kinds.TlsLd e = value_tells l n row symbol
-kind_tells l s n symbol row row_kinds.GotTpOff e = value_tells l n row symbol
-kind_tells l s n symbol row row_kinds.TlsDesc e = value_tells l n row symbol
-kind_tells l s n symbol row row_kinds.TlsDescCall e = told_named (Tells l n (Some row)) symbol (λ i. treatments.Nothing) tt (λ i. tt)
-kind_tells l s n symbol row other e = tt
-
-row_tells : (l : Layout) (s : InputSection) (n : ℕ) (symbol : Option ℕ) (o : Option RelocationKindInfo) → Tells l n o (row_treatment l s symbol o)
-unfolding row_treatment
-row_tells l s n symbol None = tt
-row_tells l s n symbol (Some row) = kind_tells l s n symbol row row.kind refl
-
-tells : (l : Layout) (s : InputSection) (r : InputRelocation) → Tells l r.number (row_of l.machine r.number) (treatment l s r)
-unfolding treatment
-tells l s r = row_tells l s r.number r.symbol (row_of l.machine r.number)
 
 -- ---- the symbol that an entry names
 
@@ -331,11 +276,11 @@ record IsLeftCase (l : Layout) (s : InputSection) (r : InputRelocation) (P : Rel
 by_treatment : (P : RelocationSize → ℕ → ℕ → ℕ → Type 0) (l : Layout) (s : InputSection) (r : InputRelocation) (z : RelocationSize) (n symbol addend : ℕ) → IsLeftCase l s r P → (t : Treatment) → treatment l s r ≡ t → is_left_to_entry t ≡ true → decide_by l s r t ≡ Ok (Left z n symbol addend) → P z n symbol addend
 by_treatment P l s r z n symbol addend k (treatments.Symbolic i) is left made = left_parts P (ByteSize Eight) z (type_of l.machine Absolute) n symbol addend r i (index_of l i) made (k.address i)
 by_treatment P l s r z n symbol addend k (treatments.Indirect i) is left made =
-    let flag = subst (Tells l r.number (row_of l.machine r.number)) is (tells l s r) in
+    let flag = last_of_four (allocated s.flags) (writable s.flags) (is_position_independent l.kind) (has_flag (flags_at l i) ifunc) (known_indirect l s r i is).3.chosen in
     chosen_parts P l z n symbol addend r (decided_address l i) made (λ value e. k.chosen i value flag e)
 by_treatment P l s r z n symbol addend k (treatments.Extent row i) is left made =
-    let told = subst (Tells l r.number (row_of l.machine r.number)) is (tells l s r) in
-    left_parts P row.size z r.number n symbol addend r i (index_of l i) (sized_left l r row i (Left z n symbol addend) made) (λ index e. k.size i index row (size_row l.machine r.number row told.0 told.1) e)
+    let told = known_extent l s r row i is in
+    left_parts P row.size z r.number n symbol addend r i (index_of l i) (sized_left l r row i (Left z n symbol addend) made) (λ index e. k.size i index row (size_row l.machine r.number row told.0 told.1.kind) e)
 by_treatment P l s r z n symbol addend k treatments.Nothing is left made = cc
 by_treatment P l s r z n symbol addend k (treatments.Value row) is left made = cc
 by_treatment P l s r z n symbol addend k treatments.BaseRelative is left made = cc

@@ -20,3 +20,32 @@ pub mod DynamicSections
 pub mod SectionTable
 pub mod StaticTables
 pub mod FileHeader
+pub mod PairLemmas
+pub mod Permuted
+pub mod Fillings
+pub mod FilledTables
+pub mod Homes
+pub mod KeptSections
+pub mod SectionsApart
+pub mod PlacesApart
+pub mod SectionFillings
+pub mod FilledSections
+pub mod SectionsKnown
+pub mod SlotFillings
+pub mod SlotsSpaced
+pub mod SlotsKnown
+pub mod TableHomes
+pub mod GotPlaces
+pub mod CopyFillings
+mod FirstFile
+pub mod TableLists
+mod PackedTables
+pub mod AllTables
+pub mod MadeChanges
+pub mod OutsideTables
+pub mod SectionsMoved
+mod NumbersKept
+pub mod SitesLoaded
+pub mod SlotsLoaded
+mod Notes
+pub mod Moving

@@ -4,3 +4,7 @@ pub mod WholeSlots
 pub mod Tables
 pub mod Stored
 pub mod Laws
+pub mod Words
+pub mod FilledLaws
+pub mod Moved
+pub mod MovedLaws

@@ -2,27 +2,37 @@
 #![tactic(auto)]
 
 ghost use Rattle.wild_loaded.specs.Laws.{CopiesAreThere, DynamicSectionsStand, EntriesHaveChanges, HeadersStand, HeadersTell, OwnersAreKnown, PartsAreStored, SectionTablesAreFound, SectionsAreCarried, SectionsAreStored, SegmentsAreLoadable, SlotsAreStored, SlotsAreThere, TablesAreFound, ZerosAreStored};
+ghost use Rattle.wild_loaded.specs.FilledLaws.{TablesAreMade};
+ghost use Rattle.wild_loaded.specs.MovedLaws.{ImagesAreLoaded, MemoryIsMoved};
 
 use wild_geometry::tables_stand;
-use wild_loader::bytes_are_loaded;
-use wild_relr::words_fit;
-use wild_slots::{
-    each_word_stands, entries_are_known, fixed_outputs_move_nothing, pair_stands, slots_stand,
-    stubs_are_there,
+use wild_loader::{
+    bytes_are_loaded, dynamic_images_are_loaded, entries_make_changes, entries_store_words,
+    numbers_are_read, static_images_are_loaded, tables_are_applied,
 };
-use wild_tables::{dynamic_sections_are_read, entries_are_read};
+use wild_records::program_header_is_read;
+use wild_relr::{flat_is_a_run, words_fit};
+use wild_slots::{
+    blocks_are_whole, each_word_stands, entries_are_known, fixed_outputs_move_nothing, pair_stands,
+    places_ascend, slots_stand, stubs_are_there,
+};
+use wild_tables::{
+    dynamic_sections_are_read, entries_add_the_base, entries_are_read, places_are_loaded,
+};
 
 /// Each piece stands in the image, no byte is of two pieces, and a byte that no piece holds is padding.
 pub fn owners_are_known()
     ensures { OwnersAreKnown }
 {}
 
-/// A reader finds each header where the file header tells, and a loader takes them; they tell the output's type, and
-/// where the program begins.
+/// A reader finds each header where the file header tells, and a loader takes them; they tell the output's type, where the program
+/// begins, and the layout's segments, with a dynamic section where a dynamic linker loads the output.
 pub fn headers_stand()
     ensures stand { HeadersStand }
     ensures tell { HeadersTell }
-{}
+{
+    program_header_is_read();
+}
 
 /// In a legal world the segments can be loaded.
 pub fn segments_are_loadable()
@@ -100,3 +110,63 @@ pub fn entries_have_changes()
 pub fn copies_are_there()
     ensures { CopiesAreThere }
 {}
+
+/// Over the loaded segments each packed place and each entry makes a known change, and no two share a byte.
+pub fn tables_are_made()
+    ensures { TablesAreMade }
+{
+    sections_are_carried();
+    sections_are_stored();
+    segments_are_loadable();
+    slots_are_stored();
+    entries_have_changes();
+    copies_are_there();
+    numbers_are_read();
+    entries_make_changes();
+    tables_are_applied();
+    entries_store_words();
+    entries_add_the_base();
+    flat_is_a_run();
+    places_are_loaded();
+    places_ascend();
+    blocks_are_whole();
+}
+
+/// Where the tables were applied each address is more by the base, whether its place is packed or has an entry; each field
+/// that is left to an entry and each slot has what the entry makes of it, each copy the bytes of its answer, and every other
+/// byte is as before.
+pub fn memory_is_moved()
+    ensures { MemoryIsMoved }
+{
+    sections_are_carried();
+    sections_are_stored();
+    segments_are_loadable();
+    slots_are_stored();
+    entries_have_changes();
+    copies_are_there();
+    numbers_are_read();
+    entries_make_changes();
+    tables_are_applied();
+    entries_store_words();
+    entries_add_the_base();
+    flat_is_a_run();
+    places_are_loaded();
+    places_ascend();
+    blocks_are_whole();
+    slots_stand();
+}
+
+/// The loader accepts the image of an output in every legal world, and memory has each kept section as it was decided, the
+/// slots, and the copies.
+pub fn images_are_loaded()
+    ensures { ImagesAreLoaded }
+{
+    headers_stand();
+    segments_are_loadable();
+    tables_are_found();
+    tables_are_made();
+    tables_are_applied();
+    memory_is_moved();
+    dynamic_images_are_loaded();
+    static_images_are_loaded();
+}

@@ -21,3 +21,10 @@ pub mod VersionDefinitions
 pub mod VersionMarks
 pub mod VersionNeeds
 pub mod VersionFits
+pub mod ImageTables
+pub mod PartBytes
+pub mod ShapeLemmas
+pub mod HashBytes
+pub mod NumberedLemmas
+pub mod FoundParts
+pub mod LookUps

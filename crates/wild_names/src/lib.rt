@@ -5,10 +5,16 @@ ghost use Rattle.wild_names.specs.FieldLaws.{ListedSymbolsHaveFields, LocalSymbo
 ghost use Rattle.wild_names.specs.IndexLaws.{LongIndexesStand};
 ghost use Rattle.wild_names.specs.Laws.{LibrariesStand, SymbolTablesAreThere, SymbolsStand, TableSymbolsStand};
 ghost use Rattle.wild_names.specs.VersionLaws.{DefinitionsStand, NeedsStand, VersionsStand};
+ghost use Rattle.wild_names.specs.Below.{ImageLaws, NameLaws};
+ghost use Rattle.wild_names.specs.LookUpLaws.{GnuLookUpsFind, LookUpsWithoutTable, SysvLookUpsFind};
 
 use wild_geometry::{layouts_are_laid_out, tables_stand};
+use wild_hashes::{gnu_look_up_finds_the_first, neighbours_ascend, sysv_look_up_finds_the_first};
 use wild_headers::headers_are_read;
+use wild_loaded::{dynamic_sections_stand, headers_stand};
+use wild_records::{dynamic_entry_is_read, file_header_is_read, program_header_is_read};
 use wild_symbols::{entries_are_counted, names_are_strings};
+use wild_tables::dynamic_sections_are_read;
 use wild_versions::{
     definitions_are_read, needs_are_read, symbol_versions_are_read, versions_are_named,
 };
@@ -83,4 +89,44 @@ pub fn versions_stand()
     definitions_are_read();
     needs_are_read();
     versions_are_named();
+}
+
+/// Headers, the dynamic section, symbols and their names stand in an image, and are read as they are written.
+fn tables_are_read()
+    ensures images { ImageLaws }
+    ensures names { NameLaws }
+{
+    layouts_are_laid_out();
+    tables_stand();
+    headers_stand();
+    dynamic_sections_stand();
+    dynamic_sections_are_read();
+    dynamic_symbols_stand();
+    file_header_is_read();
+    program_header_is_read();
+    dynamic_entry_is_read();
+}
+
+/// In an image with a System V table the look-up of any name finds the first symbol of that name, or none.
+pub fn sysv_names_are_found()
+    ensures { SysvLookUpsFind }
+{
+    tables_are_read();
+    sysv_look_up_finds_the_first();
+}
+
+/// In an image with a GNU table the look-up of any name finds the first symbol of that name, or none.
+pub fn gnu_names_are_found()
+    ensures { GnuLookUpsFind }
+{
+    tables_are_read();
+    gnu_look_up_finds_the_first();
+    neighbours_ascend();
+}
+
+/// Without the part of a table a look-up in it finds none.
+pub fn names_without_a_table()
+    ensures { LookUpsWithoutTable }
+{
+    tables_are_read();
 }

@@ -6,3 +6,4 @@ mod Resolvers
 mod Indirect
 mod Answers
 mod Worlds
+mod Joined

@@ -1,6 +1,6 @@
 -- The premises of the headline are met: kinds, kept items, references and symbols.
-use Rattle.std.proofs.Common.{◌≡◌, ℕ, ◌+◌, ◌%◌, ◌^◌, ◌⊎◌, inl, inr, Bool, true, false, [], ◌∷◌, refl, sym, ap, ◌∙◌, arith, subst}
-use Rattle.std.specs.Prelude.{Option, Some, None, Contains, ◌≢◌, not, ◌&&◌, ◌||◌, ◌==◌}
+use Rattle.std.proofs.Common.{◌≡◌, ℕ, ◌+◌, ◌%◌, ◌^◌, ◌⊎◌, inl, inr, Bool, true, false, List, [], ◌∷◌, refl, sym, ap, ◌∙◌, arith, subst}
+use Rattle.std.specs.Prelude.{Some, None, Contains, ◌≢◌, not, ◌&&◌, ◌||◌, ◌==◌}
 use Rattle.std.specs.List.{list_all}
 use Rattle.std.proofs.lemmas.Bool.{cases_Bool, and_parts, eqb-true}
 use Rattle.wild_words.proofs.Basics.{listed_passes}
@@ -19,8 +19,9 @@ use Rattle.wild_loader.specs.declared.memory.Memory.{Memory}
 use Rattle.wild_loader.specs.declared.world.World.{World}
 use Rattle.wild_meaning.specs.World.{IsFixed, IsMovable, IsLoadable}
 use Rattle.wild_meaning.specs.Value.{HasRaw, HasFlag, HasOwnValue, IsReplaceable, IsAbsolute}
-use Rattle.wild_meaning.specs.Denotes.{HasStub, Denotes, Reaches}
-use Rattle.wild_meaning.specs.Item.{Item}
+use Rattle.wild_loader.specs.Reach.{Reaches}
+use Rattle.wild_meaning.specs.Denotes.{HasStub, Denotes}
+use Rattle.wild_meaning.specs.Item.{Item, IsLoadedSlot, OfSection}
 use Rattle.wild_meaning.specs.Field.{formula_of}
 use Rattle.wild_meaning.specs.Formula.{IsPlaceRelative, TakesAddress, TakesOffset}
 use Rattle.wild_meaning.specs.Section.{IsSet}
@@ -28,6 +29,7 @@ use Rattle.wild_meaning.specs.Sequence.{Sort, TargetInSlot, Partner, Instruction
 use Rattle.wild_meaning.specs.Template.{IsTemplate}
 use Rattle.wild_meaning.specs.Reference.{HasPlace, GoesThroughSlot, IsExcepted, IsAsked, IsLeftToLoader, IsStubbed, TakesItself, IsLinkedAlone}
 use Rattle.wild_meaning.proofs.BitLemmas.{bit_alloc, thread_local_bit}
+use Rattle.wild_meaning.proofs.PairLemmas.{are_several, as_double}
 use Rattle.wild_worlds.specs.Worlds.{KindsAreLoaded}
 use Rattle.wild_worlds.specs.References.{SectionsAreKept, RelocationsRefer, ReferencesAreAsked, SlotsAreAsked, FewAreLinkedAlone, BlanksAreAsked, ResolversAreNotAbsolute}
 use Rattle.wild_worlds.specs.Symbols.{AddressesMove}
@@ -55,11 +57,7 @@ kinds_loaded = record { static = tt; dynamic = tt; static_elsewhere = tt; dynami
 -- ---- items and references
 
 pub sections_kept : SectionsAreKept
-sections_kept = λ l s h. record {
-  section = s;
-  kept = record { input = record { group = h.group; grouped = h.grouped; file = h.file; filed = h.filed; listed = h.listed }; loaded = h.loaded; room = bit_alloc s.flags h.carried; has_data = h.has_data };
-  is = refl;
-}
+sections_kept = λ l s h. OfSection s (record { input = record { group = h.group; grouped = h.grouped; file = h.file; filed = h.filed; listed = h.listed }; loaded = subst IsLoadedSlot (sym h.loaded) tt; room = bit_alloc s.flags h.carried; has_data = h.has_data }) refl
 
 pub relocations_refer : RelocationsRefer
 relocations_refer = λ item r c n. record { listed = c; refers = n }
@@ -97,22 +95,18 @@ abbrev is_through : Sort → Bool
 is_through TargetInSlot = true
 is_through other = false
 
-abbrev is_alone : Option Partner → Bool
-is_alone None = true
-is_alone (Some p) = false
-
 abbrev is_slot_number : ℕ → Bool
 is_slot_number n = n == r_x86_64_gotpcrel || n == r_x86_64_gotpcrelx
 
 -- instructions that go through a slot have one field, of one of two types
 abbrev goes_alone : Instruction → Bool
-goes_alone o = not (is_through o.sort) || (is_alone o.partner && list_all is_slot_number o.numbers)
+goes_alone o = not (is_through o.sort) || (not (are_several o.partners) && list_all is_slot_number o.numbers)
 
 all_go_alone : list_all goes_alone (instructions_of machine.X86_64) ≡ true
 all_go_alone = refl
 
-through_parts : (o : Instruction) → goes_alone o ≡ true → o.sort ≡ TargetInSlot → (is_alone o.partner ≡ true) × (list_all is_slot_number o.numbers ≡ true)
-through_parts o h e = by_sort (is_through o.sort) (is_alone o.partner) (list_all is_slot_number o.numbers) h (ap is_through e)
+through_parts : (o : Instruction) → goes_alone o ≡ true → o.sort ≡ TargetInSlot → (not (are_several o.partners) ≡ true) × (list_all is_slot_number o.numbers ≡ true)
+through_parts o h e = by_sort (is_through o.sort) (not (are_several o.partners)) (list_all is_slot_number o.numbers) h (ap is_through e)
   where
     by_sort : (t a n : Bool) → (not t || (a && n)) ≡ true → t ≡ true → (a ≡ true) × (n ≡ true)
     by_sort true a n h e = and_parts a n h
@@ -133,14 +127,19 @@ slot_numbers n h =
 slot_number : (l : Layout) (item : Item) (r : InputRelocation) → l.machine ≡ machine.X86_64 → GoesThroughSlot l item r → Contains (r_x86_64_gotpcrel ∷ r_x86_64_gotpcrelx ∷ []) r.number
 slot_number l item r x h = by_template l item r h.start h.instruction h.first x h.through h.template
   where
-    parts : (l : Layout) (o : Instruction) → l.machine ≡ machine.X86_64 → Contains (instructions_of l.machine) o → o.sort ≡ TargetInSlot → (is_alone o.partner ≡ true) × (list_all is_slot_number o.numbers ≡ true)
+    parts : (l : Layout) (o : Instruction) → l.machine ≡ machine.X86_64 → Contains (instructions_of l.machine) o → o.sort ≡ TargetInSlot → (not (are_several o.partners) ≡ true) × (list_all is_slot_number o.numbers ≡ true)
     parts l o x known e = through_parts o (listed_passes goes_alone (instructions_of machine.X86_64) o all_go_alone (subst (λ (m : Machine). Contains (instructions_of m) o) x known)) e
+
+    not_several : {X : Type 0} (ps : List Partner) (p : Partner) → ps ≡ p ∷ [] → not (are_several ps) ≡ true → X
+    not_several [] p e h = cc
+    not_several (q ∷ ps) p e h = cc
 
     by_template : (l : Layout) (item : Item) (r : InputRelocation) (start : ℕ) (o : Instruction) (one : InputRelocation) → l.machine ≡ machine.X86_64 → o.sort ≡ TargetInSlot → IsTemplate l item r start o one → Contains (r_x86_64_gotpcrel ∷ r_x86_64_gotpcrelx ∷ []) r.number
     by_template l item r start o one x e (inl t) = slot_numbers r.number (listed_passes is_slot_number o.numbers r.number (parts l o x t.0.stands.known e).1 t.0.stands.number)
     by_template l item r start o one x e (inr t) =
-        let alone : is_alone (Some t.sequence.partner) ≡ true = subst (λ (p : Option Partner). is_alone p ≡ true) t.sequence.calls (parts l o x t.sequence.stands.known e).0 in
-        cc
+        let calls = (as_double l item r start o one x t).sequence.calls in
+        let alone : not (are_several o.partners) ≡ true = (parts l o x t.sequence.stands.known e).0 in
+        not_several o.partners _ calls alone
 
 template_code : (l : Layout) (item : Item) (r : InputRelocation) (start : ℕ) (o : Instruction) (one : InputRelocation) → IsTemplate l item r start o one → IsSet item.flags shf_execinstr
 template_code l item r start o one (inl t) = t.0.stands.code
@@ -192,7 +191,7 @@ few_alone = record {
 
 pub blanks_asked : BlanksAreAsked
 blanks_asked = record {
-  sections = λ l s input loaded room own blank. record { input = input; loaded = loaded; room = bit_alloc s.flags room; shared = λ t. (let both : true ≡ false = sym (thread_local_bit s.flags t) ∙ own in cc); blank = blank };
+  sections = λ l s input loaded room own blank. record { input = input; loaded = subst IsLoadedSlot (sym loaded) tt; room = bit_alloc s.flags room; shared = λ t. (let both : true ≡ false = sym (thread_local_bit s.flags t) ∙ own in cc); blank = blank };
   behind = λ l g a c k from to. record { segment = g; listed = c; loads = k; from = from; to = to };
 }
 

@@ -14,10 +14,12 @@ use Rattle.wild_types.specs.Flags.{non_interposable}
 use Rattle.wild_reloc.specs.Formula.{Formula, formula, Plain, Signed, SlotDistance, ModulePair}
 use Rattle.wild_reloc.specs.FormulaX86_64.{x86_64_formula}
 use Rattle.wild_reloc.proofs.FormLemmas.{plt32_formula}
-use Rattle.wild_meaning.specs.Instruction.{stands, Call, Jump}
+use Rattle.wild_loader.specs.declared.instruction.Deed.TheVariants.{Call, Jump}
+use Rattle.wild_loader.specs.Instruction.{stands}
 use Rattle.wild_meaning.specs.Field.{formula_of, form_width, InNoField}
-use Rattle.wild_meaning.specs.Sequence.{Instruction, size_of, instructions_of, IsOwnByte, by_call}
-use Rattle.wild_meaning.specs.Template.{CountsFromItsEnd, IsInstruction, IsSequence}
+use Rattle.wild_meaning.specs.Sequence.{Instruction, size_of, instructions_of, IsOwnByte}
+use Rattle.wild_meaning.specs.Template.{AddsNothing, IsInstruction, IsSequence}
+use Rattle.wild_meaning.proofs.PairLemmas.{as_its_call}
 use Rattle.wild_laws.proofs.Symbols.{not_both}
 use Rattle.wild_worlds.specs.Worked.{WorkedBranchesAreAsked, WorkedAddressesAreAsked, IsWorked, IsPaired, AsksForThreadAddress, worked_relocation, worked_item, direct_code, indirect_code, load_code, direct_branch, indirect_branch, load, general, pair_relocation, getter_relocation, general_item}
 
@@ -54,7 +56,7 @@ within number offset n from o all known filled e =
     not_itself m h = let same : (m == m) ≡ true = eq-eqb m m refl in cc (rw same at h)
 
 -- code of an instruction at its beginning
-at_start : (l : Layout) (address : ℕ) (bytes : List ℕ) (r : InputRelocation) (o : Instruction) → l.machine ≡ machine.X86_64 → Contains (instructions_of machine.X86_64) o → Contains o.numbers r.number → r.offset ≡ 0 + o.field → 0 + size_of o ≤ length bytes → stands o.template.cells (slice_range bytes 0 (0 + size_of o)) ≡ true → CountsFromItsEnd o.sort r
+at_start : (l : Layout) (address : ℕ) (bytes : List ℕ) (r : InputRelocation) (o : Instruction) → l.machine ≡ machine.X86_64 → Contains (instructions_of machine.X86_64) o → Contains o.numbers r.number → r.offset ≡ 0 + o.field → 0 + size_of o ≤ length bytes → stands o.template.cells (slice_range bytes 0 (0 + size_of o)) ≡ true → AddsNothing machine.X86_64 o.sort r
     → ((k : ℕ) → IsOwnByte o k → k < r.offset) → IsInstruction l (worked_item address bytes (r ∷ [])) r 0 o
 at_start l address bytes r o x known number field inside standing counts own = record {
   code = refl;
@@ -63,18 +65,18 @@ at_start l address bytes r o x known number field inside standing counts own = r
   field = field;
   inside = inside;
   stands = standing;
-  counts = counts;
+  counts = subst (λ (m : Machine). AddsNothing m o.sort r) (sym x) counts;
   alone = λ k h. subst (λ (j : ℕ). InNoField l (worked_item address bytes (r ∷ [])) j) (let e : k ≡ 0 + k = omega arith in e) (before l address bytes r k (own k h));
 }
 
 -- one relocation is no sequence's
-no_next : (l : Layout) (address : ℕ) (bytes : List ℕ) (a r : InputRelocation) (from : ℕ) (p : Instruction) → IsSequence l (worked_item address bytes (r ∷ [])) a r from p → ⊥
-no_next l address bytes a r from p q = at r q.has.index q.has.next
+no_next : (l : Layout) (address : ℕ) (bytes : List ℕ) (a r : InputRelocation) (rest : List InputRelocation) (from : ℕ) (p : Instruction) → l.machine ≡ machine.X86_64 → IsSequence l (worked_item address bytes (r ∷ [])) a rest from p → Contains rest r → ⊥
+no_next l address bytes a r rest from p x q c = let t = as_its_call l (worked_item address bytes (r ∷ [])) a r rest from p x q c in at r t.has.index t.has.next
   where
     at : (r : InputRelocation) (i : ℕ) → slice_get (r ∷ []) (i + 1) ≡ Some r → ⊥
     at r i h = let none = slice_get_past (r ∷ []) (i + 1) (omega arith) in let both : None ≡ Some r = sym none ∙ h in cc
 
-worked : (l : Layout) (address : ℕ) (bytes : List ℕ) (r : InputRelocation) (o : Instruction) → l.machine ≡ machine.X86_64 → r.number ≢ r_x86_64_none → o.partner ≡ None → list_all (is_within r.number r.offset (size_of o)) (instructions_of machine.X86_64) ≡ true → IsInstruction l (worked_item address bytes (r ∷ [])) r 0 o → IsWorked l address bytes r o
+worked : (l : Layout) (address : ℕ) (bytes : List ℕ) (r : InputRelocation) (o : Instruction) → l.machine ≡ machine.X86_64 → r.number ≢ r_x86_64_none → o.partners ≡ [] → list_all (is_within r.number r.offset (size_of o)) (instructions_of machine.X86_64) ≡ true → IsInstruction l (worked_item address bytes (r ∷ [])) r 0 o → IsWorked l address bytes r o
 worked l address bytes r o x refers single all t = (
   record { listed = (0, omega arith, refl); refers = refers },
   inl (
@@ -82,7 +84,7 @@ worked l address bytes r o x refers single all t = (
       single = single;
       stands = t;
       longest = λ from p none s. within r.number r.offset (size_of o) from p all (subst (λ (m : Machine). Contains (instructions_of m) p) x s.known) s.number s.field;
-      free = λ a from p q. no_next l address bytes a r from p q;
+      free = λ a rest from p q c. no_next l address bytes a r rest from p x q c;
     },
     refl,
   ),
@@ -152,28 +154,27 @@ general_stands l address x = record {
   field = refl;
   inside = omega arith;
   stands = refl;
-  counts = refl;
-  alone = λ k h. subst (λ (j : ℕ). InNoField l (general_item address) j) (let e : k ≡ 0 + k = omega arith in e) (beside_both l address k x h.beside h.apart);
+  counts = subst (λ (m : Machine). AddsNothing m general.sort pair_relocation) (sym x) refl;
+  alone = λ k h. subst (λ (j : ℕ). InNoField l (general_item address) j) (let e : k ≡ 0 + k = omega arith in e) (beside_both l address k x h.beside h.apart.0);
 }
 
-general_sequence : (l : Layout) (address : ℕ) → AsksForThreadAddress l → IsSequence l (general_item address) pair_relocation getter_relocation 0 general
+general_sequence : (l : Layout) (address : ℕ) → AsksForThreadAddress l → IsSequence l (general_item address) pair_relocation (getter_relocation ∷ []) 0 general
 general_sequence l address h = record {
-  executable = h.executable;
   stands = general_stands l address h.x86;
-  partner = by_call 12;
-  calls = refl;
-  has = record { index = 0; listed = refl; next = refl; field = refl; number = (1, omega arith, refl); getter = h.getter };
+  several = omega arith;
+  index = 0;
+  listed = refl;
+  has = (record { listed = refl; field = refl; number = (1, omega arith, refl); names = h.getter }, tt);
   symbol = 0;
   named = refl;
-  plain = h.plain;
-  rewritten = λ e other. absurd (not_both l 0 non_interposable h.own other);
+  met = (h.executable, (h.plain, ((λ other. absurd (not_both l 0 non_interposable h.own other)), tt)));
 }
 
 paired : (l : Layout) (address : ℕ) → AsksForThreadAddress l → IsPaired l address pair_relocation
-paired l address h = (record { listed = (0, omega arith, refl); refers = not_none r_x86_64_tlsgd (omega arith) }, inr (record { second = getter_relocation; sequence = general_sequence l address h; one = inl refl }))
+paired l address h = (record { listed = (0, omega arith, refl); refers = not_none r_x86_64_tlsgd (omega arith) }, inr (record { rest = getter_relocation ∷ []; sequence = general_sequence l address h; one = (0, omega arith, refl) }))
 
 getter : (l : Layout) (address : ℕ) → AsksForThreadAddress l → IsPaired l address getter_relocation
-getter l address h = (record { listed = (1, omega arith, refl); refers = not_none r_x86_64_plt32 (omega arith) }, inr (record { second = getter_relocation; sequence = general_sequence l address h; one = inr refl }))
+getter l address h = (record { listed = (1, omega arith, refl); refers = not_none r_x86_64_plt32 (omega arith) }, inr (record { rest = getter_relocation ∷ []; sequence = general_sequence l address h; one = (1, omega arith, refl) }))
 
 pub branches_asked : WorkedBranchesAreAsked
 branches_asked = record { call = worked_call; jump = worked_jump; slot_call = worked_slot_call; slot_jump = worked_slot_jump }

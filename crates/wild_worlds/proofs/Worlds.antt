@@ -20,7 +20,7 @@ use Rattle.wild_worlds.specs.Symbols.{OffsetsCount}
 use Rattle.wild_worlds.proofs.Premises.{apart_kinds}
 use Rattle.wild_worlds.proofs.Resolvers.{pairs_of, HasPairs, has_resolvers, are_answered}
 use Rattle.wild_worlds.proofs.Answers.{answers_of, HasAnswers, others_found, answers_symbols}
-use Rattle.wild_values.specs.Laws.{ThreadPlacesAreKnown}
+use Rattle.wild_references.specs.Laws.{ThreadPlacesAreKnown}
 
 -- ---- legal worlds
 

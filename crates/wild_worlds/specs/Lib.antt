@@ -2,3 +2,4 @@ pub mod Worlds
 pub mod References
 pub mod Symbols
 pub mod Worked
+pub mod Joined

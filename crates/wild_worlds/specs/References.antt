@@ -23,15 +23,15 @@ use Rattle.wild_meaning.specs.World.{IsFixed, IsBehind}
 use Rattle.wild_meaning.specs.Value.{HasFlag, IsAbsolute, IsReplaceable}
 use Rattle.wild_meaning.specs.Field.{formula_of}
 use Rattle.wild_meaning.specs.Formula.{IsPlaceRelative, TakesAddress, TakesOffset}
-use Rattle.wild_meaning.specs.Item.{Item, IsInput, IsKept, IsReference}
+use Rattle.wild_meaning.specs.Item.{Item, IsInput, IsKept, IsReference, item_of}
 use Rattle.wild_meaning.specs.Reference.{HasPlace, GoesThroughSlot, IsAsked, IsLeftToLoader, IsStubbed, IsLinkedAlone}
 use Rattle.wild_meaning.specs.Linked.{IsBlank}
 use Rattle.wild_reloc.specs.Formula.{Formula}
 use Rattle.wild_laws.specs.FirstTypes.{IsLoadedSection}
 
--- each loaded, allocated input section with data is kept, as it stands
+-- each loaded, allocated input section with data is kept, as its item
 abbrev pub SectionsAreKept : Type 0
-SectionsAreKept = (l : Layout) (s : InputSection) → IsLoadedSection l s → IsKept l (record { address = s.address; flags = s.flags; bytes = s.bytes; relocations = s.relocations })
+SectionsAreKept = (l : Layout) (s : InputSection) → IsLoadedSection l s → IsKept l (item_of s)
 
 -- each of an item's relocations but NONE is a reference
 abbrev pub RelocationsRefer : Type 0

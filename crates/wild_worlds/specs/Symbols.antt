@@ -17,7 +17,8 @@ use Rattle.wild_loader.specs.Changes.{answer_at}
 use Rattle.wild_meaning.specs.World.{IsExecutable, IsLegal}
 use Rattle.wild_meaning.specs.Thread.{thread_pointer, IsThreadPlace}
 use Rattle.wild_meaning.specs.Value.{IsDefinedBy, IsResolved, HasRaw, HasFlag, IsReplaceable, HasAnswer, HasValue}
-use Rattle.wild_meaning.specs.Denotes.{HasStub, Reaches, Denotes}
+use Rattle.wild_loader.specs.Reach.{Reaches}
+use Rattle.wild_meaning.specs.Denotes.{HasStub, Denotes}
 use Rattle.wild_meaning.specs.Slot.{IsSlot}
 use Rattle.wild_meaning.specs.Formula.{IsGoal, IsWhole}
 

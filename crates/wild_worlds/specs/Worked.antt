@@ -12,11 +12,14 @@ use Rattle.wild_types.specs.Flags.{ifunc, non_interposable}
 use Rattle.wild_meaning.specs.World.{IsExecutable}
 use Rattle.wild_meaning.specs.Value.{HasFlag}
 use Rattle.wild_meaning.specs.Item.{Item, IsReference}
-use Rattle.wild_meaning.specs.Instruction.{Deed, Number, Word, Set, Call, Jump}
-use Rattle.wild_meaning.specs.CodeX86_64.{rex, with_slot, branch}
-use Rattle.wild_meaning.specs.ThreadCodeX86_64.{general_call}
-use Rattle.wild_meaning.specs.Sequence.{Instruction, Target, TargetInSlot, AddressInSlot, SymbolPair, of_field, of_sequence, by_call}
-use Rattle.wild_meaning.specs.Template.{NamesGetter, IsTemplate}
+use Rattle.wild_loader.specs.declared.instruction.Operand.TheVariants.{Number, Word}
+use Rattle.wild_loader.specs.declared.instruction.Deed.{Deed}
+use Rattle.wild_loader.specs.declared.instruction.Deed.TheVariants.{Set, Call, Jump}
+use Rattle.wild_loader.specs.CodeX86_64.{rex, with_slot, branch}
+use Rattle.wild_loader.specs.ThreadCodeX86_64.{general_call}
+use Rattle.wild_meaning.specs.Sequence.{Instruction, Target, TargetInSlot, AddressInSlot, SymbolPair, of_field, of_sequence, of_symbol, by_call}
+use Rattle.wild_meaning.specs.Partners.{NamesGetter}
+use Rattle.wild_meaning.specs.Template.{IsTemplate}
 
 -- the worked examples' code: an instruction with four bytes that a relocation fills, and two returns; and a sequence with two such
 -- fields
@@ -51,7 +54,7 @@ abbrev pub load : Instruction
 load = of_field (with_slot 0x8b Word Set rex) 3 AddressInSlot (r_x86_64_rex_gotpcrelx ∷ [])
 
 abbrev pub general : Instruction
-general = of_sequence general_call 4 SymbolPair r_x86_64_tlsgd (by_call 12)
+general = of_sequence general_call 4 SymbolPair r_x86_64_tlsgd of_symbol (by_call 12)
 
 -- the code has a reference with that instruction
 abbrev pub IsWorked : Layout → ℕ → List ℕ → InputRelocation → Instruction → Type 0

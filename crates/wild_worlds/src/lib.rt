@@ -3,11 +3,14 @@
 
 ghost use Rattle.wild_worlds.specs.Worlds.{ZeroIsLegal, MovedIsLegal, NoneHasNone, WorldsAreThere, KindsAreLoaded};
 ghost use Rattle.wild_worlds.specs.References.{SectionsAreKept, RelocationsRefer, ReferencesAreAsked, SlotsAreAsked, FewAreLinkedAlone, BlanksAreAsked};
+ghost use Rattle.wild_worlds.specs.Joined.{PremisesAreJoined};
 ghost use Rattle.wild_worlds.specs.Symbols.{AddressesMove, ResolversAnswer, WorldsAnswer, OffsetsCount, SlotsAreOne, SizesAreWhole};
 ghost use Rattle.wild_worlds.specs.Worked.{WorkedAddressesAreAsked, WorkedBranchesAreAsked};
 
 use wild_geometry::layouts_are_laid_out;
-use wild_values::thread_places_are_known;
+use wild_laws::images_are_sound;
+use wild_made::laws_of_calling_plans;
+use wild_references::thread_places_are_known;
 
 /// The premises of soundness are met. A layout without faults has legal worlds, with the distance of its own
 /// thread-local data, whatever its resolvers answer and another module has: at base 0, and where the output is movable at every
@@ -40,4 +43,14 @@ pub fn premises_are_met()
 {
     layouts_are_laid_out();
     thread_places_are_known();
+}
+
+/// They are met together: for each kind of output that is loaded anywhere there is a layout without faults, a legal world at another base
+/// than 0 in which its image is linked, and a kept item with a call through a slot, which is asked there and holds.
+pub fn premises_are_joined()
+    ensures { PremisesAreJoined }
+{
+    layouts_are_laid_out();
+    images_are_sound();
+    laws_of_calling_plans();
 }

@@ -1,5 +1,0 @@
-use Rattle.wild_effects.proofs.KeptDo.{kept_do}
-use Rattle.wild_effects.proofs.kept_instructions_do.Goals as goal
-
-pub returns : goal.returns
-returns c = kept_do c.other_bytes_are_kept.ensures.sequences c.other_bytes_are_kept.ensures.instructions

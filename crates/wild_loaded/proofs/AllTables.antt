@@ -1,0 +1,267 @@
+-- What the tables of a layout fill is known and lies beside each other.
+use Rattle.std.proofs.Common.{◌≡◌, ℕ, ◌+◌, ◌^◌, ◌<◌, ◌≤◌, true, List, [], ◌++◌, get_or, refl, sym, arith, subst}
+use Rattle.std.specs.Prelude.{All, AllPairs, Contains, ◌≢◌, IsPermutation}
+use Rattle.std.specs.List.{flat_map}
+use Rattle.std.proofs.lemmas.List.Elements.{All-nil, All-cons, All-append}
+use Rattle.std.proofs.lemmas.List.{get_or_default}
+use Rattle.wild_words.proofs.Basics.{not_empty}
+use Rattle.wild_words.proofs.ListLemmas.{AllPairs-nil, All-append-right, AllPairs-append, All-flat_map, AllPairs-flat_map}
+use Rattle.wild_records.specs.declared.relocations.Rela.{Rela}
+use Rattle.wild_types.specs.declared.kind.Machine.TheVariants as machine
+use Rattle.wild_types.specs.declared.part.Role.{Role}
+use Rattle.wild_types.specs.declared.part.Role.TheVariants as role
+use Rattle.wild_slot.specs.declared.slot_parts.WordPart.TheVariants as words
+use Rattle.wild_types.specs.declared.input.InputSection.{InputSection}
+use Rattle.wild_types.specs.declared.layout.Layout.{Layout}
+use Rattle.wild_types.specs.Parts.{is_loaded_role}
+use Rattle.wild_needs.specs.SlotShares.{word_size}
+use Rattle.wild_clauses.specs.SlotPlaces.{start_of}
+use Rattle.wild_layout.specs.Numbers.{NumbersFit}
+use Rattle.wild_layout.specs.Faults.{flat_map_from, group_errors}
+use Rattle.wild_layout.specs.SectionPlaces.{SectionLies}
+use Rattle.wild_layout.specs.Geometry.{IsLaidOut}
+use Rattle.wild_relr.specs.Packed.{FlatIsARun}
+use Rattle.wild_tables.specs.Laws.{PlacesAreLoaded}
+use Rattle.wild_loader.specs.Places.{places}
+use Rattle.wild_loader.specs.declared.memory.Memory.{Memory}
+use Rattle.wild_loader.specs.declared.world.World.{World}
+use Rattle.wild_meaning.specs.World.{IsLoadable, IsLegal, IsBehind}
+use Rattle.wild_geometry.proofs.JudgedLemmas.{each_at}
+use Rattle.wild_slots.specs.Order.{end_of}
+use Rattle.wild_slots.specs.Ascend.{Ascend, PlacesAscend}
+use Rattle.wild_slots.specs.Blocks.{BlocksAreWhole}
+use Rattle.wild_loaded.specs.Memory.{image_memory, EachDecided}
+use Rattle.wild_loaded.specs.WholeSlots.{HasWholeSlots}
+use Rattle.wild_loaded.specs.Tables.{tables_of}
+use Rattle.wild_loaded.specs.Laws.{SectionsAreCarried, SegmentsAreLoadable}
+use Rattle.wild_loaded.proofs.PartsHeld.{placed}
+use Rattle.wild_loaded.proofs.SlotSites.{all_sites}
+use Rattle.wild_loaded.specs.FilledLaws.{TablesAreMade}
+use Rattle.wild_loaded.proofs.Fillings.{Table, PackedTable, RelativeTable, GeneralTable, JumpTable, Filling, Misses, AreBeside, IsKnown, Makes, packed_in}
+use Rattle.wild_loaded.proofs.FilledTables.{ChangeLaws, AreSorted, tables_made, patches_apart, All-made}
+use Rattle.wild_loaded.proofs.Homes.{HomesApart, homes_back, beside_across, behind_misses}
+use Rattle.wild_loaded.proofs.SectionsApart.{all_sections, section_home, stored_home}
+use Rattle.wild_loaded.proofs.PlacesApart.{HavePlaces, places_beside}
+use Rattle.wild_loaded.proofs.SectionFillings.{section_fillings}
+use Rattle.wild_loaded.proofs.FilledSections.{input_of, have_places}
+use Rattle.wild_loaded.proofs.SectionsKnown.{SectionLaws, sections_known}
+use Rattle.wild_loaded.proofs.SlotFillings.{pair_sites, got_sites, words_by_sites}
+use Rattle.wild_loaded.proofs.SlotsSpaced.{all_spaced}
+use Rattle.wild_loaded.proofs.SlotsKnown.{SlotLaws, IsFilledSlots, SiteIsKnown, AreFilled, sites_known, sites_filled, blocks_known, blocks_placed, blocks_wide, blocks_ascend}
+use Rattle.wild_loaded.proofs.GotPlaces.{got_ascends}
+use Rattle.wild_loaded.proofs.TableHomes.{role_home, role_there, roles_apart, section_apart, table_ends, InTable, in_table}
+use Rattle.wild_loaded.proofs.CopyFillings.{CopyLaws, HasCopies, copies_filled, LiesBehind, copies_behind, copies_known, copies_beside}
+use Rattle.wild_loaded.proofs.TableLists.{sections_filled, slots_filled, blocks_filled, stored_fillings, all_fillings, all_packed, entries_sorted, jumps_sorted}
+use Rattle.wild_loaded.proofs.PackedTables.{AreWhole, packed_sorted}
+
+-- what the crates below owe
+pub record FilledLaws : Type 0 where
+  pub carried : SectionsAreCarried
+  pub segments : SegmentsAreLoadable
+  pub changes : ChangeLaws
+  pub sections : SectionLaws
+  pub slots : SlotLaws
+  pub copies : CopyLaws
+  pub flat : FlatIsARun
+  pub found : PlacesAreLoaded
+  pub ascend : PlacesAscend
+  pub blocks : BlocksAreWhole
+
+-- what is known of a layout
+pub record IsFilledWell (l : Layout) (w : World) : Type 0 where
+  pub x86 : l.machine ≡ machine.X86_64
+  pub kind : IsLoadable l.kind
+  pub numbers : NumbersFit l
+  pub legal : IsLegal l w
+  pub laid : IsLaidOut l
+  pub decided : EachDecided l
+  pub whole : HasWholeSlots l
+  pub none : flat_map_from (group_errors l) 0 l.groups ≡ []
+
+abbrev pub slots_of_well : (l : Layout) (w : World) → IsFilledWell l w → IsFilledSlots l w
+slots_of_well l w h = record { x86 = h.x86; kind = h.kind; numbers = h.numbers; legal = h.legal; laid = h.laid; whole = h.whole }
+
+abbrev pub copies_of_well : (l : Layout) (w : World) → IsFilledWell l w → HasCopies l w
+copies_of_well l w h = record { x86 = h.x86; numbers = h.numbers; legal = h.legal; laid = h.laid; none = h.none }
+
+-- ---- slots
+
+-- the words of slots that a loader changes lie in their tables, beside each other
+pub record SlotTables (l : Layout) : Type 0 where
+  pub got : InTable l role.Got (slots_filled l)
+  pub block : InTable l role.GotRelr (blocks_filled l)
+
+pub got_filled : (l : Layout) (w : World) → FilledLaws → IsFilledWell l w → AreFilled w (image_memory l w) (start_of l role.Got) (end_of l role.Got) (slots_filled l)
+got_filled l w laws h =
+    let s = slots_of_well l w h in
+    sites_filled l w (start_of l role.Got) (end_of l role.Got) (got_sites l) laws.slots.relative h.x86 (all_spaced l) (sites_known l w laws.slots s) (got_ascends l w laws.ascend laws.slots.stored s)
+
+pub slot_tables : (l : Layout) (w : World) → FilledLaws → IsFilledWell l w → SlotTables l
+slot_tables l w laws h =
+    let got = got_filled l w laws h in
+    let low = (table_ends l role.Got refl h.laid).1 in
+    let a = (laws.ascend l h.whole.order (omega (arith, low))).blocks in
+    let block = subst (λ (xs : List ℕ). Ascend word_size (start_of l role.GotRelr) (end_of l role.GotRelr) xs) (words_by_sites words.Block l) a in
+    let from = blocks_placed (λ (q : ℕ). start_of l role.GotRelr ≤ q) (all_sites l) (λ k d m. (block.within k d m).from) in
+    let to = blocks_placed (λ (q : ℕ). q + 8 ≤ end_of l role.GotRelr) (all_sites l) (λ k d m. (block.within k d m).to) in
+    let wide = blocks_wide (all_sites l) in
+    record {
+      got = in_table l role.Got (start_of l role.Got) (slots_filled l) refl h.laid (omega arith) got.from got.to got.ascend;
+      block = in_table l role.GotRelr (start_of l role.GotRelr) (blocks_filled l) refl h.laid (omega arith) from (λ k d m. (let t = to k d m in let n = wide k d m in omega (arith, t, n))) (blocks_ascend (start_of l role.GotRelr) (end_of l role.GotRelr) (all_sites l) block);
+    }
+
+pub got_apart : (l : Layout) → IsLaidOut l → HomesApart (role_home l role.Got) (role_home l role.GotRelr)
+got_apart l laid = roles_apart l role.Got role.GotRelr refl refl (λ e. cc) laid
+
+tables_beside : (l : Layout) → IsLoadable l.kind → IsLaidOut l → SlotTables l → AllPairs AreBeside (slots_filled l ++ blocks_filled l)
+tables_beside l kind laid t =
+    AllPairs-append AreBeside (slots_filled l) (blocks_filled l) t.got.beside t.block.beside
+    (λ k d m. (λ i e n. beside_across l (role_home l role.Got) (role_home l role.GotRelr) (get_or (slots_filled l) k d) (get_or (blocks_filled l) i e) laid (role_there l role.Got refl kind laid) (role_there l role.GotRelr refl kind laid) (got_apart l laid) (t.got.within k d m) (t.block.within i e n)))
+
+-- ---- sections
+
+pub lies_of : (l : Layout) (s : InputSection) → IsLaidOut l → Contains (all_sections l) s → SectionLies l s
+lies_of l s laid c = each_at (SectionLies l) l s laid.inputs (input_of l s c)
+
+sections_beside : (l : Layout) (r : Role) (xs : List Filling) → is_loaded_role r ≡ true → IsLoadable l.kind → IsLaidOut l → HavePlaces l (section_fillings l) → InTable l r xs → All (λ (x : Filling). All (AreBeside x) xs) (sections_filled l)
+sections_beside l r xs loaded kind laid h t =
+    All-flat_map (λ (x : Filling). All (AreBeside x) xs) (section_fillings l) (all_sections l) (λ i d m. (λ k e n. (λ p f q.
+    let s = get_or (all_sections l) i d in
+    let stored = h.stored i d m (not_empty _ k n) in
+    let c : Contains (all_sections l) s = (i, m, get_or_default (all_sections l) i s d m) in
+    beside_across l (section_home l s) (role_home l r) (get_or (section_fillings l s) k e) (get_or xs p f) laid (stored_home l s stored) (role_there l r loaded kind laid) (homes_back (role_home l r) (section_home l s) (section_apart l r s loaded laid (lies_of l s laid c) stored)) (h.within i d m k e n) (t.within p f q))))
+
+both_beside : (xs ys zs : List Filling) → All (λ (x : Filling). All (AreBeside x) ys) xs → All (λ (x : Filling). All (AreBeside x) zs) xs → All (λ (x : Filling). All (AreBeside x) (ys ++ zs)) xs
+both_beside xs ys zs h k = λ i d m. All-append (AreBeside (get_or xs i d)) ys zs (h i d m) (k i d m)
+
+-- those in file bytes lie beside each other
+stored_beside : (l : Layout) → IsLoadable l.kind → IsLaidOut l → HavePlaces l (section_fillings l) → SlotTables l → AllPairs AreBeside (stored_fillings l)
+stored_beside l kind laid h t =
+    AllPairs-append AreBeside (sections_filled l) (slots_filled l ++ blocks_filled l)
+    (places_beside l (section_fillings l) laid h)
+    (tables_beside l kind laid t)
+    (both_beside (sections_filled l) (slots_filled l) (blocks_filled l) (sections_beside l role.Got (slots_filled l) refl kind laid h t.got) (sections_beside l role.GotRelr (blocks_filled l) refl kind laid h t.block))
+
+-- ---- copies
+
+-- a copy and a filling in file bytes
+behind_beside : (l : Layout) (x y : Filling) → (LiesBehind l y) → ((a : ℕ) → IsBehind l a → Misses a x) → AreBeside x y
+behind_beside l x y behind misses = λ k lt j less e. misses (y.entry.offset + j) (behind j less) k lt (sym e)
+
+table_behind : (l : Layout) (r : Role) (xs : List Filling) → is_loaded_role r ≡ true → IsLoadable l.kind → IsLaidOut l → InTable l r xs → All (λ (x : Filling). (a : ℕ) → IsBehind l a → Misses a x) xs
+table_behind l r xs loaded kind laid t = λ i d m. (λ a b. behind_misses l (role_home l r) a (get_or xs i d) laid (role_there l r loaded kind laid) (t.within i d m) b)
+
+-- no filling in file bytes has a byte behind file bytes
+pub stored_misses : (l : Layout) → IsLoadable l.kind → IsLaidOut l → HavePlaces l (section_fillings l) → SlotTables l → All (λ (x : Filling). (a : ℕ) → IsBehind l a → Misses a x) (stored_fillings l)
+stored_misses l kind laid h t =
+    let P : Filling → Type 0 = λ x. (a : ℕ) → IsBehind l a → Misses a x in
+    All-append P (sections_filled l) (slots_filled l ++ blocks_filled l)
+    (All-flat_map P (section_fillings l) (all_sections l) (λ i d m. (λ k e n. (λ a b. behind_misses l (section_home l (get_or (all_sections l) i d)) a (get_or (section_fillings l (get_or (all_sections l) i d)) k e) laid (stored_home l (get_or (all_sections l) i d) (h.stored i d m (not_empty _ k n))) (h.within i d m k e n) b))))
+    (All-append P (slots_filled l) (blocks_filled l) (table_behind l role.Got (slots_filled l) refl kind laid t.got) (table_behind l role.GotRelr (blocks_filled l) refl kind laid t.block))
+
+-- ---- all of them
+
+pub all_beside : (l : Layout) (w : World) → FilledLaws → IsFilledWell l w → AllPairs AreBeside (all_fillings l w)
+all_beside l w laws h =
+    let have = have_places l laws.carried h.laid h.decided in
+    let t = slot_tables l w laws h in
+    let c = copies_of_well l w h in
+    let misses = stored_misses l h.kind h.laid have t in
+    let behind = copies_behind l w laws.copies c in
+    AllPairs-append AreBeside (stored_fillings l) (copies_filled l w)
+    (stored_beside l h.kind h.laid have t)
+    (copies_beside l w laws.copies c)
+    (λ i d m. (λ k e n. behind_beside l (get_or (stored_fillings l) i d) (get_or (copies_filled l w) k e) (behind k e n) (misses i d m)))
+
+pub all_known : (l : Layout) (w : World) → FilledLaws → IsFilledWell l w → All (IsKnown w (image_memory l w)) (all_fillings l w)
+all_known l w laws h =
+    let P = IsKnown w (image_memory l w) in
+    let s = slots_of_well l w h in
+    let sites = sites_known l w laws.slots s in
+    All-append P (stored_fillings l) (copies_filled l w)
+    (All-append P (sections_filled l) (slots_filled l ++ blocks_filled l)
+    (sections_known l w laws.sections h.x86 h.numbers h.legal h.laid h.decided)
+    (All-append P (slots_filled l) (blocks_filled l) (got_filled l w laws h).known (blocks_known l w (all_sites l) (All-append-right (SiteIsKnown l w) (pair_sites l) (all_sites l) sites))))
+    (copies_known l w laws.copies (copies_of_well l w h))
+
+-- ---- packed places
+
+-- a packed place is low
+place_low : (w : World) (m : Memory) (x : Filling) → IsKnown w m x → All (λ (a : ℕ). a < 2 ^ 64) (packed_in x)
+place_low w m x h = by_table x.table x.entry x.width h.low h.makes
+  where
+    P : ℕ → Type 0
+    P a = a < 2 ^ 64
+
+    by_table : (t : Table) (e : Rela) (n : ℕ) → (1 ≤ n → w.base + e.offset + n ≤ 2 ^ 64) → Makes w m t e n → All P (packed_in (record { table = t; entry = e; width = n }))
+    by_table PackedTable e n low h = All-cons P e.offset [] (let eight = h.0 in let b = low (omega (arith, eight)) in omega (arith, b, eight)) (All-nil P)
+    by_table RelativeTable e n low h = All-nil P
+    by_table GeneralTable e n low h = All-nil P
+    by_table JumpTable e n low h = All-nil P
+
+-- and has a byte
+one_differs : (w : World) (m : Memory) (x y : Filling) → IsKnown w m x → IsKnown w m y → AreBeside x y → All (λ (a : ℕ). All (λ (b : ℕ). a ≢ b) (packed_in y)) (packed_in x)
+one_differs w m x y hx hy beside = first x.table x.entry x.width hx.makes beside
+  where
+    second : (a : ℕ) (t : Table) (e : Rela) (n : ℕ) → Makes w m t e n → Misses a (record { table = t; entry = e; width = n }) → All (λ (b : ℕ). a ≢ b) (packed_in (record { table = t; entry = e; width = n }))
+    second a PackedTable e n h out = All-cons (λ (b : ℕ). a ≢ b) e.offset [] (λ same. out 0 (let eight = h.0 in omega (arith, eight)) (omega (arith, same))) (All-nil (λ (b : ℕ). a ≢ b))
+    second a RelativeTable e n h out = All-nil (λ (b : ℕ). a ≢ b)
+    second a GeneralTable e n h out = All-nil (λ (b : ℕ). a ≢ b)
+    second a JumpTable e n h out = All-nil (λ (b : ℕ). a ≢ b)
+
+    P : ℕ → Type 0
+    P a = All (λ (b : ℕ). a ≢ b) (packed_in y)
+
+    first : (t : Table) (e : Rela) (n : ℕ) → Makes w m t e n → AreBeside (record { table = t; entry = e; width = n }) y → All P (packed_in (record { table = t; entry = e; width = n }))
+    first PackedTable e n h b = All-cons P e.offset [] (second e.offset y.table y.entry y.width hy.makes (λ j lt at. b 0 (let eight = h.0 in omega (arith, eight)) j lt (omega (arith, at)))) (All-nil P)
+    first RelativeTable e n h b = All-nil P
+    first GeneralTable e n h b = All-nil P
+    first JumpTable e n h b = All-nil P
+
+places_differ : (w : World) (m : Memory) (xs : List Filling) → All (IsKnown w m) xs → AllPairs AreBeside xs → AllPairs (λ (a b : ℕ). a ≢ b) (flat_map packed_in xs)
+places_differ w m xs known beside =
+    AllPairs-flat_map (λ (a b : ℕ). a ≢ b) packed_in xs
+    (λ k d lt. one_alone (get_or xs k d).table (get_or xs k d).entry)
+    (λ i j d l n. one_differs w m (get_or xs i d) (get_or xs j d) (known i d (omega (arith, l, n))) (known j d n) (beside i j d l n))
+  where
+    one_alone : (t : Table) (e : Rela) → AllPairs (λ (a b : ℕ). a ≢ b) (packed_in (record { table = t; entry = e; width = 0 }))
+    one_alone PackedTable e = λ i j d l n. absurd (omega (arith, l, n))
+    one_alone RelativeTable e = AllPairs-nil (λ (a b : ℕ). a ≢ b)
+    one_alone GeneralTable e = AllPairs-nil (λ (a b : ℕ). a ≢ b)
+    one_alone JumpTable e = AllPairs-nil (λ (a b : ℕ). a ≢ b)
+
+blocks_whole : (l : Layout) → BlocksAreWhole → IsLaidOut l → HasWholeSlots l → AreWhole l
+blocks_whole l law laid whole = λ g c. law l whole.order (let e = (table_ends l role.GotRelr refl laid).1 in omega (arith, e)) (laid.roles role.GotRelr (placed role.GotRelr refl)).missing g c
+
+packed_there : (l : Layout) (w : World) → FilledLaws → IsFilledWell l w → AllPairs AreBeside (all_fillings l w) → All (IsKnown w (image_memory l w)) (all_fillings l w) → IsPermutation (flat_map packed_in (all_fillings l w)) (places (tables_of l).words)
+packed_there l w laws h beside known =
+    let m = image_memory l w in
+    let xs = all_fillings l w in
+    let same = all_packed l w in
+    let low = subst (All (λ (a : ℕ). a < 2 ^ 64)) same (All-made (IsKnown w m) (λ (a : ℕ). a < 2 ^ 64) packed_in xs (λ x k. place_low w m x k) known) in
+    let differ = subst (AllPairs (λ (a b : ℕ). a ≢ b)) same (places_differ w m xs known beside) in
+    subst (λ (ps : List ℕ). IsPermutation ps (places (tables_of l).words)) (sym same) (packed_sorted l laws.flat laws.found laws.changes.order (blocks_whole l laws.blocks h.laid h.whole) low differ)
+
+-- ---- the tables
+
+pub tables_sorted : (l : Layout) (w : World) → FilledLaws → IsFilledWell l w → AreSorted w (image_memory l w) (tables_of l) (all_fillings l w)
+tables_sorted l w laws h =
+    let beside = all_beside l w laws h in
+    let known = all_known l w laws h in
+    record {
+      machine = laws.segments.machine l w h.x86;
+      packed = packed_there l w laws h beside known;
+      entries = entries_sorted l w h.laid;
+      jumps = jumps_sorted l w;
+      beside = beside;
+      known = known;
+    }
+
+pub all_made : FilledLaws → TablesAreMade
+all_made laws = λ l w x kind numbers legal laid decided whole none.
+    let h : IsFilledWell l w = record { x86 = x; kind = kind; numbers = numbers; legal = legal; laid = laid; decided = decided; whole = whole; none = none } in
+    let sorted = tables_sorted l w laws h in
+    record {
+      made = tables_made w (image_memory l w) (tables_of l) (all_fillings l w) laws.changes sorted;
+      apart = patches_apart w (image_memory l w) (tables_of l) (all_fillings l w) laws.changes sorted;
+    }

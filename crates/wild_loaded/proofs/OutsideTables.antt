@@ -1,0 +1,106 @@
+-- Bytes that no table of the image fills.
+use Rattle.std.proofs.Common.{◌≡◌, ℕ, ◌+◌, ◌<◌, ◌≤◌, ◌⊎◌, inl, inr, true, List, ◌++◌, length, get_or, refl, arith}
+use Rattle.std.specs.Prelude.{All, Contains}
+use Rattle.std.proofs.lemmas.List.Elements.{All-append, All-map}
+use Rattle.std.proofs.lemmas.List.{get_or_default}
+use Rattle.wild_words.proofs.Basics.{not_empty, All-each}
+use Rattle.wild_words.proofs.ListLemmas.{All-flat_map}
+use Rattle.wild_types.specs.declared.part.Role.{Role}
+use Rattle.wild_types.specs.declared.part.Role.TheVariants as role
+use Rattle.wild_types.specs.declared.input.InputSection.{InputSection}
+use Rattle.wild_types.specs.declared.layout.Layout.{Layout}
+use Rattle.wild_types.specs.Parts.{is_loaded_role}
+use Rattle.wild_loader.specs.declared.memory.Memory.{Memory}
+use Rattle.wild_loader.specs.declared.world.World.{World}
+use Rattle.wild_meaning.specs.World.{IsBehind}
+use Rattle.wild_meaning.specs.Linked.{IsNotCopied}
+use Rattle.wild_loaded.specs.Memory.{IsStored}
+use Rattle.wild_loaded.proofs.Fillings.{Filling, Misses, general_of, place_entry}
+use Rattle.wild_loaded.proofs.Homes.{Home, HasHome, homes_back, misses_across, behind_misses}
+use Rattle.wild_loaded.proofs.SectionsApart.{all_sections, section_home, stored_home}
+use Rattle.wild_loaded.proofs.PlacesApart.{misses_all}
+use Rattle.wild_loaded.proofs.SectionFillings.{section_fillings}
+use Rattle.wild_loaded.proofs.TableHomes.{role_home, role_there, roles_apart, section_apart, InTable}
+use Rattle.wild_loaded.proofs.CopyFillings.{all_copies, copy_filling, copies_filled, copies_behind, copy_of}
+use Rattle.wild_loaded.proofs.TableLists.{sections_filled, slots_filled, blocks_filled, stored_fillings, all_fillings}
+use Rattle.wild_loaded.proofs.AllTables.{copies_of_well, lies_of, stored_misses}
+use Rattle.wild_loaded.proofs.MadeChanges.{IsMovedImage}
+
+-- missed by all of them
+all_miss : (l : Layout) (w : World) (a : ℕ) → All (Misses a) (sections_filled l) → All (Misses a) (slots_filled l) → All (Misses a) (blocks_filled l) → All (Misses a) (copies_filled l w) → All (Misses a) (all_fillings l w)
+all_miss l w a s g b c = All-append (Misses a) (stored_fillings l) (copies_filled l w) (All-append (Misses a) (sections_filled l) (slots_filled l ++ blocks_filled l) s (All-append (Misses a) (slots_filled l) (blocks_filled l) g b)) c
+
+-- ---- copies
+
+-- a byte of a run of file bytes is that of no copy
+home_misses : (l : Layout) (w : World) (m : Memory) (h : Home) (k : ℕ) → IsMovedImage l w m → HasHome l h → k < h.size → All (Misses (h.address + k)) (copies_filled l w)
+home_misses l w m h k image there lt = λ i d b. (λ j less e.
+    let y = get_or (copies_filled l w) i d in
+    let behind = copies_behind l w image.laws.filled.copies (copies_of_well l w image.well) i d b j less in
+    let p : Filling = general_of (place_entry (h.address + k)) 1 in
+    behind_misses l h (y.entry.offset + j) p image.well.laid there (record { from = omega arith; to = omega (arith, lt) }) behind 0 (omega arith) (omega (arith, e)))
+
+-- ---- bytes of sections
+
+section_misses_table : (l : Layout) (w : World) (m : Memory) (r : Role) (s : InputSection) (k : ℕ) (xs : List Filling) → IsMovedImage l w m → is_loaded_role r ≡ true → Contains (all_sections l) s → IsStored l s → k < s.size → InTable l r xs → All (Misses (s.address + k)) xs
+section_misses_table l w m r s k xs h loaded c stored lt t = λ i d b.
+    misses_across l (section_home l s) (role_home l r) k (get_or xs i d) h.well.laid (stored_home l s stored) (role_there l r loaded h.well.kind h.well.laid) (homes_back (role_home l r) (section_home l s) (section_apart l r s loaded h.well.laid (lies_of l s h.well.laid c) stored)) lt (t.within i d b)
+
+-- a byte of a section that the section's own fillings miss
+pub section_misses : (l : Layout) (w : World) (m : Memory) (s : InputSection) (k : ℕ) → IsMovedImage l w m → Contains (all_sections l) s → IsStored l s → k < s.size → All (Misses (s.address + k)) (section_fillings l s) → All (Misses (s.address + k)) (all_fillings l w)
+section_misses l w m s k h c stored lt own =
+    all_miss l w (s.address + k)
+    (misses_all l (section_fillings l) s k h.well.laid h.sections c stored lt own)
+    (section_misses_table l w m role.Got s k (slots_filled l) h refl c stored lt h.slots.got)
+    (section_misses_table l w m role.GotRelr s k (blocks_filled l) h refl c stored lt h.slots.block)
+    (home_misses l w m (section_home l s) k h (stored_home l s stored) lt)
+
+-- ---- bytes of tables
+
+table_misses_sections : (l : Layout) (w : World) (m : Memory) (r : Role) (k : ℕ) → IsMovedImage l w m → is_loaded_role r ≡ true → k < (role_home l r).size → All (Misses ((role_home l r).address + k)) (sections_filled l)
+table_misses_sections l w m r k h loaded lt =
+    All-flat_map (Misses ((role_home l r).address + k)) (section_fillings l) (all_sections l) (λ i d b. (λ j e n.
+    let s = get_or (all_sections l) i d in
+    let stored = h.sections.stored i d b (not_empty _ j n) in
+    let c : Contains (all_sections l) s = (i, b, get_or_default (all_sections l) i s d b) in
+    misses_across l (role_home l r) (section_home l s) k (get_or (section_fillings l s) j e) h.well.laid (role_there l r loaded h.well.kind h.well.laid) (stored_home l s stored) (section_apart l r s loaded h.well.laid (lies_of l s h.well.laid c) stored) lt (h.sections.within i d b j e n)))
+
+table_misses_table : (l : Layout) (w : World) (m : Memory) (r t : Role) (k : ℕ) (xs : List Filling) → IsMovedImage l w m → is_loaded_role r ≡ true → is_loaded_role t ≡ true → (r ≡ t → ⊥) → k < (role_home l r).size → InTable l t xs → All (Misses ((role_home l r).address + k)) xs
+table_misses_table l w m r t k xs h lr lt other low table = λ i d b.
+    misses_across l (role_home l r) (role_home l t) k (get_or xs i d) h.well.laid (role_there l r lr h.well.kind h.well.laid) (role_there l t lt h.well.kind h.well.laid) (roles_apart l r t lr lt other h.well.laid) low (table.within i d b)
+
+-- a byte of a stub
+pub stub_misses : (l : Layout) (w : World) (m : Memory) (k : ℕ) → IsMovedImage l w m → k < (role_home l role.PltGot).size → All (Misses ((role_home l role.PltGot).address + k)) (all_fillings l w)
+stub_misses l w m k h lt =
+    all_miss l w ((role_home l role.PltGot).address + k)
+    (table_misses_sections l w m role.PltGot k h refl lt)
+    (table_misses_table l w m role.PltGot role.Got k (slots_filled l) h refl refl (λ e. cc) lt h.slots.got)
+    (table_misses_table l w m role.PltGot role.GotRelr k (blocks_filled l) h refl refl (λ e. cc) lt h.slots.block)
+    (home_misses l w m (role_home l role.PltGot) k h (role_there l role.PltGot refl h.well.kind h.well.laid) lt)
+
+-- a byte of the table of slots that the fillings there miss
+pub got_misses : (l : Layout) (w : World) (m : Memory) (k : ℕ) → IsMovedImage l w m → k < (role_home l role.Got).size → All (Misses ((role_home l role.Got).address + k)) (slots_filled l) → All (Misses ((role_home l role.Got).address + k)) (all_fillings l w)
+got_misses l w m k h lt own =
+    all_miss l w ((role_home l role.Got).address + k)
+    (table_misses_sections l w m role.Got k h refl lt)
+    own
+    (table_misses_table l w m role.Got role.GotRelr k (blocks_filled l) h refl refl (λ e. cc) lt h.slots.block)
+    (home_misses l w m (role_home l role.Got) k h (role_there l role.Got refl h.well.kind h.well.laid) lt)
+
+-- ---- zeros
+
+-- an address behind file bytes to which no symbol's bytes are copied
+pub behind_miss : (l : Layout) (w : World) (m : Memory) (a : ℕ) → IsMovedImage l w m → IsBehind l a → IsNotCopied l w a → All (Misses a) (all_fillings l w)
+behind_miss l w m a h b none =
+    All-append (Misses a) (stored_fillings l) (copies_filled l w)
+    (λ i d lt. stored_misses l h.well.kind h.well.laid h.sections h.slots i d lt a b)
+    (All-map (Misses a) (copy_filling l w) (all_copies l) (All-each (λ (i : ℕ). Misses a (copy_filling l w i)) (all_copies l) (λ i c. missed i c)))
+  where
+    missed : (i : ℕ) → Contains (all_copies l) i → Misses a (copy_filling l w i)
+    missed i c =
+        let k = copy_of l w i h.laws.filled.copies (copies_of_well l w h.well) c in
+        sides (copy_filling l w i) k.raw (length k.answer.bytes) k.place k.width (none i k.raw k.answer k.has)
+      where
+        sides : (x : Filling) (p n : ℕ) → x.entry.offset ≡ p → x.width ≡ n → (a < p) ⊎ (p + n ≤ a) → Misses a x
+        sides x p n ep en (inl lt) = λ j less e. omega (arith, ep, lt, e)
+        sides x p n ep en (inr le) = λ j less e. omega (arith, ep, en, le, less, e)

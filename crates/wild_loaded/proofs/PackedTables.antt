@@ -1,0 +1,247 @@
+-- The words of packed places: a loader finds the places of addresses and of slots in them, and no others.
+use Rattle.std.proofs.Common.{◌≡◌, ℕ, suc, ◌+◌, ◌%◌, ◌^◌, ◌<◌, ◌≤◌, ◌⊎◌, inl, inr, Bool, true, false, List, [], ◌∷◌, ◌++◌, get_or, map, refl, sym, ap, ◌∙◌, arith, subst, append_assoc}
+use Rattle.std.specs.Prelude.{Some, None, All, AllPairs, Contains, ◌≢◌, IsPermutation, option_to_list, if◌then◌else◌, ◌&&◌, ◌==◌}
+use Rattle.std.specs.List.{flat_map}
+use Rattle.std.proofs.lemmas.Bool.{cases_Bool, eqb-true}
+use Rattle.std.proofs.lemmas.List.{append-nil, get_or_default}
+use Rattle.std.proofs.lemmas.List.Concat.{flat_map-append}
+use Rattle.std.proofs.lemmas.List.Folds.{flat_map-map}
+use Rattle.std.proofs.lemmas.List.Elements.{All-nil, All-cons, All-append, All-map}
+use Rattle.std.proofs.lemmas.List.Sorted.{All-permutation, IsPermutation-sym, IsPermutation-trans, IsPermutation-append_left, IsPermutation-map}
+use Rattle.std.proofs.lemmas.List.Kept.{AllPairs-cons}
+use Rattle.wild_words.proofs.ListLemmas.{All-flat_map, AllPairs-nil, AllPairs-head, AllPairs-tail, flat_map-same, flat_map-flat_map}
+use Rattle.wild_types.specs.declared.input.InputRelocation.{InputRelocation}
+use Rattle.wild_types.specs.declared.input.InputSection.{InputSection}
+use Rattle.wild_slot.specs.declared.slot.SlotWord.{SlotWord}
+use Rattle.wild_slot.specs.declared.slot.SlotWord.TheVariants.{Number, Address, InBlock, General, Plt}
+use Rattle.wild_needs.specs.declared.slot_shares.Block.{Block}
+use Rattle.wild_types.specs.declared.file.File.{File}
+use Rattle.wild_types.specs.declared.file.Group.{Group}
+use Rattle.wild_types.specs.declared.layout.Layout.{Layout}
+use Rattle.wild_types.specs.Lookups.{place_of, packs, has_moved}
+use Rattle.wild_needs.specs.Entries.{is_moved, packed_place, packed_places}
+use Rattle.wild_slot.specs.SlotParts.{is_packed, flat_place}
+use Rattle.wild_needs.specs.SlotShares.{block_place, block_of, group_block}
+use Rattle.wild_relr.specs.Packed.{Piece, Places, packed, words_of, words_of_piece, places_of_pieces, places_of_piece, slots, IsEven, FlatIsARun, after_flat, after_run, nothing}
+use Rattle.wild_relr.specs.Packed as relr
+use Rattle.wild_relr.specs.Packing.{State}
+use Rattle.wild_layout.specs.Moved.{file_words}
+use Rattle.wild_layout.specs.SlotBytes.{flat_places_of}
+use Rattle.wild_loader.specs.Places.{places}
+use Rattle.wild_loader.specs.declared.memory.Run.{Run}
+use Rattle.wild_loader.specs.SegmentLaws.{IsApart}
+use Rattle.wild_loader.specs.EntryLaws.{OrderIsFree}
+use Rattle.wild_loader.proofs.Overlaid.{elsewhere}
+use Rattle.wild_tables.specs.Laws.{PlacesAreLoaded}
+use Rattle.wild_slots.specs.Blocks.{IsWhole}
+use Rattle.wild_loaded.specs.Tables.{file_packed, group_words, tables_of}
+use Rattle.wild_loaded.proofs.SlotSites.{of_site, file_sites, flat_by_sites, block_by_sites, all_by_sites, groups_by_sites, all_sites}
+use Rattle.wild_loaded.proofs.PairLemmas.{All-unmap}
+use Rattle.wild_loaded.proofs.Permuted.{flat_map-parts, nested-parts}
+use Rattle.wild_loaded.proofs.SectionsApart.{all_sections, by_files}
+use Rattle.wild_loaded.proofs.FilledTables.{runs_apart_by}
+use Rattle.wild_loaded.proofs.SlotFillings.{made_of}
+use Rattle.wild_loaded.proofs.TableLists.{packed_list}
+use Rattle.wild_loaded.proofs.CopyFillings.{Differ}
+
+-- ---- what is recorded
+
+abbrev file_runs : Layout → File → List Piece
+file_runs l f = map (λ (s : InputSection). Places (packed_places l s)) f.sections ++ map (λ (a : ℕ). Places (a ∷ [])) (flat_places_of l f)
+
+abbrev block_run : Block → Piece
+block_run b = relr.Block b.base b.count
+
+abbrev group_runs : Layout → Group → List Piece
+group_runs l g = flat_map (file_runs l) g.files ++ block_run (block_of (group_block l g)) ∷ []
+
+abbrev all_runs : Layout → List Piece
+all_runs l = flat_map (group_runs l) l.groups
+
+-- what is made of the runs of a layout
+of_file_runs : {Y : Type 0} (h : Piece → List Y) (l : Layout) (f : File) → flat_map h (file_runs l f) ≡ flat_map (λ (s : InputSection). h (Places (packed_places l s))) f.sections ++ flat_map (λ (a : ℕ). h (Places (a ∷ []))) (flat_places_of l f)
+of_file_runs h l f =
+    flat_map-append h (map (λ (s : InputSection). Places (packed_places l s)) f.sections) (map (λ (a : ℕ). Places (a ∷ [])) (flat_places_of l f))
+    ∙ ap (λ ys. ys ++ flat_map h (map (λ (a : ℕ). Places (a ∷ [])) (flat_places_of l f))) (flat_map-map h (λ (s : InputSection). Places (packed_places l s)) f.sections)
+    ∙ ap (λ ys. flat_map (λ (s : InputSection). h (Places (packed_places l s))) f.sections ++ ys) (flat_map-map h (λ (a : ℕ). Places (a ∷ [])) (flat_places_of l f))
+
+of_group_runs : {Y : Type 0} (h : Piece → List Y) (of : File → List Y) (l : Layout) (g : Group) → ((f : File) → flat_map h (file_runs l f) ≡ of f) → flat_map h (group_runs l g) ≡ flat_map of g.files ++ h (block_run (block_of (group_block l g)))
+of_group_runs h of l g each =
+    flat_map-append h (flat_map (file_runs l) g.files) (block_run (block_of (group_block l g)) ∷ [])
+    ∙ ap (λ ys. ys ++ (h (block_run (block_of (group_block l g))) ++ [])) (flat_map-flat_map h (file_runs l) g.files ∙ flat_map-same (λ (f : File). flat_map h (file_runs l f)) of g.files each)
+    ∙ ap (λ ys. flat_map of g.files ++ ys) (append-nil (h (block_run (block_of (group_block l g)))))
+
+each_single : (h : ℕ → List ℕ) (xs : List ℕ) → ((a : ℕ) → h a ≡ a ∷ []) → flat_map h xs ≡ xs
+each_single h [] e = refl
+each_single h (x ∷ xs) e = rw (e x) (ap (λ ys. x ∷ ys) (each_single h xs e))
+
+-- a place of its own is its word
+one_word : FlatIsARun → (a : ℕ) → packed (a ∷ []) ≡ a ∷ []
+one_word law a = sym (ap (λ (s : State). s.words) (law nothing a))
+
+runs_words : FlatIsARun → (l : Layout) → words_of (all_runs l) ≡ (tables_of l).words
+runs_words law l =
+    flat_map-flat_map words_of_piece (group_runs l) l.groups
+    ∙ flat_map-same (λ (g : Group). flat_map words_of_piece (group_runs l g)) (group_words l) l.groups (λ g.
+    of_group_runs words_of_piece (file_packed l) l g (λ f.
+    of_file_runs words_of_piece l f ∙ ap (λ ys. file_words l f ++ ys) (each_single (λ (a : ℕ). packed (a ∷ [])) (flat_places_of l f) (one_word law))))
+
+-- the places of a block are those of its group
+block_places_are : (b : Block) (ps : List ℕ) → IsWhole b ps → places_of_piece (block_run b) ≡ ps
+block_places_are b [] h =
+    elim (cases_Bool (b.base == 0)) [
+      | inl t ↦ rw t refl
+      | inr f ↦ rw f (sym h.places)
+    ]
+block_places_are b (p ∷ ps) h =
+    elim (cases_Bool (b.base == 0)) [
+      | inl t ↦ absurd (h.based (omega arith) (eqb-true b.base 0 t))
+      | inr f ↦ rw f (sym h.places)
+    ]
+
+-- the places that are recorded, in their order
+abbrev recorded_places : Layout → List ℕ
+recorded_places l = flat_map (λ (g : Group). flat_map (λ (f : File). flat_map (packed_places l) f.sections ++ flat_places_of l f) g.files ++ group_block l g) l.groups
+
+abbrev pub AreWhole : Layout → Type 0
+AreWhole l = (g : Group) → Contains l.groups g → IsWhole (block_of (group_block l g)) (group_block l g)
+
+flat_map-listed : {X Y : Type 0} (f g : X → List Y) (xs : List X) → ((x : X) → Contains xs x → f x ≡ g x) → flat_map f xs ≡ flat_map g xs
+flat_map-listed f g [] h = refl
+flat_map-listed {X} {Y} f g (x ∷ xs) h =
+    let here = h x (0, omega arith, refl) in
+    ap (λ ys. ys ++ flat_map f xs) here ∙ ap (λ ys. g x ++ ys) (flat_map-listed f g xs (λ y c. h y (suc c.0, omega (arith, c.1), c.2)))
+
+runs_places : (l : Layout) → AreWhole l → places_of_pieces (all_runs l) ≡ recorded_places l
+runs_places l whole =
+    flat_map-flat_map places_of_piece (group_runs l) l.groups
+    ∙ flat_map-listed (λ (g : Group). flat_map places_of_piece (group_runs l g)) (λ (g : Group). flat_map (λ (f : File). flat_map (packed_places l) f.sections ++ flat_places_of l f) g.files ++ group_block l g) l.groups (λ g c.
+    of_group_runs places_of_piece (λ (f : File). flat_map (packed_places l) f.sections ++ flat_places_of l f) l g (λ f.
+    of_file_runs places_of_piece l f ∙ ap (λ ys. flat_map (packed_places l) f.sections ++ ys) (each_single (λ (a : ℕ). a ∷ []) (flat_places_of l f) (λ a. refl)))
+    ∙ ap (λ ys. flat_map (λ (f : File). flat_map (packed_places l) f.sections ++ flat_places_of l f) g.files ++ ys) (block_places_are (block_of (group_block l g)) (group_block l g) (whole g c)))
+
+-- ---- the order
+
+recorded_sorted : (l : Layout) → IsPermutation (recorded_places l) (packed_list l)
+recorded_sorted l =
+    let a : File → List ℕ = λ f. flat_map (packed_places l) f.sections in
+    let b : File → List ℕ = flat_places_of l in
+    let c : Group → List ℕ = group_block l in
+    let aa = flat_map (λ (g : Group). flat_map a g.files) l.groups in
+    let bb = flat_map (λ (g : Group). flat_map b g.files) l.groups in
+    let cc' = flat_map c l.groups in
+    let outer = flat_map-parts (λ (g : Group). flat_map (λ (f : File). a f ++ b f) g.files) c l.groups in
+    let inner = IsPermutation-append_left cc' (flat_map (λ (g : Group). flat_map (λ (f : File). a f ++ b f) g.files) l.groups) (aa ++ bb) (nested-parts (λ (g : Group). g.files) a b l.groups) in
+    let whole = IsPermutation-trans (recorded_places l) (flat_map (λ (g : Group). flat_map (λ (f : File). a f ++ b f) g.files) l.groups ++ cc') ((aa ++ bb) ++ cc') outer inner in
+    let sections : aa ≡ flat_map (packed_places l) (all_sections l) = sym (by_files (packed_places l) l) in
+    let flats : bb ≡ made_of (flat_place l.options.relr) (all_sites l) = all_by_sites (of_site (flat_place l.options.relr)) b l (flat_by_sites l) in
+    let blocks : cc' ≡ made_of block_place (all_sites l) = groups_by_sites (of_site block_place) c l (block_by_sites l) in
+    let same : (aa ++ bb) ++ cc' ≡ packed_list l = append_assoc aa bb cc' ∙ ap (λ (xs : List ℕ). xs ++ (bb ++ cc')) sections ∙ ap (λ (xs : List ℕ). flat_map (packed_places l) (all_sections l) ++ (xs ++ cc')) flats ∙ ap (λ (xs : List ℕ). flat_map (packed_places l) (all_sections l) ++ (made_of (flat_place l.options.relr) (all_sites l) ++ xs)) blocks in
+    subst (λ (xs : List ℕ). IsPermutation (recorded_places l) xs) same whole
+
+-- ---- even places
+
+packs_even : (relr : Bool) (a : ℕ) → is_packed relr a ≡ true → a % 2 ≡ 0
+packs_even relr a h = by_tests relr (a % 2 == 0) refl h
+  where
+    by_tests : (x y : Bool) → (a % 2 == 0) ≡ y → (x && y) ≡ true → a % 2 ≡ 0
+    by_tests true true e h = eqb-true (a % 2) 0 e
+    by_tests true false e h = cc
+    by_tests false y e h = cc
+
+abbrev EvenPlace : ℕ → Type 0
+EvenPlace a = a % 2 ≡ 0
+
+section_even : (l : Layout) (s : InputSection) → All EvenPlace (packed_places l s)
+unfolding packed_places
+section_even l s = by_test (has_moved l s)
+  where
+    one : (b : Bool) (r : InputRelocation) → packs l (place_of s r) ≡ b → All EvenPlace (option_to_list (if is_moved l s r && b then Some (place_of s r) else None))
+    one true r e = by_move (is_moved l s r)
+      where
+        by_move : (m : Bool) → All EvenPlace (option_to_list (if m && true then Some (place_of s r) else None))
+        by_move true = All-cons EvenPlace (place_of s r) [] (packs_even l.options.relr (place_of s r) e) (All-nil EvenPlace)
+        by_move false = All-nil EvenPlace
+    one false r e = by_move (is_moved l s r)
+      where
+        by_move : (m : Bool) → All EvenPlace (option_to_list (if m && false then Some (place_of s r) else None))
+        by_move true = All-nil EvenPlace
+        by_move false = All-nil EvenPlace
+
+    by_test : (b : Bool) → All EvenPlace (if b then flat_map (λ (r : InputRelocation). option_to_list (packed_place l s r)) s.relocations else [])
+    by_test false = All-nil EvenPlace
+    by_test true = All-flat_map EvenPlace (λ (r : InputRelocation). option_to_list (packed_place l s r)) s.relocations (λ k d b. one (packs l (place_of s (get_or s.relocations k d))) (get_or s.relocations k d) refl)
+
+flat_even : (l : Layout) (f : File) → All EvenPlace (flat_places_of l f)
+flat_even l f = subst (All EvenPlace) (sym (flat_by_sites l f)) (All-flat_map EvenPlace (of_site (flat_place l.options.relr)) (file_sites l f) (λ k d b. one (get_or (file_sites l f) k d).at (get_or (file_sites l f) k d).word))
+  where
+    packed_at : (at : ℕ) (b : Bool) → is_packed l.options.relr at ≡ b → All EvenPlace (option_to_list (if b then Some at else None))
+    packed_at at true e = All-cons EvenPlace at [] (packs_even l.options.relr at e) (All-nil EvenPlace)
+    packed_at at false e = All-nil EvenPlace
+
+    one : (at : ℕ) (d : SlotWord) → All EvenPlace (option_to_list (flat_place l.options.relr at d))
+    one at (Address v) = packed_at at (is_packed l.options.relr at) refl
+    one at (Number n) = All-nil EvenPlace
+    one at (InBlock v) = All-nil EvenPlace
+    one at (General e) = All-nil EvenPlace
+    one at (Plt e) = All-nil EvenPlace
+
+runs_even : (l : Layout) → AreWhole l → All IsEven (all_runs l)
+runs_even l whole =
+    All-flat_map IsEven (group_runs l) l.groups (λ k d b. of_group (get_or l.groups k d) (whole (get_or l.groups k d) (k, b, get_or_default l.groups k (get_or l.groups k d) d b)))
+  where
+    of_file : (f : File) → All IsEven (file_runs l f)
+    of_file f =
+        All-append IsEven (map (λ (s : InputSection). Places (packed_places l s)) f.sections) (map (λ (a : ℕ). Places (a ∷ [])) (flat_places_of l f))
+        (All-map IsEven (λ (s : InputSection). Places (packed_places l s)) f.sections (λ k d b. section_even l (get_or f.sections k d)))
+        (All-map IsEven (λ (a : ℕ). Places (a ∷ [])) (flat_places_of l f) (λ k d b. All-cons EvenPlace (get_or (flat_places_of l f) k d) [] (flat_even l f k d b) (All-nil EvenPlace)))
+
+    of_group : (g : Group) → IsWhole (block_of (group_block l g)) (group_block l g) → All IsEven (group_runs l g)
+    of_group g h =
+        All-append IsEven (flat_map (file_runs l) g.files) (block_run (block_of (group_block l g)) ∷ [])
+        (All-flat_map IsEven (file_runs l) g.files (λ k d b. of_file (get_or g.files k d)))
+        (All-cons IsEven (block_run (block_of (group_block l g))) [] h.even (All-nil IsEven))
+
+-- ---- what a loader finds
+
+-- a byte at a place
+abbrev byte_run : ℕ → Run
+byte_run a = record { start = a; bytes = 0 ∷ [] }
+
+-- whether places differ does not go by their order
+differ-order : OrderIsFree → (xs ys : List ℕ) → IsPermutation xs ys → AllPairs Differ xs → AllPairs Differ ys
+differ-order law xs ys moved h = back ys (law (map byte_run xs) (map byte_run ys) (IsPermutation-map byte_run xs ys moved) (there xs h))
+  where
+    apart : (a b : ℕ) → Differ a b → IsApart (byte_run a) (byte_run b)
+    apart a b d = runs_apart_by (byte_run a) (byte_run b) (λ k j lk lj e. d (omega (arith, lk, lj, e)))
+
+    there : (xs : List ℕ) → AllPairs Differ xs → AllPairs IsApart (map byte_run xs)
+    there [] h = AllPairs-nil IsApart
+    there (x ∷ xs) h = AllPairs-cons IsApart (byte_run x) (map byte_run xs) (All-map (IsApart (byte_run x)) byte_run xs (λ k d m. apart x (get_or xs k d) (AllPairs-head Differ x xs h k d m))) (there xs (AllPairs-tail Differ x xs h))
+
+    differ : (a b : ℕ) → IsApart (byte_run a) (byte_run b) → Differ a b
+    differ a b h = λ e. by_side a b e (elsewhere (byte_run a) (byte_run b) 0 h (omega arith))
+      where
+        by_side : (a b : ℕ) → a ≡ b → (a + 0 < b) ⊎ (b + 1 ≤ a + 0) → ⊥
+        by_side a b e (inl h) = omega (arith, e, h)
+        by_side a b e (inr h) = omega (arith, e, h)
+
+    back : (ys : List ℕ) → AllPairs IsApart (map byte_run ys) → AllPairs Differ ys
+    back [] h = AllPairs-nil Differ
+    back (y ∷ ys) h =
+        let first = All-unmap (IsApart (byte_run y)) byte_run ys (AllPairs-head IsApart (byte_run y) (map byte_run ys) h) in
+        AllPairs-cons Differ y ys (λ k d m. differ y (get_or ys k d) (first k d m)) (back ys (AllPairs-tail IsApart (byte_run y) (map byte_run ys) h))
+
+pub packed_sorted : (l : Layout) → FlatIsARun → PlacesAreLoaded → OrderIsFree → AreWhole l → All (λ (a : ℕ). a < 2 ^ 64) (packed_list l) → AllPairs Differ (packed_list l) → IsPermutation (packed_list l) (places (tables_of l).words)
+packed_sorted l flat law order whole low differ =
+    let moved = recorded_sorted l in
+    let back = IsPermutation-sym (recorded_places l) (packed_list l) moved in
+    let same = sym (runs_places l whole) in
+    let P : List ℕ → Type 0 = λ xs. All (λ (a : ℕ). a < 2 ^ 64) xs in
+    let Q : List ℕ → Type 0 = λ xs. AllPairs (λ (a b : ℕ). a ≢ b) xs in
+    let fit = All-permutation (λ (a : ℕ). a < 2 ^ 64) (packed_list l) (recorded_places l) back low in
+    let other = differ-order order (packed_list l) (recorded_places l) back differ in
+    let found = law (all_runs l) (runs_even l whole) (subst P same fit) (subst Q same other) in
+    let found' = subst (λ (xs : List ℕ). IsPermutation xs (places (words_of (all_runs l)))) (sym same) found in
+    IsPermutation-trans (packed_list l) (recorded_places l) (places (tables_of l).words) back
+    (subst (λ (ws : List ℕ). IsPermutation (recorded_places l) (places ws)) (runs_words flat l) found')

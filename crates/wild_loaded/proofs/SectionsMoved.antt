@@ -1,0 +1,261 @@
+-- A kept section after a loader applied the tables of an image.
+use Rattle.std.proofs.Common.{◌≡◌, ℕ, ◌+◌, ◌%◌, ◌^◌, ◌<◌, ◌≤◌, ◌⊎◌, inl, inr, Bool, true, false, List, [], ◌∷◌, ◌++◌, length, get_or, refl, sym, ap, ◌∙◌, arith, subst}
+use Rattle.std.specs.Prelude.{Option, Some, Ok, Result, All, Contains, option_to_list, if◌then◌else◌, slice_index}
+use Rattle.std.specs.List.{flat_map, range_with_len}
+use Rattle.std.proofs.lemmas.Bool.{cases_lt}
+use Rattle.std.proofs.lemmas.List.Elements.{All-contains, Contains-append_left}
+use Rattle.std.proofs.lemmas.List.FromFn.{get_or-range_with_len, length-range_with_len}
+use Rattle.std.proofs.lemmas.Option.{slice_get_within}
+use Rattle.wild_words.specs.Words.{word}
+use Rattle.wild_words.specs.Overlay.{Piece, Apart}
+use Rattle.wild_words.proofs.Basics.{listed_at, All-each}
+use Rattle.wild_words.proofs.ListLemmas.{All-from_flat_map}
+use Rattle.wild_words.proofs.OrderLemmas.{Outside}
+use Rattle.wild_types.specs.declared.fault.Fault.{Fault}
+use Rattle.wild_types.specs.declared.input.InputRelocation.{InputRelocation}
+use Rattle.wild_types.specs.declared.input.InputSection.{InputSection}
+use Rattle.wild_types.specs.declared.file.File.{File}
+use Rattle.wild_types.specs.declared.layout.Layout.{Layout}
+use Rattle.wild_types.specs.Lookups.{place_of}
+use Rattle.wild_reloc.specs.Field.{size_width}
+use Rattle.wild_reloc.specs.declared.info.RelocationSize.{RelocationSize}
+use Rattle.wild_reloc.specs.declared.info.RelocationSize.TheVariants.{ByteSize}
+use Rattle.wild_reloc.specs.declared.info.Width.TheVariants.{Eight}
+use Rattle.wild_layout.specs.declared.decision.Decision.{Decision}
+use Rattle.wild_layout.specs.declared.decision.Decision.TheVariants.{Nothing, Field, Moved, Left, Rewritten, Partner}
+use Rattle.wild_relax.specs.declared.row.Row.{Row}
+use Rattle.wild_layout.specs.SymbolValues.{sum}
+use Rattle.wild_layout.specs.Decide.{decide}
+use Rattle.wild_layout.specs.Left.{entry_for}
+use Rattle.wild_layout.specs.Moved.{or_zero, moved_value}
+use Rattle.wild_layout.specs.Sites.{field_site, template_site, site, sites}
+use Rattle.wild_layout.specs.SectionPlaces.{FieldLies}
+use Rattle.wild_layout.proofs.DecideLemmas.{HasField, IsMoved, moved_has, decided_moved, decided_left, field_has_bytes}
+use Rattle.wild_layout.proofs.DecisionLemmas.{decide_moved, decide_left, IsOfRow}
+use Rattle.wild_layout.proofs.SiteLemmas.{Contains-flat_map, site_written, site_rewritten, field_lies}
+use Rattle.wild_meaning.specs.Item.{IsInput}
+use Rattle.wild_tables.specs.Tables.{relative_entry}
+use Rattle.wild_loader.specs.declared.change.Change.{Change}
+use Rattle.wild_loader.specs.declared.change.Change.TheVariants as changes
+use Rattle.wild_loader.specs.declared.memory.Memory.{Memory}
+use Rattle.wild_loader.specs.declared.world.World.{World}
+use Rattle.wild_loader.specs.Changes.{bytes_after}
+use Rattle.wild_loader.specs.Memory.{Holds, byte_in}
+use Rattle.wild_loader.specs.Relocate.{loaded_at}
+use Rattle.wild_meaning.proofs.BitLemmas.{kept_is_read}
+use Rattle.wild_geometry.specs.Loaded.{InNoSite, InMemory, HasDecision, ReadsLeft, stored_bytes, HasSection}
+use Rattle.wild_loaded.specs.Memory.{image_memory}
+use Rattle.wild_loaded.proofs.Fillings.{Filling, Misses, IsKnown, packed_at, relative_of, general_of, place_loaded}
+use Rattle.wild_loaded.proofs.SectionsApart.{all_sections, sections_of}
+use Rattle.wild_loaded.proofs.KeptSections.{IsKeptWell}
+use Rattle.wild_loaded.proofs.SectionFillings.{section_filling, section_fillings, Fills, moved_given, left_given}
+use Rattle.wild_loaded.proofs.FilledSections.{IsFilledThere, filling_known, filled_there, filled_site, site_width, site_there, sites_apart_at, place_sum}
+use Rattle.wild_loaded.proofs.SectionsKnown.{before, value_low, relative_makes, field_makes, stored_size}
+use Rattle.wild_loaded.proofs.TableLists.{sections_filled, slots_filled, blocks_filled, stored_fillings, all_fillings}
+use Rattle.wild_loaded.proofs.CopyFillings.{copies_filled}
+use Rattle.wild_loaded.proofs.MadeChanges.{IsMovedImage, kept_at, packed_made, made_over}
+use Rattle.wild_loaded.proofs.OutsideTables.{section_misses}
+
+-- ---- bytes that no entry touches
+
+pub listed_section : (l : Layout) (s : InputSection) → IsInput l s → Contains (all_sections l) s
+listed_section l s k = Contains-flat_map sections_of l.groups k.group s k.grouped (Contains-flat_map (λ (f : File). f.sections) k.group.files k.file s k.filed k.listed)
+
+-- a byte that the section's own fillings miss is as before
+kept_there : (l : Layout) (w : World) (m : Memory) (s : InputSection) (k : ℕ) → IsMovedImage l w m → IsKeptWell l s → k < length s.bytes → ((x : Filling) → IsFilledThere l s x → Misses (s.address + k) x) → byte_in m (w.base + (s.address + k)) ≡ byte_in (image_memory l w) (w.base + (s.address + k))
+kept_there l w m s k h well lt out =
+    let c = listed_section l s well.kept.input in
+    let full = well.full in
+    let stored = h.laws.filled.carried l s h.well.laid well.kept well.decisions (omega (arith, lt)) in
+    let own = All-each (Misses (s.address + k)) (section_fillings l s) (λ x cx. out x (filled_there l s x h.well.laid h.well.decided c (filling_known l s x cx))) in
+    kept_at l w m (s.address + k) h (section_misses l w m s k h c stored (omega (arith, lt, full)) own)
+
+by_side : (at k a n : ℕ) (x : Filling) → n ≡ x.width → x.entry.offset ≡ at + a → (k < a) ⊎ (a + n ≤ k) → Misses (at + k) x
+by_side at k a n x en is (inl h) = λ j lt e. omega (arith, is, h, e)
+by_side at k a n x en is (inr h) = λ j lt e. omega (arith, en, is, h, lt, e)
+
+-- what holds of all sites of a section holds of the one of a relocation
+of_site : (P : Piece → Type 0) (l : Layout) (s : InputSection) (i : ℕ) (p : Piece) → All P (sites l s) → i < length s.relocations → site l s i ≡ p ∷ [] → P p
+of_site P l s i p all within is =
+    let n = length s.relocations in
+    let each = All-from_flat_map P (site l s) (range_with_len 0 n) all i 0 (let e = length-range_with_len 0 n in omega (arith, e, within)) in
+    let at : get_or (range_with_len 0 n) i 0 ≡ i = (let e = get_or-range_with_len 0 n i 0 within in omega (arith, e)) in
+    let own = subst (λ (j : ℕ). All P (site l s j)) at each in
+    let one = subst (λ (ps : List Piece). All P ps) is own in
+    one 0 p (omega arith)
+
+-- a byte of no site
+outside_site : (l : Layout) (s : InputSection) (k : ℕ) (x : Filling) → InNoSite l s k → IsFilledThere l s x → Misses (s.address + k) x
+outside_site l s k x out h =
+    let q = h.filling.relocation in
+    let i = h.filling.index in
+    let o = filled_site l s q x h.by in
+    by_side s.address k q.offset (length o.bytes) x (site_width l s q x h.by) (place_sum l s x h) (of_site (Outside k) l s i o out h.filling.within (site_there l s q x i h.by h.has))
+
+other_there : (l : Layout) (w : World) (m : Memory) (s : InputSection) (k : ℕ) → IsMovedImage l w m → IsKeptWell l s → k < length s.bytes → InNoSite l s k → byte_in m (w.base + s.address + k) ≡ Some (slice_index s.bytes k)
+other_there l w m s k h well lt out =
+    let same = kept_there l w m s k h well lt (λ x there. outside_site l s k x out there) in
+    let at : w.base + (s.address + k) ≡ w.base + s.address + k = omega arith in
+    let same' = subst (λ (a : ℕ). byte_in m a ≡ byte_in (image_memory l w) a) at same in
+    same' ∙ (before l w s h.laws.filled.sections.stored h.well.legal h.well.laid well).others k lt out
+
+-- ---- values, and what is rewritten
+
+still_fills_none : (l : Layout) (s : InputSection) (r : InputRelocation) (x : Filling) (d : Decision) → IsOfRow d → Fills l s r x d → ⊥
+still_fills_none l s r x Nothing still f = absurd still
+still_fills_none l s r x (Field z v) still f = f
+still_fills_none l s r x (Moved v packed) still f = absurd still
+still_fills_none l s r x (Left z n symbol addend) still f = absurd still
+still_fills_none l s r x (Rewritten row v) still f = f
+still_fills_none l s r x Partner still f = absurd still
+
+-- what relocation i writes, and no entry fills
+record IsStillSite (l : Layout) (s : InputSection) (i : ℕ) (p : Piece) : Type 0 where
+  relocation : InputRelocation
+  decision : Decision
+  has : HasDecision l s i relocation decision
+  still : IsOfRow decision
+  is : site l s i ≡ p ∷ []
+
+apart_byte : (at a n b q k : ℕ) (x : Filling) → q ≡ x.width → x.entry.offset ≡ at + b → k < n → (a + n ≤ b) ⊎ (b + q ≤ a) → Misses (at + (a + k)) x
+apart_byte at a n b q k x eq is lt (inl h) = λ j less e. omega (arith, is, lt, h, e)
+apart_byte at a n b q k x eq is lt (inr h) = λ j less e. omega (arith, eq, is, h, less, e)
+
+-- a byte of it
+outside_still : (l : Layout) (s : InputSection) (i : ℕ) (p : Piece) (k : ℕ) (x : Filling) → IsKeptWell l s → IsStillSite l s i p → k < length p.bytes → IsFilledThere l s x → Misses (s.address + (p.at + k)) x
+outside_still l s i p k x well c lt h =
+    let q = h.filling.relocation in
+    let j = h.filling.index in
+    let o = filled_site l s q x h.by in
+    let sj = site_there l s q x j h.by h.has in
+    let within = slice_get_within s.relocations i c.relocation c.has.listed in
+    elim (cases_lt i j) [
+      | inl up ↦ apart_byte s.address p.at (length p.bytes) q.offset (length o.bytes) k x (site_width l s q x h.by) (place_sum l s x h) lt (sites_apart_at l s i j p o well up h.filling.within c.is sj)
+      | inr ge ↦ elim (cases_lt j i) [
+        | inl down ↦ apart_byte s.address p.at (length p.bytes) q.offset (length o.bytes) k x (site_width l s q x h.by) (place_sum l s x h) lt (back p o (sites_apart_at l s j i o p well down within sj c.is))
+        | inr le ↦ absurd (other q j (omega (arith, ge, le)) h.by.decision h.has h.by.fills)
+      ]
+    ]
+  where
+    back : (p o : Piece) → Apart o p → Apart p o
+    back p o (inl h) = inr h
+    back p o (inr h) = inl h
+
+    other : (q : InputRelocation) (j : ℕ) → i ≡ j → (d : Decision) → HasDecision l s j q d → Fills l s q x d → ⊥
+    other q j e d has f =
+        let both : Ok c.decision ≡ Ok d = sym c.has.decided ∙ ap (λ (n : ℕ). decide l s n) e ∙ has.decided in
+        let same : c.decision ≡ d = cc in
+        still_fills_none l s q x d (subst IsOfRow same c.still) f
+
+-- it is as before
+still_there : (l : Layout) (w : World) (m : Memory) (s : InputSection) (i : ℕ) (p : Piece) → IsMovedImage l w m → IsKeptWell l s → IsStillSite l s i p → Holds (image_memory l w) (w.base + s.address + p.at) p.bytes → Holds m (w.base + s.address + p.at) p.bytes
+still_there l w m s i p h well c held = λ k lt.
+    let ends = of_site (λ (o : Piece). o.at + length o.bytes ≤ length s.bytes) l s i p well.decisions.apart.within (slice_get_within s.relocations i c.relocation c.has.listed) c.is in
+    let same = kept_there l w m s (p.at + k) h well (omega (arith, ends, lt)) (λ x there. outside_still l s i p k x well c lt there) in
+    let e : w.base + (s.address + (p.at + k)) ≡ w.base + s.address + p.at + k = omega arith in
+    subst (λ (a : ℕ). byte_in m a ≡ byte_in (image_memory l w) a) e same ∙ held k lt
+
+value_there : (l : Layout) (w : World) (m : Memory) (s : InputSection) (i : ℕ) (r : InputRelocation) (z : RelocationSize) (v : ℕ) → IsMovedImage l w m → IsKeptWell l s → HasDecision l s i r (Field z v) → Holds m (w.base + s.address + r.offset) (field_site s r.offset z v).bytes
+value_there l w m s i r z v h well has =
+    let still : IsStillSite l s i (field_site s r.offset z v) = record { relocation = r; decision = Field z v; has = has; still = tt; is = site_written l s i r (Field z v) (record { size = z; value = v }) has.listed has.decided refl } in
+    still_there l w m s i (field_site s r.offset z v) h well still ((before l w s h.laws.filled.sections.stored h.well.legal h.well.laid well).values i r z v has)
+
+rewritten_there : (l : Layout) (w : World) (m : Memory) (s : InputSection) (i : ℕ) (r : InputRelocation) (row : Row) (v : ℕ) → IsMovedImage l w m → IsKeptWell l s → HasDecision l s i r (Rewritten row v) → Holds m (w.base + s.address + (template_site s r row v).at) (template_site s r row v).bytes
+rewritten_there l w m s i r row v h well has =
+    let still : IsStillSite l s i (template_site s r row v) = record { relocation = r; decision = Rewritten row v; has = has; still = tt; is = site_rewritten l s i r row v has.listed has.decided } in
+    still_there l w m s i (template_site s r row v) h well still ((before l w s h.laws.filled.sections.stored h.well.legal h.well.laid well).rewritten i r row v has)
+
+-- ---- fillings
+
+-- the filling of a relocation is among all
+filling_listed : (l : Layout) (w : World) (s : InputSection) (r : InputRelocation) (x : Filling) → IsKeptWell l s → Contains s.relocations r → section_filling l s r ≡ Some x → Contains (section_fillings l s) x × Contains (all_fillings l w) x
+filling_listed l w s r x well c given =
+    let one : Contains (option_to_list (section_filling l s r)) x = subst (λ (o : Option Filling). Contains (option_to_list o) x) (sym given) (0, omega arith, refl) in
+    let among = Contains-flat_map (λ (q : InputRelocation). option_to_list (section_filling l s q)) s.relocations r x c one in
+    let here : Contains (section_fillings l s) x = subst (λ (b : Bool). Contains (if b then flat_map (λ (q : InputRelocation). option_to_list (section_filling l s q)) s.relocations else []) x) (sym (kept_is_read l s well.kept)) among in
+    let sections = Contains-flat_map (section_fillings l) (all_sections l) s x (listed_section l s well.kept.input) here in
+    (here, Contains-append_left (stored_fillings l) (copies_filled l w) x (Contains-append_left (sections_filled l) (slots_filled l ++ blocks_filled l) x sections))
+
+-- where it is loaded
+place_is : (l : Layout) (w : World) (m : Memory) (s : InputSection) (r : InputRelocation) (x : Filling) → IsMovedImage l w m → IsKeptWell l s → Contains s.relocations r → section_filling l s r ≡ Some x → x.entry.offset ≡ place_of s r → 1 ≤ x.width → r.offset + x.width ≤ length s.bytes → loaded_at w x.entry.offset ≡ w.base + s.address + r.offset
+place_is l w m s r x h well c given is some ends =
+    let both = filling_listed l w s r x well c given in
+    let known = All-contains (IsKnown w (image_memory l w)) (all_fillings l w) x h.sorted.known both.1 in
+    let low = known.low some in
+    let at = place_loaded w x.entry.offset x.width some low in
+    let small = well.lies.small in
+    let full = well.full in
+    omega (arith, at, is, small, full, ends, some)
+
+-- the field of a relocation lies in the section
+ends_of : (l : Layout) (s : InputSection) (r : InputRelocation) (z : RelocationSize) → IsKeptWell l s → Contains s.relocations r → HasField l r z → r.offset + size_width z ≤ length s.bytes
+ends_of l s r z well c f = field_lies l s r z f well.full (All-contains (FieldLies l.machine s.size) s.relocations r well.lies.fields c)
+
+-- ---- addresses
+
+value_same : (l : Layout) (s : InputSection) (r : InputRelocation) (v : ℕ) (packed : Bool) → IsMoved l s r v packed → moved_value l r ≡ v
+value_same l s r v packed a = ap (λ (o : Result ℕ Fault). sum (or_zero o) r.addend) a.given ∙ a.value
+
+address_moved : (l : Layout) (w : World) (m : Memory) (s : InputSection) (i : ℕ) (r : InputRelocation) (v : ℕ) (packed : Bool) → IsMovedImage l w m → IsKeptWell l s → HasDecision l s i r (Moved v packed) → Holds m (w.base + s.address + r.offset) (word 8 ((v + w.base) % 2 ^ 64))
+address_moved l w m s i r v packed h well has = by_packed packed has (decided_moved l s r v packed (decide_moved l s i r v packed has.listed has.decided).made)
+  where
+    c : Contains s.relocations r
+    c = listed_at s.relocations i r has.listed
+
+    by_packed : (b : Bool) → HasDecision l s i r (Moved v b) → IsMoved l s r v b → Holds m (w.base + s.address + r.offset) (word 8 ((v + w.base) % 2 ^ 64))
+    by_packed true there f =
+        let given = moved_given l s r v true f in
+        let at = place_is l w m s r (packed_at (place_of s r)) h well c given refl (omega arith) (ends_of l s r (ByteSize Eight) well c (moved_has l s r v true f)) in
+        let held = (before l w s h.laws.filled.sections.stored h.well.legal h.well.laid well).addresses i r v true there in
+        let listed = (filling_listed l w s r (packed_at (place_of s r)) well c given).1 in
+        let now = packed_made l w m (place_of s r) v h listed (value_low l s r v true f) (subst (λ (a : ℕ). Holds (image_memory l w) a (word 8 v)) (sym at) held) in
+        subst (λ (a : ℕ). Holds m a (word 8 ((v + w.base) % 2 ^ 64))) at now
+    by_packed false there f =
+        let e = relative_entry l (place_of s r) (moved_value l r) in
+        let given = moved_given l s r v false f in
+        let at = place_is l w m s r (relative_of e) h well c given refl (omega arith) (ends_of l s r (ByteSize Eight) well c (moved_has l s r v false f)) in
+        let listed = (filling_listed l w s r (relative_of e) well c given).1 in
+        let small : moved_value l r < 2 ^ 64 = omega arith in
+        let makes = relative_makes l w (place_of s r) (moved_value l r) h.laws.filled.sections.relative h.well.x86 small in
+        let over = made_over l w m (relative_of e) (changes.Word ((w.base + moved_value l r) % 2 ^ 64)) h listed tt makes refl in
+        let same = value_same l s r v false f in
+        let turn : (w.base + moved_value l r) % 2 ^ 64 ≡ (v + w.base) % 2 ^ 64 = ap (λ (n : ℕ). n % 2 ^ 64) (omega (arith, same)) in
+        subst (λ (a : ℕ). Holds m a (word 8 ((v + w.base) % 2 ^ 64))) at (subst (λ (n : ℕ). Holds m (loaded_at w (place_of s r)) (word 8 n)) turn over.made.held)
+
+-- ---- fields that are left to entries
+
+after_is : (c : Change) (n : ℕ) (old : List ℕ) → 1 ≤ n → length (stored_bytes c) ≡ n → bytes_after c old ≡ stored_bytes c
+after_is (changes.Word v) n old some e = refl
+after_is (changes.Half v) n old some e = refl
+after_is (changes.Fill bytes) n old some e = absurd (omega (arith, some, e))
+after_is (changes.Add v) n old some e = absurd (omega (arith, some, e))
+after_is (changes.Descriptor o) n old some e = absurd (omega (arith, some, e))
+
+left_filled : (l : Layout) (w : World) (m : Memory) (s : InputSection) (i : ℕ) (r : InputRelocation) (z : RelocationSize) (n symbol addend : ℕ) → IsMovedImage l w m → IsKeptWell l s → HasDecision l s i r (Left z n symbol addend)
+    → (bs : List ℕ) × Holds m (w.base + s.address + r.offset) bs × ReadsLeft InMemory w z n symbol addend bs
+left_filled l w m s i r z n symbol addend h well has =
+    let c = listed_at s.relocations i r has.listed in
+    let made = (decide_left l s i r z n symbol addend has.listed has.decided).made in
+    let x = general_of (entry_for (place_of s r) n symbol addend) (size_width z) in
+    let given = left_given l s r z n symbol addend made in
+    let some = field_has_bytes l r z (decided_left l s r z n symbol addend made).field in
+    let at = place_is l w m s r x h well c given refl (omega (arith, some)) (ends_of l s r z well c (decided_left l s r z n symbol addend made).field) in
+    let listed = (filling_listed l w s r x well c given).1 in
+    let fills = h.laws.filled.sections.changes.left l w s r z n symbol addend h.well.x86 h.well.numbers h.well.legal h.well.laid c well.kept.input made in
+    let makes = field_makes w (place_of s r) n symbol addend z fills in
+    let over = made_over l w m x fills.change h listed tt makes (stored_size fills.change (size_width z) (omega (arith, some)) fills.width) in
+    let bytes = after_is fills.change (size_width z) over.old (omega (arith, some)) fills.width in
+    let held = subst (λ (bs : List ℕ). Holds m (loaded_at w (place_of s r)) bs) bytes over.made.held in
+    (stored_bytes fills.change, subst (λ (a : ℕ). Holds m a (stored_bytes fills.change)) at held, (fills.change, fills.makes, refl, fills.width))
+
+-- ---- the section
+
+pub section_moved : (l : Layout) (w : World) (m : Memory) (s : InputSection) → IsMovedImage l w m → IsKeptWell l s → HasSection l w m s InMemory
+section_moved l w m s h well = record {
+  ends = (before l w s h.laws.filled.sections.stored h.well.legal h.well.laid well).ends;
+  values = λ i r z v has. value_there l w m s i r z v h well has;
+  addresses = λ i r v packed has. address_moved l w m s i r v packed h well has;
+  left = λ i r z n symbol addend has. left_filled l w m s i r z n symbol addend h well has;
+  rewritten = λ i r row v has. rewritten_there l w m s i r row v h well has;
+  others = λ k lt out. other_there l w m s k h well lt out;
+}

@@ -1,0 +1,161 @@
+-- The parts of slots and stubs in memory: they share no byte with each other, nor with an input section.
+use Rattle.std.proofs.Common.{◌≡◌, ℕ, ◌+◌, ◌-◌, ◌^◌, ◌≤◌, inl, inr, Bool, true, false, List, length, refl, sym, ap, ◌∙◌, arith, subst}
+use Rattle.std.specs.Prelude.{Option, Some, None, All, AllPairs, Contains, slice_get}
+use Rattle.std.proofs.lemmas.Bool.{eqb-true}
+use Rattle.std.proofs.lemmas.List.Elements.{All-contains}
+use Rattle.std.proofs.lemmas.Option.{slice_get-get_or}
+use Rattle.wild_types.specs.declared.part.Part.{Part}
+use Rattle.wild_types.specs.declared.part.Role.{Role}
+use Rattle.wild_types.specs.declared.part.Role.TheVariants as role
+use Rattle.wild_types.specs.declared.input.InputSection.{InputSection}
+use Rattle.wild_types.specs.declared.layout.Layout.{Layout}
+use Rattle.wild_types.specs.Lookups.{takes_file_bytes}
+use Rattle.wild_types.specs.Parts.{role_place, has_role, is_loaded_role, part_with}
+use Rattle.wild_clauses.specs.SlotPlaces.{address_of_part, start_of}
+use Rattle.wild_layout.specs.Image.{offset_in}
+use Rattle.wild_layout.specs.SectionPlaces.{SectionLies, StandsIn, RangesApart}
+use Rattle.wild_layout.specs.Geometry.{IsLaidOut}
+use Rattle.wild_meaning.specs.World.{IsLoadable}
+use Rattle.wild_slots.specs.Order.{end_of}
+use Rattle.wild_slots.specs.Stand.{StandsAt}
+use Rattle.wild_loaded.specs.Memory.{IsStored}
+use Rattle.wild_loaded.proofs.PartsHeld.{placed, part_carried}
+use Rattle.wild_loaded.proofs.Fillings.{Filling, AreBeside}
+use Rattle.wild_loaded.proofs.Homes.{Home, HasHome, HomesApart, LiesIn}
+use Rattle.wild_loaded.proofs.SectionsApart.{section_home}
+
+-- ---- where a part stands
+
+abbrev pub home_of : Option Part → Home
+home_of None = record { address = 0; offset = 0; size = 0 }
+home_of (Some p) = record { address = p.address; offset = p.offset; size = p.size }
+
+-- that of a role, where there is one
+abbrev pub role_home : Layout → Role → Home
+role_home l r = home_of (part_with r l.parts)
+
+pub role_there : (l : Layout) (r : Role) → is_loaded_role r ≡ true → IsLoadable l.kind → IsLaidOut l → HasHome l (role_home l r)
+role_there l r loaded kind laid = by_part (part_with r l.parts) refl
+  where
+    by_part : (o : Option Part) → part_with r l.parts ≡ o → HasHome l (home_of o)
+    by_part None e k lt = absurd (omega (arith, lt))
+    by_part (Some p) e k lt = part_carried l r p k loaded kind laid e lt
+
+-- ---- parts
+
+-- a part of a role that a program reads, by its number
+record IsPartOf (l : Layout) (r : Role) (p : Part) : Type 0 where
+  index : ℕ
+  there : slice_get l.parts index ≡ Some p
+  has : p.role ≡ r
+  takes : takes_file_bytes l p.section ≡ true
+
+not_raw : (p : Part) → is_loaded_role p.role ≡ true → has_role role.Raw p ≡ false
+not_raw p h = by_test (has_role role.Raw p) refl
+  where
+    by_test : (b : Bool) → has_role role.Raw p ≡ b → b ≡ false
+    by_test false e = refl
+    by_test true e = absurd (placed p.role h (raw_place e))
+      where
+        raw_place : has_role role.Raw p ≡ true → role_place p.role ≡ 0
+        raw_place e = eqb-true (role_place p.role) (role_place role.Raw) e
+
+part_of : (l : Layout) (r : Role) (p : Part) → is_loaded_role r ≡ true → IsLaidOut l → part_with r l.parts ≡ Some p → IsPartOf l r p
+part_of l r p loaded laid e =
+    let t = (laid.roles r (placed r loaded)).there p e in
+    let c = t.listed in
+    let raw = not_raw p (subst (λ (x : Role). is_loaded_role x ≡ true) (sym t.has) loaded) in
+    record {
+      index = c.0;
+      there = slice_get-get_or l.parts c.0 p c.1 ∙ ap (λ (q : Part). Some q) c.2;
+      has = t.has;
+      takes = All-contains (λ (q : Part). has_role role.Raw q ≡ false → takes_file_bytes l q.section ≡ true) l.parts p laid.room c raw;
+    }
+
+one_part : (l : Layout) (i j : ℕ) (p q : Part) → slice_get l.parts i ≡ Some p → slice_get l.parts j ≡ Some q → i ≡ j → p ≡ q
+one_part l i j p q a b e = (let both : Some p ≡ Some q = sym a ∙ ap (λ (k : ℕ). slice_get l.parts k) e ∙ b in cc)
+
+-- the parts of two roles
+pub roles_apart : (l : Layout) (r t : Role) → is_loaded_role r ≡ true → is_loaded_role t ≡ true → (r ≡ t → ⊥) → IsLaidOut l → HomesApart (role_home l r) (role_home l t)
+roles_apart l r t lr lt other laid = by_parts (part_with r l.parts) (part_with t l.parts) refl refl
+  where
+    by_parts : (o x : Option Part) → part_with r l.parts ≡ o → part_with t l.parts ≡ x → HomesApart (home_of o) (home_of x)
+    by_parts None x a b = inl (omega arith)
+    by_parts (Some p) None a b = inr (omega arith)
+    by_parts (Some p) (Some q) a b =
+        let m = part_of l r p lr laid a in
+        let n = part_of l t q lt laid b in
+        laid.apart m.index n.index p q m.there n.there (λ e. other (sym m.has ∙ ap (λ (x : Part). x.role) (one_part l m.index n.index p q m.there n.there e) ∙ n.has)) m.takes n.takes
+
+-- the part of a role and an input section
+pub section_apart : (l : Layout) (r : Role) (s : InputSection) → is_loaded_role r ≡ true → IsLaidOut l → SectionLies l s → IsStored l s → HomesApart (role_home l r) (section_home l s)
+section_apart l r s loaded laid lies stored = by_part (part_with r l.parts) refl
+  where
+    within : (p q : Part) → StandsIn l s q → RangesApart p q → HomesApart (home_of (Some p)) (section_home l s)
+    within p q h (inl le) =
+        let at : offset_in (slice_get l.parts s.part) s.address ≡ q.offset + (s.address - q.address) = ap (λ (o : Option Part). offset_in o s.address) h.listed in
+        inl (omega (arith, at, le))
+    within p q h (inr le) =
+        let at : offset_in (slice_get l.parts s.part) s.address ≡ q.offset + (s.address - q.address) = ap (λ (o : Option Part). offset_in o s.address) h.listed in
+        let from = h.from in
+        let to = h.to in
+        inr (omega (arith, at, from, to, le))
+
+    by_part : (o : Option Part) → part_with r l.parts ≡ o → HomesApart (home_of o) (section_home l s)
+    by_part None e = inl (omega arith)
+    by_part (Some p) e =
+        let m = part_of l r p loaded laid e in
+        let q = (lies.owner stored.filled).stands in
+        within p q.0 q.1 (laid.apart m.index s.part p q.0 m.there q.1.listed (λ same. raw_not_loaded r loaded (sym m.has ∙ ap (λ (x : Part). x.role) (one_part l m.index s.part p q.0 m.there q.1.listed same) ∙ q.1.raw)) m.takes q.1.takes)
+      where
+        raw_not_loaded : (t : Role) → is_loaded_role t ≡ true → t ≡ role.Raw → ⊥
+        raw_not_loaded t h e = (let z = subst (λ (x : Role). is_loaded_role x ≡ true) e h in cc)
+
+-- ---- what stands in a table
+
+-- the table of a role ends where its part does
+pub table_ends : (l : Layout) (r : Role) → is_loaded_role r ≡ true → IsLaidOut l → ((start_of l r ≡ (role_home l r).address) × (end_of l r ≡ (role_home l r).address + (role_home l r).size)) × (end_of l r ≤ 2 ^ 62)
+table_ends l r loaded laid = by_part (part_with r l.parts) refl
+  where
+    by_part : (o : Option Part) → part_with r l.parts ≡ o → ((start_of l r ≡ (home_of o).address) × (end_of l r ≡ (home_of o).address + (home_of o).size)) × (end_of l r ≤ 2 ^ 62)
+    by_part None e =
+        let none = ap (λ (bs : List ℕ). length bs) ((laid.roles r (placed r loaded)).missing e) in
+        let start : start_of l r ≡ 0 = ap address_of_part e in
+        ((start, omega (arith, start, none)), omega (arith, start, none))
+    by_part (Some p) e =
+        let t = (laid.roles r (placed r loaded)).there p e in
+        let full = t.size in
+        let start : start_of l r ≡ p.address = ap address_of_part e in
+        let low = part_low p t.listed in
+        ((start, omega (arith, start, full)), omega (arith, start, full, low))
+      where
+        part_low : (p : Part) → Contains l.parts p → p.address + p.size ≤ 2 ^ 62
+        part_low p c = subst (λ (q : Part). q.address + q.size ≤ 2 ^ 62) c.2 (laid.parts c.0 p c.1).address
+
+-- fillings in the table of a role
+pub record InTable (l : Layout) (r : Role) (xs : List Filling) : Type 0 where
+  pub within : All (LiesIn (role_home l r)) xs
+  pub beside : AllPairs AreBeside xs
+
+abbrev pub EndsBefore : Filling → Filling → Type 0
+EndsBefore x y = x.entry.offset + x.width ≤ y.entry.offset
+
+pub in_table : (l : Layout) (r : Role) (low : ℕ) (xs : List Filling) → is_loaded_role r ≡ true → IsLaidOut l → start_of l r ≤ low → All (λ (x : Filling). low ≤ x.entry.offset) xs → All (λ (x : Filling). x.entry.offset + x.width ≤ end_of l r) xs → AllPairs EndsBefore xs → InTable l r xs
+in_table l r low xs loaded laid start from to ascend =
+    let e = table_ends l r loaded laid in
+    let s = e.0.0 in
+    let t = e.0.1 in
+    record {
+      within = λ k d m. (let f = from k d m in let g = to k d m in record { from = omega (arith, s, start, f); to = omega (arith, t, g) });
+      beside = λ i j d lt m. (let h = ascend i j d lt m in λ k lk o lo e. omega (arith, h, lk, e));
+    }
+
+-- a byte of what stands there
+pub stands_inside : (l : Layout) (r : Role) (at : ℕ) (bs : List ℕ) → is_loaded_role r ≡ true → IsLaidOut l → StandsAt l r at bs → ((role_home l r).address ≤ at) × (at + length bs ≤ (role_home l r).address + (role_home l r).size)
+stands_inside l r at bs loaded laid h =
+    let e = table_ends l r loaded laid in
+    let s = e.0.0 in
+    let t = e.0.1 in
+    let from = h.from in
+    let to = h.to in
+    (omega (arith, s, from), omega (arith, t, to))

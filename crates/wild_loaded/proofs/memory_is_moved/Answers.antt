@@ -1,0 +1,36 @@
+use Rattle.wild_loaded.proofs.Moving.{memory_moved}
+use Rattle.wild_loaded.proofs.memory_is_moved.Goals as goal
+
+pub returns : goal.returns
+returns c = memory_moved (record {
+  filled = record {
+    carried = c.sections_are_carried.ensures;
+    segments = c.segments_are_loadable.ensures;
+    changes = record {
+      read = c.numbers_are_read.ensures;
+      moved = c.entries_make_changes.ensures.moved;
+      entries = c.entries_make_changes.ensures.entries;
+      order = c.tables_are_applied.ensures.order;
+    };
+    sections = record {
+      stored = c.sections_are_stored.ensures.sections;
+      changes = c.entries_have_changes.ensures;
+      relative = record { base = c.entries_add_the_base.ensures; relatives = c.entries_store_words.ensures.relative };
+    };
+    slots = record {
+      stored = c.slots_are_stored.ensures;
+      changes = c.entries_have_changes.ensures;
+      relative = record { base = c.entries_add_the_base.ensures; relatives = c.entries_store_words.ensures.relative };
+    };
+    copies = record {
+      changes = c.entries_have_changes.ensures;
+      there = c.copies_are_there.ensures;
+      zeros = c.sections_are_stored.ensures.zeros;
+    };
+    flat = c.flat_is_a_run.ensures;
+    found = c.places_are_loaded.ensures;
+    ascend = c.places_ascend.ensures;
+    blocks = c.blocks_are_whole.ensures;
+  };
+  stand = c.slots_stand.ensures;
+})

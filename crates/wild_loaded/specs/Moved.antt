@@ -1,0 +1,46 @@
+-- The memory of an image whose tables were applied.
+--   HasApplied l w m   memory has what each place and each entry changes, and every other byte is as before
+--   HasMoved l w m     memory has each kept section as it was decided, the slots and stubs, copies, and zeros where they were
+use Rattle.std.specs.Prelude.{◌≡◌, ℕ, ◌+◌, ◌++◌, Some, All}
+use Rattle.wild_records.specs.declared.relocations.Rela.{Rela}
+use Rattle.wild_types.specs.declared.input.InputSection.{InputSection}
+use Rattle.wild_types.specs.declared.layout.Layout.{Layout}
+use Rattle.wild_geometry.specs.Slots.{HasSlots}
+use Rattle.wild_geometry.specs.Loaded.{HasSection, InMemory}
+use Rattle.wild_loader.specs.declared.change.Patch.{Patch}
+use Rattle.wild_loader.specs.declared.memory.Machine.TheVariants as processors
+use Rattle.wild_loader.specs.declared.memory.Memory.{Memory}
+use Rattle.wild_loader.specs.declared.world.World.{World}
+use Rattle.wild_loader.specs.declared.world.Answer.{Answer}
+use Rattle.wild_loader.specs.Changes.{first_value}
+use Rattle.wild_loader.specs.Memory.{byte_in, Holds}
+use Rattle.wild_loader.specs.Places.{places}
+use Rattle.wild_loader.specs.Relocate.{runs_of_patches}
+use Rattle.wild_loader.specs.SegmentLaws.{IsElsewhere}
+use Rattle.wild_loader.specs.EntryLaws.{patches_of}
+use Rattle.wild_meaning.specs.World.{IsBehind, HasCopy}
+use Rattle.wild_meaning.specs.Item.{IsKeptSection}
+use Rattle.wild_meaning.specs.Linked.{IsNotCopied}
+use Rattle.wild_loaded.specs.Memory.{image_memory}
+use Rattle.wild_loaded.specs.Tables.{tables_of}
+use Rattle.wild_loaded.specs.Words.{place_change, entry_change}
+
+-- memory has the bytes of a change, and its descriptor where it notes one
+pub record IsMade (m : Memory) (p : Patch) : Type 0 where
+  pub held : Holds m p.run.start p.run.bytes
+  pub noted : (o : ℕ) → p.offset ≡ Some o → first_value m.descriptors p.run.start ≡ Some o
+
+-- memory has what each packed place and each entry changes of the loaded segments, and every other byte is as before
+pub record HasApplied (l : Layout) (w : World) (m : Memory) : Type 0 where
+  pub machine : m.machine ≡ processors.X86_64
+  pub words : All (λ x. IsMade m (place_change w (image_memory l w) x)) (places (tables_of l).words)
+  pub entries : All (λ (e : Rela). IsMade m (entry_change w (image_memory l w) e)) ((tables_of l).entries ++ (tables_of l).jumps)
+  pub others : (a : ℕ) → All (IsElsewhere a) (runs_of_patches (patches_of (tables_of l) (place_change w (image_memory l w)) (entry_change w (image_memory l w)))) → byte_in m a ≡ byte_in (image_memory l w) a
+
+-- memory has each kept section with its addresses more by the base and what is left to entries, the slots and stubs, copies of
+-- symbols, and else zeros behind the file bytes of segments
+pub record HasMoved (l : Layout) (w : World) (m : Memory) : Type 0 where
+  pub sections : (s : InputSection) → IsKeptSection l s → HasSection l w m s InMemory
+  pub slots : HasSlots l w m
+  pub zeros : (a : ℕ) → IsBehind l a → IsNotCopied l w a → byte_in m (w.base + a) ≡ Some 0
+  pub copies : (i raw : ℕ) (x : Answer) → HasCopy l w i raw x → Holds m (w.base + raw) x.bytes

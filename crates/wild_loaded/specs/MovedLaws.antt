@@ -1,0 +1,25 @@
+-- The image of a laid out layout is loaded in every legal world.
+--   MemoryIsMoved     applying the tables moves the addresses, fills fields, slots and copies, and changes no other byte
+--   ImagesAreLoaded   the loader accepts the image, and memory has each kept section as it was decided, and the slots
+use Rattle.std.specs.Prelude.{◌≡◌, []}
+use Rattle.wild_types.specs.declared.kind.Machine.TheVariants as machine
+use Rattle.wild_types.specs.declared.layout.Layout.{Layout}
+use Rattle.wild_layout.specs.Numbers.{NumbersFit}
+use Rattle.wild_layout.specs.Faults.{flat_map_from, group_errors}
+use Rattle.wild_layout.specs.Geometry.{IsLaidOut}
+use Rattle.wild_loader.specs.declared.memory.Memory.{Memory}
+use Rattle.wild_loader.specs.declared.world.World.{World}
+use Rattle.wild_meaning.specs.World.{IsLoadable, IsLegal}
+use Rattle.wild_loaded.specs.Memory.{EachDecided, HasMemory}
+use Rattle.wild_loaded.specs.WholeSlots.{HasWholeSlots}
+use Rattle.wild_loaded.specs.Moved.{HasApplied, HasMoved}
+
+-- where the tables were applied to the loaded segments of an image without faults, each address is more by the base, each field
+-- and each slot has what fills it, each copy its bytes, and every other byte is as before
+abbrev pub MemoryIsMoved : Type 0
+MemoryIsMoved = (l : Layout) (w : World) (m : Memory) → l.machine ≡ machine.X86_64 → IsLoadable l.kind → NumbersFit l → IsLegal l w → IsLaidOut l → EachDecided l → HasWholeSlots l → flat_map_from (group_errors l) 0 l.groups ≡ []
+    → HasApplied l w m → HasMoved l w m
+
+-- so the image of an output is loaded in every legal world, with a dynamic section and without one
+abbrev pub ImagesAreLoaded : Type 0
+ImagesAreLoaded = (l : Layout) (w : World) → l.machine ≡ machine.X86_64 → IsLoadable l.kind → NumbersFit l → IsLegal l w → IsLaidOut l → EachDecided l → HasWholeSlots l → flat_map_from (group_errors l) 0 l.groups ≡ [] → HasMemory l w

@@ -1,5 +1,0 @@
-use Rattle.wild_lookups.proofs.LookUps.{none_found}
-use Rattle.wild_lookups.proofs.names_without_a_table.Goals as goal
-
-pub returns : goal.returns
-returns c = none_found c.tables_are_read.ensures.images

@@ -1,0 +1,124 @@
+-- The slot of an address: the first one has the symbol's value, a second one its stub's address.
+use Rattle.std.proofs.Common.{◌≡◌, ℕ, ◌+◌, ◌%◌, ◌^◌, ◌<◌, inl, inr, Bool, true, false, List, [], ◌∷◌, ◌++◌, Option, Some, None, refl, sym, ◌∙◌, arith, subst}
+use Rattle.std.specs.Prelude.{◌||◌, if◌then◌else◌}
+use Rattle.wild_reloc.specs.declared.dynamic.DynamicRelocationKind.TheVariants.{GotEntry}
+use Rattle.wild_slot.specs.declared.slot.SlotItem.{SlotItem}
+use Rattle.wild_slot.specs.declared.slot.SlotItem.TheVariants.{Word}
+use Rattle.wild_slot.specs.declared.slot.SlotWord.TheVariants.{Number, Address, General}
+use Rattle.wild_types.specs.declared.symbol.Resolution.{Resolution}
+use Rattle.wild_types.specs.declared.layout.Layout.{Layout}
+use Rattle.wild_types.specs.Flags.{has_flag, ifunc_got_for_address, canonical_plt_got_for_address}
+use Rattle.wild_types.specs.Kinds.{is_position_independent}
+use Rattle.wild_slot.specs.Slots.{setting_of, named, general, stub_items, stub_address, where_so, number, ifunc_address_items, canonical_address_items}
+use Rattle.wild_slot.specs.Stub.{far_of}
+use Rattle.wild_types.specs.SymbolSlots.{has_thread_slot}
+use Rattle.wild_reloc.specs.Formula.{AddressSlot}
+use Rattle.wild_reloc.specs.declared.expression.SlotSort.TheVariants as sorts
+use Rattle.wild_layout.specs.SlotValues.{has_second_slot, behind_word}
+use Rattle.wild_geometry.specs.Slots.{IsLoadedWord}
+use Rattle.wild_loader.specs.StepLaws.{StubsOfValuesAreRead}
+use Rattle.wild_loader.specs.declared.memory.Memory.{Memory}
+use Rattle.wild_loader.specs.declared.world.World.{World}
+use Rattle.wild_meaning.specs.Slot.{HasWord}
+use Rattle.wild_meaning.specs.Denotes.{IsStub}
+use Rattle.wild_meaning.proofs.WorldLemmas.{word_below}
+use Rattle.wild_references.specs.Terms.{IsPlaced}
+use Rattle.wild_references.proofs.EntryWords.{got_is_address}
+use Rattle.wild_references.proofs.FirstSlots.{HasFirst, first_held, named_held, items_behind}
+use Rattle.wild_references.proofs.SlotContents.{ItemsHold}
+use Rattle.wild_references.proofs.SlotTerms.{SlotStands, SlotsStand, by_slot}
+use Rattle.wild_references.proofs.SymbolStubs.{stub_from, stub_is}
+use Rattle.wild_references.proofs.Symbols.{IsResolvedBy}
+
+-- ---- the second slot
+
+-- its word is the address of the stub
+record HasSecond (w : World) (m : Memory) (pi : Bool) (at : ℕ) (plt : Option ℕ) : Type 0 where
+  pub stub : ℕ
+  pub given : plt ≡ Some stub
+  pub value : ℕ
+  pub there : HasWord m (w.base + at) value
+  pub is : IsLoadedWord w m (w.base + at) (if pi then Address stub else Number stub) value
+
+-- behind the stub, which takes no word
+second_held : (l : Layout) (w : World) (m : Memory) (at : ℕ) (far plt : Option ℕ) (more : List SlotItem) → ItemsHold w m at (stub_items far plt ++ (stub_address (setting_of l) plt ∷ more)) → HasSecond w m (is_position_independent l.kind) at plt
+second_held l w m at far None more h = absurd h
+second_held l w m at (Some d) (Some stub) more h = absurd h
+second_held l w m at None (Some stub) more h = by_kind (is_position_independent l.kind) h
+  where
+    by_kind : (pi : Bool) → ItemsHold w m at ((if pi then Word (Address stub) else number stub) ∷ more) → HasSecond w m pi at (Some stub)
+    by_kind true h = record { stub = stub; given = refl; value = h.0.0; there = h.0.1; is = h.0.2 }
+    by_kind false h = record { stub = stub; given = refl; value = h.0.0; there = h.0.1; is = h.0.2 }
+
+-- of a symbol whose flag asks for it
+second_asked : (l : Layout) (w : World) (m : Memory) (at : ℕ) (r : Resolution) → has_flag r.flags ifunc_got_for_address ≡ true → ItemsHold w m at (items_behind l r) → HasSecond w m (is_position_independent l.kind) at r.plt_address
+second_asked l w m at r asked h =
+    let far = far_of l.machine r in
+    let more = canonical_address_items (setting_of l) r in
+    let item = stub_address (setting_of l) r.plt_address in
+    let here = subst (λ (b : Bool). ItemsHold w m at (stub_items far r.plt_address ++ (where_so b (item ∷ []) ++ more))) asked h in
+    second_held l w m at far r.plt_address more here
+
+-- the loaded address of the stub
+second_is : (w : World) (m : Memory) (place : ℕ) (pi : Bool) (stub x : ℕ) → (pi ≡ false → w.base ≡ 0) → w.base + stub < 2 ^ 64 → IsLoadedWord w m place (if pi then Address stub else Number stub) x → x ≡ (w.base + stub) % 2 ^ 64
+second_is w m place true stub x still low h = h ∙ omega arith
+second_is w m place false stub x still low h = let z = still refl in omega (arith, h, z, low)
+
+-- ---- the slot of an address
+
+first_stands : (l : Layout) (w : World) (m : Memory) (i at : ℕ) (rest : List SlotItem) → HasFirst l w m i at rest → SlotStands AddressSlot l w m i at
+first_stands l w m i at rest h = record { holds = (h.value, h.there, inl h.is); below = word_below m (w.base + at) h.value h.there }
+
+second_stands : StubsOfValuesAreRead → (l : Layout) (w : World) (m : Memory) (i at : ℕ) (r : Resolution) → IsPlaced l w m → IsResolvedBy l i r → HasSecond w m (is_position_independent l.kind) at r.plt_address → SlotStands AddressSlot l w m i at
+second_stands law l w m i at r p d h =
+    let stub = stub_from law l w m i h.stub r p d h.given in
+    let same = second_is w m (w.base + at) (is_position_independent l.kind) h.stub h.value p.still stub.below h.is in
+    record {
+      holds = (h.value, h.there, inr (subst (λ (a : ℕ). IsStub l w m i a) (sym same) (stub_is l w m i h.stub stub)));
+      below = word_below m (w.base + at) h.value h.there;
+    }
+
+-- ---- the second slot of a function whose stub is canonical
+
+-- behind the stub, which takes no word
+behind_stub : (w : World) (m : Memory) (at : ℕ) (far plt : Option ℕ) (xs : List SlotItem) → ItemsHold w m at (stub_items far plt ++ xs) → ItemsHold w m at xs
+behind_stub w m at far None xs h = h
+behind_stub w m at None (Some stub) xs h = h
+behind_stub w m at (Some d) (Some stub) xs h = absurd h
+
+canonical_stands : (l : Layout) (w : World) (m : Memory) (i at : ℕ) (r : Resolution) → IsPlaced l w m → IsResolvedBy l i r → has_flag r.flags ifunc_got_for_address ≡ false → has_flag r.flags canonical_plt_got_for_address ≡ true → ItemsHold w m at (items_behind l r) → SlotStands AddressSlot l w m i at
+canonical_stands l w m i at r p d plain asked h =
+    let far = far_of l.machine r in
+    let item = stub_address (setting_of l) r.plt_address in
+    let own = named r.dynamic_symbol_index (λ d. general GotEntry d 0) in
+    let here = behind_stub w m at far r.plt_address (ifunc_address_items (setting_of l) r ++ canonical_address_items (setting_of l) r) h in
+    let here' = subst (λ (b : Bool). ItemsHold w m at (where_so b (item ∷ []) ++ canonical_address_items (setting_of l) r)) plain here in
+    let there = subst (λ (b : Bool). ItemsHold w m at (where_so b (own ∷ []))) asked here' in
+    first_stands l w m i at [] (named_held l w m i at r [] GotEntry (λ e. General e) p d got_is_address (λ e x f. f) there)
+
+-- ---- the one that references take
+
+second_by : StubsOfValuesAreRead → (l : Layout) (w : World) (m : Memory) (i at : ℕ) (r : Resolution) → IsPlaced l w m → IsResolvedBy l i r → has_second_slot r.flags ≡ true → ItemsHold w m at (items_behind l r) → SlotStands AddressSlot l w m i at
+second_by law l w m i at r p d e h = by_flag (has_flag r.flags ifunc_got_for_address) refl e
+  where
+    by_flag : (b : Bool) → has_flag r.flags ifunc_got_for_address ≡ b → (b || has_flag r.flags canonical_plt_got_for_address) ≡ true → SlotStands AddressSlot l w m i at
+    by_flag true asked e = second_stands law l w m i at r p d (second_asked l w m at r asked h)
+    by_flag false plain e = canonical_stands l w m i at r p d plain e h
+
+behind_by : StubsOfValuesAreRead → (l : Layout) (w : World) (m : Memory) (i at : ℕ) (r : Resolution) (b : Bool) → IsPlaced l w m → IsResolvedBy l i r → has_second_slot r.flags ≡ b → HasFirst l w m i at (items_behind l r) → SlotStands AddressSlot l w m i (behind_word b at)
+behind_by law l w m i at r false p d e first = first_stands l w m i at (items_behind l r) first
+behind_by law l w m i at r true p d e first =
+    let there = second_by law l w m i (at + 8) r p d e first.behind in
+    let low = there.below in
+    let same : (at + 8) % 2 ^ 64 ≡ at + 8 = omega (arith, low) in
+    subst (λ (n : ℕ). SlotStands AddressSlot l w m i n) (sym same) there
+
+-- where the writer knows of a slot for an address, memory has it
+pub slots_stand : StubsOfValuesAreRead → (l : Layout) (w : World) (m : Memory) → IsPlaced l w m → SlotsStand sorts.Address l w m
+slots_stand law l w m p = λ i slot h. by_slot sorts.Address l i slot (λ (n : ℕ). SlotStands AddressSlot l w m i n) h (λ r at d e among. by_flag i slot r at d e (has_thread_slot r.flags) refl among)
+  where
+    by_flag : (i slot : ℕ) (r : Resolution) (at : ℕ) → IsResolvedBy l i r → r.got_address ≡ Some at → (thread : Bool) → has_thread_slot r.flags ≡ thread → (if thread then None else Some (behind_word (has_second_slot r.flags) at)) ≡ Some slot → SlotStands AddressSlot l w m i slot
+    by_flag i slot r at d e true plain h = cc
+    by_flag i slot r at d e false plain h =
+        let same : behind_word (has_second_slot r.flags) at ≡ slot = cc in
+        subst (λ (n : ℕ). SlotStands AddressSlot l w m i n) same (behind_by law l w m i at r (has_second_slot r.flags) p d refl (first_held l w m i at r p d e plain))

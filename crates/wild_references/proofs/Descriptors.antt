@@ -1,0 +1,120 @@
+-- Where descriptors' references are offsets, each of them is rewritten: one that is kept is in no such code.
+use Rattle.std.proofs.Common.{◌≡◌, ℕ, ◌≤◌, ◌⊎◌, inl, inr, Bool, true, false, length, refl, ap, ◌∙◌, subst}
+use Rattle.std.specs.Prelude.{Option, Some, None, Ok, slice_get, ◌==◌, ◌||◌, not, if◌then◌else◌}
+use Rattle.std.proofs.lemmas.Bool.{cases_Bool, eq-eqb}
+use Rattle.wild_records.specs.Abi.Relocation.{r_x86_64_pc32, r_x86_64_gotpc32_tlsdesc, r_x86_64_code_4_gotpc32_tlsdesc, r_x86_64_tlsdesc_call}
+use Rattle.wild_types.specs.declared.kind.Machine.{Machine}
+use Rattle.wild_types.specs.declared.kind.Machine.TheVariants as machine
+use Rattle.wild_types.specs.declared.kind.OutputKind.{OutputKind}
+use Rattle.wild_types.specs.declared.kind.OutputKind.TheVariants as output
+use Rattle.wild_types.specs.declared.fault.Missing.TheVariants as missing
+use Rattle.wild_types.specs.declared.input.InputRelocation.{InputRelocation}
+use Rattle.wild_types.specs.declared.input.InputSection.{InputSection}
+use Rattle.wild_types.specs.declared.symbol.Resolution.{Resolution}
+use Rattle.wild_types.specs.declared.symbol.ValueFlags.{ValueFlags}
+use Rattle.wild_types.specs.declared.layout.Layout.{Layout}
+use Rattle.wild_types.specs.Flags.{has_flag, interposable, ifunc, got_tls_offset, got_tls_module, got_tls_descriptor}
+use Rattle.wild_types.specs.Kinds.{is_executable, is_static_executable}
+use Rattle.wild_types.specs.Lookups.{canonical}
+use Rattle.wild_types.specs.SymbolSlots.{has_thread_slot}
+use Rattle.wild_slot.specs.Treatment.{flags_at}
+use Rattle.wild_reloc.specs.declared.expression.SlotSort.TheVariants as sorts
+use Rattle.wild_reloc.specs.declared.info.RelocationKind.TheVariants as kinds
+use Rattle.wild_relax.specs.declared.pattern.Prefix.{Prefix}
+use Rattle.wild_relax.specs.declared.pattern.Prefix.TheVariants.{Rex, Rex2}
+use Rattle.wild_relax.specs.declared.row.DescriptorUse.TheVariants.{LocalExec, InitialExec}
+use Rattle.wild_relax.specs.declared.row.Row.TheVariants.{DescriptorLea, DescriptorCall}
+use Rattle.wild_relax.specs.Rows.{rows_x86_64, number_of}
+use Rattle.wild_layout.specs.Choice.{question_of, choice_of}
+use Rattle.wild_layout.specs.SlotValues.{slot_of, behind_word, behind_pair}
+use Rattle.wild_layout.specs.Values.{term_of}
+use Rattle.wild_meaning.specs.Formula.{KnowsOffsets, HasOffsetMode}
+use Rattle.wild_meaning.specs.Item.{item_of}
+use Rattle.wild_meaning.proofs.BitLemmas.{code_bit}
+use Rattle.wild_references.specs.Terms.{SymbolsFit}
+use Rattle.wild_references.proofs.DescriptorSlots.{thread_of}
+use Rattle.wild_references.proofs.Rows.{row_applies, nothing_stands, unchosen}
+use Rattle.wild_references.proofs.SlotFlags.{symbol_fits, thread_not_chosen}
+use Rattle.wild_references.proofs.SlotTerms.{by_slot}
+use Rattle.wild_references.proofs.Symbols.{IsResolvedBy, flags_are}
+use Rattle.wild_references.proofs.Written.{given_some}
+
+-- ---- outputs whose references are offsets
+
+-- the rows of descriptors stand there
+record RowsStand (l : Layout) : Type 0 where
+  program : is_executable l.kind ≡ true
+  duty : (l.options.relax || is_static_executable l.kind) ≡ true
+
+rows_stand : (l : Layout) → l.machine ≡ machine.X86_64 → KnowsOffsets l.machine l.kind l → RowsStand l
+rows_stand l x86 h = by_kind l.kind refl (subst (λ (k : Machine). KnowsOffsets k l.kind l) x86 h)
+  where
+    either_true : (a b : Bool) → b ≡ true → (a || b) ≡ true
+    either_true true b e = refl
+    either_true false b e = e
+
+    first_true : (a b : Bool) → a ≡ true → (a || b) ≡ true
+    first_true true b e = refl
+    first_true false b e = cc
+
+    by_kind : (k : OutputKind) → l.kind ≡ k → KnowsOffsets machine.X86_64 k l → RowsStand l
+    by_kind (output.StaticExecutable any) e h = record { program = ap is_executable e; duty = either_true l.options.relax (is_static_executable l.kind) (ap is_static_executable e) }
+    by_kind (output.DynamicExecutable any) e h = record { program = ap is_executable e; duty = first_true l.options.relax (is_static_executable l.kind) h }
+    by_kind output.SharedObject e h = absurd h
+    by_kind output.PartialObject e h = absurd h
+
+-- ---- the reference itself
+
+-- which of both rows stands is told by whose symbol it is
+lea_kept : (l : Layout) (s : InputSection) (r : InputRelocation) (next : Option InputRelocation) (p : Prefix) (i a b : ℕ) → choice_of l s r next ≡ Ok None → l.machine ≡ machine.X86_64 → r.symbol ≡ Some i
+    → slice_get rows_x86_64 a ≡ Some (DescriptorLea p LocalExec) → slice_get rows_x86_64 b ≡ Some (DescriptorLea p InitialExec) → (r.number == r_x86_64_pc32) ≡ false → (r.number == number_of (DescriptorLea p LocalExec)) ≡ true → (r.number == number_of (DescriptorLea p InitialExec)) ≡ true
+    → has_flag (flags_at l i) ifunc ≡ false → r.offset ≤ length s.bytes → HasOffsetMode l (item_of s) → ⊥
+lea_kept l s r next p i a b none x86 named first second other local initial plain inside h =
+    let q = question_of l s r i next in
+    let k = rows_stand l x86 h.0 in
+    let code = code_bit s.flags h.1 in
+    let direct : not (has_flag (flags_at l i) ifunc) ≡ true = rw plain refl in
+    let bytes = nothing_stands s.bytes r.offset inside in
+    elim (cases_Bool (not (interposable (flags_at l i)))) [
+      | inl own ↦
+          (let stands = row_applies q (DescriptorLea p LocalExec) local k.duty code direct k.program own refl bytes in
+          let gone = unchosen l s r next i a (DescriptorLea p LocalExec) none x86 named other first in
+          cc)
+      | inr open_one ↦
+          (let taken : not (not (interposable (flags_at l i))) ≡ true = rw open_one refl in
+          let stands = row_applies q (DescriptorLea p InitialExec) initial k.duty code direct k.program taken refl bytes in
+          let gone = unchosen l s r next i b (DescriptorLea p InitialExec) none x86 named other second in
+          cc)
+    ]
+
+-- a symbol with a descriptor is none that a resolver chooses
+described_plain : (l : Layout) (i slot : ℕ) → SymbolsFit l → slot_of l sorts.Descriptor i ≡ Some slot → has_flag (flags_at l i) ifunc ≡ false
+described_plain l i slot fit h = by_slot sorts.Descriptor l i slot (λ (n : ℕ). has_flag (flags_at l i) ifunc ≡ false) h (λ r at d e among. by_flag r at d (has_flag r.flags got_tls_descriptor) refl among)
+  where
+    by_flag : (r : Resolution) (at : ℕ) → IsResolvedBy l i r → (b : Bool) → has_flag r.flags got_tls_descriptor ≡ b → (if b then Some (behind_pair (has_flag r.flags got_tls_module) (behind_word (has_flag r.flags got_tls_offset) at)) else None) ≡ Some slot → has_flag (flags_at l i) ifunc ≡ false
+    by_flag r at d false asked h = cc
+    by_flag r at d true asked h =
+        let fits = symbol_fits l i d.symbol fit d.listed in
+        let flags : r.flags ≡ d.symbol.flags = fits.flags r d.decided in
+        let thread : has_thread_slot d.symbol.flags ≡ true = subst (λ (f : ValueFlags). has_thread_slot f ≡ true) flags (thread_of r.flags asked) in
+        ap (λ (f : ValueFlags). has_flag f ifunc) (flags_are l i (canonical l i) d.symbol d.defined d.listed) ∙ thread_not_chosen d.symbol fits.alone thread
+
+-- the reference to a descriptor that is kept is in no such code
+pub descriptor_kept : (l : Layout) (s : InputSection) (r : InputRelocation) (next : Option InputRelocation) (i term : ℕ) → choice_of l s r next ≡ Ok None → l.machine ≡ machine.X86_64 → SymbolsFit l → r.symbol ≡ Some i → (r.number ≡ r_x86_64_gotpc32_tlsdesc) ⊎ (r.number ≡ r_x86_64_code_4_gotpc32_tlsdesc) → term_of l r.symbol kinds.TlsDesc ≡ Ok term → r.offset ≤ length s.bytes → HasOffsetMode l (item_of s) → ⊥
+descriptor_kept l s r next i term none x86 fit named number given inside h =
+    let here : term_of l (Some i) kinds.TlsDesc ≡ Ok term = subst (λ (o : Option ℕ). term_of l o kinds.TlsDesc ≡ Ok term) named given in
+    let plain = described_plain l i term fit (given_some missing.Slot i (slot_of l sorts.Descriptor i) term here) in
+    elim number [
+      | inl e ↦ lea_kept l s r next Rex i 28 30 none x86 named refl refl (ap (λ (n : ℕ). n == r_x86_64_pc32) e) (eq-eqb r.number r_x86_64_gotpc32_tlsdesc e) (eq-eqb r.number r_x86_64_gotpc32_tlsdesc e) plain inside h
+      | inr e ↦ lea_kept l s r next Rex2 i 29 31 none x86 named refl refl (ap (λ (n : ℕ). n == r_x86_64_pc32) e) (eq-eqb r.number r_x86_64_code_4_gotpc32_tlsdesc e) (eq-eqb r.number r_x86_64_code_4_gotpc32_tlsdesc e) plain inside h
+    ]
+
+-- ---- the call
+
+pub call_kept : (l : Layout) (s : InputSection) (r : InputRelocation) (next : Option InputRelocation) (i : ℕ) → choice_of l s r next ≡ Ok None → l.machine ≡ machine.X86_64 → r.symbol ≡ Some i → r.number ≡ r_x86_64_tlsdesc_call → HasOffsetMode l (item_of s) → ⊥
+call_kept l s r next i none x86 named number h =
+    let q = question_of l s r i next in
+    let k = rows_stand l x86 h.0 in
+    let stands = row_applies q DescriptorCall (eq-eqb r.number r_x86_64_tlsdesc_call number) k.duty (code_bit s.flags h.1) refl k.program refl refl refl in
+    let gone = unchosen l s r next i 32 DescriptorCall none x86 named (ap (λ (n : ℕ). n == r_x86_64_pc32) number) refl in
+    cc

@@ -1,0 +1,71 @@
+-- Each stub in memory goes on to the address in its symbol's first slot.
+use Rattle.std.proofs.Common.{◌≡◌, ℕ, ◌+◌, Bool, true, false, List, ◌∷◌, Option, Some, None, refl, sym, ap, ◌∙◌, subst}
+use Rattle.std.specs.Prelude.{is_some, if◌then◌else◌}
+use Rattle.wild_reloc.specs.declared.dynamic.DynamicRelocationKind.TheVariants.{GotEntry, JumpSlot}
+use Rattle.wild_words.proofs.ListLemmas.{holds_at}
+use Rattle.wild_types.specs.declared.symbol.Resolution.{Resolution}
+use Rattle.wild_types.specs.declared.layout.Layout.{Layout}
+use Rattle.wild_types.specs.Flags.{has_flag, canonical_plt}
+use Rattle.wild_types.specs.ResolvedFlags.{HasItsFlags}
+use Rattle.wild_types.specs.SymbolSlots.{resolved_got, plt_of, resolved_plt, has_dynamic_symbol, has_thread_slot}
+use Rattle.wild_clauses.proofs.ClauseLemmas.{not_thread}
+use Rattle.wild_slot.specs.declared.slot.SlotItem.{SlotItem}
+use Rattle.wild_slot.specs.declared.slot.SlotItem.TheVariants.{Word}
+use Rattle.wild_slot.specs.declared.slot.SlotWord.{SlotWord}
+use Rattle.wild_slot.specs.declared.slot.SlotWord.TheVariants.{General, Plt}
+use Rattle.wild_slot.specs.Slots.{setting_of, named, general, plt, plain_item}
+use Rattle.wild_loader.specs.declared.memory.Memory.{Memory}
+use Rattle.wild_loader.specs.declared.world.World.{World}
+use Rattle.wild_loader.specs.StepLaws.{StubsOfValuesAreRead}
+use Rattle.wild_meaning.specs.Slot.{HasWord}
+use Rattle.wild_references.specs.Stubs.{StubsGoOn}
+use Rattle.wild_references.proofs.SlotContents.{ItemsHold}
+use Rattle.wild_references.proofs.SlotFlags.{slot_of_stub}
+use Rattle.wild_references.proofs.FirstSlots.{own_item, own_is, symbol_held, as_address, items_behind}
+use Rattle.wild_references.proofs.StubCode.{stub_jumps}
+use Rattle.wild_references.proofs.SymbolStubs.{in_reach}
+
+-- what memory has of slots that begin with a word
+record BeginsWithWord (w : World) (m : Memory) (at : ℕ) (rest : List SlotItem) : Type 0 where
+  pub word : ℕ
+  pub there : HasWord m (w.base + at) word
+  pub behind : ItemsHold w m (at + 8) rest
+
+begins : (w : World) (m : Memory) (at : ℕ) (v : SlotWord) (rest : List SlotItem) → ItemsHold w m at (Word v ∷ rest) → BeginsWithWord w m at rest
+begins w m at v rest h = let x = h.0 in record { word = x.0; there = x.1; behind = h.1 }
+
+-- those of an address do
+first_word : (l : Layout) (w : World) (m : Memory) (at : ℕ) (r : Resolution) (rest : List SlotItem) → ItemsHold w m at (plain_item (setting_of l) r ∷ rest) → BeginsWithWord w m at rest
+first_word l w m at r rest h = by_tests (has_flag r.flags canonical_plt) (has_dynamic_symbol r.flags) h
+  where
+    entry : (o : Option ℕ) (word : ℕ → SlotWord) → ItemsHold w m at (named o (λ d. Word (word d)) ∷ rest) → BeginsWithWord w m at rest
+    entry None word h = absurd h
+    entry (Some d) word h = begins w m at (word d) rest h
+
+    by_tests : (canonical looked : Bool) → ItemsHold w m at ((if canonical then named r.dynamic_symbol_index (λ d. plt JumpSlot d 0) else if looked then named r.dynamic_symbol_index (λ d. general GotEntry d 0) else own_item (setting_of l) r) ∷ rest) → BeginsWithWord w m at rest
+    by_tests true looked h = entry r.dynamic_symbol_index (λ d. Plt (record { kind = JumpSlot; symbol = d; addend = 0 })) h
+    by_tests false true h = entry r.dynamic_symbol_index (λ d. General (record { kind = GotEntry; symbol = d; addend = 0 })) h
+    by_tests false false h = begins w m at _ rest (subst (λ (x : SlotItem). ItemsHold w m at (x ∷ rest)) (own_is (setting_of l) r) h)
+
+has_resolution : (o : Option Resolution) (r : Resolution) → o ≡ Some r → is_some o ≡ true
+has_resolution None r h = cc
+has_resolution (Some q) r h = refl
+
+pub each_stub : StubsOfValuesAreRead → StubsGoOn
+each_stub law = λ l w m x machine own agrees slots i p s r listed decided stub.
+    let flags = agrees.resolved i s listed (has_resolution s.resolution r decided) in
+    let has : plt_of s ≡ Some p = ap resolved_plt decided ∙ stub in
+    let slot = slot_of_stub s p flags.stub has in
+    let at = slot.0 in
+    let given : r.got_address ≡ Some at = sym (ap resolved_got decided) ∙ slot.1 in
+    let plain : has_thread_slot r.flags ≡ false = ap has_thread_slot (holds_at HasItsFlags l.symbols i s listed own r decided) ∙ not_thread s p flags.alone has in
+    let here = slots.symbols i at s listed slot.1 in
+    let items = as_address l w m at r given plain (symbol_held l w m at s r here decided) in
+    let first = first_word l w m at r (items_behind l r) items in
+    record {
+      slot = at;
+      given = given;
+      target = first.word;
+      word = first.there;
+      jumps = stub_jumps law m w.base at p first.word machine (in_reach l w m at p r x given stub first.behind) (here.stub p has) first.there;
+    }

@@ -1,0 +1,201 @@
+-- A kept section in memory, and the fields of its relocations.
+use Rattle.std.proofs.Common.{◌≡◌, ℕ, ℤ, ◌+◌, ◌%◌, ◌^◌, ◌<◌, ◌≤◌, Bool, true, false, List, [], ◌∷◌, length, slice_range, refl, sym, ap, ◌∙◌, arith, subst}
+use Rattle.std.specs.Prelude.{Some, All, slice_get, if◌then◌else◌, ◌==◌}
+use Rattle.std.specs.List.{list_all}
+use Rattle.std.proofs.lemmas.Bool.{and_parts}
+use Rattle.wild_words.specs.Words.{word}
+use Rattle.wild_words.proofs.WordLemmas.{number-word, length-word}
+use Rattle.wild_words.proofs.Basics.{length-range}
+use Rattle.wild_words.proofs.ListLemmas.{holds_at}
+use Rattle.wild_types.specs.declared.kind.Machine.{Machine}
+use Rattle.wild_types.specs.declared.kind.Machine.TheVariants as machine
+use Rattle.wild_types.specs.declared.input.InputRelocation.{InputRelocation}
+use Rattle.wild_types.specs.declared.input.InputSection.{InputSection}
+use Rattle.wild_types.specs.declared.layout.Layout.{Layout}
+use Rattle.wild_types.specs.Lookups.{allocated}
+use Rattle.wild_reloc.specs.Field.{field_width, size_width, written}
+use Rattle.wild_reloc.specs.Formula.{Formula, Form, formula_at, NoField, Plain, Full, Bits, Keeps, Reads}
+use Rattle.wild_reloc.specs.Agreement.{X86_64Agrees, WidthsHold}
+use Rattle.wild_reloc.specs.declared.info.RelocationKindInfo.{RelocationKindInfo}
+use Rattle.wild_reloc.specs.FormulaX86_64.{x86_64_formula, x86_64_formulas}
+use Rattle.wild_reloc.specs.declared.info.RelocationKind.{RelocationKind}
+use Rattle.wild_reloc.specs.declared.expression.Term.TheVariants as term
+use Rattle.wild_reloc.specs.declared.info.RelocationSize.{RelocationSize}
+use Rattle.wild_layout.specs.SymbolValues.{place_of}
+use Rattle.wild_layout.specs.Values.{value_by}
+use Rattle.wild_layout.specs.Sites.{field_site}
+use Rattle.wild_layout.proofs.DecideLemmas.{HasField, field_has_bytes, value_below}
+use Rattle.wild_layout.proofs.SiteLemmas.{field_lies}
+use Rattle.wild_layout.specs.SectionPlaces.{FieldLies}
+use Rattle.wild_layout.specs.Geometry.{NamesSymbol}
+use Rattle.wild_layout.specs.Numbers.{AddendFits}
+use Rattle.wild_meaning.specs.Item.{place_at, item_of}
+use Rattle.wild_meaning.specs.Field.{formula_of, form_width, FieldReads}
+use Rattle.wild_loader.specs.declared.world.World.{World}
+use Rattle.wild_loader.specs.declared.memory.Memory.{Memory}
+use Rattle.wild_loader.specs.Memory.{Holds}
+use Rattle.wild_geometry.specs.Loaded.{InMemory, ReadsLeft, HasSection}
+use Rattle.wild_references.specs.Terms.{IsPlaced}
+use Rattle.wild_references.specs.Laws.{TermGives, TermGivesLinked, SlotsGive, AddressesGive, AddressesGiveLinked, EntriesGive}
+use Rattle.wild_references.proofs.Written.{IsValue, IsAddress, IsLeftField}
+
+-- ---- fields of whole bytes
+
+abbrev pub KeepsAll : Form → Type 0
+KeepsAll form = (old new : List ℕ) → Keeps form old new
+
+-- the field is whole bytes, without other bits
+abbrev is_whole : Form → Bool
+is_whole (Bits field high low check unit) = false
+is_whole other = true
+
+whole_keeps : (form : Form) → is_whole form ≡ true → KeepsAll form
+whole_keeps (Bits field high low check unit) h = cc
+whole_keeps NoField h = λ old new. tt
+whole_keeps (Plain bits reading) h = λ old new. tt
+whole_keeps Full h = λ old new. tt
+
+keeps_at : (es : List (ℕ × Formula)) (n : ℕ) (f : Formula) → list_all (λ (e : ℕ × Formula). is_whole e.1.form) es ≡ true → formula_at es n ≡ Some f → KeepsAll f.form
+keeps_at [] n f h known = cc
+keeps_at (e ∷ es) n f h known =
+    let both = and_parts (is_whole e.1.form) (list_all (λ (e : ℕ × Formula). is_whole e.1.form) es) h in
+    by_test e es n f both.0 (n == e.0) known (keeps_at es n f both.1)
+  where
+    by_test : (e : ℕ × Formula) (es : List (ℕ × Formula)) (n : ℕ) (f : Formula) → is_whole e.1.form ≡ true → (b : Bool) → (if b then Some e.1 else formula_at es n) ≡ Some f → (formula_at es n ≡ Some f → KeepsAll f.form) → KeepsAll f.form
+    by_test e es n f h true known again = (let same : e.1 ≡ f = cc in subst (λ (g : Formula). KeepsAll g.form) same (whole_keeps e.1.form h))
+    by_test e es n f h false known again = again known
+
+-- the fields of x86-64 are
+pub whole_bytes : (n : ℕ) (f : Formula) → x86_64_formula n ≡ Some f → KeepsAll f.form
+unfolding x86_64_formula
+whole_bytes n f known = keeps_at x86_64_formulas n f refl known
+
+-- ---- one section in memory
+
+-- what the tables owe
+pub record Tables : Type 0 where
+  pub agree : X86_64Agrees
+  pub widths : WidthsHold
+
+-- the laws of the terms
+pub record KindLaws : Type 0 where
+  pub symbol : TermGives term.Symbol
+  pub stub : TermGives term.Stub
+  pub slot : SlotsGive
+  pub table : TermGives term.Table
+  pub size : TermGives term.Size
+  pub pointer : TermGives term.PointerOffset
+  pub own : TermGives term.ModuleOffset
+  pub address : AddressesGive
+  pub entry : EntriesGive
+
+-- those of the terms that take a symbol's address or its offset, with the output's own symbol
+pub record LinkedLaws : Type 0 where
+  pub symbol : TermGivesLinked term.Symbol
+  pub pointer : TermGivesLinked term.PointerOffset
+  pub own : TermGivesLinked term.ModuleOffset
+  pub address : AddressesGiveLinked
+
+-- a kept section in a legal world, which memory has as it was decided
+pub record IsSectionLoaded (l : Layout) (w : World) (m : Memory) (s : InputSection) : Type 0 where
+  pub tables : Tables
+  pub kinds : KindLaws
+  pub linked : LinkedLaws
+  pub placed : IsPlaced l w m
+  pub room : allocated s.flags ≡ true
+  pub symbols : All (NamesSymbol l) s.relocations
+  pub addends : All AddendFits s.relocations
+  pub full : length s.bytes ≡ s.size
+  pub low : s.address + s.size ≤ 2 ^ 62
+  pub lies : All (FieldLies l.machine s.size) s.relocations
+  pub section : HasSection l w m s InMemory
+
+-- the field lies in the section
+pub field_within : (l : Layout) (w : World) (m : Memory) (s : InputSection) (i : ℕ) (r : InputRelocation) (z : RelocationSize) → IsSectionLoaded l w m s → slice_get s.relocations i ≡ Some r → HasField l r z → r.offset + size_width z ≤ length s.bytes
+field_within l w m s i r z h listed f = field_lies l s r z f h.full (holds_at (FieldLies l.machine s.size) s.relocations i r listed h.lies)
+
+-- the place of a field in memory, which does not wrap
+pub place_is : (l : Layout) (w : World) (m : Memory) (s : InputSection) (i : ℕ) (r : InputRelocation) (z : RelocationSize) → IsSectionLoaded l w m s → slice_get s.relocations i ≡ Some r → HasField l r z → place_at w (item_of s) r.offset ≡ w.base + place_of s r
+place_is l w m s i r z h listed f =
+    let e = field_within l w m s i r z h listed f in
+    let some = field_has_bytes l r z f in
+    let full = h.full in
+    let low = h.low in
+    omega (arith, e, some, full, low)
+
+pub place_ends : (l : Layout) (w : World) (m : Memory) (s : InputSection) (i : ℕ) (r : InputRelocation) (z : RelocationSize) → IsSectionLoaded l w m s → slice_get s.relocations i ≡ Some r → HasField l r z → w.base + place_of s r ≤ 2 ^ 64
+place_ends l w m s i r z h listed f =
+    let e = field_within l w m s i r z h listed f in
+    let some = field_has_bytes l r z f in
+    let full = h.full in
+    let low = h.low in
+    let ends = h.section.ends (omega (arith, e, some)) in
+    omega (arith, e, some, full, low, ends)
+
+-- ---- fields
+
+-- what a field of a row reads as, in the form of a formula
+pub record ReadsForm (row : RelocationKindInfo) (form : Form) (v : ℕ) : Type 0 where
+  pub width : field_width row ≡ form_width form
+  pub reads : (old : List ℕ) → length old ≡ field_width row → Reads form (written row v old) v
+  pub keeps : KeepsAll form
+
+pub row_reads : (l : Layout) (w : World) (m : Memory) (s : InputSection) (i : ℕ) (r : InputRelocation) (row : RelocationKindInfo) (form : Form) (v : ℕ) → (h : IsSectionLoaded l w m s) → slice_get s.relocations i ≡ Some r → HasField l r row.size → ReadsForm row form v
+    → Holds m (place_at w (item_of s) r.offset) (field_site s r.offset row.size v).bytes → FieldReads w m (item_of s) r form v
+row_reads l w m s i r row form v h listed f reads held =
+    let old = slice_range s.bytes r.offset (r.offset + size_width row.size) in
+    let here = field_within l w m s i r row.size h listed f in
+    record {
+      bytes = written row v old;
+      wide = h.tables.widths row v old ∙ reads.width;
+      held = held;
+      reads = reads.reads old (length-range s.bytes r.offset (size_width row.size) here);
+      keeps = reads.keeps (slice_range s.bytes r.offset (r.offset + form_width form)) (written row v old);
+    }
+
+pub below_all : (l : Layout) (kind : RelocationKind) (s p v : ℕ) (a : ℤ) → value_by l kind s a p ≡ v → v < 2 ^ 64
+below_all l kind s p v a e = subst (λ (n : ℕ). n < 2 ^ 64) e (value_below l kind s p a)
+
+pub value_reads : (l : Layout) (w : World) (m : Memory) (s : InputSection) (i : ℕ) (r : InputRelocation) → (h : IsSectionLoaded l w m s) → (v : IsValue l s i r) → FieldReads w m (item_of s) r v.fits.formula.form v.value
+value_reads l w m s i r h v =
+    let f = v.field in
+    let low = below_all l f.row.kind f.term (place_of s r) v.value r.addend f.value in
+    let held = h.section.values i r v.size v.value v.plain.has in
+    row_reads l w m s i r f.row v.fits.formula.form v.value h v.plain.has.listed (record { row = f.row; known = f.known; kind = f.kind; size = refl })
+    (record { width = v.fits.width; reads = λ old long. v.fits.reads v.value old low long f.allowed; keeps = whole_bytes r.number v.fits.formula v.fits.known })
+    (subst (λ (z : RelocationSize). Holds m (place_at w (item_of s) r.offset) (field_site s r.offset z v.value).bytes) (sym f.size) held)
+
+-- an address that moves is more by the base, in all its eight bytes
+pub address_reads : (l : Layout) (w : World) (m : Memory) (s : InputSection) (i : ℕ) (r : InputRelocation) → (h : IsSectionLoaded l w m s) → (a : IsAddress l s i r) → FieldReads w m (item_of s) r a.fits.formula.form ((a.value + w.base) % 2 ^ 64)
+address_reads l w m s i r h a =
+    let x = (a.value + w.base) % 2 ^ 64 in
+    let full = a.fits.full a.moved.by.kind a.moved.by.width in
+    let low : x < 2 ^ 64 = omega arith in
+    record {
+      bytes = word 8 x;
+      wide = length-word 8 x ∙ sym (ap form_width full);
+      held = h.section.addresses i r a.value a.packed a.plain.has;
+      reads = subst (λ (f : Form). Reads f (word 8 x) x) (sym full) (number-word 8 x low);
+      keeps = whole_bytes r.number a.fits.formula a.fits.known (slice_range s.bytes r.offset (r.offset + form_width a.fits.formula.form)) (word 8 x);
+    }
+
+-- the bytes of a field that is left to an entry
+pub left_bytes : (l : Layout) (w : World) (m : Memory) (s : InputSection) (i : ℕ) (r : InputRelocation) → IsSectionLoaded l w m s → (f : IsLeftField l s i r) → (bs : List ℕ) × Holds m (place_at w (item_of s) r.offset) bs × ReadsLeft InMemory w f.size f.number f.symbol f.addend bs
+left_bytes l w m s i r h f = h.section.left i r f.size f.number f.symbol f.addend f.plain.has
+
+-- what an entry stores fills the field
+pub left_reads : (l : Layout) (w : World) (m : Memory) (s : InputSection) (i : ℕ) (r : InputRelocation) (x : ℕ) → (h : IsSectionLoaded l w m s) → (f : IsLeftField l s i r) → (form : Form) → form ≡ f.fits.formula.form → Reads form (left_bytes l w m s i r h f).0 x → FieldReads w m (item_of s) r form x
+left_reads l w m s i r x h f form same reads =
+    let b = left_bytes l w m s i r h f in
+    let size : size_width f.size ≡ field_width f.left.field.row = sym (ap size_width f.left.field.size) in
+    record {
+      bytes = b.0;
+      wide = b.2.3 ∙ (size ∙ (f.fits.width ∙ sym (ap form_width same)));
+      held = b.1;
+      reads = reads;
+      keeps = subst (λ (k : Form). Keeps k (slice_range s.bytes r.offset (r.offset + form_width form)) b.0) (sym same) (whole_bytes r.number f.fits.formula f.fits.known (slice_range s.bytes r.offset (r.offset + form_width form)) b.0);
+    }
+
+-- the formulas of x86-64 are the machine's
+pub formula_known : (l : Layout) (n : ℕ) (f : Formula) → l.machine ≡ machine.X86_64 → x86_64_formula n ≡ Some f → formula_of l.machine n ≡ Some f
+formula_known l n f x known = subst (λ (k : Machine). formula_of k n ≡ Some f) (sym x) known

@@ -1,0 +1,144 @@
+-- An instruction whose reference keeps it does what it demands.
+use Rattle.std.proofs.Common.{◌≡◌, ℕ, ◌⊎◌, inl, inr, refl, sym, ap, ◌∙◌, subst}
+use Rattle.std.specs.Prelude.{⊤, List, [], ◌∷◌, Some, Contains}
+use Rattle.wild_types.specs.declared.kind.Machine.{Machine}
+use Rattle.wild_types.specs.declared.kind.Machine.TheVariants as machine
+use Rattle.wild_types.specs.declared.input.InputRelocation.{InputRelocation}
+use Rattle.wild_types.specs.declared.input.InputSection.{InputSection}
+use Rattle.wild_types.specs.declared.layout.Layout.{Layout}
+use Rattle.wild_reloc.specs.Formula.{Slot, Formula, SlotDistance, AddressSlot, ModulePair, OwnModulePair}
+use Rattle.wild_loader.specs.declared.world.World.{World}
+use Rattle.wild_loader.specs.declared.memory.Memory.{Memory}
+use Rattle.wild_references.specs.Laws.{FieldHolds, IsKeptReference, FieldsHold, IsLoadedSection}
+use Rattle.wild_meaning.specs.Sequence.{Sort, TargetInSlot, SymbolPair, OwnPair, Instruction, Partner, instructions_of}
+use Rattle.wild_meaning.specs.Item.{Item, item_of}
+use Rattle.wild_meaning.specs.Field.{formula_of}
+use Rattle.wild_meaning.specs.Formula.{IsPlaceRelative, TakesAddress, TakesOffset}
+use Rattle.wild_meaning.specs.Template.{IsSingle, IsTemplate, reads, DoesDemanded, IsOfSequence}
+use Rattle.wild_meaning.proofs.PairLemmas.{IsGetterCall, as_double, the_one}
+use Rattle.wild_meaning.specs.Reference.{IsAsked, IsLinkedAlone, HasPlace, GoesThroughSlot, TakesItself}
+use Rattle.wild_references.specs.EffectLaws.{SequencesAreKept, InstructionsAreKept, KeptInstructionsDo}
+use Rattle.wild_references.proofs.Does.{HasField, PartnersThere, FormulaIs, displaced, formula_is, refers, pair_of, known_formula}
+use Rattle.wild_references.proofs.Right.{does_demanded}
+
+-- ---- the pair of a sequence is asked everywhere
+
+-- the formula of a sequence's first relocation
+pair_formula : (s : Sort) (f : Formula) → (s ≡ SymbolPair) ⊎ (s ≡ OwnPair) → FormulaIs s f → (f ≡ displaced (SlotDistance ModulePair)) ⊎ (f ≡ displaced (SlotDistance OwnModulePair))
+pair_formula s f (inl e) h = inl (subst (λ (q : Sort). FormulaIs q f) e h)
+pair_formula s f (inr e) h = inr (subst (λ (q : Sort). FormulaIs q f) e h)
+
+record HasPair (l : Layout) (r : InputRelocation) : Type 0 where
+  each : (f : Formula) → formula_of l.machine r.number ≡ Some f → (f ≡ displaced (SlotDistance ModulePair)) ⊎ (f ≡ displaced (SlotDistance OwnModulePair))
+
+has_pair : (l : Layout) (item : Item) (first second : InputRelocation) (start : ℕ) (o : Instruction) → l.machine ≡ machine.X86_64 → IsGetterCall l item first second start o → HasPair l first
+has_pair l item first second start o x q =
+    let listed = subst (λ (k : Machine). Contains (instructions_of k) o) x q.stands.known in
+    record { each = λ f known. pair_formula o.sort f (pair_of o q.partner listed q.calls) (formula_is l first o f x q.stands.known q.stands.number known) }
+
+no_place : (f : Formula) → (f ≡ displaced (SlotDistance ModulePair)) ⊎ (f ≡ displaced (SlotDistance OwnModulePair)) → IsPlaceRelative f.value → ⊥
+no_place f (inl e) h = subst (λ (g : Formula). IsPlaceRelative g.value) e h
+no_place f (inr e) h = subst (λ (g : Formula). IsPlaceRelative g.value) e h
+
+no_offset : (f : Formula) → (f ≡ displaced (SlotDistance ModulePair)) ⊎ (f ≡ displaced (SlotDistance OwnModulePair)) → TakesOffset f.value → ⊥
+no_offset f (inl e) h = subst (λ (g : Formula). TakesOffset g.value) e h
+no_offset f (inr e) h = subst (λ (g : Formula). TakesOffset g.value) e h
+
+no_address : (f : Formula) → (f ≡ displaced (SlotDistance ModulePair)) ⊎ (f ≡ displaced (SlotDistance OwnModulePair)) → TakesAddress f.value → ⊥
+no_address f (inl e) h = subst (λ (g : Formula). TakesAddress g.value) e h
+no_address f (inr e) h = subst (λ (g : Formula). TakesAddress g.value) e h
+
+abbrev IsPairSlot : Slot → Type 0
+IsPairSlot ModulePair = ⊤
+IsPairSlot OwnModulePair = ⊤
+IsPairSlot other = ⊥
+
+apart_module : ModulePair ≡ AddressSlot → ⊥
+apart_module e = subst IsPairSlot e tt
+
+apart_own : OwnModulePair ≡ AddressSlot → ⊥
+apart_own e = subst IsPairSlot e tt
+
+no_slot : (s : Slot) → SlotDistance s ≡ SlotDistance AddressSlot → (s ≡ AddressSlot → ⊥) → ⊥
+no_slot s e h = h (let same : s ≡ AddressSlot = cc in same)
+
+no_slot_formula : (f : Formula) → (f ≡ displaced (SlotDistance ModulePair)) ⊎ (f ≡ displaced (SlotDistance OwnModulePair)) → f ≡ displaced (SlotDistance AddressSlot) → ⊥
+no_slot_formula f (inl e) h = no_slot ModulePair (ap (λ (g : Formula). g.value) (sym e ∙ h)) (λ same. (let both : ModulePair ≡ AddressSlot = same in absurd (apart_module both)))
+no_slot_formula f (inr e) h = no_slot OwnModulePair (ap (λ (g : Formula). g.value) (sym e ∙ h)) (λ same. (let both : OwnModulePair ≡ AddressSlot = same in absurd (apart_own both)))
+
+-- its type has a formula
+first_known : (l : Layout) (w : World) (m : Memory) (item : Item) (first : InputRelocation) (start : ℕ) (o : Instruction) (second : InputRelocation) → l.machine ≡ machine.X86_64 → IsGetterCall l item first second start o → (f : Formula) × (formula_of l.machine first.number ≡ Some f)
+first_known l w m item first start o second x q =
+    let listed = subst (λ (k : Machine). Contains (instructions_of k) o) x q.stands.known in
+    let h = known_formula o first.number listed q.stands.number in
+    (h.0, subst (λ (k : Machine). formula_of k first.number ≡ Some h.0) (sym x) h.1)
+
+-- it calls and jumps through no slot
+no_through : (l : Layout) (item : Item) (r : InputRelocation) (f : Formula) → l.machine ≡ machine.X86_64 → formula_of l.machine r.number ≡ Some f → HasPair l r → GoesThroughSlot l item r → ⊥
+no_through l item r f x known p (g) = by g.template
+  where
+    by : IsTemplate l item r g.start g.instruction g.first → ⊥
+    by (inl t) =
+        (let is = formula_is l r g.instruction f x t.0.stands.known t.0.stands.number known in
+        no_slot_formula f (p.each f known) (subst (λ (s : Sort). FormulaIs s f) g.through is))
+    by (inr t) =
+        (let listed = subst (λ (k : Machine). Contains (instructions_of k) g.instruction) x t.sequence.stands.known in
+        let q = (as_double l item r g.start g.instruction g.first x t).sequence in
+        no_pair_sort (pair_of g.instruction q.partner listed q.calls) g.through)
+      where
+        no_pair_sort : (g.instruction.sort ≡ SymbolPair) ⊎ (g.instruction.sort ≡ OwnPair) → g.instruction.sort ≡ TargetInSlot → ⊥
+        no_pair_sort (inl e) h = (let both : SymbolPair ≡ TargetInSlot = sym e ∙ h in cc)
+        no_pair_sort (inr e) h = (let both : OwnPair ≡ TargetInSlot = sym e ∙ h in cc)
+
+first_asked : (l : Layout) (w : World) (item : Item) (r : InputRelocation) (f : Formula) → l.machine ≡ machine.X86_64 → formula_of l.machine r.number ≡ Some f → HasPair l r → IsAsked l w item r
+first_asked l w item r f x known p e = by e.relative
+  where
+    by : HasPlace l r ⊎ GoesThroughSlot l item r → w.base ≡ 0
+    by (inl h) = absurd (no_place h.formula (p.each h.formula h.known) h.relative)
+    by (inr h) = absurd (no_through l item r f x known p h)
+
+first_not_alone : (l : Layout) (item : Item) (r : InputRelocation) → HasPair l r → IsLinkedAlone l item r → ⊥
+first_not_alone l item r p a = by a.takes
+  where
+    by : TakesItself l item a.symbol a.formula → ⊥
+    by (inl h) = no_offset a.formula (p.each a.formula a.known) h
+    by (inr h) = no_address a.formula (p.each a.formula a.known) h.0
+
+-- ---- instructions
+
+as_field : (l : Layout) (w : World) (m : Memory) (item : Item) (r : InputRelocation) → FieldHolds l w m item r → HasField l w m item r
+as_field l w m item r f = record { formula = f.formula; known = f.known; value = f.value; gives = f.gives; field = f.field }
+
+single_does : InstructionsAreKept → (l : Layout) (w : World) (m : Memory) (s : InputSection) → IsLoadedSection l w m s → FieldsHold l w m s → (i : ℕ) (r : InputRelocation) → IsKeptReference l s i r → IsAsked l w (item_of s) r → (IsLinkedAlone l (item_of s) r → ⊥)
+    → (start : ℕ) (o : Instruction) → IsSingle l (item_of s) r start o → DoesDemanded (reads w m) l w m (item_of s) r start o
+single_does kept l w m s g f i r k asked alone start o t =
+    does_demanded l w m (item_of s) r start o (record {
+      x86 = g.x86;
+      stands = t.stands;
+      field = as_field l w m (item_of s) r (f.references i r k asked alone);
+      own = kept l w m s g i r k.decision k.has k.keeps start o r (inl (t, refl));
+      partners = subst (λ (ps : List Partner). PartnersThere w m (item_of s) start ps) (sym t.single) tt;
+    })
+
+double_does : SequencesAreKept → InstructionsAreKept → (l : Layout) (w : World) (m : Memory) (s : InputSection) → IsLoadedSection l w m s → FieldsHold l w m s → (i : ℕ) (r : InputRelocation) → IsKeptReference l s i r
+    → (start : ℕ) (o : Instruction) (first : InputRelocation) → IsOfSequence l (item_of s) r start o first → DoesDemanded (reads w m) l w m (item_of s) first start o
+double_does sequences kept l w m s g f i r k start o first part =
+    let t = as_double l (item_of s) r start o first g.x86 part in
+    let q = sequences l w m s g i r k.decision k.has k.keeps start o first part t.sequence.partner (the_one o.partners t.sequence.partner t.sequence.calls) in
+    let p = has_pair l (item_of s) first t.second start o g.x86 t.sequence in
+    let listed = subst (λ (x : Machine). Contains (instructions_of x) o) g.x86 t.sequence.stands.known in
+    let reference : IsKeptReference l s q.index first = record { decision = q.decision; has = q.has; keeps = q.keeps; refers = refers o first.number listed t.sequence.stands.number } in
+    let formula = first_known l w m (item_of s) first start o t.second g.x86 t.sequence in
+    let field = f.references q.index first reference (first_asked l w (item_of s) first formula.0 g.x86 formula.1 p) (first_not_alone l (item_of s) first p) in
+    does_demanded l w m (item_of s) first start o (record {
+      x86 = g.x86;
+      stands = t.sequence.stands;
+      field = as_field l w m (item_of s) first field;
+      own = kept l w m s g i r k.decision k.has k.keeps start o first (inr part);
+      partners = subst (λ (ps : List Partner). PartnersThere w m (item_of s) start ps) (sym t.sequence.calls) ((q.bytes, q.wide, q.held), tt);
+    })
+
+pub kept_do : SequencesAreKept → InstructionsAreKept → KeptInstructionsDo
+kept_do sequences kept l w m s g f i r k asked alone start o first (inl t) =
+    subst (λ (x : InputRelocation). DoesDemanded (reads w m) l w m (item_of s) x start o) (sym t.1) (single_does kept l w m s g f i r k asked alone start o t.0)
+kept_do sequences kept l w m s g f i r k asked alone start o first (inr t) = double_does sequences kept l w m s g f i r k start o first t

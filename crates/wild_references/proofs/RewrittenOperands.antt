@@ -1,0 +1,124 @@
+-- What an instruction that is rewritten demands, and that the value in its field lands there: addresses.
+use Rattle.std.proofs.Common.{◌≡◌, ℕ, ◌+◌, ◌-◌, ◌%◌, ◌^◌, ◌<◌, ◌≤◌, inl, inr, Bool, true, false, refl, sym, ap, ◌∙◌, arith, subst}
+use Rattle.std.specs.Prelude.{ℤ, pos, ◌&&◌, ◌||◌, not, Option, Some}
+use Rattle.std.specs.Int.{w64, cast_unsigned}
+use Rattle.std.proofs.lemmas.Bool.{not-true}
+use Rattle.wild_types.specs.declared.kind.RelocationModel.TheVariants as model
+use Rattle.wild_types.specs.declared.kind.OutputKind.{OutputKind}
+use Rattle.wild_types.specs.declared.kind.OutputKind.TheVariants as output
+use Rattle.wild_types.specs.declared.input.InputRelocation.{InputRelocation}
+use Rattle.wild_types.specs.declared.input.InputSection.{InputSection}
+use Rattle.wild_types.specs.declared.layout.Layout.{Layout}
+use Rattle.wild_types.specs.Flags.{has_flag, interposable, has_link_time_address, absolute, ifunc}
+use Rattle.wild_types.specs.Kinds.{has_fixed_load_address}
+use Rattle.wild_slot.specs.Treatment.{flags_at, moves}
+use Rattle.wild_reloc.specs.Table.{plain}
+use Rattle.wild_reloc.specs.Formula.{SymbolAddress, Distance}
+use Rattle.wild_reloc.specs.declared.info.RelocationKind.TheVariants as kinds
+use Rattle.wild_reloc.specs.declared.info.Width.TheVariants.{Four}
+use Rattle.wild_reloc.specs.declared.range.Sign.{Sign}
+use Rattle.wild_relax.specs.declared.row.Row.{Row}
+use Rattle.wild_relax.specs.Question.{minus_four}
+use Rattle.wild_relax.specs.RewriteX86_64.{rewrite_of}
+use Rattle.wild_relax.specs.Linked.{field_in}
+use Rattle.wild_relax.specs.Keep.{distance}
+use Rattle.wild_layout.specs.Sites.{template_start}
+use Rattle.wild_loader.specs.declared.memory.Memory.{Memory}
+use Rattle.wild_loader.specs.declared.world.World.{World}
+use Rattle.wild_meaning.specs.World.{IsMovable}
+use Rattle.wild_meaning.specs.Value.{IsAbsolute}
+use Rattle.wild_meaning.specs.Denotes.{Denotes}
+use Rattle.wild_meaning.specs.Item.{item_of, place_at}
+use Rattle.wild_meaning.specs.Formula.{IsTarget, IsGoal}
+use Rattle.wild_meaning.proofs.SymbolLemmas.{referent_stands}
+use Rattle.wild_geometry.proofs.JudgedLemmas.{flag_is}
+use Rattle.wild_references.specs.Laws.{IsLoadedSection}
+use Rattle.wild_references.proofs.WholeSections.{placed}
+use Rattle.wild_references.proofs.RewrittenPlaces.{LawsBelow, IsPlacedRow, ended}
+use Rattle.wild_references.proofs.RewrittenSymbols.{denoted_small}
+use Rattle.wild_references.proofs.RewrittenTerms.{written_as, stands_below}
+use Rattle.wild_references.proofs.RewrittenValues.{gives_distance, gives_number}
+
+-- ---- whether the value moves
+
+absolute_flag : (l : Layout) (k : ℕ) → IsAbsolute l k → has_flag (flags_at l k) absolute ≡ true
+absolute_flag l k h = flag_is l k absolute true h
+
+unknown_by : (a b : Bool) → (a || b) ≡ false → a ≡ true → ⊥
+unknown_by true b h e = cc
+unknown_by false b h e = cc
+
+-- a value that is not known when the image is linked is no absolute one
+pub not_absolute : (l : Layout) (k : ℕ) → not (has_flag (flags_at l k) absolute || has_link_time_address (flags_at l k) && has_fixed_load_address l.kind) ≡ true → IsAbsolute l k → ⊥
+not_absolute l k h a = unknown_by (has_flag (flags_at l k) absolute) _ (not-true _ h) (absolute_flag l k a)
+
+fixed_not : (k : OutputKind) → has_fixed_load_address k ≡ true → IsMovable k → ⊥
+fixed_not (output.StaticExecutable model.NonRelocatable) h m = m
+fixed_not (output.StaticExecutable model.Relocatable) h m = cc
+fixed_not (output.DynamicExecutable model.NonRelocatable) h m = m
+fixed_not (output.DynamicExecutable model.Relocatable) h m = cc
+fixed_not output.SharedObject h m = cc
+fixed_not output.PartialObject h m = m
+
+linked_by : (abs other fixed : Bool) → ((not abs && not other) || fixed) ≡ true → abs ≡ true → fixed ≡ true
+linked_by true other fixed h e = h
+linked_by false other fixed h e = cc
+
+-- an address that is known but for the base is no absolute value of an output that moves
+pub not_moved : (l : Layout) (k : ℕ) → (has_link_time_address (flags_at l k) || has_fixed_load_address l.kind) ≡ true → IsMovable l.kind → IsAbsolute l k → ⊥
+not_moved l k h m a = fixed_not l.kind (linked_by (has_flag (flags_at l k) absolute) _ (has_fixed_load_address l.kind) h (absolute_flag l k a)) m
+
+-- ---- the symbol's address
+
+-- what stands for the symbol, a number of the machine
+pub record IsOperand (l : Layout) (w : World) (m : Memory) (symbol : Option ℕ) (n : ℕ) : Type 0 where
+  pub target : IsTarget l w m symbol n
+  pub goal : IsGoal l w m symbol n
+  pub small : n < 2 ^ 64
+
+goal_is : (l : Layout) (w : World) (m : Memory) (k n : ℕ) → Denotes l w m k n → IsGoal l w m (Some k) n
+goal_is l w m k n (inl h) = (n, h, inl refl)
+goal_is l w m k n (inr h) = (h.value, h.is, h.reaches)
+
+operand_at : (l : Layout) (w : World) (m : Memory) (s : InputSection) (k n : ℕ) (symbol : Option ℕ) → IsLoadedSection l w m s → symbol ≡ Some k → has_flag (flags_at l k) ifunc ≡ false → IsTarget l w m symbol n → IsOperand l w m symbol n
+operand_at l w m s k n symbol h e plain t =
+    let d : Denotes l w m k n = subst (λ (o : Option ℕ). IsTarget l w m o n) e t in
+    record { target = t; goal = subst (λ (o : Option ℕ). IsGoal l w m o n) (sym e) (goal_is l w m k n d); small = denoted_small l w m k n (placed l w m s h) plain d }
+
+-- the field has its distance
+pub record LandsFar (l : Layout) (w : World) (m : Memory) (s : InputSection) (r : InputRelocation) (row : Row) (v : ℕ) : Type 0 where
+  pub operand : ℕ
+  pub is : IsOperand l w m r.symbol operand
+  pub lands : v ≡ distance operand (place_at w (item_of s) (template_start row r) + field_in row)
+
+distance_lands : (n t c place q v : ℕ) → t ≡ (n + c) % 2 ^ 64 → c ≡ 2 ^ 64 - 4 → v ≡ (t + (2 ^ 64 - place)) % 2 ^ 64 → place ≡ q → place ≤ 2 ^ 64 → v ≡ distance n q
+distance_lands n t c place q v a b e f low = omega (arith, a, b, e, f, low)
+
+pub lands_far : LawsBelow → (l : Layout) (w : World) (m : Memory) (s : InputSection) (i : ℕ) (r : InputRelocation) (row : Row) (v : ℕ) → IsLoadedSection l w m s → (p : IsPlacedRow l s i r row v) → (rewrite_of row).number ≡ 2 → (rewrite_of row).addend r.addend ≡ r.addend → minus_four r.addend ≡ true → interposable (flags_at l p.chosen.symbol) ≡ false → has_flag (flags_at l p.chosen.symbol) ifunc ≡ false
+    → (IsMovable l.kind → IsAbsolute l p.chosen.symbol → w.base ≡ 0) → LandsFar l w m s r row v
+lands_far laws l w m s i r row v h p number same ends own plain asked =
+    let g = gives_distance laws l w m s i r row v h p number own asked in
+    let below = stands_below l w m s i r row v h p in
+    let place = below.place in
+    let high = below.ends in
+    let c : cast_unsigned w64 ((rewrite_of row).addend r.addend) ≡ 2 ^ 64 - 4 = ap (λ (x : ℤ). cast_unsigned w64 x) same ∙ ended r.addend ends in
+    record {
+      operand = g.1.symbol;
+      is = operand_at l w m s p.chosen.symbol g.1.symbol r.symbol h p.chosen.named plain (referent_stands Distance l w m (item_of s) (written_as row r) g.1.symbol h.x86 g.1.denoted);
+      lands = distance_lands g.1.symbol g.0 (cast_unsigned w64 ((rewrite_of row).addend r.addend)) (place_at w (item_of s) (written_as row r).offset) (place_at w (item_of s) (template_start row r) + field_in row) v g.1.sum c g.2 below.start (omega (arith, place, high));
+    }
+
+-- or itself
+pub record LandsItself (l : Layout) (w : World) (m : Memory) (r : InputRelocation) (v : ℕ) : Type 0 where
+  pub operand : ℕ
+  pub is : IsOperand l w m r.symbol operand
+  pub lands : v ≡ operand
+
+pub lands_itself : LawsBelow → (l : Layout) (w : World) (m : Memory) (s : InputSection) (i : ℕ) (r : InputRelocation) (row : Row) (v : ℕ) (sign : Sign) → IsLoadedSection l w m s → (p : IsPlacedRow l s i r row v) → p.made.written.info ≡ plain kinds.Absolute Four sign → (rewrite_of row).addend r.addend ≡ pos 0 → interposable (flags_at l p.chosen.symbol) ≡ false → has_flag (flags_at l p.chosen.symbol) ifunc ≡ false → moves l p.chosen.symbol ≡ false → LandsItself l w m r v
+lands_itself laws l w m s i r row v sign h p info none own plain_one still =
+    let g = gives_number laws l w m s i r row v sign h p info own plain_one still in
+    let is = operand_at l w m s p.chosen.symbol g.symbol r.symbol h p.chosen.named plain_one (referent_stands SymbolAddress l w m (item_of s) (written_as row r) g.symbol h.x86 g.denoted) in
+    let c : cast_unsigned w64 ((rewrite_of row).addend r.addend) ≡ 0 = ap (λ (x : ℤ). cast_unsigned w64 x) none in
+    let e = g.sum in
+    let low = is.small in
+    record { operand = g.symbol; is = is; lands = omega (arith, e, c, low) }

@@ -1,0 +1,118 @@
+-- A section whose relocation is rewritten, with all that is known of its row.
+use Rattle.std.proofs.Common.{◌≡◌, ℕ, ◌+◌, ◌-◌, ◌%◌, ◌^◌, true, false, refl, sym, ap, arith, subst}
+use Rattle.std.specs.Prelude.{ℤ, pos, negsuc, slice_get, slice_range}
+use Rattle.std.specs.Int.{w64, cast_unsigned}
+use Rattle.std.specs.List.{list_all}
+use Rattle.std.proofs.lemmas.Bool.{eqb-true}
+use Rattle.wild_records.specs.Abi.Section.{shf_execinstr}
+use Rattle.wild_types.specs.declared.kind.Machine.TheVariants as machine
+use Rattle.wild_types.specs.declared.input.InputRelocation.{InputRelocation}
+use Rattle.wild_types.specs.declared.input.InputSection.{InputSection}
+use Rattle.wild_types.specs.declared.layout.Layout.{Layout}
+use Rattle.wild_types.specs.Lookups.{executable}
+use Rattle.wild_reloc.specs.declared.info.RelocationKind.TheVariants as kinds
+use Rattle.wild_relax.specs.declared.row.Row.{Row}
+use Rattle.wild_relax.specs.declared.row.Row.TheVariants.{IfuncThroughStub}
+use Rattle.wild_relax.specs.Question.{Question, minus_four}
+use Rattle.wild_relax.specs.Pattern.{cells_of}
+use Rattle.wild_relax.specs.RowSymbols.{takes_section}
+use Rattle.wild_relax.specs.Rows.{rows_x86_64}
+use Rattle.wild_relax.specs.Linked.{pattern_of, pattern_size, IsChanging}
+use Rattle.wild_relax.specs.Keep.{RowsKeep, IsWhole}
+use Rattle.wild_relax.specs.Section.{IsStanding, ChosenStand, ChosenAreWhole}
+use Rattle.wild_layout.specs.declared.decision.Decision.TheVariants.{Rewritten}
+use Rattle.wild_layout.specs.Choice.{question_of, is_partner}
+use Rattle.wild_layout.specs.Sites.{template_start}
+use Rattle.wild_layout.proofs.ChoiceLemmas.{IsChosen, chosen_listed}
+use Rattle.wild_layout.proofs.DecisionLemmas.{IsRewritten, decide_rewritten}
+use Rattle.wild_geometry.specs.Loaded.{HasDecision}
+use Rattle.wild_meaning.specs.Section.{IsSet}
+use Rattle.wild_loader.specs.Instruction.{stands}
+use Rattle.wild_meaning.specs.Sequence.{Sort, Target, DescribedCall, size_of}
+use Rattle.wild_meaning.specs.Template.{AddsNothing}
+use Rattle.wild_meaning.proofs.BitLemmas.{bit_code}
+use Rattle.wild_references.specs.Laws.{KindGives}
+use Rattle.wild_references.specs.EffectLaws.{WindowsAreAlone}
+use Rattle.wild_references.proofs.RewrittenDecisions.{rewritten_alone}
+use Rattle.wild_references.proofs.RewrittenForms.{all_long, all_stand, instruction_of, is_listed, RowFits, row_fits}
+
+-- the laws below, as they are called
+pub record LawsBelow : Type 0 where
+  pub alone : WindowsAreAlone
+  pub keeps : RowsKeep
+  pub stand : ChosenStand
+  pub whole : ChosenAreWhole
+  pub sum : KindGives kinds.Absolute
+  pub distance : KindGives kinds.Relative
+  pub pointer : KindGives kinds.TpOff
+  pub slot : KindGives kinds.GotTpOff
+
+-- relocation i of a section is rewritten by a row, with v in the field
+pub record IsPlacedRow (l : Layout) (s : InputSection) (i : ℕ) (r : InputRelocation) (row : Row) (v : ℕ) : Type 0 where
+  pub has : HasDecision l s i r (Rewritten row v)
+  pub alone : is_partner l s i ≡ false
+  pub made : IsRewritten l s r (slice_get s.relocations (i + 1)) row v
+  pub chosen : IsChosen l s r (slice_get s.relocations (i + 1)) row
+  pub stands : IsStanding (question_of l s r chosen.symbol (slice_get s.relocations (i + 1))) row
+  pub whole : IsWhole (cells_of (pattern_of row)) (slice_range s.bytes (template_start row r) (template_start row r + pattern_size row))
+  pub changing : IsChanging row
+  pub fits : RowFits row
+
+each_listed : list_all is_listed rows_x86_64 ≡ true
+each_listed = refl
+
+pub placed_row : LawsBelow → (l : Layout) (s : InputSection) (i : ℕ) (r : InputRelocation) (row : Row) (v : ℕ) → HasDecision l s i r (Rewritten row v) → IsPlacedRow l s i r row v
+placed_row laws l s i r row v has =
+    let made = decide_rewritten l s i r row v has.listed has.decided in
+    let chosen = made.chosen in
+    let q = question_of l s r chosen.symbol (slice_get s.relocations (i + 1)) in
+    let stands = laws.stand q row chosen.chosen in
+    let changing = stands.changing made.changes in
+    record {
+      has = has;
+      alone = rewritten_alone l s i row v has.decided;
+      made = made;
+      chosen = chosen;
+      stands = stands;
+      whole = laws.whole q row chosen.chosen;
+      changing = changing;
+      fits = row_fits row changing (chosen_listed l s r (slice_get s.relocations (i + 1)) row chosen is_listed each_listed);
+    }
+
+-- ---- the section has code
+
+takes_code : (row : Row) (q : Question) → IsChanging row → takes_section row q ≡ true → executable q.section_flags ≡ true
+takes_code IfuncThroughStub q c h = absurd c
+takes_code other q c h = h
+
+pub is_code : (l : Layout) (s : InputSection) (i : ℕ) (r : InputRelocation) (row : Row) (v : ℕ) → IsPlacedRow l s i r row v → IsSet s.flags shf_execinstr
+is_code l s i r row v p = bit_code s.flags (takes_code row (question_of l s r p.chosen.symbol (slice_get s.relocations (i + 1))) p.changing p.stands.taken.section)
+
+-- ---- the addend
+
+ended_is : (a : ℤ) → minus_four a ≡ true → a ≡ negsuc 3
+unfolding minus_four
+ended_is (pos n) h = cc
+ended_is (negsuc n) h = ap negsuc (eqb-true n 3 h)
+
+pub ended : (a : ℤ) → minus_four a ≡ true → cast_unsigned w64 a ≡ 2 ^ 64 - 4
+ended a h = subst (λ (x : ℤ). cast_unsigned w64 x ≡ 2 ^ 64 - 4) (sym (ended_is a h)) refl
+
+counts_by : (o : Sort) (r : InputRelocation) → (cast_unsigned w64 r.addend + 4) % 2 ^ 64 ≡ 0 → AddsNothing machine.X86_64 o r
+counts_by Target r h = tt
+counts_by DescribedCall r h = tt
+counts_by other r h = h
+
+pub counts_ended : (o : Sort) (r : InputRelocation) → minus_four r.addend ≡ true → AddsNothing machine.X86_64 o r
+counts_ended o r h = (let e = ended r.addend h in counts_by o r (omega (arith, e)))
+
+-- ---- the bytes
+
+pub size_is : (l : Layout) (s : InputSection) (i : ℕ) (r : InputRelocation) (row : Row) (v : ℕ) → IsPlacedRow l s i r row v → size_of (instruction_of row) ≡ pattern_size row
+size_is l s i r row v p = all_long (cells_of (pattern_of row)) (instruction_of row).template.cells p.fits.covers
+
+pub cells_stand : (l : Layout) (s : InputSection) (i : ℕ) (r : InputRelocation) (row : Row) (v : ℕ) → IsPlacedRow l s i r row v → stands (instruction_of row).template.cells (slice_range s.bytes (template_start row r) (template_start row r + size_of (instruction_of row))) ≡ true
+cells_stand l s i r row v p =
+    let e = size_is l s i r row v p in
+    subst (λ (n : ℕ). stands (instruction_of row).template.cells (slice_range s.bytes (template_start row r) (template_start row r + n)) ≡ true) (sym e)
+    (all_stand (cells_of (pattern_of row)) (instruction_of row).template.cells (slice_range s.bytes (template_start row r) (template_start row r + pattern_size row)) p.fits.covers p.whole.same)

@@ -1,0 +1,140 @@
+-- A load whose relocation type does not tell its prefix: where no longer instruction has it, it is the one with the shorter prefix.
+use Rattle.std.proofs.Common.{◌≡◌, ℕ, ◌≤◌, ◌⊎◌, inl, inr, true, refl, subst, []}
+use Rattle.std.specs.Prelude.{nat_le, Contains}
+use Rattle.std.proofs.lemmas.Bool.{leb-true}
+use Rattle.wild_records.specs.Abi.Relocation as abi
+use Rattle.wild_types.specs.declared.kind.Machine.{Machine}
+use Rattle.wild_types.specs.declared.kind.Machine.TheVariants as machine
+use Rattle.wild_types.specs.declared.input.InputRelocation.{InputRelocation}
+use Rattle.wild_types.specs.declared.input.InputSection.{InputSection}
+use Rattle.wild_types.specs.declared.layout.Layout.{Layout}
+use Rattle.wild_relax.specs.declared.row.Row.TheVariants.{PlainGotMovToLea}
+use Rattle.wild_layout.specs.Sites.{template_start}
+use Rattle.wild_geometry.specs.Loaded.{IsDecided}
+use Rattle.wild_meaning.specs.Item.{item_of}
+use Rattle.wild_meaning.specs.Sequence.{Instruction, size_of, instructions_of}
+use Rattle.wild_meaning.specs.Template.{IsInstruction, IsSingle}
+use Rattle.wild_references.specs.EffectLaws.{WindowsAreAlone}
+use Rattle.wild_references.proofs.RewrittenForms.{instruction_of}
+use Rattle.wild_references.proofs.RewrittenPlaces.{IsPlacedRow}
+use Rattle.wild_references.proofs.RewrittenSingles.{has_number, has_listed, stands_there}
+use Rattle.wild_references.proofs.RewrittenCalls.{EachOf, each_of}
+use Rattle.wild_references.proofs.RewrittenApart.{free}
+use Rattle.wild_references.proofs.RewrittenPrefix.{wide_load}
+
+-- no instruction of the type is longer but that one
+abbrev IsShorter : Instruction → Type 0
+IsShorter o = has_number abi.r_x86_64_gotpcrel o.numbers ≡ true → o.partners ≡ [] → (nat_le (size_of o) 7 ≡ true) ⊎ (o ≡ wide_load)
+
+each_shorter : EachOf IsShorter (instructions_of machine.X86_64)
+each_shorter = (
+  (λ h e. cc),
+  (
+    (λ h e. cc),
+    (
+      (λ h e. inl refl),
+      (
+        (λ h e. inl refl),
+        (
+          (λ h e. cc),
+          (
+            (λ h e. cc),
+            (
+              (λ h e. cc),
+              (
+                (λ h e. cc),
+                (
+                  (λ h e. cc),
+                  (
+                    (λ h e. cc),
+                    (
+                      (λ h e. cc),
+                      (
+                        (λ h e. cc),
+                        (
+                          (λ h e. cc),
+                          (
+                            (λ h e. cc),
+                            (
+                              (λ h e. cc),
+                              (
+                                (λ h e. cc),
+                                (
+                                  (λ h e. cc),
+                                  (
+                                    (λ h e. cc),
+                                    (
+                                      (λ h e. cc),
+                                      (
+                                        (λ h e. cc),
+                                        (
+                                          (λ h e. inl refl),
+                                          (
+                                            (λ h e. inr refl),
+                                            (
+                                              (λ h e. cc),
+                                              (
+                                                (λ h e. cc),
+                                                (
+                                                  (λ h e. cc),
+                                                  (
+                                                    (λ h e. cc),
+                                                    (
+                                                      (λ h e. cc),
+                                                      (
+                                                        (λ h e. cc),
+                                                        (
+                                                          (λ h e. cc),
+                                                          (
+                                                            (λ h e. cc),
+                                                            ((λ h e. cc), tt),
+                                                          ),
+                                                        ),
+                                                      ),
+                                                    ),
+                                                  ),
+                                                ),
+                                              ),
+                                            ),
+                                          ),
+                                        ),
+                                      ),
+                                    ),
+                                  ),
+                                ),
+                              ),
+                            ),
+                          ),
+                        ),
+                      ),
+                    ),
+                  ),
+                ),
+              ),
+            ),
+          ),
+        ),
+      ),
+    ),
+  ),
+)
+
+shorter : (l : Layout) (s : InputSection) (r : InputRelocation) (from : ℕ) (o : Instruction) → l.machine ≡ machine.X86_64 → r.number ≡ abi.r_x86_64_gotpcrel → o.partners ≡ [] → IsInstruction l (item_of s) r from o → (size_of o ≤ 7) ⊎ (o ≡ wide_load)
+shorter l s r from o x86 number none h =
+    let known = subst (λ (m : Machine). Contains (instructions_of m) o) x86 h.known in
+    let listed = subst (λ (x : ℕ). Contains o.numbers x) number h.number in
+    elim (each_of IsShorter (instructions_of machine.X86_64) o known.0 each_shorter known.1 known.2 (has_listed abi.r_x86_64_gotpcrel o.numbers listed.0 listed.1 listed.2) none) [
+      | inl short ↦ inl (leb-true (size_of o) 7 short)
+      | inr same ↦ inr same
+    ]
+
+pub plain_single : WindowsAreAlone → (l : Layout) (s : InputSection) (i : ℕ) (r : InputRelocation) (v : ℕ) → l.machine ≡ machine.X86_64 → IsDecided l s → IsPlacedRow l s i r PlainGotMovToLea v → ((from : ℕ) → IsInstruction l (item_of s) r from wide_load → ⊥) → IsSingle l (item_of s) r (template_start PlainGotMovToLea r) (instruction_of PlainGotMovToLea)
+plain_single law l s i r v x86 decided p none_wider = record {
+  single = refl;
+  stands = stands_there law l s i r PlainGotMovToLea v x86 decided p;
+  longest = λ a o none k. elim (shorter l s r a o x86 p.chosen.number none k) [
+    | inl short ↦ short
+    | inr same ↦ absurd (none_wider a (subst (λ (x : Instruction). IsInstruction l (item_of s) r a x) same k))
+  ];
+  free = λ first rest a o q c. free law l s i r first rest PlainGotMovToLea v a o x86 decided p refl q c;
+}

@@ -1,0 +1,166 @@
+-- Instructions that are rewritten hold, and so do the calls that they take along.
+use Rattle.std.proofs.Common.{◌≡◌, ℕ, ◌+◌, ◌≤◌, inl, inr, true, [], ◌∷◌, refl, ap, ◌∙◌, arith, subst}
+use Rattle.std.specs.Prelude.{Some, Ok, slice_get}
+use Rattle.std.proofs.lemmas.Bool.{cases_Bool}
+use Rattle.std.proofs.lemmas.Option.{slice_get_within}
+use Rattle.wild_types.specs.declared.input.InputRelocation.{InputRelocation}
+use Rattle.wild_types.specs.declared.input.InputSection.{InputSection}
+use Rattle.wild_types.specs.declared.layout.Layout.{Layout}
+use Rattle.wild_relax.specs.declared.row.Row.{Row}
+use Rattle.wild_relax.specs.declared.row.Row.TheVariants.{PlainGotMovToLea}
+use Rattle.wild_relax.specs.Rewrite.{is_skip}
+use Rattle.wild_relax.specs.RewriteX86_64.{rewrite_of}
+use Rattle.wild_relax.specs.Linked.{pattern_size}
+use Rattle.wild_layout.specs.declared.decision.Decision.{Decision}
+use Rattle.wild_layout.specs.declared.decision.Decision.TheVariants.{Rewritten, Partner}
+use Rattle.wild_layout.specs.Sites.{template_start}
+use Rattle.wild_layout.proofs.ChoiceLemmas.{IsSequence}
+use Rattle.wild_layout.proofs.DecisionLemmas.{decide_partner, sequence_is_rewritten}
+use Rattle.wild_geometry.specs.Loaded.{HasDecision}
+use Rattle.wild_loader.specs.declared.memory.Memory.{Memory}
+use Rattle.wild_loader.specs.declared.world.World.{World}
+use Rattle.wild_meaning.specs.Item.{item_of}
+use Rattle.wild_meaning.specs.Sequence.{TargetInSlot, Instruction, size_of}
+use Rattle.wild_meaning.specs.Template.{IsSingle, IsTemplate, reads_alone, DoesDemanded}
+use Rattle.wild_meaning.specs.Reference.{IsAsked}
+use Rattle.wild_references.specs.Laws.{IsLoadedSection}
+use Rattle.wild_references.specs.EffectLaws.{RewrittenStand, RewrittenHold, PartnersHold}
+use Rattle.wild_references.proofs.RewrittenForms.{instruction_of}
+use Rattle.wild_references.proofs.RewrittenPlaces.{LawsBelow, IsPlacedRow, placed_row, size_is}
+use Rattle.wild_references.proofs.RewrittenAlone.{called}
+use Rattle.wild_references.proofs.RewrittenPairs.{paired}
+use Rattle.wild_references.proofs.RewrittenSingles.{is_told}
+use Rattle.wild_references.proofs.RewrittenDoes.{GoesWithBase, does_row}
+use Rattle.wild_references.proofs.RewrittenTemplates.{single_there, sequence_there, of_sequence_there, sequence_sort}
+use Rattle.wild_references.proofs.RewrittenPrefix.{wide_load, wide_single, IsWider, wider_or_not}
+use Rattle.wild_references.proofs.RewrittenShorter.{plain_single}
+use Rattle.wild_references.proofs.RewrittenWider.{does_wider}
+
+-- ---- an instruction, where it stands, and what it does where it is asked
+
+record IsHeld (l : Layout) (w : World) (m : Memory) (s : InputSection) (r : InputRelocation) (row : Row) : Type 0 where
+  from : ℕ
+  instruction : Instruction
+  template : IsTemplate l (item_of s) r from instruction r
+  before : from ≤ template_start row r
+  behind : template_start row r + pattern_size row ≤ from + size_of instruction
+  does : (instruction.sort ≡ TargetInSlot → IsAsked l w (item_of s) r) → DoesDemanded (reads_alone w m) l w m (item_of s) r from instruction
+
+-- where code goes through a slot to an absolute symbol of an output that moves, the reference is asked at base 0 alone
+goes_with : (l : Layout) (w : World) (m : Memory) (s : InputSection) (i : ℕ) (r : InputRelocation) (row : Row) (v : ℕ) → (p : IsPlacedRow l s i r row v) → IsSingle l (item_of s) r (template_start row r) (instruction_of row) → ((instruction_of row).sort ≡ TargetInSlot → IsAsked l w (item_of s) r) → GoesWithBase l w row p.chosen.symbol
+goes_with l w m s i r row v p t asked sort movable still = asked sort (record {
+  movable = movable;
+  symbol = p.chosen.symbol;
+  named = p.chosen.named;
+  absolute = still;
+  relative = inr (record { start = template_start row r; instruction = instruction_of row; first = r; template = inl (t, refl); through = sort });
+})
+
+single_held : LawsBelow → (l : Layout) (w : World) (m : Memory) (s : InputSection) (i : ℕ) (r : InputRelocation) (row : Row) (v : ℕ) → IsLoadedSection l w m s → IsPlacedRow l s i r row v → IsSingle l (item_of s) r (template_start row r) (instruction_of row) → IsHeld l w m s r row
+single_held laws l w m s i r row v h p t =
+    let size = size_is l s i r row v p in
+    record {
+      from = template_start row r;
+      instruction = instruction_of row;
+      template = inl (t, refl);
+      before = omega arith;
+      behind = omega (arith, size);
+      does = λ asked. does_row laws l w m s i r row v h p (goes_with l w m s i r row v p t asked);
+    }
+
+wider_held : LawsBelow → (l : Layout) (w : World) (m : Memory) (s : InputSection) (i : ℕ) (r : InputRelocation) (v from : ℕ) → IsLoadedSection l w m s → IsWider l s i r v from → IsHeld l w m s r PlainGotMovToLea
+wider_held laws l w m s i r v from h t =
+    let start = t.plain.start in
+    record {
+      from = from;
+      instruction = wide_load;
+      template = inl (wide_single laws.alone l s i r v from h.x86 h.decided t, refl);
+      before = omega (arith, start);
+      behind = omega (arith, start);
+      does = λ asked. does_wider laws l w m s i r v from h t;
+    }
+
+plain_held : LawsBelow → (l : Layout) (w : World) (m : Memory) (s : InputSection) (i : ℕ) (r : InputRelocation) (v : ℕ) → IsLoadedSection l w m s → IsPlacedRow l s i r PlainGotMovToLea v → IsHeld l w m s r PlainGotMovToLea
+plain_held laws l w m s i r v h p =
+    elim (wider_or_not l s i r v p) [
+      | inl t ↦ wider_held laws l w m s i r v t.0 h t.1
+      | inr none ↦ single_held laws l w m s i r PlainGotMovToLea v h p (plain_single laws.alone l s i r v h.x86 h.decided p none)
+    ]
+
+-- the call is there
+call_there : (l : Layout) (s : InputSection) (i : ℕ) (r : InputRelocation) (row : Row) (v : ℕ) → IsPlacedRow l s i r row v → is_skip (rewrite_of row).next ≡ true → (next : InputRelocation) × (slice_get s.relocations (i + 1) ≡ Some next)
+call_there l s i r row v p skips =
+    let pair = paired row p.changing skips in
+    let c = called l s row r p.chosen.symbol pair.distance (slice_get s.relocations (i + 1)) pair.behind p.stands.taken.partner in
+    (c.0, c.1)
+
+sequence_held : LawsBelow → (l : Layout) (w : World) (m : Memory) (s : InputSection) (i : ℕ) (r : InputRelocation) (row : Row) (v : ℕ) → IsLoadedSection l w m s → IsPlacedRow l s i r row v → is_skip (rewrite_of row).next ≡ true → IsHeld l w m s r row
+sequence_held laws l w m s i r row v h p skips =
+    let size = size_is l s i r row v p in
+    let c = call_there l s i r row v p skips in
+    record {
+      from = template_start row r;
+      instruction = instruction_of row;
+      template = inr (of_sequence_there laws l w m s i r c.0 row v h p skips c.1);
+      before = omega arith;
+      behind = omega (arith, size);
+      does = λ asked. does_row laws l w m s i r row v h p (λ sort. absurd (sequence_sort row skips sort));
+    }
+
+told_held : LawsBelow → (l : Layout) (w : World) (m : Memory) (s : InputSection) (i : ℕ) (r : InputRelocation) (row : Row) (v : ℕ) → IsLoadedSection l w m s → IsPlacedRow l s i r row v → is_told row ≡ true → IsHeld l w m s r row
+told_held laws l w m s i r row v h p told =
+    elim (cases_Bool (is_skip (rewrite_of row).next)) [
+      | inl skips ↦ sequence_held laws l w m s i r row v h p skips
+      | inr alone ↦ single_held laws l w m s i r row v h p (single_there laws l w m s i r row v h p alone told)
+    ]
+
+row_held : LawsBelow → (l : Layout) (w : World) (m : Memory) (s : InputSection) (i : ℕ) (r : InputRelocation) (row : Row) (v : ℕ) → IsLoadedSection l w m s → IsPlacedRow l s i r row v → IsHeld l w m s r row
+row_held laws l w m s i r PlainGotMovToLea v h p = plain_held laws l w m s i r v h p
+row_held laws l w m s i r other v h p = told_held laws l w m s i r other v h p refl
+
+pub rewritten_stand : LawsBelow → RewrittenStand
+rewritten_stand laws l w m s h i r row v has =
+    let t = row_held laws l w m s i r row v h (placed_row laws l s i r row v has) in
+    record { from = t.from; instruction = t.instruction; first = r; template = t.template; before = t.before; behind = t.behind }
+
+pub rewritten_hold : LawsBelow → RewrittenHold
+rewritten_hold laws l w m s h i r row v has asked =
+    let t = row_held laws l w m s i r row v h (placed_row laws l s i r row v has) in
+    record { start = t.from; instruction = t.instruction; first = r; template = t.template; does = t.does (λ sort. asked) }
+
+-- ---- the calls of sequences
+
+-- the relocation before the call is rewritten by the row that takes it along
+record IsBefore (l : Layout) (s : InputSection) (j : ℕ) (second : InputRelocation) : Type 0 where
+  first : InputRelocation
+  row : Row
+  value : ℕ
+  has : HasDecision l s j first (Rewritten row value)
+  skips : is_skip (rewrite_of row).next ≡ true
+  listed : slice_get s.relocations (j + 1) ≡ Some second
+
+before_call : (l : Layout) (w : World) (m : Memory) (s : InputSection) (i : ℕ) (r : InputRelocation) → IsLoadedSection l w m s → HasDecision l s i r Partner → (j : ℕ) × IsBefore l s j r
+before_call l w m s i r h has =
+    let t = decide_partner l s i r has.listed has.decided in
+    (t.0, by_row t.0 t.2 t.3 (subst (λ (n : ℕ). slice_get s.relocations n ≡ Some r) t.1 has.listed))
+  where
+    by_row : (j : ℕ) (row : Row) → IsSequence l s j row → slice_get s.relocations (j + 1) ≡ Some r → IsBefore l s j r
+    by_row j row q listed =
+        let d = h.decided.each j (slice_get_within s.relocations j q.relocation q.listed) in
+        let by = sequence_is_rewritten l s j row d.0 q d.1 in
+        record { first = q.relocation; row = row; value = by.0; has = record { listed = q.listed; decided = d.1 ∙ ap (λ (x : Decision). Ok x) by.1 }; skips = q.takes; listed = listed }
+
+pub partners_hold : LawsBelow → PartnersHold
+partners_hold laws l w m s h i r has =
+    let b = before_call l w m s i r h has in
+    let t = b.1 in
+    let p = placed_row laws l s b.0 t.first t.row t.value t.has in
+    record {
+      start = template_start t.row t.first;
+      instruction = instruction_of t.row;
+      first = t.first;
+      rest = r ∷ [];
+      one = (0, omega arith, refl);
+      sequence = sequence_there laws l w m s b.0 t.first r t.row t.value h p t.skips t.listed;
+      does = does_row laws l w m s b.0 t.first t.row t.value h p (λ sort. absurd (sequence_sort t.row t.skips sort));
+    }

@@ -1,0 +1,209 @@
+-- Behind a longer prefix the same bytes are written, and they do what the longer instruction demands.
+use Rattle.std.proofs.Common.{◌≡◌, ℕ, zero, suc, ◌+◌, ◌-◌, ◌<◌, ◌≤◌, ◌⊎◌, inl, inr, Bool, true, false, List, [], ◌∷◌, length, get_or, refl, sym, ap, ◌∙◌, arith, subst}
+use Rattle.std.specs.Prelude.{◌&&◌, ◌||◌, ◌==◌, Some, Ok, slice_get, slice_range, slice_index}
+use Rattle.std.specs.List.{list_all}
+use Rattle.std.proofs.lemmas.Bool.{cases_lt, cases_eq}
+use Rattle.wild_words.specs.Words.{place}
+use Rattle.wild_words.proofs.Basics.{listed_passes}
+use Rattle.wild_records.specs.Abi.Relocation as abi
+use Rattle.wild_types.specs.declared.kind.Machine.{Machine}
+use Rattle.wild_types.specs.declared.kind.Machine.TheVariants as machine
+use Rattle.wild_types.specs.declared.input.InputRelocation.{InputRelocation}
+use Rattle.wild_types.specs.declared.input.InputSection.{InputSection}
+use Rattle.wild_types.specs.declared.layout.Layout.{Layout}
+use Rattle.wild_reloc.specs.Field.{written}
+use Rattle.wild_reloc.specs.Formula.{Formula}
+use Rattle.wild_reloc.specs.FormulaX86_64.{x86_64_formula}
+use Rattle.wild_reloc.specs.declared.info.RelocationKindInfo.{RelocationKindInfo}
+use Rattle.wild_relax.specs.declared.pattern.Prefix.TheVariants.{Rex2}
+use Rattle.wild_relax.specs.declared.pattern.Cell.TheVariants as cells
+use Rattle.wild_relax.specs.declared.row.Row.{Row}
+use Rattle.wild_relax.specs.declared.row.Row.TheVariants.{PlainGotMovToLea, RexGotMovToLea}
+use Rattle.wild_relax.specs.Pattern.{cells_of}
+use Rattle.wild_relax.specs.Linked.{pattern_of, pattern_size, keeps_bytes, linked, template_of}
+use Rattle.wild_relax.specs.Keep.{IsWhole, distance}
+use Rattle.wild_layout.specs.declared.decision.Decision.TheVariants.{Rewritten}
+use Rattle.wild_layout.specs.Choice.{question_of}
+use Rattle.wild_layout.specs.Sites.{template_start}
+use Rattle.wild_layout.proofs.ChoiceLemmas.{chosen_listed}
+use Rattle.wild_geometry.specs.Loaded.{IsDecided, HasDecision}
+use Rattle.wild_loader.specs.Memory.{byte_in, Holds}
+use Rattle.wild_loader.specs.declared.memory.Memory.{Memory}
+use Rattle.wild_loader.specs.declared.world.World.{World}
+use Rattle.wild_meaning.specs.Item.{item_of, place_at}
+use Rattle.wild_meaning.specs.Field.{formula_of, form_width, IsInputByte}
+use Rattle.wild_loader.specs.Instruction.{as_value}
+use Rattle.wild_loader.specs.Instruction as judge
+use Rattle.wild_loader.specs.declared.instruction.Cell.TheVariants as judge-cells
+use Rattle.wild_loader.specs.InstructionX86_64.{effect_x86_64, demand_x86_64}
+use Rattle.wild_meaning.specs.Sequence.{Instruction, instructions_of}
+use Rattle.wild_meaning.specs.Template.{reads_alone, DoesDemanded}
+use Rattle.wild_references.specs.Laws.{IsLoadedSection}
+use Rattle.wild_references.proofs.Clash.{is_free, are_calls, pair_ok, row_ok, each_row_ok, IsUncovered, apart_templates}
+use Rattle.wild_references.proofs.Kept.{OutOfWindows, input_byte, Window, window, free_not}
+use Rattle.wild_references.proofs.RewrittenPlaces.{LawsBelow}
+use Rattle.wild_references.proofs.RewrittenTerms.{info_is}
+use Rattle.wild_references.proofs.RewrittenEffects.{has_effect, template_linked, value_small, old_of, on_machine, whole_is}
+use Rattle.wild_references.proofs.RewrittenDoes.{plain_far}
+use Rattle.wild_references.proofs.RewrittenPrefix.{wide_load, Plain, at_field, room, bytes_are, stands_with, IsWider}
+use Rattle.wild_references.proofs.Fills.{is_any}
+
+-- ---- the prefix stays in memory
+
+-- the field's type has four bytes
+four_bytes : (f : Formula) → x86_64_formula abi.r_x86_64_gotpcrel ≡ Some f → form_width f.form ≡ 4
+unfolding x86_64_formula
+four_bytes f h = by_some _ f h refl
+  where
+    by_some : (g f : Formula) → Some g ≡ Some f → form_width g.form ≡ 4 → form_width f.form ≡ 4
+    by_some g f h e = (let same : g ≡ f = cc in subst (λ (x : Formula). form_width x.form ≡ 4) same e)
+
+four_there : (f : Formula) × (x86_64_formula abi.r_x86_64_gotpcrel ≡ Some f)
+unfolding x86_64_formula
+four_there = (_, refl)
+
+formula_there : (m : Machine) (n : ℕ) (f : Formula) → m ≡ machine.X86_64 → n ≡ abi.r_x86_64_gotpcrel → x86_64_formula abi.r_x86_64_gotpcrel ≡ Some f → formula_of m n ≡ Some f
+formula_there m n f e k h = subst (λ (x : Machine). formula_of x n ≡ Some f) (sym e) (subst (λ (y : ℕ). x86_64_formula y ≡ Some f) (sym k) h)
+
+-- the field lies in no other window
+field_out : LawsBelow → (l : Layout) (s : InputSection) (i j : ℕ) (r q : InputRelocation) (v from x w : ℕ) (row : Row) → l.machine ≡ machine.X86_64 → IsDecided l s → Plain l s i r v from → HasDecision l s j q (Rewritten row w) → (j ≡ i → ⊥) → from + 4 ≤ x → x < from + 8 → (x < template_start row q) ⊎ (template_start row q + pattern_size row ≤ x)
+field_out laws l s i j r q v from x w row x86 decided t h other low high =
+    elim (cases_lt x (template_start row q)) [
+      | inl before ↦ inl before
+      | inr above ↦ elim (cases_lt x (template_start row q + pattern_size row)) [
+        | inr behind ↦ inr behind
+        | inl inside ↦
+            (let f = four_there in
+            let width = four_bytes f.0 f.1 in
+            let at = at_field l s i r v from t in
+            absurd (not_beside width at (laws.alone l s x86 decided j i q r row w (Rewritten PlainGotMovToLea v) h t.row.has other (λ e c. cc) x above inside f.0 (formula_there l.machine r.number f.0 x86 t.row.chosen.number f.1))))
+      ]
+    ]
+  where
+    not_beside : {n : ℕ} → n ≡ 4 → r.offset ≡ from + 4 → (x < r.offset) ⊎ (r.offset + n ≤ x) → ⊥
+    not_beside e at (inl a) = omega (arith, at, a, low)
+    not_beside e at (inr a) = omega (arith, e, at, a, high)
+
+any_four : (k : ℕ) → is_any (get_or wide_load.template.cells k judge-cells.Any) ≡ true → 4 ≤ k
+any_four zero h = cc
+any_four (suc zero) h = cc
+any_four (suc (suc zero)) h = cc
+any_four (suc (suc (suc zero))) h = cc
+any_four (suc (suc (suc (suc k)))) h = omega arith
+
+uncovered : LawsBelow → (l : Layout) (s : InputSection) (i j : ℕ) (r q : InputRelocation) (v from w : ℕ) (row : Row) → l.machine ≡ machine.X86_64 → IsDecided l s → Plain l s i r v from → HasDecision l s j q (Rewritten row w) → (j ≡ i → ⊥) → IsUncovered wide_load.template.cells (cells_of (pattern_of row)) from (template_start row q)
+uncovered laws l s i j r q v from w row x86 decided t h other k lt any =
+    let low = any_four k any in
+    field_out laws l s i j r q v from (from + k) w row x86 decided t h other (omega (arith, low)) (omega (arith, lt))
+
+-- another row's window leaves the prefix out
+apart : LawsBelow → (l : Layout) (s : InputSection) (i j : ℕ) (r q : InputRelocation) (v from w : ℕ) (row : Row) → l.machine ≡ machine.X86_64 → IsDecided l s → IsWider l s i r v from → HasDecision l s j q (Rewritten row w) → (j ≡ i → ⊥) → template_start row q ≤ from → from < template_start row q + pattern_size row → ⊥
+apart laws l s i j r q v from w row x86 decided t h other low high = by_cell (is_free (get_or (cells_of (pattern_of row)) (from - template_start row q) cells.Any)) refl
+  where
+    there : Window l s j q row w
+    there = window l s j q row w h
+
+    passes : (b : Bool) → b ≡ false → (b || list_all (λ (o : Instruction). pair_ok o.template.cells (cells_of (pattern_of row))) (instructions_of machine.X86_64)) ≡ true → pair_ok wide_load.template.cells (cells_of (pattern_of row)) ≡ true
+    passes true e k = cc
+    passes false e k = listed_passes (λ (o : Instruction). pair_ok o.template.cells (cells_of (pattern_of row))) (instructions_of machine.X86_64) wide_load k (21, omega arith, refl)
+
+    no_calls : are_calls wide_load.template.cells (cells_of (pattern_of row)) ≡ true → ⊥
+    no_calls k = cc
+
+    by_cell : (b : Bool) → is_free (get_or (cells_of (pattern_of row)) (from - template_start row q) cells.Any) ≡ b → ⊥
+    by_cell true any = free_not l s j q row w from (from - template_start row q) x86 there t.alone (omega (arith, low)) (omega (arith, low, high)) any
+    by_cell false fixed =
+        apart_templates wide_load.template.cells (cells_of (pattern_of row)) s.bytes from (template_start row q) (passes (keeps_bytes row) there.made.changes (chosen_listed l s q (slice_get s.relocations (j + 1)) row there.made.chosen row_ok each_row_ok)) no_calls (record {
+          first = stands_with l s i r v from t.plain t.prefix;
+          second = (laws.whole (question_of l s q there.made.chosen.symbol (slice_get s.relocations (j + 1))) row there.made.chosen.chosen).same;
+          own = 0;
+          other = from - template_start row q;
+          same = omega (arith, low);
+          own_inside = omega arith;
+          other_inside = omega (arith, low, high);
+          own_fixed = refl;
+          other_fixed = fixed;
+          uncovered = uncovered laws l s i j r q v from w row x86 decided t.plain h other;
+        })
+
+out_of_windows : LawsBelow → (l : Layout) (s : InputSection) (i : ℕ) (r : InputRelocation) (v from : ℕ) → l.machine ≡ machine.X86_64 → IsDecided l s → IsWider l s i r v from → OutOfWindows l s from
+out_of_windows laws l s i r v from x86 decided t j q row w h =
+    elim (cases_eq j i) [
+      | inl e ↦ inl (own_one (subst (λ (n : ℕ). HasDecision l s n q (Rewritten row w)) e h))
+      | inr other ↦ elim (cases_lt from (template_start row q)) [
+        | inl before ↦ inl before
+        | inr above ↦ elim (cases_lt from (template_start row q + pattern_size row)) [
+          | inr behind ↦ inr behind
+          | inl inside ↦ absurd (apart laws l s i j r q v from w row x86 decided t h other above inside)
+        ]
+      ]
+    ]
+  where
+    own_one : HasDecision l s i q (Rewritten row w) → from < template_start row q
+    own_one k =
+        let a : r ≡ q = (let z : Some r ≡ Some q = sym t.plain.row.has.listed ∙ k.listed in cc) in
+        let b : PlainGotMovToLea ≡ row = (let z : Ok (Rewritten PlainGotMovToLea v) ≡ Ok (Rewritten row w) = sym t.plain.row.has.decided ∙ k.decided in cc) in
+        let start = t.plain.start in
+        let here : from < template_start PlainGotMovToLea r = omega (arith, start) in
+        subst (λ (x : InputRelocation). from < template_start row x) a (subst (λ (x : Row). from < template_start x r) b here)
+
+pub prefix_stays : LawsBelow → (l : Layout) (w : World) (m : Memory) (s : InputSection) (i : ℕ) (r : InputRelocation) (v from : ℕ) → IsLoadedSection l w m s → IsWider l s i r v from → IsInputByte w m (item_of s) from
+prefix_stays laws l w m s i r v from h t =
+    let inside = room l s i r v from t.plain in
+    input_byte l w m s from h (omega (arith, inside)) t.alone (out_of_windows laws l s i r v from h.x86 h.decided t)
+
+-- ---- the same bytes
+
+place_more : (k x : ℕ) (part xs : List ℕ) → place (suc k) part (x ∷ xs) ≡ x ∷ place k part xs
+unfolding place
+place_more k x part xs = (let e : suc k + length part ≡ suc (k + length part) = omega arith in rw e refl)
+
+linked_more : (info : RelocationKindInfo) (v x : ℕ) (old : List ℕ) → linked (RexGotMovToLea Rex2) info v (x ∷ old) ≡ x ∷ linked PlainGotMovToLea info v old
+linked_more info v x old =
+    ap (λ (bs : List ℕ). place 4 (written info v []) bs) (place_more 1 x (0x8d ∷ []) old)
+    ∙ place_more 3 x (written info v []) (place 1 (0x8d ∷ []) old)
+
+-- in memory from the prefix on
+held_more : (m : Memory) (a b x : ℕ) (bs : List ℕ) → b ≡ a + 1 → byte_in m a ≡ Some x → Holds m b bs → Holds m a (x ∷ bs)
+held_more m a b x bs e first rest zero lt = (let z : a ≡ a + 0 = omega arith in subst (λ (n : ℕ). byte_in m n ≡ Some x) z first)
+held_more m a b x bs e first rest (suc k) lt = (let z : b + k ≡ a + suc k = omega (arith, e) in subst (λ (n : ℕ). byte_in m n ≡ Some (slice_index bs k)) z (rest k (omega (arith, lt))))
+
+pub does_wider : LawsBelow → (l : Layout) (w : World) (m : Memory) (s : InputSection) (i : ℕ) (r : InputRelocation) (v from : ℕ) → IsLoadedSection l w m s → IsWider l s i r v from → DoesDemanded (reads_alone w m) l w m (item_of s) r from wide_load
+does_wider laws l w m s i r v from h t =
+    let p = t.plain.row in
+    let x = slice_index s.bytes from in
+    let old = old_of s PlainGotMovToLea r in
+    let a = place_at w (item_of s) from in
+    let far = plain_far laws l w m s i r PlainGotMovToLea v h p refl refl p.stands.taken.addend p.stands.taken.symbol p.stands.taken.value in
+    let n = far.operand in
+    let info = p.made.written.info in
+    let known = info_is l w m s i r PlainGotMovToLea v h p in
+    let bytes = bytes_are l s i r v from t.plain in
+    let start = t.plain.start in
+    let next : place_at w (item_of s) (template_start PlainGotMovToLea r) ≡ a + 1 = omega (arith, start) in
+    let shape = stands_with l s i r v from t.plain t.prefix in
+    let here : judge.stands wide_load.template.cells (x ∷ old) ≡ true = subst (λ (bs : List ℕ). judge.stands wide_load.template.cells bs ≡ true) bytes shape in
+    let long : length (x ∷ old) ≡ 8 = (let z = p.whole.long in omega (arith, z)) in
+    let e = has_effect n a 12 wide_load.template (x ∷ old) (omega arith) refl long here in
+    let whole : IsWhole (cells_of (pattern_of (RexGotMovToLea Rex2))) (x ∷ old) = record { long = long; same = both_stand (x == 0xd5) _ t.prefix p.whole.same } in
+    let place_is : place_at w (item_of s) (template_start PlainGotMovToLea r) + 3 ≡ a + 4 = omega (arith, next) in
+    let lands : v ≡ distance n (a + 4) = subst (λ (y : ℕ). v ≡ distance n y) place_is far.lands in
+    let keeps = laws.keeps (RexGotMovToLea Rex2) info (reads_alone w m) a n v (x ∷ old) tt whole (record { row_of = sym known; allowed = p.made.written.allowed; small = value_small l s i r PlainGotMovToLea v p; operand = far.is.small; numbers = λ k. refl; lands = lands }) in
+    let written_bytes : linked (RexGotMovToLea Rex2) info v (x ∷ old) ≡ x ∷ template_of PlainGotMovToLea v old = linked_more info v x old ∙ ap (λ (bs : List ℕ). x ∷ bs) (sym (template_linked PlainGotMovToLea info v old known)) in
+    let done : effect_x86_64 (reads_alone w m) a (x ∷ template_of PlainGotMovToLea v old) ≡ Some e.0 = subst (λ (bs : List ℕ). effect_x86_64 (reads_alone w m) a bs ≡ Some e.0) written_bytes (keeps ∙ e.1) in
+    record {
+      value = n;
+      demands = far.is.target;
+      code = record {
+        effect = e.0;
+        demanded = on_machine l.machine (as_value n) a (slice_range s.bytes from (from + 8)) h.x86 ∙ (ap (λ (bs : List ℕ). demand_x86_64 n a bs) bytes ∙ e.1);
+        bytes = x ∷ template_of PlainGotMovToLea v old;
+        whole = (let z = whole_is l w m s i r PlainGotMovToLea v h p in omega (arith, z));
+        held = held_more m a (place_at w (item_of s) (template_start PlainGotMovToLea r)) x (template_of PlainGotMovToLea v old) next (prefix_stays laws l w m s i r v from h t) (h.section.rewritten i r PlainGotMovToLea v p.has);
+        does = on_machine l.machine (reads_alone w m) a (x ∷ template_of PlainGotMovToLea v old) h.x86 ∙ done;
+      };
+    }
+  where
+    both_stand : (a b : Bool) → a ≡ true → b ≡ true → (a && b) ≡ true
+    both_stand true b e f = f
+    both_stand false b e f = cc

@@ -1,0 +1,139 @@
+-- A slot that the writer knows of, in memory, is the slot that an expression names.
+use Rattle.std.proofs.Common.{◌≡◌, ℕ, ◌+◌, ◌%◌, ◌^◌, ◌<◌, Bool, true, false, refl, sym, ap, arith, subst}
+use Rattle.std.specs.Prelude.{if◌then◌else◌, Option, Some, None, Ok, option_and_then}
+use Rattle.wild_types.specs.declared.fault.Missing.TheVariants as missing
+use Rattle.wild_types.specs.declared.symbol.Resolution.{Resolution}
+use Rattle.wild_types.specs.declared.symbol.ValueFlags.{ValueFlags}
+use Rattle.wild_types.specs.declared.layout.Layout.{Layout}
+use Rattle.wild_types.specs.Flags.{has_flag, got_tls_offset, got_tls_module, got_tls_descriptor}
+use Rattle.wild_types.specs.Lookups.{canonical}
+use Rattle.wild_types.specs.ResolvedFlags.{HaveTheirFlags, HasItsFlags}
+use Rattle.wild_types.specs.SymbolSlots.{has_thread_slot}
+use Rattle.wild_reloc.specs.Formula.{Slot, AddressSlot, ModulePair, OwnModulePair, ThreadOffset, Descriptor}
+use Rattle.wild_reloc.specs.Expression.{slot_sort}
+use Rattle.wild_reloc.specs.declared.expression.SlotSort.{SlotSort}
+use Rattle.wild_reloc.specs.declared.expression.SlotSort.TheVariants as sorts
+use Rattle.wild_layout.specs.SlotValues.{resolution_of, has_second_slot, behind_word, behind_pair, slot_among, slot_decided, slot_address, slot_of}
+use Rattle.wild_words.proofs.ListLemmas.{holds_at}
+use Rattle.wild_loader.specs.declared.memory.Memory.{Memory}
+use Rattle.wild_loader.specs.declared.world.World.{World}
+use Rattle.wild_meaning.specs.Slot.{HoldsSlot, behind_first, IsDecidedSlot, HasSlot, IsSlotOf, IsSlot}
+use Rattle.wild_references.proofs.Symbols.{IsResolvedBy, resolved}
+use Rattle.wild_references.proofs.Written.{given_some}
+
+-- ---- what the writer knows
+
+-- where the writer takes a slot that stands behind a symbol's first
+pub by_slot : (sort : SlotSort) (l : Layout) (i slot : ℕ) (P : ℕ → Type 0) → slot_decided sort (resolution_of l i) ≡ Some slot → ((r : Resolution) (at : ℕ) → IsResolvedBy l i r → r.got_address ≡ Some at → slot_among sort r.flags at ≡ Some slot → P slot) → P slot
+by_slot sort l i slot P h by = by_resolution (resolution_of l i) refl h
+  where
+    by_place : (r : Resolution) (o : Option ℕ) → resolution_of l i ≡ Some r → r.got_address ≡ o → option_and_then (slot_among sort r.flags) o ≡ Some slot → P slot
+    by_place r None e f h = cc
+    by_place r (Some at) e f h = by r at (resolved l i r e) f h
+
+    by_resolution : (o : Option Resolution) → resolution_of l i ≡ o → slot_decided sort o ≡ Some slot → P slot
+    by_resolution None e h = cc
+    by_resolution (Some r) e h = by_place r r.got_address e refl h
+
+-- ---- the places
+
+-- the address is, modulo 2^64, that of the slot that the reader takes
+pub record IsSameSlot (sort : Slot) (l : Layout) (i at : ℕ) : Type 0 where
+  pub slot : ℕ
+  pub given : HasSlot sort l i slot
+  pub same : (base : ℕ) → (base + at) % 2 ^ 64 ≡ (base + slot) % 2 ^ 64
+
+-- the writer takes for the slot of a sort the one that the reader takes
+abbrev pub SlotsAgree : SlotSort → Layout → Type 0
+SlotsAgree sort l = (i at : ℕ) → slot_of l sort i ≡ Some at → IsSameSlot (slot_sort sort) l i at
+
+-- so far behind the first slot
+decided_slot : (sort : Slot) (l : Layout) (i at : ℕ) (r : Resolution) → HaveTheirFlags l → IsResolvedBy l i r → r.got_address ≡ Some at → IsDecidedSlot sort l i (at + behind_first sort r.flags)
+decided_slot sort l i at r own d e =
+    let flags : r.flags ≡ d.symbol.flags = holds_at HasItsFlags l.symbols (canonical l i) d.symbol d.listed own r d.decided in
+    record {
+      definition = canonical l i;
+      defined = d.defined;
+      symbol = d.symbol;
+      listed = d.listed;
+      resolution = r;
+      decided = d.decided;
+      first = at;
+      given = e;
+      place = ap (λ (f : ValueFlags). at + behind_first sort f) flags;
+    }
+
+word_same : (b : Bool) (base at : ℕ) → (base + behind_word b at) % 2 ^ 64 ≡ (base + (at + (if b then 8 else 0))) % 2 ^ 64
+word_same true base at = omega arith
+word_same false base at = omega arith
+
+pair_same : (offset pair : Bool) (base at : ℕ) → (base + behind_pair pair (behind_word offset at)) % 2 ^ 64 ≡ (base + (at + ((if offset then 8 else 0) + (if pair then 16 else 0)))) % 2 ^ 64
+pair_same true true base at = omega arith
+pair_same true false base at = omega arith
+pair_same false true base at = omega arith
+pair_same false false base at = omega arith
+
+pub address_slots : (l : Layout) → HaveTheirFlags l → SlotsAgree sorts.Address l
+address_slots l own = λ i slot h. by_slot sorts.Address l i slot (λ (n : ℕ). IsSameSlot AddressSlot l i n) h (λ r at d e among. by_flag i slot r at d e (has_thread_slot r.flags) among)
+  where
+    by_flag : (i slot : ℕ) (r : Resolution) (at : ℕ) → IsResolvedBy l i r → r.got_address ≡ Some at → (b : Bool) → (if b then None else Some (behind_word (has_second_slot r.flags) at)) ≡ Some slot → IsSameSlot AddressSlot l i slot
+    by_flag i slot r at d e true h = cc
+    by_flag i slot r at d e false h =
+        let is : behind_word (has_second_slot r.flags) at ≡ slot = cc in
+        subst (λ (n : ℕ). IsSameSlot AddressSlot l i n) is (record { slot = at + behind_first AddressSlot r.flags; given = decided_slot AddressSlot l i at r own d e; same = λ base. word_same (has_second_slot r.flags) base at })
+
+pub offset_slots : (l : Layout) → HaveTheirFlags l → SlotsAgree sorts.Offset l
+offset_slots l own = λ i slot h. by_slot sorts.Offset l i slot (λ (n : ℕ). IsSameSlot ThreadOffset l i n) h (λ r at d e among. by_flag i slot r at d e (has_flag r.flags got_tls_offset) among)
+  where
+    by_flag : (i slot : ℕ) (r : Resolution) (at : ℕ) → IsResolvedBy l i r → r.got_address ≡ Some at → (b : Bool) → (if b then Some at else None) ≡ Some slot → IsSameSlot ThreadOffset l i slot
+    by_flag i slot r at d e true h =
+        let is : at ≡ slot = cc in
+        subst (λ (n : ℕ). IsSameSlot ThreadOffset l i n) is (record { slot = at + behind_first ThreadOffset r.flags; given = decided_slot ThreadOffset l i at r own d e; same = λ base. word_same false base at })
+    by_flag i slot r at d e false h = cc
+
+pub pair_slots : (l : Layout) → HaveTheirFlags l → SlotsAgree sorts.Pair l
+pair_slots l own = λ i slot h. by_slot sorts.Pair l i slot (λ (n : ℕ). IsSameSlot ModulePair l i n) h (λ r at d e among. by_flag i slot r at d e (has_flag r.flags got_tls_module) among)
+  where
+    by_flag : (i slot : ℕ) (r : Resolution) (at : ℕ) → IsResolvedBy l i r → r.got_address ≡ Some at → (b : Bool) → (if b then Some (behind_word (has_flag r.flags got_tls_offset) at) else None) ≡ Some slot → IsSameSlot ModulePair l i slot
+    by_flag i slot r at d e true h =
+        let is : behind_word (has_flag r.flags got_tls_offset) at ≡ slot = cc in
+        subst (λ (n : ℕ). IsSameSlot ModulePair l i n) is (record { slot = at + behind_first ModulePair r.flags; given = decided_slot ModulePair l i at r own d e; same = λ base. word_same (has_flag r.flags got_tls_offset) base at })
+    by_flag i slot r at d e false h = cc
+
+pub descriptor_slots : (l : Layout) → HaveTheirFlags l → SlotsAgree sorts.Descriptor l
+descriptor_slots l own = λ i slot h. by_slot sorts.Descriptor l i slot (λ (n : ℕ). IsSameSlot Descriptor l i n) h (λ r at d e among. by_flag i slot r at d e (has_flag r.flags got_tls_descriptor) among)
+  where
+    by_flag : (i slot : ℕ) (r : Resolution) (at : ℕ) → IsResolvedBy l i r → r.got_address ≡ Some at → (b : Bool) → (if b then Some (behind_pair (has_flag r.flags got_tls_module) (behind_word (has_flag r.flags got_tls_offset) at)) else None) ≡ Some slot → IsSameSlot Descriptor l i slot
+    by_flag i slot r at d e true h =
+        let offset = has_flag r.flags got_tls_offset in
+        let pair = has_flag r.flags got_tls_module in
+        let is : behind_pair pair (behind_word offset at) ≡ slot = cc in
+        subst (λ (n : ℕ). IsSameSlot Descriptor l i n) is (record { slot = at + behind_first Descriptor r.flags; given = decided_slot Descriptor l i at r own d e; same = λ base. pair_same offset pair base at })
+    by_flag i slot r at d e false h = cc
+
+-- the pair of the output's own module is no symbol's
+pub own_pair_slot : (l : Layout) → SlotsAgree sorts.OwnPair l
+own_pair_slot l = λ i at h. record { slot = at; given = h; same = λ base. refl }
+
+-- ---- memory
+
+-- a slot in memory, whose address does not wrap
+pub record SlotStands (sort : Slot) (l : Layout) (w : World) (m : Memory) (i at : ℕ) : Type 0 where
+  pub holds : HoldsSlot sort l w m i (w.base + at)
+  pub below : w.base + at < 2 ^ 64
+
+-- each slot of a sort that the writer takes stands in memory
+abbrev pub SlotsStand : SlotSort → Layout → World → Memory → Type 0
+SlotsStand sort l w m = (i at : ℕ) → slot_of l sort i ≡ Some at → SlotStands (slot_sort sort) l w m i at
+
+-- so the writer's G is the reader's
+pub slot_given : (sort : SlotSort) (l : Layout) (w : World) (m : Memory) (symbol : Option ℕ) (i term : ℕ) → SlotsAgree sort l → SlotsStand sort l w m → symbol ≡ Some i → slot_address l sort symbol ≡ Ok term → IsSlot (slot_sort sort) l w m symbol ((w.base + term) % 2 ^ 64)
+slot_given sort l w m symbol i term agree stands named given =
+    let here : slot_address l sort (Some i) ≡ Ok term = subst (λ (o : Option ℕ). slot_address l sort o ≡ Ok term) named given in
+    let known = given_some missing.Slot i (slot_of l sort i) term here in
+    let slot = stands i term known in
+    let place = agree i term known in
+    let low = slot.below in
+    let same : (w.base + term) % 2 ^ 64 ≡ w.base + term = omega (arith, low) in
+    let is : IsSlotOf (slot_sort sort) l w m i ((w.base + term) % 2 ^ 64) = record { slot = place.slot; given = place.given; moves = place.same w.base; holds = subst (λ (g : ℕ). HoldsSlot (slot_sort sort) l w m i g) (sym same) slot.holds } in
+    subst (λ (o : Option ℕ). IsSlot (slot_sort sort) l w m o ((w.base + term) % 2 ^ 64)) (sym named) is

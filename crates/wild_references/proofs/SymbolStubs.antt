@@ -1,0 +1,110 @@
+-- The stub of a symbol: code that goes there comes to the symbol's value.
+use Rattle.std.proofs.Common.{◌≡◌, ℕ, ◌+◌, ◌%◌, ◌^◌, ◌<◌, inl, inr, Bool, true, false, List, ◌∷◌, ◌++◌, Option, Some, None, refl, sym, ap, ◌∙◌, arith, subst}
+use Rattle.std.specs.Prelude.{Ok, if◌then◌else◌, option_and_then}
+use Rattle.wild_types.specs.declared.fault.Missing.TheVariants as missing
+use Rattle.wild_types.specs.declared.kind.Machine.TheVariants as machine
+use Rattle.wild_slot.specs.declared.slot.SlotItem.{SlotItem}
+use Rattle.wild_types.specs.declared.symbol.Resolution.{Resolution}
+use Rattle.wild_types.specs.declared.symbol.ValueFlags.{ValueFlags}
+use Rattle.wild_types.specs.declared.layout.Layout.{Layout}
+use Rattle.wild_types.specs.Lookups.{canonical}
+use Rattle.wild_slot.specs.Slots.{setting_of, stub_item, stub_items, ifunc_address_items, canonical_address_items}
+use Rattle.wild_slot.specs.Stub.{stub_x86_64, far_between, far_of}
+use Rattle.wild_types.specs.SymbolSlots.{resolved_got, resolved_plt, plt_of, has_thread_slot}
+use Rattle.wild_clauses.proofs.ClauseLemmas.{not_thread}
+use Rattle.wild_layout.specs.SlotValues.{resolution_of, stub_of, stub_address}
+use Rattle.wild_loader.specs.StepLaws.{StubsOfValuesAreRead}
+use Rattle.wild_loader.specs.declared.memory.Memory.{Memory}
+use Rattle.wild_loader.specs.declared.world.World.{World}
+use Rattle.wild_meaning.specs.Formula.{IsTarget}
+use Rattle.wild_meaning.specs.Value.{HasValue}
+use Rattle.wild_loader.specs.Reach.{JumpsTo, Reaches}
+use Rattle.wild_meaning.specs.Denotes.{Denotes, HasStub, IsStub}
+use Rattle.wild_references.specs.Terms.{IsPlaced}
+use Rattle.wild_references.proofs.FirstSlots.{first_held, items_behind}
+use Rattle.wild_references.proofs.SlotContents.{ItemsHold}
+use Rattle.wild_references.proofs.SlotFlags.{symbol_fits, slot_of_stub}
+use Rattle.wild_references.proofs.StubCode.{stub_jumps, stub_below}
+use Rattle.wild_references.proofs.Symbols.{IsResolvedBy, resolved}
+use Rattle.wild_references.proofs.Written.{given_some}
+
+-- the stub of a symbol in memory
+pub record StubStands (l : Layout) (w : World) (m : Memory) (i stub : ℕ) : Type 0 where
+  pub given : HasStub l i stub
+  pub below : w.base + stub < 2 ^ 64
+  pub value : ℕ
+  pub is : HasValue l w i value
+  pub jumps : JumpsTo m (w.base + stub) value
+
+-- ---- it is in reach of its slot
+
+-- a stub that is no fault
+near : (w : World) (m : Memory) (at : ℕ) (far : Option ℕ) (more : List SlotItem) → ItemsHold w m at (stub_item far ∷ more) → far ≡ None
+near w m at None more h = refl
+near w m at (Some d) more h = absurd h
+
+reach : (b : Bool) (d : ℕ) → (if b then None else Some d) ≡ None → b ≡ true
+reach true d h = refl
+reach false d h = cc
+
+pub in_reach : (l : Layout) (w : World) (m : Memory) (at stub : ℕ) (r : Resolution) → l.machine ≡ machine.X86_64 → r.got_address ≡ Some at → r.plt_address ≡ Some stub → ItemsHold w m (at + 8) (items_behind l r) → (stub_x86_64 at stub).reaches ≡ true
+in_reach l w m at stub r x e f behind =
+    let far = far_of l.machine r in
+    let more = ifunc_address_items (setting_of l) r ++ canonical_address_items (setting_of l) r in
+    let here = subst (λ (o : Option ℕ). ItemsHold w m (at + 8) (stub_items far o ++ more)) f behind in
+    let none = near w m (at + 8) far more here in
+    let same : far ≡ far_between machine.X86_64 (Some at) (Some stub) = rw (x, e, f) refl in
+    reach (stub_x86_64 at stub).reaches (stub_x86_64 at stub).distance (sym same ∙ none)
+
+-- ---- it stands
+
+resolved_stub : (l : Layout) (i stub : ℕ) → stub_of l i ≡ Some stub → (r : Resolution) × IsResolvedBy l i r × (r.plt_address ≡ Some stub)
+resolved_stub l i stub h = by_resolution (resolution_of l i) refl h
+  where
+    by_resolution : (o : Option Resolution) → resolution_of l i ≡ o → option_and_then (λ (r : Resolution). r.plt_address) o ≡ Some stub → (r : Resolution) × IsResolvedBy l i r × (r.plt_address ≡ Some stub)
+    by_resolution None e h = cc
+    by_resolution (Some r) e h = (r, resolved l i r e, h)
+
+pub stub_from : StubsOfValuesAreRead → (l : Layout) (w : World) (m : Memory) (i stub : ℕ) (r : Resolution) → IsPlaced l w m → IsResolvedBy l i r → r.plt_address ≡ Some stub → StubStands l w m i stub
+stub_from law l w m i stub r p d f =
+    let s = d.symbol in
+    let fits = symbol_fits l i s p.symbols d.listed in
+    let flags : r.flags ≡ s.flags = fits.flags r d.decided in
+    let has : plt_of s ≡ Some stub = ap resolved_plt d.decided ∙ f in
+    let slot = slot_of_stub s stub fits.stub has in
+    let at = slot.0 in
+    let e : r.got_address ≡ Some at = sym (ap resolved_got d.decided) ∙ slot.1 in
+    let plain : has_thread_slot r.flags ≡ false = ap (λ (f : ValueFlags). has_thread_slot f) flags ∙ not_thread s stub fits.alone has in
+    let first = first_held l w m i at r p d e plain in
+    let held = (p.slots.symbols (canonical l i) at s d.listed slot.1).stub stub has in
+    record {
+      given = record { definition = canonical l i; defined = d.defined; symbol = s; listed = d.listed; resolution = r; decided = d.decided; stub = f };
+      below = stub_below m w.base at stub held;
+      value = first.value;
+      is = first.is;
+      jumps = stub_jumps law m w.base at stub first.value p.loaded (in_reach l w m at stub r p.x86 e f first.behind) held first.there;
+    }
+
+-- where the writer knows of a stub, memory has it
+pub stub_stands : StubsOfValuesAreRead → (l : Layout) (w : World) (m : Memory) (i stub : ℕ) → IsPlaced l w m → stub_of l i ≡ Some stub → StubStands l w m i stub
+stub_stands law l w m i stub p h = let r = resolved_stub l i stub h in stub_from law l w m i stub r.0 p r.1 r.2
+
+-- ---- it reaches the value
+
+stub_fits : (l : Layout) (w : World) (m : Memory) (i stub : ℕ) → StubStands l w m i stub → (w.base + stub) % 2 ^ 64 ≡ w.base + stub
+stub_fits l w m i stub h = let low = h.below in omega (arith, low)
+
+-- code that goes to the stub comes to the symbol's value
+pub stub_reaches : (l : Layout) (w : World) (m : Memory) (i stub : ℕ) → (h : StubStands l w m i stub) → Reaches m ((w.base + stub) % 2 ^ 64) h.value
+stub_reaches l w m i stub h = subst (λ (a : ℕ). Reaches m a h.value) (sym (stub_fits l w m i stub h)) (inr (h.value, h.jumps, inl refl))
+
+-- so it stands for the symbol
+pub stub_is : (l : Layout) (w : World) (m : Memory) (i stub : ℕ) → StubStands l w m i stub → IsStub l w m i ((w.base + stub) % 2 ^ 64)
+stub_is l w m i stub h = record { stub = stub; given = h.given; moves = refl; value = h.value; is = h.is; reaches = stub_reaches l w m i stub h }
+
+-- the writer's L is the reader's
+pub goal_given : StubsOfValuesAreRead → (l : Layout) (w : World) (m : Memory) (symbol : Option ℕ) (i term : ℕ) → IsPlaced l w m → symbol ≡ Some i → stub_address l symbol ≡ Ok term → IsTarget l w m symbol ((w.base + term) % 2 ^ 64)
+goal_given law l w m symbol i term p named given =
+    let here : stub_address l (Some i) ≡ Ok term = subst (λ (o : Option ℕ). stub_address l o ≡ Ok term) named given in
+    let goal : Denotes l w m i ((w.base + term) % 2 ^ 64) = inr (stub_is l w m i term (stub_stands law l w m i term p (given_some missing.Stub i (stub_of l i) term here))) in
+    subst (λ (o : Option ℕ). IsTarget l w m o ((w.base + term) % 2 ^ 64)) (sym named) goal

@@ -1,0 +1,141 @@
+-- What the writer takes for S stands for the symbol: its value, or its stub.
+use Rattle.std.proofs.Common.{◌≡◌, ℕ, ◌⊎◌, inl, inr, Bool, true, false, Option, Some, None, refl, sym, ap, ◌∙◌, subst}
+use Rattle.std.specs.Prelude.{Ok}
+use Rattle.std.proofs.lemmas.Bool.{cases_Bool}
+use Rattle.wild_types.specs.declared.fault.Missing.TheVariants as missing
+use Rattle.wild_types.specs.declared.symbol.ValueFlags.{ValueFlags}
+use Rattle.wild_types.specs.declared.layout.Layout.{Layout}
+use Rattle.wild_types.specs.Flags.{has_flag, absolute, ifunc}
+use Rattle.wild_slot.specs.Treatment.{flags_at}
+use Rattle.wild_layout.specs.SymbolValues.{raw_address}
+use Rattle.wild_layout.specs.SlotValues.{is_chosen, address_of, stub_of}
+use Rattle.wild_loader.specs.StepLaws.{StubsOfValuesAreRead}
+use Rattle.wild_loader.specs.declared.memory.Memory.{Memory}
+use Rattle.wild_loader.specs.declared.world.World.{World}
+use Rattle.wild_meaning.specs.Formula.{IsTarget}
+use Rattle.wild_meaning.specs.Reference.{IsStubbed}
+use Rattle.wild_meaning.specs.Value.{HasRaw, HasFlag, HasOwnValue, IsAbsolute, IsReplaceable, moved}
+use Rattle.wild_geometry.proofs.JudgedLemmas.{flag_is}
+use Rattle.wild_references.specs.Terms.{IsPlaced}
+use Rattle.wild_references.proofs.SlotFlags.{symbol_fits, resolver_not_absolute, listed_at}
+use Rattle.wild_references.proofs.Symbols.{definition_listed, flags_are}
+use Rattle.wild_references.proofs.Stubbed.{raw_is, stub_given}
+use Rattle.wild_references.proofs.SymbolStubs.{StubStands, stub_stands, stub_is}
+use Rattle.wild_references.proofs.Values.{has_raw}
+use Rattle.wild_references.proofs.Written.{address_given, given_some}
+
+-- an address in the world: the layout's own, or that moved with the base
+pub record IsAddressed (l : Layout) (w : World) (m : Memory) (symbol : Option ℕ) (a : ℕ) : Type 0 where
+  pub still : Bool
+  pub denoted : IsTarget l w m symbol (moved still w.base a)
+  pub flag : (i : ℕ) → symbol ≡ Some i → has_flag (flags_at l i) absolute ≡ still
+  pub absolute : (i : ℕ) → symbol ≡ Some i → still ≡ true → IsAbsolute l i
+
+-- whichever module has the symbol, this output's address is right for it: the symbol is its own, or the address is its stub's
+abbrev pub Follows : Layout → ℕ → Type 0
+Follows l i = IsReplaceable l i false ⊎ IsStubbed l i
+
+-- the own symbol's value
+pub record IsOwnAddressed (l : Layout) (w : World) (i a : ℕ) : Type 0 where
+  pub still : Bool
+  pub value : HasOwnValue l w i (moved still w.base a)
+  pub flag : has_flag (flags_at l i) absolute ≡ still
+  pub absolute : still ≡ true → IsAbsolute l i
+
+-- the symbol's own address
+pub raw_addressed : (l : Layout) (w : World) (m : Memory) (i a : ℕ) → IsPlaced l w m → is_chosen l i ≡ false → raw_address l (Some i) ≡ Ok a → IsOwnAddressed l w i a
+raw_addressed l w m i a p chosen h =
+    let raw = has_raw l i a (address_given l (Some i) a h) in
+    let d = definition_listed l i raw.definition p.symbols.named raw.defined in
+    let still = has_flag d.0.flags absolute in
+    let flags = flags_are l i raw.definition d.0 raw.defined d.1 in
+    let direct : has_flag d.0.flags ifunc ≡ false = sym (ap (λ (f : ValueFlags). has_flag f ifunc) flags) ∙ chosen in
+    record {
+      still = still;
+      value = record {
+        raw = a;
+        given = raw;
+        indirect = false;
+        resolved = record { definition = raw.definition; defined = raw.defined; symbol = d.0; listed = d.1; flagged = direct };
+        still = still;
+        absolute = record { definition = raw.definition; defined = raw.defined; symbol = d.0; listed = d.1; flagged = refl };
+        is = refl;
+      };
+      flag = ap (λ (f : ValueFlags). has_flag f absolute) flags;
+      absolute = λ t. record { definition = raw.definition; defined = raw.defined; symbol = d.0; listed = d.1; flagged = t };
+    }
+
+-- of an own symbol that is its value
+own_addressed : (l : Layout) (w : World) (m : Memory) (i a : ℕ) → IsReplaceable l i false → IsOwnAddressed l w i a → IsAddressed l w m (Some i) a
+own_addressed l w m i a own t = record {
+  still = t.still;
+  denoted = inl (inr (own, t.value));
+  flag = λ j e. (let same : i ≡ j = cc in subst (λ (k : ℕ). has_flag (flags_at l k) absolute ≡ t.still) same t.flag);
+  absolute = λ j e still. (let same : i ≡ j = cc in subst (λ (k : ℕ). IsAbsolute l k) same (t.absolute still));
+}
+
+-- the stub's, which moves with the base
+stub_moves : StubsOfValuesAreRead → (l : Layout) (w : World) (m : Memory) (i a : ℕ) → IsPlaced l w m → has_flag (flags_at l i) absolute ≡ false → stub_of l i ≡ Some a → IsAddressed l w m (Some i) a
+stub_moves law l w m i a p moves h = record {
+  still = false;
+  denoted = inr (stub_is l w m i a (stub_stands law l w m i a p h));
+  flag = λ j e. (let same : i ≡ j = cc in subst (λ (k : ℕ). has_flag (flags_at l k) absolute ≡ false) same moves);
+  absolute = λ j e t. cc;
+}
+
+-- where a resolver chooses the function
+chosen_moves : StubsOfValuesAreRead → (l : Layout) (w : World) (m : Memory) (i a : ℕ) → IsPlaced l w m → is_chosen l i ≡ true → stub_of l i ≡ Some a → StubStands l w m i a × (has_flag (flags_at l i) absolute ≡ false)
+chosen_moves law l w m i a p chosen h =
+    let stub = stub_stands law l w m i a p h in
+    let s = stub.given.symbol in
+    let flags = flags_are l i stub.given.definition s stub.given.defined stub.given.listed in
+    let fits = symbol_fits l i s p.symbols (listed_at l i stub.given.definition s stub.given.defined stub.given.listed) in
+    let moves : has_flag s.flags absolute ≡ false = resolver_not_absolute s fits.moves (sym (ap (λ (f : ValueFlags). has_flag f ifunc) flags) ∙ chosen) in
+    (stub, ap (λ (f : ValueFlags). has_flag f absolute) flags ∙ moves)
+
+-- whose address is the stub's
+chosen_stubbed : StubsOfValuesAreRead → (l : Layout) (w : World) (m : Memory) (i a : ℕ) → IsPlaced l w m → is_chosen l i ≡ true → stub_of l i ≡ Some a → IsStubbed l i
+chosen_stubbed law l w m i a p chosen h =
+    let c = chosen_moves law l w m i a p chosen h in
+    let g = c.0.given in
+    record {
+      stub = a;
+      there = g;
+      stands = inl (record { definition = g.definition; defined = g.defined; symbol = g.symbol; listed = g.listed; flagged = sym (ap (λ (f : ValueFlags). has_flag f ifunc) (flags_are l i g.definition g.symbol g.defined g.listed)) ∙ chosen });
+      moves = record { definition = g.definition; defined = g.defined; symbol = g.symbol; listed = g.listed; flagged = sym (ap (λ (f : ValueFlags). has_flag f absolute) (flags_are l i g.definition g.symbol g.defined g.listed)) ∙ c.1 };
+    }
+
+-- the address that was decided of a symbol whose stub stands for it
+stubbed_address : (l : Layout) (i a : ℕ) → is_chosen l i ≡ false → raw_address l (Some i) ≡ Ok a → IsStubbed l i → stub_of l i ≡ Some a
+stubbed_address l i a plain h st = by_case st.stands
+  where
+    by_case : HasFlag l i ifunc true ⊎ HasRaw l i st.stub → stub_of l i ≡ Some a
+    by_case (inl chosen) = (let f = flag_is l i ifunc true chosen in let g : false ≡ true = sym plain ∙ f in cc)
+    by_case (inr raw) =
+        let t = st.there in
+        let mine = raw_is l i a t.definition t.symbol t.resolution (has_raw l i a (address_given l (Some i) a h)) t.defined t.listed t.decided in
+        let stubs = raw_is l i st.stub t.definition t.symbol t.resolution raw t.defined t.listed t.decided in
+        stub_given l i st.stub t ∙ ap (λ (n : ℕ). Some n) (stubs ∙ sym mine)
+
+followed_by : StubsOfValuesAreRead → (l : Layout) (w : World) (m : Memory) (i a : ℕ) → IsPlaced l w m → Follows l i → address_of l (Some i) ≡ Ok a → IsAddressed l w m (Some i) a
+followed_by law l w m i a p f h =
+    elim (cases_Bool (is_chosen l i)) [
+      | inl t ↦ (let there = given_some missing.Stub i (stub_of l i) a (rw t at h) in stub_moves law l w m i a p (chosen_moves law l w m i a p t there).1 there)
+      | inr n ↦ plain n f (rw n at h)
+    ]
+  where
+    plain : is_chosen l i ≡ false → Follows l i → raw_address l (Some i) ≡ Ok a → IsAddressed l w m (Some i) a
+    plain n (inl own) h = own_addressed l w m i a own (raw_addressed l w m i a p n h)
+    plain n (inr st) h = stub_moves law l w m i a p (flag_is l i absolute false st.moves) (stubbed_address l i a n h st)
+
+pub addressed : StubsOfValuesAreRead → (l : Layout) (w : World) (m : Memory) (symbol : Option ℕ) (a : ℕ) → IsPlaced l w m → ((i : ℕ) → symbol ≡ Some i → Follows l i) → address_of l symbol ≡ Ok a → IsAddressed l w m symbol a
+addressed law l w m None a p f h = record { still = true; denoted = address_given l None a h; flag = λ i e. cc; absolute = λ i e t. cc }
+addressed law l w m (Some i) a p f h = followed_by law l w m i a p (f i refl) h
+
+-- of a symbol without such a stub it is the own symbol's
+pub linked : StubsOfValuesAreRead → (l : Layout) (w : World) (m : Memory) (i a : ℕ) → IsPlaced l w m → (IsStubbed l i → ⊥) → address_of l (Some i) ≡ Ok a → IsOwnAddressed l w i a
+linked law l w m i a p alone h =
+    elim (cases_Bool (is_chosen l i)) [
+      | inl t ↦ absurd (alone (chosen_stubbed law l w m i a p t (given_some missing.Stub i (stub_of l i) a (rw t at h))))
+      | inr n ↦ raw_addressed l w m i a p n (rw n at h)
+    ]

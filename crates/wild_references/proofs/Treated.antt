@@ -1,0 +1,107 @@
+-- What is known of a relocation that writes a value: whether its symbol moves.
+use Rattle.std.proofs.Common.{◌≡◌, ℕ, ◌<◌, ◌⊎◌, inl, inr, Bool, true, false, refl, sym, ◌∙◌, length}
+use Rattle.std.specs.Prelude.{Option, Some, None, if◌then◌else◌, not, ◌&&◌, ◌||◌, ◌==◌}
+use Rattle.std.proofs.lemmas.Bool.{cases_Bool, lt-ltb}
+use Rattle.wild_types.specs.declared.input.InputRelocation.{InputRelocation}
+use Rattle.wild_types.specs.declared.input.InputSection.{InputSection}
+use Rattle.wild_types.specs.declared.layout.Layout.{Layout}
+use Rattle.wild_slot.specs.declared.treatment.Treatment.{Treatment}
+use Rattle.wild_slot.specs.declared.treatment.Treatment.TheVariants as treatments
+use Rattle.wild_types.specs.Flags.{has_flag, absolute}
+use Rattle.wild_types.specs.Kinds.{is_position_independent, is_shared_object}
+use Rattle.wild_types.specs.Lookups.{allocated, canonical}
+use Rattle.wild_types.specs.Rows.{row_of}
+use Rattle.wild_slot.specs.Treatment.{is_left, is_barred, is_narrow, is_chosen, is_sized, flags_at, moves, moved_treatment, chosen_treatment, address_treatment, distance_treatment, pointer_treatment, size_treatment, named, where_there, kind_treatment, row_treatment, treatment}
+use Rattle.wild_reloc.specs.Field.{field_width}
+use Rattle.wild_reloc.specs.declared.info.RelocationKindInfo.{RelocationKindInfo}
+
+-- the treatment goes by the row's kind
+pub treated_by : (l : Layout) (s : InputSection) (r : InputRelocation) (row : RelocationKindInfo) → row_of l.machine r.number ≡ Some row → treatment l s r ≡ kind_treatment l s r.number r.symbol row row.kind
+unfolding treatment row_treatment
+treated_by l s r row known = rw known refl
+
+-- ---- symbols
+
+-- a value that needs a symbol has one
+pub symbol_named : (symbol : Option ℕ) (by : ℕ → Treatment) (row : RelocationKindInfo) → named symbol by ≡ treatments.Value row → (i : ℕ) × (symbol ≡ Some i) × (by i ≡ treatments.Value row)
+symbol_named None by row h = cc
+symbol_named (Some i) by row h = (i, refl, h)
+
+-- what does not move is in an output that does not, or is absolute
+still_cases : (l : Layout) (i : ℕ) → moves l i ≡ false → (is_position_independent l.kind ≡ false) ⊎ (has_flag (flags_at l i) absolute ≡ true)
+still_cases l i h = by_tests (is_position_independent l.kind) (has_flag (flags_at l i) absolute) h
+  where
+    by_tests : (a b : Bool) → (a && not b) ≡ false → (a ≡ false) ⊎ (b ≡ true)
+    by_tests false b h = inl refl
+    by_tests true true h = inr refl
+    by_tests true false h = cc
+
+is_no_value : (row : RelocationKindInfo) → moved_treatment row ≡ treatments.Value row → ⊥
+is_no_value row h =
+    elim (cases_Bool (field_width row == 8)) [
+      | inl t ↦ cc (rw t at h)
+      | inr f ↦ cc (rw f at h)
+    ]
+
+chosen_is_no_value : (row : RelocationKindInfo) (i : ℕ) → chosen_treatment row i ≡ treatments.Value row → ⊥
+chosen_is_no_value row i h =
+    elim (cases_Bool (field_width row == 8)) [
+      | inl t ↦ cc (rw t at h)
+      | inr f ↦ cc (rw f at h)
+    ]
+
+-- the value of an address that is written in memory does not move
+pub address_still : (l : Layout) (s : InputSection) (n : ℕ) (row : RelocationKindInfo) (i : ℕ) → allocated s.flags ≡ true → address_treatment l s n row i ≡ treatments.Value row → (is_position_independent l.kind ≡ false) ⊎ (has_flag (flags_at l i) absolute ≡ true)
+address_still l s n row i room h = still_cases l i (by_tests (is_barred l s n i || is_narrow l s n) (is_left l s row i) (is_chosen l s i) (allocated s.flags) (moves l i) room h)
+  where
+    by_tests : (barred left chosen room moving : Bool) → room ≡ true → (if barred then treatments.Recompile else (if left then treatments.Symbolic i else (if chosen then chosen_treatment row i else (if room && moving then moved_treatment row else treatments.Value row)))) ≡ treatments.Value row → moving ≡ false
+    by_tests barred left chosen room false e h = refl
+    by_tests true left chosen room true e h = cc
+    by_tests false true chosen room true e h = cc
+    by_tests false false true room true e h = absurd (chosen_is_no_value row i h)
+    by_tests false false false false true e h = cc
+    by_tests false false false true true e h = absurd (is_no_value row h)
+
+-- an address that is written, or moves, is not left to an entry
+pub address_kept : (l : Layout) (s : InputSection) (n : ℕ) (row : RelocationKindInfo) (i : ℕ) (t : Treatment) → address_treatment l s n row i ≡ t → (treatments.Recompile ≡ t → ⊥) → (treatments.Symbolic i ≡ t → ⊥) → is_left l s row i ≡ false
+address_kept l s n row i t h no_recompile no_entry = by_tests (is_barred l s n i || is_narrow l s n) (is_left l s row i) (if is_chosen l s i then chosen_treatment row i else (if allocated s.flags && moves l i then moved_treatment row else treatments.Value row)) h
+  where
+    by_tests : (barred left : Bool) (rest : Treatment) → (if barred then treatments.Recompile else (if left then treatments.Symbolic i else rest)) ≡ t → left ≡ false
+    by_tests true left rest h = absurd (no_recompile h)
+    by_tests false true rest h = absurd (no_entry h)
+    by_tests false false rest h = refl
+
+-- a distance without a symbol is in an output that does not move
+pub distance_still : (l : Layout) (s : InputSection) (n : ℕ) (row : RelocationKindInfo) → allocated s.flags ≡ true → distance_treatment l s n row None ≡ treatments.Value row → is_position_independent l.kind ≡ false
+distance_still l s n row room h = by_tests (allocated s.flags) (is_position_independent l.kind) room h
+  where
+    by_tests : (a b : Bool) → a ≡ true → (if a && b then treatments.Recompile else treatments.Value row) ≡ treatments.Value row → b ≡ false
+    by_tests a false e h = refl
+    by_tests true true e h = cc
+    by_tests false true e h = cc
+
+-- a size that is written is not left to an entry
+pub size_kept : (l : Layout) (s : InputSection) (row : RelocationKindInfo) (i : ℕ) → size_treatment l s row i ≡ treatments.Value row → is_sized l s i ≡ false
+size_kept l s row i h = by_test (is_sized l s i) h
+  where
+    by_test : (b : Bool) → (if b then treatments.Extent row i else treatments.Value row) ≡ treatments.Value row → b ≡ false
+    by_test false h = refl
+    by_test true h = cc
+
+-- an offset from the thread pointer is written in no library
+pub pointer_kept : (l : Layout) (s : InputSection) (row : RelocationKindInfo) → allocated s.flags ≡ true → pointer_treatment l s row ≡ treatments.Value row → is_shared_object l.kind ≡ false
+pointer_kept l s row room h = by_tests (allocated s.flags) (is_shared_object l.kind) room h
+  where
+    by_tests : (a b : Bool) → a ≡ true → (if a && b then treatments.Recompile else treatments.Value row) ≡ treatments.Value row → b ≡ false
+    by_tests a false e h = refl
+    by_tests true true e h = cc
+    by_tests false true e h = cc
+
+-- ---- symbols that are there
+
+-- of a symbol whose definition is there the treatment is its own
+pub there : (l : Layout) (row : RelocationKindInfo) (i : ℕ) (t : Treatment) → canonical l i < length l.symbols → where_there l row i t ≡ t
+there l row i t h = let e = lt-ltb (canonical l i) (length l.symbols) h in rw e refl
+
+pub peeled : (l : Layout) (row : RelocationKindInfo) (i : ℕ) (t u : Treatment) → canonical l i < length l.symbols → where_there l row i t ≡ u → t ≡ u
+peeled l row i t u h e = sym (there l row i t h) ∙ e

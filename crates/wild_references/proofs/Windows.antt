@@ -1,0 +1,47 @@
+-- No field of another relocation lies among the bytes of an instruction that is rewritten.
+use Rattle.std.proofs.Common.{◌≡◌, ℕ, ◌+◌, ◌<◌, ◌≤◌, ◌⊎◌, inl, inr, length, refl, sym, ap, ◌∙◌, arith, subst}
+use Rattle.std.specs.Prelude.{Some}
+use Rattle.std.proofs.lemmas.Bool.{cases_lt}
+use Rattle.wild_words.specs.Overlay.{Piece, Apart}
+use Rattle.wild_types.specs.declared.kind.Machine.TheVariants as machine
+use Rattle.wild_types.specs.declared.input.InputRelocation.{InputRelocation}
+use Rattle.wild_types.specs.declared.layout.Layout.{Layout}
+use Rattle.wild_reloc.specs.Formula.{Formula}
+use Rattle.wild_relax.specs.Linked.{pattern_size}
+use Rattle.wild_layout.specs.declared.decision.Decision.TheVariants.{Rewritten, Partner}
+use Rattle.wild_layout.specs.Sites.{template_start, template_site}
+use Rattle.wild_meaning.specs.Field.{formula_of, form_width}
+use Rattle.wild_references.specs.EffectLaws.{IsBesideField, WindowsAreAlone}
+use Rattle.wild_references.proofs.WindowRows.{width_by, width_of}
+use Rattle.wild_references.proofs.WindowSites.{sites_apart}
+use Rattle.wild_references.proofs.WindowFields.{window_is, HasSite, has_site}
+
+-- the width of a formula's field, by the relocation type
+pub formula_width : (l : Layout) (n : ℕ) (f : Formula) → l.machine ≡ machine.X86_64 → formula_of l.machine n ≡ Some f → form_width f.form ≡ width_of n
+formula_width l n f x86 h = sym (ap width_by (rw x86 at h))
+
+pub beside : (l : Layout) (q : InputRelocation) (k : ℕ) → l.machine ≡ machine.X86_64 → (k < q.offset) ⊎ (q.offset + width_of q.number ≤ k) → IsBesideField l q k
+beside l q k x86 (inl low) f known = inl low
+beside l q k x86 (inr high) f known = let w = formula_width l q.number f x86 known in inr (omega (arith, w, high))
+
+-- a byte lies before a number or not
+pub order : (k n : ℕ) → (k < n) ⊎ (n + 0 ≤ k)
+order k n = elim (cases_lt k n) [ inl low ↦ inl low | inr high ↦ inr (omega (arith, high)) ]
+
+apart_from : (k at size from width : ℕ) (p q : Piece) → p.at ≡ at → length p.bytes ≡ size → at ≤ k → k < at + size → q.at ≤ from → from + width ≤ q.at + length q.bytes → Apart p q → (k < from) ⊎ (from + width ≤ k)
+apart_from k at size from width p q start long low high first last (inl before) = inl (omega (arith, start, long, high, first, before))
+apart_from k at size from width p q start long low high first last (inr behind) = inr (omega (arith, start, low, last, behind))
+
+pub windows_are_alone : WindowsAreAlone
+windows_are_alone l s x86 whole i j r q row v d hi hj other no_call k low high = by (has_site l s j q d x86 whole hj)
+  where
+    not_own : (h : HasSite l s j q d) → (h.index ≡ j) ⊎ ((j ≡ h.index + 1) × (d ≡ Partner)) → i ≡ h.index → ⊥
+    not_own h (inl e) same = other (same ∙ e)
+    not_own h (inr e) same = no_call (e.0 ∙ ap (λ (n : ℕ). n + 1) (sym same)) e.1
+
+    by : (width_of q.number ≡ 0) ⊎ HasSite l s j q d → IsBesideField l q k
+    by (inl none) = beside l q k x86 (subst (λ (n : ℕ). (k < q.offset) ⊎ (q.offset + n ≤ k)) (sym none) (order k q.offset))
+    by (inr h) =
+        let w = window_is l s i r row v hi in
+        let a = sites_apart l s whole i h.index r h.owner (Rewritten row v) h.decision (template_site s r row v) h.piece hi h.has (not_own h h.own) refl h.only in
+        beside l q k x86 (apart_from k (template_start row r) (pattern_size row) q.offset (width_of q.number) (template_site s r row v) h.piece refl w.long low high h.from h.to a)

@@ -1,0 +1,5 @@
+use Rattle.wild_references.proofs.TermKinds.{stubs_give}
+use Rattle.wild_references.proofs.stubs_are_given.Goals as goal
+
+pub returns : goal.returns
+returns c = stubs_give c.stubs_are_read.ensures.value

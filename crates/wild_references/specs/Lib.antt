@@ -1,0 +1,5 @@
+pub mod Terms
+pub mod Laws
+pub mod Stubs
+pub mod Filled
+pub mod EffectLaws

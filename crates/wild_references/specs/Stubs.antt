@@ -1,0 +1,34 @@
+-- What stubs do in memory, whether a reference uses them or not (x86-64 psABI, "Procedure Linkage Table").
+--   GoesThrough w m r p    code at the stub p goes on to the address in the first slot of a resolution
+--   EachStubGoesOn l w m   so does each stub of the layout
+--   StubsGoOn              the law
+use Rattle.std.specs.Prelude.{◌≡◌, ℕ, ◌+◌, Some}
+use Rattle.wild_types.specs.declared.kind.Machine.TheVariants as machine
+use Rattle.wild_types.specs.declared.symbol.Resolution.{Resolution}
+use Rattle.wild_types.specs.declared.symbol.Symbol.{Symbol}
+use Rattle.wild_types.specs.declared.layout.Layout.{Layout}
+use Rattle.wild_types.specs.ResolvedFlags.{HaveTheirFlags}
+use Rattle.wild_layout.specs.SlotOrder.{EachAgrees}
+use Rattle.wild_geometry.specs.Slots.{HasSlots}
+use Rattle.wild_loader.specs.declared.memory.Machine.TheVariants as machines
+use Rattle.wild_loader.specs.declared.memory.Memory.{Memory}
+use Rattle.wild_loader.specs.declared.world.World.{World}
+use Rattle.wild_meaning.specs.Value.{IsSymbol}
+use Rattle.wild_meaning.specs.Slot.{HasWord}
+use Rattle.wild_loader.specs.Reach.{JumpsTo}
+
+-- the resolution has a slot, and the code at the loaded address of the stub p goes on, by one jump, to the address in that slot
+pub record GoesThrough (w : World) (m : Memory) (r : Resolution) (p : ℕ) : Type 0 where
+  pub slot : ℕ
+  pub given : r.got_address ≡ Some slot
+  pub target : ℕ
+  pub word : HasWord m (w.base + slot) target
+  pub jumps : JumpsTo m (w.base + p) target
+
+-- each stub of the layout, of whichever symbol
+abbrev pub EachStubGoesOn : Layout → World → Memory → Type 0
+EachStubGoesOn l w m = (i p : ℕ) (s : Symbol) (r : Resolution) → IsSymbol l i s → s.resolution ≡ Some r → r.plt_address ≡ Some p → GoesThrough w m r p
+
+-- where flags and slots agree, and memory has the slots and stubs of symbols
+abbrev pub StubsGoOn : Type 0
+StubsGoOn = (l : Layout) (w : World) (m : Memory) → l.machine ≡ machine.X86_64 → m.machine ≡ machines.X86_64 → HaveTheirFlags l → EachAgrees l → HasSlots l w m → EachStubGoesOn l w m

@@ -1,5 +1,0 @@
-use Rattle.wild_values.proofs.EntryKinds.{entries_give}
-use Rattle.wild_values.proofs.entries_are_given.Goals as goal
-
-pub returns : goal.returns
-returns c = λ l w m s r z number symbol addend bs p listed fits made reads. entries_give c.fields_of_x86_64.ensures.agree l w m s r z number symbol addend bs p listed fits made reads

@@ -1,5 +1,0 @@
-use Rattle.wild_values.proofs.ThreadValues.{own_distance, thread_place, thread_sum}
-use Rattle.wild_values.proofs.thread_places_are_known.Goals as goal
-
-pub returns : goal.returns
-returns c = record { own = own_distance; there = thread_place; less = thread_sum }
