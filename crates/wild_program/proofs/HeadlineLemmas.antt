@@ -11,16 +11,13 @@ use Rattle.wild_laws.specs.Laws.{ImagesAreSound}
 use Rattle.wild_text.specs.Means.{no_json, no_plan, plan, Means}
 use Rattle.wild_text.specs.Answer.{image_text}
 use Rattle.wild_text.specs.Laws.{PlansAreRead}
-use Rattle.wild_types.specs.declared.kind.OutputKind.{OutputKind}
-use Rattle.wild_types.specs.declared.kind.OutputKind.TheVariants as output
-use Rattle.wild_types.specs.declared.kind.RelocationModel.TheVariants as model
 use Rattle.wild_layout.specs.Numbers.{NumbersFit}
-use Rattle.wild_meaning.specs.World.{IsLoadable}
 use Rattle.wild_program.specs.Exit as exit
 use Rattle.wild_program.specs.Program.{Answer, usage, read_fault, too_long, of_plan, of_make, status, text as text_of, errors_status, errors_text, layout_text, Turn, Told, IsDue, IsSaid, IsMeant, IsLinkedText}
 use Rattle.wild_program.specs.Clauses.{IsHeadline}
 use Rattle.wild_program.proofs.Statuses.{clash}
 use Rattle.wild_program.proofs.Commands.{two_commands}
+use Rattle.wild_program.proofs.OneMeaning.{one_meaning}
 use Rattle.wild_program.specs.Steps.{IsAnsweredBy, AnswerFits}
 use Rattle.wild_program.proofs.SourceLemmas.{all_read}
 
@@ -37,41 +34,36 @@ no_errors : (es : List Error) (said : ℕ) → said ≡ exit.linked → said ≡
 no_errors [] said zero h = refl
 no_errors (e ∷ es) said zero h = clash exit.linked exit.refused said refl zero h
 
--- an executable or a shared object is loaded: at its own addresses, or at any base
-loaded_kind : (k : OutputKind) → (k ≡ output.PartialObject → ⊥) → IsLoadable k
-loaded_kind (output.StaticExecutable model.NonRelocatable) h = inl tt
-loaded_kind (output.DynamicExecutable model.NonRelocatable) h = inl tt
-loaded_kind (output.StaticExecutable model.Relocatable) h = inr tt
-loaded_kind (output.DynamicExecutable model.Relocatable) h = inr tt
-loaded_kind output.SharedObject h = inr tt
-loaded_kind output.PartialObject h = absurd (h refl)
+same_layout : (l layout : Layout) → plan l ≡ plan layout → l ≡ layout
+same_layout l layout e = cc
 
 -- the text of a layout without faults
-image_of : (t : Turn) (l : Layout) (plan_bytes text : List ℕ) → ImagesAreSound → PlansAreRead → NumbersFit l → t.left_before ≡ Some plan_bytes → IsMeant t (plan l)
-    → errors l ≡ [] → text ≡ layout_text l → IsLinkedText plan_bytes text
-image_of t l plan_bytes text sound reads fits left meant none is =
+image_of : (t : Turn) (l layout : Layout) (plan_bytes text : List ℕ) → ImagesAreSound → PlansAreRead → NumbersFit l → t.left_before ≡ Some plan_bytes → IsMeant t (plan l)
+    → Means plan_bytes (plan layout) → errors l ≡ [] → text ≡ layout_text l → IsLinkedText layout text
+image_of t l layout plan_bytes text sound reads fits left meant means none is =
     let same = all_read t plan_bytes meant.0 left meant.1 in
-    let means = subst (λ (b : List ℕ). Means b (plan l)) (sym same) meant.2 in
-    let target = reads means.0 l means.2 in
+    let own : Means meant.0 (plan l) = meant.2 in
+    let one = one_meaning meant.0 (plan l) (plan layout) own (subst (λ (b : List ℕ). Means b (plan layout)) same means) in
+    let target = reads own.0 l own.2 in
     let shown : text ≡ image_text l (bytes l) (warnings l) (counts l) = is ∙ ap (errors_text l) none in
-    (l, means, bytes l, warnings l, counts l, shown, loaded_kind l.kind target.whole, sound l target.machine fits target.own none)
+    subst (λ (k : Layout). IsLinkedText k text) (same_layout l layout one) (bytes l, warnings l, counts l, shown, sound l target.machine fits target.own none)
 
 said_image : (t : Turn) (u : Told) (said : ℕ) (a : Answer) (words : List (String Global)) → ImagesAreSound → PlansAreRead → AnswerFits a → IsDue words t a
     → said ≡ status a → Appends u.taken_before u.taken_after (text_of a) → IsHeadline words t u said
-said_image t u said usage words sound reads fits due h took plan_bytes before text command zero left b a = clash exit.linked exit.usage said refl zero h
-said_image t u said read_fault words sound reads fits due h took plan_bytes before text command zero left b a = clash exit.linked exit.read_fault said refl zero h
-said_image t u said too_long words sound reads fits due h took plan_bytes before text command zero left b a = clash exit.linked exit.too_long said refl zero h
-said_image t u said (of_plan no_json) words sound reads fits due h took plan_bytes before text command zero left b a = clash exit.linked exit.no_plan said refl zero h
-said_image t u said (of_plan (no_plan path)) words sound reads fits due h took plan_bytes before text command zero left b a = clash exit.linked exit.no_plan said refl zero h
-said_image t u said (of_plan (plan l)) words sound reads fits due h took plan_bytes before text command zero left b a =
-    image_of t l plan_bytes text sound reads fits left due.1 (no_errors (errors l) said zero h)
+said_image t u said usage words sound reads fits due h took plan_bytes before text layout command zero left means loads b a = clash exit.linked exit.usage said refl zero h
+said_image t u said read_fault words sound reads fits due h took plan_bytes before text layout command zero left means loads b a = clash exit.linked exit.read_fault said refl zero h
+said_image t u said too_long words sound reads fits due h took plan_bytes before text layout command zero left means loads b a = clash exit.linked exit.too_long said refl zero h
+said_image t u said (of_plan no_json) words sound reads fits due h took plan_bytes before text layout command zero left means loads b a = clash exit.linked exit.no_plan said refl zero h
+said_image t u said (of_plan (no_plan path)) words sound reads fits due h took plan_bytes before text layout command zero left means loads b a = clash exit.linked exit.no_plan said refl zero h
+said_image t u said (of_plan (plan l)) words sound reads fits due h took plan_bytes before text layout command zero left means loads b a =
+    image_of t l layout plan_bytes text sound reads fits left due.1 means (no_errors (errors l) said zero h)
     (appended u.taken_before u.taken_after before (layout_text l) text b a took)
-said_image t u said (of_make n) words sound reads fits due h took plan_bytes before text command zero left b a = two_commands words n command due.0
+said_image t u said (of_make n) words sound reads fits due h took plan_bytes before text layout command zero left means loads b a = two_commands words n command due.0
 
 told_image : (t : Turn) (u : Told) (said : ℕ) (a : Answer) (words : List (String Global)) → ImagesAreSound → PlansAreRead → AnswerFits a → IsDue words t a
     → IsSaid u (status a) (text_of a) said → IsHeadline words t u said
 told_image t u said a words sound reads fits due (inl h) = said_image t u said a words sound reads fits due h.0 h.1
-told_image t u said a words sound reads fits due (inr h) = λ plan_bytes before text command zero left b c. clash exit.linked exit.cut_short said refl zero h.0
+told_image t u said a words sound reads fits due (inr h) = λ plan_bytes before text layout command zero left means loads b c. clash exit.linked exit.cut_short said refl zero h.0
 
 pub headline : (words : List (String Global)) (t : Turn) (u : Told) (said : ℕ) → ImagesAreSound → PlansAreRead → IsAnsweredBy words t u said → IsHeadline words t u said
 headline words t u said sound reads h = told_image t u said h.answer words sound reads h.fits h.due h.told_as

@@ -2,7 +2,7 @@
 --   IsLink words n            the words are `link` and the number n of workers
 --   IsDue words turn answer   when each answer is due
 --   IsSaid told status text said   how an answer was said: the whole text was taken, or a write failed
---   IsLinkedText plan text    the text is that of an image that is what it owes the plan's layout
+--   IsLinkedText layout text  the text is that of an image that is what it owes the layout
 use Rattle.std.specs.Prelude.{◌≡◌, ℕ, ◌+◌, ◌^◌, ◌≤◌, List, [], ◌∷◌, ◌++◌, length, map, codes, decimal, string_bytes, String, Option, ◌⊎◌}
 use Rattle.std.specs.List.{sum}
 use Rattle.std.specs.declared.alloc.Global.{Global}
@@ -17,7 +17,6 @@ use Rattle.wild_types.specs.declared.warning.EntryWarning.{EntryWarning}
 use Rattle.wild_layout.specs.Image.{bytes, counts}
 use Rattle.wild_layout.specs.Warnings.{warnings}
 use Rattle.wild_layout.specs.Faults.{errors}
-use Rattle.wild_meaning.specs.World.{IsLoadable}
 use Rattle.wild_meaning.specs.Linked.{IsSound}
 use Rattle.wild_text.specs.Means.{Meaning, no_json, no_plan, plan, Means}
 use Rattle.wild_text.specs.Answer.{image_text, image_line, count_lines, refusal_text, no_plan_text}
@@ -163,8 +162,7 @@ IsSaid t status text said = ((said ≡ status) × Appends t.taken_before t.taken
 abbrev pub IsAnswered : List (String Global) → Turn → Told → ℕ → Type 0
 IsAnswered words t u said = (a : Answer) × IsDue words t a × IsSaid u (status a) (text a) said
 
--- the text is that of an image for the plan's layout, whose output is one that is loaded; the loader accepts the image in
--- every legal world, with each kept reference as it has to be
-abbrev pub IsLinkedText : List ℕ → List ℕ → Type 0
-IsLinkedText plan_bytes text = (layout : Layout) × Means plan_bytes (plan layout) × (image : List ℕ) × (warnings : List EntryWarning) × (counts : List ℕ)
-    × (text ≡ image_text layout image warnings counts) × IsLoadable layout.kind × IsSound layout image
+-- the text is that of an image for the layout; the loader accepts the image in every legal world, with each kept reference as
+-- it has to be
+abbrev pub IsLinkedText : Layout → List ℕ → Type 0
+IsLinkedText layout text = (image : List ℕ) × (warnings : List EntryWarning) × (counts : List ℕ) × (text ≡ image_text layout image warnings counts) × IsSound layout image

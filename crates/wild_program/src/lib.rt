@@ -9,7 +9,7 @@ mod status;
 mod words;
 
 pub use command::Command;
-pub use program::{run, run_surely};
+pub use program::{LIMIT, run, run_surely, say};
 pub use status::{
     CUT_SHORT, LINKED, NO_MEMORY, NO_PLAN, READ_FAULT, REFUSED, TOO_LONG, USAGE, status_of,
 };

@@ -24,10 +24,10 @@ use wild_text::{
 };
 
 /// How many bytes a plan may have.
-const LIMIT: usize = 1 << 31;
+pub const LIMIT: usize = 1 << 31;
 
 /// Writes the text, and answers the status, or that a write failed.
-fn say<K: Sink>(sink: &mut K, answer: &[u8], code: u8) -> u8
+pub fn say<K: Sink>(sink: &mut K, answer: &[u8], code: u8) -> u8
     ensures { IsSaid (told (K.taken sink.old) (K.taken sink.new) (K.faults sink.old) (K.faults sink.new))
         code answer.now result }
 {
@@ -172,8 +172,8 @@ pub fn run<S: Source, K: Sink>(
     ensures answer { IfOk result (λ said. IsAnswered words.now
         (turn (S.left source.old) (S.left source.new) (S.faults source.old) (S.faults source.new))
         (told (K.taken sink.old) (K.taken sink.new) (K.faults sink.old) (K.faults sink.new)) said) }
-    // Where an image is written, the text is that of an image that the loader accepts in every legal world, with
-    // each kept reference as its relocation demands.
+    // Where an image of an executable or a shared object is written, the text is that of an image that the loader accepts in every
+    // legal world, with each kept reference as its relocation demands.
     ensures headline { IfOk result (λ said. IsHeadline words.now
         (turn (S.left source.old) (S.left source.new) (S.faults source.old) (S.faults source.new))
         (told (K.taken sink.old) (K.taken sink.new) (K.faults sink.old) (K.faults sink.new)) said) }
