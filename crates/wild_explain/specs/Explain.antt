@@ -1,0 +1,95 @@
+-- What is said of a plan to those who make it.
+--   Asks words command        the words are that command
+--   link_line meaning         the line with which `link` begins its answer
+--   IsTold command meaning ..  the status and the text that are due for what the bytes of a plan stand for
+--   IsAnswered words turn told said   the status that was answered, with its cause and its text
+use Rattle.std.specs.Prelude.{◌≡◌, ℕ, List, [], ◌∷◌, ◌++◌, length, map, codes, string_bytes, String, ◌⊎◌}
+use Rattle.std.specs.declared.alloc.Global.{Global}
+use Rattle.wild_outside.specs.Causes.{Rose}
+use Rattle.wild_types.specs.declared.fault.Error.{Error}
+use Rattle.wild_types.specs.declared.fault.Fault.TheVariants.{OutOfMemory}
+use Rattle.wild_types.specs.declared.layout.Layout.{Layout}
+use Rattle.wild_layout.specs.Image.{bytes}
+use Rattle.wild_layout.specs.Faults.{errors}
+use Rattle.wild_text.specs.Answer.{image_line, refusal_text, no_plan_text}
+use Rattle.wild_text.specs.Means.{Meaning, no_json, no_plan, plan, Means}
+use Rattle.wild_program.specs.Exit as exit
+use Rattle.wild_program.specs.Program.{Answer, usage, read_fault, too_long, of_plan, of_make, text, layout_status, Turn, Told, IsMeant, IsTooLong, IsUntouched, IsSaid}
+use Rattle.wild_explain.specs.declared.command.Command.{Command}
+use Rattle.wild_explain.specs.declared.command.Command.TheVariants as command
+
+-- one word is a command
+abbrev pub IsOneWord : List ℕ → Command → Type 0
+IsOneWord word (command.Explain view) = word ≡ codes "explain"
+IsOneWord word command.Needs = word ≡ codes "needs"
+
+-- the words are `needs`; other words that are a command, `explain` among them, ask why
+abbrev pub Asks : List (String Global) → Command → Type 0
+Asks words (command.Explain view) = map string_bytes words ≡ codes "needs" ∷ [] → ⊥
+Asks words command.Needs = map string_bytes words ≡ codes "needs" ∷ []
+
+-- they are a command without options
+abbrev pub IsPlain : List (String Global) → Type 0
+IsPlain words = (map string_bytes words ≡ codes "explain" ∷ []) ⊎ (map string_bytes words ≡ codes "needs" ∷ [])
+
+-- the text begins with a line
+abbrev pub Begins : List ℕ → List ℕ → Type 0
+Begins line text = (rest : List ℕ) × (text ≡ line ++ rest)
+
+-- the first line of what `link` says of a layout with these faults
+abbrev pub errors_line : Layout → List Error → List ℕ
+errors_line l [] = image_line (length (bytes l))
+errors_line l (e ∷ es) = refusal_text e
+
+-- the line with which `link` begins its answer
+abbrev pub link_line : Meaning → List ℕ
+link_line no_json = codes "not a plan: json\n"
+link_line (no_plan path) = no_plan_text path
+link_line (plan l) = errors_line l (errors l)
+
+-- it is its first line
+abbrev pub LinkBegins : Type 0
+LinkBegins = (m : Meaning) → Begins (link_line m) (text (of_plan m))
+
+-- the status of `link`, and a text that begins with its first line
+abbrev pub IsExplained : Layout → ℕ → List ℕ → Type 0
+IsExplained l code said = (code ≡ layout_status l) × Begins (errors_line l (errors l)) said
+
+-- the status and the text that are due for what the bytes stand for
+abbrev pub IsTold : Command → Meaning → ℕ → List ℕ → Type 0
+IsTold c no_json code said = (code ≡ exit.no_plan) × Begins (link_line no_json) said
+IsTold c (no_plan path) code said = (code ≡ exit.no_plan) × Begins (link_line (no_plan path)) said
+IsTold (command.Explain view) (plan l) code said = IsExplained l code said
+IsTold command.Needs (plan l) code said = code ≡ exit.linked
+
+-- of a fault that is not want of memory: its line first
+pub record IsRefusedAs (error : Error) (code : ℕ) (said : List ℕ) : Type 0 where
+  pub known : error.fault ≡ OutOfMemory → ⊥
+  pub status_is : code ≡ exit.refused
+  pub begins : Begins (refusal_text error) said
+
+-- what was said of the bytes is due for what they stand for
+pub record IsAnswerOf (whole : List ℕ) (c : Command) (code : ℕ) (said : List ℕ) : Type 0 where
+  pub meaning : Meaning
+  pub means : Means whole meaning
+  pub told_is : IsTold c meaning code said
+
+-- what the commands are
+abbrev pub usage_text : List ℕ
+usage_text = codes "usage: explain [--first] [--relocations] [--byte OFFSET] | needs\n"
+
+-- when an answer is due, with its status and its text
+abbrev pub IsDue : List (String Global) → Turn → ℕ → List ℕ → Answer → Type 0
+IsDue words t code said usage = (IsPlain words → ⊥) × IsUntouched t × (code ≡ exit.usage) × (said ≡ usage_text)
+IsDue words t code said read_fault = ((c : Command) × Asks words c) × Rose t.faults_before t.faults_after × (code ≡ exit.read_fault) × (said ≡ text read_fault)
+IsDue words t code said too_long = ((c : Command) × Asks words c) × IsTooLong t × (code ≡ exit.too_long) × (said ≡ text too_long)
+IsDue words t code said (of_plan meaning) = (c : Command) × Asks words c × IsMeant t meaning × IsTold c meaning code said
+IsDue words t code said (of_make n) = ⊥
+
+-- the status that was answered, with its cause and its text
+pub record IsAnswered (words : List (String Global)) (t : Turn) (u : Told) (said : ℕ) : Type 0 where
+  pub answer : Answer
+  pub code : ℕ
+  pub words_said : List ℕ
+  pub due : IsDue words t code words_said answer
+  pub told_as : IsSaid u code words_said said

@@ -1,0 +1,2 @@
+pub mod Explain
+pub use Rattle.wild_program.specs.Program

@@ -1,0 +1,160 @@
+//! What is said of the bytes of a plan.
+ghost use Rattle.std.specs.Prelude.{◌≡◌, IfOk, string_bytes, length};
+ghost use Rattle.wild_types.specs.declared.kind.Machine.TheVariants.{X86_64};
+ghost use Rattle.wild_text.specs.Means.{plan};
+ghost use Rattle.wild_text.specs.Answer.{image_line, no_plan_text};
+ghost use Rattle.wild_explain.specs.Explain.{Begins, IsTold, IsExplained, IsRefusedAs, IsAnswerOf};
+
+use crate::command::{Command, View};
+use serde_json::Value;
+use std::alloc::{AllocError, Global};
+use std::thread::Threads;
+use wild_explain_reasons::{
+    push_advice, push_fields, push_image, push_needs, push_owner, push_reason,
+};
+use wild_image::{ElfX86_64, write};
+use wild_plan::{Error, Fault, Layout};
+use wild_program::{LINKED, NO_PLAN, REFUSED};
+use wild_text::{PlanFault, no_plan_answer, plans_are_read, read_plan, refusal_answer};
+
+/// The status and the text for a fault, with its reason; for want of memory there is none.
+fn refusal_of(alloc: Global, layout: &Layout, error: Error) -> Result<(u8, String), AllocError>
+    ensures { IfOk result (λ a. IsRefusedAs error a.0 (string_bytes a.1)) }
+{
+    match error.fault {
+        Fault::OutOfMemory => Err(AllocError),
+        _ => {
+            let line = refusal_answer(alloc, error)?;
+            let mut reason = String::new(alloc);
+            push_reason(&mut reason, alloc, layout, error)?;
+            let text = format!(in alloc; "{line}{reason}")?;
+            Ok((REFUSED, text))
+        }
+    }
+}
+
+/// What is said of an image: whose its bytes are, what a loader would stumble over, and what is asked besides.
+fn image_words(
+    alloc: Global,
+    layout: &Layout,
+    image: &[u8],
+    view: View,
+) -> Result<String, AllocError> {
+    let mut text = String::new(alloc);
+    push_image(&mut text, layout)?;
+    push_advice(&mut text, layout)?;
+    if let Some(offset) = view.byte {
+        push_owner(&mut text, layout, offset)?;
+    }
+    if view.relocations {
+        push_fields(&mut text, layout, image)?;
+    }
+    Ok(text)
+}
+
+/// A line and what is said behind it.
+fn joined(alloc: Global, line: &str, reason: &str) -> Result<String, AllocError>
+    ensures { IfOk result (λ s. Begins line.now (string_bytes s)) }
+{
+    let text = format!(in alloc; "{line}{reason}")?;
+    Ok(text)
+}
+
+/// What is said of a layout with that image.
+fn image_answer(
+    alloc: Global,
+    layout: &Layout,
+    image: &[u8],
+    view: View,
+) -> Result<String, AllocError>
+    ensures { IfOk result (λ s. Begins (image_line (length image.now)) (string_bytes s)) }
+{
+    let size = image.len();
+    let line = format!(in alloc; "image {size}\n")?;
+    let rest = image_words(alloc, layout, image, view)?;
+    let text = joined(alloc, line.as_str(), rest.as_str())?;
+    Ok(text)
+}
+
+/// What is said of a layout.
+fn explained(
+    rt: &(impl Threads + Sync),
+    alloc: Global,
+    layout: &Layout,
+    view: View,
+) -> Result<(u8, String), AllocError>
+    requires machine { layout.now.machine ≡ X86_64 }
+    ensures { IfOk result (λ a. IsExplained layout.now a.0 (string_bytes a.1)) }
+{
+    match write::<ElfX86_64>(rt, alloc, layout, 1) {
+        Ok(made) => {
+            let text = image_answer(alloc, layout, made.out.as_slice(), view)?;
+            Ok((LINKED, text))
+        }
+        Err(error) => refusal_of(alloc, layout, error),
+    }
+}
+
+/// What the command says of a layout.
+fn layout_answer(
+    rt: &(impl Threads + Sync),
+    alloc: Global,
+    layout: &Layout,
+    command: Command,
+) -> Result<(u8, String), AllocError>
+    requires machine { layout.now.machine ≡ X86_64 }
+    ensures { IfOk result (λ a. IsTold command (plan layout.now) a.0 (string_bytes a.1)) }
+{
+    match command {
+        Command::Explain(view) => explained(rt, alloc, layout, view),
+        Command::Needs => {
+            let mut text = String::new(alloc);
+            push_needs(&mut text, layout)?;
+            Ok((LINKED, text))
+        }
+    }
+}
+
+/// The text for a value whose member at that path is no member of a plan.
+fn no_plan_reason(alloc: Global, path: &str) -> Result<String, AllocError>
+    ensures { IfOk result (λ s. Begins (no_plan_text path.now) (string_bytes s)) }
+{
+    let line = no_plan_answer(alloc, path)?;
+    let reason = format!(in alloc;
+        "what: the member is unknown, or its value has another type than docs/PLAN.md says\nwhere: {path}\n"
+    )?;
+    let text = joined(alloc, line.as_str(), reason.as_str())?;
+    Ok(text)
+}
+
+/// The status and the text for the bytes of a plan.
+pub(crate) fn plan_answer(
+    rt: &(impl Threads + Sync),
+    alloc: Global,
+    bytes: &[u8],
+    command: Command,
+) -> Result<(u8, String), AllocError>
+    ensures { IfOk result (λ a. IsAnswerOf bytes.now command a.0 (string_bytes a.1)) }
+{
+    let value = match Value::from_slice(alloc, bytes) {
+        Ok(value) => value,
+        Err(e) => {
+            if e.is_memory() {
+                return Err(AllocError);
+            }
+            let text = joined(alloc, "not a plan: json\n", "what: the text is no JSON\n")?;
+            return Ok((NO_PLAN, text));
+        }
+    };
+    let layout = match read_plan(alloc, &value) {
+        Ok(layout) => layout,
+        Err(PlanFault::OutOfMemory) => return Err(AllocError),
+        Err(PlanFault::At(path)) => {
+            let text = no_plan_reason(alloc, path.as_str())?;
+            return Ok((NO_PLAN, text));
+        }
+    };
+    plans_are_read();
+    let answer = layout_answer(rt, alloc, &layout, command)?;
+    Ok(answer)
+}

@@ -1,0 +1,12 @@
+//! The program that explains a plan: `explain` says why a layout has no image, and where; `needs` says how many bytes of each part
+//! each group needs. Where it reads and writes is the caller's choice.
+#![tactic(auto)]
+
+mod answer;
+mod command;
+mod laws;
+mod program;
+
+pub use command::{Command, View, command_of};
+pub use laws::link_is_begun;
+pub use program::explain;

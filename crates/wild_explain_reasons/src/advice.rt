@@ -1,0 +1,270 @@
+//! What a loader, or a program at work, would stumble over in a layout without faults.
+
+use crate::names::{push_section, push_symbol};
+use std::alloc::AllocError;
+use std::fmt::Write;
+use wild_needs::elf_entry_address;
+use wild_records::abi::section::SHT_NOBITS;
+use wild_records::abi::segment::{PF_X, PT_INTERP, PT_LOAD, PT_PHDR, PT_TLS};
+use wild_types::{
+    File, Layout, OutputKind, Role, Section, Segment, SymbolIndex, is_allocated, is_there,
+    is_thread_local, is_writable, part_with,
+};
+
+/// The first segment of a kind.
+fn segment_of(layout: &Layout, kind: u32) -> Option<(usize, Segment)> {
+    for (i, segment) in layout.segments.as_slice().iter().enumerate() {
+        if segment.kind == kind {
+            return Some((i, *segment));
+        }
+    }
+    None
+}
+
+/// The first byte of the page of an address.
+fn page_of(layout: &Layout, address: u64) -> u64 {
+    if layout.page_size == 0 {
+        address
+    } else {
+        address / layout.page_size
+    }
+}
+
+/// Whether a kernel that maps the second segment puts other file bytes over the end of the first (gABI, "Program Loading").
+fn shares_page(layout: &Layout, first: &Segment, second: &Segment) -> bool {
+    let last = first
+        .address
+        .saturating_add(first.mem_size.saturating_sub(1));
+    let is_even = first.address.saturating_add(second.offset)
+        == second.address.saturating_add(first.offset);
+    first.mem_size != 0
+        && second.mem_size != 0
+        && !is_even
+        && page_of(layout, second.address) <= page_of(layout, last)
+}
+
+/// Adds the loaded segments that share a page with the one before them.
+fn push_pages(out: &mut String, layout: &Layout) -> Result<(), AllocError> {
+    let mut before: Option<(usize, Segment)> = None;
+    for (i, segment) in layout.segments.as_slice().iter().enumerate() {
+        if segment.kind == PT_LOAD {
+            if let Some((first, found)) = before
+                && shares_page(layout, &found, segment)
+            {
+                writeln!(
+                    out,
+                    "advice: /segments/{i} begins in the last memory page of /segments/{first}, at another distance from the file: a kernel maps its page over the other's bytes"
+                )?;
+            }
+            before = Some((i, *segment));
+        }
+    }
+    Ok(())
+}
+
+/// Adds what is wrong with the segment of thread-local data.
+fn push_thread_data(out: &mut String, layout: &Layout) -> Result<(), AllocError> {
+    let (start, end, align) = (layout.tls.start, layout.tls.end, layout.tls.align);
+    let size = end.saturating_sub(start);
+    match segment_of(layout, PT_TLS) {
+        None if size != 0 => writeln!(
+            out,
+            "advice: /tls is given, and no segment is PT_TLS (kind 7): no thread gets its data"
+        )?,
+        Some((i, found))
+            if found.address != start || found.mem_size != size || found.align != align => {
+            let (address, mem_size, other) = (found.address, found.mem_size, found.align);
+            writeln!(
+                out,
+                "advice: /segments/{i} is PT_TLS with address {address}, mem_size {mem_size}, align {other}; /tls has start {start}, size {size}, align {align}"
+            )?;
+        }
+        _ => {}
+    }
+    Ok(())
+}
+
+/// Adds the segments that a dynamic executable lacks.
+fn push_interpreter(out: &mut String, layout: &Layout) -> Result<(), AllocError> {
+    if !matches!(layout.kind, OutputKind::DynamicExecutable(_)) {
+        return Ok(());
+    }
+    if segment_of(layout, PT_INTERP).is_none() {
+        writeln!(
+            out,
+            "advice: no segment is PT_INTERP (kind 3): a kernel starts the program without its dynamic linker"
+        )?;
+    }
+    if segment_of(layout, PT_PHDR).is_none() {
+        writeln!(
+            out,
+            "advice: no segment is PT_PHDR (kind 6): a dynamic linker takes base 0 for the program"
+        )?;
+    }
+    Ok(())
+}
+
+/// Whether a section has addresses of its own: a thread-local one without data has none.
+fn has_addresses(section: &Section) -> bool {
+    is_allocated(section.flags)
+        && !(section.kind == SHT_NOBITS && is_thread_local(section.flags))
+        && section.size != 0
+}
+
+/// Adds an allocated section that begins before the end of those before it.
+fn push_overlaps(out: &mut String, layout: &Layout) -> Result<(), AllocError> {
+    let mut before: usize = 0;
+    let mut low: u64 = 0;
+    let mut end: u64 = 0;
+    for (i, section) in layout.sections.as_slice().iter().enumerate() {
+        if has_addresses(section) {
+            let last = section.address.saturating_add(section.size);
+            if section.address < end && low < last {
+                write!(out, "advice: /sections/{i} lies over /sections/{before}: ")?;
+                push_section(out, layout, i)?;
+                write!(out, ", ")?;
+                push_section(out, layout, before)?;
+                writeln!(out)?;
+            }
+            if end < last {
+                before = i;
+                low = section.address;
+                end = last;
+            }
+        }
+    }
+    Ok(())
+}
+
+/// The first loaded segment whose file bytes have that address.
+fn filled_by(layout: &Layout, address: u64) -> Option<usize> {
+    for (i, segment) in layout.segments.as_slice().iter().enumerate() {
+        let end = segment.address.saturating_add(segment.file_size);
+        if segment.kind == PT_LOAD && segment.address <= address && address < end {
+            return Some(i);
+        }
+    }
+    None
+}
+
+/// Adds zeroed sections that a segment fills with file bytes.
+fn push_zeros(out: &mut String, layout: &Layout) -> Result<(), AllocError> {
+    for (i, section) in layout.sections.as_slice().iter().enumerate() {
+        if section.kind == SHT_NOBITS
+            && has_addresses(section)
+            && let Some(segment) = filled_by(layout, section.address)
+        {
+            let address = section.address;
+            write!(
+                out,
+                "advice: /segments/{segment}/file_size reaches address {address} of "
+            )?;
+            push_section(out, layout, i)?;
+            writeln!(out, ": its zeros are bytes of the file")?;
+        }
+    }
+    Ok(())
+}
+
+/// Adds a base of the GOT that is not in it.
+fn push_base(out: &mut String, layout: &Layout) -> Result<(), AllocError> {
+    let base = layout.got_base;
+    if let Some(part) = part_with(Role::Got, layout.parts.as_slice()) {
+        let (start, end) = (part.address, part.address.saturating_add(part.size));
+        if base < start || end < base {
+            writeln!(
+                out,
+                "advice: /got_base is {base}, and the part got has addresses {start} to {end}: relocations with GOT in their value count from there"
+            )?;
+        }
+    }
+    Ok(())
+}
+
+/// Adds parts of hash tables without a shape.
+fn push_shapes(out: &mut String, layout: &Layout) -> Result<(), AllocError> {
+    let parts = layout.parts.as_slice();
+    if is_there(Role::SysvHash, parts) && layout.sysv_hash.is_none() {
+        writeln!(
+            out,
+            "advice: a part has the role sysv_hash, and /sysv_hash is not given: the table is empty"
+        )?;
+    }
+    if is_there(Role::GnuHash, parts) && layout.gnu_hash.is_none() {
+        writeln!(
+            out,
+            "advice: a part has the role gnu_hash, and /gnu_hash is not given: the table is empty"
+        )?;
+    }
+    Ok(())
+}
+
+/// Whether a writable section has all these addresses.
+fn has_room(layout: &Layout, address: u64, size: u64) -> bool {
+    layout.sections.as_slice().iter().any(|section| {
+        is_allocated(section.flags)
+            && is_writable(section.flags)
+            && section.address <= address
+            && address.saturating_add(size) <= section.address.saturating_add(section.size)
+    })
+}
+
+/// Adds the copies of a library that have no room in writable data.
+fn push_copies(out: &mut String, layout: &Layout, file: &File) -> Result<(), AllocError> {
+    for copy in file.copied() {
+        let definition: SymbolIndex = layout.canonical(*copy);
+        let Some(symbol) = layout.symbols.as_slice().get(definition.0) else {
+            continue;
+        };
+        let address = match symbol.resolution {
+            Some(found) => found.raw_value,
+            None => 0,
+        };
+        let size = symbol.size;
+        if !has_room(layout, address, size) {
+            write!(out, "advice: the copy of ")?;
+            push_symbol(out, layout, definition.0)?;
+            writeln!(
+                out,
+                " has no room: {size} bytes at address {address} lie in no writable section"
+            )?;
+        }
+    }
+    Ok(())
+}
+
+/// Adds an entry that no executable segment has.
+fn push_entry(out: &mut String, layout: &Layout) -> Result<(), AllocError> {
+    let (entry, _) = elf_entry_address(layout);
+    let is_executable = layout.segments.as_slice().iter().any(|segment| {
+        segment.kind == PT_LOAD
+            && segment.flags & PF_X != 0
+            && segment.address <= entry
+            && entry < segment.address.saturating_add(segment.file_size)
+    });
+    if layout.kind.is_executable() && !is_executable {
+        writeln!(
+            out,
+            "advice: /entry is address {entry}, which no executable segment has"
+        )?;
+    }
+    Ok(())
+}
+
+/// Adds what a loader, or a program at work, would stumble over.
+pub fn push_advice(out: &mut String, layout: &Layout) -> Result<(), AllocError> {
+    push_pages(out, layout)?;
+    push_thread_data(out, layout)?;
+    push_interpreter(out, layout)?;
+    push_overlaps(out, layout)?;
+    push_zeros(out, layout)?;
+    push_base(out, layout)?;
+    push_shapes(out, layout)?;
+    push_entry(out, layout)?;
+    for group in layout.groups.as_slice() {
+        for file in group.files.as_slice() {
+            push_copies(out, layout, file)?;
+        }
+    }
+    Ok(())
+}

@@ -1,0 +1,116 @@
+//! How roles, flags and names are written.
+
+use std::alloc::AllocError;
+use std::fmt::Write;
+use wild_reloc::x86_64::rel_type_to_string;
+use wild_types::{Layout, Role, place_of};
+
+/// The roles by the words of plans, each at its place in the list of roles.
+const ROLES: [(&str, Role); 30] = [
+    ("raw", Role::Raw),
+    ("file_header", Role::FileHeader),
+    ("program_headers", Role::ProgramHeaders),
+    ("section_headers", Role::SectionHeaders),
+    ("shstrtab", Role::Shstrtab),
+    ("got", Role::Got),
+    ("got_relr", Role::GotRelr),
+    ("plt_got", Role::PltGot),
+    ("rela_plt", Role::RelaPlt),
+    ("rela_dyn_relative", Role::RelaDynRelative),
+    ("rela_dyn_general", Role::RelaDynGeneral),
+    ("relr_dyn", Role::RelrDyn),
+    ("dynsym", Role::Dynsym),
+    ("dynstr", Role::Dynstr),
+    ("gnu_version", Role::GnuVersion),
+    ("gnu_version_d", Role::GnuVersionD),
+    ("gnu_version_r", Role::GnuVersionR),
+    ("sysv_hash", Role::SysvHash),
+    ("gnu_hash", Role::GnuHash),
+    ("eh_frame", Role::EhFrame),
+    ("eh_frame_hdr", Role::EhFrameHdr),
+    ("dynamic", Role::Dynamic),
+    ("symtab_local", Role::SymtabLocal),
+    ("symtab_global", Role::SymtabGlobal),
+    ("symtab_shndx_local", Role::SymtabShndxLocal),
+    ("symtab_shndx_global", Role::SymtabShndxGlobal),
+    ("strtab", Role::Strtab),
+    ("interp", Role::Interp),
+    ("build_id", Role::BuildId),
+    ("property", Role::Property),
+];
+
+/// The role at that place of the list of roles, with its word.
+pub(crate) fn role_at(place: usize) -> Option<(&'static str, Role)> {
+    ROLES.get(place).copied()
+}
+
+/// The word of a role.
+pub fn role_word(role: Role) -> &'static str {
+    match role_at(place_of(role)) {
+        Some((word, _)) => word,
+        None => "unknown",
+    }
+}
+
+/// The word of the role of a part.
+pub(crate) fn part_word(layout: &Layout, part: usize) -> &'static str {
+    match layout.parts.as_slice().get(part) {
+        Some(part) => role_word(part.role),
+        None => "no part",
+    }
+}
+
+/// Adds a name: itself where it is text without control characters of ASCII, else in hex.
+pub fn push_name(out: &mut String, name: &[u8]) -> Result<(), AllocError> {
+    if name.is_empty() {
+        write!(out, "(no name)")?;
+        return Ok(());
+    }
+    let is_plain = name.iter().all(|byte| b' ' <= *byte && *byte != 0x7f);
+    match str::from_utf8(name) {
+        Ok(text) if is_plain => write!(out, "`{text}`")?,
+        _ => {
+            for byte in name {
+                write!(out, "{byte:02x}")?;
+            }
+        }
+    }
+    Ok(())
+}
+
+/// Adds the name of an output section.
+pub(crate) fn push_section(
+    out: &mut String,
+    layout: &Layout,
+    section: usize,
+) -> Result<(), AllocError> {
+    write!(out, "section {section}")?;
+    if let Some(found) = layout.sections.as_slice().get(section) {
+        write!(out, " ")?;
+        push_name(out, found.name.as_slice())?;
+    }
+    Ok(())
+}
+
+/// Adds the name of a symbol.
+pub(crate) fn push_symbol(
+    out: &mut String,
+    layout: &Layout,
+    symbol: usize,
+) -> Result<(), AllocError> {
+    write!(out, "symbol {symbol}")?;
+    if let Some(found) = layout.symbols.as_slice().get(symbol) {
+        write!(out, " ")?;
+        push_name(out, found.name.as_slice())?;
+    }
+    Ok(())
+}
+
+/// Adds the name of a relocation type of x86-64.
+pub(crate) fn push_type(out: &mut String, number: u32) -> Result<(), AllocError> {
+    match rel_type_to_string(number).name() {
+        Some(name) => write!(out, "{name} ({number})")?,
+        None => write!(out, "type {number}")?,
+    }
+    Ok(())
+}

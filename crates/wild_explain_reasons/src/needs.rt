@@ -1,0 +1,70 @@
+//! What each part needs, and what an image has.
+
+use crate::names::role_word;
+use std::alloc::AllocError;
+use std::fmt::Write;
+use wild_needs::needs;
+use wild_types::{Layout, Role, has_role};
+
+/// Adds a list of one number for each part.
+fn push_shares(out: &mut String, layout: &Layout, group: usize) -> Result<(), AllocError> {
+    write!(out, "/groups/{group}/part_sizes [")?;
+    for (i, part) in layout.parts.as_slice().iter().enumerate() {
+        if i != 0 {
+            write!(out, ",")?;
+        }
+        let needed = needs(layout, i, group);
+        write!(out, "{needed}")?;
+    }
+    writeln!(out, "]")?;
+    Ok(())
+}
+
+/// What all groups need of a part, at most 2^64 - 1.
+fn needed_of(layout: &Layout, part: usize) -> u64 {
+    let mut sum: u64 = 0;
+    for (i, group) in layout.groups.as_slice().iter().enumerate() {
+        sum = sum.saturating_add(needs(layout, part, i));
+    }
+    sum
+}
+
+/// Adds what each part needs in all, and what each group needs of each part: a raw part is given what `part_sizes` says.
+pub fn push_needs(out: &mut String, layout: &Layout) -> Result<(), AllocError> {
+    for (i, part) in layout.parts.as_slice().iter().enumerate() {
+        let word = role_word(part.role);
+        let size = part.size;
+        let needed = needed_of(layout, i);
+        let whose = if has_role(Role::Raw, part) {
+            ", as it is given"
+        } else {
+            ""
+        };
+        writeln!(
+            out,
+            "/parts/{i}/size {needed} ({word}; it has {size}{whose})"
+        )?;
+    }
+    for i in 0..layout.groups.len() {
+        push_shares(out, layout, i)?;
+    }
+    Ok(())
+}
+
+/// Adds how many bytes each part has, and whose they are.
+pub fn push_image(out: &mut String, layout: &Layout) -> Result<(), AllocError> {
+    for (i, part) in layout.parts.as_slice().iter().enumerate() {
+        let word = role_word(part.role);
+        let (offset, address, size) = (part.offset, part.address, part.size);
+        write!(
+            out,
+            "part {i} {word}: offset {offset}, address {address}, size {size}; by group"
+        )?;
+        for group in layout.groups.as_slice() {
+            let given = group.given(i);
+            write!(out, " {given}")?;
+        }
+        writeln!(out)?;
+    }
+    Ok(())
+}

@@ -1,0 +1,126 @@
+//! Who owns a byte of the image.
+
+use crate::find::{SectionPlace, push_path, section_at};
+use crate::groups::given_before;
+use crate::names::{push_section, role_word};
+use crate::relocations::push_relocation;
+use std::alloc::AllocError;
+use std::fmt::Write;
+use wild_records::abi::section::SHT_NOBITS;
+use wild_types::{InputSection, Layout, Part, Role, field_bytes, has_role};
+
+/// The group whose share of a part has that byte of it.
+fn group_of(layout: &Layout, part: usize, byte: u64) -> Option<usize> {
+    let mut end: u64 = 0;
+    for (i, group) in layout.groups.as_slice().iter().enumerate() {
+        end = end.saturating_add(group.given(part));
+        if byte < end {
+            return Some(i);
+        }
+    }
+    None
+}
+
+/// The input section of a group that has the address, in a part.
+fn section_with(layout: &Layout, group: usize, part: usize, address: u64) -> Option<SectionPlace> {
+    let found = layout.groups.as_slice().get(group)?;
+    for (i, file) in found.files.as_slice().iter().enumerate() {
+        for (j, section) in file.sections.as_slice().iter().enumerate() {
+            let end = section.address.saturating_add(section.size);
+            let is_in = section.part == part && section.is_filled(layout);
+            if is_in && section.address <= address && address < end {
+                return Some(SectionPlace {
+                    group,
+                    file: i,
+                    section: j,
+                });
+            }
+        }
+    }
+    None
+}
+
+/// The first relocation whose field has that byte of the section.
+fn relocation_with(layout: &Layout, section: &InputSection, byte: u64) -> Option<usize> {
+    for (i, relocation) in section.relocations.as_slice().iter().enumerate() {
+        let width = field_bytes(layout.machine, relocation.number) as u64;
+        let end = relocation.offset.saturating_add(width);
+        if relocation.offset <= byte && byte < end {
+            return Some(i);
+        }
+    }
+    None
+}
+
+/// Adds the input section that has an address, and the relocation that writes there.
+fn push_input(
+    out: &mut String,
+    layout: &Layout,
+    at: SectionPlace,
+    address: u64,
+) -> Result<(), AllocError> {
+    let Some(section) = section_at(layout, at) else {
+        return Ok(());
+    };
+    let byte = address.saturating_sub(section.address);
+    write!(out, "owner: byte {byte} of ")?;
+    push_path(out, at)?;
+    if let Some(index) = relocation_with(layout, section, byte) {
+        write!(out, ", in the field of /relocations/{index}: ")?;
+        push_relocation(out, layout, section, index)?;
+    }
+    writeln!(out)?;
+    Ok(())
+}
+
+/// Adds which group has a byte of a part, and which input section.
+fn push_in_part(
+    out: &mut String,
+    layout: &Layout,
+    index: usize,
+    part: &Part,
+    byte: u64,
+) -> Result<(), AllocError> {
+    let word = role_word(part.role);
+    let address = part.address.saturating_add(byte);
+    writeln!(
+        out,
+        "part: byte {byte} of /parts/{index} ({word}), address {address}"
+    )?;
+    let Some(group) = group_of(layout, index, byte) else {
+        return Ok(());
+    };
+    let own = byte.saturating_sub(given_before(layout, index, group));
+    writeln!(out, "group: byte {own} of the share of /groups/{group}")?;
+    match section_with(layout, group, index, address) {
+        Some(at) if has_role(Role::Raw, part) => push_input(out, layout, at, address),
+        _ => Ok(()),
+    }
+}
+
+/// Adds which section has a byte that no part has.
+fn push_padding(out: &mut String, layout: &Layout, offset: u64) -> Result<(), AllocError> {
+    for (i, section) in layout.sections.as_slice().iter().enumerate() {
+        let end = section.offset.saturating_add(section.size);
+        if i != 0 && section.kind != SHT_NOBITS && section.offset <= offset && offset < end {
+            write!(out, "padding: of ")?;
+            push_section(out, layout, i)?;
+            writeln!(out)?;
+            return Ok(());
+        }
+    }
+    writeln!(out, "padding: in no part and no section")?;
+    Ok(())
+}
+
+/// Adds who owns the byte of the image at an offset.
+pub fn push_owner(out: &mut String, layout: &Layout, offset: u64) -> Result<(), AllocError> {
+    for (i, part) in layout.parts.as_slice().iter().enumerate() {
+        let end = part.offset.saturating_add(part.size);
+        let is_in = layout.takes_file_bytes(part.section) && part.offset <= offset && offset < end;
+        if is_in {
+            return push_in_part(out, layout, i, part, offset - part.offset);
+        }
+    }
+    push_padding(out, layout, offset)
+}

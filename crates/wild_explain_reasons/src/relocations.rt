@@ -1,0 +1,206 @@
+//! Faults of relocations, slots, copies and symbols, in words.
+
+use crate::find::{SectionPlace, push_path, section_at};
+use crate::names::{push_name, push_symbol, push_type};
+use std::alloc::AllocError;
+use std::fmt::Write;
+use wild_slot::SymbolSlots;
+use wild_types::{At, Fault, InputSection, Layout, Missing, SymbolIndex};
+
+/// What a symbol lacks, and what can be done.
+fn missing_words(what: Missing) -> (&'static str, &'static str) {
+    match what {
+        Missing::Address => (
+            "the symbol has no address: its definition has no resolution, and it stands in no input section with an address",
+            "resolve the symbol (`resolution`, or `definition` where another symbol defines it), or place its section",
+        ),
+        Missing::Slot => (
+            "the relocation takes a slot, and the symbol's definition has none of that sort",
+            "give the symbol the flag and the slot (`got`; GOT, GOT_TLS_OFFSET, GOT_TLS_MODULE or GOT_TLS_DESCRIPTOR), its `definition` where another symbol has it, or the plan `tlsld`",
+        ),
+        Missing::Stub => (
+            "a stub is needed, and the symbol's definition has none",
+            "give the symbol PLT and a stub (`plt`), its `definition`, or write a call of a function that is known as R_X86_64_PC32",
+        ),
+        Missing::DynamicSymbol => (
+            "a loader looks the symbol up, and its definition has no index in the dynamic symbol table",
+            "give it `dynsym` (and list it in `dynsyms` where the output defines it), or the flag NON_INTERPOSABLE where no other module may have it",
+        ),
+        Missing::Section => (
+            "the symbol's entry has no output section",
+            "correct `place`, or the name of the section (.bss, .tbss)",
+        ),
+    }
+}
+
+/// What is wrong with a relocation, a slot or a symbol, and what can be done.
+pub(crate) fn relocation_words(fault: Fault) -> (&'static str, &'static str) {
+    match fault {
+        Fault::UnsupportedRelocation { .. } => (
+            "the relocation type is not known, or it needs a symbol and names none",
+            "resolve the relocation to a type that is known, or give it its symbol",
+        ),
+        Fault::RecompileWithPic { .. } => (
+            "the field cannot hold an address that is known only where the image is loaded",
+            "compile position-independent code (-fPIE, for a shared object -fPIC), or give the symbol NON_INTERPOSABLE, or ABSOLUTE where its value does not move; another module's symbol a stub or a copy",
+        ),
+        Fault::MissingResolution { what, .. } => missing_words(what),
+        Fault::UnknownSequence { .. } => (
+            "an instruction is to be rewritten, and its bytes, its addend or the relocation of its call are not what that needs",
+            "keep the sequences of the ABI whole, with both relocations, one behind the other",
+        ),
+        Fault::IfuncAddend { .. } => (
+            "an entry stores what a resolver answers, and has nothing to add to it",
+            "take the function's address itself, and add in code",
+        ),
+        Fault::PltTooFar { .. } => (
+            "a stub is too far from its slot",
+            "move the parts plt_got and got nearer",
+        ),
+        Fault::TlsOutOfSegment { .. } => (
+            "the address of a thread-local symbol with a slot is not in the thread-local data",
+            "correct `tls` or `raw_value`",
+        ),
+        Fault::StaticTlsDesc { .. } => (
+            "a static executable has nothing that fills a descriptor",
+            "take another model of thread-local storage",
+        ),
+        Fault::OutOfRange { .. } => (
+            "the value does not fit the field",
+            "move the sections nearer, or use a wider type",
+        ),
+        Fault::OverlappingSites { .. } => (
+            "two relocations write one byte of the section",
+            "remove one of them",
+        ),
+        _ => ("memory was refused", "give it more memory"),
+    }
+}
+
+/// The place of the first relocation of a section at that offset.
+fn place_at(section: &InputSection, offset: u64) -> Option<usize> {
+    for (i, relocation) in section.relocations.as_slice().iter().enumerate() {
+        if relocation.offset == offset {
+            return Some(i);
+        }
+    }
+    None
+}
+
+/// Adds a relocation: its type, its offset, its symbol and its addend.
+pub(crate) fn push_relocation(
+    out: &mut String,
+    layout: &Layout,
+    section: &InputSection,
+    index: usize,
+) -> Result<(), AllocError> {
+    let Some(relocation) = section.relocations.as_slice().get(index) else {
+        return Ok(());
+    };
+    let offset = relocation.offset;
+    let addend = relocation.addend;
+    push_type(out, relocation.number)?;
+    write!(out, " at offset {offset} of ")?;
+    push_name(out, section.name.as_slice())?;
+    write!(out, ", addend {addend}")?;
+    if let Some(symbol) = relocation.symbol {
+        write!(out, ", ")?;
+        push_symbol(out, layout, symbol.0)?;
+    }
+    Ok(())
+}
+
+/// Adds the numbers of a fault.
+fn push_numbers(out: &mut String, layout: &Layout, fault: Fault) -> Result<(), AllocError> {
+    match fault {
+        Fault::OutOfRange { value } | Fault::PltTooFar { value } => {
+            let signed = value.cast_signed();
+            write!(out, "; value {signed}")?;
+        }
+        Fault::TlsOutOfSegment { value } => {
+            let (start, end) = (layout.tls.start, layout.tls.end);
+            write!(out, "; address {value}, expected from {start} to {end}")?;
+        }
+        Fault::OverlappingSites { byte } => write!(out, "; byte {byte}")?,
+        Fault::MissingResolution { symbol, .. } => {
+            let definition = layout.canonical(SymbolIndex(symbol)).0;
+            write!(out, "; its definition is symbol {definition}")?;
+        }
+        Fault::IfuncAddend { addend } => write!(out, "; addend {addend}, expected 0")?,
+        _ => {}
+    }
+    writeln!(out)?;
+    Ok(())
+}
+
+/// The first symbol of a file whose slots are refused.
+fn refused_slot(layout: &Layout, group: usize, file: usize) -> Option<usize> {
+    let found = layout.groups.as_slice().get(group)?;
+    let file = found.files.as_slice().get(file)?;
+    let first = file.first_symbol.0;
+    for (i, symbol) in layout.own_symbols(file).iter().enumerate() {
+        if SymbolSlots::of(layout, symbol).fault().is_some() {
+            return Some(first.saturating_add(i));
+        }
+    }
+    None
+}
+
+/// The symbol of a fault that is in no section.
+fn symbol_of(layout: &Layout, fault: Fault, at: At) -> Option<usize> {
+    match fault {
+        Fault::MissingResolution { symbol, .. } | Fault::StaticTlsDesc { symbol } => Some(symbol),
+        _ => refused_slot(layout, at.group?, at.file?),
+    }
+}
+
+/// Adds where a fault is that is in no section.
+fn push_symbol_place(
+    out: &mut String,
+    layout: &Layout,
+    fault: Fault,
+    at: At,
+) -> Result<(), AllocError> {
+    if let Some(symbol) = symbol_of(layout, fault, at) {
+        write!(out, "where: /symbols/{symbol}/resolution\nfound: ")?;
+        push_symbol(out, layout, symbol)?;
+    }
+    push_numbers(out, layout, fault)
+}
+
+/// Adds where a fault is, and what stands there.
+pub(crate) fn push_at(
+    out: &mut String,
+    layout: &Layout,
+    fault: Fault,
+    at: At,
+) -> Result<(), AllocError> {
+    let (Some(group), Some(file), Some(section)) = (at.group, at.file, at.section) else {
+        return push_symbol_place(out, layout, fault, at);
+    };
+    let place = SectionPlace {
+        group,
+        file,
+        section,
+    };
+    let Some(found) = section_at(layout, place) else {
+        return Ok(());
+    };
+    write!(out, "where: ")?;
+    push_path(out, place)?;
+    let index = match at.offset {
+        Some(offset) => place_at(found, offset),
+        None => None,
+    };
+    match index {
+        Some(index) => {
+            write!(out, "/relocations/{index}\nfound: ")?;
+            push_relocation(out, layout, found, index)?;
+        }
+        None => {
+            write!(out, "/relocations\nfound: ")?;
+            push_name(out, found.name.as_slice())?;
+        }
+    }
+    push_numbers(out, layout, fault)
+}
