@@ -10,6 +10,8 @@ mod images;
 #[cfg(test)]
 mod layouts;
 #[cfg(test)]
+mod linked;
+#[cfg(test)]
 mod loaded;
 #[cfg(test)]
 mod members;

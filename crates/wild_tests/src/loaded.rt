@@ -4,7 +4,7 @@ use crate::plans::{LINKED, MOVED, PACKED, SLOTTED, VERSIONED, WIDE, changed};
 use std::alloc::Global;
 use std::test::*;
 use wild_hashes::{lookup_gnu, lookup_sysv};
-use wild_loader::{Answer, EffectKind, LoadFault, Memory, World, load_image, step_x86_64};
+use wild_loader::{Answer, Deed, LoadFault, Memory, Value, World, load_image, step_x86_64};
 use wild_words::{Bytes, Items};
 
 /// A plan with changes, a base, and what memory has when its image is loaded there: pairs of an address and a word.
@@ -226,20 +226,20 @@ fn loaded_words(rt: HostRuntime) -> Result<(), Fail> {
 }
 
 /// A call of the stub, which goes on to the resolver's answer, and a call of `v` through its slot.
-const EFFECTS: [(u64, EffectKind); 3] = [
-    (0x40_0100, EffectKind::Call { target: 0x40_0140 }),
-    (0x40_0140, EffectKind::Jump { target: 0x5000 }),
-    (0x40_010c, EffectKind::Call { target: 0x40_013e }),
+const EFFECTS: [(u64, Deed, u64); 3] = [
+    (0x40_0100, Deed::Call, 0x40_0140),
+    (0x40_0140, Deed::Jump, 0x5000),
+    (0x40_010c, Deed::Call, 0x40_013e),
 ];
 
 #[test]
 fn effects_of_code(rt: HostRuntime) -> Result<(), Fail> {
     let image = image_of(&rt, rt.alloc(), SLOTTED)?;
     let memory = memory_of(rt.alloc(), image.as_slice(), 0)?;
-    for (place, kind) in &EFFECTS {
+    for (place, deed, target) in &EFFECTS {
         let effect = step_x86_64(&memory, *place);
         assert!(rt;
-            matches!(effect, Some(found) if found.kind == *kind),
+            matches!(effect, Some(found) if found.deed == *deed && found.value == Value::Number(*target)),
             "{place}"
         );
     }

@@ -2,6 +2,8 @@
 #![tactic(auto)]
 
 #[cfg(test)]
+mod aarch64;
+#[cfg(test)]
 mod fields;
 #[cfg(test)]
 mod hashes;

@@ -3,7 +3,8 @@
 use std::alloc::Global;
 use std::test::Fail;
 use wild_loader::{
-    Answer, Effect, EffectKind, LoadFault, Machine, Memory, World, load_image, step_x86_64,
+    Answer, Deed, Effect, LoadFault, Machine, Memory, Value, World, load_image, read_image,
+    step_x86_64,
 };
 use wild_words::{Bytes, Items};
 
@@ -91,9 +92,8 @@ fn calls(memory: &Memory, base: u64) -> bool {
     let call = Effect {
         length: 5,
         width: 64,
-        kind: EffectKind::Call {
-            target: base.wrapping_add(0x400086),
-        },
+        deed: Deed::Call,
+        value: Value::Number(base.wrapping_add(0x400086)),
     };
     step_x86_64(memory, base.wrapping_add(0x400080)) == Some(call)
         && step_x86_64(memory, base.wrapping_add(0x400081)).is_none()
@@ -111,6 +111,9 @@ fn loads(rt: HostRuntime) -> Result<(), Fail> {
     for base in [0, 0x1000] {
         let memory = load(rt.alloc(), &IMAGE, base)?.ok().ok_or("refused")?;
         assert!(rt; is_loaded(&memory, base) && calls(&memory, base), "{base}");
+        let read = read_image(rt.alloc(), base, &IMAGE).ok().ok_or("refused")?;
+        let starts = read.runs.as_slice().iter().map(|run| run.start);
+        assert!(rt; starts.eq([base + 0x400000]) && read.tables.entries.as_slice().is_empty());
     }
     Ok(())
 }

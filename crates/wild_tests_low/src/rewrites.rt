@@ -2,7 +2,7 @@
 
 use std::alloc::Global;
 use std::test::Fail;
-use wild_relax::{Arch, ElfX86_64, Relaxation, RelaxationKind, RelocationInfo};
+use wild_relax::{Arch, ElfX86_64, Reference, Relaxation, RelaxationKind, RelocationInfo};
 use wild_reloc::RelocationKind;
 use wild_types::{OutputKind, RelocationModel, ValueFlags};
 
@@ -63,17 +63,17 @@ pub fn link(
     setting: Setting,
 ) -> Result<Result<Option<RelaxationKind>, u32>, Fail> {
     let first = relocations.get(0).ok_or("no relocation")?;
-    let found = ElfX86_64::new_relaxation(
+    let found = ElfX86_64::new_relaxation(&Reference {
         relocations,
-        0,
+        at: 0,
         bytes,
-        setting.flags,
-        setting.kind,
-        CODE,
-        setting.relax,
-        setting.symbol,
-        setting.address,
-    );
+        flags: setting.flags,
+        kind: setting.kind,
+        section_flags: CODE,
+        relax: setting.relax,
+        value: setting.symbol,
+        address: setting.address,
+    });
     let relaxation = match found {
         Err(unknown) => return Ok(Err(unknown.number)),
         Ok(None) => return Ok(Ok(None)),
