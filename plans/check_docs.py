@@ -1,0 +1,371 @@
+#!/usr/bin/env python3
+"""Compares what the pages say with what the program does. Prints what differs; the status is 0 where nothing does.
+
+    plans/check_docs.py              over crates/wild_main/out/wild_main, which ./build makes
+    plans/check_docs.py PROGRAM
+
+- A block of commands is run where the paragraph behind it tells a status: what stands there in backticks behind "prints" is in its output.
+- A row under "Change | Answer" is the plan with the changes: its first line is the answer, for 1 and for 64 workers.
+- A row under "Its program" is an image that is run.
+- Of each member of docs/PLAN.md the example is read, and a float is refused at its path; plans with all defaults written out mean the same.
+- The answers and the makers of plans, the statuses of README.md, and what is not known yet.
+- Files and functions that a page names are there.
+"""
+import copy
+import glob
+import itertools
+import json
+import os
+import re
+import subprocess
+import sys
+import tempfile
+
+TOP = os.path.dirname(os.path.dirname(os.path.abspath(__file__)))
+PAGES = ["README.md", "CONTRIBUTING.md", *sorted(os.path.relpath(page, TOP) for page in glob.glob(f"{TOP}/docs/*.md"))]
+PLANS = sorted(glob.glob(f"{TOP}/plans/*.json"))
+# the tables of members in docs/PLAN.md, by their first column or their section, and where such an object stands in a plan
+FILE = "/groups/0/files/0"
+STANDS = {
+    "The plan": "", "Options": "/options", "Part": "/parts/0", "Section": "/sections/0", "Segment": "/segments/0", "Symbol": "/symbols/0",
+    "Input section": f"{FILE}/sections/0", "Relocation": f"{FILE}/sections/0/relocations/0", "Member of `tls`": "/tls",
+    "Member of a dynamic symbol": "/dynsyms/0", "Member of `sysv_hash`": "/sysv_hash", "Member of `gnu_hash`": "/gnu_hash",
+    "Member of a version definition": "/verdefs/0", "Member of a `resolution`": "/symbols/0/resolution", "Member of a group": "/groups/0",
+    "Member of a file": FILE, "Member of `verneed`": f"{FILE}/verneed",
+}
+CHANGE = re.compile(r"((?:`[/A-Z][^`]*`(?: and )?)+) to (?:`([^`]*)`|(null|-?\d+))(, added)?")
+differences = 0
+
+
+def differs(where, said, found):
+    global differences
+    differences += 1
+    print(f"{where}\n    said:  {said}\n    found: {found}")
+
+
+def same(where, said, found):
+    if said != found:
+        differs(where, said, found)
+
+
+def read(path):
+    with open(os.path.join(TOP, path)) as page:
+        return page.read()
+
+
+# The program
+
+def answer(plan, *words):
+    """The status and the text for a plan, given as a value or as text."""
+    text = plan if isinstance(plan, str) else json.dumps(plan, separators=(",", ":"))
+    ran = subprocess.run([PROGRAM, *(words or ("link", "1"))], input=text.encode(), stdout=subprocess.PIPE)
+    return ran.returncode, ran.stdout.decode()
+
+
+def image(plan, path):
+    """Writes the image of a plan as a program."""
+    lines = answer(plan)[1].splitlines()
+    with open(path, "wb") as file:
+        file.write(bytes.fromhex("".join(line for line in lines if " " not in line)))
+    os.chmod(path, 0o755)
+
+
+def run(words, folder):
+    """The status, as a shell tells it, and the output."""
+    ran = subprocess.run(words, cwd=folder, stdout=subprocess.PIPE, stderr=subprocess.STDOUT, errors="replace")
+    return ran.returncode if ran.returncode >= 0 else 128 - ran.returncode, ran.stdout
+
+
+# Tables of the pages
+
+def rows(page):
+    """Each row of a page's tables: its line, the section, the paragraph ahead of the table, its heads and its cells."""
+    section, ahead, heads = "", "", None
+    for number, line in enumerate(read(page).splitlines(), 1):
+        if line.startswith("|"):
+            cells = [cell.strip().replace("\\|", "|") for cell in re.split(r"(?<!\\)\|", line)[1:-1]]
+            if heads is None:
+                heads = cells
+            elif not set(line) <= set("|- "):
+                yield f"{page}:{number}", section, ahead, heads, cells
+        else:
+            ahead = line if heads else f"{ahead} {line}"
+            heads = None
+            if line.startswith("#"):
+                section, ahead = line.strip("# "), ""
+
+
+def at(plan, path):
+    """The list or object that a path goes to, and its last step."""
+    *steps, last = path.strip("/").split("/")
+    for step in steps:
+        if isinstance(plan, dict):
+            plan = plan.setdefault(step, {})
+        else:
+            plan = plan[int(step)]
+    return plan, int(last) if isinstance(plan, list) else last
+
+
+def put(plan, path, value, into):
+    inside, step = at(plan, path)
+    if into and isinstance(inside, list):
+        inside.insert(step, value)
+    else:
+        inside[step] = value
+
+
+def letters(text):
+    """The short names of paths that a paragraph gives: "R is `/groups/0`"."""
+    given = {}
+    for name, path in re.findall(r"\b([A-Z]) is\s+`([^`]+)`", text):
+        given[name] = path if path.startswith("/") else given[path[0]] + path[1:]
+    return given
+
+
+def changed(plan, change, short):
+    """The plan with the changes of a row."""
+    plan = copy.deepcopy(plan)
+    found = CHANGE.findall(change)
+    if not found:
+        return moved_slots(plan) if "4 bytes further on" in change else None
+    for paths, text, word, added in found:
+        for path in re.findall(r"`([^`]*)`", paths):
+            whole = path if path.startswith("/") else short[path[0]] + path[1:]
+            put(plan, whole, json.loads(text or word), added or "put in" in change)
+    return plan
+
+
+def moved_slots(plan):
+    """The parts got and got_relr with align 4, their section and all slots 4 bytes further on, what stands behind them 8, in a longer segment."""
+    slots = [part for part in plan["parts"] if part.get("role") in ("got", "got_relr")]
+    first, last = slots[0]["address"], slots[-1]["address"] + slots[-1]["size"]
+    files = [file for group in plan["groups"] for file in group["files"]]
+    inputs = [item for file in files for item in file.get("sections", ())]
+    resolutions = [symbol["resolution"] for symbol in plan["symbols"] if symbol.get("resolution")]
+    places = [(item, "address") for item in plan["parts"] + plan["sections"] + inputs]
+    places += [(item, name) for item in resolutions for name in ("raw_value", "got")] + [(plan, "tlsld")]
+    offsets = {item["address"] - item["offset"] for item in slots}.pop()
+    for item in plan["parts"] + plan["sections"]:
+        if item.get("offset", 0) + offsets >= first:
+            item["offset"] += 4 if item["offset"] + offsets < last else 8
+    for item, name in places:
+        if (item.get(name) or 0) >= first:
+            item[name] += 4 if item[name] < last else 8
+    for item in slots + plan["sections"][slots[0]["section"]:slots[0]["section"] + 1]:
+        item["align"] = 4
+    for item in plan["segments"]:
+        if item.get("kind") == 1 and item["address"] < first < item["address"] + item["mem_size"]:
+            item["file_size"] += 8
+            item["mem_size"] += 8
+    return plan
+
+
+# What is checked
+
+def changes():
+    """Rows of a change and its answer."""
+    for page in PAGES:
+        for where, _, ahead, heads, cells in rows(page):
+            if heads[-2:] != ["Change", "Answer"]:
+                continue
+            plan = (re.findall(r"`(plans/\w+\.json)`", cells[0]) or re.findall(r"`(plans/\w+\.json)`", ahead))[-1]
+            wrong = changed(json.loads(read(plan)), cells[-2], letters(ahead))
+            if wrong is None:
+                differs(where, cells[-2], "a change that this script does not know")
+                continue
+            said = cells[-1].strip("`")
+            for workers in ("1", "64"):
+                status, text = answer(wrong, "link", workers)
+                same(where, (0 if said.startswith("image") else 3 if said.startswith("not") else 1, said), (status, text.split("\n")[0]))
+
+
+def programs():
+    """Rows of plans whose programs run."""
+    for where, _, _, heads, cells in rows("docs/PLAN.md"):
+        told = re.search(r"status (\d+)", cells[-1])
+        if heads[-1] != "Its program" or not told:
+            continue
+        plan = re.search(r"plans/\w+\.json", cells[0])[0]
+        with tempfile.TemporaryDirectory() as folder:
+            image(read(plan), f"{folder}/program")
+            status, text = run([f"{folder}/program"], folder)
+        printed = re.search(r"prints `([^`]*)`", cells[-1])
+        same(where, (int(told[1]), printed[1] if printed else ""), (status, text.strip()))
+
+
+def commands():
+    """Blocks of commands with a status behind them."""
+    for page in PAGES:
+        for block, behind in re.findall(r"^```sh\n(.*?)^```\n\s*(.*?)(?:\n\n|\Z)", read(page), re.M | re.S):
+            told = re.search(r"status (\d+)", behind)
+            if not told:
+                continue
+            with tempfile.TemporaryDirectory() as folder:
+                os.symlink(f"{TOP}/plans", f"{folder}/plans")
+                with open(f"{folder}/link", "w") as file:
+                    file.write(f'#!/bin/sh\nexec {PROGRAM} link "$@"\n')
+                os.chmod(f"{folder}/link", 0o755)
+                status, text = run(["bash", "-c", block], folder)
+            where = f"{page}: {block.splitlines()[0]}"
+            same(where, int(told[1]), status)
+            for said in re.findall(r"`([^`]+)`", behind[:told.start()].partition("prints")[2]):
+                if said not in text:
+                    differs(where, said, text[:200])
+
+
+def members():
+    """Each member's example is read, and a float is refused at its path."""
+    for where, _, path, cells in member_rows():
+        name, example = cells[0].strip("`"), cells[3].split(" (")[0].strip("`")
+        inner = {name: json.loads(example)}
+        status, text = answer(wrapped(path, inner))
+        if status == 3:
+            differs(where, f"{example} is read", text.strip())
+        same(where, (3, f"not a plan: {path}/{name}\n"), answer(wrapped(path, {name: 0.5})))
+
+
+def member_rows():
+    for where, section, _, heads, cells in rows("docs/PLAN.md"):
+        if heads[0].startswith("Member"):
+            key = heads[0] if heads[0] in STANDS else section
+            yield where, key, STANDS[key], cells
+
+
+def wrapped(path, inner):
+    """A plan with an object at a path."""
+    for step in reversed(path.strip("/").split("/") if path else []):
+        inner = [inner] if step == "0" else {step: inner}
+    return inner
+
+
+def default_of(kind, told):
+    """The value that a default tells, or none."""
+    told = told.split(":")[0]
+    if told == "empty":
+        return ["" if kind == "bytes" else []]
+    if told.startswith("no "):
+        return []
+    if kind.startswith("word"):
+        return [told.strip("`")]
+    return [{} if told.startswith("those of") else json.loads(told.strip("`"))]
+
+
+def defaults():
+    """Plans with every default written out have the answers of the plans."""
+    table = {}
+    for _, key, _, cells in member_rows():
+        for value in default_of(cells[1], cells[2]):
+            table.setdefault(key, {})[cells[0].strip("`")] = value
+    for path in PLANS:
+        filled = fill(json.loads(read(path)), "The plan", table)
+        same(f"{path}: with all defaults", read(path.replace(".json", ".answer")), answer(filled)[1])
+
+
+def fill(value, key, table):
+    """An object with its absent members, and those in it with theirs."""
+    whole = {**copy.deepcopy(table[key]), **value}
+    for name, place in STANDS.items():
+        head, _, last = place.removesuffix("/0").rpartition("/")
+        inner = whole.get(last)
+        if place and head == STANDS[key] and inner:
+            whole[last] = [fill(item, name, table) for item in inner] if isinstance(inner, list) else fill(inner, name, table)
+    return whole
+
+
+def not_known():
+    """What docs/PLAN.md calls not known yet is refused at its path."""
+    text = read("docs/PLAN.md").partition("## Not known yet")[2]
+    for name, path in {"plan": "", "options": "/options", "section": "/sections/0", "group": "/groups/0", "file": FILE, "input section": f"{FILE}/sections/0", "relocation": f"{FILE}/sections/0/relocations/0"}.items():
+        line = re.search(rf"^- {name}: ([^;\n]*)", text, re.M)[1]
+        for member in re.findall(r"`(\w+)`", line):
+            same(f"docs/PLAN.md: {member}", (3, f"not a plan: {path}/{member}\n"), answer(wrapped(path, {member: 0})))
+    for path, word in re.findall(r"`(machine|kind)` `(\w+)`", text):
+        same(f"docs/PLAN.md: {word}", (3, f"not a plan: /{path}\n"), answer({path: word}))
+    for word in re.findall(r"`(\w+)`", re.search(r"slots ([^\n]*)", text)[1]):
+        path = f"{FILE}/sections/0/slot"
+        same(f"docs/PLAN.md: {word}", (3, f"not a plan: {path}\n"), answer(wrapped(f"{FILE}/sections/0", {"slot": word})))
+
+
+def statuses():
+    """The statuses of README.md, where memory is not refused and the plan is not too long."""
+    told = {cells[0]: re.findall(r"`([^`]*)`", cells[2]) for _, _, _, heads, cells in rows("README.md") if heads[0] == "Status"}
+    smallest = f"{TOP}/plans/smallest.json"
+    same("README.md: status 2", (2, told["2"][0] + "\n"), answer("", "nothing"))
+    same("README.md: status 3", (3, told["3"][0] + "\n"), answer("{"))
+    same("README.md: status 4, of a directory", (4, told["4"][0] + "\n"), run(["bash", "-c", f"{PROGRAM} link 1 < plans"], TOP))
+    same("README.md: status 5, of a full device", 5, run(["bash", "-c", f"{PROGRAM} link 1 < {smallest} > /dev/full"], TOP)[0])
+    same("README.md: status 5, of a closed pipe", 5, closed_pipe(smallest))
+    same("README.md: a summary", "groups 2\nimage 472\ncount 1 16\nsum 25303\n", answer("", "make", "2", "2")[1])
+    same("README.md: workers", [2, 0, 0, 2, 2], [answer(read(smallest), "link", count)[0] for count in ("0", "1", "64", "65", "01")])
+    for levels, said in ((127, "not a plan: /a\n"), (128, "not a plan: json\n")):
+        same(f"docs/LIMITS.md: {levels} levels", said, answer('{"a":' + "[" * (levels - 1) + "]" * (levels - 1) + "}")[1])
+
+
+def closed_pipe(plan):
+    """The status where nobody reads the text."""
+    reader, writer = os.pipe()
+    os.close(reader)
+    with open(plan) as file:
+        return subprocess.run([PROGRAM, "link", "1"], stdin=file, stdout=writer, restore_signals=False).returncode
+
+
+def answers():
+    """Each plan's answer, for any number of workers."""
+    for path, workers in itertools.product(PLANS, ("1", "2", "64")):
+        same(f"{path} {workers}", (0, read(path.replace(".json", ".answer"))), answer(read(path), "link", workers))
+
+
+def makers():
+    """The makers of plans make these from what the system's compiler makes, and the tests have them as they are."""
+    for path in glob.glob(f"{TOP}/crates/wild_tests/src/examples.rt"):
+        for name, text in re.findall(r'const (\w+): &str =\s+r#"(.*?)"#;', read(path)):
+            same(path, json.loads(read(f"plans/{name.lower()}.json")), json.loads(text))
+    for words, plan in [(["make_hello.py"], "hello"), (["make_pie.py"], "pie"), (["make_slots.py"], "slots"), (["make_rewrites.py"], "rewrites"),
+                        *((["make_shared.py", name], name) for name in ("shared", "uses_shared", "symbols"))]:
+        made = subprocess.run([f"{TOP}/plans/{words[0]}", *words[1:]], stdout=subprocess.PIPE, stderr=subprocess.STDOUT, text=True)
+        if made.stdout != read(f"plans/{plan}.json"):
+            differs(f"plans/{words[0]} {plan}", f"plans/{plan}.json", "another plan" if made.returncode == 0 else made.stdout[-300:])
+
+
+def names():
+    """Files and functions that a page names are there."""
+    for page in PAGES:
+        for name in sorted(set(re.findall(r"`([^`\s]+)`", read(page)))):
+            if "/out/" not in name and re.fullmatch(r"(docs|plans|crates)/[\w./*{},]+|wild_\w+/(src|specs|proofs|must-fail)[\w./*{},]*", name):
+                for path in spread(name):
+                    if not (glob.glob(f"{TOP}/{path}") or glob.glob(f"{TOP}/crates/{path}*")):
+                        differs(page, path, "no such file")
+            found = re.fullmatch(r"(wild_\w+)::(\w+)", name)
+            if found and not is_there(*found.groups()):
+                differs(page, name, "no such item")
+
+
+    for where, _, _, heads, cells in rows("docs/THEOREMS.md"):
+        crates = re.findall(r"wild_\w+", cells[1])
+        for name in re.findall(r"`(\w+)`", cells[1]) if heads[1] == "Function" else ():
+            if crates and name not in crates and not any(is_there(crate, name) for crate in crates):
+                differs(where, name, "no such item")
+
+
+def spread(name):
+    """The paths that a name with braces stands for."""
+    found = re.fullmatch(r"(.*)\{(.*)\}(.*)", name)
+    return [found[1] + middle + found[3] for middle in found[2].split(",")] if found else [name]
+
+
+def is_there(crate, item):
+    crates = ["wild_types", "wild_slot", "wild_needs", "wild_clauses"] if crate == "wild_plan" else [crate]
+    files = itertools.chain.from_iterable(glob.glob(f"{TOP}/crates/{name}/src/**/*.rt", recursive=True) for name in crates)
+    return any(re.search(rf"\b(fn|struct|enum|mod|trait) {item}\b", read(file)) for file in files)
+
+
+PROGRAM = os.path.abspath(sys.argv[1]) if len(sys.argv) > 1 else f"{TOP}/crates/wild_main/out/wild_main"
+
+if __name__ == "__main__":
+    if not os.path.exists(PROGRAM):
+        sys.exit(f"check_docs: there is no {PROGRAM}; ./build makes it")
+    for check in (answers, statuses, changes, programs, commands, members, defaults, not_known, names, makers):
+        before = differences
+        check()
+        print(f"{check.__doc__.splitlines()[0]} {differences - before} differ")
+    sys.exit(differences != 0)

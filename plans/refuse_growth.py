@@ -1,0 +1,120 @@
+#!/usr/bin/env python3
+"""Refuses each allocation of the program in turn: the answer has to be status 6, with nothing written. Where a second worker cannot be started, since
+the C library has no memory for its thread, the others do its work: with more workers than one the whole answer may come too. Prints how many were
+refused, by answer, and each refusal that had another answer; the status is 0 where none had.
+
+    plans/refuse_growth.py              over crates/wild_main/out/wild_main, which ./build makes
+    plans/refuse_growth.py PROGRAM
+
+The program asks the C library for memory, so a library that is loaded ahead of it refuses allocation N (malloc, calloc, realloc and their
+like), or that and all behind it. It says so with a byte on standard error, on which the program writes nothing; so the first run without that byte
+is behind the last allocation.
+"""
+import glob
+import os
+import subprocess
+import sys
+import tempfile
+from collections import Counter
+
+TOP = os.path.dirname(os.path.dirname(os.path.abspath(__file__)))
+SECONDS = 20
+SHIM = r"""
+#include <errno.h>
+#include <stdlib.h>
+#include <unistd.h>
+
+extern void *__libc_malloc(size_t), *__libc_calloc(size_t, size_t), *__libc_realloc(void *, size_t), *__libc_memalign(size_t, size_t);
+static long calls, first, last;
+
+__attribute__((constructor)) static void begin(void) {
+    char *from = getenv("REFUSE_FROM"), *to = getenv("REFUSE_TO");
+    last = to ? atol(to) : 0;
+    __atomic_store_n(&calls, 0, __ATOMIC_SEQ_CST);
+    first = from ? atol(from) : 0;
+}
+
+static int is_refused(void) {
+    long call = __atomic_add_fetch(&calls, 1, __ATOMIC_SEQ_CST);
+    if (!first || call < first || call > last) return 0;
+    if (write(2, "!", 1) < 0) _exit(99);
+    errno = ENOMEM;
+    return 1;
+}
+
+void *malloc(size_t size) { return is_refused() ? 0 : __libc_malloc(size); }
+void *calloc(size_t count, size_t size) { return is_refused() ? 0 : __libc_calloc(count, size); }
+void *realloc(void *old, size_t size) { return is_refused() ? 0 : __libc_realloc(old, size); }
+void *memalign(size_t align, size_t size) { return is_refused() ? 0 : __libc_memalign(align, size); }
+void *aligned_alloc(size_t align, size_t size) { return memalign(align, size); }
+int posix_memalign(void **place, size_t align, size_t size) {
+    void *found = memalign(align, size);
+    if (found) *place = found;
+    return found ? 0 : ENOMEM;
+}
+"""
+
+
+def shim(folder):
+    """The library that refuses."""
+    path = f"{folder}/refuse.so"
+    subprocess.run(["cc", "-shared", "-fPIC", "-O1", "-x", "c", "-", "-o", path], input=SHIM.encode(), check=True)
+    return path
+
+
+def answer(program, words, plan, library, first, last, whole=None):
+    """What a run is answered where these allocations are refused, beside the whole answer, and whether one was."""
+    env = {"LD_PRELOAD": library, "REFUSE_FROM": str(first), "REFUSE_TO": str(last)}
+    try:
+        ran = subprocess.run([program, *words], input=plan, stdout=subprocess.PIPE, stderr=subprocess.PIPE, env=env, timeout=SECONDS)
+    except subprocess.TimeoutExpired:
+        return "no answer", True
+    if (ran.returncode, ran.stdout) == whole:
+        return "the whole answer", bool(ran.stderr)
+    text = "nothing written" if not ran.stdout else f"{len(ran.stdout)} bytes written"
+    return f"status {ran.returncode}, {text}", bool(ran.stderr)
+
+
+def sweep(program, library, words, plan, others):
+    """How often each answer came, where one allocation is refused, and where (others) all behind it are too."""
+    came, odd = Counter(), []
+    right = ["status 6, nothing written"] + ["the whole answer"] * (words[-1] != "1")
+    calm = subprocess.run([program, *words], input=plan, stdout=subprocess.PIPE)
+    call = 0
+    while True:
+        call += 1
+        found, was_refused = answer(program, words, plan, library, call, 1 << 40 if others else call, (calm.returncode, calm.stdout))
+        if not was_refused:
+            return came, odd
+        came[found] += 1
+        if found not in right:
+            odd.append(f"allocation {call}: {found}")
+
+
+def main():
+    program = os.path.abspath(sys.argv[1]) if len(sys.argv) > 1 else f"{TOP}/crates/wild_main/out/wild_main"
+    if not os.path.exists(program):
+        sys.exit(f"refuse_growth: there is no {program}; ./build makes it")
+    runs = [(["make", "2", "2"], None)]
+    for path in sorted(glob.glob(f"{TOP}/plans/*.json")):
+        runs += [(["link", workers], path) for workers in ("1", "2")]
+    failed, tried = False, 0
+    with tempfile.TemporaryDirectory() as folder:
+        library = shim(folder)
+        for words, path in runs:
+            plan = open(path, "rb").read() if path else b""
+            for others in (False, True):
+                came, odd = sweep(program, library, words, plan, others)
+                name = f"{' '.join(words)}{' < plans/' + os.path.basename(path) if path else ''}"
+                told = "; ".join(f"{count} of {found}" for found, count in came.items())
+                print(f"{name}, {'each and all behind it' if others else 'each'} refused: {told}", flush=True)
+                for line in odd[:20]:
+                    print(f"    {line}")
+                failed = failed or bool(odd) or not came
+                tried += sum(came.values())
+    print(f"{tried} refusals")
+    sys.exit(failed)
+
+
+if __name__ == "__main__":
+    main()
