@@ -1,14 +1,16 @@
 #!/usr/bin/env python3
 """Compares what the pages say with what the program does. Prints what differs; the status is 0 where nothing does.
 
-    plans/check_docs.py              over crates/wild_main/out/wild_main, which ./build makes
-    plans/check_docs.py PROGRAM
+    plans/check_docs.py              over crates/wild_main/out/wild_main, which ./build makes, and crates/wild_explain_main/out/wild_explain_main
+    plans/check_docs.py PROGRAM [EXPLAIN]
 
 - A block of commands is run where the paragraph behind it tells a status: what stands there in backticks behind "prints" is in its output.
 - A row under "Change | Answer" is the plan with the changes: its first line is the answer, for 1 and for 64 workers.
 - A row under "Its program" is an image that is run.
 - Of each member of docs/PLAN.md the example is read, and a float is refused at its path; plans with all defaults written out mean the same.
-- The answers and the makers of plans, the statuses of README.md, and what is not known yet.
+- An indented block behind a paragraph that names a plan is in the output of `explain`, or of the words that the paragraph names, for the plan with the
+  paragraph's changes. This is left out, and said so, where that program is not there: `cd crates/wild_explain_main && rt run` makes it.
+- The answers and the makers of plans, plans in readable spelling, the statuses of README.md, and what is not known yet.
 - Files and functions that a page names are there.
 """
 import copy
@@ -20,6 +22,8 @@ import re
 import subprocess
 import sys
 import tempfile
+
+import readable
 
 TOP = os.path.dirname(os.path.dirname(os.path.abspath(__file__)))
 PAGES = ["README.md", "CONTRIBUTING.md", *sorted(os.path.relpath(page, TOP) for page in glob.glob(f"{TOP}/docs/*.md"))]
@@ -213,6 +217,42 @@ def commands():
                     differs(where, said, text[:200])
 
 
+def explanations():
+    """Blocks that `explain` and `needs` print."""
+    if not os.path.exists(EXPLAIN):
+        print(f"left out: there is no {EXPLAIN}")
+        return
+    ahead = ""
+    for number, paragraph in enumerate(re.split(r"\n\n+", read("docs/EXPLAIN.md"))):
+        if not paragraph.startswith("    "):
+            ahead = paragraph
+        elif named := re.findall(r"`(plans/\w+\.json)`", ahead):
+            plan = json.loads(read(named[-1]))
+            words = re.findall(r"`((?:explain|needs|--)[^`<]*)`", ahead)
+            asked = (words[-1] if words else "explain").split()
+            asked = ["explain"] * asked[0].startswith("--") + asked
+            found = run_explain(changed(plan, ahead, {}) or plan, asked).splitlines()
+            for line in paragraph.splitlines():
+                said = line[4:].rstrip()
+                if not (any(other.startswith(said[:-2]) for other in found) if said.endswith("..") else said in found):
+                    differs(f"docs/EXPLAIN.md: paragraph {number}: {' '.join(asked)}", said, "\n           ".join(found[:12]))
+
+
+def run_explain(plan, words):
+    return subprocess.run([EXPLAIN, *words], input=json.dumps(plan).encode(), stdout=subprocess.PIPE).stdout.decode()
+
+
+def spelled():
+    """Plans are the same in readable spelling and back."""
+    for path in PLANS:
+        if readable.planned(readable.shown(read(path))) != json.loads(read(path)):
+            differs(f"plans/readable.py: {path}", "the same plan", "another one")
+    shown = readable.shown(read("plans/smallest.json")).splitlines()
+    for line in re.search(r"\n\n    \{\n(.*?)\n\n", readable.__doc__, re.S)[1].splitlines():
+        if line[4:] not in shown:
+            differs("plans/readable.py: its example", line[4:], "no such line")
+
+
 def members():
     """Each member's example is read, and a float is refused at its path."""
     for where, _, path, cells in member_rows():
@@ -360,11 +400,12 @@ def is_there(crate, item):
 
 
 PROGRAM = os.path.abspath(sys.argv[1]) if len(sys.argv) > 1 else f"{TOP}/crates/wild_main/out/wild_main"
+EXPLAIN = os.path.abspath(sys.argv[2]) if len(sys.argv) > 2 else f"{TOP}/crates/wild_explain_main/out/wild_explain_main"
 
 if __name__ == "__main__":
     if not os.path.exists(PROGRAM):
         sys.exit(f"check_docs: there is no {PROGRAM}; ./build makes it")
-    for check in (answers, statuses, changes, programs, commands, members, defaults, not_known, names, makers):
+    for check in (answers, statuses, changes, programs, commands, explanations, spelled, members, defaults, not_known, names, makers):
         before = differences
         check()
         print(f"{check.__doc__.splitlines()[0]} {differences - before} differ")

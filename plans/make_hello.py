@@ -5,11 +5,13 @@ A linker would make such a plan. What it decides is here in its simplest form: r
 on the pages behind them, each section of the object as one input section in its place. Run it as
 
     plans/make_hello.py > plans/hello.json
+    plans/make_hello.py SOURCE.s > plan.json
 """
 import json
 import os
 import struct
 import subprocess
+import sys
 import tempfile
 
 BASE, PAGE = 0x400000, 0x1000
@@ -173,6 +175,10 @@ def spelled(value, margin="", width=140):
     return f"{ends[0]}\n" + ",\n".join(inner + item for item in items) + f"\n{margin}{ends[1]}"
 
 
+def source_of(name, words=sys.argv[1:]):
+    """The source that is given, or the one beside this file."""
+    return words[0] if words else os.path.join(os.path.dirname(os.path.abspath(__file__)), name)
+
+
 if __name__ == "__main__":
-    here = os.path.dirname(os.path.abspath(__file__))
-    print(spelled(plan(assemble(f"{here}/hello.s"))))
+    print(spelled(plan(assemble(source_of("hello.s")))))

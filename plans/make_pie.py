@@ -3,16 +3,16 @@
 executable, which finds its own relocations by its dynamic section. Run it as
 
     plans/make_pie.py > plans/pie.json
+    plans/make_pie.py SOURCE.c > plan.json
 
 The file has what a loader reads, the strings, the code, and the data with the dynamic section; each of the last two
 stands a page further on in memory than the one before it. As a linker does, it defines `_DYNAMIC` and `__ehdr_start`,
 and decides which addresses are packed as words (an even place) and which are entries.
 """
-import os
 import subprocess
 import tempfile
 
-from make_hello import ALLOC, CODE, PAGE, PROGBITS, Object, placed, spelled, up
+from make_hello import ALLOC, CODE, PAGE, PROGBITS, Object, placed, source_of, spelled, up
 
 WRITE, STRTAB, RELA, DYNAMIC, DYNSYM, RELR = 1, 3, 4, 6, 11, 19
 LOAD, DYNAMIC_SEGMENT, STACK = 1, 2, 0x6474E551
@@ -162,5 +162,4 @@ def plan(source):
 
 
 if __name__ == "__main__":
-    here = os.path.dirname(os.path.abspath(__file__))
-    print(spelled(plan(compiled(f"{here}/pie.c"))))
+    print(spelled(plan(compiled(source_of("pie.c")))))

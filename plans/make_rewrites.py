@@ -3,13 +3,12 @@
 executable whose instructions are rewritten. Run it as
 
     plans/make_rewrites.py > plans/rewrites.json
+    plans/make_rewrites.py SOURCE.c > plan.json
 
 The layout is that of make_slots.py without a slot: a linker knows where each symbol is, and that every reference of the program is one of
 those that it can do without. It is told the number `length`, as by the option `--defsym=length=28`.
 """
-import os
-
-from make_hello import spelled
+from make_hello import source_of, spelled
 from make_pie import compiled
 from make_slots import ADDRESS_SLOT, ANY_MODULE, OFFSET_SLOT, OWN_PAIR, plan
 
@@ -23,8 +22,7 @@ def with_numbers(symbols):
 
 
 if __name__ == "__main__":
-    here = os.path.dirname(os.path.abspath(__file__))
-    source = compiled(f"{here}/rewrites.c", f"{ANY_MODULE} -fno-plt -foptimize-sibling-calls")
+    source = compiled(source_of("rewrites.c"), f"{ANY_MODULE} -fno-plt -foptimize-sibling-calls")
     it = plan(source, ADDRESS_SLOT | {OFFSET_SLOT, OWN_PAIR})
     it["options"]["relax"] = True
     with_numbers(it["symbols"])

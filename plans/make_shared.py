@@ -5,6 +5,9 @@ symbols.c, and lays it out as a shared object or as a position-independent execu
     plans/make_shared.py shared > plans/shared.json
     plans/make_shared.py uses_shared > plans/uses_shared.json
     plans/make_shared.py symbols > plans/symbols.json
+    plans/make_shared.py NAME SOURCE.c > plan.json
+
+With a source, the output is of the sort that NAME is.
 
 As a linker does, it goes by the relocations: a symbol of a library has a stub where it is called, a slot where code reads
 its address there, and is copied where code has its address as one of the program. Each symbol of a library that is used
@@ -12,10 +15,9 @@ has an entry of the dynamic symbol table, and each of the object that other modu
 to symbols of the object are bound to it, as with the option `-Bsymbolic` of linkers. An output with versions has both hash
 tables, versions and a table of all symbols too.
 """
-import os
 import sys
 
-from make_hello import ALLOC, CODE, PAGE, PC32, PLT32, PROGBITS, placed, spelled, up
+from make_hello import ALLOC, CODE, PAGE, PC32, PLT32, PROGBITS, placed, source_of, spelled, up
 from make_pie import ABSOLUTE_ADDRESS, DYNAMIC, DYNAMIC_SEGMENT, DYNSYM, FLAGS, LOAD, RELA, RELR, STACK, STRTAB, WRITE, compiled, packed, symbols_of
 from make_slots import ADDRESS_SLOT, INDIRECT_FUNCTION, OFFSET_SLOT, OWN_PAIR, TLS, TLS_SEGMENT
 
@@ -354,10 +356,9 @@ def plan(source, output, started_with, sizes):
     }, needs
 
 
-def made(name):
-    here = os.path.dirname(os.path.abspath(__file__))
+def made(name, *given):
     output = OUTPUTS[name]
-    source = compiled(f"{here}/{name}.c", FLAGS.replace("-fPIE", output["compiled"]))
+    source = compiled(source_of(f"{name}.c", given), FLAGS.replace("-fPIE", output["compiled"]))
     sizes = {"segments": 0, "rela_dyn_general": 0, "rela_plt": 0, "words": 0, "dynamic": 0}
     while True:
         it, needs = plan(source, output, STARTED_WITH.get(name, []), sizes)
@@ -367,4 +368,4 @@ def made(name):
 
 
 if __name__ == "__main__":
-    print(spelled(made(sys.argv[1])))
+    print(spelled(made(*sys.argv[1:])))

@@ -3,6 +3,7 @@
 executable with slots, a stub and a resolver. Run it as
 
     plans/make_slots.py > plans/slots.json
+    plans/make_slots.py SOURCE.c > plan.json
 
 As a linker does, it goes by the relocations: which symbols need a slot for their address or for their offset from the
 thread pointer, and by the type of a symbol: an indirect function has a stub and the slot that this jumps to. The slots
@@ -10,9 +11,7 @@ stand in the order of the symbols: those of addresses that move with the base in
 ahead of all of them the pair of the program's own thread-local data. The assembler does not mark the references to
 addresses as ones that may be rewritten, so that they keep their slots.
 """
-import os
-
-from make_hello import ALLOC, CODE, PAGE, PLT32, PROGBITS, placed, spelled, up
+from make_hello import ALLOC, CODE, PAGE, PLT32, PROGBITS, placed, source_of, spelled, up
 from make_pie import DYNAMIC, DYNAMIC_SEGMENT, DYNSYM, FLAGS, LOAD, RELA, RELR, STACK, STRTAB, WRITE, compiled, packed, symbols_of
 
 TLS, TLS_SEGMENT = 0x400, 7
@@ -194,5 +193,4 @@ def plan(source, rewritten=frozenset()):
 
 
 if __name__ == "__main__":
-    here = os.path.dirname(os.path.abspath(__file__))
-    print(spelled(plan(compiled(f"{here}/slots.c", f"{ANY_MODULE} -Wa,-mrelax-relocations=no"))))
+    print(spelled(plan(compiled(source_of("slots.c"), f"{ANY_MODULE} -Wa,-mrelax-relocations=no"))))
