@@ -5,7 +5,7 @@
     plans/check_docs.py PROGRAM [EXPLAIN]
 
 - A block of commands is run where the paragraph behind it tells a status: what stands there in backticks behind "prints" is in its output.
-- A row under "Change | Answer" is the plan with the changes: its first line is the answer, for 1 and for 64 workers.
+- A row under "Change | Answer" is the plan with the changes: its first line is the answer, for 1 and for 64 workers. Of one that is refused `explain` names a place.
 - A row under "Its program" is an image that is run.
 - Of each member of docs/PLAN.md the example is read, and a float is refused at its path; plans with all defaults written out mean the same.
 - An indented block behind a paragraph that names a plan is in the output of `explain`, or of the words that the paragraph names, for the plan with the
@@ -181,6 +181,9 @@ def changes():
             for workers in ("1", "64"):
                 status, text = answer(wrong, "link", workers)
                 same(where, (0 if said.startswith("image") else 3 if said.startswith("not") else 1, said), (status, text.split("\n")[0]))
+            if os.path.exists(EXPLAIN) and said.startswith(("refused", "not a plan: /")):
+                text = run_explain(wrong, ["explain"])
+                same(f"{where}, explained", (said, True), (text.split("\n")[0], "\nwhere: /" in text))
 
 
 def programs():
