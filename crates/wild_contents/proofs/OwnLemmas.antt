@@ -59,11 +59,11 @@ never_full s p room h m = let e = one_more s p in omega (arith, e, h, m)
 -- a place that is packed is even
 pub packed_even : (l : Layout) (s : InputSection) (r : InputRelocation) (p : ℕ) → packed_place l s r ≡ Some p → p % 2 ≡ 0
 packed_even l s r p h =
-    elim (cases_Bool (is_moved l s r && packs l (place_of s r))) [
+    elim (cases_Bool (is_moved l s r && packs l (place_of s.address r))) [
       | inl t ↦
-          (let both = and_parts (is_moved l s r) (packs l (place_of s r)) t in
-          let even = and_parts l.options.relr (place_of s r % 2 == 0) both.1 in
-          let e : place_of s r ≡ p = cc (rw t at h) in
+          (let both = and_parts (is_moved l s r) (packs l (place_of s.address r)) t in
+          let even = and_parts l.options.relr (place_of s.address r % 2 == 0) both.1 in
+          let e : place_of s.address r ≡ p = cc (rw t at h) in
           ap (λ (n : ℕ). n % 2) (sym e) ∙ eqb-true _ _ even.1)
       | inr f ↦ cc (rw f at h)
     ]

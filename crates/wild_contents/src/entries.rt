@@ -24,7 +24,7 @@ fn listed_place(
 ) -> Option<u64>
     ensures { result ≡ listed_place layout.now section.now relocation.now }
 {
-    let place = section.place_of(relocation);
+    let place = relocation.place_from(section.address);
     if is_moved(layout, section, relocation) && !layout.packs(place) {
         Some(place)
     } else {

@@ -42,8 +42,8 @@ fn index_or_zero(layout: &Layout, symbol: SymbolIndex) -> u64
 fn left_entry(layout: &Layout, section: &InputSection, relocation: &InputRelocation) -> Option<Rela>
     ensures { result ≡ left_in layout.now section.now relocation.now }
 {
-    let place = section.place_of(relocation);
-    match treatment_of(layout, section, relocation) {
+    let place = relocation.place_from(section.address);
+    match treatment_of(layout, section.flags, relocation) {
         Treatment::Symbolic(symbol) => {
             let number = type_of(layout.machine, DynamicRelocationKind::Absolute);
             let index = index_or_zero(layout, symbol);

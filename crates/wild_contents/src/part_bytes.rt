@@ -1,16 +1,16 @@
 //! The bytes that a group has of a part.
-ghost use Rattle.std.specs.Prelude.{◌≡◌, [], ◌++◌, true, IfOk, OnOk};
+ghost use Rattle.std.specs.Prelude.{◌≡◌, [], ◌++◌, length, All, IfOk, OnOk};
 ghost use Rattle.wild_types.specs.Faults.{Answers};
-ghost use Rattle.wild_types.specs.Lookups.{is_read};
-ghost use Rattle.wild_layout.specs.Sites.{section_bytes};
-ghost use Rattle.wild_layout.specs.Faults.{section_errors};
-ghost use Rattle.wild_layout.specs.SectionPlaces.{SectionLies};
+ghost use Rattle.wild_types.specs.Item.{item_now};
+ghost use Rattle.wild_layout.specs.Sites.{item_bytes};
+ghost use Rattle.wild_layout.specs.Faults.{item_errors};
+ghost use Rattle.wild_layout.specs.SectionPlaces.{FieldLies};
 
 use std::alloc::{AllocError, Global};
 use std::marker::Model;
 use wild_relax::Arch;
 use wild_sections::{InputPlace, Resolved, write_data};
-use wild_types::{Error, InputSection};
+use wild_types::{Error, ItemRef};
 
 /// Bytes that grow at their end, which contracts see as a list of numbers.
 #[derive(Drop)]
@@ -52,22 +52,21 @@ impl PartBytes {
         self.entries.extend_from_slice(bytes)
     }
 
-    /// Adds the bytes of a section whose relocations are read, with its fields, or answers its first fault.
+    /// Adds the bytes of an item of the section at that place, with its fields, or answers its first fault.
     pub fn add_data<A: Arch>(
         &mut self,
         alloc: Global,
         resolved: &Resolved<A>,
         place: InputPlace,
-        section: &InputSection,
+        item: &ItemRef,
     ) -> Result<(), Error>
-        requires read { is_read section.now ≡ true }
-        requires lies { SectionLies resolved.now.layout.now section.now }
-        ensures faults { Answers result (section_errors resolved.now.layout.now place.group place.file place.section section.now) }
-        ensures bytes { OnOk result (self.new ≡ self.old ++ section_bytes resolved.now.layout.now section.now) }
+        requires lies { All (FieldLies resolved.now.layout.now.machine (length item.now.bytes.now)) item.now.relocations.now }
+        ensures faults { Answers result (item_errors resolved.now.layout.now place.group place.file place.section (item_now item.now)) }
+        ensures bytes { OnOk result (self.new ≡ self.old ++ item_bytes resolved.now.layout.now (item_now item.now)) }
     {
         let from = self.entries.len();
-        self.entries.extend_from_slice(section.bytes.as_slice())?;
-        write_data(alloc, resolved, place, section, &mut self.entries[from..])
+        self.entries.extend_from_slice(item.bytes)?;
+        write_data(alloc, resolved, place, item, &mut self.entries[from..])
     }
 
     /// The bytes.

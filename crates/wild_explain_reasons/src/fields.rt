@@ -90,7 +90,7 @@ fn push_written(
     let start = offset_of(layout, section);
     let offset = relocation.offset;
     let width = field_bytes(layout.machine, relocation.number) as u64;
-    let word = treatment_word(treatment_of(layout, section, relocation));
+    let word = treatment_word(treatment_of(layout, section.flags, relocation));
     if is_rewritten(section, image, start, offset) {
         write!(out, "; its instruction was rewritten")?;
     } else {

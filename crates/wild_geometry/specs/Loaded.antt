@@ -1,12 +1,12 @@
--- An input section in memory, as it was decided: what the loading of an image comes to, and what its references rest on.
---   IsDecided l s         each relocation of the section has a decision, and what they write lies apart
---   InNoSite l s k        no relocation writes byte k of the section
+-- An item in memory, as it was decided: what the loading of an image comes to, and what its references rest on.
+--   IsDecided l s         each relocation of the item has a decision, and what they write lies apart
+--   InNoSite l s k        no relocation writes byte k of the item
 --   Stage                 before the entries of the image are applied, or behind that
 --   number_at stage w     the number at the place of an address that moves
 --   HasDecision ..        relocation i has that decision
 --   MakesChange w ..      what an entry makes a loader do
 --   ReadsLeft stage w ..  the bytes of a field that is left to an entry
---   HasSection ..         memory has the section's values, its addresses, what is left to entries, and its other bytes
+--   HasItem ..         memory has the item's values, its addresses, what is left to entries, and its other bytes
 use Rattle.std.specs.Prelude.{◌≡◌, ℕ, ◌+◌, ◌%◌, ◌^◌, ◌<◌, ◌≤◌, ◌⊎◌, Bool, if◌then◌else◌, List, [], length, replicate, Some, Ok, All, slice_index, slice_get}
 use Rattle.std.specs.Int.{w64, cast_signed}
 use Rattle.wild_words.specs.Words.{word}
@@ -14,7 +14,7 @@ use Rattle.wild_words.specs.Overlay.{Piece, AreApart}
 use Rattle.wild_records.specs.declared.relocations.Rela.{Rela}
 use Rattle.wild_reloc.specs.Field.{size_width}
 use Rattle.wild_types.specs.declared.input.InputRelocation.{InputRelocation}
-use Rattle.wild_types.specs.declared.input.InputSection.{InputSection}
+use Rattle.wild_types.specs.Item.{Item}
 use Rattle.wild_types.specs.declared.layout.Layout.{Layout}
 use Rattle.wild_reloc.specs.declared.info.RelocationSize.{RelocationSize}
 use Rattle.wild_layout.specs.declared.decision.Decision.{Decision}
@@ -31,13 +31,13 @@ use Rattle.wild_loader.specs.declared.kind.DynamicKind.{DynamicKind}
 use Rattle.wild_loader.specs.Changes.{kind_of, change_of}
 use Rattle.wild_loader.specs.Memory.{Holds, byte_in}
 
--- each relocation of the section has a decision, no fault, and no byte is written by two
-pub record IsDecided (l : Layout) (s : InputSection) : Type 0 where
+-- each relocation of the item has a decision, no fault, and no byte is written by two
+pub record IsDecided (l : Layout) (s : Item) : Type 0 where
   pub each : (i : ℕ) → i < length s.relocations → (d : Decision) × (decide l s i ≡ Ok d)
   pub apart : AreApart (length s.bytes) (sites l s)
 
 -- no relocation writes byte k
-abbrev pub InNoSite : Layout → InputSection → ℕ → Type 0
+abbrev pub InNoSite : Layout → Item → ℕ → Type 0
 InNoSite l s k = All (λ (p : Piece). (k < p.at) ⊎ (p.at + length p.bytes ≤ k)) (sites l s)
 
 -- memory before the entries of the image are applied, and behind that
@@ -73,16 +73,16 @@ abbrev pub ReadsLeft : Stage → World → RelocationSize → (number symbol add
 ReadsLeft InFile w z number symbol addend bs = bs ≡ replicate (size_width z) 0
 ReadsLeft InMemory w z number symbol addend bs = (c : Change) × MakesChange w number symbol addend c × (bs ≡ stored_bytes c) × (length bs ≡ size_width z)
 
--- relocation i of the section has that decision
-pub record HasDecision (l : Layout) (s : InputSection) (i : ℕ) (r : InputRelocation) (d : Decision) : Type 0 where
+-- relocation i of the item has that decision
+pub record HasDecision (l : Layout) (s : Item) (i : ℕ) (r : InputRelocation) (d : Decision) : Type 0 where
   pub listed : slice_get s.relocations i ≡ Some r
   pub decided : decide l s i ≡ Ok d
 
--- memory has an input section as it was decided, at its address and the base: each value in its field, each address that
+-- memory has an item as it was decided, at its address and the base: each value in its field, each address that
 -- moves as eight bytes, each field that is left to an entry, each instruction that is rewritten as its row writes it, and every
 -- byte that no relocation writes as the input has it
-pub record HasSection (l : Layout) (w : World) (m : Memory) (s : InputSection) (stage : Stage) : Type 0 where
-  pub ends : 1 ≤ length s.bytes → w.base + s.address + s.size ≤ 2 ^ 64
+pub record HasItem (l : Layout) (w : World) (m : Memory) (s : Item) (stage : Stage) : Type 0 where
+  pub ends : 1 ≤ length s.bytes → w.base + s.address + length s.bytes ≤ 2 ^ 64
   pub values : (i : ℕ) (r : InputRelocation) (z : RelocationSize) (v : ℕ) → HasDecision l s i r (Field z v) → Holds m (w.base + s.address + r.offset) (field_site s r.offset z v).bytes
   pub addresses : (i : ℕ) (r : InputRelocation) (v : ℕ) (packed : Bool) → HasDecision l s i r (Moved v packed) → Holds m (w.base + s.address + r.offset) (word 8 (number_at stage w v packed))
   pub left : (i : ℕ) (r : InputRelocation) (z : RelocationSize) (number symbol addend : ℕ) → HasDecision l s i r (Left z number symbol addend)

@@ -59,6 +59,7 @@ fn add_group_tables<A: Arch>(
 }
 
 /// Answers the first fault of a section whose relocations are read and that owns no bytes.
+#[tactic(auto, unfolding(wild_layout::specs::Faults::section_errors))]
 fn check_data<A: Arch>(
     alloc: Global,
     resolved: &Resolved<A>,
@@ -71,7 +72,7 @@ fn check_data<A: Arch>(
     ensures faults { Answers result (section_errors resolved.now.layout.now place.group place.file place.section section.now) }
 {
     let mut room = [0; 0];
-    write_data(alloc, resolved, place, section, &mut room)
+    write_data(alloc, resolved, place, &section.item(), &mut room)
 }
 
 /// So many zeros.
@@ -82,7 +83,7 @@ fn zeros(alloc: Global, count: usize) -> Result<Vec<u8>, AllocError>
 }
 
 /// Adds the bytes of a section, or answers its first fault.
-#[tactic(auto, unfolding(wild_layout::specs::Faults::section_errors))]
+#[tactic(auto, unfolding(wild_layout::specs::Faults::section_errors, wild_layout::specs::Sites::section_bytes))]
 fn add_section<A: Arch>(
     alloc: Global,
     resolved: &Resolved<A>,
@@ -96,7 +97,7 @@ fn add_section<A: Arch>(
 {
     if section.is_read() {
         if section.is_filled(resolved.layout) {
-            return bytes.add_data(alloc, resolved, place, section);
+            return bytes.add_data(alloc, resolved, place, &section.item());
         }
         return check_data(alloc, resolved, place, section);
     }

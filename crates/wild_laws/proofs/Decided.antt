@@ -12,11 +12,12 @@ use Rattle.wild_types.specs.declared.input.InputSection.{InputSection}
 use Rattle.wild_types.specs.declared.file.File.{File}
 use Rattle.wild_types.specs.declared.file.Group.{Group}
 use Rattle.wild_types.specs.declared.layout.Layout.{Layout}
+use Rattle.wild_types.specs.Item.{Item, item_of}
 use Rattle.wild_types.specs.Lookups.{is_read}
 use Rattle.wild_layout.specs.declared.decision.Decision.{Decision}
 use Rattle.wild_layout.specs.Decide.{decide}
-use Rattle.wild_layout.specs.Faults.{flat_map_from, group_errors, file_errors, section_errors, refusal_of, refusal_at, relocation_errors, at_offset}
-use Rattle.wild_layout.specs.SectionPlaces.{SectionLies}
+use Rattle.wild_layout.specs.Faults.{flat_map_from, group_errors, file_errors, item_errors, section_errors, refusal_of, refusal_at, relocation_errors, at_offset}
+use Rattle.wild_layout.specs.SectionPlaces.{FieldLies, SectionLies}
 use Rattle.wild_layout.specs.Geometry.{IsLaidOut}
 use Rattle.wild_layout.proofs.SiteLemmas.{sites_apart}
 use Rattle.wild_geometry.specs.Loaded.{IsDecided}
@@ -48,22 +49,25 @@ not_refused : (at : At) (d : Result Decision Fault) → refusal_of at d ≡ [] �
 not_refused at (Ok x) h = (x, refl)
 not_refused at (Err f) h = cc
 
-each_decided : (l : Layout) (g f k : ℕ) (s : InputSection) (i : ℕ) → i < length s.relocations → relocation_errors l g f k s i ≡ [] → (d : Decision) × (decide l s i ≡ Ok d)
+each_decided : (l : Layout) (g f k : ℕ) (s : Item) (i : ℕ) → i < length s.relocations → relocation_errors l g f k s i ≡ [] → (d : Decision) × (decide l s i ≡ Ok d)
 unfolding relocation_errors
 each_decided l g f k s i m h = listed l g f k s i (slice_get s.relocations i) refl m h
   where
-    listed : (l : Layout) (g f k : ℕ) (s : InputSection) (i : ℕ) (o : Option InputRelocation) → slice_get s.relocations i ≡ o → i < length s.relocations → refusal_at g f k (decide l s i) o ≡ [] → (d : Decision) × (decide l s i ≡ Ok d)
+    listed : (l : Layout) (g f k : ℕ) (s : Item) (i : ℕ) (o : Option InputRelocation) → slice_get s.relocations i ≡ o → i < length s.relocations → refusal_at g f k (decide l s i) o ≡ [] → (d : Decision) × (decide l s i ≡ Ok d)
     listed l g f k s i None e m h = let here = slice_get_inside s.relocations i m in let both : Some here.0 ≡ None = sym here.1 ∙ e in cc
     listed l g f k s i (Some r) e m h = not_refused (at_offset g f k r.offset) (decide l s i) h
 
-section_decided : (l : Layout) (g f k : ℕ) (s : InputSection) → is_read s ≡ true → SectionLies l s → section_errors l g f k s ≡ [] → IsDecided l s
-unfolding section_errors
-section_decided l g f k s t lies h =
-    let parts = nil_parts _ _ (rw t at h) in
+item_decided : (l : Layout) (g f k : ℕ) (s : Item) → All (FieldLies l.machine (length s.bytes)) s.relocations → item_errors l g f k s ≡ [] → IsDecided l s
+item_decided l g f k s lies h =
+    let parts = nil_parts _ _ h in
     record {
       each = λ i m. each_decided l g f k s i m (nothing_at (relocation_errors l g f k s) (range_with_len 0 (length s.relocations)) i (range-Contains (length s.relocations) i m) parts.0);
-      apart = sites_apart l s (lies.bytes t) lies.fields (no_overlap _ _ parts.1);
+      apart = sites_apart l s lies (no_overlap _ _ parts.1);
     }
+
+section_decided : (l : Layout) (g f k : ℕ) (s : InputSection) → is_read s ≡ true → SectionLies l s → section_errors l g f k s ≡ [] → IsDecided l (item_of s)
+unfolding section_errors
+section_decided l g f k s t lies h = item_decided l g f k (item_of s) (subst (λ (n : ℕ). All (FieldLies l.machine n) s.relocations) (sym (lies.bytes t)) lies.fields) (rw t at h)
 
 pub lies_at : (l : Layout) (s : InputSection) → IsLaidOut l → IsInput l s → SectionLies l s
 lies_at l s laid k =

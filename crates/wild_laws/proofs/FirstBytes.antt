@@ -22,7 +22,8 @@ use Rattle.wild_loader.specs.declared.instruction.Deed.TheVariants.{Call, Jump}
 use Rattle.wild_loader.specs.Instruction.{Effect, effect, with_value, as_value}
 use Rattle.wild_loader.specs.InstructionX86_64.{meaning_x86_64}
 use Rattle.wild_meaning.specs.Sequence.{Instruction, size_of, IsOwnByte}
-use Rattle.wild_meaning.specs.Item.{Item, item_of, place_at}
+use Rattle.wild_types.specs.Item.{Item, item_of}
+use Rattle.wild_meaning.specs.Item.{place_at}
 use Rattle.wild_meaning.specs.Field.{form_width, IsInputByte}
 use Rattle.wild_meaning.specs.Template.{effect_of, reads, reads_alone, IsInstruction, IsTemplate, DoesWith, DoesDemanded}
 use Rattle.wild_meaning.specs.Reference.{ReferenceHolds, LinkedHolds, ItemHolds}

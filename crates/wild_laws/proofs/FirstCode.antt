@@ -19,7 +19,8 @@ use Rattle.wild_loader.specs.Instruction.{Template, Reader, Effect, exact, field
 use Rattle.wild_loader.specs.ThreadCodeX86_64.{nop_byte}
 use Rattle.wild_loader.specs.InstructionX86_64.{templates_x86_64, meaning_x86_64, effect_x86_64}
 use Rattle.wild_meaning.specs.Sequence.{Instruction, size_of, IsOwnByte, instructions_of}
-use Rattle.wild_meaning.specs.Item.{item_of, IsReference}
+use Rattle.wild_types.specs.Item.{item_of}
+use Rattle.wild_meaning.specs.Item.{IsReference}
 use Rattle.wild_meaning.specs.Field.{formula_of, form_width, InNoField}
 use Rattle.wild_meaning.specs.Template.{IsInstruction, IsSequence, IsTemplate}
 use Rattle.wild_meaning.proofs.PairLemmas.{IsGetterCall, IsDouble, as_its_call, as_double}

@@ -13,7 +13,7 @@ use Rattle.wild_loader.specs.declared.memory.Memory.{Memory}
 use Rattle.wild_loader.specs.declared.world.World.{World}
 use Rattle.wild_loader.specs.declared.instruction.Deed.TheVariants.{Call, Jump}
 use Rattle.wild_meaning.specs.Sequence.{Instruction}
-use Rattle.wild_meaning.specs.Item.{item_of}
+use Rattle.wild_types.specs.Item.{item_of}
 use Rattle.wild_meaning.specs.Field.{formula_of}
 use Rattle.wild_meaning.specs.Template.{IsInstruction}
 use Rattle.wild_meaning.specs.Reference.{HoldsPlain, ReferenceHolds}

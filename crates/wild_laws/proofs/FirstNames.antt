@@ -11,7 +11,8 @@ use Rattle.wild_loader.specs.declared.memory.Memory.{Memory}
 use Rattle.wild_loader.specs.declared.world.World.{World}
 use Rattle.wild_meaning.specs.Value.{HasFlag, HasOwnValue, IsReplaceable, moved}
 use Rattle.wild_meaning.specs.Denotes.{HasStub, Denotes}
-use Rattle.wild_meaning.specs.Item.{item_of, place_at}
+use Rattle.wild_types.specs.Item.{item_of}
+use Rattle.wild_meaning.specs.Item.{place_at}
 use Rattle.wild_meaning.specs.Formula.{IsTarget, Gives}
 use Rattle.wild_meaning.proofs.SymbolLemmas.{target_reached, referent_stands}
 use Rattle.wild_laws.specs.FirstPath.{IsAddress, Demands, NamesAreAddresses}

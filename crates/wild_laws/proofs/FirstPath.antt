@@ -16,7 +16,8 @@ use Rattle.wild_loader.specs.declared.instruction.Deed.{Deed}
 use Rattle.wild_loader.specs.declared.instruction.Deed.TheVariants.{Call, Jump}
 use Rattle.wild_loader.specs.Instruction.{as_value}
 use Rattle.wild_meaning.specs.Sequence.{Instruction}
-use Rattle.wild_meaning.specs.Item.{item_of, place_at, IsLoadedSlot, IsKept, OfSection}
+use Rattle.wild_types.specs.Item.{item_of}
+use Rattle.wild_meaning.specs.Item.{place_at, IsLoadedSlot, IsKept, OfSection}
 use Rattle.wild_meaning.specs.Template.{effect_of, reads, IsInstruction, DoesDemanded}
 use Rattle.wild_meaning.specs.Field.{formula_of}
 use Rattle.wild_meaning.specs.Reference.{ReferenceHolds}

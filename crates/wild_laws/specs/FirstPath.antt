@@ -28,7 +28,7 @@ use Rattle.wild_loader.specs.declared.instruction.Deed.TheVariants.{Call, Jump}
 use Rattle.wild_loader.specs.InstructionX86_64.{effect_x86_64}
 use Rattle.wild_meaning.specs.Sequence.{Instruction}
 use Rattle.wild_meaning.specs.Template.{reads, IsTemplate, DoesDemanded}
-use Rattle.wild_meaning.specs.Item.{item_of}
+use Rattle.wild_types.specs.Item.{item_of}
 use Rattle.wild_meaning.specs.Reference.{IsAsked, IsLinkedAlone}
 use Rattle.wild_meaning.specs.Linked.{IsLinked}
 use Rattle.wild_laws.specs.FirstTypes.{IsLoadedSection, IsRelocated, address_types, HasFirstTypes, address_at, InNoField, IsBranch, IsBranchField, IsSlotBranch, IsThreadCall}

@@ -12,7 +12,7 @@ use Rattle.wild_records.specs.Abi.Relocation.{r_x86_64_pc32}
 use Rattle.wild_types.specs.declared.kind.Machine.{Machine}
 use Rattle.wild_types.specs.declared.kind.Machine.TheVariants as machine
 use Rattle.wild_types.specs.declared.input.InputRelocation.{InputRelocation}
-use Rattle.wild_types.specs.declared.input.InputSection.{InputSection}
+use Rattle.wild_types.specs.Item.{Item}
 use Rattle.wild_types.specs.declared.layout.Layout.{Layout}
 use Rattle.wild_relax.specs.declared.row.Row.{Row}
 use Rattle.wild_relax.specs.First.{checked}
@@ -33,7 +33,7 @@ each_is_marked : list_all is_marked rows_x86_64 ≡ true
 each_is_marked = refl
 
 -- behind another type none is taken along
-pub none_before : (l : Layout) (s : InputSection) (i : ℕ) → may_be_partner s.relocations i ≡ false → is_partner l s i ≡ false
+pub none_before : (l : Layout) (s : Item) (i : ℕ) → may_be_partner s.relocations i ≡ false → is_partner l s i ≡ false
 none_before l s i h =
     elim (cases_Bool (is_partner l s i)) [
       | inr f ↦ f
@@ -53,7 +53,7 @@ none_before l s i h =
 
 -- ---- relocations without a row
 
-pub no_choice : (l : Layout) (s : InputSection) (r : InputRelocation) (next : Option InputRelocation) (o : Option ℕ) → r.number ≡ r_x86_64_pc32 → choice_by l s r next o ≡ Ok None
+pub no_choice : (l : Layout) (s : Item) (r : InputRelocation) (next : Option InputRelocation) (o : Option ℕ) → r.number ≡ r_x86_64_pc32 → choice_by l s r next o ≡ Ok None
 unfolding choice_by
 no_choice l s r next None number = refl
 no_choice l s r next (Some i) number = rw number refl
@@ -61,11 +61,11 @@ no_choice l s r next (Some i) number = rw number refl
 -- ---- what is asked
 
 -- without a symbol, or of a distance, nothing stands
-pub nameless_choice : (l : Layout) (s : InputSection) (i : ℕ) (r : InputRelocation) → slice_get s.relocations i ≡ Some r → r.symbol ≡ None → choice l s i ≡ Ok None
+pub nameless_choice : (l : Layout) (s : Item) (i : ℕ) (r : InputRelocation) → slice_get s.relocations i ≡ Some r → r.symbol ≡ None → choice l s i ≡ Ok None
 unfolding choice_by
 nameless_choice l s i r listed none = rw (listed, none) refl
 
-pub common_choice : (l : Layout) (s : InputSection) (i : ℕ) (r : InputRelocation) (n : ℕ) → slice_get s.relocations i ≡ Some r → r.symbol ≡ Some n → r.number ≡ r_x86_64_pc32 → choice l s i ≡ Ok None
+pub common_choice : (l : Layout) (s : Item) (i : ℕ) (r : InputRelocation) (n : ℕ) → slice_get s.relocations i ≡ Some r → r.symbol ≡ Some n → r.number ≡ r_x86_64_pc32 → choice l s i ≡ Ok None
 unfolding choice_by
 common_choice l s i r n listed named number = rw (listed, named, number) refl
 
@@ -77,21 +77,21 @@ other_number n k h =
     ]
 
 -- else the rows are asked, with the next relocation in sight
-asked_by : (l : Layout) (s : InputSection) (r : InputRelocation) (next : Option InputRelocation) (n : ℕ) → (r.number == r_x86_64_pc32) ≡ false → choice_by l s r next (Some n) ≡ chosen_of l.machine (question_of l s r n next)
+asked_by : (l : Layout) (s : Item) (r : InputRelocation) (next : Option InputRelocation) (n : ℕ) → (r.number == r_x86_64_pc32) ≡ false → choice_by l s r next (Some n) ≡ chosen_of l.machine (question_of l s r n next)
 unfolding choice_by
 asked_by l s r next n f = rw f refl
 
-at_relocation : (l : Layout) (s : InputSection) (o next : Option InputRelocation) (r : InputRelocation) → o ≡ Some r → choice_at l s o next ≡ choice_by l s r next r.symbol
+at_relocation : (l : Layout) (s : Item) (o next : Option InputRelocation) (r : InputRelocation) → o ≡ Some r → choice_at l s o next ≡ choice_by l s r next r.symbol
 at_relocation l s o next r e = ap (λ (x : Option InputRelocation). choice_at l s x next) e
 
-named_choice : (l : Layout) (s : InputSection) (i : ℕ) (r : InputRelocation) (n : ℕ) → slice_get s.relocations i ≡ Some r → r.symbol ≡ Some n → (r.number ≡ r_x86_64_pc32 → ⊥) → choice l s i ≡ chosen_of l.machine (question_of l s r n (slice_get s.relocations (i + 1)))
+named_choice : (l : Layout) (s : Item) (i : ℕ) (r : InputRelocation) (n : ℕ) → slice_get s.relocations i ≡ Some r → r.symbol ≡ Some n → (r.number ≡ r_x86_64_pc32 → ⊥) → choice l s i ≡ chosen_of l.machine (question_of l s r n (slice_get s.relocations (i + 1)))
 named_choice l s i r n listed named other =
     let next = slice_get s.relocations (i + 1) in
     at_relocation l s (slice_get s.relocations i) next r listed
     ∙ ap (choice_by l s r next) named
     ∙ asked_by l s r next n (other_number r.number r_x86_64_pc32 other)
 
-pub asked_choice : (l : Layout) (s : InputSection) (i : ℕ) (r : InputRelocation) (n : ℕ) → slice_get s.relocations i ≡ Some r → r.symbol ≡ Some n → (r.number ≡ r_x86_64_pc32 → ⊥) → choice l s i ≡ chosen_of l.machine (asked_of l s n (infos_of l (slice_get s.relocations i) (slice_get s.relocations (i + 1))))
+pub asked_choice : (l : Layout) (s : Item) (i : ℕ) (r : InputRelocation) (n : ℕ) → slice_get s.relocations i ≡ Some r → r.symbol ≡ Some n → (r.number ≡ r_x86_64_pc32 → ⊥) → choice l s i ≡ chosen_of l.machine (asked_of l s n (infos_of l (slice_get s.relocations i) (slice_get s.relocations (i + 1))))
 asked_choice l s i r n listed named other =
     named_choice l s i r n listed named other
     ∙ ap (λ (o : Option InputRelocation). chosen_of l.machine (asked_of l s n (infos_of l o (slice_get s.relocations (i + 1))))) (sym listed)
@@ -99,7 +99,7 @@ asked_choice l s i r n listed named other =
 -- ---- rows that ask for no name and no other relocation
 
 -- what stands does not hang on them
-same_standing : (l : Layout) (s : InputSection) (r : InputRelocation) (n : ℕ) (next : Option InputRelocation) → standing_x86_64 (asked_of l s n (nameless r ∷ [])) ≡ standing_x86_64 (question_of l s r n next)
+same_standing : (l : Layout) (s : Item) (r : InputRelocation) (n : ℕ) (next : Option InputRelocation) → standing_x86_64 (asked_of l s n (nameless r ∷ [])) ≡ standing_x86_64 (question_of l s r n next)
 unfolding standing_x86_64 applies
 same_standing l s r n next = refl
 
@@ -114,7 +114,7 @@ no_distance : (o : Option ℕ) → not (is_some o) ≡ true → o ≡ None
 no_distance None h = refl
 no_distance (Some d) h = cc
 
-same_sequence : (l : Layout) (s : InputSection) (r : InputRelocation) (n : ℕ) (next : Option InputRelocation) (row : Row) → partner_distance row ≡ None → has_its_sequence (asked_of l s n (nameless r ∷ [])) row ≡ has_its_sequence (question_of l s r n next) row
+same_sequence : (l : Layout) (s : Item) (r : InputRelocation) (n : ℕ) (next : Option InputRelocation) (row : Row) → partner_distance row ≡ None → has_its_sequence (asked_of l s n (nameless r ∷ [])) row ≡ has_its_sequence (question_of l s r n next) row
 unfolding has_its_sequence
 same_sequence l s r n next row e = rw e refl
 
@@ -122,13 +122,13 @@ other_one : (a b : Bool) → (a || b) ≡ true → a ≡ false → b ≡ true
 other_one true b h e = cc
 other_one false b h e = h
 
-same_chosen : (l : Layout) (s : InputSection) (r : InputRelocation) (n : ℕ) (next : Option InputRelocation) → may_take_next r.number ≡ false → chosen_x86_64 (asked_of l s n (nameless r ∷ [])) ≡ chosen_x86_64 (question_of l s r n next)
+same_chosen : (l : Layout) (s : Item) (r : InputRelocation) (n : ℕ) (next : Option InputRelocation) → may_take_next r.number ≡ false → chosen_x86_64 (asked_of l s n (nameless r ∷ [])) ≡ chosen_x86_64 (question_of l s r n next)
 unfolding chosen_x86_64
 same_chosen l s r n next h =
     let same = same_standing l s r n next in
     by l s r n next (standing_x86_64 (asked_of l s n (nameless r ∷ []))) (standing_x86_64 (question_of l s r n next)) refl same h
   where
-    by : (l : Layout) (s : InputSection) (r : InputRelocation) (n : ℕ) (next : Option InputRelocation) (a b : Option Row) → standing_x86_64 (asked_of l s n (nameless r ∷ [])) ≡ a → a ≡ b → may_take_next r.number ≡ false
+    by : (l : Layout) (s : Item) (r : InputRelocation) (n : ℕ) (next : Option InputRelocation) (a b : Option Row) → standing_x86_64 (asked_of l s n (nameless r ∷ [])) ≡ a → a ≡ b → may_take_next r.number ≡ false
         → checked (has_its_sequence (asked_of l s n (nameless r ∷ []))) (unknown_sequence (asked_of l s n (nameless r ∷ []))) a ≡ checked (has_its_sequence (question_of l s r n next)) (unknown_sequence (question_of l s r n next)) b
     by l s r n next None None is e h = refl
     by l s r n next None (Some b) is e h = cc
@@ -141,9 +141,9 @@ same_chosen l s r n next h =
         let sequence = same_sequence l s r n next a alone in
         subst (λ (x : Row). checked (has_its_sequence (asked_of l s n (nameless r ∷ []))) (unknown_sequence (asked_of l s n (nameless r ∷ []))) (Some a) ≡ checked (has_its_sequence (question_of l s r n next)) (unknown_sequence (question_of l s r n next)) (Some x)) same (rw sequence refl)
 
-pub alone_choice : (l : Layout) (s : InputSection) (i : ℕ) (r : InputRelocation) (n : ℕ) → slice_get s.relocations i ≡ Some r → r.symbol ≡ Some n → (r.number ≡ r_x86_64_pc32 → ⊥) → may_take_next r.number ≡ false → choice l s i ≡ chosen_of l.machine (asked_of l s n (nameless r ∷ []))
+pub alone_choice : (l : Layout) (s : Item) (i : ℕ) (r : InputRelocation) (n : ℕ) → slice_get s.relocations i ≡ Some r → r.symbol ≡ Some n → (r.number ≡ r_x86_64_pc32 → ⊥) → may_take_next r.number ≡ false → choice l s i ≡ chosen_of l.machine (asked_of l s n (nameless r ∷ []))
 alone_choice l s i r n listed named other h = named_choice l s i r n listed named other ∙ sym (by l s r n (slice_get s.relocations (i + 1)) l.machine h)
   where
-    by : (l : Layout) (s : InputSection) (r : InputRelocation) (n : ℕ) (next : Option InputRelocation) (m : Machine) → may_take_next r.number ≡ false → chosen_of m (asked_of l s n (nameless r ∷ [])) ≡ chosen_of m (question_of l s r n next)
+    by : (l : Layout) (s : Item) (r : InputRelocation) (n : ℕ) (next : Option InputRelocation) (m : Machine) → may_take_next r.number ≡ false → chosen_of m (asked_of l s n (nameless r ∷ [])) ≡ chosen_of m (question_of l s r n next)
     by l s r n next machine.X86_64 h = same_chosen l s r n next h
     by l s r n next machine.AArch64 h = refl

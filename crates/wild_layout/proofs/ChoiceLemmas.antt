@@ -22,7 +22,7 @@ use Rattle.wild_reloc.proofs.PlaceLemmas.{length-size_written}
 use Rattle.wild_types.specs.declared.kind.Machine.{Machine}
 use Rattle.wild_types.specs.declared.kind.Machine.TheVariants as machine
 use Rattle.wild_types.specs.declared.input.InputRelocation.{InputRelocation}
-use Rattle.wild_types.specs.declared.input.InputSection.{InputSection}
+use Rattle.wild_types.specs.Item.{Item}
 use Rattle.wild_types.specs.declared.layout.Layout.{Layout}
 use Rattle.wild_types.specs.Rows.{row_of, row_width}
 use Rattle.wild_relax.specs.declared.reference.RelocationInfo.{RelocationInfo}
@@ -85,7 +85,7 @@ pattern_inside bs o p h = leb-true (o - field_of p + length (cells_of p)) (lengt
 -- ---- the row that is chosen
 
 -- the row stands at the relocation, before the one behind it; the type of relocations that have no row is another
-pub record IsChosen (l : Layout) (s : InputSection) (r : InputRelocation) (next : Option InputRelocation) (row : Row) : Type 0 where
+pub record IsChosen (l : Layout) (s : Item) (r : InputRelocation) (next : Option InputRelocation) (row : Row) : Type 0 where
   pub choice : choice_of l s r next ≡ Ok (Some row)
   pub machine : l.machine ≡ machine.X86_64
   pub symbol : ℕ
@@ -96,11 +96,11 @@ pub record IsChosen (l : Layout) (s : InputSection) (r : InputRelocation) (next 
   pub before : field_of (pattern_of row) ≤ r.offset
   pub inside : r.offset - field_of (pattern_of row) + pattern_size row ≤ length s.bytes
 
-pub choice_row : (l : Layout) (s : InputSection) (r : InputRelocation) (next : Option InputRelocation) (row : Row) → choice_of l s r next ≡ Ok (Some row) → IsChosen l s r next row
+pub choice_row : (l : Layout) (s : Item) (r : InputRelocation) (next : Option InputRelocation) (row : Row) → choice_of l s r next ≡ Ok (Some row) → IsChosen l s r next row
 unfolding choice_by
 choice_row l s r next row h = by_symbol l s r next row r.symbol h refl h
   where
-    by_machine : (l : Layout) (s : InputSection) (r : InputRelocation) (next : Option InputRelocation) (row : Row) (i : ℕ) (m : Machine) → choice_of l s r next ≡ Ok (Some row) → l.machine ≡ m → r.symbol ≡ Some i → (r.number == abi.r_x86_64_pc32) ≡ false → chosen_of m (question_of l s r i next) ≡ Ok (Some row) → IsChosen l s r next row
+    by_machine : (l : Layout) (s : Item) (r : InputRelocation) (next : Option InputRelocation) (row : Row) (i : ℕ) (m : Machine) → choice_of l s r next ≡ Ok (Some row) → l.machine ≡ m → r.symbol ≡ Some i → (r.number == abi.r_x86_64_pc32) ≡ false → chosen_of m (question_of l s r i next) ≡ Ok (Some row) → IsChosen l s r next row
     by_machine l s r next row i machine.AArch64 all is named other e = cc
     by_machine l s r next row i machine.X86_64 all is named other e =
         let t = chosen_is (question_of l s r i next) (λ (r : Row). true) row refl e in
@@ -117,16 +117,16 @@ choice_row l s r next row h = by_symbol l s r next row r.symbol h refl h
           inside = pattern_inside s.bytes r.offset (pattern_of row) stands;
         }
 
-    by_number : (l : Layout) (s : InputSection) (r : InputRelocation) (next : Option InputRelocation) (row : Row) (i : ℕ) (b : Bool) → choice_of l s r next ≡ Ok (Some row) → r.symbol ≡ Some i → (r.number == abi.r_x86_64_pc32) ≡ b → (if b then Ok None else chosen_of l.machine (question_of l s r i next)) ≡ Ok (Some row) → IsChosen l s r next row
+    by_number : (l : Layout) (s : Item) (r : InputRelocation) (next : Option InputRelocation) (row : Row) (i : ℕ) (b : Bool) → choice_of l s r next ≡ Ok (Some row) → r.symbol ≡ Some i → (r.number == abi.r_x86_64_pc32) ≡ b → (if b then Ok None else chosen_of l.machine (question_of l s r i next)) ≡ Ok (Some row) → IsChosen l s r next row
     by_number l s r next row i true all named is e = cc
     by_number l s r next row i false all named is e = by_machine l s r next row i l.machine all refl named is e
 
-    by_symbol : (l : Layout) (s : InputSection) (r : InputRelocation) (next : Option InputRelocation) (row : Row) (o : Option ℕ) → choice_of l s r next ≡ Ok (Some row) → r.symbol ≡ o → choice_by l s r next o ≡ Ok (Some row) → IsChosen l s r next row
+    by_symbol : (l : Layout) (s : Item) (r : InputRelocation) (next : Option InputRelocation) (row : Row) (o : Option ℕ) → choice_of l s r next ≡ Ok (Some row) → r.symbol ≡ o → choice_by l s r next o ≡ Ok (Some row) → IsChosen l s r next row
     by_symbol l s r next row None all named e = cc
     by_symbol l s r next row (Some i) all named e = by_number l s r next row i (r.number == abi.r_x86_64_pc32) all named refl e
 
 -- what each row of the table has
-pub chosen_listed : (l : Layout) (s : InputSection) (r : InputRelocation) (next : Option InputRelocation) (row : Row) → IsChosen l s r next row → (p : Row → Bool) → list_all p rows_x86_64 ≡ true → p row ≡ true
+pub chosen_listed : (l : Layout) (s : Item) (r : InputRelocation) (next : Option InputRelocation) (row : Row) → IsChosen l s r next row → (p : Row → Bool) → list_all p rows_x86_64 ≡ true → p row ≡ true
 chosen_listed l s r next row c p all = (chosen_is (question_of l s r c.symbol next) p row all c.chosen).listed
 
 -- ---- the bytes that a row writes
@@ -140,7 +140,7 @@ pub record LiesInItsPattern (row : Row) : Type 0 where
   pub bytes : field_of (pattern_of row) - (rewrite_of row).back + (rewrite_of row).size ≤ pattern_size row
   pub field : field_in row + row_width (x86_64_row (rewrite_of row).number) ≤ pattern_size row
 
-pub chosen_lies : (l : Layout) (s : InputSection) (r : InputRelocation) (next : Option InputRelocation) (row : Row) → IsChosen l s r next row → keeps_bytes row ≡ false → LiesInItsPattern row
+pub chosen_lies : (l : Layout) (s : Item) (r : InputRelocation) (next : Option InputRelocation) (row : Row) → IsChosen l s r next row → keeps_bytes row ≡ false → LiesInItsPattern row
 chosen_lies l s r next row c k = record {
   some = leb-true 1 (pattern_size row) (or_other (keeps_bytes row) (nat_le 1 (pattern_size row)) (each_row has_bytes refl row) k);
   bytes = bytes_inside row;
@@ -164,22 +164,22 @@ length-template row info v old lies known long =
 -- ---- sequences
 
 -- relocation j's row writes a whole sequence
-pub record IsSequence (l : Layout) (s : InputSection) (j : ℕ) (row : Row) : Type 0 where
+pub record IsSequence (l : Layout) (s : Item) (j : ℕ) (row : Row) : Type 0 where
   pub relocation : InputRelocation
   pub listed : slice_get s.relocations j ≡ Some relocation
   pub is : choice_of l s relocation (slice_get s.relocations (j + 1)) ≡ Ok (Some row)
   pub takes : takes_next (Ok (Some row)) ≡ true
 
-pub partner_is_taken : (l : Layout) (s : InputSection) (i : ℕ) → is_partner l s i ≡ true → (j : ℕ) × (i ≡ j + 1) × (row : Row) × IsSequence l s j row
+pub partner_is_taken : (l : Layout) (s : Item) (i : ℕ) → is_partner l s i ≡ true → (j : ℕ) × (i ≡ j + 1) × (row : Row) × IsSequence l s j row
 partner_is_taken l s zero h = cc
 partner_is_taken l s (suc j) h = let t = by_relocation l s j (slice_get s.relocations j) refl h in (j, omega arith, t.0, t.1)
   where
-    by_choice : (l : Layout) (s : InputSection) (j : ℕ) (r : InputRelocation) (c : Result (Option Row) UnknownSequence) → slice_get s.relocations j ≡ Some r → choice_of l s r (slice_get s.relocations (j + 1)) ≡ c → takes_next c ≡ true → (row : Row) × IsSequence l s j row
+    by_choice : (l : Layout) (s : Item) (j : ℕ) (r : InputRelocation) (c : Result (Option Row) UnknownSequence) → slice_get s.relocations j ≡ Some r → choice_of l s r (slice_get s.relocations (j + 1)) ≡ c → takes_next c ≡ true → (row : Row) × IsSequence l s j row
     by_choice l s j r (Ok None) e is h = cc
     by_choice l s j r (Ok (Some row)) e is h = (row, record { relocation = r; listed = e; is = is; takes = h })
     by_choice l s j r (Err f) e is h = cc
 
-    by_relocation : (l : Layout) (s : InputSection) (j : ℕ) (o : Option InputRelocation) → slice_get s.relocations j ≡ o → takes_next (choice_at l s o (slice_get s.relocations (j + 1))) ≡ true → (row : Row) × IsSequence l s j row
+    by_relocation : (l : Layout) (s : Item) (j : ℕ) (o : Option InputRelocation) → slice_get s.relocations j ≡ o → takes_next (choice_at l s o (slice_get s.relocations (j + 1))) ≡ true → (row : Row) × IsSequence l s j row
     by_relocation l s j None e h = cc
     by_relocation l s j (Some r) e h = by_choice l s j r (choice_of l s r (slice_get s.relocations (j + 1))) e refl h
 
@@ -203,7 +203,7 @@ taken_call row r None n next is h = cc
 taken_call row r (Some d) n next is h = call_number row (r.offset + d) next (and_parts _ _ h).1
 
 -- the type of a relocation that is taken along is that of a call
-pub partner_number : (l : Layout) (s : InputSection) (r : InputRelocation) (next : InputRelocation) (row : Row) → IsChosen l s r (Some next) row → takes_next (Ok (Some row)) ≡ true → is_call_number (call_form row) next.number ≡ true
+pub partner_number : (l : Layout) (s : Item) (r : InputRelocation) (next : InputRelocation) (row : Row) → IsChosen l s r (Some next) row → takes_next (Ok (Some row)) ≡ true → is_call_number (call_form row) next.number ≡ true
 partner_number l s r next row c takes =
     let q = question_of l s r c.symbol (Some next) in
     let t = chosen_is q asks_for_its_call row each_asks c.chosen in
@@ -265,15 +265,15 @@ none_stands q h = by_standing q (standing_x86_64 q) refl h
         let e = number_is q row first.here in
         absurd (not_both _ first.listed (subst (λ (n : ℕ). loads_at (x86_64_row n) ≡ true) e h))
 
-pub no_row : (l : Layout) (s : InputSection) (r : InputRelocation) (next : Option InputRelocation) (row : RelocationKindInfo) → row_of l.machine r.number ≡ Some row → loads row.kind ≡ true → choice_of l s r next ≡ Ok None
+pub no_row : (l : Layout) (s : Item) (r : InputRelocation) (next : Option InputRelocation) (row : RelocationKindInfo) → row_of l.machine r.number ≡ Some row → loads row.kind ≡ true → choice_of l s r next ≡ Ok None
 unfolding choice_by
 no_row l s r next row known h = by_symbol l s r next row r.symbol known h
   where
-    by_machine : (l : Layout) (s : InputSection) (r : InputRelocation) (next : Option InputRelocation) (row : RelocationKindInfo) (i : ℕ) (m : Machine) → row_of m r.number ≡ Some row → loads row.kind ≡ true → chosen_of m (question_of l s r i next) ≡ Ok None
+    by_machine : (l : Layout) (s : Item) (r : InputRelocation) (next : Option InputRelocation) (row : RelocationKindInfo) (i : ℕ) (m : Machine) → row_of m r.number ≡ Some row → loads row.kind ≡ true → chosen_of m (question_of l s r i next) ≡ Ok None
     by_machine l s r next row i machine.AArch64 known h = refl
     by_machine l s r next row i machine.X86_64 known h = none_stands (question_of l s r i next) (loads_here machine.X86_64 r.number row refl known h)
 
-    by_symbol : (l : Layout) (s : InputSection) (r : InputRelocation) (next : Option InputRelocation) (row : RelocationKindInfo) (o : Option ℕ) → row_of l.machine r.number ≡ Some row → loads row.kind ≡ true → choice_by l s r next o ≡ Ok None
+    by_symbol : (l : Layout) (s : Item) (r : InputRelocation) (next : Option InputRelocation) (row : RelocationKindInfo) (o : Option ℕ) → row_of l.machine r.number ≡ Some row → loads row.kind ≡ true → choice_by l s r next o ≡ Ok None
     by_symbol l s r next row None known h = refl
     by_symbol l s r next row (Some i) known h =
         elim (cases_Bool (r.number == abi.r_x86_64_pc32)) [
@@ -281,14 +281,14 @@ no_row l s r next row known h = by_symbol l s r next row r.symbol known h
           | inr f ↦ rw f (by_machine l s r next row i l.machine known h)
         ]
 
-pub no_partner : (l : Layout) (s : InputSection) (i : ℕ) (r : InputRelocation) (row : RelocationKindInfo) → slice_get s.relocations i ≡ Some r → row_of l.machine r.number ≡ Some row → loads row.kind ≡ true → is_partner l s i ≡ false
+pub no_partner : (l : Layout) (s : Item) (i : ℕ) (r : InputRelocation) (row : RelocationKindInfo) → slice_get s.relocations i ≡ Some r → row_of l.machine r.number ≡ Some row → loads row.kind ≡ true → is_partner l s i ≡ false
 no_partner l s i r row listed known h =
     elim (cases_Bool (is_partner l s i)) [
       | inr f ↦ f
       | inl t ↦ (let p = partner_is_taken l s i t in absurd (taken l s p.0 p.2 r row p.3 (subst (λ (k : ℕ). slice_get s.relocations k ≡ Some r) p.1 listed) known h))
     ]
   where
-    taken : (l : Layout) (s : InputSection) (j : ℕ) (w : Row) (r : InputRelocation) (row : RelocationKindInfo) → IsSequence l s j w → slice_get s.relocations (j + 1) ≡ Some r → row_of l.machine r.number ≡ Some row → loads row.kind ≡ true → ⊥
+    taken : (l : Layout) (s : Item) (j : ℕ) (w : Row) (r : InputRelocation) (row : RelocationKindInfo) → IsSequence l s j w → slice_get s.relocations (j + 1) ≡ Some r → row_of l.machine r.number ≡ Some row → loads row.kind ≡ true → ⊥
     taken l s j w r row q listed known h =
         let is = subst (λ (o : Option InputRelocation). choice_of l s q.relocation o ≡ Ok (Some w)) listed q.is in
         let c = choice_row l s q.relocation (Some r) w is in

@@ -7,12 +7,12 @@ use Rattle.wild_types.specs.declared.kind.Machine.{Machine}
 use Rattle.wild_types.specs.declared.kind.Machine.TheVariants as machine
 use Rattle.wild_types.specs.declared.fault.Fault.{Fault}
 use Rattle.wild_types.specs.declared.input.InputRelocation.{InputRelocation}
-use Rattle.wild_types.specs.declared.input.InputSection.{InputSection}
+use Rattle.wild_types.specs.Item.{Item}
 use Rattle.wild_types.specs.declared.layout.Layout.{Layout}
 use Rattle.wild_slot.specs.declared.treatment.Treatment.{Treatment}
 use Rattle.wild_slot.specs.declared.treatment.Treatment.TheVariants as treatments
 use Rattle.wild_types.specs.Rows.{row_of, row_width, field_bytes}
-use Rattle.wild_types.specs.Lookups.{packs, allocated}
+use Rattle.wild_types.specs.Lookups.{place_of, packs, allocated}
 use Rattle.wild_needs.specs.Entries.{is_left_to_entry}
 use Rattle.wild_slot.specs.SlotParts.{type_of}
 use Rattle.wild_slot.specs.Slots.{is_replaceable}
@@ -32,7 +32,7 @@ use Rattle.wild_reloc.specs.declared.expression.Taken.TheVariants as taken
 use Rattle.wild_reloc.specs.Expression.{expression_of}
 use Rattle.wild_layout.specs.declared.decision.Decision.{Decision}
 use Rattle.wild_layout.specs.declared.decision.Decision.TheVariants.{Nothing, Field, Moved, Left}
-use Rattle.wild_layout.specs.SymbolValues.{place_of, sum, symbol_size}
+use Rattle.wild_layout.specs.SymbolValues.{sum, symbol_size}
 use Rattle.wild_layout.specs.SlotValues.{address_of, index_of, decided_address}
 use Rattle.wild_layout.specs.Values.{term_of, value_less, value_by}
 use Rattle.wild_layout.specs.SectionPlaces.{FieldLies}
@@ -68,27 +68,27 @@ pub record HasField (l : Layout) (r : InputRelocation) (z : RelocationSize) : Ty
   pub size : row.size ≡ z
 
 -- a relocation that writes v into a field of size z
-pub record IsField (l : Layout) (s : InputSection) (r : InputRelocation) (z : RelocationSize) (v : ℕ) : Type 0 where
+pub record IsField (l : Layout) (s : Item) (r : InputRelocation) (z : RelocationSize) (v : ℕ) : Type 0 where
   pub row : RelocationKindInfo
   pub known : row_of l.machine r.number ≡ Some row
-  pub treated : treatment l s r ≡ treatments.Value row
+  pub treated : treatment l s.flags r ≡ treatments.Value row
   pub kind : HasValue row.kind
   pub size : row.size ≡ z
   pub term : ℕ
   pub given : term_of l r.symbol row.kind ≡ Ok term
-  pub value : value_by l row.kind term r.addend (place_of s r) ≡ v
+  pub value : value_by l row.kind term r.addend (place_of s.address r) ≡ v
   pub allowed : allows row v ≡ true
 
 -- a relocation that writes the address v, which moves with the base
-pub record IsMoved (l : Layout) (s : InputSection) (r : InputRelocation) (v : ℕ) (packed : Bool) : Type 0 where
+pub record IsMoved (l : Layout) (s : Item) (r : InputRelocation) (v : ℕ) (packed : Bool) : Type 0 where
   pub row : RelocationKindInfo
   pub known : row_of l.machine r.number ≡ Some row
-  pub treated : treatment l s r ≡ treatments.BaseRelative
-  pub by : IsMovedBy l s r.symbol row
+  pub treated : treatment l s.flags r ≡ treatments.BaseRelative
+  pub by : IsMovedBy l s.flags r.symbol row
   pub address : ℕ
   pub given : address_of l r.symbol ≡ Ok address
   pub value : sum address r.addend ≡ v
-  pub packs : packs l (place_of s r) ≡ packed
+  pub packs : packs l (place_of s.address r) ≡ packed
 
 -- a relocation of a kind without a value
 pub record IsNothing (l : Layout) (r : InputRelocation) : Type 0 where
@@ -107,10 +107,10 @@ in_field row w v z h =
           (size, value, subst (λ (n : ℕ). allows row n ≡ true) value t))
     ]
 
-field_from : (l : Layout) (s : InputSection) (r : InputRelocation) (row : RelocationKindInfo) (z : RelocationSize) (v : ℕ) (a : Result ℕ Fault) → row_of l.machine r.number ≡ Some row → treatment l s r ≡ treatments.Value row → HasValue row.kind → term_of l r.symbol row.kind ≡ a → field_for l s r row a ≡ Ok (Field z v) → IsField l s r z v
+field_from : (l : Layout) (s : Item) (r : InputRelocation) (row : RelocationKindInfo) (z : RelocationSize) (v : ℕ) (a : Result ℕ Fault) → row_of l.machine r.number ≡ Some row → treatment l s.flags r ≡ treatments.Value row → HasValue row.kind → term_of l r.symbol row.kind ≡ a → field_for l s r row a ≡ Ok (Field z v) → IsField l s r z v
 field_from l s r row z v (Err f) known treated kind is h = cc
 field_from l s r row z v (Ok a) known treated kind is h =
-    let f = in_field row (value_by l row.kind a r.addend (place_of s r)) v z h in
+    let f = in_field row (value_by l row.kind a r.addend (place_of s.address r)) v z h in
     record { row = row; known = known; treated = treated; kind = kind; size = f.0; term = a; given = is; value = f.1; allowed = f.2 }
 
 -- a field that is left to an entry
@@ -152,23 +152,23 @@ chosen_alone d l r (Ok resolver) h =
           subst IsLeftAlone e tt)
     ]
 
-moved_is_no_field : (l : Layout) (s : InputSection) (r : InputRelocation) (z : RelocationSize) (v : ℕ) (a : Result ℕ Fault) → moved_to l s r a ≡ Ok (Field z v) → ⊥
+moved_is_no_field : (l : Layout) (s : Item) (r : InputRelocation) (z : RelocationSize) (v : ℕ) (a : Result ℕ Fault) → moved_to l s r a ≡ Ok (Field z v) → ⊥
 moved_is_no_field l s r z v (Err f) h = cc
 moved_is_no_field l s r z v (Ok a) h = cc
 
-known_value : (l : Layout) (s : InputSection) (r : InputRelocation) (row : RelocationKindInfo) → treatment l s r ≡ treatments.Value row → (row_of l.machine r.number ≡ Some row) × HasValue row.kind
+known_value : (l : Layout) (s : Item) (r : InputRelocation) (row : RelocationKindInfo) → treatment l s.flags r ≡ treatments.Value row → (row_of l.machine r.number ≡ Some row) × HasValue row.kind
 unfolding treatment
-known_value l s r row is = row_value l s r.number r.symbol (row_of l.machine r.number) row is
+known_value l s r row is = row_value l s.flags r.number r.symbol (row_of l.machine r.number) row is
 
-known_moved : (l : Layout) (s : InputSection) (r : InputRelocation) → treatment l s r ≡ treatments.BaseRelative → (row : RelocationKindInfo) × (row_of l.machine r.number ≡ Some row) × IsMovedBy l s r.symbol row
+known_moved : (l : Layout) (s : Item) (r : InputRelocation) → treatment l s.flags r ≡ treatments.BaseRelative → (row : RelocationKindInfo) × (row_of l.machine r.number ≡ Some row) × IsMovedBy l s.flags r.symbol row
 unfolding treatment
-known_moved l s r is = row_moved l s r.number r.symbol (row_of l.machine r.number) is
+known_moved l s r is = row_moved l s.flags r.number r.symbol (row_of l.machine r.number) is
 
-known_nothing : (l : Layout) (s : InputSection) (r : InputRelocation) → treatment l s r ≡ treatments.Nothing → IsNothing l r
+known_nothing : (l : Layout) (s : Item) (r : InputRelocation) → treatment l s.flags r ≡ treatments.Nothing → IsNothing l r
 unfolding treatment
-known_nothing l s r is = let k = row_nothing l s r.number r.symbol (row_of l.machine r.number) is in record { row = k.0; known = k.1; kind = k.2 }
+known_nothing l s r is = let k = row_nothing l s.flags r.number r.symbol (row_of l.machine r.number) is in record { row = k.0; known = k.1; kind = k.2 }
 
-treated_field : (l : Layout) (s : InputSection) (r : InputRelocation) (t : Treatment) (z : RelocationSize) (v : ℕ) → treatment l s r ≡ t → decide_by l s r t ≡ Ok (Field z v) → IsField l s r z v
+treated_field : (l : Layout) (s : Item) (r : InputRelocation) (t : Treatment) (z : RelocationSize) (v : ℕ) → treatment l s.flags r ≡ t → decide_by l s r t ≡ Ok (Field z v) → IsField l s r z v
 treated_field l s r treatments.Nothing z v is h = cc
 treated_field l s r (treatments.Value row) z v is h = let k = known_value l s r row is in field_from l s r row z v (term_of l r.symbol row.kind) k.0 is k.1 refl h
 treated_field l s r treatments.BaseRelative z v is h = absurd (moved_is_no_field l s r z v (address_of l r.symbol) h)
@@ -178,9 +178,9 @@ treated_field l s r (treatments.Extent row i) z v is h = absurd (left_alone (Fie
 treated_field l s r treatments.Recompile z v is h = cc
 treated_field l s r treatments.Unsupported z v is h = cc
 
-pub decided_field : (l : Layout) (s : InputSection) (r : InputRelocation) (z : RelocationSize) (v : ℕ) → decided l s r ≡ Ok (Field z v) → IsField l s r z v
+pub decided_field : (l : Layout) (s : Item) (r : InputRelocation) (z : RelocationSize) (v : ℕ) → decided l s r ≡ Ok (Field z v) → IsField l s r z v
 unfolding decided
-decided_field l s r z v h = treated_field l s r (treatment l s r) z v refl h
+decided_field l s r z v h = treated_field l s r (treatment l s.flags r) z v refl h
 
 field_is_not_moved : (row : RelocationKindInfo) (w v : ℕ) (packed : Bool) → field row w ≡ Ok (Moved v packed) → ⊥
 field_is_not_moved row w v packed h =
@@ -189,19 +189,19 @@ field_is_not_moved row w v packed h =
       | inl t ↦ cc (rw t at h)
     ]
 
-value_is_not_moved : (l : Layout) (s : InputSection) (r : InputRelocation) (row : RelocationKindInfo) (v : ℕ) (packed : Bool) (a : Result ℕ Fault) → field_for l s r row a ≡ Ok (Moved v packed) → ⊥
+value_is_not_moved : (l : Layout) (s : Item) (r : InputRelocation) (row : RelocationKindInfo) (v : ℕ) (packed : Bool) (a : Result ℕ Fault) → field_for l s r row a ≡ Ok (Moved v packed) → ⊥
 value_is_not_moved l s r row v packed (Err f) h = cc
-value_is_not_moved l s r row v packed (Ok a) h = field_is_not_moved row (value_by l row.kind a r.addend (place_of s r)) v packed h
+value_is_not_moved l s r row v packed (Ok a) h = field_is_not_moved row (value_by l row.kind a r.addend (place_of s.address r)) v packed h
 
-moved_from : (l : Layout) (s : InputSection) (r : InputRelocation) (v : ℕ) (packed : Bool) (a : Result ℕ Fault) → treatment l s r ≡ treatments.BaseRelative → address_of l r.symbol ≡ a → moved_to l s r a ≡ Ok (Moved v packed) → IsMoved l s r v packed
+moved_from : (l : Layout) (s : Item) (r : InputRelocation) (v : ℕ) (packed : Bool) (a : Result ℕ Fault) → treatment l s.flags r ≡ treatments.BaseRelative → address_of l r.symbol ≡ a → moved_to l s r a ≡ Ok (Moved v packed) → IsMoved l s r v packed
 moved_from l s r v packed (Err f) treated is h = cc
 moved_from l s r v packed (Ok a) treated is h =
     let k = known_moved l s r treated in
     let value : sum a r.addend ≡ v = cc in
-    let same : packs l (place_of s r) ≡ packed = cc in
+    let same : packs l (place_of s.address r) ≡ packed = cc in
     record { row = k.0; known = k.1; treated = treated; by = k.2; address = a; given = is; value = value; packs = same }
 
-treated_moved : (l : Layout) (s : InputSection) (r : InputRelocation) (t : Treatment) (v : ℕ) (packed : Bool) → treatment l s r ≡ t → decide_by l s r t ≡ Ok (Moved v packed) → IsMoved l s r v packed
+treated_moved : (l : Layout) (s : Item) (r : InputRelocation) (t : Treatment) (v : ℕ) (packed : Bool) → treatment l s.flags r ≡ t → decide_by l s r t ≡ Ok (Moved v packed) → IsMoved l s r v packed
 treated_moved l s r treatments.Nothing v packed is h = cc
 treated_moved l s r (treatments.Value row) v packed is h = absurd (value_is_not_moved l s r row v packed (term_of l r.symbol row.kind) h)
 treated_moved l s r treatments.BaseRelative v packed is h = moved_from l s r v packed (address_of l r.symbol) is refl h
@@ -211,13 +211,13 @@ treated_moved l s r (treatments.Extent row i) v packed is h = absurd (left_alone
 treated_moved l s r treatments.Recompile v packed is h = cc
 treated_moved l s r treatments.Unsupported v packed is h = cc
 
-pub decided_moved : (l : Layout) (s : InputSection) (r : InputRelocation) (v : ℕ) (packed : Bool) → decided l s r ≡ Ok (Moved v packed) → IsMoved l s r v packed
+pub decided_moved : (l : Layout) (s : Item) (r : InputRelocation) (v : ℕ) (packed : Bool) → decided l s r ≡ Ok (Moved v packed) → IsMoved l s r v packed
 unfolding decided
-decided_moved l s r v packed h = treated_moved l s r (treatment l s r) v packed refl h
+decided_moved l s r v packed h = treated_moved l s r (treatment l s.flags r) v packed refl h
 
 -- ---- fields
 
-pub field_has : (l : Layout) (s : InputSection) (r : InputRelocation) (z : RelocationSize) (v : ℕ) → IsField l s r z v → HasField l r z
+pub field_has : (l : Layout) (s : Item) (r : InputRelocation) (z : RelocationSize) (v : ℕ) → IsField l s r z v → HasField l r z
 field_has l s r z v f = record { row = f.row; known = f.known; kind = f.kind; size = f.size }
 
 -- a field of 8 bytes is whole bytes
@@ -229,7 +229,7 @@ eight_bytes (ByteSize Four) h = cc
 eight_bytes (ByteSize Eight) h = refl
 eight_bytes (BitMasking m) h = cc
 
-pub moved_has : (l : Layout) (s : InputSection) (r : InputRelocation) (v : ℕ) (packed : Bool) → IsMoved l s r v packed → HasField l r (ByteSize Eight)
+pub moved_has : (l : Layout) (s : Item) (r : InputRelocation) (v : ℕ) (packed : Bool) → IsMoved l s r v packed → HasField l r (ByteSize Eight)
 moved_has l s r v packed m = record {
   row = m.row;
   known = m.known;
@@ -258,15 +258,15 @@ field_is_some row w h =
       | inl t ↦ cc (rw t at h)
     ]
 
-value_is_some : (l : Layout) (s : InputSection) (r : InputRelocation) (row : RelocationKindInfo) (a : Result ℕ Fault) → field_for l s r row a ≡ Ok Nothing → ⊥
+value_is_some : (l : Layout) (s : Item) (r : InputRelocation) (row : RelocationKindInfo) (a : Result ℕ Fault) → field_for l s r row a ≡ Ok Nothing → ⊥
 value_is_some l s r row (Err f) h = cc
-value_is_some l s r row (Ok a) h = field_is_some row (value_by l row.kind a r.addend (place_of s r)) h
+value_is_some l s r row (Ok a) h = field_is_some row (value_by l row.kind a r.addend (place_of s.address r)) h
 
-moved_is_some : (l : Layout) (s : InputSection) (r : InputRelocation) (a : Result ℕ Fault) → moved_to l s r a ≡ Ok Nothing → ⊥
+moved_is_some : (l : Layout) (s : Item) (r : InputRelocation) (a : Result ℕ Fault) → moved_to l s r a ≡ Ok Nothing → ⊥
 moved_is_some l s r (Err f) h = cc
 moved_is_some l s r (Ok a) h = cc
 
-treated_nothing : (l : Layout) (s : InputSection) (r : InputRelocation) (t : Treatment) → treatment l s r ≡ t → decide_by l s r t ≡ Ok Nothing → IsNothing l r
+treated_nothing : (l : Layout) (s : Item) (r : InputRelocation) (t : Treatment) → treatment l s.flags r ≡ t → decide_by l s r t ≡ Ok Nothing → IsNothing l r
 treated_nothing l s r treatments.Nothing is h = known_nothing l s r is
 treated_nothing l s r (treatments.Value row) is h = absurd (value_is_some l s r row (term_of l r.symbol row.kind) h)
 treated_nothing l s r treatments.BaseRelative is h = absurd (moved_is_some l s r (address_of l r.symbol) h)
@@ -276,36 +276,36 @@ treated_nothing l s r (treatments.Extent row i) is h = absurd (left_alone Nothin
 treated_nothing l s r treatments.Recompile is h = cc
 treated_nothing l s r treatments.Unsupported is h = cc
 
-pub decided_nothing : (l : Layout) (s : InputSection) (r : InputRelocation) → decided l s r ≡ Ok Nothing → IsNothing l r
+pub decided_nothing : (l : Layout) (s : Item) (r : InputRelocation) → decided l s r ≡ Ok Nothing → IsNothing l r
 unfolding decided
-decided_nothing l s r h = treated_nothing l s r (treatment l s r) refl h
+decided_nothing l s r h = treated_nothing l s r (treatment l s.flags r) refl h
 
 -- ---- fields that are left to entries
 
 -- a relocation whose field of size z is left to an entry of that number, with that index and addend
-pub record IsLeft (l : Layout) (s : InputSection) (r : InputRelocation) (z : RelocationSize) (number symbol addend : ℕ) : Type 0 where
+pub record IsLeft (l : Layout) (s : Item) (r : InputRelocation) (z : RelocationSize) (number symbol addend : ℕ) : Type 0 where
   pub field : HasField l r z
   pub room : allocated s.flags ≡ true
   pub treated : Treatment
-  pub is : treatment l s r ≡ treated
+  pub is : treatment l s.flags r ≡ treated
   pub left : is_left_to_entry treated ≡ true
   pub made : decide_by l s r treated ≡ Ok (Left z number symbol addend)
-  pub entry : left_entry l s r ≡ entry_for (place_of s r) number symbol addend
+  pub entry : left_entry l s r ≡ entry_for (place_of s.address r) number symbol addend
 
-pub known_symbolic : (l : Layout) (s : InputSection) (r : InputRelocation) (i : ℕ) → treatment l s r ≡ treatments.Symbolic i → (row : RelocationKindInfo) × (row_of l.machine r.number ≡ Some row) × IsLeftBy s r.symbol row i
+pub known_symbolic : (l : Layout) (s : Item) (r : InputRelocation) (i : ℕ) → treatment l s.flags r ≡ treatments.Symbolic i → (row : RelocationKindInfo) × (row_of l.machine r.number ≡ Some row) × IsLeftBy s.flags r.symbol row i
 unfolding treatment
-known_symbolic l s r i is = row_symbolic l s r.number r.symbol (row_of l.machine r.number) i is
+known_symbolic l s r i is = row_symbolic l s.flags r.number r.symbol (row_of l.machine r.number) i is
 
-pub known_indirect : (l : Layout) (s : InputSection) (r : InputRelocation) (i : ℕ) → treatment l s r ≡ treatments.Indirect i → (row : RelocationKindInfo) × (row_of l.machine r.number ≡ Some row) × IsLeftBy s r.symbol row i × IsLeftToResolver l s row i
+pub known_indirect : (l : Layout) (s : Item) (r : InputRelocation) (i : ℕ) → treatment l s.flags r ≡ treatments.Indirect i → (row : RelocationKindInfo) × (row_of l.machine r.number ≡ Some row) × IsLeftBy s.flags r.symbol row i × IsLeftToResolver l s.flags row i
 unfolding treatment
-known_indirect l s r i is = row_indirect l s r.number r.symbol (row_of l.machine r.number) i is
+known_indirect l s r i is = row_indirect l s.flags r.number r.symbol (row_of l.machine r.number) i is
 
-pub known_extent : (l : Layout) (s : InputSection) (r : InputRelocation) (row : RelocationKindInfo) (i : ℕ) → treatment l s r ≡ treatments.Extent row i → (row_of l.machine r.number ≡ Some row) × IsSizedBy l s r.symbol row i
+pub known_extent : (l : Layout) (s : Item) (r : InputRelocation) (row : RelocationKindInfo) (i : ℕ) → treatment l s.flags r ≡ treatments.Extent row i → (row_of l.machine r.number ≡ Some row) × IsSizedBy l s.flags r.symbol row i
 unfolding treatment
-known_extent l s r row i is = row_extent l s r.number r.symbol (row_of l.machine r.number) row i is
+known_extent l s r row i is = row_extent l s.flags r.number r.symbol (row_of l.machine r.number) row i is
 
 -- of an address in 8 bytes
-left_field : (l : Layout) (s : InputSection) (r : InputRelocation) (row : RelocationKindInfo) (i : ℕ) → row_of l.machine r.number ≡ Some row → IsLeftBy s r.symbol row i → HasField l r (ByteSize Eight)
+left_field : (l : Layout) (s : Item) (r : InputRelocation) (row : RelocationKindInfo) (i : ℕ) → row_of l.machine r.number ≡ Some row → IsLeftBy s.flags r.symbol row i → HasField l r (ByteSize Eight)
 left_field l s r row i known by = record { row = row; known = known; kind = ap has_value by.kind; size = eight_bytes row.size by.width }
 
 -- what is left to an entry that names a symbol
@@ -345,15 +345,15 @@ field_is_not_left row w z n symbol addend h =
       | inl t ↦ cc (rw t at h)
     ]
 
-value_is_not_left : (l : Layout) (s : InputSection) (r : InputRelocation) (row : RelocationKindInfo) (z : RelocationSize) (n symbol addend : ℕ) (a : Result ℕ Fault) → field_for l s r row a ≡ Ok (Left z n symbol addend) → ⊥
+value_is_not_left : (l : Layout) (s : Item) (r : InputRelocation) (row : RelocationKindInfo) (z : RelocationSize) (n symbol addend : ℕ) (a : Result ℕ Fault) → field_for l s r row a ≡ Ok (Left z n symbol addend) → ⊥
 value_is_not_left l s r row z n symbol addend (Err f) h = cc
-value_is_not_left l s r row z n symbol addend (Ok a) h = field_is_not_left row (value_by l row.kind a r.addend (place_of s r)) z n symbol addend h
+value_is_not_left l s r row z n symbol addend (Ok a) h = field_is_not_left row (value_by l row.kind a r.addend (place_of s.address r)) z n symbol addend h
 
-moved_is_not_left : (l : Layout) (s : InputSection) (r : InputRelocation) (z : RelocationSize) (n symbol addend : ℕ) (a : Result ℕ Fault) → moved_to l s r a ≡ Ok (Left z n symbol addend) → ⊥
+moved_is_not_left : (l : Layout) (s : Item) (r : InputRelocation) (z : RelocationSize) (n symbol addend : ℕ) (a : Result ℕ Fault) → moved_to l s r a ≡ Ok (Left z n symbol addend) → ⊥
 moved_is_not_left l s r z n symbol addend (Err f) h = cc
 moved_is_not_left l s r z n symbol addend (Ok a) h = cc
 
-treated_left : (l : Layout) (s : InputSection) (r : InputRelocation) (t : Treatment) (z : RelocationSize) (n symbol addend : ℕ) → treatment l s r ≡ t → decide_by l s r t ≡ Ok (Left z n symbol addend) → IsLeft l s r z n symbol addend
+treated_left : (l : Layout) (s : Item) (r : InputRelocation) (t : Treatment) (z : RelocationSize) (n symbol addend : ℕ) → treatment l s.flags r ≡ t → decide_by l s r t ≡ Ok (Left z n symbol addend) → IsLeft l s r z n symbol addend
 treated_left l s r treatments.Nothing z n symbol addend is h = cc
 treated_left l s r (treatments.Value row) z n symbol addend is h = absurd (value_is_not_left l s r row z n symbol addend (term_of l r.symbol row.kind) h)
 treated_left l s r treatments.BaseRelative z n symbol addend is h = absurd (moved_is_not_left l s r z n symbol addend (address_of l r.symbol) h)
@@ -370,7 +370,7 @@ treated_left l s r (treatments.Symbolic i) z n symbol addend is h =
       entry = ap (left_by l s r) is ∙ same p.type_is p.index p.more;
     }
   where
-    same : type_of l.machine Absolute ≡ n → index_of l i ≡ Some symbol → added r ≡ addend → left_by l s r (treatments.Symbolic i) ≡ entry_for (place_of s r) n symbol addend
+    same : type_of l.machine Absolute ≡ n → index_of l i ≡ Some symbol → added r ≡ addend → left_by l s r (treatments.Symbolic i) ≡ entry_for (place_of s.address r) n symbol addend
     same e f g = rw (e, f, g) refl
 treated_left l s r (treatments.Indirect i) z n symbol addend is h =
     let k = known_indirect l s r i is in
@@ -385,7 +385,7 @@ treated_left l s r (treatments.Indirect i) z n symbol addend is h =
       entry = ap (left_by l s r) is ∙ same p.1 p.2 p.3;
     }
   where
-    same : type_of l.machine Irelative ≡ n → 0 ≡ symbol → decided_address l i ≡ Ok addend → left_by l s r (treatments.Indirect i) ≡ entry_for (place_of s r) n symbol addend
+    same : type_of l.machine Irelative ≡ n → 0 ≡ symbol → decided_address l i ≡ Ok addend → left_by l s r (treatments.Indirect i) ≡ entry_for (place_of s.address r) n symbol addend
     same e f g = rw (e, sym f, g) refl
 treated_left l s r (treatments.Extent row i) z n symbol addend is h =
     let k = known_extent l s r row i is in
@@ -400,16 +400,16 @@ treated_left l s r (treatments.Extent row i) z n symbol addend is h =
       entry = ap (left_by l s r) is ∙ same p.type_is p.index p.more;
     }
   where
-    same : r.number ≡ n → index_of l i ≡ Some symbol → added r ≡ addend → left_by l s r (treatments.Extent row i) ≡ entry_for (place_of s r) n symbol addend
+    same : r.number ≡ n → index_of l i ≡ Some symbol → added r ≡ addend → left_by l s r (treatments.Extent row i) ≡ entry_for (place_of s.address r) n symbol addend
     same e f g = rw (e, f, g) refl
 treated_left l s r treatments.Recompile z n symbol addend is h = cc
 treated_left l s r treatments.Unsupported z n symbol addend is h = cc
 
-pub decided_left : (l : Layout) (s : InputSection) (r : InputRelocation) (z : RelocationSize) (n symbol addend : ℕ) → decided l s r ≡ Ok (Left z n symbol addend) → IsLeft l s r z n symbol addend
+pub decided_left : (l : Layout) (s : Item) (r : InputRelocation) (z : RelocationSize) (n symbol addend : ℕ) → decided l s r ≡ Ok (Left z n symbol addend) → IsLeft l s r z n symbol addend
 unfolding decided
-decided_left l s r z n symbol addend h = treated_left l s r (treatment l s r) z n symbol addend refl h
+decided_left l s r z n symbol addend h = treated_left l s r (treatment l s.flags r) z n symbol addend refl h
 
-pub left_has : (l : Layout) (s : InputSection) (r : InputRelocation) (z : RelocationSize) (n symbol addend : ℕ) → IsLeft l s r z n symbol addend → HasField l r z
+pub left_has : (l : Layout) (s : Item) (r : InputRelocation) (z : RelocationSize) (n symbol addend : ℕ) → IsLeft l s r z n symbol addend → HasField l r z
 left_has l s r z n symbol addend h = h.field
 
 -- a value is below 2 ^ 64

@@ -33,7 +33,7 @@ use Rattle.wild_types.specs.declared.kind.Machine.TheVariants as machine
 use Rattle.wild_types.specs.declared.fault.Fault.{Fault}
 use Rattle.wild_types.specs.declared.fault.Fault.TheVariants as faults
 use Rattle.wild_types.specs.declared.input.InputRelocation.{InputRelocation}
-use Rattle.wild_types.specs.declared.input.InputSection.{InputSection}
+use Rattle.wild_types.specs.Item.{Item}
 use Rattle.wild_types.specs.declared.layout.Layout.{Layout}
 use Rattle.wild_slot.specs.declared.treatment.Treatment.{Treatment}
 use Rattle.wild_slot.specs.declared.treatment.Treatment.TheVariants as treatments
@@ -54,7 +54,7 @@ use Rattle.wild_relax.specs.Linked.{keeps_bytes}
 use Rattle.wild_relax.proofs.EveryRow.{every_row, each_implied}
 use Rattle.wild_layout.specs.declared.decision.Decision.{Decision}
 use Rattle.wild_layout.specs.declared.decision.Decision.TheVariants.{Nothing, Field, Moved, Left, Rewritten, Partner}
-use Rattle.wild_layout.specs.SymbolValues.{place_of}
+use Rattle.wild_types.specs.Lookups.{place_of}
 use Rattle.wild_layout.specs.SlotValues.{address_of, index_of, decided_address}
 use Rattle.wild_layout.specs.Values.{term_of, value_by}
 use Rattle.wild_layout.specs.Choice.{choice_of, takes_next, is_partner}
@@ -78,11 +78,11 @@ field_keeps row w d h =
       | inl t ↦ (let e : Ok (Field row.size w) ≡ Ok d = rw t at h in let same : Field row.size w ≡ d = cc in subst KeepsInstruction same tt)
     ]
 
-value_keeps : (l : Layout) (s : InputSection) (r : InputRelocation) (row : RelocationKindInfo) (a : Result ℕ Fault) (d : Decision) → field_for l s r row a ≡ Ok d → KeepsInstruction d
+value_keeps : (l : Layout) (s : Item) (r : InputRelocation) (row : RelocationKindInfo) (a : Result ℕ Fault) (d : Decision) → field_for l s r row a ≡ Ok d → KeepsInstruction d
 value_keeps l s r row (Err f) d h = cc
-value_keeps l s r row (Ok a) d h = field_keeps row (value_by l row.kind a r.addend (place_of s r)) d h
+value_keeps l s r row (Ok a) d h = field_keeps row (value_by l row.kind a r.addend (place_of s.address r)) d h
 
-moved_keeps : (l : Layout) (s : InputSection) (r : InputRelocation) (a : Result ℕ Fault) (d : Decision) → moved_to l s r a ≡ Ok d → KeepsInstruction d
+moved_keeps : (l : Layout) (s : Item) (r : InputRelocation) (a : Result ℕ Fault) (d : Decision) → moved_to l s r a ≡ Ok d → KeepsInstruction d
 moved_keeps l s r (Err f) d h = cc
 moved_keeps l s r (Ok a) (Moved v packed) h = tt
 moved_keeps l s r (Ok a) Nothing h = tt
@@ -106,7 +106,7 @@ chosen_keeps l r (Ok resolver) d h =
           subst KeepsInstruction same tt)
     ]
 
-treated_keeps : (l : Layout) (s : InputSection) (r : InputRelocation) (t : Treatment) (d : Decision) → decide_by l s r t ≡ Ok d → KeepsInstruction d
+treated_keeps : (l : Layout) (s : Item) (r : InputRelocation) (t : Treatment) (d : Decision) → decide_by l s r t ≡ Ok d → KeepsInstruction d
 treated_keeps l s r treatments.Nothing d h = let same : Nothing ≡ d = cc in subst KeepsInstruction same tt
 treated_keeps l s r (treatments.Value row) d h = value_keeps l s r row (term_of l r.symbol row.kind) d h
 treated_keeps l s r treatments.BaseRelative d h = moved_keeps l s r (address_of l r.symbol) d h
@@ -116,9 +116,9 @@ treated_keeps l s r (treatments.Extent row i) d h = left_keeps row.size r.number
 treated_keeps l s r treatments.Recompile d h = cc
 treated_keeps l s r treatments.Unsupported d h = cc
 
-decided_keeps : (l : Layout) (s : InputSection) (r : InputRelocation) (d : Decision) → decided l s r ≡ Ok d → KeepsInstruction d
+decided_keeps : (l : Layout) (s : Item) (r : InputRelocation) (d : Decision) → decided l s r ≡ Ok d → KeepsInstruction d
 unfolding decided
-decided_keeps l s r d h = treated_keeps l s r (treatment l s r) d h
+decided_keeps l s r d h = treated_keeps l s r (treatment l s.flags r) d h
 
 -- a row
 abbrev pub IsOfRow : Decision → Type 0
@@ -133,7 +133,7 @@ of_row false z row v d h = subst IsOfRow h tt
 -- ---- what a row writes
 
 -- v is the value of the kind that is written, at the field's new place and with its new addend, and the field takes it
-pub record IsWrittenBy (l : Layout) (s : InputSection) (r : InputRelocation) (row : Row) (v : ℕ) : Type 0 where
+pub record IsWrittenBy (l : Layout) (s : Item) (r : InputRelocation) (row : Row) (v : ℕ) : Type 0 where
   pub info : RelocationKindInfo
   pub known : row_of l.machine (rewrite_of row).number ≡ Some info
   pub term : ℕ
@@ -150,34 +150,34 @@ term_has_value l r info a has h = by_kind l r a info.kind has h
     by_kind l r a other has h = h
 
 -- a row that writes, and what it comes to
-record IsMade (l : Layout) (s : InputSection) (r : InputRelocation) (row : Row) (d : Decision) : Type 0 where
+record IsMade (l : Layout) (s : Item) (r : InputRelocation) (row : Row) (d : Decision) : Type 0 where
   value : ℕ
   by : IsWrittenBy l s r row value
   is : (if keeps_bytes row then Field by.info.size value else Rewritten row value) ≡ d
 
-row_makes : (l : Layout) (s : InputSection) (r : InputRelocation) (row : Row) (d : Decision) → rewritten_to l s r row ≡ Ok d → IsMade l s r row d
+row_makes : (l : Layout) (s : Item) (r : InputRelocation) (row : Row) (d : Decision) → rewritten_to l s r row ≡ Ok d → IsMade l s r row d
 row_makes l s r row d h = by_info l s r row d (row_of l.machine (rewrite_of row).number) refl h
   where
-    by_test : (l : Layout) (s : InputSection) (r : InputRelocation) (row : Row) (d : Decision) (info : RelocationKindInfo) (a v : ℕ) (b : Bool) → row_of l.machine (rewrite_of row).number ≡ Some info → term_to l r info ≡ Ok a → value_by l info.kind a ((rewrite_of row).addend r.addend) ((s.address + field_at row r) % 2 ^ 64) ≡ v → allows info v ≡ b → (if b then Ok (if keeps_bytes row then Field info.size v else Rewritten row v) else Err (faults.OutOfRange v)) ≡ Ok d → IsMade l s r row d
+    by_test : (l : Layout) (s : Item) (r : InputRelocation) (row : Row) (d : Decision) (info : RelocationKindInfo) (a v : ℕ) (b : Bool) → row_of l.machine (rewrite_of row).number ≡ Some info → term_to l r info ≡ Ok a → value_by l info.kind a ((rewrite_of row).addend r.addend) ((s.address + field_at row r) % 2 ^ 64) ≡ v → allows info v ≡ b → (if b then Ok (if keeps_bytes row then Field info.size v else Rewritten row v) else Err (faults.OutOfRange v)) ≡ Ok d → IsMade l s r row d
     by_test l s r row d info a v false known given value allowed h = cc
     by_test l s r row d info a v true known given value allowed h =
         let same : (if keeps_bytes row then Field info.size v else Rewritten row v) ≡ d = cc in
         record { value = v; by = record { info = info; known = known; term = a; given = given; value = value; allowed = allowed }; is = same }
 
-    by_term : (l : Layout) (s : InputSection) (r : InputRelocation) (row : Row) (d : Decision) (info : RelocationKindInfo) (t : Result ℕ Fault) → row_of l.machine (rewrite_of row).number ≡ Some info → term_to l r info ≡ t → value_to l s r row info t ≡ Ok d → IsMade l s r row d
+    by_term : (l : Layout) (s : Item) (r : InputRelocation) (row : Row) (d : Decision) (info : RelocationKindInfo) (t : Result ℕ Fault) → row_of l.machine (rewrite_of row).number ≡ Some info → term_to l r info ≡ t → value_to l s r row info t ≡ Ok d → IsMade l s r row d
     by_term l s r row d info (Err f) known given h = cc
     by_term l s r row d info (Ok a) known given h =
         let v = value_by l info.kind a ((rewrite_of row).addend r.addend) ((s.address + field_at row r) % 2 ^ 64) in
         by_test l s r row d info a v (allows info v) known given refl refl h
 
-    by_info : (l : Layout) (s : InputSection) (r : InputRelocation) (row : Row) (d : Decision) (o : Option RelocationKindInfo) → row_of l.machine (rewrite_of row).number ≡ o → rewritten_by l s r row o ≡ Ok d → IsMade l s r row d
+    by_info : (l : Layout) (s : Item) (r : InputRelocation) (row : Row) (d : Decision) (o : Option RelocationKindInfo) → row_of l.machine (rewrite_of row).number ≡ o → rewritten_by l s r row o ≡ Ok d → IsMade l s r row d
     by_info l s r row d None known h = cc
     by_info l s r row d (Some info) known h = by_term l s r row d info (term_to l r info) known refl h
 
 -- ---- the three ways
 
 -- no row stands at relocation i, and it is not taken along: d is decided of it alone
-pub record IsOwn (l : Layout) (s : InputSection) (i : ℕ) (r : InputRelocation) (d : Decision) : Type 0 where
+pub record IsOwn (l : Layout) (s : Item) (i : ℕ) (r : InputRelocation) (d : Decision) : Type 0 where
   pub made : decided l s r ≡ Ok d
   pub choice : choice_of l s r (slice_get s.relocations (i + 1)) ≡ Ok None
   pub alone : is_partner l s i ≡ false
@@ -191,42 +191,42 @@ pub refused : (l : Layout) (r : InputRelocation) (e : UnknownSequence) (o : Opti
 refused l r e None d h = cc
 refused l r e (Some info) d h = refused_term l r e info (term_to l r info) d refl h
 
-decide_cases : {P : Type 0} (l : Layout) (s : InputSection) (i : ℕ) (r : InputRelocation) (d : Decision) → slice_get s.relocations i ≡ Some r → decide l s i ≡ Ok d → (IsOwn l s i r d → P) → ((row : Row) → IsChosen l s r (slice_get s.relocations (i + 1)) row → IsMade l s r row d → P) → (is_partner l s i ≡ true → Partner ≡ d → P) → P
+decide_cases : {P : Type 0} (l : Layout) (s : Item) (i : ℕ) (r : InputRelocation) (d : Decision) → slice_get s.relocations i ≡ Some r → decide l s i ≡ Ok d → (IsOwn l s i r d → P) → ((row : Row) → IsChosen l s r (slice_get s.relocations (i + 1)) row → IsMade l s r row d → P) → (is_partner l s i ≡ true → Partner ≡ d → P) → P
 unfolding decide
 decide_cases {P} l s i r d listed h own made taken = by_partner l s i r d (is_partner l s i) refl listed h own made taken
   where
-    by_choice : {P : Type 0} (l : Layout) (s : InputSection) (i : ℕ) (r : InputRelocation) (d : Decision) (c : Result (Option Row) UnknownSequence) → is_partner l s i ≡ false → choice_of l s r (slice_get s.relocations (i + 1)) ≡ c → decide_with l s r c ≡ Ok d → (IsOwn l s i r d → P) → ((row : Row) → IsChosen l s r (slice_get s.relocations (i + 1)) row → IsMade l s r row d → P) → P
+    by_choice : {P : Type 0} (l : Layout) (s : Item) (i : ℕ) (r : InputRelocation) (d : Decision) (c : Result (Option Row) UnknownSequence) → is_partner l s i ≡ false → choice_of l s r (slice_get s.relocations (i + 1)) ≡ c → decide_with l s r c ≡ Ok d → (IsOwn l s i r d → P) → ((row : Row) → IsChosen l s r (slice_get s.relocations (i + 1)) row → IsMade l s r row d → P) → P
     by_choice l s i r d (Ok None) alone is h own made = own (record { made = h; choice = is; alone = alone })
     by_choice l s i r d (Ok (Some row)) alone is h own made = made row (choice_row l s r (slice_get s.relocations (i + 1)) row is) (row_makes l s r row d h)
     by_choice l s i r d (Err e) alone is h own made = absurd (refused l r e (row_of l.machine e.written) d h)
 
-    by_partner : {P : Type 0} (l : Layout) (s : InputSection) (i : ℕ) (r : InputRelocation) (d : Decision) (b : Bool) → is_partner l s i ≡ b → slice_get s.relocations i ≡ Some r → (if b then Ok Partner else decide_at l s (slice_get s.relocations i) (slice_get s.relocations (i + 1))) ≡ Ok d → (IsOwn l s i r d → P) → ((row : Row) → IsChosen l s r (slice_get s.relocations (i + 1)) row → IsMade l s r row d → P) → (is_partner l s i ≡ true → Partner ≡ d → P) → P
+    by_partner : {P : Type 0} (l : Layout) (s : Item) (i : ℕ) (r : InputRelocation) (d : Decision) (b : Bool) → is_partner l s i ≡ b → slice_get s.relocations i ≡ Some r → (if b then Ok Partner else decide_at l s (slice_get s.relocations i) (slice_get s.relocations (i + 1))) ≡ Ok d → (IsOwn l s i r d → P) → ((row : Row) → IsChosen l s r (slice_get s.relocations (i + 1)) row → IsMade l s r row d → P) → (is_partner l s i ≡ true → Partner ≡ d → P) → P
     by_partner l s i r d true is listed h own made taken = taken is cc
     by_partner l s i r d false is listed h own made taken =
         by_choice l s i r d (choice_of l s r (slice_get s.relocations (i + 1))) is refl (subst (λ (o : Option InputRelocation). decide_at l s o (slice_get s.relocations (i + 1)) ≡ Ok d) listed h) own made
 
 -- ---- decisions of a relocation alone
 
-own_alone : (l : Layout) (s : InputSection) (i : ℕ) (r : InputRelocation) (d : Decision) → slice_get s.relocations i ≡ Some r → decide l s i ≡ Ok d → (IsOfRow d → ⊥) → (Partner ≡ d → ⊥) → IsOwn l s i r d
+own_alone : (l : Layout) (s : Item) (i : ℕ) (r : InputRelocation) (d : Decision) → slice_get s.relocations i ≡ Some r → decide l s i ≡ Ok d → (IsOfRow d → ⊥) → (Partner ≡ d → ⊥) → IsOwn l s i r d
 own_alone l s i r d listed h no_row no_call =
     decide_cases l s i r d listed h
     (λ own. own)
     (λ row c m. absurd (no_row (of_row (keeps_bytes row) m.by.info.size row m.value d m.is)))
     (λ t e. absurd (no_call e))
 
-pub decide_nothing : (l : Layout) (s : InputSection) (i : ℕ) (r : InputRelocation) → slice_get s.relocations i ≡ Some r → decide l s i ≡ Ok Nothing → IsOwn l s i r Nothing
+pub decide_nothing : (l : Layout) (s : Item) (i : ℕ) (r : InputRelocation) → slice_get s.relocations i ≡ Some r → decide l s i ≡ Ok Nothing → IsOwn l s i r Nothing
 decide_nothing l s i r listed h = own_alone l s i r Nothing listed h (λ x. x) (λ e. cc)
 
-pub decide_moved : (l : Layout) (s : InputSection) (i : ℕ) (r : InputRelocation) (v : ℕ) (packed : Bool) → slice_get s.relocations i ≡ Some r → decide l s i ≡ Ok (Moved v packed) → IsOwn l s i r (Moved v packed)
+pub decide_moved : (l : Layout) (s : Item) (i : ℕ) (r : InputRelocation) (v : ℕ) (packed : Bool) → slice_get s.relocations i ≡ Some r → decide l s i ≡ Ok (Moved v packed) → IsOwn l s i r (Moved v packed)
 decide_moved l s i r v packed listed h = own_alone l s i r (Moved v packed) listed h (λ x. x) (λ e. cc)
 
-pub decide_left : (l : Layout) (s : InputSection) (i : ℕ) (r : InputRelocation) (z : RelocationSize) (number symbol addend : ℕ) → slice_get s.relocations i ≡ Some r → decide l s i ≡ Ok (Left z number symbol addend) → IsOwn l s i r (Left z number symbol addend)
+pub decide_left : (l : Layout) (s : Item) (i : ℕ) (r : InputRelocation) (z : RelocationSize) (number symbol addend : ℕ) → slice_get s.relocations i ≡ Some r → decide l s i ≡ Ok (Left z number symbol addend) → IsOwn l s i r (Left z number symbol addend)
 decide_left l s i r z number symbol addend listed h = own_alone l s i r (Left z number symbol addend) listed h (λ x. x) (λ e. cc)
 
 -- ---- values of rows that keep the bytes around their field
 
 -- such a row writes v into the relocation's own field
-pub record IsKept (l : Layout) (s : InputSection) (r : InputRelocation) (next : Option InputRelocation) (z : RelocationSize) (v : ℕ) : Type 0 where
+pub record IsKept (l : Layout) (s : Item) (r : InputRelocation) (next : Option InputRelocation) (z : RelocationSize) (v : ℕ) : Type 0 where
   pub row : Row
   pub keeps : (row ≡ Plt32ToPc32) ⊎ (row ≡ PltOffToGotOff)
   pub chosen : IsChosen l s r next row
@@ -236,7 +236,7 @@ pub record IsKept (l : Layout) (s : InputSection) (r : InputRelocation) (next : 
   pub size : info.size ≡ z
   pub term : ℕ
   pub given : term_of l r.symbol info.kind ≡ Ok term
-  pub value : value_by l info.kind term r.addend (place_of s r) ≡ v
+  pub value : value_by l info.kind term r.addend (place_of s.address r) ≡ v
   pub allowed : allows info v ≡ true
   pub field : HasField l r z
 
@@ -275,7 +275,7 @@ at_number machine.X86_64 n k row is e h = ap x86_64_row e ∙ h
 known_info : (m : Machine) (n : ℕ) (info row : RelocationKindInfo) → m ≡ machine.X86_64 → row_of m n ≡ Some info → x86_64_row n ≡ Some row → info ≡ row
 known_info m n info row is known h = let e : Some info ≡ Some row = sym known ∙ at_number m n n row is refl h in cc
 
-kept_field : (l : Layout) (s : InputSection) (r : InputRelocation) (next : Option InputRelocation) (row : Row) (z : RelocationSize) (v : ℕ) (old new : RelocationKindInfo) → IsChosen l s r next row → (m : IsWrittenBy l s r row v) → m.info.size ≡ z → (row ≡ Plt32ToPc32) ⊎ (row ≡ PltOffToGotOff) → x86_64_row (number_of row) ≡ Some old → HasValue old.kind → x86_64_row (rewrite_of row).number ≡ Some new → HasValue new.kind → old.size ≡ new.size → (rewrite_of row).addend r.addend ≡ r.addend → field_at row r ≡ r.offset → IsKept l s r next z v
+kept_field : (l : Layout) (s : Item) (r : InputRelocation) (next : Option InputRelocation) (row : Row) (z : RelocationSize) (v : ℕ) (old new : RelocationKindInfo) → IsChosen l s r next row → (m : IsWrittenBy l s r row v) → m.info.size ≡ z → (row ≡ Plt32ToPc32) ⊎ (row ≡ PltOffToGotOff) → x86_64_row (number_of row) ≡ Some old → HasValue old.kind → x86_64_row (rewrite_of row).number ≡ Some new → HasValue new.kind → old.size ≡ new.size → (rewrite_of row).addend r.addend ≡ r.addend → field_at row r ≡ r.offset → IsKept l s r next z v
 kept_field l s r next row z v old new c m size keeps before old_kind behind new_kind sizes addend at =
     let same : m.info ≡ new = known_info l.machine (rewrite_of row).number m.info new c.machine m.known behind in
     let kind : HasValue m.info.kind = subst (λ (x : RelocationKindInfo). HasValue x.kind) (sym same) new_kind in
@@ -289,20 +289,20 @@ kept_field l s r next row z v old new c m size keeps before old_kind behind new_
       size = size;
       term = m.term;
       given = term_has_value l r m.info m.term kind m.given;
-      value = ap (λ a. value_by l m.info.kind m.term a (place_of s r)) (sym addend) ∙ ap (λ (p : ℕ). value_by l m.info.kind m.term ((rewrite_of row).addend r.addend) ((s.address + p) % 2 ^ 64)) (sym at) ∙ m.value;
+      value = ap (λ a. value_by l m.info.kind m.term a (place_of s.address r)) (sym addend) ∙ ap (λ (p : ℕ). value_by l m.info.kind m.term ((rewrite_of row).addend r.addend) ((s.address + p) % 2 ^ 64)) (sym at) ∙ m.value;
       allowed = m.allowed;
       field = record { row = old; known = at_number l.machine r.number (number_of row) old c.machine c.number before; kind = old_kind; size = sizes ∙ ap (λ (x : RelocationKindInfo). x.size) (sym same) ∙ size };
     }
 
-kept_plt : (l : Layout) (s : InputSection) (r : InputRelocation) (next : Option InputRelocation) (z : RelocationSize) (v : ℕ) → IsChosen l s r next Plt32ToPc32 → (m : IsWrittenBy l s r Plt32ToPc32 v) → m.info.size ≡ z → IsKept l s r next z v
+kept_plt : (l : Layout) (s : Item) (r : InputRelocation) (next : Option InputRelocation) (z : RelocationSize) (v : ℕ) → IsChosen l s r next Plt32ToPc32 → (m : IsWrittenBy l s r Plt32ToPc32 v) → m.info.size ≡ z → IsKept l s r next z v
 unfolding x86_64_row
 kept_plt l s r next z v c m size = kept_field l s r next Plt32ToPc32 z v (plain kinds.PltRelative Four Signed) (plain kinds.Relative Four Signed) c m size (inl refl) refl refl refl refl refl refl (omega arith)
 
-kept_offset : (l : Layout) (s : InputSection) (r : InputRelocation) (next : Option InputRelocation) (z : RelocationSize) (v : ℕ) → IsChosen l s r next PltOffToGotOff → (m : IsWrittenBy l s r PltOffToGotOff v) → m.info.size ≡ z → IsKept l s r next z v
+kept_offset : (l : Layout) (s : Item) (r : InputRelocation) (next : Option InputRelocation) (z : RelocationSize) (v : ℕ) → IsChosen l s r next PltOffToGotOff → (m : IsWrittenBy l s r PltOffToGotOff v) → m.info.size ≡ z → IsKept l s r next z v
 unfolding x86_64_row
 kept_offset l s r next z v c m size = kept_field l s r next PltOffToGotOff z v (plain kinds.PltRelGotBase Eight Signed) (plain kinds.SymRelGotBase Eight Signed) c m size (inr refl) refl refl refl refl refl refl (omega arith)
 
-made_kept : (l : Layout) (s : InputSection) (r : InputRelocation) (next : Option InputRelocation) (z : RelocationSize) (v : ℕ) (row : Row) → IsChosen l s r next row → (row ≡ Plt32ToPc32) ⊎ (row ≡ PltOffToGotOff) → (m : IsWrittenBy l s r row v) → m.info.size ≡ z → IsKept l s r next z v
+made_kept : (l : Layout) (s : Item) (r : InputRelocation) (next : Option InputRelocation) (z : RelocationSize) (v : ℕ) (row : Row) → IsChosen l s r next row → (row ≡ Plt32ToPc32) ⊎ (row ≡ PltOffToGotOff) → (m : IsWrittenBy l s r row v) → m.info.size ≡ z → IsKept l s r next z v
 made_kept l s r next z v row c (inl e) =
     let P : Row → Type 0 = λ x. IsChosen l s r next x → (m : IsWrittenBy l s r x v) → m.info.size ≡ z → IsKept l s r next z v in
     subst P (sym e) (kept_plt l s r next z v) c
@@ -311,7 +311,7 @@ made_kept l s r next z v row c (inr e) =
     subst P (sym e) (kept_offset l s r next z v) c
 
 -- a field that is written into what the input has there
-pub decide_field : (l : Layout) (s : InputSection) (i : ℕ) (r : InputRelocation) (z : RelocationSize) (v : ℕ) → slice_get s.relocations i ≡ Some r → decide l s i ≡ Ok (Field z v) → IsOwn l s i r (Field z v) ⊎ IsKept l s r (slice_get s.relocations (i + 1)) z v
+pub decide_field : (l : Layout) (s : Item) (i : ℕ) (r : InputRelocation) (z : RelocationSize) (v : ℕ) → slice_get s.relocations i ≡ Some r → decide l s i ≡ Ok (Field z v) → IsOwn l s i r (Field z v) ⊎ IsKept l s r (slice_get s.relocations (i + 1)) z v
 decide_field l s i r z v listed h = decide_cases l s i r (Field z v) listed h (λ own. inl own) (λ row c m. inr (by_row l s r (slice_get s.relocations (i + 1)) row z v c m)) (λ t e. cc)
   where
     by_test : (b : Bool) (row : Row) (size z : RelocationSize) (w v : ℕ) → (if b then Field size w else Rewritten row w) ≡ Field z v → (b ≡ true) × (size ≡ z) × (w ≡ v)
@@ -321,7 +321,7 @@ decide_field l s i r z v listed h = decide_cases l s i r (Field z v) listed h (�
         (refl, a, e)
     by_test false row size z w v h = cc
 
-    by_row : (l : Layout) (s : InputSection) (r : InputRelocation) (next : Option InputRelocation) (row : Row) (z : RelocationSize) (v : ℕ) → IsChosen l s r next row → IsMade l s r row (Field z v) → IsKept l s r next z v
+    by_row : (l : Layout) (s : Item) (r : InputRelocation) (next : Option InputRelocation) (row : Row) (z : RelocationSize) (v : ℕ) → IsChosen l s r next row → IsMade l s r row (Field z v) → IsKept l s r next z v
     by_row l s r next row z v c m =
         let t = by_test (keeps_bytes row) row m.by.info.size z m.value v m.is in
         let keeps = kept_rows row t.0 (other_number r.number (number_of row) c.number c.other) in
@@ -330,12 +330,12 @@ decide_field l s i r z v listed h = decide_cases l s i r (Field z v) listed h (�
 -- ---- instructions
 
 -- a row writes all of its pattern, with v in the field
-pub record IsRewritten (l : Layout) (s : InputSection) (r : InputRelocation) (next : Option InputRelocation) (row : Row) (v : ℕ) : Type 0 where
+pub record IsRewritten (l : Layout) (s : Item) (r : InputRelocation) (next : Option InputRelocation) (row : Row) (v : ℕ) : Type 0 where
   pub chosen : IsChosen l s r next row
   pub changes : keeps_bytes row ≡ false
   pub written : IsWrittenBy l s r row v
 
-pub decide_rewritten : (l : Layout) (s : InputSection) (i : ℕ) (r : InputRelocation) (row : Row) (v : ℕ) → slice_get s.relocations i ≡ Some r → decide l s i ≡ Ok (Rewritten row v) → IsRewritten l s r (slice_get s.relocations (i + 1)) row v
+pub decide_rewritten : (l : Layout) (s : Item) (i : ℕ) (r : InputRelocation) (row : Row) (v : ℕ) → slice_get s.relocations i ≡ Some r → decide l s i ≡ Ok (Rewritten row v) → IsRewritten l s r (slice_get s.relocations (i + 1)) row v
 decide_rewritten l s i r row v listed h = decide_cases l s i r (Rewritten row v) listed h (λ own. absurd (decided_keeps l s r (Rewritten row v) own.made)) (λ w c m. by_row l s r (slice_get s.relocations (i + 1)) w row v c m) (λ t e. cc)
   where
     by_test : (b : Bool) (w row : Row) (size : RelocationSize) (x v : ℕ) → (if b then Field size x else Rewritten w x) ≡ Rewritten row v → (b ≡ false) × (w ≡ row) × (x ≡ v)
@@ -345,7 +345,7 @@ decide_rewritten l s i r row v listed h = decide_cases l s i r (Rewritten row v)
         let e : x ≡ v = cc in
         (refl, a, e)
 
-    by_row : (l : Layout) (s : InputSection) (r : InputRelocation) (next : Option InputRelocation) (w row : Row) (v : ℕ) → IsChosen l s r next w → IsMade l s r w (Rewritten row v) → IsRewritten l s r next row v
+    by_row : (l : Layout) (s : Item) (r : InputRelocation) (next : Option InputRelocation) (w row : Row) (v : ℕ) → IsChosen l s r next w → IsMade l s r w (Rewritten row v) → IsRewritten l s r next row v
     by_row l s r next w row v c m =
         let t = by_test (keeps_bytes w) w row m.by.info.size m.value v m.is in
         let P : Row → Type 0 = λ y. IsRewritten l s r next y v in
@@ -353,7 +353,7 @@ decide_rewritten l s i r row v listed h = decide_cases l s i r (Rewritten row v)
 
 -- ---- relocations that are taken along
 
-pub decide_partner : (l : Layout) (s : InputSection) (i : ℕ) (r : InputRelocation) → slice_get s.relocations i ≡ Some r → decide l s i ≡ Ok Partner → (j : ℕ) × (i ≡ j + 1) × (row : Row) × IsSequence l s j row
+pub decide_partner : (l : Layout) (s : Item) (i : ℕ) (r : InputRelocation) → slice_get s.relocations i ≡ Some r → decide l s i ≡ Ok Partner → (j : ℕ) × (i ≡ j + 1) × (row : Row) × IsSequence l s j row
 decide_partner l s i r listed h = decide_cases l s i r Partner listed h (λ own. absurd (decided_keeps l s r Partner own.made)) (λ row c m. absurd (of_row (keeps_bytes row) m.by.info.size row m.value Partner m.is)) (λ t e. partner_is_taken l s i t)
 
 -- the relocation of such a row is no call
@@ -369,14 +369,14 @@ sequence_is_no_call : (row : Row) (f : GeneralForm) → takes_next (Ok (Some row
 sequence_is_no_call row f t h = not_both (is_call_number f (number_of row)) (each_implied (λ (r : Row). takes_next (Ok (Some r))) (is_no_call f) (each_is_no_call f) row t) h
 
 -- and so it is not taken along itself
-pub sequence_is_alone : (l : Layout) (s : InputSection) (j : ℕ) (row : Row) → IsSequence l s j row → is_partner l s j ≡ false
+pub sequence_is_alone : (l : Layout) (s : Item) (j : ℕ) (row : Row) → IsSequence l s j row → is_partner l s j ≡ false
 sequence_is_alone l s j row q =
     elim (cases_Bool (is_partner l s j)) [
       | inr f ↦ f
       | inl t ↦ (let p = partner_is_taken l s j t in absurd (taken l s p.0 p.2 q.relocation (slice_get s.relocations (j + 1)) row p.3 (subst (λ (k : ℕ). slice_get s.relocations k ≡ Some q.relocation) p.1 q.listed) q.is q.takes))
     ]
   where
-    taken : (l : Layout) (s : InputSection) (k : ℕ) (w : Row) (r : InputRelocation) (next : Option InputRelocation) (row : Row) → IsSequence l s k w → slice_get s.relocations (k + 1) ≡ Some r → choice_of l s r next ≡ Ok (Some row) → takes_next (Ok (Some row)) ≡ true → ⊥
+    taken : (l : Layout) (s : Item) (k : ℕ) (w : Row) (r : InputRelocation) (next : Option InputRelocation) (row : Row) → IsSequence l s k w → slice_get s.relocations (k + 1) ≡ Some r → choice_of l s r next ≡ Ok (Some row) → takes_next (Ok (Some row)) ≡ true → ⊥
     taken l s k w r next row p listed is takes =
         let before = choice_row l s p.relocation (Some r) w (subst (λ (o : Option InputRelocation). choice_of l s p.relocation o ≡ Ok (Some w)) listed p.is) in
         let c = choice_row l s r next row is in
@@ -387,7 +387,7 @@ sequence_changes : (row : Row) → takes_next (Ok (Some row)) ≡ true → keeps
 sequence_changes row t = not-true (keeps_bytes row) (each_implied (λ (r : Row). takes_next (Ok (Some r))) (λ (r : Row). not (keeps_bytes r)) refl row t)
 
 -- what is decided of the relocation of such a row is its rewrite
-pub sequence_is_rewritten : (l : Layout) (s : InputSection) (j : ℕ) (row : Row) (d : Decision) → IsSequence l s j row → decide l s j ≡ Ok d → (v : ℕ) × (d ≡ Rewritten row v)
+pub sequence_is_rewritten : (l : Layout) (s : Item) (j : ℕ) (row : Row) (d : Decision) → IsSequence l s j row → decide l s j ≡ Ok d → (v : ℕ) × (d ≡ Rewritten row v)
 sequence_is_rewritten l s j row d q h =
     decide_cases l s j q.relocation d q.listed h
     (λ own. absurd (no_other (choice_of l s q.relocation (slice_get s.relocations (j + 1))) row own.choice q.is))
@@ -408,7 +408,7 @@ sequence_is_rewritten l s j row d q h =
     by_test true z w x d f h = cc
     by_test false z w x d f h = sym h
 
-    by_row : (l : Layout) (s : InputSection) (r : InputRelocation) (next : Option InputRelocation) (w row : Row) (d : Decision) → IsChosen l s r next w → choice_of l s r next ≡ Ok (Some row) → takes_next (Ok (Some row)) ≡ true → IsMade l s r w d → (v : ℕ) × (d ≡ Rewritten row v)
+    by_row : (l : Layout) (s : Item) (r : InputRelocation) (next : Option InputRelocation) (w row : Row) (d : Decision) → IsChosen l s r next w → choice_of l s r next ≡ Ok (Some row) → takes_next (Ok (Some row)) ≡ true → IsMade l s r w d → (v : ℕ) × (d ≡ Rewritten row v)
     by_row l s r next w row d c is takes m =
         let same = same_row (choice_of l s r next) w row c.choice is in
         let changes = subst (λ (x : Row). keeps_bytes x ≡ false) (sym same) (sequence_changes row takes) in
@@ -417,26 +417,26 @@ sequence_is_rewritten l s j row d q h =
 -- ---- relocations that are decided of by themselves
 
 -- no row stands there, and none takes it along
-pub decide_alone : (l : Layout) (s : InputSection) (i : ℕ) (r : InputRelocation) → slice_get s.relocations i ≡ Some r → is_partner l s i ≡ false → choice_of l s r (slice_get s.relocations (i + 1)) ≡ Ok None → decide l s i ≡ decided l s r
+pub decide_alone : (l : Layout) (s : Item) (i : ℕ) (r : InputRelocation) → slice_get s.relocations i ≡ Some r → is_partner l s i ≡ false → choice_of l s r (slice_get s.relocations (i + 1)) ≡ Ok None → decide l s i ≡ decided l s r
 unfolding decide
 decide_alone l s i r listed alone none = rw (alone, listed, none) refl
 
 -- a field that a loader may fill is of no row's kind, and of no call's
-pub decide_loads : (l : Layout) (s : InputSection) (i : ℕ) (r : InputRelocation) (row : RelocationKindInfo) → slice_get s.relocations i ≡ Some r → row_of l.machine r.number ≡ Some row → loads row.kind ≡ true → decide l s i ≡ decided l s r
+pub decide_loads : (l : Layout) (s : Item) (i : ℕ) (r : InputRelocation) (row : RelocationKindInfo) → slice_get s.relocations i ≡ Some r → row_of l.machine r.number ≡ Some row → loads row.kind ≡ true → decide l s i ≡ decided l s r
 decide_loads l s i r row listed known h = decide_alone l s i r listed (no_partner l s i r row listed known h) (no_row l s r (slice_get s.relocations (i + 1)) row known h)
 
-pub decide_base_relative : (l : Layout) (s : InputSection) (i : ℕ) (r : InputRelocation) → slice_get s.relocations i ≡ Some r → treatment l s r ≡ treatments.BaseRelative → decide l s i ≡ decided l s r
+pub decide_base_relative : (l : Layout) (s : Item) (i : ℕ) (r : InputRelocation) → slice_get s.relocations i ≡ Some r → treatment l s.flags r ≡ treatments.BaseRelative → decide l s i ≡ decided l s r
 unfolding treatment
-decide_base_relative l s i r listed is = let k = row_moved l s r.number r.symbol (row_of l.machine r.number) is in decide_loads l s i r k.0 listed k.1 (ap loads k.2.kind)
+decide_base_relative l s i r listed is = let k = row_moved l s.flags r.number r.symbol (row_of l.machine r.number) is in decide_loads l s i r k.0 listed k.1 (ap loads k.2.kind)
 
-pub decide_symbolic : (l : Layout) (s : InputSection) (i : ℕ) (r : InputRelocation) (n : ℕ) → slice_get s.relocations i ≡ Some r → treatment l s r ≡ treatments.Symbolic n → decide l s i ≡ decided l s r
+pub decide_symbolic : (l : Layout) (s : Item) (i : ℕ) (r : InputRelocation) (n : ℕ) → slice_get s.relocations i ≡ Some r → treatment l s.flags r ≡ treatments.Symbolic n → decide l s i ≡ decided l s r
 unfolding treatment
-decide_symbolic l s i r n listed is = let k = row_symbolic l s r.number r.symbol (row_of l.machine r.number) n is in decide_loads l s i r k.0 listed k.1 (ap loads k.2.kind)
+decide_symbolic l s i r n listed is = let k = row_symbolic l s.flags r.number r.symbol (row_of l.machine r.number) n is in decide_loads l s i r k.0 listed k.1 (ap loads k.2.kind)
 
-pub decide_indirect : (l : Layout) (s : InputSection) (i : ℕ) (r : InputRelocation) (n : ℕ) → slice_get s.relocations i ≡ Some r → treatment l s r ≡ treatments.Indirect n → decide l s i ≡ decided l s r
+pub decide_indirect : (l : Layout) (s : Item) (i : ℕ) (r : InputRelocation) (n : ℕ) → slice_get s.relocations i ≡ Some r → treatment l s.flags r ≡ treatments.Indirect n → decide l s i ≡ decided l s r
 unfolding treatment
-decide_indirect l s i r n listed is = let k = row_indirect l s r.number r.symbol (row_of l.machine r.number) n is in decide_loads l s i r k.0 listed k.1 (ap loads k.2.kind)
+decide_indirect l s i r n listed is = let k = row_indirect l s.flags r.number r.symbol (row_of l.machine r.number) n is in decide_loads l s i r k.0 listed k.1 (ap loads k.2.kind)
 
-pub decide_extent : (l : Layout) (s : InputSection) (i : ℕ) (r : InputRelocation) (row : RelocationKindInfo) (n : ℕ) → slice_get s.relocations i ≡ Some r → treatment l s r ≡ treatments.Extent row n → decide l s i ≡ decided l s r
+pub decide_extent : (l : Layout) (s : Item) (i : ℕ) (r : InputRelocation) (row : RelocationKindInfo) (n : ℕ) → slice_get s.relocations i ≡ Some r → treatment l s.flags r ≡ treatments.Extent row n → decide l s i ≡ decided l s r
 unfolding treatment
-decide_extent l s i r row n listed is = let k = row_extent l s r.number r.symbol (row_of l.machine r.number) row n is in decide_loads l s i r row listed k.0 (ap loads k.1.kind)
+decide_extent l s i r row n listed is = let k = row_extent l s.flags r.number r.symbol (row_of l.machine r.number) row n is in decide_loads l s i r row listed k.0 (ap loads k.1.kind)

@@ -8,7 +8,7 @@ use Rattle.wild_words.proofs.ListLemmas.{All-flat_map, holds_at}
 use Rattle.wild_words.proofs.Basics.{length-range}
 use Rattle.wild_types.specs.declared.fault.Fault.{Fault}
 use Rattle.wild_types.specs.declared.input.InputRelocation.{InputRelocation}
-use Rattle.wild_types.specs.declared.input.InputSection.{InputSection}
+use Rattle.wild_types.specs.Item.{Item}
 use Rattle.wild_types.specs.declared.layout.Layout.{Layout}
 use Rattle.wild_reloc.specs.Field.{size_width}
 use Rattle.wild_reloc.specs.declared.info.RelocationSize.{RelocationSize}
@@ -53,7 +53,7 @@ Contains-flat_map {X} {Y} f (z ∷ zs) x y c d = cases f z zs x y c.0 c.1 c.2 d 
 -- ---- the site of a relocation
 
 -- relocation i writes a field, as it was decided
-pub record IsSite (l : Layout) (s : InputSection) (i : ℕ) : Type 0 where
+pub record IsSite (l : Layout) (s : Item) (i : ℕ) : Type 0 where
   pub relocation : InputRelocation
   pub listed : slice_get s.relocations i ≡ Some relocation
   pub decision : Decision
@@ -64,7 +64,7 @@ pub record IsSite (l : Layout) (s : InputSection) (i : ℕ) : Type 0 where
   pub is : site l s i ≡ field_site s relocation.offset written.size written.value ∷ []
 
 -- relocation i writes an instruction
-pub record IsTemplateSite (l : Layout) (s : InputSection) (i : ℕ) : Type 0 where
+pub record IsTemplateSite (l : Layout) (s : Item) (i : ℕ) : Type 0 where
   pub relocation : InputRelocation
   pub listed : slice_get s.relocations i ≡ Some relocation
   pub row : Row
@@ -73,7 +73,7 @@ pub record IsTemplateSite (l : Layout) (s : InputSection) (i : ℕ) : Type 0 whe
   pub rewritten : IsRewritten l s relocation (slice_get s.relocations (i + 1)) row value
   pub is : site l s i ≡ template_site s relocation row value ∷ []
 
-site_for_field : (s : InputSection) (r : InputRelocation) (d : Decision) (w : Written) → written_by d ≡ Some w → site_for s r d ≡ field_site s r.offset w.size w.value ∷ []
+site_for_field : (s : Item) (r : InputRelocation) (d : Decision) (w : Written) → written_by d ≡ Some w → site_for s r d ≡ field_site s r.offset w.size w.value ∷ []
 site_for_field s r Nothing w by = cc
 site_for_field s r (Field z v) w by = ap (site_by s r) by
 site_for_field s r (Moved v packed) w by = ap (site_by s r) by
@@ -81,20 +81,20 @@ site_for_field s r (Left z number symbol addend) w by = ap (site_by s r) by
 site_for_field s r (Rewritten row v) w by = cc
 site_for_field s r Partner w by = cc
 
-site_decided : (l : Layout) (s : InputSection) (i : ℕ) (r : InputRelocation) (d : Decision) → slice_get s.relocations i ≡ Some r → decide l s i ≡ Ok d → site l s i ≡ site_for s r d
+site_decided : (l : Layout) (s : Item) (i : ℕ) (r : InputRelocation) (d : Decision) → slice_get s.relocations i ≡ Some r → decide l s i ≡ Ok d → site l s i ≡ site_for s r d
 unfolding site
 site_decided l s i r d listed is = rw (listed, is) refl
 
 -- the site of a decision
-pub site_written : (l : Layout) (s : InputSection) (i : ℕ) (r : InputRelocation) (d : Decision) (w : Written) → slice_get s.relocations i ≡ Some r → decide l s i ≡ Ok d → written_by d ≡ Some w → site l s i ≡ field_site s r.offset w.size w.value ∷ []
+pub site_written : (l : Layout) (s : Item) (i : ℕ) (r : InputRelocation) (d : Decision) (w : Written) → slice_get s.relocations i ≡ Some r → decide l s i ≡ Ok d → written_by d ≡ Some w → site l s i ≡ field_site s r.offset w.size w.value ∷ []
 site_written l s i r d w listed is by = site_decided l s i r d listed is ∙ site_for_field s r d w by
 
 -- that of an instruction
-pub site_rewritten : (l : Layout) (s : InputSection) (i : ℕ) (r : InputRelocation) (row : Row) (v : ℕ) → slice_get s.relocations i ≡ Some r → decide l s i ≡ Ok (Rewritten row v) → site l s i ≡ template_site s r row v ∷ []
+pub site_rewritten : (l : Layout) (s : Item) (i : ℕ) (r : InputRelocation) (row : Row) (v : ℕ) → slice_get s.relocations i ≡ Some r → decide l s i ≡ Ok (Rewritten row v) → site l s i ≡ template_site s r row v ∷ []
 site_rewritten l s i r row v listed is = site_decided l s i r (Rewritten row v) listed is
 
 -- the field of a relocation that a value is written into
-pub decide_field_has : (l : Layout) (s : InputSection) (i : ℕ) (r : InputRelocation) (z : RelocationSize) (v : ℕ) → slice_get s.relocations i ≡ Some r → decide l s i ≡ Ok (Field z v) → HasField l r z
+pub decide_field_has : (l : Layout) (s : Item) (i : ℕ) (r : InputRelocation) (z : RelocationSize) (v : ℕ) → slice_get s.relocations i ≡ Some r → decide l s i ≡ Ok (Field z v) → HasField l r z
 decide_field_has l s i r z v listed is =
     elim (decide_field l s i r z v listed is) [
       | inl own ↦ field_has l s r z v (decided_field l s r z v own.made)
@@ -102,14 +102,14 @@ decide_field_has l s i r z v listed is =
     ]
 
 -- a relocation writes nothing, or a field, or an instruction
-pub site_cases : (l : Layout) (s : InputSection) (i : ℕ) → (site l s i ≡ []) ⊎ (IsSite l s i ⊎ IsTemplateSite l s i)
+pub site_cases : (l : Layout) (s : Item) (i : ℕ) → (site l s i ≡ []) ⊎ (IsSite l s i ⊎ IsTemplateSite l s i)
 unfolding site
 site_cases l s i = listed l s i (slice_get s.relocations i) refl
   where
-    field_of : (l : Layout) (s : InputSection) (i : ℕ) (r : InputRelocation) (d : Decision) (w : Written) → slice_get s.relocations i ≡ Some r → decide l s i ≡ Ok d → written_by d ≡ Some w → HasField l r w.size → (site_for s r d ≡ []) ⊎ (IsSite l s i ⊎ IsTemplateSite l s i)
+    field_of : (l : Layout) (s : Item) (i : ℕ) (r : InputRelocation) (d : Decision) (w : Written) → slice_get s.relocations i ≡ Some r → decide l s i ≡ Ok d → written_by d ≡ Some w → HasField l r w.size → (site_for s r d ≡ []) ⊎ (IsSite l s i ⊎ IsTemplateSite l s i)
     field_of l s i r d w e is by f = inr (inl (record { relocation = r; listed = e; decision = d; made = is; written = w; by = by; field = f; is = site_written l s i r d w e is by }))
 
-    decision : (l : Layout) (s : InputSection) (i : ℕ) (r : InputRelocation) (d : Result Decision Fault) → slice_get s.relocations i ≡ Some r → decide l s i ≡ d → (site_of s r d ≡ []) ⊎ (IsSite l s i ⊎ IsTemplateSite l s i)
+    decision : (l : Layout) (s : Item) (i : ℕ) (r : InputRelocation) (d : Result Decision Fault) → slice_get s.relocations i ≡ Some r → decide l s i ≡ d → (site_of s r d ≡ []) ⊎ (IsSite l s i ⊎ IsTemplateSite l s i)
     decision l s i r (Err f) e is = inl refl
     decision l s i r (Ok Nothing) e is = inl refl
     decision l s i r (Ok Partner) e is = inl refl
@@ -118,25 +118,25 @@ site_cases l s i = listed l s i (slice_get s.relocations i) refl
     decision l s i r (Ok (Left z number symbol addend)) e is = field_of l s i r (Left z number symbol addend) (record { size = z; value = 0 }) e is refl (left_has l s r z number symbol addend (decided_left l s r z number symbol addend (decide_left l s i r z number symbol addend e is).made))
     decision l s i r (Ok (Rewritten row v)) e is = inr (inr (record { relocation = r; listed = e; row = row; value = v; made = is; rewritten = decide_rewritten l s i r row v e is; is = site_rewritten l s i r row v e is }))
 
-    listed : (l : Layout) (s : InputSection) (i : ℕ) (o : Option InputRelocation) → slice_get s.relocations i ≡ o → (site_at s (decide l s i) o ≡ []) ⊎ (IsSite l s i ⊎ IsTemplateSite l s i)
+    listed : (l : Layout) (s : Item) (i : ℕ) (o : Option InputRelocation) → slice_get s.relocations i ≡ o → (site_at s (decide l s i) o ≡ []) ⊎ (IsSite l s i ⊎ IsTemplateSite l s i)
     listed l s i None e = inl refl
     listed l s i (Some r) e = decision l s i r (decide l s i) e refl
 
 -- how many bytes a field has
-pub length-field_site : (s : InputSection) (at : ℕ) (z : RelocationSize) (v : ℕ) → length (field_site s at z v).bytes ≡ size_width z
+pub length-field_site : (s : Item) (at : ℕ) (z : RelocationSize) (v : ℕ) → length (field_site s at z v).bytes ≡ size_width z
 length-field_site s at z v = length-size_written z v (slice_range s.bytes at (at + size_width z))
 
-pub field_lies : (l : Layout) (s : InputSection) (r : InputRelocation) (z : RelocationSize) → HasField l r z → length s.bytes ≡ s.size → FieldLies l.machine s.size r → r.offset + size_width z ≤ length s.bytes
-field_lies l s r z f full lies = let e = field_ends l r z s.size f lies in omega (arith, e, full)
+pub field_lies : (l : Layout) (s : Item) (r : InputRelocation) (z : RelocationSize) → HasField l r z → FieldLies l.machine (length s.bytes) r → r.offset + size_width z ≤ length s.bytes
+field_lies l s r z f lies = let e = field_ends l r z (length s.bytes) f lies in omega (arith, e)
 
 -- an instruction that is rewritten has the bytes of its pattern
-pub length-template_site : (l : Layout) (s : InputSection) (r : InputRelocation) (next : Option InputRelocation) (row : Row) (v : ℕ) → IsRewritten l s r next row v → length (template_site s r row v).bytes ≡ pattern_size row
+pub length-template_site : (l : Layout) (s : Item) (r : InputRelocation) (next : Option InputRelocation) (row : Row) (v : ℕ) → IsRewritten l s r next row v → length (template_site s r row v).bytes ≡ pattern_size row
 length-template_site l s r next row v w =
     let known = row_here l.machine (rewrite_of row).number w.written.info w.chosen.machine w.written.known in
     length-template row w.written.info v (slice_range s.bytes (template_start row r) (template_start row r + pattern_size row)) (chosen_lies l s r next row w.chosen w.changes) known (length-range s.bytes (template_start row r) (pattern_size row) w.chosen.inside)
 
 -- and lies in the section
-pub template_lies : (l : Layout) (s : InputSection) (r : InputRelocation) (next : Option InputRelocation) (row : Row) (v : ℕ) → IsRewritten l s r next row v → IsFieldIn (length s.bytes) (template_site s r row v)
+pub template_lies : (l : Layout) (s : Item) (r : InputRelocation) (next : Option InputRelocation) (row : Row) (v : ℕ) → IsRewritten l s r next row v → IsFieldIn (length s.bytes) (template_site s r row v)
 template_lies l s r next row v w =
     let long = length-template_site l s r next row v w in
     let some = (chosen_lies l s r next row w.chosen w.changes).some in
@@ -144,21 +144,21 @@ template_lies l s r next row v w =
     record { ends = omega (arith, long, inside); some = omega (arith, long, some) }
 
 -- a site is bytes of the section
-pub site_is_field : (l : Layout) (s : InputSection) (i : ℕ) → All (FieldLies l.machine (length s.bytes)) s.relocations → All (IsFieldIn (length s.bytes)) (site l s i)
+pub site_is_field : (l : Layout) (s : Item) (i : ℕ) → All (FieldLies l.machine (length s.bytes)) s.relocations → All (IsFieldIn (length s.bytes)) (site l s i)
 site_is_field l s i lies =
     elim (site_cases l s i) [
       | inl none ↦ All-same (IsFieldIn (length s.bytes)) _ [] none (All-nil (IsFieldIn (length s.bytes)))
       | inr some ↦ by_site l s i lies some
     ]
   where
-    is_field : (l : Layout) (s : InputSection) (r : InputRelocation) (z : RelocationSize) (v : ℕ) → HasField l r z → FieldLies l.machine (length s.bytes) r → IsFieldIn (length s.bytes) (field_site s r.offset z v)
+    is_field : (l : Layout) (s : Item) (r : InputRelocation) (z : RelocationSize) (v : ℕ) → HasField l r z → FieldLies l.machine (length s.bytes) r → IsFieldIn (length s.bytes) (field_site s r.offset z v)
     is_field l s r z v f lies =
         let w = length-field_site s r.offset z v in
         let lie = field_ends l r z (length s.bytes) f lies in
         let some = field_has_bytes l r z f in
         record { ends = omega (arith, w, lie); some = omega (arith, w, some) }
 
-    by_site : (l : Layout) (s : InputSection) (i : ℕ) → All (FieldLies l.machine (length s.bytes)) s.relocations → IsSite l s i ⊎ IsTemplateSite l s i → All (IsFieldIn (length s.bytes)) (site l s i)
+    by_site : (l : Layout) (s : Item) (i : ℕ) → All (FieldLies l.machine (length s.bytes)) s.relocations → IsSite l s i ⊎ IsTemplateSite l s i → All (IsFieldIn (length s.bytes)) (site l s i)
     by_site l s i lies (inl x) =
         let P = IsFieldIn (length s.bytes) in
         All-same P _ _ x.is (All-one P (field_site s x.relocation.offset x.written.size x.written.value) (is_field l s x.relocation x.written.size x.written.value x.field (holds_at (FieldLies l.machine (length s.bytes)) s.relocations i x.relocation x.listed lies)))
@@ -166,10 +166,7 @@ site_is_field l s i lies =
         let P = IsFieldIn (length s.bytes) in
         All-same P _ _ x.is (All-one P (template_site s x.relocation x.row x.value) (template_lies l s x.relocation (slice_get s.relocations (i + 1)) x.row x.value x.rewritten))
 
--- the sites of a section lie in its bytes, each apart from the others
-pub sites_apart_in : (l : Layout) (s : InputSection) → All (FieldLies l.machine (length s.bytes)) s.relocations → shared_byte l s ≡ None → AreApart (length s.bytes) (sites l s)
-sites_apart_in l s lies none =
+-- the sites of an item lie in its bytes, each apart from the others
+pub sites_apart : (l : Layout) (s : Item) → All (FieldLies l.machine (length s.bytes)) s.relocations → shared_byte l s ≡ None → AreApart (length s.bytes) (sites l s)
+sites_apart l s lies none =
     fields_apart (sites l s) (length s.bytes) (All-flat_map (IsFieldIn (length s.bytes)) (site l s) (range_with_len 0 (length s.relocations)) (λ k d m. site_is_field l s (get_or (range_with_len 0 (length s.relocations)) k d) lies)) none
-
-pub sites_apart : (l : Layout) (s : InputSection) → length s.bytes ≡ s.size → All (FieldLies l.machine s.size) s.relocations → shared_byte l s ≡ None → AreApart (length s.bytes) (sites l s)
-sites_apart l s full lies none = sites_apart_in l s (subst (λ (n : ℕ). All (FieldLies l.machine n) s.relocations) (sym full) lies) none

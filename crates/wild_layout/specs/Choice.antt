@@ -3,14 +3,14 @@
 --   asked_of ..            what they ask of the first of some relocations, which names symbol i
 --   question_of ..         the same, with the relocation behind it
 --   choice_of l s r next   the row that stands, or why it is refused
---   choice l s i           the same of relocation i of section s
+--   choice l s i           the same of relocation i of item s
 --   is_partner l s i       relocation i is the call of the sequence before it, which is rewritten as a whole
 --   may_take_next n        rows of that relocation type write a whole sequence
 --   may_be_partner rs i    the relocation before is of such a type
 use Rattle.std.specs.Prelude.{ℕ, zero, suc, ◌+◌, ◌==◌, Bool, true, false, ◌||◌, if◌then◌else◌, List, [], ◌∷◌, ◌++◌, Option, Some, None, option_to_list, option_map, unwrap_or, Result, Ok, slice_get}
 use Rattle.wild_records.specs.Abi.Relocation.{r_x86_64_pc32, r_x86_64_tlsgd, r_x86_64_tlsld}
 use Rattle.wild_types.specs.declared.input.InputRelocation.{InputRelocation}
-use Rattle.wild_types.specs.declared.input.InputSection.{InputSection}
+use Rattle.wild_types.specs.Item.{Item}
 use Rattle.wild_types.specs.declared.symbol.Symbol.{Symbol}
 use Rattle.wild_types.specs.declared.layout.Layout.{Layout}
 use Rattle.wild_slot.specs.Treatment.{flags_at}
@@ -45,7 +45,7 @@ nameless r = record { number = r.number; offset = r.offset; symbol = r.symbol; a
 
 -- what they ask of the first of these, which names symbol i: the flags are those of its definition, and the value is the address
 -- that the layout has
-abbrev pub asked_of : Layout → InputSection → ℕ → List RelocationInfo → Question
+abbrev pub asked_of : Layout → Item → ℕ → List RelocationInfo → Question
 asked_of l s i infos = record {
   relocations = infos;
   at = 0;
@@ -62,24 +62,24 @@ asked_of l s i infos = record {
 abbrev pub infos_of : Layout → Option InputRelocation → Option InputRelocation → List RelocationInfo
 infos_of l r next = option_to_list (option_map (info_of l) r) ++ option_to_list (option_map (info_of l) next)
 
-abbrev pub question_of : Layout → InputSection → InputRelocation → ℕ → Option InputRelocation → Question
+abbrev pub question_of : Layout → Item → InputRelocation → ℕ → Option InputRelocation → Question
 question_of l s r i next = asked_of l s i (infos_of l (Some r) next)
 
 -- the row that stands, or why it is refused. S of an IFUNC is its stub in any case, so the row that says so for R_X86_64_PC32 has
 -- nothing to do here
-unfoldable pub choice_by : Layout → InputSection → InputRelocation → Option InputRelocation → Option ℕ → Result (Option Row) UnknownSequence
+unfoldable pub choice_by : Layout → Item → InputRelocation → Option InputRelocation → Option ℕ → Result (Option Row) UnknownSequence
 choice_by l s r next None = Ok None
 choice_by l s r next (Some i) = if r.number == r_x86_64_pc32 then Ok None else chosen_of l.machine (question_of l s r i next)
 
-abbrev pub choice_of : Layout → InputSection → InputRelocation → Option InputRelocation → Result (Option Row) UnknownSequence
+abbrev pub choice_of : Layout → Item → InputRelocation → Option InputRelocation → Result (Option Row) UnknownSequence
 choice_of l s r next = choice_by l s r next r.symbol
 
-abbrev pub choice_at : Layout → InputSection → Option InputRelocation → Option InputRelocation → Result (Option Row) UnknownSequence
+abbrev pub choice_at : Layout → Item → Option InputRelocation → Option InputRelocation → Result (Option Row) UnknownSequence
 choice_at l s None next = Ok None
 choice_at l s (Some r) next = choice_of l s r next
 
 -- that of relocation i
-abbrev pub choice : Layout → InputSection → ℕ → Result (Option Row) UnknownSequence
+abbrev pub choice : Layout → Item → ℕ → Result (Option Row) UnknownSequence
 choice l s i = choice_at l s (slice_get s.relocations i) (slice_get s.relocations (i + 1))
 
 -- ---- sequences
@@ -90,7 +90,7 @@ takes_next (Ok (Some row)) = is_skip (rewrite_of row).next
 takes_next other = false
 
 -- the relocation before it takes it along
-abbrev pub is_partner : Layout → InputSection → ℕ → Bool
+abbrev pub is_partner : Layout → Item → ℕ → Bool
 is_partner l s zero = false
 is_partner l s (suc i) = takes_next (choice l s i)
 

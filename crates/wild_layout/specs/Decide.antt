@@ -1,4 +1,4 @@
--- What is decided of each relocation of a section: what it writes, or why it is refused.
+-- What is decided of each relocation of an item: what it writes, or why it is refused.
 --   field row v            the value v in the row's field, where that takes it
 --   moved_to l s r a       the address a plus A, which moves, at the place
 --   left_to ..             the field is left to an entry with an index in the dynamic symbol table
@@ -7,18 +7,18 @@
 --   decide_by l s r t      what is decided of a relocation with that treatment
 --   decided l s r          what is decided of a relocation that keeps its instruction
 --   rewritten_to l s r row what is decided of one whose instruction is rewritten by a row
---   decide l s i           what is decided of relocation i of section s
+--   decide l s i           what is decided of relocation i of item s
 use Rattle.std.specs.Prelude.{ℕ, ◌+◌, ◌-◌, ◌%◌, ◌^◌, ◌==◌, ◌||◌, Bool, true, false, Option, Some, None, Result, Ok, Err, if◌then◌else◌, slice_get}
 use Rattle.std.specs.Int.{w64, cast_unsigned}
 use Rattle.wild_types.specs.declared.fault.Fault.{Fault}
 use Rattle.wild_types.specs.declared.fault.Fault.TheVariants as faults
 use Rattle.wild_types.specs.declared.fault.Missing.TheVariants as missing
 use Rattle.wild_types.specs.declared.input.InputRelocation.{InputRelocation}
-use Rattle.wild_types.specs.declared.input.InputSection.{InputSection}
+use Rattle.wild_types.specs.Item.{Item}
 use Rattle.wild_types.specs.declared.layout.Layout.{Layout}
 use Rattle.wild_slot.specs.declared.treatment.Treatment.{Treatment}
 use Rattle.wild_slot.specs.declared.treatment.Treatment.TheVariants as treatments
-use Rattle.wild_types.specs.Lookups.{packs}
+use Rattle.wild_types.specs.Lookups.{place_of, packs}
 use Rattle.wild_slot.specs.Slots.{is_replaceable}
 use Rattle.wild_slot.specs.Treatment.{flags_at, treatment}
 use Rattle.wild_reloc.specs.Field.{allows}
@@ -38,7 +38,7 @@ use Rattle.wild_relax.specs.declared.row.Row.{Row}
 use Rattle.wild_relax.specs.RewriteX86_64.{rewrite_of}
 use Rattle.wild_relax.specs.Linked.{keeps_bytes}
 use Rattle.wild_layout.specs.Choice.{choice_of, is_partner}
-use Rattle.wild_layout.specs.SymbolValues.{place_of, sum, symbol_size}
+use Rattle.wild_layout.specs.SymbolValues.{sum, symbol_size}
 use Rattle.wild_layout.specs.SlotValues.{address_of, index_of, decided_address}
 use Rattle.wild_layout.specs.Values.{term_of, value_by}
 
@@ -47,14 +47,14 @@ abbrev pub field : RelocationKindInfo → ℕ → Result Decision Fault
 field row v = if allows row v then Ok (Field row.size v) else Err (faults.OutOfRange v)
 
 -- the value of the row's kind, for what A is added to
-abbrev pub field_for : Layout → InputSection → InputRelocation → RelocationKindInfo → Result ℕ Fault → Result Decision Fault
+abbrev pub field_for : Layout → Item → InputRelocation → RelocationKindInfo → Result ℕ Fault → Result Decision Fault
 field_for l s r row (Err f) = Err f
-field_for l s r row (Ok a) = field row (value_by l row.kind a r.addend (place_of s r))
+field_for l s r row (Ok a) = field row (value_by l row.kind a r.addend (place_of s.address r))
 
 -- an address that moves with the base: packed, or listed as an entry
-abbrev pub moved_to : Layout → InputSection → InputRelocation → Result ℕ Fault → Result Decision Fault
+abbrev pub moved_to : Layout → Item → InputRelocation → Result ℕ Fault → Result Decision Fault
 moved_to l s r (Err f) = Err f
-moved_to l s r (Ok a) = Ok (Moved (sum a r.addend) (packs l (place_of s r)))
+moved_to l s r (Ok a) = Ok (Moved (sum a r.addend) (packs l (place_of s.address r)))
 
 -- the addend as an entry has it, modulo 2^64
 abbrev pub added : InputRelocation → ℕ
@@ -77,7 +77,7 @@ chosen_to l r (Err f) = Err f
 chosen_to l r (Ok resolver) = if added r == 0 then Ok (Left (ByteSize Eight) (type_of l.machine Irelative) 0 resolver) else Err (faults.IfuncAddend r.addend)
 
 -- what is decided of a relocation, by its treatment
-abbrev pub decide_by : Layout → InputSection → InputRelocation → Treatment → Result Decision Fault
+abbrev pub decide_by : Layout → Item → InputRelocation → Treatment → Result Decision Fault
 decide_by l s r treatments.Nothing = Ok Nothing
 decide_by l s r (treatments.Value row) = field_for l s r row (term_of l r.symbol row.kind)
 decide_by l s r treatments.BaseRelative = moved_to l s r (address_of l r.symbol)
@@ -88,18 +88,18 @@ decide_by l s r treatments.Recompile = Err (faults.RecompileWithPic r.number)
 decide_by l s r treatments.Unsupported = Err (faults.UnsupportedRelocation r.number)
 
 -- the same, by the relocation, where it keeps its instruction
-unfoldable pub decided : Layout → InputSection → InputRelocation → Result Decision Fault
-decided l s r = decide_by l s r (treatment l s r)
+unfoldable pub decided : Layout → Item → InputRelocation → Result Decision Fault
+decided l s r = decide_by l s r (treatment l s.flags r)
 
 -- ---- instructions that are rewritten
 
--- where the field of a rewritten instruction begins in its section
+-- where the field of a rewritten instruction begins in its item
 abbrev pub field_at : Row → InputRelocation → ℕ
 field_at row r = r.offset - (rewrite_of row).back + (rewrite_of row).field
 
 -- the value of the kind that is written, for what A is added to, at the field's new place and with its new addend; a row that
 -- keeps the bytes around the field has that alone
-abbrev pub value_to : Layout → InputSection → InputRelocation → Row → RelocationKindInfo → Result ℕ Fault → Result Decision Fault
+abbrev pub value_to : Layout → Item → InputRelocation → Row → RelocationKindInfo → Result ℕ Fault → Result Decision Fault
 value_to l s r row info (Err f) = Err f
 value_to l s r row info (Ok a) =
     let v = value_by l info.kind a ((rewrite_of row).addend r.addend) ((s.address + field_at row r) % 2 ^ 64) in
@@ -113,12 +113,12 @@ term_to l r info = if has_no_value info.kind then Ok 0 else term_of l r.symbol i
     has_no_value kinds.None = true
     has_no_value other = false
 
-abbrev pub rewritten_by : Layout → InputSection → InputRelocation → Row → Option RelocationKindInfo → Result Decision Fault
+abbrev pub rewritten_by : Layout → Item → InputRelocation → Row → Option RelocationKindInfo → Result Decision Fault
 rewritten_by l s r row None = Err (faults.UnsupportedRelocation r.number)
 rewritten_by l s r row (Some info) = value_to l s r row info (term_to l r info)
 
 -- by the row of the relocation type that is written
-abbrev pub rewritten_to : Layout → InputSection → InputRelocation → Row → Result Decision Fault
+abbrev pub rewritten_to : Layout → Item → InputRelocation → Row → Result Decision Fault
 rewritten_to l s r row = rewritten_by l s r row (row_of l.machine (rewrite_of row).number)
 
 -- a row stands without its sequence: what the written kind needs is asked first
@@ -131,17 +131,17 @@ refused_with l r e (Some info) = refused_by (term_to l r info)
     refused_by (Ok a) = Err (faults.UnknownSequence e.number)
 
 -- what is decided of a relocation, by the row that stands
-abbrev pub decide_with : Layout → InputSection → InputRelocation → Result (Option Row) UnknownSequence → Result Decision Fault
+abbrev pub decide_with : Layout → Item → InputRelocation → Result (Option Row) UnknownSequence → Result Decision Fault
 decide_with l s r (Ok None) = decided l s r
 decide_with l s r (Ok (Some row)) = rewritten_to l s r row
 decide_with l s r (Err e) = refused_with l r e (row_of l.machine e.written)
 
--- ---- relocations of a section
+-- ---- relocations of an item
 
-abbrev pub decide_at : Layout → InputSection → Option InputRelocation → Option InputRelocation → Result Decision Fault
+abbrev pub decide_at : Layout → Item → Option InputRelocation → Option InputRelocation → Result Decision Fault
 decide_at l s None next = Ok Nothing
 decide_at l s (Some r) next = decide_with l s r (choice_of l s r next)
 
--- what is decided of relocation i of a section: the call of a sequence that is rewritten is written with it
-unfoldable pub decide : Layout → InputSection → ℕ → Result Decision Fault
+-- what is decided of relocation i of an item: the call of a sequence that is rewritten is written with it
+unfoldable pub decide : Layout → Item → ℕ → Result Decision Fault
 decide l s i = if is_partner l s i then Ok Partner else decide_at l s (slice_get s.relocations i) (slice_get s.relocations (i + 1))

@@ -12,6 +12,7 @@ use Rattle.wild_reloc.specs.declared.dynamic.DynamicRelocationKind.TheVariants.{
 use Rattle.wild_types.specs.declared.input.InputRelocation.{InputRelocation}
 use Rattle.wild_types.specs.declared.input.InputSection.{InputSection}
 use Rattle.wild_types.specs.declared.file.File.{File}
+use Rattle.wild_types.specs.Item.{Item, item_of}
 use Rattle.wild_types.specs.declared.layout.Layout.{Layout}
 use Rattle.wild_slot.specs.declared.treatment.Treatment.{Treatment}
 use Rattle.wild_slot.specs.declared.treatment.Treatment.TheVariants.{Symbolic, Indirect, Extent}
@@ -33,19 +34,19 @@ entry_for place number symbol addend = record { offset = place; number = number 
 abbrev pub index_or_zero : Layout → ℕ → ℕ
 index_or_zero l i = unwrap_or (index_of l i) 0
 
-abbrev pub left_by : Layout → InputSection → InputRelocation → Treatment → Rela
-left_by l s r (Symbolic i) = entry_for (place_of s r) (type_of l.machine Absolute) (index_or_zero l i) (added r)
-left_by l s r (Indirect i) = entry_for (place_of s r) (type_of l.machine Irelative) 0 (or_zero (decided_address l i))
-left_by l s r (Extent row i) = entry_for (place_of s r) r.number (index_or_zero l i) (added r)
-left_by l s r other = entry_for (place_of s r) 0 0 0
+abbrev pub left_by : Layout → Item → InputRelocation → Treatment → Rela
+left_by l s r (Symbolic i) = entry_for (place_of s.address r) (type_of l.machine Absolute) (index_or_zero l i) (added r)
+left_by l s r (Indirect i) = entry_for (place_of s.address r) (type_of l.machine Irelative) 0 (or_zero (decided_address l i))
+left_by l s r (Extent row i) = entry_for (place_of s.address r) r.number (index_or_zero l i) (added r)
+left_by l s r other = entry_for (place_of s.address r) 0 0 0
 
 -- the entry of a relocation
-abbrev pub left_entry : Layout → InputSection → InputRelocation → Rela
-left_entry l s r = left_by l s r (treatment l s r)
+abbrev pub left_entry : Layout → Item → InputRelocation → Rela
+left_entry l s r = left_by l s r (treatment l s.flags r)
 
 -- those of an input section
 unfoldable pub section_generals : Layout → InputSection → List Rela
-section_generals l s = map (left_entry l s) (left_relocations l s)
+section_generals l s = map (left_entry l (item_of s)) (left_relocations l s)
 
 -- the entry by which a loader copies a symbol's bytes to its address
 abbrev pub copy_entry : Layout → ℕ → Rela

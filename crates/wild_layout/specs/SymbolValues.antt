@@ -1,7 +1,6 @@
 -- Values of symbols and places, as relocations take them.
 --   sum s a               S + A
 --   displacement s a p    S + A - P
---   place_of s r          P, the address of the field
 --   thread_pointer m t    where the thread pointer stands beside the thread-local data
 use Rattle.std.specs.Prelude.{ℕ, ℤ, ◌+◌, ◌-◌, ◌%◌, ◌^◌, ◌&&◌, Bool, true, false, if◌then◌else◌, Option, Some, None, Result, Ok, Err, option_map, unwrap_or, slice_get}
 use Rattle.std.specs.Int.{w64, cast_unsigned}
@@ -13,15 +12,12 @@ use Rattle.wild_types.specs.declared.fault.Missing.TheVariants as missing
 use Rattle.wild_types.specs.declared.symbol.Place.{Place}
 use Rattle.wild_types.specs.declared.symbol.Place.TheVariants as at
 use Rattle.wild_types.specs.declared.symbol.Symbol.{Symbol}
-use Rattle.wild_types.specs.declared.input.InputRelocation.{InputRelocation}
-use Rattle.wild_types.specs.declared.input.InputSection.{InputSection}
 use Rattle.wild_types.specs.declared.layout.Layout.{Layout}
 use Rattle.wild_types.specs.declared.layout.Tls.{Tls}
 use Rattle.wild_types.specs.declared.fault.Missing.{Missing}
 use Rattle.wild_types.specs.Addresses.{raw_value}
 use Rattle.wild_types.specs.Kinds.{is_executable}
 use Rattle.wild_slot.specs.Storage as storage
-use Rattle.wild_types.specs.Lookups as lookups
 use Rattle.wild_types.specs.Lookups.{canonical}
 
 -- S + A, modulo 2^64
@@ -31,10 +27,6 @@ sum s a = (s + cast_unsigned w64 a) % 2 ^ 64
 -- S + A - P, modulo 2^64
 abbrev pub displacement : ℕ → ℤ → ℕ → ℕ
 displacement s a p = (sum s a + (2 ^ 64 - p)) % 2 ^ 64
-
--- the address of the place
-abbrev pub place_of : InputSection → InputRelocation → ℕ
-place_of s r = lookups.place_of s r
 
 -- a - b, modulo 2^64
 abbrev pub less : ℕ → ℕ → ℕ

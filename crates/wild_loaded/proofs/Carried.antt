@@ -9,6 +9,7 @@ use Rattle.wild_words.specs.Overlay.{Piece, overlay, AreApart}
 use Rattle.wild_words.proofs.OverlayLemmas.{length-overlay}
 use Rattle.wild_types.specs.declared.section.Segment.{Segment}
 use Rattle.wild_types.specs.declared.input.InputSection.{InputSection}
+use Rattle.wild_types.specs.Item.{item_of}
 use Rattle.wild_types.specs.declared.file.File.{File}
 use Rattle.wild_types.specs.declared.file.Group.{Group}
 use Rattle.wild_types.specs.declared.layout.Layout.{Layout}
@@ -56,11 +57,11 @@ section_listed l s k filled =
     let in_group = Contains-flat_map (file_pieces l) k.group.files k.file piece k.filed in_file in
     Contains-flat_map_from (group_pieces l) 0 l.groups k.group piece k.grouped (λ n. Contains-append_right (table_pieces l n k.group) (owned_pieces l k.group) piece in_group)
 
-pub data_bytes : (l : Layout) (s : InputSection) → s.nobits ≡ false → section_bytes l s ≡ overlay (sites l s) s.bytes
+pub data_bytes : (l : Layout) (s : InputSection) → s.nobits ≡ false → section_bytes l s ≡ overlay (sites l (item_of s)) s.bytes
 unfolding section_bytes
 data_bytes l s n = by_bits (s.nobits) n
   where
-    by_bits : (b : Bool) → b ≡ false → (if b then replicate s.size 0 else overlay (sites l s) s.bytes) ≡ overlay (sites l s) s.bytes
+    by_bits : (b : Bool) → b ≡ false → (if b then replicate s.size 0 else overlay (sites l (item_of s)) s.bytes) ≡ overlay (sites l (item_of s)) s.bytes
     by_bits false h = refl
     by_bits true h = cc
 
@@ -89,7 +90,7 @@ pub kept_carried : (l : Layout) (s : InputSection) → IsLaidOut l → IsKeptSec
 kept_carried l s laid k t = each_at (IsMapped l) l s laid.mapped k.input t (kept_is_read l s k) (alloc_bit s.flags k.room)
 
 -- and has them in the file
-pub stored_kept : (l : Layout) (s : InputSection) → IsLaidOut l → IsKeptSection l s → IsDecided l s → 1 ≤ length s.bytes → IsStored l s
+pub stored_kept : (l : Layout) (s : InputSection) → IsLaidOut l → IsKeptSection l s → IsDecided l (item_of s) → 1 ≤ length s.bytes → IsStored l s
 stored_kept l s laid kept decisions some =
     let read = kept_is_read l s kept in
     let filled : is_filled l s ≡ true = elim (cases_Bool (is_filled l s)) [
@@ -98,31 +99,31 @@ stored_kept l s laid kept decisions some =
     ] in
     record {
       filled = filled;
-      full = ap (λ (bs : List ℕ). length bs) (data_bytes l s kept.has_data) ∙ length-overlay (sites l s) s.bytes decisions.apart ∙ (each_at (SectionLies l) l s laid.inputs kept.input).bytes read;
+      full = ap (λ (bs : List ℕ). length bs) (data_bytes l s kept.has_data) ∙ length-overlay (sites l (item_of s)) s.bytes decisions.apart ∙ (each_at (SectionLies l) l s laid.inputs kept.input).bytes read;
       carried = kept_carried l s laid kept filled;
     }
 
 -- the bytes of a kept section are in memory at its address
-pub section_held : (l : Layout) (w : World) (s : InputSection) → BytesAreLoaded → IsLegal l w → IsLaidOut l → AreApart (length s.bytes) (sites l s) → IsKeptSection l s → (lies : SectionLies l s) → Holds (image_memory l w) (w.base + s.address) (overlay (sites l s) s.bytes)
+pub section_held : (l : Layout) (w : World) (s : InputSection) → BytesAreLoaded → IsLegal l w → IsLaidOut l → AreApart (length s.bytes) (sites l (item_of s)) → IsKeptSection l s → (lies : SectionLies l s) → Holds (image_memory l w) (w.base + s.address) (overlay (sites l (item_of s)) s.bytes)
 section_held l w s law legal laid apart k lies =
-    let len = length-overlay (sites l s) s.bytes apart in
+    let len = length-overlay (sites l (item_of s)) s.bytes apart in
     let read = kept_is_read l s k in
     elim (cases_Bool (is_filled l s)) [
       | inr f ↦ (let none = not_filled l s read k.has_data f in Holds-empty (image_memory l w) (w.base + s.address) _ (omega (arith, len, none)))
       | inl t ↦ carried l w s law legal laid k t len (lies.bytes read) (kept_carried l s laid k t)
     ]
   where
-    carried : (l : Layout) (w : World) (s : InputSection) → BytesAreLoaded → IsLegal l w → IsLaidOut l → IsKeptSection l s → is_filled l s ≡ true → length (overlay (sites l s) s.bytes) ≡ length s.bytes → length s.bytes ≡ s.size → ((k : ℕ) → k < s.size → (h : Segment) × IsCarried l s k h) → Holds (image_memory l w) (w.base + s.address) (overlay (sites l s) s.bytes)
+    carried : (l : Layout) (w : World) (s : InputSection) → BytesAreLoaded → IsLegal l w → IsLaidOut l → IsKeptSection l s → is_filled l s ≡ true → length (overlay (sites l (item_of s)) s.bytes) ≡ length s.bytes → length s.bytes ≡ s.size → ((k : ℕ) → k < s.size → (h : Segment) × IsCarried l s k h) → Holds (image_memory l w) (w.base + s.address) (overlay (sites l (item_of s)) s.bytes)
     carried l w s law legal laid kept t len full c =
         let st : Stands (bytes l) (offset_in (slice_get l.parts s.part) s.address) (section_bytes l s) = piece_stands l (record { at = offset_in (slice_get l.parts s.part) s.address; bytes = section_bytes l s }) laid (section_listed l s kept.input t) in
         let st' = subst (λ (xs : List ℕ). Stands (bytes l) (offset_in (slice_get l.parts s.part) s.address) xs) (data_bytes l s kept.has_data) st in
         λ k lt. (
         let h = c k (omega (arith, len, full, lt)) in
-        byte_held l w s k h.0 (overlay (sites l s) s.bytes) law legal laid h.1 (byte_stands (bytes l) (offset_in (slice_get l.parts s.part) s.address) k (overlay (sites l s) s.bytes) lt st')
+        byte_held l w s k h.0 (overlay (sites l (item_of s)) s.bytes) law legal laid h.1 (byte_stands (bytes l) (offset_in (slice_get l.parts s.part) s.address) k (overlay (sites l (item_of s)) s.bytes) lt st')
         )
 
 -- and do not wrap
-pub section_ends : (l : Layout) (w : World) (s : InputSection) → IsLegal l w → IsLaidOut l → IsKeptSection l s → (lies : SectionLies l s) → 1 ≤ length s.bytes → w.base + s.address + s.size ≤ 2 ^ 64
+pub section_ends : (l : Layout) (w : World) (s : InputSection) → IsLegal l w → IsLaidOut l → IsKeptSection l s → (lies : SectionLies l s) → 1 ≤ length s.bytes → w.base + s.address + length s.bytes ≤ 2 ^ 64
 section_ends l w s legal laid k lies some =
     let read = kept_is_read l s k in
     let full = lies.bytes read in
@@ -131,7 +132,7 @@ section_ends l w s legal laid k lies some =
       | inl t ↦ last l w s legal laid full some (kept_carried l s laid k t (s.size - 1) (omega (arith, full, some)))
     ]
   where
-    last : (l : Layout) (w : World) (s : InputSection) → IsLegal l w → IsLaidOut l → length s.bytes ≡ s.size → 1 ≤ length s.bytes → (h : Segment) × IsCarried l s (s.size - 1) h → w.base + s.address + s.size ≤ 2 ^ 64
+    last : (l : Layout) (w : World) (s : InputSection) → IsLegal l w → IsLaidOut l → length s.bytes ≡ s.size → 1 ≤ length s.bytes → (h : Segment) × IsCarried l s (s.size - 1) h → w.base + s.address + length s.bytes ≤ 2 ^ 64
     last l w s legal laid full some h =
         let to = h.1.to in
         let sizes = (All-contains (SegmentLoads (image_size l)) l.segments h.0 laid.loadable.each h.1.listed).sizes h.1.loaded in

@@ -12,6 +12,7 @@ use Rattle.wild_types.specs.declared.input.Slot.{Slot}
 use Rattle.wild_types.specs.declared.input.Slot.TheVariants as slot
 use Rattle.wild_types.specs.declared.input.InputRelocation.{InputRelocation}
 use Rattle.wild_types.specs.declared.input.InputSection.{InputSection}
+use Rattle.wild_types.specs.Item.{item_of}
 use Rattle.wild_types.specs.declared.file.File.{File}
 use Rattle.wild_types.specs.declared.layout.Layout.{Layout}
 use Rattle.wild_types.specs.Lookups.{is_loaded, is_read}
@@ -77,7 +78,7 @@ pub record IsFilledThere (l : Layout) (s : InputSection) (x : Filling) : Type 0 
   pub filling : IsFillingOf l s x
   pub well : IsKeptWell l s
   pub by : IsFilledBy l s filling.relocation x
-  pub has : HasDecision l s filling.index filling.relocation by.decision
+  pub has : HasDecision l (item_of s) filling.index filling.relocation by.decision
   pub ends : filling.relocation.offset + x.width ≤ length s.bytes
 
 pub filled_there : (l : Layout) (s : InputSection) (x : Filling) → IsLaidOut l → EachDecided l → Contains (all_sections l) s → IsFillingOf l s x → IsFilledThere l s x
@@ -90,8 +91,8 @@ filled_there l s x laid decided c k =
     let by = filled_by l s k.relocation x d.0 made k.given in
     let kept : IsKeptSection l s = record { input = input; loaded = loaded_slot s.slot loaded.0; room = bit_alloc s.flags by.room; has_data = not-true s.nobits loaded.1 } in
     let well = kept_well l s laid decided kept in
-    let lies = holds_at (FieldLies l.machine s.size) s.relocations k.index k.relocation k.listed well.lies.fields in
-    let ends = field_lies l s k.relocation by.written.size by.field well.full lies in
+    let lies = holds_at (FieldLies l.machine (length s.bytes)) s.relocations k.index k.relocation k.listed well.fields in
+    let ends = field_lies l (item_of s) k.relocation by.written.size by.field lies in
     let width = by.width in
     record { filling = k; well = well; by = by; has = record { listed = k.listed; decided = same ∙ by.made }; ends = omega (arith, ends, width) }
 
@@ -117,29 +118,29 @@ place_sum l s x h =
 -- ---- two fillings of a section
 
 -- two relocations at different numbers write apart
-pub sites_apart_at : (l : Layout) (s : InputSection) (i j : ℕ) (p q : Piece) → IsKeptWell l s → i < j → j < length s.relocations → site l s i ≡ p ∷ [] → site l s j ≡ q ∷ [] → Apart p q
+pub sites_apart_at : (l : Layout) (s : InputSection) (i j : ℕ) (p q : Piece) → IsKeptWell l s → i < j → j < length s.relocations → site l (item_of s) i ≡ p ∷ [] → site l (item_of s) j ≡ q ∷ [] → Apart p q
 sites_apart_at l s i j p q well lt within si sj =
     let n = length s.relocations in
-    let across = AllPairs-from_flat_map Apart (site l s) (range_with_len 0 n) well.decisions.apart.apart i j 0 lt (omega (arith, length-range_with_len 0 n, within)) in
+    let across = AllPairs-from_flat_map Apart (site l (item_of s)) (range_with_len 0 n) well.decisions.apart.apart i j 0 lt (omega (arith, length-range_with_len 0 n, within)) in
     let ri = get_or-range_with_len 0 n i 0 (omega (arith, lt, within)) in
     let rj = get_or-range_with_len 0 n j 0 within in
     let ei : get_or (range_with_len 0 n) i 0 ≡ i = omega (arith, ri) in
     let ej : get_or (range_with_len 0 n) j 0 ≡ j = omega (arith, rj) in
-    let a = subst (λ (x : ℕ). Between Apart (site l s) x (get_or (range_with_len 0 n) j 0)) ei across in
-    let b = subst (λ (y : ℕ). Between Apart (site l s) i y) ej a in
-    let c = subst (λ (ps : List Piece). All (λ (x : Piece). All (Apart x) (site l s j)) ps) si b in
+    let a = subst (λ (x : ℕ). Between Apart (site l (item_of s)) x (get_or (range_with_len 0 n) j 0)) ei across in
+    let b = subst (λ (y : ℕ). Between Apart (site l (item_of s)) i y) ej a in
+    let c = subst (λ (ps : List Piece). All (λ (x : Piece). All (Apart x) (site l (item_of s) j)) ps) si b in
     let d = subst (λ (qs : List Piece). All (Apart p) qs) sj (c 0 p (omega arith)) in
     d 0 q (omega arith)
 
 -- what its relocation writes in the file
 abbrev pub filled_site : (l : Layout) (s : InputSection) (r : InputRelocation) (x : Filling) → IsFilledBy l s r x → Piece
-filled_site l s r x b = field_site s r.offset b.written.size b.written.value
+filled_site l s r x b = field_site (item_of s) r.offset b.written.size b.written.value
 
 pub site_width : (l : Layout) (s : InputSection) (r : InputRelocation) (x : Filling) → (b : IsFilledBy l s r x) → length (filled_site l s r x b).bytes ≡ x.width
-site_width l s r x b = length-field_site s r.offset b.written.size b.written.value ∙ sym b.width
+site_width l s r x b = length-field_site (item_of s) r.offset b.written.size b.written.value ∙ sym b.width
 
-pub site_there : (l : Layout) (s : InputSection) (r : InputRelocation) (x : Filling) (i : ℕ) (b : IsFilledBy l s r x) → HasDecision l s i r b.decision → site l s i ≡ filled_site l s r x b ∷ []
-site_there l s r x i b h = site_written l s i r b.decision b.written h.listed h.decided b.by
+pub site_there : (l : Layout) (s : InputSection) (r : InputRelocation) (x : Filling) (i : ℕ) (b : IsFilledBy l s r x) → HasDecision l (item_of s) i r b.decision → site l (item_of s) i ≡ filled_site l s r x b ∷ []
+site_there l s r x i b h = site_written l (item_of s) i r b.decision b.written h.listed h.decided b.by
 
 shifted : (a b n m at : ℕ) (x y : Filling) → n ≡ x.width → m ≡ y.width → x.entry.offset ≡ at + a → y.entry.offset ≡ at + b → (a + n ≤ b) ⊎ (b + m ≤ a) → AreBeside x y
 shifted a b n m at x y en em ex ey (inl h) = λ k lk j lj e. omega (arith, en, em, ex, ey, h, lk, lj, e)

@@ -1,8 +1,10 @@
 -- What is known of a kept section of a layout that is laid out and decided.
-use Rattle.std.proofs.Common.{◌≡◌, length}
+use Rattle.std.proofs.Common.{◌≡◌, ℕ, length, sym, subst}
+use Rattle.std.specs.Prelude.{All}
 use Rattle.wild_types.specs.declared.input.InputSection.{InputSection}
+use Rattle.wild_types.specs.Item.{item_of}
 use Rattle.wild_types.specs.declared.layout.Layout.{Layout}
-use Rattle.wild_layout.specs.SectionPlaces.{SectionLies}
+use Rattle.wild_layout.specs.SectionPlaces.{FieldLies, SectionLies}
 use Rattle.wild_layout.specs.Geometry.{IsLaidOut}
 use Rattle.wild_geometry.specs.Loaded.{IsDecided}
 use Rattle.wild_loaded.specs.Memory.{EachDecided}
@@ -13,12 +15,19 @@ use Rattle.wild_geometry.proofs.JudgedLemmas.{each_at}
 -- what is known of a kept section of a layout that is laid out and decided
 pub record IsKeptWell (l : Layout) (s : InputSection) : Type 0 where
   pub kept : IsKeptSection l s
-  pub decisions : IsDecided l s
+  pub decisions : IsDecided l (item_of s)
   pub lies : SectionLies l s
   pub full : length s.bytes ≡ s.size
+  pub fields : All (FieldLies l.machine (length s.bytes)) s.relocations
 
 pub kept_well : (l : Layout) (s : InputSection) → IsLaidOut l → EachDecided l → IsKeptSection l s → IsKeptWell l s
 kept_well l s laid decided k =
     let lies = each_at (SectionLies l) l s laid.inputs k.input in
     let read = kept_is_read l s k in
-    record { kept = k; decisions = decided s k.input read; lies = lies; full = lies.bytes read }
+    record {
+      kept = k;
+      decisions = decided s k.input read;
+      lies = lies;
+      full = lies.bytes read;
+      fields = subst (λ (n : ℕ). All (FieldLies l.machine n) s.relocations) (sym (lies.bytes read)) lies.fields;
+    }

@@ -16,6 +16,7 @@ use Rattle.wild_types.specs.declared.kind.Machine.{Machine}
 use Rattle.wild_types.specs.declared.kind.Machine.TheVariants as machine
 use Rattle.wild_types.specs.declared.input.InputRelocation.{InputRelocation}
 use Rattle.wild_types.specs.declared.input.InputSection.{InputSection}
+use Rattle.wild_types.specs.Item.{item_of}
 use Rattle.wild_types.specs.declared.symbol.Resolution.{Resolution}
 use Rattle.wild_types.specs.declared.symbol.Symbol.{Symbol}
 use Rattle.wild_types.specs.declared.symbol.ValueFlags.{ValueFlags}
@@ -273,13 +274,13 @@ record IsLeftCase (l : Layout) (s : InputSection) (r : InputRelocation) (P : Rel
   chosen : (i value : ℕ) → has_flag (flags_at l i) ifunc ≡ true → decided_address l i ≡ Ok value → P (ByteSize Eight) (type_of l.machine Irelative) 0 value
   size : (i index : ℕ) (row : RelocationKindInfo) → IsSizeRow r.number row.size → index_of l i ≡ Some index → P row.size r.number index (added r)
 
-by_treatment : (P : RelocationSize → ℕ → ℕ → ℕ → Type 0) (l : Layout) (s : InputSection) (r : InputRelocation) (z : RelocationSize) (n symbol addend : ℕ) → IsLeftCase l s r P → (t : Treatment) → treatment l s r ≡ t → is_left_to_entry t ≡ true → decide_by l s r t ≡ Ok (Left z n symbol addend) → P z n symbol addend
+by_treatment : (P : RelocationSize → ℕ → ℕ → ℕ → Type 0) (l : Layout) (s : InputSection) (r : InputRelocation) (z : RelocationSize) (n symbol addend : ℕ) → IsLeftCase l s r P → (t : Treatment) → treatment l s.flags r ≡ t → is_left_to_entry t ≡ true → decide_by l (item_of s) r t ≡ Ok (Left z n symbol addend) → P z n symbol addend
 by_treatment P l s r z n symbol addend k (treatments.Symbolic i) is left made = left_parts P (ByteSize Eight) z (type_of l.machine Absolute) n symbol addend r i (index_of l i) made (k.address i)
 by_treatment P l s r z n symbol addend k (treatments.Indirect i) is left made =
-    let flag = last_of_four (allocated s.flags) (writable s.flags) (is_position_independent l.kind) (has_flag (flags_at l i) ifunc) (known_indirect l s r i is).3.chosen in
+    let flag = last_of_four (allocated s.flags) (writable s.flags) (is_position_independent l.kind) (has_flag (flags_at l i) ifunc) (known_indirect l (item_of s) r i is).3.chosen in
     chosen_parts P l z n symbol addend r (decided_address l i) made (λ value e. k.chosen i value flag e)
 by_treatment P l s r z n symbol addend k (treatments.Extent row i) is left made =
-    let told = known_extent l s r row i is in
+    let told = known_extent l (item_of s) r row i is in
     left_parts P row.size z r.number n symbol addend r i (index_of l i) (sized_left l r row i (Left z n symbol addend) made) (λ index e. k.size i index row (size_row l.machine r.number row told.0 told.1.kind) e)
 by_treatment P l s r z n symbol addend k treatments.Nothing is left made = cc
 by_treatment P l s r z n symbol addend k (treatments.Value row) is left made = cc
@@ -287,9 +288,9 @@ by_treatment P l s r z n symbol addend k treatments.BaseRelative is left made = 
 by_treatment P l s r z n symbol addend k treatments.Recompile is left made = cc
 by_treatment P l s r z n symbol addend k treatments.Unsupported is left made = cc
 
-left_case : (P : RelocationSize → ℕ → ℕ → ℕ → Type 0) (l : Layout) (s : InputSection) (r : InputRelocation) (z : RelocationSize) (n symbol addend : ℕ) → IsLeftCase l s r P → decided l s r ≡ Ok (Left z n symbol addend) → P z n symbol addend
+left_case : (P : RelocationSize → ℕ → ℕ → ℕ → Type 0) (l : Layout) (s : InputSection) (r : InputRelocation) (z : RelocationSize) (n symbol addend : ℕ) → IsLeftCase l s r P → decided l (item_of s) r ≡ Ok (Left z n symbol addend) → P z n symbol addend
 left_case P l s r z n symbol addend k h =
-    let x = decided_left l s r z n symbol addend h in
+    let x = decided_left l (item_of s) r z n symbol addend h in
     by_treatment P l s r z n symbol addend k x.treated x.is x.left x.made
 
 -- ---- what is in the file
@@ -310,7 +311,7 @@ size_zeroed : (n : ℕ) (z : RelocationSize) → IsSizeRow n z → IsZeroed z
 size_zeroed n z (inl e) = subst IsZeroed (sym e.1) four_zeroed
 size_zeroed n z (inr e) = subst IsZeroed (sym e.1) eight_zeroed
 
-pub left_zeroed : (l : Layout) (s : InputSection) (r : InputRelocation) (z : RelocationSize) (n symbol addend : ℕ) (old : List ℕ) → decided l s r ≡ Ok (Left z n symbol addend) → size_written z 0 old ≡ replicate (size_width z) 0
+pub left_zeroed : (l : Layout) (s : InputSection) (r : InputRelocation) (z : RelocationSize) (n symbol addend : ℕ) (old : List ℕ) → decided l (item_of s) r ≡ Ok (Left z n symbol addend) → size_written z 0 old ≡ replicate (size_width z) 0
 left_zeroed l s r z n symbol addend old h =
     left_case (λ y m k a. IsZeroed y) l s r z n symbol addend
     (record { address = λ i index e. eight_zeroed; chosen = λ i value f e. eight_zeroed; size = λ i index row q e. size_zeroed r.number row.size q }) h old
@@ -323,7 +324,7 @@ size_fills w n symbol addend z (inl e) named =
 size_fills w n symbol addend z (inr e) named =
     subst (λ (y : RelocationSize). FillsField w y n symbol addend) (sym e.1) (subst (λ (m : ℕ). FillsField w (ByteSize Eight) m symbol addend) (sym e.0) (stores_size w symbol addend named))
 
-pub left_fills : (l : Layout) (w : World) (s : InputSection) (r : InputRelocation) (z : RelocationSize) (n symbol addend : ℕ) → l.machine ≡ machine.X86_64 → NumbersFit l → IsLegal l w → IsLaidOut l → decided l s r ≡ Ok (Left z n symbol addend) → FillsField w z n symbol addend
+pub left_fills : (l : Layout) (w : World) (s : InputSection) (r : InputRelocation) (z : RelocationSize) (n symbol addend : ℕ) → l.machine ≡ machine.X86_64 → NumbersFit l → IsLegal l w → IsLaidOut l → decided l (item_of s) r ≡ Ok (Left z n symbol addend) → FillsField w z n symbol addend
 left_fills l w s r z n symbol addend x numbers legal laid h = left_case (FillsField w) l s r z n symbol addend (record {
   address = λ i index e. subst (λ (m : Machine). FillsField w (ByteSize Eight) (type_of m Absolute) index (added r)) (sym x) (stores_address w index (added r) (named_by l w i index legal laid e));
   chosen = λ i value f e. subst (λ (m : Machine). FillsField w (ByteSize Eight) (type_of m Irelative) 0 value) (sym x) (chosen_fills l w i value numbers legal f e);

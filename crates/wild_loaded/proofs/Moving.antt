@@ -36,6 +36,9 @@ use Rattle.wild_loaded.specs.Laws.{HeadersStand, SegmentsAreLoadable, TablesAreF
 use Rattle.wild_loaded.specs.Words.{place_change, entry_change}
 use Rattle.wild_loaded.specs.FilledLaws.{AreMade, TablesAreMade}
 use Rattle.wild_loaded.proofs.Fillings.{IsKnown, place_loaded}
+use Rattle.wild_types.specs.Item.{Item}
+use Rattle.wild_geometry.specs.Loaded.{HasItem, InMemory}
+use Rattle.wild_meaning.specs.Item.{IsKept, OfSection}
 use Rattle.wild_loaded.proofs.KeptSections.{kept_well}
 use Rattle.wild_loaded.proofs.FilledSections.{have_places}
 use Rattle.wild_loaded.proofs.CopyFillings.{group_copies, all_copies, width_by, copy_width, copy_filling, copies_filled}
@@ -86,11 +89,16 @@ copy_moved l w m i raw x h c =
     let there : loaded_at w f.entry.offset ≡ w.base + raw = at ∙ ap (λ (a : ℕ). w.base + a) k.place in
     subst (λ (a : ℕ). Holds m a x.bytes) there over.made.held j lt)
 
+-- ---- items
+
+item_moved : (l : Layout) (w : World) (m : Memory) (s : Item) → IsMovedImage l w m → IsKept l s → HasItem l w m s InMemory
+item_moved l w m s h (OfSection x k is) = subst (λ (i : Item). HasItem l w m i InMemory) (sym is) (section_moved l w m x h (kept_well l x h.well.laid h.well.decided k))
+
 pub memory_moved : MovingLaws → MemoryIsMoved
 memory_moved laws = λ l w m x kind numbers legal laid decided whole none applied.
     let h = moved_image l w m laws (record { x86 = x; kind = kind; numbers = numbers; legal = legal; laid = laid; decided = decided; whole = whole; none = none }) applied in
     record {
-      sections = λ s kept. section_moved l w m s h (kept_well l s laid decided kept);
+      items = λ s kept. item_moved l w m s h kept;
       slots = slots_loaded l w m h;
       zeros = λ a b free. zero_moved l w m a h b free;
       copies = λ i raw y c. copy_moved l w m i raw y h c;
@@ -152,7 +160,7 @@ images_loaded laws = λ l w x kind numbers legal laid decided whole none.
       memory = loaded.memory;
       accepted = loaded.accepted;
       machine = loaded.applied.machine;
-      sections = h.sections;
+      items = h.items;
       slots = h.slots;
       zeros = h.zeros;
       copies = h.copies;

@@ -156,21 +156,21 @@ section_even : (l : Layout) (s : InputSection) → All EvenPlace (packed_places 
 unfolding packed_places
 section_even l s = by_test (has_moved l s)
   where
-    one : (b : Bool) (r : InputRelocation) → packs l (place_of s r) ≡ b → All EvenPlace (option_to_list (if is_moved l s r && b then Some (place_of s r) else None))
+    one : (b : Bool) (r : InputRelocation) → packs l (place_of s.address r) ≡ b → All EvenPlace (option_to_list (if is_moved l s r && b then Some (place_of s.address r) else None))
     one true r e = by_move (is_moved l s r)
       where
-        by_move : (m : Bool) → All EvenPlace (option_to_list (if m && true then Some (place_of s r) else None))
-        by_move true = All-cons EvenPlace (place_of s r) [] (packs_even l.options.relr (place_of s r) e) (All-nil EvenPlace)
+        by_move : (m : Bool) → All EvenPlace (option_to_list (if m && true then Some (place_of s.address r) else None))
+        by_move true = All-cons EvenPlace (place_of s.address r) [] (packs_even l.options.relr (place_of s.address r) e) (All-nil EvenPlace)
         by_move false = All-nil EvenPlace
     one false r e = by_move (is_moved l s r)
       where
-        by_move : (m : Bool) → All EvenPlace (option_to_list (if m && false then Some (place_of s r) else None))
+        by_move : (m : Bool) → All EvenPlace (option_to_list (if m && false then Some (place_of s.address r) else None))
         by_move true = All-nil EvenPlace
         by_move false = All-nil EvenPlace
 
     by_test : (b : Bool) → All EvenPlace (if b then flat_map (λ (r : InputRelocation). option_to_list (packed_place l s r)) s.relocations else [])
     by_test false = All-nil EvenPlace
-    by_test true = All-flat_map EvenPlace (λ (r : InputRelocation). option_to_list (packed_place l s r)) s.relocations (λ k d b. one (packs l (place_of s (get_or s.relocations k d))) (get_or s.relocations k d) refl)
+    by_test true = All-flat_map EvenPlace (λ (r : InputRelocation). option_to_list (packed_place l s r)) s.relocations (λ k d b. one (packs l (place_of s.address (get_or s.relocations k d))) (get_or s.relocations k d) refl)
 
 flat_even : (l : Layout) (f : File) → All EvenPlace (flat_places_of l f)
 flat_even l f = subst (All EvenPlace) (sym (flat_by_sites l f)) (All-flat_map EvenPlace (of_site (flat_place l.options.relr)) (file_sites l f) (λ k d b. one (get_or (file_sites l f) k d).at (get_or (file_sites l f) k d).word))

@@ -13,6 +13,7 @@ use Rattle.wild_types.specs.declared.kind.Machine.{Machine}
 use Rattle.wild_types.specs.declared.kind.Machine.TheVariants as machine
 use Rattle.wild_types.specs.declared.input.InputRelocation.{InputRelocation}
 use Rattle.wild_types.specs.declared.input.InputSection.{InputSection}
+use Rattle.wild_types.specs.Item.{item_of}
 use Rattle.wild_types.specs.declared.layout.Layout.{Layout}
 use Rattle.wild_types.specs.Lookups.{place_of}
 use Rattle.wild_layout.specs.declared.decision.Decision.{Decision}
@@ -36,7 +37,7 @@ use Rattle.wild_loader.specs.Changes.{kind_of, change_of, size_of}
 use Rattle.wild_loader.specs.Memory.{Holds}
 use Rattle.wild_loader.specs.Relocate.{loaded_at}
 use Rattle.wild_loader.specs.FilledLaws.{RelativesStoreWords}
-use Rattle.wild_geometry.specs.Loaded.{HasDecision, number_at, entry_with, MakesChange, stored_bytes, HasSection, InFile}
+use Rattle.wild_geometry.specs.Loaded.{HasDecision, number_at, entry_with, MakesChange, stored_bytes, HasItem, InFile}
 use Rattle.wild_loaded.specs.Memory.{image_memory, EachDecided}
 use Rattle.wild_loaded.specs.Stored.{FillsField}
 use Rattle.wild_loaded.specs.Laws.{SectionsAreStored, EntriesHaveChanges}
@@ -117,10 +118,10 @@ pub record SectionLaws : Type 0 where
   pub changes : EntriesHaveChanges
   pub relative : RelativeLaws
 
-pub before : (l : Layout) (w : World) (s : InputSection) → SectionsAreStored → IsLegal l w → IsLaidOut l → IsKeptWell l s → HasSection l w (image_memory l w) s InFile
+pub before : (l : Layout) (w : World) (s : InputSection) → SectionsAreStored → IsLegal l w → IsLaidOut l → IsKeptWell l s → HasItem l w (image_memory l w) (item_of s) InFile
 before l w s law legal laid well = law l w s legal laid well.kept well.decisions
 
-pub value_low : (l : Layout) (s : InputSection) (r : InputRelocation) (v : ℕ) (packed : Bool) → IsMoved l s r v packed → v < 2 ^ 64
+pub value_low : (l : Layout) (s : InputSection) (r : InputRelocation) (v : ℕ) (packed : Bool) → IsMoved l (item_of s) r v packed → v < 2 ^ 64
 value_low l s r v packed a = subst (λ (n : ℕ). n < 2 ^ 64) a.value (omega arith)
 
 number_low : (w : World) (b : Bool) (n : ℕ) → n < 2 ^ 64 → number_at InFile w n b < 2 ^ 64
@@ -147,7 +148,7 @@ filling_there l w s x laws x86 numbers legal laid h = by_decision h.by.decision 
         let at = place_loaded w x.entry.offset x.width some (low some) in
         omega (arith, sum, at)
 
-    moved : (v : ℕ) (packed : Bool) → HasDecision l s h.filling.index h.filling.relocation (Moved v packed) → x ≡ moved_filling l s h.filling.relocation packed → IsMoved l s h.filling.relocation v packed → IsKnown w (image_memory l w) x
+    moved : (v : ℕ) (packed : Bool) → HasDecision l (item_of s) h.filling.index h.filling.relocation (Moved v packed) → x ≡ moved_filling l s h.filling.relocation packed → IsMoved l (item_of s) h.filling.relocation v packed → IsKnown w (image_memory l w) x
     moved v true has e f =
         let low_v = value_low l s h.filling.relocation v true f in
         let eight : x.width ≡ 8 = ap (λ (y : Filling). y.width) e in
@@ -159,12 +160,12 @@ filling_there l w s x laws x86 numbers legal laid h = by_decision h.by.decision 
         let eight : x.width ≡ 8 = ap (λ (y : Filling). y.width) e in
         let held = subst (λ (a : ℕ). Holds (image_memory l w) a (word 8 0)) (place_is (omega (arith, eight))) ((before l w s laws.stored legal laid h.well).addresses h.filling.index h.filling.relocation v false has) in
         let small : moved_value l h.filling.relocation < 2 ^ 64 = omega arith in
-        let made' = relative_makes l w (place_of s h.filling.relocation) (moved_value l h.filling.relocation) laws.relative x86 small in
-        let change : HasChange w (relative_entry l (place_of s h.filling.relocation) (moved_value l h.filling.relocation)) 8 = has_change w _ _ 8 made' refl in
+        let made' = relative_makes l w (place_of s.address h.filling.relocation) (moved_value l h.filling.relocation) laws.relative x86 small in
+        let change : HasChange w (relative_entry l (place_of s.address h.filling.relocation) (moved_value l h.filling.relocation)) 8 = has_change w _ _ 8 made' refl in
         let P : Filling → Type 0 = λ y. (1 ≤ y.width → w.base + y.entry.offset + y.width ≤ 2 ^ 64) → Holds (image_memory l w) (loaded_at w y.entry.offset) (word 8 0) → IsKnown w (image_memory l w) y in
         subst P (sym e) (λ below there. record { low = below; old = word 8 0; wide = length-word 8 0; held = there; makes = change }) low held
 
-    left : (z : RelocationSize) (n symbol addend : ℕ) → decided l s h.filling.relocation ≡ Ok (Left z n symbol addend) → HasDecision l s h.filling.index h.filling.relocation (Left z n symbol addend) → x ≡ general_of (entry_for (place_of s h.filling.relocation) n symbol addend) (size_width z) → IsKnown w (image_memory l w) x
+    left : (z : RelocationSize) (n symbol addend : ℕ) → decided l (item_of s) h.filling.relocation ≡ Ok (Left z n symbol addend) → HasDecision l (item_of s) h.filling.index h.filling.relocation (Left z n symbol addend) → x ≡ general_of (entry_for (place_of s.address h.filling.relocation) n symbol addend) (size_width z) → IsKnown w (image_memory l w) x
     left z n symbol addend made has e =
         let some = width_some l s x h in
         let b = (before l w s laws.stored legal laid h.well).left h.filling.index h.filling.relocation z n symbol addend has in
@@ -172,11 +173,11 @@ filling_there l w s x laws x86 numbers legal laid h = by_decision h.by.decision 
         let zeros = subst (λ (bs : List ℕ). Holds (image_memory l w) (w.base + s.address + h.filling.relocation.offset) bs) b.2 b.1 in
         let held = subst (λ (a : ℕ). Holds (image_memory l w) a (replicate (size_width z) 0)) (place_is some) zeros in
         let fills = laws.changes.left l w s h.filling.relocation z n symbol addend x86 numbers legal laid here h.well.kept.input made in
-        let change = has_change w _ fills.change (size_width z) (field_makes w (place_of s h.filling.relocation) n symbol addend z fills) (stored_size fills.change (size_width z) (omega (arith, some, width)) fills.width) in
+        let change = has_change w _ fills.change (size_width z) (field_makes w (place_of s.address h.filling.relocation) n symbol addend z fills) (stored_size fills.change (size_width z) (omega (arith, some, width)) fills.width) in
         let P : Filling → Type 0 = λ y. (1 ≤ y.width → w.base + y.entry.offset + y.width ≤ 2 ^ 64) → Holds (image_memory l w) (loaded_at w y.entry.offset) (replicate (size_width z) 0) → IsKnown w (image_memory l w) y in
         subst P (sym e) (λ below there. record { low = below; old = replicate (size_width z) 0; wide = length-replicate (size_width z) 0; held = there; makes = change }) low held
 
-    by_decision : (d : Decision) → decided l s h.filling.relocation ≡ Ok d → HasDecision l s h.filling.index h.filling.relocation d → Fills l s h.filling.relocation x d → IsKnown w (image_memory l w) x
+    by_decision : (d : Decision) → decided l (item_of s) h.filling.relocation ≡ Ok d → HasDecision l (item_of s) h.filling.index h.filling.relocation d → Fills l s h.filling.relocation x d → IsKnown w (image_memory l w) x
     by_decision Nothing made has f = absurd f
     by_decision (Field z v) made has f = absurd f
     by_decision (Moved v packed) made has f = moved v packed has f.0 f.1

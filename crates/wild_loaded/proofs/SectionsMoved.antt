@@ -14,6 +14,7 @@ use Rattle.wild_words.proofs.OrderLemmas.{Outside}
 use Rattle.wild_types.specs.declared.fault.Fault.{Fault}
 use Rattle.wild_types.specs.declared.input.InputRelocation.{InputRelocation}
 use Rattle.wild_types.specs.declared.input.InputSection.{InputSection}
+use Rattle.wild_types.specs.Item.{item_of}
 use Rattle.wild_types.specs.declared.file.File.{File}
 use Rattle.wild_types.specs.declared.layout.Layout.{Layout}
 use Rattle.wild_types.specs.Lookups.{place_of}
@@ -43,7 +44,7 @@ use Rattle.wild_loader.specs.Changes.{bytes_after}
 use Rattle.wild_loader.specs.Memory.{Holds, byte_in}
 use Rattle.wild_loader.specs.Relocate.{loaded_at}
 use Rattle.wild_meaning.proofs.BitLemmas.{kept_is_read}
-use Rattle.wild_geometry.specs.Loaded.{InNoSite, InMemory, HasDecision, ReadsLeft, stored_bytes, HasSection}
+use Rattle.wild_geometry.specs.Loaded.{InNoSite, InMemory, HasDecision, ReadsLeft, stored_bytes, HasItem}
 use Rattle.wild_loaded.specs.Memory.{image_memory}
 use Rattle.wild_loaded.proofs.Fillings.{Filling, Misses, IsKnown, packed_at, relative_of, general_of, place_loaded}
 use Rattle.wild_loaded.proofs.SectionsApart.{all_sections, sections_of}
@@ -75,24 +76,24 @@ by_side at k a n x en is (inl h) = λ j lt e. omega (arith, is, h, e)
 by_side at k a n x en is (inr h) = λ j lt e. omega (arith, en, is, h, lt, e)
 
 -- what holds of all sites of a section holds of the one of a relocation
-of_site : (P : Piece → Type 0) (l : Layout) (s : InputSection) (i : ℕ) (p : Piece) → All P (sites l s) → i < length s.relocations → site l s i ≡ p ∷ [] → P p
+of_site : (P : Piece → Type 0) (l : Layout) (s : InputSection) (i : ℕ) (p : Piece) → All P (sites l (item_of s)) → i < length s.relocations → site l (item_of s) i ≡ p ∷ [] → P p
 of_site P l s i p all within is =
     let n = length s.relocations in
-    let each = All-from_flat_map P (site l s) (range_with_len 0 n) all i 0 (let e = length-range_with_len 0 n in omega (arith, e, within)) in
+    let each = All-from_flat_map P (site l (item_of s)) (range_with_len 0 n) all i 0 (let e = length-range_with_len 0 n in omega (arith, e, within)) in
     let at : get_or (range_with_len 0 n) i 0 ≡ i = (let e = get_or-range_with_len 0 n i 0 within in omega (arith, e)) in
-    let own = subst (λ (j : ℕ). All P (site l s j)) at each in
+    let own = subst (λ (j : ℕ). All P (site l (item_of s) j)) at each in
     let one = subst (λ (ps : List Piece). All P ps) is own in
     one 0 p (omega arith)
 
 -- a byte of no site
-outside_site : (l : Layout) (s : InputSection) (k : ℕ) (x : Filling) → InNoSite l s k → IsFilledThere l s x → Misses (s.address + k) x
+outside_site : (l : Layout) (s : InputSection) (k : ℕ) (x : Filling) → InNoSite l (item_of s) k → IsFilledThere l s x → Misses (s.address + k) x
 outside_site l s k x out h =
     let q = h.filling.relocation in
     let i = h.filling.index in
     let o = filled_site l s q x h.by in
     by_side s.address k q.offset (length o.bytes) x (site_width l s q x h.by) (place_sum l s x h) (of_site (Outside k) l s i o out h.filling.within (site_there l s q x i h.by h.has))
 
-other_there : (l : Layout) (w : World) (m : Memory) (s : InputSection) (k : ℕ) → IsMovedImage l w m → IsKeptWell l s → k < length s.bytes → InNoSite l s k → byte_in m (w.base + s.address + k) ≡ Some (slice_index s.bytes k)
+other_there : (l : Layout) (w : World) (m : Memory) (s : InputSection) (k : ℕ) → IsMovedImage l w m → IsKeptWell l s → k < length s.bytes → InNoSite l (item_of s) k → byte_in m (w.base + s.address + k) ≡ Some (slice_index s.bytes k)
 other_there l w m s k h well lt out =
     let same = kept_there l w m s k h well lt (λ x there. outside_site l s k x out there) in
     let at : w.base + (s.address + k) ≡ w.base + s.address + k = omega arith in
@@ -113,9 +114,9 @@ still_fills_none l s r x Partner still f = absurd still
 record IsStillSite (l : Layout) (s : InputSection) (i : ℕ) (p : Piece) : Type 0 where
   relocation : InputRelocation
   decision : Decision
-  has : HasDecision l s i relocation decision
+  has : HasDecision l (item_of s) i relocation decision
   still : IsOfRow decision
-  is : site l s i ≡ p ∷ []
+  is : site l (item_of s) i ≡ p ∷ []
 
 apart_byte : (at a n b q k : ℕ) (x : Filling) → q ≡ x.width → x.entry.offset ≡ at + b → k < n → (a + n ≤ b) ⊎ (b + q ≤ a) → Misses (at + (a + k)) x
 apart_byte at a n b q k x eq is lt (inl h) = λ j less e. omega (arith, is, lt, h, e)
@@ -141,9 +142,9 @@ outside_still l s i p k x well c lt h =
     back p o (inl h) = inr h
     back p o (inr h) = inl h
 
-    other : (q : InputRelocation) (j : ℕ) → i ≡ j → (d : Decision) → HasDecision l s j q d → Fills l s q x d → ⊥
+    other : (q : InputRelocation) (j : ℕ) → i ≡ j → (d : Decision) → HasDecision l (item_of s) j q d → Fills l s q x d → ⊥
     other q j e d has f =
-        let both : Ok c.decision ≡ Ok d = sym c.has.decided ∙ ap (λ (n : ℕ). decide l s n) e ∙ has.decided in
+        let both : Ok c.decision ≡ Ok d = sym c.has.decided ∙ ap (λ (n : ℕ). decide l (item_of s) n) e ∙ has.decided in
         let same : c.decision ≡ d = cc in
         still_fills_none l s q x d (subst IsOfRow same c.still) f
 
@@ -155,15 +156,15 @@ still_there l w m s i p h well c held = λ k lt.
     let e : w.base + (s.address + (p.at + k)) ≡ w.base + s.address + p.at + k = omega arith in
     subst (λ (a : ℕ). byte_in m a ≡ byte_in (image_memory l w) a) e same ∙ held k lt
 
-value_there : (l : Layout) (w : World) (m : Memory) (s : InputSection) (i : ℕ) (r : InputRelocation) (z : RelocationSize) (v : ℕ) → IsMovedImage l w m → IsKeptWell l s → HasDecision l s i r (Field z v) → Holds m (w.base + s.address + r.offset) (field_site s r.offset z v).bytes
+value_there : (l : Layout) (w : World) (m : Memory) (s : InputSection) (i : ℕ) (r : InputRelocation) (z : RelocationSize) (v : ℕ) → IsMovedImage l w m → IsKeptWell l s → HasDecision l (item_of s) i r (Field z v) → Holds m (w.base + s.address + r.offset) (field_site (item_of s) r.offset z v).bytes
 value_there l w m s i r z v h well has =
-    let still : IsStillSite l s i (field_site s r.offset z v) = record { relocation = r; decision = Field z v; has = has; still = tt; is = site_written l s i r (Field z v) (record { size = z; value = v }) has.listed has.decided refl } in
-    still_there l w m s i (field_site s r.offset z v) h well still ((before l w s h.laws.filled.sections.stored h.well.legal h.well.laid well).values i r z v has)
+    let still : IsStillSite l s i (field_site (item_of s) r.offset z v) = record { relocation = r; decision = Field z v; has = has; still = tt; is = site_written l (item_of s) i r (Field z v) (record { size = z; value = v }) has.listed has.decided refl } in
+    still_there l w m s i (field_site (item_of s) r.offset z v) h well still ((before l w s h.laws.filled.sections.stored h.well.legal h.well.laid well).values i r z v has)
 
-rewritten_there : (l : Layout) (w : World) (m : Memory) (s : InputSection) (i : ℕ) (r : InputRelocation) (row : Row) (v : ℕ) → IsMovedImage l w m → IsKeptWell l s → HasDecision l s i r (Rewritten row v) → Holds m (w.base + s.address + (template_site s r row v).at) (template_site s r row v).bytes
+rewritten_there : (l : Layout) (w : World) (m : Memory) (s : InputSection) (i : ℕ) (r : InputRelocation) (row : Row) (v : ℕ) → IsMovedImage l w m → IsKeptWell l s → HasDecision l (item_of s) i r (Rewritten row v) → Holds m (w.base + s.address + (template_site (item_of s) r row v).at) (template_site (item_of s) r row v).bytes
 rewritten_there l w m s i r row v h well has =
-    let still : IsStillSite l s i (template_site s r row v) = record { relocation = r; decision = Rewritten row v; has = has; still = tt; is = site_rewritten l s i r row v has.listed has.decided } in
-    still_there l w m s i (template_site s r row v) h well still ((before l w s h.laws.filled.sections.stored h.well.legal h.well.laid well).rewritten i r row v has)
+    let still : IsStillSite l s i (template_site (item_of s) r row v) = record { relocation = r; decision = Rewritten row v; has = has; still = tt; is = site_rewritten l (item_of s) i r row v has.listed has.decided } in
+    still_there l w m s i (template_site (item_of s) r row v) h well still ((before l w s h.laws.filled.sections.stored h.well.legal h.well.laid well).rewritten i r row v has)
 
 -- ---- fillings
 
@@ -177,7 +178,7 @@ filling_listed l w s r x well c given =
     (here, Contains-append_left (stored_fillings l) (copies_filled l w) x (Contains-append_left (sections_filled l) (slots_filled l ++ blocks_filled l) x sections))
 
 -- where it is loaded
-place_is : (l : Layout) (w : World) (m : Memory) (s : InputSection) (r : InputRelocation) (x : Filling) → IsMovedImage l w m → IsKeptWell l s → Contains s.relocations r → section_filling l s r ≡ Some x → x.entry.offset ≡ place_of s r → 1 ≤ x.width → r.offset + x.width ≤ length s.bytes → loaded_at w x.entry.offset ≡ w.base + s.address + r.offset
+place_is : (l : Layout) (w : World) (m : Memory) (s : InputSection) (r : InputRelocation) (x : Filling) → IsMovedImage l w m → IsKeptWell l s → Contains s.relocations r → section_filling l s r ≡ Some x → x.entry.offset ≡ place_of s.address r → 1 ≤ x.width → r.offset + x.width ≤ length s.bytes → loaded_at w x.entry.offset ≡ w.base + s.address + r.offset
 place_is l w m s r x h well c given is some ends =
     let both = filling_listed l w s r x well c given in
     let known = All-contains (IsKnown w (image_memory l w)) (all_fillings l w) x h.sorted.known both.1 in
@@ -189,38 +190,38 @@ place_is l w m s r x h well c given is some ends =
 
 -- the field of a relocation lies in the section
 ends_of : (l : Layout) (s : InputSection) (r : InputRelocation) (z : RelocationSize) → IsKeptWell l s → Contains s.relocations r → HasField l r z → r.offset + size_width z ≤ length s.bytes
-ends_of l s r z well c f = field_lies l s r z f well.full (All-contains (FieldLies l.machine s.size) s.relocations r well.lies.fields c)
+ends_of l s r z well c f = field_lies l (item_of s) r z f (All-contains (FieldLies l.machine (length s.bytes)) s.relocations r well.fields c)
 
 -- ---- addresses
 
-value_same : (l : Layout) (s : InputSection) (r : InputRelocation) (v : ℕ) (packed : Bool) → IsMoved l s r v packed → moved_value l r ≡ v
+value_same : (l : Layout) (s : InputSection) (r : InputRelocation) (v : ℕ) (packed : Bool) → IsMoved l (item_of s) r v packed → moved_value l r ≡ v
 value_same l s r v packed a = ap (λ (o : Result ℕ Fault). sum (or_zero o) r.addend) a.given ∙ a.value
 
-address_moved : (l : Layout) (w : World) (m : Memory) (s : InputSection) (i : ℕ) (r : InputRelocation) (v : ℕ) (packed : Bool) → IsMovedImage l w m → IsKeptWell l s → HasDecision l s i r (Moved v packed) → Holds m (w.base + s.address + r.offset) (word 8 ((v + w.base) % 2 ^ 64))
-address_moved l w m s i r v packed h well has = by_packed packed has (decided_moved l s r v packed (decide_moved l s i r v packed has.listed has.decided).made)
+address_moved : (l : Layout) (w : World) (m : Memory) (s : InputSection) (i : ℕ) (r : InputRelocation) (v : ℕ) (packed : Bool) → IsMovedImage l w m → IsKeptWell l s → HasDecision l (item_of s) i r (Moved v packed) → Holds m (w.base + s.address + r.offset) (word 8 ((v + w.base) % 2 ^ 64))
+address_moved l w m s i r v packed h well has = by_packed packed has (decided_moved l (item_of s) r v packed (decide_moved l (item_of s) i r v packed has.listed has.decided).made)
   where
     c : Contains s.relocations r
     c = listed_at s.relocations i r has.listed
 
-    by_packed : (b : Bool) → HasDecision l s i r (Moved v b) → IsMoved l s r v b → Holds m (w.base + s.address + r.offset) (word 8 ((v + w.base) % 2 ^ 64))
+    by_packed : (b : Bool) → HasDecision l (item_of s) i r (Moved v b) → IsMoved l (item_of s) r v b → Holds m (w.base + s.address + r.offset) (word 8 ((v + w.base) % 2 ^ 64))
     by_packed true there f =
         let given = moved_given l s r v true f in
-        let at = place_is l w m s r (packed_at (place_of s r)) h well c given refl (omega arith) (ends_of l s r (ByteSize Eight) well c (moved_has l s r v true f)) in
+        let at = place_is l w m s r (packed_at (place_of s.address r)) h well c given refl (omega arith) (ends_of l s r (ByteSize Eight) well c (moved_has l (item_of s) r v true f)) in
         let held = (before l w s h.laws.filled.sections.stored h.well.legal h.well.laid well).addresses i r v true there in
-        let listed = (filling_listed l w s r (packed_at (place_of s r)) well c given).1 in
-        let now = packed_made l w m (place_of s r) v h listed (value_low l s r v true f) (subst (λ (a : ℕ). Holds (image_memory l w) a (word 8 v)) (sym at) held) in
+        let listed = (filling_listed l w s r (packed_at (place_of s.address r)) well c given).1 in
+        let now = packed_made l w m (place_of s.address r) v h listed (value_low l s r v true f) (subst (λ (a : ℕ). Holds (image_memory l w) a (word 8 v)) (sym at) held) in
         subst (λ (a : ℕ). Holds m a (word 8 ((v + w.base) % 2 ^ 64))) at now
     by_packed false there f =
-        let e = relative_entry l (place_of s r) (moved_value l r) in
+        let e = relative_entry l (place_of s.address r) (moved_value l r) in
         let given = moved_given l s r v false f in
-        let at = place_is l w m s r (relative_of e) h well c given refl (omega arith) (ends_of l s r (ByteSize Eight) well c (moved_has l s r v false f)) in
+        let at = place_is l w m s r (relative_of e) h well c given refl (omega arith) (ends_of l s r (ByteSize Eight) well c (moved_has l (item_of s) r v false f)) in
         let listed = (filling_listed l w s r (relative_of e) well c given).1 in
         let small : moved_value l r < 2 ^ 64 = omega arith in
-        let makes = relative_makes l w (place_of s r) (moved_value l r) h.laws.filled.sections.relative h.well.x86 small in
+        let makes = relative_makes l w (place_of s.address r) (moved_value l r) h.laws.filled.sections.relative h.well.x86 small in
         let over = made_over l w m (relative_of e) (changes.Word ((w.base + moved_value l r) % 2 ^ 64)) h listed tt makes refl in
         let same = value_same l s r v false f in
         let turn : (w.base + moved_value l r) % 2 ^ 64 ≡ (v + w.base) % 2 ^ 64 = ap (λ (n : ℕ). n % 2 ^ 64) (omega (arith, same)) in
-        subst (λ (a : ℕ). Holds m a (word 8 ((v + w.base) % 2 ^ 64))) at (subst (λ (n : ℕ). Holds m (loaded_at w (place_of s r)) (word 8 n)) turn over.made.held)
+        subst (λ (a : ℕ). Holds m a (word 8 ((v + w.base) % 2 ^ 64))) at (subst (λ (n : ℕ). Holds m (loaded_at w (place_of s.address r)) (word 8 n)) turn over.made.held)
 
 -- ---- fields that are left to entries
 
@@ -231,26 +232,26 @@ after_is (changes.Fill bytes) n old some e = absurd (omega (arith, some, e))
 after_is (changes.Add v) n old some e = absurd (omega (arith, some, e))
 after_is (changes.Descriptor o) n old some e = absurd (omega (arith, some, e))
 
-left_filled : (l : Layout) (w : World) (m : Memory) (s : InputSection) (i : ℕ) (r : InputRelocation) (z : RelocationSize) (n symbol addend : ℕ) → IsMovedImage l w m → IsKeptWell l s → HasDecision l s i r (Left z n symbol addend)
+left_filled : (l : Layout) (w : World) (m : Memory) (s : InputSection) (i : ℕ) (r : InputRelocation) (z : RelocationSize) (n symbol addend : ℕ) → IsMovedImage l w m → IsKeptWell l s → HasDecision l (item_of s) i r (Left z n symbol addend)
     → (bs : List ℕ) × Holds m (w.base + s.address + r.offset) bs × ReadsLeft InMemory w z n symbol addend bs
 left_filled l w m s i r z n symbol addend h well has =
     let c = listed_at s.relocations i r has.listed in
-    let made = (decide_left l s i r z n symbol addend has.listed has.decided).made in
-    let x = general_of (entry_for (place_of s r) n symbol addend) (size_width z) in
+    let made = (decide_left l (item_of s) i r z n symbol addend has.listed has.decided).made in
+    let x = general_of (entry_for (place_of s.address r) n symbol addend) (size_width z) in
     let given = left_given l s r z n symbol addend made in
-    let some = field_has_bytes l r z (decided_left l s r z n symbol addend made).field in
-    let at = place_is l w m s r x h well c given refl (omega (arith, some)) (ends_of l s r z well c (decided_left l s r z n symbol addend made).field) in
+    let some = field_has_bytes l r z (decided_left l (item_of s) r z n symbol addend made).field in
+    let at = place_is l w m s r x h well c given refl (omega (arith, some)) (ends_of l s r z well c (decided_left l (item_of s) r z n symbol addend made).field) in
     let listed = (filling_listed l w s r x well c given).1 in
     let fills = h.laws.filled.sections.changes.left l w s r z n symbol addend h.well.x86 h.well.numbers h.well.legal h.well.laid c well.kept.input made in
-    let makes = field_makes w (place_of s r) n symbol addend z fills in
+    let makes = field_makes w (place_of s.address r) n symbol addend z fills in
     let over = made_over l w m x fills.change h listed tt makes (stored_size fills.change (size_width z) (omega (arith, some)) fills.width) in
     let bytes = after_is fills.change (size_width z) over.old (omega (arith, some)) fills.width in
-    let held = subst (λ (bs : List ℕ). Holds m (loaded_at w (place_of s r)) bs) bytes over.made.held in
+    let held = subst (λ (bs : List ℕ). Holds m (loaded_at w (place_of s.address r)) bs) bytes over.made.held in
     (stored_bytes fills.change, subst (λ (a : ℕ). Holds m a (stored_bytes fills.change)) at held, (fills.change, fills.makes, refl, fills.width))
 
 -- ---- the section
 
-pub section_moved : (l : Layout) (w : World) (m : Memory) (s : InputSection) → IsMovedImage l w m → IsKeptWell l s → HasSection l w m s InMemory
+pub section_moved : (l : Layout) (w : World) (m : Memory) (s : InputSection) → IsMovedImage l w m → IsKeptWell l s → HasItem l w m (item_of s) InMemory
 section_moved l w m s h well = record {
   ends = (before l w s h.laws.filled.sections.stored h.well.legal h.well.laid well).ends;
   values = λ i r z v has. value_there l w m s i r z v h well has;

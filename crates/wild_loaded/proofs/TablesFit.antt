@@ -19,6 +19,7 @@ use Rattle.wild_types.specs.declared.kind.Machine.{Machine}
 use Rattle.wild_types.specs.declared.kind.Machine.TheVariants as machine
 use Rattle.wild_types.specs.declared.input.InputRelocation.{InputRelocation}
 use Rattle.wild_types.specs.declared.input.InputSection.{InputSection}
+use Rattle.wild_types.specs.Item.{item_of}
 use Rattle.wild_types.specs.declared.file.File.{File}
 use Rattle.wild_types.specs.declared.file.Group.{Group}
 use Rattle.wild_types.specs.declared.symbol.Place.{Place}
@@ -62,11 +63,11 @@ abbrev OfEntries : Layout → (Rela → Type 0) → Type 0
 OfEntries l P = (place v : ℕ) → place < 2 ^ 64 → v < 2 ^ 64 → P (relative_entry l place v)
 
 of_relocation : (P : Rela → Type 0) (l : Layout) (s : InputSection) (r : InputRelocation) → OfEntries l P → All P (option_to_list (listed_entry l s r))
-of_relocation P l s r h = by_test (is_moved l s r && not (packs l (place_of s r)))
+of_relocation P l s r h = by_test (is_moved l s r && not (packs l (place_of s.address r)))
   where
-    by_test : (b : Bool) → All P (option_to_list (option_map (λ (place : ℕ). relative_entry l place (moved_value l r)) (if b then Some (place_of s r) else None)))
+    by_test : (b : Bool) → All P (option_to_list (option_map (λ (place : ℕ). relative_entry l place (moved_value l r)) (if b then Some (place_of s.address r) else None)))
     by_test false = All-nil P
-    by_test true = All-cons P (relative_entry l (place_of s r) (moved_value l r)) [] (h (place_of s r) (moved_value l r) (omega arith) (omega arith)) (All-nil P)
+    by_test true = All-cons P (relative_entry l (place_of s.address r) (moved_value l r)) [] (h (place_of s.address r) (moved_value l r) (omega arith) (omega arith)) (All-nil P)
 
 of_section : (P : Rela → Type 0) (l : Layout) (s : InputSection) → OfEntries l P → All P (section_entries l s)
 unfolding section_entries
@@ -191,15 +192,15 @@ places_entries_fit part m relr at (w ∷ ws) low =
 named_fits : (place number symbol addend : ℕ) → place < 2 ^ 64 → RelaFits (entry_for place number symbol addend)
 named_fits place number symbol addend low = record { offset = low; number = omega arith; symbol = omega arith; addend = signed_fits addend }
 
-left_fits : (l : Layout) (s : InputSection) (r : InputRelocation) (t : Treatment) → RelaFits (left_by l s r t)
-left_fits l s r (treatments.Symbolic i) = named_fits (place_of s r) (type_of l.machine entry_kinds.Absolute) (index_or_zero l i) (added r) (omega arith)
-left_fits l s r (treatments.Indirect i) = named_fits (place_of s r) (type_of l.machine entry_kinds.Irelative) 0 (or_zero (decided_address l i)) (omega arith)
-left_fits l s r (treatments.Extent row i) = named_fits (place_of s r) r.number (index_or_zero l i) (added r) (omega arith)
-left_fits l s r treatments.Nothing = named_fits (place_of s r) 0 0 0 (omega arith)
-left_fits l s r (treatments.Value row) = named_fits (place_of s r) 0 0 0 (omega arith)
-left_fits l s r treatments.BaseRelative = named_fits (place_of s r) 0 0 0 (omega arith)
-left_fits l s r treatments.Recompile = named_fits (place_of s r) 0 0 0 (omega arith)
-left_fits l s r treatments.Unsupported = named_fits (place_of s r) 0 0 0 (omega arith)
+left_fits : (l : Layout) (s : InputSection) (r : InputRelocation) (t : Treatment) → RelaFits (left_by l (item_of s) r t)
+left_fits l s r (treatments.Symbolic i) = named_fits (place_of s.address r) (type_of l.machine entry_kinds.Absolute) (index_or_zero l i) (added r) (omega arith)
+left_fits l s r (treatments.Indirect i) = named_fits (place_of s.address r) (type_of l.machine entry_kinds.Irelative) 0 (or_zero (decided_address l i)) (omega arith)
+left_fits l s r (treatments.Extent row i) = named_fits (place_of s.address r) r.number (index_or_zero l i) (added r) (omega arith)
+left_fits l s r treatments.Nothing = named_fits (place_of s.address r) 0 0 0 (omega arith)
+left_fits l s r (treatments.Value row) = named_fits (place_of s.address r) 0 0 0 (omega arith)
+left_fits l s r treatments.BaseRelative = named_fits (place_of s.address r) 0 0 0 (omega arith)
+left_fits l s r treatments.Recompile = named_fits (place_of s.address r) 0 0 0 (omega arith)
+left_fits l s r treatments.Unsupported = named_fits (place_of s.address r) 0 0 0 (omega arith)
 
 -- where a symbol stands is a number of 64 bits
 placed_low : (l : Layout) (i v : ℕ) → placed_value l i ≡ Some v → v < 2 ^ 64
@@ -247,7 +248,7 @@ raw_low l i numbers = by_symbol (slice_get l.symbols (canonical l i)) refl
 
 left_entries_fit : (l : Layout) (s : InputSection) → All RelaFits (section_generals l s)
 unfolding section_generals
-left_entries_fit l s = All-map RelaFits (left_entry l s) (left_relocations l s) (λ k d b. left_fits l s (get_or (left_relocations l s) k d) (treatment l s (get_or (left_relocations l s) k d)))
+left_entries_fit l s = All-map RelaFits (left_entry l (item_of s)) (left_relocations l s) (λ k d b. left_fits l s (get_or (left_relocations l s) k d) (treatment l s.flags (get_or (left_relocations l s) k d)))
 
 file_entries_fit : (l : Layout) (f : File) → All SymbolNumbers l.symbols → All RelaFits (file_generals l f)
 unfolding file_generals
@@ -298,12 +299,12 @@ places_fit : (l : Layout) (s : InputSection) → All IsWord (packed_places l s)
 unfolding packed_places
 places_fit l s = by_test (has_moved l s)
   where
-    one : (b : Bool) (r : InputRelocation) → All IsWord (option_to_list (if b then Some (place_of s r) else None))
+    one : (b : Bool) (r : InputRelocation) → All IsWord (option_to_list (if b then Some (place_of s.address r) else None))
     one false r = All-nil IsWord
-    one true r = All-cons IsWord (place_of s r) [] (omega arith) (All-nil IsWord)
+    one true r = All-cons IsWord (place_of s.address r) [] (omega arith) (All-nil IsWord)
 
     one_of : (r : InputRelocation) → All IsWord (option_to_list (packed_place l s r))
-    one_of r = one (is_moved l s r && packs l (place_of s r)) r
+    one_of r = one (is_moved l s r && packs l (place_of s.address r)) r
 
     by_test : (b : Bool) → All IsWord (if b then flat_map (λ (r : InputRelocation). option_to_list (packed_place l s r)) s.relocations else [])
     by_test false = All-nil IsWord

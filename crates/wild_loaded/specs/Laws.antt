@@ -17,6 +17,7 @@
 use Rattle.std.specs.Prelude.{◌≡◌, ℕ, ◌+◌, ◌*◌, ◌≤◌, true, false, [], ◌++◌, length, Some, Ok, Contains, slice_get}
 use Rattle.wild_types.specs.declared.kind.Machine.TheVariants as machine
 use Rattle.wild_types.specs.declared.input.InputSection.{InputSection}
+use Rattle.wild_types.specs.Item.{item_of}
 use Rattle.wild_types.specs.declared.part.Part.{Part}
 use Rattle.wild_types.specs.declared.part.Role.{Role}
 use Rattle.wild_slot.specs.declared.slot.SlotWord.{SlotWord}
@@ -36,7 +37,7 @@ use Rattle.wild_layout.specs.Numbers.{NumbersFit}
 use Rattle.wild_layout.specs.Faults.{flat_map_from, group_errors}
 use Rattle.wild_layout.specs.TablePlaces.{all_needed}
 use Rattle.wild_layout.specs.Geometry.{IsLaidOut}
-use Rattle.wild_geometry.specs.Loaded.{IsDecided, HasSection, InFile}
+use Rattle.wild_geometry.specs.Loaded.{IsDecided, HasItem, InFile}
 use Rattle.wild_reloc.specs.declared.info.RelocationSize.{RelocationSize}
 use Rattle.wild_layout.specs.declared.decision.Decision.TheVariants.{Left}
 use Rattle.wild_layout.specs.Decide.{decided}
@@ -79,11 +80,11 @@ pub record SegmentsAreLoadable : Type 0 where
 
 -- a kept section that has bytes has them in the file, and loaded segments carry each to its address
 abbrev pub SectionsAreCarried : Type 0
-SectionsAreCarried = (l : Layout) (s : InputSection) → IsLaidOut l → IsKeptSection l s → IsDecided l s → 1 ≤ length s.bytes → IsStored l s
+SectionsAreCarried = (l : Layout) (s : InputSection) → IsLaidOut l → IsKeptSection l s → IsDecided l (item_of s) → 1 ≤ length s.bytes → IsStored l s
 
 -- a kept section is there as the file has it: of an address that moves what stands at its place in the file
 abbrev pub SectionsAreStored : Type 0
-SectionsAreStored = (l : Layout) (w : World) (s : InputSection) → IsLegal l w → IsLaidOut l → IsKeptSection l s → IsDecided l s → HasSection l w (image_memory l w) s InFile
+SectionsAreStored = (l : Layout) (w : World) (s : InputSection) → IsLegal l w → IsLaidOut l → IsKeptSection l s → IsDecided l (item_of s) → HasItem l w (image_memory l w) (item_of s) InFile
 
 -- behind the file bytes of a loaded segment are zeros
 abbrev pub ZerosAreStored : Type 0
@@ -129,7 +130,7 @@ pub record EntriesHaveChanges : Type 0 where
       → slice_get l.symbols i ≡ Some s → slice_get (slots_of l s).words k ≡ Some d → entry_in d ≡ Some e → FillsSlot w e
   pub pair : (l : Layout) (w : World) (d : SlotWord) (e : SlotEntry) → IsLegal l w → Contains (storage_words l) d → entry_in d ≡ Some e → FillsSlot w e
   pub left : (l : Layout) (w : World) (s : InputSection) (r : InputRelocation) (z : RelocationSize) (number symbol addend : ℕ) → l.machine ≡ machine.X86_64 → NumbersFit l → IsLegal l w → IsLaidOut l → Contains s.relocations r
-      → IsInput l s → decided l s r ≡ Ok (Left z number symbol addend) → FillsField w z number symbol addend
+      → IsInput l s → decided l (item_of s) r ≡ Ok (Left z number symbol addend) → FillsField w z number symbol addend
   pub copies : (l : Layout) (w : World) (i raw : ℕ) (x : Answer) → l.machine ≡ machine.X86_64 → NumbersFit l → IsLegal l w → IsLaidOut l → HasCopy l w i raw x → Copies w (copy_entry l i) raw x.bytes
 
 -- where no group has a fault, each symbol that is copied has an address and an answer

@@ -3,10 +3,11 @@
 --   image_memory l w   its loaded segments in a world, before any entry is applied
 --   IsStored l s       the section's bytes stand in the file, and loaded segments carry each to its address
 --   EachDecided l      each section that is read is decided
---   HasMemory l w      the loader accepts the image, and memory has each kept section as it was decided, and the slots
+--   HasMemory l w      the loader accepts the image, and memory has each kept item as it was decided, and the slots
 use Rattle.std.specs.Prelude.{◌≡◌, ℕ, ◌+◌, ◌<◌, true, List, length, map, Some, Ok}
 use Rattle.wild_records.specs.declared.program_header.ProgramHeader.{ProgramHeader}
 use Rattle.wild_types.specs.declared.input.InputSection.{InputSection}
+use Rattle.wild_types.specs.Item.{Item, item_of}
 use Rattle.wild_types.specs.declared.layout.Layout.{Layout}
 use Rattle.wild_types.specs.declared.section.Segment.{Segment}
 use Rattle.wild_types.specs.Lookups.{is_read, is_filled}
@@ -15,7 +16,7 @@ use Rattle.wild_layout.specs.Sites.{section_bytes}
 use Rattle.wild_layout.specs.Image.{bytes}
 use Rattle.wild_layout.specs.Loadable.{IsCarried}
 use Rattle.wild_geometry.specs.Slots.{HasSlots}
-use Rattle.wild_geometry.specs.Loaded.{IsDecided, HasSection, InMemory}
+use Rattle.wild_geometry.specs.Loaded.{IsDecided, HasItem, InMemory}
 use Rattle.wild_loader.specs.declared.memory.Machine.TheVariants as machines
 use Rattle.wild_loader.specs.declared.memory.Memory.{Memory}
 use Rattle.wild_loader.specs.declared.world.World.{World}
@@ -24,7 +25,7 @@ use Rattle.wild_loader.specs.Headers.{machine_of}
 use Rattle.wild_loader.specs.Load.{load}
 use Rattle.wild_loader.specs.Memory.{byte_in, Holds}
 use Rattle.wild_loader.specs.SegmentLaws.{loaded_memory}
-use Rattle.wild_meaning.specs.Item.{IsInput, IsKeptSection}
+use Rattle.wild_meaning.specs.Item.{IsInput, IsKept}
 use Rattle.wild_meaning.specs.World.{IsBehind, HasCopy}
 use Rattle.wild_meaning.specs.Linked.{IsNotCopied}
 
@@ -44,15 +45,15 @@ image_memory l w = loaded_memory (machine_of (file_header l)) w.base (bytes l) (
 
 -- each section whose relocations are read has decisions that lie apart
 abbrev pub EachDecided : Layout → Type 0
-EachDecided l = (s : InputSection) → IsInput l s → is_read s ≡ true → IsDecided l s
+EachDecided l = (s : InputSection) → IsInput l s → is_read s ≡ true → IsDecided l (item_of s)
 
--- the loader accepts the image; memory has each kept section as it was decided, addresses that move more by the base, the
+-- the loader accepts the image; memory has each kept item as it was decided, addresses that move more by the base, the
 -- slots and stubs, copies of symbols, and else zeros behind the file bytes of segments
 pub record HasMemory (l : Layout) (w : World) : Type 0 where
   pub memory : Memory
   pub accepted : load w (bytes l) ≡ Ok memory
   pub machine : memory.machine ≡ machines.X86_64
-  pub sections : (s : InputSection) → IsKeptSection l s → HasSection l w memory s InMemory
+  pub items : (item : Item) → IsKept l item → HasItem l w memory item InMemory
   pub slots : HasSlots l w memory
   pub zeros : (a : ℕ) → IsBehind l a → IsNotCopied l w a → byte_in memory (w.base + a) ≡ Some 0
   pub copies : (i raw : ℕ) (x : Answer) → HasCopy l w i raw x → Holds memory (w.base + raw) x.bytes

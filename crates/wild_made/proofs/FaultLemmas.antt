@@ -17,7 +17,8 @@ use Rattle.wild_needs.specs.Needs.{needs, needs_of, share, group_share}
 use Rattle.wild_types.specs.Flags.{has_flag}
 use Rattle.wild_types.specs.Rows.{row_of}
 use Rattle.wild_types.specs.FilePlaces.{given}
-use Rattle.wild_types.specs.Lookups.{bit, is_read}
+use Rattle.wild_types.specs.Item.{item_of}
+use Rattle.wild_types.specs.Lookups.{place_of, bit, is_read}
 use Rattle.wild_reloc.specs.TableX86_64.{x86_64_row}
 use Rattle.wild_reloc.specs.declared.info.RelocationSize.TheVariants.{ByteSize}
 use Rattle.wild_reloc.specs.declared.info.Width.TheVariants.{Four}
@@ -29,7 +30,7 @@ use Rattle.wild_layout.specs.Decide.{decided, decide}
 use Rattle.wild_layout.proofs.DecisionLemmas.{decide_alone}
 use Rattle.wild_layout.proofs.SiteLemmas.{site_written}
 use Rattle.wild_layout.specs.Sites.{field_site, site, extent_of}
-use Rattle.wild_layout.specs.SymbolValues.{displacement, place_of}
+use Rattle.wild_layout.specs.SymbolValues.{displacement}
 use Rattle.wild_types.specs.Addresses.{raw_value}
 use Rattle.wild_needs.specs.TableSymbols.{file_items}
 use Rattle.wild_layout.specs.Faults.{errors, flat_map_from, share_errors, has_spare, part_errors, relocation_errors, section_errors, file_errors, listed_errors, table_errors, group_errors}
@@ -139,9 +140,9 @@ allowed n i j c h low call named = let few = h.few in in_range (4194432 + 64 * c
 
 -- the value of a call
 abbrev call_value : ℕ → ℕ → ℕ → ℕ
-call_value n i j = displacement (start_of (callee n i j)) (negsuc 3) (place_of (made_section n i) (made_relocation n i j))
+call_value n i j = displacement (start_of (callee n i j)) (negsuc 3) (place_of (made_section n i).address (made_relocation n i j))
 
-decided_made : (n i j : ℕ) → IsCount n → i < n → j < 8 → decided (made n) (made_section n i) (made_relocation n i j) ≡ Ok (Field (ByteSize Four) (call_value n i j))
+decided_made : (n i j : ℕ) → IsCount n → i < n → j < 8 → decided (made n) (item_of (made_section n i)) (made_relocation n i j) ≡ Ok (Field (ByteSize Four) (call_value n i j))
 unfolding decided treatment row_treatment row_of x86_64_row made_section made bit has_flag
 decided_made n i j h low call =
     let some = h.some in
@@ -154,42 +155,42 @@ unfolding made_section
 listed_made n i j call = item_at (made_relocation n i) 0 8 j j call (omega arith)
 
 -- no instruction is rewritten at a call's own type
-choice_made : (n i j : ℕ) (next : Option InputRelocation) → choice_of (made n) (made_section n i) (made_relocation n i j) next ≡ Ok None
+choice_made : (n i j : ℕ) (next : Option InputRelocation) → choice_of (made n) (item_of (made_section n i)) (made_relocation n i j) next ≡ Ok None
 unfolding choice_by
 choice_made n i j next = refl
 
-alone_made : (n i j : ℕ) → j < 8 → is_partner (made n) (made_section n i) j ≡ false
+alone_made : (n i j : ℕ) → j < 8 → is_partner (made n) (item_of (made_section n i)) j ≡ false
 alone_made n i zero call = refl
 alone_made n i (suc j) call = let next = slice_get (made_section n i).relocations (j + 1) in rw (listed_made n i j (omega arith), choice_made n i j next) refl
 
-decide_made : (n i j : ℕ) → IsCount n → i < n → j < 8 → decide (made n) (made_section n i) j ≡ Ok (Field (ByteSize Four) (call_value n i j))
+decide_made : (n i j : ℕ) → IsCount n → i < n → j < 8 → decide (made n) (item_of (made_section n i)) j ≡ Ok (Field (ByteSize Four) (call_value n i j))
 decide_made n i j h low call =
     let next = slice_get (made_section n i).relocations (j + 1) in
-    decide_alone (made n) (made_section n i) j (made_relocation n i j) (listed_made n i j call) (alone_made n i j call) (choice_made n i j next) ∙ decided_made n i j h low call
+    decide_alone (made n) (item_of (made_section n i)) j (made_relocation n i j) (listed_made n i j call) (alone_made n i j call) (choice_made n i j next) ∙ decided_made n i j h low call
 
-relocation_clean : (n i j g f k : ℕ) → IsCount n → i < n → j < 8 → relocation_errors (made n) g f k (made_section n i) j ≡ []
+relocation_clean : (n i j g f k : ℕ) → IsCount n → i < n → j < 8 → relocation_errors (made n) g f k (item_of (made_section n i)) j ≡ []
 unfolding relocation_errors
 relocation_clean n i j g f k h low call = rw (listed_made n i j call, decide_made n i j h low call) refl
 
-relocations_clean : (n i k : ℕ) (g f : ℕ) → IsCount n → i < n → flat_map (relocation_errors (made n) g f k (made_section n i)) (range_with_len 0 8) ≡ []
+relocations_clean : (n i k : ℕ) (g f : ℕ) → IsCount n → i < n → flat_map (relocation_errors (made n) g f k (item_of (made_section n i))) (range_with_len 0 8) ≡ []
 relocations_clean n i k g f h low =
-    let e = relocation_errors (made n) g f k (made_section n i) in
+    let e = relocation_errors (made n) g f k (item_of (made_section n i)) in
     let c : (j : ℕ) → j < 8 → e j ≡ [] = λ j call. relocation_clean n i j g f k h low call in
     simp (c 0 (omega arith), c 1 (omega arith), c 2 (omega arith), c 3 (omega arith), c 4 (omega arith), c 5 (omega arith), c 6 (omega arith), c 7 (omega arith)) refl
 
-site_made : (n i j : ℕ) → IsCount n → i < n → j < 8 → site (made n) (made_section n i) j ≡ field_site (made_section n i) (8 * j + 1) (ByteSize Four) (call_value n i j) ∷ []
-site_made n i j h low call = site_written (made n) (made_section n i) j (made_relocation n i j) (Field (ByteSize Four) (call_value n i j)) (record { size = ByteSize Four; value = call_value n i j }) (listed_made n i j call) (decide_made n i j h low call) refl
+site_made : (n i j : ℕ) → IsCount n → i < n → j < 8 → site (made n) (item_of (made_section n i)) j ≡ field_site (item_of (made_section n i)) (8 * j + 1) (ByteSize Four) (call_value n i j) ∷ []
+site_made n i j h low call = site_written (made n) (item_of (made_section n i)) j (made_relocation n i j) (Field (ByteSize Four) (call_value n i j)) (record { size = ByteSize Four; value = call_value n i j }) (listed_made n i j call) (decide_made n i j h low call) refl
 
 -- eight fields of four bytes
-call_extents : (n i : ℕ) → IsCount n → i < n → map extent_of (flat_map (site (made n) (made_section n i)) (range_with_len 0 8)) ≡ map (λ (j : ℕ). record { start = 8 * j + 1; end = 8 * j + 1 + 4 }) (range_with_len 0 8)
+call_extents : (n i : ℕ) → IsCount n → i < n → map extent_of (flat_map (site (made n) (item_of (made_section n i))) (range_with_len 0 8)) ≡ map (λ (j : ℕ). record { start = 8 * j + 1; end = 8 * j + 1 + 4 }) (range_with_len 0 8)
 unfolding word
 call_extents n i h low =
-    let s = site (made n) (made_section n i) in
-    let c : (j : ℕ) → j < 8 → s j ≡ field_site (made_section n i) (8 * j + 1) (ByteSize Four) (call_value n i j) ∷ [] = λ j call. site_made n i j h low call in
+    let s = site (made n) (item_of (made_section n i)) in
+    let c : (j : ℕ) → j < 8 → s j ≡ field_site (item_of (made_section n i)) (8 * j + 1) (ByteSize Four) (call_value n i j) ∷ [] = λ j call. site_made n i j h low call in
     simp (c 0 (omega arith), c 1 (omega arith), c 2 (omega arith), c 3 (omega arith), c 4 (omega arith), c 5 (omega arith), c 6 (omega arith), c 7 (omega arith)) refl
 
 -- no byte is of two fields
-none_shared : (n i : ℕ) → IsCount n → i < n → least_extent (map extent_of (flat_map (site (made n) (made_section n i)) (range_with_len 0 8))) ≡ None
+none_shared : (n i : ℕ) → IsCount n → i < n → least_extent (map extent_of (flat_map (site (made n) (item_of (made_section n i))) (range_with_len 0 8))) ≡ None
 unfolding least_extent
 none_shared n i h low = ap least_extent (call_extents n i h low) ∙ refl
 

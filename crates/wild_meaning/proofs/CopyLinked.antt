@@ -23,7 +23,8 @@ use Rattle.wild_loader.specs.Memory.{byte_in, Holds}
 use Rattle.wild_loader.specs.Tables.{first_dynamic}
 use Rattle.wild_meaning.specs.Value.{HasValue}
 use Rattle.wild_meaning.specs.World.{HasCopy, IsBehind}
-use Rattle.wild_meaning.specs.Item.{Item, IsInput, IsKept, item_of, OfSection}
+use Rattle.wild_types.specs.Item.{Item, item_of}
+use Rattle.wild_meaning.specs.Item.{IsInput, IsKept, OfSection}
 use Rattle.wild_meaning.specs.Reference.{IsLinkedAlone, ReferenceHolds, ItemHolds}
 use Rattle.wild_meaning.specs.Segments.{AreTold, HasSegments}
 use Rattle.wild_meaning.specs.Linked.{IsBlank, IsNotCopied, IsDecidedPlace}

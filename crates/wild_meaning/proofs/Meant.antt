@@ -10,7 +10,8 @@ use Rattle.wild_loader.specs.declared.world.World.{World}
 use Rattle.wild_loader.specs.Memory.{Holds}
 use Rattle.wild_loader.specs.Instruction.{Reader, Effect}
 use Rattle.wild_meaning.specs.Sequence.{Instruction, size_of}
-use Rattle.wild_meaning.specs.Item.{Item, place_at}
+use Rattle.wild_types.specs.Item.{Item}
+use Rattle.wild_meaning.specs.Item.{place_at}
 use Rattle.wild_meaning.specs.Template.{Demands, IsDemanded, old_bytes, effect_of, DoesDemanded}
 
 pub record IsMeant (read : Reader) (l : Layout) (w : World) (m : Memory) (item : Item) (first : InputRelocation) (start : ℕ) (o : Instruction) : Type 0 where

@@ -18,7 +18,7 @@ use Rattle.wild_loader.proofs.Held.{held-first, held-rest}
 use Rattle.wild_loader.specs.declared.instruction.Operand.TheVariants.{Number}
 use Rattle.wild_loader.specs.declared.instruction.Deed.{Deed}
 use Rattle.wild_loader.specs.Instruction.{Reader, Effect, stands}
-use Rattle.wild_meaning.specs.Item.{Item}
+use Rattle.wild_types.specs.Item.{Item}
 use Rattle.wild_meaning.specs.Field.{form_width, formula_of, InNoField}
 use Rattle.wild_meaning.specs.Sequence.{Instruction, Partner, size_of, instructions_of}
 use Rattle.wild_meaning.specs.Template.{IsInstruction, IsTemplate, reads, reads_alone, DoesDemanded}

@@ -15,7 +15,7 @@ use Rattle.wild_types.specs.declared.layout.Layout.{Layout}
 use Rattle.wild_types.specs.Flags.{ifunc, non_interposable}
 use Rattle.wild_meaning.specs.World.{IsExecutable}
 use Rattle.wild_meaning.specs.Value.{HasFlag}
-use Rattle.wild_meaning.specs.Item.{Item}
+use Rattle.wild_types.specs.Item.{Item}
 use Rattle.wild_meaning.specs.Sequence.{Named, Getter, Partner, Condition, Instruction, of_output, of_symbol, by_call, by_slot, by_distance, instructions_of}
 use Rattle.wild_meaning.specs.Partners.{NamesGetter, NamesIt, HasPartner, HasPartners, AreMet}
 use Rattle.wild_meaning.specs.Template.{IsInstruction, IsSequence, IsOfSequence, counts_from}

@@ -9,7 +9,8 @@ use Rattle.wild_loader.specs.declared.memory.Memory.{Memory}
 use Rattle.wild_loader.specs.declared.world.World.{World}
 use Rattle.wild_loader.specs.Memory.{byte_in, bytes_in, number_in, Holds}
 use Rattle.wild_loader.proofs.Held.{number-held}
-use Rattle.wild_meaning.specs.Item.{Item, place_at}
+use Rattle.wild_types.specs.Item.{Item}
+use Rattle.wild_meaning.specs.Item.{place_at}
 use Rattle.wild_meaning.specs.Field.{FieldReads}
 
 pub number_of : (m : Memory) (a n x : ℕ) (bs : List ℕ) → length bs ≡ n → Holds m a bs → number_in m a n ≡ Some x → number bs ≡ x

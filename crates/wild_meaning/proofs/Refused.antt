@@ -12,7 +12,7 @@ use Rattle.wild_loader.specs.declared.memory.Memory.{Memory}
 use Rattle.wild_loader.specs.declared.world.World.{World}
 use Rattle.wild_meaning.specs.Section.{IsSet}
 use Rattle.wild_meaning.specs.Value.{HasFlag, IsReplaceable, may_be_replaced}
-use Rattle.wild_meaning.specs.Item.{Item}
+use Rattle.wild_types.specs.Item.{Item}
 use Rattle.wild_meaning.specs.Field.{formula_of, FieldReads}
 use Rattle.wild_meaning.specs.Formula.{Gives}
 use Rattle.wild_meaning.specs.Sequence.{Instruction}

@@ -26,7 +26,8 @@ use Rattle.wild_loader.specs.Instruction.{as_value}
 use Rattle.wild_loader.specs.InstructionX86_64.{meaning_x86_64, effect_x86_64}
 use Rattle.wild_meaning.specs.Value.{IsDefinedBy, IsSymbol, HasValue}
 use Rattle.wild_meaning.specs.Thread.{HasThreadOffset}
-use Rattle.wild_meaning.specs.Item.{Item, IsInput, IsKept, item_of, OfSection}
+use Rattle.wild_types.specs.Item.{Item, item_of}
+use Rattle.wild_meaning.specs.Item.{IsInput, IsKept, OfSection}
 use Rattle.wild_meaning.specs.Template.{DoesDemanded, reads_alone}
 use Rattle.wild_meaning.specs.Reference.{IsLinkedAlone, IsOther, ReferenceHolds, ItemHolds}
 use Rattle.wild_meaning.specs.Segments.{AreTold, HasSegments}

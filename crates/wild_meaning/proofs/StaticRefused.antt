@@ -12,7 +12,8 @@ use Rattle.wild_types.specs.declared.input.InputRelocation.{InputRelocation}
 use Rattle.wild_types.specs.Flags.{has_flag}
 use Rattle.wild_loader.specs.declared.memory.Memory.{Memory}
 use Rattle.wild_meaning.specs.Section.{IsSet}
-use Rattle.wild_meaning.specs.Item.{Item, IsKept, OfSection}
+use Rattle.wild_types.specs.Item.{Item}
+use Rattle.wild_meaning.specs.Item.{IsKept, OfSection}
 use Rattle.wild_meaning.specs.Reference.{ItemHolds, ReferenceHolds}
 use Rattle.wild_meaning.specs.Worked.{Refuses, reference}
 use Rattle.wild_meaning.specs.WorkedStatic.{static_pie, static_pie_world, static_data, static_item, first_function, second_function, thread_symbol}

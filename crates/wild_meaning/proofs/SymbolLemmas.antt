@@ -11,7 +11,7 @@ use Rattle.wild_types.specs.Lookups.{canonical}
 use Rattle.wild_loader.specs.declared.world.World.{World}
 use Rattle.wild_loader.specs.declared.memory.Memory.{Memory}
 use Rattle.wild_meaning.specs.Value.{IsDefinedBy}
-use Rattle.wild_meaning.specs.Item.{Item}
+use Rattle.wild_types.specs.Item.{Item}
 use Rattle.wild_meaning.specs.Formula.{IsTarget, IsOwnTarget, IsReferent, IsOwnReferent, IsGoal}
 
 -- the symbol that defines another is the one that the layout looks up

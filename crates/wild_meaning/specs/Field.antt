@@ -14,7 +14,8 @@ use Rattle.wild_types.specs.declared.layout.Layout.{Layout}
 use Rattle.wild_loader.specs.declared.memory.Memory.{Memory}
 use Rattle.wild_loader.specs.declared.world.World.{World}
 use Rattle.wild_loader.specs.Memory.{Holds, byte_in}
-use Rattle.wild_meaning.specs.Item.{Item, place_at}
+use Rattle.wild_types.specs.Item.{Item}
+use Rattle.wild_meaning.specs.Item.{place_at}
 
 -- the formula of a relocation type (x86-64 psABI, "Relocation Types"; aaelf64, "Relocation operations")
 abbrev pub formula_of : Machine → ℕ → Option Formula

@@ -31,7 +31,8 @@ use Rattle.wild_meaning.specs.Denotes.{Denotes}
 use Rattle.wild_meaning.specs.ReferentAArch64.{IsAbsent, own_place, StandsOnAArch64}
 use Rattle.wild_meaning.specs.Thread.{HasThreadOffset, HasOwnOffset, IsOffsetBase}
 use Rattle.wild_meaning.specs.Slot.{IsSlot}
-use Rattle.wild_meaning.specs.Item.{Item, place_at}
+use Rattle.wild_types.specs.Item.{Item}
+use Rattle.wild_meaning.specs.Item.{place_at}
 
 -- a is what S is: it stands for the symbol, or is 0 without one
 abbrev pub IsTarget : Layout → World → Memory → Option ℕ → ℕ → Type 0

@@ -1,27 +1,20 @@
 -- What references are asked of.
---   Item             input bytes that are loaded, with their relocations
 --   IsLoadedSlot s   a section of that sort is loaded as it is
 --   IsKept l item    the item is one of the layout's: the bytes of an input section that is loaded, allocated and has data
 --   IsReference ..   a relocation of an item that refers to something
-use Rattle.std.specs.Prelude.{◌≡◌, ◌≢◌, ℕ, ◌+◌, false, ⊤, List, Contains}
+use Rattle.std.specs.Prelude.{◌≡◌, ◌≢◌, ℕ, ◌+◌, false, ⊤, Contains}
 use Rattle.wild_records.specs.Abi.Relocation.{r_x86_64_none}
 use Rattle.wild_records.specs.Abi.Section.{shf_alloc}
 use Rattle.wild_types.specs.declared.input.Slot.{Slot}
 use Rattle.wild_types.specs.declared.input.Slot.TheVariants as slot
 use Rattle.wild_types.specs.declared.input.InputRelocation.{InputRelocation}
 use Rattle.wild_types.specs.declared.input.InputSection.{InputSection}
+use Rattle.wild_types.specs.Item.{Item, item_of}
 use Rattle.wild_types.specs.declared.file.File.{File}
 use Rattle.wild_types.specs.declared.file.Group.{Group}
 use Rattle.wild_types.specs.declared.layout.Layout.{Layout}
 use Rattle.wild_loader.specs.declared.world.World.{World}
 use Rattle.wild_meaning.specs.Section.{IsSet}
-
--- input bytes and their relocations, at an address of the layout; the flags are the input section's own (gABI, sh_flags)
-pub record Item : Type 0 where
-  pub address : ℕ
-  pub flags : ℕ
-  pub bytes : List ℕ
-  pub relocations : List InputRelocation
 
 -- the loaded address of a byte of an item
 abbrev pub place_at : World → Item → ℕ → ℕ
@@ -51,9 +44,6 @@ pub record IsKeptSection (l : Layout) (s : InputSection) : Type 0 where
   pub loaded : IsLoadedSlot s.slot
   pub room : IsSet s.flags shf_alloc
   pub has_data : s.nobits ≡ false
-
-abbrev pub item_of : InputSection → Item
-item_of s = record { address = s.address; flags = s.flags; bytes = s.bytes; relocations = s.relocations }
 
 -- an item of the layout that stands in memory: what it is made of
 pub data IsKept (l : Layout) (item : Item) : Type 0 where

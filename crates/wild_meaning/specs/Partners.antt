@@ -11,7 +11,7 @@ use Rattle.wild_types.specs.Flags.{ifunc, non_interposable}
 use Rattle.wild_meaning.specs.Sequence.{Named, Getter, SameSymbol, Partner, Condition, InExecutable, WithoutResolver, RewrittenIfReplaceable}
 use Rattle.wild_meaning.specs.World.{IsExecutable}
 use Rattle.wild_meaning.specs.Value.{IsSymbol, HasFlag}
-use Rattle.wild_meaning.specs.Item.{Item}
+use Rattle.wild_types.specs.Item.{Item}
 
 -- `__tls_get_addr` ("ELF Handling For Thread-Local Storage", "Run-Time Handling of TLS")
 abbrev pub tls_get_addr : List ℕ

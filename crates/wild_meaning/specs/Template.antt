@@ -30,7 +30,8 @@ use Rattle.wild_meaning.specs.Section.{IsSet}
 use Rattle.wild_meaning.specs.Partners.{HasPartners, AreMet}
 use Rattle.wild_meaning.specs.Thread.{IsOffsetBase}
 use Rattle.wild_meaning.specs.Slot.{IsSlot}
-use Rattle.wild_meaning.specs.Item.{Item, place_at}
+use Rattle.wild_types.specs.Item.{Item}
+use Rattle.wild_meaning.specs.Item.{place_at}
 use Rattle.wild_meaning.specs.Field.{InNoField}
 use Rattle.wild_meaning.specs.Formula.{IsTarget, IsReferent, IsOwnReferent, IsGoal, IsOffset, HasOffsetMode}
 

@@ -16,7 +16,7 @@ use Rattle.wild_types.specs.declared.layout.Entry.TheVariants as entry
 use Rattle.wild_types.specs.declared.layout.Layout.{Layout}
 use Rattle.wild_loader.specs.declared.world.Answer.{Answer}
 use Rattle.wild_loader.specs.declared.world.World.{World}
-use Rattle.wild_meaning.specs.Item.{Item, item_of}
+use Rattle.wild_types.specs.Item.{Item, item_of}
 use Rattle.wild_meaning.specs.Worked.{given, reference, input, blank, file_of, group_of, loaded, dynamic_at}
 
 -- a library's symbol of 8 bytes, which is copied (DYNAMIC, COPY_RELOCATION)

@@ -15,7 +15,7 @@ use Rattle.wild_types.specs.declared.input.InputSection.{InputSection}
 use Rattle.wild_types.specs.declared.layout.Layout.{Layout}
 use Rattle.wild_loader.specs.declared.world.Answer.{Answer}
 use Rattle.wild_loader.specs.declared.world.World.{World}
-use Rattle.wild_meaning.specs.Item.{Item, item_of}
+use Rattle.wild_types.specs.Item.{Item, item_of}
 use Rattle.wild_meaning.specs.Worked.{given, reference, input, one_file, loaded, dynamic_at}
 
 -- its own symbol, with a slot (NON_INTERPOSABLE, GOT)

@@ -16,7 +16,7 @@ use Rattle.wild_types.specs.declared.input.InputSection.{InputSection}
 use Rattle.wild_types.specs.declared.layout.Entry.TheVariants as entry
 use Rattle.wild_types.specs.declared.layout.Layout.{Layout}
 use Rattle.wild_loader.specs.declared.world.World.{World}
-use Rattle.wild_meaning.specs.Item.{Item, item_of}
+use Rattle.wild_types.specs.Item.{Item, item_of}
 use Rattle.wild_meaning.specs.Partners.{tls_get_addr}
 use Rattle.wild_meaning.specs.Worked.{given, reference, input, one_file, loaded}
 

@@ -29,15 +29,15 @@ is_base_relative other = false
 
 -- the address that the relocation writes moves
 abbrev pub is_moved : Layout → InputSection → InputRelocation → Bool
-is_moved l s r = is_base_relative (treatment l s r)
+is_moved l s r = is_base_relative (treatment l s.flags r)
 
 -- its place, where that has an entry
 abbrev pub listed_place : Layout → InputSection → InputRelocation → Option ℕ
-listed_place l s r = if is_moved l s r && not (packs l (place_of s r)) then Some (place_of s r) else None
+listed_place l s r = if is_moved l s r && not (packs l (place_of s.address r)) then Some (place_of s.address r) else None
 
 -- its place, where that is packed
 abbrev pub packed_place : Layout → InputSection → InputRelocation → Option ℕ
-packed_place l s r = if is_moved l s r && packs l (place_of s r) then Some (place_of s r) else None
+packed_place l s r = if is_moved l s r && packs l (place_of s.address r) then Some (place_of s.address r) else None
 
 -- what the relocations of a section give, where it may have addresses that move
 abbrev pub moved_of : {X : Type 0} → Layout → InputSection → (InputRelocation → Option X) → List X
@@ -83,7 +83,7 @@ may_have_entry l (Some i) = interposable (flags_at l i) || has_flag (flags_at l 
 
 -- the relocations of an input section whose fields are left to entries, in order
 unfoldable pub left_relocations : Layout → InputSection → List InputRelocation
-left_relocations l s = if is_read s then filter (λ r. is_left_to_entry (treatment l s r)) s.relocations else []
+left_relocations l s = if is_read s then filter (λ r. is_left_to_entry (treatment l s.flags r)) s.relocations else []
 
 -- how many entries a file has for copies and for fields
 unfoldable pub general_count : Layout → File → ℕ

@@ -19,7 +19,7 @@ pub fn is_moved(layout: &Layout, section: &InputSection, relocation: &InputReloc
     ensures { result ≡ is_moved layout.now section.now relocation.now }
 {
     matches!(
-        treatment_of(layout, section, relocation),
+        treatment_of(layout, section.flags, relocation),
         Treatment::BaseRelative
     )
 }
@@ -33,7 +33,7 @@ pub fn packed_place(
     ensures is { result ≡ packed_place layout.now section.now relocation.now }
     ensures even { IfSome result (λ place. place % 2 ≡ 0) }
 {
-    let place = section.place_of(relocation);
+    let place = relocation.place_from(section.address);
     if is_moved(layout, section, relocation) && layout.packs(place) {
         Some(place)
     } else {
@@ -45,7 +45,7 @@ pub fn packed_place(
 fn is_listed(layout: &Layout, section: &InputSection, relocation: &InputRelocation) -> bool
     ensures { result ≡ is_some (listed_place layout.now section.now relocation.now) }
 {
-    is_moved(layout, section, relocation) && !layout.packs(section.place_of(relocation))
+    is_moved(layout, section, relocation) && !layout.packs(relocation.place_from(section.address))
 }
 
 /// How many entries with addends an input section has.
@@ -160,10 +160,10 @@ fn is_left_by_treatment(
     section: &InputSection,
     relocation: &InputRelocation,
 ) -> bool
-    ensures { result ≡ is_left_to_entry (treatment layout.now section.now relocation.now) }
+    ensures { result ≡ is_left_to_entry (treatment layout.now section.now.flags relocation.now) }
 {
     matches!(
-        treatment_of(layout, section, relocation),
+        treatment_of(layout, section.flags, relocation),
         Treatment::Symbolic(_) | Treatment::Indirect(_) | Treatment::Extent(_, _)
     )
 }
@@ -177,7 +177,7 @@ pub fn is_left_to_entry(
     section: &InputSection,
     relocation: &InputRelocation,
 ) -> bool
-    ensures { result ≡ is_left_to_entry (treatment layout.now section.now relocation.now) }
+    ensures { result ≡ is_left_to_entry (treatment layout.now section.now.flags relocation.now) }
 {
     may_be_left(section, relocation.number)
         && may_have_entry(layout, relocation.symbol)
@@ -186,7 +186,7 @@ pub fn is_left_to_entry(
 
 /// How many of some relocations of a section are such: none where it is not loaded into memory.
 fn count_left(layout: &Layout, section: &InputSection, relocations: &[InputRelocation]) -> usize
-    ensures { result ≡ length (filter (λ r. is_left_to_entry (treatment layout.now section.now r)) relocations.now) }
+    ensures { result ≡ length (filter (λ r. is_left_to_entry (treatment layout.now section.now.flags r)) relocations.now) }
 {
     let mut count = 0;
     if !is_allocated(section.flags) {

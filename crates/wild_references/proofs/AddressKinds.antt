@@ -2,7 +2,6 @@
 use Rattle.std.proofs.Common.{◌≡◌, ℕ, ◌+◌, ◌%◌, ◌^◌, Bool, true, false, not, Option, Some, refl, sym, ap, ◌∙◌, arith, subst}
 use Rattle.std.specs.Prelude.{◌&&◌, Ok}
 use Rattle.wild_types.specs.declared.input.InputRelocation.{InputRelocation}
-use Rattle.wild_types.specs.declared.input.InputSection.{InputSection}
 use Rattle.wild_types.specs.declared.layout.Layout.{Layout}
 use Rattle.wild_types.specs.Flags.{has_flag, absolute}
 use Rattle.wild_types.specs.Kinds.{is_position_independent}
@@ -18,7 +17,7 @@ use Rattle.wild_loader.specs.declared.world.World.{World}
 use Rattle.wild_loader.specs.declared.memory.Memory.{Memory}
 use Rattle.wild_meaning.specs.Value.{moved}
 use Rattle.wild_meaning.specs.Formula.{IsSum, IsOwnTarget, IsOwnSum}
-use Rattle.wild_meaning.specs.Item.{item_of}
+use Rattle.wild_types.specs.Item.{Item}
 use Rattle.wild_meaning.specs.Reference.{IsStubbed}
 use Rattle.wild_meaning.proofs.SymbolLemmas.{referent_is, own_referent_is}
 use Rattle.wild_references.specs.Terms.{IsPlaced, IsFollowed}
@@ -37,20 +36,20 @@ not_absolute l i h = by_tests (is_position_independent l.kind) (has_flag (flags_
 moved_here : (base a c x still_base : ℕ) → (a + c) % 2 ^ 64 ≡ x → still_base ≡ (base + a) % 2 ^ 64 → (x + base) % 2 ^ 64 ≡ (still_base + c) % 2 ^ 64
 moved_here base a c x still_base e f = omega (arith, e, f)
 
-pub gives_moved : StubsOfValuesAreRead → (l : Layout) (w : World) (m : Memory) (s : InputSection) (r : InputRelocation) (x : ℕ) (packed : Bool) → IsPlaced l w m → decided l s r ≡ Ok (Moved x packed) → IsFollowed l r kinds.Absolute → IsSum SymbolAddress l w m (item_of s) r ((x + w.base) % 2 ^ 64)
+pub gives_moved : StubsOfValuesAreRead → (l : Layout) (w : World) (m : Memory) (s : Item) (r : InputRelocation) (x : ℕ) (packed : Bool) → IsPlaced l w m → decided l s r ≡ Ok (Moved x packed) → IsFollowed l r kinds.Absolute → IsSum SymbolAddress l w m s r ((x + w.base) % 2 ^ 64)
 gives_moved law l w m s r x packed p made f =
     let v = decided_moved l s r x packed made in
     let t = addressed law l w m r.symbol v.address p (follows l r kinds.Absolute tt f) v.given in
     let still : t.still ≡ false = sym (t.flag v.by.number v.by.named) ∙ not_absolute l v.by.number v.by.moves in
     let target : moved t.still w.base v.address ≡ (w.base + v.address) % 2 ^ 64 = ap (λ (b : Bool). moved b w.base v.address) still in
-    record { symbol = moved t.still w.base v.address; denoted = referent_is SymbolAddress l w m (item_of s) r (moved t.still w.base v.address) p.x86 t.denoted; sum = moved_here w.base v.address (more r) x (moved t.still w.base v.address) v.value target }
+    record { symbol = moved t.still w.base v.address; denoted = referent_is SymbolAddress l w m s r (moved t.still w.base v.address) p.x86 t.denoted; sum = moved_here w.base v.address (more r) x (moved t.still w.base v.address) v.value target }
 
 -- the same with the own symbol
-pub links_moved : StubsOfValuesAreRead → (l : Layout) (w : World) (m : Memory) (s : InputSection) (r : InputRelocation) (x i : ℕ) (packed : Bool) → IsPlaced l w m → decided l s r ≡ Ok (Moved x packed) → r.symbol ≡ Some i → (IsStubbed l i → ⊥) → IsOwnSum SymbolAddress l w (item_of s) r ((x + w.base) % 2 ^ 64)
+pub links_moved : StubsOfValuesAreRead → (l : Layout) (w : World) (m : Memory) (s : Item) (r : InputRelocation) (x i : ℕ) (packed : Bool) → IsPlaced l w m → decided l s r ≡ Ok (Moved x packed) → r.symbol ≡ Some i → (IsStubbed l i → ⊥) → IsOwnSum SymbolAddress l w s r ((x + w.base) % 2 ^ 64)
 links_moved law l w m s r x i packed p made named alone =
     let v = decided_moved l s r x packed made in
     let t = linked law l w m i v.address p alone (subst (λ (o : Option ℕ). address_of l o ≡ Ok v.address) named v.given) in
     let one : v.by.number ≡ i = (let e : Some v.by.number ≡ Some i = sym v.by.named ∙ named in cc) in
     let still : t.still ≡ false = sym t.flag ∙ not_absolute l i (subst (λ (k : ℕ). moves l k ≡ true) one v.by.moves) in
     let target : moved t.still w.base v.address ≡ (w.base + v.address) % 2 ^ 64 = ap (λ (b : Bool). moved b w.base v.address) still in
-    record { symbol = moved t.still w.base v.address; denoted = own_referent_is SymbolAddress l w (item_of s) r (moved t.still w.base v.address) p.x86 (subst (λ (o : Option ℕ). IsOwnTarget l w o (moved t.still w.base v.address)) (sym named) t.value); sum = moved_here w.base v.address (more r) x (moved t.still w.base v.address) v.value target }
+    record { symbol = moved t.still w.base v.address; denoted = own_referent_is SymbolAddress l w s r (moved t.still w.base v.address) p.x86 (subst (λ (o : Option ℕ). IsOwnTarget l w o (moved t.still w.base v.address)) (sym named) t.value); sum = moved_here w.base v.address (more r) x (moved t.still w.base v.address) v.value target }

@@ -7,7 +7,6 @@ use Rattle.wild_meaning.proofs.SymbolLemmas.{canonical_is}
 use Rattle.wild_words.proofs.Basics.{slice_get_inside}
 use Rattle.wild_records.specs.Abi.Section.{shf_write}
 use Rattle.wild_types.specs.declared.input.InputRelocation.{InputRelocation}
-use Rattle.wild_types.specs.declared.input.InputSection.{InputSection}
 use Rattle.wild_types.specs.declared.layout.Layout.{Layout}
 use Rattle.wild_slot.specs.declared.treatment.Treatment.{Treatment}
 use Rattle.wild_slot.specs.declared.treatment.Treatment.TheVariants as treatments
@@ -28,7 +27,7 @@ use Rattle.wild_loader.specs.declared.memory.Memory.{Memory}
 use Rattle.wild_loader.specs.declared.world.World.{World}
 use Rattle.wild_meaning.specs.Field.{formula_of}
 use Rattle.wild_meaning.specs.Formula.{TakesAddress, TakesOffset}
-use Rattle.wild_meaning.specs.Item.{item_of}
+use Rattle.wild_types.specs.Item.{Item}
 use Rattle.wild_meaning.specs.Reference.{IsLeftToLoader, IsStubbed, TakesItself, IsLinkedAlone}
 use Rattle.wild_meaning.specs.Section.{IsSet}
 use Rattle.wild_meaning.specs.Value.{HasFlag, IsReplaceable, may_be_replaced}
@@ -46,7 +45,7 @@ use Rattle.wild_references.proofs.Written.{IsLeftField}
 -- ---- fields that a loader could fill
 
 -- such a field is left to an entry
-left_asked : (l : Layout) (s : InputSection) (row : RelocationKindInfo) (i : ℕ) → allocated s.flags ≡ true → IsSet s.flags shf_write → field_width row ≡ 8 → HasFlag l i non_interposable false → is_left l s row i ≡ true
+left_asked : (l : Layout) (s : Item) (row : RelocationKindInfo) (i : ℕ) → allocated s.flags ≡ true → IsSet s.flags shf_write → field_width row ≡ 8 → HasFlag l i non_interposable false → is_left l s.flags row i ≡ true
 left_asked l s row i room write width open_one =
     by_tests (allocated s.flags) (writable s.flags) (field_width row == 8) (has_flag (flags_at l i) non_interposable) room (write_bit s.flags write) (eq-eqb (field_width row) 8 width) (flag_is l i non_interposable false open_one)
   where
@@ -58,11 +57,11 @@ left_asked l s row i room write width open_one =
     by_tests false b wide fixed e f g h = cc
 
 -- what one that is left says
-record IsOpen (l : Layout) (s : InputSection) (i : ℕ) : Type 0 where
+record IsOpen (l : Layout) (s : Item) (i : ℕ) : Type 0 where
   pub writable : writable s.flags ≡ true
   pub interposable : has_flag (flags_at l i) non_interposable ≡ false
 
-left_open : (l : Layout) (s : InputSection) (row : RelocationKindInfo) (i : ℕ) → is_left l s row i ≡ true → IsOpen l s i
+left_open : (l : Layout) (s : Item) (row : RelocationKindInfo) (i : ℕ) → is_left l s.flags row i ≡ true → IsOpen l s i
 left_open l s row i h = by_tests (allocated s.flags) (writable s.flags) (field_width row == 8) (has_flag (flags_at l i) non_interposable) refl refl h
   where
     by_tests : (a b wide fixed : Bool) → writable s.flags ≡ b → has_flag (flags_at l i) non_interposable ≡ fixed → (a && b && wide && not fixed) ≡ true → IsOpen l s i
@@ -96,7 +95,7 @@ defined_within : (l : Layout) (i : ℕ) {flag : ℕ} {b : Bool} → HasFlag l i 
 defined_within l i h = rw (canonical_is l i h.definition h.defined) (slice_get_within l.symbols h.definition h.symbol h.listed)
 
 -- so that a field that is written, or moves, is none
-pub not_left : (l : Layout) (s : InputSection) (r : InputRelocation) (row : RelocationKindInfo) (i : ℕ) (t : Treatment) (fits : RowFits r.number row) → HasValue row.kind → allocated s.flags ≡ true → treatment l s r ≡ t → (treatments.Recompile ≡ t → ⊥) → (treatments.Symbolic i ≡ t → ⊥) → row_of l.machine r.number ≡ Some row → r.symbol ≡ Some i → IsLeftToLoader l (item_of s) i fits.formula → ⊥
+pub not_left : (l : Layout) (s : Item) (r : InputRelocation) (row : RelocationKindInfo) (i : ℕ) (t : Treatment) (fits : RowFits r.number row) → HasValue row.kind → allocated s.flags ≡ true → treatment l s.flags r ≡ t → (treatments.Recompile ≡ t → ⊥) → (treatments.Symbolic i ≡ t → ⊥) → row_of l.machine r.number ≡ Some row → r.symbol ≡ Some i → IsLeftToLoader l s i fits.formula → ⊥
 not_left l s r row i t fits value room is no_recompile no_entry known named left =
     let kind = address_kind row.kind value (fits.value ∙ left.value) in
     let treated = address_by l s r row i t (defined_within l i left.interposable) is known kind named in
@@ -118,12 +117,12 @@ takes_cases FromTable = inr (inl (λ o. o, tt))
 takes_cases other = inr (inr (λ o. o, λ a. a))
 
 -- one that is not the own symbol's alone is right whichever module has the symbol
-pub followed : (l : Layout) (w : World) (m : Memory) (s : InputSection) (r : InputRelocation) (k : RelocationKind) (f : Formula) → IsPlaced l w m → NamesSymbol l r → formula_of l.machine r.number ≡ Some f → plain_value k ≡ f.value → ((i : ℕ) → r.symbol ≡ Some i → IsLeftToLoader l (item_of s) i f → ⊥) → (IsLinkedAlone l (item_of s) r → ⊥) → IsFollowed l r k
+pub followed : (l : Layout) (w : World) (m : Memory) (s : Item) (r : InputRelocation) (k : RelocationKind) (f : Formula) → IsPlaced l w m → NamesSymbol l r → formula_of l.machine r.number ≡ Some f → plain_value k ≡ f.value → ((i : ℕ) → r.symbol ≡ Some i → IsLeftToLoader l s i f → ⊥) → (IsLinkedAlone l s r → ⊥) → IsFollowed l r k
 followed l w m s r k f p listed known value kept alone = λ i named.
     let z = slice_get_inside l.symbols i (listed i named) in
     by_whose i named (may_be_replaced l.kind (flags_at l i)) (replaceable_at l i z.0 p.symbols.named z.1)
   where
-    linked : (i : ℕ) → r.symbol ≡ Some i → IsReplaceable l i true → TakesItself l (item_of s) i f → IsLinkedAlone l (item_of s) r
+    linked : (i : ℕ) → r.symbol ≡ Some i → IsReplaceable l i true → TakesItself l s i f → IsLinkedAlone l s r
     linked i named whose takes = record { symbol = i; named = named; replaceable = whose; formula = f; known = known; takes = takes }
 
     by_address : (i : ℕ) → r.symbol ≡ Some i → IsReplaceable l i true → (TakesOffset (plain_value k) → ⊥) → TakesAddress (plain_value k) → IsStubbed l i ⊎ (IsStubbed l i → ⊥) → IsReplaceable l i false ⊎ (((TakesOffset (plain_value k) → ⊥) × (TakesAddress (plain_value k) → ⊥)) ⊎ ((TakesOffset (plain_value k) → ⊥) × IsStubbed l i))
@@ -145,18 +144,18 @@ same_formula : (l : Layout) (r : InputRelocation) (f g : Formula) → formula_of
 same_formula l r f g a b = let e : Some f ≡ Some g = sym a ∙ b in cc
 
 -- what a reference takes that is the own symbol's alone, by the formula that is known
-pub taken : (l : Layout) (s : InputSection) (r : InputRelocation) (f : Formula) → formula_of l.machine r.number ≡ Some f → (a : IsLinkedAlone l (item_of s) r) → TakesItself l (item_of s) a.symbol f
-taken l s r f known a = subst (λ (g : Formula). TakesItself l (item_of s) a.symbol g) (same_formula l r a.formula f a.known known) a.takes
+pub taken : (l : Layout) (s : Item) (r : InputRelocation) (f : Formula) → formula_of l.machine r.number ≡ Some f → (a : IsLinkedAlone l s r) → TakesItself l s a.symbol f
+taken l s r f known a = subst (λ (g : Formula). TakesItself l s a.symbol g) (same_formula l r a.formula f a.known known) a.takes
 
-itself_by : (l : Layout) (s : InputSection) (i : ℕ) (f : Formula) (v : Value) → f.value ≡ v → (TakesOffset v → ⊥) → TakesItself l (item_of s) i f → TakesAddress v × (IsLeftToLoader l (item_of s) i f → ⊥)
+itself_by : (l : Layout) (s : Item) (i : ℕ) (f : Formula) (v : Value) → f.value ≡ v → (TakesOffset v → ⊥) → TakesItself l s i f → TakesAddress v × (IsLeftToLoader l s i f → ⊥)
 itself_by l s i f v e no_offset (inl offset) = absurd (no_offset (subst TakesOffset e offset))
 itself_by l s i f v e no_offset (inr t) = (subst TakesAddress e t.0, t.1)
 
 -- none of these is: the field of an address is one that a loader fills, and a size is no address
-pub left_follows : (l : Layout) (w : World) (m : Memory) (s : InputSection) (i : ℕ) (r : InputRelocation) → IsPlaced l w m → NamesSymbol l r → (f : IsLeftField l s i r) → formula_of l.machine r.number ≡ Some f.fits.formula → IsLinkedAlone l (item_of s) r → ⊥
+pub left_follows : (l : Layout) (w : World) (m : Memory) (s : Item) (i : ℕ) (r : InputRelocation) → IsPlaced l w m → NamesSymbol l r → (f : IsLeftField l s i r) → formula_of l.machine r.number ≡ Some f.fits.formula → IsLinkedAlone l s r → ⊥
 left_follows l w m s index r p listed f known a = by_treatment f.left.treated f.left.left f.left.is
   where
-    takes : TakesItself l (item_of s) a.symbol f.fits.formula
+    takes : TakesItself l s a.symbol f.fits.formula
     takes = taken l s r f.fits.formula known a
 
     row : RelocationKindInfo
@@ -168,25 +167,25 @@ left_follows l w m s index r p listed f known a = by_treatment f.left.treated f.
     one_symbol : (i : ℕ) → r.symbol ≡ Some i → i ≡ a.symbol
     one_symbol i e = let g : Some i ≡ Some a.symbol = sym e ∙ a.named in cc
 
-    by_symbolic : (i : ℕ) → treatment l s r ≡ treatments.Symbolic i → row.kind ≡ kinds.Absolute → field_width row ≡ 8 → r.symbol ≡ Some i → ⊥
+    by_symbolic : (i : ℕ) → treatment l s.flags r ≡ treatments.Symbolic i → row.kind ≡ kinds.Absolute → field_width row ≡ 8 → r.symbol ≡ Some i → ⊥
     by_symbolic i is kind width named =
         let value : f.fits.formula.value ≡ SymbolAddress = sym f.fits.value ∙ ap plain_value kind in
         let t = itself_by l s a.symbol f.fits.formula SymbolAddress value (λ o. o) takes in
-        let left = (treated_says l s r row (treatments.Symbolic i) f.left.field.known is).1 in
+        let left = (treated_says l s.flags r row (treatments.Symbolic i) f.left.field.known is).1 in
         let open_one = left_open l s row i left in
         let z = slice_get_inside l.symbols i (listed i named) in
         let flag = subst (λ (b : Bool). HasFlag l i non_interposable b) open_one.interposable (flag_at l i non_interposable z.0 p.symbols.named z.1) in
         t.1 (record { writable = bit_write s.flags open_one.writable; interposable = subst (λ (k : ℕ). HasFlag l k non_interposable false) (one_symbol i named) flag; value = value; wide = sym f.fits.width ∙ width })
 
-    by_resolver : (i : ℕ) → treatment l s r ≡ treatments.Indirect i → row.kind ≡ kinds.Absolute → field_width row ≡ 8 → r.symbol ≡ Some i → ⊥
+    by_resolver : (i : ℕ) → treatment l s.flags r ≡ treatments.Indirect i → row.kind ≡ kinds.Absolute → field_width row ≡ 8 → r.symbol ≡ Some i → ⊥
     by_resolver i is kind width named =
-        let own = chosen_own l w m s row i p (listed i named) width (treated_says l s r row (treatments.Indirect i) f.left.field.known is).1 in
+        let own = chosen_own l w m s row i p (listed i named) width (treated_says l s.flags r row (treatments.Indirect i) f.left.field.known is).1 in
         let none = replaceable_is l i false own.own in
         let some = replaceable_is l a.symbol true a.replaceable in
         let e : false ≡ true = sym none ∙ (ap (λ (k : ℕ). may_be_replaced l.kind (flags_at l k)) (one_symbol i named) ∙ some) in
         cc
 
-    by_treatment : (t : Treatment) → is_left_to_entry t ≡ true → treatment l s r ≡ t → ⊥
+    by_treatment : (t : Treatment) → is_left_to_entry t ≡ true → treatment l s.flags r ≡ t → ⊥
     by_treatment (treatments.Symbolic i) left is =
         let k = known_symbolic l s r i is in
         let e = one_row k.0 k.1 in

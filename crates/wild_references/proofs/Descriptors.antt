@@ -9,7 +9,6 @@ use Rattle.wild_types.specs.declared.kind.OutputKind.{OutputKind}
 use Rattle.wild_types.specs.declared.kind.OutputKind.TheVariants as output
 use Rattle.wild_types.specs.declared.fault.Missing.TheVariants as missing
 use Rattle.wild_types.specs.declared.input.InputRelocation.{InputRelocation}
-use Rattle.wild_types.specs.declared.input.InputSection.{InputSection}
 use Rattle.wild_types.specs.declared.symbol.Resolution.{Resolution}
 use Rattle.wild_types.specs.declared.symbol.ValueFlags.{ValueFlags}
 use Rattle.wild_types.specs.declared.layout.Layout.{Layout}
@@ -29,7 +28,7 @@ use Rattle.wild_layout.specs.Choice.{question_of, choice_of}
 use Rattle.wild_layout.specs.SlotValues.{slot_of, behind_word, behind_pair}
 use Rattle.wild_layout.specs.Values.{term_of}
 use Rattle.wild_meaning.specs.Formula.{KnowsOffsets, HasOffsetMode}
-use Rattle.wild_meaning.specs.Item.{item_of}
+use Rattle.wild_types.specs.Item.{Item}
 use Rattle.wild_meaning.proofs.BitLemmas.{code_bit}
 use Rattle.wild_references.specs.Terms.{SymbolsFit}
 use Rattle.wild_references.proofs.DescriptorSlots.{thread_of}
@@ -66,9 +65,9 @@ rows_stand l x86 h = by_kind l.kind refl (subst (λ (k : Machine). KnowsOffsets 
 -- ---- the reference itself
 
 -- which of both rows stands is told by whose symbol it is
-lea_kept : (l : Layout) (s : InputSection) (r : InputRelocation) (next : Option InputRelocation) (p : Prefix) (i a b : ℕ) → choice_of l s r next ≡ Ok None → l.machine ≡ machine.X86_64 → r.symbol ≡ Some i
+lea_kept : (l : Layout) (s : Item) (r : InputRelocation) (next : Option InputRelocation) (p : Prefix) (i a b : ℕ) → choice_of l s r next ≡ Ok None → l.machine ≡ machine.X86_64 → r.symbol ≡ Some i
     → slice_get rows_x86_64 a ≡ Some (DescriptorLea p LocalExec) → slice_get rows_x86_64 b ≡ Some (DescriptorLea p InitialExec) → (r.number == r_x86_64_pc32) ≡ false → (r.number == number_of (DescriptorLea p LocalExec)) ≡ true → (r.number == number_of (DescriptorLea p InitialExec)) ≡ true
-    → has_flag (flags_at l i) ifunc ≡ false → r.offset ≤ length s.bytes → HasOffsetMode l (item_of s) → ⊥
+    → has_flag (flags_at l i) ifunc ≡ false → r.offset ≤ length s.bytes → HasOffsetMode l s → ⊥
 lea_kept l s r next p i a b none x86 named first second other local initial plain inside h =
     let q = question_of l s r i next in
     let k = rows_stand l x86 h.0 in
@@ -100,7 +99,7 @@ described_plain l i slot fit h = by_slot sorts.Descriptor l i slot (λ (n : ℕ)
         ap (λ (f : ValueFlags). has_flag f ifunc) (flags_are l i (canonical l i) d.symbol d.defined d.listed) ∙ thread_not_chosen d.symbol fits.alone thread
 
 -- the reference to a descriptor that is kept is in no such code
-pub descriptor_kept : (l : Layout) (s : InputSection) (r : InputRelocation) (next : Option InputRelocation) (i term : ℕ) → choice_of l s r next ≡ Ok None → l.machine ≡ machine.X86_64 → SymbolsFit l → r.symbol ≡ Some i → (r.number ≡ r_x86_64_gotpc32_tlsdesc) ⊎ (r.number ≡ r_x86_64_code_4_gotpc32_tlsdesc) → term_of l r.symbol kinds.TlsDesc ≡ Ok term → r.offset ≤ length s.bytes → HasOffsetMode l (item_of s) → ⊥
+pub descriptor_kept : (l : Layout) (s : Item) (r : InputRelocation) (next : Option InputRelocation) (i term : ℕ) → choice_of l s r next ≡ Ok None → l.machine ≡ machine.X86_64 → SymbolsFit l → r.symbol ≡ Some i → (r.number ≡ r_x86_64_gotpc32_tlsdesc) ⊎ (r.number ≡ r_x86_64_code_4_gotpc32_tlsdesc) → term_of l r.symbol kinds.TlsDesc ≡ Ok term → r.offset ≤ length s.bytes → HasOffsetMode l s → ⊥
 descriptor_kept l s r next i term none x86 fit named number given inside h =
     let here : term_of l (Some i) kinds.TlsDesc ≡ Ok term = subst (λ (o : Option ℕ). term_of l o kinds.TlsDesc ≡ Ok term) named given in
     let plain = described_plain l i term fit (given_some missing.Slot i (slot_of l sorts.Descriptor i) term here) in
@@ -111,7 +110,7 @@ descriptor_kept l s r next i term none x86 fit named number given inside h =
 
 -- ---- the call
 
-pub call_kept : (l : Layout) (s : InputSection) (r : InputRelocation) (next : Option InputRelocation) (i : ℕ) → choice_of l s r next ≡ Ok None → l.machine ≡ machine.X86_64 → r.symbol ≡ Some i → r.number ≡ r_x86_64_tlsdesc_call → HasOffsetMode l (item_of s) → ⊥
+pub call_kept : (l : Layout) (s : Item) (r : InputRelocation) (next : Option InputRelocation) (i : ℕ) → choice_of l s r next ≡ Ok None → l.machine ≡ machine.X86_64 → r.symbol ≡ Some i → r.number ≡ r_x86_64_tlsdesc_call → HasOffsetMode l s → ⊥
 call_kept l s r next i none x86 named number h =
     let q = question_of l s r i next in
     let k = rows_stand l x86 h.0 in

@@ -20,7 +20,8 @@ use Rattle.wild_loader.specs.declared.instruction.Operand.{Operand}
 use Rattle.wild_loader.specs.declared.instruction.Operand.TheVariants.{Number, Word, Pair}
 use Rattle.wild_loader.specs.Instruction.{signed_32, signed_at, sum_64}
 use Rattle.wild_meaning.specs.Sequence.{Sort, Target, TargetInSlot, AddressInSlot, OffsetInSlot, SymbolPair, OwnPair, Described, DescribedCall, Instruction, Partner, size_of, IsBesidePartners, IsOwnByte, instructions_of}
-use Rattle.wild_meaning.specs.Item.{Item, place_at}
+use Rattle.wild_types.specs.Item.{Item}
+use Rattle.wild_meaning.specs.Item.{place_at}
 use Rattle.wild_meaning.specs.Field.{formula_of, form_width, FieldReads, IsInputByte}
 use Rattle.wild_meaning.specs.Formula.{Gives, HasOffsetMode}
 use Rattle.wild_meaning.specs.Template.{IsInstruction, reads, Demands, old_bytes}

@@ -18,7 +18,6 @@ use Rattle.wild_types.specs.declared.kind.Machine.TheVariants as machine
 use Rattle.wild_types.specs.declared.symbol.Resolution.{Resolution}
 use Rattle.wild_types.specs.declared.symbol.ValueFlags.{ValueFlags}
 use Rattle.wild_types.specs.declared.input.InputRelocation.{InputRelocation}
-use Rattle.wild_types.specs.declared.input.InputSection.{InputSection}
 use Rattle.wild_types.specs.declared.layout.Layout.{Layout}
 use Rattle.wild_slot.specs.declared.treatment.Treatment.{Treatment}
 use Rattle.wild_slot.specs.declared.treatment.Treatment.TheVariants as treatments
@@ -63,7 +62,7 @@ use Rattle.wild_loader.specs.declared.memory.Memory.{Memory}
 use Rattle.wild_loader.specs.declared.world.World.{World}
 use Rattle.wild_meaning.specs.Field.{formula_of}
 use Rattle.wild_meaning.specs.Formula.{IsTarget, IsSum, IsExtent, IsWhole, Gives}
-use Rattle.wild_meaning.specs.Item.{item_of}
+use Rattle.wild_types.specs.Item.{Item}
 use Rattle.wild_meaning.specs.Value.{HasRaw, HasOwnValue, HasFlag, HasAnswer, IsReplaceable, may_be_replaced, is_library}
 use Rattle.wild_meaning.proofs.SymbolLemmas.{referent_is}
 use Rattle.wild_references.specs.Terms.{IsPlaced}
@@ -145,13 +144,13 @@ reads_full form bs x full is low = subst (λ (f : Form). Reads f bs x) (sym full
 -- ---- S + A
 
 -- what memory has, and the value that it is
-pub record IsGiven (l : Layout) (w : World) (m : Memory) (s : InputSection) (r : InputRelocation) (f : Formula) (bs : List ℕ) : Type 0 where
+pub record IsGiven (l : Layout) (w : World) (m : Memory) (s : Item) (r : InputRelocation) (f : Formula) (bs : List ℕ) : Type 0 where
   pub value : ℕ
-  pub gives : Gives f.value l w m (item_of s) r value
+  pub gives : Gives f.value l w m s r value
   pub reads : Reads f.form bs value
 
-sum_given : (l : Layout) (w : World) (m : Memory) (s : InputSection) (r : InputRelocation) (f : Formula) (bs : List ℕ) (x : ℕ) → f.value ≡ SymbolAddress → f.form ≡ Full → IsSum SymbolAddress l w m (item_of s) r x → bs ≡ word 8 x → x < 2 ^ 64 → IsGiven l w m s r f bs
-sum_given l w m s r f bs x value full is bytes low = record { value = x; gives = subst (λ (v : Value). Gives v l w m (item_of s) r x) (sym value) is; reads = reads_full f.form bs x full bytes low }
+sum_given : (l : Layout) (w : World) (m : Memory) (s : Item) (r : InputRelocation) (f : Formula) (bs : List ℕ) (x : ℕ) → f.value ≡ SymbolAddress → f.form ≡ Full → IsSum SymbolAddress l w m s r x → bs ≡ word 8 x → x < 2 ^ 64 → IsGiven l w m s r f bs
+sum_given l w m s r f bs x value full is bytes low = record { value = x; gives = subst (λ (v : Value). Gives v l w m s r x) (sym value) is; reads = reads_full f.form bs x full bytes low }
 
 symbol_is : kind_of processors.X86_64 r_x86_64_64 ≡ Some works.SymbolPlus
 unfolding kind_of
@@ -176,7 +175,7 @@ type_is l n x e = subst (λ (k : Machine). type_of k Absolute ≡ n) x e
 chosen_type : (l : Layout) (n : ℕ) → l.machine ≡ machine.X86_64 → type_of l.machine Irelative ≡ n → r_x86_64_irelative ≡ n
 chosen_type l n x e = subst (λ (k : Machine). type_of k Irelative ≡ n) x e
 
-symbolic_given : (l : Layout) (w : World) (m : Memory) (s : InputSection) (r : InputRelocation) (i number symbol addend : ℕ) (z : RelocationSize) (bs : List ℕ) (f : Formula) → IsPlaced l w m → FitsSigned w64 r.addend → r.symbol ≡ Some i → f.value ≡ SymbolAddress → f.form ≡ Full
+symbolic_given : (l : Layout) (w : World) (m : Memory) (s : Item) (r : InputRelocation) (i number symbol addend : ℕ) (z : RelocationSize) (bs : List ℕ) (f : Formula) → IsPlaced l w m → FitsSigned w64 r.addend → r.symbol ≡ Some i → f.value ≡ SymbolAddress → f.form ≡ Full
     → left_to (ByteSize Eight) (type_of l.machine Absolute) r i (index_of l i) ≡ Ok (Left z number symbol addend) → ReadsLeft InMemory w z number symbol addend bs → IsGiven l w m s r f bs
 symbolic_given l w m s r i number symbol addend z bs f p fits named value full made reads =
     let d = index_given (ByteSize Eight) z (type_of l.machine Absolute) number symbol addend r i (index_of l i) made in
@@ -189,7 +188,7 @@ symbolic_given l w m s r i number symbol addend z bs f p fits named value full m
     let a = answered_value l w i c.0.answer p.legal.symbols (has_answer l w i symbol by.0 by.1 by.2 c.0) in
     let target : IsTarget l w m r.symbol c.0.answer.address = subst (λ (o : Option ℕ). IsTarget l w m o c.0.answer.address) (sym named) (inl a) in
     let sum : x ≡ (c.0.answer.address + more r) % 2 ^ 64 = ap (λ (k : ℕ). (c.0.answer.address + k) % 2 ^ 64) (sym d.2) in
-    sum_given l w m s r f bs x value full (record { symbol = c.0.answer.address; denoted = referent_is SymbolAddress l w m (item_of s) r c.0.answer.address p.x86 target; sum = sum }) (bytes_are bs reads.0 (changes.Word x) c.1 reads.2) (omega arith)
+    sum_given l w m s r f bs x value full (record { symbol = c.0.answer.address; denoted = referent_is SymbolAddress l w m s r c.0.answer.address p.x86 target; sum = sum }) (bytes_are bs reads.0 (changes.Word x) c.1 reads.2) (omega arith)
 
 -- ---- what a resolver answers
 
@@ -214,7 +213,7 @@ decided_resolved l i a h = by_resolution (resolution_of l i) refl (given_some mi
     by_resolution (Some r) e h = (r, resolved l i r e, (let same : r.raw_value ≡ a = cc in same))
 
 -- a symbol that none may replace, and that a resolver chooses, is the output's own
-resolver_flags : (l : Layout) (s : InputSection) (row : RelocationKindInfo) (i : ℕ) → field_width row ≡ 8 → is_left l s row i ≡ false → is_chosen l s i ≡ true → has_flag (flags_at l i) dynamic ≡ false → (may_be_replaced l.kind (flags_at l i) ≡ false) × (has_flag (flags_at l i) ifunc ≡ true)
+resolver_flags : (l : Layout) (s : Item) (row : RelocationKindInfo) (i : ℕ) → field_width row ≡ 8 → is_left l s.flags row i ≡ false → is_chosen l s.flags i ≡ true → has_flag (flags_at l i) dynamic ≡ false → (may_be_replaced l.kind (flags_at l i) ≡ false) × (has_flag (flags_at l i) ifunc ≡ true)
 resolver_flags l s row i width own chosen none =
     by_tests (allocated s.flags) (writable s.flags) (field_width row == 8) (has_flag (flags_at l i) non_interposable) (is_position_independent l.kind) (has_flag (flags_at l i) ifunc) (has_flag (flags_at l i) dynamic) (has_flag (flags_at l i) copy_relocation) (is_library l.kind) (has_flag (flags_at l i) export_dynamic) (eq-eqb (field_width row) 8 width) own chosen none
   where
@@ -235,7 +234,7 @@ pub record IsChosenOwn (l : Layout) (i : ℕ) : Type 0 where
   pub own : IsReplaceable l i false
   pub chosen : HasFlag l i ifunc true
 
-pub chosen_own : (l : Layout) (w : World) (m : Memory) (s : InputSection) (row : RelocationKindInfo) (i : ℕ) → IsPlaced l w m → i < length l.symbols → field_width row ≡ 8 → IsLeftToResolver l s row i → IsChosenOwn l i
+pub chosen_own : (l : Layout) (w : World) (m : Memory) (s : Item) (row : RelocationKindInfo) (i : ℕ) → IsPlaced l w m → i < length l.symbols → field_width row ≡ 8 → IsLeftToResolver l s.flags row i → IsChosenOwn l i
 chosen_own l w m s row i p listed width h =
     let z = slice_get_inside l.symbols i listed in
     let whose = replaceable_at l i z.0 p.symbols.named z.1 in
@@ -251,7 +250,7 @@ chosen_own l w m s row i p listed width h =
     last_of true b h = h
     last_of false b h = cc
 
-indirect_given : (l : Layout) (w : World) (m : Memory) (s : InputSection) (r : InputRelocation) (i number symbol addend : ℕ) (z : RelocationSize) (bs : List ℕ) (f : Formula) → IsPlaced l w m → i < length l.symbols → IsChosenOwn l i → r.symbol ≡ Some i → f.value ≡ SymbolAddress → f.form ≡ Full
+indirect_given : (l : Layout) (w : World) (m : Memory) (s : Item) (r : InputRelocation) (i number symbol addend : ℕ) (z : RelocationSize) (bs : List ℕ) (f : Formula) → IsPlaced l w m → i < length l.symbols → IsChosenOwn l i → r.symbol ≡ Some i → f.value ≡ SymbolAddress → f.form ≡ Full
     → chosen_to l r (decided_address l i) ≡ Ok (Left z number symbol addend) → ReadsLeft InMemory w z number symbol addend bs → IsGiven l w m s r f bs
 indirect_given l w m s r i number symbol addend z bs f p listed chosen named value full made reads =
     let d = resolver_given l z number symbol addend r (decided_address l i) made in
@@ -266,7 +265,7 @@ indirect_given l w m s r i number symbol addend z bs f p listed chosen named val
     let target : IsTarget l w m r.symbol c.0 = subst (λ (o : Option ℕ). IsTarget l w m o c.0) (sym named) (inl (inr (chosen.own, a))) in
     let x = (c.0 + more r) % 2 ^ 64 in
     let bytes = bytes_are bs reads.0 (changes.Word c.0) c.2 reads.2 in
-    record { value = x; gives = subst (λ (v : Value). Gives v l w m (item_of s) r x) (sym value) (record { symbol = c.0; denoted = referent_is SymbolAddress l w m (item_of s) r c.0 p.x86 target; sum = refl }); reads = subst (λ (k : Form). Reads k bs x) (sym full) (ap words.number bytes ∙ (number_of_word c.0 ∙ sum_none c.0 (more r) d.2)) }
+    record { value = x; gives = subst (λ (v : Value). Gives v l w m s r x) (sym value) (record { symbol = c.0; denoted = referent_is SymbolAddress l w m s r c.0 p.x86 target; sum = refl }); reads = subst (λ (k : Form). Reads k bs x) (sym full) (ap words.number bytes ∙ (number_of_word c.0 ∙ sum_none c.0 (more r) d.2)) }
   where
     sum_none : (v a : ℕ) → a ≡ 0 → v % 2 ^ 64 ≡ (v + a) % 2 ^ 64
     sum_none v a e = omega (arith, e)
@@ -350,7 +349,7 @@ whose l w m i p listed =
     let z = slice_get_inside l.symbols i listed in
     subst (λ (b : Bool). IsReplaceable l i b) (whose_flags l (flags_at l i)) (replaceable_at l i z.0 p.symbols.named z.1)
 
-extent_given : (l : Layout) (w : World) (m : Memory) (s : InputSection) (r : InputRelocation) (row : RelocationKindInfo) (i number symbol addend : ℕ) (z : RelocationSize) (bs : List ℕ) (fits : RowFits r.number row) → IsPlaced l w m → FitsSigned w64 r.addend → i < length l.symbols → row_of machine.X86_64 r.number ≡ Some row → (is_replaceable l.kind (flags_at l i) || allows row (sum (symbol_size l i) r.addend)) ≡ true → r.symbol ≡ Some i → (r.number ≡ r_x86_64_size32) ⊎ (r.number ≡ r_x86_64_size64)
+extent_given : (l : Layout) (w : World) (m : Memory) (s : Item) (r : InputRelocation) (row : RelocationKindInfo) (i number symbol addend : ℕ) (z : RelocationSize) (bs : List ℕ) (fits : RowFits r.number row) → IsPlaced l w m → FitsSigned w64 r.addend → i < length l.symbols → row_of machine.X86_64 r.number ≡ Some row → (is_replaceable l.kind (flags_at l i) || allows row (sum (symbol_size l i) r.addend)) ≡ true → r.symbol ≡ Some i → (r.number ≡ r_x86_64_size32) ⊎ (r.number ≡ r_x86_64_size64)
     → left_to row.size r.number r i (index_of l i) ≡ Ok (Left z number symbol addend) → ReadsLeft InMemory w z number symbol addend bs → IsGiven l w m s r fits.formula bs
 extent_given l w m s r row i number symbol addend z bs fits p signed listed here ranged named type made reads = by_type type
   where
@@ -410,24 +409,24 @@ extent_given l w m s r row i number symbol addend z bs fits p signed listed here
 -- ---- the entry of a relocation
 
 -- the treatment of an address is that of its symbol
-pub address_by : (l : Layout) (s : InputSection) (r : InputRelocation) (row : RelocationKindInfo) (i : ℕ) (t : Treatment) → canonical l i < length l.symbols → treatment l s r ≡ t → row_of l.machine r.number ≡ Some row → row.kind ≡ kinds.Absolute → r.symbol ≡ Some i → address_treatment l s r.number row i ≡ t
+pub address_by : (l : Layout) (s : Item) (r : InputRelocation) (row : RelocationKindInfo) (i : ℕ) (t : Treatment) → canonical l i < length l.symbols → treatment l s.flags r ≡ t → row_of l.machine r.number ≡ Some row → row.kind ≡ kinds.Absolute → r.symbol ≡ Some i → address_treatment l s.flags r.number row i ≡ t
 address_by l s r row i t inside is known kind named =
-    let a : kind_treatment l s r.number r.symbol row row.kind ≡ t = sym (treated_by l s r row known) ∙ is in
-    let b : kind_treatment l s r.number r.symbol row kinds.Absolute ≡ t = subst (λ (k : RelocationKind). kind_treatment l s r.number r.symbol row k ≡ t) kind a in
-    peeled l row i (address_treatment l s r.number row i) t inside (subst (λ (o : Option ℕ). kind_treatment l s r.number o row kinds.Absolute ≡ t) named b)
+    let a : kind_treatment l s.flags r.number r.symbol row row.kind ≡ t = sym (treated_by l s r row known) ∙ is in
+    let b : kind_treatment l s.flags r.number r.symbol row kinds.Absolute ≡ t = subst (λ (k : RelocationKind). kind_treatment l s.flags r.number r.symbol row k ≡ t) kind a in
+    peeled l row i (address_treatment l s.flags r.number row i) t inside (subst (λ (o : Option ℕ). kind_treatment l s.flags r.number o row kinds.Absolute ≡ t) named b)
 
 -- a field with its formula
-pub record FieldGiven (l : Layout) (w : World) (m : Memory) (s : InputSection) (r : InputRelocation) (bs : List ℕ) : Type 0 where
+pub record FieldGiven (l : Layout) (w : World) (m : Memory) (s : Item) (r : InputRelocation) (bs : List ℕ) : Type 0 where
   pub formula : Formula
   pub known : formula_of l.machine r.number ≡ Some formula
   pub given : IsGiven l w m s r formula bs
 
-left_given : X86_64Agrees → (l : Layout) (w : World) (m : Memory) (s : InputSection) (r : InputRelocation) (z : RelocationSize) (number symbol addend : ℕ) (bs : List ℕ) → IsPlaced l w m → NamesSymbol l r → FitsSigned w64 r.addend → decided l s r ≡ Ok (Left z number symbol addend) → ReadsLeft InMemory w z number symbol addend bs → FieldGiven l w m s r bs
+left_given : X86_64Agrees → (l : Layout) (w : World) (m : Memory) (s : Item) (r : InputRelocation) (z : RelocationSize) (number symbol addend : ℕ) (bs : List ℕ) → IsPlaced l w m → NamesSymbol l r → FitsSigned w64 r.addend → decided l s r ≡ Ok (Left z number symbol addend) → ReadsLeft InMemory w z number symbol addend bs → FieldGiven l w m s r bs
 left_given agrees l w m s r z number symbol addend bs p listed fits made reads =
     let h = decided_left l s r z number symbol addend made in
     by_treatment h.treated h.left h.is h.made
   where
-    by_treatment : (t : Treatment) → is_left_to_entry t ≡ true → treatment l s r ≡ t → decide_by l s r t ≡ Ok (Left z number symbol addend) → FieldGiven l w m s r bs
+    by_treatment : (t : Treatment) → is_left_to_entry t ≡ true → treatment l s.flags r ≡ t → decide_by l s r t ≡ Ok (Left z number symbol addend) → FieldGiven l w m s r bs
     by_treatment (treatments.Symbolic i) left is h =
         let k = known_symbolic l s r i is in
         let f = row_fits r.number k.0 agrees (row_here l r.number k.0 p.x86 k.1) (ap has_value k.2.kind) in

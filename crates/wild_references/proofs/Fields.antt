@@ -10,9 +10,8 @@ use Rattle.wild_words.proofs.ListLemmas.{holds_at}
 use Rattle.wild_types.specs.declared.kind.Machine.{Machine}
 use Rattle.wild_types.specs.declared.kind.Machine.TheVariants as machine
 use Rattle.wild_types.specs.declared.input.InputRelocation.{InputRelocation}
-use Rattle.wild_types.specs.declared.input.InputSection.{InputSection}
 use Rattle.wild_types.specs.declared.layout.Layout.{Layout}
-use Rattle.wild_types.specs.Lookups.{allocated}
+use Rattle.wild_types.specs.Lookups.{place_of, allocated}
 use Rattle.wild_reloc.specs.Field.{field_width, size_width, written}
 use Rattle.wild_reloc.specs.Formula.{Formula, Form, formula_at, NoField, Plain, Full, Bits, Keeps, Reads}
 use Rattle.wild_reloc.specs.Agreement.{X86_64Agrees, WidthsHold}
@@ -21,7 +20,6 @@ use Rattle.wild_reloc.specs.FormulaX86_64.{x86_64_formula, x86_64_formulas}
 use Rattle.wild_reloc.specs.declared.info.RelocationKind.{RelocationKind}
 use Rattle.wild_reloc.specs.declared.expression.Term.TheVariants as term
 use Rattle.wild_reloc.specs.declared.info.RelocationSize.{RelocationSize}
-use Rattle.wild_layout.specs.SymbolValues.{place_of}
 use Rattle.wild_layout.specs.Values.{value_by}
 use Rattle.wild_layout.specs.Sites.{field_site}
 use Rattle.wild_layout.proofs.DecideLemmas.{HasField, field_has_bytes, value_below}
@@ -29,12 +27,13 @@ use Rattle.wild_layout.proofs.SiteLemmas.{field_lies}
 use Rattle.wild_layout.specs.SectionPlaces.{FieldLies}
 use Rattle.wild_layout.specs.Geometry.{NamesSymbol}
 use Rattle.wild_layout.specs.Numbers.{AddendFits}
-use Rattle.wild_meaning.specs.Item.{place_at, item_of}
+use Rattle.wild_types.specs.Item.{Item}
+use Rattle.wild_meaning.specs.Item.{place_at}
 use Rattle.wild_meaning.specs.Field.{formula_of, form_width, FieldReads}
 use Rattle.wild_loader.specs.declared.world.World.{World}
 use Rattle.wild_loader.specs.declared.memory.Memory.{Memory}
 use Rattle.wild_loader.specs.Memory.{Holds}
-use Rattle.wild_geometry.specs.Loaded.{InMemory, ReadsLeft, HasSection}
+use Rattle.wild_geometry.specs.Loaded.{InMemory, ReadsLeft, HasItem}
 use Rattle.wild_references.specs.Terms.{IsPlaced}
 use Rattle.wild_references.specs.Laws.{TermGives, TermGivesLinked, SlotsGive, AddressesGive, AddressesGiveLinked, EntriesGive}
 use Rattle.wild_references.proofs.Written.{IsValue, IsAddress, IsLeftField}
@@ -96,8 +95,8 @@ pub record LinkedLaws : Type 0 where
   pub own : TermGivesLinked term.ModuleOffset
   pub address : AddressesGiveLinked
 
--- a kept section in a legal world, which memory has as it was decided
-pub record IsSectionLoaded (l : Layout) (w : World) (m : Memory) (s : InputSection) : Type 0 where
+-- a kept item in a legal world, which memory has as it was decided
+pub record IsItemLoaded (l : Layout) (w : World) (m : Memory) (s : Item) : Type 0 where
   pub tables : Tables
   pub kinds : KindLaws
   pub linked : LinkedLaws
@@ -105,32 +104,29 @@ pub record IsSectionLoaded (l : Layout) (w : World) (m : Memory) (s : InputSecti
   pub room : allocated s.flags ≡ true
   pub symbols : All (NamesSymbol l) s.relocations
   pub addends : All AddendFits s.relocations
-  pub full : length s.bytes ≡ s.size
-  pub low : s.address + s.size ≤ 2 ^ 62
-  pub lies : All (FieldLies l.machine s.size) s.relocations
-  pub section : HasSection l w m s InMemory
+  pub low : s.address + length s.bytes ≤ 2 ^ 62
+  pub lies : All (FieldLies l.machine (length s.bytes)) s.relocations
+  pub item : HasItem l w m s InMemory
 
--- the field lies in the section
-pub field_within : (l : Layout) (w : World) (m : Memory) (s : InputSection) (i : ℕ) (r : InputRelocation) (z : RelocationSize) → IsSectionLoaded l w m s → slice_get s.relocations i ≡ Some r → HasField l r z → r.offset + size_width z ≤ length s.bytes
-field_within l w m s i r z h listed f = field_lies l s r z f h.full (holds_at (FieldLies l.machine s.size) s.relocations i r listed h.lies)
+-- the field lies in the item
+pub field_within : (l : Layout) (w : World) (m : Memory) (s : Item) (i : ℕ) (r : InputRelocation) (z : RelocationSize) → IsItemLoaded l w m s → slice_get s.relocations i ≡ Some r → HasField l r z → r.offset + size_width z ≤ length s.bytes
+field_within l w m s i r z h listed f = field_lies l s r z f (holds_at (FieldLies l.machine (length s.bytes)) s.relocations i r listed h.lies)
 
 -- the place of a field in memory, which does not wrap
-pub place_is : (l : Layout) (w : World) (m : Memory) (s : InputSection) (i : ℕ) (r : InputRelocation) (z : RelocationSize) → IsSectionLoaded l w m s → slice_get s.relocations i ≡ Some r → HasField l r z → place_at w (item_of s) r.offset ≡ w.base + place_of s r
+pub place_is : (l : Layout) (w : World) (m : Memory) (s : Item) (i : ℕ) (r : InputRelocation) (z : RelocationSize) → IsItemLoaded l w m s → slice_get s.relocations i ≡ Some r → HasField l r z → place_at w s r.offset ≡ w.base + place_of s.address r
 place_is l w m s i r z h listed f =
     let e = field_within l w m s i r z h listed f in
     let some = field_has_bytes l r z f in
-    let full = h.full in
     let low = h.low in
-    omega (arith, e, some, full, low)
+    omega (arith, e, some, low)
 
-pub place_ends : (l : Layout) (w : World) (m : Memory) (s : InputSection) (i : ℕ) (r : InputRelocation) (z : RelocationSize) → IsSectionLoaded l w m s → slice_get s.relocations i ≡ Some r → HasField l r z → w.base + place_of s r ≤ 2 ^ 64
+pub place_ends : (l : Layout) (w : World) (m : Memory) (s : Item) (i : ℕ) (r : InputRelocation) (z : RelocationSize) → IsItemLoaded l w m s → slice_get s.relocations i ≡ Some r → HasField l r z → w.base + place_of s.address r ≤ 2 ^ 64
 place_ends l w m s i r z h listed f =
     let e = field_within l w m s i r z h listed f in
     let some = field_has_bytes l r z f in
-    let full = h.full in
     let low = h.low in
-    let ends = h.section.ends (omega (arith, e, some)) in
-    omega (arith, e, some, full, low, ends)
+    let ends = h.item.ends (omega (arith, e, some)) in
+    omega (arith, e, some, low, ends)
 
 -- ---- fields
 
@@ -140,8 +136,8 @@ pub record ReadsForm (row : RelocationKindInfo) (form : Form) (v : ℕ) : Type 0
   pub reads : (old : List ℕ) → length old ≡ field_width row → Reads form (written row v old) v
   pub keeps : KeepsAll form
 
-pub row_reads : (l : Layout) (w : World) (m : Memory) (s : InputSection) (i : ℕ) (r : InputRelocation) (row : RelocationKindInfo) (form : Form) (v : ℕ) → (h : IsSectionLoaded l w m s) → slice_get s.relocations i ≡ Some r → HasField l r row.size → ReadsForm row form v
-    → Holds m (place_at w (item_of s) r.offset) (field_site s r.offset row.size v).bytes → FieldReads w m (item_of s) r form v
+pub row_reads : (l : Layout) (w : World) (m : Memory) (s : Item) (i : ℕ) (r : InputRelocation) (row : RelocationKindInfo) (form : Form) (v : ℕ) → (h : IsItemLoaded l w m s) → slice_get s.relocations i ≡ Some r → HasField l r row.size → ReadsForm row form v
+    → Holds m (place_at w s r.offset) (field_site s r.offset row.size v).bytes → FieldReads w m s r form v
 row_reads l w m s i r row form v h listed f reads held =
     let old = slice_range s.bytes r.offset (r.offset + size_width row.size) in
     let here = field_within l w m s i r row.size h listed f in
@@ -156,17 +152,17 @@ row_reads l w m s i r row form v h listed f reads held =
 pub below_all : (l : Layout) (kind : RelocationKind) (s p v : ℕ) (a : ℤ) → value_by l kind s a p ≡ v → v < 2 ^ 64
 below_all l kind s p v a e = subst (λ (n : ℕ). n < 2 ^ 64) e (value_below l kind s p a)
 
-pub value_reads : (l : Layout) (w : World) (m : Memory) (s : InputSection) (i : ℕ) (r : InputRelocation) → (h : IsSectionLoaded l w m s) → (v : IsValue l s i r) → FieldReads w m (item_of s) r v.fits.formula.form v.value
+pub value_reads : (l : Layout) (w : World) (m : Memory) (s : Item) (i : ℕ) (r : InputRelocation) → (h : IsItemLoaded l w m s) → (v : IsValue l s i r) → FieldReads w m s r v.fits.formula.form v.value
 value_reads l w m s i r h v =
     let f = v.field in
-    let low = below_all l f.row.kind f.term (place_of s r) v.value r.addend f.value in
-    let held = h.section.values i r v.size v.value v.plain.has in
+    let low = below_all l f.row.kind f.term (place_of s.address r) v.value r.addend f.value in
+    let held = h.item.values i r v.size v.value v.plain.has in
     row_reads l w m s i r f.row v.fits.formula.form v.value h v.plain.has.listed (record { row = f.row; known = f.known; kind = f.kind; size = refl })
     (record { width = v.fits.width; reads = λ old long. v.fits.reads v.value old low long f.allowed; keeps = whole_bytes r.number v.fits.formula v.fits.known })
-    (subst (λ (z : RelocationSize). Holds m (place_at w (item_of s) r.offset) (field_site s r.offset z v.value).bytes) (sym f.size) held)
+    (subst (λ (z : RelocationSize). Holds m (place_at w s r.offset) (field_site s r.offset z v.value).bytes) (sym f.size) held)
 
 -- an address that moves is more by the base, in all its eight bytes
-pub address_reads : (l : Layout) (w : World) (m : Memory) (s : InputSection) (i : ℕ) (r : InputRelocation) → (h : IsSectionLoaded l w m s) → (a : IsAddress l s i r) → FieldReads w m (item_of s) r a.fits.formula.form ((a.value + w.base) % 2 ^ 64)
+pub address_reads : (l : Layout) (w : World) (m : Memory) (s : Item) (i : ℕ) (r : InputRelocation) → (h : IsItemLoaded l w m s) → (a : IsAddress l s i r) → FieldReads w m s r a.fits.formula.form ((a.value + w.base) % 2 ^ 64)
 address_reads l w m s i r h a =
     let x = (a.value + w.base) % 2 ^ 64 in
     let full = a.fits.full a.moved.by.kind a.moved.by.width in
@@ -174,17 +170,17 @@ address_reads l w m s i r h a =
     record {
       bytes = word 8 x;
       wide = length-word 8 x ∙ sym (ap form_width full);
-      held = h.section.addresses i r a.value a.packed a.plain.has;
+      held = h.item.addresses i r a.value a.packed a.plain.has;
       reads = subst (λ (f : Form). Reads f (word 8 x) x) (sym full) (number-word 8 x low);
       keeps = whole_bytes r.number a.fits.formula a.fits.known (slice_range s.bytes r.offset (r.offset + form_width a.fits.formula.form)) (word 8 x);
     }
 
 -- the bytes of a field that is left to an entry
-pub left_bytes : (l : Layout) (w : World) (m : Memory) (s : InputSection) (i : ℕ) (r : InputRelocation) → IsSectionLoaded l w m s → (f : IsLeftField l s i r) → (bs : List ℕ) × Holds m (place_at w (item_of s) r.offset) bs × ReadsLeft InMemory w f.size f.number f.symbol f.addend bs
-left_bytes l w m s i r h f = h.section.left i r f.size f.number f.symbol f.addend f.plain.has
+pub left_bytes : (l : Layout) (w : World) (m : Memory) (s : Item) (i : ℕ) (r : InputRelocation) → IsItemLoaded l w m s → (f : IsLeftField l s i r) → (bs : List ℕ) × Holds m (place_at w s r.offset) bs × ReadsLeft InMemory w f.size f.number f.symbol f.addend bs
+left_bytes l w m s i r h f = h.item.left i r f.size f.number f.symbol f.addend f.plain.has
 
 -- what an entry stores fills the field
-pub left_reads : (l : Layout) (w : World) (m : Memory) (s : InputSection) (i : ℕ) (r : InputRelocation) (x : ℕ) → (h : IsSectionLoaded l w m s) → (f : IsLeftField l s i r) → (form : Form) → form ≡ f.fits.formula.form → Reads form (left_bytes l w m s i r h f).0 x → FieldReads w m (item_of s) r form x
+pub left_reads : (l : Layout) (w : World) (m : Memory) (s : Item) (i : ℕ) (r : InputRelocation) (x : ℕ) → (h : IsItemLoaded l w m s) → (f : IsLeftField l s i r) → (form : Form) → form ≡ f.fits.formula.form → Reads form (left_bytes l w m s i r h f).0 x → FieldReads w m s r form x
 left_reads l w m s i r x h f form same reads =
     let b = left_bytes l w m s i r h f in
     let size : size_width f.size ≡ field_width f.left.field.row = sym (ap size_width f.left.field.size) in

@@ -15,7 +15,6 @@ use Rattle.wild_records.specs.Abi.Relocation.{r_x86_64_none}
 use Rattle.wild_types.specs.declared.kind.Machine.{Machine}
 use Rattle.wild_types.specs.declared.kind.Machine.TheVariants as machine
 use Rattle.wild_types.specs.declared.input.InputRelocation.{InputRelocation}
-use Rattle.wild_types.specs.declared.input.InputSection.{InputSection}
 use Rattle.wild_types.specs.declared.layout.Layout.{Layout}
 use Rattle.wild_reloc.specs.Field.{size_width}
 use Rattle.wild_reloc.specs.Formula.{Formula}
@@ -42,10 +41,11 @@ use Rattle.wild_loader.specs.Memory.{Holds}
 use Rattle.wild_loader.specs.declared.memory.Memory.{Memory}
 use Rattle.wild_loader.specs.declared.world.World.{World}
 use Rattle.wild_geometry.specs.Loaded.{IsDecided, InNoSite, InMemory, number_at, HasDecision}
-use Rattle.wild_references.specs.Laws.{KeepsInstruction, IsLoadedSection}
+use Rattle.wild_references.specs.Laws.{KeepsInstruction, IsLoadedItem}
 use Rattle.wild_loader.specs.Instruction as code
 use Rattle.wild_loader.specs.declared.instruction.Cell.TheVariants.{Any}
-use Rattle.wild_meaning.specs.Item.{item_of, place_at, IsReference}
+use Rattle.wild_types.specs.Item.{Item}
+use Rattle.wild_meaning.specs.Item.{place_at, IsReference}
 use Rattle.wild_meaning.specs.Field.{formula_of, form_width, InNoField, IsInputByte}
 use Rattle.wild_meaning.specs.Sequence.{Partner as CallField, Instruction, size_of, IsOwnByte, instructions_of}
 use Rattle.wild_meaning.specs.Template.{IsInstruction, IsSingle, IsTemplate}
@@ -64,7 +64,7 @@ use Rattle.wild_references.proofs.KeptSequences.{AreKept, are_kept}
 -- ---- a byte in no field
 
 -- it is beside the field of each relocation
-no_field_at : (l : Layout) (s : InputSection) (x j : ℕ) (q : InputRelocation) → l.machine ≡ machine.X86_64 → InNoField l (item_of s) x → slice_get s.relocations j ≡ Some q → (x < q.offset) ⊎ (q.offset + width_of q.number ≤ x)
+no_field_at : (l : Layout) (s : Item) (x j : ℕ) (q : InputRelocation) → l.machine ≡ machine.X86_64 → InNoField l s x → slice_get s.relocations j ≡ Some q → (x < q.offset) ⊎ (q.offset + width_of q.number ≤ x)
 no_field_at l s x j q x86 out listed = by (x86_64_formula q.number) refl
   where
     there : (f : Formula) → formula_of l.machine q.number ≡ Some f → (x < q.offset) ⊎ (q.offset + form_width f.form ≤ x)
@@ -77,16 +77,16 @@ no_field_at l s x j q x86 out listed = by (x86_64_formula q.number) refl
         subst (λ (n : ℕ). (x < q.offset) ⊎ (q.offset + n ≤ x)) (formula_width l q.number f x86 known) (there f known)
 
 -- what relocations write leaves it out, but for instructions
-field_outside : (s : InputSection) (x : ℕ) (q : InputRelocation) (z : RelocationSize) (v : ℕ) → width_of q.number ≡ size_width z → (x < q.offset) ⊎ (q.offset + width_of q.number ≤ x) → All (Outside x) (field_site s q.offset z v ∷ [])
+field_outside : (s : Item) (x : ℕ) (q : InputRelocation) (z : RelocationSize) (v : ℕ) → width_of q.number ≡ size_width z → (x < q.offset) ⊎ (q.offset + width_of q.number ≤ x) → All (Outside x) (field_site s q.offset z v ∷ [])
 field_outside s x q z v width out =
     let long = length-size_written z v (slice_range s.bytes q.offset (q.offset + size_width z)) in
     All-one (Outside x) (field_site s q.offset z v) (elim out [ inl low ↦ inl low | inr high ↦ inr (omega (arith, high, width, long)) ])
 
 -- each instruction that is rewritten leaves the byte out
-abbrev pub OutOfWindows : Layout → InputSection → ℕ → Type 0
+abbrev pub OutOfWindows : Layout → Item → ℕ → Type 0
 OutOfWindows l s x = (j : ℕ) (q : InputRelocation) (row : Row) (v : ℕ) → HasDecision l s j q (Rewritten row v) → (x < template_start row q) ⊎ (template_start row q + pattern_size row ≤ x)
 
-decision_outside : (l : Layout) (s : InputSection) (x j : ℕ) (q : InputRelocation) (d : Decision) → l.machine ≡ machine.X86_64 → InNoField l (item_of s) x → OutOfWindows l s x → HasDecision l s j q d → All (Outside x) (site_for s q d)
+decision_outside : (l : Layout) (s : Item) (x j : ℕ) (q : InputRelocation) (d : Decision) → l.machine ≡ machine.X86_64 → InNoField l s x → OutOfWindows l s x → HasDecision l s j q d → All (Outside x) (site_for s q d)
 decision_outside l s x j q Nothing x86 out windows h = All-nil (Outside x)
 decision_outside l s x j q Partner x86 out windows h = All-nil (Outside x)
 decision_outside l s x j q (Field z v) x86 out windows h = field_outside s x q z v (kept_width l s j q (Field z v) x86 h tt) (no_field_at l s x j q x86 out h.listed)
@@ -100,7 +100,7 @@ decision_outside l s x j q (Rewritten row v) x86 out windows h =
 no_relocation : InputRelocation
 no_relocation = record { offset = 0; number = 0; symbol = None; addend = pos 0; malformed = false }
 
-in_no_site : (l : Layout) (s : InputSection) (x : ℕ) → l.machine ≡ machine.X86_64 → IsDecided l s → InNoField l (item_of s) x → OutOfWindows l s x → InNoSite l s x
+in_no_site : (l : Layout) (s : Item) (x : ℕ) → l.machine ≡ machine.X86_64 → IsDecided l s → InNoField l s x → OutOfWindows l s x → InNoSite l s x
 in_no_site l s x x86 whole out windows = All-flat_map (Outside x) (site l s) (range_with_len 0 (length s.relocations)) (λ n d lt. site_outside n d lt)
   where
     at : (j : ℕ) → j < length s.relocations → All (Outside x) (site l s j)
@@ -117,8 +117,8 @@ in_no_site l s x x86 whole out windows = All-flat_map (Outside x) (site l s) (ra
         subst (λ (j : ℕ). All (Outside x) (site l s j)) (sym is) (at n (omega (arith, lt, long)))
 
 -- such a byte is the input's
-pub input_byte : (l : Layout) (w : World) (m : Memory) (s : InputSection) (x : ℕ) → IsLoadedSection l w m s → x < length s.bytes → InNoField l (item_of s) x → OutOfWindows l s x → IsInputByte w m (item_of s) x
-input_byte l w m s x h lt out windows = h.section.others x lt (in_no_site l s x h.x86 h.decided out windows)
+pub input_byte : (l : Layout) (w : World) (m : Memory) (s : Item) (x : ℕ) → IsLoadedItem l w m s → x < length s.bytes → InNoField l s x → OutOfWindows l s x → IsInputByte w m s x
+input_byte l w m s x h lt out windows = h.item.others x lt (in_no_site l s x h.x86 h.decided out windows)
 
 -- ---- the bytes of a row's pattern that it leaves free are in fields
 
@@ -127,17 +127,17 @@ not_between x from width low high (inl before) = absurd (omega (arith, low, befo
 not_between x from width low high (inr behind) = absurd (omega (arith, high, behind))
 
 -- a window of the section
-pub record Window (l : Layout) (s : InputSection) (j : ℕ) (q : InputRelocation) (row : Row) (v : ℕ) : Type 0 where
+pub record Window (l : Layout) (s : Item) (j : ℕ) (q : InputRelocation) (row : Row) (v : ℕ) : Type 0 where
   pub has : HasDecision l s j q (Rewritten row v)
   pub made : IsRewritten l s q (slice_get s.relocations (j + 1)) row v
   pub fixed : IsFixed row
 
-pub window : (l : Layout) (s : InputSection) (j : ℕ) (q : InputRelocation) (row : Row) (v : ℕ) → HasDecision l s j q (Rewritten row v) → Window l s j q row v
+pub window : (l : Layout) (s : Item) (j : ℕ) (q : InputRelocation) (row : Row) (v : ℕ) → HasDecision l s j q (Rewritten row v) → Window l s j q row v
 window l s j q row v h =
     let made = decide_rewritten l s j q row v h.listed h.decided in
     record { has = h; made = made; fixed = is_fixed row (chosen_listed l s q (slice_get s.relocations (j + 1)) row made.chosen row_fixed each_row_fixed) made.changes }
 
-pub free_not : (l : Layout) (s : InputSection) (j : ℕ) (q : InputRelocation) (row : Row) (v x t : ℕ) → l.machine ≡ machine.X86_64 → Window l s j q row v → InNoField l (item_of s) x → x ≡ template_start row q + t → t < pattern_size row → is_free (get_or (cells_of (pattern_of row)) t its.Any) ≡ true → ⊥
+pub free_not : (l : Layout) (s : Item) (j : ℕ) (q : InputRelocation) (row : Row) (v x t : ℕ) → l.machine ≡ machine.X86_64 → Window l s j q row v → InNoField l s x → x ≡ template_start row q + t → t < pattern_size row → is_free (get_or (cells_of (pattern_of row)) t its.Any) ≡ true → ⊥
 free_not l s j q row v x t x86 w out at lt free = by (free_in_field row t (w.fixed.free t lt free))
   where
     by : ((field_of (pattern_of row) ≤ t) × (t < field_of (pattern_of row) + width_of (number_of row))) ⊎ ((d : ℕ) × (partner_distance row ≡ Some d) × (field_of (pattern_of row) + d ≤ t) × (t < field_of (pattern_of row) + d + call_width (call_form row))) → ⊥
@@ -159,7 +159,7 @@ free_not l s j q row v x t x86 w out at lt free = by (free_in_field row t (w.fix
 -- ---- the fields of an instruction that is kept
 
 -- a relocation that keeps its instruction has its field there
-record FieldIsKept (l : Layout) (s : InputSection) (at width : ℕ) : Type 0 where
+record FieldIsKept (l : Layout) (s : Item) (at width : ℕ) : Type 0 where
   index : ℕ
   relocation : InputRelocation
   decision : Decision
@@ -169,7 +169,7 @@ record FieldIsKept (l : Layout) (s : InputSection) (at width : ℕ) : Type 0 whe
   wide : width_of relocation.number ≡ width
 
 -- no window has a byte of it
-kept_apart : (l : Layout) (s : InputSection) (at width : ℕ) (j : ℕ) (q : InputRelocation) (row : Row) (v x : ℕ) → l.machine ≡ machine.X86_64 → IsDecided l s → FieldIsKept l s at width → HasDecision l s j q (Rewritten row v) → at ≤ x → x < at + width → (x < template_start row q) ⊎ (template_start row q + pattern_size row ≤ x)
+kept_apart : (l : Layout) (s : Item) (at width : ℕ) (j : ℕ) (q : InputRelocation) (row : Row) (v x : ℕ) → l.machine ≡ machine.X86_64 → IsDecided l s → FieldIsKept l s at width → HasDecision l s j q (Rewritten row v) → at ≤ x → x < at + width → (x < template_start row q) ⊎ (template_start row q + pattern_size row ≤ x)
 kept_apart l s at width j q row v x x86 whole f h low high =
     elim (cases_lt x (template_start row q)) [
       | inl before ↦ inl before
@@ -198,19 +198,19 @@ kept_apart l s at width j q row v x x86 whole f h low high =
         not_between x at width low high (elim (b g known) [ inl y ↦ inl (omega (arith, y, place)) | inr y ↦ inr (omega (arith, y, place, wide, width_is)) ])
 
 -- an instruction that is kept, with its fields
-record IsKeptHere (l : Layout) (s : InputSection) (start : ℕ) (o : Instruction) : Type 0 where
+record IsKeptHere (l : Layout) (s : Item) (start : ℕ) (o : Instruction) : Type 0 where
   filled : IsFilled o
   inside : start + size_of o ≤ length s.bytes
   stands : code.stands o.template.cells (slice_range s.bytes start (start + size_of o)) ≡ true
-  alone : (k : ℕ) → IsOwnByte o k → InNoField l (item_of s) (start + k)
+  alone : (k : ℕ) → IsOwnByte o k → InNoField l s (start + k)
   own : FieldIsKept l s (start + o.field) o.width
   call : (p : CallField) → Contains o.partners p → FieldIsKept l s (start + p.field) p.width
   number : Contains o.numbers own.relocation.number
 
-known_filled : (l : Layout) (s : InputSection) (r : InputRelocation) (start : ℕ) (o : Instruction) → l.machine ≡ machine.X86_64 → IsInstruction l (item_of s) r start o → IsFilled o
+known_filled : (l : Layout) (s : Item) (r : InputRelocation) (start : ℕ) (o : Instruction) → l.machine ≡ machine.X86_64 → IsInstruction l s r start o → IsFilled o
 known_filled l s r start o x86 t = is_filled o (subst (λ (m : Machine). Contains (instructions_of m) o) x86 t.known)
 
-single_kept : (l : Layout) (s : InputSection) (i : ℕ) (r : InputRelocation) (d : Decision) (start : ℕ) (o : Instruction) → l.machine ≡ machine.X86_64 → HasDecision l s i r d → KeepsInstruction d → IsSingle l (item_of s) r start o → IsKeptHere l s start o
+single_kept : (l : Layout) (s : Item) (i : ℕ) (r : InputRelocation) (d : Decision) (start : ℕ) (o : Instruction) → l.machine ≡ machine.X86_64 → HasDecision l s i r d → KeepsInstruction d → IsSingle l s r start o → IsKeptHere l s start o
 single_kept l s i r d start o x86 h k t =
     let f = known_filled l s r start o x86 t.stands in
     record {
@@ -227,7 +227,7 @@ single_kept l s i r d start o x86 h k t =
     no_call [] p e c = let lt = c.1 in omega (arith, lt)
     no_call (q ∷ ps) p e c = cc
 
-double_kept : (l : Layout) (s : InputSection) (i : ℕ) (r : InputRelocation) (d : Decision) (start : ℕ) (o : Instruction) (first : InputRelocation) → l.machine ≡ machine.X86_64 → IsDecided l s → HasDecision l s i r d → KeepsInstruction d → IsDouble l (item_of s) r start o first → IsKeptHere l s start o
+double_kept : (l : Layout) (s : Item) (i : ℕ) (r : InputRelocation) (d : Decision) (start : ℕ) (o : Instruction) (first : InputRelocation) → l.machine ≡ machine.X86_64 → IsDecided l s → HasDecision l s i r d → KeepsInstruction d → IsDouble l s r start o first → IsKeptHere l s start o
 double_kept l s i r d start o first x86 whole h k t =
     let q = t.sequence in
     let f = known_filled l s first start o x86 q.stands in
@@ -256,13 +256,13 @@ double_kept l s i r d start o first x86 whole h k t =
           wide = partner_width o q.partner t.second.number f q.calls q.has.number;
         })
 
-kept_here : (l : Layout) (s : InputSection) (i : ℕ) (r : InputRelocation) (d : Decision) (start : ℕ) (o : Instruction) (first : InputRelocation) → l.machine ≡ machine.X86_64 → IsDecided l s → HasDecision l s i r d → KeepsInstruction d → IsTemplate l (item_of s) r start o first → IsKeptHere l s start o
+kept_here : (l : Layout) (s : Item) (i : ℕ) (r : InputRelocation) (d : Decision) (start : ℕ) (o : Instruction) (first : InputRelocation) → l.machine ≡ machine.X86_64 → IsDecided l s → HasDecision l s i r d → KeepsInstruction d → IsTemplate l s r start o first → IsKeptHere l s start o
 kept_here l s i r d start o first x86 whole h k (inl t) = single_kept l s i r d start o x86 h k t.0
-kept_here l s i r d start o first x86 whole h k (inr t) = double_kept l s i r d start o first x86 whole h k (as_double l (item_of s) r start o first x86 t)
+kept_here l s i r d start o first x86 whole h k (inr t) = double_kept l s i r d start o first x86 whole h k (as_double l s r start o first x86 t)
 
 -- ---- an instruction that is kept, and one that is rewritten
 
-uncovered : (l : Layout) (s : InputSection) (start : ℕ) (o : Instruction) (j : ℕ) (q : InputRelocation) (row : Row) (v : ℕ) → l.machine ≡ machine.X86_64 → IsDecided l s → IsKeptHere l s start o → HasDecision l s j q (Rewritten row v) → IsUncovered o.template.cells (cells_of (pattern_of row)) start (template_start row q)
+uncovered : (l : Layout) (s : Item) (start : ℕ) (o : Instruction) (j : ℕ) (q : InputRelocation) (row : Row) (v : ℕ) → l.machine ≡ machine.X86_64 → IsDecided l s → IsKeptHere l s start o → HasDecision l s j q (Rewritten row v) → IsUncovered o.template.cells (cells_of (pattern_of row)) start (template_start row q)
 uncovered l s start o j q row v x86 whole t h k lt any = by (any_in_field o k t.filled lt any)
   where
     by : ((o.field ≤ k) × (k < o.field + o.width)) ⊎ ((p : CallField) × Contains o.partners p × (p.field ≤ k) × (k < p.field + p.width)) → (start + k < template_start row q) ⊎ (template_start row q + pattern_size row ≤ start + k)
@@ -270,12 +270,12 @@ uncovered l s start o j q row v x86 whole t h k lt any = by (any_in_field o k t.
     by (inr f) = let low = f.2 in let high = f.3 in kept_apart l s (start + f.0.field) f.0.width j q row v (start + k) x86 whole (t.call f.0 f.1) h (omega (arith, low)) (omega (arith, high))
 
 -- and_parts are no calls through a descriptor
-no_calls : (l : Layout) (s : InputSection) (start : ℕ) (o : Instruction) (j : ℕ) (q : InputRelocation) (row : Row) (v : ℕ) → l.machine ≡ machine.X86_64 → IsKeptHere l s start o → Window l s j q row v → are_calls o.template.cells (cells_of (pattern_of row)) ≡ true → ⊥
+no_calls : (l : Layout) (s : Item) (start : ℕ) (o : Instruction) (j : ℕ) (q : InputRelocation) (row : Row) (v : ℕ) → l.machine ≡ machine.X86_64 → IsKeptHere l s start o → Window l s j q row v → are_calls o.template.cells (cells_of (pattern_of row)) ≡ true → ⊥
 no_calls l s start o j q row v x86 t w h =
     let two = and_parts (size_of o == 2) (pattern_size row == 2) h in
     calls_apart l s t.own.index j t.own.relocation q t.own.decision row v x86 t.own.has t.own.keeps (call_number o t.own.relocation.number t.filled t.number two.0) w.has (w.fixed.calls two.1)
 
-own_outside : (l : Layout) (s : InputSection) (start : ℕ) (o : Instruction) (k : ℕ) → l.machine ≡ machine.X86_64 → IsDecided l s → ChosenAreWhole → IsKeptHere l s start o → Contains (instructions_of machine.X86_64) o → IsOwnByte o k → OutOfWindows l s (start + k)
+own_outside : (l : Layout) (s : Item) (start : ℕ) (o : Instruction) (k : ℕ) → l.machine ≡ machine.X86_64 → IsDecided l s → ChosenAreWhole → IsKeptHere l s start o → Contains (instructions_of machine.X86_64) o → IsOwnByte o k → OutOfWindows l s (start + k)
 own_outside l s start o k x86 whole stand t known own j q row v h =
     elim (cases_lt (start + k) (template_start row q)) [
       | inl before ↦ inl before
@@ -308,7 +308,7 @@ own_outside l s start o k x86 whole stand t known own j q row v h =
               uncovered = uncovered l s start o j q row v x86 whole t w.has;
             })
 
-known_here : (l : Layout) (s : InputSection) (r first : InputRelocation) (start : ℕ) (o : Instruction) → l.machine ≡ machine.X86_64 → IsTemplate l (item_of s) r start o first → Contains (instructions_of machine.X86_64) o
+known_here : (l : Layout) (s : Item) (r first : InputRelocation) (start : ℕ) (o : Instruction) → l.machine ≡ machine.X86_64 → IsTemplate l s r start o first → Contains (instructions_of machine.X86_64) o
 known_here l s r first start o x86 (inl t) = subst (λ (m : Machine). Contains (instructions_of m) o) x86 t.0.stands.known
 known_here l s r first start o x86 (inr t) = subst (λ (m : Machine). Contains (instructions_of m) o) x86 t.sequence.stands.known
 
@@ -322,28 +322,28 @@ instructions_are_kept stand l w m s h i r d has keeps start o first template k o
 -- ---- sequences
 
 -- memory has bytes at a field that is kept
-bytes_there : (l : Layout) (w : World) (m : Memory) (s : InputSection) (i : ℕ) (r : InputRelocation) (d : Decision) → IsLoadedSection l w m s → HasDecision l s i r d → KeepsInstruction d → (bs : List ℕ) × (length bs ≡ width_of r.number) × Holds m (w.base + s.address + r.offset) bs
+bytes_there : (l : Layout) (w : World) (m : Memory) (s : Item) (i : ℕ) (r : InputRelocation) (d : Decision) → IsLoadedItem l w m s → HasDecision l s i r d → KeepsInstruction d → (bs : List ℕ) × (length bs ≡ width_of r.number) × Holds m (w.base + s.address + r.offset) bs
 bytes_there l w m s i r Nothing h has k = ([], sym (kept_width l s i r Nothing h.x86 has tt), λ n lt. absurd (omega (arith, lt)))
 bytes_there l w m s i r (Field z v) h has k =
     let bs = (field_site s r.offset z v).bytes in
-    (bs, length-size_written z v (slice_range s.bytes r.offset (r.offset + size_width z)) ∙ sym (kept_width l s i r (Field z v) h.x86 has tt), h.section.values i r z v has)
+    (bs, length-size_written z v (slice_range s.bytes r.offset (r.offset + size_width z)) ∙ sym (kept_width l s i r (Field z v) h.x86 has tt), h.item.values i r z v has)
 bytes_there l w m s i r (Moved v packed) h has k =
-    (word 8 (number_at InMemory w v packed), length-word 8 (number_at InMemory w v packed) ∙ sym (kept_width l s i r (Moved v packed) h.x86 has tt), h.section.addresses i r v packed has)
+    (word 8 (number_at InMemory w v packed), length-word 8 (number_at InMemory w v packed) ∙ sym (kept_width l s i r (Moved v packed) h.x86 has tt), h.item.addresses i r v packed has)
 bytes_there l w m s i r (Left z n symbol addend) h has k =
-    let left = h.section.left i r z n symbol addend has in
+    let left = h.item.left i r z n symbol addend has in
     (left.0, left.2.3 ∙ sym (kept_width l s i r (Left z n symbol addend) h.x86 has tt), left.1)
 bytes_there l w m s i r (Rewritten row v) h has k = absurd k
 bytes_there l w m s i r Partner h has k = absurd k
 
 -- the call's, where one of both keeps the instruction
-call_is_kept : (l : Layout) (w : World) (m : Memory) (s : InputSection) (i : ℕ) (r : InputRelocation) (d : Decision) (start : ℕ) (o : Instruction) (first : InputRelocation) → IsLoadedSection l w m s → HasDecision l s i r d → KeepsInstruction d → (t : IsDouble l (item_of s) r start o first) → SequenceIsKept l w m s first start t.sequence.partner
+call_is_kept : (l : Layout) (w : World) (m : Memory) (s : Item) (i : ℕ) (r : InputRelocation) (d : Decision) (start : ℕ) (o : Instruction) (first : InputRelocation) → IsLoadedItem l w m s → HasDecision l s i r d → KeepsInstruction d → (t : IsDouble l s r start o first) → SequenceIsKept l w m s first start t.sequence.partner
 call_is_kept l w m s i r d start o first h has keeps t =
     let q = t.sequence in
     let second = t.second in
     let a = are_kept l s i r d first second start o h.x86 h.decided has keeps q t.one in
     let f = known_filled l s first start o h.x86 q.stands in
     let bytes = bytes_there l w m s (q.has.index + 1) second a.two h a.has_two a.keeps_two in
-    let place : w.base + s.address + second.offset ≡ place_at w (item_of s) (start + q.partner.field) = ap (λ (n : ℕ). w.base + s.address + n) q.has.field in
+    let place : w.base + s.address + second.offset ≡ place_at w s (start + q.partner.field) = ap (λ (n : ℕ). w.base + s.address + n) q.has.field in
     record {
       index = q.has.index;
       decision = a.one;
@@ -356,13 +356,13 @@ call_is_kept l w m s i r d start o first h has keeps t =
 
 pub sequences_are_kept : SequencesAreKept
 sequences_are_kept l w m s h i r d has keeps start o first t p c =
-    let q = as_double l (item_of s) r start o first h.x86 t in
+    let q = as_double l s r start o first h.x86 t in
     let same : p ≡ q.sequence.partner = only_one q.sequence.partner p (subst (λ (ps : List CallField). Contains ps p) q.sequence.calls c) in
     subst (λ (x : CallField). SequenceIsKept l w m s first start x) (sym same) (call_is_kept l w m s i r d start o first h has keeps q)
 
 -- ---- other bytes
 
-listed_at : (s : InputSection) (j : ℕ) (q : InputRelocation) → slice_get s.relocations j ≡ Some q → Contains s.relocations q
+listed_at : (s : Item) (j : ℕ) (q : InputRelocation) → slice_get s.relocations j ≡ Some q → Contains s.relocations q
 listed_at s j q e = (j, slice_get_within s.relocations j q e, get_or_from_slice_get s.relocations j q q e)
 
 -- a row stands at no relocation that is for nothing
@@ -378,7 +378,7 @@ not_none row h e = let f : not (0 == 0) ≡ true = rw e at h in cc
 pub others_are_kept : RewrittenStand → OthersAreKept
 others_are_kept stand l w m s h k lt other = input_byte l w m s k h lt other.fields windows
   where
-    refers : (j : ℕ) (q : InputRelocation) (row : Row) (v : ℕ) → HasDecision l s j q (Rewritten row v) → IsReference (item_of s) q
+    refers : (j : ℕ) (q : InputRelocation) (row : Row) (v : ℕ) → HasDecision l s j q (Rewritten row v) → IsReference s q
     refers j q row v has =
         let made = decide_rewritten l s j q row v has.listed has.decided in
         record { listed = listed_at s j q has.listed; refers = λ e. not_none row (chosen_listed l s q (slice_get s.relocations (j + 1)) row made.chosen has_type each_has_type) (sym made.chosen.number ∙ e) }

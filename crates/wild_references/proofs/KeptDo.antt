@@ -4,14 +4,13 @@ use Rattle.std.specs.Prelude.{⊤, List, [], ◌∷◌, Some, Contains}
 use Rattle.wild_types.specs.declared.kind.Machine.{Machine}
 use Rattle.wild_types.specs.declared.kind.Machine.TheVariants as machine
 use Rattle.wild_types.specs.declared.input.InputRelocation.{InputRelocation}
-use Rattle.wild_types.specs.declared.input.InputSection.{InputSection}
 use Rattle.wild_types.specs.declared.layout.Layout.{Layout}
 use Rattle.wild_reloc.specs.Formula.{Slot, Formula, SlotDistance, AddressSlot, ModulePair, OwnModulePair}
 use Rattle.wild_loader.specs.declared.world.World.{World}
 use Rattle.wild_loader.specs.declared.memory.Memory.{Memory}
-use Rattle.wild_references.specs.Laws.{FieldHolds, IsKeptReference, FieldsHold, IsLoadedSection}
+use Rattle.wild_references.specs.Laws.{FieldHolds, IsKeptReference, FieldsHold, IsLoadedItem}
 use Rattle.wild_meaning.specs.Sequence.{Sort, TargetInSlot, SymbolPair, OwnPair, Instruction, Partner, instructions_of}
-use Rattle.wild_meaning.specs.Item.{Item, item_of}
+use Rattle.wild_types.specs.Item.{Item}
 use Rattle.wild_meaning.specs.Field.{formula_of}
 use Rattle.wild_meaning.specs.Formula.{IsPlaceRelative, TakesAddress, TakesOffset}
 use Rattle.wild_meaning.specs.Template.{IsSingle, IsTemplate, reads, DoesDemanded, IsOfSequence}
@@ -109,36 +108,36 @@ first_not_alone l item r p a = by a.takes
 as_field : (l : Layout) (w : World) (m : Memory) (item : Item) (r : InputRelocation) → FieldHolds l w m item r → HasField l w m item r
 as_field l w m item r f = record { formula = f.formula; known = f.known; value = f.value; gives = f.gives; field = f.field }
 
-single_does : InstructionsAreKept → (l : Layout) (w : World) (m : Memory) (s : InputSection) → IsLoadedSection l w m s → FieldsHold l w m s → (i : ℕ) (r : InputRelocation) → IsKeptReference l s i r → IsAsked l w (item_of s) r → (IsLinkedAlone l (item_of s) r → ⊥)
-    → (start : ℕ) (o : Instruction) → IsSingle l (item_of s) r start o → DoesDemanded (reads w m) l w m (item_of s) r start o
+single_does : InstructionsAreKept → (l : Layout) (w : World) (m : Memory) (s : Item) → IsLoadedItem l w m s → FieldsHold l w m s → (i : ℕ) (r : InputRelocation) → IsKeptReference l s i r → IsAsked l w s r → (IsLinkedAlone l s r → ⊥)
+    → (start : ℕ) (o : Instruction) → IsSingle l s r start o → DoesDemanded (reads w m) l w m s r start o
 single_does kept l w m s g f i r k asked alone start o t =
-    does_demanded l w m (item_of s) r start o (record {
+    does_demanded l w m s r start o (record {
       x86 = g.x86;
       stands = t.stands;
-      field = as_field l w m (item_of s) r (f.references i r k asked alone);
+      field = as_field l w m s r (f.references i r k asked alone);
       own = kept l w m s g i r k.decision k.has k.keeps start o r (inl (t, refl));
-      partners = subst (λ (ps : List Partner). PartnersThere w m (item_of s) start ps) (sym t.single) tt;
+      partners = subst (λ (ps : List Partner). PartnersThere w m s start ps) (sym t.single) tt;
     })
 
-double_does : SequencesAreKept → InstructionsAreKept → (l : Layout) (w : World) (m : Memory) (s : InputSection) → IsLoadedSection l w m s → FieldsHold l w m s → (i : ℕ) (r : InputRelocation) → IsKeptReference l s i r
-    → (start : ℕ) (o : Instruction) (first : InputRelocation) → IsOfSequence l (item_of s) r start o first → DoesDemanded (reads w m) l w m (item_of s) first start o
+double_does : SequencesAreKept → InstructionsAreKept → (l : Layout) (w : World) (m : Memory) (s : Item) → IsLoadedItem l w m s → FieldsHold l w m s → (i : ℕ) (r : InputRelocation) → IsKeptReference l s i r
+    → (start : ℕ) (o : Instruction) (first : InputRelocation) → IsOfSequence l s r start o first → DoesDemanded (reads w m) l w m s first start o
 double_does sequences kept l w m s g f i r k start o first part =
-    let t = as_double l (item_of s) r start o first g.x86 part in
+    let t = as_double l s r start o first g.x86 part in
     let q = sequences l w m s g i r k.decision k.has k.keeps start o first part t.sequence.partner (the_one o.partners t.sequence.partner t.sequence.calls) in
-    let p = has_pair l (item_of s) first t.second start o g.x86 t.sequence in
+    let p = has_pair l s first t.second start o g.x86 t.sequence in
     let listed = subst (λ (x : Machine). Contains (instructions_of x) o) g.x86 t.sequence.stands.known in
     let reference : IsKeptReference l s q.index first = record { decision = q.decision; has = q.has; keeps = q.keeps; refers = refers o first.number listed t.sequence.stands.number } in
-    let formula = first_known l w m (item_of s) first start o t.second g.x86 t.sequence in
-    let field = f.references q.index first reference (first_asked l w (item_of s) first formula.0 g.x86 formula.1 p) (first_not_alone l (item_of s) first p) in
-    does_demanded l w m (item_of s) first start o (record {
+    let formula = first_known l w m s first start o t.second g.x86 t.sequence in
+    let field = f.references q.index first reference (first_asked l w s first formula.0 g.x86 formula.1 p) (first_not_alone l s first p) in
+    does_demanded l w m s first start o (record {
       x86 = g.x86;
       stands = t.sequence.stands;
-      field = as_field l w m (item_of s) first field;
+      field = as_field l w m s first field;
       own = kept l w m s g i r k.decision k.has k.keeps start o first (inr part);
-      partners = subst (λ (ps : List Partner). PartnersThere w m (item_of s) start ps) (sym t.sequence.calls) ((q.bytes, q.wide, q.held), tt);
+      partners = subst (λ (ps : List Partner). PartnersThere w m s start ps) (sym t.sequence.calls) ((q.bytes, q.wide, q.held), tt);
     })
 
 pub kept_do : SequencesAreKept → InstructionsAreKept → KeptInstructionsDo
 kept_do sequences kept l w m s g f i r k asked alone start o first (inl t) =
-    subst (λ (x : InputRelocation). DoesDemanded (reads w m) l w m (item_of s) x start o) (sym t.1) (single_does kept l w m s g f i r k asked alone start o t.0)
+    subst (λ (x : InputRelocation). DoesDemanded (reads w m) l w m s x start o) (sym t.1) (single_does kept l w m s g f i r k asked alone start o t.0)
 kept_do sequences kept l w m s g f i r k asked alone start o first (inr t) = double_does sequences kept l w m s g f i r k start o first t

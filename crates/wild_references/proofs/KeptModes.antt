@@ -6,7 +6,6 @@ use Rattle.wild_words.proofs.Basics.{implied, or_by}
 use Rattle.wild_records.specs.Abi.Relocation.{r_x86_64_tlsgd, r_x86_64_tlsld, r_x86_64_tlsdesc_call}
 use Rattle.wild_types.specs.declared.kind.Machine.TheVariants as machine
 use Rattle.wild_types.specs.declared.input.InputRelocation.{InputRelocation}
-use Rattle.wild_types.specs.declared.input.InputSection.{InputSection}
 use Rattle.wild_types.specs.declared.symbol.ValueFlags.{ValueFlags}
 use Rattle.wild_types.specs.declared.layout.Layout.{Layout}
 use Rattle.wild_types.specs.Flags.{has_flag, ifunc, non_interposable}
@@ -33,7 +32,7 @@ use Rattle.wild_layout.proofs.ChoiceLemmas.{chosen_listed}
 use Rattle.wild_layout.proofs.DecisionLemmas.{decide_rewritten}
 use Rattle.wild_geometry.specs.Loaded.{HasDecision}
 use Rattle.wild_references.specs.Laws.{KeepsInstruction}
-use Rattle.wild_meaning.specs.Item.{item_of}
+use Rattle.wild_types.specs.Item.{Item}
 use Rattle.wild_meaning.specs.Value.{HasFlag}
 use Rattle.wild_meaning.specs.Sequence.{Instruction}
 use Rattle.wild_meaning.proofs.PairLemmas.{IsGetterCall}
@@ -69,12 +68,12 @@ in_code IfuncThroughStub q k h = cc
 in_code other q k h = h
 
 -- where a row writes an instruction, rewriting is on, or the output has no loader; it is in code
-pub record IsOn (l : Layout) (s : InputSection) (row : Row) : Type 0 where
+pub record IsOn (l : Layout) (s : Item) (row : Row) : Type 0 where
   pub taken : (l.options.relax || is_static_executable l.kind) ≡ true
   pub code : executable s.flags ≡ true
   pub thread : is_thread_local row ≡ true → is_executable l.kind ≡ true
 
-pub rewritten_on : (l : Layout) (s : InputSection) (j : ℕ) (q : InputRelocation) (row : Row) (v : ℕ) → HasDecision l s j q (Rewritten row v) → IsOn l s row
+pub rewritten_on : (l : Layout) (s : Item) (j : ℕ) (q : InputRelocation) (row : Row) (v : ℕ) → HasDecision l s j q (Rewritten row v) → IsOn l s row
 rewritten_on l s j q row v h =
     let w = decide_rewritten l s j q row v h.listed h.decided in
     let next = slice_get s.relocations (j + 1) in
@@ -89,12 +88,12 @@ rewritten_on l s j q row v h =
 
 -- ---- the call through a descriptor
 
-unnamed_call : (l : Layout) (s : InputSection) (r : InputRelocation) (d : Decision) → l.machine ≡ machine.X86_64 → r.number ≡ r_x86_64_tlsdesc_call → r.symbol ≡ None → decided l s r ≡ Ok d → ⊥
+unnamed_call : (l : Layout) (s : Item) (r : InputRelocation) (d : Decision) → l.machine ≡ machine.X86_64 → r.number ≡ r_x86_64_tlsdesc_call → r.symbol ≡ None → decided l s r ≡ Ok d → ⊥
 unfolding decided treatment row_treatment row_of x86_64_row
 unnamed_call l s r d x86 number none h = cc (rw (x86, number, none) at h)
 
 -- none keeps its instruction where one is rewritten
-pub calls_apart : (l : Layout) (s : InputSection) (i j : ℕ) (r q : InputRelocation) (d : Decision) (row : Row) (v : ℕ) → l.machine ≡ machine.X86_64 → HasDecision l s i r d → KeepsInstruction d → r.number ≡ r_x86_64_tlsdesc_call → HasDecision l s j q (Rewritten row v) → number_of row ≡ r_x86_64_tlsdesc_call → ⊥
+pub calls_apart : (l : Layout) (s : Item) (i j : ℕ) (r q : InputRelocation) (d : Decision) (row : Row) (v : ℕ) → l.machine ≡ machine.X86_64 → HasDecision l s i r d → KeepsInstruction d → r.number ≡ r_x86_64_tlsdesc_call → HasDecision l s j q (Rewritten row v) → number_of row ≡ r_x86_64_tlsdesc_call → ⊥
 calls_apart l s i j r q d row v x86 h k number h' number' = by_symbol r.symbol refl
   where
     next : Option InputRelocation
@@ -139,7 +138,7 @@ other_flag l i flag other b h =
     record { definition = h.definition; defined = h.defined; symbol = h.symbol; listed = h.listed; flagged = ap (λ (f : ValueFlags). has_flag f other) (sym same) }
 
 -- a sequence whose call goes through a slot does not keep its first instruction where rows stand
-pub slot_not_kept : (l : Layout) (s : InputSection) (i : ℕ) (first second : InputRelocation) (d : Decision) (start : ℕ) (o : Instruction) → l.machine ≡ machine.X86_64 → HasDecision l s i first d → KeepsInstruction d → IsGetterCall l (item_of s) first second start o → by_slot o ≡ true → (l.options.relax || is_static_executable l.kind) ≡ true → ⊥
+pub slot_not_kept : (l : Layout) (s : Item) (i : ℕ) (first second : InputRelocation) (d : Decision) (start : ℕ) (o : Instruction) → l.machine ≡ machine.X86_64 → HasDecision l s i first d → KeepsInstruction d → IsGetterCall l s first second start o → by_slot o ≡ true → (l.options.relax || is_static_executable l.kind) ≡ true → ⊥
 slot_not_kept l s i first second d start o x86 h k q slot taken =
     elim (or_cases _ _ slot) [
       | inl x ↦ general_form (asked_for r_x86_64_tlsgd (pattern.General general.NoPlt) o x) (cases_Bool (has_flag (flags_at l q.symbol) non_interposable))

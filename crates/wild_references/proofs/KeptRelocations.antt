@@ -8,7 +8,7 @@ use Rattle.wild_records.specs.Abi.Relocation.{r_x86_64_pc32}
 use Rattle.wild_types.specs.declared.kind.Machine.{Machine}
 use Rattle.wild_types.specs.declared.kind.Machine.TheVariants as machine
 use Rattle.wild_types.specs.declared.input.InputRelocation.{InputRelocation}
-use Rattle.wild_types.specs.declared.input.InputSection.{InputSection}
+use Rattle.wild_types.specs.Item.{Item}
 use Rattle.wild_types.specs.declared.layout.Layout.{Layout}
 use Rattle.wild_relax.specs.declared.row.Row.{Row}
 use Rattle.wild_relax.specs.First.{first_standing, checked}
@@ -33,7 +33,7 @@ use Rattle.wild_references.proofs.KeptTables.{keeps_all, row_fixed, each_row_fix
 
 -- ---- one decision
 
-pub one_decision : (l : Layout) (s : InputSection) (i : ℕ) (r q : InputRelocation) (d e : Decision) → HasDecision l s i r d → HasDecision l s i q e → d ≡ e
+pub one_decision : (l : Layout) (s : Item) (i : ℕ) (r q : InputRelocation) (d e : Decision) → HasDecision l s i r d → HasDecision l s i q e → d ≡ e
 one_decision l s i r q d e h k = let same : Ok d ≡ Ok e = sym h.decided ∙ k.decided in cc
 
 -- ---- one place
@@ -46,19 +46,19 @@ either_one : (i j : ℕ) → ((i ≡ j → ⊥) → ⊥) → i ≡ j
 either_one i j h = elim (cases_lt i j) [ inl low ↦ absurd (h (λ e. absurd (omega (arith, low, e)))) | inr high ↦ elim (cases_lt j i) [ inl above ↦ absurd (h (λ e. absurd (omega (arith, above, e)))) | inr below ↦ omega (arith, high, below) ] ]
 
 -- two relocations with one place for their fields are written by the same
-pub same_owner : (l : Layout) (s : InputSection) → IsDecided l s → (i j : ℕ) (r : InputRelocation) (d e : Decision) → 0 < width_of r.number → (x : HasSite l s i r d) (y : HasSite l s j r e) → x.index ≡ y.index
+pub same_owner : (l : Layout) (s : Item) → IsDecided l s → (i j : ℕ) (r : InputRelocation) (d e : Decision) → 0 < width_of r.number → (x : HasSite l s i r d) (y : HasSite l s j r e) → x.index ≡ y.index
 same_owner l s whole i j r d e some x y =
     either_one x.index y.index (λ other. same_site x.piece y.piece r.offset (width_of r.number) some x.from x.to y.from y.to (sites_apart l s whole x.index y.index x.owner y.owner x.decision y.decision x.piece y.piece x.has y.has other x.only y.only))
 
 -- ---- a relocation that keeps its instruction
 
 -- no row stands at it but one that writes its field alone
-pub record IsRowKept (l : Layout) (s : InputSection) (i : ℕ) (r : InputRelocation) : Type 0 where
+pub record IsRowKept (l : Layout) (s : Item) (i : ℕ) (r : InputRelocation) : Type 0 where
   pub row : Row
   pub chosen : IsChosen l s r (slice_get s.relocations (i + 1)) row
   pub keeps : keeps_bytes row ≡ true
 
-pub kept_cases : (l : Layout) (s : InputSection) (i : ℕ) (r : InputRelocation) (d : Decision) → HasDecision l s i r d → KeepsInstruction d → IsOwn l s i r d ⊎ IsRowKept l s i r
+pub kept_cases : (l : Layout) (s : Item) (i : ℕ) (r : InputRelocation) (d : Decision) → HasDecision l s i r d → KeepsInstruction d → IsOwn l s i r d ⊎ IsRowKept l s i r
 kept_cases l s i r Nothing h k = inl (decide_nothing l s i r h.listed h.decided)
 kept_cases l s i r (Field z v) h k =
     elim (decide_field l s i r z v h.listed h.decided) [
@@ -71,7 +71,7 @@ kept_cases l s i r (Rewritten row v) h k = absurd k
 kept_cases l s i r Partner h k = absurd k
 
 -- it begins no sequence that is rewritten
-pub kept_takes_none : (l : Layout) (s : InputSection) (i : ℕ) (r : InputRelocation) (d : Decision) → HasDecision l s i r d → KeepsInstruction d → takes_next (choice l s i) ≡ true → ⊥
+pub kept_takes_none : (l : Layout) (s : Item) (i : ℕ) (r : InputRelocation) (d : Decision) → HasDecision l s i r d → KeepsInstruction d → takes_next (choice l s i) ≡ true → ⊥
 kept_takes_none l s i r d h k takes =
     elim (kept_cases l s i r d h k) [
       | inl own ↦ (let e : choice l s i ≡ Ok None = is_choice ∙ own.choice in let f : takes_next (Ok None) ≡ true = rw e at takes in cc)
@@ -104,7 +104,7 @@ pub none_applies : (q : Question) (row : Row) → chosen_x86_64 q ≡ Ok None �
 unfolding chosen_x86_64 standing_x86_64
 none_applies q row e c t = none_standing (applies q) rows_x86_64 (not_checked q (standing_x86_64 q) e) row c t
 
-none_by : (l : Layout) (s : InputSection) (r : InputRelocation) (next : Option InputRelocation) (symbol : ℕ) → l.machine ≡ machine.X86_64 → (r.number == r_x86_64_pc32) ≡ false → choice_by l s r next (Some symbol) ≡ Ok None → chosen_x86_64 (question_of l s r symbol next) ≡ Ok None
+none_by : (l : Layout) (s : Item) (r : InputRelocation) (next : Option InputRelocation) (symbol : ℕ) → l.machine ≡ machine.X86_64 → (r.number == r_x86_64_pc32) ≡ false → choice_by l s r next (Some symbol) ≡ Ok None → chosen_x86_64 (question_of l s r symbol next) ≡ Ok None
 unfolding choice_by
 none_by l s r next symbol x86 other e = subst (λ (m : Machine). chosen_of m (question_of l s r symbol next) ≡ Ok None) x86 (by (r.number == r_x86_64_pc32) other e)
   where
@@ -118,7 +118,7 @@ not_pc32 n true f e = let g : true ≡ false = rw f at e in cc
 
 -- a row that applies to a relocation of another type than those of rows that write the field alone is not refused, so that the
 -- relocation does not keep its instruction
-pub no_row_applies : (l : Layout) (s : InputSection) (i : ℕ) (r : InputRelocation) (d : Decision) (symbol : ℕ) (row : Row) → l.machine ≡ machine.X86_64 → HasDecision l s i r d → KeepsInstruction d → keeps_all r.number ≡ false → r.symbol ≡ Some symbol → Contains rows_x86_64 row → applies (question_of l s r symbol (slice_get s.relocations (i + 1))) row ≡ true → ⊥
+pub no_row_applies : (l : Layout) (s : Item) (i : ℕ) (r : InputRelocation) (d : Decision) (symbol : ℕ) (row : Row) → l.machine ≡ machine.X86_64 → HasDecision l s i r d → KeepsInstruction d → keeps_all r.number ≡ false → r.symbol ≡ Some symbol → Contains rows_x86_64 row → applies (question_of l s r symbol (slice_get s.relocations (i + 1))) row ≡ true → ⊥
 no_row_applies l s i r d symbol row x86 h k other named c t =
     elim (kept_cases l s i r d h k) [
       | inl own ↦

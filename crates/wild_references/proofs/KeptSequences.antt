@@ -7,7 +7,6 @@ use Rattle.wild_records.specs.Abi.Relocation.{r_x86_64_tlsgd, r_x86_64_tlsld}
 use Rattle.wild_types.specs.declared.kind.Machine.{Machine}
 use Rattle.wild_types.specs.declared.kind.Machine.TheVariants as machine
 use Rattle.wild_types.specs.declared.input.InputRelocation.{InputRelocation}
-use Rattle.wild_types.specs.declared.input.InputSection.{InputSection}
 use Rattle.wild_types.specs.declared.layout.Layout.{Layout}
 use Rattle.wild_reloc.specs.FormulaX86_64.{x86_64_formula}
 use Rattle.wild_relax.specs.declared.pattern.GeneralForm.{GeneralForm}
@@ -22,7 +21,7 @@ use Rattle.wild_layout.proofs.ChoiceLemmas.{choice_row, chosen_listed, partner_n
 use Rattle.wild_layout.proofs.DecisionLemmas.{decide_rewritten, decide_partner}
 use Rattle.wild_geometry.specs.Loaded.{IsDecided, HasDecision}
 use Rattle.wild_references.specs.Laws.{KeepsInstruction}
-use Rattle.wild_meaning.specs.Item.{item_of}
+use Rattle.wild_types.specs.Item.{Item}
 use Rattle.wild_meaning.specs.Sequence.{Instruction, instructions_of}
 use Rattle.wild_meaning.proofs.PairLemmas.{IsGetterCall}
 use Rattle.wild_references.proofs.WindowRows.{width_of}
@@ -42,14 +41,14 @@ unfolding x86_64_formula
 pair_some n h = elim (two_pairs n h) [ inl e ↦ rw e (omega arith) | inr e ↦ rw e (omega arith) ]
 
 -- a relocation that is taken along, behind the one before
-record IsTaken (l : Layout) (s : InputSection) (i : ℕ) (r : InputRelocation) : Type 0 where
+record IsTaken (l : Layout) (s : Item) (i : ℕ) (r : InputRelocation) : Type 0 where
   before : ℕ
   next : i ≡ before + 1
   takes : takes_next (choice l s before) ≡ true
   form : GeneralForm
   call : is_call_number form r.number ≡ true
 
-taken_is : (l : Layout) (s : InputSection) (i : ℕ) (r : InputRelocation) → HasDecision l s i r Partner → IsTaken l s i r
+taken_is : (l : Layout) (s : Item) (i : ℕ) (r : InputRelocation) → HasDecision l s i r Partner → IsTaken l s i r
 taken_is l s i r h =
     let p = decide_partner l s i r h.listed h.decided in
     by p.0 p.1 p.2 p.3
@@ -62,7 +61,7 @@ taken_is l s i r h =
         record { before = j; next = e; takes = ap takes_next made ∙ t.takes; form = call_form row; call = partner_number l s t.relocation r row c t.takes }
 
 -- a relocation behind one that takes it along has no decision of its own
-next_is_partner : (l : Layout) (s : InputSection) (i : ℕ) → takes_next (choice l s i) ≡ true → decide l s (i + 1) ≡ Ok Partner
+next_is_partner : (l : Layout) (s : Item) (i : ℕ) → takes_next (choice l s i) ≡ true → decide l s (i + 1) ≡ Ok Partner
 unfolding decide
 next_is_partner l s i takes =
     let e : suc i ≡ i + 1 = omega arith in
@@ -85,7 +84,7 @@ same_next a b e = omega (arith, e)
 -- ---- sequences
 
 -- and_parts relocations keep their instruction
-pub record AreKept (l : Layout) (s : InputSection) (first second : InputRelocation) (i : ℕ) : Type 0 where
+pub record AreKept (l : Layout) (s : Item) (first second : InputRelocation) (i : ℕ) : Type 0 where
   pub one : Decision
   pub has_one : HasDecision l s i first one
   pub keeps_one : KeepsInstruction one
@@ -94,10 +93,10 @@ pub record AreKept (l : Layout) (s : InputSection) (first second : InputRelocati
   pub keeps_two : KeepsInstruction two
 
 -- what is known of a sequence
-record Facts (l : Layout) (s : InputSection) (first second : InputRelocation) (start : ℕ) (o : Instruction) (i : ℕ) : Type 0 where
+record Facts (l : Layout) (s : Item) (first second : InputRelocation) (start : ℕ) (o : Instruction) (i : ℕ) : Type 0 where
   x86 : l.machine ≡ machine.X86_64
   whole : IsDecided l s
-  sequence : IsGetterCall l (item_of s) first second start o
+  sequence : IsGetterCall l s first second start o
   filled : IsFilled o
   pair : is_first first.number ≡ true
   some : 0 < width_of second.number
@@ -106,7 +105,7 @@ record Facts (l : Layout) (s : InputSection) (first second : InputRelocation) (s
   two : Decision
   has_two : HasDecision l s (i + 1) second two
 
-facts : (l : Layout) (s : InputSection) (first second : InputRelocation) (start : ℕ) (o : Instruction) → l.machine ≡ machine.X86_64 → IsDecided l s → (q : IsGetterCall l (item_of s) first second start o) → Facts l s first second start o q.has.index
+facts : (l : Layout) (s : Item) (first second : InputRelocation) (start : ℕ) (o : Instruction) → l.machine ≡ machine.X86_64 → IsDecided l s → (q : IsGetterCall l s first second start o) → Facts l s first second start o q.has.index
 facts l s first second start o x86 whole q =
     let known = subst (λ (m : Machine). Contains (instructions_of m) o) x86 q.stands.known in
     let f = is_filled o known in
@@ -127,13 +126,13 @@ facts l s first second start o x86 whole q =
     }
 
 -- its first relocation is the call of none
-first_no_call : (l : Layout) (s : InputSection) (i : ℕ) (r : InputRelocation) (d : Decision) → HasDecision l s i r d → is_first r.number ≡ true → d ≡ Partner → ⊥
+first_no_call : (l : Layout) (s : Item) (i : ℕ) (r : InputRelocation) (d : Decision) → HasDecision l s i r d → is_first r.number ≡ true → d ≡ Partner → ⊥
 first_no_call l s i r d h pair e =
     let t = taken_is l s i r (subst (λ (x : Decision). HasDecision l s i r x) e h) in
     no_call t.form r.number pair t.call
 
 -- where it is kept, so is the call
-second_kept : (l : Layout) (s : InputSection) (first second : InputRelocation) (start : ℕ) (o : Instruction) (i : ℕ) → (f : Facts l s first second start o i) → KeepsInstruction f.one → KeepsInstruction f.two
+second_kept : (l : Layout) (s : Item) (first second : InputRelocation) (start : ℕ) (o : Instruction) (i : ℕ) → (f : Facts l s first second start o i) → KeepsInstruction f.one → KeepsInstruction f.two
 second_kept l s first second start o i f k = by (keeps_or f.two)
   where
     fixed : (row : Row) (v : ℕ) → HasDecision l s (i + 1) second (Rewritten row v) → (keeps_all second.number ≡ true) ⊎ (by_slot o ≡ true) → ⊥
@@ -154,7 +153,7 @@ second_kept l s first second start o i f k = by (keeps_or f.two)
     by (inr (inr e)) = absurd (fixed e.0 e.1 (subst (λ (x : Decision). HasDecision l s (i + 1) second x) e.2 f.has_two) (partner_kept o f.sequence.partner second.number f.filled f.sequence.calls f.sequence.has.number))
 
 -- where the call is kept, so is it
-first_kept : (l : Layout) (s : InputSection) (first second : InputRelocation) (start : ℕ) (o : Instruction) (i : ℕ) → (f : Facts l s first second start o i) → KeepsInstruction f.two → KeepsInstruction f.one
+first_kept : (l : Layout) (s : Item) (first second : InputRelocation) (start : ℕ) (o : Instruction) (i : ℕ) → (f : Facts l s first second start o i) → KeepsInstruction f.two → KeepsInstruction f.one
 first_kept l s first second start o i f k = by (keeps_or f.one)
   where
     takes_all : (row : Row) (v : ℕ) → HasDecision l s i first (Rewritten row v) → ⊥
@@ -179,14 +178,14 @@ no_width : (n : ℕ) → 0 < n → n ≡ 0 → ⊥
 no_width n some none = absurd (omega (arith, some, none))
 
 -- the bytes that are written over a field that is kept are its own
-own_site : (l : Layout) (s : InputSection) (i : ℕ) (r : InputRelocation) (d : Decision) → KeepsInstruction d → (x : HasSite l s i r d) → x.index ≡ i
+own_site : (l : Layout) (s : Item) (i : ℕ) (r : InputRelocation) (d : Decision) → KeepsInstruction d → (x : HasSite l s i r d) → x.index ≡ i
 own_site l s i r d k x = by x.own
   where
     by : (x.index ≡ i) ⊎ ((i ≡ x.index + 1) × (d ≡ Partner)) → x.index ≡ i
     by (inl e) = e
     by (inr e) = absurd (subst KeepsInstruction e.1 k)
 
-by_first : (l : Layout) (s : InputSection) (first second : InputRelocation) (start : ℕ) (o : Instruction) (i j : ℕ) (d : Decision) → (f : Facts l s first second start o i) → HasDecision l s j first d → KeepsInstruction d → KeepsInstruction f.one
+by_first : (l : Layout) (s : Item) (first second : InputRelocation) (start : ℕ) (o : Instruction) (i j : ℕ) (d : Decision) → (f : Facts l s first second start o i) → HasDecision l s j first d → KeepsInstruction d → KeepsInstruction f.one
 by_first l s first second start o i j d f h k = sites (has_site l s j first d f.x86 f.whole h) (has_site l s i first f.one f.x86 f.whole f.has_one)
   where
     at : (y : HasSite l s i first f.one) → j ≡ y.index → (y.index ≡ i) ⊎ ((i ≡ y.index + 1) × (f.one ≡ Partner)) → KeepsInstruction f.one
@@ -198,7 +197,7 @@ by_first l s first second start o i j d f h k = sites (has_site l s j first d f.
     sites (inr x) (inl none) = absurd (no_width (width_of first.number) (pair_some first.number f.pair) none)
     sites (inr x) (inr y) = at y (sym (own_site l s j first d k x) ∙ same_owner l s f.whole j i first d f.one (pair_some first.number f.pair) x y) y.own
 
-by_second : (l : Layout) (s : InputSection) (first second : InputRelocation) (start : ℕ) (o : Instruction) (i j : ℕ) (d : Decision) → (f : Facts l s first second start o i) → HasDecision l s j second d → KeepsInstruction d → KeepsInstruction f.two
+by_second : (l : Layout) (s : Item) (first second : InputRelocation) (start : ℕ) (o : Instruction) (i j : ℕ) (d : Decision) → (f : Facts l s first second start o i) → HasDecision l s j second d → KeepsInstruction d → KeepsInstruction f.two
 by_second l s first second start o i j d f h k = sites (has_site l s j second d f.x86 f.whole h) (has_site l s (i + 1) second f.two f.x86 f.whole f.has_two)
   where
     -- the call would be taken along by a relocation that is kept
@@ -217,7 +216,7 @@ by_second l s first second start o i j d f h k = sites (has_site l s j second d 
     sites (inr x) (inl none) = absurd (no_width (width_of second.number) f.some none)
     sites (inr x) (inr y) = at y (sym (own_site l s j second d k x) ∙ same_owner l s f.whole j (i + 1) second d f.two f.some x y) y.own
 
-pub are_kept : (l : Layout) (s : InputSection) (i : ℕ) (r : InputRelocation) (d : Decision) (first second : InputRelocation) (start : ℕ) (o : Instruction) → l.machine ≡ machine.X86_64 → IsDecided l s → HasDecision l s i r d → KeepsInstruction d → (q : IsGetterCall l (item_of s) first second start o) → (r ≡ first) ⊎ (r ≡ second) → AreKept l s first second q.has.index
+pub are_kept : (l : Layout) (s : Item) (i : ℕ) (r : InputRelocation) (d : Decision) (first second : InputRelocation) (start : ℕ) (o : Instruction) → l.machine ≡ machine.X86_64 → IsDecided l s → HasDecision l s i r d → KeepsInstruction d → (q : IsGetterCall l s first second start o) → (r ≡ first) ⊎ (r ≡ second) → AreKept l s first second q.has.index
 are_kept l s i r d first second start o x86 whole h k q one = by one
   where
     f : Facts l s first second start o q.has.index

@@ -2,6 +2,7 @@ pub mod OutputKinds
 mod KnownRows
 mod Rows
 mod Written
+mod KeptItems
 mod Fields
 mod Moves
 mod Values

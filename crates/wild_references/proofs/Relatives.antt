@@ -1,20 +1,21 @@
 -- What is written of an address that moves with the base, less the place or the table.
 use Rattle.std.proofs.Common.{◌≡◌, ℕ, ◌+◌, ◌-◌, ◌%◌, ◌^◌, sym, ap, ◌∙◌}
 use Rattle.wild_types.specs.declared.input.InputRelocation.{InputRelocation}
-use Rattle.wild_types.specs.declared.input.InputSection.{InputSection}
 use Rattle.wild_types.specs.declared.layout.Layout.{Layout}
 use Rattle.wild_reloc.specs.declared.info.RelocationKind.{RelocationKind}
-use Rattle.wild_layout.specs.SymbolValues.{displacement, place_of}
+use Rattle.wild_types.specs.Lookups.{place_of}
+use Rattle.wild_layout.specs.SymbolValues.{displacement}
 use Rattle.wild_loader.specs.declared.memory.Memory.{Memory}
 use Rattle.wild_loader.specs.declared.world.World.{World}
 use Rattle.wild_meaning.specs.Formula.{table_at}
-use Rattle.wild_meaning.specs.Item.{place_at, item_of}
+use Rattle.wild_types.specs.Item.{Item}
+use Rattle.wild_meaning.specs.Item.{place_at}
 use Rattle.wild_references.specs.Terms.{HasTerm}
 use Rattle.wild_references.proofs.Moves.{moved_distance, moved_offset}
 use Rattle.wild_references.proofs.ValueKinds.{more}
 
-pub less_place : (l : Layout) (w : World) (m : Memory) (s : InputSection) (r : InputRelocation) (k : RelocationKind) (x : ℕ) → (h : HasTerm l w m s r k x) → displacement h.term r.addend (place_of s r) ≡ x → x ≡ ((w.base + h.term) % 2 ^ 64 + more r + (2 ^ 64 - place_at w (item_of s) r.offset)) % 2 ^ 64
-less_place l w m s r k x h e = sym e ∙ moved_distance w.base h.term (more r) (place_of s r) h.ends ∙ ap (λ (p : ℕ). ((w.base + h.term) % 2 ^ 64 + more r + (2 ^ 64 - p)) % 2 ^ 64) (sym h.place)
+pub less_place : (l : Layout) (w : World) (m : Memory) (s : Item) (r : InputRelocation) (k : RelocationKind) (x : ℕ) → (h : HasTerm l w m s r k x) → displacement h.term r.addend (place_of s.address r) ≡ x → x ≡ ((w.base + h.term) % 2 ^ 64 + more r + (2 ^ 64 - place_at w s r.offset)) % 2 ^ 64
+less_place l w m s r k x h e = sym e ∙ moved_distance w.base h.term (more r) (place_of s.address r) h.ends ∙ ap (λ (p : ℕ). ((w.base + h.term) % 2 ^ 64 + more r + (2 ^ 64 - p)) % 2 ^ 64) (sym h.place)
 
-pub less_table : (l : Layout) (w : World) (m : Memory) (s : InputSection) (r : InputRelocation) (k : RelocationKind) (x : ℕ) → (h : HasTerm l w m s r k x) → displacement h.term r.addend l.got_base ≡ x → x ≡ ((w.base + h.term) % 2 ^ 64 + more r + (2 ^ 64 - table_at l w)) % 2 ^ 64
+pub less_table : (l : Layout) (w : World) (m : Memory) (s : Item) (r : InputRelocation) (k : RelocationKind) (x : ℕ) → (h : HasTerm l w m s r k x) → displacement h.term r.addend l.got_base ≡ x → x ≡ ((w.base + h.term) % 2 ^ 64 + more r + (2 ^ 64 - table_at l w)) % 2 ^ 64
 less_table l w m s r k x h e = sym e ∙ moved_offset w.base h.term (more r) l.got_base h.placed.got

@@ -7,7 +7,6 @@ use Rattle.std.proofs.lemmas.Option.{slice_get-get_or}
 use Rattle.wild_types.specs.declared.kind.Machine.{Machine}
 use Rattle.wild_types.specs.declared.kind.Machine.TheVariants as machine
 use Rattle.wild_types.specs.declared.input.InputRelocation.{InputRelocation}
-use Rattle.wild_types.specs.declared.input.InputSection.{InputSection}
 use Rattle.wild_types.specs.declared.layout.Layout.{Layout}
 use Rattle.wild_reloc.specs.Formula.{Formula}
 use Rattle.wild_reloc.specs.FormulaX86_64.{x86_64_formula}
@@ -25,7 +24,7 @@ use Rattle.wild_layout.specs.Sites.{template_start}
 use Rattle.wild_layout.proofs.ChoiceLemmas.{IsSequence, chosen_listed}
 use Rattle.wild_layout.proofs.DecisionLemmas.{decide_partner}
 use Rattle.wild_geometry.specs.Loaded.{IsDecided, HasDecision}
-use Rattle.wild_meaning.specs.Item.{item_of}
+use Rattle.wild_types.specs.Item.{Item}
 use Rattle.wild_meaning.specs.Field.{formula_of, form_width, InNoField}
 use Rattle.wild_meaning.specs.Sequence.{Partner as Call, IsBesidePartners, IsOwnByte}
 use Rattle.wild_references.specs.EffectLaws.{IsBesideField, WindowsAreAlone}
@@ -60,7 +59,7 @@ not_called l row r None n e h = cc
 not_called l row r (Some d) n e h = cc
 
 -- a row of a sequence stands before such a relocation
-pub called : (l : Layout) (s : InputSection) (row : Row) (r : InputRelocation) (k n : ℕ) (next : Option InputRelocation) → partner_distance row ≡ Some n → has_partner row (question_of l s r k next) ≡ true → (c : InputRelocation) × (next ≡ Some c) × IsCalled l row r c n
+pub called : (l : Layout) (s : Item) (row : Row) (r : InputRelocation) (k n : ℕ) (next : Option InputRelocation) → partner_distance row ≡ Some n → has_partner row (question_of l s r k next) ≡ true → (c : InputRelocation) × (next ≡ Some c) × IsCalled l row r c n
 called l s row r k n None e h = absurd (not_called l row r (partner_distance row) n e h)
 called l s row r k n (Some c) e h = (c, refl, called_at l row r c (partner_distance row) n e h)
 
@@ -69,7 +68,7 @@ called l s row r k n (Some c) e h = (c, refl, called_at l row r c (partner_dista
 start_field : (offset back start field : ℕ) → back ≤ offset → start ≡ offset - back → field ≡ back → offset ≡ start + field
 start_field offset back start field h e f = omega (arith, h, e, f)
 
-pub field_is : (l : Layout) (s : InputSection) (i : ℕ) (r : InputRelocation) (row : Row) (v : ℕ) → IsPlacedRow l s i r row v → r.offset ≡ template_start row r + (instruction_of row).field
+pub field_is : (l : Layout) (s : Item) (i : ℕ) (r : InputRelocation) (row : Row) (v : ℕ) → IsPlacedRow l s i r row v → r.offset ≡ template_start row r + (instruction_of row).field
 field_is l s i r row v p = start_field r.offset (field_of (pattern_of row)) (template_start row r) (instruction_of row).field p.stands.before refl p.fits.field
 
 -- a byte is beside a field of the instruction, of another's width
@@ -80,7 +79,7 @@ beside k start field width offset w e f (inr h) = inr (omega (arith, e, f, h))
 formula_here : (m : Machine) (n : ℕ) (f : Formula) → m ≡ machine.X86_64 → formula_of m n ≡ Some f → x86_64_formula n ≡ Some f
 formula_here m n f e h = subst (λ (x : Machine). formula_of x n ≡ Some f) e h
 
-own_beside : (l : Layout) (s : InputSection) (i : ℕ) (r : InputRelocation) (row : Row) (v k : ℕ) → l.machine ≡ machine.X86_64 → IsPlacedRow l s i r row v → IsOwnByte (instruction_of row) k → IsBesideField l r (template_start row r + k)
+own_beside : (l : Layout) (s : Item) (i : ℕ) (r : InputRelocation) (row : Row) (v k : ℕ) → l.machine ≡ machine.X86_64 → IsPlacedRow l s i r row v → IsOwnByte (instruction_of row) k → IsBesideField l r (template_start row r + k)
 own_beside l s i r row v k x86 p own = λ f known.
     let here = subst (λ (n : ℕ). x86_64_formula n ≡ Some f) p.chosen.number (formula_here l.machine r.number f x86 known) in
     beside k (template_start row r) (instruction_of row).field (instruction_of row).width r.offset (form_width f.form) (field_is l s i r row v p) (own_width row f (chosen_listed l s r (slice_get s.relocations (i + 1)) row p.chosen has_its_width each_has_width) p.made.changes here) own.beside
@@ -93,14 +92,14 @@ pub record IsTaken (l : Layout) (row : Row) (r next : InputRelocation) : Type 0 
   pub pair : IsPaired row
   pub call : IsCalled l row r next pair.distance
 
-pub taken_call : (l : Layout) (s : InputSection) (i : ℕ) (r next : InputRelocation) (row : Row) (v : ℕ) → IsPlacedRow l s i r row v → is_skip (rewrite_of row).next ≡ true → slice_get s.relocations (i + 1) ≡ Some next → IsTaken l row r next
+pub taken_call : (l : Layout) (s : Item) (i : ℕ) (r next : InputRelocation) (row : Row) (v : ℕ) → IsPlacedRow l s i r row v → is_skip (rewrite_of row).next ≡ true → slice_get s.relocations (i + 1) ≡ Some next → IsTaken l row r next
 taken_call l s i r next row v p skips listed =
     let pair = paired row p.changing skips in
     let c = called l s row r p.chosen.symbol pair.distance (slice_get s.relocations (i + 1)) pair.behind p.stands.taken.partner in
     let same : c.0 ≡ next = (let e : Some c.0 ≡ Some next = sym c.1 ∙ listed in cc) in
     record { pair = pair; call = subst (λ (x : InputRelocation). IsCalled l row r x pair.distance) same c.2 }
 
-pub call_place : (l : Layout) (s : InputSection) (i : ℕ) (r next : InputRelocation) (row : Row) (v : ℕ) → IsPlacedRow l s i r row v → (t : IsTaken l row r next) → next.offset ≡ template_start row r + (partner_for (call_form row) t.pair.at).field
+pub call_place : (l : Layout) (s : Item) (i : ℕ) (r next : InputRelocation) (row : Row) (v : ℕ) → IsPlacedRow l s i r row v → (t : IsTaken l row r next) → next.offset ≡ template_start row r + (partner_for (call_form row) t.pair.at).field
 call_place l s i r next row v p t =
     let a = field_is l s i r row v p in
     let b = t.call.place in
@@ -108,7 +107,7 @@ call_place l s i r next row v p t =
     omega (arith, a, b, c)
 
 -- the row of the relocation before a call is the one that takes it along
-pub skips_next : (l : Layout) (s : InputSection) (i : ℕ) (r next : InputRelocation) (row : Row) (v : ℕ) → IsPlacedRow l s i r row v → HasDecision l s (i + 1) next Partner → is_skip (rewrite_of row).next ≡ true
+pub skips_next : (l : Layout) (s : Item) (i : ℕ) (r next : InputRelocation) (row : Row) (v : ℕ) → IsPlacedRow l s i r row v → HasDecision l s (i + 1) next Partner → is_skip (rewrite_of row).next ≡ true
 skips_next l s i r next row v p h =
     let t = decide_partner l s (i + 1) next h.listed h.decided in
     let at : t.0 ≡ i = (let e : i + 1 ≡ t.0 + 1 = t.1 in omega (arith, e)) in
@@ -121,7 +120,7 @@ skips_next l s i r next row v p h =
         let same : w ≡ row = (let e : Ok (Some w) ≡ Ok (Some row) = sym is ∙ p.chosen.choice in cc) in
         subst (λ (x : Row). is_skip (rewrite_of x).next ≡ true) same q.takes
 
-taken_beside : (l : Layout) (s : InputSection) (i : ℕ) (r next : InputRelocation) (row : Row) (v k : ℕ) → l.machine ≡ machine.X86_64 → IsPlacedRow l s i r row v → IsOwnByte (instruction_of row) k → HasDecision l s (i + 1) next Partner → IsBesideField l next (template_start row r + k)
+taken_beside : (l : Layout) (s : Item) (i : ℕ) (r next : InputRelocation) (row : Row) (v k : ℕ) → l.machine ≡ machine.X86_64 → IsPlacedRow l s i r row v → IsOwnByte (instruction_of row) k → HasDecision l s (i + 1) next Partner → IsBesideField l next (template_start row r + k)
 taken_beside l s i r next row v k x86 p own h =
     let t = taken_call l s i r next row v p (skips_next l s i r next row v p h) h.listed in
     let c = partner_for (call_form row) t.pair.at in
@@ -137,7 +136,7 @@ is_call (Left size number symbol addend) = inr (λ e. cc)
 is_call (Rewritten row v) = inr (λ e. cc)
 is_call Partner = inl refl
 
-each_beside : WindowsAreAlone → (l : Layout) (s : InputSection) (i j : ℕ) (r q : InputRelocation) (row : Row) (v k : ℕ) (d : Decision) → l.machine ≡ machine.X86_64 → IsDecided l s → IsPlacedRow l s i r row v → IsOwnByte (instruction_of row) k → HasDecision l s j q d → IsBesideField l q (template_start row r + k)
+each_beside : WindowsAreAlone → (l : Layout) (s : Item) (i j : ℕ) (r q : InputRelocation) (row : Row) (v k : ℕ) (d : Decision) → l.machine ≡ machine.X86_64 → IsDecided l s → IsPlacedRow l s i r row v → IsOwnByte (instruction_of row) k → HasDecision l s j q d → IsBesideField l q (template_start row r + k)
 each_beside law l s i j r q row v k d x86 decided p own h =
     let size = size_is l s i r row v p in
     let inside = own.inside in
@@ -159,7 +158,7 @@ each_beside law l s i j r q row v k d x86 decided p own h =
       ]
     ]
 
-pub in_no_field : WindowsAreAlone → (l : Layout) (s : InputSection) (i : ℕ) (r : InputRelocation) (row : Row) (v k : ℕ) → l.machine ≡ machine.X86_64 → IsDecided l s → IsPlacedRow l s i r row v → IsOwnByte (instruction_of row) k → InNoField l (item_of s) (template_start row r + k)
+pub in_no_field : WindowsAreAlone → (l : Layout) (s : Item) (i : ℕ) (r : InputRelocation) (row : Row) (v k : ℕ) → l.machine ≡ machine.X86_64 → IsDecided l s → IsPlacedRow l s i r row v → IsOwnByte (instruction_of row) k → InNoField l s (template_start row r + k)
 in_no_field law l s i r row v k x86 decided p own =
     All-from_get_or (λ (q : InputRelocation). IsBesideField l q (template_start row r + k)) s.relocations r (λ j lt.
     let d = decided.each j lt in

@@ -9,7 +9,6 @@ use Rattle.wild_records.specs.Abi.Relocation as abi
 use Rattle.wild_types.specs.declared.kind.Machine.{Machine}
 use Rattle.wild_types.specs.declared.kind.Machine.TheVariants as machine
 use Rattle.wild_types.specs.declared.input.InputRelocation.{InputRelocation}
-use Rattle.wild_types.specs.declared.input.InputSection.{InputSection}
 use Rattle.wild_types.specs.declared.layout.Layout.{Layout}
 use Rattle.wild_types.specs.Flags.{interposable, ifunc, non_interposable}
 use Rattle.wild_types.specs.Kinds.{is_static_executable}
@@ -30,7 +29,7 @@ use Rattle.wild_layout.specs.Choice.{question_of, is_partner}
 use Rattle.wild_layout.specs.Sites.{template_start}
 use Rattle.wild_layout.proofs.ChoiceLemmas.{chosen_listed}
 use Rattle.wild_geometry.specs.Loaded.{IsDecided}
-use Rattle.wild_meaning.specs.Item.{item_of}
+use Rattle.wild_types.specs.Item.{Item}
 use Rattle.wild_meaning.specs.Field.{formula_of, form_width}
 use Rattle.wild_meaning.specs.Value.{HasFlag}
 use Rattle.wild_meaning.specs.Sequence.{Partner as Call, Instruction, instructions_of}
@@ -49,7 +48,7 @@ use Rattle.wild_references.proofs.RewrittenFree.{is_first, takes_it, each_takes,
 
 -- ---- a row that stands asks for the sequence's, too
 
-is_on : (l : Layout) (s : InputSection) (i : ℕ) (r : InputRelocation) (row : Row) (v : ℕ) → IsPlacedRow l s i r row v → (l.options.relax || is_static_executable l.kind) ≡ true
+is_on : (l : Layout) (s : Item) (i : ℕ) (r : InputRelocation) (row : Row) (v : ℕ) → IsPlacedRow l s i r row v → (l.options.relax || is_static_executable l.kind) ≡ true
 is_on l s i r row v p =
     let q = question_of l s r p.chosen.symbol (slice_get s.relocations (i + 1)) in
     or_by l.options.relax (is_mandatory row q) (is_static_executable l.kind) (on_or_must q row p.stands.here) (λ e. mandatory_static row q p.made.changes e)
@@ -60,7 +59,7 @@ abbrev slot_numbers : List ℕ
 slot_numbers = abi.r_x86_64_gotpcrel ∷ abi.r_x86_64_gotpcrelx ∷ abi.r_x86_64_rex_gotpcrelx ∷ []
 
 -- the call is taken along, and its relocation's type is that of a slot
-record IsTakenAlong (l : Layout) (s : InputSection) (j : ℕ) (first second : InputRelocation) : Type 0 where
+record IsTakenAlong (l : Layout) (s : Item) (j : ℕ) (first second : InputRelocation) : Type 0 where
   taken : is_partner l s (j + 1) ≡ true
   number : Contains slot_numbers second.number
   first_type : is_first first.number ≡ true
@@ -71,10 +70,10 @@ same_partner o a c e h = (let f : a ∷ [] ≡ c ∷ [] = sym e ∙ h in cc)
 first_is : (n a : ℕ) → n ≡ a → is_first a ≡ true → is_first n ≡ true
 first_is n a e h = subst (λ (x : ℕ). is_first x ≡ true) (sym e) h
 
-asked_for : (l : Layout) (s : InputSection) (i : ℕ) (r first second : InputRelocation) (row : Row) (v from : ℕ) (o : Instruction) → IsPlacedRow l s i r row v → (q : IsGetterCall l (item_of s) first second from o) → IsAskedFor l s q.symbol
+asked_for : (l : Layout) (s : Item) (i : ℕ) (r first second : InputRelocation) (row : Row) (v from : ℕ) (o : Instruction) → IsPlacedRow l s i r row v → (q : IsGetterCall l s first second from o) → IsAskedFor l s q.symbol
 asked_for l s i r first second row v from o p q = record { on = is_on l s i r row v p; code = code_bit s.flags q.stands.code; plain = flag_is l q.symbol ifunc false q.plain; program = executable_is l.kind q.executable }
 
-general_taken : (l : Layout) (s : InputSection) (i : ℕ) (r first second : InputRelocation) (row : Row) (v from : ℕ) → l.machine ≡ machine.X86_64 → IsDecided l s → IsPlacedRow l s i r row v → (q : IsGetterCall l (item_of s) first second from general_slot) → IsTakenAlong l s q.has.index first second
+general_taken : (l : Layout) (s : Item) (i : ℕ) (r first second : InputRelocation) (row : Row) (v from : ℕ) → l.machine ≡ machine.X86_64 → IsDecided l s → IsPlacedRow l s i r row v → (q : IsGetterCall l s first second from general_slot) → IsTakenAlong l s q.has.index first second
 general_taken l s i r first second row v from x86 decided p q =
     let number = only_number abi.r_x86_64_tlsgd first.number q.stands.number in
     let stands = stands_so general_slot.template.cells (pattern.General general.NoPlt) s.bytes first.offset from general_backed (omega arith) q.stands.field q.stands.inside q.stands.stands in
@@ -95,7 +94,7 @@ general_taken l s i r first second row v from x86 decided p q =
     not_so true h = cc
     not_so false h = refl
 
-local_taken : (l : Layout) (s : InputSection) (i : ℕ) (r first second : InputRelocation) (row : Row) (v from : ℕ) → l.machine ≡ machine.X86_64 → IsDecided l s → IsPlacedRow l s i r row v → (q : IsGetterCall l (item_of s) first second from local_slot) → IsTakenAlong l s q.has.index first second
+local_taken : (l : Layout) (s : Item) (i : ℕ) (r first second : InputRelocation) (row : Row) (v from : ℕ) → l.machine ≡ machine.X86_64 → IsDecided l s → IsPlacedRow l s i r row v → (q : IsGetterCall l s first second from local_slot) → IsTakenAlong l s q.has.index first second
 local_taken l s i r first second row v from x86 decided p q =
     let number = only_number abi.r_x86_64_tlsld first.number q.stands.number in
     let stands = stands_so local_slot.template.cells (pattern.LocalStart local.NoPlt) s.bytes first.offset from local_backed (omega arith) q.stands.field q.stands.inside q.stands.stands in
@@ -120,7 +119,7 @@ no_direct false true e h k = cc
 no_direct false false e h k = cc
 
 -- the relocation's type is the row's, so it is no direct call
-taken_along : (l : Layout) (s : InputSection) (i : ℕ) (r first : InputRelocation) (row : Row) (v from : ℕ) (o : Instruction) → l.machine ≡ machine.X86_64 → IsDecided l s → IsPlacedRow l s i r row v → (q : IsGetterCall l (item_of s) first r from o) → IsTakenAlong l s q.has.index first r
+taken_along : (l : Layout) (s : Item) (i : ℕ) (r first : InputRelocation) (row : Row) (v from : ℕ) (o : Instruction) → l.machine ≡ machine.X86_64 → IsDecided l s → IsPlacedRow l s i r row v → (q : IsGetterCall l s first r from o) → IsTakenAlong l s q.has.index first r
 taken_along l s i r first row v from o x86 decided p q =
     elim (calls_of o (subst (λ (m : Machine). Contains (instructions_of m) o) x86 q.stands.known) q.partner q.calls) [
       | inl e ↦ by_general o e q
@@ -128,11 +127,11 @@ taken_along l s i r first row v from o x86 decided p q =
       | inr (inr direct) ↦ absurd (no_direct (keeps_bytes row) _ p.made.changes (chosen_listed l s r _ row p.chosen is_no_call each_no_call) (subst (λ (n : ℕ). has_number n direct_numbers ≡ true) p.chosen.number (direct r.number q.has.number)))
     ]
   where
-    by_general : (x : Instruction) → x ≡ general_slot → (q : IsGetterCall l (item_of s) first r from x) → IsTakenAlong l s q.has.index first r
-    by_general x e = subst (λ (y : Instruction). (q : IsGetterCall l (item_of s) first r from y) → IsTakenAlong l s q.has.index first r) (sym e) (λ q. general_taken l s i r first r row v from x86 decided p q)
+    by_general : (x : Instruction) → x ≡ general_slot → (q : IsGetterCall l s first r from x) → IsTakenAlong l s q.has.index first r
+    by_general x e = subst (λ (y : Instruction). (q : IsGetterCall l s first r from y) → IsTakenAlong l s q.has.index first r) (sym e) (λ q. general_taken l s i r first r row v from x86 decided p q)
 
-    by_local : (x : Instruction) → x ≡ local_slot → (q : IsGetterCall l (item_of s) first r from x) → IsTakenAlong l s q.has.index first r
-    by_local x e = subst (λ (y : Instruction). (q : IsGetterCall l (item_of s) first r from y) → IsTakenAlong l s q.has.index first r) (sym e) (λ q. local_taken l s i r first r row v from x86 decided p q)
+    by_local : (x : Instruction) → x ≡ local_slot → (q : IsGetterCall l s first r from x) → IsTakenAlong l s q.has.index first r
+    by_local x e = subst (λ (y : Instruction). (q : IsGetterCall l s first r from y) → IsTakenAlong l s q.has.index first r) (sym e) (λ q. local_taken l s i r first r row v from x86 decided p q)
 
 -- ---- two relocations at one place
 
@@ -156,7 +155,7 @@ not_beside at w e (inr h) = omega (arith, e, h)
 formula_there : (m : Machine) (n : ℕ) (f : Formula) → m ≡ machine.X86_64 → x86_64_formula n ≡ Some f → formula_of m n ≡ Some f
 formula_there m n f e h = subst (λ (x : Machine). formula_of x n ≡ Some f) (sym e) h
 
-no_call : WindowsAreAlone → (l : Layout) (s : InputSection) (i : ℕ) (r first : InputRelocation) (row : Row) (v from : ℕ) (o : Instruction) → l.machine ≡ machine.X86_64 → IsDecided l s → IsPlacedRow l s i r row v → is_skip (rewrite_of row).next ≡ false → IsGetterCall l (item_of s) first r from o → ⊥
+no_call : WindowsAreAlone → (l : Layout) (s : Item) (i : ℕ) (r first : InputRelocation) (row : Row) (v from : ℕ) (o : Instruction) → l.machine ≡ machine.X86_64 → IsDecided l s → IsPlacedRow l s i r row v → is_skip (rewrite_of row).next ≡ false → IsGetterCall l s first r from o → ⊥
 no_call law l s i r first row v from o x86 decided p alone q =
     let j = q.has.index in
     let t = taken_along l s i r first row v from o x86 decided p q in
@@ -182,5 +181,5 @@ no_call law l s i r first row v from o x86 decided p alone q =
         let z : true ≡ false = sym skips ∙ alone in
         cc
 
-pub free : WindowsAreAlone → (l : Layout) (s : InputSection) (i : ℕ) (r first : InputRelocation) (rest : List InputRelocation) (row : Row) (v from : ℕ) (o : Instruction) → l.machine ≡ machine.X86_64 → IsDecided l s → IsPlacedRow l s i r row v → is_skip (rewrite_of row).next ≡ false → IsSequence l (item_of s) first rest from o → Contains rest r → ⊥
-free law l s i r first rest row v from o x86 decided p alone q c = no_call law l s i r first row v from o x86 decided p alone (as_its_call l (item_of s) first r rest from o x86 q c)
+pub free : WindowsAreAlone → (l : Layout) (s : Item) (i : ℕ) (r first : InputRelocation) (rest : List InputRelocation) (row : Row) (v from : ℕ) (o : Instruction) → l.machine ≡ machine.X86_64 → IsDecided l s → IsPlacedRow l s i r row v → is_skip (rewrite_of row).next ≡ false → IsSequence l s first rest from o → Contains rest r → ⊥
+free law l s i r first rest row v from o x86 decided p alone q c = no_call law l s i r first row v from o x86 decided p alone (as_its_call l s first r rest from o x86 q c)

@@ -8,7 +8,7 @@ use Rattle.wild_words.proofs.Basics.{listed_passes}
 use Rattle.wild_records.specs.Abi.Relocation as abi
 use Rattle.wild_types.specs.declared.kind.Machine.TheVariants as machine
 use Rattle.wild_types.specs.declared.input.InputRelocation.{InputRelocation}
-use Rattle.wild_types.specs.declared.input.InputSection.{InputSection}
+use Rattle.wild_types.specs.Item.{Item}
 use Rattle.wild_types.specs.declared.layout.Layout.{Layout}
 use Rattle.wild_types.specs.Flags.{has_flag, interposable, ifunc}
 use Rattle.wild_types.specs.Kinds.{is_executable, is_static_executable}
@@ -152,20 +152,20 @@ local_backed = refl
 -- ---- a row that stands
 
 -- a relocation whose sequence goes through a slot, where rewriting is on or there is no other way
-pub record IsAskedFor (l : Layout) (s : InputSection) (k : ℕ) : Type 0 where
+pub record IsAskedFor (l : Layout) (s : Item) (k : ℕ) : Type 0 where
   pub on : (l.options.relax || is_static_executable l.kind) ≡ true
   pub code : executable s.flags ≡ true
   pub plain : has_flag (flags_at l k) ifunc ≡ false
   pub program : is_executable l.kind ≡ true
 
-pub local_applies : (l : Layout) (s : InputSection) (r : InputRelocation) (k : ℕ) (next : Option InputRelocation) → IsAskedFor l s k → r.number ≡ abi.r_x86_64_tlsld → stands_before s.bytes r.offset (pattern.LocalStart local.NoPlt) ≡ true → applies (question_of l s r k next) (LocalDynamicToLocalExec local.NoPlt) ≡ true
+pub local_applies : (l : Layout) (s : Item) (r : InputRelocation) (k : ℕ) (next : Option InputRelocation) → IsAskedFor l s k → r.number ≡ abi.r_x86_64_tlsld → stands_before s.bytes r.offset (pattern.LocalStart local.NoPlt) ≡ true → applies (question_of l s r k next) (LocalDynamicToLocalExec local.NoPlt) ≡ true
 unfolding applies
 local_applies l s r k next h number stands = rw (eq-eqb r.number abi.r_x86_64_tlsld number, h.on, h.code, h.plain, h.program, stands) refl
 
-pub own_applies : (l : Layout) (s : InputSection) (r : InputRelocation) (k : ℕ) (next : Option InputRelocation) → IsAskedFor l s k → interposable (flags_at l k) ≡ false → r.number ≡ abi.r_x86_64_tlsgd → stands_before s.bytes r.offset (pattern.General general.NoPlt) ≡ true → applies (question_of l s r k next) (GeneralDynamicToLocalExec general.NoPlt) ≡ true
+pub own_applies : (l : Layout) (s : Item) (r : InputRelocation) (k : ℕ) (next : Option InputRelocation) → IsAskedFor l s k → interposable (flags_at l k) ≡ false → r.number ≡ abi.r_x86_64_tlsgd → stands_before s.bytes r.offset (pattern.General general.NoPlt) ≡ true → applies (question_of l s r k next) (GeneralDynamicToLocalExec general.NoPlt) ≡ true
 unfolding applies
 own_applies l s r k next h own number stands = rw (eq-eqb r.number abi.r_x86_64_tlsgd number, h.on, h.code, h.plain, h.program, own, stands) refl
 
-pub open_applies : (l : Layout) (s : InputSection) (r : InputRelocation) (k : ℕ) (next : Option InputRelocation) → IsAskedFor l s k → l.options.relax ≡ true → interposable (flags_at l k) ≡ true → r.number ≡ abi.r_x86_64_tlsgd → stands_before s.bytes r.offset (pattern.General general.NoPlt) ≡ true → applies (question_of l s r k next) (GeneralDynamicToInitialExec general.NoPlt) ≡ true
+pub open_applies : (l : Layout) (s : Item) (r : InputRelocation) (k : ℕ) (next : Option InputRelocation) → IsAskedFor l s k → l.options.relax ≡ true → interposable (flags_at l k) ≡ true → r.number ≡ abi.r_x86_64_tlsgd → stands_before s.bytes r.offset (pattern.General general.NoPlt) ≡ true → applies (question_of l s r k next) (GeneralDynamicToInitialExec general.NoPlt) ≡ true
 unfolding applies
 open_applies l s r k next h on open_one number stands = rw (eq-eqb r.number abi.r_x86_64_tlsgd number, on, h.code, h.plain, h.program, open_one, stands) refl

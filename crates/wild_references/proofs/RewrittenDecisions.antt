@@ -5,7 +5,7 @@ use Rattle.std.proofs.lemmas.Bool.{cases_Bool}
 use Rattle.wild_records.specs.Abi.Relocation.{r_x86_64_pc32}
 use Rattle.wild_types.specs.declared.kind.Machine.TheVariants as machine
 use Rattle.wild_types.specs.declared.input.InputRelocation.{InputRelocation}
-use Rattle.wild_types.specs.declared.input.InputSection.{InputSection}
+use Rattle.wild_types.specs.Item.{Item}
 use Rattle.wild_types.specs.declared.layout.Layout.{Layout}
 use Rattle.wild_types.specs.Rows.{row_of}
 use Rattle.wild_relax.specs.declared.reference.UnknownSequence.{UnknownSequence}
@@ -22,7 +22,7 @@ use Rattle.wild_layout.proofs.DecisionLemmas.{refused}
 -- ---- decisions
 
 -- what is rewritten by itself is no sequence's call
-pub rewritten_alone : (l : Layout) (s : InputSection) (i : ℕ) (row : Row) (v : ℕ) → decide l s i ≡ Ok (Rewritten row v) → is_partner l s i ≡ false
+pub rewritten_alone : (l : Layout) (s : Item) (i : ℕ) (row : Row) (v : ℕ) → decide l s i ≡ Ok (Rewritten row v) → is_partner l s i ≡ false
 unfolding decide
 rewritten_alone l s i row v h =
     elim (cases_Bool (is_partner l s i)) [
@@ -31,22 +31,22 @@ rewritten_alone l s i row v h =
     ]
 
 -- a relocation whose row stands, and that belongs to no sequence before it, has a decision by that row
-pub decided_with : (l : Layout) (s : InputSection) (i : ℕ) (r : InputRelocation) (d : Decision) → slice_get s.relocations i ≡ Some r → is_partner l s i ≡ false → decide l s i ≡ Ok d → decide_with l s r (choice_of l s r (slice_get s.relocations (i + 1))) ≡ Ok d
+pub decided_with : (l : Layout) (s : Item) (i : ℕ) (r : InputRelocation) (d : Decision) → slice_get s.relocations i ≡ Some r → is_partner l s i ≡ false → decide l s i ≡ Ok d → decide_with l s r (choice_of l s r (slice_get s.relocations (i + 1))) ≡ Ok d
 unfolding decide
 decided_with l s i r d listed alone h = rw (alone, listed) at h
 
-pub not_refused : (l : Layout) (s : InputSection) (r : InputRelocation) (e : UnknownSequence) (d : Decision) → decide_with l s r (Err e) ≡ Ok d → ⊥
+pub not_refused : (l : Layout) (s : Item) (r : InputRelocation) (e : UnknownSequence) (d : Decision) → decide_with l s r (Err e) ≡ Ok d → ⊥
 not_refused l s r e d h = refused l r e (row_of l.machine e.written) d h
 
 -- ---- the choice
 
 -- the choice of a relocation of another type than R_X86_64_PC32
-pub choice_is : (l : Layout) (s : InputSection) (r : InputRelocation) (next : Option InputRelocation) (k : ℕ) → l.machine ≡ machine.X86_64 → r.symbol ≡ Some k → (r.number == r_x86_64_pc32) ≡ false → choice_of l s r next ≡ chosen_x86_64 (question_of l s r k next)
+pub choice_is : (l : Layout) (s : Item) (r : InputRelocation) (next : Option InputRelocation) (k : ℕ) → l.machine ≡ machine.X86_64 → r.symbol ≡ Some k → (r.number == r_x86_64_pc32) ≡ false → choice_of l s r next ≡ chosen_x86_64 (question_of l s r k next)
 unfolding choice_by
 choice_is l s r next k x86 named other = rw (named, other, x86) refl
 
 -- a relocation whose row writes a sequence takes the next one along
-pub takes_along : (l : Layout) (s : InputSection) (j : ℕ) (r : InputRelocation) (row : Row) → slice_get s.relocations j ≡ Some r → choice_of l s r (slice_get s.relocations (j + 1)) ≡ Ok (Some row) → is_skip (rewrite_of row).next ≡ true → is_partner l s (j + 1) ≡ true
+pub takes_along : (l : Layout) (s : Item) (j : ℕ) (r : InputRelocation) (row : Row) → slice_get s.relocations j ≡ Some r → choice_of l s r (slice_get s.relocations (j + 1)) ≡ Ok (Some row) → is_skip (rewrite_of row).next ≡ true → is_partner l s (j + 1) ≡ true
 takes_along l s j r row listed chosen skips =
     let here : is_partner l s (suc j) ≡ true = rw (listed, chosen) skips in
     let e : suc j ≡ j + 1 = omega arith in

@@ -4,7 +4,6 @@ use Rattle.std.specs.Prelude.{pos, ◌&&◌, ◌||◌, not, Some, slice_get}
 use Rattle.std.proofs.lemmas.Bool.{and_parts, not-true}
 use Rattle.wild_words.proofs.Basics.{or_first}
 use Rattle.wild_types.specs.declared.input.InputRelocation.{InputRelocation}
-use Rattle.wild_types.specs.declared.input.InputSection.{InputSection}
 use Rattle.wild_types.specs.declared.layout.Layout.{Layout}
 use Rattle.wild_types.specs.Flags.{has_flag, interposable, has_link_time_address, absolute, ifunc}
 use Rattle.wild_types.specs.Kinds.{is_executable, has_fixed_load_address}
@@ -28,13 +27,14 @@ use Rattle.wild_loader.specs.declared.memory.Memory.{Memory}
 use Rattle.wild_loader.specs.declared.world.World.{World}
 use Rattle.wild_meaning.specs.World.{IsMovable}
 use Rattle.wild_meaning.specs.Value.{IsAbsolute}
-use Rattle.wild_meaning.specs.Item.{item_of, place_at}
+use Rattle.wild_types.specs.Item.{Item}
+use Rattle.wild_meaning.specs.Item.{place_at}
 use Rattle.wild_loader.specs.Instruction.{Effect, as_value}
 use Rattle.wild_loader.specs.InstructionX86_64.{demand_x86_64}
 use Rattle.wild_meaning.specs.Sequence.{Sort, TargetInSlot, AddressInSlot}
 use Rattle.wild_meaning.specs.Template.{reads_alone, effect_of, Demands, IsDemanded, no_effect, DoesDemanded}
 use Rattle.wild_relax.proofs.RowLemmas.{signed_32s, unsigned_32}
-use Rattle.wild_references.specs.Laws.{IsLoadedSection}
+use Rattle.wild_references.specs.Laws.{IsLoadedItem}
 use Rattle.wild_references.proofs.RewrittenForms.{instruction_of}
 use Rattle.wild_references.proofs.RewrittenPairs.{paired}
 use Rattle.wild_references.proofs.RewrittenPlaces.{LawsBelow, IsPlacedRow, is_code}
@@ -46,32 +46,32 @@ use Rattle.wild_references.proofs.RewrittenThreads.{LandsOffset, lands_offset, l
 use Rattle.wild_references.proofs.RewrittenEffects.{old_of, effect_kept, on_machine, whole_is, does_by}
 
 -- the row's code does what the instruction demands
-abbrev pub DoesRow : Layout → World → Memory → InputSection → InputRelocation → Row → Type 0
-DoesRow l w m s r row = DoesDemanded (reads_alone w m) l w m (item_of s) r (template_start row r) (instruction_of row)
+abbrev pub DoesRow : Layout → World → Memory → Item → InputRelocation → Row → Type 0
+DoesRow l w m s r row = DoesDemanded (reads_alone w m) l w m s r (template_start row r) (instruction_of row)
 
 -- ---- addresses
 
-does_target : LawsBelow → (l : Layout) (w : World) (m : Memory) (s : InputSection) (i : ℕ) (r : InputRelocation) (row : Row) (v n : ℕ) → IsLoadedSection l w m s → IsPlacedRow l s i r row v → IsOperand l w m r.symbol n → Lands row (reads_alone w m) (place_at w (item_of s) (template_start row r) + field_in row) n v
+does_target : LawsBelow → (l : Layout) (w : World) (m : Memory) (s : Item) (i : ℕ) (r : InputRelocation) (row : Row) (v n : ℕ) → IsLoadedItem l w m s → IsPlacedRow l s i r row v → IsOperand l w m r.symbol n → Lands row (reads_alone w m) (place_at w s (template_start row r) + field_in row) n v
     → (instruction_of row).sort ≡ AddressInSlot → ((a : ℕ) (old : List ℕ) → demanded row n a old ≡ demand_x86_64 n a old) → DoesRow l w m s r row
 does_target laws l w m s i r row v n h p is lands sort same =
-    does_by laws l w m s i r row v n h p (subst (λ (o : Sort). Demands o l w m (item_of s) r n) (sym sort) is.target) is.small lands same
-    (λ a old e k. subst (λ (o : Sort). IsDemanded o l (item_of s) n a old e) (sym sort) k)
+    does_by laws l w m s i r row v n h p (subst (λ (o : Sort). Demands o l w m s r n) (sym sort) is.target) is.small lands same
+    (λ a old e k. subst (λ (o : Sort). IsDemanded o l s n a old e) (sym sort) k)
 
-does_goal : LawsBelow → (l : Layout) (w : World) (m : Memory) (s : InputSection) (i : ℕ) (r : InputRelocation) (row : Row) (v n : ℕ) → IsLoadedSection l w m s → IsPlacedRow l s i r row v → IsOperand l w m r.symbol n → Lands row (reads_alone w m) (place_at w (item_of s) (template_start row r) + field_in row) n v
+does_goal : LawsBelow → (l : Layout) (w : World) (m : Memory) (s : Item) (i : ℕ) (r : InputRelocation) (row : Row) (v n : ℕ) → IsLoadedItem l w m s → IsPlacedRow l s i r row v → IsOperand l w m r.symbol n → Lands row (reads_alone w m) (place_at w s (template_start row r) + field_in row) n v
     → (instruction_of row).sort ≡ TargetInSlot → ((a : ℕ) (old : List ℕ) → demanded row n a old ≡ demand_x86_64 n a old) → DoesRow l w m s r row
 does_goal laws l w m s i r row v n h p is lands sort same =
-    does_by laws l w m s i r row v n h p (subst (λ (o : Sort). Demands o l w m (item_of s) r n) (sym sort) is.goal) is.small lands same
-    (λ a old e k. subst (λ (o : Sort). IsDemanded o l (item_of s) n a old e) (sym sort) k)
+    does_by laws l w m s i r row v n h p (subst (λ (o : Sort). Demands o l w m s r n) (sym sort) is.goal) is.small lands same
+    (λ a old e k. subst (λ (o : Sort). IsDemanded o l s n a old e) (sym sort) k)
 
 -- of an own symbol that may move
-lea_far : LawsBelow → (l : Layout) (w : World) (m : Memory) (s : InputSection) (i : ℕ) (r : InputRelocation) (row : Row) (v : ℕ) → IsLoadedSection l w m s → (p : IsPlacedRow l s i r row v) → (rewrite_of row).number ≡ 2 → (rewrite_of row).addend r.addend ≡ r.addend → minus_four r.addend ≡ true → not (has_flag (flags_at l p.chosen.symbol) ifunc) ≡ true
+lea_far : LawsBelow → (l : Layout) (w : World) (m : Memory) (s : Item) (i : ℕ) (r : InputRelocation) (row : Row) (v : ℕ) → IsLoadedItem l w m s → (p : IsPlacedRow l s i r row v) → (rewrite_of row).number ≡ 2 → (rewrite_of row).addend r.addend ≡ r.addend → minus_four r.addend ≡ true → not (has_flag (flags_at l p.chosen.symbol) ifunc) ≡ true
     → (not (interposable (flags_at l p.chosen.symbol)) && not (has_flag (flags_at l p.chosen.symbol) absolute || has_link_time_address (flags_at l p.chosen.symbol) && has_fixed_load_address l.kind)) ≡ true → LandsFar l w m s r row v
 lea_far laws l w m s i r row v h p number same ends plain value =
     let k = p.chosen.symbol in
     let t = and_parts (not (interposable (flags_at l k))) _ value in
     lands_far laws l w m s i r row v h p number same ends (not-true _ t.0) (not-true _ plain) (λ movable abs. absurd (not_absolute l k t.1 abs))
 
-pub plain_far : LawsBelow → (l : Layout) (w : World) (m : Memory) (s : InputSection) (i : ℕ) (r : InputRelocation) (row : Row) (v : ℕ) → IsLoadedSection l w m s → (p : IsPlacedRow l s i r row v) → (rewrite_of row).number ≡ 2 → (rewrite_of row).addend r.addend ≡ r.addend → minus_four r.addend ≡ true → not (has_flag (flags_at l p.chosen.symbol) ifunc) ≡ true
+pub plain_far : LawsBelow → (l : Layout) (w : World) (m : Memory) (s : Item) (i : ℕ) (r : InputRelocation) (row : Row) (v : ℕ) → IsLoadedItem l w m s → (p : IsPlacedRow l s i r row v) → (rewrite_of row).number ≡ 2 → (rewrite_of row).addend r.addend ≡ r.addend → minus_four r.addend ≡ true → not (has_flag (flags_at l p.chosen.symbol) ifunc) ≡ true
     → (not (interposable (flags_at l p.chosen.symbol)) && (has_link_time_address (flags_at l p.chosen.symbol) || has_fixed_load_address l.kind)) ≡ true → LandsFar l w m s r row v
 plain_far laws l w m s i r row v h p number same ends plain value =
     let k = p.chosen.symbol in
@@ -79,7 +79,7 @@ plain_far laws l w m s i r row v h p number same ends plain value =
     lands_far laws l w m s i r row v h p number same ends (not-true _ t.0) (not-true _ plain) (λ movable abs. absurd (not_moved l k t.1 movable abs))
 
 -- of one whose value is known
-number_itself : LawsBelow → (l : Layout) (w : World) (m : Memory) (s : InputSection) (i : ℕ) (r : InputRelocation) (row : Row) (v : ℕ) (held : Bool) → IsLoadedSection l w m s → (p : IsPlacedRow l s i r row v) → ((rewrite_of row).number ≡ 11) ⊎ ((rewrite_of row).number ≡ 10) → (rewrite_of row).addend r.addend ≡ pos 0 → not (has_flag (flags_at l p.chosen.symbol) ifunc) ≡ true
+number_itself : LawsBelow → (l : Layout) (w : World) (m : Memory) (s : Item) (i : ℕ) (r : InputRelocation) (row : Row) (v : ℕ) (held : Bool) → IsLoadedItem l w m s → (p : IsPlacedRow l s i r row v) → ((rewrite_of row).number ≡ 11) ⊎ ((rewrite_of row).number ≡ 10) → (rewrite_of row).addend r.addend ≡ pos 0 → not (has_flag (flags_at l p.chosen.symbol) ifunc) ≡ true
     → (not (interposable (flags_at l p.chosen.symbol)) && ((has_flag (flags_at l p.chosen.symbol) absolute || has_link_time_address (flags_at l p.chosen.symbol) && has_fixed_load_address l.kind) && held)) ≡ true → LandsItself l w m r v
 number_itself laws l w m s i r row v held h p number none plain value =
     let k = p.chosen.symbol in
@@ -93,16 +93,16 @@ number_itself laws l w m s i r row v held h p number none plain value =
 
 -- ---- offsets from the thread pointer
 
-does_offset : LawsBelow → (l : Layout) (w : World) (m : Memory) (s : InputSection) (i : ℕ) (r : InputRelocation) (row : Row) (v n : ℕ) → IsLoadedSection l w m s → IsPlacedRow l s i r row v → Demands (instruction_of row).sort l w m (item_of s) r n → n < 2 ^ 64 → Lands row (reads_alone w m) (place_at w (item_of s) (template_start row r) + field_in row) n v
-    → ((a : ℕ) (old : List ℕ) (e : Effect) → effect_of l.machine (as_value n) a old ≡ Some e → IsDemanded (instruction_of row).sort l (item_of s) n a old e) → ((a : ℕ) (old : List ℕ) → demanded row n a old ≡ demand_x86_64 n a old) → DoesRow l w m s r row
+does_offset : LawsBelow → (l : Layout) (w : World) (m : Memory) (s : Item) (i : ℕ) (r : InputRelocation) (row : Row) (v n : ℕ) → IsLoadedItem l w m s → IsPlacedRow l s i r row v → Demands (instruction_of row).sort l w m s r n → n < 2 ^ 64 → Lands row (reads_alone w m) (place_at w s (template_start row r) + field_in row) n v
+    → ((a : ℕ) (old : List ℕ) (e : Effect) → effect_of l.machine (as_value n) a old ≡ Some e → IsDemanded (instruction_of row).sort l s n a old e) → ((a : ℕ) (old : List ℕ) → demanded row n a old ≡ demand_x86_64 n a old) → DoesRow l w m s r row
 does_offset laws l w m s i r row v n h p demands small lands told same = does_by laws l w m s i r row v n h p demands small lands same told
 
 -- an own symbol's offset, in a program
-own_offset : LawsBelow → (l : Layout) (w : World) (m : Memory) (s : InputSection) (i : ℕ) (r : InputRelocation) (row : Row) (v : ℕ) → IsLoadedSection l w m s → (p : IsPlacedRow l s i r row v) → (rewrite_of row).number ≡ 23 → (rewrite_of row).addend r.addend ≡ pos 0 → is_executable l.kind ≡ true → not (interposable (flags_at l p.chosen.symbol)) ≡ true → LandsOffset l w r v
+own_offset : LawsBelow → (l : Layout) (w : World) (m : Memory) (s : Item) (i : ℕ) (r : InputRelocation) (row : Row) (v : ℕ) → IsLoadedItem l w m s → (p : IsPlacedRow l s i r row v) → (rewrite_of row).number ≡ 23 → (rewrite_of row).addend r.addend ≡ pos 0 → is_executable l.kind ≡ true → not (interposable (flags_at l p.chosen.symbol)) ≡ true → LandsOffset l w r v
 own_offset laws l w m s i r row v h p number none program own = lands_offset laws l w m s i r row v h p number none program (not-true _ own)
 
 -- a sequence's addend counts from its end
-sequence_ends : (l : Layout) (s : InputSection) (i : ℕ) (r : InputRelocation) (row : Row) (v : ℕ) → IsPlacedRow l s i r row v → is_skip (rewrite_of row).next ≡ true → minus_four r.addend ≡ true
+sequence_ends : (l : Layout) (s : Item) (i : ℕ) (r : InputRelocation) (row : Row) (v : ℕ) → IsPlacedRow l s i r row v → is_skip (rewrite_of row).next ≡ true → minus_four r.addend ≡ true
 sequence_ends l s i r row v p skips = (let pair = paired row p.changing skips in (called l s row r p.chosen.symbol pair.distance (slice_get s.relocations (i + 1)) pair.behind p.stands.taken.partner).2.ends)
 
 -- ---- whether rewriting is on
@@ -124,7 +124,7 @@ on_or_must q row h =
 abbrev pub GoesWithBase : Layout → World → Row → ℕ → Type 0
 GoesWithBase l w row k = (instruction_of row).sort ≡ TargetInSlot → IsMovable l.kind → IsAbsolute l k → w.base ≡ 0
 
-pub does_row : LawsBelow → (l : Layout) (w : World) (m : Memory) (s : InputSection) (i : ℕ) (r : InputRelocation) (row : Row) (v : ℕ) → IsLoadedSection l w m s → (p : IsPlacedRow l s i r row v) → GoesWithBase l w row p.chosen.symbol → DoesRow l w m s r row
+pub does_row : LawsBelow → (l : Layout) (w : World) (m : Memory) (s : Item) (i : ℕ) (r : InputRelocation) (row : Row) (v : ℕ) → IsLoadedItem l w m s → (p : IsPlacedRow l s i r row v) → GoesWithBase l w row p.chosen.symbol → DoesRow l w m s r row
 does_row laws l w m s i r IfuncThroughStub v h p asked = absurd p.changing
 does_row laws l w m s i r (RexGotToImmediate Rex o) v h p asked = (let t = number_itself laws l w m s i r (RexGotToImmediate Rex o) v _ h p (inl refl) refl p.stands.taken.symbol p.stands.taken.value in does_target laws l w m s i r (RexGotToImmediate Rex o) v t.operand h p t.is t.lands refl (λ a old. refl))
 does_row laws l w m s i r (RexGotToImmediate Rex2 o) v h p asked = (let t = number_itself laws l w m s i r (RexGotToImmediate Rex2 o) v _ h p (inl refl) refl p.stands.taken.symbol p.stands.taken.value in does_target laws l w m s i r (RexGotToImmediate Rex2 o) v t.operand h p t.is t.lands refl (λ a old. refl))
@@ -161,7 +161,7 @@ does_row laws l w m s i r DescriptorCall v h p asked =
         demanded = inl (offset_mode l s h.x86 p.stands.taken.thread (or_first l.options.relax _ (on_or_must _ _ p.stands.here)) (is_code l s i r DescriptorCall v p), refl);
         bytes = template_of DescriptorCall v (old_of s DescriptorCall r);
         whole = whole_is l w m s i r DescriptorCall v h p;
-        held = h.section.rewritten i r DescriptorCall v p.has;
+        held = h.item.rewritten i r DescriptorCall v p.has;
         does = on_machine l.machine (reads_alone w m) _ _ h.x86 ∙ effect_kept laws l w m s i r DescriptorCall v 0 _ h p (omega arith) tt;
       };
     }

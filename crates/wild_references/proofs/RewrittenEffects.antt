@@ -5,7 +5,6 @@ use Rattle.std.proofs.lemmas.Bool.{le-leb}
 use Rattle.wild_types.specs.declared.kind.Machine.{Machine}
 use Rattle.wild_types.specs.declared.kind.Machine.TheVariants as machine
 use Rattle.wild_types.specs.declared.input.InputRelocation.{InputRelocation}
-use Rattle.wild_types.specs.declared.input.InputSection.{InputSection}
 use Rattle.wild_types.specs.declared.layout.Layout.{Layout}
 use Rattle.wild_reloc.specs.TableX86_64.{x86_64_row}
 use Rattle.wild_reloc.specs.declared.info.RelocationKindInfo.{RelocationKindInfo}
@@ -17,7 +16,8 @@ use Rattle.wild_layout.specs.Sites.{template_start}
 use Rattle.wild_layout.proofs.ChoiceLemmas.{length-template}
 use Rattle.wild_loader.specs.declared.memory.Memory.{Memory}
 use Rattle.wild_loader.specs.declared.world.World.{World}
-use Rattle.wild_meaning.specs.Item.{item_of, place_at}
+use Rattle.wild_types.specs.Item.{Item}
+use Rattle.wild_meaning.specs.Item.{place_at}
 use Rattle.wild_loader.specs.declared.instruction.Action.{Action}
 use Rattle.wild_loader.specs.Instruction.{Template, Effect, stands, fills, first_meaning, with_value, as_value, Reader}
 use Rattle.wild_loader.specs.ThreadCodeX86_64.{nop_byte}
@@ -25,7 +25,7 @@ use Rattle.wild_loader.specs.InstructionX86_64.{templates_x86_64, meaning_x86_64
 use Rattle.wild_meaning.specs.Sequence.{size_of}
 use Rattle.wild_meaning.specs.Template.{reads_alone, effect_of, Demands, IsDemanded, old_bytes, DoesDemanded}
 use Rattle.wild_layout.proofs.DecideLemmas.{value_below}
-use Rattle.wild_references.specs.Laws.{IsLoadedSection}
+use Rattle.wild_references.specs.Laws.{IsLoadedItem}
 use Rattle.wild_references.proofs.RewrittenForms.{instruction_of}
 use Rattle.wild_references.proofs.RewrittenPlaces.{LawsBelow, IsPlacedRow, size_is, cells_stand}
 use Rattle.wild_references.proofs.RewrittenTerms.{info_is, lies_in}
@@ -60,18 +60,18 @@ has_effect v a k t bs lt is long same =
 
 -- ---- the row's bytes in memory
 
-pub value_small : (l : Layout) (s : InputSection) (i : ℕ) (r : InputRelocation) (row : Row) (v : ℕ) → IsPlacedRow l s i r row v → v < 2 ^ 64
+pub value_small : (l : Layout) (s : Item) (i : ℕ) (r : InputRelocation) (row : Row) (v : ℕ) → IsPlacedRow l s i r row v → v < 2 ^ 64
 value_small l s i r row v p = (let x = p.made.written in subst (λ (n : ℕ). n < 2 ^ 64) x.value (value_below l x.info.kind x.term _ _))
 
 pub template_linked : (row : Row) (info : RelocationKindInfo) (v : ℕ) (old : List ℕ) → x86_64_row (rewrite_of row).number ≡ Some info → template_of row v old ≡ linked row info v old
 unfolding template_of
 template_linked row info v old e = ap (λ (o : Option RelocationKindInfo). template_by row v old o) e
 
-abbrev pub old_of : InputSection → Row → InputRelocation → List ℕ
+abbrev pub old_of : Item → Row → InputRelocation → List ℕ
 old_of s row r = slice_range s.bytes (template_start row r) (template_start row r + pattern_size row)
 
 -- the effect of what is written, at the row's bytes
-pub effect_kept : LawsBelow → (l : Layout) (w : World) (m : Memory) (s : InputSection) (i : ℕ) (r : InputRelocation) (row : Row) (v n a : ℕ) → IsLoadedSection l w m s → IsPlacedRow l s i r row v → n < 2 ^ 64 → Lands row (reads_alone w m) (a + field_in row) n v → effect_x86_64 (reads_alone w m) a (template_of row v (old_of s row r)) ≡ demanded row n a (old_of s row r)
+pub effect_kept : LawsBelow → (l : Layout) (w : World) (m : Memory) (s : Item) (i : ℕ) (r : InputRelocation) (row : Row) (v n a : ℕ) → IsLoadedItem l w m s → IsPlacedRow l s i r row v → n < 2 ^ 64 → Lands row (reads_alone w m) (a + field_in row) n v → effect_x86_64 (reads_alone w m) a (template_of row v (old_of s row r)) ≡ demanded row n a (old_of s row r)
 effect_kept laws l w m s i r row v n a h p small lands =
     let x = p.made.written in
     let known = info_is l w m s i r row v h p in
@@ -81,24 +81,24 @@ effect_kept laws l w m s i r row v n a h p small lands =
 pub on_machine : (k : Machine) (read : Reader) (a : ℕ) (bs : List ℕ) → k ≡ machine.X86_64 → effect_of k read a bs ≡ effect_x86_64 read a bs
 on_machine k read a bs e = rw e refl
 
-old_is : (l : Layout) (s : InputSection) (i : ℕ) (r : InputRelocation) (row : Row) (v : ℕ) → IsPlacedRow l s i r row v → old_bytes (item_of s) (template_start row r) (instruction_of row) ≡ old_of s row r
+old_is : (l : Layout) (s : Item) (i : ℕ) (r : InputRelocation) (row : Row) (v : ℕ) → IsPlacedRow l s i r row v → old_bytes s (template_start row r) (instruction_of row) ≡ old_of s row r
 old_is l s i r row v p = ap (λ (n : ℕ). slice_range s.bytes (template_start row r) (template_start row r + n)) (size_is l s i r row v p)
 
-pub whole_is : (l : Layout) (w : World) (m : Memory) (s : InputSection) (i : ℕ) (r : InputRelocation) (row : Row) (v : ℕ) → IsLoadedSection l w m s → IsPlacedRow l s i r row v → length (template_of row v (old_of s row r)) ≡ size_of (instruction_of row)
+pub whole_is : (l : Layout) (w : World) (m : Memory) (s : Item) (i : ℕ) (r : InputRelocation) (row : Row) (v : ℕ) → IsLoadedItem l w m s → IsPlacedRow l s i r row v → length (template_of row v (old_of s row r)) ≡ size_of (instruction_of row)
 whole_is l w m s i r row v h p = length-template row p.made.written.info v (old_of s row r) (lies_in l s i r row v p) (info_is l w m s i r row v h p) p.whole.long ∙ sym (size_is l s i r row v p)
 
 -- with an operand that lands it does what is demanded, where that is an effect of the input's bytes
-pub does_by : LawsBelow → (l : Layout) (w : World) (m : Memory) (s : InputSection) (i : ℕ) (r : InputRelocation) (row : Row) (v n : ℕ) → IsLoadedSection l w m s → IsPlacedRow l s i r row v → Demands (instruction_of row).sort l w m (item_of s) r n → n < 2 ^ 64 → Lands row (reads_alone w m) (place_at w (item_of s) (template_start row r) + field_in row) n v
-    → ((a : ℕ) (old : List ℕ) → demanded row n a old ≡ demand_x86_64 n a old) → ((a : ℕ) (old : List ℕ) (e : Effect) → effect_of l.machine (as_value n) a old ≡ Some e → IsDemanded (instruction_of row).sort l (item_of s) n a old e) → DoesDemanded (reads_alone w m) l w m (item_of s) r (template_start row r) (instruction_of row)
+pub does_by : LawsBelow → (l : Layout) (w : World) (m : Memory) (s : Item) (i : ℕ) (r : InputRelocation) (row : Row) (v n : ℕ) → IsLoadedItem l w m s → IsPlacedRow l s i r row v → Demands (instruction_of row).sort l w m s r n → n < 2 ^ 64 → Lands row (reads_alone w m) (place_at w s (template_start row r) + field_in row) n v
+    → ((a : ℕ) (old : List ℕ) → demanded row n a old ≡ demand_x86_64 n a old) → ((a : ℕ) (old : List ℕ) (e : Effect) → effect_of l.machine (as_value n) a old ≡ Some e → IsDemanded (instruction_of row).sort l s n a old e) → DoesDemanded (reads_alone w m) l w m s r (template_start row r) (instruction_of row)
 does_by laws l w m s i r row v n h p demands small lands same told =
-    let a = place_at w (item_of s) (template_start row r) in
+    let a = place_at w s (template_start row r) in
     let old = old_is l s i r row v p in
     let size = size_is l s i r row v p in
     let long : length (old_of s row r) ≡ length (instruction_of row).template.cells = p.whole.long ∙ sym size in
     let stands_here = subst (λ (bs : List ℕ). stands (instruction_of row).template.cells bs ≡ true) old (cells_stand l s i r row v p) in
     let t = p.fits.template in
     let e = has_effect n a t.0 (instruction_of row).template (old_of s row r) t.1 t.2 long stands_here in
-    let asked : effect_of l.machine (as_value n) a (old_bytes (item_of s) (template_start row r) (instruction_of row)) ≡ Some e.0 = on_machine l.machine (as_value n) a _ h.x86 ∙ (ap (λ (bs : List ℕ). demand_x86_64 n a bs) old ∙ e.1) in
+    let asked : effect_of l.machine (as_value n) a (old_bytes s (template_start row r) (instruction_of row)) ≡ Some e.0 = on_machine l.machine (as_value n) a _ h.x86 ∙ (ap (λ (bs : List ℕ). demand_x86_64 n a bs) old ∙ e.1) in
     record {
       value = n;
       demands = demands;
@@ -107,7 +107,7 @@ does_by laws l w m s i r row v n h p demands small lands same told =
         demanded = told a _ e.0 asked;
         bytes = template_of row v (old_of s row r);
         whole = whole_is l w m s i r row v h p;
-        held = h.section.rewritten i r row v p.has;
+        held = h.item.rewritten i r row v p.has;
         does = on_machine l.machine (reads_alone w m) a _ h.x86 ∙ (effect_kept laws l w m s i r row v n a h p small lands ∙ (same a (old_of s row r) ∙ e.1));
       };
     }

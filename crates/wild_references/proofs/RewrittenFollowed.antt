@@ -4,7 +4,6 @@ use Rattle.std.specs.Prelude.{Option, Some, None, ◌==◌, ◌||◌, slice_get}
 use Rattle.std.specs.List.{list_all}
 use Rattle.wild_records.specs.Abi.Relocation.{r_x86_64_pc32}
 use Rattle.wild_types.specs.declared.kind.Machine.{Machine}
-use Rattle.wild_types.specs.declared.input.InputSection.{InputSection}
 use Rattle.wild_types.specs.declared.layout.Layout.{Layout}
 use Rattle.wild_reloc.specs.Formula.{Value, Formula, SymbolAddress, SymbolPart, Distance, PageDistance, FromTable, ModuleOffset, PointerOffset}
 use Rattle.wild_reloc.specs.FormulaX86_64.{x86_64_formula}
@@ -14,7 +13,7 @@ use Rattle.wild_layout.proofs.ChoiceLemmas.{chosen_listed}
 use Rattle.wild_layout.proofs.DecisionLemmas.{decide_rewritten}
 use Rattle.wild_meaning.specs.Field.{formula_of}
 use Rattle.wild_meaning.specs.Formula.{TakesAddress, TakesOffset}
-use Rattle.wild_meaning.specs.Item.{item_of}
+use Rattle.wild_types.specs.Item.{Item}
 use Rattle.wild_meaning.specs.Reference.{TakesItself}
 use Rattle.wild_references.specs.EffectLaws.{RewrittenAreFollowed}
 
@@ -58,7 +57,7 @@ no_address PageDistance h t = cc
 no_address FromTable h t = cc
 no_address other h t = t
 
-takes_none : (l : Layout) (s : InputSection) (i : ℕ) (f : Formula) → is_indirect f.value ≡ true → TakesItself l (item_of s) i f → ⊥
+takes_none : (l : Layout) (s : Item) (i : ℕ) (f : Formula) → is_indirect f.value ≡ true → TakesItself l s i f → ⊥
 takes_none l s i f h (inl offset) = no_offset f.value h offset
 takes_none l s i f h (inr address) = no_address f.value h address.0
 

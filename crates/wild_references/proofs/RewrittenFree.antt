@@ -8,7 +8,7 @@ use Rattle.wild_words.proofs.Basics.{implied}
 use Rattle.wild_records.specs.Abi.Relocation as abi
 use Rattle.wild_types.specs.declared.kind.Machine.TheVariants as machine
 use Rattle.wild_types.specs.declared.input.InputRelocation.{InputRelocation}
-use Rattle.wild_types.specs.declared.input.InputSection.{InputSection}
+use Rattle.wild_types.specs.Item.{Item}
 use Rattle.wild_types.specs.declared.layout.Layout.{Layout}
 use Rattle.wild_relax.specs.declared.reference.UnknownSequence.{UnknownSequence}
 use Rattle.wild_relax.specs.declared.pattern.GeneralForm.{GeneralForm}
@@ -85,7 +85,7 @@ no_call g n h e =
 -- ---- the first relocation takes the call along
 
 -- a relocation of such a type belongs to no sequence before it
-pub first_alone : (l : Layout) (s : InputSection) (j : ℕ) (r : InputRelocation) → slice_get s.relocations j ≡ Some r → is_first r.number ≡ true → is_partner l s j ≡ false
+pub first_alone : (l : Layout) (s : Item) (j : ℕ) (r : InputRelocation) → slice_get s.relocations j ≡ Some r → is_first r.number ≡ true → is_partner l s j ≡ false
 first_alone l s j r listed h =
     elim (cases_Bool (is_partner l s j)) [
       | inr f ↦ f
@@ -97,7 +97,7 @@ first_alone l s j r listed h =
         let is = subst (λ (o : Option InputRelocation). choice_of l s q.relocation o ≡ Ok (Some w)) at q.is in
         no_call (call_form w) r.number h (partner_number l s q.relocation r w (choice_row l s q.relocation (Some r) w is) q.takes)
 
-pub takes_call : (l : Layout) (s : InputSection) (j k : ℕ) (r : InputRelocation) (w : Row) (n : ℕ) → l.machine ≡ machine.X86_64 → IsDecided l s → slice_get s.relocations j ≡ Some r → r.symbol ≡ Some k → is_first r.number ≡ true → n < length rows_x86_64 → get_or rows_x86_64 n w ≡ w → applies (question_of l s r k (slice_get s.relocations (j + 1))) w ≡ true → is_partner l s (j + 1) ≡ true
+pub takes_call : (l : Layout) (s : Item) (j k : ℕ) (r : InputRelocation) (w : Row) (n : ℕ) → l.machine ≡ machine.X86_64 → IsDecided l s → slice_get s.relocations j ≡ Some r → r.symbol ≡ Some k → is_first r.number ≡ true → n < length rows_x86_64 → get_or rows_x86_64 n w ≡ w → applies (question_of l s r k (slice_get s.relocations (j + 1))) w ≡ true → is_partner l s (j + 1) ≡ true
 takes_call l s j k r w n x86 decided listed named h lt e stands =
     let next = slice_get s.relocations (j + 1) in
     let q = question_of l s r k next in

@@ -7,7 +7,7 @@ use Rattle.std.proofs.lemmas.Bool.{eqb-true}
 use Rattle.wild_records.specs.Abi.Section.{shf_execinstr}
 use Rattle.wild_types.specs.declared.kind.Machine.TheVariants as machine
 use Rattle.wild_types.specs.declared.input.InputRelocation.{InputRelocation}
-use Rattle.wild_types.specs.declared.input.InputSection.{InputSection}
+use Rattle.wild_types.specs.Item.{Item}
 use Rattle.wild_types.specs.declared.layout.Layout.{Layout}
 use Rattle.wild_types.specs.Lookups.{executable}
 use Rattle.wild_reloc.specs.declared.info.RelocationKind.TheVariants as kinds
@@ -48,7 +48,7 @@ pub record LawsBelow : Type 0 where
   pub slot : KindGives kinds.GotTpOff
 
 -- relocation i of a section is rewritten by a row, with v in the field
-pub record IsPlacedRow (l : Layout) (s : InputSection) (i : ℕ) (r : InputRelocation) (row : Row) (v : ℕ) : Type 0 where
+pub record IsPlacedRow (l : Layout) (s : Item) (i : ℕ) (r : InputRelocation) (row : Row) (v : ℕ) : Type 0 where
   pub has : HasDecision l s i r (Rewritten row v)
   pub alone : is_partner l s i ≡ false
   pub made : IsRewritten l s r (slice_get s.relocations (i + 1)) row v
@@ -61,7 +61,7 @@ pub record IsPlacedRow (l : Layout) (s : InputSection) (i : ℕ) (r : InputReloc
 each_listed : list_all is_listed rows_x86_64 ≡ true
 each_listed = refl
 
-pub placed_row : LawsBelow → (l : Layout) (s : InputSection) (i : ℕ) (r : InputRelocation) (row : Row) (v : ℕ) → HasDecision l s i r (Rewritten row v) → IsPlacedRow l s i r row v
+pub placed_row : LawsBelow → (l : Layout) (s : Item) (i : ℕ) (r : InputRelocation) (row : Row) (v : ℕ) → HasDecision l s i r (Rewritten row v) → IsPlacedRow l s i r row v
 placed_row laws l s i r row v has =
     let made = decide_rewritten l s i r row v has.listed has.decided in
     let chosen = made.chosen in
@@ -85,7 +85,7 @@ takes_code : (row : Row) (q : Question) → IsChanging row → takes_section row
 takes_code IfuncThroughStub q c h = absurd c
 takes_code other q c h = h
 
-pub is_code : (l : Layout) (s : InputSection) (i : ℕ) (r : InputRelocation) (row : Row) (v : ℕ) → IsPlacedRow l s i r row v → IsSet s.flags shf_execinstr
+pub is_code : (l : Layout) (s : Item) (i : ℕ) (r : InputRelocation) (row : Row) (v : ℕ) → IsPlacedRow l s i r row v → IsSet s.flags shf_execinstr
 is_code l s i r row v p = bit_code s.flags (takes_code row (question_of l s r p.chosen.symbol (slice_get s.relocations (i + 1))) p.changing p.stands.taken.section)
 
 -- ---- the addend
@@ -108,10 +108,10 @@ counts_ended o r h = (let e = ended r.addend h in counts_by o r (omega (arith, e
 
 -- ---- the bytes
 
-pub size_is : (l : Layout) (s : InputSection) (i : ℕ) (r : InputRelocation) (row : Row) (v : ℕ) → IsPlacedRow l s i r row v → size_of (instruction_of row) ≡ pattern_size row
+pub size_is : (l : Layout) (s : Item) (i : ℕ) (r : InputRelocation) (row : Row) (v : ℕ) → IsPlacedRow l s i r row v → size_of (instruction_of row) ≡ pattern_size row
 size_is l s i r row v p = all_long (cells_of (pattern_of row)) (instruction_of row).template.cells p.fits.covers
 
-pub cells_stand : (l : Layout) (s : InputSection) (i : ℕ) (r : InputRelocation) (row : Row) (v : ℕ) → IsPlacedRow l s i r row v → stands (instruction_of row).template.cells (slice_range s.bytes (template_start row r) (template_start row r + size_of (instruction_of row))) ≡ true
+pub cells_stand : (l : Layout) (s : Item) (i : ℕ) (r : InputRelocation) (row : Row) (v : ℕ) → IsPlacedRow l s i r row v → stands (instruction_of row).template.cells (slice_range s.bytes (template_start row r) (template_start row r + size_of (instruction_of row))) ≡ true
 cells_stand l s i r row v p =
     let e = size_is l s i r row v p in
     subst (λ (n : ℕ). stands (instruction_of row).template.cells (slice_range s.bytes (template_start row r) (template_start row r + n)) ≡ true) (sym e)

@@ -7,7 +7,6 @@ use Rattle.wild_records.specs.Abi.Relocation as abi
 use Rattle.wild_types.specs.declared.kind.Machine.{Machine}
 use Rattle.wild_types.specs.declared.kind.Machine.TheVariants as machine
 use Rattle.wild_types.specs.declared.input.InputRelocation.{InputRelocation}
-use Rattle.wild_types.specs.declared.input.InputSection.{InputSection}
 use Rattle.wild_types.specs.declared.layout.Layout.{Layout}
 use Rattle.wild_reloc.specs.Formula.{Formula}
 use Rattle.wild_relax.specs.declared.row.Row.TheVariants.{PlainGotMovToLea}
@@ -17,7 +16,7 @@ use Rattle.wild_relax.specs.declared.pattern.Pattern.TheVariants as pattern
 use Rattle.wild_relax.specs.Pattern.{cells_of}
 use Rattle.wild_layout.specs.Sites.{template_start}
 use Rattle.wild_geometry.specs.Loaded.{IsDecided}
-use Rattle.wild_meaning.specs.Item.{item_of}
+use Rattle.wild_types.specs.Item.{Item}
 use Rattle.wild_meaning.specs.Field.{formula_of, form_width, InNoField}
 use Rattle.wild_loader.specs.Instruction as judge
 use Rattle.wild_loader.specs.declared.instruction.Cell.TheVariants as judge-cells
@@ -64,7 +63,7 @@ all_or_not P test (x ∷ xs) =
       ]
     ]
 
-no_field_or : (l : Layout) (s : InputSection) (k : ℕ) → InNoField l (item_of s) k ⊎ (InNoField l (item_of s) k → ⊥)
+no_field_or : (l : Layout) (s : Item) (k : ℕ) → InNoField l s k ⊎ (InNoField l s k → ⊥)
 no_field_or l s k = all_or_not (λ (q : InputRelocation). IsBesideField l q k) (λ q. is_beside l q k) s.relocations
 
 -- ---- the bytes, with the one before
@@ -86,17 +85,17 @@ abbrev pub wide_load : Instruction
 wide_load = of_field (with_slot 0x8b Word Set rex2) 4 AddressInSlot (abi.r_x86_64_gotpcrel ∷ [])
 
 -- what is known of the row beside its start
-pub record Plain (l : Layout) (s : InputSection) (i : ℕ) (r : InputRelocation) (v from : ℕ) : Type 0 where
+pub record Plain (l : Layout) (s : Item) (i : ℕ) (r : InputRelocation) (v from : ℕ) : Type 0 where
   pub row : IsPlacedRow l s i r PlainGotMovToLea v
   pub start : template_start PlainGotMovToLea r ≡ suc from
 
-pub at_field : (l : Layout) (s : InputSection) (i : ℕ) (r : InputRelocation) (v from : ℕ) → Plain l s i r v from → r.offset ≡ from + 4
+pub at_field : (l : Layout) (s : Item) (i : ℕ) (r : InputRelocation) (v from : ℕ) → Plain l s i r v from → r.offset ≡ from + 4
 at_field l s i r v from t = (let e = field_is l s i r PlainGotMovToLea v t.row in let f = t.start in omega (arith, e, f))
 
-pub room : (l : Layout) (s : InputSection) (i : ℕ) (r : InputRelocation) (v from : ℕ) → Plain l s i r v from → from + 8 ≤ length s.bytes
+pub room : (l : Layout) (s : Item) (i : ℕ) (r : InputRelocation) (v from : ℕ) → Plain l s i r v from → from + 8 ≤ length s.bytes
 room l s i r v from t = (let e = t.row.stands.inside in let f = t.start in omega (arith, e, f))
 
-pub bytes_are : (l : Layout) (s : InputSection) (i : ℕ) (r : InputRelocation) (v from : ℕ) → Plain l s i r v from → slice_range s.bytes from (from + 8) ≡ slice_index s.bytes from ∷ slice_range s.bytes (template_start PlainGotMovToLea r) (template_start PlainGotMovToLea r + 7)
+pub bytes_are : (l : Layout) (s : Item) (i : ℕ) (r : InputRelocation) (v from : ℕ) → Plain l s i r v from → slice_range s.bytes from (from + 8) ≡ slice_index s.bytes from ∷ slice_range s.bytes (template_start PlainGotMovToLea r) (template_start PlainGotMovToLea r + 7)
 bytes_are l s i r v from t =
     let inside = room l s i r v from t in
     subst (λ (n : ℕ). slice_range s.bytes from (from + 8) ≡ slice_index s.bytes from ∷ slice_range s.bytes n (n + 7)) (sym t.start) (one_more s.bytes from 7 (omega (arith, inside)))
@@ -104,7 +103,7 @@ bytes_are l s i r v from t =
 rest_covers : covers_all (cells_of (pattern.Wide Rex operation.Mov)) (judge-cells.From 0 0x7f ∷ judge-cells.Is 0x8b ∷ judge-cells.Slot ∷ judge.field) ≡ true
 rest_covers = refl
 
-pub stands_with : (l : Layout) (s : InputSection) (i : ℕ) (r : InputRelocation) (v from : ℕ) → Plain l s i r v from → (slice_index s.bytes from == 0xd5) ≡ true → judge.stands wide_load.template.cells (slice_range s.bytes from (from + 8)) ≡ true
+pub stands_with : (l : Layout) (s : Item) (i : ℕ) (r : InputRelocation) (v from : ℕ) → Plain l s i r v from → (slice_index s.bytes from == 0xd5) ≡ true → judge.stands wide_load.template.cells (slice_range s.bytes from (from + 8)) ≡ true
 stands_with l s i r v from t h =
     let old = slice_range s.bytes (template_start PlainGotMovToLea r) (template_start PlainGotMovToLea r + 7) in
     let rest : judge.stands (judge-cells.From 0 0x7f ∷ judge-cells.Is 0x8b ∷ judge-cells.Slot ∷ judge.field) old ≡ true = all_stand (cells_of (pattern.Wide Rex operation.Mov)) (judge-cells.From 0 0x7f ∷ judge-cells.Is 0x8b ∷ judge-cells.Slot ∷ judge.field) old rest_covers t.row.whole.same in
@@ -114,31 +113,31 @@ stands_with l s i r v from t h =
     both_stand true b e f = f
     both_stand false b e f = cc
 
-stands_first : (l : Layout) (s : InputSection) (i : ℕ) (r : InputRelocation) (v from : ℕ) → Plain l s i r v from → judge.stands wide_load.template.cells (slice_range s.bytes from (from + 8)) ≡ true → (slice_index s.bytes from == 0xd5) ≡ true
+stands_first : (l : Layout) (s : Item) (i : ℕ) (r : InputRelocation) (v from : ℕ) → Plain l s i r v from → judge.stands wide_load.template.cells (slice_range s.bytes from (from + 8)) ≡ true → (slice_index s.bytes from == 0xd5) ≡ true
 stands_first l s i r v from t h =
     let there = subst (λ (bs : List ℕ). judge.stands wide_load.template.cells bs ≡ true) (bytes_are l s i r v from t) h in
     (and_parts (slice_index s.bytes from == 0xd5) _ there).0
 
 -- it stands there, with the byte before in no field
-pub record IsWider (l : Layout) (s : InputSection) (i : ℕ) (r : InputRelocation) (v from : ℕ) : Type 0 where
+pub record IsWider (l : Layout) (s : Item) (i : ℕ) (r : InputRelocation) (v from : ℕ) : Type 0 where
   pub plain : Plain l s i r v from
   pub prefix : (slice_index s.bytes from == 0xd5) ≡ true
-  pub alone : InNoField l (item_of s) from
+  pub alone : InNoField l s from
 
-wide_alone : WindowsAreAlone → (l : Layout) (s : InputSection) (i : ℕ) (r : InputRelocation) (v from : ℕ) → l.machine ≡ machine.X86_64 → IsDecided l s → IsWider l s i r v from → (k : ℕ) → IsOwnByte wide_load k → InNoField l (item_of s) (from + k)
-wide_alone law l s i r v from x86 decided t zero own = (let e : from ≡ from + 0 = omega arith in subst (λ (n : ℕ). InNoField l (item_of s) n) e t.alone)
+wide_alone : WindowsAreAlone → (l : Layout) (s : Item) (i : ℕ) (r : InputRelocation) (v from : ℕ) → l.machine ≡ machine.X86_64 → IsDecided l s → IsWider l s i r v from → (k : ℕ) → IsOwnByte wide_load k → InNoField l s (from + k)
+wide_alone law l s i r v from x86 decided t zero own = (let e : from ≡ from + 0 = omega arith in subst (λ (n : ℕ). InNoField l s n) e t.alone)
 wide_alone law l s i r v from x86 decided t (suc k) own =
     let start = t.plain.start in
     let e : template_start PlainGotMovToLea r + k ≡ from + suc k = omega (arith, start) in
     let inside = own.inside in
     let low : k < 3 = lower own.beside in
-    subst (λ (n : ℕ). InNoField l (item_of s) n) e (in_no_field law l s i r PlainGotMovToLea v k x86 decided t.plain.row (record { inside = omega (arith, inside); beside = inl low; apart = tt }))
+    subst (λ (n : ℕ). InNoField l s n) e (in_no_field law l s i r PlainGotMovToLea v k x86 decided t.plain.row (record { inside = omega (arith, inside); beside = inl low; apart = tt }))
   where
     lower : (suc k < 4) ⊎ (8 ≤ suc k) → k < 3
     lower (inl h) = omega (arith, h)
     lower (inr h) = (let inside = own.inside in absurd (omega (arith, h, inside)))
 
-pub wide_stands : WindowsAreAlone → (l : Layout) (s : InputSection) (i : ℕ) (r : InputRelocation) (v from : ℕ) → l.machine ≡ machine.X86_64 → IsDecided l s → IsWider l s i r v from → IsInstruction l (item_of s) r from wide_load
+pub wide_stands : WindowsAreAlone → (l : Layout) (s : Item) (i : ℕ) (r : InputRelocation) (v from : ℕ) → l.machine ≡ machine.X86_64 → IsDecided l s → IsWider l s i r v from → IsInstruction l s r from wide_load
 wide_stands law l s i r v from x86 decided t = record {
   code = is_code l s i r PlainGotMovToLea v t.plain.row;
   known = subst (λ (m : Machine). Contains (instructions_of m) wide_load) (sym x86) (21, omega arith, refl);
@@ -150,7 +149,7 @@ wide_stands law l s i r v from x86 decided t = record {
   alone = wide_alone law l s i r v from x86 decided t;
 }
 
-pub wide_single : WindowsAreAlone → (l : Layout) (s : InputSection) (i : ℕ) (r : InputRelocation) (v from : ℕ) → l.machine ≡ machine.X86_64 → IsDecided l s → IsWider l s i r v from → IsSingle l (item_of s) r from wide_load
+pub wide_single : WindowsAreAlone → (l : Layout) (s : Item) (i : ℕ) (r : InputRelocation) (v from : ℕ) → l.machine ≡ machine.X86_64 → IsDecided l s → IsWider l s i r v from → IsSingle l s r from wide_load
 wide_single law l s i r v from x86 decided t = record {
   single = refl;
   stands = wide_stands law l s i r v from x86 decided t;
@@ -160,17 +159,17 @@ wide_single law l s i r v from x86 decided t = record {
 
 -- ---- one of both
 
-none_at : (l : Layout) (s : InputSection) (i : ℕ) (r : InputRelocation) (v from a : ℕ) → Plain l s i r v from → (IsInstruction l (item_of s) r from wide_load → ⊥) → IsInstruction l (item_of s) r a wide_load → ⊥
+none_at : (l : Layout) (s : Item) (i : ℕ) (r : InputRelocation) (v from a : ℕ) → Plain l s i r v from → (IsInstruction l s r from wide_load → ⊥) → IsInstruction l s r a wide_load → ⊥
 none_at l s i r v from a t none h =
     let e = at_field l s i r v from t in
     let f = h.field in
     let same : a ≡ from = omega (arith, e, f) in
-    none (subst (λ (n : ℕ). IsInstruction l (item_of s) r n wide_load) same h)
+    none (subst (λ (n : ℕ). IsInstruction l s r n wide_load) same h)
 
-pub wider_or_not : (l : Layout) (s : InputSection) (i : ℕ) (r : InputRelocation) (v : ℕ) → IsPlacedRow l s i r PlainGotMovToLea v → ((from : ℕ) × IsWider l s i r v from) ⊎ ((a : ℕ) → IsInstruction l (item_of s) r a wide_load → ⊥)
+pub wider_or_not : (l : Layout) (s : Item) (i : ℕ) (r : InputRelocation) (v : ℕ) → IsPlacedRow l s i r PlainGotMovToLea v → ((from : ℕ) × IsWider l s i r v from) ⊎ ((a : ℕ) → IsInstruction l s r a wide_load → ⊥)
 wider_or_not l s i r v p = by_start (template_start PlainGotMovToLea r) refl
   where
-    by_start : (n : ℕ) → template_start PlainGotMovToLea r ≡ n → ((from : ℕ) × IsWider l s i r v from) ⊎ ((a : ℕ) → IsInstruction l (item_of s) r a wide_load → ⊥)
+    by_start : (n : ℕ) → template_start PlainGotMovToLea r ≡ n → ((from : ℕ) × IsWider l s i r v from) ⊎ ((a : ℕ) → IsInstruction l s r a wide_load → ⊥)
     by_start zero e = inr (λ a h. (let f = field_is l s i r PlainGotMovToLea v p in let g = h.field in omega (arith, e, f, g)))
     by_start (suc from) e =
         let t : Plain l s i r v from = record { row = p; start = e } in
@@ -182,5 +181,5 @@ wider_or_not l s i r v p = by_start (template_start PlainGotMovToLea r) refl
           ]
         ]
       where
-        first_alone : IsInstruction l (item_of s) r from wide_load → InNoField l (item_of s) from
-        first_alone k = (let z : from + 0 ≡ from = omega arith in subst (λ (n : ℕ). InNoField l (item_of s) n) z (k.alone 0 (record { inside = omega arith; beside = inl (omega arith); apart = tt })))
+        first_alone : IsInstruction l s r from wide_load → InNoField l s from
+        first_alone k = (let z : from + 0 ≡ from = omega arith in subst (λ (n : ℕ). InNoField l s n) z (k.alone 0 (record { inside = omega arith; beside = inl (omega arith); apart = tt })))

@@ -6,12 +6,11 @@ use Rattle.wild_records.specs.Abi.Relocation as abi
 use Rattle.wild_types.specs.declared.kind.Machine.{Machine}
 use Rattle.wild_types.specs.declared.kind.Machine.TheVariants as machine
 use Rattle.wild_types.specs.declared.input.InputRelocation.{InputRelocation}
-use Rattle.wild_types.specs.declared.input.InputSection.{InputSection}
 use Rattle.wild_types.specs.declared.layout.Layout.{Layout}
 use Rattle.wild_relax.specs.declared.row.Row.TheVariants.{PlainGotMovToLea}
 use Rattle.wild_layout.specs.Sites.{template_start}
 use Rattle.wild_geometry.specs.Loaded.{IsDecided}
-use Rattle.wild_meaning.specs.Item.{item_of}
+use Rattle.wild_types.specs.Item.{Item}
 use Rattle.wild_meaning.specs.Sequence.{Instruction, size_of, instructions_of}
 use Rattle.wild_meaning.specs.Template.{IsInstruction, IsSingle}
 use Rattle.wild_references.specs.EffectLaws.{WindowsAreAlone}
@@ -119,7 +118,7 @@ each_shorter = (
   ),
 )
 
-shorter : (l : Layout) (s : InputSection) (r : InputRelocation) (from : ℕ) (o : Instruction) → l.machine ≡ machine.X86_64 → r.number ≡ abi.r_x86_64_gotpcrel → o.partners ≡ [] → IsInstruction l (item_of s) r from o → (size_of o ≤ 7) ⊎ (o ≡ wide_load)
+shorter : (l : Layout) (s : Item) (r : InputRelocation) (from : ℕ) (o : Instruction) → l.machine ≡ machine.X86_64 → r.number ≡ abi.r_x86_64_gotpcrel → o.partners ≡ [] → IsInstruction l s r from o → (size_of o ≤ 7) ⊎ (o ≡ wide_load)
 shorter l s r from o x86 number none h =
     let known = subst (λ (m : Machine). Contains (instructions_of m) o) x86 h.known in
     let listed = subst (λ (x : ℕ). Contains o.numbers x) number h.number in
@@ -128,13 +127,13 @@ shorter l s r from o x86 number none h =
       | inr same ↦ inr same
     ]
 
-pub plain_single : WindowsAreAlone → (l : Layout) (s : InputSection) (i : ℕ) (r : InputRelocation) (v : ℕ) → l.machine ≡ machine.X86_64 → IsDecided l s → IsPlacedRow l s i r PlainGotMovToLea v → ((from : ℕ) → IsInstruction l (item_of s) r from wide_load → ⊥) → IsSingle l (item_of s) r (template_start PlainGotMovToLea r) (instruction_of PlainGotMovToLea)
+pub plain_single : WindowsAreAlone → (l : Layout) (s : Item) (i : ℕ) (r : InputRelocation) (v : ℕ) → l.machine ≡ machine.X86_64 → IsDecided l s → IsPlacedRow l s i r PlainGotMovToLea v → ((from : ℕ) → IsInstruction l s r from wide_load → ⊥) → IsSingle l s r (template_start PlainGotMovToLea r) (instruction_of PlainGotMovToLea)
 plain_single law l s i r v x86 decided p none_wider = record {
   single = refl;
   stands = stands_there law l s i r PlainGotMovToLea v x86 decided p;
   longest = λ a o none k. elim (shorter l s r a o x86 p.chosen.number none k) [
     | inl short ↦ short
-    | inr same ↦ absurd (none_wider a (subst (λ (x : Instruction). IsInstruction l (item_of s) r a x) same k))
+    | inr same ↦ absurd (none_wider a (subst (λ (x : Instruction). IsInstruction l s r a x) same k))
   ];
   free = λ first rest a o q c. free law l s i r first rest PlainGotMovToLea v a o x86 decided p refl q c;
 }

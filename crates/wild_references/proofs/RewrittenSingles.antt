@@ -7,7 +7,6 @@ use Rattle.wild_words.proofs.Basics.{implied, or_other}
 use Rattle.wild_types.specs.declared.kind.Machine.{Machine}
 use Rattle.wild_types.specs.declared.kind.Machine.TheVariants as machine
 use Rattle.wild_types.specs.declared.input.InputRelocation.{InputRelocation}
-use Rattle.wild_types.specs.declared.input.InputSection.{InputSection}
 use Rattle.wild_types.specs.declared.layout.Layout.{Layout}
 use Rattle.wild_relax.specs.declared.pattern.Operation.TheVariants as operation
 use Rattle.wild_relax.specs.declared.pattern.GeneralForm.TheVariants as general
@@ -23,7 +22,7 @@ use Rattle.wild_relax.specs.RewriteX86_64.{rewrite_of}
 use Rattle.wild_relax.specs.Linked.{keeps_bytes, IsChanging}
 use Rattle.wild_layout.specs.Sites.{template_start}
 use Rattle.wild_geometry.specs.Loaded.{IsDecided}
-use Rattle.wild_meaning.specs.Item.{item_of}
+use Rattle.wild_types.specs.Item.{Item}
 use Rattle.wild_meaning.specs.Sequence.{Instruction, size_of, instructions_of}
 use Rattle.wild_meaning.specs.Template.{IsInstruction, AddsNothing}
 use Rattle.wild_meaning.proofs.PairLemmas.{are_several}
@@ -62,14 +61,14 @@ counts_single : (row : Row) (r : InputRelocation) → (minus_four r.addend ≡ t
 counts_single row r (inl e) = counts_ended (instruction_of row).sort r e
 counts_single row r (inr call) = subst (λ (x : Row). AddsNothing machine.X86_64 (instruction_of x).sort r) (sym call) tt
 
-pub counts : (l : Layout) (s : InputSection) (i : ℕ) (r : InputRelocation) (row : Row) (v : ℕ) → IsPlacedRow l s i r row v → AddsNothing machine.X86_64 (instruction_of row).sort r
+pub counts : (l : Layout) (s : Item) (i : ℕ) (r : InputRelocation) (row : Row) (v : ℕ) → IsPlacedRow l s i r row v → AddsNothing machine.X86_64 (instruction_of row).sort r
 counts l s i r row v p =
     elim (cases_Bool (is_skip (rewrite_of row).next)) [
       | inl skips ↦ (let pair = paired row p.changing skips in counts_ended (instruction_of row).sort r (called l s row r p.chosen.symbol pair.distance _ pair.behind p.stands.taken.partner).2.ends)
       | inr alone ↦ counts_single row r (ends_or_call row (minus_four r.addend) p.changing alone p.stands.taken.addend)
     ]
 
-pub stands_there : WindowsAreAlone → (l : Layout) (s : InputSection) (i : ℕ) (r : InputRelocation) (row : Row) (v : ℕ) → l.machine ≡ machine.X86_64 → IsDecided l s → IsPlacedRow l s i r row v → IsInstruction l (item_of s) r (template_start row r) (instruction_of row)
+pub stands_there : WindowsAreAlone → (l : Layout) (s : Item) (i : ℕ) (r : InputRelocation) (row : Row) (v : ℕ) → l.machine ≡ machine.X86_64 → IsDecided l s → IsPlacedRow l s i r row v → IsInstruction l s r (template_start row r) (instruction_of row)
 stands_there law l s i r row v x86 decided p =
     let size = size_is l s i r row v p in
     let inside = p.stands.inside in
@@ -116,7 +115,7 @@ short_by false true n k e f h = leb-true n k h
 none_is : (p : Instruction) → p.partners ≡ [] → are_several p.partners ≡ false
 none_is p e = rw e refl
 
-pub no_longer : (l : Layout) (s : InputSection) (r : InputRelocation) (from n size : ℕ) (p : Instruction) → l.machine ≡ machine.X86_64 → r.number ≡ n → list_all (is_short n size) (instructions_of machine.X86_64) ≡ true → p.partners ≡ [] → IsInstruction l (item_of s) r from p → size_of p ≤ size
+pub no_longer : (l : Layout) (s : Item) (r : InputRelocation) (from n size : ℕ) (p : Instruction) → l.machine ≡ machine.X86_64 → r.number ≡ n → list_all (is_short n size) (instructions_of machine.X86_64) ≡ true → p.partners ≡ [] → IsInstruction l s r from p → size_of p ≤ size
 no_longer l s r from n size p x86 number all none h =
     let known = subst (λ (m : Machine). Contains (instructions_of m) p) x86 h.known in
     let listed = subst (λ (x : ℕ). Contains p.numbers x) number h.number in

@@ -6,7 +6,6 @@ use Rattle.wild_words.proofs.Basics.{or_first, not_both}
 use Rattle.wild_records.specs.Abi.Relocation as abi
 use Rattle.wild_types.specs.declared.symbol.Symbol.{Symbol}
 use Rattle.wild_types.specs.declared.input.InputRelocation.{InputRelocation}
-use Rattle.wild_types.specs.declared.input.InputSection.{InputSection}
 use Rattle.wild_types.specs.declared.layout.Layout.{Layout}
 use Rattle.wild_types.specs.Flags.{has_flag, ifunc, non_interposable}
 use Rattle.wild_types.specs.Kinds.{is_executable}
@@ -24,14 +23,14 @@ use Rattle.wild_layout.specs.Sites.{template_start}
 use Rattle.wild_layout.proofs.ChoiceLemmas.{chosen_listed}
 use Rattle.wild_loader.specs.declared.memory.Memory.{Memory}
 use Rattle.wild_loader.specs.declared.world.World.{World}
-use Rattle.wild_meaning.specs.Item.{item_of}
+use Rattle.wild_types.specs.Item.{Item}
 use Rattle.wild_meaning.specs.Sequence.{Sort, TargetInSlot, size_of}
 use Rattle.wild_meaning.specs.Partners.{NamesGetter}
 use Rattle.wild_meaning.specs.Template.{IsSequence, IsSingle, IsOfSequence}
 use Rattle.wild_meaning.proofs.PairLemmas.{sequence_of}
 use Rattle.wild_meaning.proofs.OutputLemmas.{is_program}
 use Rattle.wild_geometry.proofs.JudgedLemmas.{flag_is}
-use Rattle.wild_references.specs.Laws.{IsLoadedSection}
+use Rattle.wild_references.specs.Laws.{IsLoadedItem}
 use Rattle.wild_references.proofs.RewrittenForms.{instruction_of}
 use Rattle.wild_references.proofs.RewrittenPairs.{partner_for, single}
 use Rattle.wild_references.proofs.RewrittenPlaces.{LawsBelow, IsPlacedRow}
@@ -44,7 +43,7 @@ use Rattle.wild_references.proofs.RewrittenApart.{free}
 
 -- ---- an instruction of one field
 
-pub single_there : LawsBelow → (l : Layout) (w : World) (m : Memory) (s : InputSection) (i : ℕ) (r : InputRelocation) (row : Row) (v : ℕ) → IsLoadedSection l w m s → IsPlacedRow l s i r row v → is_skip (rewrite_of row).next ≡ false → is_told row ≡ true → IsSingle l (item_of s) r (template_start row r) (instruction_of row)
+pub single_there : LawsBelow → (l : Layout) (w : World) (m : Memory) (s : Item) (i : ℕ) (r : InputRelocation) (row : Row) (v : ℕ) → IsLoadedItem l w m s → IsPlacedRow l s i r row v → is_skip (rewrite_of row).next ≡ false → is_told row ≡ true → IsSingle l s r (template_start row r) (instruction_of row)
 single_there laws l w m s i r row v h p alone told = record {
   single = single row alone;
   stands = stands_there laws.alone l s i r row v h.x86 h.decided p;
@@ -64,7 +63,7 @@ own_not : (b on : Bool) → not (not b) ≡ true → b ≡ false → on ≡ true
 own_not true on h e = cc
 own_not false on h e = cc
 
-takes_sequence : (l : Layout) (w : World) (m : Memory) (s : InputSection) (i : ℕ) (r : InputRelocation) (row : Row) (v : ℕ) → IsLoadedSection l w m s → (p : IsPlacedRow l s i r row v) → is_skip (rewrite_of row).next ≡ true → TakesSequence l row p.chosen.symbol
+takes_sequence : (l : Layout) (w : World) (m : Memory) (s : Item) (i : ℕ) (r : InputRelocation) (row : Row) (v : ℕ) → IsLoadedItem l w m s → (p : IsPlacedRow l s i r row v) → is_skip (rewrite_of row).next ≡ true → TakesSequence l row p.chosen.symbol
 takes_sequence l w m s i r (GeneralDynamicToLocalExec f) v h p skips = record { program = p.stands.taken.thread; plain = not-true _ p.stands.taken.symbol; on = λ e k. own_not (has_flag (flags_at l p.chosen.symbol) non_interposable) l.options.relax p.stands.taken.value k }
 takes_sequence l w m s i r (GeneralDynamicToInitialExec f) v h p skips = record { program = p.stands.taken.thread; plain = not-true _ p.stands.taken.symbol; on = λ e k. or_first l.options.relax false (on_or_must _ _ p.stands.here) refl }
 takes_sequence l w m s i r (LocalDynamicToLocalExec f) v h p skips = record { program = p.stands.taken.thread; plain = not-true _ p.stands.taken.symbol; on = λ e k. cc }
@@ -94,13 +93,13 @@ names_getter l r h = by_index r.symbol refl h
     by_index None e h = cc
     by_index (Some k) e h = by_symbol k (slice_get l.symbols k) e refl h
 
-pub sequence_there : LawsBelow → (l : Layout) (w : World) (m : Memory) (s : InputSection) (i : ℕ) (r next : InputRelocation) (row : Row) (v : ℕ) → IsLoadedSection l w m s → IsPlacedRow l s i r row v → is_skip (rewrite_of row).next ≡ true → slice_get s.relocations (i + 1) ≡ Some next → IsSequence l (item_of s) r (next ∷ []) (template_start row r) (instruction_of row)
+pub sequence_there : LawsBelow → (l : Layout) (w : World) (m : Memory) (s : Item) (i : ℕ) (r next : InputRelocation) (row : Row) (v : ℕ) → IsLoadedItem l w m s → IsPlacedRow l s i r row v → is_skip (rewrite_of row).next ≡ true → slice_get s.relocations (i + 1) ≡ Some next → IsSequence l s r (next ∷ []) (template_start row r) (instruction_of row)
 sequence_there laws l w m s i r next row v h p skips listed =
     let t = taken_call l s i r next row v p skips listed in
     let takes = takes_sequence l w m s i r row v h p skips in
     let k = p.chosen.symbol in
     let d = definition l k h.laid.definitions (symbol_there l w m s i r row v h p) in
-    sequence_of l (item_of s) r next (template_start row r) (instruction_of row) h.x86 (record {
+    sequence_of l s r next (template_start row r) (instruction_of row) h.x86 (record {
       executable = is_program l.kind takes.program;
       stands = stands_there laws.alone l s i r row v h.x86 h.decided p;
       partner = partner_for (call_form row) t.pair.at;
@@ -112,7 +111,7 @@ sequence_there laws l w m s i r next row v h p skips listed =
       rewritten = λ number open_one. takes.on (sym p.chosen.number ∙ number) (flag_is l k non_interposable false open_one);
     })
 
-pub of_sequence_there : LawsBelow → (l : Layout) (w : World) (m : Memory) (s : InputSection) (i : ℕ) (r next : InputRelocation) (row : Row) (v : ℕ) → IsLoadedSection l w m s → IsPlacedRow l s i r row v → is_skip (rewrite_of row).next ≡ true → slice_get s.relocations (i + 1) ≡ Some next → IsOfSequence l (item_of s) r (template_start row r) (instruction_of row) r
+pub of_sequence_there : LawsBelow → (l : Layout) (w : World) (m : Memory) (s : Item) (i : ℕ) (r next : InputRelocation) (row : Row) (v : ℕ) → IsLoadedItem l w m s → IsPlacedRow l s i r row v → is_skip (rewrite_of row).next ≡ true → slice_get s.relocations (i + 1) ≡ Some next → IsOfSequence l s r (template_start row r) (instruction_of row) r
 of_sequence_there laws l w m s i r next row v h p skips listed = record { rest = next ∷ []; sequence = sequence_there laws l w m s i r next row v h p skips listed; one = (0, omega arith, refl) }
 
 -- no sequence goes through a slot to its symbol

@@ -6,10 +6,9 @@ use Rattle.std.proofs.lemmas.Bool.{leb-true}
 use Rattle.wild_words.proofs.ListLemmas.{holds_at}
 use Rattle.wild_records.specs.Abi.Relocation.{r_x86_64_64}
 use Rattle.wild_types.specs.declared.input.InputRelocation.{InputRelocation}
-use Rattle.wild_types.specs.declared.input.InputSection.{InputSection}
 use Rattle.wild_types.specs.declared.layout.Layout.{Layout}
 use Rattle.wild_slot.specs.declared.treatment.Treatment.TheVariants as treatments
-use Rattle.wild_types.specs.Lookups.{allocated}
+use Rattle.wild_types.specs.Lookups.{place_of, allocated}
 use Rattle.wild_slot.specs.Treatment.{kind_treatment}
 use Rattle.wild_reloc.specs.Table.{plain}
 use Rattle.wild_reloc.specs.TableX86_64.{x86_64_row}
@@ -28,9 +27,7 @@ use Rattle.wild_relax.specs.Rows.{rows_x86_64}
 use Rattle.wild_relax.specs.RewriteX86_64.{rewrite_of}
 use Rattle.wild_relax.specs.Linked.{pattern_of, keeps_bytes, field_in}
 use Rattle.wild_layout.specs.Decide.{field_at, term_to}
-use Rattle.wild_layout.specs.SymbolValues.{place_of}
 use Rattle.wild_layout.specs.Values.{term_of, value_by}
-use Rattle.wild_layout.specs.SectionPlaces.{SectionLies}
 use Rattle.wild_layout.specs.Geometry.{NamesSymbol}
 use Rattle.wild_layout.specs.Sites.{template_start}
 use Rattle.wild_layout.proofs.ChoiceLemmas.{LiesInItsPattern, chosen_lies, chosen_listed}
@@ -38,38 +35,22 @@ use Rattle.wild_loader.specs.declared.memory.Memory.{Memory}
 use Rattle.wild_loader.specs.declared.world.World.{World}
 use Rattle.wild_meaning.specs.World.{IsMovable}
 use Rattle.wild_meaning.specs.Value.{IsAbsolute}
-use Rattle.wild_meaning.specs.Item.{item_of, place_at}
+use Rattle.wild_types.specs.Item.{Item}
+use Rattle.wild_meaning.specs.Item.{place_at}
 use Rattle.wild_meaning.specs.Formula.{IsPlaceRelative}
-use Rattle.wild_meaning.proofs.BitLemmas.{alloc_bit, kept_is_read}
-use Rattle.wild_geometry.proofs.JudgedLemmas.{each_at}
-use Rattle.wild_references.specs.Laws.{IsLoadedSection}
+use Rattle.wild_references.proofs.KeptItems.{ItemLies, item_lies}
+use Rattle.wild_references.specs.Laws.{IsLoadedItem}
 use Rattle.wild_references.specs.Terms.{HasTerm}
 use Rattle.wild_references.proofs.WholeSections.{placed}
 use Rattle.wild_references.proofs.RewrittenPlaces.{IsPlacedRow}
 
--- ---- the section
+-- ---- the item
 
--- what is known of the section's places
-pub record LiesThere (l : Layout) (w : World) (s : InputSection) : Type 0 where
-  pub room : allocated s.flags ≡ true
-  pub full : length s.bytes ≡ s.size
-  pub low : s.address + s.size ≤ 2 ^ 62
-  pub ends : 1 ≤ length s.bytes → w.base + s.address + s.size ≤ 2 ^ 64
-  pub symbols : All (NamesSymbol l) s.relocations
-
-pub lies_there : (l : Layout) (w : World) (m : Memory) (s : InputSection) → IsLoadedSection l w m s → LiesThere l w s
-lies_there l w m s h =
-    let lies = each_at (SectionLies l) l s h.laid.inputs h.kept.input in
-    record {
-      room = alloc_bit s.flags h.kept.room;
-      full = lies.bytes (kept_is_read l s h.kept);
-      low = lies.small;
-      ends = h.section.ends;
-      symbols = each_at (λ (x : InputSection). All (NamesSymbol l) x.relocations) l s h.laid.symbols h.kept.input;
-    }
+pub lies_there : (l : Layout) (w : World) (m : Memory) (s : Item) → IsLoadedItem l w m s → ItemLies l s
+lies_there l w m s h = item_lies l s h.laid h.kept
 
 -- the symbol of the relocation is one of the layout's
-pub symbol_there : (l : Layout) (w : World) (m : Memory) (s : InputSection) (i : ℕ) (r : InputRelocation) (row : Row) (v : ℕ) → IsLoadedSection l w m s → (p : IsPlacedRow l s i r row v) → p.chosen.symbol < length l.symbols
+pub symbol_there : (l : Layout) (w : World) (m : Memory) (s : Item) (i : ℕ) (r : InputRelocation) (row : Row) (v : ℕ) → IsLoadedItem l w m s → (p : IsPlacedRow l s i r row v) → p.chosen.symbol < length l.symbols
 symbol_there l w m s i r row v h p = holds_at (NamesSymbol l) s.relocations i r p.has.listed (lies_there l w m s h).symbols p.chosen.symbol p.chosen.named
 
 -- ---- the field's new place
@@ -84,27 +65,27 @@ back_by : (b : Bool) (m n : ℕ) → b ≡ false → (b || nat_le m n) ≡ true 
 back_by true m n e h = cc
 back_by false m n e h = leb-true m n h
 
-pub back_is : (l : Layout) (s : InputSection) (i : ℕ) (r : InputRelocation) (row : Row) (v : ℕ) → IsPlacedRow l s i r row v → (rewrite_of row).back ≤ field_of (pattern_of row)
+pub back_is : (l : Layout) (s : Item) (i : ℕ) (r : InputRelocation) (row : Row) (v : ℕ) → IsPlacedRow l s i r row v → (rewrite_of row).back ≤ field_of (pattern_of row)
 back_is l s i r row v p = back_by (keeps_bytes row) (rewrite_of row).back (field_of (pattern_of row)) p.made.changes (chosen_listed l s r _ row p.chosen back_fits each_back)
 
-pub lies_in : (l : Layout) (s : InputSection) (i : ℕ) (r : InputRelocation) (row : Row) (v : ℕ) → IsPlacedRow l s i r row v → LiesInItsPattern row
+pub lies_in : (l : Layout) (s : Item) (i : ℕ) (r : InputRelocation) (row : Row) (v : ℕ) → IsPlacedRow l s i r row v → LiesInItsPattern row
 lies_in l s i r row v p = chosen_lies l s r _ row p.chosen p.made.changes
 
 -- behind the start, as the field lies among the row's bytes
-pub field_there : (l : Layout) (s : InputSection) (i : ℕ) (r : InputRelocation) (row : Row) (v : ℕ) → IsPlacedRow l s i r row v → field_at row r ≡ template_start row r + field_in row
+pub field_there : (l : Layout) (s : Item) (i : ℕ) (r : InputRelocation) (row : Row) (v : ℕ) → IsPlacedRow l s i r row v → field_at row r ≡ template_start row r + field_in row
 field_there l s i r row v p =
     let before = p.stands.before in
     let back = back_is l s i r row v p in
     omega (arith, before, back)
 
-field_inside : (l : Layout) (s : InputSection) (i : ℕ) (r : InputRelocation) (row : Row) (v : ℕ) → IsPlacedRow l s i r row v → field_at row r ≤ length s.bytes
+field_inside : (l : Layout) (s : Item) (i : ℕ) (r : InputRelocation) (row : Row) (v : ℕ) → IsPlacedRow l s i r row v → field_at row r ≤ length s.bytes
 field_inside l s i r row v p =
     let e = field_there l s i r row v p in
     let lies = (lies_in l s i r row v p).field in
     let inside = p.stands.inside in
     omega (arith, e, lies, inside)
 
-bytes_some : (l : Layout) (s : InputSection) (i : ℕ) (r : InputRelocation) (row : Row) (v : ℕ) → IsPlacedRow l s i r row v → 1 ≤ length s.bytes
+bytes_some : (l : Layout) (s : Item) (i : ℕ) (r : InputRelocation) (row : Row) (v : ℕ) → IsPlacedRow l s i r row v → 1 ≤ length s.bytes
 bytes_some l s i r row v p =
     let some = (lies_in l s i r row v p).some in
     let inside = p.stands.inside in
@@ -123,28 +104,27 @@ abbrev pub wide : RelocationKindInfo
 wide = plain kinds.Absolute Eight Signed
 
 -- the base and the place, which does not wrap
-pub record StandsBelow (l : Layout) (w : World) (s : InputSection) (row : Row) (r : InputRelocation) : Type 0 where
-  pub place : place_at w (item_of s) (written_as row r).offset ≡ w.base + place_of s (written_as row r)
-  pub ends : w.base + place_of s (written_as row r) ≤ 2 ^ 64
-  pub start : place_at w (item_of s) (written_as row r).offset ≡ place_at w (item_of s) (template_start row r) + field_in row
+pub record StandsBelow (l : Layout) (w : World) (s : Item) (row : Row) (r : InputRelocation) : Type 0 where
+  pub place : place_at w s (written_as row r).offset ≡ w.base + place_of s.address (written_as row r)
+  pub ends : w.base + place_of s.address (written_as row r) ≤ 2 ^ 64
+  pub start : place_at w s (written_as row r).offset ≡ place_at w s (template_start row r) + field_in row
 
-pub stands_below : (l : Layout) (w : World) (m : Memory) (s : InputSection) (i : ℕ) (r : InputRelocation) (row : Row) (v : ℕ) → IsLoadedSection l w m s → IsPlacedRow l s i r row v → StandsBelow l w s row r
+pub stands_below : (l : Layout) (w : World) (m : Memory) (s : Item) (i : ℕ) (r : InputRelocation) (row : Row) (v : ℕ) → IsLoadedItem l w m s → IsPlacedRow l s i r row v → StandsBelow l w s row r
 stands_below l w m s i r row v h p =
     let t = lies_there l w m s h in
-    let full = t.full in
     let low = t.low in
-    let ends = t.ends (bytes_some l s i r row v p) in
+    let ends = h.item.ends (bytes_some l s i r row v p) in
     let inside = field_inside l s i r row v p in
     let at = field_there l s i r row v p in
-    record { place = omega (arith, full, low, inside); ends = omega (arith, full, low, ends, inside); start = omega (arith, at) }
+    record { place = omega (arith, low, inside); ends = omega (arith, low, ends, inside); start = omega (arith, at) }
 
 -- the row of the relocation type that is written
-pub info_is : (l : Layout) (w : World) (m : Memory) (s : InputSection) (i : ℕ) (r : InputRelocation) (row : Row) (v : ℕ) → IsLoadedSection l w m s → (p : IsPlacedRow l s i r row v) → x86_64_row (rewrite_of row).number ≡ Some p.made.written.info
+pub info_is : (l : Layout) (w : World) (m : Memory) (s : Item) (i : ℕ) (r : InputRelocation) (row : Row) (v : ℕ) → IsLoadedItem l w m s → (p : IsPlacedRow l s i r row v) → x86_64_row (rewrite_of row).number ≡ Some p.made.written.info
 info_is l w m s i r row v h p = row_here l.machine (rewrite_of row).number p.made.written.info h.x86 p.made.written.known
 
 -- the value, by the kind that is written
-pub has_term : (l : Layout) (w : World) (m : Memory) (s : InputSection) (i : ℕ) (r : InputRelocation) (row : Row) (v : ℕ) (k : RelocationKind) (n : Width) (sign : Sign) → IsLoadedSection l w m s → (p : IsPlacedRow l s i r row v) → p.made.written.info ≡ plain k n sign → ((t : ℕ) → term_to l r (plain k n sign) ≡ Ok t → term_of l r.symbol k ≡ Ok t)
-    → kind_treatment l s wide_type r.symbol wide k ≡ treatments.Value wide → (IsPlaceRelative (plain_value k) → IsMovable l.kind → IsAbsolute l p.chosen.symbol → w.base ≡ 0) → HasTerm l w m s (written_as row r) k v
+pub has_term : (l : Layout) (w : World) (m : Memory) (s : Item) (i : ℕ) (r : InputRelocation) (row : Row) (v : ℕ) (k : RelocationKind) (n : Width) (sign : Sign) → IsLoadedItem l w m s → (p : IsPlacedRow l s i r row v) → p.made.written.info ≡ plain k n sign → ((t : ℕ) → term_to l r (plain k n sign) ≡ Ok t → term_of l r.symbol k ≡ Ok t)
+    → kind_treatment l s.flags wide_type r.symbol wide k ≡ treatments.Value wide → (IsPlaceRelative (plain_value k) → IsMovable l.kind → IsAbsolute l p.chosen.symbol → w.base ≡ 0) → HasTerm l w m s (written_as row r) k v
 has_term l w m s i r row v k n sign h p is term treated asked =
     let x = p.made.written in
     let below = stands_below l w m s i r row v h p in

@@ -7,7 +7,6 @@ use Rattle.wild_types.specs.declared.kind.Machine.TheVariants as machine
 use Rattle.wild_types.specs.declared.kind.OutputKind.{OutputKind}
 use Rattle.wild_types.specs.declared.kind.OutputKind.TheVariants as output
 use Rattle.wild_types.specs.declared.input.InputRelocation.{InputRelocation}
-use Rattle.wild_types.specs.declared.input.InputSection.{InputSection}
 use Rattle.wild_types.specs.declared.layout.Layout.{Layout}
 use Rattle.wild_types.specs.Flags.{interposable}
 use Rattle.wild_types.specs.Kinds.{is_executable, is_static_executable}
@@ -22,7 +21,8 @@ use Rattle.wild_loader.specs.declared.memory.Memory.{Memory}
 use Rattle.wild_loader.specs.declared.world.World.{World}
 use Rattle.wild_loader.specs.declared.instruction.Operand.TheVariants.{Word}
 use Rattle.wild_loader.specs.Instruction.{sum_64}
-use Rattle.wild_meaning.specs.Item.{item_of, place_at}
+use Rattle.wild_types.specs.Item.{Item}
+use Rattle.wild_meaning.specs.Item.{place_at}
 use Rattle.wild_meaning.specs.Section.{IsSet}
 use Rattle.wild_records.specs.Abi.Section.{shf_execinstr}
 use Rattle.wild_meaning.specs.Thread.{HasOwnOffset, HasThreadOffset, IsOffsetBase}
@@ -30,7 +30,7 @@ use Rattle.wild_meaning.specs.Slot.{HasWord, IsSlot}
 use Rattle.wild_meaning.specs.Formula.{IsOffset, KnowsOffsets, HasOffsetMode}
 use Rattle.wild_meaning.specs.Template.{reads}
 use Rattle.wild_meaning.proofs.WorldLemmas.{word_below}
-use Rattle.wild_references.specs.Laws.{IsLoadedSection}
+use Rattle.wild_references.specs.Laws.{IsLoadedItem}
 use Rattle.wild_references.proofs.RewrittenPlaces.{LawsBelow, IsPlacedRow, ended}
 use Rattle.wild_references.proofs.RewrittenTerms.{written_as, stands_below}
 use Rattle.wild_references.proofs.RewrittenValues.{gives_offset, gives_slot}
@@ -60,7 +60,7 @@ pub record LandsOffset (l : Layout) (w : World) (r : InputRelocation) (v : ℕ) 
   pub is : IsThreadOperand l w r.symbol operand
   pub lands : v ≡ operand
 
-pub lands_offset : LawsBelow → (l : Layout) (w : World) (m : Memory) (s : InputSection) (i : ℕ) (r : InputRelocation) (row : Row) (v : ℕ) → IsLoadedSection l w m s → (p : IsPlacedRow l s i r row v) → (rewrite_of row).number ≡ 23 → (rewrite_of row).addend r.addend ≡ pos 0 → is_executable l.kind ≡ true → interposable (flags_at l p.chosen.symbol) ≡ false → LandsOffset l w r v
+pub lands_offset : LawsBelow → (l : Layout) (w : World) (m : Memory) (s : Item) (i : ℕ) (r : InputRelocation) (row : Row) (v : ℕ) → IsLoadedItem l w m s → (p : IsPlacedRow l s i r row v) → (rewrite_of row).number ≡ 23 → (rewrite_of row).addend r.addend ≡ pos 0 → is_executable l.kind ≡ true → interposable (flags_at l p.chosen.symbol) ≡ false → LandsOffset l w r v
 lands_offset laws l w m s i r row v h p number none program own =
     let g = gives_offset laws l w m s i r row v h p number program own in
     let is = offset_at l w p.chosen.symbol g.0 r.symbol p.chosen.named g.1 in
@@ -71,10 +71,10 @@ lands_offset laws l w m s i r row v h p number none program own =
 
 -- ---- the slot that has it
 
-pub record LandsSlot (l : Layout) (w : World) (m : Memory) (s : InputSection) (r : InputRelocation) (row : Row) (v : ℕ) : Type 0 where
+pub record LandsSlot (l : Layout) (w : World) (m : Memory) (s : Item) (r : InputRelocation) (row : Row) (v : ℕ) : Type 0 where
   pub operand : ℕ
   pub is : IsThreadOperand l w r.symbol operand
-  pub lands : reads w m (Word (sum_64 (place_at w (item_of s) (template_start row r) + field_in row + 4) v)) ≡ Some operand
+  pub lands : reads w m (Word (sum_64 (place_at w s (template_start row r) + field_in row + 4) v)) ≡ Some operand
 
 -- a slot with an offset
 record HasSlot (l : Layout) (w : World) (m : Memory) (symbol : Option ℕ) (g : ℕ) : Type 0 where
@@ -90,7 +90,7 @@ slot_at l w m g k symbol e h =
 slot_lands : (g c place q v : ℕ) → g < 2 ^ 64 → c ≡ 2 ^ 64 - 4 → v ≡ (g + c + (2 ^ 64 - place)) % 2 ^ 64 → place ≡ q → place ≤ 2 ^ 64 → (q + 4 + v) % 2 ^ 64 ≡ g
 slot_lands g c place q v low a b e high = omega (arith, low, a, b, e, high)
 
-pub lands_slot : LawsBelow → (l : Layout) (w : World) (m : Memory) (s : InputSection) (i : ℕ) (r : InputRelocation) (row : Row) (v : ℕ) → IsLoadedSection l w m s → IsPlacedRow l s i r row v → (rewrite_of row).number ≡ 22 → (rewrite_of row).addend r.addend ≡ r.addend → minus_four r.addend ≡ true → LandsSlot l w m s r row v
+pub lands_slot : LawsBelow → (l : Layout) (w : World) (m : Memory) (s : Item) (i : ℕ) (r : InputRelocation) (row : Row) (v : ℕ) → IsLoadedItem l w m s → IsPlacedRow l s i r row v → (rewrite_of row).number ≡ 22 → (rewrite_of row).addend r.addend ≡ r.addend → minus_four r.addend ≡ true → LandsSlot l w m s r row v
 lands_slot laws l w m s i r row v h p number same ends =
     let g = gives_slot laws l w m s i r row v h p number in
     let below = stands_below l w m s i r row v h p in
@@ -98,7 +98,7 @@ lands_slot laws l w m s i r row v h p number same ends =
     let high = below.ends in
     let c : cast_unsigned w64 ((rewrite_of row).addend r.addend) ≡ 2 ^ 64 - 4 = ap (λ (x : ℤ). cast_unsigned w64 x) same ∙ ended r.addend ends in
     let slot = slot_at l w m g.0 p.chosen.symbol r.symbol p.chosen.named g.1 in
-    let at = slot_lands g.0 (cast_unsigned w64 ((rewrite_of row).addend r.addend)) (place_at w (item_of s) (written_as row r).offset) (place_at w (item_of s) (template_start row r) + field_in row) v (word_below m g.0 slot.offset slot.word) c g.2 below.start (omega (arith, place, high)) in
+    let at = slot_lands g.0 (cast_unsigned w64 ((rewrite_of row).addend r.addend)) (place_at w s (written_as row r).offset) (place_at w s (template_start row r) + field_in row) v (word_below m g.0 slot.offset slot.word) c g.2 below.start (omega (arith, place, high)) in
     record { operand = slot.offset; is = offset_at l w p.chosen.symbol slot.offset r.symbol p.chosen.named slot.is; lands = subst (λ (a : ℕ). HasWord m a slot.offset) (sym at) slot.word }
 
 -- ---- descriptors, and the output's own data
@@ -110,7 +110,7 @@ knows_by (output.DynamicExecutable any) l h e = e refl
 knows_by output.SharedObject l h e = cc
 knows_by output.PartialObject l h e = cc
 
-pub offset_mode : (l : Layout) (s : InputSection) → l.machine ≡ machine.X86_64 → is_executable l.kind ≡ true → (is_static_executable l.kind ≡ false → l.options.relax ≡ true) → IsSet s.flags shf_execinstr → HasOffsetMode l (item_of s)
+pub offset_mode : (l : Layout) (s : Item) → l.machine ≡ machine.X86_64 → is_executable l.kind ≡ true → (is_static_executable l.kind ≡ false → l.options.relax ≡ true) → IsSet s.flags shf_execinstr → HasOffsetMode l s
 offset_mode l s x86 program on code = (subst (λ (k : Machine). KnowsOffsets k l.kind l) (sym x86) (knows_by l.kind l program on), code)
 
 base_by : (m : Machine) (k : OutputKind) (w : World) → m ≡ machine.X86_64 → is_executable k ≡ true → IsOffsetBase m k w 0

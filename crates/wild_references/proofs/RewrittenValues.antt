@@ -8,7 +8,6 @@ use Rattle.wild_types.specs.declared.kind.RelocationModel.TheVariants as model
 use Rattle.wild_types.specs.declared.kind.OutputKind.{OutputKind}
 use Rattle.wild_types.specs.declared.kind.OutputKind.TheVariants as output
 use Rattle.wild_types.specs.declared.input.InputRelocation.{InputRelocation}
-use Rattle.wild_types.specs.declared.input.InputSection.{InputSection}
 use Rattle.wild_types.specs.declared.layout.Layout.{Layout}
 use Rattle.wild_slot.specs.declared.treatment.Treatment.{Treatment}
 use Rattle.wild_slot.specs.declared.treatment.Treatment.TheVariants as treatments
@@ -30,10 +29,10 @@ use Rattle.wild_loader.specs.declared.memory.Memory.{Memory}
 use Rattle.wild_loader.specs.declared.world.World.{World}
 use Rattle.wild_meaning.specs.World.{IsMovable}
 use Rattle.wild_meaning.specs.Value.{IsAbsolute, IsReplaceable}
-use Rattle.wild_meaning.specs.Item.{item_of}
+use Rattle.wild_types.specs.Item.{Item}
 use Rattle.wild_meaning.specs.Formula.{Gives}
 use Rattle.wild_relax.proofs.RowLemmas.{pc32, tpoff32, gottpoff}
-use Rattle.wild_references.specs.Laws.{IsLoadedSection}
+use Rattle.wild_references.specs.Laws.{IsLoadedItem}
 use Rattle.wild_references.specs.Terms.{IsFollowed}
 use Rattle.wild_references.proofs.RewrittenPlaces.{LawsBelow, IsPlacedRow}
 use Rattle.wild_references.proofs.RewrittenSymbols.{definition, own_one}
@@ -55,15 +54,15 @@ not_listed_in_shared : (k : Machine) → is_barred_in_shared k wide_type ≡ fal
 not_listed_in_shared machine.X86_64 = refl
 not_listed_in_shared machine.AArch64 = refl
 
-not_barred : (l : Layout) (s : InputSection) (k : ℕ) → is_barred l s wide_type k ≡ false
+not_barred : (l : Layout) (s : Item) (k : ℕ) → is_barred l s.flags wide_type k ≡ false
 not_barred l s k = barred_by (allocated s.flags) (is_position_independent l.kind) (is_barred_type l.machine wide_type) (is_elsewhere (flags_at l k)) (not_listed l.machine)
 
 by_barred : (b : Bool) → b ≡ false → (if b then treatments.Recompile else treatments.Value wide) ≡ treatments.Value wide
 by_barred true h = cc
 by_barred false h = refl
 
-distance_value : (l : Layout) (s : InputSection) (k : ℕ) (symbol : Option ℕ) → symbol ≡ Some k → kind_treatment l s wide_type symbol wide kinds.Relative ≡ treatments.Value wide
-distance_value l s k symbol e = rw e (by_barred (is_barred l s wide_type k) (not_barred l s k))
+distance_value : (l : Layout) (s : Item) (k : ℕ) (symbol : Option ℕ) → symbol ≡ Some k → kind_treatment l s.flags wide_type symbol wide kinds.Relative ≡ treatments.Value wide
+distance_value l s k symbol e = rw e (by_barred (is_barred l s.flags wide_type k) (not_barred l s k))
 
 address_by : (barred left chosen moving : Bool) (i : ℕ) (c t : Treatment) → barred ≡ false → left ≡ false → chosen ≡ false → moving ≡ false → (if barred then treatments.Recompile else (if left then treatments.Symbolic i else (if chosen then c else (if moving then t else treatments.Value wide)))) ≡ treatments.Value wide
 address_by false false false false i c t a b d e = refl
@@ -76,12 +75,12 @@ there_by : (b : Bool) (t : Treatment) → t ≡ treatments.Value wide → (if b 
 there_by true t h = h
 there_by false t h = refl
 
-address_value : (l : Layout) (s : InputSection) (k : ℕ) (symbol : Option ℕ) → symbol ≡ Some k → interposable (flags_at l k) ≡ false → has_flag (flags_at l k) ifunc ≡ false → moves l k ≡ false → kind_treatment l s wide_type symbol wide kinds.Absolute ≡ treatments.Value wide
+address_value : (l : Layout) (s : Item) (k : ℕ) (symbol : Option ℕ) → symbol ≡ Some k → interposable (flags_at l k) ≡ false → has_flag (flags_at l k) ifunc ≡ false → moves l k ≡ false → kind_treatment l s.flags wide_type symbol wide kinds.Absolute ≡ treatments.Value wide
 address_value l s k symbol e own plain_one still =
-    let narrow : is_narrow l s wide_type ≡ false = and_right (allocated s.flags && is_shared_object l.kind) (is_barred_in_shared l.machine wide_type) (not_listed_in_shared l.machine) in
-    let value = address_by (is_barred l s wide_type k || is_narrow l s wide_type) (is_left l s wide k) (is_chosen l s k) (allocated s.flags && moves l k) k (chosen_treatment wide k) (moved_treatment wide)
-    (or_from (is_barred l s wide_type k) (is_narrow l s wide_type) (not_barred l s k) narrow) (and_right _ _ own) (and_right _ _ plain_one) (and_right (allocated s.flags) (moves l k) still) in
-    rw e (there_by (nat_lt (canonical l k) (length l.symbols)) (address_treatment l s wide_type wide k) value)
+    let narrow : is_narrow l s.flags wide_type ≡ false = and_right (allocated s.flags && is_shared_object l.kind) (is_barred_in_shared l.machine wide_type) (not_listed_in_shared l.machine) in
+    let value = address_by (is_barred l s.flags wide_type k || is_narrow l s.flags wide_type) (is_left l s.flags wide k) (is_chosen l s.flags k) (allocated s.flags && moves l k) k (chosen_treatment wide k) (moved_treatment wide)
+    (or_from (is_barred l s.flags wide_type k) (is_narrow l s.flags wide_type) (not_barred l s k) narrow) (and_right _ _ own) (and_right _ _ plain_one) (and_right (allocated s.flags) (moves l k) still) in
+    rw e (there_by (nat_lt (canonical l k) (length l.symbols)) (address_treatment l s.flags wide_type wide k) value)
 
 no_library : (k : OutputKind) → is_executable k ≡ true → is_shared_object k ≡ false
 no_library (output.StaticExecutable any) h = refl
@@ -89,10 +88,10 @@ no_library (output.DynamicExecutable any) h = refl
 no_library output.SharedObject h = cc
 no_library output.PartialObject h = cc
 
-pointer_value : (l : Layout) (s : InputSection) (k : ℕ) (symbol : Option ℕ) → symbol ≡ Some k → is_executable l.kind ≡ true → kind_treatment l s wide_type symbol wide kinds.TpOff ≡ treatments.Value wide
+pointer_value : (l : Layout) (s : Item) (k : ℕ) (symbol : Option ℕ) → symbol ≡ Some k → is_executable l.kind ≡ true → kind_treatment l s.flags wide_type symbol wide kinds.TpOff ≡ treatments.Value wide
 pointer_value l s k symbol e program = rw e (by_barred (allocated s.flags && is_shared_object l.kind) (and_right (allocated s.flags) (is_shared_object l.kind) (no_library l.kind program)))
 
-slot_value : (l : Layout) (s : InputSection) (k : ℕ) (symbol : Option ℕ) → symbol ≡ Some k → kind_treatment l s wide_type symbol wide kinds.GotTpOff ≡ treatments.Value wide
+slot_value : (l : Layout) (s : Item) (k : ℕ) (symbol : Option ℕ) → symbol ≡ Some k → kind_treatment l s.flags wide_type symbol wide kinds.GotTpOff ≡ treatments.Value wide
 slot_value l s k symbol e = rw e refl
 
 -- a value that is known when the image is linked does not move
@@ -117,7 +116,7 @@ known_still l k h = still_by (has_flag (flags_at l k) absolute) (has_link_time_a
 -- ---- whose symbol it is
 
 -- the symbol is the output's own
-pub own_symbol : (l : Layout) (w : World) (m : Memory) (s : InputSection) (i : ℕ) (r : InputRelocation) (row : Row) (v : ℕ) → IsLoadedSection l w m s → (p : IsPlacedRow l s i r row v) → interposable (flags_at l p.chosen.symbol) ≡ false → IsReplaceable l p.chosen.symbol false
+pub own_symbol : (l : Layout) (w : World) (m : Memory) (s : Item) (i : ℕ) (r : InputRelocation) (row : Row) (v : ℕ) → IsLoadedItem l w m s → (p : IsPlacedRow l s i r row v) → interposable (flags_at l p.chosen.symbol) ≡ false → IsReplaceable l p.chosen.symbol false
 own_symbol l w m s i r row v h p own = own_one l p.chosen.symbol h.laid.slot_flags (definition l p.chosen.symbol h.laid.definitions (symbol_there l w m s i r row v h p)) own
 
 followed : (l : Layout) (r q : InputRelocation) (k : ℕ) (kind : RelocationKind) → r.symbol ≡ Some k → q.symbol ≡ r.symbol → IsReplaceable l k false → IsFollowed l q kind
@@ -126,27 +125,27 @@ followed l r q k kind named e own = λ j at. (let same : j ≡ k = (let f : Some
 -- ---- the kinds
 
 -- S + A - P
-pub gives_distance : LawsBelow → (l : Layout) (w : World) (m : Memory) (s : InputSection) (i : ℕ) (r : InputRelocation) (row : Row) (v : ℕ) → IsLoadedSection l w m s → (p : IsPlacedRow l s i r row v) → (rewrite_of row).number ≡ 2 → interposable (flags_at l p.chosen.symbol) ≡ false → (IsMovable l.kind → IsAbsolute l p.chosen.symbol → w.base ≡ 0) → Gives (plain_value kinds.Relative) l w m (item_of s) (written_as row r) v
+pub gives_distance : LawsBelow → (l : Layout) (w : World) (m : Memory) (s : Item) (i : ℕ) (r : InputRelocation) (row : Row) (v : ℕ) → IsLoadedItem l w m s → (p : IsPlacedRow l s i r row v) → (rewrite_of row).number ≡ 2 → interposable (flags_at l p.chosen.symbol) ≡ false → (IsMovable l.kind → IsAbsolute l p.chosen.symbol → w.base ≡ 0) → Gives (plain_value kinds.Relative) l w m s (written_as row r) v
 gives_distance laws l w m s i r row v h p number own asked =
     let info = pc32 p.made.written.info (sym (subst (λ (n : ℕ). x86_64_row n ≡ Some p.made.written.info) number (info_is l w m s i r row v h p))) in
     laws.distance l w m s (written_as row r) v (has_term l w m s i r row v kinds.Relative Four Signed h p info (λ t e. e) (distance_value l s p.chosen.symbol r.symbol p.chosen.named) (λ relative movable abs. asked movable abs))
     (followed l r (written_as row r) p.chosen.symbol kinds.Relative p.chosen.named refl (own_symbol l w m s i r row v h p own))
 
 -- S + A
-pub gives_number : LawsBelow → (l : Layout) (w : World) (m : Memory) (s : InputSection) (i : ℕ) (r : InputRelocation) (row : Row) (v : ℕ) (sign : Sign) → IsLoadedSection l w m s → (p : IsPlacedRow l s i r row v) → p.made.written.info ≡ plain kinds.Absolute Four sign → interposable (flags_at l p.chosen.symbol) ≡ false → has_flag (flags_at l p.chosen.symbol) ifunc ≡ false → moves l p.chosen.symbol ≡ false → Gives (plain_value kinds.Absolute) l w m (item_of s) (written_as row r) v
+pub gives_number : LawsBelow → (l : Layout) (w : World) (m : Memory) (s : Item) (i : ℕ) (r : InputRelocation) (row : Row) (v : ℕ) (sign : Sign) → IsLoadedItem l w m s → (p : IsPlacedRow l s i r row v) → p.made.written.info ≡ plain kinds.Absolute Four sign → interposable (flags_at l p.chosen.symbol) ≡ false → has_flag (flags_at l p.chosen.symbol) ifunc ≡ false → moves l p.chosen.symbol ≡ false → Gives (plain_value kinds.Absolute) l w m s (written_as row r) v
 gives_number laws l w m s i r row v sign h p info own plain_one still =
     laws.sum l w m s (written_as row r) v (has_term l w m s i r row v kinds.Absolute Four sign h p info (λ t e. e) (address_value l s p.chosen.symbol r.symbol p.chosen.named own plain_one still) (λ relative movable abs. absurd relative))
     (followed l r (written_as row r) p.chosen.symbol kinds.Absolute p.chosen.named refl (own_symbol l w m s i r row v h p own))
 
 -- the offset from the thread pointer
-pub gives_offset : LawsBelow → (l : Layout) (w : World) (m : Memory) (s : InputSection) (i : ℕ) (r : InputRelocation) (row : Row) (v : ℕ) → IsLoadedSection l w m s → (p : IsPlacedRow l s i r row v) → (rewrite_of row).number ≡ 23 → is_executable l.kind ≡ true → interposable (flags_at l p.chosen.symbol) ≡ false → Gives (plain_value kinds.TpOff) l w m (item_of s) (written_as row r) v
+pub gives_offset : LawsBelow → (l : Layout) (w : World) (m : Memory) (s : Item) (i : ℕ) (r : InputRelocation) (row : Row) (v : ℕ) → IsLoadedItem l w m s → (p : IsPlacedRow l s i r row v) → (rewrite_of row).number ≡ 23 → is_executable l.kind ≡ true → interposable (flags_at l p.chosen.symbol) ≡ false → Gives (plain_value kinds.TpOff) l w m s (written_as row r) v
 gives_offset laws l w m s i r row v h p number program own =
     let info = tpoff32 p.made.written.info (sym (subst (λ (n : ℕ). x86_64_row n ≡ Some p.made.written.info) number (info_is l w m s i r row v h p))) in
     laws.pointer l w m s (written_as row r) v (has_term l w m s i r row v kinds.TpOff Four Signed h p info (λ t e. e) (pointer_value l s p.chosen.symbol r.symbol p.chosen.named program) (λ relative movable abs. absurd relative))
     (followed l r (written_as row r) p.chosen.symbol kinds.TpOff p.chosen.named refl (own_symbol l w m s i r row v h p own))
 
 -- the slot of an offset, whichever module has the symbol
-pub gives_slot : LawsBelow → (l : Layout) (w : World) (m : Memory) (s : InputSection) (i : ℕ) (r : InputRelocation) (row : Row) (v : ℕ) → IsLoadedSection l w m s → (p : IsPlacedRow l s i r row v) → (rewrite_of row).number ≡ 22 → Gives (plain_value kinds.GotTpOff) l w m (item_of s) (written_as row r) v
+pub gives_slot : LawsBelow → (l : Layout) (w : World) (m : Memory) (s : Item) (i : ℕ) (r : InputRelocation) (row : Row) (v : ℕ) → IsLoadedItem l w m s → (p : IsPlacedRow l s i r row v) → (rewrite_of row).number ≡ 22 → Gives (plain_value kinds.GotTpOff) l w m s (written_as row r) v
 gives_slot laws l w m s i r row v h p number =
     let info = gottpoff p.made.written.info (sym (subst (λ (n : ℕ). x86_64_row n ≡ Some p.made.written.info) number (info_is l w m s i r row v h p))) in
     laws.slot l w m s (written_as row r) v (has_term l w m s i r row v kinds.GotTpOff Four Signed h p info (λ t e. e) (slot_value l s p.chosen.symbol r.symbol p.chosen.named) (λ relative movable abs. absurd relative))

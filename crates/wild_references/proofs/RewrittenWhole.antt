@@ -4,7 +4,6 @@ use Rattle.std.specs.Prelude.{Some, Ok, slice_get}
 use Rattle.std.proofs.lemmas.Bool.{cases_Bool}
 use Rattle.std.proofs.lemmas.Option.{slice_get_within}
 use Rattle.wild_types.specs.declared.input.InputRelocation.{InputRelocation}
-use Rattle.wild_types.specs.declared.input.InputSection.{InputSection}
 use Rattle.wild_types.specs.declared.layout.Layout.{Layout}
 use Rattle.wild_relax.specs.declared.row.Row.{Row}
 use Rattle.wild_relax.specs.declared.row.Row.TheVariants.{PlainGotMovToLea}
@@ -19,11 +18,11 @@ use Rattle.wild_layout.proofs.DecisionLemmas.{decide_partner, sequence_is_rewrit
 use Rattle.wild_geometry.specs.Loaded.{HasDecision}
 use Rattle.wild_loader.specs.declared.memory.Memory.{Memory}
 use Rattle.wild_loader.specs.declared.world.World.{World}
-use Rattle.wild_meaning.specs.Item.{item_of}
+use Rattle.wild_types.specs.Item.{Item}
 use Rattle.wild_meaning.specs.Sequence.{TargetInSlot, Instruction, size_of}
 use Rattle.wild_meaning.specs.Template.{IsSingle, IsTemplate, reads_alone, DoesDemanded}
 use Rattle.wild_meaning.specs.Reference.{IsAsked}
-use Rattle.wild_references.specs.Laws.{IsLoadedSection}
+use Rattle.wild_references.specs.Laws.{IsLoadedItem}
 use Rattle.wild_references.specs.EffectLaws.{RewrittenStand, RewrittenHold, PartnersHold}
 use Rattle.wild_references.proofs.RewrittenForms.{instruction_of}
 use Rattle.wild_references.proofs.RewrittenPlaces.{LawsBelow, IsPlacedRow, placed_row, size_is}
@@ -38,16 +37,16 @@ use Rattle.wild_references.proofs.RewrittenWider.{does_wider}
 
 -- ---- an instruction, where it stands, and what it does where it is asked
 
-record IsHeld (l : Layout) (w : World) (m : Memory) (s : InputSection) (r : InputRelocation) (row : Row) : Type 0 where
+record IsHeld (l : Layout) (w : World) (m : Memory) (s : Item) (r : InputRelocation) (row : Row) : Type 0 where
   from : ℕ
   instruction : Instruction
-  template : IsTemplate l (item_of s) r from instruction r
+  template : IsTemplate l s r from instruction r
   before : from ≤ template_start row r
   behind : template_start row r + pattern_size row ≤ from + size_of instruction
-  does : (instruction.sort ≡ TargetInSlot → IsAsked l w (item_of s) r) → DoesDemanded (reads_alone w m) l w m (item_of s) r from instruction
+  does : (instruction.sort ≡ TargetInSlot → IsAsked l w s r) → DoesDemanded (reads_alone w m) l w m s r from instruction
 
 -- where code goes through a slot to an absolute symbol of an output that moves, the reference is asked at base 0 alone
-goes_with : (l : Layout) (w : World) (m : Memory) (s : InputSection) (i : ℕ) (r : InputRelocation) (row : Row) (v : ℕ) → (p : IsPlacedRow l s i r row v) → IsSingle l (item_of s) r (template_start row r) (instruction_of row) → ((instruction_of row).sort ≡ TargetInSlot → IsAsked l w (item_of s) r) → GoesWithBase l w row p.chosen.symbol
+goes_with : (l : Layout) (w : World) (m : Memory) (s : Item) (i : ℕ) (r : InputRelocation) (row : Row) (v : ℕ) → (p : IsPlacedRow l s i r row v) → IsSingle l s r (template_start row r) (instruction_of row) → ((instruction_of row).sort ≡ TargetInSlot → IsAsked l w s r) → GoesWithBase l w row p.chosen.symbol
 goes_with l w m s i r row v p t asked sort movable still = asked sort (record {
   movable = movable;
   symbol = p.chosen.symbol;
@@ -56,7 +55,7 @@ goes_with l w m s i r row v p t asked sort movable still = asked sort (record {
   relative = inr (record { start = template_start row r; instruction = instruction_of row; first = r; template = inl (t, refl); through = sort });
 })
 
-single_held : LawsBelow → (l : Layout) (w : World) (m : Memory) (s : InputSection) (i : ℕ) (r : InputRelocation) (row : Row) (v : ℕ) → IsLoadedSection l w m s → IsPlacedRow l s i r row v → IsSingle l (item_of s) r (template_start row r) (instruction_of row) → IsHeld l w m s r row
+single_held : LawsBelow → (l : Layout) (w : World) (m : Memory) (s : Item) (i : ℕ) (r : InputRelocation) (row : Row) (v : ℕ) → IsLoadedItem l w m s → IsPlacedRow l s i r row v → IsSingle l s r (template_start row r) (instruction_of row) → IsHeld l w m s r row
 single_held laws l w m s i r row v h p t =
     let size = size_is l s i r row v p in
     record {
@@ -68,7 +67,7 @@ single_held laws l w m s i r row v h p t =
       does = λ asked. does_row laws l w m s i r row v h p (goes_with l w m s i r row v p t asked);
     }
 
-wider_held : LawsBelow → (l : Layout) (w : World) (m : Memory) (s : InputSection) (i : ℕ) (r : InputRelocation) (v from : ℕ) → IsLoadedSection l w m s → IsWider l s i r v from → IsHeld l w m s r PlainGotMovToLea
+wider_held : LawsBelow → (l : Layout) (w : World) (m : Memory) (s : Item) (i : ℕ) (r : InputRelocation) (v from : ℕ) → IsLoadedItem l w m s → IsWider l s i r v from → IsHeld l w m s r PlainGotMovToLea
 wider_held laws l w m s i r v from h t =
     let start = t.plain.start in
     record {
@@ -80,7 +79,7 @@ wider_held laws l w m s i r v from h t =
       does = λ asked. does_wider laws l w m s i r v from h t;
     }
 
-plain_held : LawsBelow → (l : Layout) (w : World) (m : Memory) (s : InputSection) (i : ℕ) (r : InputRelocation) (v : ℕ) → IsLoadedSection l w m s → IsPlacedRow l s i r PlainGotMovToLea v → IsHeld l w m s r PlainGotMovToLea
+plain_held : LawsBelow → (l : Layout) (w : World) (m : Memory) (s : Item) (i : ℕ) (r : InputRelocation) (v : ℕ) → IsLoadedItem l w m s → IsPlacedRow l s i r PlainGotMovToLea v → IsHeld l w m s r PlainGotMovToLea
 plain_held laws l w m s i r v h p =
     elim (wider_or_not l s i r v p) [
       | inl t ↦ wider_held laws l w m s i r v t.0 h t.1
@@ -88,13 +87,13 @@ plain_held laws l w m s i r v h p =
     ]
 
 -- the call is there
-call_there : (l : Layout) (s : InputSection) (i : ℕ) (r : InputRelocation) (row : Row) (v : ℕ) → IsPlacedRow l s i r row v → is_skip (rewrite_of row).next ≡ true → (next : InputRelocation) × (slice_get s.relocations (i + 1) ≡ Some next)
+call_there : (l : Layout) (s : Item) (i : ℕ) (r : InputRelocation) (row : Row) (v : ℕ) → IsPlacedRow l s i r row v → is_skip (rewrite_of row).next ≡ true → (next : InputRelocation) × (slice_get s.relocations (i + 1) ≡ Some next)
 call_there l s i r row v p skips =
     let pair = paired row p.changing skips in
     let c = called l s row r p.chosen.symbol pair.distance (slice_get s.relocations (i + 1)) pair.behind p.stands.taken.partner in
     (c.0, c.1)
 
-sequence_held : LawsBelow → (l : Layout) (w : World) (m : Memory) (s : InputSection) (i : ℕ) (r : InputRelocation) (row : Row) (v : ℕ) → IsLoadedSection l w m s → IsPlacedRow l s i r row v → is_skip (rewrite_of row).next ≡ true → IsHeld l w m s r row
+sequence_held : LawsBelow → (l : Layout) (w : World) (m : Memory) (s : Item) (i : ℕ) (r : InputRelocation) (row : Row) (v : ℕ) → IsLoadedItem l w m s → IsPlacedRow l s i r row v → is_skip (rewrite_of row).next ≡ true → IsHeld l w m s r row
 sequence_held laws l w m s i r row v h p skips =
     let size = size_is l s i r row v p in
     let c = call_there l s i r row v p skips in
@@ -107,14 +106,14 @@ sequence_held laws l w m s i r row v h p skips =
       does = λ asked. does_row laws l w m s i r row v h p (λ sort. absurd (sequence_sort row skips sort));
     }
 
-told_held : LawsBelow → (l : Layout) (w : World) (m : Memory) (s : InputSection) (i : ℕ) (r : InputRelocation) (row : Row) (v : ℕ) → IsLoadedSection l w m s → IsPlacedRow l s i r row v → is_told row ≡ true → IsHeld l w m s r row
+told_held : LawsBelow → (l : Layout) (w : World) (m : Memory) (s : Item) (i : ℕ) (r : InputRelocation) (row : Row) (v : ℕ) → IsLoadedItem l w m s → IsPlacedRow l s i r row v → is_told row ≡ true → IsHeld l w m s r row
 told_held laws l w m s i r row v h p told =
     elim (cases_Bool (is_skip (rewrite_of row).next)) [
       | inl skips ↦ sequence_held laws l w m s i r row v h p skips
       | inr alone ↦ single_held laws l w m s i r row v h p (single_there laws l w m s i r row v h p alone told)
     ]
 
-row_held : LawsBelow → (l : Layout) (w : World) (m : Memory) (s : InputSection) (i : ℕ) (r : InputRelocation) (row : Row) (v : ℕ) → IsLoadedSection l w m s → IsPlacedRow l s i r row v → IsHeld l w m s r row
+row_held : LawsBelow → (l : Layout) (w : World) (m : Memory) (s : Item) (i : ℕ) (r : InputRelocation) (row : Row) (v : ℕ) → IsLoadedItem l w m s → IsPlacedRow l s i r row v → IsHeld l w m s r row
 row_held laws l w m s i r PlainGotMovToLea v h p = plain_held laws l w m s i r v h p
 row_held laws l w m s i r other v h p = told_held laws l w m s i r other v h p refl
 
@@ -131,7 +130,7 @@ rewritten_hold laws l w m s h i r row v has asked =
 -- ---- the calls of sequences
 
 -- the relocation before the call is rewritten by the row that takes it along
-record IsBefore (l : Layout) (s : InputSection) (j : ℕ) (second : InputRelocation) : Type 0 where
+record IsBefore (l : Layout) (s : Item) (j : ℕ) (second : InputRelocation) : Type 0 where
   first : InputRelocation
   row : Row
   value : ℕ
@@ -139,7 +138,7 @@ record IsBefore (l : Layout) (s : InputSection) (j : ℕ) (second : InputRelocat
   skips : is_skip (rewrite_of row).next ≡ true
   listed : slice_get s.relocations (j + 1) ≡ Some second
 
-before_call : (l : Layout) (w : World) (m : Memory) (s : InputSection) (i : ℕ) (r : InputRelocation) → IsLoadedSection l w m s → HasDecision l s i r Partner → (j : ℕ) × IsBefore l s j r
+before_call : (l : Layout) (w : World) (m : Memory) (s : Item) (i : ℕ) (r : InputRelocation) → IsLoadedItem l w m s → HasDecision l s i r Partner → (j : ℕ) × IsBefore l s j r
 before_call l w m s i r h has =
     let t = decide_partner l s i r has.listed has.decided in
     (t.0, by_row t.0 t.2 t.3 (subst (λ (n : ℕ). slice_get s.relocations n ≡ Some r) t.1 has.listed))

@@ -9,7 +9,6 @@ use Rattle.wild_records.specs.Abi.Relocation as abi
 use Rattle.wild_types.specs.declared.kind.Machine.{Machine}
 use Rattle.wild_types.specs.declared.kind.Machine.TheVariants as machine
 use Rattle.wild_types.specs.declared.input.InputRelocation.{InputRelocation}
-use Rattle.wild_types.specs.declared.input.InputSection.{InputSection}
 use Rattle.wild_types.specs.declared.layout.Layout.{Layout}
 use Rattle.wild_reloc.specs.Field.{written}
 use Rattle.wild_reloc.specs.Formula.{Formula}
@@ -30,7 +29,8 @@ use Rattle.wild_geometry.specs.Loaded.{IsDecided, HasDecision}
 use Rattle.wild_loader.specs.Memory.{byte_in, Holds}
 use Rattle.wild_loader.specs.declared.memory.Memory.{Memory}
 use Rattle.wild_loader.specs.declared.world.World.{World}
-use Rattle.wild_meaning.specs.Item.{item_of, place_at}
+use Rattle.wild_types.specs.Item.{Item}
+use Rattle.wild_meaning.specs.Item.{place_at}
 use Rattle.wild_meaning.specs.Field.{formula_of, form_width, IsInputByte}
 use Rattle.wild_loader.specs.Instruction.{as_value}
 use Rattle.wild_loader.specs.Instruction as judge
@@ -38,7 +38,7 @@ use Rattle.wild_loader.specs.declared.instruction.Cell.TheVariants as judge-cell
 use Rattle.wild_loader.specs.InstructionX86_64.{effect_x86_64, demand_x86_64}
 use Rattle.wild_meaning.specs.Sequence.{Instruction, instructions_of}
 use Rattle.wild_meaning.specs.Template.{reads_alone, DoesDemanded}
-use Rattle.wild_references.specs.Laws.{IsLoadedSection}
+use Rattle.wild_references.specs.Laws.{IsLoadedItem}
 use Rattle.wild_references.proofs.Clash.{is_free, are_calls, pair_ok, row_ok, each_row_ok, IsUncovered, apart_templates}
 use Rattle.wild_references.proofs.Kept.{OutOfWindows, input_byte, Window, window, free_not}
 use Rattle.wild_references.proofs.RewrittenPlaces.{LawsBelow}
@@ -66,7 +66,7 @@ formula_there : (m : Machine) (n : ℕ) (f : Formula) → m ≡ machine.X86_64 �
 formula_there m n f e k h = subst (λ (x : Machine). formula_of x n ≡ Some f) (sym e) (subst (λ (y : ℕ). x86_64_formula y ≡ Some f) (sym k) h)
 
 -- the field lies in no other window
-field_out : LawsBelow → (l : Layout) (s : InputSection) (i j : ℕ) (r q : InputRelocation) (v from x w : ℕ) (row : Row) → l.machine ≡ machine.X86_64 → IsDecided l s → Plain l s i r v from → HasDecision l s j q (Rewritten row w) → (j ≡ i → ⊥) → from + 4 ≤ x → x < from + 8 → (x < template_start row q) ⊎ (template_start row q + pattern_size row ≤ x)
+field_out : LawsBelow → (l : Layout) (s : Item) (i j : ℕ) (r q : InputRelocation) (v from x w : ℕ) (row : Row) → l.machine ≡ machine.X86_64 → IsDecided l s → Plain l s i r v from → HasDecision l s j q (Rewritten row w) → (j ≡ i → ⊥) → from + 4 ≤ x → x < from + 8 → (x < template_start row q) ⊎ (template_start row q + pattern_size row ≤ x)
 field_out laws l s i j r q v from x w row x86 decided t h other low high =
     elim (cases_lt x (template_start row q)) [
       | inl before ↦ inl before
@@ -91,13 +91,13 @@ any_four (suc (suc zero)) h = cc
 any_four (suc (suc (suc zero))) h = cc
 any_four (suc (suc (suc (suc k)))) h = omega arith
 
-uncovered : LawsBelow → (l : Layout) (s : InputSection) (i j : ℕ) (r q : InputRelocation) (v from w : ℕ) (row : Row) → l.machine ≡ machine.X86_64 → IsDecided l s → Plain l s i r v from → HasDecision l s j q (Rewritten row w) → (j ≡ i → ⊥) → IsUncovered wide_load.template.cells (cells_of (pattern_of row)) from (template_start row q)
+uncovered : LawsBelow → (l : Layout) (s : Item) (i j : ℕ) (r q : InputRelocation) (v from w : ℕ) (row : Row) → l.machine ≡ machine.X86_64 → IsDecided l s → Plain l s i r v from → HasDecision l s j q (Rewritten row w) → (j ≡ i → ⊥) → IsUncovered wide_load.template.cells (cells_of (pattern_of row)) from (template_start row q)
 uncovered laws l s i j r q v from w row x86 decided t h other k lt any =
     let low = any_four k any in
     field_out laws l s i j r q v from (from + k) w row x86 decided t h other (omega (arith, low)) (omega (arith, lt))
 
 -- another row's window leaves the prefix out
-apart : LawsBelow → (l : Layout) (s : InputSection) (i j : ℕ) (r q : InputRelocation) (v from w : ℕ) (row : Row) → l.machine ≡ machine.X86_64 → IsDecided l s → IsWider l s i r v from → HasDecision l s j q (Rewritten row w) → (j ≡ i → ⊥) → template_start row q ≤ from → from < template_start row q + pattern_size row → ⊥
+apart : LawsBelow → (l : Layout) (s : Item) (i j : ℕ) (r q : InputRelocation) (v from w : ℕ) (row : Row) → l.machine ≡ machine.X86_64 → IsDecided l s → IsWider l s i r v from → HasDecision l s j q (Rewritten row w) → (j ≡ i → ⊥) → template_start row q ≤ from → from < template_start row q + pattern_size row → ⊥
 apart laws l s i j r q v from w row x86 decided t h other low high = by_cell (is_free (get_or (cells_of (pattern_of row)) (from - template_start row q) cells.Any)) refl
   where
     there : Window l s j q row w
@@ -126,7 +126,7 @@ apart laws l s i j r q v from w row x86 decided t h other low high = by_cell (is
           uncovered = uncovered laws l s i j r q v from w row x86 decided t.plain h other;
         })
 
-out_of_windows : LawsBelow → (l : Layout) (s : InputSection) (i : ℕ) (r : InputRelocation) (v from : ℕ) → l.machine ≡ machine.X86_64 → IsDecided l s → IsWider l s i r v from → OutOfWindows l s from
+out_of_windows : LawsBelow → (l : Layout) (s : Item) (i : ℕ) (r : InputRelocation) (v from : ℕ) → l.machine ≡ machine.X86_64 → IsDecided l s → IsWider l s i r v from → OutOfWindows l s from
 out_of_windows laws l s i r v from x86 decided t j q row w h =
     elim (cases_eq j i) [
       | inl e ↦ inl (own_one (subst (λ (n : ℕ). HasDecision l s n q (Rewritten row w)) e h))
@@ -147,7 +147,7 @@ out_of_windows laws l s i r v from x86 decided t j q row w h =
         let here : from < template_start PlainGotMovToLea r = omega (arith, start) in
         subst (λ (x : InputRelocation). from < template_start row x) a (subst (λ (x : Row). from < template_start x r) b here)
 
-pub prefix_stays : LawsBelow → (l : Layout) (w : World) (m : Memory) (s : InputSection) (i : ℕ) (r : InputRelocation) (v from : ℕ) → IsLoadedSection l w m s → IsWider l s i r v from → IsInputByte w m (item_of s) from
+pub prefix_stays : LawsBelow → (l : Layout) (w : World) (m : Memory) (s : Item) (i : ℕ) (r : InputRelocation) (v from : ℕ) → IsLoadedItem l w m s → IsWider l s i r v from → IsInputByte w m s from
 prefix_stays laws l w m s i r v from h t =
     let inside = room l s i r v from t.plain in
     input_byte l w m s from h (omega (arith, inside)) t.alone (out_of_windows laws l s i r v from h.x86 h.decided t)
@@ -168,25 +168,25 @@ held_more : (m : Memory) (a b x : ℕ) (bs : List ℕ) → b ≡ a + 1 → byte_
 held_more m a b x bs e first rest zero lt = (let z : a ≡ a + 0 = omega arith in subst (λ (n : ℕ). byte_in m n ≡ Some x) z first)
 held_more m a b x bs e first rest (suc k) lt = (let z : b + k ≡ a + suc k = omega (arith, e) in subst (λ (n : ℕ). byte_in m n ≡ Some (slice_index bs k)) z (rest k (omega (arith, lt))))
 
-pub does_wider : LawsBelow → (l : Layout) (w : World) (m : Memory) (s : InputSection) (i : ℕ) (r : InputRelocation) (v from : ℕ) → IsLoadedSection l w m s → IsWider l s i r v from → DoesDemanded (reads_alone w m) l w m (item_of s) r from wide_load
+pub does_wider : LawsBelow → (l : Layout) (w : World) (m : Memory) (s : Item) (i : ℕ) (r : InputRelocation) (v from : ℕ) → IsLoadedItem l w m s → IsWider l s i r v from → DoesDemanded (reads_alone w m) l w m s r from wide_load
 does_wider laws l w m s i r v from h t =
     let p = t.plain.row in
     let x = slice_index s.bytes from in
     let old = old_of s PlainGotMovToLea r in
-    let a = place_at w (item_of s) from in
+    let a = place_at w s from in
     let far = plain_far laws l w m s i r PlainGotMovToLea v h p refl refl p.stands.taken.addend p.stands.taken.symbol p.stands.taken.value in
     let n = far.operand in
     let info = p.made.written.info in
     let known = info_is l w m s i r PlainGotMovToLea v h p in
     let bytes = bytes_are l s i r v from t.plain in
     let start = t.plain.start in
-    let next : place_at w (item_of s) (template_start PlainGotMovToLea r) ≡ a + 1 = omega (arith, start) in
+    let next : place_at w s (template_start PlainGotMovToLea r) ≡ a + 1 = omega (arith, start) in
     let shape = stands_with l s i r v from t.plain t.prefix in
     let here : judge.stands wide_load.template.cells (x ∷ old) ≡ true = subst (λ (bs : List ℕ). judge.stands wide_load.template.cells bs ≡ true) bytes shape in
     let long : length (x ∷ old) ≡ 8 = (let z = p.whole.long in omega (arith, z)) in
     let e = has_effect n a 12 wide_load.template (x ∷ old) (omega arith) refl long here in
     let whole : IsWhole (cells_of (pattern_of (RexGotMovToLea Rex2))) (x ∷ old) = record { long = long; same = both_stand (x == 0xd5) _ t.prefix p.whole.same } in
-    let place_is : place_at w (item_of s) (template_start PlainGotMovToLea r) + 3 ≡ a + 4 = omega (arith, next) in
+    let place_is : place_at w s (template_start PlainGotMovToLea r) + 3 ≡ a + 4 = omega (arith, next) in
     let lands : v ≡ distance n (a + 4) = subst (λ (y : ℕ). v ≡ distance n y) place_is far.lands in
     let keeps = laws.keeps (RexGotMovToLea Rex2) info (reads_alone w m) a n v (x ∷ old) tt whole (record { row_of = sym known; allowed = p.made.written.allowed; small = value_small l s i r PlainGotMovToLea v p; operand = far.is.small; numbers = λ k. refl; lands = lands }) in
     let written_bytes : linked (RexGotMovToLea Rex2) info v (x ∷ old) ≡ x ∷ template_of PlainGotMovToLea v old = linked_more info v x old ∙ ap (λ (bs : List ℕ). x ∷ bs) (sym (template_linked PlainGotMovToLea info v old known)) in
@@ -199,7 +199,7 @@ does_wider laws l w m s i r v from h t =
         demanded = on_machine l.machine (as_value n) a (slice_range s.bytes from (from + 8)) h.x86 ∙ (ap (λ (bs : List ℕ). demand_x86_64 n a bs) bytes ∙ e.1);
         bytes = x ∷ template_of PlainGotMovToLea v old;
         whole = (let z = whole_is l w m s i r PlainGotMovToLea v h p in omega (arith, z));
-        held = held_more m a (place_at w (item_of s) (template_start PlainGotMovToLea r)) x (template_of PlainGotMovToLea v old) next (prefix_stays laws l w m s i r v from h t) (h.section.rewritten i r PlainGotMovToLea v p.has);
+        held = held_more m a (place_at w s (template_start PlainGotMovToLea r)) x (template_of PlainGotMovToLea v old) next (prefix_stays laws l w m s i r v from h t) (h.item.rewritten i r PlainGotMovToLea v p.has);
         does = on_machine l.machine (reads_alone w m) a (x ∷ template_of PlainGotMovToLea v old) h.x86 ∙ done;
       };
     }

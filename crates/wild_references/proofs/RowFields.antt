@@ -7,7 +7,6 @@ use Rattle.wild_records.specs.Abi.Relocation.{r_x86_64_pc32, r_x86_64_plt32, r_x
 use Rattle.wild_types.specs.declared.kind.Machine.{Machine}
 use Rattle.wild_types.specs.declared.kind.Machine.TheVariants as machine
 use Rattle.wild_types.specs.declared.input.InputRelocation.{InputRelocation}
-use Rattle.wild_types.specs.declared.input.InputSection.{InputSection}
 use Rattle.wild_types.specs.declared.layout.Layout.{Layout}
 use Rattle.wild_types.specs.Flags.{interposable}
 use Rattle.wild_types.specs.Kinds.{is_position_independent}
@@ -31,7 +30,8 @@ use Rattle.wild_relax.specs.RewriteX86_64.{rewrite_of}
 use Rattle.wild_layout.specs.Choice.{question_of}
 use Rattle.wild_layout.specs.Geometry.{NamesSymbol}
 use Rattle.wild_layout.specs.Sites.{field_site}
-use Rattle.wild_layout.specs.SymbolValues.{displacement, place_of}
+use Rattle.wild_types.specs.Lookups.{place_of}
+use Rattle.wild_layout.specs.SymbolValues.{displacement}
 use Rattle.wild_layout.specs.SlotValues.{is_chosen, address_of}
 use Rattle.wild_layout.specs.Values.{term_of, value_by}
 use Rattle.wild_layout.proofs.ChoiceLemmas.{IsChosen}
@@ -43,11 +43,12 @@ use Rattle.wild_loader.specs.Memory.{Holds}
 use Rattle.wild_meaning.specs.Field.{formula_of, form_width}
 use Rattle.wild_meaning.specs.Formula.{IsTarget, Gives, IsPlaceRelative, TakesAddress, TakesOffset, table_at, IsReferent}
 use Rattle.wild_meaning.proofs.SymbolLemmas.{referent_is}
-use Rattle.wild_meaning.specs.Item.{place_at, item_of}
+use Rattle.wild_types.specs.Item.{Item}
+use Rattle.wild_meaning.specs.Item.{place_at}
 use Rattle.wild_meaning.specs.Reference.{IsAsked}
 use Rattle.wild_meaning.specs.Value.{moved}
 use Rattle.wild_references.specs.Laws.{FieldHolds}
-use Rattle.wild_references.proofs.Fields.{IsSectionLoaded, ReadsForm, place_is, place_ends, below_all, row_reads, formula_known, whole_bytes}
+use Rattle.wild_references.proofs.Fields.{IsItemLoaded, ReadsForm, place_is, place_ends, below_all, row_reads, formula_known, whole_bytes}
 use Rattle.wild_references.proofs.KnownRows.{row_fits}
 use Rattle.wild_references.proofs.Moves.{distance_is, table_is}
 use Rattle.wild_references.proofs.OwnSymbols.{IsOwnValue, own_value}
@@ -59,7 +60,7 @@ use Rattle.wild_references.proofs.Written.{IsRowField, row_here}
 -- ---- values
 
 -- at base 0, or of a symbol that moves, the place is right
-right : (l : Layout) (w : World) (m : Memory) (s : InputSection) (r : InputRelocation) (f : Formula) (i a : ℕ) → IsSectionLoaded l w m s → IsAsked l w (item_of s) r → formula_of l.machine r.number ≡ Some f → IsPlaceRelative f.value → r.symbol ≡ Some i → (t : IsOwnValue l w i a) → (w.base ≡ 0) ⊎ (t.still ≡ false)
+right : (l : Layout) (w : World) (m : Memory) (s : Item) (r : InputRelocation) (f : Formula) (i a : ℕ) → IsItemLoaded l w m s → IsAsked l w s r → formula_of l.machine r.number ≡ Some f → IsPlaceRelative f.value → r.symbol ≡ Some i → (t : IsOwnValue l w i a) → (w.base ≡ 0) ⊎ (t.still ≡ false)
 right l w m s r f i a h asked known relative named t =
     elim (cases_Bool t.still) [
       | inr moves ↦ inr moves
@@ -70,22 +71,22 @@ right l w m s r f i a h asked known relative named t =
     ]
 
 -- the symbol itself is what L is
-goal_is : (v : Value) (l : Layout) (w : World) (m : Memory) (s : InputSection) (r : InputRelocation) (i a : ℕ) → l.machine ≡ machine.X86_64 → r.symbol ≡ Some i → (t : IsOwnValue l w i a) → IsReferent l.machine v l w m (item_of s) r (moved t.still w.base a)
-goal_is v l w m s r i a x named t = referent_is v l w m (item_of s) r (moved t.still w.base a) x (subst (λ (o : Option ℕ). IsTarget l w m o (moved t.still w.base a)) (sym named) (inl t.value))
+goal_is : (v : Value) (l : Layout) (w : World) (m : Memory) (s : Item) (r : InputRelocation) (i a : ℕ) → l.machine ≡ machine.X86_64 → r.symbol ≡ Some i → (t : IsOwnValue l w i a) → IsReferent l.machine v l w m s r (moved t.still w.base a)
+goal_is v l w m s r i a x named t = referent_is v l w m s r (moved t.still w.base a) x (subst (λ (o : Option ℕ). IsTarget l w m o (moved t.still w.base a)) (sym named) (inl t.value))
 
 flat : (x c q : ℕ) → ((x + c) % 2 ^ 64 + q) % 2 ^ 64 ≡ (x + c + q) % 2 ^ 64
 flat x c q = omega arith
 
-gives_distance : (l : Layout) (w : World) (m : Memory) (s : InputSection) (i : ℕ) (r : InputRelocation) (f : Formula) (symbol a : ℕ) (z : RelocationSize) → (h : IsSectionLoaded l w m s) → slice_get s.relocations i ≡ Some r → HasField l r z → IsAsked l w (item_of s) r → formula_of l.machine r.number ≡ Some f → f.value ≡ StubDistance
-    → r.symbol ≡ Some symbol → IsOwnValue l w symbol a → Gives StubDistance l w m (item_of s) r (displacement a r.addend (place_of s r))
+gives_distance : (l : Layout) (w : World) (m : Memory) (s : Item) (i : ℕ) (r : InputRelocation) (f : Formula) (symbol a : ℕ) (z : RelocationSize) → (h : IsItemLoaded l w m s) → slice_get s.relocations i ≡ Some r → HasField l r z → IsAsked l w s r → formula_of l.machine r.number ≡ Some f → f.value ≡ StubDistance
+    → r.symbol ≡ Some symbol → IsOwnValue l w symbol a → Gives StubDistance l w m s r (displacement a r.addend (place_of s.address r))
 gives_distance l w m s i r f symbol a z h listed field asked known value named t =
     let x = moved t.still w.base a in
-    let e = distance_is t.still w.base a (more r) (place_of s r) (right l w m s r f symbol a h asked known (subst IsPlaceRelative (sym value) tt) named t) (place_ends l w m s i r z h listed field) in
+    let e = distance_is t.still w.base a (more r) (place_of s.address r) (right l w m s r f symbol a h asked known (subst IsPlaceRelative (sym value) tt) named t) (place_ends l w m s i r z h listed field) in
     let at = ap (λ (p : ℕ). (x + more r + (2 ^ 64 - p)) % 2 ^ 64) (sym (place_is l w m s i r z h listed field)) in
-    (x, goal_is StubDistance l w m s r symbol a h.placed.x86 named t, e ∙ flat x (more r) (2 ^ 64 - (w.base + place_of s r)) ∙ at)
+    (x, goal_is StubDistance l w m s r symbol a h.placed.x86 named t, e ∙ flat x (more r) (2 ^ 64 - (w.base + place_of s.address r)) ∙ at)
 
-gives_offset : (l : Layout) (w : World) (m : Memory) (s : InputSection) (i : ℕ) (r : InputRelocation) (f : Formula) (symbol a : ℕ) → (h : IsSectionLoaded l w m s) → IsAsked l w (item_of s) r → formula_of l.machine r.number ≡ Some f → f.value ≡ StubFromTable
-    → r.symbol ≡ Some symbol → IsOwnValue l w symbol a → Gives StubFromTable l w m (item_of s) r (displacement a r.addend l.got_base)
+gives_offset : (l : Layout) (w : World) (m : Memory) (s : Item) (i : ℕ) (r : InputRelocation) (f : Formula) (symbol a : ℕ) → (h : IsItemLoaded l w m s) → IsAsked l w s r → formula_of l.machine r.number ≡ Some f → f.value ≡ StubFromTable
+    → r.symbol ≡ Some symbol → IsOwnValue l w symbol a → Gives StubFromTable l w m s r (displacement a r.addend l.got_base)
 gives_offset l w m s i r f symbol a h asked known value named t =
     let x = moved t.still w.base a in
     let e = table_is t.still w.base a (more r) l.got_base (right l w m s r f symbol a h asked known (subst IsPlaceRelative (sym value) tt) named t) h.placed.got in
@@ -144,8 +145,8 @@ pltoff64_formula = refl
 -- ---- the rows
 
 -- such a field holds, by a formula that takes neither the symbol's own address nor its offset
-pub record RowHolds (l : Layout) (w : World) (m : Memory) (s : InputSection) (r : InputRelocation) : Type 0 where
-  pub holds : FieldHolds l w m (item_of s) r
+pub record RowHolds (l : Layout) (w : World) (m : Memory) (s : Item) (r : InputRelocation) : Type 0 where
+  pub holds : FieldHolds l w m s r
   pub offset : TakesOffset holds.formula.value → ⊥
   pub address : TakesAddress holds.formula.value → ⊥
 
@@ -157,45 +158,45 @@ record IsOwnTerm (l : Layout) (r : InputRelocation) (term : ℕ) : Type 0 where
   direct : is_chosen l symbol ≡ false
   given : address_of l (Some symbol) ≡ Ok term
 
-value_of_own : (l : Layout) (w : World) (m : Memory) (s : InputSection) (i : ℕ) (r : InputRelocation) (term : ℕ) → IsSectionLoaded l w m s → slice_get s.relocations i ≡ Some r → (t : IsOwnTerm l r term) → IsOwnValue l w t.symbol term
+value_of_own : (l : Layout) (w : World) (m : Memory) (s : Item) (i : ℕ) (r : InputRelocation) (term : ℕ) → IsItemLoaded l w m s → slice_get s.relocations i ≡ Some r → (t : IsOwnTerm l r term) → IsOwnValue l w t.symbol term
 value_of_own l w m s i r term h listed t =
     let names : NamesSymbol l r = holds_at (NamesSymbol l) s.relocations i r listed h.symbols in
     own_value l w m t.symbol term h.placed (names t.symbol t.named) t.own t.direct t.given
 
-stub_distance_holds : (l : Layout) (w : World) (m : Memory) (s : InputSection) (i : ℕ) (r : InputRelocation) (term v : ℕ) → (h : IsSectionLoaded l w m s) → slice_get s.relocations i ≡ Some r → IsAsked l w (item_of s) r → r.number ≡ r_x86_64_plt32 → IsOwnTerm l r term → displacement term r.addend (place_of s r) ≡ v → allows (plain kinds.Relative Four sign.Signed) v ≡ true
-    → Holds m (place_at w (item_of s) r.offset) (field_site s r.offset (plain kinds.Relative Four sign.Signed).size v).bytes → RowHolds l w m s r
+stub_distance_holds : (l : Layout) (w : World) (m : Memory) (s : Item) (i : ℕ) (r : InputRelocation) (term v : ℕ) → (h : IsItemLoaded l w m s) → slice_get s.relocations i ≡ Some r → IsAsked l w s r → r.number ≡ r_x86_64_plt32 → IsOwnTerm l r term → displacement term r.addend (place_of s.address r) ≡ v → allows (plain kinds.Relative Four sign.Signed) v ≡ true
+    → Holds m (place_at w s r.offset) (field_site s r.offset (plain kinds.Relative Four sign.Signed).size v).bytes → RowHolds l w m s r
 stub_distance_holds l w m s i r term v h listed asked number own value allowed held =
     let info = plain kinds.Relative Four sign.Signed in
     let known = formula_known l r.number (formula StubDistance (Plain 32 Signed)) h.placed.x86 (ap x86_64_formula number ∙ plt32_formula) in
     let field : HasField l r info.size = record { row = plain kinds.PltRelative Four sign.Signed; known = known_here l r.number r_x86_64_plt32 (plain kinds.PltRelative Four sign.Signed) h.placed.x86 number plt32_row; kind = refl; size = refl } in
     let t = value_of_own l w m s i r term h listed own in
-    let low = below_all l kinds.Relative term (place_of s r) v r.addend value in
+    let low = below_all l kinds.Relative term (place_of s.address r) v r.addend value in
     record {
       holds = record {
         formula = formula StubDistance (Plain 32 Signed);
         known = known;
         value = v;
-        gives = subst (λ (x : ℕ). Gives StubDistance l w m (item_of s) r x) value (gives_distance l w m s i r (formula StubDistance (Plain 32 Signed)) own.symbol term info.size h listed field asked known refl own.named t);
+        gives = subst (λ (x : ℕ). Gives StubDistance l w m s r x) value (gives_distance l w m s i r (formula StubDistance (Plain 32 Signed)) own.symbol term info.size h listed field asked known refl own.named t);
         field = row_reads l w m s i r info (Plain 32 Signed) v h listed field (form_of_row r_x86_64_pc32 info (formula Distance (Plain 32 Signed)) v h.tables.agree pc32_row refl pc32_formula low allowed) held;
       };
       offset = λ o. o;
       address = λ a. a;
     }
 
-stub_offset_holds : (l : Layout) (w : World) (m : Memory) (s : InputSection) (i : ℕ) (r : InputRelocation) (term v : ℕ) → (h : IsSectionLoaded l w m s) → slice_get s.relocations i ≡ Some r → IsAsked l w (item_of s) r → r.number ≡ r_x86_64_pltoff64 → IsOwnTerm l r term → displacement term r.addend l.got_base ≡ v → allows (plain kinds.SymRelGotBase Eight sign.Signed) v ≡ true
-    → Holds m (place_at w (item_of s) r.offset) (field_site s r.offset (plain kinds.SymRelGotBase Eight sign.Signed).size v).bytes → RowHolds l w m s r
+stub_offset_holds : (l : Layout) (w : World) (m : Memory) (s : Item) (i : ℕ) (r : InputRelocation) (term v : ℕ) → (h : IsItemLoaded l w m s) → slice_get s.relocations i ≡ Some r → IsAsked l w s r → r.number ≡ r_x86_64_pltoff64 → IsOwnTerm l r term → displacement term r.addend l.got_base ≡ v → allows (plain kinds.SymRelGotBase Eight sign.Signed) v ≡ true
+    → Holds m (place_at w s r.offset) (field_site s r.offset (plain kinds.SymRelGotBase Eight sign.Signed).size v).bytes → RowHolds l w m s r
 stub_offset_holds l w m s i r term v h listed asked number own value allowed held =
     let info = plain kinds.SymRelGotBase Eight sign.Signed in
     let known = formula_known l r.number (formula StubFromTable Full) h.placed.x86 (ap x86_64_formula number ∙ pltoff64_formula) in
     let field : HasField l r info.size = record { row = plain kinds.PltRelGotBase Eight sign.Signed; known = known_here l r.number r_x86_64_pltoff64 (plain kinds.PltRelGotBase Eight sign.Signed) h.placed.x86 number pltoff64_row; kind = refl; size = refl } in
     let t = value_of_own l w m s i r term h listed own in
-    let low = below_all l kinds.SymRelGotBase term (place_of s r) v r.addend value in
+    let low = below_all l kinds.SymRelGotBase term (place_of s.address r) v r.addend value in
     record {
       holds = record {
         formula = formula StubFromTable Full;
         known = known;
         value = v;
-        gives = subst (λ (x : ℕ). Gives StubFromTable l w m (item_of s) r x) value (gives_offset l w m s i r (formula StubFromTable Full) own.symbol term h asked known refl own.named t);
+        gives = subst (λ (x : ℕ). Gives StubFromTable l w m s r x) value (gives_offset l w m s i r (formula StubFromTable Full) own.symbol term h asked known refl own.named t);
         field = row_reads l w m s i r info Full v h listed field (form_of_row r_x86_64_gotoff64 info (formula FromTable Full) v h.tables.agree gotoff64_row refl gotoff64_formula low allowed) held;
       };
       offset = λ o. o;
@@ -203,14 +204,14 @@ stub_offset_holds l w m s i r term v h listed asked number own value allowed hel
     }
 
 -- the field of such a row holds
-pub row_holds : (l : Layout) (w : World) (m : Memory) (s : InputSection) (i : ℕ) (r : InputRelocation) → (h : IsSectionLoaded l w m s) → IsAsked l w (item_of s) r → IsRowField l s i r → RowHolds l w m s r
+pub row_holds : (l : Layout) (w : World) (m : Memory) (s : Item) (i : ℕ) (r : InputRelocation) → (h : IsItemLoaded l w m s) → IsAsked l w s r → IsRowField l s i r → RowHolds l w m s r
 row_holds l w m s i r h asked f = by_row f.kept.row f.kept.keeps f.kept.chosen (chosen_row l s r (slice_get s.relocations (i + 1)) f.kept.row f.kept.chosen) f.kept.known
   where
     k : IsKept l s r (slice_get s.relocations (i + 1)) f.size f.value
     k = f.kept
 
-    held : (info : RelocationKindInfo) → k.info ≡ info → Holds m (place_at w (item_of s) r.offset) (field_site s r.offset info.size f.value).bytes
-    held info e = subst (λ (z : RelocationSize). Holds m (place_at w (item_of s) r.offset) (field_site s r.offset z f.value).bytes) (sym k.size ∙ ap (λ (x : RelocationKindInfo). x.size) e) (h.section.values i r f.size f.value f.has)
+    held : (info : RelocationKindInfo) → k.info ≡ info → Holds m (place_at w s r.offset) (field_site s r.offset info.size f.value).bytes
+    held info e = subst (λ (z : RelocationSize). Holds m (place_at w s r.offset) (field_site s r.offset z f.value).bytes) (sym k.size ∙ ap (λ (x : RelocationKindInfo). x.size) e) (h.item.values i r f.size f.value f.has)
 
     own_term : (info : RelocationKindInfo) (symbol : ℕ) → k.info ≡ info → term_of l r.symbol info.kind ≡ address_of l r.symbol → r.symbol ≡ Some symbol → interposable (flags_at l symbol) ≡ false → is_chosen l symbol ≡ false → IsOwnTerm l r k.term
     own_term info symbol e same named own direct =
@@ -221,13 +222,13 @@ row_holds l w m s i r h asked f = by_row f.kept.row f.kept.keeps f.kept.chosen (
     plt c stands known =
         let e = info_is r_x86_64_pc32 k.info (plain kinds.Relative Four sign.Signed) (row_here l r_x86_64_pc32 k.info h.placed.x86 known) pc32_row in
         stub_distance_holds l w m s i r k.term f.value h f.has.listed asked c.number (own_term (plain kinds.Relative Four sign.Signed) c.symbol e refl c.named (not-true _ stands.value) (not-true _ stands.symbol))
-        (subst (λ (x : RelocationKindInfo). value_by l x.kind k.term r.addend (place_of s r) ≡ f.value) e k.value) (subst (λ (x : RelocationKindInfo). allows x f.value ≡ true) e k.allowed) (held (plain kinds.Relative Four sign.Signed) e)
+        (subst (λ (x : RelocationKindInfo). value_by l x.kind k.term r.addend (place_of s.address r) ≡ f.value) e k.value) (subst (λ (x : RelocationKindInfo). allows x f.value ≡ true) e k.allowed) (held (plain kinds.Relative Four sign.Signed) e)
 
     offset : (c : IsChosen l s r (slice_get s.relocations (i + 1)) PltOffToGotOff) → RowStands (question_of l s r c.symbol (slice_get s.relocations (i + 1))) PltOffToGotOff → row_of l.machine r_x86_64_gotoff64 ≡ Some k.info → RowHolds l w m s r
     offset c stands known =
         let e = info_is r_x86_64_gotoff64 k.info (plain kinds.SymRelGotBase Eight sign.Signed) (row_here l r_x86_64_gotoff64 k.info h.placed.x86 known) gotoff64_row in
         stub_offset_holds l w m s i r k.term f.value h f.has.listed asked c.number (own_term (plain kinds.SymRelGotBase Eight sign.Signed) c.symbol e refl c.named (not-true _ stands.value) (not-true _ stands.symbol))
-        (subst (λ (x : RelocationKindInfo). value_by l x.kind k.term r.addend (place_of s r) ≡ f.value) e k.value) (subst (λ (x : RelocationKindInfo). allows x f.value ≡ true) e k.allowed) (held (plain kinds.SymRelGotBase Eight sign.Signed) e)
+        (subst (λ (x : RelocationKindInfo). value_by l x.kind k.term r.addend (place_of s.address r) ≡ f.value) e k.value) (subst (λ (x : RelocationKindInfo). allows x f.value ≡ true) e k.allowed) (held (plain kinds.SymRelGotBase Eight sign.Signed) e)
 
     by_row : (row : Row) → (row ≡ Plt32ToPc32) ⊎ (row ≡ PltOffToGotOff) → (c : IsChosen l s r (slice_get s.relocations (i + 1)) row) → RowStands (question_of l s r c.symbol (slice_get s.relocations (i + 1))) row → row_of l.machine (rewrite_of row).number ≡ Some k.info → RowHolds l w m s r
     by_row row (inl e) =

@@ -7,7 +7,7 @@ use Rattle.wild_records.specs.Abi.Relocation.{r_x86_64_pc32}
 use Rattle.wild_types.specs.declared.kind.Machine.{Machine}
 use Rattle.wild_types.specs.declared.kind.Machine.TheVariants as machine
 use Rattle.wild_types.specs.declared.input.InputRelocation.{InputRelocation}
-use Rattle.wild_types.specs.declared.input.InputSection.{InputSection}
+use Rattle.wild_types.specs.Item.{Item}
 use Rattle.wild_types.specs.declared.layout.Layout.{Layout}
 use Rattle.wild_types.specs.Kinds.{is_executable}
 use Rattle.wild_relax.specs.declared.pattern.Pattern.TheVariants as pattern
@@ -96,11 +96,11 @@ nothing_stands bs o h = grind (arith, nat_tests, h)
 -- ---- the choice of a relocation
 
 -- what is chosen for a relocation stands there
-pub chosen_row : (l : Layout) (s : InputSection) (r : InputRelocation) (next : Option InputRelocation) (row : Row) → (c : IsChosen l s r next row) → RowStands (question_of l s r c.symbol next) row
+pub chosen_row : (l : Layout) (s : Item) (r : InputRelocation) (next : Option InputRelocation) (row : Row) → (c : IsChosen l s r next row) → RowStands (question_of l s r c.symbol next) row
 chosen_row l s r next row c = row_stands (question_of l s r c.symbol next) row (chosen_stands (question_of l s r c.symbol next) row c.chosen)
 
 -- where none is chosen no row stands
-pub unchosen : (l : Layout) (s : InputSection) (r : InputRelocation) (next : Option InputRelocation) (i n : ℕ) (row : Row) → choice_of l s r next ≡ Ok None → l.machine ≡ machine.X86_64 → r.symbol ≡ Some i → (r.number == r_x86_64_pc32) ≡ false → slice_get rows_x86_64 n ≡ Some row → applies (question_of l s r i next) row ≡ false
+pub unchosen : (l : Layout) (s : Item) (r : InputRelocation) (next : Option InputRelocation) (i n : ℕ) (row : Row) → choice_of l s r next ≡ Ok None → l.machine ≡ machine.X86_64 → r.symbol ≡ Some i → (r.number == r_x86_64_pc32) ≡ false → slice_get rows_x86_64 n ≡ Some row → applies (question_of l s r i next) row ≡ false
 unfolding choice_by
 unchosen l s r next i n row h x86 named other listed =
     let q = question_of l s r i next in

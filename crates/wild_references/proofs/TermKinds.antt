@@ -2,7 +2,6 @@
 use Rattle.std.proofs.Common.{◌≡◌, ℕ, ◌+◌, ◌%◌, ◌^◌, refl, sym, subst}
 use Rattle.std.specs.Prelude.{Option, Ok, true}
 use Rattle.wild_types.specs.declared.input.InputRelocation.{InputRelocation}
-use Rattle.wild_types.specs.declared.input.InputSection.{InputSection}
 use Rattle.wild_types.specs.declared.layout.Layout.{Layout}
 use Rattle.wild_slot.specs.declared.treatment.Treatment.TheVariants as treatments
 use Rattle.wild_slot.specs.Treatment.{named}
@@ -21,7 +20,7 @@ use Rattle.wild_loader.specs.StepLaws.{StubsOfValuesAreRead}
 use Rattle.wild_loader.specs.declared.memory.Memory.{Memory}
 use Rattle.wild_loader.specs.declared.world.World.{World}
 use Rattle.wild_meaning.specs.Formula.{IsReferent, HasOffsetMode, Gives}
-use Rattle.wild_meaning.specs.Item.{item_of}
+use Rattle.wild_types.specs.Item.{Item}
 use Rattle.wild_meaning.specs.Slot.{IsSlot}
 use Rattle.wild_meaning.proofs.SymbolLemmas.{referent_is}
 use Rattle.wild_references.specs.Terms.{IsPlaced, HasTerm}
@@ -77,10 +76,10 @@ stub_kind kinds.PltRelative e = refl
 stub_kind kinds.PltRelGotBase e = refl
 stub_kind other e = cc
 
-stub_here : StubsOfValuesAreRead → (v : Value) (l : Layout) (w : World) (m : Memory) (s : InputSection) (r : InputRelocation) (k : RelocationKind) (x : ℕ) → (h : HasTerm l w m s r k x) → named r.symbol (λ i. treatments.Value h.row) ≡ treatments.Value h.row → stub_address l r.symbol ≡ Ok h.term → IsReferent l.machine v l w m (item_of s) r ((w.base + h.term) % 2 ^ 64)
+stub_here : StubsOfValuesAreRead → (v : Value) (l : Layout) (w : World) (m : Memory) (s : Item) (r : InputRelocation) (k : RelocationKind) (x : ℕ) → (h : HasTerm l w m s r k x) → named r.symbol (λ i. treatments.Value h.row) ≡ treatments.Value h.row → stub_address l r.symbol ≡ Ok h.term → IsReferent l.machine v l w m s r ((w.base + h.term) % 2 ^ 64)
 stub_here law v l w m s r k x h treated given =
     let i = symbol_named r.symbol (λ i. treatments.Value h.row) h.row treated in
-    referent_is v l w m (item_of s) r ((w.base + h.term) % 2 ^ 64) h.placed.x86 (goal_given law l w m r.symbol i.0 h.term h.placed i.1 given)
+    referent_is v l w m s r ((w.base + h.term) % 2 ^ 64) h.placed.x86 (goal_given law l w m r.symbol i.0 h.term h.placed i.1 given)
 
 stub_distance : StubsOfValuesAreRead → KindGives kinds.PltRelative
 stub_distance law = λ l w m s r x h f. ((w.base + h.term) % 2 ^ 64, stub_here law StubDistance l w m s r kinds.PltRelative x h h.treated h.given, less_place l w m s r kinds.PltRelative x h h.value)
@@ -113,7 +112,7 @@ all_stand law sorts.OwnPair l w m p = own_pair_stands l w m p
 all_stand law sorts.Offset l w m p = offsets_stand l w m p
 all_stand law sorts.Descriptor l w m p = descriptors_stand l w m p
 
-slot_here : StubsOfValuesAreRead → (sort : SlotSort) (l : Layout) (w : World) (m : Memory) (s : InputSection) (r : InputRelocation) (k : RelocationKind) (x : ℕ) → (h : HasTerm l w m s r k x) → named r.symbol (λ i. treatments.Value h.row) ≡ treatments.Value h.row → slot_address l sort r.symbol ≡ Ok h.term → IsSlot (slot_sort sort) l w m r.symbol ((w.base + h.term) % 2 ^ 64)
+slot_here : StubsOfValuesAreRead → (sort : SlotSort) (l : Layout) (w : World) (m : Memory) (s : Item) (r : InputRelocation) (k : RelocationKind) (x : ℕ) → (h : HasTerm l w m s r k x) → named r.symbol (λ i. treatments.Value h.row) ≡ treatments.Value h.row → slot_address l sort r.symbol ≡ Ok h.term → IsSlot (slot_sort sort) l w m r.symbol ((w.base + h.term) % 2 ^ 64)
 slot_here law sort l w m s r k x h treated given =
     let i = symbol_named r.symbol (λ i. treatments.Value h.row) h.row treated in
     slot_given sort l w m r.symbol i.0 h.term (slots_agree sort l w m h.placed) (all_stand law sort l w m h.placed) i.1 given
@@ -138,7 +137,7 @@ slot_kind sort other e v = cc
 
 -- what is said of it
 abbrev SlotGives : SlotSort → RelocationKind → Type 0
-SlotGives sort k = (l : Layout) (w : World) (m : Memory) (s : InputSection) (r : InputRelocation) (x : ℕ) → HasTerm l w m s r k x → (sort ≡ sorts.Descriptor → HasOffsetMode l (item_of s) → ⊥) → Gives (plain_value k) l w m (item_of s) r x
+SlotGives sort k = (l : Layout) (w : World) (m : Memory) (s : Item) (r : InputRelocation) (x : ℕ) → HasTerm l w m s r k x → (sort ≡ sorts.Descriptor → HasOffsetMode l s → ⊥) → Gives (plain_value k) l w m s r x
 
 slot_offset : StubsOfValuesAreRead → SlotGives sorts.Address kinds.GotRelGotBase
 slot_offset law = λ l w m s r x h none. ((w.base + h.term) % 2 ^ 64, slot_here law sorts.Address l w m s r kinds.GotRelGotBase x h h.treated h.given, less_table l w m s r kinds.GotRelGotBase x h h.value)

@@ -8,7 +8,6 @@ use Rattle.wild_types.specs.declared.fault.Fault.{Fault}
 use Rattle.wild_types.specs.declared.kind.Machine.TheVariants as machine
 use Rattle.wild_types.specs.declared.kind.OutputKind.TheVariants as output
 use Rattle.wild_types.specs.declared.input.InputRelocation.{InputRelocation}
-use Rattle.wild_types.specs.declared.input.InputSection.{InputSection}
 use Rattle.wild_types.specs.declared.layout.Layout.{Layout}
 use Rattle.wild_slot.specs.declared.treatment.Treatment.TheVariants as treatments
 use Rattle.wild_slot.specs.Treatment.{pointer_treatment}
@@ -19,7 +18,7 @@ use Rattle.wild_layout.specs.SymbolValues.{less, thread_pointer, storage_start, 
 use Rattle.wild_layout.specs.Values.{behind, pointer_offset}
 use Rattle.wild_loader.specs.declared.world.World.{World}
 use Rattle.wild_loader.specs.declared.memory.Memory.{Memory}
-use Rattle.wild_meaning.specs.Item.{item_of}
+use Rattle.wild_types.specs.Item.{Item}
 use Rattle.wild_meaning.specs.Formula.{IsOffset, IsOwnOffset, Gives, GivesLinked, TakesAddress, TakesOffset}
 use Rattle.wild_meaning.specs.Reference.{IsStubbed}
 use Rattle.wild_meaning.specs.Thread.{HasOwnOffset, IsOffsetBase}
@@ -95,9 +94,9 @@ record HasOwnPlace (l : Layout) (w : World) (r : InputRelocation) (x : ℕ) : Ty
   pub is : HasOwnOffset l w symbol offset
   pub sum : x ≡ (offset + more r) % 2 ^ 64
 
-pointer_given : (l : Layout) (w : World) (m : Memory) (s : InputSection) (r : InputRelocation) (x : ℕ) → HasTerm l w m s r kinds.TpOff x → HasOwnPlace l w r x
+pointer_given : (l : Layout) (w : World) (m : Memory) (s : Item) (r : InputRelocation) (x : ℕ) → HasTerm l w m s r kinds.TpOff x → HasOwnPlace l w r x
 pointer_given l w m s r x h =
-    let i = symbol_named r.symbol (λ i. pointer_treatment l s h.row) h.row h.treated in
+    let i = symbol_named r.symbol (λ i. pointer_treatment l s.flags h.row) h.row h.treated in
     let program = loaded_program l.kind h.placed.loadable (pointer_kept l s h.row h.room i.2) in
     let given : pointer_offset l (Some i.0) ≡ Ok h.term = subst (λ (o : Option ℕ). pointer_offset l o ≡ Ok h.term) i.1 h.given in
     let p = pointer_place l w m i.0 h.term h.placed (h.placed.legal.first program) (h.listed i.0 i.1) given in
@@ -109,10 +108,10 @@ offset_from l w r k x takes f p = subst (λ (o : Option ℕ). IsOffset l w o p.o
 own_offset_from : (l : Layout) (w : World) (r : InputRelocation) (x : ℕ) → (p : HasOwnPlace l w r x) → IsOwnOffset l w r.symbol p.offset
 own_offset_from l w r x p = subst (λ (o : Option ℕ). IsOwnOffset l w o p.offset) (sym p.named) p.is
 
-pub gives_pointer : (l : Layout) (w : World) (m : Memory) (s : InputSection) (r : InputRelocation) (x : ℕ) → HasTerm l w m s r kinds.TpOff x → IsFollowed l r kinds.TpOff → Gives (plain_value kinds.TpOff) l w m (item_of s) r x
+pub gives_pointer : (l : Layout) (w : World) (m : Memory) (s : Item) (r : InputRelocation) (x : ℕ) → HasTerm l w m s r kinds.TpOff x → IsFollowed l r kinds.TpOff → Gives (plain_value kinds.TpOff) l w m s r x
 gives_pointer l w m s r x h f = let p = pointer_given l w m s r x h in (p.offset, offset_from l w r kinds.TpOff x tt f p, p.sum)
 
-pub links_pointer : (l : Layout) (w : World) (m : Memory) (s : InputSection) (r : InputRelocation) (x i : ℕ) → HasTerm l w m s r kinds.TpOff x → w.base ≡ 0 → r.symbol ≡ Some i → (IsStubbed l i → ⊥) ⊎ TakesOffset (plain_value kinds.TpOff) → GivesLinked (plain_value kinds.TpOff) l w (item_of s) r x
+pub links_pointer : (l : Layout) (w : World) (m : Memory) (s : Item) (r : InputRelocation) (x i : ℕ) → HasTerm l w m s r kinds.TpOff x → w.base ≡ 0 → r.symbol ≡ Some i → (IsStubbed l i → ⊥) ⊎ TakesOffset (plain_value kinds.TpOff) → GivesLinked (plain_value kinds.TpOff) l w s r x
 links_pointer l w m s r x i h zero named alone = let p = pointer_given l w m s r x h in (p.offset, own_offset_from l w r x p, p.sum)
 
 -- ---- in the own module
@@ -164,7 +163,7 @@ library_place l w m r x i term p library named given value =
       sum = library_sum d a.0 l.tls.start (more r) x (distance_below w w.own_module k) here;
     }
 
-module_given : (l : Layout) (w : World) (m : Memory) (s : InputSection) (r : InputRelocation) (x : ℕ) → HasTerm l w m s r kinds.DtpOff x → HasModulePlace l w r x
+module_given : (l : Layout) (w : World) (m : Memory) (s : Item) (r : InputRelocation) (x : ℕ) → HasTerm l w m s r kinds.DtpOff x → HasModulePlace l w r x
 module_given l w m s r x h =
     let i = symbol_named r.symbol (λ i. treatments.Value h.row) h.row h.treated in
     let given : behind (storage_start l) (raw_address l (Some i.0)) ≡ Ok h.term = subst (λ (o : Option ℕ). behind (storage_start l) (raw_address l o) ≡ Ok h.term) i.1 h.given in
@@ -173,12 +172,12 @@ module_given l w m s r x h =
       | inr library ↦ library_place l w m r x i.0 h.term h.placed library i.1 given h.value
     ]
 
-pub gives_offset : (l : Layout) (w : World) (m : Memory) (s : InputSection) (r : InputRelocation) (x : ℕ) → HasTerm l w m s r kinds.DtpOff x → IsFollowed l r kinds.DtpOff → Gives (plain_value kinds.DtpOff) l w m (item_of s) r x
+pub gives_offset : (l : Layout) (w : World) (m : Memory) (s : Item) (r : InputRelocation) (x : ℕ) → HasTerm l w m s r kinds.DtpOff x → IsFollowed l r kinds.DtpOff → Gives (plain_value kinds.DtpOff) l w m s r x
 gives_offset l w m s r x h f =
     let p = module_given l w m s r x h in
     (p.offset, p.begin, subst (λ (o : Option ℕ). IsOffset l w o p.offset) (sym p.named) (inr (own_followed l r kinds.DtpOff tt f p.symbol p.named, p.is)), p.counted, p.sum)
 
-pub links_offset : (l : Layout) (w : World) (m : Memory) (s : InputSection) (r : InputRelocation) (x i : ℕ) → HasTerm l w m s r kinds.DtpOff x → w.base ≡ 0 → r.symbol ≡ Some i → (IsStubbed l i → ⊥) ⊎ TakesOffset (plain_value kinds.DtpOff) → GivesLinked (plain_value kinds.DtpOff) l w (item_of s) r x
+pub links_offset : (l : Layout) (w : World) (m : Memory) (s : Item) (r : InputRelocation) (x i : ℕ) → HasTerm l w m s r kinds.DtpOff x → w.base ≡ 0 → r.symbol ≡ Some i → (IsStubbed l i → ⊥) ⊎ TakesOffset (plain_value kinds.DtpOff) → GivesLinked (plain_value kinds.DtpOff) l w s r x
 links_offset l w m s r x i h zero named alone =
     let p = module_given l w m s r x h in
     (p.offset, p.begin, subst (λ (o : Option ℕ). IsOwnOffset l w o p.offset) (sym p.named) p.is, p.counted, p.sum)

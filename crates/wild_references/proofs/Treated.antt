@@ -3,7 +3,7 @@ use Rattle.std.proofs.Common.{◌≡◌, ℕ, ◌<◌, ◌⊎◌, inl, inr, Bool
 use Rattle.std.specs.Prelude.{Option, Some, None, if◌then◌else◌, not, ◌&&◌, ◌||◌, ◌==◌}
 use Rattle.std.proofs.lemmas.Bool.{cases_Bool, lt-ltb}
 use Rattle.wild_types.specs.declared.input.InputRelocation.{InputRelocation}
-use Rattle.wild_types.specs.declared.input.InputSection.{InputSection}
+use Rattle.wild_types.specs.Item.{Item}
 use Rattle.wild_types.specs.declared.layout.Layout.{Layout}
 use Rattle.wild_slot.specs.declared.treatment.Treatment.{Treatment}
 use Rattle.wild_slot.specs.declared.treatment.Treatment.TheVariants as treatments
@@ -16,7 +16,7 @@ use Rattle.wild_reloc.specs.Field.{field_width}
 use Rattle.wild_reloc.specs.declared.info.RelocationKindInfo.{RelocationKindInfo}
 
 -- the treatment goes by the row's kind
-pub treated_by : (l : Layout) (s : InputSection) (r : InputRelocation) (row : RelocationKindInfo) → row_of l.machine r.number ≡ Some row → treatment l s r ≡ kind_treatment l s r.number r.symbol row row.kind
+pub treated_by : (l : Layout) (s : Item) (r : InputRelocation) (row : RelocationKindInfo) → row_of l.machine r.number ≡ Some row → treatment l s.flags r ≡ kind_treatment l s.flags r.number r.symbol row row.kind
 unfolding treatment row_treatment
 treated_by l s r row known = rw known refl
 
@@ -51,8 +51,8 @@ chosen_is_no_value row i h =
     ]
 
 -- the value of an address that is written in memory does not move
-pub address_still : (l : Layout) (s : InputSection) (n : ℕ) (row : RelocationKindInfo) (i : ℕ) → allocated s.flags ≡ true → address_treatment l s n row i ≡ treatments.Value row → (is_position_independent l.kind ≡ false) ⊎ (has_flag (flags_at l i) absolute ≡ true)
-address_still l s n row i room h = still_cases l i (by_tests (is_barred l s n i || is_narrow l s n) (is_left l s row i) (is_chosen l s i) (allocated s.flags) (moves l i) room h)
+pub address_still : (l : Layout) (s : Item) (n : ℕ) (row : RelocationKindInfo) (i : ℕ) → allocated s.flags ≡ true → address_treatment l s.flags n row i ≡ treatments.Value row → (is_position_independent l.kind ≡ false) ⊎ (has_flag (flags_at l i) absolute ≡ true)
+address_still l s n row i room h = still_cases l i (by_tests (is_barred l s.flags n i || is_narrow l s.flags n) (is_left l s.flags row i) (is_chosen l s.flags i) (allocated s.flags) (moves l i) room h)
   where
     by_tests : (barred left chosen room moving : Bool) → room ≡ true → (if barred then treatments.Recompile else (if left then treatments.Symbolic i else (if chosen then chosen_treatment row i else (if room && moving then moved_treatment row else treatments.Value row)))) ≡ treatments.Value row → moving ≡ false
     by_tests barred left chosen room false e h = refl
@@ -63,8 +63,8 @@ address_still l s n row i room h = still_cases l i (by_tests (is_barred l s n i 
     by_tests false false false true true e h = absurd (is_no_value row h)
 
 -- an address that is written, or moves, is not left to an entry
-pub address_kept : (l : Layout) (s : InputSection) (n : ℕ) (row : RelocationKindInfo) (i : ℕ) (t : Treatment) → address_treatment l s n row i ≡ t → (treatments.Recompile ≡ t → ⊥) → (treatments.Symbolic i ≡ t → ⊥) → is_left l s row i ≡ false
-address_kept l s n row i t h no_recompile no_entry = by_tests (is_barred l s n i || is_narrow l s n) (is_left l s row i) (if is_chosen l s i then chosen_treatment row i else (if allocated s.flags && moves l i then moved_treatment row else treatments.Value row)) h
+pub address_kept : (l : Layout) (s : Item) (n : ℕ) (row : RelocationKindInfo) (i : ℕ) (t : Treatment) → address_treatment l s.flags n row i ≡ t → (treatments.Recompile ≡ t → ⊥) → (treatments.Symbolic i ≡ t → ⊥) → is_left l s.flags row i ≡ false
+address_kept l s n row i t h no_recompile no_entry = by_tests (is_barred l s.flags n i || is_narrow l s.flags n) (is_left l s.flags row i) (if is_chosen l s.flags i then chosen_treatment row i else (if allocated s.flags && moves l i then moved_treatment row else treatments.Value row)) h
   where
     by_tests : (barred left : Bool) (rest : Treatment) → (if barred then treatments.Recompile else (if left then treatments.Symbolic i else rest)) ≡ t → left ≡ false
     by_tests true left rest h = absurd (no_recompile h)
@@ -72,7 +72,7 @@ address_kept l s n row i t h no_recompile no_entry = by_tests (is_barred l s n i
     by_tests false false rest h = refl
 
 -- a distance without a symbol is in an output that does not move
-pub distance_still : (l : Layout) (s : InputSection) (n : ℕ) (row : RelocationKindInfo) → allocated s.flags ≡ true → distance_treatment l s n row None ≡ treatments.Value row → is_position_independent l.kind ≡ false
+pub distance_still : (l : Layout) (s : Item) (n : ℕ) (row : RelocationKindInfo) → allocated s.flags ≡ true → distance_treatment l s.flags n row None ≡ treatments.Value row → is_position_independent l.kind ≡ false
 distance_still l s n row room h = by_tests (allocated s.flags) (is_position_independent l.kind) room h
   where
     by_tests : (a b : Bool) → a ≡ true → (if a && b then treatments.Recompile else treatments.Value row) ≡ treatments.Value row → b ≡ false
@@ -81,15 +81,15 @@ distance_still l s n row room h = by_tests (allocated s.flags) (is_position_inde
     by_tests false true e h = cc
 
 -- a size that is written is not left to an entry
-pub size_kept : (l : Layout) (s : InputSection) (row : RelocationKindInfo) (i : ℕ) → size_treatment l s row i ≡ treatments.Value row → is_sized l s i ≡ false
-size_kept l s row i h = by_test (is_sized l s i) h
+pub size_kept : (l : Layout) (s : Item) (row : RelocationKindInfo) (i : ℕ) → size_treatment l s.flags row i ≡ treatments.Value row → is_sized l s.flags i ≡ false
+size_kept l s row i h = by_test (is_sized l s.flags i) h
   where
     by_test : (b : Bool) → (if b then treatments.Extent row i else treatments.Value row) ≡ treatments.Value row → b ≡ false
     by_test false h = refl
     by_test true h = cc
 
 -- an offset from the thread pointer is written in no library
-pub pointer_kept : (l : Layout) (s : InputSection) (row : RelocationKindInfo) → allocated s.flags ≡ true → pointer_treatment l s row ≡ treatments.Value row → is_shared_object l.kind ≡ false
+pub pointer_kept : (l : Layout) (s : Item) (row : RelocationKindInfo) → allocated s.flags ≡ true → pointer_treatment l s.flags row ≡ treatments.Value row → is_shared_object l.kind ≡ false
 pointer_kept l s row room h = by_tests (allocated s.flags) (is_shared_object l.kind) room h
   where
     by_tests : (a b : Bool) → a ≡ true → (if a && b then treatments.Recompile else treatments.Value row) ≡ treatments.Value row → b ≡ false

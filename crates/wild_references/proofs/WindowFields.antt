@@ -7,7 +7,7 @@ use Rattle.std.proofs.lemmas.Option.{slice_get_within}
 use Rattle.wild_words.specs.Overlay.{Piece}
 use Rattle.wild_types.specs.declared.kind.Machine.TheVariants as machine
 use Rattle.wild_types.specs.declared.input.InputRelocation.{InputRelocation}
-use Rattle.wild_types.specs.declared.input.InputSection.{InputSection}
+use Rattle.wild_types.specs.Item.{Item}
 use Rattle.wild_types.specs.declared.layout.Layout.{Layout}
 use Rattle.wild_types.specs.Rows.{row_of}
 use Rattle.wild_reloc.specs.Field.{size_width, field_width}
@@ -45,13 +45,13 @@ use Rattle.wild_references.proofs.WindowRows.{chosen_stands, width_of, is_well, 
 -- ---- the row that stands at a relocation
 
 -- what is known of it
-pub record IsRow (l : Layout) (s : InputSection) (r : InputRelocation) (next : Option InputRelocation) (row : Row) : Type 0 where
+pub record IsRow (l : Layout) (s : Item) (r : InputRelocation) (next : Option InputRelocation) (row : Row) : Type 0 where
   pub chosen : IsChosen l s r next row
   pub well : is_well row ≡ true
   pub applies : applies (question_of l s r chosen.symbol next) row ≡ true
   pub whole : has_its_sequence (question_of l s r chosen.symbol next) row ≡ true
 
-pub row_at : (l : Layout) (s : InputSection) (r : InputRelocation) (next : Option InputRelocation) (row : Row) → IsChosen l s r next row → IsRow l s r next row
+pub row_at : (l : Layout) (s : Item) (r : InputRelocation) (next : Option InputRelocation) (row : Row) → IsChosen l s r next row → IsRow l s r next row
 row_at l s r next row c =
     let stands = chosen_stands (question_of l s r c.symbol next) row c.chosen in
     record { chosen = c; well = chosen_listed l s r next row c is_well each_is_well; applies = stands.0; whole = stands.1 }
@@ -72,19 +72,19 @@ partner_is row distance r next h =
     let d = and_parts _ _ c.0 in
     (eqb-true _ _ d.0, c.1)
 
-pub call_is : (l : Layout) (s : InputSection) (r q : InputRelocation) (row : Row) (distance : ℕ) → IsRow l s r (Some q) row → partner_distance row ≡ Some distance → IsCall r q row distance
+pub call_is : (l : Layout) (s : Item) (r q : InputRelocation) (row : Row) (distance : ℕ) → IsRow l s r (Some q) row → partner_distance row ≡ Some distance → IsCall r q row distance
 call_is l s r q row distance is known =
     let has = partner_asked (question_of l s r is.chosen.symbol (Some q)) row is.whole in
     let p = partner_is row distance (info_of l r) (info_of l q) (rw known at has) in
     record { offset = p.0; number = p.1 }
 
 -- the relocation behind is that of the call
-pub record HasCall (l : Layout) (s : InputSection) (i : ℕ) (r : InputRelocation) (row : Row) (distance : ℕ) : Type 0 where
+pub record HasCall (l : Layout) (s : Item) (i : ℕ) (r : InputRelocation) (row : Row) (distance : ℕ) : Type 0 where
   pub next : InputRelocation
   pub listed : slice_get s.relocations (i + 1) ≡ Some next
   pub call : IsCall r next row distance
 
-pub partner_there : (l : Layout) (s : InputSection) (i : ℕ) (r : InputRelocation) (row : Row) (distance : ℕ) → IsChosen l s r (slice_get s.relocations (i + 1)) row → partner_distance row ≡ Some distance → HasCall l s i r row distance
+pub partner_there : (l : Layout) (s : Item) (i : ℕ) (r : InputRelocation) (row : Row) (distance : ℕ) → IsChosen l s r (slice_get s.relocations (i + 1)) row → partner_distance row ≡ Some distance → HasCall l s i r row distance
 partner_there l s i r row distance c known = by (slice_get s.relocations (i + 1)) refl c
   where
     by : (o : Option InputRelocation) → slice_get s.relocations (i + 1) ≡ o → IsChosen l s r o row → HasCall l s i r row distance
@@ -141,7 +141,7 @@ none_width l r x86 f =
     by k w (inr e) t = eqb-true w 0 (rw e at t)
 
 -- the field that a relocation writes, or leaves, is as wide as its formula says
-pub kept_width : (l : Layout) (s : InputSection) (i : ℕ) (r : InputRelocation) (d : Decision) → l.machine ≡ machine.X86_64 → HasDecision l s i r d → KeepsInstruction d → width_of r.number ≡ written_width d
+pub kept_width : (l : Layout) (s : Item) (i : ℕ) (r : InputRelocation) (d : Decision) → l.machine ≡ machine.X86_64 → HasDecision l s i r d → KeepsInstruction d → width_of r.number ≡ written_width d
 kept_width l s i r Nothing x86 h k = none_width l r x86 (decided_nothing l s r (decide_nothing l s i r h.listed h.decided).made)
 kept_width l s i r (Field z v) x86 h k =
     elim (decide_field l s i r z v h.listed h.decided) [
@@ -156,7 +156,7 @@ kept_width l s i r Partner x86 h k = absurd k
 -- ---- what is written over a field
 
 -- the bytes that relocation j writes, or those of the sequence that takes it along, have its field
-pub record HasSite (l : Layout) (s : InputSection) (j : ℕ) (q : InputRelocation) (d : Decision) : Type 0 where
+pub record HasSite (l : Layout) (s : Item) (j : ℕ) (q : InputRelocation) (d : Decision) : Type 0 where
   pub index : ℕ
   pub owner : InputRelocation
   pub decision : Decision
@@ -168,12 +168,12 @@ pub record HasSite (l : Layout) (s : InputSection) (j : ℕ) (q : InputRelocatio
   pub own : (index ≡ j) ⊎ ((j ≡ index + 1) × (d ≡ Partner))
 
 -- a row writes all bytes of its pattern, and these lie around the field
-pub record IsWindow (l : Layout) (s : InputSection) (r : InputRelocation) (row : Row) (v : ℕ) : Type 0 where
+pub record IsWindow (l : Layout) (s : Item) (r : InputRelocation) (row : Row) (v : ℕ) : Type 0 where
   pub before : field_of (pattern_of row) ≤ r.offset
   pub long : length (template_site s r row v).bytes ≡ pattern_size row
   pub field : field_of (pattern_of row) + width_of r.number ≤ pattern_size row
 
-pub window_is : (l : Layout) (s : InputSection) (i : ℕ) (r : InputRelocation) (row : Row) (v : ℕ) → HasDecision l s i r (Rewritten row v) → IsWindow l s r row v
+pub window_is : (l : Layout) (s : Item) (i : ℕ) (r : InputRelocation) (row : Row) (v : ℕ) → HasDecision l s i r (Rewritten row v) → IsWindow l s r row v
 window_is l s i r row v h =
     let next = slice_get s.relocations (i + 1) in
     let w = decide_rewritten l s i r row v h.listed h.decided in
@@ -181,13 +181,13 @@ window_is l s i r row v h =
     let number = ap width_of w.chosen.number in
     record { before = w.chosen.before; long = length-template_site l s r next row v w; field = omega (arith, field, number) }
 
-field_has_site : (l : Layout) (s : InputSection) (j : ℕ) (q : InputRelocation) (d : Decision) (z : RelocationSize) (v : ℕ) → HasDecision l s j q d → width_of q.number ≡ size_width z → site_for s q d ≡ field_site s q.offset z v ∷ [] → HasSite l s j q d
+field_has_site : (l : Layout) (s : Item) (j : ℕ) (q : InputRelocation) (d : Decision) (z : RelocationSize) (v : ℕ) → HasDecision l s j q d → width_of q.number ≡ size_width z → site_for s q d ≡ field_site s q.offset z v ∷ [] → HasSite l s j q d
 field_has_site l s j q d z v h width only =
     let long = length-size_written z v (slice_range s.bytes q.offset (q.offset + size_width z)) in
     record { index = j; owner = q; decision = d; has = h; piece = field_site s q.offset z v; only = only; from = omega arith; to = omega (arith, width, long); own = inl refl }
 
 -- the sequence that takes relocation j along is written by the one before
-call_site : (l : Layout) (s : InputSection) (i : ℕ) (q : InputRelocation) (row : Row) (v : ℕ) (d : Decision) → (p : IsSequence l s i row) → slice_get s.relocations (i + 1) ≡ Some q → HasDecision l s i p.relocation (Rewritten row v) → Partner ≡ d → HasSite l s (i + 1) q d
+call_site : (l : Layout) (s : Item) (i : ℕ) (q : InputRelocation) (row : Row) (v : ℕ) (d : Decision) → (p : IsSequence l s i row) → slice_get s.relocations (i + 1) ≡ Some q → HasDecision l s i p.relocation (Rewritten row v) → Partner ≡ d → HasSite l s (i + 1) q d
 call_site l s i q row v d p listed h is =
     let c = choice_row l s p.relocation (Some q) row (subst (λ (o : Option InputRelocation). choice_of l s p.relocation o ≡ Ok (Some row)) listed p.is) in
     let at_row = row_at l s p.relocation (Some q) row c in
@@ -211,7 +211,7 @@ call_site l s i q row v d p listed h is =
       own = inr (refl, sym is);
     }
 
-pub has_site : (l : Layout) (s : InputSection) (j : ℕ) (q : InputRelocation) (d : Decision) → l.machine ≡ machine.X86_64 → IsDecided l s → HasDecision l s j q d → (width_of q.number ≡ 0) ⊎ HasSite l s j q d
+pub has_site : (l : Layout) (s : Item) (j : ℕ) (q : InputRelocation) (d : Decision) → l.machine ≡ machine.X86_64 → IsDecided l s → HasDecision l s j q d → (width_of q.number ≡ 0) ⊎ HasSite l s j q d
 has_site l s j q Nothing x86 whole h = inl (kept_width l s j q Nothing x86 h tt)
 has_site l s j q (Field z v) x86 whole h = inr (field_has_site l s j q (Field z v) z v h (kept_width l s j q (Field z v) x86 h tt) refl)
 has_site l s j q (Moved v packed) x86 whole h = inr (field_has_site l s j q (Moved v packed) (ByteSize Eight) (if packed then v else 0) h (kept_width l s j q (Moved v packed) x86 h tt) refl)

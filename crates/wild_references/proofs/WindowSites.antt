@@ -10,7 +10,7 @@ use Rattle.std.proofs.lemmas.List.FromFn.{get_or-range_with_len, length-range_wi
 use Rattle.wild_words.specs.Overlay.{Piece, Apart}
 use Rattle.wild_words.proofs.OrderLemmas.{Apart-flip}
 use Rattle.wild_types.specs.declared.input.InputRelocation.{InputRelocation}
-use Rattle.wild_types.specs.declared.input.InputSection.{InputSection}
+use Rattle.wild_types.specs.Item.{Item}
 use Rattle.wild_types.specs.declared.layout.Layout.{Layout}
 use Rattle.wild_layout.specs.declared.decision.Decision.{Decision}
 use Rattle.wild_layout.specs.Sites.{site_for, site, sites}
@@ -18,14 +18,14 @@ use Rattle.wild_geometry.specs.Loaded.{IsDecided, HasDecision}
 
 -- ---- the site of a decision
 
-pub site_is : (l : Layout) (s : InputSection) (i : ℕ) (r : InputRelocation) (d : Decision) → HasDecision l s i r d → site l s i ≡ site_for s r d
+pub site_is : (l : Layout) (s : Item) (i : ℕ) (r : InputRelocation) (d : Decision) → HasDecision l s i r d → site l s i ≡ site_for s r d
 unfolding site
 site_is l s i r d h = rw (h.listed, h.decided) refl
 
 -- ---- pieces of two relocations
 
 -- the only piece of relocation i stands among all behind those of the relocations before it
-piece_is : (l : Layout) (s : InputSection) (i : ℕ) (p : Piece) → i < length s.relocations → site l s i ≡ p ∷ [] → (d : Piece) → get_or (sites l s) (length (flat_map (site l s) (take i (range_with_len 0 (length s.relocations)))) + 0) d ≡ p
+piece_is : (l : Layout) (s : Item) (i : ℕ) (p : Piece) → i < length s.relocations → site l s i ≡ p ∷ [] → (d : Piece) → get_or (sites l s) (length (flat_map (site l s) (take i (range_with_len 0 (length s.relocations)))) + 0) d ≡ p
 piece_is l s i p lt only d =
     let xs = range_with_len 0 (length s.relocations) in
     let long = length-range_with_len 0 (length s.relocations) in
@@ -35,13 +35,13 @@ piece_is l s i p lt only d =
     get_or-flat_map (site l s) xs i 0 0 d (omega (arith, long, lt)) some ∙ ap (λ (ps : List Piece). get_or ps 0 d) here
 
 -- behind those of the relocations before it
-piece_ends : (l : Layout) (s : InputSection) (i : ℕ) (p : Piece) (ns : List ℕ) → i < length ns → get_or ns i 0 ≡ i → site l s i ≡ p ∷ [] → length (flat_map (site l s) (take i ns)) + 1 ≤ length (flat_map (site l s) ns)
+piece_ends : (l : Layout) (s : Item) (i : ℕ) (p : Piece) (ns : List ℕ) → i < length ns → get_or ns i 0 ≡ i → site l s i ≡ p ∷ [] → length (flat_map (site l s) (take i ns)) + 1 ≤ length (flat_map (site l s) ns)
 piece_ends l s i p ns lt n only =
     let here : length (site l s (get_or ns i 0)) ≡ 1 = ap (λ (k : ℕ). length (site l s k)) n ∙ ap (λ (ps : List Piece). length ps) only in
     let e = length-flat_map-take (site l s) ns i 0 lt in
     omega (arith, here, e)
 
-ordered : (l : Layout) (s : InputSection) → IsDecided l s → (i j : ℕ) (p q : Piece) → i < j → j < length s.relocations → site l s i ≡ p ∷ [] → site l s j ≡ q ∷ [] → Apart p q
+ordered : (l : Layout) (s : Item) → IsDecided l s → (i j : ℕ) (p q : Piece) → i < j → j < length s.relocations → site l s i ≡ p ∷ [] → site l s j ≡ q ∷ [] → Apart p q
 ordered l s whole i j p q lt within first second =
     let xs = range_with_len 0 (length s.relocations) in
     let long = length-range_with_len 0 (length s.relocations) in
@@ -60,7 +60,7 @@ ordered l s whole i j p q lt within first second =
     subst (λ (x : Piece). Apart p x) f (subst (λ (x : Piece). Apart x (get_or (sites l s) (b + 0) p)) e pair)
 
 -- the sites of two relocations lie apart
-pub sites_apart : (l : Layout) (s : InputSection) → IsDecided l s → (i j : ℕ) (r q : InputRelocation) (d e : Decision) (x y : Piece) → HasDecision l s i r d → HasDecision l s j q e → (i ≡ j → ⊥) → site_for s r d ≡ x ∷ [] → site_for s q e ≡ y ∷ [] → Apart x y
+pub sites_apart : (l : Layout) (s : Item) → IsDecided l s → (i j : ℕ) (r q : InputRelocation) (d e : Decision) (x y : Piece) → HasDecision l s i r d → HasDecision l s j q e → (i ≡ j → ⊥) → site_for s r d ≡ x ∷ [] → site_for s q e ≡ y ∷ [] → Apart x y
 sites_apart l s whole i j r q d e x y hi hj other fi fj =
     elim (cases_lt i j) [
       | inl low ↦ ordered l s whole i j x y low (slice_get_within s.relocations j q hj.listed) (site_is l s i r d hi ∙ fi) (site_is l s j q e hj ∙ fj)

@@ -7,7 +7,7 @@ use Rattle.wild_types.specs.declared.kind.Machine.TheVariants as machine
 use Rattle.wild_types.specs.declared.fault.Missing.{Missing}
 use Rattle.wild_types.specs.declared.fault.Missing.TheVariants as missing
 use Rattle.wild_types.specs.declared.input.InputRelocation.{InputRelocation}
-use Rattle.wild_types.specs.declared.input.InputSection.{InputSection}
+use Rattle.wild_types.specs.Item.{Item}
 use Rattle.wild_types.specs.declared.layout.Layout.{Layout}
 use Rattle.wild_reloc.specs.Agreement.{X86_64Agrees}
 use Rattle.wild_reloc.specs.declared.info.RelocationKindInfo.{RelocationKindInfo}
@@ -47,12 +47,12 @@ address_given l None a h = let z : Ok 0 ≡ Ok a = h in let e : a ≡ 0 = cc in 
 address_given l (Some i) a h = given_some missing.Address i (raw_value l i) a h
 
 -- relocation i has a decision of its own: no row stands there, and none takes it along
-pub record IsPlain (l : Layout) (s : InputSection) (i : ℕ) (r : InputRelocation) (d : Decision) : Type 0 where
+pub record IsPlain (l : Layout) (s : Item) (i : ℕ) (r : InputRelocation) (d : Decision) : Type 0 where
   pub has : HasDecision l s i r d
   pub own : IsOwn l s i r d
 
 -- a relocation that writes a value
-pub record IsValue (l : Layout) (s : InputSection) (i : ℕ) (r : InputRelocation) : Type 0 where
+pub record IsValue (l : Layout) (s : Item) (i : ℕ) (r : InputRelocation) : Type 0 where
   pub size : RelocationSize
   pub value : ℕ
   pub plain : IsPlain l s i r (Field size value)
@@ -60,7 +60,7 @@ pub record IsValue (l : Layout) (s : InputSection) (i : ℕ) (r : InputRelocatio
   pub fits : RowFits r.number field.row
 
 -- a relocation that writes an address, which moves with the base
-pub record IsAddress (l : Layout) (s : InputSection) (i : ℕ) (r : InputRelocation) : Type 0 where
+pub record IsAddress (l : Layout) (s : Item) (i : ℕ) (r : InputRelocation) : Type 0 where
   pub value : ℕ
   pub packed : Bool
   pub plain : IsPlain l s i r (Moved value packed)
@@ -68,7 +68,7 @@ pub record IsAddress (l : Layout) (s : InputSection) (i : ℕ) (r : InputRelocat
   pub fits : RowFits r.number moved.row
 
 -- a relocation whose field is left to an entry
-pub record IsLeftField (l : Layout) (s : InputSection) (i : ℕ) (r : InputRelocation) : Type 0 where
+pub record IsLeftField (l : Layout) (s : Item) (i : ℕ) (r : InputRelocation) : Type 0 where
   pub size : RelocationSize
   pub number : ℕ
   pub symbol : ℕ
@@ -78,7 +78,7 @@ pub record IsLeftField (l : Layout) (s : InputSection) (i : ℕ) (r : InputReloc
   pub fits : RowFits r.number left.field.row
 
 -- the call through a descriptor, which writes nothing
-pub record IsCall (l : Layout) (s : InputSection) (i : ℕ) (r : InputRelocation) : Type 0 where
+pub record IsCall (l : Layout) (s : Item) (i : ℕ) (r : InputRelocation) : Type 0 where
   pub plain : IsPlain l s i r Nothing
   pub number : r.number ≡ r_x86_64_tlsdesc_call
   pub symbol : ℕ
@@ -87,44 +87,44 @@ pub record IsCall (l : Layout) (s : InputSection) (i : ℕ) (r : InputRelocation
 pub row_here : (l : Layout) (n : ℕ) (row : RelocationKindInfo) → l.machine ≡ machine.X86_64 → row_of l.machine n ≡ Some row → row_of machine.X86_64 n ≡ Some row
 row_here l n row m is = subst (λ (x : Machine). row_of x n ≡ Some row) m is
 
-value_written : (l : Layout) (s : InputSection) (i : ℕ) (r : InputRelocation) (z : RelocationSize) (v : ℕ) → X86_64Agrees → l.machine ≡ machine.X86_64 → IsPlain l s i r (Field z v) → IsValue l s i r
+value_written : (l : Layout) (s : Item) (i : ℕ) (r : InputRelocation) (z : RelocationSize) (v : ℕ) → X86_64Agrees → l.machine ≡ machine.X86_64 → IsPlain l s i r (Field z v) → IsValue l s i r
 value_written l s i r z v agrees m p =
     let f = decided_field l s r z v p.own.made in
     record { size = z; value = v; plain = p; field = f; fits = row_fits r.number f.row agrees (row_here l r.number f.row m f.known) f.kind }
 
-address_written : (l : Layout) (s : InputSection) (i : ℕ) (r : InputRelocation) (v : ℕ) (packed : Bool) → X86_64Agrees → l.machine ≡ machine.X86_64 → IsPlain l s i r (Moved v packed) → IsAddress l s i r
+address_written : (l : Layout) (s : Item) (i : ℕ) (r : InputRelocation) (v : ℕ) (packed : Bool) → X86_64Agrees → l.machine ≡ machine.X86_64 → IsPlain l s i r (Moved v packed) → IsAddress l s i r
 address_written l s i r v packed agrees m p =
     let f = decided_moved l s r v packed p.own.made in
     record { value = v; packed = packed; plain = p; moved = f; fits = row_fits r.number f.row agrees (row_here l r.number f.row m f.known) (ap has_value f.by.kind) }
 
-left_written : (l : Layout) (s : InputSection) (i : ℕ) (r : InputRelocation) (z : RelocationSize) (number symbol addend : ℕ) → X86_64Agrees → l.machine ≡ machine.X86_64 → IsPlain l s i r (Left z number symbol addend) → IsLeftField l s i r
+left_written : (l : Layout) (s : Item) (i : ℕ) (r : InputRelocation) (z : RelocationSize) (number symbol addend : ℕ) → X86_64Agrees → l.machine ≡ machine.X86_64 → IsPlain l s i r (Left z number symbol addend) → IsLeftField l s i r
 left_written l s i r z number symbol addend agrees m p =
     let f = decided_left l s r z number symbol addend p.own.made in
     record { size = z; number = number; symbol = symbol; addend = addend; plain = p; left = f; fits = row_fits r.number f.field.row agrees (row_here l r.number f.field.row m f.field.known) f.field.kind }
 
 -- a relocation whose field a row writes, which keeps the bytes around it
-pub record IsRowField (l : Layout) (s : InputSection) (i : ℕ) (r : InputRelocation) : Type 0 where
+pub record IsRowField (l : Layout) (s : Item) (i : ℕ) (r : InputRelocation) : Type 0 where
   pub size : RelocationSize
   pub value : ℕ
   pub has : HasDecision l s i r (Field size value)
   pub kept : IsKept l s r (slice_get s.relocations (i + 1)) size value
 
 -- such a call has a symbol: without one it is refused
-call_named : (l : Layout) (s : InputSection) (r : InputRelocation) (row : RelocationKindInfo) → row_of l.machine r.number ≡ Some row → row.kind ≡ kinds.TlsDescCall → decided l s r ≡ Ok Nothing → (i : ℕ) × (r.symbol ≡ Some i)
+call_named : (l : Layout) (s : Item) (r : InputRelocation) (row : RelocationKindInfo) → row_of l.machine r.number ≡ Some row → row.kind ≡ kinds.TlsDescCall → decided l s r ≡ Ok Nothing → (i : ℕ) × (r.symbol ≡ Some i)
 unfolding decided
 call_named l s r row known kind made =
-    let t : treatment l s r ≡ kind_treatment l s r.number r.symbol row kinds.TlsDescCall = treated_by l s r row known ∙ ap (λ (k : RelocationKind). kind_treatment l s r.number r.symbol row k) kind in
+    let t : treatment l s.flags r ≡ kind_treatment l s.flags r.number r.symbol row kinds.TlsDescCall = treated_by l s r row known ∙ ap (λ (k : RelocationKind). kind_treatment l s.flags r.number r.symbol row k) kind in
     by_symbol r.symbol refl (subst (λ (t : Treatment). decide_by l s r t ≡ Ok Nothing) t made)
   where
-    by_symbol : (o : Option ℕ) → r.symbol ≡ o → decide_by l s r (kind_treatment l s r.number o row kinds.TlsDescCall) ≡ Ok Nothing → (i : ℕ) × (r.symbol ≡ Some i)
+    by_symbol : (o : Option ℕ) → r.symbol ≡ o → decide_by l s r (kind_treatment l s.flags r.number o row kinds.TlsDescCall) ≡ Ok Nothing → (i : ℕ) × (r.symbol ≡ Some i)
     by_symbol None e h = cc
     by_symbol (Some i) e h = (i, e)
 
 -- what a relocation writes that keeps its instruction
-abbrev pub Writes : Layout → InputSection → ℕ → InputRelocation → Type 0
+abbrev pub Writes : Layout → Item → ℕ → InputRelocation → Type 0
 Writes l s i r = IsValue l s i r ⊎ (IsAddress l s i r ⊎ (IsLeftField l s i r ⊎ (IsCall l s i r ⊎ IsRowField l s i r)))
 
-nothing_written : (l : Layout) (s : InputSection) (i : ℕ) (r : InputRelocation) → l.machine ≡ machine.X86_64 → IsPlain l s i r Nothing → (r.number ≡ r_x86_64_none → ⊥) → IsCall l s i r
+nothing_written : (l : Layout) (s : Item) (i : ℕ) (r : InputRelocation) → l.machine ≡ machine.X86_64 → IsPlain l s i r Nothing → (r.number ≡ r_x86_64_none → ⊥) → IsCall l s i r
 nothing_written l s i r m p some =
     let none = decided_nothing l s r p.own.made in
     elim none.kind [
@@ -132,12 +132,12 @@ nothing_written l s i r m p some =
       | inr kind ↦ (let symbol = call_named l s r none.row none.known kind p.own.made in record { plain = p; number = call_is r.number none.row (row_here l r.number none.row m none.known) kind; symbol = symbol.0; named = symbol.1 })
     ]
 
-field_written : (l : Layout) (s : InputSection) (i : ℕ) (r : InputRelocation) (z : RelocationSize) (v : ℕ) → X86_64Agrees → l.machine ≡ machine.X86_64 → HasDecision l s i r (Field z v) → IsOwn l s i r (Field z v) ⊎ IsKept l s r (slice_get s.relocations (i + 1)) z v → Writes l s i r
+field_written : (l : Layout) (s : Item) (i : ℕ) (r : InputRelocation) (z : RelocationSize) (v : ℕ) → X86_64Agrees → l.machine ≡ machine.X86_64 → HasDecision l s i r (Field z v) → IsOwn l s i r (Field z v) ⊎ IsKept l s r (slice_get s.relocations (i + 1)) z v → Writes l s i r
 field_written l s i r z v agrees m has (inl own) = inl (value_written l s i r z v agrees m (record { has = has; own = own }))
 field_written l s i r z v agrees m has (inr kept) = inr (inr (inr (inr (record { size = z; value = v; has = has; kept = kept }))))
 
 -- each but NONE writes a value or an address, is left to an entry, or is such a call
-pub relocation_written : (l : Layout) (s : InputSection) (i : ℕ) (r : InputRelocation) (d : Decision) → X86_64Agrees → l.machine ≡ machine.X86_64 → HasDecision l s i r d → KeepsInstruction d → (r.number ≡ r_x86_64_none → ⊥) → Writes l s i r
+pub relocation_written : (l : Layout) (s : Item) (i : ℕ) (r : InputRelocation) (d : Decision) → X86_64Agrees → l.machine ≡ machine.X86_64 → HasDecision l s i r d → KeepsInstruction d → (r.number ≡ r_x86_64_none → ⊥) → Writes l s i r
 relocation_written l s i r Nothing agrees m has keeps some = inr (inr (inr (inl (nothing_written l s i r m (record { has = has; own = decide_nothing l s i r has.listed has.decided }) some))))
 relocation_written l s i r (Field z v) agrees m has keeps some = field_written l s i r z v agrees m has (decide_field l s i r z v has.listed has.decided)
 relocation_written l s i r (Moved v packed) agrees m has keeps some = inr (inl (address_written l s i r v packed agrees m (record { has = has; own = decide_moved l s i r v packed has.listed has.decided })))

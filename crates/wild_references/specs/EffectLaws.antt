@@ -12,7 +12,6 @@
 use Rattle.std.specs.Prelude.{◌≡◌, ℕ, ◌+◌, ◌<◌, ◌≤◌, ◌⊎◌, List, length, Some, Contains}
 use Rattle.wild_types.specs.declared.kind.Machine.TheVariants as machine
 use Rattle.wild_types.specs.declared.input.InputRelocation.{InputRelocation}
-use Rattle.wild_types.specs.declared.input.InputSection.{InputSection}
 use Rattle.wild_types.specs.declared.layout.Layout.{Layout}
 use Rattle.wild_reloc.specs.Formula.{Formula}
 use Rattle.wild_relax.specs.declared.row.Row.{Row}
@@ -21,11 +20,12 @@ use Rattle.wild_layout.specs.declared.decision.Decision.{Decision}
 use Rattle.wild_layout.specs.declared.decision.Decision.TheVariants.{Rewritten, Partner}
 use Rattle.wild_layout.specs.Sites.{template_start}
 use Rattle.wild_geometry.specs.Loaded.{IsDecided, HasDecision}
-use Rattle.wild_references.specs.Laws.{KeepsInstruction, IsKeptReference, FieldsHold, IsLoadedSection}
+use Rattle.wild_references.specs.Laws.{KeepsInstruction, IsKeptReference, FieldsHold, IsLoadedItem}
 use Rattle.wild_loader.specs.declared.memory.Memory.{Memory}
 use Rattle.wild_loader.specs.declared.world.World.{World}
 use Rattle.wild_loader.specs.Memory.{Holds}
-use Rattle.wild_meaning.specs.Item.{Item, item_of, place_at}
+use Rattle.wild_types.specs.Item.{Item}
+use Rattle.wild_meaning.specs.Item.{place_at}
 use Rattle.wild_meaning.specs.Field.{formula_of, form_width, IsInputByte}
 use Rattle.wild_meaning.specs.Sequence.{Partner as CallField, Instruction, size_of, IsOwnByte}
 use Rattle.wild_meaning.specs.Template.{IsOfSequence, IsTemplate, reads, DoesDemanded}
@@ -37,7 +37,7 @@ IsBesideField l r k = (f : Formula) → formula_of l.machine r.number ≡ Some f
 
 -- no other relocation than the call of the sequence itself has a field among the bytes of an instruction that is rewritten
 abbrev pub WindowsAreAlone : Type 0
-WindowsAreAlone = (l : Layout) (s : InputSection) → l.machine ≡ machine.X86_64 → IsDecided l s → (i j : ℕ) (r q : InputRelocation) (row : Row) (v : ℕ) (d : Decision) → HasDecision l s i r (Rewritten row v) → HasDecision l s j q d → (i ≡ j → ⊥) → (j ≡ i + 1 → d ≡ Partner → ⊥)
+WindowsAreAlone = (l : Layout) (s : Item) → l.machine ≡ machine.X86_64 → IsDecided l s → (i j : ℕ) (r q : InputRelocation) (row : Row) (v : ℕ) (d : Decision) → HasDecision l s i r (Rewritten row v) → HasDecision l s j q d → (i ≡ j → ⊥) → (j ≡ i + 1 → d ≡ Partner → ⊥)
     → (k : ℕ) → template_start row r ≤ k → k < template_start row r + pattern_size row → IsBesideField l q k
 
 -- an instruction that the reader knows has all the bytes from start on, so many of them, and the reference belongs to it; it
@@ -52,49 +52,49 @@ pub record StandsAt (l : Layout) (item : Item) (r : InputRelocation) (start size
 
 -- all bytes that are rewritten are those of an instruction that the reader knows
 abbrev pub RewrittenStand : Type 0
-RewrittenStand = (l : Layout) (w : World) (m : Memory) (s : InputSection) → IsLoadedSection l w m s → (i : ℕ) (r : InputRelocation) (row : Row) (v : ℕ) → HasDecision l s i r (Rewritten row v) → StandsAt l (item_of s) r (template_start row r) (pattern_size row)
+RewrittenStand = (l : Layout) (w : World) (m : Memory) (s : Item) → IsLoadedItem l w m s → (i : ℕ) (r : InputRelocation) (row : Row) (v : ℕ) → HasDecision l s i r (Rewritten row v) → StandsAt l s r (template_start row r) (pattern_size row)
 
 -- where an instruction is rewritten, the loaded code does what it demands, at each base at which the reference is asked
 abbrev pub RewrittenHold : Type 0
-RewrittenHold = (l : Layout) (w : World) (m : Memory) (s : InputSection) → IsLoadedSection l w m s → (i : ℕ) (r : InputRelocation) (row : Row) (v : ℕ) → HasDecision l s i r (Rewritten row v) → IsAsked l w (item_of s) r → HoldsRewritten l w m (item_of s) r
+RewrittenHold = (l : Layout) (w : World) (m : Memory) (s : Item) → IsLoadedItem l w m s → (i : ℕ) (r : InputRelocation) (row : Row) (v : ℕ) → HasDecision l s i r (Rewritten row v) → IsAsked l w s r → HoldsRewritten l w m s r
 
 -- the call of a sequence that is rewritten is taken along by that
 abbrev pub PartnersHold : Type 0
-PartnersHold = (l : Layout) (w : World) (m : Memory) (s : InputSection) → IsLoadedSection l w m s → (i : ℕ) (r : InputRelocation) → HasDecision l s i r Partner → IsTakenAlong l w m (item_of s) r
+PartnersHold = (l : Layout) (w : World) (m : Memory) (s : Item) → IsLoadedItem l w m s → (i : ℕ) (r : InputRelocation) → HasDecision l s i r Partner → IsTakenAlong l w m s r
 
 -- where an instruction is rewritten its field names a slot of the symbol, so that the symbol is followed whichever module has it
 abbrev pub RewrittenAreFollowed : Type 0
-RewrittenAreFollowed = (l : Layout) (s : InputSection) (i : ℕ) (r : InputRelocation) (row : Row) (v : ℕ) → HasDecision l s i r (Rewritten row v) → IsLinkedAlone l (item_of s) r → ⊥
+RewrittenAreFollowed = (l : Layout) (s : Item) (i : ℕ) (r : InputRelocation) (row : Row) (v : ℕ) → HasDecision l s i r (Rewritten row v) → IsLinkedAlone l s r → ⊥
 
 -- an instruction whose reference keeps it has the input's bytes around its fields, whatever is rewritten beside it
 abbrev pub InstructionsAreKept : Type 0
-InstructionsAreKept = (l : Layout) (w : World) (m : Memory) (s : InputSection) → IsLoadedSection l w m s → (i : ℕ) (r : InputRelocation) (d : Decision) → HasDecision l s i r d → KeepsInstruction d
-    → (start : ℕ) (o : Instruction) (first : InputRelocation) → IsTemplate l (item_of s) r start o first → (k : ℕ) → IsOwnByte o k → IsInputByte w m (item_of s) (start + k)
+InstructionsAreKept = (l : Layout) (w : World) (m : Memory) (s : Item) → IsLoadedItem l w m s → (i : ℕ) (r : InputRelocation) (d : Decision) → HasDecision l s i r d → KeepsInstruction d
+    → (start : ℕ) (o : Instruction) (first : InputRelocation) → IsTemplate l s r start o first → (k : ℕ) → IsOwnByte o k → IsInputByte w m s (start + k)
 
 -- the first relocation of a sequence keeps its instruction too, and memory has bytes at a further field
-pub record SequenceIsKept (l : Layout) (w : World) (m : Memory) (s : InputSection) (first : InputRelocation) (start : ℕ) (p : CallField) : Type 0 where
+pub record SequenceIsKept (l : Layout) (w : World) (m : Memory) (s : Item) (first : InputRelocation) (start : ℕ) (p : CallField) : Type 0 where
   pub index : ℕ
   pub decision : Decision
   pub has : HasDecision l s index first decision
   pub keeps : KeepsInstruction decision
   pub bytes : List ℕ
   pub wide : length bytes ≡ p.width
-  pub held : Holds m (place_at w (item_of s) (start + p.field)) bytes
+  pub held : Holds m (place_at w s (start + p.field)) bytes
 
 -- so it is where one of its relocations keeps its instruction
 abbrev pub SequencesAreKept : Type 0
-SequencesAreKept = (l : Layout) (w : World) (m : Memory) (s : InputSection) → IsLoadedSection l w m s → (i : ℕ) (r : InputRelocation) (d : Decision) → HasDecision l s i r d → KeepsInstruction d
-    → (start : ℕ) (o : Instruction) (first : InputRelocation) → IsOfSequence l (item_of s) r start o first → (p : CallField) → Contains o.partners p → SequenceIsKept l w m s first start p
+SequencesAreKept = (l : Layout) (w : World) (m : Memory) (s : Item) → IsLoadedItem l w m s → (i : ℕ) (r : InputRelocation) (d : Decision) → HasDecision l s i r d → KeepsInstruction d
+    → (start : ℕ) (o : Instruction) (first : InputRelocation) → IsOfSequence l s r start o first → (p : CallField) → Contains o.partners p → SequenceIsKept l w m s first start p
 
 -- every byte that is in no field and in no instruction of a reference is the input's
 abbrev pub OthersAreKept : Type 0
-OthersAreKept = (l : Layout) (w : World) (m : Memory) (s : InputSection) → IsLoadedSection l w m s → (k : ℕ) → k < length s.bytes → IsOther l (item_of s) k → IsInputByte w m (item_of s) k
+OthersAreKept = (l : Layout) (w : World) (m : Memory) (s : Item) → IsLoadedItem l w m s → (k : ℕ) → k < length s.bytes → IsOther l s k → IsInputByte w m s k
 
 -- an instruction that is kept, with its fields as their formulas have them, does what is demanded
 abbrev pub KeptInstructionsDo : Type 0
-KeptInstructionsDo = (l : Layout) (w : World) (m : Memory) (s : InputSection) → IsLoadedSection l w m s → FieldsHold l w m s → (i : ℕ) (r : InputRelocation) → IsKeptReference l s i r → IsAsked l w (item_of s) r → (IsLinkedAlone l (item_of s) r → ⊥)
-    → (start : ℕ) (o : Instruction) (first : InputRelocation) → IsTemplate l (item_of s) r start o first → DoesDemanded (reads w m) l w m (item_of s) first start o
+KeptInstructionsDo = (l : Layout) (w : World) (m : Memory) (s : Item) → IsLoadedItem l w m s → FieldsHold l w m s → (i : ℕ) (r : InputRelocation) → IsKeptReference l s i r → IsAsked l w s r → (IsLinkedAlone l s r → ⊥)
+    → (start : ℕ) (o : Instruction) (first : InputRelocation) → IsTemplate l s r start o first → DoesDemanded (reads w m) l w m s first start o
 
 -- each reference of a loaded section holds, its instruction does what is demanded, and other bytes are the input's
 abbrev pub ItemsHold : Type 0
-ItemsHold = (l : Layout) (w : World) (m : Memory) (s : InputSection) → IsLoadedSection l w m s → FieldsHold l w m s → ItemHolds l w m (item_of s)
+ItemsHold = (l : Layout) (w : World) (m : Memory) (s : Item) → IsLoadedItem l w m s → FieldsHold l w m s → ItemHolds l w m s

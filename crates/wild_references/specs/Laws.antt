@@ -7,13 +7,12 @@
 --   ThreadPlacesAreKnown  a symbol's place in the thread's data, and its distance from the thread pointer
 --   KeepsInstruction d    the relocation keeps its instruction
 --   FieldHolds ..         a field in memory reads as its formula; FieldIsLinked with the output's own symbol
---   FieldsHold ..         memory has a section's fields as the formulas have them, where they keep their instructions
---   SectionsHold          so it has each kept section that is there as it was decided
+--   FieldsHold ..         memory has an item's fields as the formulas have them, where they keep their instructions
+--   ItemFieldsHold          so it has each kept item that is there as it was decided
 use Rattle.std.specs.Prelude.{◌≡◌, ℕ, ◌+◌, ◌-◌, ◌%◌, ◌^◌, ◌≢◌, ◌⊎◌, ⊤, FitsSigned, Bool, true, List, Some, Ok}
 use Rattle.std.specs.Int.{w64, cast_unsigned}
 use Rattle.wild_types.specs.declared.kind.Machine.TheVariants as machine
 use Rattle.wild_types.specs.declared.input.InputRelocation.{InputRelocation}
-use Rattle.wild_types.specs.declared.input.InputSection.{InputSection}
 use Rattle.wild_types.specs.declared.layout.Layout.{Layout}
 use Rattle.wild_types.specs.ResolvedFlags.{HaveTheirFlags}
 use Rattle.wild_reloc.specs.Agreement.{plain_value}
@@ -31,7 +30,7 @@ use Rattle.wild_layout.specs.declared.decision.Decision.TheVariants.{Moved, Left
 use Rattle.wild_layout.specs.Decide.{decided}
 use Rattle.wild_layout.specs.Numbers.{NumbersFit}
 use Rattle.wild_layout.specs.Geometry.{IsLaidOut, NamesSymbol}
-use Rattle.wild_geometry.specs.Loaded.{IsDecided, InMemory, number_at, ReadsLeft, HasDecision, HasSection}
+use Rattle.wild_geometry.specs.Loaded.{IsDecided, InMemory, number_at, ReadsLeft, HasDecision, HasItem}
 use Rattle.wild_geometry.specs.Slots.{HasSlots}
 use Rattle.wild_loader.specs.declared.memory.Machine.TheVariants as machines
 use Rattle.wild_loader.specs.declared.memory.Memory.{Memory}
@@ -40,7 +39,8 @@ use Rattle.wild_meaning.specs.World.{IsFirstModule, IsLoadable, IsLegal}
 use Rattle.wild_meaning.specs.Value.{HasRaw}
 use Rattle.wild_meaning.specs.Thread.{thread_pointer, HasDistance, IsThreadPlace}
 use Rattle.wild_records.specs.Abi.Relocation.{r_x86_64_none}
-use Rattle.wild_meaning.specs.Item.{Item, item_of, IsKeptSection}
+use Rattle.wild_types.specs.Item.{Item}
+use Rattle.wild_meaning.specs.Item.{IsKept}
 use Rattle.wild_meaning.specs.Field.{formula_of, FieldReads}
 use Rattle.wild_meaning.specs.Formula.{IsSum, HasOffsetMode, Gives, IsOwnSum, GivesLinked, TakesOffset}
 use Rattle.wild_meaning.specs.Reference.{IsAsked, IsStubbed, IsLinkedAlone}
@@ -49,12 +49,12 @@ use Rattle.wild_references.specs.Terms.{IsPlaced, HasTerm, IsFollowed}
 -- the value that the writer computes for a kind is what the expression of that kind gives, where that is followed (x86-64 psABI,
 -- "Relocation Types")
 abbrev pub KindGives : RelocationKind → Type 0
-KindGives k = (l : Layout) (w : World) (m : Memory) (s : InputSection) (r : InputRelocation) (x : ℕ) → HasTerm l w m s r k x → IsFollowed l r k → Gives (plain_value k) l w m (item_of s) r x
+KindGives k = (l : Layout) (w : World) (m : Memory) (s : Item) (r : InputRelocation) (x : ℕ) → HasTerm l w m s r k x → IsFollowed l r k → Gives (plain_value k) l w m s r x
 
 -- else, at base 0, it is what the expression gives with the output's own symbol: of the kinds that take a symbol's address or its
 -- offset from the thread pointer
 abbrev pub KindGivesLinked : RelocationKind → Type 0
-KindGivesLinked k = (l : Layout) (w : World) (m : Memory) (s : InputSection) (r : InputRelocation) (x i : ℕ) → HasTerm l w m s r k x → w.base ≡ 0 → r.symbol ≡ Some i → (IsStubbed l i → ⊥) ⊎ TakesOffset (plain_value k) → GivesLinked (plain_value k) l w (item_of s) r x
+KindGivesLinked k = (l : Layout) (w : World) (m : Memory) (s : Item) (r : InputRelocation) (x i : ℕ) → HasTerm l w m s r k x → w.base ≡ 0 → r.symbol ≡ Some i → (IsStubbed l i → ⊥) ⊎ TakesOffset (plain_value k) → GivesLinked (plain_value k) l w s r x
 
 -- so it is of each kind that has a value with that term
 abbrev pub TermGives : Term → Type 0
@@ -66,20 +66,20 @@ TermGivesLinked t = (k : RelocationKind) → (expression_of k).term ≡ t → wr
 -- of slots whichever module has the symbol; of a descriptor's in code whose references are no offsets ("ELF Handling For Thread-Local
 -- Storage", "Linker Relaxations")
 abbrev pub SlotsGive : Type 0
-SlotsGive = (sort : SlotSort) (k : RelocationKind) → (expression_of k).term ≡ term.Slot sort → writes (expression_of k).class ≡ true → (l : Layout) (w : World) (m : Memory) (s : InputSection) (r : InputRelocation) (x : ℕ) → HasTerm l w m s r k x → (sort ≡ sorts.Descriptor → HasOffsetMode l (item_of s) → ⊥) → Gives (plain_value k) l w m (item_of s) r x
+SlotsGive = (sort : SlotSort) (k : RelocationKind) → (expression_of k).term ≡ term.Slot sort → writes (expression_of k).class ≡ true → (l : Layout) (w : World) (m : Memory) (s : Item) (r : InputRelocation) (x : ℕ) → HasTerm l w m s r k x → (sort ≡ sorts.Descriptor → HasOffsetMode l s → ⊥) → Gives (plain_value k) l w m s r x
 
 -- an address that is decided to move is S + A of the world, once it is more by the base, where the symbol is followed
 abbrev pub AddressesGive : Type 0
-AddressesGive = (l : Layout) (w : World) (m : Memory) (s : InputSection) (r : InputRelocation) (v : ℕ) (packed : Bool) → IsPlaced l w m → NamesSymbol l r → decided l s r ≡ Ok (Moved v packed) → IsFollowed l r kinds.Absolute → IsSum SymbolAddress l w m (item_of s) r (number_at InMemory w v packed)
+AddressesGive = (l : Layout) (w : World) (m : Memory) (s : Item) (r : InputRelocation) (v : ℕ) (packed : Bool) → IsPlaced l w m → NamesSymbol l r → decided l s r ≡ Ok (Moved v packed) → IsFollowed l r kinds.Absolute → IsSum SymbolAddress l w m s r (number_at InMemory w v packed)
 
 -- else, at base 0, with the output's own symbol
 abbrev pub AddressesGiveLinked : Type 0
-AddressesGiveLinked = (l : Layout) (w : World) (m : Memory) (s : InputSection) (r : InputRelocation) (v i : ℕ) (packed : Bool) → IsPlaced l w m → NamesSymbol l r → decided l s r ≡ Ok (Moved v packed) → w.base ≡ 0 → r.symbol ≡ Some i → (IsStubbed l i → ⊥) → IsOwnSum SymbolAddress l w (item_of s) r (number_at InMemory w v packed)
+AddressesGiveLinked = (l : Layout) (w : World) (m : Memory) (s : Item) (r : InputRelocation) (v i : ℕ) (packed : Bool) → IsPlaced l w m → NamesSymbol l r → decided l s r ≡ Ok (Moved v packed) → w.base ≡ 0 → r.symbol ≡ Some i → (IsStubbed l i → ⊥) → IsOwnSum SymbolAddress l w s r (number_at InMemory w v packed)
 
 -- a field that is left to an entry has what the formula of the relocation's type gives, by what the entry stores
 abbrev pub EntriesGive : Type 0
-EntriesGive = (l : Layout) (w : World) (m : Memory) (s : InputSection) (r : InputRelocation) (z : RelocationSize) (number symbol addend : ℕ) (bs : List ℕ) → IsPlaced l w m → NamesSymbol l r → FitsSigned w64 r.addend → decided l s r ≡ Ok (Left z number symbol addend)
-    → ReadsLeft InMemory w z number symbol addend bs → (f : Formula) × (formula_of l.machine r.number ≡ Some f) × (x : ℕ) × Gives f.value l w m (item_of s) r x × Reads f.form bs x
+EntriesGive = (l : Layout) (w : World) (m : Memory) (s : Item) (r : InputRelocation) (z : RelocationSize) (number symbol addend : ℕ) (bs : List ℕ) → IsPlaced l w m → NamesSymbol l r → FitsSigned w64 r.addend → decided l s r ≡ Ok (Left z number symbol addend)
+    → ReadsLeft InMemory w z number symbol addend bs → (f : Formula) × (formula_of l.machine r.number ≡ Some f) × (x : ℕ) × Gives f.value l w m s r x × Reads f.form bs x
 
 -- in a world with the executable as its first module: the distance of its thread-local data, where a symbol of these lies, and
 -- that this is its address less the thread pointer ("ELF Handling For Thread-Local Storage", "Run-Time Handling of TLS")
@@ -110,21 +110,21 @@ pub record FieldIsLinked (l : Layout) (w : World) (m : Memory) (item : Item) (r 
   pub gives : GivesLinked formula.value l w item r value
   pub field : FieldReads w m item r formula.form value
 
--- relocation i of a section refers to something and keeps its instruction
-pub record IsKeptReference (l : Layout) (s : InputSection) (i : ℕ) (r : InputRelocation) : Type 0 where
+-- relocation i of an item refers to something and keeps its instruction
+pub record IsKeptReference (l : Layout) (s : Item) (i : ℕ) (r : InputRelocation) : Type 0 where
   pub decision : Decision
   pub has : HasDecision l s i r decision
   pub keeps : KeepsInstruction decision
   pub refers : r.number ≢ r_x86_64_none
 
--- what memory has of a section by its fields: each reference that keeps its instruction and is asked reads as its formula, those
+-- what memory has of an item by its fields: each reference that keeps its instruction and is asked reads as its formula, those
 -- that take the output's own symbol at base 0 as that
-pub record FieldsHold (l : Layout) (w : World) (m : Memory) (s : InputSection) : Type 0 where
-  pub references : (i : ℕ) (r : InputRelocation) → IsKeptReference l s i r → IsAsked l w (item_of s) r → (IsLinkedAlone l (item_of s) r → ⊥) → FieldHolds l w m (item_of s) r
-  pub linked : (i : ℕ) (r : InputRelocation) → IsKeptReference l s i r → IsLinkedAlone l (item_of s) r → w.base ≡ 0 → FieldIsLinked l w m (item_of s) r
+pub record FieldsHold (l : Layout) (w : World) (m : Memory) (s : Item) : Type 0 where
+  pub references : (i : ℕ) (r : InputRelocation) → IsKeptReference l s i r → IsAsked l w s r → (IsLinkedAlone l s r → ⊥) → FieldHolds l w m s r
+  pub linked : (i : ℕ) (r : InputRelocation) → IsKeptReference l s i r → IsLinkedAlone l s r → w.base ≡ 0 → FieldIsLinked l w m s r
 
--- a kept section of an x86-64 output in a legal world, and a memory that has slots and stubs, and the section as it was decided
-pub record IsLoadedSection (l : Layout) (w : World) (m : Memory) (s : InputSection) : Type 0 where
+-- a kept item of an x86-64 output in a legal world, and a memory that has slots and stubs, and the item as it was decided
+pub record IsLoadedItem (l : Layout) (w : World) (m : Memory) (s : Item) : Type 0 where
   pub x86 : l.machine ≡ machine.X86_64
   pub loadable : IsLoadable l.kind
   pub flags : HaveTheirFlags l
@@ -133,10 +133,10 @@ pub record IsLoadedSection (l : Layout) (w : World) (m : Memory) (s : InputSecti
   pub laid : IsLaidOut l
   pub loaded : m.machine ≡ machines.X86_64
   pub slots : HasSlots l w m
-  pub kept : IsKeptSection l s
+  pub kept : IsKept l s
   pub decided : IsDecided l s
-  pub section : HasSection l w m s InMemory
+  pub item : HasItem l w m s InMemory
 
 -- its fields hold
-abbrev pub SectionsHold : Type 0
-SectionsHold = (l : Layout) (w : World) (m : Memory) (s : InputSection) → IsLoadedSection l w m s → FieldsHold l w m s
+abbrev pub ItemFieldsHold : Type 0
+ItemFieldsHold = (l : Layout) (w : World) (m : Memory) (s : Item) → IsLoadedItem l w m s → FieldsHold l w m s

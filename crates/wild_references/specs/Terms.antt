@@ -6,17 +6,15 @@
 use Rattle.std.specs.Prelude.{◌≡◌, ℕ, ◌+◌, ◌^◌, ◌<◌, ◌≤◌, ◌⊎◌, true, false, Some, Ok, All}
 use Rattle.wild_types.specs.declared.kind.Machine.TheVariants as machine
 use Rattle.wild_types.specs.declared.input.InputRelocation.{InputRelocation}
-use Rattle.wild_types.specs.declared.input.InputSection.{InputSection}
 use Rattle.wild_types.specs.declared.layout.Layout.{Layout}
 use Rattle.wild_slot.specs.declared.treatment.Treatment.TheVariants as treatments
 use Rattle.wild_types.specs.Kinds.{is_position_independent}
-use Rattle.wild_types.specs.Lookups.{allocated}
+use Rattle.wild_types.specs.Lookups.{place_of, allocated}
 use Rattle.wild_types.specs.ResolvedFlags.{HaveTheirFlags}
 use Rattle.wild_slot.specs.Treatment.{kind_treatment}
 use Rattle.wild_reloc.specs.Agreement.{plain_value}
 use Rattle.wild_reloc.specs.declared.info.RelocationKind.{RelocationKind}
 use Rattle.wild_reloc.specs.declared.info.RelocationKindInfo.{RelocationKindInfo}
-use Rattle.wild_layout.specs.SymbolValues.{place_of}
 use Rattle.wild_layout.specs.Values.{term_of, value_by}
 use Rattle.wild_layout.specs.Geometry.{DefinitionNames, NamesSymbol}
 use Rattle.wild_layout.specs.SlotOrder.{EachAgrees}
@@ -28,7 +26,8 @@ use Rattle.wild_loader.specs.declared.memory.Memory.{Memory}
 use Rattle.wild_loader.specs.declared.world.World.{World}
 use Rattle.wild_meaning.specs.World.{IsMovable, IsLoadable, IsLegal}
 use Rattle.wild_meaning.specs.Value.{IsAbsolute, IsReplaceable}
-use Rattle.wild_meaning.specs.Item.{place_at, item_of}
+use Rattle.wild_types.specs.Item.{Item}
+use Rattle.wild_meaning.specs.Item.{place_at}
 use Rattle.wild_meaning.specs.Formula.{IsPlaceRelative, TakesAddress, TakesOffset}
 use Rattle.wild_meaning.specs.Reference.{IsStubbed}
 
@@ -58,18 +57,18 @@ pub record IsPlaced (l : Layout) (w : World) (m : Memory) : Type 0 where
 
 -- a relocation of an allocated section whose value x in its field is the writer's expression of a kind, at a place that does
 -- not wrap; the layout treats it as a value, and it is asked at this base
-pub record HasTerm (l : Layout) (w : World) (m : Memory) (s : InputSection) (r : InputRelocation) (k : RelocationKind) (x : ℕ) : Type 0 where
+pub record HasTerm (l : Layout) (w : World) (m : Memory) (s : Item) (r : InputRelocation) (k : RelocationKind) (x : ℕ) : Type 0 where
   pub placed : IsPlaced l w m
   pub room : allocated s.flags ≡ true
   pub listed : NamesSymbol l r
   pub number : ℕ
   pub row : RelocationKindInfo
-  pub treated : kind_treatment l s number r.symbol row k ≡ treatments.Value row
+  pub treated : kind_treatment l s.flags number r.symbol row k ≡ treatments.Value row
   pub term : ℕ
   pub given : term_of l r.symbol k ≡ Ok term
-  pub value : value_by l k term r.addend (place_of s r) ≡ x
-  pub place : place_at w (item_of s) r.offset ≡ w.base + place_of s r
-  pub ends : w.base + place_of s r ≤ 2 ^ 64
+  pub value : value_by l k term r.addend (place_of s.address r) ≡ x
+  pub place : place_at w s r.offset ≡ w.base + place_of s.address r
+  pub ends : w.base + place_of s.address r ≤ 2 ^ 64
   pub asked : IsPlaceRelative (plain_value k) → IsMovable l.kind → (i : ℕ) → r.symbol ≡ Some i → IsAbsolute l i → w.base ≡ 0
 
 -- whichever module has the relocation's symbol, it is not taken by itself: it is the output's own, or the expression of the kind

@@ -2,7 +2,7 @@
 #![tactic(auto)]
 
 ghost use Rattle.wild_reloc.specs.declared.expression.Term.TheVariants as term;
-ghost use Rattle.wild_references.specs.Laws.{AddressesGive, AddressesGiveLinked, EntriesGive, SectionsHold, SlotsGive, TermGives, TermGivesLinked, ThreadPlacesAreKnown};
+ghost use Rattle.wild_references.specs.Laws.{AddressesGive, AddressesGiveLinked, EntriesGive, ItemFieldsHold, SlotsGive, TermGives, TermGivesLinked, ThreadPlacesAreKnown};
 ghost use Rattle.wild_references.specs.Stubs.{StubsGoOn};
 ghost use Rattle.wild_references.specs.Filled.{FilledInstructionsDo};
 ghost use Rattle.wild_references.specs.EffectLaws.{InstructionsAreKept, ItemsHold, KeptInstructionsDo, OthersAreKept, PartnersHold, RewrittenAreFollowed, RewrittenHold, RewrittenStand, SequencesAreKept, WindowsAreAlone};
@@ -83,8 +83,8 @@ pub fn stubs_go_on()
 }
 
 /// Where memory has a kept section as it was decided, each of its references that keeps its instruction reads as its formula.
-pub fn sections_hold()
-    ensures { SectionsHold }
+pub fn item_fields_hold()
+    ensures { ItemFieldsHold }
 {
     fields_of_x86_64();
     widths_of_fields();

@@ -1,6 +1,6 @@
 -- Laws of fields that are written one behind the other.
 use Rattle.std.proofs.Common.{◌≡◌, ℕ, ◌+◌, ◌<◌, ◌≤◌, inl, inr, true, false, List, [], ◌∷◌, ◌++◌, length, get_or, map, if◌then◌else◌, refl, sym, ap, ◌∙◌, arith, subst}
-use Rattle.std.specs.Prelude.{Bool, All, AllPairs, Option, Some, None, Ok, replicate, nat_lt, slice_get}
+use Rattle.std.specs.Prelude.{All, AllPairs, Option, Some, None, Ok, nat_lt, slice_get}
 use Rattle.std.specs.List.{flat_map, range_with_len}
 use Rattle.std.proofs.lemmas.Bool.{cases_lt, lt-ltb, le-ltb}
 use Rattle.std.proofs.lemmas.List.{append-nil}
@@ -11,18 +11,17 @@ use Rattle.wild_words.specs.Extents.{SharesNothing, least_extent}
 use Rattle.wild_words.proofs.ExtentLemmas.{none-shared, beside-nothing}
 use Rattle.wild_words.proofs.ListLemmas.{AllPairs-nil, AllPairs-head, AllPairs-tail, AllPairs-append, flat_map-numbers}
 use Rattle.wild_types.specs.declared.input.InputRelocation.{InputRelocation}
-use Rattle.wild_types.specs.declared.input.InputSection.{InputSection}
+use Rattle.wild_types.specs.Item.{Item}
 use Rattle.wild_types.specs.declared.fault.Error.{Error}
 use Rattle.wild_types.specs.declared.layout.Layout.{Layout}
 use Rattle.wild_types.specs.Faults.{Refuses}
-use Rattle.wild_types.specs.Lookups.{is_read}
 use Rattle.wild_reloc.specs.Field.{size_width}
 use Rattle.wild_layout.specs.declared.decision.Decision.{Decision}
 use Rattle.wild_layout.specs.declared.decision.Decision.TheVariants.{Nothing, Field, Moved, Left, Rewritten, Partner}
 use Rattle.wild_relax.specs.Linked.{pattern_size}
 use Rattle.wild_layout.specs.Decide.{decide}
-use Rattle.wild_layout.specs.Sites.{Written, written_by, field_site, template_site, site_by, site_of, site, sites, extent_of, shared_byte, section_bytes}
-use Rattle.wild_layout.specs.Faults.{relocation_errors, at_section, overlap_errors, section_errors}
+use Rattle.wild_layout.specs.Sites.{Written, written_by, field_site, template_site, site_by, site_of, site, sites, extent_of, shared_byte, item_bytes}
+use Rattle.wild_layout.specs.Faults.{relocation_errors, at_section, overlap_errors, item_errors}
 use Rattle.wild_layout.specs.SectionPlaces.{FieldLies}
 use Rattle.wild_layout.proofs.SiteLemmas.{LiesIn, length-field_site}
 use Rattle.wild_sections.specs.Decided.{put_decision, WrittenLies, DecisionLies, reach_of, reach_behind, IsNext}
@@ -31,13 +30,13 @@ use Rattle.wild_sections.proofs.DecidedLemmas.{none_refused, refuses_decision, d
 use Rattle.wild_sections.proofs.InstructionLemmas.{length-instruction, decision_lies}
 
 -- the first i relocations were written one behind the other
-pub record HasAscended (l : Layout) (g f k : ℕ) (s : InputSection) (i reach : ℕ) (room : List ℕ) : Type 0 where
+pub record HasAscended (l : Layout) (g f k : ℕ) (s : Item) (i reach : ℕ) (room : List ℕ) : Type 0 where
   pub none : flat_map (relocation_errors l g f k s) (range_with_len 0 i) ≡ []
   pub bytes : room ≡ overlay (flat_map (site l s) (range_with_len 0 i)) s.bytes
   pub apart : AreApart (length s.bytes) (flat_map (site l s) (range_with_len 0 i))
   pub ends : All (LiesIn reach) (flat_map (site l s) (range_with_len 0 i))
 
-pub not_begun : (l : Layout) (g f k : ℕ) (s : InputSection) (room : List ℕ) → room ≡ s.bytes → HasAscended l g f k s 0 0 room
+pub not_begun : (l : Layout) (g f k : ℕ) (s : Item) (room : List ℕ) → room ≡ s.bytes → HasAscended l g f k s 0 0 room
 not_begun l g f k s room is = record {
   none = refl;
   bytes = is;
@@ -46,7 +45,7 @@ not_begun l g f k s room is = record {
 }
 
 -- one more piece, behind the others
-pub record Behind (s : InputSection) (n next : ℕ) (ps : List Piece) : Type 0 where
+pub record Behind (s : Item) (n next : ℕ) (ps : List Piece) : Type 0 where
   pub apart : AreApart n ps
   pub ends : All (LiesIn next) ps
 
@@ -59,16 +58,16 @@ one_behind n reach next ps p apart ends low inside is = record {
 ends_later : (reach next : ℕ) (ps : List Piece) → reach ≤ next → All (LiesIn reach) ps → All (LiesIn next) ps
 ends_later reach next ps low ends = λ k d h. let e = ends k d h in omega (arith, e, low)
 
-field_behind : (s : InputSection) (n reach next : ℕ) (ps : List Piece) (p : Piece) → AreApart n ps → All (LiesIn reach) ps → reach ≤ p.at → p.at + length p.bytes ≤ n → next ≡ p.at + length p.bytes → Behind s n next (ps ++ p ∷ [])
+field_behind : (s : Item) (n reach next : ℕ) (ps : List Piece) (p : Piece) → AreApart n ps → All (LiesIn reach) ps → reach ≤ p.at → p.at + length p.bytes ≤ n → next ≡ p.at + length p.bytes → Behind s n next (ps ++ p ∷ [])
 field_behind s n reach next ps p apart ends low inside is = record {
   apart = one_behind n reach next ps p apart ends low inside is;
   ends = All-push (LiesIn next) ps p (ends_later reach next ps (omega (arith, low, is)) ends) (omega (arith, is));
 }
 
-pub site_behind : (s : InputSection) (reach next : ℕ) (ps : List Piece) (r : InputRelocation) (d : Decision) → AreApart (length s.bytes) ps → All (LiesIn reach) ps → DecisionLies (length s.bytes) r d → reach_behind reach r d ≡ Some next → Behind s (length s.bytes) next (ps ++ site_of s r (Ok d))
+pub site_behind : (s : Item) (reach next : ℕ) (ps : List Piece) (r : InputRelocation) (d : Decision) → AreApart (length s.bytes) ps → All (LiesIn reach) ps → DecisionLies (length s.bytes) r d → reach_behind reach r d ≡ Some next → Behind s (length s.bytes) next (ps ++ site_of s r (Ok d))
 site_behind s reach next ps r d apart ends lies is = by_decision s reach next ps r d apart ends lies is
   where
-    from_reach : (s : InputSection) (n reach next size : ℕ) (ps : List Piece) (p : Piece) → AreApart n ps → All (LiesIn reach) ps → length p.bytes ≡ size → p.at + size ≤ n → (if nat_lt p.at reach then None else Some (p.at + size)) ≡ Some next → Behind s n next (ps ++ p ∷ [])
+    from_reach : (s : Item) (n reach next size : ℕ) (ps : List Piece) (p : Piece) → AreApart n ps → All (LiesIn reach) ps → length p.bytes ≡ size → p.at + size ≤ n → (if nat_lt p.at reach then None else Some (p.at + size)) ≡ Some next → Behind s n next (ps ++ p ∷ [])
     from_reach s n reach next size ps p apart ends long lies is =
         elim (cases_lt p.at reach) [
           | inl l ↦ (let t = lt-ltb p.at reach l in cc (rw t at is))
@@ -78,13 +77,13 @@ site_behind s reach next ps r d apart ends lies is = by_decision s reach next ps
               field_behind s n reach next ps p apart ends m (omega (arith, long, lies)) (omega (arith, long, e)))
         ]
 
-    by : (s : InputSection) (n reach next : ℕ) (ps : List Piece) (r : InputRelocation) (o : Option Written) → AreApart n ps → All (LiesIn reach) ps → WrittenLies n r.offset o → reach_of reach r.offset o ≡ Some next → Behind s n next (ps ++ site_by s r o)
+    by : (s : Item) (n reach next : ℕ) (ps : List Piece) (r : InputRelocation) (o : Option Written) → AreApart n ps → All (LiesIn reach) ps → WrittenLies n r.offset o → reach_of reach r.offset o ≡ Some next → Behind s n next (ps ++ site_by s r o)
     by s n reach next ps r None apart ends lies is =
         let e : reach ≡ next = cc in
         subst (λ (qs : List Piece). Behind s n next qs) (sym (append-nil ps)) (record { apart = apart; ends = subst (λ (k : ℕ). All (LiesIn k) ps) e ends })
     by s n reach next ps r (Some w) apart ends lies is = from_reach s n reach next (size_width w.size) ps (field_site s r.offset w.size w.value) apart ends (length-field_site s r.offset w.size w.value) lies is
 
-    by_decision : (s : InputSection) (reach next : ℕ) (ps : List Piece) (r : InputRelocation) (d : Decision) → AreApart (length s.bytes) ps → All (LiesIn reach) ps → DecisionLies (length s.bytes) r d → reach_behind reach r d ≡ Some next → Behind s (length s.bytes) next (ps ++ site_of s r (Ok d))
+    by_decision : (s : Item) (reach next : ℕ) (ps : List Piece) (r : InputRelocation) (d : Decision) → AreApart (length s.bytes) ps → All (LiesIn reach) ps → DecisionLies (length s.bytes) r d → reach_behind reach r d ≡ Some next → Behind s (length s.bytes) next (ps ++ site_of s r (Ok d))
     by_decision s reach next ps r Nothing apart ends lies is = by s (length s.bytes) reach next ps r None apart ends lies is
     by_decision s reach next ps r (Field z v) apart ends lies is = by s (length s.bytes) reach next ps r (written_by (Field z v)) apart ends lies is
     by_decision s reach next ps r (Moved v packed) apart ends lies is = by s (length s.bytes) reach next ps r (written_by (Moved v packed)) apart ends lies is
@@ -93,7 +92,7 @@ site_behind s reach next ps r d apart ends lies is = by_decision s reach next ps
     by_decision s reach next ps r Partner apart ends lies is = by s (length s.bytes) reach next ps r None apart ends lies is
 
 -- one more relocation, written behind the others
-pub ascended_more : (l : Layout) (g f k : ℕ) (s : InputSection) (i reach next : ℕ) (x : InputRelocation) (d : Decision) (now room : List ℕ) → slice_get s.relocations i ≡ Some x → All (FieldLies l.machine (length s.bytes)) s.relocations
+pub ascended_more : (l : Layout) (g f k : ℕ) (s : Item) (i reach next : ℕ) (x : InputRelocation) (d : Decision) (now room : List ℕ) → slice_get s.relocations i ≡ Some x → All (FieldLies l.machine (length s.bytes)) s.relocations
     → HasAscended l g f k s i reach now → relocation_errors l g f k s i ≡ [] → decide l s i ≡ Ok d → reach_behind reach x d ≡ Some next → room ≡ put_decision now x d → HasAscended l g f k s (i + 1) next room
 ascended_more l g f k s i reach next x d now room listed lies before none is reaches put =
     let ps = flat_map (site l s) (range_with_len 0 i) in
@@ -110,7 +109,7 @@ ascended_more l g f k s i reach next x d now room listed lies before none is rea
     }
 
 -- the same of what a step of the walk gives
-pub ascended_next : (l : Layout) (g f k : ℕ) (s : InputSection) (i reach next : ℕ) (o : Option ℕ) (now room : List ℕ) → All (FieldLies l.machine (length s.bytes)) s.relocations
+pub ascended_next : (l : Layout) (g f k : ℕ) (s : Item) (i reach next : ℕ) (o : Option ℕ) (now room : List ℕ) → All (FieldLies l.machine (length s.bytes)) s.relocations
     → HasAscended l g f k s i reach now → relocation_errors l g f k s i ≡ [] → IsNext l s i reach o now room → o ≡ Some next → HasAscended l g f k s (i + 1) next room
 ascended_next l g f k s i reach next o now room lies before none step is = ascended_more l g f k s i reach next step.relocation step.decision now room step.listed lies before none step.is (sym step.reached ∙ is) (step.written next is)
 
@@ -127,27 +126,22 @@ pairs_beside (p ∷ ps) h = AllPairs-cons SharesNothing (extent_of p) (map exten
 nothing_shared : (n : ℕ) (ps : List Piece) → AreApart n ps → least_extent (map extent_of ps) ≡ None
 nothing_shared n ps h = none-shared (map extent_of ps) (pairs_beside ps h.apart)
 
--- the first fault of a relocation is that of the section
-pub ascending_refused : (l : Layout) (g f k : ℕ) (s : InputSection) (i reach : ℕ) (room : List ℕ) (e : Error) → is_read s ≡ true → i < length s.relocations → HasAscended l g f k s i reach room
-    → Refuses e (relocation_errors l g f k s i) → Refuses e (section_errors l g f k s)
-unfolding section_errors
-ascending_refused l g f k s i reach room e reads h before here =
-    rw reads (Refuses-front e (flat_map (relocation_errors l g f k s) (range_with_len 0 (length s.relocations))) (overlap_errors (at_section g f k) (shared_byte l s)) (refuses_decision l g f k s i e h before.none here))
+-- the first fault of a relocation is that of the item
+pub ascending_refused : (l : Layout) (g f k : ℕ) (s : Item) (i reach : ℕ) (room : List ℕ) (e : Error) → i < length s.relocations → HasAscended l g f k s i reach room
+    → Refuses e (relocation_errors l g f k s i) → Refuses e (item_errors l g f k s)
+ascending_refused l g f k s i reach room e h before here =
+    Refuses-front e (flat_map (relocation_errors l g f k s) (range_with_len 0 (length s.relocations))) (overlap_errors (at_section g f k) (shared_byte l s)) (refuses_decision l g f k s i e h before.none here)
 
-at_end : (l : Layout) (g f k : ℕ) (s : InputSection) (i reach : ℕ) (room : List ℕ) → i ≡ length s.relocations → HasAscended l g f k s i reach room → HasAscended l g f k s (length s.relocations) reach room
+at_end : (l : Layout) (g f k : ℕ) (s : Item) (i reach : ℕ) (room : List ℕ) → i ≡ length s.relocations → HasAscended l g f k s i reach room → HasAscended l g f k s (length s.relocations) reach room
 at_end l g f k s i reach room end h = subst (λ (n : ℕ). HasAscended l g f k s n reach room) end h
 
--- a section that was written so has no fault
-pub ascending_passes : (l : Layout) (g f k : ℕ) (s : InputSection) (i reach : ℕ) (room : List ℕ) → is_read s ≡ true → i ≡ length s.relocations → HasAscended l g f k s i reach room → section_errors l g f k s ≡ []
-unfolding section_errors
-ascending_passes l g f k s i reach room read end h =
+-- an item that was written so has no fault
+pub ascending_passes : (l : Layout) (g f k : ℕ) (s : Item) (i reach : ℕ) (room : List ℕ) → i ≡ length s.relocations → HasAscended l g f k s i reach room → item_errors l g f k s ≡ []
+ascending_passes l g f k s i reach room end h =
     let all = at_end l g f k s i reach room end h in
     let shared : shared_byte l s ≡ None = nothing_shared (length s.bytes) (sites l s) all.apart in
-    rw (read, all.none, shared) refl
+    rw (all.none, shared) refl
 
 -- and its bytes are there
-pub ascending_written : (l : Layout) (g f k : ℕ) (s : InputSection) (i reach : ℕ) (room : List ℕ) → s.nobits ≡ false → i ≡ length s.relocations → HasAscended l g f k s i reach room → room ≡ section_bytes l s
-unfolding section_bytes
-ascending_written l g f k s i reach room own end h =
-    let all = at_end l g f k s i reach room end h in
-    subst (λ (b : Bool). room ≡ (if b then replicate s.size 0 else overlay (sites l s) s.bytes)) (sym own) all.bytes
+pub ascending_written : (l : Layout) (g f k : ℕ) (s : Item) (i reach : ℕ) (room : List ℕ) → i ≡ length s.relocations → HasAscended l g f k s i reach room → room ≡ item_bytes l s
+ascending_written l g f k s i reach room end h = (at_end l g f k s i reach room end h).bytes

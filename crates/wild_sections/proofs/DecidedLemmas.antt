@@ -15,7 +15,7 @@ use Rattle.wild_words.proofs.OrderLemmas.{own_range_next}
 use Rattle.wild_words.proofs.ListLemmas.{flat_map-numbers}
 use Rattle.wild_words.proofs.Basics.{slice_get_inside}
 use Rattle.wild_types.specs.declared.input.InputRelocation.{InputRelocation}
-use Rattle.wild_types.specs.declared.input.InputSection.{InputSection}
+use Rattle.wild_types.specs.Item.{Item}
 use Rattle.wild_types.specs.declared.fault.Error.{Error}
 use Rattle.wild_types.specs.declared.layout.Layout.{Layout}
 use Rattle.wild_reloc.specs.Field.{size_width, size_written}
@@ -25,10 +25,9 @@ use Rattle.wild_relax.specs.Linked.{pattern_size, template_of}
 use Rattle.wild_layout.specs.Decide.{decide}
 use Rattle.wild_layout.specs.Sites.{Written, written_by, field_site, template_site, site_by, site_of, site, extent_of, shared_byte}
 use Rattle.wild_types.specs.Faults.{Refuses}
-use Rattle.wild_types.specs.Lookups.{is_read}
-use Rattle.wild_layout.specs.Faults.{relocation_errors, at_section, overlap_errors, section_errors}
+use Rattle.wild_layout.specs.Faults.{relocation_errors, at_section, overlap_errors, item_errors}
 use Rattle.wild_layout.specs.SectionPlaces.{FieldLies}
-use Rattle.wild_layout.proofs.SiteLemmas.{length-field_site, sites_apart_in}
+use Rattle.wild_layout.proofs.SiteLemmas.{length-field_site, sites_apart}
 use Rattle.wild_layout.proofs.FaultLemmas.{no_overlap}
 use Rattle.wild_sections.specs.Decided.{decided_sites, written_extent, decided_extent, decided_extents, ascends, put_written, put_decision, DecisionLies, DecisionsLie, AreDecided}
 use Rattle.wild_sections.proofs.InstructionLemmas.{length-instruction, decision_lies}
@@ -64,7 +63,7 @@ ascending_shares_none es h = none-shared es (ascending_apart 0 es h)
 
 -- ---- lists of decisions
 
-pub sites-append : (s : InputSection) (rs qs : List InputRelocation) (ds es : List Decision) → length rs ≡ length ds → decided_sites s (rs ++ qs) (ds ++ es) ≡ decided_sites s rs ds ++ decided_sites s qs es
+pub sites-append : (s : Item) (rs qs : List InputRelocation) (ds es : List Decision) → length rs ≡ length ds → decided_sites s (rs ++ qs) (ds ++ es) ≡ decided_sites s rs ds ++ decided_sites s qs es
 unfolding decided_sites
 sites-append s [] qs [] es h = refl
 sites-append s [] qs (d ∷ ds) es h = absurd (omega arith)
@@ -78,7 +77,7 @@ extents-append [] qs (d ∷ ds) es h = absurd (omega arith)
 extents-append (r ∷ rs) qs [] es h = absurd (omega arith)
 extents-append (r ∷ rs) qs (d ∷ ds) es h = ap (λ (ps : List Extent). option_to_list (decided_extent r d) ++ ps) (extents-append rs qs ds es (omega arith)) ∙ sym (append_assoc (option_to_list (decided_extent r d)) (decided_extents rs ds) (decided_extents qs es))
 
-one_site : (s : InputSection) (r : InputRelocation) (d : Decision) → decided_sites s (r ∷ []) (d ∷ []) ≡ site_of s r (Ok d)
+one_site : (s : Item) (r : InputRelocation) (d : Decision) → decided_sites s (r ∷ []) (d ∷ []) ≡ site_of s r (Ok d)
 unfolding decided_sites
 one_site s r d = append-nil (site_of s r (Ok d))
 
@@ -90,7 +89,7 @@ length-both : {X Y : Type 0} (xs : List X) (ys : List Y) (i : ℕ) → length ys
 length-both xs ys i h = let a = length-take i xs in let b = length-take i ys in omega (arith, a, b, h)
 
 -- one more decision of two lists
-pub sites-more : (s : InputSection) (rs : List InputRelocation) (ds : List Decision) (i : ℕ) (r : InputRelocation) (d : Decision) → length ds ≡ length rs → i < length ds
+pub sites-more : (s : Item) (rs : List InputRelocation) (ds : List Decision) (i : ℕ) (r : InputRelocation) (d : Decision) → length ds ≡ length rs → i < length ds
     → decided_sites s (take (i + 1) rs) (take (i + 1) ds) ≡ decided_sites s (take i rs) (take i ds) ++ site_of s (get_or rs i r) (Ok (get_or ds i d))
 sites-more s rs ds i r d n h =
     ap (λ (qs : List InputRelocation). decided_sites s qs (take (i + 1) ds)) (take_more rs i r (omega arith))
@@ -159,7 +158,7 @@ extents-none rs ds i r d o before n h is none was =
     was ∙ sym (append-nil (decided_extents (take i rs) (take i ds))) ∙ ap (λ (x : Option Extent). decided_extents (take i rs) (take i ds) ++ option_to_list x) (sym none ∙ is) ∙ sym (extents-more rs ds i r d n h)
 
 -- the decisions before a place, at it and behind
-sites-split : (s : InputSection) (rs : List InputRelocation) (ds : List Decision) (i : ℕ) (r : InputRelocation) (d : Decision) → length ds ≡ length rs → i < length ds
+sites-split : (s : Item) (rs : List InputRelocation) (ds : List Decision) (i : ℕ) (r : InputRelocation) (d : Decision) → length ds ≡ length rs → i < length ds
     → decided_sites s rs ds ≡ decided_sites s (take i rs) (take i ds) ++ (site_of s (get_or rs i r) (Ok (get_or ds i d)) ++ decided_sites s (drop (suc i) rs) (drop (suc i) ds))
 unfolding decided_sites
 sites-split s [] [] i r d n h = absurd (omega arith)
@@ -171,14 +170,14 @@ sites-split s (q ∷ rs) (x ∷ ds) (suc i) r d n h =
     ∙ sym (append_assoc (site_of s q (Ok x)) (decided_sites s (take i rs) (take i ds)) (site_of s (get_or rs i r) (Ok (get_or ds i d)) ++ decided_sites s (drop (suc i) rs) (drop (suc i) ds)))
 
 -- where the sites are
-one_extent_is : (s : InputSection) (r : InputRelocation) (d : Decision) → DecisionLies (length s.bytes) r d → map extent_of (site_of s r (Ok d)) ≡ option_to_list (decided_extent r d)
+one_extent_is : (s : Item) (r : InputRelocation) (d : Decision) → DecisionLies (length s.bytes) r d → map extent_of (site_of s r (Ok d)) ≡ option_to_list (decided_extent r d)
 one_extent_is s r d lies = by_decision s r d lies
   where
-    by : (s : InputSection) (r : InputRelocation) (o : Option Written) → map extent_of (site_by s r o) ≡ option_to_list (written_extent r.offset o)
+    by : (s : Item) (r : InputRelocation) (o : Option Written) → map extent_of (site_by s r o) ≡ option_to_list (written_extent r.offset o)
     by s r None = refl
     by s r (Some w) = let n = length-field_site s r.offset w.size w.value in rw n refl
 
-    by_decision : (s : InputSection) (r : InputRelocation) (d : Decision) → DecisionLies (length s.bytes) r d → map extent_of (site_of s r (Ok d)) ≡ option_to_list (decided_extent r d)
+    by_decision : (s : Item) (r : InputRelocation) (d : Decision) → DecisionLies (length s.bytes) r d → map extent_of (site_of s r (Ok d)) ≡ option_to_list (decided_extent r d)
     by_decision s r Nothing lies = refl
     by_decision s r (Field z v) lies = by s r (written_by (Field z v))
     by_decision s r (Moved v packed) lies = by s r (written_by (Moved v packed))
@@ -190,7 +189,7 @@ map-append : (ps qs : List Piece) → map extent_of (ps ++ qs) ≡ map extent_of
 map-append [] qs = refl
 map-append (p ∷ ps) qs = ap (λ (es : List Extent). extent_of p ∷ es) (map-append ps qs)
 
-pub extents_are : (s : InputSection) (rs : List InputRelocation) (ds : List Decision) → DecisionsLie (length s.bytes) rs ds → map extent_of (decided_sites s rs ds) ≡ decided_extents rs ds
+pub extents_are : (s : Item) (rs : List InputRelocation) (ds : List Decision) → DecisionsLie (length s.bytes) rs ds → map extent_of (decided_sites s rs ds) ≡ decided_extents rs ds
 unfolding decided_sites decided_extents
 extents_are s [] ds lie = refl
 extents_are s (r ∷ rs) [] lie = refl
@@ -199,40 +198,40 @@ extents_are s (r ∷ rs) (d ∷ ds) lie =
     ∙ ap (λ (es : List Extent). map extent_of (site_of s r (Ok d)) ++ es) (extents_are s rs ds (λ i q e listed made. lie (suc i) q e listed made))
     ∙ ap (λ (es : List Extent). es ++ decided_extents rs ds) (one_extent_is s r d (lie 0 r d refl refl))
 
-pub lies_in_bytes : (l : Layout) (s : InputSection) (n : ℕ) → n ≡ length s.bytes → All (FieldLies l.machine n) s.relocations → All (FieldLies l.machine (length s.bytes)) s.relocations
+pub lies_in_bytes : (l : Layout) (s : Item) (n : ℕ) → n ≡ length s.bytes → All (FieldLies l.machine n) s.relocations → All (FieldLies l.machine (length s.bytes)) s.relocations
 lies_in_bytes l s n whole lies = subst (λ (m : ℕ). All (FieldLies l.machine m) s.relocations) whole lies
 
 -- what was decided of the relocations lies where the clauses say
-pub decisions_lie : (l : Layout) (s : InputSection) (ds : List Decision) (n : ℕ) → AreDecided l s ds → n ≡ length s.bytes → All (FieldLies l.machine n) s.relocations → DecisionsLie n s.relocations ds
+pub decisions_lie : (l : Layout) (s : Item) (ds : List Decision) (n : ℕ) → AreDecided l s ds → n ≡ length s.bytes → All (FieldLies l.machine n) s.relocations → DecisionsLie n s.relocations ds
 decisions_lie l s ds n h whole lies = λ i r d listed made. decision_lies l s i n r d listed whole lies (h.each i d made)
 
-pub shared_is : (l : Layout) (s : InputSection) (ds : List Decision) → AreDecided l s ds → All (FieldLies l.machine (length s.bytes)) s.relocations → least_extent (decided_extents s.relocations ds) ≡ shared_byte l s
+pub shared_is : (l : Layout) (s : Item) (ds : List Decision) → AreDecided l s ds → All (FieldLies l.machine (length s.bytes)) s.relocations → least_extent (decided_extents s.relocations ds) ≡ shared_byte l s
 shared_is l s ds h lies = ap least_extent (sym (extents_are s s.relocations ds (decisions_lie l s ds (length s.bytes) h refl lies)) ∙ ap (map extent_of) h.same)
 
 -- ---- deciding
 
 -- the relocation that a loop has come to
-pub listed_at : (s : InputSection) (items : List InputRelocation) (i : ℕ) (x : InputRelocation) → items ≡ s.relocations → i < length items → x ≡ get_or items i x → slice_get s.relocations i ≡ Some x
+pub listed_at : (s : Item) (items : List InputRelocation) (i : ℕ) (x : InputRelocation) → items ≡ s.relocations → i < length items → x ≡ get_or items i x → slice_get s.relocations i ≡ Some x
 listed_at s items i x same h read = subst (λ (xs : List InputRelocation). slice_get xs i ≡ Some x) same (slice_get-get_or items i x h ∙ ap (λ (r : InputRelocation). Some r) (sym read))
 
-pub decision_site : (l : Layout) (s : InputSection) (i : ℕ) (r : InputRelocation) (d : Decision) → slice_get s.relocations i ≡ Some r → decide l s i ≡ Ok d → site l s i ≡ site_of s r (Ok d)
+pub decision_site : (l : Layout) (s : Item) (i : ℕ) (r : InputRelocation) (d : Decision) → slice_get s.relocations i ≡ Some r → decide l s i ≡ Ok d → site l s i ≡ site_of s r (Ok d)
 unfolding site
 decision_site l s i r d e is = rw (e, is) refl
 
-pub refuses_decision : (l : Layout) (g f k : ℕ) (s : InputSection) (i : ℕ) (e : Error) → i < length s.relocations → flat_map (relocation_errors l g f k s) (range_with_len 0 i) ≡ []
+pub refuses_decision : (l : Layout) (g f k : ℕ) (s : Item) (i : ℕ) (e : Error) → i < length s.relocations → flat_map (relocation_errors l g f k s) (range_with_len 0 i) ≡ []
     → Refuses e (relocation_errors l g f k s i) → Refuses e (flat_map (relocation_errors l g f k s) (range_with_len 0 (length s.relocations)))
 refuses_decision l g f k s i e h none here = refuses_number (relocation_errors l g f k s) 0 (length s.relocations) i i e h (omega arith) none here
 
-pub none_refused : (l : Layout) (g f k : ℕ) (s : InputSection) (i : ℕ) → flat_map (relocation_errors l g f k s) (range_with_len 0 i) ≡ [] → relocation_errors l g f k s i ≡ [] → flat_map (relocation_errors l g f k s) (range_with_len 0 (i + 1)) ≡ []
+pub none_refused : (l : Layout) (g f k : ℕ) (s : Item) (i : ℕ) → flat_map (relocation_errors l g f k s) (range_with_len 0 i) ≡ [] → relocation_errors l g f k s i ≡ [] → flat_map (relocation_errors l g f k s) (range_with_len 0 (i + 1)) ≡ []
 none_refused l g f k s i none here = flat_map-numbers (relocation_errors l g f k s) i ∙ ap (λ (es : List Error). es ++ relocation_errors l g f k s i) none ∙ here
 
 -- the first i relocations were decided
-pub record HasDecided (l : Layout) (s : InputSection) (i : ℕ) (ds : List Decision) : Type 0 where
+pub record HasDecided (l : Layout) (s : Item) (i : ℕ) (ds : List Decision) : Type 0 where
   pub count : length ds ≡ i
   pub each : (k : ℕ) (d : Decision) → slice_get ds k ≡ Some d → decide l s k ≡ Ok d
   pub same : decided_sites s (take i s.relocations) ds ≡ flat_map (site l s) (range_with_len 0 i)
 
-pub none_decided : (l : Layout) (s : InputSection) (ds : List Decision) → ds ≡ [] → HasDecided l s 0 ds
+pub none_decided : (l : Layout) (s : Item) (ds : List Decision) → ds ≡ [] → HasDecided l s 0 ds
 unfolding decided_sites
 none_decided l s [] e = record { count = refl; each = λ k d m. cc; same = refl }
 none_decided l s (d ∷ ds) e = cc
@@ -248,10 +247,10 @@ behind_others (x ∷ ds) d e (suc k) h =
       | inr b ↦ inr b
     ]
 
-pub decided_more : (l : Layout) (s : InputSection) (ds next : List Decision) (i : ℕ) (d : Decision) → i < length s.relocations → HasDecided l s i ds → next ≡ ds ++ d ∷ [] → decide l s i ≡ Ok d → HasDecided l s (i + 1) next
+pub decided_more : (l : Layout) (s : Item) (ds next : List Decision) (i : ℕ) (d : Decision) → i < length s.relocations → HasDecided l s i ds → next ≡ ds ++ d ∷ [] → decide l s i ≡ Ok d → HasDecided l s (i + 1) next
 decided_more l s ds next i d h before pushed is = subst (HasDecided l s (i + 1)) (sym pushed) (by l s ds i d h before is)
   where
-    by : (l : Layout) (s : InputSection) (ds : List Decision) (i : ℕ) (d : Decision) → i < length s.relocations → HasDecided l s i ds → decide l s i ≡ Ok d → HasDecided l s (i + 1) (ds ++ d ∷ [])
+    by : (l : Layout) (s : Item) (ds : List Decision) (i : ℕ) (d : Decision) → i < length s.relocations → HasDecided l s i ds → decide l s i ≡ Ok d → HasDecided l s (i + 1) (ds ++ d ∷ [])
     by l s ds i d h before is =
         let count = before.count in
         let b = length-append ds (d ∷ []) in
@@ -276,32 +275,30 @@ decided_more l s ds next i d h before pushed is = subst (HasDecided l s (i + 1))
         }
 
 -- all were decided
-pub all_decided : (l : Layout) (s : InputSection) (ds : List Decision) (i : ℕ) → i ≡ length s.relocations → HasDecided l s i ds → AreDecided l s ds
+pub all_decided : (l : Layout) (s : Item) (ds : List Decision) (i : ℕ) → i ≡ length s.relocations → HasDecided l s i ds → AreDecided l s ds
 all_decided l s ds i end h = record {
   count = h.count ∙ end;
   each = h.each;
   same = ap (λ (rs : List InputRelocation). decided_sites s rs ds) (sym (take_all i s.relocations (omega (arith, end)))) ∙ h.same ∙ ap (λ (k : ℕ). flat_map (site l s) (range_with_len 0 k)) end;
 }
 
--- the faults of a section whose relocations have none
-pub overlap_refused : (l : Layout) (g f k : ℕ) (s : InputSection) (ds : List Decision) (e : Error) → is_read s ≡ true → AreDecided l s ds → All (FieldLies l.machine (length s.bytes)) s.relocations → flat_map (relocation_errors l g f k s) (range_with_len 0 (length s.relocations)) ≡ []
-    → Refuses e (overlap_errors (at_section g f k) (least_extent (decided_extents s.relocations ds))) → Refuses e (section_errors l g f k s)
-unfolding section_errors
-overlap_refused l g f k s ds e read dec lies none h =
+-- the faults of an item whose relocations have none
+pub overlap_refused : (l : Layout) (g f k : ℕ) (s : Item) (ds : List Decision) (e : Error) → AreDecided l s ds → All (FieldLies l.machine (length s.bytes)) s.relocations → flat_map (relocation_errors l g f k s) (range_with_len 0 (length s.relocations)) ≡ []
+    → Refuses e (overlap_errors (at_section g f k) (least_extent (decided_extents s.relocations ds))) → Refuses e (item_errors l g f k s)
+overlap_refused l g f k s ds e dec lies none h =
     let h' : Refuses e (overlap_errors (at_section g f k) (shared_byte l s)) = subst (λ (o : Option ℕ). Refuses e (overlap_errors (at_section g f k) o)) (shared_is l s ds dec lies) h in
-    rw (read, none) h'
+    rw none h'
 
-pub section_passes : (l : Layout) (g f k : ℕ) (s : InputSection) (ds : List Decision) → is_read s ≡ true → AreDecided l s ds → All (FieldLies l.machine (length s.bytes)) s.relocations → flat_map (relocation_errors l g f k s) (range_with_len 0 (length s.relocations)) ≡ []
-    → overlap_errors (at_section g f k) (least_extent (decided_extents s.relocations ds)) ≡ [] → section_errors l g f k s ≡ []
-unfolding section_errors
-section_passes l g f k s ds read dec lies none h =
+pub item_passes : (l : Layout) (g f k : ℕ) (s : Item) (ds : List Decision) → AreDecided l s ds → All (FieldLies l.machine (length s.bytes)) s.relocations → flat_map (relocation_errors l g f k s) (range_with_len 0 (length s.relocations)) ≡ []
+    → overlap_errors (at_section g f k) (least_extent (decided_extents s.relocations ds)) ≡ [] → item_errors l g f k s ≡ []
+item_passes l g f k s ds dec lies none h =
     let h' : overlap_errors (at_section g f k) (shared_byte l s) ≡ [] = subst (λ (o : Option ℕ). overlap_errors (at_section g f k) o ≡ []) (shared_is l s ds dec lies) h in
-    rw (read, none) h'
+    rw none h'
 
 -- ---- writing
 
 -- a piece over bytes in which those before it were written, made of the bytes that it is over
-over_own : (s : InputSection) (ps rest : List Piece) (p : Piece) (n : ℕ) (make : List ℕ → List ℕ) → length p.bytes ≡ n → p.bytes ≡ make (slice_range s.bytes p.at (p.at + n)) → AreApart (length s.bytes) (ps ++ (p ∷ rest))
+over_own : (s : Item) (ps rest : List Piece) (p : Piece) (n : ℕ) (make : List ℕ → List ℕ) → length p.bytes ≡ n → p.bytes ≡ make (slice_range s.bytes p.at (p.at + n)) → AreApart (length s.bytes) (ps ++ (p ∷ rest))
     → place p.at (make (slice_range (overlay ps s.bytes) p.at (p.at + n))) (overlay ps s.bytes) ≡ overlay (ps ++ p ∷ []) s.bytes
 over_own s ps rest p n make long made apart =
     let own : slice_range (overlay ps s.bytes) p.at (p.at + length p.bytes) ≡ slice_range s.bytes p.at (p.at + length p.bytes) = own_range_next p ps rest s.bytes apart in
@@ -311,14 +308,14 @@ over_own s ps rest p n make long made apart =
     ∙ sym (overlay-append ps (p ∷ []) s.bytes)
 
 -- a relocation written over bytes in which those before it were written
-pub put_next : (s : InputSection) (ps rest : List Piece) (r : InputRelocation) (d : Decision) → DecisionLies (length s.bytes) r d → AreApart (length s.bytes) (ps ++ (site_of s r (Ok d) ++ rest)) → put_decision (overlay ps s.bytes) r d ≡ overlay (ps ++ site_of s r (Ok d)) s.bytes
+pub put_next : (s : Item) (ps rest : List Piece) (r : InputRelocation) (d : Decision) → DecisionLies (length s.bytes) r d → AreApart (length s.bytes) (ps ++ (site_of s r (Ok d) ++ rest)) → put_decision (overlay ps s.bytes) r d ≡ overlay (ps ++ site_of s r (Ok d)) s.bytes
 put_next s ps rest r d lies apart = by_decision s ps rest r d lies apart
   where
-    by : (s : InputSection) (ps rest : List Piece) (r : InputRelocation) (o : Option Written) → AreApart (length s.bytes) (ps ++ (site_by s r o ++ rest)) → put_written (overlay ps s.bytes) r.offset o ≡ overlay (ps ++ site_by s r o) s.bytes
+    by : (s : Item) (ps rest : List Piece) (r : InputRelocation) (o : Option Written) → AreApart (length s.bytes) (ps ++ (site_by s r o ++ rest)) → put_written (overlay ps s.bytes) r.offset o ≡ overlay (ps ++ site_by s r o) s.bytes
     by s ps rest r None apart = ap (λ (qs : List Piece). overlay qs s.bytes) (sym (append-nil ps))
     by s ps rest r (Some w) apart = over_own s ps rest (field_site s r.offset w.size w.value) (size_width w.size) (size_written w.size w.value) (length-field_site s r.offset w.size w.value) refl apart
 
-    by_decision : (s : InputSection) (ps rest : List Piece) (r : InputRelocation) (d : Decision) → DecisionLies (length s.bytes) r d → AreApart (length s.bytes) (ps ++ (site_of s r (Ok d) ++ rest)) → put_decision (overlay ps s.bytes) r d ≡ overlay (ps ++ site_of s r (Ok d)) s.bytes
+    by_decision : (s : Item) (ps rest : List Piece) (r : InputRelocation) (d : Decision) → DecisionLies (length s.bytes) r d → AreApart (length s.bytes) (ps ++ (site_of s r (Ok d) ++ rest)) → put_decision (overlay ps s.bytes) r d ≡ overlay (ps ++ site_of s r (Ok d)) s.bytes
     by_decision s ps rest r Nothing lies apart = by s ps rest r None apart
     by_decision s ps rest r (Field z v) lies apart = by s ps rest r (written_by (Field z v)) apart
     by_decision s ps rest r (Moved v packed) lies apart = by s ps rest r (written_by (Moved v packed)) apart
@@ -327,13 +324,13 @@ put_next s ps rest r d lies apart = by_decision s ps rest r d lies apart
     by_decision s ps rest r Partner lies apart = by s ps rest r None apart
 
 -- one step of a loop over all
-pub step_lies : (s : InputSection) (items : List InputRelocation) (ds : List Decision) (i m n : ℕ) (r : InputRelocation) (d : Decision) → items ≡ s.relocations → length ds ≡ length s.relocations → i < length ds → r ≡ get_or items i r → m ≡ n → DecisionsLie n s.relocations ds → DecisionLies m r (get_or ds i d)
+pub step_lies : (s : Item) (items : List InputRelocation) (ds : List Decision) (i m n : ℕ) (r : InputRelocation) (d : Decision) → items ≡ s.relocations → length ds ≡ length s.relocations → i < length ds → r ≡ get_or items i r → m ≡ n → DecisionsLie n s.relocations ds → DecisionLies m r (get_or ds i d)
 step_lies s items ds i m n r d same count h read long lie =
     let k = ap length same in
     let here = lie i r (get_or ds i d) (listed_at s items i r same (omega (arith, k, count, h)) read) (slice_get-get_or ds i d h) in
     subst (λ (j : ℕ). DecisionLies j r (get_or ds i d)) (sym long) here
 
-own_step : (s : InputSection) (ds : List Decision) (i : ℕ) (r : InputRelocation) (d : Decision) (room next : List ℕ) → length ds ≡ length s.relocations → i < length ds → DecisionsLie (length s.bytes) s.relocations ds → AreApart (length s.bytes) (decided_sites s s.relocations ds)
+own_step : (s : Item) (ds : List Decision) (i : ℕ) (r : InputRelocation) (d : Decision) (room next : List ℕ) → length ds ≡ length s.relocations → i < length ds → DecisionsLie (length s.bytes) s.relocations ds → AreApart (length s.bytes) (decided_sites s s.relocations ds)
     → room ≡ overlay (decided_sites s (take i s.relocations) (take i ds)) s.bytes → next ≡ put_decision room (get_or s.relocations i r) (get_or ds i d) → next ≡ overlay (decided_sites s (take (i + 1) s.relocations) (take (i + 1) ds)) s.bytes
 own_step s ds i r d room next count h lie apart before is =
     let split = subst (λ (ps : List Piece). AreApart (length s.bytes) ps) (sites-split s s.relocations ds i r d count h) apart in
@@ -342,7 +339,7 @@ own_step s ds i r d room next count h lie apart before is =
     ∙ put_next s (decided_sites s (take i s.relocations) (take i ds)) (decided_sites s (drop (suc i) s.relocations) (drop (suc i) ds)) (get_or s.relocations i r) (get_or ds i d) lies split
     ∙ ap (λ (ps : List Piece). overlay ps s.bytes) (sym (sites-more s s.relocations ds i r d count h))
 
-pub step_put : (s : InputSection) (items : List InputRelocation) (ds : List Decision) (i : ℕ) (r : InputRelocation) (d : Decision) (first room next : List ℕ) → items ≡ s.relocations → length ds ≡ length s.relocations → i < length ds → r ≡ get_or items i r → first ≡ s.bytes → DecisionsLie (length first) s.relocations ds → AreApart (length first) (decided_sites s s.relocations ds)
+pub step_put : (s : Item) (items : List InputRelocation) (ds : List Decision) (i : ℕ) (r : InputRelocation) (d : Decision) (first room next : List ℕ) → items ≡ s.relocations → length ds ≡ length s.relocations → i < length ds → r ≡ get_or items i r → first ≡ s.bytes → DecisionsLie (length first) s.relocations ds → AreApart (length first) (decided_sites s s.relocations ds)
     → room ≡ overlay (decided_sites s (take i items) (take i ds)) first → next ≡ put_decision room r (get_or ds i d) → next ≡ overlay (decided_sites s (take (i + 1) items) (take (i + 1) ds)) first
 step_put s items ds i r d first room next same count h read whole lie apart before is =
     let apart' = subst (λ (xs : List ℕ). AreApart (length xs) (decided_sites s s.relocations ds)) whole apart in
@@ -352,8 +349,8 @@ step_put s items ds i r d first room next same count h read whole lie apart befo
     own_step s ds i r d room next count h lie' apart' before' is' ∙ ap (λ (rs : List InputRelocation). overlay (decided_sites s (take (i + 1) rs) (take (i + 1) ds)) s.bytes) (sym same) ∙ ap (overlay (decided_sites s (take (i + 1) items) (take (i + 1) ds))) (sym whole)
 
 -- the decided sites are apart, where no byte is of two of them
-pub decided_apart : (l : Layout) (s : InputSection) (ds : List Decision) (g f k n : ℕ) → AreDecided l s ds → n ≡ length s.bytes → All (FieldLies l.machine n) s.relocations → overlap_errors (at_section g f k) (least_extent (decided_extents s.relocations ds)) ≡ [] → AreApart n (decided_sites s s.relocations ds)
+pub decided_apart : (l : Layout) (s : Item) (ds : List Decision) (g f k n : ℕ) → AreDecided l s ds → n ≡ length s.bytes → All (FieldLies l.machine n) s.relocations → overlap_errors (at_section g f k) (least_extent (decided_extents s.relocations ds)) ≡ [] → AreApart n (decided_sites s s.relocations ds)
 decided_apart l s ds g f k n h len lies none =
     let lies' = subst (λ (m : ℕ). All (FieldLies l.machine m) s.relocations) len lies in
-    let apart = sites_apart_in l s lies' (sym (shared_is l s ds h lies') ∙ no_overlap _ _ none) in
+    let apart = sites_apart l s lies' (sym (shared_is l s ds h lies') ∙ no_overlap _ _ none) in
     subst (λ (m : ℕ). AreApart m (decided_sites s s.relocations ds)) (sym len) (subst (λ (ps : List Piece). AreApart (length s.bytes) ps) (sym h.same) apart)

@@ -4,7 +4,7 @@ use Rattle.std.specs.Prelude.{Option, Some, None, Result, Ok, Err, ◌+◌, slic
 use Rattle.std.proofs.lemmas.Option.{slice_get_read}
 use Rattle.wild_records.specs.Abi.Relocation.{r_x86_64_pc32}
 use Rattle.wild_types.specs.declared.input.InputRelocation.{InputRelocation}
-use Rattle.wild_types.specs.declared.input.InputSection.{InputSection}
+use Rattle.wild_types.specs.Item.{Item}
 use Rattle.wild_types.specs.declared.layout.Layout.{Layout}
 use Rattle.wild_types.specs.declared.fault.Fault.{Fault}
 use Rattle.wild_types.specs.Faults.{Refuses}
@@ -18,7 +18,7 @@ use Rattle.wild_layout.proofs.AskedLemmas.{none_before, no_choice}
 use Rattle.wild_sections.proofs.FaultLemmas.{Refuses-head}
 
 -- a distance that no sequence takes along keeps its instruction
-pub common_keeps : (l : Layout) (s : InputSection) (i : ℕ) (r : InputRelocation) → slice_get s.relocations i ≡ Some r → r.number ≡ r_x86_64_pc32 → may_be_partner s.relocations i ≡ false → decide l s i ≡ decided l s r
+pub common_keeps : (l : Layout) (s : Item) (i : ℕ) (r : InputRelocation) → slice_get s.relocations i ≡ Some r → r.number ≡ r_x86_64_pc32 → may_be_partner s.relocations i ≡ false → decide l s i ≡ decided l s r
 unfolding decide
 common_keeps l s i r listed number before =
     let alone = none_before l s i before in
@@ -27,8 +27,8 @@ common_keeps l s i r listed number before =
 
 -- ---- the relocation that is asked about
 
-pub read_at : {X : Type 0} (items xs : List X) (i : ℕ) (x : X) → items ≡ xs → i < length xs → x ≡ get_or items i x → slice_get xs i ≡ Some x
-read_at {X} items xs i x same h read = slice_get_read xs (length xs) i x refl h (subst (λ (ys : List X). x ≡ get_or ys i x) same read)
+pub read_at : {X : Type 0} (xs : List X) (i : ℕ) (x : X) → i < length xs → x ≡ get_or xs i x → slice_get xs i ≡ Some x
+read_at xs i x h read = slice_get_read xs (length xs) i x refl h read
 
 pub no_symbol : (o : Option ℕ) → ((n : ℕ) → o ≡ Some n → ⊥) → o ≡ None
 no_symbol None h = refl
@@ -37,13 +37,13 @@ no_symbol (Some n) h = absurd (h n refl)
 -- ---- what is decided
 
 -- by the row that stands
-pub decided_with : (l : Layout) (s : InputSection) (i : ℕ) (r : InputRelocation) (c : Result (Option Row) UnknownSequence) → is_partner l s i ≡ false → slice_get s.relocations i ≡ Some r → choice l s i ≡ c → decide l s i ≡ decide_with l s r c
+pub decided_with : (l : Layout) (s : Item) (i : ℕ) (r : InputRelocation) (c : Result (Option Row) UnknownSequence) → is_partner l s i ≡ false → slice_get s.relocations i ≡ Some r → choice l s i ≡ c → decide l s i ≡ decide_with l s r c
 unfolding decide
 decided_with l s i r c alone listed is = rw (alone, listed) (ap (decide_with l s r) (rw listed at is))
 
 -- ---- faults
 
-pub ok_has_none : (l : Layout) (g f k : ℕ) (s : InputSection) (i : ℕ) (d : Decision) → decide l s i ≡ Ok d → relocation_errors l g f k s i ≡ []
+pub ok_has_none : (l : Layout) (g f k : ℕ) (s : Item) (i : ℕ) (d : Decision) → decide l s i ≡ Ok d → relocation_errors l g f k s i ≡ []
 unfolding relocation_errors
 ok_has_none l g f k s i d is = rw is (by g f k d (slice_get s.relocations i))
   where
@@ -51,6 +51,6 @@ ok_has_none l g f k s i d is = rw is (by g f k d (slice_get s.relocations i))
     by g f k d None = refl
     by g f k d (Some r) = refl
 
-pub err_is_first : (l : Layout) (g f k : ℕ) (s : InputSection) (i : ℕ) (r : InputRelocation) (fault : Fault) → slice_get s.relocations i ≡ Some r → decide l s i ≡ Err fault → Refuses (record { fault = fault; at = at_offset g f k r.offset }) (relocation_errors l g f k s i)
+pub err_is_first : (l : Layout) (g f k : ℕ) (s : Item) (i : ℕ) (r : InputRelocation) (fault : Fault) → slice_get s.relocations i ≡ Some r → decide l s i ≡ Err fault → Refuses (record { fault = fault; at = at_offset g f k r.offset }) (relocation_errors l g f k s i)
 unfolding relocation_errors
 err_is_first l g f k s i r fault listed is = rw (listed, is) (Refuses-head (record { fault = fault; at = at_offset g f k r.offset }) [])

@@ -2,7 +2,7 @@
 use Rattle.std.proofs.Common.{◌≡◌, ℕ, Bool, true, false, Option, Some, None, refl, ap, ◌∙◌}
 use Rattle.std.specs.Prelude.{if◌then◌else◌, ◌&&◌}
 use Rattle.wild_types.specs.declared.input.InputRelocation.{InputRelocation}
-use Rattle.wild_types.specs.declared.input.InputSection.{InputSection}
+use Rattle.wild_types.specs.Item.{Item}
 use Rattle.wild_types.specs.declared.layout.Layout.{Layout}
 use Rattle.wild_slot.specs.declared.treatment.Treatment.{Treatment}
 use Rattle.wild_slot.specs.declared.treatment.Treatment.TheVariants.{Value, Recompile}
@@ -24,14 +24,14 @@ no_last : (a m : Bool) (t u : Treatment) → m ≡ false → (if a && m then t e
 no_last true m t u h = rw h refl
 no_last false m t u h = refl
 
-fixed_distance : (l : Layout) (s : InputSection) (n : ℕ) (row : RelocationKindInfo) (symbol : Option ℕ) → is_position_independent l.kind ≡ false → distance_treatment l s n row symbol ≡ Value row
+fixed_distance : (l : Layout) (s : Item) (n : ℕ) (row : RelocationKindInfo) (symbol : Option ℕ) → is_position_independent l.kind ≡ false → distance_treatment l s.flags n row symbol ≡ Value row
 fixed_distance l s n row None h = no_last (allocated s.flags) (is_position_independent l.kind) Recompile (Value row) h
 fixed_distance l s n row (Some i) h = no_test (allocated s.flags) (is_position_independent l.kind) (is_barred_type l.machine n) (is_elsewhere (flags_at l i)) Recompile (Value row) h
 
 -- what is decided of a distance in an output that does not move is its value in the field
-pub fixed_decided : (l : Layout) (s : InputSection) (r : InputRelocation) (row : RelocationKindInfo) → row_of l.machine r.number ≡ Some row → row.kind ≡ Relative → is_position_independent l.kind ≡ false
+pub fixed_decided : (l : Layout) (s : Item) (r : InputRelocation) (row : RelocationKindInfo) → row_of l.machine r.number ≡ Some row → row.kind ≡ Relative → is_position_independent l.kind ≡ false
     → field_for l s r row (term_of l r.symbol row.kind) ≡ decided l s r
 unfolding decided treatment row_treatment
 fixed_decided l s r row known kind h =
-    let t : kind_treatment l s r.number r.symbol row row.kind ≡ Value row = ap (kind_treatment l s r.number r.symbol row) kind ∙ fixed_distance l s r.number row r.symbol h in
+    let t : kind_treatment l s.flags r.number r.symbol row row.kind ≡ Value row = ap (kind_treatment l s.flags r.number r.symbol row) kind ∙ fixed_distance l s r.number row r.symbol h in
     rw (known, t) refl

@@ -4,7 +4,7 @@ use Rattle.std.specs.Prelude.{Some, Ok, All, slice_get}
 use Rattle.wild_words.proofs.Basics.{length-range}
 use Rattle.wild_words.proofs.ListLemmas.{holds_at}
 use Rattle.wild_types.specs.declared.input.InputRelocation.{InputRelocation}
-use Rattle.wild_types.specs.declared.input.InputSection.{InputSection}
+use Rattle.wild_types.specs.Item.{Item}
 use Rattle.wild_types.specs.declared.layout.Layout.{Layout}
 use Rattle.wild_reloc.specs.declared.info.RelocationSize.TheVariants.{ByteSize}
 use Rattle.wild_reloc.specs.declared.info.Width.TheVariants.{Eight}
@@ -22,13 +22,13 @@ use Rattle.wild_layout.proofs.DecisionLemmas.{decide_moved, decide_left, decide_
 use Rattle.wild_layout.proofs.SiteLemmas.{decide_field_has}
 use Rattle.wild_sections.specs.Decided.{TemplateLies, DecisionLies}
 
-pub length-instruction : (s : InputSection) (r : InputRelocation) (row : Row) (v : ℕ) → TemplateLies (length s.bytes) r row → length (template_site s r row v).bytes ≡ pattern_size row
+pub length-instruction : (s : Item) (r : InputRelocation) (row : Row) (v : ℕ) → TemplateLies (length s.bytes) r row → length (template_site s r row v).bytes ≡ pattern_size row
 length-instruction s r row v lies =
     let known = written_row row in
     length-template row known.0 v (slice_range s.bytes (template_start row r) (template_start row r + pattern_size row)) lies.changes known.1 (length-range s.bytes (template_start row r) (pattern_size row) lies.ends)
 
 -- what was decided of a relocation lies where the clauses say
-pub decision_lies : (l : Layout) (s : InputSection) (i n : ℕ) (r : InputRelocation) (d : Decision) → slice_get s.relocations i ≡ Some r → n ≡ length s.bytes → All (FieldLies l.machine n) s.relocations → decide l s i ≡ Ok d → DecisionLies n r d
+pub decision_lies : (l : Layout) (s : Item) (i n : ℕ) (r : InputRelocation) (d : Decision) → slice_get s.relocations i ≡ Some r → n ≡ length s.bytes → All (FieldLies l.machine n) s.relocations → decide l s i ≡ Ok d → DecisionLies n r d
 decision_lies l s i n r Nothing listed whole lies is = tt
 decision_lies l s i n r (Field z v) listed whole lies is = field_ends l r z n (decide_field_has l s i r z v listed is) (holds_at (FieldLies l.machine n) s.relocations i r listed lies)
 decision_lies l s i n r (Moved v packed) listed whole lies is = field_ends l r (ByteSize Eight) n (moved_has l s r v packed (decided_moved l s r v packed (decide_moved l s i r v packed listed is).made)) (holds_at (FieldLies l.machine n) s.relocations i r listed lies)

@@ -12,7 +12,7 @@ use Rattle.wild_words.specs.Words.{place}
 use Rattle.wild_words.specs.Overlay.{Piece}
 use Rattle.wild_words.specs.declared.extents.Extent.{Extent}
 use Rattle.wild_types.specs.declared.input.InputRelocation.{InputRelocation}
-use Rattle.wild_types.specs.declared.input.InputSection.{InputSection}
+use Rattle.wild_types.specs.Item.{Item}
 use Rattle.wild_types.specs.declared.layout.Layout.{Layout}
 use Rattle.wild_reloc.specs.Field.{size_width, size_written}
 use Rattle.wild_layout.specs.declared.decision.Decision.{Decision}
@@ -24,7 +24,7 @@ use Rattle.wild_layout.specs.Decide.{decide}
 use Rattle.wild_layout.specs.Sites.{Written, written_by, template_start, site_of, sites}
 
 -- what relocations write, as they were decided
-unfoldable pub decided_sites : InputSection → List InputRelocation → List Decision → List Piece
+unfoldable pub decided_sites : Item → List InputRelocation → List Decision → List Piece
 decided_sites s [] ds = []
 decided_sites s (r ∷ rs) [] = []
 decided_sites s (r ∷ rs) (d ∷ ds) = site_of s r (Ok d) ++ decided_sites s rs ds
@@ -110,7 +110,7 @@ abbrev pub DecisionsLie : ℕ → List InputRelocation → List Decision → Typ
 DecisionsLie n rs ds = (i : ℕ) (r : InputRelocation) (d : Decision) → slice_get rs i ≡ Some r → slice_get ds i ≡ Some d → DecisionLies n r d
 
 -- relocation i was decided and written, where its bytes begin at `reach` or behind
-pub record IsNext (l : Layout) (s : InputSection) (i reach : ℕ) (next : Option ℕ) (old new : List ℕ) : Type 0 where
+pub record IsNext (l : Layout) (s : Item) (i reach : ℕ) (next : Option ℕ) (old new : List ℕ) : Type 0 where
   pub relocation : InputRelocation
   pub listed : slice_get s.relocations i ≡ Some relocation
   pub decision : Decision
@@ -119,7 +119,7 @@ pub record IsNext (l : Layout) (s : InputSection) (i reach : ℕ) (next : Option
   pub written : (end : ℕ) → next ≡ Some end → new ≡ put_decision old relocation decision
 
 -- the decisions are those of the section's relocations
-pub record AreDecided (l : Layout) (s : InputSection) (ds : List Decision) : Type 0 where
+pub record AreDecided (l : Layout) (s : Item) (ds : List Decision) : Type 0 where
   pub count : length ds ≡ length s.relocations
   pub each : (i : ℕ) (d : Decision) → slice_get ds i ≡ Some d → decide l s i ≡ Ok d
   pub same : decided_sites s s.relocations ds ≡ sites l s

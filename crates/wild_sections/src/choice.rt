@@ -2,12 +2,13 @@
 ghost use Rattle.std.specs.Prelude.{◌≡◌, ◌<◌, ◌+◌, length, slice_get};
 ghost use Rattle.wild_relax.specs.Relaxation.{chosen_of};
 ghost use Rattle.wild_layout.specs.Choice.{same_names, is_getter, info_of, nameless, asked_of, infos_of, choice, takes_next, is_partner, may_take_next, may_be_partner};
+ghost use Rattle.wild_types.specs.Item.{item_now};
 
 use crate::values::Resolved;
 use wild_records::abi::relocation::{R_X86_64_PC32, R_X86_64_TLSGD, R_X86_64_TLSLD};
 use wild_relax::{Arch, Reference, Relaxation, RelocationInfo, Row, UnknownSequence};
 use wild_slot::flags_at;
-use wild_types::{InputRelocation, InputSection, Layout, SymbolIndex};
+use wild_types::{InputRelocation, ItemRef, Layout, SymbolIndex};
 
 /// The function that tells the address of a thread-local symbol ("ELF Handling For Thread-Local Storage", "Run-Time Handling
 /// of TLS").
@@ -67,23 +68,23 @@ fn info_of(layout: &Layout, relocation: &InputRelocation) -> RelocationInfo
 /// The row that stands at the first of these relocations, which names that symbol, or why it is refused.
 fn asked<A: Arch>(
     resolved: &Resolved<A>,
-    section: &InputSection,
+    item: &ItemRef,
     symbol: SymbolIndex,
     relocations: &[RelocationInfo],
 ) -> Result<Option<Row>, UnknownSequence>
-    ensures { result ≡ chosen_of resolved.now.layout.now.machine (asked_of resolved.now.layout.now section.now symbol relocations.now) }
+    ensures { result ≡ chosen_of resolved.now.layout.now.machine (asked_of resolved.now.layout.now (item_now item.now) symbol relocations.now) }
 {
     let layout = resolved.layout;
     let reference = Reference {
         relocations,
         at: 0,
-        bytes: section.bytes.as_slice(),
+        bytes: item.bytes,
         flags: flags_at(layout, symbol),
         kind: layout.kind,
-        section_flags: section.flags,
+        section_flags: item.flags,
         relax: layout.options.relax,
         value: resolved.address(symbol),
-        address: section.address,
+        address: item.address,
     };
     match A::new_relaxation(&reference) {
         Ok(None) => Ok(None),
@@ -103,40 +104,40 @@ pub(crate) fn may_take_next(number: u32) -> bool
 /// The row that stands at a relocation, with the next one in sight.
 fn choice_with_next<A: Arch>(
     resolved: &Resolved<A>,
-    section: &InputSection,
+    item: &ItemRef,
     index: usize,
     symbol: SymbolIndex,
 ) -> Result<Option<Row>, UnknownSequence>
-    requires index { index < length section.now.relocations }
-    ensures { result ≡ chosen_of resolved.now.layout.now.machine (asked_of resolved.now.layout.now section.now symbol
-        (infos_of resolved.now.layout.now (slice_get section.now.relocations index) (slice_get section.now.relocations (index + 1)))) }
+    requires index { index < length item.now.relocations.now }
+    ensures { result ≡ chosen_of resolved.now.layout.now.machine (asked_of resolved.now.layout.now (item_now item.now) symbol
+        (infos_of resolved.now.layout.now (slice_get item.now.relocations.now index) (slice_get item.now.relocations.now (index + 1)))) }
 {
-    let relocations = section.relocations.as_slice();
+    let relocations = item.relocations;
     let own = info_of(resolved.layout, &relocations[index]);
     match relocations.get(index + 1) {
         Some(next) => {
             asked(
                 resolved,
-                section,
+                item,
                 symbol,
                 &[own, info_of(resolved.layout, next)],
             )
         }
-        None => asked(resolved, section, symbol, &[own]),
+        None => asked(resolved, item, symbol, &[own]),
     }
 }
 
-/// The row that stands at a relocation of a section, or why it is refused. The next one and the names are looked at where a
+/// The row that stands at a relocation of an item, or why it is refused. The next one and the names are looked at where a
 /// row of the type asks for them.
 pub(crate) fn choice<A: Arch>(
     resolved: &Resolved<A>,
-    section: &InputSection,
+    item: &ItemRef,
     index: usize,
 ) -> Result<Option<Row>, UnknownSequence>
-    requires index { index < length section.now.relocations }
-    ensures { result ≡ choice resolved.now.layout.now section.now index }
+    requires index { index < length item.now.relocations.now }
+    ensures { result ≡ choice resolved.now.layout.now (item_now item.now) index }
 {
-    let relocation = &section.relocations.as_slice()[index];
+    let relocation = &item.relocations[index];
     let Some(symbol) = relocation.symbol else {
         return Ok(None);
     };
@@ -144,9 +145,9 @@ pub(crate) fn choice<A: Arch>(
         return Ok(None);
     }
     if may_take_next(relocation.number) {
-        choice_with_next(resolved, section, index, symbol)
+        choice_with_next(resolved, item, index, symbol)
     } else {
-        asked(resolved, section, symbol, &[nameless(relocation)])
+        asked(resolved, item, symbol, &[nameless(relocation)])
     }
 }
 
@@ -169,15 +170,15 @@ pub(crate) fn may_be_partner(relocations: &[InputRelocation], index: usize) -> b
     index > 0 && may_take_next(relocations[index - 1].number)
 }
 
-/// Whether a relocation of a section is the call of the sequence before it, which is rewritten as a whole.
+/// Whether a relocation of an item is the call of the sequence before it, which is rewritten as a whole.
 pub(crate) fn is_partner<A: Arch>(
     resolved: &Resolved<A>,
-    section: &InputSection,
+    item: &ItemRef,
     index: usize,
 ) -> bool
-    requires index { index < length section.now.relocations }
-    ensures { result ≡ is_partner resolved.now.layout.now section.now index }
+    requires index { index < length item.now.relocations.now }
+    ensures { result ≡ is_partner resolved.now.layout.now (item_now item.now) index }
 {
-    may_be_partner(section.relocations.as_slice(), index)
-        && takes_next(choice(resolved, section, index - 1))
+    may_be_partner(item.relocations, index)
+        && takes_next(choice(resolved, item, index - 1))
 }

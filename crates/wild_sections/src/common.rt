@@ -5,6 +5,7 @@ ghost use Rattle.wild_reloc.specs.declared.info.RelocationSize.TheVariants.{Byte
 ghost use Rattle.wild_reloc.specs.declared.info.Width.TheVariants.{Four};
 ghost use Rattle.wild_layout.specs.declared.decision.Decision.TheVariants.{Field};
 ghost use Rattle.wild_layout.specs.Decide.{decided, decide};
+ghost use Rattle.wild_types.specs.Item.{item_now};
 
 use crate::choice::may_be_partner;
 use crate::relocation::{distance_for, is_fixed_distance};
@@ -13,7 +14,7 @@ use wild_layout::Decision;
 use wild_records::abi::relocation::R_X86_64_PC32;
 use wild_relax::Arch;
 use wild_reloc::{RelocationSize, Width};
-use wild_types::{Fault, InputRelocation, InputSection};
+use wild_types::{Fault, InputRelocation, ItemRef};
 
 /// The type of most relocations of x86-64 code. It is asked for first, so that where it is met its row is known.
 const COMMON: u32 = R_X86_64_PC32;
@@ -38,16 +39,16 @@ fn in_four(decided: Result<Decision, Fault>) -> Option<u64>
 #[inline(always)]
 fn value_of_common<A: Arch>(
     resolved: &Resolved<A>,
-    section: &InputSection,
+    item: &ItemRef,
     relocation: &InputRelocation,
 ) -> Option<u64>
     requires { relocation.now.number ≡ r_x86_64_pc32 }
-    ensures { (value : ℕ) → result ≡ Some value → decided resolved.now.layout.now section.now relocation.now ≡ Ok (Field (ByteSize Four) value) }
+    ensures { (value : ℕ) → result ≡ Some value → decided resolved.now.layout.now (item_now item.now) relocation.now ≡ Ok (Field (ByteSize Four) value) }
 {
     let row = A::relocation_from_raw(COMMON);
     match &row {
         Some(found) if is_fixed_distance(resolved.layout, found) => {
-            in_four(distance_for(resolved, section, relocation, found))
+            in_four(distance_for(resolved, item, relocation, found))
         }
         _ => None,
     }
@@ -58,16 +59,16 @@ fn value_of_common<A: Arch>(
 #[inline(always)]
 pub(crate) fn common_value<A: Arch>(
     resolved: &Resolved<A>,
-    section: &InputSection,
+    item: &ItemRef,
     index: usize,
 ) -> Option<u64>
-    requires index { index < length section.now.relocations }
-    ensures { (value : ℕ) → result ≡ Some value → decide resolved.now.layout.now section.now index ≡ Ok (Field (ByteSize Four) value) }
+    requires index { index < length item.now.relocations.now }
+    ensures { (value : ℕ) → result ≡ Some value → decide resolved.now.layout.now (item_now item.now) index ≡ Ok (Field (ByteSize Four) value) }
 {
-    let relocations = section.relocations.as_slice();
+    let relocations = item.relocations;
     let relocation = &relocations[index];
     if relocation.number == COMMON && !may_be_partner(relocations, index) {
-        value_of_common(resolved, section, relocation)
+        value_of_common(resolved, item, relocation)
     } else {
         None
     }

@@ -7,6 +7,7 @@ ghost use Rattle.wild_layout.specs.SlotValues.{address_of, index_of, decided_add
 ghost use Rattle.wild_layout.specs.Values.{term_of};
 ghost use Rattle.wild_slot.specs.SlotParts.{type_of};
 ghost use Rattle.wild_layout.specs.Decide.{field, field_for, moved_to, left_to, sized_to, chosen_to, added, decided};
+ghost use Rattle.wild_types.specs.Item.{item_now};
 
 use crate::indirect::{decided_address, index_of};
 use crate::resolve::{address_of, displacement, sum, symbol_size, term_of, value_by};
@@ -17,7 +18,7 @@ use wild_reloc::{
     DynamicRelocationKind, RelocationKind, RelocationKindInfo, RelocationSize, Width,
 };
 use wild_slot::{Treatment, flags_at, is_replaceable, row_treatment, type_of};
-use wild_types::{Fault, InputRelocation, InputSection, Layout, Missing, SymbolIndex};
+use wild_types::{Fault, InputRelocation, ItemRef, Layout, Missing, SymbolIndex};
 
 /// The field of an address that moves.
 pub(crate) const ADDRESS: RelocationSize = RelocationSize::ByteSize(Width::Eight);
@@ -41,11 +42,11 @@ fn field(row: &RelocationKindInfo, value: u64) -> Result<Decision, Fault>
 #[inline]
 fn field_for<A: Arch>(
     resolved: &Resolved<A>,
-    section: &InputSection,
+    item: &ItemRef,
     relocation: &InputRelocation,
     row: &RelocationKindInfo,
 ) -> Result<Decision, Fault>
-    ensures { result ≡ field_for resolved.now.layout.now section.now relocation.now row.now (term_of resolved.now.layout.now relocation.now.symbol row.now.kind) }
+    ensures { result ≡ field_for resolved.now.layout.now (item_now item.now) relocation.now row.now (term_of resolved.now.layout.now relocation.now.symbol row.now.kind) }
 {
     let term = term_of(resolved, relocation.symbol, row.kind)?;
     field(
@@ -55,7 +56,7 @@ fn field_for<A: Arch>(
             row.kind,
             term,
             relocation.addend,
-            section.place_of(relocation),
+            relocation.place_from(item.address),
         ),
     )
 }
@@ -64,15 +65,15 @@ fn field_for<A: Arch>(
 #[inline]
 fn moved_to<A: Arch>(
     resolved: &Resolved<A>,
-    section: &InputSection,
+    item: &ItemRef,
     relocation: &InputRelocation,
 ) -> Result<Decision, Fault>
-    ensures { result ≡ moved_to resolved.now.layout.now section.now relocation.now (address_of resolved.now.layout.now relocation.now.symbol) }
+    ensures { result ≡ moved_to resolved.now.layout.now (item_now item.now) relocation.now (address_of resolved.now.layout.now relocation.now.symbol) }
 {
     let address = address_of(resolved, relocation.symbol)?;
     Ok(Decision::Moved {
         value: sum(address, relocation.addend),
-        packed: resolved.layout.packs(section.place_of(relocation)),
+        packed: resolved.layout.packs(relocation.place_from(item.address)),
     })
 }
 
@@ -151,15 +152,15 @@ fn chosen_to(
 #[inline]
 pub(crate) fn distance_for<A: Arch>(
     resolved: &Resolved<A>,
-    section: &InputSection,
+    item: &ItemRef,
     relocation: &InputRelocation,
     row: &RelocationKindInfo,
 ) -> Result<Decision, Fault>
     requires kind { row.now.kind ≡ Relative }
-    ensures { result ≡ field_for resolved.now.layout.now section.now relocation.now row.now (term_of resolved.now.layout.now relocation.now.symbol row.now.kind) }
+    ensures { result ≡ field_for resolved.now.layout.now (item_now item.now) relocation.now row.now (term_of resolved.now.layout.now relocation.now.symbol row.now.kind) }
 {
     let address = address_of(resolved, relocation.symbol)?;
-    let place = section.place_of(relocation);
+    let place = relocation.place_from(item.address);
     field(row, displacement(address, relocation.addend, place))
 }
 
@@ -176,17 +177,17 @@ pub(crate) fn is_fixed_distance(layout: &Layout, row: &RelocationKindInfo) -> bo
 #[inline(always)]
 pub(crate) fn decided<A: Arch>(
     resolved: &Resolved<A>,
-    section: &InputSection,
+    item: &ItemRef,
     relocation: &InputRelocation,
 ) -> Result<Decision, Fault>
-    ensures { result ≡ decided resolved.now.layout.now section.now relocation.now }
+    ensures { result ≡ decided resolved.now.layout.now (item_now item.now) relocation.now }
 {
     let row = A::relocation_from_raw(relocation.number);
     match &row {
         Some(found) if is_fixed_distance(resolved.layout, found) => {
-            distance_for(resolved, section, relocation, found)
+            distance_for(resolved, item, relocation, found)
         }
-        _ => decided_by(resolved, section, relocation, row),
+        _ => decided_by(resolved, item, relocation, row),
     }
 }
 
@@ -194,23 +195,23 @@ pub(crate) fn decided<A: Arch>(
 #[tactic(auto, unfolding(wild_layout::specs::Decide::decided, wild_slot::specs::Treatment::treatment))]
 fn decided_by<A: Arch>(
     resolved: &Resolved<A>,
-    section: &InputSection,
+    item: &ItemRef,
     relocation: &InputRelocation,
     row: Option<RelocationKindInfo>,
 ) -> Result<Decision, Fault>
     requires row { row ≡ row_of resolved.now.layout.now.machine relocation.now.number }
-    ensures { result ≡ decided resolved.now.layout.now section.now relocation.now }
+    ensures { result ≡ decided resolved.now.layout.now (item_now item.now) relocation.now }
 {
     match row_treatment(
         resolved.layout,
-        section,
+        item.flags,
         relocation.number,
         relocation.symbol,
         row,
     ) {
         Treatment::Nothing => Ok(Decision::Nothing),
-        Treatment::Value(row) => field_for(resolved, section, relocation, &row),
-        Treatment::BaseRelative => moved_to(resolved, section, relocation),
+        Treatment::Value(row) => field_for(resolved, item, relocation, &row),
+        Treatment::BaseRelative => moved_to(resolved, item, relocation),
         Treatment::Symbolic(symbol) => {
             let number = type_of(resolved.layout.machine, DynamicRelocationKind::Absolute);
             left_to(resolved.layout, ADDRESS, number, relocation, symbol)

@@ -1,8 +1,9 @@
-//! What is decided of the relocations of a section: of one whose instruction is rewritten by the row that stands, of the call
+//! What is decided of the relocations of an item: of one whose instruction is rewritten by the row that stands, of the call
 //! that a rewritten sequence takes along nothing, and of each other by itself.
 ghost use Rattle.std.specs.Prelude.{◌≡◌, ◌<◌, ◌+◌, ◌%◌, ◌^◌, length, Ok};
 ghost use Rattle.wild_types.specs.Rows.{row_of};
 ghost use Rattle.wild_layout.specs.Decide.{field_at, value_to, term_to, rewritten_to, refused_with, decide};
+ghost use Rattle.wild_types.specs.Item.{item_now};
 
 use crate::choice::{choice, is_partner};
 use crate::relocation::decided;
@@ -11,33 +12,33 @@ use crate::values::Resolved;
 use wild_layout::Decision;
 use wild_relax::{Arch, Row, UnknownSequence};
 use wild_reloc::{RelocationKind, RelocationKindInfo};
-use wild_types::{Fault, InputRelocation, InputSection};
+use wild_types::{Fault, InputRelocation, ItemRef};
 
 /// The address of the field of a rewritten instruction, modulo 2^64.
-fn place_to(section: &InputSection, relocation: &InputRelocation, row: Row) -> u64
-    ensures { result ≡ (section.now.address + field_at row relocation.now) % 2 ^ 64 }
+fn place_to(item: &ItemRef, relocation: &InputRelocation, row: Row) -> u64
+    ensures { result ≡ (item.now.address + field_at row relocation.now) % 2 ^ 64 }
 {
     let offset = relocation.offset.saturating_sub(row.back()) as u128 + row.field() as u128;
-    ((section.address as u128 + offset) % (1 << 64)) as u64
+    ((item.address as u128 + offset) % (1 << 64)) as u64
 }
 
 /// The value of the kind that is written, at the field's new place; a row that keeps the bytes around the field has that alone.
 fn value_to<A: Arch>(
     resolved: &Resolved<A>,
-    section: &InputSection,
+    item: &ItemRef,
     relocation: &InputRelocation,
     row: Row,
     info: &RelocationKindInfo,
     term: u64,
 ) -> Result<Decision, Fault>
-    ensures { result ≡ value_to resolved.now.layout.now section.now relocation.now row info.now (Ok term) }
+    ensures { result ≡ value_to resolved.now.layout.now (item_now item.now) relocation.now row info.now (Ok term) }
 {
     let value = value_by(
         resolved.layout,
         info.kind,
         term,
         row.addend_written(relocation.addend),
-        place_to(section, relocation, row),
+        place_to(item, relocation, row),
     );
     if !info.allows(value) {
         return Err(Fault::OutOfRange { value });
@@ -69,11 +70,11 @@ fn term_to<A: Arch>(
 /// What is decided of a relocation whose instruction a row rewrites.
 fn rewritten_to<A: Arch>(
     resolved: &Resolved<A>,
-    section: &InputSection,
+    item: &ItemRef,
     relocation: &InputRelocation,
     row: Row,
 ) -> Result<Decision, Fault>
-    ensures { result ≡ rewritten_to resolved.now.layout.now section.now relocation.now row }
+    ensures { result ≡ rewritten_to resolved.now.layout.now (item_now item.now) relocation.now row }
 {
     let Some(info) = A::relocation_from_raw(row.number_written()) else {
         return Err(Fault::UnsupportedRelocation {
@@ -81,7 +82,7 @@ fn rewritten_to<A: Arch>(
         });
     };
     let term = term_to(resolved, relocation, &info)?;
-    value_to(resolved, section, relocation, row, &info, term)
+    value_to(resolved, item, relocation, row, &info, term)
 }
 
 /// A row stands without its sequence: what the written kind lacks comes first.
@@ -100,23 +101,23 @@ fn refused_with<A: Arch>(
     })
 }
 
-/// What is decided of a relocation of a section.
+/// What is decided of a relocation of an item.
 #[tactic(auto, unfolding(wild_layout::specs::Decide::decide))]
 pub(crate) fn decide<A: Arch>(
     resolved: &Resolved<A>,
-    section: &InputSection,
+    item: &ItemRef,
     index: usize,
 ) -> Result<Decision, Fault>
-    requires index { index < length section.now.relocations }
-    ensures { result ≡ decide resolved.now.layout.now section.now index }
+    requires index { index < length item.now.relocations.now }
+    ensures { result ≡ decide resolved.now.layout.now (item_now item.now) index }
 {
-    if is_partner(resolved, section, index) {
+    if is_partner(resolved, item, index) {
         return Ok(Decision::Partner);
     }
-    let relocation = &section.relocations.as_slice()[index];
-    match choice(resolved, section, index) {
-        Ok(None) => decided(resolved, section, relocation),
-        Ok(Some(row)) => rewritten_to(resolved, section, relocation, row),
+    let relocation = &item.relocations[index];
+    match choice(resolved, item, index) {
+        Ok(None) => decided(resolved, item, relocation),
+        Ok(Some(row)) => rewritten_to(resolved, item, relocation, row),
         Err(unknown) => refused_with(resolved, relocation, unknown),
     }
 }

@@ -1,14 +1,14 @@
-//! The bytes of input sections.
+//! The bytes of items: input bytes with their relocations.
 ghost use Rattle.std.specs.Prelude.{◌≡◌, [], length, Ok, OnOk, IfOk, IfErr, All, true, slice_get, ◌<◌, ◌^◌};
 ghost use Rattle.std.specs.List.{flat_map, range_with_len};
 ghost use Rattle.wild_words.specs.Overlay.{overlay, AreApart};
 ghost use Rattle.wild_words.specs.Extents.{least_extent};
 ghost use Rattle.wild_types.specs.Faults.{Answers, Refuses};
-ghost use Rattle.wild_types.specs.Lookups.{is_read};
+ghost use Rattle.wild_types.specs.Item.{item_now};
 ghost use Rattle.wild_layout.specs.Decide.{decide};
-ghost use Rattle.wild_layout.specs.Sites.{section_bytes};
+ghost use Rattle.wild_layout.specs.Sites.{item_bytes};
 ghost use Rattle.wild_layout.specs.Image.{offset_in};
-ghost use Rattle.wild_layout.specs.Faults.{at_section, relocation_errors, overlap_errors, section_errors};
+ghost use Rattle.wild_layout.specs.Faults.{at_section, relocation_errors, overlap_errors, item_errors};
 ghost use Rattle.wild_layout.specs.SectionPlaces.{FieldLies};
 ghost use Rattle.wild_sections.specs.Decided.{AreDecided, DecisionsLie, IsNext, decided_sites, decided_extents};
 
@@ -21,22 +21,22 @@ use crate::values::Resolved;
 use std::alloc::Global;
 use wild_layout::Decision;
 use wild_relax::Arch;
-use wild_types::{Error, Fault, InputSection, Part};
+use wild_types::{Error, Fault, InputSection, ItemRef, Part};
 
-/// What is decided of a relocation of the section at that place, or its fault.
+/// What is decided of a relocation of an item of the section at that place, or its fault.
 #[inline(always)]
 fn decide_at<A: Arch>(
     resolved: &Resolved<A>,
     place: InputPlace,
-    section: &InputSection,
+    item: &ItemRef,
     index: usize,
 ) -> Result<Decision, Error>
-    requires index { index < length section.now.relocations }
-    ensures faults { Answers result (relocation_errors resolved.now.layout.now place.group place.file place.section section.now index) }
-    ensures decision { IfOk result (λ d. decide resolved.now.layout.now section.now index ≡ Ok d) }
+    requires index { index < length item.now.relocations.now }
+    ensures faults { Answers result (relocation_errors resolved.now.layout.now place.group place.file place.section (item_now item.now) index) }
+    ensures decision { IfOk result (λ d. decide resolved.now.layout.now (item_now item.now) index ≡ Ok d) }
 {
-    let relocation = &section.relocations.as_slice()[index];
-    match decide(resolved, section, index) {
+    let relocation = &item.relocations[index];
+    match decide(resolved, item, index) {
         Ok(decision) => Ok(decision),
         Err(fault) => Err(Error {
             fault,
@@ -45,35 +45,35 @@ fn decide_at<A: Arch>(
     }
 }
 
-/// What is decided of each relocation of a section, or the first fault of one.
+/// What is decided of each relocation of an item, or the first fault of one.
 fn decide_all<A: Arch>(
     alloc: Global,
     resolved: &Resolved<A>,
     place: InputPlace,
-    section: &InputSection,
+    item: &ItemRef,
 ) -> Result<Vec<Decision>, Error>
-    ensures faults { Answers result (flat_map (relocation_errors resolved.now.layout.now place.group place.file place.section section.now) (range_with_len 0 (length section.now.relocations))) }
-    ensures decisions { IfOk result (λ v. AreDecided resolved.now.layout.now section.now v.items) }
+    ensures faults { Answers result (flat_map (relocation_errors resolved.now.layout.now place.group place.file place.section (item_now item.now)) (range_with_len 0 (length item.now.relocations.now))) }
+    ensures decisions { IfOk result (λ v. AreDecided resolved.now.layout.now (item_now item.now) v.items) }
 {
-    let count = section.relocations.len();
+    let count = item.relocations.len();
     let mut decisions = Vec::with_capacity(alloc, count)?;
     for index in 0..count {
-        decisions.push(decide_at(resolved, place, section, index)?)?;
+        decisions.push(decide_at(resolved, place, item, index)?)?;
     }
     Ok(decisions)
 }
 
-/// Refuses a section in which two relocations write one byte.
+/// Refuses an item in which two relocations write one byte.
 fn check_overlap(
     alloc: Global,
     place: InputPlace,
-    section: &InputSection,
+    item: &ItemRef,
     decisions: &[Decision],
 ) -> Result<(), Error>
-    requires count { length decisions.now ≡ length section.now.relocations }
-    ensures { Answers result (overlap_errors (at_section place.group place.file place.section) (least_extent (decided_extents section.now.relocations decisions.now))) }
+    requires count { length decisions.now ≡ length item.now.relocations.now }
+    ensures { Answers result (overlap_errors (at_section place.group place.file place.section) (least_extent (decided_extents item.now.relocations.now decisions.now))) }
 {
-    match shared_byte(alloc, section.relocations.as_slice(), decisions)? {
+    match shared_byte(alloc, item.relocations, decisions)? {
         Some(byte) => Err(Error {
             fault: Fault::OverlappingSites { byte },
             at: place.section(),
@@ -82,16 +82,16 @@ fn check_overlap(
     }
 }
 
-/// Writes the relocations of a section over its bytes, as they were decided. What each writes stands apart from the
-/// others, so that it is made of the section's own bytes.
-fn write_decisions(section: &InputSection, decisions: &[Decision], room: &mut [u8])
-    requires count { length decisions.now ≡ length section.now.relocations }
-    requires bytes { room.old ≡ section.now.bytes }
-    requires lie { DecisionsLie (length room.old) section.now.relocations decisions.now }
-    requires apart { AreApart (length room.old) (decided_sites section.now section.now.relocations decisions.now) }
-    ensures { room.new ≡ overlay (decided_sites section.now section.now.relocations decisions.now) room.old }
+/// Writes the relocations of an item over its bytes, as they were decided. What each writes stands apart from the
+/// others, so that it is made of the item's own bytes.
+fn write_decisions(item: &ItemRef, decisions: &[Decision], room: &mut [u8])
+    requires count { length decisions.now ≡ length item.now.relocations.now }
+    requires bytes { room.old ≡ item.now.bytes.now }
+    requires lie { DecisionsLie (length room.old) item.now.relocations.now decisions.now }
+    requires apart { AreApart (length room.old) (decided_sites (item_now item.now) item.now.relocations.now decisions.now) }
+    ensures { room.new ≡ overlay (decided_sites (item_now item.now) item.now.relocations.now decisions.now) room.old }
 {
-    let relocations = section.relocations.as_slice();
+    let relocations = item.relocations;
     for i in 0..decisions.len() {
         write_decision(&relocations[i], decisions[i], room);
     }
@@ -102,19 +102,19 @@ fn write_decisions(section: &InputSection, decisions: &[Decision], room: &mut [u
 fn write_decided<A: Arch>(
     resolved: &Resolved<A>,
     place: InputPlace,
-    section: &InputSection,
+    item: &ItemRef,
     index: usize,
     reach: u64,
     room: &mut [u8],
 ) -> Result<Option<u64>, Error>
-    requires index { index < length section.now.relocations }
-    requires lies { All (FieldLies resolved.now.layout.now.machine (length room.old)) section.now.relocations }
-    requires whole { length room.old ≡ length section.now.bytes }
-    ensures faults { Answers result (relocation_errors resolved.now.layout.now place.group place.file place.section section.now index) }
-    ensures next { IfOk result (λ next. IsNext resolved.now.layout.now section.now index reach next room.old room.new) }
+    requires index { index < length item.now.relocations.now }
+    requires lies { All (FieldLies resolved.now.layout.now.machine (length room.old)) item.now.relocations.now }
+    requires whole { length room.old ≡ length item.now.bytes.now }
+    ensures faults { Answers result (relocation_errors resolved.now.layout.now place.group place.file place.section (item_now item.now) index) }
+    ensures next { IfOk result (λ next. IsNext resolved.now.layout.now (item_now item.now) index reach next room.old room.new) }
 {
-    let decision = decide_at(resolved, place, section, index)?;
-    let relocation = &section.relocations.as_slice()[index];
+    let decision = decide_at(resolved, place, item, index)?;
+    let relocation = &item.relocations[index];
     Ok(write_behind(reach, relocation, decision, room))
 }
 
@@ -123,43 +123,41 @@ fn write_decided<A: Arch>(
 fn write_next<A: Arch>(
     resolved: &Resolved<A>,
     place: InputPlace,
-    section: &InputSection,
+    item: &ItemRef,
     index: usize,
     reach: u64,
     room: &mut [u8],
 ) -> Result<Option<u64>, Error>
-    requires index { index < length section.now.relocations }
-    requires lies { All (FieldLies resolved.now.layout.now.machine (length room.old)) section.now.relocations }
-    requires whole { length room.old ≡ length section.now.bytes }
-    ensures faults { Answers result (relocation_errors resolved.now.layout.now place.group place.file place.section section.now index) }
-    ensures next { IfOk result (λ next. IsNext resolved.now.layout.now section.now index reach next room.old room.new) }
+    requires index { index < length item.now.relocations.now }
+    requires lies { All (FieldLies resolved.now.layout.now.machine (length room.old)) item.now.relocations.now }
+    requires whole { length room.old ≡ length item.now.bytes.now }
+    ensures faults { Answers result (relocation_errors resolved.now.layout.now place.group place.file place.section (item_now item.now) index) }
+    ensures next { IfOk result (λ next. IsNext resolved.now.layout.now (item_now item.now) index reach next room.old room.new) }
 {
-    let relocation = &section.relocations.as_slice()[index];
-    match common_value(resolved, section, index) {
+    let relocation = &item.relocations[index];
+    match common_value(resolved, item, index) {
         Some(value) => Ok(four_behind(reach, relocation.offset, value, room)),
-        None => write_decided(resolved, place, section, index, reach, room),
+        None => write_decided(resolved, place, item, index, reach, room),
     }
 }
 
-/// Writes the relocations of a section over its bytes, as long as what each writes begins where those before it
+/// Writes the relocations of an item over its bytes, as long as what each writes begins where those before it
 /// end, or behind: tells whether all did, or answers the first fault of a relocation.
-#[tactic(auto, unfolding(wild_layout::specs::Faults::section_errors, wild_layout::specs::Sites::section_bytes))]
 fn write_ascending<A: Arch>(
     resolved: &Resolved<A>,
     place: InputPlace,
-    section: &InputSection,
+    item: &ItemRef,
     room: &mut [u8],
 ) -> Result<bool, Error>
-    requires read { is_read section.now ≡ true }
-    requires lies { All (FieldLies resolved.now.layout.now.machine (length room.old)) section.now.relocations }
-    requires bytes { room.old ≡ section.now.bytes }
-    ensures faults { IfErr result (λ e. Refuses e (section_errors resolved.now.layout.now place.group place.file place.section section.now)) }
-    ensures none { IfOk result (λ all. all ≡ true → section_errors resolved.now.layout.now place.group place.file place.section section.now ≡ []) }
-    ensures bytes { IfOk result (λ all. all ≡ true → room.new ≡ section_bytes resolved.now.layout.now section.now) }
+    requires lies { All (FieldLies resolved.now.layout.now.machine (length room.old)) item.now.relocations.now }
+    requires bytes { room.old ≡ item.now.bytes.now }
+    ensures faults { IfErr result (λ e. Refuses e (item_errors resolved.now.layout.now place.group place.file place.section (item_now item.now))) }
+    ensures none { IfOk result (λ all. all ≡ true → item_errors resolved.now.layout.now place.group place.file place.section (item_now item.now) ≡ []) }
+    ensures bytes { IfOk result (λ all. all ≡ true → room.new ≡ item_bytes resolved.now.layout.now (item_now item.now)) }
 {
     let mut reach = 0;
-    for index in 0..section.relocations.len() {
-        match write_next(resolved, place, section, index, reach, room)? {
+    for index in 0..item.relocations.len() {
+        match write_next(resolved, place, item, index, reach, room)? {
             Some(end) => reach = end,
             None => return Ok(false),
         }
@@ -167,49 +165,45 @@ fn write_ascending<A: Arch>(
     Ok(true)
 }
 
-/// Writes the bytes of a section whose relocations are read, with its fields in any order, or answers its first
-/// fault: all relocations are decided and found apart before one is written.
-#[tactic(auto, unfolding(wild_layout::specs::Faults::section_errors, wild_layout::specs::Sites::section_bytes))]
+/// Writes the bytes of an item with its fields in any order, or answers its first fault: all relocations are decided and found apart before one is written.
 fn write_apart<A: Arch>(
     alloc: Global,
     resolved: &Resolved<A>,
     place: InputPlace,
-    section: &InputSection,
+    item: &ItemRef,
     room: &mut [u8],
 ) -> Result<(), Error>
-    requires read { is_read section.now ≡ true }
-    requires lies { All (FieldLies resolved.now.layout.now.machine (length room.old)) section.now.relocations }
-    requires room { length room.old ≡ length section.now.bytes }
-    ensures faults { Answers result (section_errors resolved.now.layout.now place.group place.file place.section section.now) }
-    ensures bytes { OnOk result (room.new ≡ section_bytes resolved.now.layout.now section.now) }
+    requires lies { All (FieldLies resolved.now.layout.now.machine (length room.old)) item.now.relocations.now }
+    requires room { length room.old ≡ length item.now.bytes.now }
+    ensures faults { Answers result (item_errors resolved.now.layout.now place.group place.file place.section (item_now item.now)) }
+    ensures bytes { OnOk result (room.new ≡ item_bytes resolved.now.layout.now (item_now item.now)) }
 {
-    let decisions = decide_all(alloc, resolved, place, section)?;
-    check_overlap(alloc, place, section, &decisions)?;
-    room.copy_from_slice(section.bytes.as_slice());
-    write_decisions(section, &decisions, room);
+    let decisions = decide_all(alloc, resolved, place, item)?;
+    check_overlap(alloc, place, item, &decisions)?;
+    room.copy_from_slice(item.bytes);
+    write_decisions(item, &decisions, room);
     Ok(())
 }
 
-/// Writes the bytes of a section whose relocations are read, with its fields, or answers its first fault. Fields in
-/// order are decided and written once; only others ask for memory.
+/// Writes the bytes of an item of the section at that place, with its fields, or answers its first fault. Fields in order
+/// are decided and written once; only others ask for memory.
 pub fn write_data<A: Arch>(
     alloc: Global,
     resolved: &Resolved<A>,
     place: InputPlace,
-    section: &InputSection,
+    item: &ItemRef,
     room: &mut [u8],
 ) -> Result<(), Error>
-    requires read { is_read section.now ≡ true }
-    requires lies { All (FieldLies resolved.now.layout.now.machine (length room.old)) section.now.relocations }
-    requires room { length room.old ≡ length section.now.bytes }
-    ensures faults { Answers result (section_errors resolved.now.layout.now place.group place.file place.section section.now) }
-    ensures bytes { OnOk result (room.new ≡ section_bytes resolved.now.layout.now section.now) }
+    requires lies { All (FieldLies resolved.now.layout.now.machine (length room.old)) item.now.relocations.now }
+    requires room { length room.old ≡ length item.now.bytes.now }
+    ensures faults { Answers result (item_errors resolved.now.layout.now place.group place.file place.section (item_now item.now)) }
+    ensures bytes { OnOk result (room.new ≡ item_bytes resolved.now.layout.now (item_now item.now)) }
 {
-    room.copy_from_slice(section.bytes.as_slice());
-    if write_ascending(resolved, place, section, room)? {
+    room.copy_from_slice(item.bytes);
+    if write_ascending(resolved, place, item, room)? {
         return Ok(());
     }
-    write_apart(alloc, resolved, place, section, room)
+    write_apart(alloc, resolved, place, item, room)
 }
 
 /// The file offset of a section that owns bytes.

@@ -4,7 +4,6 @@ use Rattle.std.specs.Prelude.{⊤, length, nat_lt, ◌&&◌, ◌||◌, ◌==◌}
 use Rattle.std.proofs.lemmas.Bool.{eqb-true, and_parts}
 use Rattle.wild_words.proofs.Basics.{of_if}
 use Rattle.wild_types.specs.declared.input.InputRelocation.{InputRelocation}
-use Rattle.wild_types.specs.declared.input.InputSection.{InputSection}
 use Rattle.wild_types.specs.declared.layout.Layout.{Layout}
 use Rattle.wild_types.specs.Flags.{has_flag, dynamic, ifunc, interposable}
 use Rattle.wild_types.specs.Kinds.{is_position_independent, is_shared_object}
@@ -53,42 +52,42 @@ extent_kind other h = cc
 -- ---- treatments
 
 -- an address that moves is one of a symbol's, in 8 bytes of an allocated section
-pub record IsMovedBy (l : Layout) (s : InputSection) (symbol : Option ℕ) (row : RelocationKindInfo) : Type 0 where
+pub record IsMovedBy (l : Layout) (flags : ℕ) (symbol : Option ℕ) (row : RelocationKindInfo) : Type 0 where
   pub kind : row.kind ≡ kinds.Absolute
   pub width : field_width row ≡ 8
   pub number : ℕ
   pub named : symbol ≡ Some number
   pub moves : moves l number ≡ true
-  pub room : allocated s.flags ≡ true
+  pub room : allocated flags ≡ true
 
 -- an address of symbol i that an entry fills stands in 8 bytes of an allocated section
-pub record IsLeftBy (s : InputSection) (symbol : Option ℕ) (row : RelocationKindInfo) (i : ℕ) : Type 0 where
+pub record IsLeftBy (flags : ℕ) (symbol : Option ℕ) (row : RelocationKindInfo) (i : ℕ) : Type 0 where
   pub kind : row.kind ≡ kinds.Absolute
   pub width : field_width row ≡ 8
   pub named : symbol ≡ Some i
-  pub room : allocated s.flags ≡ true
+  pub room : allocated flags ≡ true
 
 -- one that is left to a resolver is not left to an index, and a resolver chooses the symbol
-pub record IsLeftToResolver (l : Layout) (s : InputSection) (row : RelocationKindInfo) (i : ℕ) : Type 0 where
-  pub own : is_left l s row i ≡ false
-  pub chosen : is_chosen l s i ≡ true
+pub record IsLeftToResolver (l : Layout) (flags : ℕ) (row : RelocationKindInfo) (i : ℕ) : Type 0 where
+  pub own : is_left l flags row i ≡ false
+  pub chosen : is_chosen l flags i ≡ true
 
 -- a size of symbol i that an entry fills stands in an allocated section
-pub record IsSizedBy (l : Layout) (s : InputSection) (symbol : Option ℕ) (row : RelocationKindInfo) (i : ℕ) : Type 0 where
+pub record IsSizedBy (l : Layout) (flags : ℕ) (symbol : Option ℕ) (row : RelocationKindInfo) (i : ℕ) : Type 0 where
   pub kind : row.kind ≡ kinds.SymbolSize
   pub named : symbol ≡ Some i
-  pub room : allocated s.flags ≡ true
-  pub sized : is_sized l s i ≡ true
+  pub room : allocated flags ≡ true
+  pub sized : is_sized l flags i ≡ true
 
 -- what a treatment says
-abbrev pub Says : Layout → InputSection → Option ℕ → RelocationKindInfo → Treatment → Type 0
-Says l s symbol row treatments.Nothing = IsSilent row.kind
-Says l s symbol row (treatments.Value r) = (row ≡ r) × HasValue row.kind
-Says l s symbol row treatments.BaseRelative = IsMovedBy l s symbol row
-Says l s symbol row (treatments.Symbolic i) = IsLeftBy s symbol row i × (is_left l s row i ≡ true)
-Says l s symbol row (treatments.Indirect i) = IsLeftBy s symbol row i × IsLeftToResolver l s row i
-Says l s symbol row (treatments.Extent r i) = (row ≡ r) × IsSizedBy l s symbol row i
-Says l s symbol row other = ⊤
+abbrev pub Says : Layout → ℕ → Option ℕ → RelocationKindInfo → Treatment → Type 0
+Says l flags symbol row treatments.Nothing = IsSilent row.kind
+Says l flags symbol row (treatments.Value r) = (row ≡ r) × HasValue row.kind
+Says l flags symbol row treatments.BaseRelative = IsMovedBy l flags symbol row
+Says l flags symbol row (treatments.Symbolic i) = IsLeftBy flags symbol row i × (is_left l flags row i ≡ true)
+Says l flags symbol row (treatments.Indirect i) = IsLeftBy flags symbol row i × IsLeftToResolver l flags row i
+Says l flags symbol row (treatments.Extent r i) = (row ≡ r) × IsSizedBy l flags symbol row i
+Says l flags symbol row other = ⊤
 
 -- ---- by class
 
@@ -107,66 +106,66 @@ first_of_three : (a b c : Bool) → (a && b && c) ≡ true → a ≡ true
 first_of_three true b c h = refl
 first_of_three false b c h = cc
 
-said_address : (l : Layout) (s : InputSection) (n : ℕ) (row : RelocationKindInfo) (i : ℕ) → row.kind ≡ kinds.Absolute → Says l s (Some i) row (address_treatment l s n row i)
-said_address l s n row i k =
-    let P = Says l s (Some i) row in
+said_address : (l : Layout) (flags : ℕ) (n : ℕ) (row : RelocationKindInfo) (i : ℕ) → row.kind ≡ kinds.Absolute → Says l flags (Some i) row (address_treatment l flags n row i)
+said_address l flags n row i k =
+    let P = Says l flags (Some i) row in
     let value : HasValue row.kind = ap has_value k in
-    of_if P (is_barred l s n i || is_narrow l s n) _ _ (λ e. tt) (λ e.
-    of_if P (is_left l s row i) _ _
-    (λ left. (let both = left_true (allocated s.flags) (writable s.flags) (field_width row == 8) (interposable (flags_at l i)) left in (record { kind = k; width = eqb-true (field_width row) 8 both.1; named = refl; room = both.0 }, left)))
-    (λ own. of_if P (is_chosen l s i) _ _
+    of_if P (is_barred l flags n i || is_narrow l flags n) _ _ (λ e. tt) (λ e.
+    of_if P (is_left l flags row i) _ _
+    (λ left. (let both = left_true (allocated flags) (writable flags) (field_width row == 8) (interposable (flags_at l i)) left in (record { kind = k; width = eqb-true (field_width row) 8 both.1; named = refl; room = both.0 }, left)))
+    (λ own. of_if P (is_chosen l flags i) _ _
     (λ chosen. of_if P (field_width row == 8) _ _
-    (λ w. (record { kind = k; width = eqb-true (field_width row) 8 w; named = refl; room = first_of_four (allocated s.flags) (writable s.flags) (is_position_independent l.kind) (has_flag (flags_at l i) ifunc) chosen }, record { own = own; chosen = chosen }))
+    (λ w. (record { kind = k; width = eqb-true (field_width row) 8 w; named = refl; room = first_of_four (allocated flags) (writable flags) (is_position_independent l.kind) (has_flag (flags_at l i) ifunc) chosen }, record { own = own; chosen = chosen }))
     (λ w. tt))
-    (λ e. of_if P (allocated s.flags && moves l i) _ _
-    (λ m. (let both = and_parts (allocated s.flags) (moves l i) m in of_if P (field_width row == 8) _ _ (λ w. record { kind = k; width = eqb-true (field_width row) 8 w; number = i; named = refl; moves = both.1; room = both.0 }) (λ w. tt)))
+    (λ e. of_if P (allocated flags && moves l i) _ _
+    (λ m. (let both = and_parts (allocated flags) (moves l i) m in of_if P (field_width row == 8) _ _ (λ w. record { kind = k; width = eqb-true (field_width row) 8 w; number = i; named = refl; moves = both.1; room = both.0 }) (λ w. tt)))
     (λ m. (refl, value)))))
 
-said_size : (l : Layout) (s : InputSection) (row : RelocationKindInfo) (i : ℕ) → row.kind ≡ kinds.SymbolSize → Says l s (Some i) row (size_treatment l s row i)
-said_size l s row i k =
-    of_if (Says l s (Some i) row) (is_sized l s i) _ _
-    (λ sized. (refl, record { kind = k; named = refl; room = first_of_three (allocated s.flags) (interposable (flags_at l i)) (has_flag (flags_at l i) dynamic || is_shared_object l.kind) sized; sized = sized }))
+said_size : (l : Layout) (flags : ℕ) (row : RelocationKindInfo) (i : ℕ) → row.kind ≡ kinds.SymbolSize → Says l flags (Some i) row (size_treatment l flags row i)
+said_size l flags row i k =
+    of_if (Says l flags (Some i) row) (is_sized l flags i) _ _
+    (λ sized. (refl, record { kind = k; named = refl; room = first_of_three (allocated flags) (interposable (flags_at l i)) (has_flag (flags_at l i) dynamic || is_shared_object l.kind) sized; sized = sized }))
     (λ e. (refl, ap has_value k))
 
-said_distance : (l : Layout) (s : InputSection) (n : ℕ) (row : RelocationKindInfo) (symbol : Option ℕ) → HasValue row.kind → Says l s symbol row (distance_treatment l s n row symbol)
-said_distance l s n row None v = of_if (Says l s None row) (allocated s.flags && is_position_independent l.kind) _ _ (λ e. tt) (λ e. (refl, v))
-said_distance l s n row (Some i) v = of_if (Says l s (Some i) row) (is_barred l s n i) _ _ (λ e. tt) (λ e. (refl, v))
+said_distance : (l : Layout) (flags : ℕ) (n : ℕ) (row : RelocationKindInfo) (symbol : Option ℕ) → HasValue row.kind → Says l flags symbol row (distance_treatment l flags n row symbol)
+said_distance l flags n row None v = of_if (Says l flags None row) (allocated flags && is_position_independent l.kind) _ _ (λ e. tt) (λ e. (refl, v))
+said_distance l flags n row (Some i) v = of_if (Says l flags (Some i) row) (is_barred l flags n i) _ _ (λ e. tt) (λ e. (refl, v))
 
-said_named : (l : Layout) (s : InputSection) (row : RelocationKindInfo) (symbol : Option ℕ) (by : ℕ → Treatment) → ((i : ℕ) → Says l s (Some i) row (by i)) → Says l s symbol row (named symbol by)
-said_named l s row None by h = tt
-said_named l s row (Some i) by h = h i
+said_named : (l : Layout) (flags : ℕ) (row : RelocationKindInfo) (symbol : Option ℕ) (by : ℕ → Treatment) → ((i : ℕ) → Says l flags (Some i) row (by i)) → Says l flags symbol row (named symbol by)
+said_named l flags row None by h = tt
+said_named l flags row (Some i) by h = h i
 
 -- of a symbol that is there; of another the value is written, which it has not
-said_there : (l : Layout) (s : InputSection) (row : RelocationKindInfo) (i : ℕ) (t : Treatment) → HasValue row.kind → Says l s (Some i) row t → Says l s (Some i) row (where_there l row i t)
-said_there l s row i t v h = of_if (Says l s (Some i) row) (nat_lt (canonical l i) (length l.symbols)) _ _ (λ there. h) (λ there. (refl, v))
+said_there : (l : Layout) (flags : ℕ) (row : RelocationKindInfo) (i : ℕ) (t : Treatment) → HasValue row.kind → Says l flags (Some i) row t → Says l flags (Some i) row (where_there l row i t)
+said_there l flags row i t v h = of_if (Says l flags (Some i) row) (nat_lt (canonical l i) (length l.symbols)) _ _ (λ there. h) (λ there. (refl, v))
 
-class_says : (l : Layout) (s : InputSection) (n : ℕ) (symbol : Option ℕ) (row : RelocationKindInfo) (c : Class) → (expression_of row.kind).class ≡ c → Says l s symbol row (class_treatment l s n symbol row c)
-class_says l s n symbol row class.Nothing e = inl (nothing_kind row.kind e)
-class_says l s n symbol row class.Mark e = said_named l s row symbol (λ i. treatments.Nothing) (λ i. inr (mark_kind row.kind e))
-class_says l s n symbol row class.Free e = (refl, ap writes e)
-class_says l s n symbol row class.Plain e = said_named l s row symbol (λ i. treatments.Value row) (λ i. (refl, ap writes e))
-class_says l s n symbol row class.Address e = said_named l s row symbol (λ i. where_there l row i (address_treatment l s n row i)) (λ i. said_there l s row i (address_treatment l s n row i) (ap writes e) (said_address l s n row i (address_kind row.kind e)))
-class_says l s n symbol row class.Distance e = said_distance l s n row symbol (ap writes e)
-class_says l s n symbol row class.Pointer e = said_named l s row symbol (λ i. pointer_treatment l s row) (λ i. of_if (Says l s (Some i) row) (allocated s.flags && is_shared_object l.kind) _ _ (λ p. tt) (λ p. (refl, ap writes e)))
-class_says l s n symbol row class.Extent e = said_named l s row symbol (λ i. where_there l row i (size_treatment l s row i)) (λ i. said_there l s row i (size_treatment l s row i) (ap writes e) (said_size l s row i (extent_kind row.kind e)))
-class_says l s n symbol row class.Unknown e = tt
+class_says : (l : Layout) (flags : ℕ) (n : ℕ) (symbol : Option ℕ) (row : RelocationKindInfo) (c : Class) → (expression_of row.kind).class ≡ c → Says l flags symbol row (class_treatment l flags n symbol row c)
+class_says l flags n symbol row class.Nothing e = inl (nothing_kind row.kind e)
+class_says l flags n symbol row class.Mark e = said_named l flags row symbol (λ i. treatments.Nothing) (λ i. inr (mark_kind row.kind e))
+class_says l flags n symbol row class.Free e = (refl, ap writes e)
+class_says l flags n symbol row class.Plain e = said_named l flags row symbol (λ i. treatments.Value row) (λ i. (refl, ap writes e))
+class_says l flags n symbol row class.Address e = said_named l flags row symbol (λ i. where_there l row i (address_treatment l flags n row i)) (λ i. said_there l flags row i (address_treatment l flags n row i) (ap writes e) (said_address l flags n row i (address_kind row.kind e)))
+class_says l flags n symbol row class.Distance e = said_distance l flags n row symbol (ap writes e)
+class_says l flags n symbol row class.Pointer e = said_named l flags row symbol (λ i. pointer_treatment l flags row) (λ i. of_if (Says l flags (Some i) row) (allocated flags && is_shared_object l.kind) _ _ (λ p. tt) (λ p. (refl, ap writes e)))
+class_says l flags n symbol row class.Extent e = said_named l flags row symbol (λ i. where_there l row i (size_treatment l flags row i)) (λ i. said_there l flags row i (size_treatment l flags row i) (ap writes e) (said_size l flags row i (extent_kind row.kind e)))
+class_says l flags n symbol row class.Unknown e = tt
 
 -- ---- by row
 
-pub row_said : (l : Layout) (s : InputSection) (n : ℕ) (symbol : Option ℕ) (row : RelocationKindInfo) → Says l s symbol row (row_treatment l s n symbol (Some row))
+pub row_said : (l : Layout) (flags : ℕ) (n : ℕ) (symbol : Option ℕ) (row : RelocationKindInfo) → Says l flags symbol row (row_treatment l flags n symbol (Some row))
 unfolding row_treatment
-row_said l s n symbol row = class_says l s n symbol row (expression_of row.kind).class refl
+row_said l flags n symbol row = class_says l flags n symbol row (expression_of row.kind).class refl
 
 -- of a relocation, by its row
-pub treated_says : (l : Layout) (s : InputSection) (r : InputRelocation) (row : RelocationKindInfo) (t : Treatment) → row_of l.machine r.number ≡ Some row → treatment l s r ≡ t → Says l s r.symbol row t
+pub treated_says : (l : Layout) (flags : ℕ) (r : InputRelocation) (row : RelocationKindInfo) (t : Treatment) → row_of l.machine r.number ≡ Some row → treatment l flags r ≡ t → Says l flags r.symbol row t
 unfolding treatment
-treated_says l s r row t known is = subst (Says l s r.symbol row) is (subst (λ (o : Option RelocationKindInfo). Says l s r.symbol row (row_treatment l s r.number r.symbol o)) (sym known) (row_said l s r.number r.symbol row))
+treated_says l flags r row t known is = subst (Says l flags r.symbol row) is (subst (λ (o : Option RelocationKindInfo). Says l flags r.symbol row (row_treatment l flags r.number r.symbol o)) (sym known) (row_said l flags r.number r.symbol row))
 
 -- a row whose treatment is t, and what that says
-pub record HasRow (l : Layout) (s : InputSection) (symbol : Option ℕ) (o : Option RelocationKindInfo) (t : Treatment) : Type 0 where
+pub record HasRow (l : Layout) (flags : ℕ) (symbol : Option ℕ) (o : Option RelocationKindInfo) (t : Treatment) : Type 0 where
   pub row : RelocationKindInfo
   pub known : o ≡ Some row
-  pub says : Says l s symbol row t
+  pub says : Says l flags symbol row t
 
 -- no row is needed where nothing is said
 abbrev Speaks : Treatment → Type 0
@@ -174,29 +173,29 @@ Speaks treatments.Recompile = ⊥
 Speaks treatments.Unsupported = ⊥
 Speaks other = ⊤
 
-row_says : (l : Layout) (s : InputSection) (n : ℕ) (symbol : Option ℕ) (o : Option RelocationKindInfo) (t : Treatment) → Speaks t → row_treatment l s n symbol o ≡ t → HasRow l s symbol o t
+row_says : (l : Layout) (flags : ℕ) (n : ℕ) (symbol : Option ℕ) (o : Option RelocationKindInfo) (t : Treatment) → Speaks t → row_treatment l flags n symbol o ≡ t → HasRow l flags symbol o t
 unfolding row_treatment
-row_says l s n symbol None t some h = absurd (subst Speaks (sym h) some)
-row_says l s n symbol (Some row) t some h = record { row = row; known = refl; says = subst (Says l s symbol row) h (row_said l s n symbol row) }
+row_says l flags n symbol None t some h = absurd (subst Speaks (sym h) some)
+row_says l flags n symbol (Some row) t some h = record { row = row; known = refl; says = subst (Says l flags symbol row) h (row_said l flags n symbol row) }
 
-pub row_value : (l : Layout) (s : InputSection) (n : ℕ) (symbol : Option ℕ) (o : Option RelocationKindInfo) (r : RelocationKindInfo) → row_treatment l s n symbol o ≡ treatments.Value r → (o ≡ Some r) × HasValue r.kind
-row_value l s n symbol o r h =
-    let k = row_says l s n symbol o (treatments.Value r) tt h in
+pub row_value : (l : Layout) (flags : ℕ) (n : ℕ) (symbol : Option ℕ) (o : Option RelocationKindInfo) (r : RelocationKindInfo) → row_treatment l flags n symbol o ≡ treatments.Value r → (o ≡ Some r) × HasValue r.kind
+row_value l flags n symbol o r h =
+    let k = row_says l flags n symbol o (treatments.Value r) tt h in
     (k.known ∙ ap (λ (x : RelocationKindInfo). Some x) k.says.0, subst (λ (x : RelocationKindInfo). HasValue x.kind) k.says.0 k.says.1)
 
-pub row_nothing : (l : Layout) (s : InputSection) (n : ℕ) (symbol : Option ℕ) (o : Option RelocationKindInfo) → row_treatment l s n symbol o ≡ treatments.Nothing → (row : RelocationKindInfo) × (o ≡ Some row) × IsSilent row.kind
-row_nothing l s n symbol o h = let k = row_says l s n symbol o treatments.Nothing tt h in (k.row, k.known, k.says)
+pub row_nothing : (l : Layout) (flags : ℕ) (n : ℕ) (symbol : Option ℕ) (o : Option RelocationKindInfo) → row_treatment l flags n symbol o ≡ treatments.Nothing → (row : RelocationKindInfo) × (o ≡ Some row) × IsSilent row.kind
+row_nothing l flags n symbol o h = let k = row_says l flags n symbol o treatments.Nothing tt h in (k.row, k.known, k.says)
 
-pub row_moved : (l : Layout) (s : InputSection) (n : ℕ) (symbol : Option ℕ) (o : Option RelocationKindInfo) → row_treatment l s n symbol o ≡ treatments.BaseRelative → (row : RelocationKindInfo) × (o ≡ Some row) × IsMovedBy l s symbol row
-row_moved l s n symbol o h = let k = row_says l s n symbol o treatments.BaseRelative tt h in (k.row, k.known, k.says)
+pub row_moved : (l : Layout) (flags : ℕ) (n : ℕ) (symbol : Option ℕ) (o : Option RelocationKindInfo) → row_treatment l flags n symbol o ≡ treatments.BaseRelative → (row : RelocationKindInfo) × (o ≡ Some row) × IsMovedBy l flags symbol row
+row_moved l flags n symbol o h = let k = row_says l flags n symbol o treatments.BaseRelative tt h in (k.row, k.known, k.says)
 
-pub row_symbolic : (l : Layout) (s : InputSection) (n : ℕ) (symbol : Option ℕ) (o : Option RelocationKindInfo) (i : ℕ) → row_treatment l s n symbol o ≡ treatments.Symbolic i → (row : RelocationKindInfo) × (o ≡ Some row) × IsLeftBy s symbol row i
-row_symbolic l s n symbol o i h = let k = row_says l s n symbol o (treatments.Symbolic i) tt h in (k.row, k.known, k.says.0)
+pub row_symbolic : (l : Layout) (flags : ℕ) (n : ℕ) (symbol : Option ℕ) (o : Option RelocationKindInfo) (i : ℕ) → row_treatment l flags n symbol o ≡ treatments.Symbolic i → (row : RelocationKindInfo) × (o ≡ Some row) × IsLeftBy flags symbol row i
+row_symbolic l flags n symbol o i h = let k = row_says l flags n symbol o (treatments.Symbolic i) tt h in (k.row, k.known, k.says.0)
 
-pub row_indirect : (l : Layout) (s : InputSection) (n : ℕ) (symbol : Option ℕ) (o : Option RelocationKindInfo) (i : ℕ) → row_treatment l s n symbol o ≡ treatments.Indirect i → (row : RelocationKindInfo) × (o ≡ Some row) × IsLeftBy s symbol row i × IsLeftToResolver l s row i
-row_indirect l s n symbol o i h = let k = row_says l s n symbol o (treatments.Indirect i) tt h in (k.row, k.known, k.says.0, k.says.1)
+pub row_indirect : (l : Layout) (flags : ℕ) (n : ℕ) (symbol : Option ℕ) (o : Option RelocationKindInfo) (i : ℕ) → row_treatment l flags n symbol o ≡ treatments.Indirect i → (row : RelocationKindInfo) × (o ≡ Some row) × IsLeftBy flags symbol row i × IsLeftToResolver l flags row i
+row_indirect l flags n symbol o i h = let k = row_says l flags n symbol o (treatments.Indirect i) tt h in (k.row, k.known, k.says.0, k.says.1)
 
-pub row_extent : (l : Layout) (s : InputSection) (n : ℕ) (symbol : Option ℕ) (o : Option RelocationKindInfo) (r : RelocationKindInfo) (i : ℕ) → row_treatment l s n symbol o ≡ treatments.Extent r i → (o ≡ Some r) × IsSizedBy l s symbol r i
-row_extent l s n symbol o r i h =
-    let k = row_says l s n symbol o (treatments.Extent r i) tt h in
-    (k.known ∙ ap (λ (x : RelocationKindInfo). Some x) k.says.0, subst (λ (x : RelocationKindInfo). IsSizedBy l s symbol x i) k.says.0 k.says.1)
+pub row_extent : (l : Layout) (flags : ℕ) (n : ℕ) (symbol : Option ℕ) (o : Option RelocationKindInfo) (r : RelocationKindInfo) (i : ℕ) → row_treatment l flags n symbol o ≡ treatments.Extent r i → (o ≡ Some r) × IsSizedBy l flags symbol r i
+row_extent l flags n symbol o r i h =
+    let k = row_says l flags n symbol o (treatments.Extent r i) tt h in
+    (k.known ∙ ap (λ (x : RelocationKindInfo). Some x) k.says.0, subst (λ (x : RelocationKindInfo). IsSizedBy l flags symbol x i) k.says.0 k.says.1)

@@ -1,19 +1,18 @@
 -- What is done with a relocation, as far as the layout alone says it: no value is taken.
 --   flags_at l i          what is known of the value of the symbol that defines symbol i
---   is_left l s row i     the address of symbol i is left to a dynamic entry
---   is_barred l s n i     the field of type n cannot hold symbol i's address or distance, which another module may define
+--   is_left l flags row i     the address of symbol i is left to a dynamic entry
+--   is_barred l flags n i     the field of type n cannot hold symbol i's address or distance, which another module may define
 --   moves l i             the address of symbol i moves with the base
---   is_chosen l s i       the address of symbol i is what a resolver answers, stored by a loader
---   is_narrow l s n       the field of type n cannot hold an address of a library
---   is_sized l s i        the size of symbol i is left to a dynamic entry
---   treatment l s r       what is done with relocation r of section s
+--   is_chosen l flags i       the address of symbol i is what a resolver answers, stored by a loader
+--   is_narrow l flags n       the field of type n cannot hold an address of a library
+--   is_sized l flags i        the size of symbol i is left to a dynamic entry
+--   treatment l flags r   what is done with relocation r of bytes with these flags (sh_flags)
 use Rattle.std.specs.Prelude.{ℕ, Bool, not, ◌&&◌, ◌||◌, ◌==◌, nat_lt, if◌then◌else◌, length, Option, Some, None, option_map, unwrap_or, slice_get}
 use Rattle.wild_types.specs.declared.kind.Machine.{Machine}
 use Rattle.wild_types.specs.declared.kind.Machine.TheVariants as machine
 use Rattle.wild_types.specs.declared.symbol.Symbol.{Symbol}
 use Rattle.wild_types.specs.declared.symbol.ValueFlags.{ValueFlags}
 use Rattle.wild_types.specs.declared.input.InputRelocation.{InputRelocation}
-use Rattle.wild_types.specs.declared.input.InputSection.{InputSection}
 use Rattle.wild_types.specs.declared.layout.Layout.{Layout}
 use Rattle.wild_slot.specs.declared.treatment.Treatment.{Treatment}
 use Rattle.wild_slot.specs.declared.treatment.Treatment.TheVariants.{Nothing, Value, BaseRelative, Symbolic, Indirect, Extent, Recompile, Unsupported}
@@ -35,8 +34,8 @@ flags_at l i = unwrap_or (option_map (λ (s : Symbol). s.flags) (slice_get l.sym
 
 -- the address of a symbol that another module may define is left to a dynamic entry, where that can fill the field:
 -- 8 bytes that the program has in memory and may write to (gABI, "Relocation", "Symbol Visibility")
-abbrev pub is_left : Layout → InputSection → RelocationKindInfo → ℕ → Bool
-is_left l s row i = allocated s.flags && writable s.flags && field_width row == 8 && interposable (flags_at l i)
+abbrev pub is_left : Layout → (flags : ℕ) → RelocationKindInfo → ℕ → Bool
+is_left l flags row i = allocated flags && writable flags && field_width row == 8 && interposable (flags_at l i)
 
 -- another module may define the symbol, and neither a copy of it nor a stub has an address of this output (gABI,
 -- "Symbol Visibility")
@@ -55,13 +54,13 @@ is_barred_in_shared machine.AArch64 n = is_listed n barred_in_shared_aarch64
 
 -- an address of another module is not known when the output is linked, and a field of such a type cannot be left to a
 -- loader (x86-64 psABI, "Position-Independent Code")
-abbrev pub is_barred : Layout → InputSection → (n i : ℕ) → Bool
-is_barred l s n i = allocated s.flags && is_position_independent l.kind && is_barred_type l.machine n && is_elsewhere (flags_at l i)
+abbrev pub is_barred : Layout → (flags n i : ℕ) → Bool
+is_barred l flags n i = allocated flags && is_position_independent l.kind && is_barred_type l.machine n && is_elsewhere (flags_at l i)
 
 -- an address in a library is known only where it is loaded, and a field of such a type has no room for it (x86-64 psABI,
 -- "Position-Independent Code")
-abbrev pub is_narrow : Layout → InputSection → (n : ℕ) → Bool
-is_narrow l s n = allocated s.flags && is_shared_object l.kind && is_barred_in_shared l.machine n
+abbrev pub is_narrow : Layout → (flags n : ℕ) → Bool
+is_narrow l flags n = allocated flags && is_shared_object l.kind && is_barred_in_shared l.machine n
 
 -- the address moves with the base: the output does, and the value is not absolute (gABI, "Symbol Table", SHN_ABS)
 abbrev pub moves : Layout → ℕ → Bool
@@ -74,20 +73,20 @@ moved_treatment row = if field_width row == 8 then BaseRelative else Recompile
 
 -- the function that a resolver chooses is stored by a loader, in data of an output that moves (x86-64 psABI, "Relocation
 -- Types", R_X86_64_IRELATIVE)
-abbrev pub is_chosen : Layout → InputSection → ℕ → Bool
-is_chosen l s i = allocated s.flags && writable s.flags && is_position_independent l.kind && has_flag (flags_at l i) ifunc
+abbrev pub is_chosen : Layout → (flags i : ℕ) → Bool
+is_chosen l flags i = allocated flags && writable flags && is_position_independent l.kind && has_flag (flags_at l i) ifunc
 
 -- that fills a field of 8 bytes
 abbrev pub chosen_treatment : RelocationKindInfo → ℕ → Treatment
 chosen_treatment row i = if field_width row == 8 then Indirect i else Recompile
 
 -- S + A of symbol i, by a relocation of type n
-abbrev pub address_treatment : Layout → InputSection → (n : ℕ) → RelocationKindInfo → ℕ → Treatment
-address_treatment l s n row i =
-    if is_barred l s n i || is_narrow l s n then Recompile
-    else if is_left l s row i then Symbolic i
-    else if is_chosen l s i then chosen_treatment row i
-    else if allocated s.flags && moves l i then moved_treatment row
+abbrev pub address_treatment : Layout → (flags n : ℕ) → RelocationKindInfo → ℕ → Treatment
+address_treatment l flags n row i =
+    if is_barred l flags n i || is_narrow l flags n then Recompile
+    else if is_left l flags row i then Symbolic i
+    else if is_chosen l flags i then chosen_treatment row i
+    else if allocated flags && moves l i then moved_treatment row
     else Value row
 
 -- a value that needs a symbol
@@ -96,44 +95,44 @@ named None by = Unsupported
 named (Some i) by = by i
 
 -- S + A - P: without a symbol it is the distance from address 0, which moves
-abbrev pub distance_treatment : Layout → InputSection → (n : ℕ) → RelocationKindInfo → Option ℕ → Treatment
-distance_treatment l s n row None = if allocated s.flags && is_position_independent l.kind then Recompile else Value row
-distance_treatment l s n row (Some i) = if is_barred l s n i then Recompile else Value row
+abbrev pub distance_treatment : Layout → (flags n : ℕ) → RelocationKindInfo → Option ℕ → Treatment
+distance_treatment l flags n row None = if allocated flags && is_position_independent l.kind then Recompile else Value row
+distance_treatment l flags n row (Some i) = if is_barred l flags n i then Recompile else Value row
 
 -- an offset from the thread pointer is known in an executable alone (ELF Handling For Thread-Local Storage, "Local Exec")
-abbrev pub pointer_treatment : Layout → InputSection → RelocationKindInfo → Treatment
-pointer_treatment l s row = if allocated s.flags && is_shared_object l.kind then Recompile else Value row
+abbrev pub pointer_treatment : Layout → (flags : ℕ) → RelocationKindInfo → Treatment
+pointer_treatment l flags row = if allocated flags && is_shared_object l.kind then Recompile else Value row
 
 -- the size of a symbol that another module may define is that module's (x86-64 psABI, "Relocation Types", R_X86_64_SIZE64)
-abbrev pub is_sized : Layout → InputSection → ℕ → Bool
-is_sized l s i = allocated s.flags && interposable (flags_at l i) && (has_flag (flags_at l i) dynamic || is_shared_object l.kind)
+abbrev pub is_sized : Layout → (flags i : ℕ) → Bool
+is_sized l flags i = allocated flags && interposable (flags_at l i) && (has_flag (flags_at l i) dynamic || is_shared_object l.kind)
 
-abbrev pub size_treatment : Layout → InputSection → RelocationKindInfo → ℕ → Treatment
-size_treatment l s row i = if is_sized l s i then Extent row i else Value row
+abbrev pub size_treatment : Layout → (flags : ℕ) → RelocationKindInfo → ℕ → Treatment
+size_treatment l flags row i = if is_sized l flags i then Extent row i else Value row
 
 -- a symbol that is not there, or whose definition is not, has no share of what is left to a loader: clauses refuse it later than shares
 abbrev pub where_there : Layout → RelocationKindInfo → ℕ → Treatment → Treatment
 where_there l row i t = if nat_lt (canonical l i) (length l.symbols) then t else Value row
 
 -- by the class of the kind's expression
-abbrev pub class_treatment : Layout → InputSection → (n : ℕ) → Option ℕ → RelocationKindInfo → Class → Treatment
-class_treatment l s n symbol row class.Nothing = Nothing
-class_treatment l s n symbol row class.Mark = named symbol (λ i. Nothing)
-class_treatment l s n symbol row class.Free = Value row
-class_treatment l s n symbol row class.Plain = named symbol (λ i. Value row)
-class_treatment l s n symbol row class.Address = named symbol (λ i. where_there l row i (address_treatment l s n row i))
-class_treatment l s n symbol row class.Distance = distance_treatment l s n row symbol
-class_treatment l s n symbol row class.Pointer = named symbol (λ i. pointer_treatment l s row)
-class_treatment l s n symbol row class.Extent = named symbol (λ i. where_there l row i (size_treatment l s row i))
-class_treatment l s n symbol row class.Unknown = Unsupported
+abbrev pub class_treatment : Layout → (flags n : ℕ) → Option ℕ → RelocationKindInfo → Class → Treatment
+class_treatment l flags n symbol row class.Nothing = Nothing
+class_treatment l flags n symbol row class.Mark = named symbol (λ i. Nothing)
+class_treatment l flags n symbol row class.Free = Value row
+class_treatment l flags n symbol row class.Plain = named symbol (λ i. Value row)
+class_treatment l flags n symbol row class.Address = named symbol (λ i. where_there l row i (address_treatment l flags n row i))
+class_treatment l flags n symbol row class.Distance = distance_treatment l flags n row symbol
+class_treatment l flags n symbol row class.Pointer = named symbol (λ i. pointer_treatment l flags row)
+class_treatment l flags n symbol row class.Extent = named symbol (λ i. where_there l row i (size_treatment l flags row i))
+class_treatment l flags n symbol row class.Unknown = Unsupported
 
-abbrev pub kind_treatment : Layout → InputSection → (n : ℕ) → Option ℕ → RelocationKindInfo → RelocationKind → Treatment
-kind_treatment l s n symbol row kind = class_treatment l s n symbol row (expression_of kind).class
+abbrev pub kind_treatment : Layout → (flags n : ℕ) → Option ℕ → RelocationKindInfo → RelocationKind → Treatment
+kind_treatment l flags n symbol row kind = class_treatment l flags n symbol row (expression_of kind).class
 
-unfoldable pub row_treatment : Layout → InputSection → (n : ℕ) → Option ℕ → Option RelocationKindInfo → Treatment
-row_treatment l s n symbol None = Unsupported
-row_treatment l s n symbol (Some row) = kind_treatment l s n symbol row row.kind
+unfoldable pub row_treatment : Layout → (flags n : ℕ) → Option ℕ → Option RelocationKindInfo → Treatment
+row_treatment l flags n symbol None = Unsupported
+row_treatment l flags n symbol (Some row) = kind_treatment l flags n symbol row row.kind
 
 -- what is done with a relocation, by its row
-unfoldable pub treatment : Layout → InputSection → InputRelocation → Treatment
-treatment l s r = row_treatment l s r.number r.symbol (row_of l.machine r.number)
+unfoldable pub treatment : Layout → (flags : ℕ) → InputRelocation → Treatment
+treatment l flags r = row_treatment l flags r.number r.symbol (row_of l.machine r.number)

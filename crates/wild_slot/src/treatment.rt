@@ -4,7 +4,7 @@ ghost use Rattle.wild_slot.specs.Treatment.{flags_at, is_left, is_elsewhere, is_
 
 use wild_reloc::{Class, RelocationKindInfo, aarch64, x86_64};
 use wild_types::{
-    InputRelocation, InputSection, Layout, Machine, SymbolIndex, ValueFlags, is_allocated,
+    InputRelocation, Layout, Machine, SymbolIndex, ValueFlags, is_allocated,
     is_writable, row_of,
 };
 
@@ -43,14 +43,14 @@ pub fn flags_at(layout: &Layout, symbol: SymbolIndex) -> ValueFlags
 #[inline]
 fn is_left(
     layout: &Layout,
-    section: &InputSection,
+    section_flags: u64,
     row: &RelocationKindInfo,
     symbol: SymbolIndex,
 ) -> bool
-    ensures { result ≡ is_left layout.now section.now row.now symbol }
+    ensures { result ≡ is_left layout.now section_flags row.now symbol }
 {
-    is_allocated(section.flags)
-        && is_writable(section.flags)
+    is_allocated(section_flags)
+        && is_writable(section_flags)
         && row.width() == 8
         && flags_at(layout, symbol).is_interposable()
 }
@@ -87,10 +87,10 @@ fn is_barred_in_shared(machine: Machine, number: u32) -> bool
 
 /// Whether the field of that type cannot hold what the symbol is, which another module may define.
 #[inline]
-fn is_barred(layout: &Layout, section: &InputSection, number: u32, symbol: SymbolIndex) -> bool
-    ensures { result ≡ is_barred layout.now section.now number symbol }
+fn is_barred(layout: &Layout, section_flags: u64, number: u32, symbol: SymbolIndex) -> bool
+    ensures { result ≡ is_barred layout.now section_flags number symbol }
 {
-    is_allocated(section.flags)
+    is_allocated(section_flags)
         && layout.kind.is_position_independent()
         && is_barred_type(layout.machine, number)
         && is_elsewhere(flags_at(layout, symbol))
@@ -98,10 +98,10 @@ fn is_barred(layout: &Layout, section: &InputSection, number: u32, symbol: Symbo
 
 /// Whether the field of that type cannot hold an address of this library.
 #[inline]
-fn is_narrow(layout: &Layout, section: &InputSection, number: u32) -> bool
-    ensures { result ≡ is_narrow layout.now section.now number }
+fn is_narrow(layout: &Layout, section_flags: u64, number: u32) -> bool
+    ensures { result ≡ is_narrow layout.now section_flags number }
 {
-    is_allocated(section.flags)
+    is_allocated(section_flags)
         && layout.kind.is_shared_object()
         && is_barred_in_shared(layout.machine, number)
 }
@@ -128,11 +128,11 @@ fn moved_treatment(row: &RelocationKindInfo) -> Treatment
 
 /// Whether the address of the symbol is what a resolver answers, stored by a loader.
 #[inline]
-fn is_chosen(layout: &Layout, section: &InputSection, symbol: SymbolIndex) -> bool
-    ensures { result ≡ is_chosen layout.now section.now symbol }
+fn is_chosen(layout: &Layout, section_flags: u64, symbol: SymbolIndex) -> bool
+    ensures { result ≡ is_chosen layout.now section_flags symbol }
 {
-    is_allocated(section.flags)
-        && is_writable(section.flags)
+    is_allocated(section_flags)
+        && is_writable(section_flags)
         && layout.kind.is_position_independent()
         && flags_at(layout, symbol).is_ifunc()
 }
@@ -153,20 +153,20 @@ fn chosen_treatment(row: &RelocationKindInfo, symbol: SymbolIndex) -> Treatment
 #[inline]
 fn address_treatment(
     layout: &Layout,
-    section: &InputSection,
+    section_flags: u64,
     number: u32,
     row: RelocationKindInfo,
     symbol: SymbolIndex,
 ) -> Treatment
-    ensures { result ≡ address_treatment layout.now section.now number row symbol }
+    ensures { result ≡ address_treatment layout.now section_flags number row symbol }
 {
-    if is_barred(layout, section, number, symbol) || is_narrow(layout, section, number) {
+    if is_barred(layout, section_flags, number, symbol) || is_narrow(layout, section_flags, number) {
         Treatment::Recompile
-    } else if is_left(layout, section, &row, symbol) {
+    } else if is_left(layout, section_flags, &row, symbol) {
         Treatment::Symbolic(symbol)
-    } else if is_chosen(layout, section, symbol) {
+    } else if is_chosen(layout, section_flags, symbol) {
         chosen_treatment(&row, symbol)
-    } else if is_allocated(section.flags) && moves(layout, symbol) {
+    } else if is_allocated(section_flags) && moves(layout, symbol) {
         moved_treatment(&row)
     } else {
         Treatment::Value(row)
@@ -177,16 +177,16 @@ fn address_treatment(
 #[inline]
 fn distance_treatment(
     layout: &Layout,
-    section: &InputSection,
+    section_flags: u64,
     number: u32,
     row: RelocationKindInfo,
     symbol: Option<SymbolIndex>,
 ) -> Treatment
-    ensures { result ≡ distance_treatment layout.now section.now number row symbol }
+    ensures { result ≡ distance_treatment layout.now section_flags number row symbol }
 {
     let refused = match symbol {
-        Some(symbol) => is_barred(layout, section, number, symbol),
-        None => is_allocated(section.flags) && layout.kind.is_position_independent(),
+        Some(symbol) => is_barred(layout, section_flags, number, symbol),
+        None => is_allocated(section_flags) && layout.kind.is_position_independent(),
     };
     if refused {
         Treatment::Recompile
@@ -197,10 +197,10 @@ fn distance_treatment(
 
 /// What is done with a relocation that writes an offset from the thread pointer, which is known in an executable alone.
 #[inline]
-fn pointer_treatment(layout: &Layout, section: &InputSection, row: RelocationKindInfo) -> Treatment
-    ensures { result ≡ pointer_treatment layout.now section.now row }
+fn pointer_treatment(layout: &Layout, section_flags: u64, row: RelocationKindInfo) -> Treatment
+    ensures { result ≡ pointer_treatment layout.now section_flags row }
 {
-    if is_allocated(section.flags) && layout.kind.is_shared_object() {
+    if is_allocated(section_flags) && layout.kind.is_shared_object() {
         Treatment::Recompile
     } else {
         Treatment::Value(row)
@@ -209,11 +209,11 @@ fn pointer_treatment(layout: &Layout, section: &InputSection, row: RelocationKin
 
 /// Whether the size of the symbol, which another module may define, is left to a dynamic entry.
 #[inline]
-fn is_sized(layout: &Layout, section: &InputSection, symbol: SymbolIndex) -> bool
-    ensures { result ≡ is_sized layout.now section.now symbol }
+fn is_sized(layout: &Layout, section_flags: u64, symbol: SymbolIndex) -> bool
+    ensures { result ≡ is_sized layout.now section_flags symbol }
 {
     let flags = flags_at(layout, symbol);
-    is_allocated(section.flags)
+    is_allocated(section_flags)
         && flags.is_interposable()
         && (flags.is_dynamic() || layout.kind.is_shared_object())
 }
@@ -222,13 +222,13 @@ fn is_sized(layout: &Layout, section: &InputSection, symbol: SymbolIndex) -> boo
 #[inline]
 fn size_treatment(
     layout: &Layout,
-    section: &InputSection,
+    section_flags: u64,
     row: RelocationKindInfo,
     symbol: SymbolIndex,
 ) -> Treatment
-    ensures { result ≡ size_treatment layout.now section.now row symbol }
+    ensures { result ≡ size_treatment layout.now section_flags row symbol }
 {
-    if is_sized(layout, section, symbol) {
+    if is_sized(layout, section_flags, symbol) {
         Treatment::Extent(row, symbol)
     } else {
         Treatment::Value(row)
@@ -257,13 +257,13 @@ fn where_there(
 #[inline]
 fn class_treatment(
     layout: &Layout,
-    section: &InputSection,
+    section_flags: u64,
     number: u32,
     symbol: Option<SymbolIndex>,
     row: RelocationKindInfo,
     class: Class,
 ) -> Treatment
-    ensures { result ≡ class_treatment layout.now section.now number symbol row class }
+    ensures { result ≡ class_treatment layout.now section_flags number symbol row class }
 {
     match (class, symbol) {
         (Class::Nothing, _) | (Class::Mark, Some(_)) => Treatment::Nothing,
@@ -273,17 +273,17 @@ fn class_treatment(
                 layout,
                 row,
                 symbol,
-                address_treatment(layout, section, number, row, symbol),
+                address_treatment(layout, section_flags, number, row, symbol),
             )
         }
-        (Class::Distance, symbol) => distance_treatment(layout, section, number, row, symbol),
-        (Class::Pointer, Some(_)) => pointer_treatment(layout, section, row),
+        (Class::Distance, symbol) => distance_treatment(layout, section_flags, number, row, symbol),
+        (Class::Pointer, Some(_)) => pointer_treatment(layout, section_flags, row),
         (Class::Extent, Some(symbol)) => {
             where_there(
                 layout,
                 row,
                 symbol,
-                size_treatment(layout, section, row, symbol),
+                size_treatment(layout, section_flags, row, symbol),
             )
         }
         _ => Treatment::Unsupported,
@@ -295,17 +295,17 @@ fn class_treatment(
 #[tactic(auto, unfolding(crate::specs::Treatment::row_treatment))]
 pub fn row_treatment(
     layout: &Layout,
-    section: &InputSection,
+    section_flags: u64,
     number: u32,
     symbol: Option<SymbolIndex>,
     row: Option<RelocationKindInfo>,
 ) -> Treatment
-    ensures { result ≡ row_treatment layout.now section.now number symbol row }
+    ensures { result ≡ row_treatment layout.now section_flags number symbol row }
 {
     match row {
         Some(row) => class_treatment(
             layout,
-            section,
+            section_flags,
             number,
             symbol,
             row,
@@ -315,15 +315,15 @@ pub fn row_treatment(
     }
 }
 
-/// What is done with a relocation of a section.
+/// What is done with a relocation of bytes that have these flags (`sh_flags`).
 #[tactic(auto, unfolding(crate::specs::Treatment::treatment))]
 pub fn treatment_of(
     layout: &Layout,
-    section: &InputSection,
+    section_flags: u64,
     relocation: &InputRelocation,
 ) -> Treatment
-    ensures { result ≡ treatment layout.now section.now relocation.now }
+    ensures { result ≡ treatment layout.now section_flags relocation.now }
 {
     let row = row_of(layout.machine, relocation.number);
-    row_treatment(layout, section, relocation.number, relocation.symbol, row)
+    row_treatment(layout, section_flags, relocation.number, relocation.symbol, row)
 }

@@ -6,6 +6,7 @@ pub mod FilePlaces
 pub mod FileRoles
 pub mod FileSymbols
 pub mod Flags
+pub mod Item
 pub mod Kinds
 pub mod Lists
 pub mod Lookups

@@ -8,7 +8,7 @@
 --   has_address l s        the input section has an address
 --   canonical l i          the symbol that defines symbol i
 --   file_of files i        the first file whose range of symbols has i
---   place_of s r         the address of the field of a relocation, modulo 2^64
+--   place_of address r   the address of the field of a relocation of bytes at an address, modulo 2^64
 --   packs l at           the address at a place is recorded by a packed word
 --   has_table l          the output has a table of all its symbols
 use Rattle.std.specs.Prelude.{ℕ, ◌+◌, ◌%◌, ◌^◌, ◌==◌, ◌&&◌, ◌||◌, Bool, true, false, not, if◌then◌else◌, List, [], length, Option, Some, None, nat_lt, nat_le, max, ◌∷◌, drop, option_and_then, unwrap_or, slice_get}
@@ -127,8 +127,8 @@ file_of [] i = None
 file_of (f ∷ fs) i = if nat_le f.first_symbol i && nat_lt i (f.first_symbol + f.symbol_count) then Some f else file_of fs i
 
 -- the address of the field
-abbrev pub place_of : InputSection → InputRelocation → ℕ
-place_of s r = (s.address + r.offset) % 2 ^ 64
+abbrev pub place_of : ℕ → InputRelocation → ℕ
+place_of address r = (address + r.offset) % 2 ^ 64
 
 -- words of packed relocations are asked for, and the place is one that they can name: an even one
 abbrev pub packs : Layout → ℕ → Bool

@@ -9,6 +9,7 @@ mod fault;
 mod file;
 mod index;
 mod input;
+mod item;
 mod kind;
 mod layout;
 mod lookups;
@@ -26,6 +27,7 @@ pub use fault::{At, Clause, Error, Fault, Missing};
 pub use file::{File, FileRole, Group, NeededVersion, VersionNeeds};
 pub use index::{SectionIndex, SymbolIndex};
 pub use input::{InputRelocation, InputSection, MergedString, Slot};
+pub use item::ItemRef;
 pub use kind::{Machine, OutputKind, RelocationModel};
 pub use layout::{
     DynamicSymbol, Entry, GnuHash, Identity, Layout, Merged, Property, PropertyValue,

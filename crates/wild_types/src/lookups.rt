@@ -237,12 +237,14 @@ impl InputSection {
     {
         !self.slot.is_discarded() && (self.address != 0 || !layout.is_allocated_part(self.part))
     }
+}
 
-    /// The address of the field of a relocation, modulo 2^64.
-    pub fn place_of(&self, relocation: &InputRelocation) -> u64
-        ensures { result ≡ place_of self.now relocation.now }
+impl InputRelocation {
+    /// The address of its field in bytes at that address, modulo 2^64.
+    pub fn place_from(&self, address: u64) -> u64
+        ensures { result ≡ place_of address self.now }
     {
-        self.address.wrapping_add(relocation.offset)
+        address.wrapping_add(self.offset)
     }
 }
 

@@ -26,7 +26,8 @@ use Rattle.wild_layout.specs.Geometry.{LayoutsAreLaidOut}
 use Rattle.wild_layout.specs.Numbers.{NumbersFit}
 use Rattle.wild_meaning.specs.World.{IsMovable, IsCopied}
 use Rattle.wild_meaning.specs.Value.{IsAbsolute, HasFlag}
-use Rattle.wild_meaning.specs.Item.{item_of, IsKept, OfSection}
+use Rattle.wild_types.specs.Item.{item_of}
+use Rattle.wild_meaning.specs.Item.{IsKept, OfSection}
 use Rattle.wild_meaning.specs.Reference.{IsExcepted}
 use Rattle.wild_laws.specs.Laws.{ImagesAreSound}
 use Rattle.wild_laws.proofs.Symbols.{not_both}

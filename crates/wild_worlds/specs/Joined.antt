@@ -12,7 +12,8 @@ use Rattle.wild_layout.specs.Faults.{errors}
 use Rattle.wild_layout.specs.Image.{bytes}
 use Rattle.wild_loader.specs.declared.world.World.{World}
 use Rattle.wild_meaning.specs.World.{IsLegal}
-use Rattle.wild_meaning.specs.Item.{Item, IsKept, IsReference}
+use Rattle.wild_types.specs.Item.{Item}
+use Rattle.wild_meaning.specs.Item.{IsKept, IsReference}
 use Rattle.wild_meaning.specs.Sequence.{Instruction, TargetInSlot}
 use Rattle.wild_meaning.specs.Template.{IsTemplate}
 use Rattle.wild_meaning.specs.Reference.{IsExcepted, IsLinkedAlone, ReferenceHolds}

@@ -23,7 +23,8 @@ use Rattle.wild_meaning.specs.World.{IsFixed, IsBehind}
 use Rattle.wild_meaning.specs.Value.{HasFlag, IsAbsolute, IsReplaceable}
 use Rattle.wild_meaning.specs.Field.{formula_of}
 use Rattle.wild_meaning.specs.Formula.{IsPlaceRelative, TakesAddress, TakesOffset}
-use Rattle.wild_meaning.specs.Item.{Item, IsInput, IsKept, IsReference, item_of}
+use Rattle.wild_types.specs.Item.{Item, item_of}
+use Rattle.wild_meaning.specs.Item.{IsInput, IsKept, IsReference}
 use Rattle.wild_meaning.specs.Reference.{HasPlace, GoesThroughSlot, IsAsked, IsLeftToLoader, IsStubbed, IsLinkedAlone}
 use Rattle.wild_meaning.specs.Linked.{IsBlank}
 use Rattle.wild_reloc.specs.Formula.{Formula}

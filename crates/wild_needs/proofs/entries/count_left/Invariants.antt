@@ -6,6 +6,6 @@ use Rattle.wild_needs.proofs.entries.count_left.Given as goal
 
 abbrev pub invariant-loop-relocation : goal.invariant-loop-relocation
 invariant-loop-relocation l = record {
-  rest : l.count + length (filter (λ r. is_left_to_entry (treatment l.layout l.section r)) (drop l.relocation-index l.relocations)) ≡ length (filter (λ r. is_left_to_entry (treatment l.layout l.section r)) l.relocations);
+  rest : l.count + length (filter (λ r. is_left_to_entry (treatment l.layout l.section.flags r)) (drop l.relocation-index l.relocations)) ≡ length (filter (λ r. is_left_to_entry (treatment l.layout l.section.flags r)) l.relocations);
   few : l.count ≤ l.relocation-index;
 }

@@ -1,28 +1,29 @@
 use Rattle.std.proofs.Common.{◌∙◌, sym}
 use Rattle.wild_layout.proofs.AskedLemmas.{nameless_choice, common_choice, asked_choice, alone_choice}
+use Rattle.wild_types.specs.Item.{item_now}
 use Rattle.wild_sections.proofs.DecisionLemmas.{read_at, no_symbol}
 use Rattle.wild_sections.proofs.choice.choice.Goals as goal
 
 pub returns-in_default : goal.returns-in_default
 returns-in_default g c =
-    let s = c.args.section.now in
-    let listed = read_at c.as_slice.result.now s.relocations c.args.index _ c.as_slice.ensures c.requires.index c.index-as_slice-index.is in
+    let s = item_now c.args.item.now in
+    let listed = read_at s.relocations c.args.index _ c.requires.index c.index-relocations-index.is in
     sym (nameless_choice c.args.resolved.now.layout.now s c.args.index _ listed (no_symbol _ c.in_default.not-Some))
 
 pub returns-then-relocation-eq-R_X86_64_PC32 : goal.returns-then-relocation-eq-R_X86_64_PC32
 returns-then-relocation-eq-R_X86_64_PC32 g c =
-    let s = c.args.section.now in
-    let listed = read_at c.as_slice.result.now s.relocations c.args.index _ c.as_slice.ensures c.requires.index c.index-as_slice-index.is in
+    let s = item_now c.args.item.now in
+    let listed = read_at s.relocations c.args.index _ c.requires.index c.index-relocations-index.is in
     sym (common_choice c.args.resolved.now.layout.now s c.args.index _ _ listed c.in-Some.is c.if-relocation-eq-R_X86_64_PC32.true)
 
 pub returns-then-may_take_next : goal.returns-then-may_take_next
 returns-then-may_take_next g c =
-    let s = c.args.section.now in
-    let listed = read_at c.as_slice.result.now s.relocations c.args.index _ c.as_slice.ensures c.requires.index c.index-as_slice-index.is in
+    let s = item_now c.args.item.now in
+    let listed = read_at s.relocations c.args.index _ c.requires.index c.index-relocations-index.is in
     c.choice_with_next.ensures ∙ sym (asked_choice c.args.resolved.now.layout.now s c.args.index _ _ listed c.in-Some.is c.if-relocation-eq-R_X86_64_PC32.false)
 
 pub returns-else-may_take_next : goal.returns-else-may_take_next
 returns-else-may_take_next g c =
-    let s = c.args.section.now in
-    let listed = read_at c.as_slice.result.now s.relocations c.args.index _ c.as_slice.ensures c.requires.index c.index-as_slice-index.is in
+    let s = item_now c.args.item.now in
+    let listed = read_at s.relocations c.args.index _ c.requires.index c.index-relocations-index.is in
     (rw c.nameless.ensures at c.asked.ensures) ∙ sym (alone_choice c.args.resolved.now.layout.now s c.args.index _ _ listed c.in-Some.is c.if-relocation-eq-R_X86_64_PC32.false (sym c.if-may_take_next.ensures))

@@ -2,9 +2,10 @@ use Rattle.std.proofs.Common.{◌≡◌, ◌∙◌, List, false, sym, subst}
 use Rattle.wild_types.specs.declared.input.InputRelocation.{InputRelocation}
 use Rattle.wild_layout.specs.Choice.{may_be_partner}
 use Rattle.wild_layout.proofs.AskedLemmas.{none_before}
+use Rattle.wild_types.specs.Item.{item_now}
 use Rattle.wild_sections.proofs.choice.is_partner.Goals as goal
 
 pub returns-else-may_be_partner : goal.returns-else-may_be_partner
 returns-else-may_be_partner g c =
-    let before = subst (λ (rs : List InputRelocation). may_be_partner rs c.args.index ≡ false) c.as_slice.ensures (sym c.if-may_be_partner.ensures) in
-    c.if-may_be_partner.false ∙ sym (none_before c.args.resolved.now.layout.now c.args.section.now c.args.index before)
+    let before = sym c.if-may_be_partner.ensures in
+    c.if-may_be_partner.false ∙ sym (none_before c.args.resolved.now.layout.now (item_now c.args.item.now) c.args.index before)

@@ -1,5 +1,6 @@
+use Rattle.wild_types.specs.Item.{item_now}
 use Rattle.wild_sections.proofs.AscendingLemmas.{HasAscended}
 use Rattle.wild_sections.proofs.section.write_ascending.Given as goal
 
 abbrev pub invariant-loop-index : goal.invariant-loop-index
-invariant-loop-index g l = HasAscended l.resolved.layout.now l.place.group l.place.file l.place.section l.section l.index l.reach l.room
+invariant-loop-index g l = HasAscended l.resolved.layout.now l.place.group l.place.file l.place.section (item_now l.item) l.index l.reach l.room

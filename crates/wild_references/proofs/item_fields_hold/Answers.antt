@@ -1,9 +1,9 @@
-use Rattle.wild_references.proofs.WholeSections.{sections_hold}
-use Rattle.wild_references.proofs.sections_hold.Goals as goal
+use Rattle.wild_references.proofs.WholeSections.{item_fields_hold}
+use Rattle.wild_references.proofs.item_fields_hold.Goals as goal
 
 pub returns : goal.returns
 returns c =
-    sections_hold
+    item_fields_hold
     (record { agree = c.fields_of_x86_64.ensures.agree; widths = c.widths_of_fields.ensures })
     (record {
       symbol = c.symbols_are_given.ensures.gives;
