@@ -210,10 +210,6 @@ shared_is l s ds h lies = ap least_extent (sym (extents_are s s.relocations ds (
 
 -- ---- deciding
 
--- the relocation that a loop has come to
-pub listed_at : (s : Item) (items : List InputRelocation) (i : ℕ) (x : InputRelocation) → items ≡ s.relocations → i < length items → x ≡ get_or items i x → slice_get s.relocations i ≡ Some x
-listed_at s items i x same h read = subst (λ (xs : List InputRelocation). slice_get xs i ≡ Some x) same (slice_get-get_or items i x h ∙ ap (λ (r : InputRelocation). Some r) (sym read))
-
 pub decision_site : (l : Layout) (s : Item) (i : ℕ) (r : InputRelocation) (d : Decision) → slice_get s.relocations i ≡ Some r → decide l s i ≡ Ok d → site l s i ≡ site_of s r (Ok d)
 unfolding site
 decision_site l s i r d e is = rw (e, is) refl
@@ -324,10 +320,10 @@ put_next s ps rest r d lies apart = by_decision s ps rest r d lies apart
     by_decision s ps rest r Partner lies apart = by s ps rest r None apart
 
 -- one step of a loop over all
-pub step_lies : (s : Item) (items : List InputRelocation) (ds : List Decision) (i m n : ℕ) (r : InputRelocation) (d : Decision) → items ≡ s.relocations → length ds ≡ length s.relocations → i < length ds → r ≡ get_or items i r → m ≡ n → DecisionsLie n s.relocations ds → DecisionLies m r (get_or ds i d)
-step_lies s items ds i m n r d same count h read long lie =
-    let k = ap length same in
-    let here = lie i r (get_or ds i d) (listed_at s items i r same (omega (arith, k, count, h)) read) (slice_get-get_or ds i d h) in
+pub step_lies : (s : Item) (ds : List Decision) (i m n : ℕ) (r : InputRelocation) (d : Decision) → length ds ≡ length s.relocations → i < length ds → r ≡ get_or s.relocations i r → m ≡ n → DecisionsLie n s.relocations ds → DecisionLies m r (get_or ds i d)
+step_lies s ds i m n r d count h read long lie =
+    let listed : slice_get s.relocations i ≡ Some r = slice_get-get_or s.relocations i r (omega (arith, count, h)) ∙ ap (λ (q : InputRelocation). Some q) (sym read) in
+    let here = lie i r (get_or ds i d) listed (slice_get-get_or ds i d h) in
     subst (λ (j : ℕ). DecisionLies j r (get_or ds i d)) (sym long) here
 
 own_step : (s : Item) (ds : List Decision) (i : ℕ) (r : InputRelocation) (d : Decision) (room next : List ℕ) → length ds ≡ length s.relocations → i < length ds → DecisionsLie (length s.bytes) s.relocations ds → AreApart (length s.bytes) (decided_sites s s.relocations ds)
@@ -339,14 +335,14 @@ own_step s ds i r d room next count h lie apart before is =
     ∙ put_next s (decided_sites s (take i s.relocations) (take i ds)) (decided_sites s (drop (suc i) s.relocations) (drop (suc i) ds)) (get_or s.relocations i r) (get_or ds i d) lies split
     ∙ ap (λ (ps : List Piece). overlay ps s.bytes) (sym (sites-more s s.relocations ds i r d count h))
 
-pub step_put : (s : Item) (items : List InputRelocation) (ds : List Decision) (i : ℕ) (r : InputRelocation) (d : Decision) (first room next : List ℕ) → items ≡ s.relocations → length ds ≡ length s.relocations → i < length ds → r ≡ get_or items i r → first ≡ s.bytes → DecisionsLie (length first) s.relocations ds → AreApart (length first) (decided_sites s s.relocations ds)
-    → room ≡ overlay (decided_sites s (take i items) (take i ds)) first → next ≡ put_decision room r (get_or ds i d) → next ≡ overlay (decided_sites s (take (i + 1) items) (take (i + 1) ds)) first
-step_put s items ds i r d first room next same count h read whole lie apart before is =
+pub step_put : (s : Item) (ds : List Decision) (i : ℕ) (r : InputRelocation) (d : Decision) (first room next : List ℕ) → length ds ≡ length s.relocations → i < length ds → r ≡ get_or s.relocations i r → first ≡ s.bytes → DecisionsLie (length first) s.relocations ds → AreApart (length first) (decided_sites s s.relocations ds)
+    → room ≡ overlay (decided_sites s (take i s.relocations) (take i ds)) first → next ≡ put_decision room r (get_or ds i d) → next ≡ overlay (decided_sites s (take (i + 1) s.relocations) (take (i + 1) ds)) first
+step_put s ds i r d first room next count h read whole lie apart before is =
     let apart' = subst (λ (xs : List ℕ). AreApart (length xs) (decided_sites s s.relocations ds)) whole apart in
     let lie' = subst (λ (xs : List ℕ). DecisionsLie (length xs) s.relocations ds) whole lie in
-    let before' : room ≡ overlay (decided_sites s (take i s.relocations) (take i ds)) s.bytes = before ∙ ap (λ (rs : List InputRelocation). overlay (decided_sites s (take i rs) (take i ds)) first) same ∙ ap (overlay (decided_sites s (take i s.relocations) (take i ds))) whole in
-    let is' : next ≡ put_decision room (get_or s.relocations i r) (get_or ds i d) = is ∙ ap (λ (q : InputRelocation). put_decision room q (get_or ds i d)) read ∙ ap (λ (rs : List InputRelocation). put_decision room (get_or rs i r) (get_or ds i d)) same in
-    own_step s ds i r d room next count h lie' apart' before' is' ∙ ap (λ (rs : List InputRelocation). overlay (decided_sites s (take (i + 1) rs) (take (i + 1) ds)) s.bytes) (sym same) ∙ ap (overlay (decided_sites s (take (i + 1) items) (take (i + 1) ds))) (sym whole)
+    let before' = before ∙ ap (overlay (decided_sites s (take i s.relocations) (take i ds))) whole in
+    let is' = is ∙ ap (λ (q : InputRelocation). put_decision room q (get_or ds i d)) read in
+    own_step s ds i r d room next count h lie' apart' before' is' ∙ ap (overlay (decided_sites s (take (i + 1) s.relocations) (take (i + 1) ds))) (sym whole)
 
 -- the decided sites are apart, where no byte is of two of them
 pub decided_apart : (l : Layout) (s : Item) (ds : List Decision) (g f k n : ℕ) → AreDecided l s ds → n ≡ length s.bytes → All (FieldLies l.machine n) s.relocations → overlap_errors (at_section g f k) (least_extent (decided_extents s.relocations ds)) ≡ [] → AreApart n (decided_sites s s.relocations ds)

@@ -9,9 +9,8 @@ pub returns-in_err-end-clause-faults : goal.returns-in_err-end-clause-faults
 returns-in_err-end-clause-faults g c =
     let r = c.from_residual in
     let p = err_from_is_err_and r.result r.ensures.1 in
-    let count = c.len-index-end.ensures in
     let test = c.loop-index-test.true in
-    let below : c.loop-index.index < length c.args.item.now.relocations.now = omega (arith, count, test) in
+    let below : c.loop-index.index < length c.args.item.now.relocations.now = omega (arith, test) in
     rw (p.1, p.2) (ascending_refused c.args.resolved.now.layout.now c.args.place.group c.args.place.file c.args.place.section (item_now c.args.item.now) c.loop-index.index c.loop-index.reach c.loop-index.room _ below c.loop-index.invariant c.in_err-end.ensures.faults)
 
 pub loop-index-preserved : goal.loop-index-preserved
@@ -25,5 +24,4 @@ pub returns-clause-none : goal.returns-clause-none
 returns-clause-none g c = λ e.
     let end = c.loop-index.auto.index-end in
     let out = c.loop-index-test.false in
-    let count = c.len-index-end.ensures in
-    ascending_passes c.args.resolved.now.layout.now c.args.place.group c.args.place.file c.args.place.section (item_now c.args.item.now) c.loop-index.index c.loop-index.reach c.loop-index.room (omega (arith, end, out, count)) c.loop-index.invariant
+    ascending_passes c.args.resolved.now.layout.now c.args.place.group c.args.place.file c.args.place.section (item_now c.args.item.now) c.loop-index.index c.loop-index.reach c.loop-index.room (omega (arith, end, out)) c.loop-index.invariant
