@@ -137,7 +137,8 @@ pub(crate) fn choice<A: Arch>(
     requires index { index < length item.now.relocations.now }
     ensures { result ≡ choice resolved.now.layout.now (item_now item.now) index }
 {
-    let relocation = &item.relocations[index];
+    let relocations = item.relocations;
+    let relocation = &relocations[index];
     let Some(symbol) = relocation.symbol else {
         return Ok(None);
     };

@@ -114,7 +114,8 @@ pub(crate) fn decide<A: Arch>(
     if is_partner(resolved, item, index) {
         return Ok(Decision::Partner);
     }
-    let relocation = &item.relocations[index];
+    let relocations = item.relocations;
+    let relocation = &relocations[index];
     match choice(resolved, item, index) {
         Ok(None) => decided(resolved, item, relocation),
         Ok(Some(row)) => rewritten_to(resolved, item, relocation, row),

@@ -35,7 +35,8 @@ fn decide_at<A: Arch>(
     ensures faults { Answers result (relocation_errors resolved.now.layout.now place.group place.file place.section (item_now item.now) index) }
     ensures decision { IfOk result (λ d. decide resolved.now.layout.now (item_now item.now) index ≡ Ok d) }
 {
-    let relocation = &item.relocations[index];
+    let relocations = item.relocations;
+    let relocation = &relocations[index];
     match decide(resolved, item, index) {
         Ok(decision) => Ok(decision),
         Err(fault) => Err(Error {
@@ -114,7 +115,8 @@ fn write_decided<A: Arch>(
     ensures next { IfOk result (λ next. IsNext resolved.now.layout.now (item_now item.now) index reach next room.old room.new) }
 {
     let decision = decide_at(resolved, place, item, index)?;
-    let relocation = &item.relocations[index];
+    let relocations = item.relocations;
+    let relocation = &relocations[index];
     Ok(write_behind(reach, relocation, decision, room))
 }
 
@@ -134,7 +136,8 @@ fn write_next<A: Arch>(
     ensures faults { Answers result (relocation_errors resolved.now.layout.now place.group place.file place.section (item_now item.now) index) }
     ensures next { IfOk result (λ next. IsNext resolved.now.layout.now (item_now item.now) index reach next room.old room.new) }
 {
-    let relocation = &item.relocations[index];
+    let relocations = item.relocations;
+    let relocation = &relocations[index];
     match common_value(resolved, item, index) {
         Some(value) => Ok(four_behind(reach, relocation.offset, value, room)),
         None => write_decided(resolved, place, item, index, reach, room),

@@ -7,23 +7,23 @@ use Rattle.wild_sections.proofs.choice.choice.Goals as goal
 pub returns-in_default : goal.returns-in_default
 returns-in_default g c =
     let s = item_now c.args.item.now in
-    let listed = read_at s.relocations c.args.index _ c.requires.index c.index-item-index.is in
+    let listed = read_at s.relocations c.args.index _ c.requires.index c.index-relocations-index.is in
     sym (nameless_choice c.args.resolved.now.layout.now s c.args.index _ listed (no_symbol _ c.in_default.not-Some))
 
 pub returns-then-relocation-eq-R_X86_64_PC32 : goal.returns-then-relocation-eq-R_X86_64_PC32
 returns-then-relocation-eq-R_X86_64_PC32 g c =
     let s = item_now c.args.item.now in
-    let listed = read_at s.relocations c.args.index _ c.requires.index c.index-item-index.is in
+    let listed = read_at s.relocations c.args.index _ c.requires.index c.index-relocations-index.is in
     sym (common_choice c.args.resolved.now.layout.now s c.args.index _ _ listed c.in-Some.is c.if-relocation-eq-R_X86_64_PC32.true)
 
 pub returns-then-may_take_next : goal.returns-then-may_take_next
 returns-then-may_take_next g c =
     let s = item_now c.args.item.now in
-    let listed = read_at s.relocations c.args.index _ c.requires.index c.index-item-index.is in
+    let listed = read_at s.relocations c.args.index _ c.requires.index c.index-relocations-index.is in
     c.choice_with_next.ensures ∙ sym (asked_choice c.args.resolved.now.layout.now s c.args.index _ _ listed c.in-Some.is c.if-relocation-eq-R_X86_64_PC32.false)
 
 pub returns-else-may_take_next : goal.returns-else-may_take_next
 returns-else-may_take_next g c =
     let s = item_now c.args.item.now in
-    let listed = read_at s.relocations c.args.index _ c.requires.index c.index-item-index.is in
+    let listed = read_at s.relocations c.args.index _ c.requires.index c.index-relocations-index.is in
     (rw c.nameless.ensures at c.asked.ensures) ∙ sym (alone_choice c.args.resolved.now.layout.now s c.args.index _ _ listed c.in-Some.is c.if-relocation-eq-R_X86_64_PC32.false (sym c.if-may_take_next.ensures))

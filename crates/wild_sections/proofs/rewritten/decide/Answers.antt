@@ -8,17 +8,17 @@ use Rattle.wild_sections.proofs.rewritten.decide.Goals as goal
 pub returns-in-Ok-None : goal.returns-in-Ok-None
 returns-in-Ok-None g c =
     let s = item_now c.args.item.now in
-    let listed = read_at s.relocations c.args.index _ c.requires.index c.index-item-index.is in
+    let listed = read_at s.relocations c.args.index _ c.requires.index c.index-relocations-index.is in
     c.decided.ensures ∙ sym (decided_with c.args.resolved.now.layout.now s c.args.index _ _ (sym c.if-is_partner.ensures) listed (sym c.in-Ok-None.ensures ∙ ap (λ (o : Option Row). Ok o) c.in-Ok-None.field-0-is))
 
 pub returns-in-Ok-Some : goal.returns-in-Ok-Some
 returns-in-Ok-Some g c =
     let s = item_now c.args.item.now in
-    let listed = read_at s.relocations c.args.index _ c.requires.index c.index-item-index.is in
+    let listed = read_at s.relocations c.args.index _ c.requires.index c.index-relocations-index.is in
     c.rewritten_to.ensures ∙ sym (decided_with c.args.resolved.now.layout.now s c.args.index _ _ (sym c.if-is_partner.ensures) listed (sym c.in-Ok-Some.ensures ∙ ap (λ (o : Option Row). Ok o) c.in-Ok-Some.field-0-is))
 
 pub returns-in-Err : goal.returns-in-Err
 returns-in-Err g c =
     let s = item_now c.args.item.now in
-    let listed = read_at s.relocations c.args.index _ c.requires.index c.index-item-index.is in
+    let listed = read_at s.relocations c.args.index _ c.requires.index c.index-relocations-index.is in
     c.refused_with.ensures ∙ sym (decided_with c.args.resolved.now.layout.now s c.args.index _ _ (sym c.if-is_partner.ensures) listed (sym c.in-Err.ensures))

@@ -9,5 +9,5 @@ returns-in-Ok-clause-faults g c = ok_has_none c.args.resolved.now.layout.now c.a
 pub returns-in-Err-clause-faults : goal.returns-in-Err-clause-faults
 returns-in-Err-clause-faults g c =
     let s = item_now c.args.item.now in
-    let listed = read_at s.relocations c.args.index _ c.requires.index c.index-item-index.is in
+    let listed = read_at s.relocations c.args.index _ c.requires.index c.index-relocations-index.is in
     rw c.offset.ensures (err_is_first c.args.resolved.now.layout.now c.args.place.group c.args.place.file c.args.place.section s c.args.index _ c.in-Err.fault listed (sym c.in-Err.ensures))

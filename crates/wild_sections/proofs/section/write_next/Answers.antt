@@ -10,7 +10,7 @@ use Rattle.wild_sections.proofs.section.write_next.Goals as goal
 pub four_behind-requires : goal.four_behind-requires
 four_behind-requires g c =
     let s = item_now c.args.item.now in
-    let listed = read_at s.relocations c.args.index _ c.requires.index c.index-item-index.is in
+    let listed = read_at s.relocations c.args.index _ c.requires.index c.index-relocations-index.is in
     record { lies = decision_lies c.args.resolved.now.layout.now s c.args.index _ _ (Field (ByteSize Four) c.in-Some.value) listed c.requires.whole c.requires.lies (c.in-Some.ensures c.in-Some.value refl) }
 
 pub returns-in-Some : goal.returns-in-Some
@@ -19,8 +19,8 @@ returns-in-Some g c =
     record {
       faults = ok_has_none c.args.resolved.now.layout.now c.args.place.group c.args.place.file c.args.place.section s c.args.index _ (c.in-Some.ensures c.in-Some.value refl);
       next = record {
-        relocation = c.index-item-index.result;
-        listed = read_at s.relocations c.args.index _ c.requires.index c.index-item-index.is;
+        relocation = c.index-relocations-index.result;
+        listed = read_at s.relocations c.args.index _ c.requires.index c.index-relocations-index.is;
         decision = Field (ByteSize Four) c.in-Some.value;
         is = c.in-Some.ensures c.in-Some.value refl;
         reached = c.four_behind.ensures.reach;
