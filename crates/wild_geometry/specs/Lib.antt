@@ -1,2 +1,4 @@
+pub mod EntryKinds
+pub mod MachineFacts
 pub mod Loaded
 pub mod Slots

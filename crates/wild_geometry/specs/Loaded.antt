@@ -4,8 +4,8 @@
 --   Stage                 before the entries of the image are applied, or behind that
 --   number_at stage w     the number at the place of an address that moves
 --   HasDecision ..        relocation i has that decision
---   MakesChange w ..      what an entry makes a loader do
---   ReadsLeft stage w ..  the bytes of a field that is left to an entry
+--   MakesChange p w ..    what an entry makes a loader do
+--   ReadsLeft p stage ..  the bytes of a field that is left to an entry
 --   HasItem ..         memory has the item's values, its addresses, what is left to entries, and its other bytes
 use Rattle.std.specs.Prelude.{◌≡◌, ℕ, ◌+◌, ◌%◌, ◌^◌, ◌<◌, ◌≤◌, ◌⊎◌, Bool, if◌then◌else◌, List, [], length, replicate, Some, Ok, All, slice_index, slice_get}
 use Rattle.std.specs.Int.{w64, cast_signed}
@@ -24,12 +24,13 @@ use Rattle.wild_layout.specs.Decide.{decide}
 use Rattle.wild_layout.specs.Sites.{field_site, template_site, sites}
 use Rattle.wild_loader.specs.declared.memory.Memory.{Memory}
 use Rattle.wild_loader.specs.declared.world.World.{World}
-use Rattle.wild_loader.specs.declared.memory.Machine.TheVariants as processors
+use Rattle.wild_loader.specs.declared.memory.Machine.{Machine as Processor}
 use Rattle.wild_loader.specs.declared.change.Change.{Change}
 use Rattle.wild_loader.specs.declared.change.Change.TheVariants as changes
 use Rattle.wild_loader.specs.declared.kind.DynamicKind.{DynamicKind}
 use Rattle.wild_loader.specs.Changes.{kind_of, change_of}
 use Rattle.wild_loader.specs.Memory.{Holds, byte_in}
+use Rattle.wild_meaning.specs.Linked.{processor_of}
 
 -- each relocation of the item has a decision, no fault, and no byte is written by two
 pub record IsDecided (l : Layout) (s : Item) : Type 0 where
@@ -56,10 +57,10 @@ number_at InMemory w v packed = (v + w.base) % 2 ^ 64
 abbrev pub entry_with : ℕ → ℕ → ℕ → Rela
 entry_with number symbol addend = record { offset = 0; number = number; symbol = symbol; addend = cast_signed w64 addend }
 
--- such an entry makes a loader do that
-pub record MakesChange (w : World) (number symbol addend : ℕ) (c : Change) : Type 0 where
+-- such an entry makes a loader of the processor do that
+pub record MakesChange (p : Processor) (w : World) (number symbol addend : ℕ) (c : Change) : Type 0 where
   pub kind : DynamicKind
-  pub known : kind_of processors.X86_64 number ≡ Some kind
+  pub known : kind_of p number ≡ Some kind
   pub makes : change_of w kind (entry_with number symbol addend) ≡ Ok c
 
 -- the bytes of a change that stores a number
@@ -69,9 +70,9 @@ stored_bytes (changes.Half v) = word 4 v
 stored_bytes other = []
 
 -- the bytes of a field of that size that is left to such an entry: 0 in the file, and in memory what the entry stores
-abbrev pub ReadsLeft : Stage → World → RelocationSize → (number symbol addend : ℕ) → List ℕ → Type 0
-ReadsLeft InFile w z number symbol addend bs = bs ≡ replicate (size_width z) 0
-ReadsLeft InMemory w z number symbol addend bs = (c : Change) × MakesChange w number symbol addend c × (bs ≡ stored_bytes c) × (length bs ≡ size_width z)
+abbrev pub ReadsLeft : Processor → Stage → World → RelocationSize → (number symbol addend : ℕ) → List ℕ → Type 0
+ReadsLeft p InFile w z number symbol addend bs = bs ≡ replicate (size_width z) 0
+ReadsLeft p InMemory w z number symbol addend bs = (c : Change) × MakesChange p w number symbol addend c × (bs ≡ stored_bytes c) × (length bs ≡ size_width z)
 
 -- relocation i of the item has that decision
 pub record HasDecision (l : Layout) (s : Item) (i : ℕ) (r : InputRelocation) (d : Decision) : Type 0 where
@@ -86,6 +87,6 @@ pub record HasItem (l : Layout) (w : World) (m : Memory) (s : Item) (stage : Sta
   pub values : (i : ℕ) (r : InputRelocation) (z : RelocationSize) (v : ℕ) → HasDecision l s i r (Field z v) → Holds m (w.base + s.address + r.offset) (field_site s r.offset z v).bytes
   pub addresses : (i : ℕ) (r : InputRelocation) (v : ℕ) (packed : Bool) → HasDecision l s i r (Moved v packed) → Holds m (w.base + s.address + r.offset) (word 8 (number_at stage w v packed))
   pub left : (i : ℕ) (r : InputRelocation) (z : RelocationSize) (number symbol addend : ℕ) → HasDecision l s i r (Left z number symbol addend)
-      → (bs : List ℕ) × Holds m (w.base + s.address + r.offset) bs × ReadsLeft stage w z number symbol addend bs
+      → (bs : List ℕ) × Holds m (w.base + s.address + r.offset) bs × ReadsLeft (processor_of l.machine) stage w z number symbol addend bs
   pub rewritten : (i : ℕ) (r : InputRelocation) (row : Row) (v : ℕ) → HasDecision l s i r (Rewritten row v) → Holds m (w.base + s.address + (template_site s r row v).at) (template_site s r row v).bytes
   pub others : (k : ℕ) → k < length s.bytes → InNoSite l s k → byte_in m (w.base + s.address + k) ≡ Some (slice_index s.bytes k)

@@ -3,8 +3,7 @@
 --   HasWords ..             memory has these words from an address on
 --   HasSymbolSlots ..       memory has the slots of a symbol, and its stub
 --   HasSlots l w m          it has those of each symbol, and the pair of the output's own thread-local data
-use Rattle.std.specs.Prelude.{◌≡◌, ℕ, ◌+◌, ◌*◌, ◌%◌, ◌^◌, ◌<◌, List, length, Some, None, slice_get, slice_index_or}
-use Rattle.wild_reloc.specs.Dynamic.{x86_64_type}
+use Rattle.std.specs.Prelude.{◌≡◌, ℕ, ◌+◌, ◌*◌, ◌%◌, ◌^◌, ◌<◌, List, length, Some, None, Ok, slice_get, slice_index_or}
 use Rattle.wild_types.specs.declared.symbol.Symbol.{Symbol}
 use Rattle.wild_types.specs.declared.layout.Layout.{Layout}
 use Rattle.wild_slot.specs.declared.slot.SlotEntry.{SlotEntry}
@@ -18,9 +17,10 @@ use Rattle.wild_loader.specs.declared.memory.Memory.{Memory}
 use Rattle.wild_loader.specs.declared.world.World.{World}
 use Rattle.wild_loader.specs.declared.change.Change.{Change}
 use Rattle.wild_loader.specs.declared.change.Change.TheVariants as changes
-use Rattle.wild_loader.specs.Changes.{first_value}
+use Rattle.wild_loader.specs.Changes.{first_value, change_of}
 use Rattle.wild_loader.specs.Memory.{Holds, number_in}
-use Rattle.wild_geometry.specs.Loaded.{MakesChange}
+use Rattle.wild_geometry.specs.EntryKinds.{loaded_kind}
+use Rattle.wild_geometry.specs.Loaded.{entry_with}
 
 -- what a change leaves of a word at a place: the number that it stores; of a descriptor, which is two words, the offset is noted
 abbrev pub IsLeft : Memory → ℕ → Change → ℕ → Type 0
@@ -28,10 +28,10 @@ IsLeft m place (changes.Word v) x = x ≡ v
 IsLeft m place (changes.Descriptor o) x = first_value m.descriptors place ≡ Some o
 IsLeft m place other x = ⊥
 
--- an entry of x86-64 fills the word
+-- an entry fills the word, by what a loader of the memory's machine does with those of its kind, whatever their type
 pub record IsFilledBy (w : World) (m : Memory) (place : ℕ) (e : SlotEntry) (x : ℕ) : Type 0 where
   pub change : Change
-  pub makes : MakesChange w (x86_64_type e.kind) e.symbol e.addend change
+  pub makes : change_of w (loaded_kind m.machine e.kind) (entry_with 0 e.symbol e.addend) ≡ Ok change
   pub leaves : IsLeft m place change x
 
 -- what a loader makes of a word: a number stays, an address is more by the base, an entry fills it

@@ -14,7 +14,7 @@ pub images_stubs : LayoutsAreLaidOut → SlotsAreThere → ImagesAreLoaded → S
 images_stubs layouts there loaded go = λ l w m x numbers flags none loads legal accepted.
     let laid = laid_out layouts l none in
     let groups = no_group_errors l none in
-    let h = loaded l w x loads numbers legal laid (sections_decided l laid groups) (there l flags laid groups) groups in
+    let h = loaded l w loads numbers legal laid (sections_decided l laid groups) (there l flags laid groups) groups in
     let both : Ok h.memory ≡ Ok m = sym h.accepted ∙ accepted in
     let same : h.memory ≡ m = cc in
     subst (λ (n : Memory). EachStubGoesOn l w n) same (go l w h.memory x h.machine flags laid.slot_flags h.slots)

@@ -7,7 +7,6 @@ use Rattle.std.proofs.lemmas.List.{get_or_default}
 use Rattle.wild_words.proofs.Basics.{not_empty}
 use Rattle.wild_words.proofs.ListLemmas.{AllPairs-nil, All-append-right, AllPairs-append, All-flat_map, AllPairs-flat_map}
 use Rattle.wild_records.specs.declared.relocations.Rela.{Rela}
-use Rattle.wild_types.specs.declared.kind.Machine.TheVariants as machine
 use Rattle.wild_types.specs.declared.part.Role.{Role}
 use Rattle.wild_types.specs.declared.part.Role.TheVariants as role
 use Rattle.wild_slot.specs.declared.slot_parts.WordPart.TheVariants as words
@@ -69,7 +68,6 @@ pub record FilledLaws : Type 0 where
 
 -- what is known of a layout
 pub record IsFilledWell (l : Layout) (w : World) : Type 0 where
-  pub x86 : l.machine ≡ machine.X86_64
   pub kind : IsLoadable l.kind
   pub numbers : NumbersFit l
   pub legal : IsLegal l w
@@ -79,10 +77,10 @@ pub record IsFilledWell (l : Layout) (w : World) : Type 0 where
   pub none : flat_map_from (group_errors l) 0 l.groups ≡ []
 
 abbrev pub slots_of_well : (l : Layout) (w : World) → IsFilledWell l w → IsFilledSlots l w
-slots_of_well l w h = record { x86 = h.x86; kind = h.kind; numbers = h.numbers; legal = h.legal; laid = h.laid; whole = h.whole }
+slots_of_well l w h = record { kind = h.kind; numbers = h.numbers; legal = h.legal; laid = h.laid; whole = h.whole }
 
 abbrev pub copies_of_well : (l : Layout) (w : World) → IsFilledWell l w → HasCopies l w
-copies_of_well l w h = record { x86 = h.x86; numbers = h.numbers; legal = h.legal; laid = h.laid; none = h.none }
+copies_of_well l w h = record { numbers = h.numbers; legal = h.legal; laid = h.laid; none = h.none }
 
 -- ---- slots
 
@@ -94,7 +92,7 @@ pub record SlotTables (l : Layout) : Type 0 where
 pub got_filled : (l : Layout) (w : World) → FilledLaws → IsFilledWell l w → AreFilled w (image_memory l w) (start_of l role.Got) (end_of l role.Got) (slots_filled l)
 got_filled l w laws h =
     let s = slots_of_well l w h in
-    sites_filled l w (start_of l role.Got) (end_of l role.Got) (got_sites l) laws.slots.relative h.x86 (all_spaced l) (sites_known l w laws.slots s) (got_ascends l w laws.ascend laws.slots.stored s)
+    sites_filled l w (start_of l role.Got) (end_of l role.Got) (got_sites l) laws.slots.relative (all_spaced l) (sites_known l w laws.slots s) (got_ascends l w laws.ascend laws.slots.stored s)
 
 pub slot_tables : (l : Layout) (w : World) → FilledLaws → IsFilledWell l w → SlotTables l
 slot_tables l w laws h =
@@ -180,7 +178,7 @@ all_known l w laws h =
     let sites = sites_known l w laws.slots s in
     All-append P (stored_fillings l) (copies_filled l w)
     (All-append P (sections_filled l) (slots_filled l ++ blocks_filled l)
-    (sections_known l w laws.sections h.x86 h.numbers h.legal h.laid h.decided)
+    (sections_known l w laws.sections h.numbers h.legal h.laid h.decided)
     (All-append P (slots_filled l) (blocks_filled l) (got_filled l w laws h).known (blocks_known l w (all_sites l) (All-append-right (SiteIsKnown l w) (pair_sites l) (all_sites l) sites))))
     (copies_known l w laws.copies (copies_of_well l w h))
 
@@ -249,7 +247,6 @@ tables_sorted l w laws h =
     let beside = all_beside l w laws h in
     let known = all_known l w laws h in
     record {
-      machine = laws.segments.machine l w h.x86;
       packed = packed_there l w laws h beside known;
       entries = entries_sorted l w h.laid;
       jumps = jumps_sorted l w;
@@ -258,8 +255,8 @@ tables_sorted l w laws h =
     }
 
 pub all_made : FilledLaws → TablesAreMade
-all_made laws = λ l w x kind numbers legal laid decided whole none.
-    let h : IsFilledWell l w = record { x86 = x; kind = kind; numbers = numbers; legal = legal; laid = laid; decided = decided; whole = whole; none = none } in
+all_made laws = λ l w kind numbers legal laid decided whole none.
+    let h : IsFilledWell l w = record { kind = kind; numbers = numbers; legal = legal; laid = laid; decided = decided; whole = whole; none = none } in
     let sorted = tables_sorted l w laws h in
     record {
       made = tables_made w (image_memory l w) (tables_of l) (all_fillings l w) laws.changes sorted;

@@ -3,7 +3,6 @@ use Rattle.std.proofs.Common.{◌≡◌, ℕ, ◌%◌, ◌^◌, ◌<◌, ◌⊎�
 use Rattle.std.specs.Prelude.{Option, Some, None, Result, Ok, Err, All, [], unwrap_or, slice_get}
 use Rattle.std.proofs.lemmas.List.Elements.{All-contains}
 use Rattle.wild_types.specs.declared.fault.Fault.{Fault}
-use Rattle.wild_types.specs.declared.kind.Machine.TheVariants as machine
 use Rattle.wild_types.specs.declared.kind.Machine.{Machine}
 use Rattle.wild_reloc.specs.declared.dynamic.DynamicRelocationKind.TheVariants.{Copy}
 use Rattle.wild_types.specs.declared.file.File.{File}
@@ -33,6 +32,9 @@ use Rattle.wild_loaded.specs.Stored.{Copies}
 use Rattle.wild_loaded.specs.Laws.{CopiesAreThere}
 use Rattle.wild_loaded.proofs.Answers.{symbol_answer, index_small}
 use Rattle.wild_loaded.proofs.LeftFields.{IsIndexed, indexed}
+use Rattle.wild_meaning.specs.Linked.{processor_of}
+use Rattle.wild_geometry.proofs.MachineLemmas.{facts_of}
+use Rattle.wild_loader.specs.declared.kind.DynamicKind.TheVariants as kinds
 
 -- ---- definitions
 
@@ -105,22 +107,24 @@ raw_is l w i raw x h a = by_case h.given
         ap (λ (q : Resolution). q.raw_value) (sym resolutions) ∙ sym r.value
     by_case (inr u) = (let both : Some a.resolution ≡ None = sym a.decided ∙ u.0 a.symbol here in cc)
 
-copied : (w : World) (m : Machine) (index raw : ℕ) (x : Answer) → m ≡ machine.X86_64 → index < 2 ^ 32 → slice_get w.symbols index ≡ Some x → Copies w (entry_for raw (type_of m Copy) index 0) raw x.bytes
-unfolding kind_of change_of
-copied w m index raw x e small given =
+copied : (w : World) (m : Machine) (index raw : ℕ) (x : Answer) → index < 2 ^ 32 → slice_get w.symbols index ≡ Some x → Copies (processor_of m) w (entry_for raw (type_of m Copy) index 0) raw x.bytes
+unfolding change_of
+copied w m index raw x small given =
     let low : index % 2 ^ 32 ≡ index = omega (arith, small) in
-    subst (λ (n : Machine). Copies w (entry_for raw (type_of n Copy) index 0) raw x.bytes) (sym e) (record { place = refl; known = refl; makes = rw (low, given) refl })
+    let t = (facts_of m).types Copy in
+    let same : type_of m Copy % 2 ^ 32 ≡ type_of m Copy = omega (arith, t) in
+    record { place = refl; known = subst (λ (n : ℕ). kind_of (processor_of m) n ≡ Some kinds.Copy) (sym same) ((facts_of m).entries Copy); makes = rw (low, given) refl }
 
-pub copy_fills : (l : Layout) (w : World) (i raw : ℕ) (x : Answer) → l.machine ≡ machine.X86_64 → IsLegal l w → IsLaidOut l → HasCopy l w i raw x → Copies w (copy_entry l i) raw x.bytes
-copy_fills l w i raw x e legal laid h =
+pub copy_fills : (l : Layout) (w : World) (i raw : ℕ) (x : Answer) → IsLegal l w → IsLaidOut l → HasCopy l w i raw x → Copies (processor_of l.machine) w (copy_entry l i) raw x.bytes
+copy_fills l w i raw x legal laid h =
     let a = h.answer in
     let at : canonical l i ≡ a.definition = canonical_is l i a.definition a.defined in
     let there : slice_get l.symbols (canonical l i) ≡ Some a.symbol = ap (λ (k : ℕ). slice_get l.symbols k) at ∙ a.listed in
     let address : or_zero (raw_address l (Some i)) ≡ raw = ap or_zero (resolved_raw l i a.symbol a.resolution there a.decided) ∙ raw_is l w i raw x h.given a in
     let index : index_of l i ≡ Some a.index = told there a.decided a.told in
-    let P : ℕ → Type 0 = λ p. Copies w (entry_for p (type_of l.machine Copy) (unwrap_or (index_of l i) 0) 0) raw x.bytes in
-    let Q : Option ℕ → Type 0 = λ o. Copies w (entry_for raw (type_of l.machine Copy) (unwrap_or o 0) 0) raw x.bytes in
-    subst P (sym address) (subst Q (sym index) (copied w l.machine a.index raw x e (index_small l (canonical l i) a.index a.symbol a.resolution laid there a.decided a.told) a.given))
+    let P : ℕ → Type 0 = λ p. Copies (processor_of l.machine) w (entry_for p (type_of l.machine Copy) (unwrap_or (index_of l i) 0) 0) raw x.bytes in
+    let Q : Option ℕ → Type 0 = λ o. Copies (processor_of l.machine) w (entry_for raw (type_of l.machine Copy) (unwrap_or o 0) 0) raw x.bytes in
+    subst P (sym address) (subst Q (sym index) (copied w l.machine a.index raw x (index_small l (canonical l i) a.index a.symbol a.resolution laid there a.decided a.told) a.given))
   where
     told : {s : Symbol} {r : Resolution} {n : ℕ} → slice_get l.symbols (canonical l i) ≡ Some s → s.resolution ≡ Some r → r.dynamic_symbol_index ≡ Some n → index_of l i ≡ Some n
     told e f g = rw (e, f, g) refl

@@ -10,7 +10,6 @@ use Rattle.wild_words.proofs.Basics.{All-each, Contains-from_flat_map, map-flat_
 use Rattle.wild_words.proofs.ListLemmas.{AllPairs-nil, AllPairs-head, AllPairs-tail, AllPairs-append, flat_map-flat_map}
 use Rattle.wild_records.specs.Abi.Segment.{pt_load}
 use Rattle.wild_records.specs.declared.relocations.Rela.{Rela}
-use Rattle.wild_types.specs.declared.kind.Machine.TheVariants as machine
 use Rattle.wild_types.specs.declared.section.Segment.{Segment}
 use Rattle.wild_types.specs.declared.file.File.{File}
 use Rattle.wild_types.specs.declared.file.Group.{Group}
@@ -29,7 +28,7 @@ use Rattle.wild_loader.specs.declared.fault.LoadFault.{LoadFault}
 use Rattle.wild_loader.specs.declared.kind.DynamicKind.TheVariants as kinds
 use Rattle.wild_loader.specs.declared.world.Answer.{Answer}
 use Rattle.wild_loader.specs.declared.world.World.{World}
-use Rattle.wild_loader.specs.Changes.{change_of, size_of}
+use Rattle.wild_loader.specs.Changes.{change_of, size_of, kind_of}
 use Rattle.wild_loader.specs.Memory.{byte_in}
 use Rattle.wild_loader.specs.Relocate.{loaded_at}
 use Rattle.wild_meaning.specs.World.{IsLegal, IsBehind, IsCopied, HasCopy}
@@ -39,6 +38,9 @@ use Rattle.wild_loaded.specs.Stored.{Copies}
 use Rattle.wild_loaded.specs.Laws.{ZerosAreStored, EntriesHaveChanges, CopiesAreThere}
 use Rattle.wild_loaded.proofs.PairLemmas.{AllPairs-fewer, All-unmap}
 use Rattle.wild_loaded.proofs.Fillings.{Filling, general_of, AreBeside, IsKnown, place_loaded}
+use Rattle.wild_meaning.specs.Linked.{processor_of}
+use Rattle.wild_loader.specs.declared.memory.Machine.{Machine as Processor}
+use Rattle.wild_loaded.proofs.Loads.{image_machine}
 
 -- ---- fillings
 
@@ -83,7 +85,6 @@ pub record CopyLaws : Type 0 where
 
 -- what is known of a layout
 pub record HasCopies (l : Layout) (w : World) : Type 0 where
-  pub x86 : l.machine ≡ machine.X86_64
   pub numbers : NumbersFit l
   pub legal : IsLegal l w
   pub laid : IsLaidOut l
@@ -94,14 +95,14 @@ pub record IsCopyOf (l : Layout) (w : World) (i : ℕ) (x : Filling) : Type 0 wh
   pub raw : ℕ
   pub answer : Answer
   pub has : HasCopy l w i raw answer
-  pub made : Copies w (copy_entry l i) raw answer.bytes
+  pub made : Copies (processor_of l.machine) w (copy_entry l i) raw answer.bytes
   pub is : x ≡ copy_filling l w i
   pub place : x.entry.offset ≡ raw
   pub width : x.width ≡ length answer.bytes
 
 pub copy_is : (l : Layout) (w : World) (i raw : ℕ) (y : Answer) → CopyLaws → HasCopies l w → HasCopy l w i raw y → IsCopyOf l w i (copy_filling l w i)
 copy_is l w i raw y laws h c =
-    let made = laws.changes.copies l w i raw y h.x86 h.numbers h.legal h.laid c in
+    let made = laws.changes.copies l w i raw y h.numbers h.legal h.laid c in
     record { raw = raw; answer = y; has = c; made = made; is = refl; place = made.place; width = ap width_by made.makes }
 
 pub copy_of : (l : Layout) (w : World) (i : ℕ) → CopyLaws → HasCopies l w → Contains (all_copies l) i → IsCopyOf l w i (copy_filling l w i)
@@ -138,7 +139,7 @@ known_of l w i laws h c =
       old = replicate x.width 0;
       wide = length-replicate x.width 0;
       held = λ k lt. zero_there x low behind k (let n : length (replicate x.width zeroed) ≡ x.width = length-replicate x.width zeroed in omega (arith, n, lt));
-      makes = record { kind = kinds.Copy; known = c.made.known; change = changes.Fill c.answer.bytes; made = c.made.makes; size = sym c.width };
+      makes = record { kind = kinds.Copy; known = subst (λ (p : Processor). kind_of p (copy_entry l i).number ≡ Some kinds.Copy) (sym (image_machine l w)) c.made.known; change = changes.Fill c.answer.bytes; made = c.made.makes; size = sym c.width };
     }
   where
     zeroed : ℕ

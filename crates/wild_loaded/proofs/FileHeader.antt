@@ -107,8 +107,8 @@ segments_told law l laid headers =
 -- ---- the whole
 
 pub header_told : ProgramHeaderIsRead → HeadersTell
-header_told law = λ l m k numbers laid.
-    let headers = has_headers l m k numbers laid in
+header_told law = λ l k numbers laid.
+    let headers = has_headers l k numbers laid in
     record {
       header = file_header l;
       fits = headers.fits;

@@ -16,8 +16,6 @@ use Rattle.wild_loader.specs.declared.change.Change.{Change}
 use Rattle.wild_loader.specs.declared.change.Change.TheVariants as changes
 use Rattle.wild_loader.specs.declared.change.Patch.{Patch}
 use Rattle.wild_loader.specs.declared.kind.DynamicKind.{DynamicKind}
-use Rattle.wild_loader.specs.declared.memory.Machine.{Machine}
-use Rattle.wild_loader.specs.declared.memory.Machine.TheVariants as machines
 use Rattle.wild_loader.specs.declared.memory.Memory.{Memory}
 use Rattle.wild_loader.specs.declared.memory.Run.{Run}
 use Rattle.wild_loader.specs.declared.tables.Tables.{Tables}
@@ -59,10 +57,9 @@ place_made w m a laws h =
     made ∙ ap (λ (n : ℕ). Ok (patch_over (loaded_at w a) (changes.Add w.base) (word 8 n))) (sym e)
 
 -- that of an entry, over the bytes that memory has
-pub entry_made : (w : World) (m : Memory) (e : Rela) (kind : DynamicKind) (c : Change) (old : List ℕ) → ChangeLaws → m.machine ≡ machines.X86_64 → kind_of machines.X86_64 e.number ≡ Some kind → change_of w kind e ≡ Ok c → Holds m (loaded_at w e.offset) old → length old ≡ size_of c
+pub entry_made : (w : World) (m : Memory) (e : Rela) (kind : DynamicKind) (c : Change) (old : List ℕ) → ChangeLaws → kind_of m.machine e.number ≡ Some kind → change_of w kind e ≡ Ok c → Holds m (loaded_at w e.offset) old → length old ≡ size_of c
     → rela_patch w m e ≡ Ok (patch_over (loaded_at w e.offset) c old)
-entry_made w m e kind c old laws x known made held wide =
-    laws.entries w m e kind c old (subst (λ (p : Machine). kind_of p e.number ≡ Some kind) (sym x) known) made held wide
+entry_made w m e kind c old laws known made held wide = laws.entries w m e kind c old known made held wide
 
 pub entry_is : (w : World) (m : Memory) (e : Rela) (p : Patch) → rela_patch w m e ≡ Ok p → entry_change w m e ≡ p
 entry_is w m e p h = ap patch_or h
@@ -84,22 +81,22 @@ pub record HasRun (w : World) (m : Memory) (x : Filling) : Type 0 where
   pub start : (run_in w m x).start ≡ loaded_at w x.entry.offset
   pub size : length (run_in w m x).bytes ≡ x.width
 
-run_made : (w : World) (m : Memory) (x : Filling) (h : HasChange w x.entry x.width) (old : List ℕ) → ChangeLaws → m.machine ≡ machines.X86_64 → length old ≡ x.width → Holds m (loaded_at w x.entry.offset) old → entry_change w m x.entry ≡ patch_over (loaded_at w x.entry.offset) h.change old
-run_made w m x h old laws p wide held = entry_is w m x.entry _ (entry_made w m x.entry h.kind h.change old laws p h.known h.made held (wide ∙ sym h.size))
+run_made : (w : World) (m : Memory) (x : Filling) (h : HasChange m.machine w x.entry x.width) (old : List ℕ) → ChangeLaws → length old ≡ x.width → Holds m (loaded_at w x.entry.offset) old → entry_change w m x.entry ≡ patch_over (loaded_at w x.entry.offset) h.change old
+run_made w m x h old laws wide held = entry_is w m x.entry _ (entry_made w m x.entry h.kind h.change old laws h.known h.made held (wide ∙ sym h.size))
 
-of_entry : (w : World) (m : Memory) (x : Filling) (h : HasChange w x.entry x.width) (old : List ℕ) → ChangeLaws → m.machine ≡ machines.X86_64 → length old ≡ x.width → Holds m (loaded_at w x.entry.offset) old → ((entry_change w m x.entry).run.start ≡ loaded_at w x.entry.offset) × (length (entry_change w m x.entry).run.bytes ≡ x.width)
-of_entry w m x h old laws p wide held =
-    let e = run_made w m x h old laws p wide held in
+of_entry : (w : World) (m : Memory) (x : Filling) (h : HasChange m.machine w x.entry x.width) (old : List ℕ) → ChangeLaws → length old ≡ x.width → Holds m (loaded_at w x.entry.offset) old → ((entry_change w m x.entry).run.start ≡ loaded_at w x.entry.offset) × (length (entry_change w m x.entry).run.bytes ≡ x.width)
+of_entry w m x h old laws wide held =
+    let e = run_made w m x h old laws wide held in
     (ap (λ (q : Patch). q.run.start) e, ap (λ (q : Patch). length q.run.bytes) e ∙ length-after h.change old (wide ∙ sym h.size) ∙ h.size)
 
-pub has_run : (w : World) (m : Memory) (x : Filling) → ChangeLaws → m.machine ≡ machines.X86_64 → IsKnown w m x → HasRun w m x
-has_run w m x laws p h = by_table x.table x.entry x.width h.old h.wide h.held h.makes
+pub has_run : (w : World) (m : Memory) (x : Filling) → ChangeLaws → IsKnown w m x → HasRun w m x
+has_run w m x laws h = by_table x.table x.entry x.width h.old h.wide h.held h.makes
   where
     by_table : (t : Table) (e : Rela) (n : ℕ) (old : List ℕ) → length old ≡ n → Holds m (loaded_at w e.offset) old → Makes w m t e n → HasRun w m (record { table = t; entry = e; width = n })
     by_table PackedTable e n old wide held h = record { start = refl; size = length-word 8 ((number (word 8 (value_at w m e.offset)) + w.base) % 2 ^ 64) ∙ sym h.0 }
-    by_table RelativeTable e n old wide held h = let r = of_entry w m (record { table = RelativeTable; entry = e; width = n }) h old laws p wide held in record { start = r.0; size = r.1 }
-    by_table GeneralTable e n old wide held h = let r = of_entry w m (record { table = GeneralTable; entry = e; width = n }) h old laws p wide held in record { start = r.0; size = r.1 }
-    by_table JumpTable e n old wide held h = let r = of_entry w m (record { table = JumpTable; entry = e; width = n }) h old laws p wide held in record { start = r.0; size = r.1 }
+    by_table RelativeTable e n old wide held h = let r = of_entry w m (record { table = RelativeTable; entry = e; width = n }) h old laws wide held in record { start = r.0; size = r.1 }
+    by_table GeneralTable e n old wide held h = let r = of_entry w m (record { table = GeneralTable; entry = e; width = n }) h old laws wide held in record { start = r.0; size = r.1 }
+    by_table JumpTable e n old wide held h = let r = of_entry w m (record { table = JumpTable; entry = e; width = n }) h old laws wide held in record { start = r.0; size = r.1 }
 
 -- runs without a common address
 pub runs_apart_by : (p q : Run) → ((k j : ℕ) → k < length p.bytes → j < length q.bytes → p.start + k ≡ q.start + j → ⊥) → IsApart p q
@@ -113,10 +110,10 @@ runs_apart_by p q h =
     by_start (inl lt) both = h (q.start - p.start) 0 (omega (arith, lt, both)) (omega (arith, lt, both)) (omega (arith, lt))
     by_start (inr le) both = h 0 (p.start - q.start) (omega (arith, le, both)) (omega (arith, le, both)) (omega (arith, le))
 
-both_apart : (w : World) (m : Memory) (x y : Filling) → ChangeLaws → m.machine ≡ machines.X86_64 → IsKnown w m x → IsKnown w m y → AreBeside x y → IsApart (run_in w m x) (run_in w m y)
-both_apart w m x y laws p hx hy beside =
-    let rx = has_run w m x laws p hx in
-    let ry = has_run w m y laws p hy in
+both_apart : (w : World) (m : Memory) (x y : Filling) → ChangeLaws → IsKnown w m x → IsKnown w m y → AreBeside x y → IsApart (run_in w m x) (run_in w m y)
+both_apart w m x y laws hx hy beside =
+    let rx = has_run w m x laws hx in
+    let ry = has_run w m y laws hy in
     let sx = rx.start in
     let sy = ry.start in
     let nx = rx.size in
@@ -126,20 +123,19 @@ both_apart w m x y laws p hx hy beside =
     let lowy = loaded_is w y (omega (arith, lj, ny)) hy.low in
     beside k (omega (arith, lk, nx)) j (omega (arith, lj, ny)) (omega (arith, e, sx, sy, lowx, lowy))))
 
-pub runs_apart : (w : World) (m : Memory) (xs : List Filling) → ChangeLaws → m.machine ≡ machines.X86_64 → All (IsKnown w m) xs → AllPairs AreBeside xs → AllPairs IsApart (map (run_in w m) xs)
-runs_apart w m [] laws p known beside = AllPairs-nil IsApart
-runs_apart w m (x ∷ xs) laws p known beside =
+pub runs_apart : (w : World) (m : Memory) (xs : List Filling) → ChangeLaws → All (IsKnown w m) xs → AllPairs AreBeside xs → AllPairs IsApart (map (run_in w m) xs)
+runs_apart w m [] laws known beside = AllPairs-nil IsApart
+runs_apart w m (x ∷ xs) laws known beside =
     let first = All-head (IsKnown w m) x xs known in
     let rest = All-tail (IsKnown w m) x xs known in
     AllPairs-cons IsApart (run_in w m x) (map (run_in w m) xs)
-    (All-map (IsApart (run_in w m x)) (run_in w m) xs (λ k d lt. both_apart w m x (get_or xs k d) laws p first (rest k d lt) (AllPairs-head AreBeside x xs beside k d lt)))
-    (runs_apart w m xs laws p rest (AllPairs-tail AreBeside x xs beside))
+    (All-map (IsApart (run_in w m x)) (run_in w m) xs (λ k d lt. both_apart w m x (get_or xs k d) laws first (rest k d lt) (AllPairs-head AreBeside x xs beside k d lt)))
+    (runs_apart w m xs laws rest (AllPairs-tail AreBeside x xs beside))
 
 -- ---- tables
 
 -- the tables fill these, in some order; they lie beside each other, and what is filled is known
 pub record AreSorted (w : World) (before : Memory) (t : Tables) (xs : List Filling) : Type 0 where
-  pub machine : before.machine ≡ machines.X86_64
   pub packed : IsPermutation (flat_map packed_in xs) (places t.words)
   pub entries : IsPermutation (flat_map relative_in xs ++ flat_map general_in xs) t.entries
   pub jumps : IsPermutation (flat_map jump_in xs) t.jumps
@@ -215,7 +211,7 @@ runs_permuted w m t xs h =
     (subst (λ (ys : List Run). IsPermutation ((map p (flat_map packed_in xs) ++ map e (flat_map relative_in xs ++ flat_map general_in xs)) ++ map e (flat_map jump_in xs)) ys) target moved)))
 
 pub patches_apart : (w : World) (before : Memory) (t : Tables) (xs : List Filling) → ChangeLaws → AreSorted w before t xs → AllPairs IsApart (runs_of_patches (patches_of t (place_change w before) (entry_change w before)))
-patches_apart w m t xs laws h = laws.order (map (run_in w m) xs) (runs_of_patches (patches_of t (place_change w m) (entry_change w m))) (runs_permuted w m t xs h) (runs_apart w m xs laws h.machine h.known h.beside)
+patches_apart w m t xs laws h = laws.order (map (run_in w m) xs) (runs_of_patches (patches_of t (place_change w m) (entry_change w m))) (runs_permuted w m t xs h) (runs_apart w m xs laws h.known h.beside)
 
 -- ---- known changes
 
@@ -230,8 +226,8 @@ IsPlaceMade w m a = place_patch w m a ≡ Ok (place_change w m a)
 abbrev pub IsEntryMade : World → Memory → Rela → Type 0
 IsEntryMade w m e = rela_patch w m e ≡ Ok (entry_change w m e)
 
-entry_of_known : (w : World) (m : Memory) (e : Rela) (n : ℕ) (old : List ℕ) → ChangeLaws → m.machine ≡ machines.X86_64 → length old ≡ n → Holds m (loaded_at w e.offset) old → HasChange w e n → IsEntryMade w m e
-entry_of_known w m e n old laws p wide held h = entry_known w m e _ (entry_made w m e h.kind h.change old laws p h.known h.made held (wide ∙ sym h.size))
+entry_of_known : (w : World) (m : Memory) (e : Rela) (n : ℕ) (old : List ℕ) → ChangeLaws → length old ≡ n → Holds m (loaded_at w e.offset) old → HasChange m.machine w e n → IsEntryMade w m e
+entry_of_known w m e n old laws wide held h = entry_known w m e _ (entry_made w m e h.kind h.change old laws h.known h.made held (wide ∙ sym h.size))
 
 places_made : (w : World) (m : Memory) (x : Filling) → ChangeLaws → IsKnown w m x → All (IsPlaceMade w m) (packed_in x)
 places_made w m x laws h = by_table x.table x.entry x.width h.makes
@@ -242,14 +238,14 @@ places_made w m x laws h = by_table x.table x.entry x.width h.makes
     by_table GeneralTable e n h = All-nil (IsPlaceMade w m)
     by_table JumpTable e n h = All-nil (IsPlaceMade w m)
 
-entries_made : (w : World) (m : Memory) (x : Filling) → ChangeLaws → m.machine ≡ machines.X86_64 → IsKnown w m x → (All (IsEntryMade w m) (relative_in x) × All (IsEntryMade w m) (general_in x)) × All (IsEntryMade w m) (jump_in x)
-entries_made w m x laws p h = by_table x.table x.entry x.width h.old h.wide h.held h.makes
+entries_made : (w : World) (m : Memory) (x : Filling) → ChangeLaws → IsKnown w m x → (All (IsEntryMade w m) (relative_in x) × All (IsEntryMade w m) (general_in x)) × All (IsEntryMade w m) (jump_in x)
+entries_made w m x laws h = by_table x.table x.entry x.width h.old h.wide h.held h.makes
   where
     P : Rela → Type 0
     P e = IsEntryMade w m e
 
-    one : (e : Rela) (n : ℕ) (old : List ℕ) → length old ≡ n → Holds m (loaded_at w e.offset) old → HasChange w e n → All P (e ∷ [])
-    one e n old wide held h = All-cons P e [] (entry_of_known w m e n old laws p wide held h) (All-nil P)
+    one : (e : Rela) (n : ℕ) (old : List ℕ) → length old ≡ n → Holds m (loaded_at w e.offset) old → HasChange m.machine w e n → All P (e ∷ [])
+    one e n old wide held h = All-cons P e [] (entry_of_known w m e n old laws wide held h) (All-nil P)
 
     by_table : (t : Table) (e : Rela) (n : ℕ) (old : List ℕ) → length old ≡ n → Holds m (loaded_at w e.offset) old → Makes w m t e n → (let y : Filling = record { table = t; entry = e; width = n } in (All P (relative_in y) × All P (general_in y)) × All P (jump_in y))
     by_table PackedTable e n old wide held h = ((All-nil P, All-nil P), All-nil P)
@@ -261,9 +257,9 @@ pub tables_made : (w : World) (before : Memory) (t : Tables) (xs : List Filling)
 tables_made w m t xs laws h =
     let P = IsEntryMade w m in
     let K = IsKnown w m in
-    let relatives = All-made K P relative_in xs (λ x k. (entries_made w m x laws h.machine k).0.0) h.known in
-    let others = All-made K P general_in xs (λ x k. (entries_made w m x laws h.machine k).0.1) h.known in
-    let jumps = All-made K P jump_in xs (λ x k. (entries_made w m x laws h.machine k).1) h.known in
+    let relatives = All-made K P relative_in xs (λ x k. (entries_made w m x laws k).0.0) h.known in
+    let others = All-made K P general_in xs (λ x k. (entries_made w m x laws k).0.1) h.known in
+    let jumps = All-made K P jump_in xs (λ x k. (entries_made w m x laws k).1) h.known in
     record {
       words = All-permutation (IsPlaceMade w m) (flat_map packed_in xs) (places t.words) h.packed (All-made K (IsPlaceMade w m) packed_in xs (λ x k. places_made w m x laws k) h.known);
       entries = All-permutation P (flat_map relative_in xs ++ flat_map general_in xs) t.entries h.entries (All-append P (flat_map relative_in xs) (flat_map general_in xs) relatives others);
@@ -282,9 +278,9 @@ elsewhere_by a p h =
       ]
     ]
 
-one_elsewhere : (w : World) (m : Memory) (a : ℕ) (x : Filling) → ChangeLaws → m.machine ≡ machines.X86_64 → IsKnown w m x → Misses a x → IsElsewhere (w.base + a) (run_in w m x)
-one_elsewhere w m a x laws p h out =
-    let r = has_run w m x laws p h in
+one_elsewhere : (w : World) (m : Memory) (a : ℕ) (x : Filling) → ChangeLaws → IsKnown w m x → Misses a x → IsElsewhere (w.base + a) (run_in w m x)
+one_elsewhere w m a x laws h out =
+    let r = has_run w m x laws h in
     let start = r.start in
     let size = r.size in
     elsewhere_by (w.base + a) (run_in w m x) (λ j lt e. (let low = loaded_is w x (omega (arith, lt, size)) h.low in out j (omega (arith, lt, size)) (omega (arith, e, start, low))))
@@ -293,4 +289,4 @@ one_elsewhere w m a x laws p h out =
 pub all_elsewhere : (w : World) (before : Memory) (t : Tables) (xs : List Filling) (a : ℕ) → ChangeLaws → AreSorted w before t xs → All (Misses a) xs → All (IsElsewhere (w.base + a)) (runs_of_patches (patches_of t (place_change w before) (entry_change w before)))
 all_elsewhere w m t xs a laws h out =
     All-permutation (IsElsewhere (w.base + a)) (map (run_in w m) xs) (runs_of_patches (patches_of t (place_change w m) (entry_change w m))) (runs_permuted w m t xs h)
-    (All-map (IsElsewhere (w.base + a)) (run_in w m) xs (λ k d lt. one_elsewhere w m a (get_or xs k d) laws h.machine (h.known k d lt) (out k d lt)))
+    (All-map (IsElsewhere (w.base + a)) (run_in w m) xs (λ k d lt. one_elsewhere w m a (get_or xs k d) laws (h.known k d lt) (out k d lt)))

@@ -6,7 +6,7 @@ use Rattle.wild_words.specs.Words.{word}
 use Rattle.wild_records.specs.declared.relocations.Rela.{Rela}
 use Rattle.wild_loader.specs.declared.change.Change.{Change}
 use Rattle.wild_loader.specs.declared.kind.DynamicKind.{DynamicKind}
-use Rattle.wild_loader.specs.declared.memory.Machine.TheVariants as machines
+use Rattle.wild_loader.specs.declared.memory.Machine.{Machine as Processor}
 use Rattle.wild_loader.specs.declared.memory.Memory.{Memory}
 use Rattle.wild_loader.specs.declared.world.World.{World}
 use Rattle.wild_loader.specs.Changes.{kind_of, change_of, size_of}
@@ -53,10 +53,10 @@ AreBeside x y = (k : ℕ) → k < x.width → Misses (x.entry.offset + k) y
 
 -- ---- what is known of them
 
--- the entry makes a loader change n bytes
-pub record HasChange (w : World) (e : Rela) (n : ℕ) : Type 0 where
+-- the entry makes a loader of the processor change n bytes
+pub record HasChange (p : Processor) (w : World) (e : Rela) (n : ℕ) : Type 0 where
   pub kind : DynamicKind
-  pub known : kind_of machines.X86_64 e.number ≡ Some kind
+  pub known : kind_of p e.number ≡ Some kind
   pub change : Change
   pub made : change_of w kind e ≡ Ok change
   pub size : size_of change ≡ n
@@ -70,7 +70,7 @@ pub record HasWord (w : World) (m : Memory) (a : ℕ) : Type 0 where
 -- the change is known
 abbrev pub Makes : World → Memory → Table → Rela → ℕ → Type 0
 Makes w m PackedTable e n = (n ≡ 8) × HasWord w m e.offset
-Makes w m other e n = HasChange w e n
+Makes w m other e n = HasChange m.machine w e n
 
 -- the bytes do not wrap at the base, memory has them, and the change is known
 pub record IsKnown (w : World) (m : Memory) (x : Filling) : Type 0 where

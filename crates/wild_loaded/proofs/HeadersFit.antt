@@ -5,14 +5,11 @@ use Rattle.std.specs.Int.RustNames.{bit_and}
 use Rattle.std.proofs.lemmas.Bool.{cases_Bool, eqb-true, ltb-true}
 use Rattle.std.proofs.lemmas.Nat.Bits.{and_pow}
 use Rattle.std.proofs.lemmas.List.Elements.{All-cons}
-use Rattle.wild_records.specs.Abi.Header.{em_x86_64}
 use Rattle.wild_records.specs.Abi.Section.{shf_compressed, shn_loreserve, shf_alloc}
 use Rattle.wild_records.specs.Abi.Segment.{pt_load, pt_gnu_stack, pf_x}
 use Rattle.wild_records.specs.FileHeader.{FileHeaderFits}
 use Rattle.wild_records.specs.ProgramHeader.{ProgramHeaderFits}
 use Rattle.wild_records.specs.SectionHeader.{SectionHeaderFits}
-use Rattle.wild_types.specs.declared.kind.Machine.{Machine}
-use Rattle.wild_types.specs.declared.kind.Machine.TheVariants as machine
 use Rattle.wild_types.specs.declared.part.Part.{Part}
 use Rattle.wild_types.specs.declared.part.Role.TheVariants as role
 use Rattle.wild_types.specs.declared.section.Section.{Section}
@@ -21,13 +18,14 @@ use Rattle.wild_types.specs.declared.layout.Layout.{Layout}
 use Rattle.wild_types.specs.Lists.{total}
 use Rattle.wild_types.specs.Lookups.{bit}
 use Rattle.wild_needs.specs.Versions.{need_count}
-use Rattle.wild_headers.specs.Headers.{machine_number, or_escape, or_none, name_table, section_of_role, file_header, with_execute, program_header, null_header, uncompressed, told_of, local_symbols, info_at, section_header, headers_from, section_headers_of}
+use Rattle.wild_headers.specs.Headers.{or_escape, or_none, name_table, section_of_role, file_header, with_execute, program_header, null_header, uncompressed, told_of, local_symbols, info_at, section_header, headers_from, section_headers_of}
 use Rattle.wild_layout.specs.Numbers.{NumbersFit, SegmentNumbers, SectionNumbers}
 use Rattle.wild_meaning.specs.World.{IsLoadable}
 use Rattle.wild_loaded.proofs.FileType.{type_known, type_fits}
 use Rattle.wild_loader.specs.Headers.{is_loadable_header}
 use Rattle.wild_loader.specs.SegmentLaws.{told_sections, first_size}
 use Rattle.wild_headers.proofs.LengthLemmas.{length-section_headers_of, role_below}
+use Rattle.wild_geometry.proofs.MachineLemmas.{facts_of}
 
 -- ---- bits
 
@@ -89,26 +87,23 @@ sections_told n h =
 
 -- ---- the file header
 
-number_is : (m : Machine) → m ≡ machine.X86_64 → machine_number m ≡ em_x86_64
-number_is m e = ap machine_number e
-
-pub file_header_fits : (l : Layout) → l.machine ≡ machine.X86_64 → IsLoadable l.kind → NumbersFit l → length l.segments ≤ 65534 → (file_header l).section_offset < 2 ^ 64 → FileHeaderFits (file_header l)
+pub file_header_fits : (l : Layout) → IsLoadable l.kind → NumbersFit l → length l.segments ≤ 65534 → (file_header l).section_offset < 2 ^ 64 → FileHeaderFits (file_header l)
 unfolding file_header
-file_header_fits l m k numbers few low =
+file_header_fits l k numbers few low =
     let t = type_fits l.kind k in
-    let n = number_is l.machine m in
+    let n = (facts_of l.machine).number in
     record {
       front = record { magic = omega arith; class = omega arith; encoding = omega arith; ident_version = omega arith; os_abi = omega arith; abi_version = omega arith; file_type = t };
       middle = record { machine = omega (arith, n); version = omega arith; entry = numbers.entry; program_offset = omega arith; section_offset = low; flags = omega arith; header_size = omega arith };
       back = record { program_entry_size = omega arith; program_count = omega (arith, few); section_entry_size = omega arith; section_count = escape_fits (length l.sections) 0 (omega arith); name_table = escape_fits (name_table l) 0xffff (omega arith) };
     }
 
-pub file_header_loads : (l : Layout) → l.machine ≡ machine.X86_64 → IsLoadable l.kind → is_loadable_header (file_header l) ≡ true
+pub file_header_loads : (l : Layout) → IsLoadable l.kind → is_loadable_header (file_header l) ≡ true
 unfolding file_header
-file_header_loads l m k =
+file_header_loads l k =
     elim (type_known l.kind k) [
-      | inl e ↦ rw (e, number_is l.machine m) refl
-      | inr e ↦ rw (e, number_is l.machine m) refl
+      | inl e ↦ rw (e, (facts_of l.machine).taken) refl
+      | inr e ↦ rw (e, (facts_of l.machine).taken) refl
     ]
 
 -- ---- program headers

@@ -1,19 +1,16 @@
 -- What the entries of fields make a loader do in a legal world, and what these fields are in the file.
-use Rattle.std.proofs.Common.{◌≡◌, ℕ, ◌+◌, ◌%◌, ◌^◌, ◌<◌, ◌⊎◌, inl, inr, Bool, true, false, List, replicate, refl, sym, ap, arith, subst}
-use Rattle.std.specs.Prelude.{length, Option, Some, None, Result, Ok, Err, option_map, option_and_then, ◌==◌, ◌&&◌, ◌||◌, if◌then◌else◌, slice_get}
-use Rattle.std.specs.List.{list_all}
+use Rattle.std.proofs.Common.{◌≡◌, ℕ, ◌+◌, ◌%◌, ◌^◌, ◌<◌, inl, inr, Bool, true, false, List, replicate, refl, sym, arith, subst}
+use Rattle.std.specs.Prelude.{Option, Some, None, Result, Ok, Err, option_map, option_and_then, ◌==◌, ◌&&◌, slice_get}
 use Rattle.std.specs.Int.{w64}
-use Rattle.std.proofs.lemmas.Bool.{cases_Bool, eqb-true}
+use Rattle.std.proofs.lemmas.Bool.{cases_Bool}
 use Rattle.std.proofs.lemmas.Int.{of_z-to_z}
 use Rattle.std.proofs.lemmas.List.Elements.{All-contains}
 use Rattle.wild_words.specs.Words.{word}
 use Rattle.wild_words.proofs.WordLemmas.{length-word}
 use Rattle.wild_words.proofs.Basics.{listed_at}
-use Rattle.wild_records.specs.Abi.Relocation.{r_x86_64_size32, r_x86_64_size64}
 use Rattle.wild_types.specs.declared.fault.Fault.{Fault}
 use Rattle.wild_types.specs.declared.fault.Missing.TheVariants as missing
 use Rattle.wild_types.specs.declared.kind.Machine.{Machine}
-use Rattle.wild_types.specs.declared.kind.Machine.TheVariants as machine
 use Rattle.wild_types.specs.declared.input.InputRelocation.{InputRelocation}
 use Rattle.wild_types.specs.declared.input.InputSection.{InputSection}
 use Rattle.wild_types.specs.Item.{item_of}
@@ -27,20 +24,14 @@ use Rattle.wild_needs.specs.Entries.{is_left_to_entry}
 use Rattle.wild_types.specs.Flags.{has_flag, ifunc}
 use Rattle.wild_types.specs.Kinds.{is_position_independent}
 use Rattle.wild_types.specs.Lookups.{writable, allocated, canonical}
-use Rattle.wild_types.specs.Rows.{row_of}
 use Rattle.wild_slot.specs.SlotParts.{type_of}
 use Rattle.wild_slot.specs.Treatment.{flags_at, treatment}
 use Rattle.wild_reloc.specs.Field.{size_width, size_written}
-use Rattle.wild_reloc.specs.TableX86_64.{x86_64_rows, x86_64_row}
-use Rattle.wild_reloc.proofs.TableLemmas.{entry_passes}
 use Rattle.wild_reloc.specs.declared.dynamic.DynamicRelocationKind.TheVariants.{Absolute, Irelative}
-use Rattle.wild_reloc.specs.declared.info.RelocationKind.{RelocationKind}
-use Rattle.wild_reloc.specs.declared.info.RelocationKind.TheVariants as row_kinds
 use Rattle.wild_reloc.specs.declared.info.RelocationKindInfo.{RelocationKindInfo}
 use Rattle.wild_reloc.specs.declared.info.RelocationSize.{RelocationSize}
-use Rattle.wild_reloc.specs.declared.info.RelocationSize.TheVariants.{ByteSize, BitMasking}
-use Rattle.wild_reloc.specs.declared.info.Width.{Width}
-use Rattle.wild_reloc.specs.declared.info.Width.TheVariants.{Zero, One, Two, Four, Eight}
+use Rattle.wild_reloc.specs.declared.info.RelocationSize.TheVariants.{ByteSize}
+use Rattle.wild_reloc.specs.declared.info.Width.TheVariants.{Four, Eight}
 use Rattle.wild_layout.specs.declared.decision.Decision.TheVariants.{Left}
 use Rattle.wild_layout.specs.Decide.{added, left_to, chosen_to, decide_by, decided}
 use Rattle.wild_layout.specs.SymbolValues.{address_or}
@@ -49,6 +40,10 @@ use Rattle.wild_layout.specs.Numbers.{NumbersFit, SymbolNumbers}
 use Rattle.wild_layout.specs.Geometry.{IsLaidOut}
 use Rattle.wild_layout.proofs.DecideLemmas.{sized_left, decided_left, known_indirect, known_extent}
 use Rattle.wild_geometry.specs.Loaded.{entry_with}
+use Rattle.wild_geometry.specs.MachineFacts.{StoresSize}
+use Rattle.wild_geometry.proofs.MachineLemmas.{facts_of}
+use Rattle.wild_meaning.specs.Linked.{processor_of}
+use Rattle.wild_loader.specs.declared.memory.Machine.{Machine as Processor}
 use Rattle.wild_loader.specs.declared.world.World.{World}
 use Rattle.wild_loader.specs.declared.change.Change.TheVariants as changes
 use Rattle.wild_loader.specs.declared.kind.DynamicKind.TheVariants as kinds
@@ -59,57 +54,9 @@ use Rattle.wild_loaded.proofs.Answers.{answered, IsGiven, symbol_answer, index_s
 
 -- ---- rows of sizes
 
-abbrev is_size : RelocationKind → Bool
-is_size row_kinds.SymbolSize = true
-is_size other = false
-
-abbrev has_bytes : Width → RelocationSize → Bool
-has_bytes Four (ByteSize Four) = true
-has_bytes Eight (ByteSize Eight) = true
-has_bytes n z = false
-
-abbrev is_size_row : ℕ → RelocationKindInfo → Bool
-is_size_row n row = if is_size row.kind then ((n == r_x86_64_size32 && has_bytes Four row.size) || (n == r_x86_64_size64 && has_bytes Eight row.size)) else true
-
-each_is_size_row : list_all (λ (e : ℕ × RelocationKindInfo). is_size_row e.0 e.1) x86_64_rows ≡ true
-each_is_size_row = refl
-
--- the number and the field of a row
-abbrev IsSizeRow : ℕ → RelocationSize → Type 0
-IsSizeRow n z = ((n ≡ r_x86_64_size32) × (z ≡ ByteSize Four)) ⊎ ((n ≡ r_x86_64_size64) × (z ≡ ByteSize Eight))
-
-four_bytes : (z : RelocationSize) → has_bytes Four z ≡ true → z ≡ ByteSize Four
-four_bytes (ByteSize Zero) h = cc
-four_bytes (ByteSize One) h = cc
-four_bytes (ByteSize Two) h = cc
-four_bytes (ByteSize Four) h = refl
-four_bytes (ByteSize Eight) h = cc
-four_bytes (BitMasking m) h = cc
-
-eight_bytes : (z : RelocationSize) → has_bytes Eight z ≡ true → z ≡ ByteSize Eight
-eight_bytes (ByteSize Zero) h = cc
-eight_bytes (ByteSize One) h = cc
-eight_bytes (ByteSize Two) h = cc
-eight_bytes (ByteSize Four) h = cc
-eight_bytes (ByteSize Eight) h = refl
-eight_bytes (BitMasking m) h = cc
-
-by_tests : (n : ℕ) (z : RelocationSize) (a b c d : Bool) → (n == r_x86_64_size32) ≡ a → has_bytes Four z ≡ b → (n == r_x86_64_size64) ≡ c → has_bytes Eight z ≡ d → ((a && b) || (c && d)) ≡ true → IsSizeRow n z
-by_tests n z true true c d e f g h t = inl (eqb-true n r_x86_64_size32 e, four_bytes z f)
-by_tests n z true false true true e f g h t = inr (eqb-true n r_x86_64_size64 g, eight_bytes z h)
-by_tests n z false b true true e f g h t = inr (eqb-true n r_x86_64_size64 g, eight_bytes z h)
-by_tests n z true false true false e f g h t = cc
-by_tests n z true false false d e f g h t = cc
-by_tests n z false b true false e f g h t = cc
-by_tests n z false b false d e f g h t = cc
-
-size_row : (m : Machine) (n : ℕ) (row : RelocationKindInfo) → row_of m n ≡ Some row → row.kind ≡ row_kinds.SymbolSize → IsSizeRow n row.size
-unfolding row_of x86_64_row
-size_row machine.X86_64 n row known kind =
-    let passes = entry_passes is_size_row x86_64_rows each_is_size_row n row known in
-    let sized : is_size row.kind ≡ true = ap is_size kind in
-    by_tests n row.size (n == r_x86_64_size32) (has_bytes Four row.size) (n == r_x86_64_size64) (has_bytes Eight row.size) refl refl refl refl (rw sized at passes)
-size_row machine.AArch64 n row known kind = cc
+-- the field of a size has four bytes or eight
+abbrev IsSizeRow : Layout → ℕ → RelocationSize → Type 0
+IsSizeRow l n z = (n < 2 ^ 32) × StoresSize (processor_of l.machine) n z
 
 -- ---- what a treatment says
 
@@ -155,45 +102,45 @@ named_by l w i index legal laid h =
 
 -- ---- what entries store
 
-stores_address : (w : World) (symbol addend : ℕ) → IsNamed w symbol → FillsField w (ByteSize Eight) (type_of machine.X86_64 Absolute) symbol addend
-unfolding kind_of change_of
-stores_address w symbol addend n = record {
-  type_fits = omega arith;
+stores_address : (m : Machine) (w : World) (symbol addend : ℕ) → IsNamed w symbol → FillsField (processor_of m) w (ByteSize Eight) (type_of m Absolute) symbol addend
+unfolding change_of
+stores_address m w symbol addend n = record {
+  type_fits = (facts_of m).types Absolute;
   index_fits = n.small;
-  change = changes.Word (plus n.given.answer.address (entry_with (type_of machine.X86_64 Absolute) symbol addend));
-  makes = record { kind = kinds.SymbolPlus; known = refl; makes = rw n.given.listed refl };
-  width = length-word 8 (plus n.given.answer.address (entry_with (type_of machine.X86_64 Absolute) symbol addend));
+  change = changes.Word (plus n.given.answer.address (entry_with (type_of m Absolute) symbol addend));
+  makes = record { kind = kinds.SymbolPlus; known = (facts_of m).entries Absolute; makes = rw n.given.listed refl };
+  width = length-word 8 (plus n.given.answer.address (entry_with (type_of m Absolute) symbol addend));
 }
 
-stores_half : (w : World) (symbol addend : ℕ) → IsNamed w symbol → FillsField w (ByteSize Four) r_x86_64_size32 symbol addend
-unfolding kind_of change_of
-stores_half w symbol addend n = record {
-  type_fits = omega arith;
-  index_fits = n.small;
-  change = changes.Half (plus n.given.answer.size (entry_with r_x86_64_size32 symbol addend) % 2 ^ 32);
-  makes = record { kind = kinds.Size32; known = refl; makes = rw n.given.listed refl };
-  width = length-word 4 (plus n.given.answer.size (entry_with r_x86_64_size32 symbol addend) % 2 ^ 32);
+stores_half : (p : Processor) (w : World) (n symbol addend : ℕ) → n < 2 ^ 32 → kind_of p n ≡ Some kinds.Size32 → IsNamed w symbol → FillsField p w (ByteSize Four) n symbol addend
+unfolding change_of
+stores_half p w n symbol addend low known named = record {
+  type_fits = low;
+  index_fits = named.small;
+  change = changes.Half (plus named.given.answer.size (entry_with n symbol addend) % 2 ^ 32);
+  makes = record { kind = kinds.Size32; known = known; makes = rw named.given.listed refl };
+  width = length-word 4 (plus named.given.answer.size (entry_with n symbol addend) % 2 ^ 32);
 }
 
-stores_size : (w : World) (symbol addend : ℕ) → IsNamed w symbol → FillsField w (ByteSize Eight) r_x86_64_size64 symbol addend
-unfolding kind_of change_of
-stores_size w symbol addend n = record {
-  type_fits = omega arith;
-  index_fits = n.small;
-  change = changes.Word (plus n.given.answer.size (entry_with r_x86_64_size64 symbol addend));
-  makes = record { kind = kinds.Size64; known = refl; makes = rw n.given.listed refl };
-  width = length-word 8 (plus n.given.answer.size (entry_with r_x86_64_size64 symbol addend));
+stores_size : (p : Processor) (w : World) (n symbol addend : ℕ) → n < 2 ^ 32 → kind_of p n ≡ Some kinds.Size64 → IsNamed w symbol → FillsField p w (ByteSize Eight) n symbol addend
+unfolding change_of
+stores_size p w n symbol addend low known named = record {
+  type_fits = low;
+  index_fits = named.small;
+  change = changes.Word (plus named.given.answer.size (entry_with n symbol addend));
+  makes = record { kind = kinds.Size64; known = known; makes = rw named.given.listed refl };
+  width = length-word 8 (plus named.given.answer.size (entry_with n symbol addend));
 }
 
-stores_chosen : (w : World) (value : ℕ) → value < 2 ^ 64 → IsAnsweredOnce w ((w.base + value) % 2 ^ 64) → FillsField w (ByteSize Eight) (type_of machine.X86_64 Irelative) 0 value
-unfolding kind_of change_of
-stores_chosen w value small a =
+stores_chosen : (m : Machine) (w : World) (value : ℕ) → value < 2 ^ 64 → IsAnsweredOnce w ((w.base + value) % 2 ^ 64) → FillsField (processor_of m) w (ByteSize Eight) (type_of m Irelative) 0 value
+unfolding change_of
+stores_chosen m w value small a =
     let back = of_z-to_z w64 value small in
     record {
-      type_fits = omega arith;
+      type_fits = (facts_of m).types Irelative;
       index_fits = omega arith;
       change = changes.Word a.answer;
-      makes = record { kind = kinds.Resolved; known = refl; makes = rw (back, answered w ((w.base + value) % 2 ^ 64) a) refl };
+      makes = record { kind = kinds.Resolved; known = (facts_of m).entries Irelative; makes = rw (back, answered w ((w.base + value) % 2 ^ 64) a) refl };
       width = length-word 8 a.answer;
     }
 
@@ -227,13 +174,13 @@ flag_of l i s e h =
     let same : flags_at l i ≡ s.flags = rw e refl in
     subst (λ (f : ValueFlags). has_flag f ifunc ≡ true) same h
 
-chosen_fills : (l : Layout) (w : World) (i value : ℕ) → NumbersFit l → IsLegal l w → has_flag (flags_at l i) ifunc ≡ true → decided_address l i ≡ Ok value → FillsField w (ByteSize Eight) (type_of machine.X86_64 Irelative) 0 value
+chosen_fills : (l : Layout) (w : World) (i value : ℕ) → NumbersFit l → IsLegal l w → has_flag (flags_at l i) ifunc ≡ true → decided_address l i ≡ Ok value → FillsField (processor_of l.machine) w (ByteSize Eight) (type_of l.machine Irelative) 0 value
 chosen_fills l w i value numbers legal flag h =
     let c = chosen_by l i value h in
     let there = listed_at l.symbols (canonical l i) c.symbol c.listed in
     let small = (All-contains SymbolNumbers l.symbols c.symbol numbers.symbols there c.resolution c.resolved).value in
     let a = All-contains (HasResolver w) l.symbols c.symbol legal.resolvers there (flag_of l i c.symbol c.listed flag) c.resolution c.resolved in
-    subst (λ (v : ℕ). FillsField w (ByteSize Eight) (type_of machine.X86_64 Irelative) 0 v) c.is (stores_chosen w c.resolution.raw_value small a)
+    subst (λ (v : ℕ). FillsField (processor_of l.machine) w (ByteSize Eight) (type_of l.machine Irelative) 0 v) c.is (stores_chosen l.machine w c.resolution.raw_value small a)
 
 -- ---- decisions
 
@@ -272,7 +219,7 @@ chosen_parts P l x n symbol addend r (Ok value) h k =
 record IsLeftCase (l : Layout) (s : InputSection) (r : InputRelocation) (P : RelocationSize → ℕ → ℕ → ℕ → Type 0) : Type 0 where
   address : (i index : ℕ) → index_of l i ≡ Some index → P (ByteSize Eight) (type_of l.machine Absolute) index (added r)
   chosen : (i value : ℕ) → has_flag (flags_at l i) ifunc ≡ true → decided_address l i ≡ Ok value → P (ByteSize Eight) (type_of l.machine Irelative) 0 value
-  size : (i index : ℕ) (row : RelocationKindInfo) → IsSizeRow r.number row.size → index_of l i ≡ Some index → P row.size r.number index (added r)
+  size : (i index : ℕ) (row : RelocationKindInfo) → IsSizeRow l r.number row.size → index_of l i ≡ Some index → P row.size r.number index (added r)
 
 by_treatment : (P : RelocationSize → ℕ → ℕ → ℕ → Type 0) (l : Layout) (s : InputSection) (r : InputRelocation) (z : RelocationSize) (n symbol addend : ℕ) → IsLeftCase l s r P → (t : Treatment) → treatment l s.flags r ≡ t → is_left_to_entry t ≡ true → decide_by l (item_of s) r t ≡ Ok (Left z n symbol addend) → P z n symbol addend
 by_treatment P l s r z n symbol addend k (treatments.Symbolic i) is left made = left_parts P (ByteSize Eight) z (type_of l.machine Absolute) n symbol addend r i (index_of l i) made (k.address i)
@@ -281,7 +228,7 @@ by_treatment P l s r z n symbol addend k (treatments.Indirect i) is left made =
     chosen_parts P l z n symbol addend r (decided_address l i) made (λ value e. k.chosen i value flag e)
 by_treatment P l s r z n symbol addend k (treatments.Extent row i) is left made =
     let told = known_extent l (item_of s) r row i is in
-    left_parts P row.size z r.number n symbol addend r i (index_of l i) (sized_left l r row i (Left z n symbol addend) made) (λ index e. k.size i index row (size_row l.machine r.number row told.0 told.1.kind) e)
+    left_parts P row.size z r.number n symbol addend r i (index_of l i) (sized_left l r row i (Left z n symbol addend) made) (λ index e. k.size i index row ((facts_of l.machine).sizes r.number row told.0 told.1.kind) e)
 by_treatment P l s r z n symbol addend k treatments.Nothing is left made = cc
 by_treatment P l s r z n symbol addend k (treatments.Value row) is left made = cc
 by_treatment P l s r z n symbol addend k treatments.BaseRelative is left made = cc
@@ -307,26 +254,30 @@ four_zeroed : IsZeroed (ByteSize Four)
 unfolding word
 four_zeroed old = refl
 
-size_zeroed : (n : ℕ) (z : RelocationSize) → IsSizeRow n z → IsZeroed z
-size_zeroed n z (inl e) = subst IsZeroed (sym e.1) four_zeroed
-size_zeroed n z (inr e) = subst IsZeroed (sym e.1) eight_zeroed
+size_zeroed : (l : Layout) (n : ℕ) (z : RelocationSize) → IsSizeRow l n z → IsZeroed z
+size_zeroed l n z h = elim h.1 [
+  | inl e ↦ subst IsZeroed (sym e.1) four_zeroed
+  | inr e ↦ subst IsZeroed (sym e.1) eight_zeroed
+]
 
 pub left_zeroed : (l : Layout) (s : InputSection) (r : InputRelocation) (z : RelocationSize) (n symbol addend : ℕ) (old : List ℕ) → decided l (item_of s) r ≡ Ok (Left z n symbol addend) → size_written z 0 old ≡ replicate (size_width z) 0
 left_zeroed l s r z n symbol addend old h =
     left_case (λ y m k a. IsZeroed y) l s r z n symbol addend
-    (record { address = λ i index e. eight_zeroed; chosen = λ i value f e. eight_zeroed; size = λ i index row q e. size_zeroed r.number row.size q }) h old
+    (record { address = λ i index e. eight_zeroed; chosen = λ i value f e. eight_zeroed; size = λ i index row q e. size_zeroed l r.number row.size q }) h old
 
 -- ---- what the entry makes a loader do
 
-size_fills : (w : World) (n symbol addend : ℕ) (z : RelocationSize) → IsSizeRow n z → IsNamed w symbol → FillsField w z n symbol addend
-size_fills w n symbol addend z (inl e) named =
-    subst (λ (y : RelocationSize). FillsField w y n symbol addend) (sym e.1) (subst (λ (m : ℕ). FillsField w (ByteSize Four) m symbol addend) (sym e.0) (stores_half w symbol addend named))
-size_fills w n symbol addend z (inr e) named =
-    subst (λ (y : RelocationSize). FillsField w y n symbol addend) (sym e.1) (subst (λ (m : ℕ). FillsField w (ByteSize Eight) m symbol addend) (sym e.0) (stores_size w symbol addend named))
+size_fills : (l : Layout) (w : World) (n symbol addend : ℕ) (z : RelocationSize) → IsSizeRow l n z → IsNamed w symbol → FillsField (processor_of l.machine) w z n symbol addend
+size_fills l w n symbol addend z h named =
+    let P : RelocationSize → Type 0 = λ y. FillsField (processor_of l.machine) w y n symbol addend in
+    elim h.1 [
+      | inl e ↦ subst P (sym e.1) (stores_half (processor_of l.machine) w n symbol addend h.0 e.0 named)
+      | inr e ↦ subst P (sym e.1) (stores_size (processor_of l.machine) w n symbol addend h.0 e.0 named)
+    ]
 
-pub left_fills : (l : Layout) (w : World) (s : InputSection) (r : InputRelocation) (z : RelocationSize) (n symbol addend : ℕ) → l.machine ≡ machine.X86_64 → NumbersFit l → IsLegal l w → IsLaidOut l → decided l (item_of s) r ≡ Ok (Left z n symbol addend) → FillsField w z n symbol addend
-left_fills l w s r z n symbol addend x numbers legal laid h = left_case (FillsField w) l s r z n symbol addend (record {
-  address = λ i index e. subst (λ (m : Machine). FillsField w (ByteSize Eight) (type_of m Absolute) index (added r)) (sym x) (stores_address w index (added r) (named_by l w i index legal laid e));
-  chosen = λ i value f e. subst (λ (m : Machine). FillsField w (ByteSize Eight) (type_of m Irelative) 0 value) (sym x) (chosen_fills l w i value numbers legal f e);
-  size = λ i index row q e. size_fills w r.number index (added r) row.size q (named_by l w i index legal laid e);
+pub left_fills : (l : Layout) (w : World) (s : InputSection) (r : InputRelocation) (z : RelocationSize) (n symbol addend : ℕ) → NumbersFit l → IsLegal l w → IsLaidOut l → decided l (item_of s) r ≡ Ok (Left z n symbol addend) → FillsField (processor_of l.machine) w z n symbol addend
+left_fills l w s r z n symbol addend numbers legal laid h = left_case (FillsField (processor_of l.machine) w) l s r z n symbol addend (record {
+  address = λ i index e. stores_address l.machine w index (added r) (named_by l w i index legal laid e);
+  chosen = λ i value f e. chosen_fills l w i value numbers legal f e;
+  size = λ i index row q e. size_fills l w r.number index (added r) row.size q (named_by l w i index legal laid e);
 }) h

@@ -14,7 +14,6 @@ use Rattle.wild_words.specs.Overlay.{Piece, AreApart}
 use Rattle.wild_words.proofs.OverlayLemmas.{Stands-overlay, overlay-outside, length-overlay}
 use Rattle.wild_records.specs.ProgramHeader.{ProgramHeaderFits, program_header_fields}
 use Rattle.wild_records.specs.declared.program_header.ProgramHeader.{ProgramHeader}
-use Rattle.wild_types.specs.declared.kind.Machine.TheVariants as machine
 use Rattle.wild_types.specs.declared.part.Role.TheVariants as role
 use Rattle.wild_types.specs.declared.section.Segment.{Segment}
 use Rattle.wild_types.specs.declared.layout.Layout.{Layout}
@@ -27,7 +26,6 @@ use Rattle.wild_layout.specs.TablePlaces.{IsPiece}
 use Rattle.wild_layout.specs.Geometry.{IsLaidOut}
 use Rattle.wild_meaning.specs.World.{IsLoadable as IsLoadableKind, IsLegal}
 use Rattle.wild_loader.specs.declared.world.World.{World}
-use Rattle.wild_loader.specs.declared.memory.Machine.TheVariants as machines
 use Rattle.wild_loader.specs.SegmentLaws.{HasHeaders, IsLoadable, AreLoadable, Ascends as HeadersAscend}
 use Rattle.wild_loader.specs.Laws.{IsStatic}
 use Rattle.wild_headers.proofs.LengthLemmas.{length-section_headers_of}
@@ -35,6 +33,8 @@ use Rattle.wild_layout.proofs.LayoutLemmas.{length-padding}
 use Rattle.wild_loaded.specs.Owners.{HasOneOwnerEach}
 use Rattle.wild_loaded.specs.Memory.{image_memory}
 use Rattle.wild_loaded.proofs.HeadersFit.{file_header_fits, name_table_below, program_header_fits, section_headers_fit, headers_told}
+use Rattle.wild_meaning.specs.Linked.{processor_of}
+use Rattle.wild_geometry.proofs.MachineLemmas.{facts_of}
 
 -- ---- owners
 
@@ -88,11 +88,11 @@ names_low l laid =
     let few = laid.sections in
     omega (arith, below, few)
 
-pub has_headers : (l : Layout) → l.machine ≡ machine.X86_64 → IsLoadableKind l.kind → NumbersFit l → IsLaidOut l → HasHeaders (bytes l) (file_header l) (map (program_header l) l.segments) (section_headers_of l l.sections)
+pub has_headers : (l : Layout) → IsLoadableKind l.kind → NumbersFit l → IsLaidOut l → HasHeaders (bytes l) (file_header l) (map (program_header l) l.segments) (section_headers_of l l.sections)
 unfolding file_header
-has_headers l m k numbers laid =
+has_headers l k numbers laid =
     record {
-      fits = file_header_fits l m k numbers laid.segments (headers_offset l laid);
+      fits = file_header_fits l k numbers laid.segments (headers_offset l laid);
       file_header = table_stands l 0 (file_header_bytes l) laid laid.tables.file_header;
       programs_fit = All-map ProgramHeaderFits (program_header l) l.segments (λ i d lt. program_header_fits l (get_or l.segments i d) numbers.page (numbers.segments i d lt));
       programs = programs_stand l laid;
@@ -152,6 +152,6 @@ pub segment_static : (l : Layout) (g : Segment) → StaticSegment g → IsStatic
 unfolding program_header
 segment_static l g h = h
 
-pub image_machine : (l : Layout) (w : World) → l.machine ≡ machine.X86_64 → (image_memory l w).machine ≡ machines.X86_64
+pub image_machine : (l : Layout) (w : World) → (image_memory l w).machine ≡ processor_of l.machine
 unfolding file_header
-image_machine l w m = rw m refl
+image_machine l w = (facts_of l.machine).header (file_header l) refl

@@ -1,6 +1,6 @@
 -- What applying the tables of an image made of the bytes that they fill, and of all others.
 use Rattle.std.proofs.Common.{◌≡◌, ℕ, ◌+◌, ◌%◌, ◌^◌, ◌<◌, List, ◌++◌, length, refl, sym, ap, ◌∙◌, arith, subst}
-use Rattle.std.specs.Prelude.{⊤, All, Contains}
+use Rattle.std.specs.Prelude.{⊤, Some, All, Contains}
 use Rattle.std.specs.List.{flat_map}
 use Rattle.std.proofs.lemmas.List.Elements.{All-contains, Contains-append_left, Contains-append_right}
 use Rattle.std.proofs.lemmas.List.Sorted.{Contains-permutation}
@@ -10,18 +10,21 @@ use Rattle.wild_records.specs.declared.relocations.Rela.{Rela}
 use Rattle.wild_types.specs.declared.layout.Layout.{Layout}
 use Rattle.wild_layout.proofs.SiteLemmas.{Contains-flat_map}
 use Rattle.wild_loader.specs.declared.change.Change.{Change}
+use Rattle.wild_loader.specs.declared.memory.Machine.{Machine as Processor}
 use Rattle.wild_loader.specs.declared.memory.Memory.{Memory}
 use Rattle.wild_loader.specs.declared.world.World.{World}
-use Rattle.wild_loader.specs.Changes.{size_of, patch_over}
+use Rattle.wild_loader.specs.Changes.{kind_of, size_of, patch_over}
 use Rattle.wild_loader.specs.Memory.{Holds, byte_in}
 use Rattle.wild_loader.specs.Places.{places}
 use Rattle.wild_loader.specs.Relocate.{loaded_at}
+use Rattle.wild_meaning.specs.Linked.{processor_of}
 use Rattle.wild_slots.specs.Stand.{SlotsStand}
 use Rattle.wild_loaded.specs.Memory.{image_memory}
 use Rattle.wild_loaded.specs.Tables.{tables_of}
 use Rattle.wild_loaded.specs.Words.{value_at, place_change, entry_change}
 use Rattle.wild_loaded.proofs.Fillings.{Table, PackedTable, RelativeTable, GeneralTable, JumpTable, Filling, Misses, IsKnown, packed_at, packed_in, relative_in, general_in, jump_in}
 use Rattle.wild_loaded.proofs.FilledTables.{AreSorted, value_is, entry_made, entry_is, all_elsewhere}
+use Rattle.wild_loaded.proofs.Loads.{image_machine}
 use Rattle.wild_loaded.proofs.SectionsKnown.{MakesThat}
 use Rattle.wild_loaded.proofs.SectionFillings.{section_fillings}
 use Rattle.wild_loaded.proofs.PlacesApart.{HavePlaces}
@@ -86,10 +89,10 @@ pub record IsMadeOver (w : World) (before m : Memory) (x : Filling) (c : Change)
   pub held : Holds before (loaded_at w x.entry.offset) old
   pub made : IsMade m (patch_over (loaded_at w x.entry.offset) c old)
 
-pub made_over : (l : Layout) (w : World) (m : Memory) (x : Filling) (c : Change) → IsMovedImage l w m → Contains (all_fillings l w) x → HasEntry x.table → MakesThat w x.entry c → size_of c ≡ x.width → IsMadeOver w (image_memory l w) m x c
+pub made_over : (l : Layout) (w : World) (m : Memory) (x : Filling) (c : Change) → IsMovedImage l w m → Contains (all_fillings l w) x → HasEntry x.table → MakesThat (processor_of l.machine) w x.entry c → size_of c ≡ x.width → IsMadeOver w (image_memory l w) m x c
 made_over l w m x c h listed some makes size =
     let before = image_memory l w in
     let known = All-contains (IsKnown w before) (all_fillings l w) x h.sorted.known listed in
-    let patch = entry_is w before x.entry (patch_over (loaded_at w x.entry.offset) c known.old) (entry_made w before x.entry makes.kind c known.old h.laws.filled.changes h.sorted.machine makes.known makes.made known.held (known.wide ∙ sym size)) in
+    let patch = entry_is w before x.entry (patch_over (loaded_at w x.entry.offset) c known.old) (entry_made w before x.entry makes.kind c known.old h.laws.filled.changes (subst (λ (p : Processor). kind_of p x.entry.number ≡ Some makes.kind) (sym (image_machine l w)) makes.known) makes.made known.held (known.wide ∙ sym size)) in
     let made = All-contains (λ (e : Rela). IsMade m (entry_change w before e)) ((tables_of l).entries ++ (tables_of l).jumps) x.entry h.applied.entries (entry_listed l w m x h listed some) in
     record { old = known.old; wide = known.wide; held = known.held; made = subst (IsMade m) patch made }

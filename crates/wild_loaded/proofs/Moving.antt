@@ -3,7 +3,6 @@ use Rattle.std.proofs.Common.{◌≡◌, ℕ, ◌+◌, Bool, true, false, [], le
 use Rattle.std.specs.Prelude.{Some, Ok, Contains, if◌then◌else◌}
 use Rattle.std.proofs.lemmas.List.Elements.{All-contains, Contains-append_right}
 use Rattle.wild_words.proofs.Basics.{Contains-map}
-use Rattle.wild_types.specs.declared.kind.Machine.TheVariants as machine
 use Rattle.wild_types.specs.declared.file.FileRole.{FileRole}
 use Rattle.wild_types.specs.declared.file.FileRole.TheVariants as file_role
 use Rattle.wild_types.specs.declared.layout.Layout.{Layout}
@@ -77,7 +76,7 @@ copied_listed l i c =
 
 copy_moved : (l : Layout) (w : World) (m : Memory) (i raw : ℕ) (x : Answer) → IsMovedImage l w m → HasCopy l w i raw x → Holds m (w.base + raw) x.bytes
 copy_moved l w m i raw x h c =
-    let k = h.laws.filled.copies.changes.copies l w i raw x h.well.x86 h.well.numbers h.well.legal h.well.laid c in
+    let k = h.laws.filled.copies.changes.copies l w i raw x h.well.numbers h.well.legal h.well.laid c in
     let wide : copy_width w (copy_entry l i) ≡ length x.bytes = ap width_by k.makes in
     let f = copy_filling l w i in
     let listed = Contains-append_right (stored_fillings l) (copies_filled l w) f (Contains-map (copy_filling l w) (all_copies l) i (copied_listed l i c.copied)) in
@@ -95,8 +94,8 @@ item_moved : (l : Layout) (w : World) (m : Memory) (s : Item) → IsMovedImage l
 item_moved l w m s h (OfSection x k is) = subst (λ (i : Item). HasItem l w m i InMemory) (sym is) (section_moved l w m x h (kept_well l x h.well.laid h.well.decided k))
 
 pub memory_moved : MovingLaws → MemoryIsMoved
-memory_moved laws = λ l w m x kind numbers legal laid decided whole none applied.
-    let h = moved_image l w m laws (record { x86 = x; kind = kind; numbers = numbers; legal = legal; laid = laid; decided = decided; whole = whole; none = none }) applied in
+memory_moved laws = λ l w m kind numbers legal laid decided whole none applied.
+    let h = moved_image l w m laws (record { kind = kind; numbers = numbers; legal = legal; laid = laid; decided = decided; whole = whole; none = none }) applied in
     record {
       items = λ s kept. item_moved l w m s h kept;
       slots = slots_loaded l w m h;
@@ -125,37 +124,37 @@ record IsLoadedBy (l : Layout) (w : World) : Type 0 where
   accepted : load w (bytes l) ≡ Ok memory
   applied : HasApplied l w memory
 
-dynamic_loaded : (l : Layout) (w : World) → ImageLaws → needs_dynamic l.kind ≡ true → l.machine ≡ machine.X86_64 → IsLoadable l.kind → NumbersFit l → IsLegal l w → IsLaidOut l → HasWholeSlots l → AreMade l w → IsLoadedBy l w
-dynamic_loaded l w laws needs x kind numbers legal laid whole made =
+dynamic_loaded : (l : Layout) (w : World) → ImageLaws → needs_dynamic l.kind ≡ true → IsLoadable l.kind → NumbersFit l → IsLegal l w → IsLaidOut l → HasWholeSlots l → AreMade l w → IsLoadedBy l w
+dynamic_loaded l w laws needs kind numbers legal laid whole made =
     let t = laws.found l needs numbers laid whole in
     let before = image_memory l w in
-    let is = laws.dynamic w (bytes l) (file_header l) (headers_of l) (section_headers_of l l.sections) t.entries (tables_of l) (laws.headers.stand l x kind numbers laid) (laws.headers.taken l x kind) (laws.segments.loadable l w legal laid) t.dynamic t.tables in
+    let is = laws.dynamic w (bytes l) (file_header l) (headers_of l) (section_headers_of l l.sections) t.entries (tables_of l) (laws.headers.stand l kind numbers laid) (laws.headers.taken l kind) (laws.segments.loadable l w legal laid) t.dynamic t.tables in
     let h = has_changed w before (tables_of l) laws.applied made.made made.apart in
     record {
       memory = patched before (patches_of (tables_of l) (place_change w before) (entry_change w before));
       accepted = is ∙ h.is;
-      applied = record { machine = h.machine ∙ laws.segments.machine l w x; words = h.words; entries = h.entries; others = h.others };
+      applied = record { machine = h.machine ∙ laws.segments.machine l w; words = h.words; entries = h.entries; others = h.others };
     }
 
-static_loaded : (l : Layout) (w : World) → ImageLaws → needs_dynamic l.kind ≡ false → l.machine ≡ machine.X86_64 → IsLoadable l.kind → NumbersFit l → IsLegal l w → IsLaidOut l → HasWholeSlots l → AreMade l w → IsLoadedBy l w
-static_loaded l w laws plain x kind numbers legal laid whole made =
+static_loaded : (l : Layout) (w : World) → ImageLaws → needs_dynamic l.kind ≡ false → IsLoadable l.kind → NumbersFit l → IsLegal l w → IsLaidOut l → HasWholeSlots l → AreMade l w → IsLoadedBy l w
+static_loaded l w laws plain kind numbers legal laid whole made =
     let t = laws.sections l kind plain numbers laid whole in
     let before = image_memory l w in
     let rs = section_relas (section_headers_of l l.sections) t.of in
-    let is = laws.static w (bytes l) (file_header l) (headers_of l) (section_headers_of l l.sections) t.of (laws.headers.stand l x kind numbers laid) (laws.headers.taken l x kind) (laws.segments.loadable l w legal laid) (no-dynamic (headers_of l) t.static) t.told t.sections in
+    let is = laws.static w (bytes l) (file_header l) (headers_of l) (section_headers_of l l.sections) t.of (laws.headers.stand l kind numbers laid) (laws.headers.taken l kind) (laws.segments.loadable l w legal laid) (no-dynamic (headers_of l) t.static) t.told t.sections in
     let h = has_changed w before (alone rs) laws.applied (alone_made w before (tables_of l) rs t.all made.made) (alone_apart w before (tables_of l) rs laws.order t.words t.all made.apart) in
     let back = alone_changed w before (patched before (patches_of (alone rs) (place_change w before) (entry_change w before))) (tables_of l) rs t.words t.all h in
     record {
       memory = patched before (patches_of (alone rs) (place_change w before) (entry_change w before));
       accepted = is ∙ h.is;
-      applied = record { machine = h.machine ∙ laws.segments.machine l w x; words = back.0.0; entries = back.0.1; others = back.1 };
+      applied = record { machine = h.machine ∙ laws.segments.machine l w; words = back.0.0; entries = back.0.1; others = back.1 };
     }
 
 pub images_loaded : ImageLaws → ImagesAreLoaded
-images_loaded laws = λ l w x kind numbers legal laid decided whole none.
-    let made = laws.made l w x kind numbers legal laid decided whole none in
-    let loaded = by_kind l w (needs_dynamic l.kind) refl x kind numbers legal laid whole made in
-    let h = laws.moved l w loaded.memory x kind numbers legal laid decided whole none loaded.applied in
+images_loaded laws = λ l w kind numbers legal laid decided whole none.
+    let made = laws.made l w kind numbers legal laid decided whole none in
+    let loaded = by_kind l w (needs_dynamic l.kind) refl kind numbers legal laid whole made in
+    let h = laws.moved l w loaded.memory kind numbers legal laid decided whole none loaded.applied in
     record {
       memory = loaded.memory;
       accepted = loaded.accepted;
@@ -166,6 +165,6 @@ images_loaded laws = λ l w x kind numbers legal laid decided whole none.
       copies = h.copies;
     }
   where
-    by_kind : (l : Layout) (w : World) (b : Bool) → needs_dynamic l.kind ≡ b → l.machine ≡ machine.X86_64 → IsLoadable l.kind → NumbersFit l → IsLegal l w → IsLaidOut l → HasWholeSlots l → AreMade l w → IsLoadedBy l w
-    by_kind l w true needs x kind numbers legal laid whole made = dynamic_loaded l w laws needs x kind numbers legal laid whole made
-    by_kind l w false plain x kind numbers legal laid whole made = static_loaded l w laws plain x kind numbers legal laid whole made
+    by_kind : (l : Layout) (w : World) (b : Bool) → needs_dynamic l.kind ≡ b → IsLoadable l.kind → NumbersFit l → IsLegal l w → IsLaidOut l → HasWholeSlots l → AreMade l w → IsLoadedBy l w
+    by_kind l w true needs kind numbers legal laid whole made = dynamic_loaded l w laws needs kind numbers legal laid whole made
+    by_kind l w false plain kind numbers legal laid whole made = static_loaded l w laws plain kind numbers legal laid whole made

@@ -9,8 +9,6 @@ use Rattle.wild_words.proofs.ListLemmas.{All-flat_map}
 use Rattle.wild_records.specs.declared.relocations.Rela.{Rela}
 use Rattle.wild_reloc.specs.Field.{size_width}
 use Rattle.wild_reloc.specs.declared.info.RelocationSize.{RelocationSize}
-use Rattle.wild_types.specs.declared.kind.Machine.{Machine}
-use Rattle.wild_types.specs.declared.kind.Machine.TheVariants as machine
 use Rattle.wild_types.specs.declared.input.InputRelocation.{InputRelocation}
 use Rattle.wild_types.specs.declared.input.InputSection.{InputSection}
 use Rattle.wild_types.specs.Item.{item_of}
@@ -26,12 +24,13 @@ use Rattle.wild_layout.specs.Moved.{moved_value}
 use Rattle.wild_layout.proofs.DecideLemmas.{IsMoved}
 use Rattle.wild_meaning.specs.World.{IsLegal}
 use Rattle.wild_tables.specs.Tables.{relative_entry}
-use Rattle.wild_tables.specs.Laws.{EntriesAddTheBase, loader_machine}
+use Rattle.wild_geometry.proofs.MachineLemmas.{facts_of}
+use Rattle.wild_meaning.specs.Linked.{processor_of}
+use Rattle.wild_loaded.proofs.Loads.{image_machine}
 use Rattle.wild_loader.specs.declared.change.Change.{Change}
 use Rattle.wild_loader.specs.declared.change.Change.TheVariants as changes
 use Rattle.wild_loader.specs.declared.kind.DynamicKind.{DynamicKind}
 use Rattle.wild_loader.specs.declared.kind.DynamicKind.TheVariants as kinds
-use Rattle.wild_loader.specs.declared.memory.Machine.TheVariants as machines
 use Rattle.wild_loader.specs.declared.world.World.{World}
 use Rattle.wild_loader.specs.Changes.{kind_of, change_of, size_of}
 use Rattle.wild_loader.specs.Memory.{Holds}
@@ -47,6 +46,10 @@ use Rattle.wild_loaded.proofs.PlacesApart.{all_places}
 use Rattle.wild_loaded.proofs.SectionFillings.{moved_filling, section_fillings, Fills}
 use Rattle.wild_loaded.proofs.KeptSections.{IsKeptWell}
 use Rattle.wild_loaded.proofs.FilledSections.{IsFilledThere, width_some, filling_known, filled_there, place_sum}
+use Rattle.wild_loader.specs.declared.memory.Machine.{Machine as Processor}
+use Rattle.std.proofs.lemmas.Int.{of_z-to_z}
+use Rattle.std.specs.Int.{w64}
+use Rattle.wild_reloc.specs.declared.dynamic.DynamicRelocationKind.TheVariants.{Relative}
 
 -- ---- the changes of entries
 
@@ -65,28 +68,28 @@ change_elsewhere w kinds.Copy e f s a = rw s refl
 change_elsewhere w kinds.Size32 e f s a = rw (s, a) refl
 change_elsewhere w kinds.Size64 e f s a = rw (s, a) refl
 
--- the entry makes that change
-pub record MakesThat (w : World) (e : Rela) (c : Change) : Type 0 where
+-- the entry makes a loader of the processor do that
+pub record MakesThat (p : Processor) (w : World) (e : Rela) (c : Change) : Type 0 where
   pub kind : DynamicKind
-  pub known : kind_of machines.X86_64 e.number ≡ Some kind
+  pub known : kind_of p e.number ≡ Some kind
   pub made : change_of w kind e ≡ Ok c
 
-pub makes_that : (w : World) (e : Rela) (number symbol addend : ℕ) (c : Change) → e.number ≡ number → e.symbol ≡ symbol → e.addend ≡ (entry_with number symbol addend).addend → MakesChange w number symbol addend c → MakesThat w e c
-makes_that w e number symbol addend c en es ea h = record {
+pub makes_that : (p : Processor) (w : World) (e : Rela) (number symbol addend : ℕ) (c : Change) → e.number ≡ number → e.symbol ≡ symbol → e.addend ≡ (entry_with number symbol addend).addend → MakesChange p w number symbol addend c → MakesThat p w e c
+makes_that p w e number symbol addend c en es ea h = record {
   kind = h.kind;
-  known = ap (λ (n : ℕ). kind_of machines.X86_64 n) en ∙ h.known;
+  known = ap (λ (n : ℕ). kind_of p n) en ∙ h.known;
   made = change_elsewhere w h.kind e (entry_with number symbol addend) es ea ∙ h.makes;
 }
 
-pub has_change : (w : World) (e : Rela) (c : Change) (n : ℕ) → MakesThat w e c → size_of c ≡ n → HasChange w e n
-has_change w e c n h size = record { kind = h.kind; known = h.known; change = c; made = h.made; size = size }
+pub has_change : (l : Layout) (w : World) (e : Rela) (c : Change) (n : ℕ) → MakesThat (processor_of l.machine) w e c → size_of c ≡ n → HasChange (image_memory l w).machine w e n
+has_change l w e c n h size = record { kind = h.kind; known = subst (λ (p : Processor). kind_of p e.number ≡ Some h.kind) (sym (image_machine l w)) h.known; change = c; made = h.made; size = size }
 
 -- the entry of a field
-pub field_makes : (w : World) (at number symbol addend : ℕ) (z : RelocationSize) → (h : FillsField w z number symbol addend) → MakesThat w (entry_for at number symbol addend) h.change
-field_makes w at number symbol addend z h =
+pub field_makes : (p : Processor) (w : World) (at number symbol addend : ℕ) (z : RelocationSize) → (h : FillsField p w z number symbol addend) → MakesThat p w (entry_for at number symbol addend) h.change
+field_makes p w at number symbol addend z h =
     let n = h.type_fits in
     let i = h.index_fits in
-    makes_that w (entry_for at number symbol addend) number symbol addend h.change (omega (arith, n)) (omega (arith, i)) refl h.makes
+    makes_that p w (entry_for at number symbol addend) number symbol addend h.change (omega (arith, n)) (omega (arith, i)) refl h.makes
 
 -- it stores a number in a field that has bytes
 pub stored_size : (c : Change) (n : ℕ) → 1 ≤ n → length (stored_bytes c) ≡ n → size_of c ≡ n
@@ -98,17 +101,14 @@ stored_size (changes.Descriptor o) n some e = absurd (omega (arith, some, e))
 
 -- what relative entries store
 pub record RelativeLaws : Type 0 where
-  pub base : EntriesAddTheBase
   pub relatives : RelativesStoreWords
 
-pub relative_makes : (l : Layout) (w : World) (at v : ℕ) → RelativeLaws → l.machine ≡ machine.X86_64 → v < 2 ^ 64 → MakesThat w (relative_entry l at v) (changes.Word ((w.base + v) % 2 ^ 64))
-relative_makes l w at v laws x fits =
-    let h = laws.base l w.base at v fits in
-    record {
-      kind = kinds.Relative;
-      known = subst (λ (m : Machine). kind_of (loader_machine m) (relative_entry l at v).number ≡ Some kinds.Relative) x h.0;
-      made = laws.relatives w (relative_entry l at v) ∙ ap (λ (n : ℕ). Ok (changes.Word n)) h.1;
-    }
+pub relative_makes : (l : Layout) (w : World) (at v : ℕ) → RelativeLaws → v < 2 ^ 64 → MakesThat (processor_of l.machine) w (relative_entry l at v) (changes.Word ((w.base + v) % 2 ^ 64))
+relative_makes l w at v laws fits = record {
+  kind = kinds.Relative;
+  known = (facts_of l.machine).entries Relative;
+  made = laws.relatives w (relative_entry l at v) ∙ ap (λ (n : ℕ). Ok (changes.Word ((w.base + n) % 2 ^ 64))) (of_z-to_z w64 v fits);
+}
 
 -- ---- the bytes before
 
@@ -128,8 +128,8 @@ number_low : (w : World) (b : Bool) (n : ℕ) → n < 2 ^ 64 → number_at InFil
 number_low w true n h = h
 number_low w false n h = omega arith
 
-filling_there : (l : Layout) (w : World) (s : InputSection) (x : Filling) → SectionLaws → l.machine ≡ machine.X86_64 → NumbersFit l → IsLegal l w → IsLaidOut l → IsFilledThere l s x → IsKnown w (image_memory l w) x
-filling_there l w s x laws x86 numbers legal laid h = by_decision h.by.decision h.by.made h.has h.by.fills
+filling_there : (l : Layout) (w : World) (s : InputSection) (x : Filling) → SectionLaws → NumbersFit l → IsLegal l w → IsLaidOut l → IsFilledThere l s x → IsKnown w (image_memory l w) x
+filling_there l w s x laws numbers legal laid h = by_decision h.by.decision h.by.made h.has h.by.fills
   where
     here : Contains s.relocations h.filling.relocation
     here = listed_at s.relocations h.filling.index h.filling.relocation h.filling.listed
@@ -160,8 +160,8 @@ filling_there l w s x laws x86 numbers legal laid h = by_decision h.by.decision 
         let eight : x.width ≡ 8 = ap (λ (y : Filling). y.width) e in
         let held = subst (λ (a : ℕ). Holds (image_memory l w) a (word 8 0)) (place_is (omega (arith, eight))) ((before l w s laws.stored legal laid h.well).addresses h.filling.index h.filling.relocation v false has) in
         let small : moved_value l h.filling.relocation < 2 ^ 64 = omega arith in
-        let made' = relative_makes l w (place_of s.address h.filling.relocation) (moved_value l h.filling.relocation) laws.relative x86 small in
-        let change : HasChange w (relative_entry l (place_of s.address h.filling.relocation) (moved_value l h.filling.relocation)) 8 = has_change w _ _ 8 made' refl in
+        let made' = relative_makes l w (place_of s.address h.filling.relocation) (moved_value l h.filling.relocation) laws.relative small in
+        let change : HasChange (image_memory l w).machine w (relative_entry l (place_of s.address h.filling.relocation) (moved_value l h.filling.relocation)) 8 = has_change l w _ _ 8 made' refl in
         let P : Filling → Type 0 = λ y. (1 ≤ y.width → w.base + y.entry.offset + y.width ≤ 2 ^ 64) → Holds (image_memory l w) (loaded_at w y.entry.offset) (word 8 0) → IsKnown w (image_memory l w) y in
         subst P (sym e) (λ below there. record { low = below; old = word 8 0; wide = length-word 8 0; held = there; makes = change }) low held
 
@@ -172,8 +172,8 @@ filling_there l w s x laws x86 numbers legal laid h = by_decision h.by.decision 
         let width : x.width ≡ size_width z = ap (λ (y : Filling). y.width) e in
         let zeros = subst (λ (bs : List ℕ). Holds (image_memory l w) (w.base + s.address + h.filling.relocation.offset) bs) b.2 b.1 in
         let held = subst (λ (a : ℕ). Holds (image_memory l w) a (replicate (size_width z) 0)) (place_is some) zeros in
-        let fills = laws.changes.left l w s h.filling.relocation z n symbol addend x86 numbers legal laid here h.well.kept.input made in
-        let change = has_change w _ fills.change (size_width z) (field_makes w (place_of s.address h.filling.relocation) n symbol addend z fills) (stored_size fills.change (size_width z) (omega (arith, some, width)) fills.width) in
+        let fills = laws.changes.left l w s h.filling.relocation z n symbol addend numbers legal laid here h.well.kept.input made in
+        let change = has_change l w _ fills.change (size_width z) (field_makes (processor_of l.machine) w (place_of s.address h.filling.relocation) n symbol addend z fills) (stored_size fills.change (size_width z) (omega (arith, some, width)) fills.width) in
         let P : Filling → Type 0 = λ y. (1 ≤ y.width → w.base + y.entry.offset + y.width ≤ 2 ^ 64) → Holds (image_memory l w) (loaded_at w y.entry.offset) (replicate (size_width z) 0) → IsKnown w (image_memory l w) y in
         subst P (sym e) (λ below there. record { low = below; old = replicate (size_width z) 0; wide = length-replicate (size_width z) 0; held = there; makes = change }) low held
 
@@ -186,7 +186,7 @@ filling_there l w s x laws x86 numbers legal laid h = by_decision h.by.decision 
     by_decision Partner made has f = absurd f
 
 -- so it is with all of them
-pub sections_known : (l : Layout) (w : World) → SectionLaws → l.machine ≡ machine.X86_64 → NumbersFit l → IsLegal l w → IsLaidOut l → EachDecided l → All (IsKnown w (image_memory l w)) (all_places l (section_fillings l))
-sections_known l w laws x86 numbers legal laid decided =
+pub sections_known : (l : Layout) (w : World) → SectionLaws → NumbersFit l → IsLegal l w → IsLaidOut l → EachDecided l → All (IsKnown w (image_memory l w)) (all_places l (section_fillings l))
+sections_known l w laws numbers legal laid decided =
     All-flat_map (IsKnown w (image_memory l w)) (section_fillings l) (all_sections l)
-    (All-each (λ (s : InputSection). All (IsKnown w (image_memory l w)) (section_fillings l s)) (all_sections l) (λ s c. All-each (IsKnown w (image_memory l w)) (section_fillings l s) (λ x cx. filling_there l w s x laws x86 numbers legal laid (filled_there l s x laid decided c (filling_known l s x cx)))))
+    (All-each (λ (s : InputSection). All (IsKnown w (image_memory l w)) (section_fillings l s)) (all_sections l) (λ s c. All-each (IsKnown w (image_memory l w)) (section_fillings l s) (λ x cx. filling_there l w s x laws numbers legal laid (filled_there l s x laid decided c (filling_known l s x cx)))))

@@ -56,6 +56,7 @@ use Rattle.wild_loaded.proofs.TableLists.{sections_filled, slots_filled, blocks_
 use Rattle.wild_loaded.proofs.CopyFillings.{copies_filled}
 use Rattle.wild_loaded.proofs.MadeChanges.{IsMovedImage, kept_at, packed_made, made_over}
 use Rattle.wild_loaded.proofs.OutsideTables.{section_misses}
+use Rattle.wild_meaning.specs.Linked.{processor_of}
 
 -- ---- bytes that no entry touches
 
@@ -217,7 +218,7 @@ address_moved l w m s i r v packed h well has = by_packed packed has (decided_mo
         let at = place_is l w m s r (relative_of e) h well c given refl (omega arith) (ends_of l s r (ByteSize Eight) well c (moved_has l (item_of s) r v false f)) in
         let listed = (filling_listed l w s r (relative_of e) well c given).1 in
         let small : moved_value l r < 2 ^ 64 = omega arith in
-        let makes = relative_makes l w (place_of s.address r) (moved_value l r) h.laws.filled.sections.relative h.well.x86 small in
+        let makes = relative_makes l w (place_of s.address r) (moved_value l r) h.laws.filled.sections.relative small in
         let over = made_over l w m (relative_of e) (changes.Word ((w.base + moved_value l r) % 2 ^ 64)) h listed tt makes refl in
         let same = value_same l s r v false f in
         let turn : (w.base + moved_value l r) % 2 ^ 64 ≡ (v + w.base) % 2 ^ 64 = ap (λ (n : ℕ). n % 2 ^ 64) (omega (arith, same)) in
@@ -233,7 +234,7 @@ after_is (changes.Add v) n old some e = absurd (omega (arith, some, e))
 after_is (changes.Descriptor o) n old some e = absurd (omega (arith, some, e))
 
 left_filled : (l : Layout) (w : World) (m : Memory) (s : InputSection) (i : ℕ) (r : InputRelocation) (z : RelocationSize) (n symbol addend : ℕ) → IsMovedImage l w m → IsKeptWell l s → HasDecision l (item_of s) i r (Left z n symbol addend)
-    → (bs : List ℕ) × Holds m (w.base + s.address + r.offset) bs × ReadsLeft InMemory w z n symbol addend bs
+    → (bs : List ℕ) × Holds m (w.base + s.address + r.offset) bs × ReadsLeft (processor_of l.machine) InMemory w z n symbol addend bs
 left_filled l w m s i r z n symbol addend h well has =
     let c = listed_at s.relocations i r has.listed in
     let made = (decide_left l (item_of s) i r z n symbol addend has.listed has.decided).made in
@@ -242,8 +243,8 @@ left_filled l w m s i r z n symbol addend h well has =
     let some = field_has_bytes l r z (decided_left l (item_of s) r z n symbol addend made).field in
     let at = place_is l w m s r x h well c given refl (omega (arith, some)) (ends_of l s r z well c (decided_left l (item_of s) r z n symbol addend made).field) in
     let listed = (filling_listed l w s r x well c given).1 in
-    let fills = h.laws.filled.sections.changes.left l w s r z n symbol addend h.well.x86 h.well.numbers h.well.legal h.well.laid c well.kept.input made in
-    let makes = field_makes w (place_of s.address r) n symbol addend z fills in
+    let fills = h.laws.filled.sections.changes.left l w s r z n symbol addend h.well.numbers h.well.legal h.well.laid c well.kept.input made in
+    let makes = field_makes (processor_of l.machine) w (place_of s.address r) n symbol addend z fills in
     let over = made_over l w m x fills.change h listed tt makes (stored_size fills.change (size_width z) (omega (arith, some)) fills.width) in
     let bytes = after_is fills.change (size_width z) over.old (omega (arith, some)) fills.width in
     let held = subst (λ (bs : List ℕ). Holds m (loaded_at w (place_of s.address r)) bs) bytes over.made.held in

@@ -1,6 +1,6 @@
 -- The words of slots after a loader applied the tables of an image.
 use Rattle.std.proofs.Common.{◌≡◌, ℕ, ◌+◌, ◌-◌, ◌%◌, ◌^◌, ◌<◌, ◌≤◌, ◌⊎◌, inl, inr, Bool, true, false, List, ◌++◌, length, get_or, refl, sym, ap, ◌∙◌, arith, subst}
-use Rattle.std.specs.Prelude.{Option, Some, All, Contains, option_to_list, if◌then◌else◌}
+use Rattle.std.specs.Prelude.{Option, Some, All, Contains, option_to_list, if◌then◌else◌, Ok}
 use Rattle.std.proofs.lemmas.List.Elements.{All-contains, Contains-append_left, Contains-append_right}
 use Rattle.wild_words.specs.Words.{word}
 use Rattle.wild_words.proofs.WordLemmas.{length-word}
@@ -17,7 +17,7 @@ use Rattle.wild_loader.specs.declared.change.Change.{Change}
 use Rattle.wild_loader.specs.declared.change.Change.TheVariants as changes
 use Rattle.wild_loader.specs.declared.memory.Memory.{Memory}
 use Rattle.wild_loader.specs.declared.world.World.{World}
-use Rattle.wild_loader.specs.Changes.{bytes_after, patch_over, first_value}
+use Rattle.wild_loader.specs.Changes.{bytes_after, patch_over, first_value, change_of}
 use Rattle.wild_loader.specs.Memory.{Holds, byte_in}
 use Rattle.wild_loader.specs.Relocate.{loaded_at}
 use Rattle.wild_geometry.specs.Slots.{IsLeft, IsFilledBy, IsLoadedWord}
@@ -40,6 +40,10 @@ use Rattle.wild_loaded.proofs.AllTables.{slots_of_well}
 use Rattle.wild_loaded.proofs.MadeChanges.{IsMovedImage, HasEntry, kept_at, packed_made, made_over}
 use Rattle.wild_loaded.proofs.OutsideTables.{got_misses}
 use Rattle.wild_loaded.proofs.NumbersKept.{IsClear, IsSecond, all_kept}
+use Rattle.wild_meaning.specs.Linked.{processor_of}
+use Rattle.wild_loader.specs.declared.memory.Machine.{Machine as Processor}
+use Rattle.wild_geometry.specs.EntryKinds.{loaded_kind}
+use Rattle.wild_geometry.specs.Loaded.{entry_with}
 
 -- what a loader made of the word of a site
 pub record IsLoadedSite (w : World) (m : Memory) (at : ℕ) (d : SlotWord) : Type 0 where
@@ -92,7 +96,7 @@ address_after l w m at v h c k = by_test (is_packed l.options.relr at) refl
     by_test true t = packed_after l w m at v (Address v) h (listed true t) k.stored (sym (value_is true t)) refl
     by_test false f =
         let e : Rela = address_entry l.machine at v in
-        let makes = relative_makes l w at v h.laws.filled.slots.relative h.well.x86 k.fits in
+        let makes = relative_makes l w at v h.laws.filled.slots.relative k.fits in
         let over = made_over l w m (relative_of e) (changes.Word ((w.base + v) % 2 ^ 64)) h (listed false f) tt makes refl in
         let turn : (w.base + v) % 2 ^ 64 ≡ (v + w.base) % 2 ^ 64 = ap (λ (n : ℕ). n % 2 ^ 64) (omega arith) in
         let there = stored_loaded l w at (Address v) k.stored in
@@ -118,10 +122,10 @@ pub record IsSlotMade (l : Layout) (w : World) (m : Memory) (at : ℕ) (e : Slot
   pub after : Holds m (w.base + at) (bytes_after c old)
   pub noted : (o : ℕ) → c ≡ changes.Descriptor o → first_value m.descriptors (w.base + at) ≡ Some o
 
-slot_made : (l : Layout) (w : World) (m : Memory) (at : ℕ) (t : Table) (e : SlotEntry) (d : SlotWord) → IsMovedImage l w m → Contains (got_sites l) (site at d) → HasEntry t → slot_filling l at d ≡ Some (record { table = t; entry = entry_at l.machine at e; width = filled_width e }) → IsWordStored l w at d → (f : FillsSlot w e) → IsSlotMade l w m at e f.change
+slot_made : (l : Layout) (w : World) (m : Memory) (at : ℕ) (t : Table) (e : SlotEntry) (d : SlotWord) → IsMovedImage l w m → Contains (got_sites l) (site at d) → HasEntry t → slot_filling l at d ≡ Some (record { table = t; entry = entry_at l.machine at e; width = filled_width e }) → IsWordStored l w at d → (f : FillsSlot (processor_of l.machine) w e) → IsSlotMade l w m at e f.change
 slot_made l w m at t e d h c some is s f =
     let x : Filling = record { table = t; entry = entry_at l.machine at e; width = filled_width e } in
-    let over = made_over l w m x f.change h (slot_listed l w at d x c is) some (slot_makes l w at e h.well.x86 f) (fills_size (filled_width e) f.change f.fills) in
+    let over = made_over l w m x f.change h (slot_listed l w at d x c is) some (slot_makes l w at e f) (fills_size (filled_width e) f.change f.fills) in
     let there = stored_loaded l w at d s in
     record {
       old = over.old;
@@ -142,15 +146,18 @@ pub record LeavesWord (w : World) (m : Memory) (at : ℕ) (e : SlotEntry) : Type
   pub held : Holds m (w.base + at) (word 8 value)
   pub is : IsFilledBy w m (w.base + at) e value
 
-entry_after : (l : Layout) (w : World) (m : Memory) (at : ℕ) (e : SlotEntry) (d : SlotWord) → IsWordStored l w at d → (f : FillsSlot w e) → IsSlotMade l w m at e f.change → LeavesWord w m at e
-entry_after l w m at e d s f made = by_change f.change refl f.fills
+entry_after : (l : Layout) (w : World) (m : Memory) (at : ℕ) (e : SlotEntry) (d : SlotWord) → m.machine ≡ processor_of l.machine → IsWordStored l w at d → (f : FillsSlot (processor_of l.machine) w e) → IsSlotMade l w m at e f.change → LeavesWord w m at e
+entry_after l w m at e d p s f made = by_change f.change refl f.fills
   where
+    makes : change_of w (loaded_kind m.machine e.kind) (entry_with 0 e.symbol e.addend) ≡ Ok f.change
+    makes = subst (λ (k : Processor). change_of w (loaded_kind k e.kind) (entry_with 0 e.symbol e.addend) ≡ Ok f.change) (sym p) f.makes
+
     by_change : (c : Change) → f.change ≡ c → FillsWords (filled_width e) c → LeavesWord w m at e
     by_change (changes.Word v) k h = record {
       value = v;
       fits = h.1;
       held = subst (λ (c : Change). Holds m (w.base + at) (bytes_after c made.old)) k made.after;
-      is = record { change = f.change; makes = f.makes; leaves = subst (λ (c : Change). IsLeft m (w.base + at) c v) (sym k) refl };
+      is = record { change = f.change; makes = makes; leaves = subst (λ (c : Change). IsLeft m (w.base + at) c v) (sym k) refl };
     }
     by_change (changes.Descriptor o) k h =
         let wide = made.wide in
@@ -158,7 +165,7 @@ entry_after l w m at e d s f made = by_change f.change refl f.fills
           value = s.value;
           fits = s.fits;
           held = same_word (image_memory l w) m (w.base + at) s.value made.old (omega (arith, wide, h)) made.before (subst (λ (c : Change). Holds m (w.base + at) (bytes_after c made.old)) k made.after) s.held;
-          is = record { change = f.change; makes = f.makes; leaves = subst (λ (c : Change). IsLeft m (w.base + at) c s.value) (sym k) (made.noted o k) };
+          is = record { change = f.change; makes = makes; leaves = subst (λ (c : Change). IsLeft m (w.base + at) c s.value) (sym k) (made.noted o k) };
         }
     by_change (changes.Half v) k h = absurd h
     by_change (changes.Fill bytes) k h = absurd h
@@ -240,8 +247,8 @@ site_after l w m at d h c own = by_word d c own (All-contains (SiteIsKnown l w) 
     by_word (Address v) c own k = address_after l w m at v h c k
     by_word (InBlock v) c own k = block_after l w m at v h (own v refl) k.stored
     by_word (General e) c own k =
-        let x = entry_after l w m at e (General e) k.stored k.fills (slot_made l w m at GeneralTable e (General e) h c tt refl k.stored k.fills) in
+        let x = entry_after l w m at e (General e) h.applied.machine k.stored k.fills (slot_made l w m at GeneralTable e (General e) h c tt refl k.stored k.fills) in
         record { value = x.value; fits = x.fits; held = x.held; is = x.is }
     by_word (Plt e) c own k =
-        let x = entry_after l w m at e (Plt e) k.stored k.fills (slot_made l w m at JumpTable e (Plt e) h c tt refl k.stored k.fills) in
+        let x = entry_after l w m at e (Plt e) h.applied.machine k.stored k.fills (slot_made l w m at JumpTable e (Plt e) h c tt refl k.stored k.fills) in
         record { value = x.value; fits = x.fits; held = x.held; is = x.is }

@@ -11,11 +11,8 @@ use Rattle.wild_words.proofs.ListLemmas.{All-flat_map, AllPairs-nil, AllPairs-he
 use Rattle.wild_words.proofs.WordLemmas.{length-word}
 use Rattle.wild_words.proofs.Basics.{listed_at, All-each}
 use Rattle.wild_records.specs.declared.relocations.Rela.{Rela}
-use Rattle.wild_reloc.specs.Dynamic.{x86_64_type}
 use Rattle.wild_reloc.specs.declared.dynamic.DynamicRelocationKind.{DynamicRelocationKind}
 use Rattle.wild_reloc.specs.declared.dynamic.DynamicRelocationKind.TheVariants as entry_kinds
-use Rattle.wild_types.specs.declared.kind.Machine.{Machine}
-use Rattle.wild_types.specs.declared.kind.Machine.TheVariants as machine
 use Rattle.wild_slot.specs.declared.slot.SlotEntry.{SlotEntry}
 use Rattle.wild_slot.specs.declared.slot.SlotWord.{SlotWord}
 use Rattle.wild_slot.specs.declared.slot.SlotWord.TheVariants.{Number, Address, InBlock, General, Plt}
@@ -27,7 +24,7 @@ use Rattle.wild_types.specs.declared.layout.Layout.{Layout}
 use Rattle.wild_types.specs.Kinds.{is_executable}
 use Rattle.wild_slot.specs.Storage.{less}
 use Rattle.wild_slot.specs.Slots.{slot, setting_of, with_items, items_at, no_slot}
-use Rattle.wild_slot.specs.SlotParts.{is_packed, type_of, entry_at, address_entry, next}
+use Rattle.wild_slot.specs.SlotParts.{is_packed, entry_at, address_entry, next}
 use Rattle.wild_types.specs.SymbolSlots.{got_of, slots_at}
 use Rattle.wild_needs.specs.SlotShares.{word_size, storage_at, storage_words, block_place}
 use Rattle.wild_types.specs.FileSymbols.{own_symbols}
@@ -54,24 +51,29 @@ use Rattle.wild_loaded.proofs.SlotNumbers.{WordFits, words_fit, storage_fits}
 use Rattle.wild_slots.specs.Entries.{entry_in}
 use Rattle.wild_loaded.proofs.SlotSites.{SlotSite, of_site, sites_at, symbol_sites, file_sites, group_sites, all_sites, site_of}
 use Rattle.wild_loaded.proofs.Fillings.{Table, PackedTable, RelativeTable, GeneralTable, JumpTable, Filling, Makes, place_entry, packed_at, relative_of, general_of, HasChange, HasWord, IsKnown, place_loaded}
-use Rattle.wild_loaded.proofs.SectionsKnown.{MakesThat, makes_that, has_change, RelativeLaws, relative_makes}
+use Rattle.wild_loaded.proofs.SectionsKnown.{change_elsewhere, MakesThat, has_change, RelativeLaws, relative_makes}
 use Rattle.wild_loaded.proofs.SlotFillings.{address_filling, slot_filling, block_filling, pair_sites, got_sites, made_of}
 use Rattle.wild_loaded.proofs.SlotsSpaced.{IsNarrow, IsNumber, SitesSpaced}
+use Rattle.wild_meaning.specs.Linked.{processor_of}
+use Rattle.wild_loader.specs.declared.memory.Machine.{Machine as Processor}
+use Rattle.wild_geometry.proofs.MachineLemmas.{facts_of}
+use Rattle.wild_geometry.specs.EntryKinds.{loaded_kind}
+use Rattle.wild_geometry.specs.Loaded.{entry_with}
 
 -- ---- sites
 
 -- what the entry of a word does is known
-abbrev pub WordFills : World → SlotWord → Type 0
-WordFills w (General e) = FillsSlot w e
-WordFills w (Plt e) = FillsSlot w e
-WordFills w other = ⊤
+abbrev pub WordFills : Processor → World → SlotWord → Type 0
+WordFills p w (General e) = FillsSlot p w e
+WordFills p w (Plt e) = FillsSlot p w e
+WordFills p w other = ⊤
 
 -- and memory has the word
 pub record SiteIsKnown (l : Layout) (w : World) (x : SlotSite) : Type 0 where
   pub stored : IsWordStored l w x.at x.word
   pub low : x.at < 2 ^ 64
   pub fits : WordFits x.word
-  pub fills : WordFills w x.word
+  pub fills : WordFills (processor_of l.machine) w x.word
 
 -- what the crates below owe of slots
 pub record SlotLaws : Type 0 where
@@ -81,7 +83,6 @@ pub record SlotLaws : Type 0 where
 
 -- what is known of a layout
 pub record IsFilledSlots (l : Layout) (w : World) : Type 0 where
-  pub x86 : l.machine ≡ machine.X86_64
   pub kind : IsLoadable l.kind
   pub numbers : NumbersFit l
   pub legal : IsLegal l w
@@ -112,12 +113,12 @@ place_there l s x c = by_resolution s.resolution refl
     by_resolution None e = absurd (no_site (slots_at s) (slots_of l s).words x (ap (λ (o : Option Resolution). (resolved_slots l o).words) e) c)
     by_resolution (Some r) e = by_place r r.got_address e refl
 
-word_fills : (w : World) (d : SlotWord) → ((e : SlotEntry) → entry_in d ≡ Some e → FillsSlot w e) → WordFills w d
-word_fills w (Number n) h = tt
-word_fills w (Address a) h = tt
-word_fills w (InBlock a) h = tt
-word_fills w (General e) h = h e refl
-word_fills w (Plt e) h = h e refl
+word_fills : (p : Processor) (w : World) (d : SlotWord) → ((e : SlotEntry) → entry_in d ≡ Some e → FillsSlot p w e) → WordFills p w d
+word_fills p w (Number n) h = tt
+word_fills p w (Address a) h = tt
+word_fills p w (InBlock a) h = tt
+word_fills p w (General e) h = h e refl
+word_fills p w (Plt e) h = h e refl
 
 site_known : (l : Layout) (w : World) (s : Symbol) (x : SlotSite) → SlotLaws → IsFilledSlots l w → Contains l.symbols s → Contains (symbol_sites l s) x → SiteIsKnown l w x
 site_known l w s x laws h listed c =
@@ -133,7 +134,7 @@ site_known l w s x laws h listed c =
       stored = subst (λ (a : ℕ). IsWordStored l w a x.word) is b;
       low = omega (arith, place);
       fits = All-contains WordFits (slots_of l s).words x.word (words_fit l s numbers) (listed_at (slots_of l s).words k.index x.word k.word);
-      fills = word_fills w x.word (λ e entry. laws.changes.slots l w listed.0 k.index s x.word e h.x86 h.numbers h.legal h.laid h.whole there k.word entry);
+      fills = word_fills (processor_of l.machine) w x.word (λ e entry. laws.changes.slots l w listed.0 k.index s x.word e h.numbers h.legal h.laid h.whole there k.word entry);
     }
 
 -- the first word of the pair
@@ -166,7 +167,7 @@ pair_known l w x laws h c = by_place l.tlsld refl
           stored = subst (λ (a : ℕ). IsWordStored l w a x.word) is b;
           low = omega (arith, place);
           fits = All-contains WordFits (storage_words l) x.word (storage_fits l) listed;
-          fills = word_fills w x.word (λ e entry. laws.changes.pair l w x.word e h.legal listed entry);
+          fills = word_fills (processor_of l.machine) w x.word (λ e entry. laws.changes.pair l w x.word e h.legal listed entry);
         }
 
 pub sites_known : (l : Layout) (w : World) → SlotLaws → IsFilledSlots l w → All (SiteIsKnown l w) (got_sites l)
@@ -185,10 +186,11 @@ sites_known l w laws h =
 -- ---- one word
 
 -- the entry of a word
-pub slot_makes : (l : Layout) (w : World) (at : ℕ) (e : SlotEntry) → l.machine ≡ machine.X86_64 → (h : FillsSlot w e) → MakesThat w (entry_at l.machine at e) h.change
-slot_makes l w at e x h =
+pub slot_makes : (l : Layout) (w : World) (at : ℕ) (e : SlotEntry) → (h : FillsSlot (processor_of l.machine) w e) → MakesThat (processor_of l.machine) w (entry_at l.machine at e) h.change
+slot_makes l w at e h =
     let i = h.index in
-    makes_that w (entry_at l.machine at e) (x86_64_type e.kind) e.symbol e.addend h.change (ap (λ (m : Machine). type_of m e.kind) x) (omega (arith, i)) refl h.makes
+    let kind = loaded_kind (processor_of l.machine) e.kind in
+    record { kind = kind; known = (facts_of l.machine).entries e.kind; made = change_elsewhere w kind (entry_at l.machine at e) (entry_with 0 e.symbol e.addend) (omega (arith, i)) refl ∙ h.makes }
 
 pub fills_size : (n : ℕ) (c : Change) → FillsWords n c → size_of c ≡ n
 fills_size n (changes.Word v) h = sym h.0
@@ -197,8 +199,8 @@ fills_size n (changes.Fill bytes) h = absurd h
 fills_size n (changes.Add v) h = absurd h
 fills_size n (changes.Descriptor o) h = sym h
 
-slot_change : (l : Layout) (w : World) (at : ℕ) (e : SlotEntry) → l.machine ≡ machine.X86_64 → FillsSlot w e → HasChange w (entry_at l.machine at e) (filled_width e)
-slot_change l w at e x h = has_change w (entry_at l.machine at e) h.change (filled_width e) (slot_makes l w at e x h) (fills_size (filled_width e) h.change h.fills)
+slot_change : (l : Layout) (w : World) (at : ℕ) (e : SlotEntry) → FillsSlot (processor_of l.machine) w e → HasChange (image_memory l w).machine w (entry_at l.machine at e) (filled_width e)
+slot_change l w at e h = has_change l w (entry_at l.machine at e) h.change (filled_width e) (slot_makes l w at e h) (fills_size (filled_width e) h.change h.fills)
 
 pub width_most : (e : SlotEntry) → filled_width e ≤ 16
 width_most e = by_kind e.kind e.symbol e.addend
@@ -285,15 +287,15 @@ site_word l w at d s =
     let ends = s.ends in
     record { value = s.value; fits = s.fits; held = subst (λ (a : ℕ). Holds (image_memory l w) a (word 8 s.value)) (sym (place_loaded w at 8 (omega arith) ends)) s.held }
 
-entry_known : (l : Layout) (w : World) (at n : ℕ) (t : Table) (e : SlotEntry) (d : SlotWord) → ((r : Rela) (k : ℕ) → HasChange w r k → Makes w (image_memory l w) t r k) → l.machine ≡ machine.X86_64 → FillsSlot w e → IsWordStored l w at d → filled_width e ≡ n → n ≡ 8 → IsKnown w (image_memory l w) (record { table = t; entry = entry_at l.machine at e; width = n })
-entry_known l w at n t e d to x h s width eight =
-    let c = slot_change l w at e x h in
+entry_known : (l : Layout) (w : World) (at n : ℕ) (t : Table) (e : SlotEntry) (d : SlotWord) → ((r : Rela) (k : ℕ) → HasChange (image_memory l w).machine w r k → Makes w (image_memory l w) t r k) → FillsSlot (processor_of l.machine) w e → IsWordStored l w at d → filled_width e ≡ n → n ≡ 8 → IsKnown w (image_memory l w) (record { table = t; entry = entry_at l.machine at e; width = n })
+entry_known l w at n t e d to h s width eight =
+    let c = slot_change l w at e h in
     let P : ℕ → Type 0 = λ k. IsKnown w (image_memory l w) (record { table = t; entry = entry_at l.machine at e; width = k }) in
-    subst P (sym eight) (word_known l w at d t (entry_at l.machine at e) s refl (to (entry_at l.machine at e) 8 (subst (HasChange w (entry_at l.machine at e)) (width ∙ eight) c)))
+    subst P (sym eight) (word_known l w at d t (entry_at l.machine at e) s refl (to (entry_at l.machine at e) 8 (subst (HasChange (image_memory l w).machine w (entry_at l.machine at e)) (width ∙ eight) c)))
 
 -- one of two words
-two_known : (l : Layout) (w : World) (at next_at : ℕ) (t : Table) (e : SlotEntry) (d c : SlotWord) → ((r : Rela) (k : ℕ) → HasChange w r k → Makes w (image_memory l w) t r k) → l.machine ≡ machine.X86_64 → FillsSlot w e → IsWordStored l w at d → IsWordStored l w next_at c → next_at ≡ at + 8 → filled_width e ≡ 16 → IsKnown w (image_memory l w) (record { table = t; entry = entry_at l.machine at e; width = filled_width e })
-two_known l w at next_at t e d c to x h s u is width =
+two_known : (l : Layout) (w : World) (at next_at : ℕ) (t : Table) (e : SlotEntry) (d c : SlotWord) → ((r : Rela) (k : ℕ) → HasChange (image_memory l w).machine w r k → Makes w (image_memory l w) t r k) → FillsSlot (processor_of l.machine) w e → IsWordStored l w at d → IsWordStored l w next_at c → next_at ≡ at + 8 → filled_width e ≡ 16 → IsKnown w (image_memory l w) (record { table = t; entry = entry_at l.machine at e; width = filled_width e })
+two_known l w at next_at t e d c to h s u is width =
     let ends = s.ends in
     let more = u.ends in
     let n = length-word 8 s.value in
@@ -307,7 +309,7 @@ two_known l w at next_at t e d c to x h s u is width =
       old = word 8 s.value ++ word 8 u.value;
       wide = omega (arith, both, n, k, width);
       held = subst (λ (a : ℕ). Holds (image_memory l w) a (word 8 s.value ++ word 8 u.value)) (sym loaded) held;
-      makes = to (entry_at l.machine at e) (filled_width e) (slot_change l w at e x h);
+      makes = to (entry_at l.machine at e) (filled_width e) (slot_change l w at e h);
     }
 
 -- the rest of the places
@@ -373,63 +375,63 @@ second_there l low high at y ys num e h =
     next_there at y.at low high (got_places ys) e (subst (λ (ps : List ℕ). Ascend 8 low high (at ∷ ps)) places h)
 
 -- the fillings of words behind one that is all that its entry fills
-narrow_site : (l : Layout) (w : World) (low high at : ℕ) (d : SlotWord) (xs : List SlotSite) → RelativeLaws → l.machine ≡ machine.X86_64 → IsWordStored l w at d → WordFits d → WordFills w d → IsNarrow d → Ascend 8 low high (option_to_list (place_in words.Got at d) ++ got_places xs) → AreFilled w (image_memory l w) low high (made_of (slot_filling l) xs)
+narrow_site : (l : Layout) (w : World) (low high at : ℕ) (d : SlotWord) (xs : List SlotSite) → RelativeLaws → IsWordStored l w at d → WordFits d → WordFills (processor_of l.machine) w d → IsNarrow d → Ascend 8 low high (option_to_list (place_in words.Got at d) ++ got_places xs) → AreFilled w (image_memory l w) low high (made_of (slot_filling l) xs)
     → AreFilled w (image_memory l w) low high (option_to_list (slot_filling l at d) ++ made_of (slot_filling l) xs)
-narrow_site l w low high at (Number n) xs laws x s fits fills narrow h rest = rest
-narrow_site l w low high at (InBlock a) xs laws x s fits fills narrow h rest = rest
-narrow_site l w low high at (Address a) xs laws x s fits fills narrow h rest = by_test (is_packed l.options.relr at)
+narrow_site l w low high at (Number n) xs laws s fits fills narrow h rest = rest
+narrow_site l w low high at (InBlock a) xs laws s fits fills narrow h rest = rest
+narrow_site l w low high at (Address a) xs laws s fits fills narrow h rest = by_test (is_packed l.options.relr at)
   where
     by_test : (b : Bool) → AreFilled w (image_memory l w) low high (address_filling l at a b ∷ made_of (slot_filling l) xs)
     by_test true = narrow_more l w low high at (packed_at at) xs refl refl (word_known l w at (Address a) PackedTable (place_entry at) s refl (refl, site_word l w at (Address a) s)) h rest
     by_test false =
-        let change : HasChange w (address_entry l.machine at a) 8 = has_change w (address_entry l.machine at a) (changes.Word ((w.base + a) % 2 ^ 64)) 8 (relative_makes l w at a laws x fits) refl in
+        let change : HasChange (image_memory l w).machine w (address_entry l.machine at a) 8 = has_change l w (address_entry l.machine at a) (changes.Word ((w.base + a) % 2 ^ 64)) 8 (relative_makes l w at a laws fits) refl in
         narrow_more l w low high at (relative_of (address_entry l.machine at a)) xs refl refl (word_known l w at (Address a) RelativeTable (address_entry l.machine at a) s refl change) h rest
-narrow_site l w low high at (General e) xs laws x s fits fills narrow h rest = narrow_more l w low high at (general_of (entry_at l.machine at e) (filled_width e)) xs refl narrow (entry_known l w at (filled_width e) GeneralTable e (General e) (λ r k c. c) x fills s refl narrow) h rest
-narrow_site l w low high at (Plt e) xs laws x s fits fills narrow h rest = narrow_more l w low high at (record { table = JumpTable; entry = entry_at l.machine at e; width = filled_width e }) xs refl narrow (entry_known l w at (filled_width e) JumpTable e (Plt e) (λ r k c. c) x fills s refl narrow) h rest
+narrow_site l w low high at (General e) xs laws s fits fills narrow h rest = narrow_more l w low high at (general_of (entry_at l.machine at e) (filled_width e)) xs refl narrow (entry_known l w at (filled_width e) GeneralTable e (General e) (λ r k c. c) fills s refl narrow) h rest
+narrow_site l w low high at (Plt e) xs laws s fits fills narrow h rest = narrow_more l w low high at (record { table = JumpTable; entry = entry_at l.machine at e; width = filled_width e }) xs refl narrow (entry_known l w at (filled_width e) JumpTable e (Plt e) (λ r k c. c) fills s refl narrow) h rest
 
 -- those behind a word before a number
-wide_site : (l : Layout) (w : World) (low high at : ℕ) (d : SlotWord) (y : SlotSite) (ys : List SlotSite) → RelativeLaws → l.machine ≡ machine.X86_64 → IsWordStored l w at d → WordFits d → WordFills w d → IsWordStored l w y.at y.word → IsNumber y.word → y.at ≡ next at → Ascend 8 low high (option_to_list (place_in words.Got at d) ++ got_places (y ∷ ys)) → AreFilled w (image_memory l w) low high (made_of (slot_filling l) (y ∷ ys))
+wide_site : (l : Layout) (w : World) (low high at : ℕ) (d : SlotWord) (y : SlotSite) (ys : List SlotSite) → RelativeLaws → IsWordStored l w at d → WordFits d → WordFills (processor_of l.machine) w d → IsWordStored l w y.at y.word → IsNumber y.word → y.at ≡ next at → Ascend 8 low high (option_to_list (place_in words.Got at d) ++ got_places (y ∷ ys)) → AreFilled w (image_memory l w) low high (made_of (slot_filling l) (y ∷ ys))
     → AreFilled w (image_memory l w) low high (option_to_list (slot_filling l at d) ++ made_of (slot_filling l) (y ∷ ys))
-wide_site l w low high at (Number n) y ys laws x s fits fills u num e h rest = rest
-wide_site l w low high at (InBlock a) y ys laws x s fits fills u num e h rest = rest
-wide_site l w low high at (Address a) y ys laws x s fits fills u num e h rest = narrow_site l w low high at (Address a) (y ∷ ys) laws x s fits fills tt h rest
-wide_site l w low high at (General e) y ys laws x s fits fills u num n h rest =
+wide_site l w low high at (Number n) y ys laws s fits fills u num e h rest = rest
+wide_site l w low high at (InBlock a) y ys laws s fits fills u num e h rest = rest
+wide_site l w low high at (Address a) y ys laws s fits fills u num e h rest = narrow_site l w low high at (Address a) (y ∷ ys) laws s fits fills tt h rest
+wide_site l w low high at (General e) y ys laws s fits fills u num n h rest =
     elim (two_widths e) [
-      | inl eight ↦ narrow_site l w low high at (General e) (y ∷ ys) laws x s fits fills eight h rest
+      | inl eight ↦ narrow_site l w low high at (General e) (y ∷ ys) laws s fits fills eight h rest
       | inr both ↦
           (let is = second_there l low high at y ys num n h in
-          wide_more l w low high at (general_of (entry_at l.machine at e) (filled_width e)) y ys refl (width_most e) is (number_none l y.at y.word num) (number_own y.at y.word num) (two_known l w at y.at GeneralTable e (General e) y.word (λ r k c. c) x fills s u is both) h rest)
+          wide_more l w low high at (general_of (entry_at l.machine at e) (filled_width e)) y ys refl (width_most e) is (number_none l y.at y.word num) (number_own y.at y.word num) (two_known l w at y.at GeneralTable e (General e) y.word (λ r k c. c) fills s u is both) h rest)
     ]
-wide_site l w low high at (Plt e) y ys laws x s fits fills u num n h rest =
+wide_site l w low high at (Plt e) y ys laws s fits fills u num n h rest =
     elim (two_widths e) [
-      | inl eight ↦ narrow_site l w low high at (Plt e) (y ∷ ys) laws x s fits fills eight h rest
+      | inl eight ↦ narrow_site l w low high at (Plt e) (y ∷ ys) laws s fits fills eight h rest
       | inr both ↦
           (let is = second_there l low high at y ys num n h in
-          wide_more l w low high at (record { table = JumpTable; entry = entry_at l.machine at e; width = filled_width e }) y ys refl (width_most e) is (number_none l y.at y.word num) (number_own y.at y.word num) (two_known l w at y.at JumpTable e (Plt e) y.word (λ r k c. c) x fills s u is both) h rest)
+          wide_more l w low high at (record { table = JumpTable; entry = entry_at l.machine at e; width = filled_width e }) y ys refl (width_most e) is (number_none l y.at y.word num) (number_own y.at y.word num) (two_known l w at y.at JumpTable e (Plt e) y.word (λ r k c. c) fills s u is both) h rest)
     ]
 
 pub tail_ascend : (low high : ℕ) (x : SlotSite) (xs : List SlotSite) → Ascend 8 low high (got_places (x ∷ xs)) → Ascend 8 low high (got_places xs)
 tail_ascend low high x xs h = rest_ascend low high (of_site (place_in words.Got) x) (got_places xs) h
 
 -- the fillings of words that ascend
-pub sites_filled : (l : Layout) (w : World) (low high : ℕ) (xs : List SlotSite) → RelativeLaws → l.machine ≡ machine.X86_64 → SitesSpaced xs → All (SiteIsKnown l w) xs → Ascend 8 low high (got_places xs) → AreFilled w (image_memory l w) low high (made_of (slot_filling l) xs)
-sites_filled l w low high [] laws x spaced known h = record {
+pub sites_filled : (l : Layout) (w : World) (low high : ℕ) (xs : List SlotSite) → RelativeLaws → SitesSpaced xs → All (SiteIsKnown l w) xs → Ascend 8 low high (got_places xs) → AreFilled w (image_memory l w) low high (made_of (slot_filling l) xs)
+sites_filled l w low high [] laws spaced known h = record {
   from = All-nil (λ (x : Filling). low ≤ x.entry.offset);
   to = All-nil (λ (x : Filling). x.entry.offset + x.width ≤ high);
   ascend = AllPairs-nil (λ (x y : Filling). x.entry.offset + x.width ≤ y.entry.offset);
   known = All-nil (IsKnown w (image_memory l w));
 }
-sites_filled l w low high (a ∷ []) laws x spaced known h =
+sites_filled l w low high (a ∷ []) laws spaced known h =
     let k = All-head (SiteIsKnown l w) a [] known in
-    narrow_site l w low high a.at a.word [] laws x k.stored k.fits k.fills spaced h (sites_filled l w low high [] laws x tt (All-tail (SiteIsKnown l w) a [] known) (tail_ascend low high a [] h))
-sites_filled l w low high (a ∷ b ∷ xs) laws x spaced known h =
+    narrow_site l w low high a.at a.word [] laws k.stored k.fits k.fills spaced h (sites_filled l w low high [] laws tt (All-tail (SiteIsKnown l w) a [] known) (tail_ascend low high a [] h))
+sites_filled l w low high (a ∷ b ∷ xs) laws spaced known h =
     let k = All-head (SiteIsKnown l w) a (b ∷ xs) known in
     let more = All-tail (SiteIsKnown l w) a (b ∷ xs) known in
     let second = All-head (SiteIsKnown l w) b xs more in
-    let rest = sites_filled l w low high (b ∷ xs) laws x spaced.1 more (tail_ascend low high a (b ∷ xs) h) in
+    let rest = sites_filled l w low high (b ∷ xs) laws spaced.1 more (tail_ascend low high a (b ∷ xs) h) in
     elim spaced.0 [
-      | inl narrow ↦ narrow_site l w low high a.at a.word (b ∷ xs) laws x k.stored k.fits k.fills narrow h rest
-      | inr wide ↦ wide_site l w low high a.at a.word b xs laws x k.stored k.fits k.fills second.stored wide.0 wide.1 h rest
+      | inl narrow ↦ narrow_site l w low high a.at a.word (b ∷ xs) laws k.stored k.fits k.fills narrow h rest
+      | inr wide ↦ wide_site l w low high a.at a.word b xs laws k.stored k.fits k.fills second.stored wide.0 wide.1 h rest
     ]
 
 -- ---- words of blocks

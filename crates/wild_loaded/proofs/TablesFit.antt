@@ -11,12 +11,9 @@ use Rattle.wild_words.proofs.ListLemmas.{All-flat_map}
 use Rattle.wild_words.proofs.Basics.{of_if, listed_at}
 use Rattle.wild_records.specs.Relocations.{RelaFits}
 use Rattle.wild_records.specs.declared.relocations.Rela.{Rela}
-use Rattle.wild_reloc.specs.Dynamic.{x86_64_type, aarch64_type}
-use Rattle.wild_reloc.specs.declared.dynamic.DynamicRelocationKind.{DynamicRelocationKind}
 use Rattle.wild_reloc.specs.declared.dynamic.DynamicRelocationKind.TheVariants as entry_kinds
 use Rattle.wild_types.specs.declared.fault.Missing.TheVariants as missing
 use Rattle.wild_types.specs.declared.kind.Machine.{Machine}
-use Rattle.wild_types.specs.declared.kind.Machine.TheVariants as machine
 use Rattle.wild_types.specs.declared.input.InputRelocation.{InputRelocation}
 use Rattle.wild_types.specs.declared.input.InputSection.{InputSection}
 use Rattle.wild_types.specs.Item.{item_of}
@@ -50,11 +47,12 @@ use Rattle.wild_layout.specs.SlotBytes.{slot_entries_of, flat_places_of, storage
 use Rattle.wild_layout.specs.SymbolValues.{address_or, raw_address}
 use Rattle.wild_layout.specs.SlotValues.{decided_address}
 use Rattle.wild_types.specs.Addresses.{address_in_section, address_in_file, address_at, placed_value, resolved_or, raw_value}
-use Rattle.wild_tables.specs.Tables.{relative_entry, relative_type}
+use Rattle.wild_tables.specs.Tables.{relative_entry}
 use Rattle.wild_loaded.specs.Tables.{file_packed, group_words, relatives, first_generals, generals, tables_of}
 use Rattle.wild_loaded.proofs.SlotNumbers.{WordFits}
 use Rattle.wild_loaded.proofs.SlotSites.{SlotSite, of_site, file_sites, group_sites, entries_by_sites, flat_by_sites, block_by_sites}
 use Rattle.wild_loaded.proofs.SitesFit.{SiteFits, sites_fit, group_sites_fit, block_fits}
+use Rattle.wild_geometry.proofs.MachineLemmas.{facts_of}
 
 -- ---- each entry
 
@@ -111,52 +109,20 @@ signed_fits n = elim (cases_lt n (2 ^ 64)) [ inl low ↦ low_fits n low | inr hi
     high_fits : (k : ℕ) → 2 ^ 64 ≤ k → FitsSigned w64 (cast_signed w64 k)
     high_fits k h = grind (arith, ints)
 
-number_fits : (m : Machine) → relative_type m < 2 ^ 32
-number_fits machine.X86_64 = omega arith
-number_fits machine.AArch64 = omega arith
-
 relatives_fit : (l : Layout) (f : File) → All SymbolNumbers l.symbols → All RelaFits (relatives l f)
-relatives_fit l f numbers = of_file RelaFits l f (λ place v low small. record { offset = low; number = number_fits l.machine; symbol = omega arith; addend = signed_fits v }) numbers
+relatives_fit l f numbers = of_file RelaFits l f (λ place v low small. record { offset = low; number = (facts_of l.machine).types entry_kinds.Relative; symbol = omega arith; addend = signed_fits v }) numbers
 
 -- ---- entries of slots
 
-type_fits : (m : Machine) (k : DynamicRelocationKind) → type_of m k < 2 ^ 32
-type_fits machine.X86_64 k = on_x86_64 k
-  where
-    on_x86_64 : (k : DynamicRelocationKind) → x86_64_type k < 2 ^ 32
-    on_x86_64 entry_kinds.Absolute = omega arith
-    on_x86_64 entry_kinds.Copy = omega arith
-    on_x86_64 entry_kinds.GotEntry = omega arith
-    on_x86_64 entry_kinds.JumpSlot = omega arith
-    on_x86_64 entry_kinds.Relative = omega arith
-    on_x86_64 entry_kinds.DtpMod = omega arith
-    on_x86_64 entry_kinds.DtpOff = omega arith
-    on_x86_64 entry_kinds.TpOff = omega arith
-    on_x86_64 entry_kinds.TlsDesc = omega arith
-    on_x86_64 entry_kinds.Irelative = omega arith
-type_fits machine.AArch64 k = on_aarch64 k
-  where
-    on_aarch64 : (k : DynamicRelocationKind) → aarch64_type k < 2 ^ 32
-    on_aarch64 entry_kinds.Absolute = omega arith
-    on_aarch64 entry_kinds.Copy = omega arith
-    on_aarch64 entry_kinds.GotEntry = omega arith
-    on_aarch64 entry_kinds.JumpSlot = omega arith
-    on_aarch64 entry_kinds.Relative = omega arith
-    on_aarch64 entry_kinds.DtpMod = omega arith
-    on_aarch64 entry_kinds.DtpOff = omega arith
-    on_aarch64 entry_kinds.TpOff = omega arith
-    on_aarch64 entry_kinds.TlsDesc = omega arith
-    on_aarch64 entry_kinds.Irelative = omega arith
-
 entry_fits : (m : Machine) (at : ℕ) (e : SlotEntry) → at < 2 ^ 64 → RelaFits (entry_at m at e)
-entry_fits m at e low = record { offset = low; number = type_fits m e.kind; symbol = omega arith; addend = signed_fits e.addend }
+entry_fits m at e low = record { offset = low; number = (facts_of m).types e.kind; symbol = omega arith; addend = signed_fits e.addend }
 
 one_fits : (m : Machine) (at : ℕ) (e : SlotEntry) → at < 2 ^ 64 → All RelaFits (entry_at m at e ∷ [])
 one_fits m at e low = All-cons RelaFits (entry_at m at e) [] (entry_fits m at e low) (All-nil RelaFits)
 
 moved_fits : (m : Machine) (b : Bool) (at v : ℕ) → at < 2 ^ 64 → All RelaFits (option_to_list (if b then None else Some (address_entry m at v)))
 moved_fits m true at v low = All-nil RelaFits
-moved_fits m false at v low = All-cons RelaFits (address_entry m at v) [] (record { offset = low; number = type_fits m entry_kinds.Relative; symbol = omega arith; addend = signed_fits v }) (All-nil RelaFits)
+moved_fits m false at v low = All-cons RelaFits (address_entry m at v) [] (record { offset = low; number = (facts_of m).types entry_kinds.Relative; symbol = omega arith; addend = signed_fits v }) (All-nil RelaFits)
 
 -- the entry of a word at its place
 site_entry_fits : (part : EntryPart) (m : Machine) (relr : Bool) (at : ℕ) (d : SlotWord) → at < 2 ^ 64 → All RelaFits (option_to_list (entry_of part m relr at d))

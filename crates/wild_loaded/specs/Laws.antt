@@ -15,7 +15,6 @@
 --   EntriesHaveChanges     what entries of slots, of fields and of copies make a loader do in a legal world
 --   CopiesAreThere         and each symbol that is copied has an answer
 use Rattle.std.specs.Prelude.{◌≡◌, ℕ, ◌+◌, ◌*◌, ◌≤◌, true, false, [], ◌++◌, length, Some, Ok, Contains, slice_get}
-use Rattle.wild_types.specs.declared.kind.Machine.TheVariants as machine
 use Rattle.wild_types.specs.declared.input.InputSection.{InputSection}
 use Rattle.wild_types.specs.Item.{item_of}
 use Rattle.wild_types.specs.declared.part.Part.{Part}
@@ -44,7 +43,6 @@ use Rattle.wild_layout.specs.Decide.{decided}
 use Rattle.wild_layout.specs.Left.{copy_entry}
 use Rattle.wild_slots.specs.Entries.{entry_in}
 use Rattle.wild_loader.specs.declared.world.Answer.{Answer}
-use Rattle.wild_loader.specs.declared.memory.Machine.TheVariants as machines
 use Rattle.wild_loader.specs.declared.world.World.{World}
 use Rattle.wild_loader.specs.Headers.{is_loadable_header}
 use Rattle.wild_loader.specs.Memory.{byte_in}
@@ -53,7 +51,7 @@ use Rattle.wild_loader.specs.Laws.{HasDynamic}
 use Rattle.wild_tables.specs.Dynamic.{dynamic_records}
 use Rattle.wild_meaning.specs.World.{IsLoadable, IsLegal, IsBehind, IsCopied, HasCopy}
 use Rattle.wild_meaning.specs.Item.{IsInput, IsKeptSection}
-use Rattle.wild_meaning.specs.Linked.{HasHeader}
+use Rattle.wild_meaning.specs.Linked.{HasHeader, processor_of}
 use Rattle.wild_loaded.specs.Owners.{HasOneOwnerEach}
 use Rattle.wild_loaded.specs.Memory.{IsStored, headers_of, image_memory}
 use Rattle.wild_loaded.specs.WholeSlots.{HasWholeSlots}
@@ -66,17 +64,17 @@ OwnersAreKnown = (l : Layout) → IsLaidOut l → HasOneOwnerEach l
 
 -- the headers stand in the image where they tell, each number in its field's range, and the loader takes the file header
 pub record HeadersStand : Type 0 where
-  pub stand : (l : Layout) → l.machine ≡ machine.X86_64 → IsLoadable l.kind → NumbersFit l → IsLaidOut l → HasHeaders (bytes l) (file_header l) (headers_of l) (section_headers_of l l.sections)
-  pub taken : (l : Layout) → l.machine ≡ machine.X86_64 → IsLoadable l.kind → is_loadable_header (file_header l) ≡ true
+  pub stand : (l : Layout) → IsLoadable l.kind → NumbersFit l → IsLaidOut l → HasHeaders (bytes l) (file_header l) (headers_of l) (section_headers_of l l.sections)
+  pub taken : (l : Layout) → IsLoadable l.kind → is_loadable_header (file_header l) ≡ true
 
 -- the file header tells what the layout owes of it
 abbrev pub HeadersTell : Type 0
-HeadersTell = (l : Layout) → l.machine ≡ machine.X86_64 → IsLoadable l.kind → NumbersFit l → IsLaidOut l → HasHeader l (bytes l)
+HeadersTell = (l : Layout) → IsLoadable l.kind → NumbersFit l → IsLaidOut l → HasHeader l (bytes l)
 
 -- in a legal world the segments ascend and do not wrap, and their memory is of the layout's machine
 pub record SegmentsAreLoadable : Type 0 where
   pub loadable : (l : Layout) (w : World) → IsLegal l w → IsLaidOut l → AreLoadable w.base (bytes l) (headers_of l)
-  pub machine : (l : Layout) (w : World) → l.machine ≡ machine.X86_64 → (image_memory l w).machine ≡ machines.X86_64
+  pub machine : (l : Layout) (w : World) → (image_memory l w).machine ≡ processor_of l.machine
 
 -- a kept section that has bytes has them in the file, and loaded segments carry each to its address
 abbrev pub SectionsAreCarried : Type 0
@@ -126,12 +124,12 @@ SectionTablesAreFound = (l : Layout) → IsLoadable l.kind → needs_dynamic l.k
 -- answer or its resolver's, and so does that of the pair; that of a field that is left to it stores a number there; that of a
 -- copy copies the answer's bytes
 pub record EntriesHaveChanges : Type 0 where
-  pub slots : (l : Layout) (w : World) (i k : ℕ) (s : Symbol) (d : SlotWord) (e : SlotEntry) → l.machine ≡ machine.X86_64 → NumbersFit l → IsLegal l w → IsLaidOut l → HasWholeSlots l
-      → slice_get l.symbols i ≡ Some s → slice_get (slots_of l s).words k ≡ Some d → entry_in d ≡ Some e → FillsSlot w e
-  pub pair : (l : Layout) (w : World) (d : SlotWord) (e : SlotEntry) → IsLegal l w → Contains (storage_words l) d → entry_in d ≡ Some e → FillsSlot w e
-  pub left : (l : Layout) (w : World) (s : InputSection) (r : InputRelocation) (z : RelocationSize) (number symbol addend : ℕ) → l.machine ≡ machine.X86_64 → NumbersFit l → IsLegal l w → IsLaidOut l → Contains s.relocations r
-      → IsInput l s → decided l (item_of s) r ≡ Ok (Left z number symbol addend) → FillsField w z number symbol addend
-  pub copies : (l : Layout) (w : World) (i raw : ℕ) (x : Answer) → l.machine ≡ machine.X86_64 → NumbersFit l → IsLegal l w → IsLaidOut l → HasCopy l w i raw x → Copies w (copy_entry l i) raw x.bytes
+  pub slots : (l : Layout) (w : World) (i k : ℕ) (s : Symbol) (d : SlotWord) (e : SlotEntry) → NumbersFit l → IsLegal l w → IsLaidOut l → HasWholeSlots l
+      → slice_get l.symbols i ≡ Some s → slice_get (slots_of l s).words k ≡ Some d → entry_in d ≡ Some e → FillsSlot (processor_of l.machine) w e
+  pub pair : (l : Layout) (w : World) (d : SlotWord) (e : SlotEntry) → IsLegal l w → Contains (storage_words l) d → entry_in d ≡ Some e → FillsSlot (processor_of l.machine) w e
+  pub left : (l : Layout) (w : World) (s : InputSection) (r : InputRelocation) (z : RelocationSize) (number symbol addend : ℕ) → NumbersFit l → IsLegal l w → IsLaidOut l → Contains s.relocations r
+      → IsInput l s → decided l (item_of s) r ≡ Ok (Left z number symbol addend) → FillsField (processor_of l.machine) w z number symbol addend
+  pub copies : (l : Layout) (w : World) (i raw : ℕ) (x : Answer) → NumbersFit l → IsLegal l w → IsLaidOut l → HasCopy l w i raw x → Copies (processor_of l.machine) w (copy_entry l i) raw x.bytes
 
 -- where no group has a fault, each symbol that is copied has an address and an answer
 abbrev pub CopiesAreThere : Type 0

@@ -17,7 +17,6 @@ use Rattle.wild_layout.specs.Image.{bytes}
 use Rattle.wild_layout.specs.Loadable.{IsCarried}
 use Rattle.wild_geometry.specs.Slots.{HasSlots}
 use Rattle.wild_geometry.specs.Loaded.{IsDecided, HasItem, InMemory}
-use Rattle.wild_loader.specs.declared.memory.Machine.TheVariants as machines
 use Rattle.wild_loader.specs.declared.memory.Memory.{Memory}
 use Rattle.wild_loader.specs.declared.world.World.{World}
 use Rattle.wild_loader.specs.declared.world.Answer.{Answer}
@@ -27,7 +26,7 @@ use Rattle.wild_loader.specs.Memory.{byte_in, Holds}
 use Rattle.wild_loader.specs.SegmentLaws.{loaded_memory}
 use Rattle.wild_meaning.specs.Item.{IsInput, IsKept}
 use Rattle.wild_meaning.specs.World.{IsBehind, HasCopy}
-use Rattle.wild_meaning.specs.Linked.{IsNotCopied}
+use Rattle.wild_meaning.specs.Linked.{IsNotCopied, processor_of}
 
 -- the section has bytes in the file, as many as it has room for, and each is carried to its address
 pub record IsStored (l : Layout) (s : InputSection) : Type 0 where
@@ -52,7 +51,7 @@ EachDecided l = (s : InputSection) → IsInput l s → is_read s ≡ true → Is
 pub record HasMemory (l : Layout) (w : World) : Type 0 where
   pub memory : Memory
   pub accepted : load w (bytes l) ≡ Ok memory
-  pub machine : memory.machine ≡ machines.X86_64
+  pub machine : memory.machine ≡ processor_of l.machine
   pub items : (item : Item) → IsKept l item → HasItem l w memory item InMemory
   pub slots : HasSlots l w memory
   pub zeros : (a : ℕ) → IsBehind l a → IsNotCopied l w a → byte_in memory (w.base + a) ≡ Some 0

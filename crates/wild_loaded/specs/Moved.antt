@@ -8,7 +8,6 @@ use Rattle.wild_types.specs.declared.layout.Layout.{Layout}
 use Rattle.wild_geometry.specs.Slots.{HasSlots}
 use Rattle.wild_geometry.specs.Loaded.{HasItem, InMemory}
 use Rattle.wild_loader.specs.declared.change.Patch.{Patch}
-use Rattle.wild_loader.specs.declared.memory.Machine.TheVariants as processors
 use Rattle.wild_loader.specs.declared.memory.Memory.{Memory}
 use Rattle.wild_loader.specs.declared.world.World.{World}
 use Rattle.wild_loader.specs.declared.world.Answer.{Answer}
@@ -20,7 +19,7 @@ use Rattle.wild_loader.specs.SegmentLaws.{IsElsewhere}
 use Rattle.wild_loader.specs.EntryLaws.{patches_of}
 use Rattle.wild_meaning.specs.World.{IsBehind, HasCopy}
 use Rattle.wild_meaning.specs.Item.{IsKept}
-use Rattle.wild_meaning.specs.Linked.{IsNotCopied}
+use Rattle.wild_meaning.specs.Linked.{IsNotCopied, processor_of}
 use Rattle.wild_loaded.specs.Memory.{image_memory}
 use Rattle.wild_loaded.specs.Tables.{tables_of}
 use Rattle.wild_loaded.specs.Words.{place_change, entry_change}
@@ -32,7 +31,7 @@ pub record IsMade (m : Memory) (p : Patch) : Type 0 where
 
 -- memory has what each packed place and each entry changes of the loaded segments, and every other byte is as before
 pub record HasApplied (l : Layout) (w : World) (m : Memory) : Type 0 where
-  pub machine : m.machine ≡ processors.X86_64
+  pub machine : m.machine ≡ processor_of l.machine
   pub words : All (λ x. IsMade m (place_change w (image_memory l w) x)) (places (tables_of l).words)
   pub entries : All (λ (e : Rela). IsMade m (entry_change w (image_memory l w) e)) ((tables_of l).entries ++ (tables_of l).jumps)
   pub others : (a : ℕ) → All (IsElsewhere a) (runs_of_patches (patches_of (tables_of l) (place_change w (image_memory l w)) (entry_change w (image_memory l w)))) → byte_in m a ≡ byte_in (image_memory l w) a

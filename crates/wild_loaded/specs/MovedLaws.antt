@@ -2,7 +2,6 @@
 --   MemoryIsMoved     applying the tables moves the addresses, fills fields, slots and copies, and changes no other byte
 --   ImagesAreLoaded   the loader accepts the image, and memory has each kept section as it was decided, and the slots
 use Rattle.std.specs.Prelude.{◌≡◌, []}
-use Rattle.wild_types.specs.declared.kind.Machine.TheVariants as machine
 use Rattle.wild_types.specs.declared.layout.Layout.{Layout}
 use Rattle.wild_layout.specs.Numbers.{NumbersFit}
 use Rattle.wild_layout.specs.Faults.{flat_map_from, group_errors}
@@ -17,9 +16,9 @@ use Rattle.wild_loaded.specs.Moved.{HasApplied, HasMoved}
 -- where the tables were applied to the loaded segments of an image without faults, each address is more by the base, each field
 -- and each slot has what fills it, each copy its bytes, and every other byte is as before
 abbrev pub MemoryIsMoved : Type 0
-MemoryIsMoved = (l : Layout) (w : World) (m : Memory) → l.machine ≡ machine.X86_64 → IsLoadable l.kind → NumbersFit l → IsLegal l w → IsLaidOut l → EachDecided l → HasWholeSlots l → flat_map_from (group_errors l) 0 l.groups ≡ []
+MemoryIsMoved = (l : Layout) (w : World) (m : Memory) → IsLoadable l.kind → NumbersFit l → IsLegal l w → IsLaidOut l → EachDecided l → HasWholeSlots l → flat_map_from (group_errors l) 0 l.groups ≡ []
     → HasApplied l w m → HasMoved l w m
 
 -- so the image of an output is loaded in every legal world, with a dynamic section and without one
 abbrev pub ImagesAreLoaded : Type 0
-ImagesAreLoaded = (l : Layout) (w : World) → l.machine ≡ machine.X86_64 → IsLoadable l.kind → NumbersFit l → IsLegal l w → IsLaidOut l → EachDecided l → HasWholeSlots l → flat_map_from (group_errors l) 0 l.groups ≡ [] → HasMemory l w
+ImagesAreLoaded = (l : Layout) (w : World) → IsLoadable l.kind → NumbersFit l → IsLegal l w → IsLaidOut l → EachDecided l → HasWholeSlots l → flat_map_from (group_errors l) 0 l.groups ≡ [] → HasMemory l w

@@ -3,9 +3,9 @@
 --   IsPartStored l w r p  memory has the table of a role where its part is
 --   IsWordStored l w a d  memory has a word of a slot as the file has it
 --   IsStubStored l w ..   memory has a stub
---   FillsSlot w e         the entry of a slot fills its words
---   FillsField w z ..     an entry stores a number in a field of that size
---   Copies w e raw bytes  an entry copies bytes to an address
+--   FillsSlot p w e       the entry of a slot fills its words
+--   FillsField p w z ..   an entry stores a number in a field of that size
+--   Copies p w e ..       an entry copies bytes to an address
 use Rattle.std.specs.Prelude.{◌≡◌, ℕ, ◌+◌, ◌-◌, ◌^◌, ◌<◌, ◌≤◌, List, length, Some, Ok, Contains}
 use Rattle.wild_words.specs.Words.{word}
 use Rattle.wild_records.specs.Abi.Segment.{pt_load}
@@ -14,7 +14,6 @@ use Rattle.wild_types.specs.declared.part.Part.{Part}
 use Rattle.wild_types.specs.declared.part.Role.{Role}
 use Rattle.wild_types.specs.declared.part.Role.TheVariants as role
 use Rattle.wild_types.specs.declared.section.Segment.{Segment}
-use Rattle.wild_reloc.specs.Dynamic.{x86_64_type}
 use Rattle.wild_reloc.specs.Field.{size_width}
 use Rattle.wild_reloc.specs.declared.info.RelocationSize.{RelocationSize}
 use Rattle.wild_reloc.specs.declared.dynamic.DynamicRelocationKind.{DynamicRelocationKind}
@@ -28,11 +27,12 @@ use Rattle.wild_layout.specs.TablePlaces.{table_bytes}
 use Rattle.wild_loader.specs.declared.kind.DynamicKind.TheVariants as kinds
 use Rattle.wild_loader.specs.declared.change.Change.{Change}
 use Rattle.wild_loader.specs.declared.change.Change.TheVariants as changes
-use Rattle.wild_loader.specs.declared.memory.Machine.TheVariants as machines
+use Rattle.wild_loader.specs.declared.memory.Machine.{Machine as Processor}
 use Rattle.wild_loader.specs.declared.world.World.{World}
 use Rattle.wild_loader.specs.Changes.{kind_of, change_of}
 use Rattle.wild_loader.specs.Memory.{Holds}
-use Rattle.wild_geometry.specs.Loaded.{MakesChange, stored_bytes}
+use Rattle.wild_geometry.specs.EntryKinds.{loaded_kind}
+use Rattle.wild_geometry.specs.Loaded.{MakesChange, entry_with, stored_bytes}
 use Rattle.wild_slots.specs.Stand.{part_of_word, role_of_words, StandsAt}
 use Rattle.wild_loaded.specs.Memory.{image_memory}
 
@@ -77,23 +77,23 @@ FillsWords n (changes.Word v) = (n ≡ 8) × (v < 2 ^ 64)
 FillsWords n (changes.Descriptor o) = n ≡ 16
 FillsWords n other = ⊥
 
--- so does the entry of a slot
-pub record FillsSlot (w : World) (e : SlotEntry) : Type 0 where
+-- so does the entry of a slot, by what a loader of the processor does with those of its kind
+pub record FillsSlot (p : Processor) (w : World) (e : SlotEntry) : Type 0 where
   pub index : e.symbol < 2 ^ 32
   pub change : Change
-  pub makes : MakesChange w (x86_64_type e.kind) e.symbol e.addend change
+  pub makes : change_of w (loaded_kind p e.kind) (entry_with 0 e.symbol e.addend) ≡ Ok change
   pub fills : FillsWords (filled_width e) change
 
 -- an entry of that number, index and addend stores a number in a field of that size
-pub record FillsField (w : World) (z : RelocationSize) (number symbol addend : ℕ) : Type 0 where
+pub record FillsField (p : Processor) (w : World) (z : RelocationSize) (number symbol addend : ℕ) : Type 0 where
   pub type_fits : number < 2 ^ 32
   pub index_fits : symbol < 2 ^ 32
   pub change : Change
-  pub makes : MakesChange w number symbol addend change
+  pub makes : MakesChange p w number symbol addend change
   pub width : length (stored_bytes change) ≡ size_width z
 
 -- the entry copies these bytes to an address
-pub record Copies (w : World) (e : Rela) (raw : ℕ) (bytes : List ℕ) : Type 0 where
+pub record Copies (p : Processor) (w : World) (e : Rela) (raw : ℕ) (bytes : List ℕ) : Type 0 where
   pub place : e.offset ≡ raw
-  pub known : kind_of machines.X86_64 e.number ≡ Some kinds.Copy
+  pub known : kind_of p e.number ≡ Some kinds.Copy
   pub makes : change_of w kinds.Copy e ≡ Ok (changes.Fill bytes)

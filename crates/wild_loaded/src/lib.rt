@@ -16,9 +16,7 @@ use wild_slots::{
     blocks_are_whole, each_word_stands, entries_are_known, fixed_outputs_move_nothing, pair_stands,
     places_ascend, slots_stand, stubs_are_there,
 };
-use wild_tables::{
-    dynamic_sections_are_read, entries_add_the_base, entries_are_read, places_are_loaded,
-};
+use wild_tables::{dynamic_sections_are_read, entries_are_read, places_are_loaded};
 
 /// Each piece stands in the image, no byte is of two pieces, and a byte that no piece holds is padding.
 pub fn owners_are_known()
@@ -125,7 +123,6 @@ pub fn tables_are_made()
     entries_make_changes();
     tables_are_applied();
     entries_store_words();
-    entries_add_the_base();
     flat_is_a_run();
     places_are_loaded();
     places_ascend();
@@ -148,7 +145,6 @@ pub fn memory_is_moved()
     entries_make_changes();
     tables_are_applied();
     entries_store_words();
-    entries_add_the_base();
     flat_is_a_run();
     places_are_loaded();
     places_ascend();

@@ -70,8 +70,8 @@ is_read l laws w =
     let kind = loadable_kind l.kind w.dynamic in
     record {
       laid = laid;
-      headers = laws.headers.stand l w.machine kind w.numbers laid;
-      taken = laws.headers.taken l w.machine kind;
+      headers = laws.headers.stand l kind w.numbers laid;
+      taken = laws.headers.taken l kind;
       entries = laws.sections l w.dynamic w.numbers laid;
     }
 

@@ -1,10 +1,9 @@
 -- Names are found in the image of a layout without faults (gABI, "Hash Table"; GNU, "DT_GNU_HASH").
 --   found l name          the first of the listed symbols with that name, by its index in the dynamic symbol table
---   IsWritten l           an x86-64 output with a dynamic section, without faults
+--   IsWritten l           an output with a dynamic section, without faults
 --   SysvLookUpsFind, GnuLookUpsFind   the look-up of any name in the image gives that symbol, and none where no symbol has the name
 --   LookUpsWithoutTable   without the part of a table, or with an empty one, the look-up in it gives none
 use Rattle.std.specs.Prelude.{◌≡◌, ℕ, true, [], List, Option, Some, None, Ok}
-use Rattle.wild_types.specs.declared.kind.Machine.TheVariants as machine
 use Rattle.wild_types.specs.declared.part.Part.{Part}
 use Rattle.wild_types.specs.declared.part.Role.TheVariants as role
 use Rattle.wild_types.specs.declared.layout.SysvHash.{SysvHash}
@@ -24,9 +23,8 @@ use Rattle.wild_layout.specs.Numbers.{NumbersFit}
 abbrev pub found : Layout → List ℕ → Option ℕ
 found l name = first_named (first_listed l) (names_of l.dynsyms) name
 
--- an x86-64 output with a dynamic section, without faults
+-- an output with a dynamic section, without faults
 pub record IsWritten (l : Layout) : Type 0 where
-  pub machine : l.machine ≡ machine.X86_64
   pub dynamic : needs_dynamic l.kind ≡ true
   pub numbers : NumbersFit l
   pub none : errors l ≡ []

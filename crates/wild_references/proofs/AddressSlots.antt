@@ -23,7 +23,6 @@ use Rattle.wild_meaning.specs.Slot.{HasWord}
 use Rattle.wild_meaning.specs.Denotes.{IsStub}
 use Rattle.wild_meaning.proofs.WorldLemmas.{word_below}
 use Rattle.wild_references.specs.Terms.{IsPlaced}
-use Rattle.wild_references.proofs.EntryWords.{got_is_address}
 use Rattle.wild_references.proofs.FirstSlots.{HasFirst, first_held, named_held, items_behind}
 use Rattle.wild_references.proofs.SlotContents.{ItemsHold}
 use Rattle.wild_references.proofs.SlotTerms.{SlotStands, SlotsStand, by_slot}
@@ -94,7 +93,7 @@ canonical_stands l w m i at r p d plain asked h =
     let here = behind_stub w m at far r.plt_address (ifunc_address_items (setting_of l) r ++ canonical_address_items (setting_of l) r) h in
     let here' = subst (λ (b : Bool). ItemsHold w m at (where_so b (item ∷ []) ++ canonical_address_items (setting_of l) r)) plain here in
     let there = subst (λ (b : Bool). ItemsHold w m at (where_so b (own ∷ []))) asked here' in
-    first_stands l w m i at [] (named_held l w m i at r [] GotEntry (λ e. General e) p d got_is_address (λ e x f. f) there)
+    first_stands l w m i at [] (named_held l w m i at r [] GotEntry (λ e. General e) p d refl (λ e x f. f) there)
 
 -- ---- the one that references take
 

@@ -9,7 +9,7 @@ use Rattle.wild_words.specs.Words.{word}
 use Rattle.wild_words.specs.Words as words
 use Rattle.wild_words.proofs.WordLemmas.{number-word, number-word_2, number-word_4}
 use Rattle.wild_words.proofs.Basics.{slice_get_inside}
-use Rattle.wild_records.specs.Abi.Relocation.{r_x86_64_64, r_x86_64_irelative, r_x86_64_size32, r_x86_64_size64}
+use Rattle.wild_records.specs.Abi.Relocation.{r_x86_64_size32, r_x86_64_size64}
 use Rattle.wild_records.proofs.FieldLemmas.{signed_fits}
 use Rattle.wild_types.specs.declared.fault.Fault.{Fault}
 use Rattle.wild_types.specs.declared.fault.Missing.TheVariants as missing
@@ -57,7 +57,6 @@ use Rattle.wild_loader.specs.declared.change.Change.{Change}
 use Rattle.wild_loader.specs.declared.change.Change.TheVariants as changes
 use Rattle.wild_loader.specs.declared.fault.LoadFault.{LoadFault}
 use Rattle.wild_loader.specs.declared.kind.DynamicKind.TheVariants as works
-use Rattle.wild_loader.specs.declared.memory.Machine.TheVariants as processors
 use Rattle.wild_loader.specs.declared.memory.Memory.{Memory}
 use Rattle.wild_loader.specs.declared.world.World.{World}
 use Rattle.wild_meaning.specs.Field.{formula_of}
@@ -72,10 +71,13 @@ use Rattle.wild_references.proofs.EntryWords.{IsAnsweredBy, after_known, after_s
 use Rattle.wild_references.proofs.KnownRows.{RowFits, row_fits}
 use Rattle.wild_references.proofs.OutputKinds.{library_is}
 use Rattle.wild_references.proofs.SlotFlags.{symbol_fits, resolver_own, listed_at}
-use Rattle.wild_references.proofs.Symbols.{IsResolvedBy, resolved, resolved_raw, flags_are, replaceable_at, flag_at, definition_there, own_size_is}
+use Rattle.wild_references.proofs.Symbols.{IsResolvedBy, resolved, resolved_raw, flags_are, replaceable_at, flag_at, own_size_is}
 use Rattle.wild_references.proofs.Treated.{treated_by, peeled}
 use Rattle.wild_references.proofs.ValueKinds.{more}
 use Rattle.wild_references.proofs.Written.{row_here, given_some}
+use Rattle.wild_meaning.specs.Linked.{processor_of}
+use Rattle.wild_loader.specs.declared.memory.Machine.{Machine as Processor}
+use Rattle.wild_geometry.proofs.MachineLemmas.{facts_of}
 
 -- ---- what a decision says of the entry
 
@@ -152,15 +154,11 @@ pub record IsGiven (l : Layout) (w : World) (m : Memory) (s : Item) (r : InputRe
 sum_given : (l : Layout) (w : World) (m : Memory) (s : Item) (r : InputRelocation) (f : Formula) (bs : List ℕ) (x : ℕ) → f.value ≡ SymbolAddress → f.form ≡ Full → IsSum SymbolAddress l w m s r x → bs ≡ word 8 x → x < 2 ^ 64 → IsGiven l w m s r f bs
 sum_given l w m s r f bs x value full is bytes low = record { value = x; gives = subst (λ (v : Value). Gives v l w m s r x) (sym value) is; reads = reads_full f.form bs x full bytes low }
 
-symbol_is : kind_of processors.X86_64 r_x86_64_64 ≡ Some works.SymbolPlus
-unfolding kind_of
-symbol_is = refl
-
 -- an answer's address and the addend
-symbol_change : (w : World) (d a : ℕ) (c : Change) → a < 2 ^ 64 → MakesChange w r_x86_64_64 d a c → (x : IsAnsweredBy w d) × (c ≡ changes.Word ((x.answer.address + a) % 2 ^ 64))
+symbol_change : (p : Processor) (w : World) (n d a : ℕ) (c : Change) → kind_of p n ≡ Some works.SymbolPlus → a < 2 ^ 64 → MakesChange p w n d a c → (x : IsAnsweredBy w d) × (c ≡ changes.Word ((x.answer.address + a) % 2 ^ 64))
 unfolding change_of
-symbol_change w d a c low h =
-    let e = change_by w r_x86_64_64 d a c works.SymbolPlus symbol_is h in
+symbol_change p w n d a c is low h =
+    let e = change_by p w n d a c works.SymbolPlus is h in
     let x = after_known (slice_get w.symbols d) _ _ c e in
     let same : changes.Word ((x.0.address + cast_unsigned w64 (cast_signed w64 a)) % 2 ^ 64) ≡ c = (let g : made_change (changes.Word ((x.0.address + cast_unsigned w64 (cast_signed w64 a)) % 2 ^ 64)) ≡ made_change c = x.2 in cc) in
     (record { answer = x.0; there = x.1 }, sym same ∙ ap (λ (n : ℕ). changes.Word ((x.0.address + n) % 2 ^ 64)) (of_z-to_z w64 a low))
@@ -169,21 +167,14 @@ symbol_change w d a c low h =
 formula_here : (l : Layout) (r : InputRelocation) (row : RelocationKindInfo) → l.machine ≡ machine.X86_64 → (f : RowFits r.number row) → formula_of l.machine r.number ≡ Some f.formula
 formula_here l r row x f = subst (λ (k : Machine). formula_of k r.number ≡ Some f.formula) (sym x) f.known
 
-type_is : (l : Layout) (n : ℕ) → l.machine ≡ machine.X86_64 → type_of l.machine Absolute ≡ n → r_x86_64_64 ≡ n
-type_is l n x e = subst (λ (k : Machine). type_of k Absolute ≡ n) x e
-
-chosen_type : (l : Layout) (n : ℕ) → l.machine ≡ machine.X86_64 → type_of l.machine Irelative ≡ n → r_x86_64_irelative ≡ n
-chosen_type l n x e = subst (λ (k : Machine). type_of k Irelative ≡ n) x e
-
 symbolic_given : (l : Layout) (w : World) (m : Memory) (s : Item) (r : InputRelocation) (i number symbol addend : ℕ) (z : RelocationSize) (bs : List ℕ) (f : Formula) → IsPlaced l w m → FitsSigned w64 r.addend → r.symbol ≡ Some i → f.value ≡ SymbolAddress → f.form ≡ Full
-    → left_to (ByteSize Eight) (type_of l.machine Absolute) r i (index_of l i) ≡ Ok (Left z number symbol addend) → ReadsLeft InMemory w z number symbol addend bs → IsGiven l w m s r f bs
+    → left_to (ByteSize Eight) (type_of l.machine Absolute) r i (index_of l i) ≡ Ok (Left z number symbol addend) → ReadsLeft (processor_of l.machine) InMemory w z number symbol addend bs → IsGiven l w m s r f bs
 symbolic_given l w m s r i number symbol addend z bs f p fits named value full made reads =
     let d = index_given (ByteSize Eight) z (type_of l.machine Absolute) number symbol addend r i (index_of l i) made in
     let by = index_resolved l i symbol d.0 in
-    let n = type_is l number p.x86 d.1 in
+    let is = subst (λ (k : ℕ). kind_of (processor_of l.machine) k ≡ Some works.SymbolPlus) d.1 ((facts_of l.machine).entries Absolute) in
     let low : addend < 2 ^ 64 = subst (λ (k : ℕ). k < 2 ^ 64) d.2 (signed_fits w64 r.addend fits) in
-    let makes = subst (λ (k : ℕ). MakesChange w k symbol addend reads.0) (sym n) reads.1 in
-    let c = symbol_change w symbol addend reads.0 low makes in
+    let c = symbol_change (processor_of l.machine) w number symbol addend reads.0 is low reads.1 in
     let x = (c.0.answer.address + addend) % 2 ^ 64 in
     let a = answered_value l w i c.0.answer p.legal.symbols (has_answer l w i symbol by.0 by.1 by.2 c.0) in
     let target : IsTarget l w m r.symbol c.0.answer.address = subst (λ (o : Option ℕ). IsTarget l w m o c.0.answer.address) (sym named) (inl a) in
@@ -192,14 +183,10 @@ symbolic_given l w m s r i number symbol addend z bs f p fits named value full m
 
 -- ---- what a resolver answers
 
-chosen_is : kind_of processors.X86_64 r_x86_64_irelative ≡ Some works.Resolved
-unfolding kind_of
-chosen_is = refl
-
-resolver_change : (w : World) (d a : ℕ) (c : Change) → a < 2 ^ 64 → MakesChange w r_x86_64_irelative d a c → (v : ℕ) × (answer_at w ((w.base + a) % 2 ^ 64) ≡ Ok v) × (c ≡ changes.Word v)
+resolver_change : (p : Processor) (w : World) (n d a : ℕ) (c : Change) → kind_of p n ≡ Some works.Resolved → a < 2 ^ 64 → MakesChange p w n d a c → (v : ℕ) × (answer_at w ((w.base + a) % 2 ^ 64) ≡ Ok v) × (c ≡ changes.Word v)
 unfolding change_of
-resolver_change w d a c low h =
-    let e = change_by w r_x86_64_irelative d a c works.Resolved chosen_is h in
+resolver_change p w n d a c is low h =
+    let e = change_by p w n d a c works.Resolved is h in
     let v = after_step (answer_at w ((w.base + cast_unsigned w64 (cast_signed w64 a)) % 2 ^ 64)) _ c e in
     let same : changes.Word v.0 ≡ c = (let g : made_change (changes.Word v.0) ≡ made_change c = v.2 in cc) in
     (v.0, subst (λ (n : ℕ). answer_at w ((w.base + n) % 2 ^ 64) ≡ Ok v.0) (of_z-to_z w64 a low) v.1, sym same)
@@ -251,15 +238,14 @@ chosen_own l w m s row i p listed width h =
     last_of false b h = cc
 
 indirect_given : (l : Layout) (w : World) (m : Memory) (s : Item) (r : InputRelocation) (i number symbol addend : ℕ) (z : RelocationSize) (bs : List ℕ) (f : Formula) → IsPlaced l w m → i < length l.symbols → IsChosenOwn l i → r.symbol ≡ Some i → f.value ≡ SymbolAddress → f.form ≡ Full
-    → chosen_to l r (decided_address l i) ≡ Ok (Left z number symbol addend) → ReadsLeft InMemory w z number symbol addend bs → IsGiven l w m s r f bs
+    → chosen_to l r (decided_address l i) ≡ Ok (Left z number symbol addend) → ReadsLeft (processor_of l.machine) InMemory w z number symbol addend bs → IsGiven l w m s r f bs
 indirect_given l w m s r i number symbol addend z bs f p listed chosen named value full made reads =
     let d = resolver_given l z number symbol addend r (decided_address l i) made in
     let by = decided_resolved l i addend d.0 in
     let raw = subst (λ (a : ℕ). HasRaw l i a) by.2 (resolved_raw l i by.0 by.1) in
     let low = subst (λ (a : ℕ). a < 2 ^ 64) by.2 ((symbol_fits l i by.1.symbol p.symbols by.1.listed).number by.0 by.1.decided) in
-    let n = chosen_type l number p.x86 d.1 in
-    let makes = subst (λ (k : ℕ). MakesChange w k symbol addend reads.0) (sym n) reads.1 in
-    let c = resolver_change w symbol addend reads.0 low makes in
+    let is = subst (λ (k : ℕ). kind_of (processor_of l.machine) k ≡ Some works.Resolved) d.1 ((facts_of l.machine).entries Irelative) in
+    let c = resolver_change (processor_of l.machine) w number symbol addend reads.0 is low reads.1 in
     let z = slice_get_inside l.symbols i listed in
     let a : HasOwnValue l w i c.0 = record { raw = addend; given = raw; indirect = true; resolved = chosen.chosen; still = has_flag (flags_at l i) absolute; absolute = flag_at l i absolute z.0 p.symbols.named z.1; is = c.1 } in
     let target : IsTarget l w m r.symbol c.0 = subst (λ (o : Option ℕ). IsTarget l w m o c.0) (sym named) (inl (inr (chosen.own, a))) in
@@ -297,26 +283,26 @@ long_formula : x86_64_formula r_x86_64_size64 ≡ Some (formula Size Full)
 unfolding x86_64_formula
 long_formula = refl
 
-short_is : kind_of processors.X86_64 r_x86_64_size32 ≡ Some works.Size32
+short_is : (m : Machine) → m ≡ machine.X86_64 → kind_of (processor_of m) r_x86_64_size32 ≡ Some works.Size32
 unfolding kind_of
-short_is = refl
+short_is m x = rw x refl
 
-long_is : kind_of processors.X86_64 r_x86_64_size64 ≡ Some works.Size64
+long_is : (m : Machine) → m ≡ machine.X86_64 → kind_of (processor_of m) r_x86_64_size64 ≡ Some works.Size64
 unfolding kind_of
-long_is = refl
+long_is m x = rw x refl
 
-short_change : (w : World) (d a : ℕ) (c : Change) → a < 2 ^ 64 → MakesChange w r_x86_64_size32 d a c → (x : IsAnsweredBy w d) × (c ≡ changes.Half ((x.answer.size + a) % 2 ^ 64 % 2 ^ 32))
+short_change : (p : Processor) (w : World) (n d a : ℕ) (c : Change) → kind_of p n ≡ Some works.Size32 → a < 2 ^ 64 → MakesChange p w n d a c → (x : IsAnsweredBy w d) × (c ≡ changes.Half ((x.answer.size + a) % 2 ^ 64 % 2 ^ 32))
 unfolding change_of
-short_change w d a c low h =
-    let e = change_by w r_x86_64_size32 d a c works.Size32 short_is h in
+short_change p w n d a c is low h =
+    let e = change_by p w n d a c works.Size32 is h in
     let x = after_known (slice_get w.symbols d) _ _ c e in
     let same : changes.Half ((x.0.size + cast_unsigned w64 (cast_signed w64 a)) % 2 ^ 64 % 2 ^ 32) ≡ c = (let g : made_change (changes.Half ((x.0.size + cast_unsigned w64 (cast_signed w64 a)) % 2 ^ 64 % 2 ^ 32)) ≡ made_change c = x.2 in cc) in
     (record { answer = x.0; there = x.1 }, sym same ∙ ap (λ (n : ℕ). changes.Half ((x.0.size + n) % 2 ^ 64 % 2 ^ 32)) (of_z-to_z w64 a low))
 
-long_change : (w : World) (d a : ℕ) (c : Change) → a < 2 ^ 64 → MakesChange w r_x86_64_size64 d a c → (x : IsAnsweredBy w d) × (c ≡ changes.Word ((x.answer.size + a) % 2 ^ 64))
+long_change : (p : Processor) (w : World) (n d a : ℕ) (c : Change) → kind_of p n ≡ Some works.Size64 → a < 2 ^ 64 → MakesChange p w n d a c → (x : IsAnsweredBy w d) × (c ≡ changes.Word ((x.answer.size + a) % 2 ^ 64))
 unfolding change_of
-long_change w d a c low h =
-    let e = change_by w r_x86_64_size64 d a c works.Size64 long_is h in
+long_change p w n d a c is low h =
+    let e = change_by p w n d a c works.Size64 is h in
     let x = after_known (slice_get w.symbols d) _ _ c e in
     let same : changes.Word ((x.0.size + cast_unsigned w64 (cast_signed w64 a)) % 2 ^ 64) ≡ c = (let g : made_change (changes.Word ((x.0.size + cast_unsigned w64 (cast_signed w64 a)) % 2 ^ 64)) ≡ made_change c = x.2 in cc) in
     (record { answer = x.0; there = x.1 }, sym same ∙ ap (λ (n : ℕ). changes.Word ((x.0.size + n) % 2 ^ 64)) (of_z-to_z w64 a low))
@@ -350,7 +336,7 @@ whose l w m i p listed =
     subst (λ (b : Bool). IsReplaceable l i b) (whose_flags l (flags_at l i)) (replaceable_at l i z.0 p.symbols.named z.1)
 
 extent_given : (l : Layout) (w : World) (m : Memory) (s : Item) (r : InputRelocation) (row : RelocationKindInfo) (i number symbol addend : ℕ) (z : RelocationSize) (bs : List ℕ) (fits : RowFits r.number row) → IsPlaced l w m → FitsSigned w64 r.addend → i < length l.symbols → row_of machine.X86_64 r.number ≡ Some row → (is_replaceable l.kind (flags_at l i) || allows row (sum (symbol_size l i) r.addend)) ≡ true → r.symbol ≡ Some i → (r.number ≡ r_x86_64_size32) ⊎ (r.number ≡ r_x86_64_size64)
-    → left_to row.size r.number r i (index_of l i) ≡ Ok (Left z number symbol addend) → ReadsLeft InMemory w z number symbol addend bs → IsGiven l w m s r fits.formula bs
+    → left_to row.size r.number r i (index_of l i) ≡ Ok (Left z number symbol addend) → ReadsLeft (processor_of l.machine) InMemory w z number symbol addend bs → IsGiven l w m s r fits.formula bs
 extent_given l w m s r row i number symbol addend z bs fits p signed listed here ranged named type made reads = by_type type
   where
     d : (index_of l i ≡ Some symbol) × (r.number ≡ number) × (added r ≡ addend)
@@ -365,8 +351,8 @@ extent_given l w m s r row i number symbol addend z bs fits p signed listed here
     extent : (x : IsAnsweredBy w symbol) → IsExtent l w r.symbol x.answer.size
     extent x = subst (λ (o : Option ℕ). IsExtent l w o x.answer.size) (sym named) (answered_size l w i x.answer p.legal.symbols (answer x))
 
-    makes : (n : ℕ) → r.number ≡ n → MakesChange w n symbol addend reads.0
-    makes n e = subst (λ (k : ℕ). MakesChange w k symbol addend reads.0) (sym d.1 ∙ e) reads.1
+    makes : (n : ℕ) → r.number ≡ n → MakesChange (processor_of l.machine) w n symbol addend reads.0
+    makes n e = subst (λ (k : ℕ). MakesChange (processor_of l.machine) w k symbol addend reads.0) (sym d.1 ∙ e) reads.1
 
     formula_by : (n : ℕ) (f : Formula) → r.number ≡ n → x86_64_formula n ≡ Some f → f ≡ fits.formula
     formula_by n f e known = (let g : Some f ≡ Some fits.formula = sym known ∙ (ap x86_64_formula (sym e) ∙ fits.known) in cc)
@@ -386,7 +372,7 @@ extent_given l w m s r row i number symbol addend z bs fits p signed listed here
 
     by_type : (r.number ≡ r_x86_64_size32) ⊎ (r.number ≡ r_x86_64_size64) → IsGiven l w m s r fits.formula bs
     by_type (inl e) =
-        let c = short_change w symbol addend reads.0 low (makes r_x86_64_size32 e) in
+        let c = short_change (processor_of l.machine) w r_x86_64_size32 symbol addend reads.0 (short_is l.machine p.x86) low (makes r_x86_64_size32 e) in
         let x = c.0 in
         let v = (x.answer.size + addend) % 2 ^ 64 % 2 ^ 32 in
         let bytes = bytes_are bs reads.0 (changes.Half v) c.1 reads.2 in
@@ -396,7 +382,7 @@ extent_given l w m s r row i number symbol addend z bs fits p signed listed here
           reads = ap words.number bytes ∙ number-word 4 v (omega arith);
         })
     by_type (inr e) =
-        let c = long_change w symbol addend reads.0 low (makes r_x86_64_size64 e) in
+        let c = long_change (processor_of l.machine) w r_x86_64_size64 symbol addend reads.0 (long_is l.machine p.x86) low (makes r_x86_64_size64 e) in
         let x = c.0 in
         let v = (x.answer.size + addend) % 2 ^ 64 in
         let bytes = bytes_are bs reads.0 (changes.Word v) c.1 reads.2 in
@@ -421,7 +407,7 @@ pub record FieldGiven (l : Layout) (w : World) (m : Memory) (s : Item) (r : Inpu
   pub known : formula_of l.machine r.number ≡ Some formula
   pub given : IsGiven l w m s r formula bs
 
-left_given : X86_64Agrees → (l : Layout) (w : World) (m : Memory) (s : Item) (r : InputRelocation) (z : RelocationSize) (number symbol addend : ℕ) (bs : List ℕ) → IsPlaced l w m → NamesSymbol l r → FitsSigned w64 r.addend → decided l s r ≡ Ok (Left z number symbol addend) → ReadsLeft InMemory w z number symbol addend bs → FieldGiven l w m s r bs
+left_given : X86_64Agrees → (l : Layout) (w : World) (m : Memory) (s : Item) (r : InputRelocation) (z : RelocationSize) (number symbol addend : ℕ) (bs : List ℕ) → IsPlaced l w m → NamesSymbol l r → FitsSigned w64 r.addend → decided l s r ≡ Ok (Left z number symbol addend) → ReadsLeft (processor_of l.machine) InMemory w z number symbol addend bs → FieldGiven l w m s r bs
 left_given agrees l w m s r z number symbol addend bs p listed fits made reads =
     let h = decided_left l s r z number symbol addend made in
     by_treatment h.treated h.left h.is h.made

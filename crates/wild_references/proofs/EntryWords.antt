@@ -1,12 +1,11 @@
 -- What an entry leaves of the word of a slot.
-use Rattle.std.proofs.Common.{◌≡◌, ◌≢◌, ℕ, ◌+◌, ◌%◌, ◌^◌, ◌<◌, false, Option, Some, None, Result, Ok, Err, refl, sym, ap, ◌∙◌, subst}
-use Rattle.std.specs.Prelude.{◌==◌, slice_get}
+use Rattle.std.proofs.Common.{◌≡◌, ◌≢◌, ℕ, ◌+◌, ◌%◌, ◌^◌, ◌<◌, false, Option, Some, None, Result, Ok, Err, refl, sym, ap, ◌∙◌, arith, subst}
+use Rattle.std.specs.Prelude.{◌==◌, slice_get, All}
 use Rattle.std.specs.Int.{w64, cast_unsigned, cast_signed}
 use Rattle.std.proofs.lemmas.Bool.{ne_eqb}
 use Rattle.std.proofs.lemmas.Int.{of_z-to_z}
-use Rattle.wild_reloc.specs.Dynamic.{x86_64_type}
 use Rattle.wild_reloc.specs.declared.dynamic.DynamicRelocationKind.{DynamicRelocationKind}
-use Rattle.wild_reloc.specs.declared.dynamic.DynamicRelocationKind.TheVariants.{GotEntry, JumpSlot, DtpMod, DtpOff, TpOff, TlsDesc, Irelative}
+use Rattle.wild_reloc.specs.declared.dynamic.DynamicRelocationKind.TheVariants.{DtpMod, DtpOff, TpOff, TlsDesc, Irelative}
 use Rattle.wild_geometry.specs.Loaded.{MakesChange, entry_with}
 use Rattle.wild_geometry.specs.Slots.{IsLeft, IsFilledBy}
 use Rattle.wild_loader.specs.Given.{◌>>=◌, known}
@@ -15,11 +14,15 @@ use Rattle.wild_loader.specs.declared.change.Change.{Change}
 use Rattle.wild_loader.specs.declared.change.Change.TheVariants as changes
 use Rattle.wild_loader.specs.declared.fault.LoadFault.{LoadFault}
 use Rattle.wild_loader.specs.declared.kind.DynamicKind.{DynamicKind}
-use Rattle.wild_loader.specs.declared.kind.DynamicKind.TheVariants as kinds
 use Rattle.wild_loader.specs.declared.memory.Machine.TheVariants as processors
 use Rattle.wild_loader.specs.declared.memory.Memory.{Memory}
 use Rattle.wild_loader.specs.declared.world.Answer.{Answer}
 use Rattle.wild_loader.specs.declared.world.World.{World}
+use Rattle.wild_loader.specs.declared.memory.Machine.{Machine as Processor}
+use Rattle.wild_geometry.specs.EntryKinds.{loaded_kind, address_kind}
+use Rattle.wild_meaning.specs.World.{IsAnswer}
+use Rattle.wild_words.proofs.Basics.{listed_at}
+use Rattle.std.proofs.lemmas.List.Elements.{All-contains}
 
 -- ---- steps
 
@@ -33,8 +36,8 @@ after_step (Ok x) g c h = (x, refl, h)
 after_step (Err e) g c h = cc
 
 -- the change of an entry, by what the entries of its number do
-pub change_by : (w : World) (n s a : ℕ) (c : Change) (k : DynamicKind) → kind_of processors.X86_64 n ≡ Some k → MakesChange w n s a c → change_of w k (entry_with n s a) ≡ Ok c
-change_by w n s a c k is h =
+pub change_by : (p : Processor) (w : World) (n s a : ℕ) (c : Change) (k : DynamicKind) → kind_of p n ≡ Some k → MakesChange p w n s a c → change_of w k (entry_with n s a) ≡ Ok c
+change_by p w n s a c k is h =
     let same : Some k ≡ Some h.kind = sym is ∙ h.known in
     let e : k ≡ h.kind = cc in
     subst (λ (x : DynamicKind). change_of w x (entry_with n s a) ≡ Ok c) (sym e) h.makes
@@ -56,30 +59,21 @@ pub record IsAnsweredBy (w : World) (d : ℕ) : Type 0 where
   pub there : slice_get w.symbols d ≡ Some answer
 
 -- GLOB_DAT and JUMP_SLOT store the address
-pub got_is_address : kind_of processors.X86_64 (x86_64_type GotEntry) ≡ Some kinds.Symbol
-unfolding kind_of
-got_is_address = refl
-
-pub jump_is_address : kind_of processors.X86_64 (x86_64_type JumpSlot) ≡ Some kinds.Symbol
-unfolding kind_of
-jump_is_address = refl
-
-pub address_filled : (w : World) (m : Memory) (place d x : ℕ) (kind : DynamicRelocationKind) → kind_of processors.X86_64 (x86_64_type kind) ≡ Some kinds.Symbol → IsFilledBy w m place (record { kind = kind; symbol = d; addend = 0 }) x → (a : IsAnsweredBy w d) × (x ≡ a.answer.address)
+pub address_filled : (w : World) (m : Memory) (place d x : ℕ) (kind : DynamicRelocationKind) → All (IsAnswer w) w.symbols → loaded_kind m.machine kind ≡ address_kind m.machine → IsFilledBy w m place (record { kind = kind; symbol = d; addend = 0 }) x → (a : IsAnsweredBy w d) × (x ≡ a.answer.address)
 unfolding change_of
-address_filled w m place d x kind is f =
-    let h = change_by w (x86_64_type kind) d 0 f.change kinds.Symbol is f.makes in
-    let a = after_known (slice_get w.symbols d) _ _ f.change h in
-    (record { answer = a.0; there = a.1 }, stored m place x a.0.address f.change a.2 f.leaves)
+address_filled w m place d x kind each is f = by_processor m.machine (subst (λ (k : DynamicKind). change_of w k (entry_with 0 d 0) ≡ Ok f.change) is f.makes)
+  where
+    by_processor : (p : Processor) → change_of w (address_kind p) (entry_with 0 d 0) ≡ Ok f.change → (a : IsAnsweredBy w d) × (x ≡ a.answer.address)
+    by_processor processors.X86_64 h =
+        let a = after_known (slice_get w.symbols d) _ _ f.change h in
+        (record { answer = a.0; there = a.1 }, stored m place x a.0.address f.change a.2 f.leaves)
+    by_processor processors.AArch64 h =
+        let a = after_known (slice_get w.symbols d) _ _ f.change h in
+        let low = (All-contains (IsAnswer w) w.symbols a.0 each (listed_at w.symbols d a.0 a.1)).address in
+        let e = stored m place x ((a.0.address + 0) % 2 ^ 64) f.change a.2 f.leaves in
+        (record { answer = a.0; there = a.1 }, omega (arith, e, low))
 
 -- DTPMOD stores the module, and DTPOFF the offset in it
-module_is : kind_of processors.X86_64 (x86_64_type DtpMod) ≡ Some kinds.Module
-unfolding kind_of
-module_is = refl
-
-offset_is : kind_of processors.X86_64 (x86_64_type DtpOff) ≡ Some kinds.ModuleOffset
-unfolding kind_of
-offset_is = refl
-
 -- of an index behind the null symbol
 named_pair : (w : World) (d : ℕ) (p : ℕ × ℕ) → d ≢ 0 → module_and_offset w d ≡ Ok p → (a : IsAnsweredBy w d) × (p ≡ (a.answer.module, a.answer.offset))
 named_pair w d p some h =
@@ -92,7 +86,7 @@ named_pair w d p some h =
 pub module_filled : (w : World) (m : Memory) (place d x : ℕ) → d ≢ 0 → IsFilledBy w m place (record { kind = DtpMod; symbol = d; addend = 0 }) x → (a : IsAnsweredBy w d) × (x ≡ a.answer.module)
 unfolding change_of
 module_filled w m place d x some f =
-    let h = change_by w (x86_64_type DtpMod) d 0 f.change kinds.Module module_is f.makes in
+    let h = f.makes in
     let p = after_step (module_and_offset w d) _ f.change h in
     let a = named_pair w d p.0 some p.1 in
     (a.0, stored m place x p.0.0 f.change p.2 f.leaves ∙ ap (λ (q : ℕ × ℕ). q.0) a.1)
@@ -100,21 +94,17 @@ module_filled w m place d x some f =
 pub own_module_filled : (w : World) (m : Memory) (place x : ℕ) → IsFilledBy w m place (record { kind = DtpMod; symbol = 0; addend = 0 }) x → x ≡ w.own_module
 unfolding change_of
 own_module_filled w m place x f =
-    let h = change_by w (x86_64_type DtpMod) 0 0 f.change kinds.Module module_is f.makes in
+    let h = f.makes in
     stored m place x w.own_module f.change h f.leaves
 
 pub offset_filled : (w : World) (m : Memory) (place d x : ℕ) → IsFilledBy w m place (record { kind = DtpOff; symbol = d; addend = 0 }) x → (a : IsAnsweredBy w d) × (x ≡ (a.answer.offset + 0) % 2 ^ 64)
 unfolding change_of
 offset_filled w m place d x f =
-    let h = change_by w (x86_64_type DtpOff) d 0 f.change kinds.ModuleOffset offset_is f.makes in
+    let h = f.makes in
     let a = after_known (slice_get w.symbols d) _ _ f.change h in
     (record { answer = a.0; there = a.1 }, stored m place x ((a.0.offset + 0) % 2 ^ 64) f.change a.2 f.leaves)
 
 -- ---- offsets from the thread pointer
-
-thread_is : kind_of processors.X86_64 (x86_64_type TpOff) ≡ Some kinds.ThreadOffset
-unfolding kind_of
-thread_is = refl
 
 -- the distance of a module and an offset in its data, and the addend
 record IsThreadWord (w : World) (module_number offset a x : ℕ) : Type 0 where
@@ -156,9 +146,9 @@ own_thread w a x low h =
 thread_word : (w : World) (m : Memory) (place d a x : ℕ) → IsFilledBy w m place (record { kind = TpOff; symbol = d; addend = a }) x → IsThreadStep w d a x
 unfolding change_of
 thread_word w m place d a x f =
-    let h = change_by w (x86_64_type TpOff) d a f.change kinds.ThreadOffset thread_is f.makes in
-    let o = after_step (thread_offset w (entry_with (x86_64_type TpOff) d a)) _ f.change h in
-    subst (λ (n : ℕ). IsThreadStep w d a n) (sym (stored m place x o.0 f.change o.2 f.leaves)) (thread_step w (x86_64_type TpOff) d a o.0 o.1)
+    let h = f.makes in
+    let o = after_step (thread_offset w (entry_with 0 d a)) _ f.change h in
+    subst (λ (n : ℕ). IsThreadStep w d a n) (sym (stored m place x o.0 f.change o.2 f.leaves)) (thread_step w 0 d a o.0 o.1)
 
 pub thread_filled : (w : World) (m : Memory) (place d x : ℕ) → d ≢ 0 → IsFilledBy w m place (record { kind = TpOff; symbol = d; addend = 0 }) x → (a : IsAnsweredBy w d) × (t : ℕ) × (distance_of w a.answer.module ≡ Ok t) × (x ≡ ((t + a.answer.offset) % 2 ^ 64 + 0) % 2 ^ 64)
 thread_filled w m place d x some f = named_thread w d x some (thread_word w m place d 0 x f)
@@ -167,10 +157,6 @@ pub own_thread_filled : (w : World) (m : Memory) (place a x : ℕ) → a < 2 ^ 6
 own_thread_filled w m place a x low f = own_thread w a x low (thread_word w m place 0 a x f)
 
 -- TLSDESC notes it for a descriptor
-descriptor_notes : kind_of processors.X86_64 (x86_64_type TlsDesc) ≡ Some kinds.Descriptor
-unfolding kind_of
-descriptor_notes = refl
-
 noted : (m : Memory) (place x o : ℕ) (c : Change) → made (changes.Descriptor o) ≡ made c → IsLeft m place c x → first_value m.descriptors place ≡ Some o
 noted m place x o c e h =
     let same : changes.Descriptor o ≡ c = cc in
@@ -179,9 +165,9 @@ noted m place x o c e h =
 descriptor_word : (w : World) (m : Memory) (place d a x : ℕ) → IsFilledBy w m place (record { kind = TlsDesc; symbol = d; addend = a }) x → (o : ℕ) × (first_value m.descriptors place ≡ Some o) × IsThreadStep w d a o
 unfolding change_of
 descriptor_word w m place d a x f =
-    let h = change_by w (x86_64_type TlsDesc) d a f.change kinds.Descriptor descriptor_notes f.makes in
-    let o = after_step (thread_offset w (entry_with (x86_64_type TlsDesc) d a)) _ f.change h in
-    (o.0, noted m place x o.0 f.change o.2 f.leaves, thread_step w (x86_64_type TlsDesc) d a o.0 o.1)
+    let h = f.makes in
+    let o = after_step (thread_offset w (entry_with 0 d a)) _ f.change h in
+    (o.0, noted m place x o.0 f.change o.2 f.leaves, thread_step w 0 d a o.0 o.1)
 
 pub descriptor_filled : (w : World) (m : Memory) (place d x : ℕ) → d ≢ 0 → IsFilledBy w m place (record { kind = TlsDesc; symbol = d; addend = 0 }) x → (o : ℕ) × (first_value m.descriptors place ≡ Some o) × (a : IsAnsweredBy w d) × (t : ℕ) × (distance_of w a.answer.module ≡ Ok t) × (o ≡ ((t + a.answer.offset) % 2 ^ 64 + 0) % 2 ^ 64)
 descriptor_filled w m place d x some f =
@@ -197,15 +183,11 @@ own_descriptor_filled w m place a x low f =
 
 -- ---- resolvers
 
-chosen_is : kind_of processors.X86_64 (x86_64_type Irelative) ≡ Some kinds.Resolved
-unfolding kind_of
-chosen_is = refl
-
 -- IRELATIVE stores what a resolver answers
 pub chosen_filled : (w : World) (m : Memory) (place a x : ℕ) → a < 2 ^ 64 → IsFilledBy w m place (record { kind = Irelative; symbol = 0; addend = a }) x → answer_at w ((w.base + a) % 2 ^ 64) ≡ Ok x
 unfolding change_of
 chosen_filled w m place a x low f =
-    let h = change_by w (x86_64_type Irelative) 0 a f.change kinds.Resolved chosen_is f.makes in
+    let h = f.makes in
     let v = after_step (answer_at w ((w.base + cast_unsigned w64 (cast_signed w64 a)) % 2 ^ 64)) _ f.change h in
     let is : x ≡ v.0 = stored m place x v.0 f.change v.2 f.leaves in
     let there = subst (λ (n : ℕ). answer_at w ((w.base + n) % 2 ^ 64) ≡ Ok v.0) (of_z-to_z w64 a low) v.1 in

@@ -37,6 +37,7 @@ use Rattle.wild_geometry.specs.Loaded.{InMemory, ReadsLeft, HasItem}
 use Rattle.wild_references.specs.Terms.{IsPlaced}
 use Rattle.wild_references.specs.Laws.{TermGives, TermGivesLinked, SlotsGive, AddressesGive, AddressesGiveLinked, EntriesGive}
 use Rattle.wild_references.proofs.Written.{IsValue, IsAddress, IsLeftField}
+use Rattle.wild_meaning.specs.Linked.{processor_of}
 
 -- ---- fields of whole bytes
 
@@ -176,7 +177,7 @@ address_reads l w m s i r h a =
     }
 
 -- the bytes of a field that is left to an entry
-pub left_bytes : (l : Layout) (w : World) (m : Memory) (s : Item) (i : ℕ) (r : InputRelocation) → IsItemLoaded l w m s → (f : IsLeftField l s i r) → (bs : List ℕ) × Holds m (place_at w s r.offset) bs × ReadsLeft InMemory w f.size f.number f.symbol f.addend bs
+pub left_bytes : (l : Layout) (w : World) (m : Memory) (s : Item) (i : ℕ) (r : InputRelocation) → IsItemLoaded l w m s → (f : IsLeftField l s i r) → (bs : List ℕ) × Holds m (place_at w s r.offset) bs × ReadsLeft (processor_of l.machine) InMemory w f.size f.number f.symbol f.addend bs
 left_bytes l w m s i r h f = h.item.left i r f.size f.number f.symbol f.addend f.plain.has
 
 -- what an entry stores fills the field

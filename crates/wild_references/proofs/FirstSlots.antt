@@ -1,7 +1,6 @@
 -- The first slot of an address has the symbol's value.
 use Rattle.std.proofs.Common.{◌≡◌, ℕ, ◌+◌, ◌%◌, ◌^◌, ◌<◌, ◌⊎◌, inl, inr, Bool, true, false, List, ◌∷◌, ◌++◌, Option, Some, None, refl, sym, ap, ◌∙◌, arith, subst}
 use Rattle.std.specs.Prelude.{◌&&◌, ◌||◌, not, if◌then◌else◌}
-use Rattle.wild_reloc.specs.Dynamic.{x86_64_type}
 use Rattle.wild_reloc.specs.declared.dynamic.DynamicRelocationKind.{DynamicRelocationKind}
 use Rattle.wild_reloc.specs.declared.dynamic.DynamicRelocationKind.TheVariants.{GotEntry, JumpSlot, Irelative}
 use Rattle.wild_types.specs.declared.kind.OutputKind.{OutputKind}
@@ -23,19 +22,17 @@ use Rattle.wild_slot.specs.SymbolWords.{resolved_slots, slots_of}
 use Rattle.wild_slot.specs.Stub.{far_of}
 use Rattle.wild_types.specs.SymbolSlots.{resolved_got, has_dynamic_symbol, has_thread_slot}
 use Rattle.wild_geometry.specs.Slots.{IsFilledBy, IsLoadedWord, HasWords, HasSymbolSlots}
-use Rattle.wild_loader.specs.Changes.{kind_of}
-use Rattle.wild_loader.specs.declared.kind.DynamicKind.TheVariants as works
-use Rattle.wild_loader.specs.declared.memory.Machine.TheVariants as processors
 use Rattle.wild_loader.specs.declared.memory.Memory.{Memory}
 use Rattle.wild_loader.specs.declared.world.World.{World}
 use Rattle.wild_meaning.specs.Slot.{HasWord}
 use Rattle.wild_meaning.specs.Value.{IsValue, HasValue, IsReplaceable, is_library, may_be_replaced, moved}
 use Rattle.wild_references.specs.Terms.{IsPlaced}
 use Rattle.wild_references.proofs.Answered.{has_answer, answered_value}
-use Rattle.wild_references.proofs.EntryWords.{got_is_address, jump_is_address, address_filled, chosen_filled}
+use Rattle.wild_references.proofs.EntryWords.{address_filled, chosen_filled}
 use Rattle.wild_references.proofs.Symbols.{IsResolvedBy, replaceable_by, resolved_raw, resolved_flag}
 use Rattle.wild_references.proofs.SlotFlags.{symbol_fits}
 use Rattle.wild_references.proofs.SlotContents.{ItemsHold, items_hold}
+use Rattle.wild_geometry.specs.EntryKinds.{loaded_kind, address_kind}
 
 -- ---- the slots of a symbol in memory
 
@@ -156,7 +153,7 @@ abbrev pub items_behind : Layout → Resolution → List SlotItem
 items_behind l r = stub_items (far_of l.machine r) r.plt_address ++ (ifunc_address_items (setting_of l) r ++ canonical_address_items (setting_of l) r)
 
 -- the word of an entry that names the symbol
-pub named_held : (l : Layout) (w : World) (m : Memory) (i at : ℕ) (r : Resolution) (rest : List SlotItem) (kind : DynamicRelocationKind) (word : SlotEntry → SlotWord) → IsPlaced l w m → IsResolvedBy l i r → kind_of processors.X86_64 (x86_64_type kind) ≡ Some works.Symbol
+pub named_held : (l : Layout) (w : World) (m : Memory) (i at : ℕ) (r : Resolution) (rest : List SlotItem) (kind : DynamicRelocationKind) (word : SlotEntry → SlotWord) → IsPlaced l w m → IsResolvedBy l i r → loaded_kind m.machine kind ≡ address_kind m.machine
     → ((e : SlotEntry) (x : ℕ) → IsLoadedWord w m (w.base + at) (word e) x → IsFilledBy w m (w.base + at) e x) → ItemsHold w m at (named r.dynamic_symbol_index (λ d. Word (word (record { kind = kind; symbol = d; addend = 0 }))) ∷ rest) → HasFirst l w m i at rest
 named_held l w m i at r rest kind word p by is filled h = by_index r.dynamic_symbol_index refl h
   where
@@ -164,7 +161,7 @@ named_held l w m i at r rest kind word p by is filled h = by_index r.dynamic_sym
     by_index None e h = absurd h
     by_index (Some d) e h =
         let x = h.0 in
-        let a = address_filled w m (w.base + at) d x.0 kind is (filled (record { kind = kind; symbol = d; addend = 0 }) x.0 x.2) in
+        let a = address_filled w m (w.base + at) d x.0 kind p.legal.symbols.each is (filled (record { kind = kind; symbol = d; addend = 0 }) x.0 x.2) in
         record { value = x.0; there = x.1; is = subst (λ (n : ℕ). HasValue l w i n) (sym a.1) (answered_value l w i a.0.answer p.legal.symbols (has_answer l w i d r by e a.0)); behind = h.1 }
 
 own_held : (l : Layout) (w : World) (m : Memory) (i at : ℕ) (r : Resolution) (rest : List SlotItem) → IsPlaced l w m → IsResolvedBy l i r → has_dynamic_symbol r.flags ≡ false → ItemsHold w m at (own_item (setting_of l) r ∷ rest) → HasFirst l w m i at rest
@@ -203,8 +200,8 @@ first_is : (l : Layout) (w : World) (m : Memory) (i at : ℕ) (r : Resolution) (
 first_is l w m i at r rest p d h = by_tests (has_flag r.flags canonical_plt) (has_dynamic_symbol r.flags) refl h
   where
     by_tests : (canonical looked : Bool) → has_dynamic_symbol r.flags ≡ looked → ItemsHold w m at ((if canonical then named r.dynamic_symbol_index (λ d. plt JumpSlot d 0) else if looked then named r.dynamic_symbol_index (λ d. general GotEntry d 0) else own_item (setting_of l) r) ∷ rest) → HasFirst l w m i at rest
-    by_tests true looked e h = named_held l w m i at r rest JumpSlot (λ e. Plt e) p d jump_is_address (λ e x f. f) h
-    by_tests false true e h = named_held l w m i at r rest GotEntry (λ e. General e) p d got_is_address (λ e x f. f) h
+    by_tests true looked e h = named_held l w m i at r rest JumpSlot (λ e. Plt e) p d refl (λ e x f. f) h
+    by_tests false true e h = named_held l w m i at r rest GotEntry (λ e. General e) p d refl (λ e x f. f) h
     by_tests false false e h = own_held l w m i at r rest p d e h
 
 pub first_held : (l : Layout) (w : World) (m : Memory) (i at : ℕ) (r : Resolution) → IsPlaced l w m → IsResolvedBy l i r → r.got_address ≡ Some at → has_thread_slot r.flags ≡ false → HasFirst l w m i at (items_behind l r)

@@ -27,6 +27,7 @@ use Rattle.wild_references.proofs.SlotFlags.{symbol_fits, slot_of_stub}
 use Rattle.wild_references.proofs.StubCode.{stub_jumps, stub_below}
 use Rattle.wild_references.proofs.Symbols.{IsResolvedBy, resolved}
 use Rattle.wild_references.proofs.Written.{given_some}
+use Rattle.wild_meaning.specs.Linked.{processor_of}
 
 -- the stub of a symbol in memory
 pub record StubStands (l : Layout) (w : World) (m : Memory) (i stub : ℕ) : Type 0 where
@@ -82,7 +83,7 @@ stub_from law l w m i stub r p d f =
       below = stub_below m w.base at stub held;
       value = first.value;
       is = first.is;
-      jumps = stub_jumps law m w.base at stub first.value p.loaded (in_reach l w m at stub r p.x86 e f first.behind) held first.there;
+      jumps = stub_jumps law m w.base at stub first.value (p.loaded ∙ ap processor_of p.x86) (in_reach l w m at stub r p.x86 e f first.behind) held first.there;
     }
 
 -- where the writer knows of a stub, memory has it

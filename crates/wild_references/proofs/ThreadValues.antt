@@ -1,9 +1,7 @@
 -- The offset of a symbol from the thread pointer in a legal world.
-use Rattle.std.proofs.Common.{◌≡◌, ℕ, ℤ, ◌+◌, ◌-◌, ◌%◌, ◌^◌, ◌<◌, inl, inr, refl, sym, ap, ◌∙◌, arith, subst}
-use Rattle.std.specs.Prelude.{◌==◌, Option, Some, Ok}
+use Rattle.std.proofs.Common.{◌≡◌, ℕ, ℤ, ◌+◌, ◌-◌, ◌%◌, ◌^◌, ◌<◌, refl, sym, ap, arith, subst}
+use Rattle.std.specs.Prelude.{Option, Some, Ok}
 use Rattle.std.specs.Int.{w64, cast_unsigned}
-use Rattle.std.proofs.Math.Nat.{zero-mod}
-use Rattle.std.proofs.lemmas.Bool.{cases_Bool, eqb-true}
 use Rattle.wild_records.proofs.FieldLemmas.{signed_fits}
 use Rattle.wild_types.specs.declared.kind.Machine.{Machine}
 use Rattle.wild_types.specs.declared.kind.Machine.TheVariants as machine
@@ -16,9 +14,10 @@ use Rattle.wild_loader.specs.declared.world.World.{World}
 use Rattle.wild_loader.specs.Given.{◌>>=◌, known}
 use Rattle.wild_loader.specs.Changes.{first_value, distance_of}
 use Rattle.wild_meaning.specs.Value.{HasRaw}
-use Rattle.wild_meaning.specs.Thread.{rounded_up, thread_pointer_of, thread_pointer, HasDistance, IsThreadPlace, IsOffsetBase}
+use Rattle.wild_meaning.specs.Thread.{thread_pointer_of, thread_pointer, HasDistance, IsThreadPlace, IsOffsetBase}
 use Rattle.wild_meaning.specs.World.{first_module, IsExecutable, IsFirstModule, IsKnownModule}
 use Rattle.wild_meaning.proofs.WorldLemmas.{first_filtered}
+use Rattle.wild_geometry.proofs.MachineLemmas.{rounded_same}
 
 -- so that the world has the distance of its module
 found : (w : World) (m : ℕ) (d : ℤ) → first_value w.modules m ≡ Some d → distance_of w m ≡ Ok (cast_unsigned w64 d)
@@ -52,20 +51,6 @@ thread_sum l w raw a f = by_numbers (cast_unsigned w64 f.distance) (thread_point
 -- ---- the thread pointer
 
 -- the writer's number is the reader's, modulo 2^64
-rounded_same : (n align : ℕ) → n < 2 ^ 64 → rounded_up n align % 2 ^ 64 ≡ storage.rounded_up n align
-rounded_same n align low =
-    elim (cases_Bool (align == 0)) [
-      | inr f ↦ rw f refl
-      | inl t ↦
-          (let z = eqb-true align 0 t in
-          let none : align - n % align ≡ 0 = omega (arith, z) in
-          let e : (align - n % align) % align ≡ 0 = ap (λ (k : ℕ). k % align) none ∙ zero-mod align in
-          rw t (ap (λ (k : ℕ). (n + k) % 2 ^ 64) e ∙ same n low))
-    ]
-  where
-    same : (n : ℕ) → n < 2 ^ 64 → (n + 0) % 2 ^ 64 ≡ n
-    same n low = omega (arith, low)
-
 pub pointer_same : (l : Layout) → l.machine ≡ machine.X86_64 → l.tls.end < 2 ^ 64 → thread_pointer l % 2 ^ 64 ≡ storage.thread_pointer l.machine l.tls
 pointer_same l x86 low = subst (λ (m : Machine). thread_pointer_of m l.tls % 2 ^ 64 ≡ storage.thread_pointer m l.tls) (sym x86) (rounded_same l.tls.end l.tls.align low)
 

@@ -32,7 +32,6 @@ use Rattle.wild_layout.specs.Numbers.{NumbersFit}
 use Rattle.wild_layout.specs.Geometry.{IsLaidOut, NamesSymbol}
 use Rattle.wild_geometry.specs.Loaded.{IsDecided, InMemory, number_at, ReadsLeft, HasDecision, HasItem}
 use Rattle.wild_geometry.specs.Slots.{HasSlots}
-use Rattle.wild_loader.specs.declared.memory.Machine.TheVariants as machines
 use Rattle.wild_loader.specs.declared.memory.Memory.{Memory}
 use Rattle.wild_loader.specs.declared.world.World.{World}
 use Rattle.wild_meaning.specs.World.{IsFirstModule, IsLoadable, IsLegal}
@@ -45,6 +44,7 @@ use Rattle.wild_meaning.specs.Field.{formula_of, FieldReads}
 use Rattle.wild_meaning.specs.Formula.{IsSum, HasOffsetMode, Gives, IsOwnSum, GivesLinked, TakesOffset}
 use Rattle.wild_meaning.specs.Reference.{IsAsked, IsStubbed, IsLinkedAlone}
 use Rattle.wild_references.specs.Terms.{IsPlaced, HasTerm, IsFollowed}
+use Rattle.wild_meaning.specs.Linked.{processor_of}
 
 -- the value that the writer computes for a kind is what the expression of that kind gives, where that is followed (x86-64 psABI,
 -- "Relocation Types")
@@ -79,7 +79,7 @@ AddressesGiveLinked = (l : Layout) (w : World) (m : Memory) (s : Item) (r : Inpu
 -- a field that is left to an entry has what the formula of the relocation's type gives, by what the entry stores
 abbrev pub EntriesGive : Type 0
 EntriesGive = (l : Layout) (w : World) (m : Memory) (s : Item) (r : InputRelocation) (z : RelocationSize) (number symbol addend : ℕ) (bs : List ℕ) → IsPlaced l w m → NamesSymbol l r → FitsSigned w64 r.addend → decided l s r ≡ Ok (Left z number symbol addend)
-    → ReadsLeft InMemory w z number symbol addend bs → (f : Formula) × (formula_of l.machine r.number ≡ Some f) × (x : ℕ) × Gives f.value l w m s r x × Reads f.form bs x
+    → ReadsLeft (processor_of l.machine) InMemory w z number symbol addend bs → (f : Formula) × (formula_of l.machine r.number ≡ Some f) × (x : ℕ) × Gives f.value l w m s r x × Reads f.form bs x
 
 -- in a world with the executable as its first module: the distance of its thread-local data, where a symbol of these lies, and
 -- that this is its address less the thread pointer ("ELF Handling For Thread-Local Storage", "Run-Time Handling of TLS")
@@ -131,7 +131,7 @@ pub record IsLoadedItem (l : Layout) (w : World) (m : Memory) (s : Item) : Type 
   pub numbers : NumbersFit l
   pub legal : IsLegal l w
   pub laid : IsLaidOut l
-  pub loaded : m.machine ≡ machines.X86_64
+  pub loaded : m.machine ≡ processor_of l.machine
   pub slots : HasSlots l w m
   pub kept : IsKept l s
   pub decided : IsDecided l s

@@ -10,12 +10,12 @@ use Rattle.wild_types.specs.declared.layout.Layout.{Layout}
 use Rattle.wild_types.specs.ResolvedFlags.{HaveTheirFlags}
 use Rattle.wild_layout.specs.SlotOrder.{EachAgrees}
 use Rattle.wild_geometry.specs.Slots.{HasSlots}
-use Rattle.wild_loader.specs.declared.memory.Machine.TheVariants as machines
 use Rattle.wild_loader.specs.declared.memory.Memory.{Memory}
 use Rattle.wild_loader.specs.declared.world.World.{World}
 use Rattle.wild_meaning.specs.Value.{IsSymbol}
 use Rattle.wild_meaning.specs.Slot.{HasWord}
 use Rattle.wild_loader.specs.Reach.{JumpsTo}
+use Rattle.wild_meaning.specs.Linked.{processor_of}
 
 -- the resolution has a slot, and the code at the loaded address of the stub p goes on, by one jump, to the address in that slot
 pub record GoesThrough (w : World) (m : Memory) (r : Resolution) (p : ℕ) : Type 0 where
@@ -31,4 +31,4 @@ EachStubGoesOn l w m = (i p : ℕ) (s : Symbol) (r : Resolution) → IsSymbol l 
 
 -- where flags and slots agree, and memory has the slots and stubs of symbols
 abbrev pub StubsGoOn : Type 0
-StubsGoOn = (l : Layout) (w : World) (m : Memory) → l.machine ≡ machine.X86_64 → m.machine ≡ machines.X86_64 → HaveTheirFlags l → EachAgrees l → HasSlots l w m → EachStubGoesOn l w m
+StubsGoOn = (l : Layout) (w : World) (m : Memory) → l.machine ≡ machine.X86_64 → m.machine ≡ processor_of l.machine → HaveTheirFlags l → EachAgrees l → HasSlots l w m → EachStubGoesOn l w m

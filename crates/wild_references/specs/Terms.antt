@@ -21,7 +21,6 @@ use Rattle.wild_layout.specs.SlotOrder.{EachAgrees}
 use Rattle.wild_layout.specs.ListedSymbols.{AreListed}
 use Rattle.wild_layout.specs.Numbers.{SymbolNumbers}
 use Rattle.wild_geometry.specs.Slots.{HasSlots}
-use Rattle.wild_loader.specs.declared.memory.Machine.TheVariants as machines
 use Rattle.wild_loader.specs.declared.memory.Memory.{Memory}
 use Rattle.wild_loader.specs.declared.world.World.{World}
 use Rattle.wild_meaning.specs.World.{IsMovable, IsLoadable, IsLegal}
@@ -30,6 +29,7 @@ use Rattle.wild_types.specs.Item.{Item}
 use Rattle.wild_meaning.specs.Item.{place_at}
 use Rattle.wild_meaning.specs.Formula.{IsPlaceRelative, TakesAddress, TakesOffset}
 use Rattle.wild_meaning.specs.Reference.{IsStubbed}
+use Rattle.wild_meaning.specs.Linked.{processor_of}
 
 -- each symbol's definition is one of the layout's symbols, resolutions have their symbols' flags, which agree with slots and
 -- stubs, indexes are positions in the dynamic symbol table, and the addresses that were decided of them fit
@@ -52,7 +52,7 @@ pub record IsPlaced (l : Layout) (w : World) (m : Memory) : Type 0 where
   pub tls_start : l.tls.start < 2 ^ 64
   pub tls_end : l.tls.end < 2 ^ 64
   pub symbols : SymbolsFit l
-  pub loaded : m.machine ≡ machines.X86_64
+  pub loaded : m.machine ≡ processor_of l.machine
   pub slots : HasSlots l w m
 
 -- a relocation of an allocated section whose value x in its field is the writer's expression of a kind, at a place that does

@@ -5,8 +5,8 @@ use Rattle.wild_loaded.proofs.headers_stand.Goals as goal
 
 pub returns-clause-stand : goal.returns-clause-stand
 returns-clause-stand c = record {
-  stand = λ l m k numbers laid. has_headers l m k numbers laid;
-  taken = λ l m k. file_header_loads l m k;
+  stand = λ l k numbers laid. has_headers l k numbers laid;
+  taken = λ l k. file_header_loads l k;
 }
 
 pub returns-clause-tell : goal.returns-clause-tell

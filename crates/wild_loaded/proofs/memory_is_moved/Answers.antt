@@ -15,12 +15,12 @@ returns c = memory_moved (record {
     sections = record {
       stored = c.sections_are_stored.ensures.sections;
       changes = c.entries_have_changes.ensures;
-      relative = record { base = c.entries_add_the_base.ensures; relatives = c.entries_store_words.ensures.relative };
+      relative = record { relatives = c.entries_store_words.ensures.relative };
     };
     slots = record {
       stored = c.slots_are_stored.ensures;
       changes = c.entries_have_changes.ensures;
-      relative = record { base = c.entries_add_the_base.ensures; relatives = c.entries_store_words.ensures.relative };
+      relative = record { relatives = c.entries_store_words.ensures.relative };
     };
     copies = record {
       changes = c.entries_have_changes.ensures;
