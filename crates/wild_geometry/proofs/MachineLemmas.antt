@@ -1,11 +1,13 @@
 -- What the laws need of a machine, of each.
 use Rattle.std.proofs.Common.{◌≡◌, ℕ, ◌+◌, ◌-◌, ◌%◌, ◌^◌, ◌<◌, ◌⊎◌, inl, inr, Bool, true, false, if◌then◌else◌, refl, ap, ◌∙◌, arith}
-use Rattle.std.specs.Prelude.{Option, Some, ◌==◌, ◌&&◌, nat_lt}
+use Rattle.std.specs.Prelude.{not, Option, Some, None, ◌==◌, ◌&&◌, nat_lt}
 use Rattle.std.specs.List.{list_all}
+use Rattle.std.specs.Option.{option_or}
 use Rattle.std.proofs.lemmas.Bool.{cases_Bool, eqb-true, and_parts, ltb-true}
 use Rattle.std.proofs.Math.Nat.{zero-mod}
 use Rattle.wild_reloc.specs.Agreement.{X86_64Agrees, AArch64Agrees}
 use Rattle.wild_reloc.specs.TableX86_64.{x86_64_rows, x86_64_row}
+use Rattle.wild_reloc.specs.TableAArch64.{static_rows, static_row, thread_rows, thread_row, aarch64_row}
 use Rattle.wild_reloc.specs.declared.dynamic.DynamicRelocationKind.{DynamicRelocationKind}
 use Rattle.wild_reloc.specs.declared.dynamic.DynamicRelocationKind.TheVariants as entry_kinds
 use Rattle.wild_reloc.specs.declared.info.RelocationKind.{RelocationKind}
@@ -80,6 +82,24 @@ each_is_size_row : list_all (λ (e : ℕ × RelocationKindInfo). is_size_row e.0
 unfolding kind_of
 each_is_size_row = refl
 
+-- no row of AArch64 is of one
+each_static : list_all (λ (e : ℕ × RelocationKindInfo). not (is_size e.1.kind)) static_rows ≡ true
+each_static = refl
+
+each_thread : list_all (λ (e : ℕ × RelocationKindInfo). not (is_size e.1.kind)) thread_rows ≡ true
+each_thread = refl
+
+no_size : (n : ℕ) (row : RelocationKindInfo) → aarch64_row n ≡ Some row → not (is_size row.kind) ≡ true
+unfolding static_row thread_row
+no_size n row h = by_static (static_row n) refl h
+  where
+    test : ℕ → RelocationKindInfo → Bool
+    test k r = not (is_size r.kind)
+
+    by_static : (o : Option RelocationKindInfo) → static_row n ≡ o → option_or o (thread_row n) ≡ Some row → not (is_size row.kind) ≡ true
+    by_static (Some r) e k = entry_passes test static_rows each_static n row (e ∙ k)
+    by_static None e k = entry_passes test thread_rows each_thread n row k
+
 size_known : (m : Machine) (n : ℕ) (row : RelocationKindInfo) → row_of m n ≡ Some row → row.kind ≡ row_kinds.SymbolSize → (n < 2 ^ 32) × StoresSize (processor_of m) n row.size
 unfolding row_of x86_64_row
 size_known machine.X86_64 n row known kind =
@@ -87,7 +107,11 @@ size_known machine.X86_64 n row known kind =
     let sized : is_size row.kind ≡ true = ap is_size kind in
     let both = and_parts (nat_lt n (2 ^ 32)) (stores (kind_of processors.X86_64 n) row.size) (rw sized at passes) in
     (ltb-true n (2 ^ 32) both.0, stored (kind_of processors.X86_64 n) row.size both.1)
-size_known machine.AArch64 n row known kind = cc
+size_known machine.AArch64 n row known kind =
+    let here : aarch64_row n ≡ Some row = cc in
+    let none = no_size n row here in
+    let sized : is_size row.kind ≡ true = ap is_size kind in
+    cc (rw sized at none)
 
 -- ---- the thread pointer
 
@@ -139,4 +163,4 @@ facts_of machine.AArch64 = record {
 pub rows_read : X86_64Agrees → AArch64Agrees → RowsAreRead
 unfolding row_of
 rows_read first second machine.X86_64 n row known = first n row known
-rows_read first second machine.AArch64 n row known = cc
+rows_read first second machine.AArch64 n row known = (let here : aarch64_row n ≡ Some row = cc in second n row here)
