@@ -3,7 +3,7 @@
 --   d w, n w, hw w   the registers of a word, and the shift of a wide move
 --   adrp, adr, ..    the forms, by their mnemonics
 --   forms            the table
-use Rattle.std.specs.Prelude.{ℕ, ◌+◌, ◌*◌, ◌==◌, if◌then◌else◌, List, [], ◌∷◌, ◌++◌}
+use Rattle.std.specs.Prelude.{ℕ, ◌*◌, ◌==◌, if◌then◌else◌, List, [], ◌∷◌, ◌++◌}
 use Rattle.wild_aarch64.specs.declared.code.Code.TheVariants.{Adr, Adrp, Movz, Movk, Movn, Add, Ldr, Access, Literal, B, Bl, BranchIf, Br, Blr, Hint}
 use Rattle.wild_aarch64.specs.declared.code.Shift.{Shift}
 use Rattle.wild_aarch64.specs.declared.code.Shift.TheVariants.{By0, By16, By32, By48}

@@ -1,5 +1,5 @@
 //! What instructions do, one behind the other.
-ghost use Rattle.std.specs.Prelude.{◌≡◌, ◌+◌, ◌^◌, ◌<◌, ◌≤◌, [], length, map};
+ghost use Rattle.std.specs.Prelude.{◌≡◌, ◌+◌, ◌*◌, ◌^◌, ◌<◌, ◌≤◌, [], length, map};
 ghost use Rattle.wild_aarch64.specs.Machine.{sum_64, known, plus, loaded, shifted, with_bits, changed, step, sets, leaves, leaves_if, goes, described, all_hints, meaning};
 ghost use Rattle.wild_aarch64.specs.Registers.{entries_of, next_of, count, next_count, follow_words};
 ghost use Rattle.wild_aarch64.specs.Code.{read};
@@ -184,18 +184,16 @@ pub fn step_of(place: u64, registers: Registers, code: Option<Code>) -> NextStep
 /// What the first of the words at a place does that goes elsewhere.
 pub fn branch_of(words: &[u32], place: u64) -> Option<Action>
     requires few { length words.now ≤ 4 }
-    requires top { place + 16 < 2 ^ 64 }
+    requires top { place + 4 * length words.now ≤ 2 ^ 64 }
     ensures { result ≡ follow_words words.now place [] }
 {
     let mut registers = Registers::Empty;
-    let mut at = place;
-    for &word in words {
-        match step_of(at, registers, code_of(word)) {
+    for i in 0..words.len() {
+        match step_of(place + 4 * i as u64, registers, code_of(words[i])) {
             NextStep::On(next) => registers = next,
             NextStep::End(action) => return Some(action),
             NextStep::Stuck => return None,
         }
-        at += 4;
     }
     None
 }
@@ -214,18 +212,16 @@ fn do_nothing(words: &[u32]) -> bool
 /// What the words at a place do; none where they do more than one thing, or nothing is told of one.
 pub fn meaning_of(words: &[u32], place: u64) -> Option<Action>
     requires few { length words.now ≤ 4 }
-    requires top { place + 16 < 2 ^ 64 }
+    requires top { place + 4 * length words.now ≤ 2 ^ 64 }
     ensures { result ≡ meaning place words.now }
 {
     let mut registers = Registers::Empty;
-    let mut at = place;
     for i in 0..words.len() {
-        match step_of(at, registers, code_of(words[i])) {
+        match step_of(place + 4 * i as u64, registers, code_of(words[i])) {
             NextStep::On(next) => registers = next,
             NextStep::End(action) if do_nothing(&words[i + 1..]) => return Some(action),
             _ => return None,
         }
-        at += 4;
     }
     registers.outcome()
 }

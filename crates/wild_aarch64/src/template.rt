@@ -1,5 +1,5 @@
 //! Runs of words that belong together.
-ghost use Rattle.std.specs.Prelude.{◌≡◌, ◌+◌, ◌^◌, ◌<◌, ◌≤◌, length, map};
+ghost use Rattle.std.specs.Prelude.{◌≡◌, ◌+◌, ◌*◌, ◌^◌, ◌<◌, ◌≤◌, IfSome, length, map};
 ghost use Rattle.wild_aarch64.specs.Code.{read};
 ghost use Rattle.wild_aarch64.specs.Effect.{cleared};
 ghost use Rattle.wild_aarch64.specs.Template.{codes_of, size_of, same, fits, begins, register_in, template_step, single_step, first_step, step_of};
@@ -151,8 +151,9 @@ impl Template {
 
     // What the words do that the template takes, where it stands.
     fn step(self, place: u64, words: &[u32]) -> Option<Step>
-        requires { place + 16 < 2 ^ 64 }
-        ensures { result ≡ template_step self place words.now }
+        requires { place + 4 * length words.now ≤ 2 ^ 64 }
+        ensures is { result ≡ template_step self place words.now }
+        ensures small { IfSome result (λ s. s.words ≤ 4) }
     {
         let size = self.size();
         if !self.is_standing(register_in(words), words) || words.len() < size {
@@ -176,8 +177,9 @@ fn register_in(words: &[u32]) -> u32
 }
 
 fn single_step(place: u64, words: &[u32]) -> Option<Step>
-    requires { place + 16 < 2 ^ 64 }
-    ensures { result ≡ single_step place words.now }
+    requires { place + 4 * length words.now ≤ 2 ^ 64 }
+    ensures is { result ≡ single_step place words.now }
+    ensures small { IfSome result (λ s. s.words ≤ 4) }
 {
     if words.is_empty() {
         return None;
@@ -190,8 +192,9 @@ fn single_step(place: u64, words: &[u32]) -> Option<Step>
 
 // What the first of the templates does that stands; else the first word alone.
 fn first_step(templates: &[Template], place: u64, words: &[u32]) -> Option<Step>
-    requires { place + 16 < 2 ^ 64 }
-    ensures { result ≡ first_step templates.now place words.now }
+    requires { place + 4 * length words.now ≤ 2 ^ 64 }
+    ensures is { result ≡ first_step templates.now place words.now }
+    ensures small { IfSome result (λ s. s.words ≤ 4) }
 {
     match templates.split_first() {
         None => single_step(place, words),
@@ -204,8 +207,9 @@ fn first_step(templates: &[Template], place: u64, words: &[u32]) -> Option<Step>
 
 /// What the longest template does that stands at the front of the words at a place; none where nothing known stands there.
 pub fn longest_step(place: u64, words: &[u32]) -> Option<Step>
-    requires { place + 16 < 2 ^ 64 }
-    ensures { result ≡ step_of place words.now }
+    requires { place + 4 * length words.now ≤ 2 ^ 64 }
+    ensures is { result ≡ step_of place words.now }
+    ensures small { IfSome result (λ s. s.words ≤ 4) }
 {
     first_step(&TEMPLATES, place, words)
 }

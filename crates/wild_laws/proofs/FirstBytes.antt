@@ -15,7 +15,7 @@ use Rattle.wild_loader.specs.declared.memory.Memory.{Memory}
 use Rattle.wild_loader.specs.declared.world.World.{World}
 use Rattle.wild_loader.specs.Memory.{byte_in}
 use Rattle.wild_loader.specs.declared.instruction.Operand.{Operand}
-use Rattle.wild_loader.specs.declared.instruction.Operand.TheVariants.{Number, Word, Pair}
+use Rattle.wild_loader.specs.declared.instruction.Operand.TheVariants.{Number, Word, Pair, Offset}
 use Rattle.wild_loader.specs.declared.instruction.Action.{Action}
 use Rattle.wild_loader.specs.declared.instruction.Deed.{Deed}
 use Rattle.wild_loader.specs.declared.instruction.Deed.TheVariants.{Call, Jump}
@@ -69,6 +69,7 @@ read_too : (w : World) (m : Memory) (p : Operand) (f : ℕ → Effect) (e : Effe
 read_too w m (Number n) f e h = h
 read_too w m (Word a) f e h = h
 read_too w m (Pair a) f e h = cc
+read_too w m (Offset a) f e h = cc
 
 acts_too : (w : World) (m : Memory) (act : Option Action) (e : Effect) → option_and_then (effect (reads_alone w m)) act ≡ Some e → option_and_then (effect (reads w m)) act ≡ Some e
 acts_too w m None e h = h

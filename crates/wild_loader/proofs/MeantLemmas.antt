@@ -10,7 +10,7 @@ use Rattle.wild_loader.specs.declared.effect.Value.TheVariants as values
 use Rattle.wild_loader.specs.Memory.{number_in, Holds}
 use Rattle.wild_loader.specs.declared.instruction.Cell.{Cell}
 use Rattle.wild_loader.specs.declared.instruction.Operand.{Operand}
-use Rattle.wild_loader.specs.declared.instruction.Operand.TheVariants.{Number, Word, Pair}
+use Rattle.wild_loader.specs.declared.instruction.Operand.TheVariants.{Number, Word, Pair, Offset}
 use Rattle.wild_loader.specs.declared.instruction.Action.{Action}
 use Rattle.wild_loader.specs.declared.instruction.Deed.{Deed}
 use Rattle.wild_loader.specs.Instruction.{Template, Reader, fits, stands, fills, first_meaning, effect}
@@ -19,6 +19,7 @@ use Rattle.wild_loader.specs.InstructionX86_64.{templates_x86_64, meaning_x86_64
 use Rattle.wild_loader.specs.Effect.{window, first_standing, narrowed, value_in, effect_in, effect_of, step_x86_64}
 use Rattle.wild_loader.specs.StepLaws.{ReadsMemory, told, IsMeant, StepsAreMeant}
 use Rattle.wild_loader.proofs.Windows.{held-window}
+use Rattle.wild_loader.proofs.StandLemmas.{standing_passes}
 
 -- what does nothing
 abbrev pub nop : List ℕ
@@ -116,9 +117,14 @@ twice width n =
       | inr f ↦ rw f refl
     ]
 
+-- an operand is none that a descriptor gives
+abbrev is_told : Operand → Bool
+is_told (Offset x) = false
+is_told other = true
+
 -- with a reader of that memory
-told_by : (m : Memory) (size : ℕ) (act : Action) (e : running.Effect) (read : Reader) → ReadsMemory m read → effect_in m size act ≡ Some e → effect read act ≡ told read e
-told_by m size act e read reads h = by_operand act.deed act.width act.operand h
+told_by : (m : Memory) (size : ℕ) (act : Action) (e : running.Effect) (read : Reader) → ReadsMemory m read → is_told act.operand ≡ true → effect_in m size act ≡ Some e → effect read act ≡ told read e
+told_by m size act e read reads plain h = by_operand act.deed act.width act.operand plain h
   where
     worded : (deed : Deed) (width : ℕ) (o : Option ℕ) → option_map (λ (v : Value). record { length = size; width = width; deed = deed; value = narrowed width v }) (option_map values.Number o) ≡ Some e → option_map (λ (v : ℕ). record { deed = deed; width = width; value = v % 2 ^ width }) o ≡ told read e
     worded deed width None h = cc
@@ -127,10 +133,11 @@ told_by m size act e read reads h = by_operand act.deed act.width act.operand h
         subst (λ (x : running.Effect). option_map (λ (v : ℕ). record { deed = deed; width = width; value = v % 2 ^ width }) (Some n) ≡ told read x) same
         (rw (reads.numbers (if width == 32 then n % 2 ^ 32 else n)) (ap (λ (v : ℕ). Some (record { deed = deed; width = width; value = v })) (sym (twice width n))))
 
-    by_operand : (deed : Deed) (width : ℕ) (operand : Operand) → effect_in m size (record { deed = deed; width = width; operand = operand }) ≡ Some e → effect read (record { deed = deed; width = width; operand = operand }) ≡ told read e
-    by_operand deed width (Number n) h = rw (reads.numbers n) (worded deed width (Some n) h)
-    by_operand deed width (Word x) h = rw (reads.words x) (worded deed width (number_in m x 8) h)
-    by_operand deed width (Pair x) h = (let same : record { length = size; width = width; deed = deed; value = values.Pair x } ≡ e = cc in subst (λ (y : running.Effect). effect read (record { deed = deed; width = width; operand = Pair x }) ≡ told read y) same refl)
+    by_operand : (deed : Deed) (width : ℕ) (operand : Operand) → is_told operand ≡ true → effect_in m size (record { deed = deed; width = width; operand = operand }) ≡ Some e → effect read (record { deed = deed; width = width; operand = operand }) ≡ told read e
+    by_operand deed width (Offset x) plain h = cc
+    by_operand deed width (Number n) plain h = rw (reads.numbers n) (worded deed width (Some n) h)
+    by_operand deed width (Word x) plain h = rw (reads.words x) (worded deed width (number_in m x 8) h)
+    by_operand deed width (Pair x) plain h = (let same : record { length = size; width = width; deed = deed; value = values.Pair x } ≡ e = cc in subst (λ (y : running.Effect). effect read (record { deed = deed; width = width; operand = Pair x }) ≡ told read y) same refl)
 
 pub sized : (m : Memory) (size : ℕ) (act : Action) (o : Option Value) (e : running.Effect) → option_map (λ (v : Value). record { length = size; width = act.width; deed = act.deed; value = narrowed act.width v }) o ≡ Some e → size ≡ e.length
 sized m size act None e h = cc
@@ -142,12 +149,13 @@ by_standing m a e bs None f held h = cc
 by_standing m a e bs (Some t) f held h =
     let own = take (length t.cells) bs in
     let act = t.action a own in
+    let plain = standing_passes (λ (x : Template). is_told (x.action a own).operand) templates_x86_64 bs t refl f in
     let n : length own ≡ length t.cells = take_long bs (length t.cells) (stands_long t.cells bs (first_stands templates_x86_64 bs t f)) in
     record {
       bytes = own;
       held = held_front m a bs (length t.cells) held;
       long = n ∙ sized m (length t.cells) act (value_in m act.operand) e h;
-      means = λ read reads. ap (λ (o : Option Action). option_and_then (effect read) o) (meant templates_x86_64 bs t a f) ∙ told_by m (length t.cells) act e read reads h;
+      means = λ read reads. ap (λ (o : Option Action). option_and_then (effect read) o) (meant templates_x86_64 bs t a f) ∙ told_by m (length t.cells) act e read reads plain h;
     }
 
 pub steps-meant : StepsAreMeant

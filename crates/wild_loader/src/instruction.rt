@@ -25,6 +25,8 @@ pub enum Operand {
     Word(u64),
     /// The offset from the thread pointer that the pair of a module and an offset at that address stands for.
     Pair(u64),
+    /// The offset from the thread pointer that the descriptor at that address gives.
+    Offset(u64),
 }
 
 /// What is done with an operand.
@@ -32,21 +34,27 @@ pub enum Operand {
 #[non_exhaustive]
 pub enum Deed {
     /// That register is set to it.
-    Set(u8),
+    Set(u32),
+    /// The first register is set to the second one and it.
+    SetSum(u32, u32),
+    /// The first register is set to the word that stands so far behind the second one's address.
+    Load(u32, u32),
     /// It is added to that register.
-    Add(u8),
+    Add(u32),
     /// It is taken from that register.
-    Subtract(u8),
+    Subtract(u32),
     /// That register is compared with it.
-    Compare(u8),
+    Compare(u32),
     /// The code at its address is called.
     Call,
     /// The code at its address goes on.
     Jump,
+    /// The code at its address goes on, on a condition that the number tells: the other bits of the branch.
+    MayJump(u32),
     /// That register is set to the thread pointer and it.
-    SetThreadAddress(u8),
+    SetThreadAddress(u32),
     /// The function of the descriptor that the register points to is called, and leaves the offset there in the register.
-    CallDescriptor(u8),
+    CallDescriptor(u32),
     /// Nothing.
     Nothing,
 }

@@ -1,6 +1,7 @@
 //! A model of the loader and of the processor: what an image is in memory, and what its code does.
 #![tactic(auto)]
 
+mod aarch64;
 mod answers;
 mod change;
 mod effect;
@@ -22,6 +23,7 @@ mod tables;
 mod template;
 mod world;
 
+pub use aarch64::step_aarch64;
 pub use change::{Change, Patch};
 pub use effect::{Effect, Value, step, step_x86_64};
 pub use fault::LoadFault;
@@ -30,10 +32,10 @@ pub use instruction::{Action, Cell, Deed, Operand};
 pub use kind::DynamicKind;
 pub use laws::{
     bytes_are_loaded, calls_are_read, dynamic_images_are_loaded, entries_make_changes,
-    entries_store_words, images_are_moved, jumps_are_read, linked_images_are_loaded,
+    entries_store_words, images_are_moved, jumps_are_read, jumps_reach, linked_images_are_loaded,
     numbers_are_read, parts_are_put, relocated_tables_are_applied, slot_calls_are_read,
     slot_jumps_are_read, static_images_are_loaded, steps_are_meant, stubs_are_read,
-    tables_are_applied, tables_are_filled, words_are_places,
+    stubs_of_words_are_read, tables_are_applied, tables_are_filled, words_are_places,
 };
 pub use memory::{Machine, Memory, Run};
 pub use reach::reaches;

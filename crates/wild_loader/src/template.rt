@@ -220,6 +220,7 @@ impl Register {
 fn deed(operation: Operation, register: u8) -> Deed
     ensures { result ≡ deed_of operation register }
 {
+    let register = u32::from(register);
     match operation {
         Operation::Set => Deed::Set(register),
         Operation::Add => Deed::Add(register),

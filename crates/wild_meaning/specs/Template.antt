@@ -19,9 +19,9 @@ use Rattle.wild_reloc.specs.Formula.{Distance, StubDistance, Descriptor}
 use Rattle.wild_loader.specs.declared.fault.LoadFault.{LoadFault}
 use Rattle.wild_loader.specs.declared.memory.Memory.{Memory}
 use Rattle.wild_loader.specs.declared.world.World.{World}
-use Rattle.wild_loader.specs.Changes.{distance_of}
+use Rattle.wild_loader.specs.Changes.{distance_of, first_value}
 use Rattle.wild_loader.specs.Memory.{number_in, Holds}
-use Rattle.wild_loader.specs.declared.instruction.Operand.TheVariants.{Number, Word, Pair}
+use Rattle.wild_loader.specs.declared.instruction.Operand.TheVariants.{Number, Word, Pair, Offset}
 use Rattle.wild_loader.specs.declared.instruction.Deed.TheVariants.{Nothing}
 use Rattle.wild_loader.specs.Instruction.{Reader, Effect, stands, as_value}
 use Rattle.wild_loader.specs.InstructionX86_64.{effect_x86_64}
@@ -109,10 +109,12 @@ abbrev pub reads : World → Memory → Reader
 reads w m (Number n) = Some n
 reads w m (Word a) = number_in m a 8
 reads w m (Pair a) = pair_in w m a
+reads w m (Offset a) = first_value m.descriptors a
 
--- the same for code that calls no function: a pair is read by one alone
+-- the same for code that calls no function: a pair and a descriptor are read by one alone
 abbrev pub reads_alone : World → Memory → Reader
 reads_alone w m (Pair a) = None
+reads_alone w m (Offset a) = None
 reads_alone w m other = reads w m other
 
 -- the effect of bytes at an address, by the instructions of the machine

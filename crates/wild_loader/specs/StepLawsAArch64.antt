@@ -1,0 +1,43 @@
+-- What the definition of steps comes to: the effects of known runs of words in memory of an AArch64 image.
+--   StubsAreRead, MarkedStubsAreRead, ThunksAreRead   a stub is a jump to the address in its slot, a thunk one to its target
+--   JumpsReach                                        code that jumps reaches where it goes on, on either machine
+use Rattle.std.specs.Prelude.{◌≡◌, ℕ, ◌+◌, ◌^◌, List, Some}
+use Rattle.std.specs.List.{flat_map}
+use Rattle.wild_words.specs.Words.{word}
+use Rattle.wild_aarch64.specs.Machine.{page}
+use Rattle.wild_aarch64.specs.Row.{Within}
+use Rattle.wild_aarch64.specs.Stub.{stub, marked_stub, thunk, HasSlot, StandsAt}
+use Rattle.wild_loader.specs.declared.memory.Machine.TheVariants as machines
+use Rattle.wild_loader.specs.declared.memory.Memory.{Memory}
+use Rattle.wild_loader.specs.declared.effect.Effect.{Effect}
+use Rattle.wild_loader.specs.declared.effect.Value.TheVariants as values
+use Rattle.wild_loader.specs.declared.instruction.Deed.TheVariants.{Jump}
+use Rattle.wild_loader.specs.Memory.{number_in, Holds}
+use Rattle.wild_loader.specs.Effect.{step}
+use Rattle.wild_loader.specs.Reach.{Reaches, jumped}
+
+-- the bytes of words of code
+abbrev pub spelled : List ℕ → List ℕ
+spelled ws = flat_map (word 4) ws
+
+-- code of so many bytes goes on at an address
+abbrev pub jumps : ℕ → ℕ → Effect
+jumps size v = record { length = size; width = 64; deed = Jump; value = values.Number v }
+
+-- at every page-aligned base a stub is a jump to the address in its slot
+abbrev pub StubsAreRead : Type 0
+StubsAreRead = (m : Memory) (base p g v : ℕ) → m.machine ≡ machines.AArch64 → HasSlot p g → StandsAt base p g → Holds m (base + p) (spelled (stub p g)) → number_in m (base + g) 8 ≡ Some v
+    → step m (base + p) ≡ Some (jumps 16 v)
+
+-- the same behind a landing pad
+abbrev pub MarkedStubsAreRead : Type 0
+MarkedStubsAreRead = (m : Memory) (base p g v : ℕ) → m.machine ≡ machines.AArch64 → HasSlot (p + 4) g → StandsAt base p g → Holds m (base + p) (spelled (marked_stub p g)) → number_in m (base + g) 8 ≡ Some v
+    → step m (base + p) ≡ Some (jumps 16 v)
+
+-- and a thunk is a jump to its target
+abbrev pub ThunksAreRead : Type 0
+ThunksAreRead = (m : Memory) (base p t : ℕ) → m.machine ≡ machines.AArch64 → Within (2 ^ 32) (page p) (page t) → StandsAt base p t → Holds m (base + p) (spelled (thunk p t)) → step m (base + p) ≡ Some (jumps 12 (base + t))
+
+-- code that goes on at an address comes to it
+abbrev pub JumpsReach : Type 0
+JumpsReach = (m : Memory) (a v : ℕ) (e : Effect) → step m a ≡ Some e → jumped e ≡ Some v → Reaches m a v
