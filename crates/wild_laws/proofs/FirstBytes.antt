@@ -19,13 +19,14 @@ use Rattle.wild_loader.specs.declared.instruction.Operand.TheVariants.{Number, W
 use Rattle.wild_loader.specs.declared.instruction.Action.{Action}
 use Rattle.wild_loader.specs.declared.instruction.Deed.{Deed}
 use Rattle.wild_loader.specs.declared.instruction.Deed.TheVariants.{Call, Jump}
-use Rattle.wild_loader.specs.Instruction.{Effect, effect, with_value, as_value}
+use Rattle.wild_loader.specs.Instruction.{Effect, effect, with_value}
+use Rattle.wild_loader.specs.InstructionAArch64.{meaning_aarch64}
 use Rattle.wild_loader.specs.InstructionX86_64.{meaning_x86_64}
 use Rattle.wild_meaning.specs.Sequence.{Instruction, size_of, IsOwnByte}
 use Rattle.wild_types.specs.Item.{Item, item_of}
 use Rattle.wild_meaning.specs.Item.{place_at}
 use Rattle.wild_meaning.specs.Field.{form_width, IsInputByte}
-use Rattle.wild_meaning.specs.Template.{effect_of, reads, reads_alone, IsInstruction, IsTemplate, DoesWith, DoesDemanded}
+use Rattle.wild_meaning.specs.Template.{effect_of, demand_of, reads, reads_alone, IsInstruction, IsTemplate, DoesWith, DoesDemanded}
 use Rattle.wild_meaning.specs.Reference.{ReferenceHolds, LinkedHolds, ItemHolds}
 use Rattle.wild_laws.specs.FirstTypes.{branch_types, HasFirstTypes, InNoField as NoField, IsBranch}
 use Rattle.wild_laws.specs.FirstPath.{EachIsAsked}
@@ -77,7 +78,7 @@ acts_too w m (Some act) e h = read_too w m act.operand (with_value act) e h
 
 does_too : (k : Machine) (w : World) (m : Memory) (a : ℕ) (bs : List ℕ) (e : Effect) → effect_of k (reads_alone w m) a bs ≡ Some e → effect_of k (reads w m) a bs ≡ Some e
 does_too machine.X86_64 w m a bs e h = acts_too w m (meaning_x86_64 a bs) e h
-does_too machine.AArch64 w m a bs e h = h
+does_too machine.AArch64 w m a bs e h = acts_too w m (meaning_aarch64 a bs) e h
 
 with_too : (l : Layout) (w : World) (m : Memory) (item : Item) (start : ℕ) (o : Instruction) (v : ℕ) → DoesWith (reads_alone w m) l w m item start o v → DoesWith (reads w m) l w m item start o v
 with_too l w m item start o v d =
@@ -91,7 +92,7 @@ does_so l w m item r start o d = record { value = d.value; demands = d.demands; 
 -- the effect that a call or a jump demands
 demanded_deed : (l : Layout) (w : World) (m : Memory) (s : InputSection) (r : InputRelocation) (start opcode : ℕ) (deed : Deed) → DoesDeed opcode deed → l.machine ≡ machine.X86_64 → IsBranch s r start opcode → (v : ℕ) → (d : DoesWith (reads w m) l w m (item_of s) start (direct opcode deed) v) → d.effect.deed ≡ deed
 demanded_deed l w m s r start opcode deed does x branch v d =
-    let old : effect_of machine.X86_64 (as_value v) (place_at w (item_of s) start) (slice_range s.bytes start (start + 5)) ≡ Some d.effect = subst (λ (k : Machine). effect_of k (as_value v) (place_at w (item_of s) start) (slice_range s.bytes start (start + 5)) ≡ Some d.effect) x d.demanded in
+    let old : demand_of machine.X86_64 v (place_at w (item_of s) start) (slice_range s.bytes start (start + 5)) ≡ Some d.effect = subst (λ (k : Machine). demand_of k v (place_at w (item_of s) start) (slice_range s.bytes start (start + 5)) ≡ Some d.effect) x d.demanded in
     let is = does (place_at w (item_of s) start) v (slice_range s.bytes start (start + 5)) (old_length s r start opcode branch) (first_byte s.bytes start ∙ branch.begins) in
     ap deed_in (sym (sym is ∙ old)) ∙ refl
   where

@@ -195,6 +195,7 @@ branch_instruction l s r k opcode deed known x branch =
       field = behind;
       inside = omega (arith, behind, ends);
       stands = stands_from opcode (slice_range s.bytes k (k + 5)) (old_length s r k opcode branch) (first_byte s.bytes k ∙ branch.begins);
+      words = refl;
       counts = tt;
       alone = λ j own. subst (λ (n : ℕ). InNoField l (item_of s) n) (let z = only_first opcode j deed own in let e : k ≡ k + j = omega (arith, z) in e) (in_no_field l s k x branch.free);
     }

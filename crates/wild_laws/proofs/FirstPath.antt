@@ -14,11 +14,10 @@ use Rattle.wild_loader.specs.declared.memory.Memory.{Memory}
 use Rattle.wild_loader.specs.declared.world.World.{World}
 use Rattle.wild_loader.specs.declared.instruction.Deed.{Deed}
 use Rattle.wild_loader.specs.declared.instruction.Deed.TheVariants.{Call, Jump}
-use Rattle.wild_loader.specs.Instruction.{as_value}
 use Rattle.wild_meaning.specs.Sequence.{Instruction}
 use Rattle.wild_types.specs.Item.{item_of}
 use Rattle.wild_meaning.specs.Item.{place_at, IsLoadedSlot, IsKept, OfSection}
-use Rattle.wild_meaning.specs.Template.{effect_of, reads, IsInstruction, DoesDemanded}
+use Rattle.wild_meaning.specs.Template.{effect_of, demand_of, reads, IsInstruction, DoesDemanded}
 use Rattle.wild_meaning.specs.Field.{formula_of}
 use Rattle.wild_meaning.specs.Reference.{ReferenceHolds}
 use Rattle.wild_meaning.proofs.BitLemmas.{bit_alloc}
@@ -85,7 +84,7 @@ jump_does_it l w m s r k x f branch (inr q) = let d = template_direct l s r q.st
 goes : (l : Layout) (w : World) (m : Memory) (s : InputSection) (r : InputRelocation) (k opcode : ℕ) (deed : Deed) → DoesDeed opcode deed → l.machine ≡ machine.X86_64 → IsBranch s r k opcode → DoesDemanded (reads w m) l w m (item_of s) r k (direct opcode deed) → BranchReaches l w m s r k deed
 goes l w m s r k opcode deed does x branch d =
     let a = place_at w (item_of s) k in
-    let old : effect_of machine.X86_64 (as_value d.value) a (slice_range s.bytes k (k + 5)) ≡ Some d.code.effect = subst (λ (mach : Machine). effect_of mach (as_value d.value) a (slice_range s.bytes k (k + 5)) ≡ Some d.code.effect) x d.code.demanded in
+    let old : demand_of machine.X86_64 d.value a (slice_range s.bytes k (k + 5)) ≡ Some d.code.effect = subst (λ (mach : Machine). demand_of mach d.value a (slice_range s.bytes k (k + 5)) ≡ Some d.code.effect) x d.code.demanded in
     let is = does a d.value (slice_range s.bytes k (k + 5)) (old_length s r k opcode branch) (first_byte s.bytes k ∙ branch.begins) in
     let loaded : effect_of machine.X86_64 (reads w m) a d.code.bytes ≡ Some d.code.effect = subst (λ (mach : Machine). effect_of mach (reads w m) a d.code.bytes ≡ Some d.code.effect) x d.code.does in
     let is_there = subst (λ (n : ℕ). d.value ≡ (d.demands.goal + cast_unsigned w64 r.addend + n) % 2 ^ 64) (counts_four l.machine x) d.demands.is in

@@ -20,7 +20,7 @@ use Rattle.wild_meaning.specs.Sequence.{Instruction, TargetInSlot, size_of, IsOw
 use Rattle.wild_types.specs.Item.{item_of}
 use Rattle.wild_meaning.specs.Item.{place_at}
 use Rattle.wild_meaning.specs.Field.{InNoField}
-use Rattle.wild_meaning.specs.Template.{AddsNothing, effect_of, reads, IsInstruction, IsTemplate, DoesDemanded}
+use Rattle.wild_meaning.specs.Template.{AddsNothing, effect_of, demand_of, reads, IsInstruction, IsTemplate, DoesDemanded}
 use Rattle.wild_meaning.specs.Reference.{ReferenceHolds}
 use Rattle.wild_meaning.proofs.BitLemmas.{bit_code}
 use Rattle.wild_laws.specs.FirstTypes.{slot_types, IsSlotBranch, IsThreadCall}
@@ -116,6 +116,7 @@ slot_instruction l s r k opcode deed known x branch =
       field = behind;
       inside = omega (arith, behind, ends);
       stands = stands_from opcode (slice_range s.bytes k (k + 6)) (old_length s r k opcode branch) (old_first s r k opcode branch) (old_second s r k opcode branch);
+      words = refl;
       counts = subst (λ (m : Machine). AddsNothing m TargetInSlot r) (sym x) branch.addend;
       alone = λ j own. own_byte l s k opcode j deed (in_no_field l s k x branch.free) (in_no_field l s (k + 1) x branch.free_too) own;
     }
@@ -161,7 +162,7 @@ does opcode deed each = λ a v bs n h i. six
 goes : (l : Layout) (w : World) (m : Memory) (s : InputSection) (r : InputRelocation) (k opcode : ℕ) (deed : Deed) → DoesDeed opcode deed → l.machine ≡ machine.X86_64 → IsSlotBranch s r k opcode → DoesDemanded (reads w m) l w m (item_of s) r k (through opcode deed) → SlotBranchReaches l w m s r k deed
 goes l w m s r k opcode deed does x branch d =
     let a = place_at w (item_of s) k in
-    let old : effect_of machine.X86_64 (as_value d.value) a (slice_range s.bytes k (k + 6)) ≡ Some d.code.effect = subst (λ (mach : Machine). effect_of mach (as_value d.value) a (slice_range s.bytes k (k + 6)) ≡ Some d.code.effect) x d.code.demanded in
+    let old : demand_of machine.X86_64 d.value a (slice_range s.bytes k (k + 6)) ≡ Some d.code.effect = subst (λ (mach : Machine). demand_of mach d.value a (slice_range s.bytes k (k + 6)) ≡ Some d.code.effect) x d.code.demanded in
     let is = does a d.value (slice_range s.bytes k (k + 6)) (old_length s r k opcode branch) (old_first s r k opcode branch) (old_second s r k opcode branch) in
     let loaded : effect_of machine.X86_64 (reads w m) a d.code.bytes ≡ Some d.code.effect = subst (λ (mach : Machine). effect_of mach (reads w m) a d.code.bytes ≡ Some d.code.effect) x d.code.does in
     record {

@@ -53,6 +53,7 @@ call_stands = record {
   field = refl;
   inside = omega arith;
   stands = refl;
+  words = refl;
   counts = tt;
   alone = λ k h. subst (λ (j : ℕ). InNoField static_pie branch_item j) (let e : k ≡ 0 + k = omega arith in e) (beside static_pie branch_item branch_reference _ k refl plt_formula refl h.beside);
 }
@@ -108,6 +109,7 @@ load_stands = record {
   field = refl;
   inside = omega arith;
   stands = refl;
+  words = refl;
   counts = refl;
   alone = λ k h. subst (λ (j : ℕ). InNoField static_pie load_item j) (let e : k ≡ 0 + k = omega arith in e) (beside static_pie load_item load_reference _ k refl load_formula refl h.beside);
 }
@@ -174,6 +176,7 @@ described_stands = record {
   field = refl;
   inside = omega arith;
   stands = refl;
+  words = refl;
   counts = refl;
   alone = λ k h. subst (λ (j : ℕ). InNoField static_pie described_item j) (let e : k ≡ 0 + k = omega arith in e) (beside static_pie described_item described_reference _ k refl descriptor_formula refl h.beside);
 }

@@ -27,3 +27,4 @@ mod StaticLinked
 mod CopyLoaded
 mod CopyLinked
 mod SegmentsRefused
+mod WordsRefused

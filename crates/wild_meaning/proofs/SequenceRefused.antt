@@ -63,6 +63,7 @@ general_stands = record {
   field = refl;
   inside = omega arith;
   stands = refl;
+  words = refl;
   counts = refl;
   alone = λ k h. subst (λ (j : ℕ). InNoField static_pie general_item j) (let e : k ≡ 0 + k = omega arith in e) (beside_both k h.beside h.apart.0);
 }

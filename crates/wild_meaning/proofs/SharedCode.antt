@@ -41,6 +41,7 @@ described_stands = record {
   field = refl;
   inside = omega arith;
   stands = refl;
+  words = refl;
   counts = refl;
   alone = λ k h. subst (λ (j : ℕ). InNoField shared code_item j) (let e : k ≡ 0 + k = omega arith in e) (beside shared code_item shared_reference _ k refl descriptor_formula refl h.beside);
 }

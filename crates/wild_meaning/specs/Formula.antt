@@ -15,7 +15,7 @@ use Rattle.std.specs.Prelude.{◌≡◌, ℕ, ◌+◌, ◌-◌, ◌%◌, ◌^◌
 use Rattle.std.specs.Int.{w64, cast_unsigned}
 use Rattle.wild_records.specs.Abi.Relocation.{r_x86_64_size32}
 use Rattle.wild_records.specs.Abi.Section.{shf_execinstr}
-use Rattle.wild_reloc.specs.Formula.{Value, NoValue, SymbolAddress, SymbolPart, Distance, PageDistance, FromTable, StubDistance, StubFromTable, TableDistance, SlotDistance, SlotFromTable, AddressSlot, Descriptor, ModuleOffset, PointerOffset, Size}
+use Rattle.wild_reloc.specs.Formula.{Value, NoValue, SymbolAddress, SymbolPart, Distance, PageDistance, FromTable, StubDistance, StubFromTable, TableDistance, SlotAddress, SlotDistance, SlotPageDistance, SlotFromTable, SlotFromTablePage, AddressSlot, Descriptor, ModuleOffset, PointerOffset, Size}
 use Rattle.wild_types.specs.declared.kind.Machine.{Machine}
 use Rattle.wild_types.specs.declared.kind.Machine.TheVariants as machine
 use Rattle.wild_types.specs.declared.kind.OutputKind.{OutputKind}
@@ -122,8 +122,7 @@ HasOffsetMode l item = KnowsOffsets l.machine l.kind l × IsSet item.flags shf_e
 
 -- x is the value of the expression (x86-64 psABI, "Relocation Types"; aaelf64, "Relocation operations"; thread-local ones:
 -- "ELF Handling For Thread-Local Storage", "TLS Access Models"). The call through a descriptor has no value, and where descriptors'
--- references are offsets it may not stand. An expression without a line gives no value: a layout with such a reference has no
--- image yet
+-- references are offsets it may not stand
 abbrev pub Gives : Value → Layout → World → Memory → Item → InputRelocation → ℕ → Type 0
 Gives NoValue l w m item r x = HasOffsetMode l item → ⊥
 Gives SymbolAddress l w m item r x = IsSum SymbolAddress l w m item r x
@@ -135,12 +134,14 @@ Gives StubDistance l w m item r x = (a : ℕ) × IsReferent l.machine StubDistan
 Gives StubFromTable l w m item r x = (a : ℕ) × IsReferent l.machine StubFromTable l w m item r a × (x ≡ (a + cast_unsigned w64 r.addend + (2 ^ 64 - table_at l w)) % 2 ^ 64)
 Gives (SlotDistance Descriptor) l w m item r x = (g : ℕ) × IsSlot Descriptor l w m r.symbol g × (HasOffsetMode l item → ⊥) × (x ≡ (g + cast_unsigned w64 r.addend + (2 ^ 64 - place_at w item r.offset)) % 2 ^ 64)
 Gives (SlotDistance sort) l w m item r x = (g : ℕ) × IsSlot sort l w m r.symbol g × (x ≡ (g + cast_unsigned w64 r.addend + (2 ^ 64 - place_at w item r.offset)) % 2 ^ 64)
+Gives (SlotAddress sort) l w m item r x = (g : ℕ) × IsSlot sort l w m r.symbol g × (x ≡ g % 2 ^ 64)
+Gives (SlotPageDistance sort) l w m item r x = (g : ℕ) × IsSlot sort l w m r.symbol g × (x ≡ (page_of g + (2 ^ 64 - page_of (place_at w item r.offset))) % 2 ^ 64)
+Gives SlotFromTablePage l w m item r x = (g : ℕ) × IsSlot AddressSlot l w m r.symbol g × (x ≡ (g + (2 ^ 64 - page_of (table_at l w))) % 2 ^ 64)
 Gives SlotFromTable l w m item r x = (g : ℕ) × IsSlot AddressSlot l w m r.symbol g × (x ≡ (g + cast_unsigned w64 r.addend + (2 ^ 64 - table_at l w)) % 2 ^ 64)
 Gives TableDistance l w m item r x = x ≡ (table_at l w + cast_unsigned w64 r.addend + (2 ^ 64 - place_at w item r.offset)) % 2 ^ 64
 Gives PointerOffset l w m item r x = (t : ℕ) × IsOffset l w r.symbol t × (x ≡ (t + cast_unsigned w64 r.addend) % 2 ^ 64)
 Gives ModuleOffset l w m item r x = (t b : ℕ) × IsOffset l w r.symbol t × IsOffsetBase l.machine l.kind w b × (x ≡ (t + cast_unsigned w64 r.addend + (2 ^ 64 - b)) % 2 ^ 64)
 Gives Size l w m item r x = (z : ℕ) × IsExtent l w r.symbol z × IsWhole l r ((z + cast_unsigned w64 r.addend) % 2 ^ 64) x
-Gives other l w m item r x = ⊥
 
 -- ---- a symbol as the output itself has it
 

@@ -8,10 +8,11 @@ use Rattle.wild_types.specs.declared.input.InputRelocation.{InputRelocation}
 use Rattle.wild_types.specs.declared.symbol.Symbol.{Symbol}
 use Rattle.wild_types.specs.declared.layout.Layout.{Layout}
 use Rattle.wild_types.specs.Flags.{ifunc, non_interposable}
-use Rattle.wild_meaning.specs.Sequence.{Named, Getter, SameSymbol, Partner, Condition, InExecutable, WithoutResolver, RewrittenIfReplaceable}
+use Rattle.wild_meaning.specs.Sequence.{Named, Getter, SameSymbol, Partner, Condition, InExecutable, WithoutResolver, RewrittenIfReplaceable, UnlessAbsent}
 use Rattle.wild_meaning.specs.World.{IsExecutable}
 use Rattle.wild_meaning.specs.Value.{IsSymbol, HasFlag}
 use Rattle.wild_types.specs.Item.{Item}
+use Rattle.wild_meaning.specs.ReferentAArch64.{IsAbsent}
 
 -- `__tls_get_addr` ("ELF Handling For Thread-Local Storage", "Run-Time Handling of TLS")
 abbrev pub tls_get_addr : List ℕ
@@ -28,7 +29,7 @@ pub record NamesGetter (l : Layout) (r : InputRelocation) : Type 0 where
 -- it names what that of a further field is to name
 abbrev pub NamesIt : Layout → InputRelocation → InputRelocation → Named → Type 0
 NamesIt l first r Getter = NamesGetter l r
-NamesIt l first r SameSymbol = r.symbol ≡ first.symbol
+NamesIt l first r SameSymbol = (r.symbol ≡ first.symbol) × (r.addend ≡ first.addend)
 
 -- the relocation at an index fills a further field of a sequence
 pub record HasPartner (l : Layout) (item : Item) (first r : InputRelocation) (start index : ℕ) (p : Partner) : Type 0 where
@@ -49,6 +50,7 @@ abbrev pub IsMet : Layout → ℕ → Condition → Type 0
 IsMet l i InExecutable = IsExecutable l.kind
 IsMet l i WithoutResolver = HasFlag l i ifunc false
 IsMet l i RewrittenIfReplaceable = HasFlag l i non_interposable false → l.options.relax ≡ true
+IsMet l i UnlessAbsent = IsAbsent l i → ⊥
 
 abbrev pub AreMet : Layout → ℕ → List Condition → Type 0
 AreMet l i [] = ⊤

@@ -6,19 +6,23 @@
 --   Instruction        an instruction, or a sequence of them, with its fields
 --   instructions_of m  those of a machine
 --   IsOwnByte o k      byte k of an instruction is in none of its fields
-use Rattle.std.specs.Prelude.{ℕ, ◌+◌, ◌<◌, ◌≤◌, ◌⊎◌, ⊤, List, [], ◌∷◌, ◌++◌, length}
-use Rattle.wild_records.specs.Abi.Relocation.{r_x86_64_pc32, r_x86_64_plt32, r_x86_64_gotpcrel, r_x86_64_gotpcrelx, r_x86_64_rex_gotpcrelx, r_x86_64_code_4_gotpcrelx, r_x86_64_gottpoff, r_x86_64_code_4_gottpoff, r_x86_64_gotpc32_tlsdesc, r_x86_64_code_4_gotpc32_tlsdesc, r_x86_64_tlsdesc_call, r_x86_64_tlsgd, r_x86_64_tlsld, r_x86_64_pltoff64}
+use Rattle.std.specs.Prelude.{ℕ, zero, suc, ◌+◌, ◌<◌, ◌≤◌, ◌⊎◌, ⊤, Bool, true, List, [], ◌∷◌, ◌++◌, length, map}
+use Rattle.wild_records.specs.Abi.Relocation.{r_x86_64_pc32, r_x86_64_plt32, r_x86_64_gotpcrel, r_x86_64_gotpcrelx, r_x86_64_rex_gotpcrelx, r_x86_64_code_4_gotpcrelx, r_x86_64_gottpoff, r_x86_64_code_4_gottpoff, r_x86_64_gotpc32_tlsdesc, r_x86_64_code_4_gotpc32_tlsdesc, r_x86_64_tlsdesc_call, r_x86_64_tlsgd, r_x86_64_tlsld, r_x86_64_pltoff64, r_aarch64_jump26, r_aarch64_call26, r_aarch64_adr_prel_pg_hi21, r_aarch64_add_abs_lo12_nc, r_aarch64_tlsie_adr_gottprel_page21, r_aarch64_tlsie_ld64_gottprel_lo12_nc, r_aarch64_tlsdesc_adr_page21, r_aarch64_tlsdesc_ld64_lo12, r_aarch64_tlsdesc_add_lo12, r_aarch64_tlsdesc_call}
 use Rattle.wild_types.specs.declared.kind.Machine.{Machine}
 use Rattle.wild_types.specs.declared.kind.Machine.TheVariants as machine
 use Rattle.wild_loader.specs.declared.instruction.Operand.TheVariants.{Number, Word}
 use Rattle.wild_loader.specs.declared.instruction.Deed.TheVariants.{Set, Add, Subtract, Compare, Call, Jump}
-use Rattle.wild_loader.specs.Instruction.{Template}
+use Rattle.wild_loader.specs.Instruction.{Template, field}
 use Rattle.wild_loader.specs.CodeX86_64.{Prefix, bare, rex, rex2, with_slot, branch}
 use Rattle.wild_loader.specs.ThreadCodeX86_64.{general_call, general_slot_call, far_pair_call, local_call, local_slot_call}
-use Rattle.wild_loader.specs.InstructionX86_64.{descriptor_call}
+use Rattle.wild_loader.specs.InstructionX86_64.{descriptor_call, does_nothing}
+use Rattle.wild_aarch64.specs.declared.template.Template as runs
+use Rattle.wild_aarch64.specs.declared.template.Template.TheVariants as kinds
+use Rattle.wild_meaning.specs.WordsAArch64.{is_filled, is_run, filled_numbers}
 
 -- code, which is called or gone to, itself or by its address in a slot; an address in a slot; an offset from the thread pointer in
--- a slot; the pair of a symbol, and that of the output's own thread-local data; a descriptor; or nothing, at the call through one
+-- a slot or by a descriptor's call; the pair of a symbol, and that of the output's own thread-local data; a descriptor; or nothing, at
+-- the call through one. On AArch64 also an address that two instructions have a part each of, and the bits of an instruction's field
 pub data Sort : Type 0 where
   Target : Sort
   TargetInSlot : Sort
@@ -28,8 +32,11 @@ pub data Sort : Type 0 where
   OwnPair : Sort
   Described : Sort
   DescribedCall : Sort
+  Address : Sort
+  FieldBits : Sort
 
--- what the relocation of a further field names: the function that gives thread addresses, or the symbol of the first relocation
+-- what the relocation of a further field names: the function that gives thread addresses, or the symbol of the first relocation, with
+-- its addend
 pub data Named : Type 0 where
   Getter : Named
   SameSymbol : Named
@@ -41,17 +48,20 @@ pub record Partner : Type 0 where
   pub numbers : List ℕ
   pub names : Named
 
--- instructions are a sequence in executables alone; where no resolver answers for the symbol; and, of a symbol that others may
--- define, where instructions are rewritten. Else each is an instruction of its own
+-- instructions are a sequence in executables alone; where no resolver answers for the symbol; of a symbol that others may define, where
+-- instructions are rewritten; and where the symbol is there. Else each is an instruction of its own
 pub data Condition : Type 0 where
   InExecutable : Condition
   WithoutResolver : Condition
   RewrittenIfReplaceable : Condition
+  UnlessAbsent : Condition
 
--- an instruction, where its field begins and how many bytes that has, what its operand stands for, the relocation types that fill
--- the field; and of a sequence its further fields, whose relocations follow the first one, and when it is one
+-- an instruction: what its bytes may be, and which words they are on a machine whose instructions are words; where its field begins
+-- and how many bytes that has, what its operand stands for, the relocation types that fill the field; and of a sequence its further
+-- fields, whose relocations follow the first one, and when it is one
 pub record Instruction : Type 0 where
   pub template : Template
+  pub words : List ℕ → Bool
   pub field : ℕ
   pub width : ℕ
   pub sort : Sort
@@ -75,14 +85,19 @@ pub record IsOwnByte (o : Instruction) (k : ℕ) : Type 0 where
 
 -- ---- x86-64
 
+-- bytes alone tell the instruction
+abbrev pub any_words : List ℕ → Bool
+any_words ws = true
+
 -- one field of four bytes
 abbrev pub of_field : Template → ℕ → Sort → List ℕ → Instruction
-of_field t field sort numbers = record { template = t; field = field; width = 4; sort = sort; numbers = numbers; partners = []; conditions = [] }
+of_field t field sort numbers = record { template = t; words = any_words; field = field; width = 4; sort = sort; numbers = numbers; partners = []; conditions = [] }
 
 -- the same with a call
 abbrev pub of_sequence : Template → ℕ → Sort → ℕ → List Condition → Partner → Instruction
 of_sequence t field sort number conditions call = record {
   template = t;
+  words = any_words;
   field = field;
   width = 4;
   sort = sort;
@@ -129,7 +144,7 @@ abbrev pub of_descriptors : List Instruction
 of_descriptors =
     of_field (with_slot 0x8d Number Set rex) 3 Described (r_x86_64_gotpc32_tlsdesc ∷ [])
     ∷ of_field (with_slot 0x8d Number Set rex2) 4 Described (r_x86_64_code_4_gotpc32_tlsdesc ∷ [])
-    ∷ record { template = descriptor_call; field = 0; width = 0; sort = DescribedCall; numbers = r_x86_64_tlsdesc_call ∷ []; partners = []; conditions = [] }
+    ∷ record { template = descriptor_call; words = any_words; field = 0; width = 0; sort = DescribedCall; numbers = r_x86_64_tlsdesc_call ∷ []; partners = []; conditions = [] }
     ∷ []
 
 -- the calls of sequences (x86-64 psABI, "Thread-Local Storage"), which name the function that gives thread addresses
@@ -159,6 +174,48 @@ sequences =
     ∷ of_sequence far_pair_call 3 OwnPair r_x86_64_tlsld of_output (by_distance 9)
     ∷ []
 
+-- ---- AArch64: words of four bytes, each with one field
+
+-- what bytes of so many words may be: which words they are is told beside them, and what they do by the machine
+abbrev pub bytes_of : ℕ → Template
+bytes_of zero = does_nothing []
+bytes_of (suc n) = does_nothing (field ++ (bytes_of n).cells)
+
+-- one word that a relocation type fills
+abbrev pub of_word : Sort → ℕ → Instruction
+of_word sort n = record { template = bytes_of 1; words = is_filled n; field = 0; width = 4; sort = sort; numbers = n ∷ []; partners = []; conditions = [] }
+
+-- a run of words of that kind, the first of them with its relocation type
+abbrev pub of_words : runs.Template → ℕ → Sort → ℕ → List Condition → List Partner → Instruction
+of_words run words sort number conditions partners = record {
+  template = bytes_of words;
+  words = is_run run;
+  field = 0;
+  width = 4;
+  sort = sort;
+  numbers = number ∷ [];
+  partners = partners;
+  conditions = conditions;
+}
+
+-- a further word, n bytes behind the first, whose field has so many bytes
+abbrev pub by_word : ℕ → ℕ → ℕ → Partner
+by_word n width number = record { field = n; width = width; numbers = number ∷ []; names = SameSymbol }
+
+-- a descriptor's call, the slot of an offset, and an address (aaelf64, "Relocation operations": instructions that belong together)
+abbrev pub descriptor_call_words : Instruction
+descriptor_call_words =
+    of_words kinds.DescriptorCall 4 OffsetInSlot r_aarch64_tlsdesc_adr_page21 [] (by_word 4 4 r_aarch64_tlsdesc_ld64_lo12 ∷ by_word 8 4 r_aarch64_tlsdesc_add_lo12 ∷ by_word 12 0 r_aarch64_tlsdesc_call ∷ [])
+
+abbrev pub offset_pair_words : Instruction
+offset_pair_words = of_words kinds.SlotPair 2 OffsetInSlot r_aarch64_tlsie_adr_gottprel_page21 [] (by_word 4 4 r_aarch64_tlsie_ld64_gottprel_lo12_nc ∷ [])
+
+abbrev pub address_pair_words : Instruction
+address_pair_words = of_words kinds.AddressPair 2 Address r_aarch64_adr_prel_pg_hi21 (UnlessAbsent ∷ []) (by_word 4 4 r_aarch64_add_abs_lo12_nc ∷ [])
+
+abbrev pub runs_of_words : List Instruction
+runs_of_words = descriptor_call_words ∷ offset_pair_words ∷ address_pair_words ∷ []
+
 -- the instructions of a machine that relocations may fill
 abbrev pub instructions_of : Machine → List Instruction
 instructions_of machine.X86_64 =
@@ -169,4 +226,4 @@ instructions_of machine.X86_64 =
     ++ (of_offsets rex 3 r_x86_64_gottpoff
     ++ (of_offsets rex2 4 r_x86_64_code_4_gottpoff
     ++ (of_loads ++ (of_descriptors ++ sequences)))))))
-instructions_of machine.AArch64 = []
+instructions_of machine.AArch64 = of_word Target r_aarch64_jump26 ∷ of_word Target r_aarch64_call26 ∷ (map (of_word FieldBits) filled_numbers ++ runs_of_words)

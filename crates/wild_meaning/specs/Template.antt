@@ -8,14 +8,14 @@
 --   DoesWith ..          the loaded code has that effect, as a reader has it, where the operand reads as v
 --   DoesDemanded ..      so it does with a value that is demanded
 --   DoesLinked ..        so it does with the output's own symbol
-use Rattle.std.specs.Prelude.{◌≡◌, ℕ, ◌+◌, ◌%◌, ◌^◌, ◌<◌, ◌≤◌, ◌⊎◌, ⊤, true, false, List, [], ◌∷◌, length, slice_get, slice_range, Option, Some, None, Result, Ok, Err, option_and_then, option_map, Contains}
+use Rattle.std.specs.Prelude.{◌≡◌, ℕ, ◌+◌, ◌-◌, ◌/◌, ◌%◌, ◌^◌, ◌<◌, ◌≤◌, ◌⊎◌, ⊤, true, false, List, [], ◌∷◌, length, slice_get, slice_range, Option, Some, None, Result, Ok, Err, option_and_then, option_map, Contains}
 use Rattle.std.specs.Int.{w64, cast_unsigned}
 use Rattle.wild_records.specs.Abi.Section.{shf_execinstr}
 use Rattle.wild_types.specs.declared.kind.Machine.{Machine}
 use Rattle.wild_types.specs.declared.kind.Machine.TheVariants as machine
 use Rattle.wild_types.specs.declared.input.InputRelocation.{InputRelocation}
 use Rattle.wild_types.specs.declared.layout.Layout.{Layout}
-use Rattle.wild_reloc.specs.Formula.{Distance, StubDistance, Descriptor}
+use Rattle.wild_reloc.specs.Formula.{Distance, PageDistance, StubDistance, Descriptor, Form, Bits, Formula}
 use Rattle.wild_loader.specs.declared.fault.LoadFault.{LoadFault}
 use Rattle.wild_loader.specs.declared.memory.Memory.{Memory}
 use Rattle.wild_loader.specs.declared.world.World.{World}
@@ -23,17 +23,20 @@ use Rattle.wild_loader.specs.Changes.{distance_of, first_value}
 use Rattle.wild_loader.specs.Memory.{number_in, Holds}
 use Rattle.wild_loader.specs.declared.instruction.Operand.TheVariants.{Number, Word, Pair, Offset}
 use Rattle.wild_loader.specs.declared.instruction.Deed.TheVariants.{Nothing}
-use Rattle.wild_loader.specs.Instruction.{Reader, Effect, stands, as_value}
-use Rattle.wild_loader.specs.InstructionX86_64.{effect_x86_64}
-use Rattle.wild_meaning.specs.Sequence.{Sort, Target, TargetInSlot, AddressInSlot, OffsetInSlot, SymbolPair, OwnPair, Described, DescribedCall, Instruction, size_of, IsOwnByte, instructions_of}
+use Rattle.wild_loader.specs.Instruction.{Reader, Effect, stands}
+use Rattle.wild_loader.specs.InstructionX86_64.{effect_x86_64, demand_x86_64}
+use Rattle.wild_loader.specs.InstructionAArch64.{effect_aarch64, demand_aarch64}
+use Rattle.wild_aarch64.specs.Effect.{words_of}
+use Rattle.wild_meaning.specs.WordsAArch64.{effect_with}
+use Rattle.wild_meaning.specs.Sequence.{Sort, Target, TargetInSlot, AddressInSlot, OffsetInSlot, SymbolPair, OwnPair, Described, DescribedCall, Address, FieldBits, Instruction, size_of, IsOwnByte, instructions_of}
 use Rattle.wild_meaning.specs.Section.{IsSet}
 use Rattle.wild_meaning.specs.Partners.{HasPartners, AreMet}
 use Rattle.wild_meaning.specs.Thread.{IsOffsetBase}
 use Rattle.wild_meaning.specs.Slot.{IsSlot}
 use Rattle.wild_types.specs.Item.{Item}
 use Rattle.wild_meaning.specs.Item.{place_at}
-use Rattle.wild_meaning.specs.Field.{InNoField}
-use Rattle.wild_meaning.specs.Formula.{IsTarget, IsReferent, IsOwnReferent, IsGoal, IsOffset, HasOffsetMode}
+use Rattle.wild_meaning.specs.Field.{formula_of, InNoField}
+use Rattle.wild_meaning.specs.Formula.{Gives, IsSum, IsTarget, IsReferent, IsOwnReferent, IsGoal, IsOffset, HasOffsetMode}
 
 -- ---- in the input's bytes
 
@@ -43,11 +46,13 @@ abbrev pub counts_from : Machine → ℕ
 counts_from machine.X86_64 = 4
 counts_from machine.AArch64 = 0
 
--- the addend of a field through a slot takes back what it counts from, and no more. A branch may go past its symbol, and the call
--- through a descriptor has no field
+-- the addend of a field through a slot takes back what it counts from, and no more. A branch may go past its symbol, an address lie
+-- past it, and the call through a descriptor has no field
 abbrev pub AddsNothing : Machine → Sort → InputRelocation → Type 0
 AddsNothing m Target r = ⊤
 AddsNothing m DescribedCall r = ⊤
+AddsNothing m Address r = ⊤
+AddsNothing m FieldBits r = ⊤
 AddsNothing m other r = (cast_unsigned w64 r.addend + counts_from m) % 2 ^ 64 ≡ 0
 
 -- the instruction stands in the item's bytes at start, in code, with the relocation at its field; no relocation fills its own
@@ -59,6 +64,7 @@ pub record IsInstruction (l : Layout) (item : Item) (r : InputRelocation) (start
   pub field : r.offset ≡ start + o.field
   pub inside : start + size_of o ≤ length item.bytes
   pub stands : stands o.template.cells (slice_range item.bytes start (start + size_of o)) ≡ true
+  pub words : o.words (words_of (slice_range item.bytes start (start + size_of o))) ≡ true
   pub counts : AddsNothing l.machine o.sort r
   pub alone : (k : ℕ) → IsOwnByte o k → InNoField l item (start + k)
 
@@ -120,7 +126,12 @@ reads_alone w m other = reads w m other
 -- the effect of bytes at an address, by the instructions of the machine
 abbrev pub effect_of : Machine → Reader → ℕ → List ℕ → Option Effect
 effect_of machine.X86_64 read a bs = effect_x86_64 read a bs
-effect_of machine.AArch64 read a bs = None
+effect_of machine.AArch64 read a bs = effect_aarch64 read a bs
+
+-- the effect that the input's bytes ask for, where their fields are filled so that their operand reads as v
+abbrev pub demand_of : Machine → ℕ → ℕ → List ℕ → Option Effect
+demand_of machine.X86_64 v a bs = demand_x86_64 v a bs
+demand_of machine.AArch64 v a bs = demand_aarch64 v a bs
 
 -- ---- what is demanded
 
@@ -134,8 +145,22 @@ pub record IsBranchTarget (l : Layout) (w : World) (m : Memory) (item : Item) (r
 abbrev pub IsDescribed : Layout → World → Memory → Item → InputRelocation → ℕ → Type 0
 IsDescribed l w m item r v = (HasOffsetMode l item × IsOffset l w r.symbol v) ⊎ ((HasOffsetMode l item → ⊥) × (g : ℕ) × IsSlot Descriptor l w m r.symbol g × (v ≡ g % 2 ^ 64))
 
+-- the bits of a formula's value that its field has
+abbrev pub bits_of : Form → ℕ → ℕ
+bits_of (Bits field high low check unit) x = x / 2 ^ low % 2 ^ (high + 1 - low)
+bits_of other x = 0
+
+-- v is the bits of the value of the relocation's formula
+pub record IsFieldBits (l : Layout) (w : World) (m : Memory) (item : Item) (r : InputRelocation) (v : ℕ) : Type 0 where
+  pub formula : Formula
+  pub known : formula_of l.machine r.number ≡ Some formula
+  pub value : ℕ
+  pub gives : Gives formula.value l w m item r value
+  pub bits : v ≡ bits_of formula.form value
+
 -- v is what an operand of that sort is to read as: what comes to S; what stands for S; its offset from the thread pointer; what
--- offsets in the output's own thread-local data count from; or what a descriptor's reference is
+-- offsets in the output's own thread-local data count from; what a descriptor's reference is; S + A, which is one address where
+-- instructions have a part each of it; or the bits of a field
 abbrev pub Demands : Sort → Layout → World → Memory → Item → InputRelocation → ℕ → Type 0
 Demands Target l w m item r v = IsBranchTarget l w m item r v
 Demands TargetInSlot l w m item r v = IsGoal l w m r.symbol v
@@ -145,16 +170,19 @@ Demands SymbolPair l w m item r v = IsOffset l w r.symbol v
 Demands OwnPair l w m item r v = IsOffsetBase l.machine l.kind w v
 Demands Described l w m item r v = IsDescribed l w m item r v
 Demands DescribedCall l w m item r v = v ≡ 0
+Demands Address l w m item r v = IsSum PageDistance l w m item r v
+Demands FieldBits l w m item r v = IsFieldBits l w m item r v
 
 -- nothing is done
 abbrev pub no_effect : Effect
 no_effect = record { deed = Nothing; width = 64; value = 0 }
 
--- the effect of the input's bytes where their operand reads as v; where descriptors' references are offsets, the call through one
--- has nothing to do
+-- the effect of the input's bytes where their operand reads as v, or with the bits v in their field; where descriptors' references are
+-- offsets, the call through one has nothing to do
 abbrev pub IsDemanded : Sort → Layout → Item → ℕ → ℕ → List ℕ → Effect → Type 0
-IsDemanded DescribedCall l item v a old e = (HasOffsetMode l item × (e ≡ no_effect)) ⊎ ((HasOffsetMode l item → ⊥) × (effect_of l.machine (as_value v) a old ≡ Some e))
-IsDemanded sort l item v a old e = effect_of l.machine (as_value v) a old ≡ Some e
+IsDemanded DescribedCall l item v a old e = (HasOffsetMode l item × (e ≡ no_effect)) ⊎ ((HasOffsetMode l item → ⊥) × (demand_of l.machine v a old ≡ Some e))
+IsDemanded FieldBits l item v a old e = effect_with v a old ≡ Some e
+IsDemanded sort l item v a old e = demand_of l.machine v a old ≡ Some e
 
 -- the input's bytes of the instruction
 abbrev pub old_bytes : Item → ℕ → Instruction → List ℕ

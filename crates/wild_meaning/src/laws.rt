@@ -1,5 +1,6 @@
 //! What the definitions refuse: worked layouts, legal worlds of theirs, and images that are not linked there.
 ghost use Rattle.wild_meaning.specs.CopyRefusals.{CopyingWorldIsLegal, WrongCopyIsRefused, WrongZeroIsRefused, WrongPlaceOfCopyIsRefused, WrongMachineIsRefused, WrongHeadersAreRefused, CopyingImageIsLinked};
+ghost use Rattle.wild_meaning.specs.RefusalsAArch64.{RightWordsDo, WrongWordsAreRefused, ThunksAreJudged};
 ghost use Rattle.wild_meaning.specs.Replaced.{DynamicIsReplaceable, ExportedIsReplaceable, AnswersAreTaken};
 ghost use Rattle.wild_meaning.specs.SegmentRefusals.{WrongSegmentsAreRefused, NoDynamicIsRefused};
 ghost use Rattle.wild_meaning.specs.SharedRefusals.{SharedWorldIsLegal, WrongSlotsAreRefused, WrongAddressesAreRefused, WrongOffsetsAreRefused, WrongModulesAreRefused, WrongDescriptorsAreRefused, WrongSizeIsRefused, WrongByteIsRefused, WrongCodeOfLibraryIsRefused};
@@ -69,3 +70,12 @@ pub fn wrong_segments_are_refused()
 {
     file_header_is_read();
 }
+
+/// On AArch64 a descriptor's call that was rewritten does what is demanded, and so does a page pair; where one word is wrong, the code does
+/// not: a call left, a half in the other half's place, a distance from another place, the slot of another symbol. A thunk whose page is
+/// the next does not reach its target.
+pub fn wrong_words_are_refused()
+    ensures right { RightWordsDo }
+    ensures wrong { WrongWordsAreRefused }
+    ensures thunks { ThunksAreJudged }
+{}

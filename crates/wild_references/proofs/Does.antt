@@ -19,7 +19,7 @@ use Rattle.wild_records.specs.Abi.Relocation.{r_x86_64_none, r_x86_64_pc32, r_x8
 use Rattle.wild_loader.specs.declared.instruction.Operand.{Operand}
 use Rattle.wild_loader.specs.declared.instruction.Operand.TheVariants.{Number, Word, Pair}
 use Rattle.wild_loader.specs.Instruction.{signed_32, signed_at, sum_64}
-use Rattle.wild_meaning.specs.Sequence.{Sort, Target, TargetInSlot, AddressInSlot, OffsetInSlot, SymbolPair, OwnPair, Described, DescribedCall, Instruction, Partner, size_of, IsBesidePartners, IsOwnByte, instructions_of}
+use Rattle.wild_meaning.specs.Sequence.{Sort, Target, TargetInSlot, AddressInSlot, OffsetInSlot, SymbolPair, OwnPair, Described, DescribedCall, Address, FieldBits, Instruction, Partner, size_of, IsBesidePartners, IsOwnByte, instructions_of}
 use Rattle.wild_types.specs.Item.{Item}
 use Rattle.wild_meaning.specs.Item.{place_at}
 use Rattle.wild_meaning.specs.Field.{formula_of, form_width, FieldReads, IsInputByte}
@@ -79,6 +79,8 @@ operand_by SymbolPair x = Pair x
 operand_by OwnPair x = Pair x
 operand_by Described x = Number x
 operand_by DescribedCall x = Number 0
+operand_by Address x = Number x
+operand_by FieldBits x = Number x
 
 abbrev pub named_by : Instruction → ℕ → List ℕ → ℕ
 named_by o a bs = sum_64 (a + (o.field + 4)) (signed_at bs o.field)
@@ -96,6 +98,8 @@ FormulaIs SymbolPair f = f ≡ displaced (SlotDistance ModulePair)
 FormulaIs OwnPair f = f ≡ displaced (SlotDistance OwnModulePair)
 FormulaIs Described f = f ≡ displaced (SlotDistance Descriptor)
 FormulaIs DescribedCall f = f ≡ formula NoValue NoField
+FormulaIs Address f = ⊥
+FormulaIs FieldBits f = ⊥
 
 abbrev HasFormula : Sort → ℕ → Type 0
 HasFormula sort n = (f : Formula) × (x86_64_formula n ≡ Some f) × FormulaIs sort f
@@ -114,6 +118,7 @@ numbers_of SymbolPair = r_x86_64_tlsgd ∷ []
 numbers_of OwnPair = r_x86_64_tlsld ∷ []
 numbers_of Described = r_x86_64_gotpc32_tlsdesc ∷ r_x86_64_code_4_gotpc32_tlsdesc ∷ []
 numbers_of DescribedCall = r_x86_64_tlsdesc_call ∷ []
+numbers_of other = []
 
 each_formula : (sort : Sort) → EachNumber sort (numbers_of sort)
 unfolding x86_64_formula
@@ -125,6 +130,8 @@ each_formula SymbolPair = ((_, refl, refl), tt)
 each_formula OwnPair = ((_, refl, refl), tt)
 each_formula Described = ((_, refl, refl), ((_, refl, refl), tt))
 each_formula DescribedCall = ((_, refl, refl), tt)
+each_formula Address = tt
+each_formula FieldBits = tt
 
 number_with : (sort : Sort) (ns : List ℕ) (n : ℕ) → EachNumber sort ns → list_any (λ (m : ℕ). m == n) ns ≡ true → HasFormula sort n
 number_with sort [] n h t = cc
@@ -307,6 +314,8 @@ wide_of SymbolPair width f e h = ap (λ (g : Formula). form_width g.form) h ∙ 
 wide_of OwnPair width f e h = ap (λ (g : Formula). form_width g.form) h ∙ sym e
 wide_of Described width f e h = ap (λ (g : Formula). form_width g.form) h ∙ sym e
 wide_of DescribedCall width f e h = ap (λ (g : Formula). form_width g.form) h ∙ sym e
+wide_of Address width f e h = absurd h
+wide_of FieldBits width f e h = absurd h
 
 pub field_place : (w : World) (item : Item) (r : InputRelocation) (start field : ℕ) → r.offset ≡ start + field → place_at w item r.offset ≡ place_at w item start + field
 field_place w item r start field e = omega (arith, e)

@@ -15,7 +15,7 @@ use Rattle.wild_loader.specs.CodeX86_64.{bare, rex, rex2, branch, with_slot}
 use Rattle.wild_loader.specs.ThreadCodeX86_64.{general_call, general_slot_call, far_pair_call, local_call, local_slot_call}
 use Rattle.wild_loader.specs.InstructionX86_64.{descriptor_call}
 use Rattle.wild_records.specs.Abi.Relocation.{r_x86_64_pc32, r_x86_64_plt32, r_x86_64_gotpcrel, r_x86_64_gotpcrelx, r_x86_64_rex_gotpcrelx, r_x86_64_code_4_gotpcrelx, r_x86_64_gottpoff, r_x86_64_code_4_gottpoff, r_x86_64_gotpc32_tlsdesc, r_x86_64_code_4_gotpc32_tlsdesc, r_x86_64_tlsdesc_call, r_x86_64_tlsgd, r_x86_64_tlsld}
-use Rattle.wild_meaning.specs.Sequence.{Target, TargetInSlot, AddressInSlot, OffsetInSlot, SymbolPair, OwnPair, Described, DescribedCall, Instruction, Partner, size_of, IsBesidePartners, IsOwnByte, of_field, of_sequence, of_output, of_symbol, by_call, by_slot, by_distance, instructions_of}
+use Rattle.wild_meaning.specs.Sequence.{any_words, Target, TargetInSlot, AddressInSlot, OffsetInSlot, SymbolPair, OwnPair, Described, DescribedCall, Instruction, Partner, size_of, IsBesidePartners, IsOwnByte, of_field, of_sequence, of_output, of_symbol, by_call, by_slot, by_distance, instructions_of}
 use Rattle.wild_references.specs.Filled.{IsFilled, HasEffect, FilledInstructionsDo}
 use Rattle.wild_references.proofs.Acts as acts
 use Rattle.wild_references.proofs.Acts.{IsMeant}
@@ -206,8 +206,8 @@ rex_descriptor = known (of_field (with_slot 0x8d Number Set rex) 3 Described (r_
 rex2_descriptor : IsKnown (of_field (with_slot 0x8d Number Set rex2) 4 Described (r_x86_64_code_4_gotpc32_tlsdesc ∷ []))
 rex2_descriptor = known (of_field (with_slot 0x8d Number Set rex2) 4 Described (r_x86_64_code_4_gotpc32_tlsdesc ∷ [])) acts.rex2_lea refl (λ old new f a v. rex2_acts 0x8d Number Set a v old new (own_at (of_field (with_slot 0x8d Number Set rex2) 4 Described (r_x86_64_code_4_gotpc32_tlsdesc ∷ [])) 1 old new refl refl f) (own_at (of_field (with_slot 0x8d Number Set rex2) 4 Described (r_x86_64_code_4_gotpc32_tlsdesc ∷ [])) 3 old new refl refl f))
 
-through_descriptor : IsKnown (record { template = descriptor_call; field = 0; width = 0; sort = DescribedCall; numbers = r_x86_64_tlsdesc_call ∷ []; partners = []; conditions = [] })
-through_descriptor = known (record { template = descriptor_call; field = 0; width = 0; sort = DescribedCall; numbers = r_x86_64_tlsdesc_call ∷ []; partners = []; conditions = [] }) acts.call_described refl (λ old new f a v. refl)
+through_descriptor : IsKnown (record { template = descriptor_call; words = any_words; field = 0; width = 0; sort = DescribedCall; numbers = r_x86_64_tlsdesc_call ∷ []; partners = []; conditions = [] })
+through_descriptor = known (record { template = descriptor_call; words = any_words; field = 0; width = 0; sort = DescribedCall; numbers = r_x86_64_tlsdesc_call ∷ []; partners = []; conditions = [] }) acts.call_described refl (λ old new f a v. refl)
 
 general_by_call : IsKnown (of_sequence general_call 4 SymbolPair r_x86_64_tlsgd of_symbol (by_call 12))
 general_by_call = known (of_sequence general_call 4 SymbolPair r_x86_64_tlsgd of_symbol (by_call 12)) acts.general refl (λ old new f a v. refl)

@@ -29,10 +29,10 @@ use Rattle.wild_meaning.specs.World.{IsMovable}
 use Rattle.wild_meaning.specs.Value.{IsAbsolute}
 use Rattle.wild_types.specs.Item.{Item}
 use Rattle.wild_meaning.specs.Item.{place_at}
-use Rattle.wild_loader.specs.Instruction.{Effect, as_value}
+use Rattle.wild_loader.specs.Instruction.{Effect}
 use Rattle.wild_loader.specs.InstructionX86_64.{demand_x86_64}
 use Rattle.wild_meaning.specs.Sequence.{Sort, TargetInSlot, AddressInSlot}
-use Rattle.wild_meaning.specs.Template.{reads_alone, effect_of, Demands, IsDemanded, no_effect, DoesDemanded}
+use Rattle.wild_meaning.specs.Template.{reads_alone, demand_of, Demands, IsDemanded, no_effect, DoesDemanded}
 use Rattle.wild_relax.proofs.RowLemmas.{signed_32s, unsigned_32}
 use Rattle.wild_references.specs.Laws.{IsLoadedItem}
 use Rattle.wild_references.proofs.RewrittenForms.{instruction_of}
@@ -94,7 +94,7 @@ number_itself laws l w m s i r row v held h p number none plain value =
 -- ---- offsets from the thread pointer
 
 does_offset : LawsBelow → (l : Layout) (w : World) (m : Memory) (s : Item) (i : ℕ) (r : InputRelocation) (row : Row) (v n : ℕ) → IsLoadedItem l w m s → IsPlacedRow l s i r row v → Demands (instruction_of row).sort l w m s r n → n < 2 ^ 64 → Lands row (reads_alone w m) (place_at w s (template_start row r) + field_in row) n v
-    → ((a : ℕ) (old : List ℕ) (e : Effect) → effect_of l.machine (as_value n) a old ≡ Some e → IsDemanded (instruction_of row).sort l s n a old e) → ((a : ℕ) (old : List ℕ) → demanded row n a old ≡ demand_x86_64 n a old) → DoesRow l w m s r row
+    → ((a : ℕ) (old : List ℕ) (e : Effect) → demand_of l.machine n a old ≡ Some e → IsDemanded (instruction_of row).sort l s n a old e) → ((a : ℕ) (old : List ℕ) → demanded row n a old ≡ demand_x86_64 n a old) → DoesRow l w m s r row
 does_offset laws l w m s i r row v n h p demands small lands told same = does_by laws l w m s i r row v n h p demands small lands same told
 
 -- an own symbol's offset, in a program

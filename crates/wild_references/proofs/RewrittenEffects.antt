@@ -19,11 +19,11 @@ use Rattle.wild_loader.specs.declared.world.World.{World}
 use Rattle.wild_types.specs.Item.{Item}
 use Rattle.wild_meaning.specs.Item.{place_at}
 use Rattle.wild_loader.specs.declared.instruction.Action.{Action}
-use Rattle.wild_loader.specs.Instruction.{Template, Effect, stands, fills, first_meaning, with_value, as_value, Reader}
+use Rattle.wild_loader.specs.Instruction.{Template, Effect, stands, fills, first_meaning, with_value, Reader}
 use Rattle.wild_loader.specs.ThreadCodeX86_64.{nop_byte}
 use Rattle.wild_loader.specs.InstructionX86_64.{templates_x86_64, meaning_x86_64, effect_x86_64, demand_x86_64}
 use Rattle.wild_meaning.specs.Sequence.{size_of}
-use Rattle.wild_meaning.specs.Template.{reads_alone, effect_of, Demands, IsDemanded, old_bytes, DoesDemanded}
+use Rattle.wild_meaning.specs.Template.{reads_alone, effect_of, demand_of, Demands, IsDemanded, old_bytes, DoesDemanded}
 use Rattle.wild_layout.proofs.DecideLemmas.{value_below}
 use Rattle.wild_references.specs.Laws.{IsLoadedItem}
 use Rattle.wild_references.proofs.RewrittenForms.{instruction_of}
@@ -81,6 +81,9 @@ effect_kept laws l w m s i r row v n a h p small lands =
 pub on_machine : (k : Machine) (read : Reader) (a : ℕ) (bs : List ℕ) → k ≡ machine.X86_64 → effect_of k read a bs ≡ effect_x86_64 read a bs
 on_machine k read a bs e = rw e refl
 
+demand_on : (k : Machine) (v a : ℕ) (bs : List ℕ) → k ≡ machine.X86_64 → demand_of k v a bs ≡ demand_x86_64 v a bs
+demand_on k v a bs e = rw e refl
+
 old_is : (l : Layout) (s : Item) (i : ℕ) (r : InputRelocation) (row : Row) (v : ℕ) → IsPlacedRow l s i r row v → old_bytes s (template_start row r) (instruction_of row) ≡ old_of s row r
 old_is l s i r row v p = ap (λ (n : ℕ). slice_range s.bytes (template_start row r) (template_start row r + n)) (size_is l s i r row v p)
 
@@ -89,7 +92,7 @@ whole_is l w m s i r row v h p = length-template row p.made.written.info v (old_
 
 -- with an operand that lands it does what is demanded, where that is an effect of the input's bytes
 pub does_by : LawsBelow → (l : Layout) (w : World) (m : Memory) (s : Item) (i : ℕ) (r : InputRelocation) (row : Row) (v n : ℕ) → IsLoadedItem l w m s → IsPlacedRow l s i r row v → Demands (instruction_of row).sort l w m s r n → n < 2 ^ 64 → Lands row (reads_alone w m) (place_at w s (template_start row r) + field_in row) n v
-    → ((a : ℕ) (old : List ℕ) → demanded row n a old ≡ demand_x86_64 n a old) → ((a : ℕ) (old : List ℕ) (e : Effect) → effect_of l.machine (as_value n) a old ≡ Some e → IsDemanded (instruction_of row).sort l s n a old e) → DoesDemanded (reads_alone w m) l w m s r (template_start row r) (instruction_of row)
+    → ((a : ℕ) (old : List ℕ) → demanded row n a old ≡ demand_x86_64 n a old) → ((a : ℕ) (old : List ℕ) (e : Effect) → demand_of l.machine n a old ≡ Some e → IsDemanded (instruction_of row).sort l s n a old e) → DoesDemanded (reads_alone w m) l w m s r (template_start row r) (instruction_of row)
 does_by laws l w m s i r row v n h p demands small lands same told =
     let a = place_at w s (template_start row r) in
     let old = old_is l s i r row v p in
@@ -98,7 +101,7 @@ does_by laws l w m s i r row v n h p demands small lands same told =
     let stands_here = subst (λ (bs : List ℕ). stands (instruction_of row).template.cells bs ≡ true) old (cells_stand l s i r row v p) in
     let t = p.fits.template in
     let e = has_effect n a t.0 (instruction_of row).template (old_of s row r) t.1 t.2 long stands_here in
-    let asked : effect_of l.machine (as_value n) a (old_bytes s (template_start row r) (instruction_of row)) ≡ Some e.0 = on_machine l.machine (as_value n) a _ h.x86 ∙ (ap (λ (bs : List ℕ). demand_x86_64 n a bs) old ∙ e.1) in
+    let asked : demand_of l.machine n a (old_bytes s (template_start row r) (instruction_of row)) ≡ Some e.0 = demand_on l.machine n a _ h.x86 ∙ (ap (λ (bs : List ℕ). demand_x86_64 n a bs) old ∙ e.1) in
     record {
       value = n;
       demands = demands;

@@ -26,7 +26,7 @@ use Rattle.wild_loader.specs.Instruction.{Template}
 use Rattle.wild_loader.specs.CodeX86_64.{Prefix, bare, rex, rex2, with_slot, branch}
 use Rattle.wild_loader.specs.ThreadCodeX86_64.{general_call, general_slot_call, far_pair_call, local_call, local_slot_call}
 use Rattle.wild_loader.specs.InstructionX86_64.{descriptor_call, templates_x86_64}
-use Rattle.wild_meaning.specs.Sequence.{Instruction, TargetInSlot, AddressInSlot, OffsetInSlot, SymbolPair, OwnPair, Described, DescribedCall, of_field, of_sequence, of_output, of_symbol, by_call, by_slot, by_distance, instructions_of}
+use Rattle.wild_meaning.specs.Sequence.{Instruction, any_words, TargetInSlot, AddressInSlot, OffsetInSlot, SymbolPair, OwnPair, Described, DescribedCall, of_field, of_sequence, of_output, of_symbol, by_call, by_slot, by_distance, instructions_of}
 
 -- ---- cells
 
@@ -105,7 +105,7 @@ form_of operation.Cmp = with_slot 0x3b Word Compare
 form_of operation.Add = with_slot 0x03 Word Add
 
 abbrev pub the_call : Instruction
-the_call = record { template = descriptor_call; field = 0; width = 0; sort = DescribedCall; numbers = abi.r_x86_64_tlsdesc_call ∷ []; partners = []; conditions = [] }
+the_call = record { template = descriptor_call; words = any_words; field = 0; width = 0; sort = DescribedCall; numbers = abi.r_x86_64_tlsdesc_call ∷ []; partners = []; conditions = [] }
 
 -- the instruction of a row; one that keeps the bytes around its field has none
 abbrev pub instruction_of : Row → Instruction

@@ -28,7 +28,7 @@ use Rattle.wild_layout.proofs.DecisionLemmas.{IsRewritten, decide_rewritten}
 use Rattle.wild_geometry.specs.Loaded.{HasDecision}
 use Rattle.wild_meaning.specs.Section.{IsSet}
 use Rattle.wild_loader.specs.Instruction.{stands}
-use Rattle.wild_meaning.specs.Sequence.{Sort, Target, DescribedCall, size_of}
+use Rattle.wild_meaning.specs.Sequence.{Sort, Target, DescribedCall, Address, FieldBits, size_of}
 use Rattle.wild_meaning.specs.Template.{AddsNothing}
 use Rattle.wild_meaning.proofs.BitLemmas.{bit_code}
 use Rattle.wild_references.specs.Laws.{KindGives}
@@ -101,6 +101,8 @@ ended a h = subst (λ (x : ℤ). cast_unsigned w64 x ≡ 2 ^ 64 - 4) (sym (ended
 counts_by : (o : Sort) (r : InputRelocation) → (cast_unsigned w64 r.addend + 4) % 2 ^ 64 ≡ 0 → AddsNothing machine.X86_64 o r
 counts_by Target r h = tt
 counts_by DescribedCall r h = tt
+counts_by Address r h = tt
+counts_by FieldBits r h = tt
 counts_by other r h = h
 
 pub counts_ended : (o : Sort) (r : InputRelocation) → minus_four r.addend ≡ true → AddsNothing machine.X86_64 o r

@@ -145,6 +145,7 @@ wide_stands law l s i r v from x86 decided t = record {
   field = at_field l s i r v from t.plain;
   inside = room l s i r v from t.plain;
   stands = stands_with l s i r v from t.plain t.prefix;
+  words = refl;
   counts = subst (λ (m : Machine). AddsNothing m AddressInSlot r) (sym x86) (counts l s i r PlainGotMovToLea v t.plain.row);
   alone = wide_alone law l s i r v from x86 decided t;
 }

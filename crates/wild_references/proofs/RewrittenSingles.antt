@@ -1,9 +1,9 @@
 -- The instruction of a row is the one that the reference belongs to.
 use Rattle.std.proofs.Common.{◌≡◌, ℕ, zero, suc, ◌<◌, ◌≤◌, ◌⊎◌, inl, inr, Bool, true, false, List, [], ◌∷◌, length, get_or, refl, sym, arith, subst}
-use Rattle.std.specs.Prelude.{◌||◌, ◌==◌, not, nat_le, Contains}
+use Rattle.std.specs.Prelude.{◌||◌, ◌==◌, not, nat_le, slice_range, Contains}
 use Rattle.std.specs.List.{list_all}
 use Rattle.std.proofs.lemmas.Bool.{cases_Bool, eq-eqb, leb-true, and_parts}
-use Rattle.wild_words.proofs.Basics.{implied, or_other}
+use Rattle.wild_words.proofs.Basics.{listed_passes, implied, or_other}
 use Rattle.wild_types.specs.declared.kind.Machine.{Machine}
 use Rattle.wild_types.specs.declared.kind.Machine.TheVariants as machine
 use Rattle.wild_types.specs.declared.input.InputRelocation.{InputRelocation}
@@ -23,6 +23,7 @@ use Rattle.wild_relax.specs.Linked.{keeps_bytes, IsChanging}
 use Rattle.wild_layout.specs.Sites.{template_start}
 use Rattle.wild_geometry.specs.Loaded.{IsDecided}
 use Rattle.wild_types.specs.Item.{Item}
+use Rattle.wild_aarch64.specs.Effect.{words_of}
 use Rattle.wild_meaning.specs.Sequence.{Instruction, size_of, instructions_of}
 use Rattle.wild_meaning.specs.Template.{IsInstruction, AddsNothing}
 use Rattle.wild_meaning.proofs.PairLemmas.{are_several}
@@ -79,6 +80,7 @@ stands_there law l s i r row v x86 decided p =
       field = field_is l s i r row v p;
       inside = omega (arith, size, inside);
       stands = cells_stand l s i r row v p;
+      words = listed_passes (λ (o : Instruction). o.words (words_of (slice_range s.bytes (template_start row r) (template_start row r + size_of (instruction_of row))))) (instructions_of machine.X86_64) (instruction_of row) refl p.fits.known;
       counts = subst (λ (m : Machine). AddsNothing m (instruction_of row).sort r) (sym x86) (counts l s i r row v p);
       alone = λ k own. in_no_field law l s i r row v k x86 decided p own;
     }

@@ -15,15 +15,15 @@ use Rattle.wild_loader.specs.Changes.{distance_of}
 use Rattle.wild_loader.proofs.Mapped.{byte_below}
 use Rattle.wild_loader.specs.declared.instruction.Operand.{Operand}
 use Rattle.wild_loader.specs.declared.instruction.Operand.TheVariants.{Number}
-use Rattle.wild_loader.specs.Instruction.{Effect, sum_64, as_value}
+use Rattle.wild_loader.specs.Instruction.{Effect, sum_64}
 use Rattle.wild_loader.specs.InstructionX86_64.{demand_x86_64}
-use Rattle.wild_meaning.specs.Sequence.{Sort, Target, TargetInSlot, AddressInSlot, OffsetInSlot, SymbolPair, OwnPair, Described, DescribedCall, Instruction, size_of, instructions_of}
+use Rattle.wild_meaning.specs.Sequence.{Sort, Target, TargetInSlot, AddressInSlot, OffsetInSlot, SymbolPair, OwnPair, Described, DescribedCall, Address, FieldBits, Instruction, size_of, instructions_of}
 use Rattle.wild_types.specs.Item.{Item}
 use Rattle.wild_meaning.specs.Item.{place_at}
 use Rattle.wild_meaning.specs.Field.{form_width}
 use Rattle.wild_meaning.specs.Slot.{IsPair, IsSlot}
 use Rattle.wild_meaning.specs.Formula.{Gives, IsTarget, IsGoal, IsOffset, HasOffsetMode}
-use Rattle.wild_meaning.specs.Template.{AddsNothing, counts_from, or_none, sum_of, reads, pair_in, effect_of, Demands, IsDemanded, old_bytes, DoesDemanded}
+use Rattle.wild_meaning.specs.Template.{AddsNothing, counts_from, or_none, sum_of, reads, pair_in, effect_of, demand_of, Demands, IsDemanded, old_bytes, DoesDemanded}
 use Rattle.wild_meaning.proofs.SymbolLemmas.{target_reached, referent_is, referent_stands}
 use Rattle.wild_meaning.proofs.PairLemmas.{counts_four}
 use Rattle.wild_references.proofs.Fills.{instructions_do}
@@ -204,18 +204,22 @@ right_by DescribedCall l w m item r start o e h f width counts =
       reads = reads_by w m _ _ _ (t.operand (place_at w item start) (new_bytes w m item start o) ∙ ap (λ (q : Sort). operand_by q (named_by o (place_at w item start) (new_bytes w m item start o))) e) refl;
       call = λ same. gives;
     }
+right_by Address l w m item r start o e h f width counts = absurd f
+right_by FieldBits l w m item r start o e h f width counts = absurd f
 
 -- ---- the effect
 
-as_demanded : (s : Sort) (l : Layout) (item : Item) (v a : ℕ) (old : List ℕ) (e : Effect) → l.machine ≡ machine.X86_64 → (s ≡ DescribedCall → HasOffsetMode l item → ⊥) → demand_x86_64 v a old ≡ Some e → IsDemanded s l item v a old e
-as_demanded Target l item v a old e x call h = subst (λ (k : Machine). effect_of k (as_value v) a old ≡ Some e) (sym x) h
-as_demanded TargetInSlot l item v a old e x call h = subst (λ (k : Machine). effect_of k (as_value v) a old ≡ Some e) (sym x) h
-as_demanded AddressInSlot l item v a old e x call h = subst (λ (k : Machine). effect_of k (as_value v) a old ≡ Some e) (sym x) h
-as_demanded OffsetInSlot l item v a old e x call h = subst (λ (k : Machine). effect_of k (as_value v) a old ≡ Some e) (sym x) h
-as_demanded SymbolPair l item v a old e x call h = subst (λ (k : Machine). effect_of k (as_value v) a old ≡ Some e) (sym x) h
-as_demanded OwnPair l item v a old e x call h = subst (λ (k : Machine). effect_of k (as_value v) a old ≡ Some e) (sym x) h
-as_demanded Described l item v a old e x call h = subst (λ (k : Machine). effect_of k (as_value v) a old ≡ Some e) (sym x) h
-as_demanded DescribedCall l item v a old e x call h = inr (call refl, subst (λ (k : Machine). effect_of k (as_value v) a old ≡ Some e) (sym x) h)
+as_demanded : (s : Sort) (l : Layout) (item : Item) (v a : ℕ) (old : List ℕ) (e : Effect) → l.machine ≡ machine.X86_64 → (s ≡ DescribedCall → HasOffsetMode l item → ⊥) → (s ≡ FieldBits → ⊥) → demand_x86_64 v a old ≡ Some e → IsDemanded s l item v a old e
+as_demanded Target l item v a old e x call bits h = subst (λ (k : Machine). demand_of k v a old ≡ Some e) (sym x) h
+as_demanded TargetInSlot l item v a old e x call bits h = subst (λ (k : Machine). demand_of k v a old ≡ Some e) (sym x) h
+as_demanded AddressInSlot l item v a old e x call bits h = subst (λ (k : Machine). demand_of k v a old ≡ Some e) (sym x) h
+as_demanded OffsetInSlot l item v a old e x call bits h = subst (λ (k : Machine). demand_of k v a old ≡ Some e) (sym x) h
+as_demanded SymbolPair l item v a old e x call bits h = subst (λ (k : Machine). demand_of k v a old ≡ Some e) (sym x) h
+as_demanded OwnPair l item v a old e x call bits h = subst (λ (k : Machine). demand_of k v a old ≡ Some e) (sym x) h
+as_demanded Described l item v a old e x call bits h = subst (λ (k : Machine). demand_of k v a old ≡ Some e) (sym x) h
+as_demanded DescribedCall l item v a old e x call bits h = inr (call refl, subst (λ (k : Machine). demand_of k v a old ≡ Some e) (sym x) h)
+as_demanded Address l item v a old e x call bits h = subst (λ (k : Machine). demand_of k v a old ≡ Some e) (sym x) h
+as_demanded FieldBits l item v a old e x call bits h = absurd (bits refl)
 
 -- an instruction that stands in the input, with its field as its formula and its own bytes, does what it demands
 pub does_demanded : (l : Layout) (w : World) (m : Memory) (item : Item) (r : InputRelocation) (start : ℕ) (o : Instruction) → IsThere l w m item r start o → DoesDemanded (reads w m) l w m item r start o
@@ -231,7 +235,7 @@ does_demanded l w m item r start o h =
       demands = right.demands;
       code = record {
         effect = does.effect;
-        demanded = as_demanded o.sort l item right.value a (old_bytes item start o) does.effect h.x86 right.call does.demanded;
+        demanded = as_demanded o.sort l item right.value a (old_bytes item start o) does.effect h.x86 right.call (λ bits. subst (λ (q : Sort). FormulaIs q h.field.formula) bits f) does.demanded;
         bytes = new_bytes w m item start o;
         whole = length_read m (size_of o) a;
         held = read_holds m a (size_of o) (all_there l w m item r start o h);

@@ -18,6 +18,7 @@ use Rattle.wild_loader.specs.declared.instruction.Deed.TheVariants.{Call, Jump}
 use Rattle.wild_loader.specs.Instruction.{stands}
 use Rattle.wild_meaning.specs.Field.{formula_of, form_width, InNoField}
 use Rattle.wild_meaning.specs.Sequence.{Instruction, size_of, instructions_of, IsOwnByte}
+use Rattle.wild_aarch64.specs.Effect.{words_of}
 use Rattle.wild_meaning.specs.Template.{AddsNothing, IsInstruction, IsSequence}
 use Rattle.wild_meaning.proofs.PairLemmas.{as_its_call}
 use Rattle.wild_laws.proofs.Symbols.{not_both}
@@ -65,6 +66,7 @@ at_start l address bytes r o x known number field inside standing counts own = r
   field = field;
   inside = inside;
   stands = standing;
+  words = listed_passes (λ (p : Instruction). p.words (words_of (slice_range bytes 0 (0 + size_of o)))) (instructions_of machine.X86_64) o refl known;
   counts = subst (λ (m : Machine). AddsNothing m o.sort r) (sym x) counts;
   alone = λ k h. subst (λ (j : ℕ). InNoField l (worked_item address bytes (r ∷ [])) j) (let e : k ≡ 0 + k = omega arith in e) (before l address bytes r k (own k h));
 }
@@ -154,6 +156,7 @@ general_stands l address x = record {
   field = refl;
   inside = omega arith;
   stands = refl;
+  words = refl;
   counts = subst (λ (m : Machine). AddsNothing m general.sort pair_relocation) (sym x) refl;
   alone = λ k h. subst (λ (j : ℕ). InNoField l (general_item address) j) (let e : k ≡ 0 + k = omega arith in e) (beside_both l address k x h.beside h.apart.0);
 }

@@ -1,0 +1,168 @@
+-- Words of AArch64 code that do what is demanded, and words that do not.
+use Rattle.std.proofs.Common.{◌≡◌, ℕ, ◌+◌, ◌%◌, ◌^◌, ◌<◌, inl, inr, List, [], ◌∷◌, length, refl, sym, ap, ◌∙◌, subst, arith}
+use Rattle.std.specs.Prelude.{◌≢◌, Option, Some, None, option_map}
+use Rattle.std.specs.List.{flat_map}
+use Rattle.wild_words.specs.Words.{word, number}
+use Rattle.wild_types.specs.declared.kind.Machine.{Machine}
+use Rattle.wild_types.specs.declared.kind.Machine.TheVariants as machine
+use Rattle.wild_types.specs.declared.layout.Layout.{Layout}
+use Rattle.wild_aarch64.specs.Immediate.{insert_bits}
+use Rattle.wild_aarch64.specs.Code.{read, read_address, read_access, read_vector_access, read_literal, read_transfer, read_condition}
+use Rattle.wild_loader.specs.declared.memory.Machine as processor
+use Rattle.wild_loader.specs.declared.memory.Machine.TheVariants as processors
+use Rattle.wild_loader.specs.declared.memory.Memory.{Memory}
+use Rattle.wild_loader.specs.declared.world.World.{World}
+use Rattle.wild_loader.specs.declared.effect.Effect as running
+use Rattle.wild_loader.specs.declared.instruction.Deed.TheVariants.{Set}
+use Rattle.wild_loader.specs.Memory.{number_in, Holds}
+use Rattle.wild_loader.specs.Instruction.{Reader, Effect}
+use Rattle.wild_loader.specs.InstructionAArch64.{effect_aarch64, demand_aarch64}
+use Rattle.wild_loader.specs.Effect.{words_at, step, step_of, step_aarch64}
+use Rattle.wild_loader.specs.Reach.{jumped, Reaches, JumpsTo, ReachesWithin}
+use Rattle.wild_loader.specs.StepLawsAArch64.{jumps}
+use Rattle.wild_loader.proofs.StepLemmasAArch64.{thunks-read, jumps-reach}
+use Rattle.wild_meaning.specs.Item.{Item, place_at}
+use Rattle.wild_meaning.specs.Sequence.{Instruction, size_of, descriptor_call_words, offset_pair_words, address_pair_words}
+use Rattle.wild_meaning.specs.Template.{reads, reads_alone, effect_of, demand_of, IsDemanded, old_bytes, DoesWith}
+use Rattle.wild_meaning.specs.RefusalsAArch64.{Does, DoesNot, call_item, slot_item, pair_item, RightWordsDo, WrongWordsAreRefused, ThunksAreJudged}
+use Rattle.wild_meaning.proofs.OneReference.{same_bytes, effect_with, value_in}
+
+-- what the loaded bytes do is what is demanded
+both : (read : Reader) (l : Layout) (w : World) (m : Memory) (item : Item) (o : Instruction) (v a : ℕ) (bytes : List ℕ) → l.machine ≡ machine.AArch64 → place_at w item 0 ≡ a → Holds m a bytes → length bytes ≡ size_of o
+    → ((e : Effect) → IsDemanded o.sort l item v (place_at w item 0) (old_bytes item 0 o) e → demand_of l.machine v (place_at w item 0) (old_bytes item 0 o) ≡ Some e)
+    → DoesWith read l w m item 0 o v → effect_aarch64 read a bytes ≡ demand_aarch64 v a (old_bytes item 0 o)
+both read l w m item o v a bytes x at held long plain h =
+    let same : h.bytes ≡ bytes = same_bytes m a h.bytes bytes (h.whole ∙ sym long) (subst (λ (p : ℕ). Holds m p h.bytes) at h.held) held in
+    let here : effect_of l.machine read (place_at w item 0) bytes ≡ Some h.effect = subst (λ (bs : List ℕ). effect_of l.machine read (place_at w item 0) bs ≡ Some h.effect) same h.does in
+    let does : effect_of machine.AArch64 read a bytes ≡ Some h.effect = subst (λ (k : Machine). effect_of k read a bytes ≡ Some h.effect) x (subst (λ (p : ℕ). effect_of l.machine read p bytes ≡ Some h.effect) at here) in
+    let there = plain h.effect h.demanded in
+    let asked : demand_of machine.AArch64 v a (old_bytes item 0 o) ≡ Some h.effect =
+        subst (λ (k : Machine). demand_of k v a (old_bytes item 0 o) ≡ Some h.effect) x (subst (λ (p : ℕ). demand_of l.machine v p (old_bytes item 0 o) ≡ Some h.effect) at there) in
+    does ∙ sym asked
+
+-- where both are one effect, it does
+made : (read : Reader) (l : Layout) (w : World) (m : Memory) (item : Item) (o : Instruction) (v a : ℕ) (bytes : List ℕ) (e : Effect) → l.machine ≡ machine.AArch64 → place_at w item 0 ≡ a → Holds m a bytes → length bytes ≡ size_of o
+    → (demand_of l.machine v (place_at w item 0) (old_bytes item 0 o) ≡ Some e → IsDemanded o.sort l item v (place_at w item 0) (old_bytes item 0 o) e)
+    → demand_aarch64 v a (old_bytes item 0 o) ≡ Some e → effect_aarch64 read a bytes ≡ Some e → DoesWith read l w m item 0 o v
+made read l w m item o v a bytes e x at held long plain asked does = record {
+  effect = e;
+  demanded = plain (subst (λ (k : Machine). demand_of k v (place_at w item 0) (old_bytes item 0 o) ≡ Some e) (sym x) (subst (λ (p : ℕ). demand_of machine.AArch64 v p (old_bytes item 0 o) ≡ Some e) (sym at) asked));
+  bytes = bytes;
+  whole = long;
+  held = subst (λ (p : ℕ). Holds m p bytes) (sym at) held;
+  does = subst (λ (k : Machine). effect_of k read (place_at w item 0) bytes ≡ Some e) (sym x) (subst (λ (p : ℕ). effect_of machine.AArch64 read p bytes ≡ Some e) (sym at) does);
+}
+
+-- ---- what is demanded
+
+call_asked : (v : ℕ) → demand_aarch64 v 0x10010 (old_bytes call_item 0 descriptor_call_words) ≡ Some (effect_with (Set 0) 64 (v % 2 ^ 64))
+unfolding word number read read_address read_access read_vector_access read_literal read_transfer read_condition
+call_asked v = refl
+
+slot_asked : (v : ℕ) → demand_aarch64 v 0x10000 (old_bytes slot_item 0 offset_pair_words) ≡ Some (effect_with (Set 0) 64 (v % 2 ^ 64))
+unfolding word number read read_address read_access read_vector_access read_literal read_transfer read_condition
+slot_asked v = refl
+
+pair_asked : (v : ℕ) → demand_aarch64 v 0x10000 (old_bytes pair_item 0 address_pair_words) ≡ Some (effect_with (Set 0) 64 (v % 2 ^ 64))
+unfolding word number read read_address read_access read_vector_access read_literal read_transfer read_condition
+pair_asked v = refl
+
+-- ---- right words
+
+call_does : Does call_item descriptor_call_words 0x18 (0xd503201f ∷ 0xd503201f ∷ 0xd2a00000 ∷ 0xf2800300 ∷ [])
+unfolding word number read read_address read_access read_vector_access read_literal read_transfer read_condition
+call_does = λ l w m x base held.
+    let at : place_at w call_item 0 ≡ 0x10010 = omega (arith, base) in
+    made (reads_alone w m) l w m call_item descriptor_call_words 0x18 0x10010 (flat_map (word 4) (0xd503201f ∷ 0xd503201f ∷ 0xd2a00000 ∷ 0xf2800300 ∷ [])) (effect_with (Set 0) 64 0x18) x at held refl (λ h. h) (call_asked 0x18) refl
+
+pair_does : Does pair_item address_pair_words 0x10104 (0xd503201f ∷ 0x10000800 ∷ [])
+unfolding word number read read_address read_access read_vector_access read_literal read_transfer read_condition
+pair_does = λ l w m x base held.
+    let at : place_at w pair_item 0 ≡ 0x10000 = omega (arith, base) in
+    made (reads_alone w m) l w m pair_item address_pair_words 0x10104 0x10000 (flat_map (word 4) (0xd503201f ∷ 0x10000800 ∷ [])) (effect_with (Set 0) 64 0x10104) x at held refl (λ h. h) (pair_asked 0x10104) refl
+
+pub right_words : RightWordsDo
+right_words = record { call = call_does; pair = pair_does }
+
+-- ---- wrong words
+
+half_does_not : DoesNot call_item descriptor_call_words 0x18 (0xd503201f ∷ 0xd503201f ∷ 0xd2800300 ∷ 0xd63f0020 ∷ [])
+unfolding word number read read_address read_access read_vector_access read_literal read_transfer read_condition
+half_does_not = λ l w m x base held h.
+    let at : place_at w call_item 0 ≡ 0x10010 = omega (arith, base) in
+    let one = both (reads_alone w m) l w m call_item descriptor_call_words 0x18 0x10010 (flat_map (word 4) (0xd503201f ∷ 0xd503201f ∷ 0xd2800300 ∷ 0xd63f0020 ∷ [])) x at held refl (λ e k. k) h in
+    let none : None ≡ Some (effect_with (Set 0) 64 0x18) = one ∙ call_asked 0x18 in
+    cc
+
+low_does_not : DoesNot call_item descriptor_call_words 0x18 (0xd503201f ∷ 0xd503201f ∷ 0xd2a00300 ∷ 0xf2800000 ∷ [])
+unfolding word number read read_address read_access read_vector_access read_literal read_transfer read_condition
+low_does_not = λ l w m x base held h.
+    let at : place_at w call_item 0 ≡ 0x10010 = omega (arith, base) in
+    let one = both (reads_alone w m) l w m call_item descriptor_call_words 0x18 0x10010 (flat_map (word 4) (0xd503201f ∷ 0xd503201f ∷ 0xd2a00300 ∷ 0xf2800000 ∷ [])) x at held refl (λ e k. k) h in
+    let other : Some (effect_with (Set 0) 64 0x180000) ≡ Some (effect_with (Set 0) 64 0x18) = one ∙ call_asked 0x18 in
+    let value : 0x180000 ≡ 0x18 = value_in (Set 0) 64 0x180000 (effect_with (Set 0) 64 0x18) other in
+    omega (arith, value)
+
+early_does_not : DoesNot pair_item address_pair_words 0x10104 (0x10000800 ∷ 0xd503201f ∷ [])
+unfolding word number read read_address read_access read_vector_access read_literal read_transfer read_condition
+early_does_not = λ l w m x base held h.
+    let at : place_at w pair_item 0 ≡ 0x10000 = omega (arith, base) in
+    let one = both (reads_alone w m) l w m pair_item address_pair_words 0x10104 0x10000 (flat_map (word 4) (0x10000800 ∷ 0xd503201f ∷ [])) x at held refl (λ e k. k) h in
+    let other : Some (effect_with (Set 0) 64 0x10100) ≡ Some (effect_with (Set 0) 64 0x10104) = one ∙ pair_asked 0x10104 in
+    let value : 0x10100 ≡ 0x10104 = value_in (Set 0) 64 0x10100 (effect_with (Set 0) 64 0x10104) other in
+    omega (arith, value)
+
+other_slot : (l : Layout) (w : World) (m : Memory) (n : ℕ) → l.machine ≡ machine.AArch64 → w.base ≡ 0 → Holds m 0x10000 (flat_map (word 4) (0x90000080 ∷ 0xf9400c00 ∷ [])) → number_in m 0x20018 8 ≡ Some n → n < 2 ^ 64
+    → n ≢ 0x18 → DoesWith (reads w m) l w m slot_item 0 offset_pair_words 0x18 → ⊥
+unfolding word number read read_address read_access read_vector_access read_literal read_transfer read_condition
+other_slot l w m n x base held there small wrong h =
+    let at : place_at w slot_item 0 ≡ 0x10000 = omega (arith, base) in
+    let one = both (reads w m) l w m slot_item offset_pair_words 0x18 0x10000 (flat_map (word 4) (0x90000080 ∷ 0xf9400c00 ∷ [])) x at held refl (λ e k. k) h in
+    let read_there : option_map (λ (v : ℕ). effect_with (Set 0) 64 (v % 2 ^ 64)) (number_in m 0x20018 8) ≡ Some (effect_with (Set 0) 64 0x18) = one ∙ slot_asked 0x18 in
+    let other : Some (effect_with (Set 0) 64 (n % 2 ^ 64)) ≡ Some (effect_with (Set 0) 64 0x18) = subst (λ (o : Option ℕ). option_map (λ (v : ℕ). effect_with (Set 0) 64 (v % 2 ^ 64)) o ≡ Some (effect_with (Set 0) 64 0x18)) there read_there in
+    let value : n % 2 ^ 64 ≡ 0x18 = value_in (Set 0) 64 (n % 2 ^ 64) (effect_with (Set 0) 64 0x18) other in
+    wrong (omega (arith, value, small))
+
+pub wrong_words : WrongWordsAreRefused
+wrong_words = record { half = half_does_not; low = low_does_not; early = early_does_not; slot = other_slot }
+
+-- ---- thunks
+
+right_thunk : (m : Memory) → m.machine ≡ processors.AArch64 → Holds m 0x1000 (flat_map (word 4) (0x90000030 ∷ 0x9119e210 ∷ 0xd61f0200 ∷ [])) → step m 0x1000 ≡ Some (jumps 12 0x5678)
+unfolding insert_bits
+right_thunk m x held = thunks-read m 0 0x1000 0x5678 x (record { above = omega arith; below = omega arith }) (record { pages = refl; code = omega arith; top = omega arith }) held
+
+far_thunk : (m : Memory) → m.machine ≡ processors.AArch64 → Holds m 0x1000 (flat_map (word 4) (0xb0000030 ∷ 0x9119e210 ∷ 0xd61f0200 ∷ [])) → step m 0x1000 ≡ Some (jumps 12 0x6678)
+unfolding insert_bits
+far_thunk m x held = thunks-read m 0 0x1000 0x6678 x (record { above = omega arith; below = omega arith }) (record { pages = refl; code = omega arith; top = omega arith }) held
+
+-- where no word is loaded, no code is known
+no_code : (m : Memory) (a : ℕ) → m.machine ≡ processors.AArch64 → number_in m a 4 ≡ None → step m a ≡ None
+unfolding step_aarch64 words_at
+no_code m a x none = ap (λ (k : processor.Machine). step_of k m a) x ∙ rw none refl
+
+goes_there : (m : Memory) (a v b : ℕ) → step m a ≡ Some (jumps 12 v) → JumpsTo m a b → b ≡ v
+goes_there m a v b known j =
+    let one : Some (jumps 12 v) ≡ Some j.effect = sym known ∙ j.known in
+    let same : jumps 12 v ≡ j.effect = cc in
+    let target : Some v ≡ Some b = subst (λ (e : running.Effect). jumped e ≡ Some b) (sym same) j.jump in
+    cc
+
+goes_nowhere : (m : Memory) (a b : ℕ) → step m a ≡ None → JumpsTo m a b → ⊥
+goes_nowhere m a b none j = let both_ways : None ≡ Some j.effect = sym none ∙ j.known in cc
+
+no_second : (m : Memory) (b v : ℕ) → step m b ≡ None → (b ≡ v → ⊥) → ReachesWithin 1 m b v → ⊥
+no_second m b v none apart (inl e) = apart e
+no_second m b v none apart (inr h) = goes_nowhere m b h.0 none h.1
+
+wrong_thunk : (m : Memory) → step m 0x1000 ≡ Some (jumps 12 0x6678) → step m 0x6678 ≡ None → Reaches m 0x1000 0x5678 → ⊥
+wrong_thunk m first none (inl e) = omega (arith, e)
+wrong_thunk m first none (inr h) =
+    let b = goes_there m 0x1000 0x6678 h.0 first h.1 in
+    no_second m 0x6678 0x5678 none (λ e. omega (arith, e)) (subst (λ (k : ℕ). ReachesWithin 1 m k 0x5678) b h.2)
+
+pub thunks_judged : ThunksAreJudged
+thunks_judged = record {
+  right = λ m x held. jumps-reach m 0x1000 0x5678 (jumps 12 0x5678) (right_thunk m x held) refl;
+  wrong = λ m x held none. wrong_thunk m (far_thunk m x held) (no_code m 0x6678 x none);
+}

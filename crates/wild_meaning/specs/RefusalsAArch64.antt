@@ -1,0 +1,58 @@
+-- Code of AArch64 that does what is demanded, and code that is wrong in one word.
+--   Does, DoesNot ..       loaded bytes do what an instruction of the input demands, or do not
+--   RightWordsDo           right rewrites
+--   WrongWordsAreRefused   wrong ones
+use Rattle.std.specs.Prelude.{◌≡◌, ◌≢◌, ℕ, ◌^◌, ◌<◌, List, [], ◌∷◌, Some, None}
+use Rattle.std.specs.List.{flat_map}
+use Rattle.wild_words.specs.Words.{word}
+use Rattle.wild_records.specs.Abi.Section.{shf_execinstr}
+use Rattle.wild_types.specs.declared.kind.Machine.TheVariants as machine
+use Rattle.wild_types.specs.declared.layout.Layout.{Layout}
+use Rattle.wild_loader.specs.declared.memory.Machine.TheVariants as processors
+use Rattle.wild_loader.specs.declared.memory.Memory.{Memory}
+use Rattle.wild_loader.specs.declared.world.World.{World}
+use Rattle.wild_loader.specs.Memory.{number_in, Holds}
+use Rattle.wild_loader.specs.Reach.{Reaches}
+use Rattle.wild_meaning.specs.Item.{Item}
+use Rattle.wild_meaning.specs.Sequence.{Instruction, descriptor_call_words, offset_pair_words, address_pair_words}
+use Rattle.wild_meaning.specs.Template.{reads, reads_alone, DoesWith}
+
+-- code of these words, which no relocation fills here
+abbrev pub code_of : ℕ → List ℕ → Item
+code_of address ws = record { address = address; flags = shf_execinstr; bytes = flat_map (word 4) ws; relocations = [] }
+
+-- the words in memory, in place of the item's, do what its instruction demands where its operand reads as v
+abbrev pub Does : Item → Instruction → ℕ → List ℕ → Type 0
+Does item o v ws = (l : Layout) (w : World) (m : Memory) → l.machine ≡ machine.AArch64 → w.base ≡ 0 → Holds m item.address (flat_map (word 4) ws) → DoesWith (reads_alone w m) l w m item 0 o v
+
+abbrev pub DoesNot : Item → Instruction → ℕ → List ℕ → Type 0
+DoesNot item o v ws = (l : Layout) (w : World) (m : Memory) → l.machine ≡ machine.AArch64 → w.base ≡ 0 → Holds m item.address (flat_map (word 4) ws) → DoesWith (reads_alone w m) l w m item 0 o v → ⊥
+
+-- `adrp x0; ldr x1, [x0]; add x0, x0; blr x1`, `adrp x0; ldr x0, [x0]` and `adrp x0; add x0, x0`
+abbrev pub call_item : Item
+call_item = code_of 0x10010 (0x90000000 ∷ 0xf9400001 ∷ 0x91000000 ∷ 0xd63f0020 ∷ [])
+
+abbrev pub slot_item : Item
+slot_item = code_of 0x10000 (0x90000000 ∷ 0xf9400000 ∷ [])
+
+abbrev pub pair_item : Item
+pair_item = code_of 0x10000 (0x90000000 ∷ 0x91000000 ∷ [])
+
+-- `nop; nop; movz x0, lsl 16; movk x0, #0x18`, and `nop; adr x0` of 0x10104
+pub record RightWordsDo : Type 0 where
+  pub call : Does call_item descriptor_call_words 0x18 (0xd503201f ∷ 0xd503201f ∷ 0xd2a00000 ∷ 0xf2800300 ∷ [])
+  pub pair : Does pair_item address_pair_words 0x10104 (0xd503201f ∷ 0x10000800 ∷ [])
+
+-- a descriptor's call left behind what was rewritten; the low half where `movz` has the high one; `adr` before `nop`, from where its
+-- distance is not counted; and a slot of another offset, 8 bytes behind the symbol's
+pub record WrongWordsAreRefused : Type 0 where
+  pub half : DoesNot call_item descriptor_call_words 0x18 (0xd503201f ∷ 0xd503201f ∷ 0xd2800300 ∷ 0xd63f0020 ∷ [])
+  pub low : DoesNot call_item descriptor_call_words 0x18 (0xd503201f ∷ 0xd503201f ∷ 0xd2a00300 ∷ 0xf2800000 ∷ [])
+  pub early : DoesNot pair_item address_pair_words 0x10104 (0x10000800 ∷ 0xd503201f ∷ [])
+  pub slot : (l : Layout) (w : World) (m : Memory) (n : ℕ) → l.machine ≡ machine.AArch64 → w.base ≡ 0 → Holds m 0x10000 (flat_map (word 4) (0x90000080 ∷ 0xf9400c00 ∷ [])) → number_in m 0x20018 8 ≡ Some n → n < 2 ^ 64
+    → n ≢ 0x18 → DoesWith (reads w m) l w m slot_item 0 offset_pair_words 0x18 → ⊥
+
+-- a thunk at 0x1000 reaches 0x5678; one whose page is the next does not, where no code stands at what it goes on to
+pub record ThunksAreJudged : Type 0 where
+  pub right : (m : Memory) → m.machine ≡ processors.AArch64 → Holds m 0x1000 (flat_map (word 4) (0x90000030 ∷ 0x9119e210 ∷ 0xd61f0200 ∷ [])) → Reaches m 0x1000 0x5678
+  pub wrong : (m : Memory) → m.machine ≡ processors.AArch64 → Holds m 0x1000 (flat_map (word 4) (0xb0000030 ∷ 0x9119e210 ∷ 0xd61f0200 ∷ [])) → number_in m 0x6678 4 ≡ None → Reaches m 0x1000 0x5678 → ⊥

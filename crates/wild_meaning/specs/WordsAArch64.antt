@@ -1,0 +1,60 @@
+-- The words of AArch64 code that relocations fill; which instruction a word is, and what it does, is told by `wild_aarch64`.
+--   is_filled n ws    the words are one that a relocation type fills, and what it does is told
+--   filled_numbers    the relocation types that fill one word alone
+--   is_run t ws       the words are a run of a kind, whatever their fields have
+--   with_field v w    the word with those bits in its field
+--   effect_with ..    what words do with those bits in their fields
+use Rattle.std.specs.Prelude.{ℕ, Bool, true, false, ◌&&◌, ◌||◌, not, ◌==◌, if◌then◌else◌, List, [], ◌∷◌, map, Option, Some, None, option_and_then}
+use Rattle.std.specs.List.{list_all, filter}
+use Rattle.wild_records.specs.Abi.Relocation.{r_aarch64_jump26, r_aarch64_call26}
+use Rattle.wild_aarch64.specs.declared.template.Template.{Template}
+use Rattle.wild_aarch64.specs.declared.operand.Action as run-action
+use Rattle.wild_aarch64.specs.Immediate.{inserted}
+use Rattle.wild_aarch64.specs.Slice.{Form, stands}
+use Rattle.wild_aarch64.specs.Forms.{forms}
+use Rattle.wild_aarch64.specs.Filled.{filled_forms, forms_filled}
+use Rattle.wild_aarch64.specs.Code.{read}
+use Rattle.wild_aarch64.specs.Machine.{run, meaning}
+use Rattle.wild_aarch64.specs.Effect.{shapes, words_of}
+use Rattle.wild_aarch64.specs.Template.{codes_of, begins, register_in}
+use Rattle.wild_loader.specs.declared.instruction.Operand.TheVariants.{Number}
+use Rattle.wild_loader.specs.Instruction.{Reader, Effect, effect}
+use Rattle.wild_loader.specs.InstructionAArch64.{action_of}
+
+-- the word is of one of the forms
+abbrev pub is_of : List Form → ℕ → Bool
+is_of [] w = false
+is_of (f ∷ fs) w = stands f.fixed w || is_of fs w
+
+abbrev pub is_told : Option run-action.Action → Bool
+is_told None = false
+is_told (Some act) = true
+
+-- the words are of the forms that a relocation type fills, and what they do is told, whatever their fields have
+abbrev pub is_filled : ℕ → List ℕ → Bool
+is_filled n ws = list_all (is_of (forms_filled n)) ws && is_told (run (shapes ws) 0 [])
+
+-- the words begin with a run of that kind, for the register that the second one sets, and what it does is told
+abbrev pub is_run : Template → List ℕ → Bool
+is_run t ws = begins (codes_of t (register_in ws)) (map read ws) && is_told (run (shapes ws) 0 [])
+
+-- the relocation types that fill words, those of branches to code aside, which go to what stands for a symbol
+abbrev pub filled_numbers : List ℕ
+filled_numbers = filter (λ n. not (n == r_aarch64_jump26 || n == r_aarch64_call26)) (map (λ e. e.0) filled_forms)
+
+-- the word with those bits in its field
+abbrev pub with_field_of : List Form → ℕ → ℕ → ℕ
+with_field_of [] v w = w
+with_field_of (f ∷ fs) v w = if stands f.fixed w then inserted f.field v w else with_field_of fs v w
+
+abbrev pub with_field : ℕ → ℕ → ℕ
+with_field v w = with_field_of forms v w
+
+-- numbers read as themselves; nothing else is read
+abbrev pub reads_numbers : Reader
+reads_numbers (Number n) = Some n
+reads_numbers other = None
+
+-- what the code of those bytes does at an address with those bits in its words' fields
+abbrev pub effect_with : ℕ → ℕ → List ℕ → Option Effect
+effect_with v a bs = option_and_then (effect reads_numbers) (option_and_then action_of (meaning a (map (with_field v) (words_of bs))))
