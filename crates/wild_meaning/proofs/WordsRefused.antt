@@ -37,7 +37,7 @@ both read l w m item o v a bytes x at held long plain h =
     let does : effect_of machine.AArch64 read a bytes ≡ Some h.effect = subst (λ (k : Machine). effect_of k read a bytes ≡ Some h.effect) x (subst (λ (p : ℕ). effect_of l.machine read p bytes ≡ Some h.effect) at here) in
     let there = plain h.effect h.demanded in
     let asked : demand_of machine.AArch64 v a (old_bytes item 0 o) ≡ Some h.effect =
-        subst (λ (k : Machine). demand_of k v a (old_bytes item 0 o) ≡ Some h.effect) x (subst (λ (p : ℕ). demand_of l.machine v p (old_bytes item 0 o) ≡ Some h.effect) at there) in
+    subst (λ (k : Machine). demand_of k v a (old_bytes item 0 o) ≡ Some h.effect) x (subst (λ (p : ℕ). demand_of l.machine v p (old_bytes item 0 o) ≡ Some h.effect) at there) in
     does ∙ sym asked
 
 -- where both are one effect, it does

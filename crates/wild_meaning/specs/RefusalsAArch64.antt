@@ -50,7 +50,7 @@ pub record WrongWordsAreRefused : Type 0 where
   pub low : DoesNot call_item descriptor_call_words 0x18 (0xd503201f ∷ 0xd503201f ∷ 0xd2a00300 ∷ 0xf2800000 ∷ [])
   pub early : DoesNot pair_item address_pair_words 0x10104 (0x10000800 ∷ 0xd503201f ∷ [])
   pub slot : (l : Layout) (w : World) (m : Memory) (n : ℕ) → l.machine ≡ machine.AArch64 → w.base ≡ 0 → Holds m 0x10000 (flat_map (word 4) (0x90000080 ∷ 0xf9400c00 ∷ [])) → number_in m 0x20018 8 ≡ Some n → n < 2 ^ 64
-    → n ≢ 0x18 → DoesWith (reads w m) l w m slot_item 0 offset_pair_words 0x18 → ⊥
+      → n ≢ 0x18 → DoesWith (reads w m) l w m slot_item 0 offset_pair_words 0x18 → ⊥
 
 -- a thunk at 0x1000 reaches 0x5678; one whose page is the next does not, where no code stands at what it goes on to
 pub record ThunksAreJudged : Type 0 where

@@ -145,8 +145,8 @@ fn longest_runs(rt: HostRuntime) {
     let marked = [0xd503_245f, 0x9000_0090, 0xf940_0a11, 0xd61f_0220];
     let thunk = [0x9000_0030, 0x9119_e210, 0xd61f_0200, 0xd503_201f];
     let wanted = jumps(Operand::Word(0x20010));
-    for words in [&stub[..], &marked] {
-        let Some(Step { words, action }) = longest_step(0x10000, words) else {
+    for step in [longest_step(0x10000, &stub), longest_step(0x10000, &marked)] {
+        let Some(Step { words, action }) = step else {
             panic!(rt; "no step");
         };
         assert!(rt; words == 4 && Some(action) == wanted);

@@ -3,12 +3,12 @@
 use std::alloc::Global;
 use std::test::Fail;
 use wild_loader::{
-    Deed, Effect, Machine, Memory, Run, Value, reaches, step_x86_64, template_x86_64,
+    Deed, Effect, Machine, Memory, Run, Value, reaches, step, step_x86_64, template_x86_64,
 };
 use wild_words::{Bytes, Items};
 
-/// Memory of an x86-64 image: bytes at addresses.
-fn memory_of(alloc: Global, pieces: &[(u64, &[u8])]) -> Result<Memory, Fail> {
+/// Memory of an image: bytes at addresses.
+fn memory_of(alloc: Global, machine: Machine, pieces: &[(u64, &[u8])]) -> Result<Memory, Fail> {
     let mut runs = Vec::new(alloc);
     for (start, bytes) in pieces {
         runs.push(Run {
@@ -17,7 +17,7 @@ fn memory_of(alloc: Global, pieces: &[(u64, &[u8])]) -> Result<Memory, Fail> {
         })?;
     }
     Ok(Memory {
-        machine: Machine::X86_64,
+        machine,
         runs: Items::from_vec(runs),
         descriptors: Items::new(alloc),
     })
@@ -241,6 +241,7 @@ fn effects(rt: HostRuntime) -> Result<(), Fail> {
     for (bytes, width, deed, value) in &VECTORS {
         let memory = memory_of(
             rt.alloc(),
+            Machine::X86_64,
             &[(0x1000, *bytes), (0x3000, &WORD.to_le_bytes())],
         )?;
         let effect = Effect {
@@ -266,6 +267,7 @@ fn branches(rt: HostRuntime) -> Result<(), Fail> {
     let code = b"\xff\x15\xea\x1f\0\0\xff\x25\xe4\x1f\0\0\xe9\xdf\xff\xff\xff\xff\x25\0\0\0\0";
     let memory = memory_of(
         rt.alloc(),
+        Machine::X86_64,
         &[
             (0x1000, stub),
             (0x1010, code),
@@ -295,5 +297,43 @@ fn branches(rt: HostRuntime) -> Result<(), Fail> {
     assert!(rt; step_x86_64(&memory, 0x1021).is_none());
     assert!(rt; reaches(&memory, 0x101c, WORD) && reaches(&memory, 0x1005, 0x1005));
     assert!(rt; !reaches(&memory, 0x1010, WORD) && !reaches(&memory, 0x1021, 0));
+    Ok(())
+}
+
+/// Words of AArch64: a thunk to a stub, the stub, `b` to the thunk, `add x0, x1, #8`, `ldr x2, [x3, #16]` and `b.eq`.
+#[test]
+fn words(rt: HostRuntime) -> Result<(), Fail> {
+    let thunk = b"\x30\0\0\x90\x10\xe2\x19\x91\0\x02\x1f\xd6";
+    let stub = b"\xf0\xff\xff\xf0\x11\x0a\x40\xf9\x20\x02\x1f\xd6\x1f\x20\x03\xd5";
+    let code = b"\xfd\xff\xff\x17\x20\x20\0\x91\x62\x08\x40\xf9\x40\0\0\x54";
+    let memory = memory_of(
+        rt.alloc(),
+        Machine::AArch64,
+        &[
+            (0x1000, thunk),
+            (0x100c, code),
+            (0x4010, &WORD.to_le_bytes()),
+            (0x5678, stub),
+        ],
+    )?;
+    let wanted = [
+        (0x1000, 12, Deed::Jump, 0x5678),
+        (0x100c, 4, Deed::Jump, 0x1000),
+        (0x1010, 4, Deed::SetSum(0, 1), 8),
+        (0x1014, 4, Deed::Load(2, 3), 16),
+        (0x1018, 4, Deed::MayJump(0xa80), 0x1020),
+        (0x5678, 16, Deed::Jump, WORD),
+    ];
+    for (address, length, deed, target) in wanted {
+        let effect = Effect {
+            length,
+            width: 64,
+            deed,
+            value: Value::Number(target),
+        };
+        assert!(rt; step(&memory, address) == Some(effect), "at {address}");
+    }
+    assert!(rt; step(&memory, 0x101c).is_none() && step(&memory, 0x5680).is_none());
+    assert!(rt; reaches(&memory, 0x1000, WORD) && !reaches(&memory, 0x100c, WORD));
     Ok(())
 }
