@@ -8,6 +8,7 @@ use Rattle.wild_loader.specs.declared.effect.Effect as running
 use Rattle.wild_loader.specs.declared.effect.Value.{Value}
 use Rattle.wild_loader.specs.declared.effect.Value.TheVariants as values
 use Rattle.wild_loader.specs.Memory.{number_in, Holds}
+use Rattle.wild_loader.specs.Changes.{first_value}
 use Rattle.wild_loader.specs.declared.instruction.Cell.{Cell}
 use Rattle.wild_loader.specs.declared.instruction.Operand.{Operand}
 use Rattle.wild_loader.specs.declared.instruction.Operand.TheVariants.{Number, Word, Pair, Offset}
@@ -122,9 +123,16 @@ abbrev is_told : Operand → Bool
 is_told (Offset x) = false
 is_told other = true
 
+-- what a descriptor gives is read as it was noted
+abbrev pub ReadsOffset : Memory → Reader → Operand → Type 0
+ReadsOffset m read operand = (x : ℕ) → operand ≡ Offset x → read operand ≡ first_value m.descriptors x
+
+no_offset : (m : Memory) (read : Reader) (operand : Operand) → is_told operand ≡ true → ReadsOffset m read operand
+no_offset m read operand plain = λ x e. absurd (let both : false ≡ true = sym (ap is_told e) ∙ plain in cc)
+
 -- with a reader of that memory
-told_by : (m : Memory) (size : ℕ) (act : Action) (e : running.Effect) (read : Reader) → ReadsMemory m read → is_told act.operand ≡ true → effect_in m size act ≡ Some e → effect read act ≡ told read e
-told_by m size act e read reads plain h = by_operand act.deed act.width act.operand plain h
+pub told_by : (m : Memory) (size : ℕ) (act : Action) (e : running.Effect) (read : Reader) → ReadsMemory m read → ReadsOffset m read act.operand → effect_in m size act ≡ Some e → effect read act ≡ told read e
+told_by m size act e read reads offset h = by_operand act.deed act.width act.operand offset h
   where
     worded : (deed : Deed) (width : ℕ) (o : Option ℕ) → option_map (λ (v : Value). record { length = size; width = width; deed = deed; value = narrowed width v }) (option_map values.Number o) ≡ Some e → option_map (λ (v : ℕ). record { deed = deed; width = width; value = v % 2 ^ width }) o ≡ told read e
     worded deed width None h = cc
@@ -133,11 +141,11 @@ told_by m size act e read reads plain h = by_operand act.deed act.width act.oper
         subst (λ (x : running.Effect). option_map (λ (v : ℕ). record { deed = deed; width = width; value = v % 2 ^ width }) (Some n) ≡ told read x) same
         (rw (reads.numbers (if width == 32 then n % 2 ^ 32 else n)) (ap (λ (v : ℕ). Some (record { deed = deed; width = width; value = v })) (sym (twice width n))))
 
-    by_operand : (deed : Deed) (width : ℕ) (operand : Operand) → is_told operand ≡ true → effect_in m size (record { deed = deed; width = width; operand = operand }) ≡ Some e → effect read (record { deed = deed; width = width; operand = operand }) ≡ told read e
-    by_operand deed width (Offset x) plain h = cc
-    by_operand deed width (Number n) plain h = rw (reads.numbers n) (worded deed width (Some n) h)
-    by_operand deed width (Word x) plain h = rw (reads.words x) (worded deed width (number_in m x 8) h)
-    by_operand deed width (Pair x) plain h = (let same : record { length = size; width = width; deed = deed; value = values.Pair x } ≡ e = cc in subst (λ (y : running.Effect). effect read (record { deed = deed; width = width; operand = Pair x }) ≡ told read y) same refl)
+    by_operand : (deed : Deed) (width : ℕ) (operand : Operand) → ReadsOffset m read operand → effect_in m size (record { deed = deed; width = width; operand = operand }) ≡ Some e → effect read (record { deed = deed; width = width; operand = operand }) ≡ told read e
+    by_operand deed width (Offset x) offset h = rw (offset x refl) (worded deed width (first_value m.descriptors x) h)
+    by_operand deed width (Number n) offset h = rw (reads.numbers n) (worded deed width (Some n) h)
+    by_operand deed width (Word x) offset h = rw (reads.words x) (worded deed width (number_in m x 8) h)
+    by_operand deed width (Pair x) offset h = (let same : record { length = size; width = width; deed = deed; value = values.Pair x } ≡ e = cc in subst (λ (y : running.Effect). effect read (record { deed = deed; width = width; operand = Pair x }) ≡ told read y) same refl)
 
 pub sized : (m : Memory) (size : ℕ) (act : Action) (o : Option Value) (e : running.Effect) → option_map (λ (v : Value). record { length = size; width = act.width; deed = act.deed; value = narrowed act.width v }) o ≡ Some e → size ≡ e.length
 sized m size act None e h = cc
@@ -155,7 +163,7 @@ by_standing m a e bs (Some t) f held h =
       bytes = own;
       held = held_front m a bs (length t.cells) held;
       long = n ∙ sized m (length t.cells) act (value_in m act.operand) e h;
-      means = λ read reads. ap (λ (o : Option Action). option_and_then (effect read) o) (meant templates_x86_64 bs t a f) ∙ told_by m (length t.cells) act e read reads plain h;
+      means = λ read reads. ap (λ (o : Option Action). option_and_then (effect read) o) (meant templates_x86_64 bs t a f) ∙ told_by m (length t.cells) act e read reads (no_offset m read act.operand plain) h;
     }
 
 pub steps-meant : StepsAreMeant

@@ -16,7 +16,7 @@ window-held m a (b ∷ bs) (suc n) short h =
     let rest = window-held m (a + 1) bs n (omega (arith, short)) (held-rest m a b bs h) in
     (rest.0, rw first (ap (λ (xs : List ℕ). b ∷ xs) rest.1))
 
-held_more : (m : Memory) (a b : ℕ) (bs : List ℕ) → byte_in m a ≡ Some b → Holds m (a + 1) bs → Holds m a (b ∷ bs)
+pub held_more : (m : Memory) (a b : ℕ) (bs : List ℕ) → byte_in m a ≡ Some b → Holds m (a + 1) bs → Holds m a (b ∷ bs)
 held_more m a b bs first rest = λ k lt. at k lt
   where
     at : (k : ℕ) → k < length (b ∷ bs) → byte_in m (a + k) ≡ Some (slice_index (b ∷ bs) k)

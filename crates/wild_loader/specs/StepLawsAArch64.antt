@@ -1,7 +1,8 @@
 -- What the definition of steps comes to: the effects of known runs of words in memory of an AArch64 image.
 --   StubsAreRead, MarkedStubsAreRead, ThunksAreRead   a stub is a jump to the address in its slot, a thunk one to its target
+--   RunsAreMeant                                      whatever is known at an address is what its words mean
 --   JumpsReach                                        code that jumps reaches where it goes on, on either machine
-use Rattle.std.specs.Prelude.{◌≡◌, ℕ, ◌+◌, ◌^◌, List, Some}
+use Rattle.std.specs.Prelude.{◌≡◌, ℕ, ◌+◌, ◌^◌, List, length, Some}
 use Rattle.std.specs.List.{flat_map}
 use Rattle.wild_words.specs.Words.{word}
 use Rattle.wild_aarch64.specs.Machine.{page}
@@ -11,10 +12,15 @@ use Rattle.wild_loader.specs.declared.memory.Machine.TheVariants as machines
 use Rattle.wild_loader.specs.declared.memory.Memory.{Memory}
 use Rattle.wild_loader.specs.declared.effect.Effect.{Effect}
 use Rattle.wild_loader.specs.declared.effect.Value.TheVariants as values
+use Rattle.wild_loader.specs.declared.instruction.Operand.TheVariants.{Offset}
 use Rattle.wild_loader.specs.declared.instruction.Deed.TheVariants.{Jump}
 use Rattle.wild_loader.specs.Memory.{number_in, Holds}
-use Rattle.wild_loader.specs.Effect.{step}
+use Rattle.wild_loader.specs.Changes.{first_value}
+use Rattle.wild_loader.specs.Instruction.{Reader}
+use Rattle.wild_loader.specs.InstructionAArch64.{effect_aarch64}
+use Rattle.wild_loader.specs.Effect.{step, step_aarch64}
 use Rattle.wild_loader.specs.Reach.{Reaches, jumped}
+use Rattle.wild_loader.specs.StepLaws.{ReadsMemory, told}
 
 -- the bytes of words of code
 abbrev pub spelled : List ℕ → List ℕ
@@ -37,6 +43,21 @@ MarkedStubsAreRead = (m : Memory) (base p g v : ℕ) → m.machine ≡ machines.
 -- and a thunk is a jump to its target
 abbrev pub ThunksAreRead : Type 0
 ThunksAreRead = (m : Memory) (base p t : ℕ) → m.machine ≡ machines.AArch64 → Within (2 ^ 32) (page p) (page t) → StandsAt base p t → Holds m (base + p) (spelled (thunk p t)) → step m (base + p) ≡ Some (jumps 12 (base + t))
+
+-- a descriptor's offset is read as it was noted
+abbrev pub ReadsDescriptors : Memory → Reader → Type 0
+ReadsDescriptors m read = (a : ℕ) → read (Offset a) ≡ first_value m.descriptors a
+
+-- an effect at an address is what the bytes there mean, which are as many as it tells
+pub record IsRun (m : Memory) (a : ℕ) (e : Effect) : Type 0 where
+  pub bytes : List ℕ
+  pub held : Holds m a bytes
+  pub long : length bytes ≡ e.length
+  pub means : (read : Reader) → ReadsMemory m read → ReadsDescriptors m read → effect_aarch64 read a bytes ≡ told read e
+
+-- whatever is known of the code at an address
+abbrev pub RunsAreMeant : Type 0
+RunsAreMeant = (m : Memory) (a : ℕ) (e : Effect) → step_aarch64 m a ≡ Some e → IsRun m a e
 
 -- code that goes on at an address comes to it
 abbrev pub JumpsReach : Type 0

@@ -21,7 +21,8 @@ use Rattle.wild_loader.specs.Effect.{words_at, step, step_of, step_aarch64}
 use Rattle.wild_loader.specs.Reach.{jumped, Reaches, JumpsTo, ReachesWithin}
 use Rattle.wild_loader.specs.StepLawsAArch64.{jumps}
 use Rattle.wild_loader.proofs.StepLemmasAArch64.{thunks-read, jumps-reach}
-use Rattle.wild_meaning.specs.Item.{Item, place_at}
+use Rattle.wild_types.specs.Item.{Item}
+use Rattle.wild_meaning.specs.Item.{place_at}
 use Rattle.wild_meaning.specs.Sequence.{Instruction, size_of, descriptor_call_words, offset_pair_words, address_pair_words}
 use Rattle.wild_meaning.specs.Template.{reads, reads_alone, effect_of, demand_of, IsDemanded, old_bytes, DoesWith}
 use Rattle.wild_meaning.specs.RefusalsAArch64.{Does, DoesNot, call_item, slot_item, pair_item, RightWordsDo, WrongWordsAreRefused, ThunksAreJudged}

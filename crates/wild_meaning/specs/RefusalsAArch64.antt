@@ -13,7 +13,7 @@ use Rattle.wild_loader.specs.declared.memory.Memory.{Memory}
 use Rattle.wild_loader.specs.declared.world.World.{World}
 use Rattle.wild_loader.specs.Memory.{number_in, Holds}
 use Rattle.wild_loader.specs.Reach.{Reaches}
-use Rattle.wild_meaning.specs.Item.{Item}
+use Rattle.wild_types.specs.Item.{Item}
 use Rattle.wild_meaning.specs.Sequence.{Instruction, descriptor_call_words, offset_pair_words, address_pair_words}
 use Rattle.wild_meaning.specs.Template.{reads, reads_alone, DoesWith}
 
