@@ -81,7 +81,7 @@ effect_kept laws l w m s i r row v n a h p small lands =
 pub on_machine : (k : Machine) (read : Reader) (a : ℕ) (bs : List ℕ) → k ≡ machine.X86_64 → effect_of k read a bs ≡ effect_x86_64 read a bs
 on_machine k read a bs e = rw e refl
 
-demand_on : (k : Machine) (v a : ℕ) (bs : List ℕ) → k ≡ machine.X86_64 → demand_of k v a bs ≡ demand_x86_64 v a bs
+pub demand_on : (k : Machine) (v a : ℕ) (bs : List ℕ) → k ≡ machine.X86_64 → demand_of k v a bs ≡ demand_x86_64 v a bs
 demand_on k v a bs e = rw e refl
 
 old_is : (l : Layout) (s : Item) (i : ℕ) (r : InputRelocation) (row : Row) (v : ℕ) → IsPlacedRow l s i r row v → old_bytes s (template_start row r) (instruction_of row) ≡ old_of s row r

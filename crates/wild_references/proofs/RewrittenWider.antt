@@ -32,7 +32,6 @@ use Rattle.wild_loader.specs.declared.world.World.{World}
 use Rattle.wild_types.specs.Item.{Item}
 use Rattle.wild_meaning.specs.Item.{place_at}
 use Rattle.wild_meaning.specs.Field.{formula_of, form_width, IsInputByte}
-use Rattle.wild_loader.specs.Instruction.{as_value}
 use Rattle.wild_loader.specs.Instruction as judge
 use Rattle.wild_loader.specs.declared.instruction.Cell.TheVariants as judge-cells
 use Rattle.wild_loader.specs.InstructionX86_64.{effect_x86_64, demand_x86_64}
@@ -43,7 +42,7 @@ use Rattle.wild_references.proofs.Clash.{is_free, are_calls, pair_ok, row_ok, ea
 use Rattle.wild_references.proofs.Kept.{OutOfWindows, input_byte, Window, window, free_not}
 use Rattle.wild_references.proofs.RewrittenPlaces.{LawsBelow}
 use Rattle.wild_references.proofs.RewrittenTerms.{info_is}
-use Rattle.wild_references.proofs.RewrittenEffects.{has_effect, template_linked, value_small, old_of, on_machine, whole_is}
+use Rattle.wild_references.proofs.RewrittenEffects.{has_effect, template_linked, value_small, old_of, on_machine, demand_on, whole_is}
 use Rattle.wild_references.proofs.RewrittenDoes.{plain_far}
 use Rattle.wild_references.proofs.RewrittenPrefix.{wide_load, Plain, at_field, room, bytes_are, stands_with, IsWider}
 use Rattle.wild_references.proofs.Fills.{is_any}
@@ -196,7 +195,7 @@ does_wider laws l w m s i r v from h t =
       demands = far.is.target;
       code = record {
         effect = e.0;
-        demanded = on_machine l.machine (as_value n) a (slice_range s.bytes from (from + 8)) h.x86 ∙ (ap (λ (bs : List ℕ). demand_x86_64 n a bs) bytes ∙ e.1);
+        demanded = demand_on l.machine n a (slice_range s.bytes from (from + 8)) h.x86 ∙ (ap (λ (bs : List ℕ). demand_x86_64 n a bs) bytes ∙ e.1);
         bytes = x ∷ template_of PlainGotMovToLea v old;
         whole = (let z = whole_is l w m s i r PlainGotMovToLea v h p in omega (arith, z));
         held = held_more m a (place_at w s (template_start PlainGotMovToLea r)) x (template_of PlainGotMovToLea v old) next (prefix_stays laws l w m s i r v from h t) (h.item.rewritten i r PlainGotMovToLea v p.has);
