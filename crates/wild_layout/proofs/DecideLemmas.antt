@@ -19,7 +19,8 @@ use Rattle.wild_slot.specs.Slots.{is_replaceable}
 use Rattle.wild_slot.specs.Treatment.{flags_at, treatment}
 use Rattle.wild_reloc.specs.Field.{allows, field_width, size_width}
 use Rattle.wild_reloc.specs.TableX86_64.{x86_64_rows, x86_64_row}
-use Rattle.wild_reloc.proofs.TableLemmas.{entry_passes}
+use Rattle.wild_reloc.specs.TableAArch64.{static_rows, thread_rows, static_row, thread_row}
+use Rattle.wild_reloc.proofs.TableLemmas.{entry_passes, parts_pass}
 use Rattle.wild_reloc.specs.declared.info.RelocationKind.{RelocationKind}
 use Rattle.wild_reloc.specs.declared.info.RelocationKindInfo.{RelocationKindInfo}
 use Rattle.wild_reloc.specs.declared.info.RelocationSize.{RelocationSize}
@@ -34,12 +35,13 @@ use Rattle.wild_layout.specs.declared.decision.Decision.{Decision}
 use Rattle.wild_layout.specs.declared.decision.Decision.TheVariants.{Nothing, Field, Moved, Left}
 use Rattle.wild_layout.specs.SymbolValues.{sum, symbol_size}
 use Rattle.wild_layout.specs.SlotValues.{address_of, index_of, decided_address}
-use Rattle.wild_layout.specs.Values.{term_of, value_less, value_by}
+use Rattle.wild_layout.specs.Values.{value_less, value_by, value_in, term_at}
 use Rattle.wild_layout.specs.SectionPlaces.{FieldLies}
 use Rattle.wild_layout.specs.Decide.{field, field_for, moved_to, added, left_to, sized_to, chosen_to, decide_by, decided}
 use Rattle.wild_layout.specs.Left.{left_by, left_entry, entry_for}
 pub use Rattle.wild_slot.proofs.TreatmentLemmas.{has_value, HasValue, IsSilent}
-use Rattle.wild_slot.proofs.TreatmentLemmas.{IsMovedBy, IsLeftBy, IsLeftToResolver, IsSizedBy, row_value, row_nothing, row_moved, row_symbolic, row_indirect, row_extent}
+use Rattle.wild_slot.proofs.TreatmentLemmas.{IsMovedBy, IsLeftBy, IsLeftToResolver, IsSizedBy, known_value, known_nothing, known_moved}
+pub use Rattle.wild_slot.proofs.TreatmentLemmas.{known_symbolic, known_indirect, known_extent}
 
 -- ---- rows
 
@@ -47,16 +49,16 @@ use Rattle.wild_slot.proofs.TreatmentLemmas.{IsMovedBy, IsLeftBy, IsLeftToResolv
 abbrev has_field : RelocationKind → ℕ → Bool
 has_field kind width = if has_value kind then nat_lt 0 width else true
 
-each_has_field : list_all (λ (e : ℕ × RelocationKindInfo). has_field e.1.kind (field_width e.1)) x86_64_rows ≡ true
-each_has_field = refl
-
 field_of_kind : (k : RelocationKind) (width : ℕ) → HasValue k → has_field k width ≡ true → 0 < width
 field_of_kind k width e h = ltb-true 0 width (rw e at h)
 
 pub value_has_field : (m : Machine) (n : ℕ) (row : RelocationKindInfo) → row_of m n ≡ Some row → HasValue row.kind → 0 < field_width row
-unfolding row_of x86_64_row
-value_has_field machine.X86_64 n row known kind = field_of_kind row.kind (field_width row) kind (entry_passes (λ (m : ℕ) (r : RelocationKindInfo). has_field r.kind (field_width r)) x86_64_rows each_has_field n row known)
-value_has_field machine.AArch64 n row known kind = cc
+unfolding row_of x86_64_row static_row thread_row
+value_has_field m n row known kind = field_of_kind row.kind (field_width row) kind (by_machine m known)
+  where
+    by_machine : (m : Machine) → row_of m n ≡ Some row → has_field row.kind (field_width row) ≡ true
+    by_machine machine.X86_64 known = entry_passes (λ (m : ℕ) (r : RelocationKindInfo). has_field r.kind (field_width r)) x86_64_rows refl n row known
+    by_machine machine.AArch64 known = parts_pass (λ (m : ℕ) (r : RelocationKindInfo). has_field r.kind (field_width r)) static_rows thread_rows refl refl n row known
 
 -- ---- decisions
 
@@ -75,8 +77,8 @@ pub record IsField (l : Layout) (s : Item) (r : InputRelocation) (z : Relocation
   pub kind : HasValue row.kind
   pub size : row.size ≡ z
   pub term : ℕ
-  pub given : term_of l r.symbol row.kind ≡ Ok term
-  pub value : value_by l row.kind term r.addend (place_of s.address r) ≡ v
+  pub given : term_at l r row (place_of s.address r) ≡ Ok term
+  pub value : value_in l row term r.addend (place_of s.address r) ≡ v
   pub allowed : allows row v ≡ true
 
 -- a relocation that writes the address v, which moves with the base
@@ -107,10 +109,10 @@ in_field row w v z h =
           (size, value, subst (λ (n : ℕ). allows row n ≡ true) value t))
     ]
 
-field_from : (l : Layout) (s : Item) (r : InputRelocation) (row : RelocationKindInfo) (z : RelocationSize) (v : ℕ) (a : Result ℕ Fault) → row_of l.machine r.number ≡ Some row → treatment l s.flags r ≡ treatments.Value row → HasValue row.kind → term_of l r.symbol row.kind ≡ a → field_for l s r row a ≡ Ok (Field z v) → IsField l s r z v
+field_from : (l : Layout) (s : Item) (r : InputRelocation) (row : RelocationKindInfo) (z : RelocationSize) (v : ℕ) (a : Result ℕ Fault) → row_of l.machine r.number ≡ Some row → treatment l s.flags r ≡ treatments.Value row → HasValue row.kind → term_at l r row (place_of s.address r) ≡ a → field_for l s r row a ≡ Ok (Field z v) → IsField l s r z v
 field_from l s r row z v (Err f) known treated kind is h = cc
 field_from l s r row z v (Ok a) known treated kind is h =
-    let f = in_field row (value_by l row.kind a r.addend (place_of s.address r)) v z h in
+    let f = in_field row (value_in l row a r.addend (place_of s.address r)) v z h in
     record { row = row; known = known; treated = treated; kind = kind; size = f.0; term = a; given = is; value = f.1; allowed = f.2 }
 
 -- a field that is left to an entry
@@ -156,21 +158,9 @@ moved_is_no_field : (l : Layout) (s : Item) (r : InputRelocation) (z : Relocatio
 moved_is_no_field l s r z v (Err f) h = cc
 moved_is_no_field l s r z v (Ok a) h = cc
 
-known_value : (l : Layout) (s : Item) (r : InputRelocation) (row : RelocationKindInfo) → treatment l s.flags r ≡ treatments.Value row → (row_of l.machine r.number ≡ Some row) × HasValue row.kind
-unfolding treatment
-known_value l s r row is = row_value l s.flags r.number r.symbol (row_of l.machine r.number) row is
-
-known_moved : (l : Layout) (s : Item) (r : InputRelocation) → treatment l s.flags r ≡ treatments.BaseRelative → (row : RelocationKindInfo) × (row_of l.machine r.number ≡ Some row) × IsMovedBy l s.flags r.symbol row
-unfolding treatment
-known_moved l s r is = row_moved l s.flags r.number r.symbol (row_of l.machine r.number) is
-
-known_nothing : (l : Layout) (s : Item) (r : InputRelocation) → treatment l s.flags r ≡ treatments.Nothing → IsNothing l r
-unfolding treatment
-known_nothing l s r is = let k = row_nothing l s.flags r.number r.symbol (row_of l.machine r.number) is in record { row = k.0; known = k.1; kind = k.2 }
-
 treated_field : (l : Layout) (s : Item) (r : InputRelocation) (t : Treatment) (z : RelocationSize) (v : ℕ) → treatment l s.flags r ≡ t → decide_by l s r t ≡ Ok (Field z v) → IsField l s r z v
 treated_field l s r treatments.Nothing z v is h = cc
-treated_field l s r (treatments.Value row) z v is h = let k = known_value l s r row is in field_from l s r row z v (term_of l r.symbol row.kind) k.0 is k.1 refl h
+treated_field l s r (treatments.Value row) z v is h = let k = known_value l s.flags r row is in field_from l s r row z v (term_at l r row (place_of s.address r)) k.0 is k.1 refl h
 treated_field l s r treatments.BaseRelative z v is h = absurd (moved_is_no_field l s r z v (address_of l r.symbol) h)
 treated_field l s r (treatments.Symbolic i) z v is h = absurd (left_alone (Field z v) (ByteSize Eight) (type_of l.machine Absolute) r i (index_of l i) h)
 treated_field l s r (treatments.Indirect i) z v is h = absurd (chosen_alone (Field z v) l r (decided_address l i) h)
@@ -191,19 +181,19 @@ field_is_not_moved row w v packed h =
 
 value_is_not_moved : (l : Layout) (s : Item) (r : InputRelocation) (row : RelocationKindInfo) (v : ℕ) (packed : Bool) (a : Result ℕ Fault) → field_for l s r row a ≡ Ok (Moved v packed) → ⊥
 value_is_not_moved l s r row v packed (Err f) h = cc
-value_is_not_moved l s r row v packed (Ok a) h = field_is_not_moved row (value_by l row.kind a r.addend (place_of s.address r)) v packed h
+value_is_not_moved l s r row v packed (Ok a) h = field_is_not_moved row (value_in l row a r.addend (place_of s.address r)) v packed h
 
 moved_from : (l : Layout) (s : Item) (r : InputRelocation) (v : ℕ) (packed : Bool) (a : Result ℕ Fault) → treatment l s.flags r ≡ treatments.BaseRelative → address_of l r.symbol ≡ a → moved_to l s r a ≡ Ok (Moved v packed) → IsMoved l s r v packed
 moved_from l s r v packed (Err f) treated is h = cc
 moved_from l s r v packed (Ok a) treated is h =
-    let k = known_moved l s r treated in
+    let k = known_moved l s.flags r treated in
     let value : sum a r.addend ≡ v = cc in
     let same : packs l (place_of s.address r) ≡ packed = cc in
     record { row = k.0; known = k.1; treated = treated; by = k.2; address = a; given = is; value = value; packs = same }
 
 treated_moved : (l : Layout) (s : Item) (r : InputRelocation) (t : Treatment) (v : ℕ) (packed : Bool) → treatment l s.flags r ≡ t → decide_by l s r t ≡ Ok (Moved v packed) → IsMoved l s r v packed
 treated_moved l s r treatments.Nothing v packed is h = cc
-treated_moved l s r (treatments.Value row) v packed is h = absurd (value_is_not_moved l s r row v packed (term_of l r.symbol row.kind) h)
+treated_moved l s r (treatments.Value row) v packed is h = absurd (value_is_not_moved l s r row v packed (term_at l r row (place_of s.address r)) h)
 treated_moved l s r treatments.BaseRelative v packed is h = moved_from l s r v packed (address_of l r.symbol) is refl h
 treated_moved l s r (treatments.Symbolic i) v packed is h = absurd (left_alone (Moved v packed) (ByteSize Eight) (type_of l.machine Absolute) r i (index_of l i) h)
 treated_moved l s r (treatments.Indirect i) v packed is h = absurd (chosen_alone (Moved v packed) l r (decided_address l i) h)
@@ -260,15 +250,15 @@ field_is_some row w h =
 
 value_is_some : (l : Layout) (s : Item) (r : InputRelocation) (row : RelocationKindInfo) (a : Result ℕ Fault) → field_for l s r row a ≡ Ok Nothing → ⊥
 value_is_some l s r row (Err f) h = cc
-value_is_some l s r row (Ok a) h = field_is_some row (value_by l row.kind a r.addend (place_of s.address r)) h
+value_is_some l s r row (Ok a) h = field_is_some row (value_in l row a r.addend (place_of s.address r)) h
 
 moved_is_some : (l : Layout) (s : Item) (r : InputRelocation) (a : Result ℕ Fault) → moved_to l s r a ≡ Ok Nothing → ⊥
 moved_is_some l s r (Err f) h = cc
 moved_is_some l s r (Ok a) h = cc
 
 treated_nothing : (l : Layout) (s : Item) (r : InputRelocation) (t : Treatment) → treatment l s.flags r ≡ t → decide_by l s r t ≡ Ok Nothing → IsNothing l r
-treated_nothing l s r treatments.Nothing is h = known_nothing l s r is
-treated_nothing l s r (treatments.Value row) is h = absurd (value_is_some l s r row (term_of l r.symbol row.kind) h)
+treated_nothing l s r treatments.Nothing is h = let k = known_nothing l s.flags r is in record { row = k.0; known = k.1; kind = k.2 }
+treated_nothing l s r (treatments.Value row) is h = absurd (value_is_some l s r row (term_at l r row (place_of s.address r)) h)
 treated_nothing l s r treatments.BaseRelative is h = absurd (moved_is_some l s r (address_of l r.symbol) h)
 treated_nothing l s r (treatments.Symbolic i) is h = absurd (left_alone Nothing (ByteSize Eight) (type_of l.machine Absolute) r i (index_of l i) h)
 treated_nothing l s r (treatments.Indirect i) is h = absurd (chosen_alone Nothing l r (decided_address l i) h)
@@ -291,18 +281,6 @@ pub record IsLeft (l : Layout) (s : Item) (r : InputRelocation) (z : RelocationS
   pub left : is_left_to_entry treated ≡ true
   pub made : decide_by l s r treated ≡ Ok (Left z number symbol addend)
   pub entry : left_entry l s r ≡ entry_for (place_of s.address r) number symbol addend
-
-pub known_symbolic : (l : Layout) (s : Item) (r : InputRelocation) (i : ℕ) → treatment l s.flags r ≡ treatments.Symbolic i → (row : RelocationKindInfo) × (row_of l.machine r.number ≡ Some row) × IsLeftBy s.flags r.symbol row i
-unfolding treatment
-known_symbolic l s r i is = row_symbolic l s.flags r.number r.symbol (row_of l.machine r.number) i is
-
-pub known_indirect : (l : Layout) (s : Item) (r : InputRelocation) (i : ℕ) → treatment l s.flags r ≡ treatments.Indirect i → (row : RelocationKindInfo) × (row_of l.machine r.number ≡ Some row) × IsLeftBy s.flags r.symbol row i × IsLeftToResolver l s.flags row i
-unfolding treatment
-known_indirect l s r i is = row_indirect l s.flags r.number r.symbol (row_of l.machine r.number) i is
-
-pub known_extent : (l : Layout) (s : Item) (r : InputRelocation) (row : RelocationKindInfo) (i : ℕ) → treatment l s.flags r ≡ treatments.Extent row i → (row_of l.machine r.number ≡ Some row) × IsSizedBy l s.flags r.symbol row i
-unfolding treatment
-known_extent l s r row i is = row_extent l s.flags r.number r.symbol (row_of l.machine r.number) row i is
 
 -- of an address in 8 bytes
 left_field : (l : Layout) (s : Item) (r : InputRelocation) (row : RelocationKindInfo) (i : ℕ) → row_of l.machine r.number ≡ Some row → IsLeftBy s.flags r.symbol row i → HasField l r (ByteSize Eight)
@@ -347,7 +325,7 @@ field_is_not_left row w z n symbol addend h =
 
 value_is_not_left : (l : Layout) (s : Item) (r : InputRelocation) (row : RelocationKindInfo) (z : RelocationSize) (n symbol addend : ℕ) (a : Result ℕ Fault) → field_for l s r row a ≡ Ok (Left z n symbol addend) → ⊥
 value_is_not_left l s r row z n symbol addend (Err f) h = cc
-value_is_not_left l s r row z n symbol addend (Ok a) h = field_is_not_left row (value_by l row.kind a r.addend (place_of s.address r)) z n symbol addend h
+value_is_not_left l s r row z n symbol addend (Ok a) h = field_is_not_left row (value_in l row a r.addend (place_of s.address r)) z n symbol addend h
 
 moved_is_not_left : (l : Layout) (s : Item) (r : InputRelocation) (z : RelocationSize) (n symbol addend : ℕ) (a : Result ℕ Fault) → moved_to l s r a ≡ Ok (Left z n symbol addend) → ⊥
 moved_is_not_left l s r z n symbol addend (Err f) h = cc
@@ -355,10 +333,10 @@ moved_is_not_left l s r z n symbol addend (Ok a) h = cc
 
 treated_left : (l : Layout) (s : Item) (r : InputRelocation) (t : Treatment) (z : RelocationSize) (n symbol addend : ℕ) → treatment l s.flags r ≡ t → decide_by l s r t ≡ Ok (Left z n symbol addend) → IsLeft l s r z n symbol addend
 treated_left l s r treatments.Nothing z n symbol addend is h = cc
-treated_left l s r (treatments.Value row) z n symbol addend is h = absurd (value_is_not_left l s r row z n symbol addend (term_of l r.symbol row.kind) h)
+treated_left l s r (treatments.Value row) z n symbol addend is h = absurd (value_is_not_left l s r row z n symbol addend (term_at l r row (place_of s.address r)) h)
 treated_left l s r treatments.BaseRelative z n symbol addend is h = absurd (moved_is_not_left l s r z n symbol addend (address_of l r.symbol) h)
 treated_left l s r (treatments.Symbolic i) z n symbol addend is h =
-    let k = known_symbolic l s r i is in
+    let k = known_symbolic l s.flags r i is in
     let p = left_parts (ByteSize Eight) z (type_of l.machine Absolute) n symbol addend r i (index_of l i) h in
     record {
       field = subst (HasField l r) p.size (left_field l s r k.0 i k.1 k.2);
@@ -373,7 +351,7 @@ treated_left l s r (treatments.Symbolic i) z n symbol addend is h =
     same : type_of l.machine Absolute ≡ n → index_of l i ≡ Some symbol → added r ≡ addend → left_by l s r (treatments.Symbolic i) ≡ entry_for (place_of s.address r) n symbol addend
     same e f g = rw (e, f, g) refl
 treated_left l s r (treatments.Indirect i) z n symbol addend is h =
-    let k = known_indirect l s r i is in
+    let k = known_indirect l s.flags r i is in
     let p = chosen_parts l z n symbol addend r (decided_address l i) h in
     record {
       field = subst (HasField l r) p.0 (left_field l s r k.0 i k.1 k.2);
@@ -388,7 +366,7 @@ treated_left l s r (treatments.Indirect i) z n symbol addend is h =
     same : type_of l.machine Irelative ≡ n → 0 ≡ symbol → decided_address l i ≡ Ok addend → left_by l s r (treatments.Indirect i) ≡ entry_for (place_of s.address r) n symbol addend
     same e f g = rw (e, sym f, g) refl
 treated_left l s r (treatments.Extent row i) z n symbol addend is h =
-    let k = known_extent l s r row i is in
+    let k = known_extent l s.flags r row i is in
     let p = left_parts row.size z r.number n symbol addend r i (index_of l i) (sized_left l r row i (Left z n symbol addend) h) in
     record {
       field = record { row = row; known = k.0; kind = ap has_value k.1.kind; size = p.size };
@@ -413,10 +391,12 @@ pub left_has : (l : Layout) (s : Item) (r : InputRelocation) (z : RelocationSize
 left_has l s r z n symbol addend h = h.field
 
 -- a value is below 2 ^ 64
+pub less_below : (l : Layout) (less : Taken) (s p : ℕ) (a : ℤ) → value_less l less s a p < 2 ^ 64
+less_below l taken.Nothing s p a = omega arith
+less_below l taken.Place s p a = omega arith
+less_below l taken.Table s p a = omega arith
+less_below l taken.PagePlace s p a = omega arith
+less_below l taken.PageTable s p a = omega arith
+
 pub value_below : (l : Layout) (kind : RelocationKind) (s p : ℕ) (a : ℤ) → value_by l kind s a p < 2 ^ 64
-value_below l kind s p a = below (expression_of kind).taken
-  where
-    below : (less : Taken) → value_less l less s a p < 2 ^ 64
-    below taken.Nothing = omega arith
-    below taken.Place = omega arith
-    below taken.Table = omega arith
+value_below l kind s p a = less_below l (expression_of kind).taken s p a

@@ -56,10 +56,10 @@ use Rattle.wild_layout.specs.declared.decision.Decision.{Decision}
 use Rattle.wild_layout.specs.declared.decision.Decision.TheVariants.{Nothing, Field, Moved, Left, Rewritten, Partner}
 use Rattle.wild_types.specs.Lookups.{place_of}
 use Rattle.wild_layout.specs.SlotValues.{address_of, index_of, decided_address}
-use Rattle.wild_layout.specs.Values.{term_of, value_by}
+use Rattle.wild_layout.specs.Values.{term_of, value_by, value_in, term_at}
 use Rattle.wild_layout.specs.Choice.{choice_of, takes_next, is_partner}
 use Rattle.wild_layout.specs.Decide.{field, field_for, moved_to, added, left_to, chosen_to, decide_by, decided, field_at, value_to, term_to, rewritten_by, rewritten_to, refused_with, decide_with, decide_at, decide}
-use Rattle.wild_slot.proofs.TreatmentLemmas.{HasValue, row_moved, row_symbolic, row_indirect, row_extent}
+use Rattle.wild_slot.proofs.TreatmentLemmas.{HasValue, known_moved, known_symbolic, known_indirect, known_extent}
 use Rattle.wild_layout.proofs.ChoiceLemmas.{IsChosen, choice_row, IsSequence, partner_is_taken, partner_number, loads, no_row, no_partner}
 use Rattle.wild_layout.proofs.DecideLemmas.{HasField, sized_left}
 
@@ -80,7 +80,7 @@ field_keeps row w d h =
 
 value_keeps : (l : Layout) (s : Item) (r : InputRelocation) (row : RelocationKindInfo) (a : Result ℕ Fault) (d : Decision) → field_for l s r row a ≡ Ok d → KeepsInstruction d
 value_keeps l s r row (Err f) d h = cc
-value_keeps l s r row (Ok a) d h = field_keeps row (value_by l row.kind a r.addend (place_of s.address r)) d h
+value_keeps l s r row (Ok a) d h = field_keeps row (value_in l row a r.addend (place_of s.address r)) d h
 
 moved_keeps : (l : Layout) (s : Item) (r : InputRelocation) (a : Result ℕ Fault) (d : Decision) → moved_to l s r a ≡ Ok d → KeepsInstruction d
 moved_keeps l s r (Err f) d h = cc
@@ -108,7 +108,7 @@ chosen_keeps l r (Ok resolver) d h =
 
 treated_keeps : (l : Layout) (s : Item) (r : InputRelocation) (t : Treatment) (d : Decision) → decide_by l s r t ≡ Ok d → KeepsInstruction d
 treated_keeps l s r treatments.Nothing d h = let same : Nothing ≡ d = cc in subst KeepsInstruction same tt
-treated_keeps l s r (treatments.Value row) d h = value_keeps l s r row (term_of l r.symbol row.kind) d h
+treated_keeps l s r (treatments.Value row) d h = value_keeps l s r row (term_at l r row (place_of s.address r)) d h
 treated_keeps l s r treatments.BaseRelative d h = moved_keeps l s r (address_of l r.symbol) d h
 treated_keeps l s r (treatments.Symbolic i) d h = left_keeps (ByteSize Eight) (type_of l.machine Absolute) r i (index_of l i) d h
 treated_keeps l s r (treatments.Indirect i) d h = chosen_keeps l r (decided_address l i) d h
@@ -426,17 +426,13 @@ pub decide_loads : (l : Layout) (s : Item) (i : ℕ) (r : InputRelocation) (row 
 decide_loads l s i r row listed known h = decide_alone l s i r listed (no_partner l s i r row listed known h) (no_row l s r (slice_get s.relocations (i + 1)) row known h)
 
 pub decide_base_relative : (l : Layout) (s : Item) (i : ℕ) (r : InputRelocation) → slice_get s.relocations i ≡ Some r → treatment l s.flags r ≡ treatments.BaseRelative → decide l s i ≡ decided l s r
-unfolding treatment
-decide_base_relative l s i r listed is = let k = row_moved l s.flags r.number r.symbol (row_of l.machine r.number) is in decide_loads l s i r k.0 listed k.1 (ap loads k.2.kind)
+decide_base_relative l s i r listed is = let k = known_moved l s.flags r is in decide_loads l s i r k.0 listed k.1 (ap loads k.2.kind)
 
 pub decide_symbolic : (l : Layout) (s : Item) (i : ℕ) (r : InputRelocation) (n : ℕ) → slice_get s.relocations i ≡ Some r → treatment l s.flags r ≡ treatments.Symbolic n → decide l s i ≡ decided l s r
-unfolding treatment
-decide_symbolic l s i r n listed is = let k = row_symbolic l s.flags r.number r.symbol (row_of l.machine r.number) n is in decide_loads l s i r k.0 listed k.1 (ap loads k.2.kind)
+decide_symbolic l s i r n listed is = let k = known_symbolic l s.flags r n is in decide_loads l s i r k.0 listed k.1 (ap loads k.2.kind)
 
 pub decide_indirect : (l : Layout) (s : Item) (i : ℕ) (r : InputRelocation) (n : ℕ) → slice_get s.relocations i ≡ Some r → treatment l s.flags r ≡ treatments.Indirect n → decide l s i ≡ decided l s r
-unfolding treatment
-decide_indirect l s i r n listed is = let k = row_indirect l s.flags r.number r.symbol (row_of l.machine r.number) n is in decide_loads l s i r k.0 listed k.1 (ap loads k.2.kind)
+decide_indirect l s i r n listed is = let k = known_indirect l s.flags r n is in decide_loads l s i r k.0 listed k.1 (ap loads k.2.kind)
 
 pub decide_extent : (l : Layout) (s : Item) (i : ℕ) (r : InputRelocation) (row : RelocationKindInfo) (n : ℕ) → slice_get s.relocations i ≡ Some r → treatment l s.flags r ≡ treatments.Extent row n → decide l s i ≡ decided l s r
-unfolding treatment
-decide_extent l s i r row n listed is = let k = row_extent l s.flags r.number r.symbol (row_of l.machine r.number) row n is in decide_loads l s i r row listed k.0 (ap loads k.1.kind)
+decide_extent l s i r row n listed is = let k = known_extent l s.flags r row n is in decide_loads l s i r row listed k.0 (ap loads k.1.kind)

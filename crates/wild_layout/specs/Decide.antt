@@ -40,16 +40,16 @@ use Rattle.wild_relax.specs.Linked.{keeps_bytes}
 use Rattle.wild_layout.specs.Choice.{choice_of, is_partner}
 use Rattle.wild_layout.specs.SymbolValues.{sum, symbol_size}
 use Rattle.wild_layout.specs.SlotValues.{address_of, index_of, decided_address}
-use Rattle.wild_layout.specs.Values.{term_of, value_by}
+use Rattle.wild_layout.specs.Values.{term_of, value_by, value_in, term_at}
 
 -- a value in the row's field, where it is in range
 abbrev pub field : RelocationKindInfo → ℕ → Result Decision Fault
 field row v = if allows row v then Ok (Field row.size v) else Err (faults.OutOfRange v)
 
--- the value of the row's kind, for what A is added to
+-- the row's value, for what A is added to
 abbrev pub field_for : Layout → Item → InputRelocation → RelocationKindInfo → Result ℕ Fault → Result Decision Fault
 field_for l s r row (Err f) = Err f
-field_for l s r row (Ok a) = field row (value_by l row.kind a r.addend (place_of s.address r))
+field_for l s r row (Ok a) = field row (value_in l row a r.addend (place_of s.address r))
 
 -- an address that moves with the base: packed, or listed as an entry
 abbrev pub moved_to : Layout → Item → InputRelocation → Result ℕ Fault → Result Decision Fault
@@ -79,7 +79,7 @@ chosen_to l r (Ok resolver) = if added r == 0 then Ok (Left (ByteSize Eight) (ty
 -- what is decided of a relocation, by its treatment
 abbrev pub decide_by : Layout → Item → InputRelocation → Treatment → Result Decision Fault
 decide_by l s r treatments.Nothing = Ok Nothing
-decide_by l s r (treatments.Value row) = field_for l s r row (term_of l r.symbol row.kind)
+decide_by l s r (treatments.Value row) = field_for l s r row (term_at l r row (place_of s.address r))
 decide_by l s r treatments.BaseRelative = moved_to l s r (address_of l r.symbol)
 decide_by l s r (treatments.Symbolic i) = left_to (ByteSize Eight) (type_of l.machine Absolute) r i (index_of l i)
 decide_by l s r (treatments.Indirect i) = chosen_to l r (decided_address l i)

@@ -33,7 +33,7 @@ use Rattle.wild_layout.specs.Decide.{added, moved_to, left_to, chosen_to, decide
 use Rattle.wild_layout.specs.Left.{entry_for, left_by, left_entry, section_generals}
 use Rattle.wild_layout.specs.Moved.{moved_value, listed_entry, section_entries}
 use Rattle.wild_layout.specs.Sites.{Written, written_by}
-use Rattle.wild_slot.proofs.TreatmentLemmas.{row_moved}
+use Rattle.wild_slot.proofs.TreatmentLemmas.{known_moved}
 use Rattle.wild_layout.proofs.DecideLemmas.{HasField, IsMoved, sized_left, decided_moved, decided_left, moved_has}
 use Rattle.wild_layout.proofs.DecisionLemmas.{decide_base_relative, decide_symbolic, decide_indirect, decide_extent}
 use Rattle.wild_tables.specs.Tables.{relative_entry}
@@ -64,9 +64,8 @@ section_fillings l s = if is_read s then flat_map (λ (r : InputRelocation). opt
 -- ---- by table
 
 known_moves : (l : Layout) (s : InputSection) (r : InputRelocation) → treatment l s.flags r ≡ treatments.BaseRelative → is_position_independent l.kind ≡ true
-unfolding treatment
 known_moves l s r h =
-    let k = row_moved l s.flags r.number r.symbol (row_of l.machine r.number) h in
+    let k = known_moved l s.flags r h in
     first_true (is_position_independent l.kind) (not (has_flag (flags_at l k.2.number) absolute)) k.2.moves
   where
     first_true : (a b : Bool) → (a && b) ≡ true → a ≡ true

@@ -5,13 +5,14 @@ use Rattle.std.specs.Prelude.{◌==◌, ◌&&◌, ◌||◌, not}
 use Rattle.std.specs.List.{flat_map, filter, list_all}
 use Rattle.std.proofs.lemmas.Bool.{eq-eqb}
 use Rattle.std.proofs.lemmas.List.{drop_all}
-use Rattle.wild_records.specs.Abi.Relocation.{r_x86_64_64, r_x86_64_size32, r_x86_64_size64}
+use Rattle.wild_records.specs.Abi.Relocation.{r_aarch64_abs64, r_x86_64_64, r_x86_64_size32, r_x86_64_size64}
 use Rattle.wild_relr.specs.declared.run.Run.{Run}
 use Rattle.wild_relr.specs.Packing.{choice}
 use Rattle.wild_relr.specs.Packed.{counted, new_words, run_after, packed, packed_on}
 use Rattle.wild_reloc.specs.Field.{field_width}
 use Rattle.wild_reloc.specs.TableX86_64.{x86_64_rows, x86_64_row}
-use Rattle.wild_reloc.proofs.TableLemmas.{entry_passes}
+use Rattle.wild_reloc.specs.TableAArch64.{static_rows, thread_rows, static_row, thread_row}
+use Rattle.wild_reloc.proofs.TableLemmas.{entry_passes, parts_pass}
 use Rattle.wild_reloc.specs.declared.info.RelocationKind.{RelocationKind}
 use Rattle.wild_reloc.specs.declared.info.RelocationKind.TheVariants as kinds
 use Rattle.wild_reloc.specs.declared.info.RelocationKindInfo.{RelocationKindInfo}
@@ -27,8 +28,8 @@ use Rattle.wild_types.specs.Lookups.{allocated, writable}
 use Rattle.wild_types.specs.Rows.{row_of}
 use Rattle.wild_types.specs.Flags.{has_flag, interposable, dynamic, ifunc}
 use Rattle.wild_types.specs.Kinds.{is_position_independent, is_shared_object}
-use Rattle.wild_slot.specs.Treatment.{flags_at, row_treatment, treatment}
-use Rattle.wild_slot.proofs.TreatmentLemmas.{IsLeftBy, Says, row_said}
+use Rattle.wild_slot.specs.Treatment.{flags_at, suits, suited, row_treatment, treatment}
+use Rattle.wild_slot.proofs.TreatmentLemmas.{IsLeftBy, Says, row_said, suited_is}
 
 -- a place more, in front
 pub counted_more : (r : Run) (p : ℕ) (ps : List ℕ) → counted r (p ∷ ps) ≡ new_words (choice r p) + counted (run_after (choice r p) r) ps
@@ -71,7 +72,7 @@ row_keeps l s n o (Some row) h = never _ (λ e. (let both : true ≡ false = sym
 
 keeps : (l : Layout) (s : InputSection) (r : InputRelocation) → allocated s.flags ≡ false → is_left_to_entry (treatment l s.flags r) ≡ false
 unfolding treatment
-keeps l s r h = row_keeps l s r.number r.symbol (row_of l.machine r.number) h
+keeps l s r h = row_keeps l s r.number r.symbol (suited l.machine r (row_of l.machine r.number)) h
 
 -- in a section that is not loaded none is
 pub none_left : (l : Layout) (s : InputSection) (rs : List InputRelocation) → allocated s.flags ≡ false → length (filter (λ r. is_left_to_entry (treatment l s.flags r)) rs) ≡ 0
@@ -82,7 +83,7 @@ none_left l s (r ∷ rs) h = let e = keeps l s r h in rw e (none_left l s rs h)
 
 -- the number of such a row
 abbrev has_number : RelocationKind → ℕ → ℕ → Bool
-has_number kinds.Absolute width n = not (width == 8) || n == r_x86_64_64
+has_number kinds.Absolute width n = not (width == 8) || (n == r_x86_64_64 || n == r_aarch64_abs64)
 has_number kinds.SymbolSize width n = n == r_x86_64_size32 || n == r_x86_64_size64
 has_number other width n = true
 
@@ -111,30 +112,29 @@ last_left false b h = h
 address_number : (s : InputSection) (symbol : Option ℕ) (row : RelocationKindInfo) (i n : ℕ) → has_number row.kind (field_width row) n ≡ true → IsLeftBy s.flags symbol row i → writable s.flags ≡ true → may_be_left s n ≡ true
 address_number s symbol row i n h by writes =
     let number : has_number kinds.Absolute (field_width row) n ≡ true = subst (λ (k : RelocationKind). has_number k (field_width row) n ≡ true) by.kind h in
-    first_left (n == r_x86_64_64) (writable s.flags) (n == r_x86_64_size32 || n == r_x86_64_size64) (number_known (field_width row == 8) (n == r_x86_64_64) (eq-eqb (field_width row) 8 by.width) number) writes
+    first_left (n == r_x86_64_64 || n == r_aarch64_abs64) (writable s.flags) (n == r_x86_64_size32 || n == r_x86_64_size64) (number_known (field_width row == 8) (n == r_x86_64_64 || n == r_aarch64_abs64) (eq-eqb (field_width row) 8 by.width) number) writes
 
 entry_number : (l : Layout) (s : InputSection) (symbol : Option ℕ) (row : RelocationKindInfo) (n : ℕ) (t : Treatment) → has_number row.kind (field_width row) n ≡ true → Says l s.flags symbol row t → is_left_to_entry t ≡ true → may_be_left s n ≡ true
 entry_number l s symbol row n (Symbolic i) h says e = address_number s symbol row i n h says.0 (writes_there (allocated s.flags) (writable s.flags) (field_width row == 8) (interposable (flags_at l i)) says.1)
 entry_number l s symbol row n (Indirect i) h says e = address_number s symbol row i n h says.0 (writes_there (allocated s.flags) (writable s.flags) (is_position_independent l.kind) (has_flag (flags_at l i) ifunc) says.1.chosen)
-entry_number l s symbol row n (Extent r i) h says e = last_left (n == r_x86_64_64 && writable s.flags) (n == r_x86_64_size32 || n == r_x86_64_size64) (subst (λ (k : RelocationKind). has_number k (field_width row) n ≡ true) says.1.kind h)
+entry_number l s symbol row n (Extent r i) h says e = last_left ((n == r_x86_64_64 || n == r_aarch64_abs64) && writable s.flags) (n == r_x86_64_size32 || n == r_x86_64_size64) (subst (λ (k : RelocationKind). has_number k (field_width row) n ≡ true) says.1.kind h)
 entry_number l s symbol row n other h says e = cc
 
-row_stays : (l : Layout) (s : InputSection) (o : Option ℕ) (n : ℕ) (row : Option RelocationKindInfo) → x86_64_row n ≡ row → may_be_left s n ≡ false → is_left_to_entry (row_treatment l s.flags n o row) ≡ false
-unfolding row_treatment x86_64_row
+row_stays : (l : Layout) (s : InputSection) (o : Option ℕ) (n : ℕ) (row : Option RelocationKindInfo) → ((r : RelocationKindInfo) → row ≡ Some r → has_number r.kind (field_width r) n ≡ true) → may_be_left s n ≡ false → is_left_to_entry (row_treatment l s.flags n o row) ≡ false
+unfolding row_treatment
 row_stays l s o n None known m = refl
 row_stays l s o n (Some row) known m =
-    let number = entry_passes (λ (k : ℕ) (r : RelocationKindInfo). has_number r.kind (field_width r) k) x86_64_rows each_has_number n row known in
-    never _ (λ e. (let both : true ≡ false = sym (entry_number l s o row n (row_treatment l s.flags n o (Some row)) number (row_said l s.flags n o row) e) ∙ m in cc))
+    never _ (λ e. (let both : true ≡ false = sym (entry_number l s o row n (row_treatment l s.flags n o (Some row)) (known row refl) (row_said l s.flags n o row) e) ∙ m in cc))
 
-machine_stays : (l : Layout) (s : InputSection) (o : Option ℕ) (k : Machine) (n : ℕ) → may_be_left s n ≡ false → is_left_to_entry (row_treatment l s.flags n o (row_of k n)) ≡ false
-unfolding row_treatment row_of
-machine_stays l s o machine.AArch64 n m = refl
-machine_stays l s o machine.X86_64 n m = row_stays l s o n (x86_64_row n) refl m
+number_here : (k : Machine) (n : ℕ) (row : RelocationKindInfo) → row_of k n ≡ Some row → has_number row.kind (field_width row) n ≡ true
+unfolding row_of x86_64_row static_row thread_row
+number_here machine.X86_64 n row known = entry_passes (λ (k : ℕ) (r : RelocationKindInfo). has_number r.kind (field_width r) k) x86_64_rows each_has_number n row known
+number_here machine.AArch64 n row known = parts_pass (λ (k : ℕ) (r : RelocationKindInfo). has_number r.kind (field_width r) k) static_rows thread_rows refl refl n row known
 
 -- the field of a relocation of another type is left to none
 pub others_stay : (l : Layout) (s : InputSection) (r : InputRelocation) → may_be_left s r.number ≡ false → is_left_to_entry (treatment l s.flags r) ≡ false
 unfolding treatment
-others_stay l s r m = machine_stays l s r.symbol l.machine r.number m
+others_stay l s r m = row_stays l s r.symbol r.number (suited l.machine r (row_of l.machine r.number)) (λ row h. number_here l.machine r.number row (suited_is l.machine r (row_of l.machine r.number) row h)) m
 
 -- ---- symbols that entries do not name
 
@@ -168,4 +168,4 @@ row_plain l s n o (Some row) h = never _ (λ e. (let both : true ≡ false = sym
 -- the field of a relocation of another symbol is left to none
 pub plain_stay : (l : Layout) (s : InputSection) (r : InputRelocation) → may_have_entry l r.symbol ≡ false → is_left_to_entry (treatment l s.flags r) ≡ false
 unfolding treatment
-plain_stay l s r h = row_plain l s r.number r.symbol (row_of l.machine r.number) h
+plain_stay l s r h = row_plain l s r.number r.symbol (suited l.machine r (row_of l.machine r.number)) h

@@ -9,7 +9,7 @@
 --   general_count l f               how many entries a file has for these, and for the symbols that it has copied
 use Rattle.std.specs.Prelude.{ℕ, ◌+◌, ◌==◌, ◌&&◌, ◌||◌, Bool, true, false, not, if◌then◌else◌, List, [], length, Option, Some, None, option_to_list}
 use Rattle.std.specs.List.{flat_map, filter}
-use Rattle.wild_records.specs.Abi.Relocation.{r_x86_64_64, r_x86_64_size32, r_x86_64_size64}
+use Rattle.wild_records.specs.Abi.Relocation.{r_aarch64_abs64, r_x86_64_64, r_x86_64_size32, r_x86_64_size64}
 use Rattle.wild_relr.specs.Packed.{packed}
 use Rattle.wild_types.specs.declared.input.InputRelocation.{InputRelocation}
 use Rattle.wild_types.specs.declared.input.InputSection.{InputSection}
@@ -74,7 +74,7 @@ is_left_to_entry other = false
 
 -- no other type has a field that such an entry fills: an address of 8 bytes, where the program may write, and a size
 abbrev pub may_be_left : InputSection → ℕ → Bool
-may_be_left s n = n == r_x86_64_64 && writable s.flags || (n == r_x86_64_size32 || n == r_x86_64_size64)
+may_be_left s n = (n == r_x86_64_64 || n == r_aarch64_abs64) && writable s.flags || (n == r_x86_64_size32 || n == r_x86_64_size64)
 
 -- nor is a field of a symbol that only this output defines, which is no IFUNC
 abbrev pub may_have_entry : Layout → Option ℕ → Bool

@@ -22,7 +22,8 @@ use Rattle.wild_reloc.specs.declared.info.RelocationKind.{RelocationKind}
 use Rattle.wild_reloc.specs.declared.info.RelocationKind.TheVariants as kinds
 use Rattle.wild_reloc.specs.declared.info.RelocationKindInfo.{RelocationKindInfo}
 use Rattle.wild_layout.specs.Geometry.{NamesSymbol}
-use Rattle.wild_slot.proofs.TreatmentLemmas.{HasValue, treated_says}
+use Rattle.wild_slot.proofs.TreatmentLemmas.{treated_says}
+use Rattle.wild_reloc.specs.Expression.{expression_of, writes}
 use Rattle.wild_loader.specs.declared.memory.Memory.{Memory}
 use Rattle.wild_loader.specs.declared.world.World.{World}
 use Rattle.wild_meaning.specs.Field.{formula_of}
@@ -72,7 +73,7 @@ left_open l s row i h = by_tests (allocated s.flags) (writable s.flags) (field_w
     by_tests false b wide fixed e f h = cc
 
 -- the only known kind that is S + A
-address_kind : (k : RelocationKind) → HasValue k → plain_value k ≡ SymbolAddress → k ≡ kinds.Absolute
+address_kind : (k : RelocationKind) → writes (expression_of k).class ≡ true → plain_value k ≡ SymbolAddress → k ≡ kinds.Absolute
 address_kind kinds.Absolute v e = refl
 address_kind kinds.Relative v e = cc
 address_kind kinds.GotBaseRelative v e = cc
@@ -95,10 +96,10 @@ defined_within : (l : Layout) (i : ℕ) {flag : ℕ} {b : Bool} → HasFlag l i 
 defined_within l i h = rw (canonical_is l i h.definition h.defined) (slice_get_within l.symbols h.definition h.symbol h.listed)
 
 -- so that a field that is written, or moves, is none
-pub not_left : (l : Layout) (s : Item) (r : InputRelocation) (row : RelocationKindInfo) (i : ℕ) (t : Treatment) (fits : RowFits r.number row) → HasValue row.kind → allocated s.flags ≡ true → treatment l s.flags r ≡ t → (treatments.Recompile ≡ t → ⊥) → (treatments.Symbolic i ≡ t → ⊥) → row_of l.machine r.number ≡ Some row → r.symbol ≡ Some i → IsLeftToLoader l s i fits.formula → ⊥
-not_left l s r row i t fits value room is no_recompile no_entry known named left =
-    let kind = address_kind row.kind value (fits.value ∙ left.value) in
-    let treated = address_by l s r row i t (defined_within l i left.interposable) is known kind named in
+pub not_left : (l : Layout) (s : Item) (r : InputRelocation) (row : RelocationKindInfo) (i : ℕ) (t : Treatment) (fits : RowFits r.number row) → allocated s.flags ≡ true → treatment l s.flags r ≡ t → (treatments.Unsupported ≡ t → ⊥) → (treatments.Recompile ≡ t → ⊥) → (treatments.Symbolic i ≡ t → ⊥) → row_of l.machine r.number ≡ Some row → r.symbol ≡ Some i → IsLeftToLoader l s i fits.formula → ⊥
+not_left l s r row i t fits room is some no_recompile no_entry known named left =
+    let kind = address_kind row.kind fits.whole (fits.value ∙ left.value) in
+    let treated = address_by l s r row i t (defined_within l i left.interposable) is some known kind named in
     let kept = address_kept l s r.number row i t treated no_recompile no_entry in
     let asked = left_asked l s row i room left.writable (fits.width ∙ left.wide) left.interposable in
     let e : true ≡ false = sym asked ∙ kept in
@@ -187,15 +188,15 @@ left_follows l w m s index r p listed f known a = by_treatment f.left.treated f.
 
     by_treatment : (t : Treatment) → is_left_to_entry t ≡ true → treatment l s.flags r ≡ t → ⊥
     by_treatment (treatments.Symbolic i) left is =
-        let k = known_symbolic l s r i is in
+        let k = known_symbolic l s.flags r i is in
         let e = one_row k.0 k.1 in
         by_symbolic i is (subst (λ (x : RelocationKindInfo). x.kind ≡ kinds.Absolute) e k.2.kind) (subst (λ (x : RelocationKindInfo). field_width x ≡ 8) e k.2.width) k.2.named
     by_treatment (treatments.Indirect i) left is =
-        let k = known_indirect l s r i is in
+        let k = known_indirect l s.flags r i is in
         let e = one_row k.0 k.1 in
         by_resolver i is (subst (λ (x : RelocationKindInfo). x.kind ≡ kinds.Absolute) e k.2.kind) (subst (λ (x : RelocationKindInfo). field_width x ≡ 8) e k.2.width) k.2.named
     by_treatment (treatments.Extent x i) left is =
-        let k = known_extent l s r x i is in
+        let k = known_extent l s.flags r x i is in
         let kind : row.kind ≡ kinds.SymbolSize = subst (λ (y : RelocationKindInfo). y.kind ≡ kinds.SymbolSize) (one_row x k.0) k.1.kind in
         (itself_by l s a.symbol f.fits.formula Size (sym f.fits.value ∙ ap plain_value kind) (λ o. o) takes).0
     by_treatment other left is = cc

@@ -395,9 +395,9 @@ extent_given l w m s r row i number symbol addend z bs fits p signed listed here
 -- ---- the entry of a relocation
 
 -- the treatment of an address is that of its symbol
-pub address_by : (l : Layout) (s : Item) (r : InputRelocation) (row : RelocationKindInfo) (i : ℕ) (t : Treatment) → canonical l i < length l.symbols → treatment l s.flags r ≡ t → row_of l.machine r.number ≡ Some row → row.kind ≡ kinds.Absolute → r.symbol ≡ Some i → address_treatment l s.flags r.number row i ≡ t
-address_by l s r row i t inside is known kind named =
-    let a : kind_treatment l s.flags r.number r.symbol row row.kind ≡ t = sym (treated_by l s r row known) ∙ is in
+pub address_by : (l : Layout) (s : Item) (r : InputRelocation) (row : RelocationKindInfo) (i : ℕ) (t : Treatment) → canonical l i < length l.symbols → treatment l s.flags r ≡ t → (treatments.Unsupported ≡ t → ⊥) → row_of l.machine r.number ≡ Some row → row.kind ≡ kinds.Absolute → r.symbol ≡ Some i → address_treatment l s.flags r.number row i ≡ t
+address_by l s r row i t inside is some known kind named =
+    let a : kind_treatment l s.flags r.number r.symbol row row.kind ≡ t = treated_by l s r row t known is some in
     let b : kind_treatment l s.flags r.number r.symbol row kinds.Absolute ≡ t = subst (λ (k : RelocationKind). kind_treatment l s.flags r.number r.symbol row k ≡ t) kind a in
     peeled l row i (address_treatment l s.flags r.number row i) t inside (subst (λ (o : Option ℕ). kind_treatment l s.flags r.number o row kinds.Absolute ≡ t) named b)
 
@@ -414,17 +414,17 @@ left_given agrees l w m s r z number symbol addend bs p listed fits made reads =
   where
     by_treatment : (t : Treatment) → is_left_to_entry t ≡ true → treatment l s.flags r ≡ t → decide_by l s r t ≡ Ok (Left z number symbol addend) → FieldGiven l w m s r bs
     by_treatment (treatments.Symbolic i) left is h =
-        let k = known_symbolic l s r i is in
+        let k = known_symbolic l s.flags r i is in
         let f = row_fits r.number k.0 agrees (row_here l r.number k.0 p.x86 k.1) (ap has_value k.2.kind) in
         record { formula = f.formula; known = formula_here l r k.0 p.x86 f; given = symbolic_given l w m s r i number symbol addend z bs f.formula p fits k.2.named (sym f.value ∙ ap plain_value k.2.kind) (f.full k.2.kind k.2.width) h reads }
     by_treatment (treatments.Indirect i) left is h =
-        let k = known_indirect l s r i is in
+        let k = known_indirect l s.flags r i is in
         let f = row_fits r.number k.0 agrees (row_here l r.number k.0 p.x86 k.1) (ap has_value k.2.kind) in
         let inside = listed i k.2.named in
         let chosen = chosen_own l w m s k.0 i p inside k.2.width k.3 in
         record { formula = f.formula; known = formula_here l r k.0 p.x86 f; given = indirect_given l w m s r i number symbol addend z bs f.formula p inside chosen k.2.named (sym f.value ∙ ap plain_value k.2.kind) (f.full k.2.kind k.2.width) h reads }
     by_treatment (treatments.Extent row i) left is h =
-        let k = known_extent l s r row i is in
+        let k = known_extent l s.flags r row i is in
         let here = row_here l r.number row p.x86 k.0 in
         let f = row_fits r.number row agrees here (ap has_value k.1.kind) in
         let sized = sized_parts l r row i (left_to row.size r.number r i (index_of l i)) (Left z number symbol addend) h in

@@ -156,7 +156,7 @@ below_all l kind s p v a e = subst (λ (n : ℕ). n < 2 ^ 64) e (value_below l k
 pub value_reads : (l : Layout) (w : World) (m : Memory) (s : Item) (i : ℕ) (r : InputRelocation) → (h : IsItemLoaded l w m s) → (v : IsValue l s i r) → FieldReads w m s r v.fits.formula.form v.value
 value_reads l w m s i r h v =
     let f = v.field in
-    let low = below_all l f.row.kind f.term (place_of s.address r) v.value r.addend f.value in
+    let low = below_all l f.row.kind f.term (place_of s.address r) v.value r.addend v.is in
     let held = h.item.values i r v.size v.value v.plain.has in
     row_reads l w m s i r f.row v.fits.formula.form v.value h v.plain.has.listed (record { row = f.row; known = f.known; kind = f.kind; size = refl })
     (record { width = v.fits.width; reads = λ old long. v.fits.reads v.value old low long f.allowed; keeps = whole_bytes r.number v.fits.formula v.fits.known })

@@ -10,6 +10,8 @@ use Rattle.wild_reloc.specs.Field.{field_width, allows, written}
 use Rattle.wild_reloc.specs.Formula.{Formula, Value, Form, NoField, Plain, Full, Bits, Reads}
 use Rattle.wild_reloc.specs.FormulaX86_64.{x86_64_formula}
 use Rattle.wild_reloc.specs.Agreement.{X86_64Agrees, Agrees, plain_value, value_of}
+use Rattle.wild_reloc.specs.Expression.{expression_of, taken_of, has_value, writes}
+use Rattle.wild_reloc.specs.declared.expression.Class.{Class}
 use Rattle.wild_reloc.specs.declared.info.PageMask.{PageMask}
 use Rattle.wild_reloc.specs.declared.info.RelocationKind.{RelocationKind}
 use Rattle.wild_reloc.specs.declared.info.RelocationKind.TheVariants as kinds
@@ -29,6 +31,8 @@ pub record RowFits (n : ℕ) (row : RelocationKindInfo) : Type 0 where
   pub width : field_width row ≡ form_width formula.form
   pub some : 0 < field_width row
   pub value : plain_value row.kind ≡ formula.value
+  pub whole : writes (expression_of row.kind).class ≡ true
+  pub taken : taken_of row.kind row.mask ≡ (expression_of row.kind).taken
   pub full : row.kind ≡ kinds.Absolute → field_width row ≡ 8 → formula.form ≡ Full
   pub reads : (v : ℕ) (old : List ℕ) → v < 2 ^ 64 → length old ≡ field_width row → allows row v ≡ true → Reads formula.form (written row v old) v
 
@@ -63,8 +67,12 @@ abbrev full_address : RelocationKind → ℕ → Option Formula → Bool
 full_address kinds.Absolute width o = if width == 8 then full_form o else true
 full_address other width o = true
 
+-- a value is all of it in its field
+abbrev all_of_it : Class → Bool
+all_of_it c = if has_value c then writes c else true
+
 abbrev row_test : ℕ → RelocationKindInfo → Bool
-row_test n row = is_whole row.mask row.size && (same_width (x86_64_formula n) (field_width row) && (few_numbers row.kind n && full_address row.kind (field_width row) (x86_64_formula n)))
+row_test n row = all_of_it (expression_of row.kind).class && (is_whole row.mask row.size && (same_width (x86_64_formula n) (field_width row) && (few_numbers row.kind n && full_address row.kind (field_width row) (x86_64_formula n))))
 
 each_passes : list_all (λ (e : ℕ × RelocationKindInfo). row_test e.0 e.1) x86_64_rows ≡ true
 unfolding x86_64_formula
@@ -76,10 +84,22 @@ passes n row is = entry_passes row_test x86_64_rows each_passes n row is
 
 -- ---- rows that fit
 
-value_is : (kind : RelocationKind) (mask : Option PageMask) (size : RelocationSize) (value : Value) → is_whole mask size ≡ true → value_of kind mask size ≡ Some value → plain_value kind ≡ value
-value_is kind None (ByteSize n) value e h = cc
+-- what is taken, and the value, of a row without a mask
+record IsUnmasked (kind : RelocationKind) (mask : Option PageMask) (value : Value) : Type 0 where
+  less : taken_of kind mask ≡ (expression_of kind).taken
+  is : plain_value kind ≡ value
+
+value_is : (kind : RelocationKind) (mask : Option PageMask) (size : RelocationSize) (value : Value) → is_whole mask size ≡ true → value_of kind mask size ≡ value → IsUnmasked kind mask value
+value_is kind None (ByteSize n) value e h = record { less = refl; is = h }
 value_is kind None (BitMasking bits) value e h = cc
 value_is kind (Some mask) size value e h = cc
+
+all_written : (kind : RelocationKind) → HasValue kind → all_of_it (expression_of kind).class ≡ true → writes (expression_of kind).class ≡ true
+all_written kind v h = by_test (has_value (expression_of kind).class) v h
+  where
+    by_test : (b : Bool) → b ≡ true → (if b then writes (expression_of kind).class else true) ≡ true → writes (expression_of kind).class ≡ true
+    by_test true e h = h
+    by_test false e h = cc
 
 form_full : (form : Form) → is_full form ≡ true → form ≡ Full
 form_full Full h = refl
@@ -92,14 +112,16 @@ full_is kind f width h k w =
     let there : full_address kinds.Absolute 8 (Some f) ≡ true = subst (λ (x : RelocationKind). full_address x 8 (Some f) ≡ true) k (subst (λ (n : ℕ). full_address kind n (Some f) ≡ true) w h) in
     form_full f.form there
 
-fits_formula : (n : ℕ) (row : RelocationKindInfo) (o : Option Formula) → HasValue row.kind → row_of machine.X86_64 n ≡ Some row → x86_64_formula n ≡ o → is_whole row.mask row.size ≡ true → same_width o (field_width row) ≡ true → full_address row.kind (field_width row) o ≡ true → Agrees row o → RowFits n row
-fits_formula n row None kind is known mask wide full agrees = absurd agrees
-fits_formula n row (Some f) kind is known mask wide full agrees = record {
+fits_formula : (n : ℕ) (row : RelocationKindInfo) (o : Option Formula) → HasValue row.kind → row_of machine.X86_64 n ≡ Some row → x86_64_formula n ≡ o → all_of_it (expression_of row.kind).class ≡ true → is_whole row.mask row.size ≡ true → same_width o (field_width row) ≡ true → full_address row.kind (field_width row) o ≡ true → Agrees row o → RowFits n row
+fits_formula n row None kind is known all mask wide full agrees = absurd agrees
+fits_formula n row (Some f) kind is known all mask wide full agrees = record {
   formula = f;
   known = known;
   width = eqb-true _ _ wide;
   some = value_has_field machine.X86_64 n row is kind;
-  value = value_is row.kind row.mask row.size f.value mask agrees.value;
+  value = (value_is row.kind row.mask row.size f.value mask agrees.value).is;
+  whole = all_written row.kind kind all;
+  taken = (value_is row.kind row.mask row.size f.value mask agrees.value).less;
   full = λ k w. full_is row.kind f (field_width row) full k w;
   reads = agrees.reads;
 }
@@ -108,15 +130,17 @@ fits_formula n row (Some f) kind is known mask wide full agrees = record {
 pub row_fits : (n : ℕ) (row : RelocationKindInfo) → X86_64Agrees → row_of machine.X86_64 n ≡ Some row → HasValue row.kind → RowFits n row
 unfolding row_of
 row_fits n row agrees is kind =
-    let tests = and_parts _ _ (passes n row is) in
+    let all = and_parts _ _ (passes n row is) in
+    let tests = and_parts _ _ all.1 in
     let rest = and_parts _ _ tests.1 in
     let last = and_parts _ _ rest.1 in
-    fits_formula n row (x86_64_formula n) kind is refl tests.0 rest.0 last.1 (agrees n row is)
+    fits_formula n row (x86_64_formula n) kind is refl all.0 tests.0 rest.0 last.1 (agrees n row is)
 
 -- the type of a row of such a kind
 few_at : (n : ℕ) (row : RelocationKindInfo) (k : RelocationKind) → row_of machine.X86_64 n ≡ Some row → row.kind ≡ k → few_numbers k n ≡ true
 few_at n row k is kind =
-    let tests = and_parts _ _ (passes n row is) in
+    let all = and_parts _ _ (passes n row is) in
+    let tests = and_parts _ _ all.1 in
     let rest = and_parts _ _ tests.1 in
     let last = and_parts _ _ rest.1 in
     subst (λ (k : RelocationKind). few_numbers k n ≡ true) kind last.0

@@ -8,7 +8,7 @@ use Rattle.wild_types.specs.declared.layout.Layout.{Layout}
 use Rattle.wild_slot.specs.declared.treatment.Treatment.TheVariants as treatments
 use Rattle.wild_slot.specs.Treatment.{kind_treatment}
 use Rattle.wild_reloc.specs.Agreement.{plain_value}
-use Rattle.wild_reloc.specs.Expression.{expression_of, expressed}
+use Rattle.wild_reloc.specs.Expression.{expression_of, expressed, writes}
 use Rattle.wild_reloc.specs.declared.expression.SlotSort.{SlotSort}
 use Rattle.wild_reloc.specs.declared.expression.SlotSort.TheVariants as sorts
 use Rattle.wild_reloc.specs.declared.expression.Taken.{Taken}
@@ -23,7 +23,7 @@ use Rattle.wild_layout.specs.Geometry.{NamesSymbol}
 use Rattle.wild_layout.specs.Numbers.{AddendFits}
 use Rattle.wild_layout.specs.Values.{term_of}
 use Rattle.wild_layout.proofs.DecideLemmas.{field_has}
-use Rattle.wild_slot.proofs.TreatmentLemmas.{has_value, HasValue}
+use Rattle.wild_slot.proofs.TreatmentLemmas.{has_value}
 use Rattle.wild_loader.specs.declared.world.World.{World}
 use Rattle.wild_loader.specs.declared.memory.Memory.{Memory}
 use Rattle.wild_meaning.specs.Field.{formula_of, FieldReads}
@@ -42,14 +42,14 @@ use Rattle.wild_references.proofs.Written.{IsValue, IsAddress, IsLeftField, IsCa
 
 -- ---- values
 
-gives_by : (l : Layout) (w : World) (m : Memory) (s : Item) (r : InputRelocation) (k : RelocationKind) (x : ℕ) → KindLaws → HasValue k → HasTerm l w m s r k x → IsFollowed l r k → (k ≡ kinds.TlsDesc → HasOffsetMode l s → ⊥) → Gives (plain_value k) l w m s r x
+gives_by : (l : Layout) (w : World) (m : Memory) (s : Item) (r : InputRelocation) (k : RelocationKind) (x : ℕ) → KindLaws → writes (expression_of k).class ≡ true → HasTerm l w m s r k x → IsFollowed l r k → (k ≡ kinds.TlsDesc → HasOffsetMode l s → ⊥) → Gives (plain_value k) l w m s r x
 gives_by l w m s r k x laws v h f none = by_term (expression_of k).term refl
   where
-    descriptor : (j : RelocationKind) → (expression_of j).term ≡ term.Slot sorts.Descriptor → HasValue j → j ≡ kinds.TlsDesc
+    descriptor : (j : RelocationKind) → (expression_of j).term ≡ term.Slot sorts.Descriptor → writes (expression_of j).class ≡ true → j ≡ kinds.TlsDesc
     descriptor kinds.TlsDesc e v = refl
     descriptor other e v = cc
 
-    no_term : (j : RelocationKind) → (expression_of j).term ≡ term.Nothing → HasValue j → true ≡ false
+    no_term : (j : RelocationKind) → (expression_of j).term ≡ term.Nothing → writes (expression_of j).class ≡ true → true ≡ false
     no_term kinds.None e v = (let both : false ≡ true = v in sym both)
     no_term kinds.TlsDescCall e v = (let both : false ≡ true = v in sym both)
     no_term other e v = cc
@@ -74,10 +74,10 @@ term_is l w m s i r h asked v =
       listed = holds_at (NamesSymbol l) s.relocations i r v.plain.has.listed h.symbols;
       row = v.field.row;
       number = r.number;
-      treated = sym (treated_by l s r v.field.row v.field.known) ∙ v.field.treated;
+      treated = treated_by l s r v.field.row (treatments.Value v.field.row) v.field.known v.field.treated (λ e. cc);
       term = v.field.term;
-      given = v.field.given;
-      value = v.field.value;
+      given = v.given;
+      value = v.is;
       place = place_is l w m s i r v.size h v.plain.has.listed field;
       ends = place_ends l w m s i r v.size h v.plain.has.listed field;
       asked = λ relative movable k named absolute. asked (record {
@@ -91,21 +91,21 @@ term_is l w m s i r h asked v =
 
 value_followed : (l : Layout) (w : World) (m : Memory) (s : Item) (i : ℕ) (r : InputRelocation) → IsItemLoaded l w m s → (v : IsValue l s i r) → (IsLinkedAlone l s r → ⊥) → IsFollowed l r v.field.row.kind
 value_followed l w m s i r h v alone =
-    followed l w m s r v.field.row.kind v.fits.formula h.placed (holds_at (NamesSymbol l) s.relocations i r v.plain.has.listed h.symbols) (formula_known l r.number v.fits.formula h.placed.x86 v.fits.known) v.fits.value (λ k named left. not_left l s r v.field.row k (treatments.Value v.field.row) v.fits v.field.kind h.room v.field.treated (λ e. cc) (λ e. cc) v.field.known named left) alone
+    followed l w m s r v.field.row.kind v.fits.formula h.placed (holds_at (NamesSymbol l) s.relocations i r v.plain.has.listed h.symbols) (formula_known l r.number v.fits.formula h.placed.x86 v.fits.known) v.fits.value (λ k named left. not_left l s r v.field.row k (treatments.Value v.field.row) v.fits h.room v.field.treated (λ e. cc) (λ e. cc) (λ e. cc) v.field.known named left) alone
 
 -- a descriptor's reference that is kept is no offset
 no_offset : (l : Layout) (w : World) (m : Memory) (s : Item) (i : ℕ) (r : InputRelocation) → IsItemLoaded l w m s → (v : IsValue l s i r) → v.field.row.kind ≡ kinds.TlsDesc → HasOffsetMode l s → ⊥
 no_offset l w m s i r h v kind mode =
     let f = v.field in
-    let named = symbol_named r.symbol (λ k. treatments.Value f.row) f.row (subst (λ (k : RelocationKind). kind_treatment l s.flags r.number r.symbol f.row k ≡ treatments.Value f.row) kind (sym (treated_by l s r f.row f.known) ∙ f.treated)) in
+    let named = symbol_named r.symbol (λ k. treatments.Value f.row) f.row (subst (λ (k : RelocationKind). kind_treatment l s.flags r.number r.symbol f.row k ≡ treatments.Value f.row) kind (treated_by l s r f.row (treatments.Value f.row) f.known f.treated (λ e. cc))) in
     let number = descriptor_is r.number f.row (row_here l r.number f.row h.placed.x86 f.known) kind in
     let inside = field_within l w m s i r v.size h v.plain.has.listed (field_has l s r v.size v.value f) in
-    descriptor_kept l s r (slice_get s.relocations (i + 1)) named.0 f.term v.plain.own.choice h.placed.x86 h.placed.symbols named.1 number (subst (λ (k : RelocationKind). term_of l r.symbol k ≡ Ok f.term) kind f.given) (omega (arith, inside)) mode
+    descriptor_kept l s r (slice_get s.relocations (i + 1)) named.0 f.term v.plain.own.choice h.placed.x86 h.placed.symbols named.1 number (subst (λ (k : RelocationKind). term_of l r.symbol k ≡ Ok f.term) kind v.given) (omega (arith, inside)) mode
 
 gives_value : (l : Layout) (w : World) (m : Memory) (s : Item) (i : ℕ) (r : InputRelocation) → IsItemLoaded l w m s → IsAsked l w s r → (v : IsValue l s i r) → (IsLinkedAlone l s r → ⊥) → Gives v.fits.formula.value l w m s r v.value
 gives_value l w m s i r h asked v alone =
     subst (λ (q : Value). Gives q l w m s r v.value) v.fits.value
-    (gives_by l w m s r v.field.row.kind v.value h.kinds v.field.kind (term_is l w m s i r h asked v) (value_followed l w m s i r h v alone) (no_offset l w m s i r h v))
+    (gives_by l w m s r v.field.row.kind v.value h.kinds v.fits.whole (term_is l w m s i r h asked v) (value_followed l w m s i r h v alone) (no_offset l w m s i r h v))
 
 gives_address : (l : Layout) (w : World) (m : Memory) (s : Item) (i : ℕ) (r : InputRelocation) → IsItemLoaded l w m s → (a : IsAddress l s i r) → (IsLinkedAlone l s r → ⊥) → Gives a.fits.formula.value l w m s r ((a.value + w.base) % 2 ^ 64)
 gives_address l w m s i r h a alone =
@@ -113,7 +113,7 @@ gives_address l w m s i r h a alone =
     let known = formula_known l r.number a.fits.formula h.placed.x86 a.fits.known in
     let kind = a.moved.by.kind in
     let value : plain_value kinds.Absolute ≡ a.fits.formula.value = sym (ap plain_value kind) ∙ a.fits.value in
-    let f = followed l w m s r kinds.Absolute a.fits.formula h.placed listed known value (λ k named left. not_left l s r a.moved.row k treatments.BaseRelative a.fits (ap has_value kind) h.room a.moved.treated (λ e. cc) (λ e. cc) a.moved.known named left) alone in
+    let f = followed l w m s r kinds.Absolute a.fits.formula h.placed listed known value (λ k named left. not_left l s r a.moved.row k treatments.BaseRelative a.fits h.room a.moved.treated (λ e. cc) (λ e. cc) (λ e. cc) a.moved.known named left) alone in
     subst (λ (q : Value). Gives q l w m s r ((a.value + w.base) % 2 ^ 64)) value (h.kinds.address l w m s r a.value a.packed h.placed listed a.plain.own.made f)
 
 -- ---- the reference
@@ -197,14 +197,18 @@ none_taken term.ModuleOffset u none h = (let both : true ≡ false = none in cc)
 none_taken term.Stub less.Nothing none h = elim h [ inl o ↦ o | inr a ↦ a ]
 none_taken term.Stub less.Place none h = elim h [ inl o ↦ o | inr a ↦ a ]
 none_taken term.Stub less.Table none h = elim h [ inl o ↦ o | inr a ↦ a ]
+none_taken term.Stub less.PagePlace none h = elim h [ inl o ↦ o | inr a ↦ a ]
+none_taken term.Stub less.PageTable none h = elim h [ inl o ↦ o | inr a ↦ a ]
 none_taken (term.Slot sort) less.Nothing none h = elim h [ inl o ↦ o | inr a ↦ a ]
 none_taken (term.Slot sort) less.Place none h = elim h [ inl o ↦ o | inr a ↦ a ]
 none_taken (term.Slot sort) less.Table none h = elim h [ inl o ↦ o | inr a ↦ a ]
+none_taken (term.Slot sort) less.PagePlace none h = elim h [ inl o ↦ o | inr a ↦ a ]
+none_taken (term.Slot sort) less.PageTable none h = elim h [ inl o ↦ o | inr a ↦ a ]
 none_taken term.Table u none h = elim h [ inl o ↦ o | inr a ↦ a ]
 none_taken term.Size u none h = elim h [ inl o ↦ o | inr a ↦ a ]
 none_taken term.Nothing u none h = elim h [ inl o ↦ o | inr a ↦ a ]
 
-links_by : (l : Layout) (w : World) (m : Memory) (s : Item) (r : InputRelocation) (k : RelocationKind) (x i : ℕ) → LinkedLaws → HasValue k → HasTerm l w m s r k x → w.base ≡ 0 → r.symbol ≡ Some i → (IsStubbed l i → ⊥) ⊎ TakesOffset (plain_value k) → TakesOffset (plain_value k) ⊎ TakesAddress (plain_value k) → GivesLinked (plain_value k) l w s r x
+links_by : (l : Layout) (w : World) (m : Memory) (s : Item) (r : InputRelocation) (k : RelocationKind) (x i : ℕ) → LinkedLaws → writes (expression_of k).class ≡ true → HasTerm l w m s r k x → w.base ≡ 0 → r.symbol ≡ Some i → (IsStubbed l i → ⊥) ⊎ TakesOffset (plain_value k) → TakesOffset (plain_value k) ⊎ TakesAddress (plain_value k) → GivesLinked (plain_value k) l w s r x
 links_by l w m s r k x i laws v h zero named alone t = by_term (expression_of k).term refl
   where
     -- the value of another term takes neither
@@ -234,7 +238,7 @@ value_links : (l : Layout) (w : World) (m : Memory) (s : Item) (i : ℕ) (r : In
 value_links l w m s i r h a zero v =
     let known = formula_known l r.number v.fits.formula h.placed.x86 v.fits.known in
     let t = taken l s r v.fits.formula known a in
-    let given = links_by l w m s r v.field.row.kind v.value a.symbol h.linked v.field.kind (term_is l w m s i r h (λ e. zero) v) zero a.named (alone_by l s a.symbol v.fits.formula (plain_value v.field.row.kind) v.fits.value t) (takes_by l s a.symbol v.fits.formula (plain_value v.field.row.kind) v.fits.value t) in
+    let given = links_by l w m s r v.field.row.kind v.value a.symbol h.linked v.fits.whole (term_is l w m s i r h (λ e. zero) v) zero a.named (alone_by l s a.symbol v.fits.formula (plain_value v.field.row.kind) v.fits.value t) (takes_by l s a.symbol v.fits.formula (plain_value v.field.row.kind) v.fits.value t) in
     record {
       formula = v.fits.formula;
       known = known;

@@ -41,7 +41,7 @@ use Rattle.wild_references.proofs.ValueKinds.{gives_sum, gives_distance, gives_f
 abbrev symbol_less : Taken → RelocationKind
 symbol_less less.Nothing = kinds.Absolute
 symbol_less less.Place = kinds.Relative
-symbol_less less.Table = kinds.SymRelGotBase
+symbol_less other = kinds.SymRelGotBase
 
 symbol_kind : (k : RelocationKind) → (expression_of k).term ≡ term.Symbol → writes (expression_of k).class ≡ true → k ≡ symbol_less (expression_of k).taken
 symbol_kind kinds.Absolute e v = refl
@@ -53,11 +53,15 @@ symbol_gives : StubsOfValuesAreRead → (u : Taken) → KindGives (symbol_less u
 symbol_gives law less.Nothing = gives_sum law
 symbol_gives law less.Place = gives_distance law
 symbol_gives law less.Table = gives_from_table law
+symbol_gives law less.PagePlace = gives_from_table law
+symbol_gives law less.PageTable = gives_from_table law
 
 symbol_links : StubsOfValuesAreRead → (u : Taken) → KindGivesLinked (symbol_less u)
 symbol_links law less.Nothing = links_sum law
 symbol_links law less.Place = links_distance law
 symbol_links law less.Table = links_from_table law
+symbol_links law less.PagePlace = links_from_table law
+symbol_links law less.PageTable = links_from_table law
 
 pub symbols_give : StubsOfValuesAreRead → TermGives term.Symbol
 symbols_give law = λ k e v. subst KindGives (sym (symbol_kind k e v)) (symbol_gives law (expression_of k).taken)
@@ -91,6 +95,8 @@ stub_gives : StubsOfValuesAreRead → (u : Taken) → KindGives (stub_less u)
 stub_gives law less.Nothing = stub_distance law
 stub_gives law less.Place = stub_distance law
 stub_gives law less.Table = stub_offset law
+stub_gives law less.PagePlace = stub_distance law
+stub_gives law less.PageTable = stub_distance law
 
 pub stubs_give : StubsOfValuesAreRead → TermGives term.Stub
 stubs_give law = λ k e v. subst KindGives (sym (stub_kind k e)) (stub_gives law (expression_of k).taken)
@@ -149,6 +155,8 @@ slot_gives : StubsOfValuesAreRead → (sort : SlotSort) (u : Taken) → SlotGive
 slot_gives law sorts.Address less.Table = slot_offset law
 slot_gives law sorts.Address less.Nothing = slot_distance law
 slot_gives law sorts.Address less.Place = slot_distance law
+slot_gives law sorts.Address less.PagePlace = slot_distance law
+slot_gives law sorts.Address less.PageTable = slot_distance law
 slot_gives law sorts.Pair u = λ l w m s r x h none. ((w.base + h.term) % 2 ^ 64, slot_here law sorts.Pair l w m s r kinds.TlsGd x h h.treated h.given, less_place l w m s r kinds.TlsGd x h h.value)
 slot_gives law sorts.OwnPair u = λ l w m s r x h none. ((w.base + h.term) % 2 ^ 64, slot_here law sorts.OwnPair l w m s r kinds.TlsLd x h h.treated h.given, less_place l w m s r kinds.TlsLd x h h.value)
 slot_gives law sorts.Offset u = λ l w m s r x h none. ((w.base + h.term) % 2 ^ 64, slot_here law sorts.Offset l w m s r kinds.GotTpOff x h h.treated h.given, less_place l w m s r kinds.GotTpOff x h h.value)

@@ -11,14 +11,18 @@ use Rattle.wild_types.specs.Flags.{has_flag, absolute}
 use Rattle.wild_types.specs.Kinds.{is_position_independent, is_shared_object}
 use Rattle.wild_types.specs.Lookups.{allocated, canonical}
 use Rattle.wild_types.specs.Rows.{row_of}
-use Rattle.wild_slot.specs.Treatment.{is_left, is_barred, is_narrow, is_chosen, is_sized, flags_at, moves, moved_treatment, chosen_treatment, address_treatment, distance_treatment, pointer_treatment, size_treatment, named, where_there, kind_treatment, row_treatment, treatment}
+use Rattle.wild_slot.specs.Treatment.{is_left, is_barred, is_narrow, is_chosen, is_sized, flags_at, moves, moved_treatment, chosen_treatment, address_treatment, distance_treatment, pointer_treatment, size_treatment, named, where_there, kind_treatment, suits, row_treatment, treatment}
 use Rattle.wild_reloc.specs.Field.{field_width}
 use Rattle.wild_reloc.specs.declared.info.RelocationKindInfo.{RelocationKindInfo}
 
--- the treatment goes by the row's kind
-pub treated_by : (l : Layout) (s : Item) (r : InputRelocation) (row : RelocationKindInfo) → row_of l.machine r.number ≡ Some row → treatment l s.flags r ≡ kind_treatment l s.flags r.number r.symbol row row.kind
+-- the treatment goes by the row's kind, where the row takes the relocation's symbol and addend
+pub treated_by : (l : Layout) (s : Item) (r : InputRelocation) (row : RelocationKindInfo) (t : Treatment) → row_of l.machine r.number ≡ Some row → treatment l s.flags r ≡ t → (treatments.Unsupported ≡ t → ⊥) → kind_treatment l s.flags r.number r.symbol row row.kind ≡ t
 unfolding treatment row_treatment
-treated_by l s r row known = rw known refl
+treated_by l s r row t known is some = by_row (suits l.machine r row) (rw known at is)
+  where
+    by_row : (b : Bool) → row_treatment l s.flags r.number r.symbol (if b then Some row else None) ≡ t → kind_treatment l s.flags r.number r.symbol row row.kind ≡ t
+    by_row true h = h
+    by_row false h = absurd (some h)
 
 -- ---- symbols
 

@@ -1,9 +1,10 @@
 -- What the relocations of a decided section write that keep their instructions.
-use Rattle.std.proofs.Common.{◌≡◌, ℕ, ◌+◌, ◌⊎◌, inl, inr, Bool, refl, ap, ◌∙◌, subst}
-use Rattle.std.specs.Prelude.{Option, Some, None, Ok, slice_get}
+use Rattle.std.proofs.Common.{◌≡◌, ℕ, ◌+◌, ◌⊎◌, inl, inr, Bool, refl, sym, ap, ◌∙◌, subst}
+use Rattle.std.specs.Prelude.{if◌then◌else◌, Option, Some, None, Result, Ok, slice_get}
 use Rattle.wild_records.specs.Abi.Relocation.{r_x86_64_none, r_x86_64_tlsdesc_call}
 use Rattle.wild_types.specs.declared.kind.Machine.{Machine}
 use Rattle.wild_types.specs.declared.kind.Machine.TheVariants as machine
+use Rattle.wild_types.specs.declared.fault.Fault.{Fault}
 use Rattle.wild_types.specs.declared.fault.Missing.{Missing}
 use Rattle.wild_types.specs.declared.fault.Missing.TheVariants as missing
 use Rattle.wild_types.specs.declared.input.InputRelocation.{InputRelocation}
@@ -16,8 +17,12 @@ use Rattle.wild_types.specs.Rows.{row_of}
 use Rattle.wild_layout.specs.declared.decision.Decision.{Decision}
 use Rattle.wild_layout.specs.declared.decision.Decision.TheVariants.{Nothing, Field, Moved, Left, Rewritten, Partner}
 use Rattle.wild_layout.specs.SymbolValues.{address_or, raw_address}
+use Rattle.wild_types.specs.Lookups.{place_of}
+use Rattle.wild_layout.specs.Values.{term_of, value_less, value_by, is_own_place, undefined_weak_target}
+use Rattle.wild_reloc.specs.declared.expression.Taken.{Taken}
 use Rattle.wild_types.specs.Addresses.{raw_value}
 use Rattle.wild_slot.specs.declared.treatment.Treatment.{Treatment}
+use Rattle.wild_slot.specs.declared.treatment.Treatment.TheVariants as treatments
 use Rattle.wild_slot.specs.Treatment.{treatment, kind_treatment}
 use Rattle.wild_reloc.specs.declared.info.RelocationKind.{RelocationKind}
 use Rattle.wild_reloc.specs.declared.info.RelocationKind.TheVariants as kinds
@@ -58,6 +63,8 @@ pub record IsValue (l : Layout) (s : Item) (i : ℕ) (r : InputRelocation) : Typ
   pub plain : IsPlain l s i r (Field size value)
   pub field : IsField l s r size value
   pub fits : RowFits r.number field.row
+  pub given : term_of l r.symbol field.row.kind ≡ Ok field.term
+  pub is : value_by l field.row.kind field.term r.addend (place_of s.address r) ≡ value
 
 -- a relocation that writes an address, which moves with the base
 pub record IsAddress (l : Layout) (s : Item) (i : ℕ) (r : InputRelocation) : Type 0 where
@@ -87,10 +94,17 @@ pub record IsCall (l : Layout) (s : Item) (i : ℕ) (r : InputRelocation) : Type
 pub row_here : (l : Layout) (n : ℕ) (row : RelocationKindInfo) → l.machine ≡ machine.X86_64 → row_of l.machine n ≡ Some row → row_of machine.X86_64 n ≡ Some row
 row_here l n row m is = subst (λ (x : Machine). row_of x n ≡ Some row) m is
 
+-- on x86-64 no place stands for a symbol
+own_term : (m : Machine) (l : Layout) (r : InputRelocation) (row : RelocationKindInfo) (a b : Result ℕ Fault) → m ≡ machine.X86_64 → (if is_own_place m l r row then a else b) ≡ b
+own_term machine.AArch64 l r row a b h = cc
+own_term machine.X86_64 l r row a b h = refl
+
 value_written : (l : Layout) (s : Item) (i : ℕ) (r : InputRelocation) (z : RelocationSize) (v : ℕ) → X86_64Agrees → l.machine ≡ machine.X86_64 → IsPlain l s i r (Field z v) → IsValue l s i r
 value_written l s i r z v agrees m p =
     let f = decided_field l s r z v p.own.made in
-    record { size = z; value = v; plain = p; field = f; fits = row_fits r.number f.row agrees (row_here l r.number f.row m f.known) f.kind }
+    let fits = row_fits r.number f.row agrees (row_here l r.number f.row m f.known) f.kind in
+    let own = own_term l.machine l r f.row (Ok (undefined_weak_target r.number (place_of s.address r))) (term_of l r.symbol f.row.kind) m in
+    record { size = z; value = v; plain = p; field = f; fits = fits; given = sym own ∙ f.given; is = subst (λ (u : Taken). value_less l u f.term r.addend (place_of s.address r) ≡ v) fits.taken f.value }
 
 address_written : (l : Layout) (s : Item) (i : ℕ) (r : InputRelocation) (v : ℕ) (packed : Bool) → X86_64Agrees → l.machine ≡ machine.X86_64 → IsPlain l s i r (Moved v packed) → IsAddress l s i r
 address_written l s i r v packed agrees m p =
@@ -113,9 +127,12 @@ pub record IsRowField (l : Layout) (s : Item) (i : ℕ) (r : InputRelocation) : 
 call_named : (l : Layout) (s : Item) (r : InputRelocation) (row : RelocationKindInfo) → row_of l.machine r.number ≡ Some row → row.kind ≡ kinds.TlsDescCall → decided l s r ≡ Ok Nothing → (i : ℕ) × (r.symbol ≡ Some i)
 unfolding decided
 call_named l s r row known kind made =
-    let t : treatment l s.flags r ≡ kind_treatment l s.flags r.number r.symbol row kinds.TlsDescCall = treated_by l s r row known ∙ ap (λ (k : RelocationKind). kind_treatment l s.flags r.number r.symbol row k) kind in
-    by_symbol r.symbol refl (subst (λ (t : Treatment). decide_by l s r t ≡ Ok Nothing) t made)
+    by_treatment (treatment l s.flags r) refl made
   where
+    by_treatment : (t : Treatment) → treatment l s.flags r ≡ t → decide_by l s r t ≡ Ok Nothing → (i : ℕ) × (r.symbol ≡ Some i)
+    by_treatment treatments.Unsupported is h = cc
+    by_treatment other is h = by_symbol r.symbol refl (subst (λ (t : Treatment). decide_by l s r t ≡ Ok Nothing) (sym (subst (λ (k : RelocationKind). kind_treatment l s.flags r.number r.symbol row k ≡ other) kind (treated_by l s r row other known is (λ e. cc)))) h)
+
     by_symbol : (o : Option ℕ) → r.symbol ≡ o → decide_by l s r (kind_treatment l s.flags r.number o row kinds.TlsDescCall) ≡ Ok Nothing → (i : ℕ) × (r.symbol ≡ Some i)
     by_symbol None e h = cc
     by_symbol (Some i) e h = (i, e)

@@ -56,7 +56,7 @@ KindGives k = (l : Layout) (w : World) (m : Memory) (s : Item) (r : InputRelocat
 abbrev pub KindGivesLinked : RelocationKind → Type 0
 KindGivesLinked k = (l : Layout) (w : World) (m : Memory) (s : Item) (r : InputRelocation) (x i : ℕ) → HasTerm l w m s r k x → w.base ≡ 0 → r.symbol ≡ Some i → (IsStubbed l i → ⊥) ⊎ TakesOffset (plain_value k) → GivesLinked (plain_value k) l w s r x
 
--- so it is of each kind that has a value with that term
+-- so it is of each kind with that term whose field has all of the value
 abbrev pub TermGives : Term → Type 0
 TermGives t = (k : RelocationKind) → (expression_of k).term ≡ t → writes (expression_of k).class ≡ true → KindGives k
 

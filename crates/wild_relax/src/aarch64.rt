@@ -51,7 +51,9 @@ pub const THUNKS: ThunkConfig = ThunkConfig {
     thunk_size: 12,
 };
 
-fn page_of(address: u64) -> u64
+/// The first byte of the page that an address is in.
+#[inline]
+pub fn page_of(address: u64) -> u64
     ensures { result ≡ page_of address }
 {
     address / PAGE * PAGE

@@ -1,5 +1,5 @@
 -- The relocation types whose fields cannot hold certain addresses (x86-64 psABI, "Position-Independent Code"; aaelf64, "Static
--- relocations").
+-- relocations"), and those of branches.
 --   is_listed n types       the type is one of these
 --   barred_x86_64           those for no symbol that another module may define
 --   barred_in_shared_x86_64 those for no address in a shared object
@@ -40,6 +40,10 @@ barred_aarch64 =
 
 abbrev pub barred_in_shared_aarch64 : List ℕ
 barred_in_shared_aarch64 = abi.r_aarch64_abs16 ∷ abi.r_aarch64_abs32 ∷ []
+
+-- branches: one to a weak symbol that is not there goes on behind itself (aaelf64, "Relocations for control-flow instructions")
+abbrev pub branches_aarch64 : List ℕ
+branches_aarch64 = abi.r_aarch64_tstbr14 ∷ abi.r_aarch64_condbr19 ∷ abi.r_aarch64_jump26 ∷ abi.r_aarch64_call26 ∷ []
 
 -- ---- on x86-64 it goes by the bytes of the field
 

@@ -1,8 +1,11 @@
 -- The expression that each kind of relocation stands for, in its parts (x86-64 psABI, "Relocation Types"; aaelf64, "Relocation
 -- operations").
 --   expression_of kind   what A is added to, what is taken from the sum, and what decides how it is treated
+--   taken_of kind mask   what is taken where the terms that a mask names are taken as their pages
 --   expressed e          the formula's value that an expression says
-use Rattle.std.specs.Prelude.{Bool, true, false}
+use Rattle.std.specs.Prelude.{Bool, true, false, Option, Some, None}
+use Rattle.wild_reloc.specs.declared.info.PageMask.{PageMask}
+use Rattle.wild_reloc.specs.declared.info.PageMask.TheVariants as masks
 use Rattle.wild_reloc.specs.declared.info.RelocationKind.{RelocationKind}
 use Rattle.wild_reloc.specs.declared.info.RelocationKind.TheVariants as kinds
 use Rattle.wild_reloc.specs.declared.expression.SlotSort.{SlotSort}
@@ -24,32 +27,47 @@ expression t less c = record { term = t; taken = less; class = c }
 abbrev pub expression_of : RelocationKind → Expression
 expression_of kinds.None = expression term.Nothing taken.Nothing class.Nothing
 expression_of kinds.Absolute = expression term.Symbol taken.Nothing class.Address
-expression_of kinds.AbsoluteLowPart = expression term.Symbol taken.Nothing class.Unknown
+expression_of kinds.AbsoluteLowPart = expression term.Symbol taken.Nothing class.Part
 expression_of kinds.Relative = expression term.Symbol taken.Place class.Distance
 expression_of kinds.SymRelGotBase = expression term.Symbol taken.Table class.Plain
 expression_of kinds.PltRelative = expression term.Stub taken.Place class.Plain
 expression_of kinds.PltRelGotBase = expression term.Stub taken.Table class.Plain
 expression_of kinds.GotBaseRelative = expression term.Table taken.Place class.Free
-expression_of kinds.Got = expression (term.Slot sorts.Address) taken.Nothing class.Unknown
+expression_of kinds.Got = expression (term.Slot sorts.Address) taken.Nothing class.Part
 expression_of kinds.GotRelative = expression (term.Slot sorts.Address) taken.Place class.Plain
 expression_of kinds.GotRelGotBase = expression (term.Slot sorts.Address) taken.Table class.Plain
 expression_of kinds.TlsGd = expression (term.Slot sorts.Pair) taken.Place class.Plain
-expression_of kinds.TlsGdGot = expression (term.Slot sorts.Pair) taken.Nothing class.Unknown
+expression_of kinds.TlsGdGot = expression (term.Slot sorts.Pair) taken.Nothing class.Part
 expression_of kinds.TlsLd = expression (term.Slot sorts.OwnPair) taken.Place class.Plain
 expression_of kinds.DtpOff = expression term.ModuleOffset taken.Nothing class.Plain
 expression_of kinds.GotTpOff = expression (term.Slot sorts.Offset) taken.Place class.Plain
-expression_of kinds.GotTpOffGot = expression (term.Slot sorts.Offset) taken.Nothing class.Unknown
+expression_of kinds.GotTpOffGot = expression (term.Slot sorts.Offset) taken.Nothing class.Part
 expression_of kinds.TpOff = expression term.PointerOffset taken.Nothing class.Pointer
 expression_of kinds.TlsDesc = expression (term.Slot sorts.Descriptor) taken.Place class.Plain
-expression_of kinds.TlsDescGot = expression (term.Slot sorts.Descriptor) taken.Nothing class.Unknown
+expression_of kinds.TlsDescGot = expression (term.Slot sorts.Descriptor) taken.Nothing class.Part
 expression_of kinds.TlsDescCall = expression term.Nothing taken.Nothing class.Mark
 expression_of kinds.SymbolSize = expression term.Size taken.Nothing class.Extent
 
+-- what is taken where a mask has the terms counted by their pages (aaelf64, "Relocation operations": Page)
+abbrev pub paged : Option PageMask → Taken → Taken
+paged None less = less
+paged (Some masks.GotBase) less = taken.PageTable
+paged (Some both) less = taken.PagePlace
+
+abbrev pub taken_of : RelocationKind → Option PageMask → Taken
+taken_of kind mask = paged mask (expression_of kind).taken
+
 -- the class has a value: an address, a distance, an offset or a size
+abbrev pub has_value : Class → Bool
+has_value class.Nothing = false
+has_value class.Mark = false
+has_value other = true
+
+-- the field has all of it, and not the bits of an address below its page alone
 abbrev pub writes : Class → Bool
 writes class.Nothing = false
 writes class.Mark = false
-writes class.Unknown = false
+writes class.Part = false
 writes other = true
 
 -- ---- as the formulas have it
@@ -66,11 +84,14 @@ abbrev pub expressed : Term → Taken → Value
 expressed term.Symbol taken.Nothing = formula.SymbolAddress
 expressed term.Symbol taken.Place = formula.Distance
 expressed term.Symbol taken.Table = formula.FromTable
+expressed term.Symbol taken.PagePlace = formula.PageDistance
 expressed term.Stub taken.Place = formula.StubDistance
 expressed term.Stub taken.Table = formula.StubFromTable
 expressed (term.Slot sort) taken.Nothing = formula.SlotAddress (slot_sort sort)
 expressed (term.Slot sort) taken.Place = formula.SlotDistance (slot_sort sort)
 expressed (term.Slot sort) taken.Table = formula.SlotFromTable
+expressed (term.Slot sort) taken.PagePlace = formula.SlotPageDistance (slot_sort sort)
+expressed (term.Slot sort) taken.PageTable = formula.SlotFromTablePage
 expressed term.Table less = formula.TableDistance
 expressed term.Size less = formula.Size
 expressed term.PointerOffset less = formula.PointerOffset

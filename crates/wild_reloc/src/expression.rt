@@ -1,8 +1,8 @@
 //! The expression that a kind of relocation stands for, in its parts.
 ghost use Rattle.std.specs.Prelude.{◌≡◌};
-ghost use Rattle.wild_reloc.specs.Expression.{expression_of};
+ghost use Rattle.wild_reloc.specs.Expression.{paged, taken_of, expression_of};
 
-use crate::info::RelocationKind;
+use crate::info::{PageMask, RelocationKind, RelocationKindInfo};
 
 /// What a slot of the global offset table has.
 #[derive(Clone, Copy)]
@@ -49,6 +49,10 @@ pub enum Taken {
     Place,
     /// GOT.
     Table,
+    /// Page(P), from the page of the sum.
+    PagePlace,
+    /// Page(GOT).
+    PageTable,
 }
 
 /// By what the layout alone says what is done with a relocation.
@@ -70,8 +74,8 @@ pub enum Class {
     Pointer,
     /// The value is a size.
     Extent,
-    /// No layout has it yet.
-    Unknown,
+    /// The value is an address, of which the field has the bits below its page.
+    Part,
 }
 
 /// An expression in its parts.
@@ -94,17 +98,13 @@ impl RelocationKind {
         let (term, taken, class) = match self {
             RelocationKind::None => (Term::Nothing, Taken::Nothing, Class::Nothing),
             RelocationKind::Absolute => (Term::Symbol, Taken::Nothing, Class::Address),
-            RelocationKind::AbsoluteLowPart => (Term::Symbol, Taken::Nothing, Class::Unknown),
+            RelocationKind::AbsoluteLowPart => (Term::Symbol, Taken::Nothing, Class::Part),
             RelocationKind::Relative => (Term::Symbol, Taken::Place, Class::Distance),
             RelocationKind::SymRelGotBase => (Term::Symbol, Taken::Table, Class::Plain),
             RelocationKind::PltRelative => (Term::Stub, Taken::Place, Class::Plain),
             RelocationKind::PltRelGotBase => (Term::Stub, Taken::Table, Class::Plain),
             RelocationKind::GotBaseRelative => (Term::Table, Taken::Place, Class::Free),
-            RelocationKind::Got => (
-                Term::Slot(SlotSort::Address),
-                Taken::Nothing,
-                Class::Unknown,
-            ),
+            RelocationKind::Got => (Term::Slot(SlotSort::Address), Taken::Nothing, Class::Part),
             RelocationKind::GotRelative => (
                 Term::Slot(SlotSort::Address),
                 Taken::Place,
@@ -116,18 +116,14 @@ impl RelocationKind {
                 Class::Plain,
             ),
             RelocationKind::TlsGd => (Term::Slot(SlotSort::Pair), Taken::Place, Class::Plain),
-            RelocationKind::TlsGdGot => (
-                Term::Slot(SlotSort::Pair),
-                Taken::Nothing,
-                Class::Unknown,
-            ),
+            RelocationKind::TlsGdGot => (Term::Slot(SlotSort::Pair), Taken::Nothing, Class::Part),
             RelocationKind::TlsLd => (Term::Slot(SlotSort::OwnPair), Taken::Place, Class::Plain),
             RelocationKind::DtpOff => (Term::ModuleOffset, Taken::Nothing, Class::Plain),
             RelocationKind::GotTpOff => (Term::Slot(SlotSort::Offset), Taken::Place, Class::Plain),
             RelocationKind::GotTpOffGot => (
                 Term::Slot(SlotSort::Offset),
                 Taken::Nothing,
-                Class::Unknown,
+                Class::Part,
             ),
             RelocationKind::TpOff => (Term::PointerOffset, Taken::Nothing, Class::Pointer),
             RelocationKind::TlsDesc => (
@@ -138,11 +134,33 @@ impl RelocationKind {
             RelocationKind::TlsDescGot => (
                 Term::Slot(SlotSort::Descriptor),
                 Taken::Nothing,
-                Class::Unknown,
+                Class::Part,
             ),
             RelocationKind::TlsDescCall => (Term::Nothing, Taken::Nothing, Class::Mark),
             RelocationKind::SymbolSize => (Term::Size, Taken::Nothing, Class::Extent),
         };
         Expression { term, taken, class }
+    }
+}
+
+/// What is taken where a row has the terms counted by their pages.
+#[inline]
+fn paged(mask: Option<PageMask>, taken: Taken) -> Taken
+    ensures { result ≡ paged mask taken }
+{
+    match mask {
+        None => taken,
+        Some(PageMask::GotBase) => Taken::PageTable,
+        Some(_) => Taken::PagePlace,
+    }
+}
+
+impl RelocationKindInfo {
+    /// What the row takes from the sum.
+    #[inline]
+    pub fn taken(&self) -> Taken
+        ensures { result ≡ taken_of self.now.kind self.now.mask }
+    {
+        paged(self.mask, self.kind.expression().taken)
     }
 }

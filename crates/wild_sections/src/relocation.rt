@@ -1,24 +1,29 @@
 //! What is decided of one relocation that keeps its instruction.
-ghost use Rattle.std.specs.Prelude.{◌≡◌, true, false};
+ghost use Rattle.std.specs.Prelude.{◌≡◌, true, false, None};
 ghost use Rattle.wild_types.specs.Kinds.{is_position_independent};
 ghost use Rattle.wild_types.specs.Rows.{row_of};
 ghost use Rattle.wild_reloc.specs.declared.info.RelocationKind.TheVariants.{Relative};
 ghost use Rattle.wild_layout.specs.SlotValues.{address_of, index_of, decided_address};
-ghost use Rattle.wild_layout.specs.Values.{term_of};
+ghost use Rattle.wild_layout.specs.Values.{term_at};
+ghost use Rattle.wild_types.specs.Lookups.{place_of};
+ghost use Rattle.wild_slot.specs.Treatment.{suited};
+ghost use Rattle.wild_types.specs.declared.kind.Machine.TheVariants.{X86_64};
 ghost use Rattle.wild_slot.specs.SlotParts.{type_of};
 ghost use Rattle.wild_layout.specs.Decide.{field, field_for, moved_to, left_to, sized_to, chosen_to, added, decided};
 ghost use Rattle.wild_types.specs.Item.{item_now};
 
 use crate::indirect::{decided_address, index_of};
-use crate::resolve::{address_of, displacement, sum, symbol_size, term_of, value_by};
+use crate::resolve::{address_of, displacement, sum, symbol_size, term_at, value_in};
 use crate::values::Resolved;
 use wild_layout::Decision;
 use wild_relax::Arch;
 use wild_reloc::{
     DynamicRelocationKind, RelocationKind, RelocationKindInfo, RelocationSize, Width,
 };
-use wild_slot::{Treatment, flags_at, is_replaceable, row_treatment, type_of};
-use wild_types::{Fault, InputRelocation, ItemRef, Layout, Missing, SymbolIndex};
+use wild_slot::{Treatment, flags_at, is_replaceable, row_treatment, suited, type_of};
+use wild_types::{
+    Fault, InputRelocation, ItemRef, Layout, Machine, Missing, SymbolIndex,
+};
 
 /// The field of an address that moves.
 pub(crate) const ADDRESS: RelocationSize = RelocationSize::ByteSize(Width::Eight);
@@ -38,7 +43,7 @@ fn field(row: &RelocationKindInfo, value: u64) -> Result<Decision, Fault>
     }
 }
 
-/// The value of a row's kind in its field.
+/// The value of a row in its field.
 #[inline]
 fn field_for<A: Arch>(
     resolved: &Resolved<A>,
@@ -46,18 +51,13 @@ fn field_for<A: Arch>(
     relocation: &InputRelocation,
     row: &RelocationKindInfo,
 ) -> Result<Decision, Fault>
-    ensures { result ≡ field_for resolved.now.layout.now (item_now item.now) relocation.now row.now (term_of resolved.now.layout.now relocation.now.symbol row.now.kind) }
+    ensures { result ≡ field_for resolved.now.layout.now (item_now item.now) relocation.now row.now (term_at resolved.now.layout.now relocation.now row.now (place_of item.now.address relocation.now)) }
 {
-    let term = term_of(resolved, relocation.symbol, row.kind)?;
+    let place = relocation.place_from(item.address);
+    let term = term_at(resolved, relocation, row, place)?;
     field(
         row,
-        value_by(
-            resolved.layout,
-            row.kind,
-            term,
-            relocation.addend,
-            relocation.place_from(item.address),
-        ),
+        value_in(resolved.layout, row, term, relocation.addend, place),
     )
 }
 
@@ -148,7 +148,7 @@ fn chosen_to(
     })
 }
 
-/// The same, where the kind is S + A - P.
+/// The same, where the row is an S + A - P of x86-64.
 #[inline]
 pub(crate) fn distance_for<A: Arch>(
     resolved: &Resolved<A>,
@@ -157,20 +157,27 @@ pub(crate) fn distance_for<A: Arch>(
     row: &RelocationKindInfo,
 ) -> Result<Decision, Fault>
     requires kind { row.now.kind ≡ Relative }
-    ensures { result ≡ field_for resolved.now.layout.now (item_now item.now) relocation.now row.now (term_of resolved.now.layout.now relocation.now.symbol row.now.kind) }
+    requires whole { row.now.mask ≡ None }
+    requires machine { resolved.now.layout.now.machine ≡ X86_64 }
+    ensures { result ≡ field_for resolved.now.layout.now (item_now item.now) relocation.now row.now (term_at resolved.now.layout.now relocation.now row.now (place_of item.now.address relocation.now)) }
 {
     let address = address_of(resolved, relocation.symbol)?;
     let place = relocation.place_from(item.address);
     field(row, displacement(address, relocation.addend, place))
 }
 
-/// Whether the kind is S + A - P in an output that does not move, so that its value is written whatever the symbol is.
+/// Whether the row is an S + A - P of x86-64 in an output that does not move, so that its value is written whatever the symbol is.
 #[inline]
 pub(crate) fn is_fixed_distance(layout: &Layout, row: &RelocationKindInfo) -> bool
     ensures kind { result ≡ true → row.now.kind ≡ Relative }
+    ensures whole { result ≡ true → row.now.mask ≡ None }
+    ensures machine { result ≡ true → layout.now.machine ≡ X86_64 }
     ensures fixed { result ≡ true → is_position_independent layout.now.kind ≡ false }
 {
-    matches!(row.kind, RelocationKind::Relative) && !layout.kind.is_position_independent()
+    matches!(row.kind, RelocationKind::Relative)
+        && matches!(row.mask, None)
+        && matches!(layout.machine, Machine::X86_64)
+        && !layout.kind.is_position_independent()
 }
 
 /// What is decided of a relocation that keeps its instruction.
@@ -187,11 +194,14 @@ pub(crate) fn decided<A: Arch>(
         Some(found) if is_fixed_distance(resolved.layout, found) => {
             distance_for(resolved, item, relocation, found)
         }
-        _ => decided_by(resolved, item, relocation, row),
+        _ => {
+            let row = suited(resolved.layout.machine, relocation, row);
+            decided_by(resolved, item, relocation, row)
+        }
     }
 }
 
-/// The same, by the row of its type.
+/// The same, by the row of its type, where that takes the relocation.
 #[tactic(auto, unfolding(wild_layout::specs::Decide::decided, wild_slot::specs::Treatment::treatment))]
 fn decided_by<A: Arch>(
     resolved: &Resolved<A>,
@@ -199,7 +209,7 @@ fn decided_by<A: Arch>(
     relocation: &InputRelocation,
     row: Option<RelocationKindInfo>,
 ) -> Result<Decision, Fault>
-    requires row { row ≡ row_of resolved.now.layout.now.machine relocation.now.number }
+    requires row { row ≡ suited resolved.now.layout.now.machine relocation.now (row_of resolved.now.layout.now.machine relocation.now.number) }
     ensures { result ≡ decided resolved.now.layout.now (item_now item.now) relocation.now }
 {
     match row_treatment(

@@ -2,14 +2,16 @@
 ghost use Rattle.std.specs.Prelude.{◌≡◌};
 ghost use Rattle.wild_layout.specs.SymbolValues.{sum, displacement, less, storage_start, is_undefined, symbol_size, raw_address};
 ghost use Rattle.wild_layout.specs.SlotValues.{address_of};
-ghost use Rattle.wild_layout.specs.Values.{behind, pointer_offset, size_of, term_value, value_less, term_of, value_by};
+ghost use Rattle.wild_layout.specs.Values.{behind, pointer_offset, size_of, term_value, value_less, term_of, value_by, value_in, is_absent, is_place, is_symbol, is_own_place, undefined_weak_target, term_at};
 ghost use Rattle.wild_layout.specs.Moved.{or_zero, moved_value};
 
 use crate::indirect::{address_or, is_chosen, slot_address, stub_address};
 use crate::values::Resolved;
 use wild_relax::Arch;
-use wild_reloc::{RelocationKind, Taken, Term};
-use wild_slot::thread_pointer;
+use wild_relax::aarch64::page_of;
+use wild_reloc::aarch64::is_branch;
+use wild_reloc::{RelocationKind, RelocationKindInfo, Taken, Term};
+use wild_slot::{flags_at, thread_pointer};
 use wild_types::{Fault, InputRelocation, Layout, Machine, Missing, Place, SymbolIndex};
 
 /// The address that was decided of the symbol that a relocation names, or where that stands, 0 where it names none; or
@@ -202,6 +204,8 @@ fn value_less(layout: &Layout, taken: Taken, term: u64, addend: i64, place: u64)
         Taken::Nothing => sum(term, addend),
         Taken::Place => displacement(term, addend, place),
         Taken::Table => displacement(term, addend, layout.got_base),
+        Taken::PagePlace => less(page_of(sum(term, addend)), page_of(place)),
+        Taken::PageTable => displacement(term, addend, page_of(layout.got_base)),
     }
 }
 
@@ -217,4 +221,82 @@ pub(crate) fn value_by(
     ensures { result ≡ value_by layout.now kind term addend place }
 {
     value_less(layout, kind.expression().taken, term, addend, place)
+}
+
+/// The same of a row.
+#[inline]
+pub(crate) fn value_in(
+    layout: &Layout,
+    row: &RelocationKindInfo,
+    term: u64,
+    addend: i64,
+    place: u64,
+) -> u64
+    ensures { result ≡ value_in layout.now row.now term addend place }
+{
+    value_less(layout, row.taken(), term, addend, place)
+}
+
+/// Whether nothing defines the symbol, which is weak, and no stub goes on to what another module has for it.
+fn is_absent(layout: &Layout, symbol: Option<SymbolIndex>) -> bool
+    ensures { result ≡ is_absent layout.now symbol }
+{
+    let Some(symbol) = symbol else {
+        return false;
+    };
+    let flags = flags_at(layout, symbol);
+    flags.is_undefined_weak() && !flags.needs_plt()
+}
+
+/// Whether P, or its page, is taken.
+fn is_place(taken: Taken) -> bool
+    ensures { result ≡ is_place taken }
+{
+    matches!(taken, Taken::Place | Taken::PagePlace)
+}
+
+/// Whether A is added to S or L.
+fn is_symbol(term: Term) -> bool
+    ensures { result ≡ is_symbol term }
+{
+    matches!(term, Term::Symbol | Term::Stub)
+}
+
+/// Whether the place itself stands for the symbol, which is not there.
+#[inline]
+fn is_own_place(layout: &Layout, relocation: &InputRelocation, row: &RelocationKindInfo) -> bool
+    ensures { result ≡ is_own_place layout.now.machine layout.now relocation.now row.now }
+{
+    match layout.machine {
+        Machine::X86_64 => false,
+        Machine::AArch64 => {
+            is_symbol(row.kind.expression().term)
+                && is_place(row.taken())
+                && is_absent(layout, relocation.symbol)
+        }
+    }
+}
+
+/// What stands for a symbol that is not there, at that place: a distance is A, and a branch goes on behind itself.
+fn undefined_weak_target(number: u32, place: u64) -> u64
+    ensures { result ≡ undefined_weak_target number place }
+{
+    place.wrapping_add(if is_branch(number) { 4 } else { 0 })
+}
+
+/// What A is added to, by a row, at that place; or what the symbol lacks.
+#[inline]
+pub(crate) fn term_at<A: Arch>(
+    resolved: &Resolved<A>,
+    relocation: &InputRelocation,
+    row: &RelocationKindInfo,
+    place: u64,
+) -> Result<u64, Fault>
+    ensures { result ≡ term_at resolved.now.layout.now relocation.now row.now place }
+{
+    if is_own_place(resolved.layout, relocation, row) {
+        Ok(undefined_weak_target(relocation.number, place))
+    } else {
+        term_of(resolved, relocation.symbol, row.kind)
+    }
 }

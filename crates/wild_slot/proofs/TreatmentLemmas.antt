@@ -4,13 +4,16 @@ use Rattle.std.specs.Prelude.{⊤, length, nat_lt, ◌&&◌, ◌||◌, ◌==◌}
 use Rattle.std.proofs.lemmas.Bool.{eqb-true, and_parts}
 use Rattle.wild_words.proofs.Basics.{of_if}
 use Rattle.wild_types.specs.declared.input.InputRelocation.{InputRelocation}
+use Rattle.wild_types.specs.declared.kind.Machine.{Machine}
+use Rattle.wild_types.specs.declared.kind.Machine.TheVariants as machine
 use Rattle.wild_types.specs.declared.layout.Layout.{Layout}
 use Rattle.wild_types.specs.Flags.{has_flag, dynamic, ifunc, interposable}
 use Rattle.wild_types.specs.Kinds.{is_position_independent, is_shared_object}
 use Rattle.wild_types.specs.Lookups.{writable, allocated, canonical}
 use Rattle.wild_types.specs.Rows.{row_of}
 use Rattle.wild_reloc.specs.Field.{field_width}
-use Rattle.wild_reloc.specs.Expression.{expression_of, writes}
+use Rattle.wild_reloc.specs.Expression.{expression_of}
+use Rattle.wild_reloc.specs.Expression as classes
 use Rattle.wild_reloc.specs.declared.expression.Class.{Class}
 use Rattle.wild_reloc.specs.declared.expression.Class.TheVariants as class
 use Rattle.wild_reloc.specs.declared.info.RelocationKind.{RelocationKind}
@@ -18,13 +21,13 @@ use Rattle.wild_reloc.specs.declared.info.RelocationKind.TheVariants as kinds
 use Rattle.wild_reloc.specs.declared.info.RelocationKindInfo.{RelocationKindInfo}
 use Rattle.wild_slot.specs.declared.treatment.Treatment.{Treatment}
 use Rattle.wild_slot.specs.declared.treatment.Treatment.TheVariants as treatments
-use Rattle.wild_slot.specs.Treatment.{flags_at, is_left, is_barred, is_narrow, is_chosen, is_sized, moves, address_treatment, distance_treatment, pointer_treatment, size_treatment, named, where_there, class_treatment, row_treatment, treatment}
+use Rattle.wild_slot.specs.Treatment.{flags_at, is_left, is_barred, is_narrow, is_chosen, is_sized, moves, address_treatment, distance_treatment, pointer_treatment, size_treatment, named, where_there, class_treatment, row_treatment, suits, suited, treatment}
 
 -- ---- kinds by their class
 
 -- a kind that has a value
 abbrev pub has_value : RelocationKind → Bool
-has_value kind = writes (expression_of kind).class
+has_value kind = classes.has_value (expression_of kind).class
 
 abbrev pub HasValue : RelocationKind → Type 0
 HasValue k = has_value k ≡ true
@@ -142,13 +145,13 @@ said_there l flags row i t v h = of_if (Says l flags (Some i) row) (nat_lt (cano
 class_says : (l : Layout) (flags : ℕ) (n : ℕ) (symbol : Option ℕ) (row : RelocationKindInfo) (c : Class) → (expression_of row.kind).class ≡ c → Says l flags symbol row (class_treatment l flags n symbol row c)
 class_says l flags n symbol row class.Nothing e = inl (nothing_kind row.kind e)
 class_says l flags n symbol row class.Mark e = said_named l flags row symbol (λ i. treatments.Nothing) (λ i. inr (mark_kind row.kind e))
-class_says l flags n symbol row class.Free e = (refl, ap writes e)
-class_says l flags n symbol row class.Plain e = said_named l flags row symbol (λ i. treatments.Value row) (λ i. (refl, ap writes e))
-class_says l flags n symbol row class.Address e = said_named l flags row symbol (λ i. where_there l row i (address_treatment l flags n row i)) (λ i. said_there l flags row i (address_treatment l flags n row i) (ap writes e) (said_address l flags n row i (address_kind row.kind e)))
-class_says l flags n symbol row class.Distance e = said_distance l flags n row symbol (ap writes e)
-class_says l flags n symbol row class.Pointer e = said_named l flags row symbol (λ i. pointer_treatment l flags row) (λ i. of_if (Says l flags (Some i) row) (allocated flags && is_shared_object l.kind) _ _ (λ p. tt) (λ p. (refl, ap writes e)))
-class_says l flags n symbol row class.Extent e = said_named l flags row symbol (λ i. where_there l row i (size_treatment l flags row i)) (λ i. said_there l flags row i (size_treatment l flags row i) (ap writes e) (said_size l flags row i (extent_kind row.kind e)))
-class_says l flags n symbol row class.Unknown e = tt
+class_says l flags n symbol row class.Free e = (refl, ap classes.has_value e)
+class_says l flags n symbol row class.Plain e = said_named l flags row symbol (λ i. treatments.Value row) (λ i. (refl, ap classes.has_value e))
+class_says l flags n symbol row class.Address e = said_named l flags row symbol (λ i. where_there l row i (address_treatment l flags n row i)) (λ i. said_there l flags row i (address_treatment l flags n row i) (ap classes.has_value e) (said_address l flags n row i (address_kind row.kind e)))
+class_says l flags n symbol row class.Distance e = said_distance l flags n row symbol (ap classes.has_value e)
+class_says l flags n symbol row class.Pointer e = said_named l flags row symbol (λ i. pointer_treatment l flags row) (λ i. of_if (Says l flags (Some i) row) (allocated flags && is_shared_object l.kind) _ _ (λ p. tt) (λ p. (refl, ap classes.has_value e)))
+class_says l flags n symbol row class.Extent e = said_named l flags row symbol (λ i. where_there l row i (size_treatment l flags row i)) (λ i. said_there l flags row i (size_treatment l flags row i) (ap classes.has_value e) (said_size l flags row i (extent_kind row.kind e)))
+class_says l flags n symbol row class.Part e = said_named l flags row symbol (λ i. distance_treatment l flags n row (Some i)) (λ i. said_distance l flags n row (Some i) (ap classes.has_value e))
 
 -- ---- by row
 
@@ -156,10 +159,23 @@ pub row_said : (l : Layout) (flags : ℕ) (n : ℕ) (symbol : Option ℕ) (row :
 unfolding row_treatment
 row_said l flags n symbol row = class_says l flags n symbol row (expression_of row.kind).class refl
 
+-- a row that takes the relocation is its type's
+pub suited_is : (m : Machine) (r : InputRelocation) (o : Option RelocationKindInfo) (row : RelocationKindInfo) → suited m r o ≡ Some row → o ≡ Some row
+suited_is m r None row h = cc
+suited_is m r (Some k) row h = of_if (λ (x : Option RelocationKindInfo). x ≡ Some row → Some k ≡ Some row) (suits m r k) (Some k) None (λ t e. e) (λ f e. cc) h
+
+pub suited_x86_64 : (m : Machine) (r : InputRelocation) (o : Option RelocationKindInfo) → m ≡ machine.X86_64 → suited m r o ≡ o
+suited_x86_64 machine.AArch64 r o h = cc
+suited_x86_64 machine.X86_64 r None h = refl
+suited_x86_64 machine.X86_64 r (Some row) h = refl
+
 -- of a relocation, by its row
 pub treated_says : (l : Layout) (flags : ℕ) (r : InputRelocation) (row : RelocationKindInfo) (t : Treatment) → row_of l.machine r.number ≡ Some row → treatment l flags r ≡ t → Says l flags r.symbol row t
-unfolding treatment
-treated_says l flags r row t known is = subst (Says l flags r.symbol row) is (subst (λ (o : Option RelocationKindInfo). Says l flags r.symbol row (row_treatment l flags r.number r.symbol o)) (sym known) (row_said l flags r.number r.symbol row))
+unfolding treatment row_treatment
+treated_says l flags r row t known is =
+    let P : Option RelocationKindInfo → Type 0 = λ (o : Option RelocationKindInfo). Says l flags r.symbol row (row_treatment l flags r.number r.symbol o) in
+    let both = of_if P (suits l.machine r row) (Some row) None (λ e. row_said l flags r.number r.symbol row) (λ e. tt) in
+    subst (Says l flags r.symbol row) is (subst (λ (o : Option RelocationKindInfo). P (suited l.machine r o)) (sym known) both)
 
 -- a row whose treatment is t, and what that says
 pub record HasRow (l : Layout) (flags : ℕ) (symbol : Option ℕ) (o : Option RelocationKindInfo) (t : Treatment) : Type 0 where
@@ -178,24 +194,30 @@ unfolding row_treatment
 row_says l flags n symbol None t some h = absurd (subst Speaks (sym h) some)
 row_says l flags n symbol (Some row) t some h = record { row = row; known = refl; says = subst (Says l flags symbol row) h (row_said l flags n symbol row) }
 
-pub row_value : (l : Layout) (flags : ℕ) (n : ℕ) (symbol : Option ℕ) (o : Option RelocationKindInfo) (r : RelocationKindInfo) → row_treatment l flags n symbol o ≡ treatments.Value r → (o ≡ Some r) × HasValue r.kind
-row_value l flags n symbol o r h =
-    let k = row_says l flags n symbol o (treatments.Value r) tt h in
+treated_row : (l : Layout) (flags : ℕ) (r : InputRelocation) (t : Treatment) → Speaks t → treatment l flags r ≡ t → HasRow l flags r.symbol (row_of l.machine r.number) t
+unfolding treatment
+treated_row l flags r t some h =
+    let k = row_says l flags r.number r.symbol (suited l.machine r (row_of l.machine r.number)) t some h in
+    record { row = k.row; known = suited_is l.machine r (row_of l.machine r.number) k.row k.known; says = k.says }
+
+pub known_value : (l : Layout) (flags : ℕ) (r : InputRelocation) (row : RelocationKindInfo) → treatment l flags r ≡ treatments.Value row → (row_of l.machine r.number ≡ Some row) × HasValue row.kind
+known_value l flags r row h =
+    let k = treated_row l flags r (treatments.Value row) tt h in
     (k.known ∙ ap (λ (x : RelocationKindInfo). Some x) k.says.0, subst (λ (x : RelocationKindInfo). HasValue x.kind) k.says.0 k.says.1)
 
-pub row_nothing : (l : Layout) (flags : ℕ) (n : ℕ) (symbol : Option ℕ) (o : Option RelocationKindInfo) → row_treatment l flags n symbol o ≡ treatments.Nothing → (row : RelocationKindInfo) × (o ≡ Some row) × IsSilent row.kind
-row_nothing l flags n symbol o h = let k = row_says l flags n symbol o treatments.Nothing tt h in (k.row, k.known, k.says)
+pub known_nothing : (l : Layout) (flags : ℕ) (r : InputRelocation) → treatment l flags r ≡ treatments.Nothing → (row : RelocationKindInfo) × (row_of l.machine r.number ≡ Some row) × IsSilent row.kind
+known_nothing l flags r h = let k = treated_row l flags r treatments.Nothing tt h in (k.row, k.known, k.says)
 
-pub row_moved : (l : Layout) (flags : ℕ) (n : ℕ) (symbol : Option ℕ) (o : Option RelocationKindInfo) → row_treatment l flags n symbol o ≡ treatments.BaseRelative → (row : RelocationKindInfo) × (o ≡ Some row) × IsMovedBy l flags symbol row
-row_moved l flags n symbol o h = let k = row_says l flags n symbol o treatments.BaseRelative tt h in (k.row, k.known, k.says)
+pub known_moved : (l : Layout) (flags : ℕ) (r : InputRelocation) → treatment l flags r ≡ treatments.BaseRelative → (row : RelocationKindInfo) × (row_of l.machine r.number ≡ Some row) × IsMovedBy l flags r.symbol row
+known_moved l flags r h = let k = treated_row l flags r treatments.BaseRelative tt h in (k.row, k.known, k.says)
 
-pub row_symbolic : (l : Layout) (flags : ℕ) (n : ℕ) (symbol : Option ℕ) (o : Option RelocationKindInfo) (i : ℕ) → row_treatment l flags n symbol o ≡ treatments.Symbolic i → (row : RelocationKindInfo) × (o ≡ Some row) × IsLeftBy flags symbol row i
-row_symbolic l flags n symbol o i h = let k = row_says l flags n symbol o (treatments.Symbolic i) tt h in (k.row, k.known, k.says.0)
+pub known_symbolic : (l : Layout) (flags : ℕ) (r : InputRelocation) (i : ℕ) → treatment l flags r ≡ treatments.Symbolic i → (row : RelocationKindInfo) × (row_of l.machine r.number ≡ Some row) × IsLeftBy flags r.symbol row i
+known_symbolic l flags r i h = let k = treated_row l flags r (treatments.Symbolic i) tt h in (k.row, k.known, k.says.0)
 
-pub row_indirect : (l : Layout) (flags : ℕ) (n : ℕ) (symbol : Option ℕ) (o : Option RelocationKindInfo) (i : ℕ) → row_treatment l flags n symbol o ≡ treatments.Indirect i → (row : RelocationKindInfo) × (o ≡ Some row) × IsLeftBy flags symbol row i × IsLeftToResolver l flags row i
-row_indirect l flags n symbol o i h = let k = row_says l flags n symbol o (treatments.Indirect i) tt h in (k.row, k.known, k.says.0, k.says.1)
+pub known_indirect : (l : Layout) (flags : ℕ) (r : InputRelocation) (i : ℕ) → treatment l flags r ≡ treatments.Indirect i → (row : RelocationKindInfo) × (row_of l.machine r.number ≡ Some row) × IsLeftBy flags r.symbol row i × IsLeftToResolver l flags row i
+known_indirect l flags r i h = let k = treated_row l flags r (treatments.Indirect i) tt h in (k.row, k.known, k.says.0, k.says.1)
 
-pub row_extent : (l : Layout) (flags : ℕ) (n : ℕ) (symbol : Option ℕ) (o : Option RelocationKindInfo) (r : RelocationKindInfo) (i : ℕ) → row_treatment l flags n symbol o ≡ treatments.Extent r i → (o ≡ Some r) × IsSizedBy l flags symbol r i
-row_extent l flags n symbol o r i h =
-    let k = row_says l flags n symbol o (treatments.Extent r i) tt h in
-    (k.known ∙ ap (λ (x : RelocationKindInfo). Some x) k.says.0, subst (λ (x : RelocationKindInfo). IsSizedBy l flags symbol x i) k.says.0 k.says.1)
+pub known_extent : (l : Layout) (flags : ℕ) (r : InputRelocation) (row : RelocationKindInfo) (i : ℕ) → treatment l flags r ≡ treatments.Extent row i → (row_of l.machine r.number ≡ Some row) × IsSizedBy l flags r.symbol row i
+known_extent l flags r row i h =
+    let k = treated_row l flags r (treatments.Extent row i) tt h in
+    (k.known ∙ ap (λ (x : RelocationKindInfo). Some x) k.says.0, subst (λ (x : RelocationKindInfo). IsSizedBy l flags r.symbol x i) k.says.0 k.says.1)

@@ -6,8 +6,9 @@
 --   is_chosen l flags i       the address of symbol i is what a resolver answers, stored by a loader
 --   is_narrow l flags n       the field of type n cannot hold an address of a library
 --   is_sized l flags i        the size of symbol i is left to a dynamic entry
+--   suited m r row        the row, where it takes the relocation's symbol and addend
 --   treatment l flags r   what is done with relocation r of bytes with these flags (sh_flags)
-use Rattle.std.specs.Prelude.{ℕ, Bool, not, ◌&&◌, ◌||◌, ◌==◌, nat_lt, if◌then◌else◌, length, Option, Some, None, option_map, unwrap_or, slice_get}
+use Rattle.std.specs.Prelude.{ℕ, Bool, true, false, not, ◌&&◌, ◌||◌, ◌==◌, nat_lt, if◌then◌else◌, length, Option, Some, None, option_map, unwrap_or, slice_get, is_none}
 use Rattle.wild_types.specs.declared.kind.Machine.{Machine}
 use Rattle.wild_types.specs.declared.kind.Machine.TheVariants as machine
 use Rattle.wild_types.specs.declared.symbol.Symbol.{Symbol}
@@ -24,6 +25,9 @@ use Rattle.wild_reloc.specs.Barred.{is_listed, barred_x86_64, barred_in_shared_x
 use Rattle.wild_reloc.specs.Field.{field_width}
 use Rattle.wild_reloc.specs.declared.info.RelocationKind.{RelocationKind}
 use Rattle.wild_reloc.specs.Expression.{expression_of}
+use Rattle.std.specs.Int.{w64, cast_unsigned}
+use Rattle.wild_reloc.specs.declared.expression.Term.{Term}
+use Rattle.wild_reloc.specs.declared.expression.Term.TheVariants as term
 use Rattle.wild_reloc.specs.declared.expression.Class.{Class}
 use Rattle.wild_reloc.specs.declared.expression.Class.TheVariants as class
 use Rattle.wild_reloc.specs.declared.info.RelocationKindInfo.{RelocationKindInfo}
@@ -124,7 +128,7 @@ class_treatment l flags n symbol row class.Address = named symbol (λ i. where_t
 class_treatment l flags n symbol row class.Distance = distance_treatment l flags n row symbol
 class_treatment l flags n symbol row class.Pointer = named symbol (λ i. pointer_treatment l flags row)
 class_treatment l flags n symbol row class.Extent = named symbol (λ i. where_there l row i (size_treatment l flags row i))
-class_treatment l flags n symbol row class.Unknown = Unsupported
+class_treatment l flags n symbol row class.Part = named symbol (λ i. distance_treatment l flags n row (Some i))
 
 abbrev pub kind_treatment : Layout → (flags n : ℕ) → Option ℕ → RelocationKindInfo → RelocationKind → Treatment
 kind_treatment l flags n symbol row kind = class_treatment l flags n symbol row (expression_of kind).class
@@ -133,6 +137,21 @@ unfoldable pub row_treatment : Layout → (flags n : ℕ) → Option ℕ → Opt
 row_treatment l flags n symbol None = Unsupported
 row_treatment l flags n symbol (Some row) = kind_treatment l flags n symbol row row.kind
 
+-- ---- by the relocation
+
+abbrev pub is_slot : Term → Bool
+is_slot (term.Slot sort) = true
+is_slot other = false
+
+-- on AArch64 nothing is added to the address of a slot, and a page is a symbol's (aaelf64, "Relocation operations": GDAT, Page)
+abbrev pub suits : Machine → InputRelocation → RelocationKindInfo → Bool
+suits machine.X86_64 r row = true
+suits machine.AArch64 r row = (cast_unsigned w64 r.addend == 0 || not (is_slot (expression_of row.kind).term)) && not (is_none r.symbol && not (is_none row.mask))
+
+abbrev pub suited : Machine → InputRelocation → Option RelocationKindInfo → Option RelocationKindInfo
+suited m r None = None
+suited m r (Some row) = if suits m r row then Some row else None
+
 -- what is done with a relocation, by its row
 unfoldable pub treatment : Layout → (flags : ℕ) → InputRelocation → Treatment
-treatment l flags r = row_treatment l flags r.number r.symbol (row_of l.machine r.number)
+treatment l flags r = row_treatment l flags r.number r.symbol (suited l.machine r (row_of l.machine r.number))

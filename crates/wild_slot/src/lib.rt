@@ -16,4 +16,4 @@ pub use slot_parts::{
 };
 pub use stub::{PltTooFar, STUB_SIZE, far_of, put_stub, write_stub};
 pub use symbol_slots::SymbolSlots;
-pub use treatment::{Treatment, flags_at, row_treatment, treatment_of};
+pub use treatment::{Treatment, flags_at, row_treatment, suited, treatment_of};

@@ -1,8 +1,8 @@
 //! What is done with a relocation, as far as the layout alone says it: no value is taken.
 ghost use Rattle.std.specs.Prelude.{◌≡◌};
-ghost use Rattle.wild_slot.specs.Treatment.{flags_at, is_left, is_elsewhere, is_barred_type, is_barred_in_shared, is_barred, is_narrow, is_chosen, chosen_treatment, moves, moved_treatment, address_treatment, distance_treatment, pointer_treatment, is_sized, size_treatment, where_there, class_treatment, row_treatment, treatment};
+ghost use Rattle.wild_slot.specs.Treatment.{flags_at, is_left, is_elsewhere, is_barred_type, is_barred_in_shared, is_barred, is_narrow, is_chosen, chosen_treatment, moves, moved_treatment, address_treatment, distance_treatment, pointer_treatment, is_sized, size_treatment, where_there, class_treatment, row_treatment, is_slot, suits, suited, treatment};
 
-use wild_reloc::{Class, RelocationKindInfo, aarch64, x86_64};
+use wild_reloc::{Class, RelocationKindInfo, Term, aarch64, x86_64};
 use wild_types::{
     InputRelocation, Layout, Machine, SymbolIndex, ValueFlags, is_allocated,
     is_writable, row_of,
@@ -277,6 +277,7 @@ fn class_treatment(
             )
         }
         (Class::Distance, symbol) => distance_treatment(layout, section_flags, number, row, symbol),
+        (Class::Part, Some(_)) => distance_treatment(layout, section_flags, number, row, symbol),
         (Class::Pointer, Some(_)) => pointer_treatment(layout, section_flags, row),
         (Class::Extent, Some(symbol)) => {
             where_there(
@@ -315,6 +316,44 @@ pub fn row_treatment(
     }
 }
 
+/// Whether A is added to the address of a slot.
+#[inline]
+fn is_slot(term: Term) -> bool
+    ensures { result ≡ is_slot term }
+{
+    matches!(term, Term::Slot(_))
+}
+
+/// Whether the row takes the relocation's symbol and addend: on AArch64 nothing is added to the address of a slot, and a page
+/// is a symbol's.
+#[inline]
+fn suits(machine: Machine, relocation: &InputRelocation, row: &RelocationKindInfo) -> bool
+    ensures { result ≡ suits machine relocation.now row.now }
+{
+    match machine {
+        Machine::X86_64 => true,
+        Machine::AArch64 => {
+            (relocation.addend.cast_unsigned() == 0 || !is_slot(row.kind.expression().term))
+                && !(relocation.symbol.is_none() && row.mask.is_some())
+        }
+    }
+}
+
+/// The row, where it takes the relocation's symbol and addend.
+#[inline]
+pub fn suited(
+    machine: Machine,
+    relocation: &InputRelocation,
+    row: Option<RelocationKindInfo>,
+) -> Option<RelocationKindInfo>
+    ensures { result ≡ suited machine relocation.now row }
+{
+    match row {
+        Some(row) if suits(machine, relocation, &row) => Some(row),
+        _ => None,
+    }
+}
+
 /// What is done with a relocation of bytes that have these flags (`sh_flags`).
 #[tactic(auto, unfolding(crate::specs::Treatment::treatment))]
 pub fn treatment_of(
@@ -325,5 +364,6 @@ pub fn treatment_of(
     ensures { result ≡ treatment layout.now section_flags relocation.now }
 {
     let row = row_of(layout.machine, relocation.number);
+    let row = suited(layout.machine, relocation, row);
     row_treatment(layout, section_flags, relocation.number, relocation.symbol, row)
 }

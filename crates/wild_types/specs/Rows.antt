@@ -5,13 +5,14 @@ use Rattle.std.specs.Prelude.{ℕ, Option, Some, None}
 use Rattle.wild_types.specs.declared.kind.Machine.{Machine}
 use Rattle.wild_reloc.specs.Field.{field_width}
 use Rattle.wild_reloc.specs.TableX86_64.{x86_64_row}
+use Rattle.wild_reloc.specs.TableAArch64.{aarch64_row}
 use Rattle.wild_reloc.specs.declared.info.RelocationKindInfo.{RelocationKindInfo}
 use Rattle.wild_types.specs.declared.kind.Machine.TheVariants as machine
 
--- the row of a relocation type (x86-64 psABI, "Relocation Types"); no type of AArch64 is known
+-- the row of a relocation type (x86-64 psABI, "Relocation Types"; aaelf64, "Relocation types")
 unfoldable pub row_of : Machine → ℕ → Option RelocationKindInfo
 row_of machine.X86_64 n = x86_64_row n
-row_of machine.AArch64 n = None
+row_of machine.AArch64 n = aarch64_row n
 
 -- the bytes of a row's field; 0 without a row
 abbrev pub row_width : Option RelocationKindInfo → ℕ

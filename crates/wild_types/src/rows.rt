@@ -3,10 +3,10 @@ ghost use Rattle.std.specs.Prelude.{◌≡◌};
 ghost use Rattle.wild_types.specs.Rows.{row_of, row_width};
 
 use crate::kind::Machine;
-use wild_reloc::{RelocationKindInfo, x86_64};
+use wild_reloc::{RelocationKindInfo, aarch64, x86_64};
 
-/// The row of a relocation type (x86-64 psABI, "Relocation Types"); none where the machine's table has none. No type of
-/// AArch64 is known.
+/// The row of a relocation type (x86-64 psABI, "Relocation Types"; aaelf64, "Relocation types"); none where the machine's
+/// table has none.
 #[inline]
 #[tactic(auto, unfolding(crate::specs::Rows::row_of))]
 pub fn row_of(machine: Machine, number: u32) -> Option<RelocationKindInfo>
@@ -14,7 +14,7 @@ pub fn row_of(machine: Machine, number: u32) -> Option<RelocationKindInfo>
 {
     match machine {
         Machine::X86_64 => x86_64::relocation_from_raw(number),
-        Machine::AArch64 => None,
+        Machine::AArch64 => aarch64::relocation_type_from_raw(number),
     }
 }
 
