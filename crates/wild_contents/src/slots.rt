@@ -58,7 +58,8 @@ fn add_stub(layout: &Layout, symbol: &Symbol, bytes: &mut PartBytes) -> Result<(
 {
     if SymbolSlots::of(layout, symbol).has_stub() {
         let mut stub = [0; STUB_SIZE];
-        put_stub(&mut stub, symbol.slots_at(), stub_at(symbol));
+        let bti = layout.options.bti;
+        put_stub(layout.machine, bti, &mut stub, symbol.slots_at(), stub_at(symbol));
         bytes.extend(&stub)?;
     }
     Ok(())

@@ -25,7 +25,7 @@ use Rattle.wild_slot.specs.SlotParts.{slot_entries, flat_places}
 use Rattle.wild_types.specs.FileSymbols.{own_symbols}
 use Rattle.wild_slot.specs.SymbolWords.{slots_of}
 use Rattle.wild_needs.specs.SlotShares.{words_in, storage_words, header_words, block_words}
-use Rattle.wild_slot.specs.Stub.{stub_x86_64}
+use Rattle.wild_slot.specs.MachineStub.{stub_in}
 use Rattle.wild_relr.specs.Written.{word_bytes}
 use Rattle.wild_tables.specs.Entries.{rela_bytes}
 
@@ -37,7 +37,7 @@ symbol_entries part l s = slot_entries part l.machine l.options.relr (slots_at s
 
 -- its stub, which jumps to its first slot
 abbrev pub stub_bytes : Layout → Symbol → List ℕ
-stub_bytes l s = if (slots_of l s).has_stub then (stub_x86_64 (slots_at s) (unwrap_or (plt_of s) 0)).bytes else []
+stub_bytes l s = if (slots_of l s).has_stub then (stub_in l (slots_at s) (unwrap_or (plt_of s) 0)).bytes else []
 
 abbrev pub flat_in : Layout → Symbol → List ℕ
 flat_in l s = flat_places l.options.relr (slots_at s) (slots_of l s).words

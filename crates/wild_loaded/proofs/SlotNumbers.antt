@@ -17,7 +17,7 @@ use Rattle.wild_types.specs.SymbolSlots.{has_dynamic_symbol, has_thread_slot}
 use Rattle.wild_slot.specs.Slots.{slot, setting_of, slot_items, items_at, number, offset_item, module_item, module_offset, module_offset_item, described, descriptor_item, offset_items, module_items, descriptor_items, plain_item, stub_items, stub_address, ifunc_address_items, canonical_address_items, thread_items, address_items, is_replaceable, storage_pair}
 use Rattle.wild_slot.specs.SymbolWords.{slots_of, resolved_slots}
 use Rattle.wild_needs.specs.SlotShares.{storage_at, storage_words}
-use Rattle.wild_slot.specs.Stub.{far_of}
+use Rattle.wild_slot.specs.MachineStub.{far_of}
 use Rattle.wild_layout.specs.Numbers.{ResolutionNumbers, SymbolNumbers}
 use Rattle.wild_slots.proofs.ItemLemmas.{ItemHas, All-words, of_named, of_where, of_one, of_stub}
 
@@ -115,7 +115,7 @@ words_fit l s n = by_resolution s.resolution n
   where
     by_resolution : (o : Option Resolution) → ((r : Resolution) → o ≡ Some r → ResolutionNumbers r) → All WordFits (resolved_slots l o).words
     by_resolution None h = All-nil WordFits
-    by_resolution (Some r) h = slot_fits (setting_of l) (far_of l.machine r) r (h r refl)
+    by_resolution (Some r) h = slot_fits (setting_of l) (far_of l r) r (h r refl)
 
 abbrev pub own_module : SlotWord
 own_module = General (record { kind = DtpMod; symbol = 0; addend = 0 })

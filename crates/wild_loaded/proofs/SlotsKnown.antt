@@ -30,7 +30,7 @@ use Rattle.wild_needs.specs.SlotShares.{word_size, storage_at, storage_words, bl
 use Rattle.wild_types.specs.FileSymbols.{own_symbols}
 use Rattle.wild_types.proofs.FileLemmas.{All-own}
 use Rattle.wild_slot.specs.SymbolWords.{slots_of, resolved_slots}
-use Rattle.wild_slot.specs.Stub.{far_of}
+use Rattle.wild_slot.specs.MachineStub.{far_of}
 use Rattle.wild_layout.specs.Numbers.{NumbersFit, SymbolNumbers}
 use Rattle.wild_layout.specs.Geometry.{IsLaidOut}
 use Rattle.wild_loader.specs.declared.change.Change.{Change}
@@ -99,7 +99,7 @@ unfolding slots_of slot
 place_there l s x c = by_resolution s.resolution refl
   where
     by_place : (r : Resolution) (o : Option ℕ) → s.resolution ≡ Some r → r.got_address ≡ o → got_of s ≡ Some (slots_at s)
-    by_place r None e g = absurd (no_site (slots_at s) (slots_of l s).words x (ap (λ (o : Option Resolution). (resolved_slots l o).words) e ∙ ap (λ (o : Option ℕ). (with_items no_slot (items_at (setting_of l) (far_of l.machine r) r o)).words) g) c)
+    by_place r None e g = absurd (no_site (slots_at s) (slots_of l s).words x (ap (λ (o : Option Resolution). (resolved_slots l o).words) e ∙ ap (λ (o : Option ℕ). (with_items no_slot (items_at (setting_of l) (far_of l r) r o)).words) g) c)
     by_place r (Some a) e g =
         let got : got_of s ≡ Some a = ap (λ (o : Option Resolution). got_by o) e ∙ g in
         let at : slots_at s ≡ a = ap (λ (o : Option ℕ). unwrap_or o 0) got in

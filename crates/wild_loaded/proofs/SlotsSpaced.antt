@@ -23,7 +23,7 @@ use Rattle.wild_slot.specs.SlotParts.{next}
 use Rattle.wild_types.specs.FileSymbols.{own_symbols}
 use Rattle.wild_slot.specs.SymbolWords.{slots_of, resolved_slots}
 use Rattle.wild_needs.specs.SlotShares.{storage_words}
-use Rattle.wild_slot.specs.Stub.{far_of}
+use Rattle.wild_slot.specs.MachineStub.{far_of}
 use Rattle.wild_slot.proofs.SlotLemmas.{items_joined}
 use Rattle.wild_loaded.specs.Stored.{filled_width}
 use Rattle.wild_loaded.proofs.SlotSites.{SlotSite, sites_at, symbol_sites, file_sites, group_sites, all_sites}
@@ -179,11 +179,11 @@ pub words_spaced : (l : Layout) (s : Symbol) → Spaced (slots_of l s).words
 unfolding slots_of slot
 words_spaced l s = by_resolution s.resolution
   where
-    by_kind : (r : Resolution) (b : Bool) → Spaced (with_items no_slot (if b then thread_items (setting_of l) r else address_items (setting_of l) (far_of l.machine r) r)).words
+    by_kind : (r : Resolution) (b : Bool) → Spaced (with_items no_slot (if b then thread_items (setting_of l) r else address_items (setting_of l) (far_of l r) r)).words
     by_kind r true = thread_spaced (setting_of l) r
-    by_kind r false = all_plain no_slot (address_items (setting_of l) (far_of l.machine r) r) (address_plain (setting_of l) (far_of l.machine r) r) tt
+    by_kind r false = all_plain no_slot (address_items (setting_of l) (far_of l r) r) (address_plain (setting_of l) (far_of l r) r) tt
 
-    by_place : (r : Resolution) (o : Option ℕ) → Spaced (with_items no_slot (items_at (setting_of l) (far_of l.machine r) r o)).words
+    by_place : (r : Resolution) (o : Option ℕ) → Spaced (with_items no_slot (items_at (setting_of l) (far_of l r) r o)).words
     by_place r None = tt
     by_place r (Some a) = by_kind r (has_thread_slot r.flags)
 

@@ -24,7 +24,7 @@ use Rattle.wild_types.specs.SymbolSlots.{is_without, slots_at, has_thread_slot}
 use Rattle.wild_slot.specs.SymbolWords.{resolved_slots, slots_of}
 use Rattle.wild_needs.specs.SlotShares.{block_place, block_places, group_block}
 use Rattle.wild_types.specs.FileSymbols.{own_symbols}
-use Rattle.wild_slot.specs.Stub.{far_of}
+use Rattle.wild_slot.specs.MachineStub.{far_of}
 use Rattle.wild_needs.proofs.SlotShareLemmas.{no_slots}
 
 -- ---- words that are none of the block
@@ -193,7 +193,7 @@ block_places_are l s = head_alone (slots_at s) (resolved_slots l s.resolution).w
   where
     by_resolution : (o : Option Resolution) → tail_apart (resolved_slots l o).words ≡ true
     by_resolution None = refl
-    by_resolution (Some r) = slot_tail (setting_of l) (far_of l.machine r) r
+    by_resolution (Some r) = slot_tail (setting_of l) (far_of l r) r
 
 -- and none has one where addresses are not packed
 no_block_places : (l : Layout) (s : Symbol) → (l.options.relr && is_position_independent l.kind) ≡ false → block_places l s ≡ []
@@ -202,7 +202,7 @@ no_block_places l s h = none_of_apart (slots_at s) (resolved_slots l s.resolutio
   where
     by_resolution : (o : Option Resolution) → list_all is_apart (resolved_slots l o).words ≡ true
     by_resolution None = refl
-    by_resolution (Some r) = slot_apart (setting_of l) (far_of l.machine r) r h
+    by_resolution (Some r) = slot_apart (setting_of l) (far_of l r) r h
 
 pub no_block : (l : Layout) (g : Group) → (l.options.relr && is_position_independent l.kind) ≡ false → group_block l g ≡ []
 unfolding group_block

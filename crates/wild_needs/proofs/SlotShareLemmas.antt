@@ -20,7 +20,7 @@ use Rattle.wild_slot.specs.Slots.{setting_of, slot, no_slot, items_at, with_item
 use Rattle.wild_slot.specs.SymbolWords.{resolved_slots, slots_of}
 use Rattle.wild_types.specs.FileSymbols.{own_symbols}
 use Rattle.wild_needs.specs.SlotShares.{storage_at, header_words, symbol_share, is_of_slots, slot_share}
-use Rattle.wild_slot.specs.Stub.{far_of}
+use Rattle.wild_slot.specs.MachineStub.{far_of}
 
 -- ---- a symbol without a slot
 
@@ -31,7 +31,7 @@ no_items c far r (Some at) h = cc
 no_resolved : (l : Layout) (o : Option Resolution) → not (is_some (resolved_got o)) ≡ true → resolved_slots l o ≡ no_slot
 unfolding slot
 no_resolved l None h = refl
-no_resolved l (Some r) h = no_items (setting_of l) (far_of l.machine r) r r.got_address h
+no_resolved l (Some r) h = no_items (setting_of l) (far_of l r) r r.got_address h
 
 pub no_slots : (l : Layout) (s : Symbol) → is_without s ≡ true → slots_of l s ≡ no_slot
 unfolding slots_of

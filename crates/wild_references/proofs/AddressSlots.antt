@@ -10,7 +10,7 @@ use Rattle.wild_types.specs.declared.layout.Layout.{Layout}
 use Rattle.wild_types.specs.Flags.{has_flag, ifunc_got_for_address, canonical_plt_got_for_address}
 use Rattle.wild_types.specs.Kinds.{is_position_independent}
 use Rattle.wild_slot.specs.Slots.{setting_of, named, general, stub_items, stub_address, where_so, number, ifunc_address_items, canonical_address_items}
-use Rattle.wild_slot.specs.Stub.{far_of}
+use Rattle.wild_slot.specs.MachineStub.{far_of}
 use Rattle.wild_types.specs.SymbolSlots.{has_thread_slot}
 use Rattle.wild_reloc.specs.Formula.{AddressSlot}
 use Rattle.wild_reloc.specs.declared.expression.SlotSort.TheVariants as sorts
@@ -52,7 +52,7 @@ second_held l w m at None (Some stub) more h = by_kind (is_position_independent 
 -- of a symbol whose flag asks for it
 second_asked : (l : Layout) (w : World) (m : Memory) (at : ℕ) (r : Resolution) → has_flag r.flags ifunc_got_for_address ≡ true → ItemsHold w m at (items_behind l r) → HasSecond w m (is_position_independent l.kind) at r.plt_address
 second_asked l w m at r asked h =
-    let far = far_of l.machine r in
+    let far = far_of l r in
     let more = canonical_address_items (setting_of l) r in
     let item = stub_address (setting_of l) r.plt_address in
     let here = subst (λ (b : Bool). ItemsHold w m at (stub_items far r.plt_address ++ (where_so b (item ∷ []) ++ more))) asked h in
@@ -87,7 +87,7 @@ behind_stub w m at (Some d) (Some stub) xs h = absurd h
 
 canonical_stands : (l : Layout) (w : World) (m : Memory) (i at : ℕ) (r : Resolution) → IsPlaced l w m → IsResolvedBy l i r → has_flag r.flags ifunc_got_for_address ≡ false → has_flag r.flags canonical_plt_got_for_address ≡ true → ItemsHold w m at (items_behind l r) → SlotStands AddressSlot l w m i at
 canonical_stands l w m i at r p d plain asked h =
-    let far = far_of l.machine r in
+    let far = far_of l r in
     let item = stub_address (setting_of l) r.plt_address in
     let own = named r.dynamic_symbol_index (λ d. general GotEntry d 0) in
     let here = behind_stub w m at far r.plt_address (ifunc_address_items (setting_of l) r ++ canonical_address_items (setting_of l) r) h in

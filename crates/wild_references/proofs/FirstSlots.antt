@@ -19,7 +19,7 @@ use Rattle.wild_types.specs.Kinds.{is_position_independent}
 use Rattle.wild_types.specs.Lookups.{canonical}
 use Rattle.wild_slot.specs.Slots.{setting_of, named, general, plt, number, plain_item, stub_items, ifunc_address_items, canonical_address_items, slot_items, items_at, thread_items, address_items, slot}
 use Rattle.wild_slot.specs.SymbolWords.{resolved_slots, slots_of}
-use Rattle.wild_slot.specs.Stub.{far_of}
+use Rattle.wild_slot.specs.MachineStub.{far_of}
 use Rattle.wild_types.specs.SymbolSlots.{resolved_got, has_dynamic_symbol, has_thread_slot}
 use Rattle.wild_geometry.specs.Slots.{IsFilledBy, IsLoadedWord, HasWords, HasSymbolSlots}
 use Rattle.wild_loader.specs.declared.memory.Memory.{Memory}
@@ -37,31 +37,31 @@ use Rattle.wild_geometry.specs.EntryKinds.{loaded_kind, address_kind}
 -- ---- the slots of a symbol in memory
 
 -- its words, item by item
-pub symbol_held : (l : Layout) (w : World) (m : Memory) (at : ℕ) (s : Symbol) (r : Resolution) → HasSymbolSlots l w m s at → s.resolution ≡ Some r → ItemsHold w m at (slot_items (setting_of l) (far_of l.machine r) r)
+pub symbol_held : (l : Layout) (w : World) (m : Memory) (at : ℕ) (s : Symbol) (r : Resolution) → HasSymbolSlots l w m s at → s.resolution ≡ Some r → ItemsHold w m at (slot_items (setting_of l) (far_of l r) r)
 unfolding slots_of slot
 symbol_held l w m at s r h e =
-    let same : slots_of l s ≡ slot (setting_of l) (far_of l.machine r) r = ap (resolved_slots l) e in
-    items_hold w m at (slot_items (setting_of l) (far_of l.machine r) r) (sym (ap (λ c. c.fault) same) ∙ h.whole) (subst (λ c. HasWords w m at c.words) same h.words)
+    let same : slots_of l s ≡ slot (setting_of l) (far_of l r) r = ap (resolved_slots l) e in
+    items_hold w m at (slot_items (setting_of l) (far_of l r) r) (sym (ap (λ c. c.fault) same) ∙ h.whole) (subst (λ c. HasWords w m at c.words) same h.words)
 
-pub slots_held : (l : Layout) (w : World) (m : Memory) (i at : ℕ) (r : Resolution) → IsPlaced l w m → IsResolvedBy l i r → r.got_address ≡ Some at → ItemsHold w m at (slot_items (setting_of l) (far_of l.machine r) r)
+pub slots_held : (l : Layout) (w : World) (m : Memory) (i at : ℕ) (r : Resolution) → IsPlaced l w m → IsResolvedBy l i r → r.got_address ≡ Some at → ItemsHold w m at (slot_items (setting_of l) (far_of l r) r)
 slots_held l w m i at r p d e = symbol_held l w m at d.symbol r (p.slots.symbols (canonical l i) at d.symbol d.listed (ap resolved_got d.decided ∙ e)) d.decided
 
 -- those of a thread-local symbol, or of an address
 items_by : (w : World) (m : Memory) (at : ℕ) (xs ys : List SlotItem) (thread b : Bool) → thread ≡ b → ItemsHold w m at (if thread then xs else ys) → ItemsHold w m at (if b then xs else ys)
 items_by w m at xs ys thread b e h = subst (λ (c : Bool). ItemsHold w m at (if c then xs else ys)) e h
 
-pub as_address : (l : Layout) (w : World) (m : Memory) (at : ℕ) (r : Resolution) → r.got_address ≡ Some at → has_thread_slot r.flags ≡ false → ItemsHold w m at (slot_items (setting_of l) (far_of l.machine r) r) → ItemsHold w m at (address_items (setting_of l) (far_of l.machine r) r)
+pub as_address : (l : Layout) (w : World) (m : Memory) (at : ℕ) (r : Resolution) → r.got_address ≡ Some at → has_thread_slot r.flags ≡ false → ItemsHold w m at (slot_items (setting_of l) (far_of l r) r) → ItemsHold w m at (address_items (setting_of l) (far_of l r) r)
 as_address l w m at r e plain held =
-    let far = far_of l.machine r in
+    let far = far_of l r in
     let h = subst (λ (o : Option ℕ). ItemsHold w m at (items_at (setting_of l) far r o)) e held in
     items_by w m at (thread_items (setting_of l) r) (address_items (setting_of l) far r) (has_thread_slot r.flags) false plain h
 
-pub address_held : (l : Layout) (w : World) (m : Memory) (i at : ℕ) (r : Resolution) → IsPlaced l w m → IsResolvedBy l i r → r.got_address ≡ Some at → has_thread_slot r.flags ≡ false → ItemsHold w m at (address_items (setting_of l) (far_of l.machine r) r)
+pub address_held : (l : Layout) (w : World) (m : Memory) (i at : ℕ) (r : Resolution) → IsPlaced l w m → IsResolvedBy l i r → r.got_address ≡ Some at → has_thread_slot r.flags ≡ false → ItemsHold w m at (address_items (setting_of l) (far_of l r) r)
 address_held l w m i at r p d e plain = as_address l w m at r e plain (slots_held l w m i at r p d e)
 
 pub thread_held : (l : Layout) (w : World) (m : Memory) (i at : ℕ) (r : Resolution) → IsPlaced l w m → IsResolvedBy l i r → r.got_address ≡ Some at → has_thread_slot r.flags ≡ true → ItemsHold w m at (thread_items (setting_of l) r)
 thread_held l w m i at r p d e thread =
-    let far = far_of l.machine r in
+    let far = far_of l r in
     let h = subst (λ (o : Option ℕ). ItemsHold w m at (items_at (setting_of l) far r o)) e (slots_held l w m i at r p d e) in
     items_by w m at (thread_items (setting_of l) r) (address_items (setting_of l) far r) (has_thread_slot r.flags) true thread h
 
@@ -150,7 +150,7 @@ tests_still pi still f e d h = by_tests pi (has_flag f absolute) (has_flag f dyn
 
 -- the items behind the first
 abbrev pub items_behind : Layout → Resolution → List SlotItem
-items_behind l r = stub_items (far_of l.machine r) r.plt_address ++ (ifunc_address_items (setting_of l) r ++ canonical_address_items (setting_of l) r)
+items_behind l r = stub_items (far_of l r) r.plt_address ++ (ifunc_address_items (setting_of l) r ++ canonical_address_items (setting_of l) r)
 
 -- the word of an entry that names the symbol
 pub named_held : (l : Layout) (w : World) (m : Memory) (i at : ℕ) (r : Resolution) (rest : List SlotItem) (kind : DynamicRelocationKind) (word : SlotEntry → SlotWord) → IsPlaced l w m → IsResolvedBy l i r → loaded_kind m.machine kind ≡ address_kind m.machine

@@ -9,7 +9,8 @@ use Rattle.wild_types.specs.declared.symbol.ValueFlags.{ValueFlags}
 use Rattle.wild_types.specs.declared.layout.Layout.{Layout}
 use Rattle.wild_types.specs.Lookups.{canonical}
 use Rattle.wild_slot.specs.Slots.{setting_of, stub_item, stub_items, ifunc_address_items, canonical_address_items}
-use Rattle.wild_slot.specs.Stub.{stub_x86_64, far_between, far_of}
+use Rattle.wild_slot.specs.Stub.{stub_x86_64}
+use Rattle.wild_slot.specs.MachineStub.{far_between, far_of}
 use Rattle.wild_types.specs.SymbolSlots.{resolved_got, resolved_plt, plt_of, has_thread_slot}
 use Rattle.wild_clauses.proofs.ClauseLemmas.{not_thread}
 use Rattle.wild_layout.specs.SlotValues.{resolution_of, stub_of, stub_address}
@@ -50,7 +51,7 @@ reach false d h = cc
 
 pub in_reach : (l : Layout) (w : World) (m : Memory) (at stub : ℕ) (r : Resolution) → l.machine ≡ machine.X86_64 → r.got_address ≡ Some at → r.plt_address ≡ Some stub → ItemsHold w m (at + 8) (items_behind l r) → (stub_x86_64 at stub).reaches ≡ true
 in_reach l w m at stub r x e f behind =
-    let far = far_of l.machine r in
+    let far = far_of l r in
     let more = ifunc_address_items (setting_of l) r ++ canonical_address_items (setting_of l) r in
     let here = subst (λ (o : Option ℕ). ItemsHold w m (at + 8) (stub_items far o ++ more)) f behind in
     let none = near w m (at + 8) far more here in

@@ -1,8 +1,7 @@
 -- Stubs and thunks of AArch64 go where they should.
-use Rattle.std.proofs.Common.{◌≡◌, ℕ, ◌+◌, ◌-◌, ◌*◌, ◌/◌, ◌%◌, ◌^◌, ◌<◌, ◌≤◌, true, false, ◌&&◌, nat_le, nat_lt, List, [], ◌∷◌, ◌++◌, Some, refl, ap, sym, subst, ◌∙◌, arith, length, take, get_or}
+use Rattle.std.proofs.Common.{◌≡◌, ℕ, ◌+◌, ◌-◌, ◌*◌, ◌/◌, ◌%◌, ◌^◌, ◌<◌, ◌≤◌, true, false, ◌&&◌, nat_le, nat_lt, List, [], ◌∷◌, ◌++◌, Some, refl, ap, sym, subst, ◌∙◌, arith}
 use Rattle.std.proofs.lemmas.Bool.{and_parts, leb-true, ltb-true}
 use Rattle.wild_words.specs.Words.{word, number}
-use Rattle.wild_words.proofs.ListLemmas.{flat_map-more}
 use Rattle.wild_reloc.specs.Immediate.{insert_bits, inserted}
 use Rattle.wild_reloc.specs.declared.instruction.AArch64Instruction.TheVariants.{Adr, Imm12}
 use Rattle.wild_aarch64.specs.Immediate as judge
@@ -12,7 +11,7 @@ use Rattle.wild_aarch64.specs.Effect.{words_of}
 use Rattle.wild_aarch64.specs.Stub as judged
 use Rattle.wild_aarch64.specs.Stub.{HasSlot}
 use Rattle.wild_aarch64.proofs.StubLemmas as reach
-use Rattle.wild_relax.specs.StubAArch64.{spelled, page_of, jump_to_slot, stub_words}
+use Rattle.wild_slot.specs.StubAArch64.{spelled, page_of, stub_words}
 use Rattle.wild_relax.specs.ThunkAArch64.{thunk_words}
 use Rattle.wild_relax.proofs.FieldsAArch64Lemmas.{fields_agree}
 use Rattle.wild_relax.specs.LawsAArch64.{StubsOfAArch64Jump, ThunksReach}
@@ -32,12 +31,6 @@ words_of-more w bytes h =
 words_of-spelled : (ws : List ℕ) → AreSmall ws → words_of (spelled ws) ≡ ws
 words_of-spelled [] s = refl
 words_of-spelled (w ∷ ws) s = words_of-more w (spelled ws) s.0 ∙ ap (λ (us : List ℕ). w ∷ us) (words_of-spelled ws s.1)
-
--- a word more, written behind the others
-pub spelled_more : (ws now next : List ℕ) (i at : ℕ) → i < length ws → at ≡ 4 * i → take at now ≡ spelled (take i ws) → take (at + 4) next ≡ take at now ++ word 4 (get_or ws i 0) → take (4 * (i + 1)) next ≡ spelled (take (i + 1) ws)
-spelled_more ws now next i at h e same step =
-    let place : 4 * (i + 1) ≡ at + 4 = omega arith in
-    rw (place, step, same, flat_map-more (word 4) ws i 0 h) refl
 
 -- ---- words that fit
 

@@ -5,7 +5,7 @@ use Rattle.std.specs.Prelude.{◌≡◌, ℕ, ◌+◌, ◌%◌, Bool, true, Some
 use Rattle.wild_aarch64.specs.Machine.{meaning, jump_to, jump_through}
 use Rattle.wild_aarch64.specs.Effect.{words_of}
 use Rattle.wild_aarch64.specs.Stub.{StandsAt}
-use Rattle.wild_relax.specs.StubAArch64.{stub_aarch64}
+use Rattle.wild_slot.specs.StubAArch64.{stub_aarch64}
 use Rattle.wild_relax.specs.ThunkAArch64.{thunk_aarch64}
 
 -- a stub that reaches its slot, a multiple of 8, jumps to the address there, at every base that is a multiple of a page

@@ -1,4 +1,3 @@
-pub mod Thread
 pub mod Question
 pub mod Pattern
 pub mod First
@@ -14,7 +13,6 @@ pub mod Relaxation
 pub mod Keep
 pub mod Section
 pub mod Laws
-pub mod StubAArch64
 pub mod ThunkAArch64
 pub mod LawsAArch64
 pub mod FieldsAArch64

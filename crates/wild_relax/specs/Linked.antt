@@ -3,13 +3,12 @@
 --   IsChanging row           the row changes bytes around its field
 --   linked row info v old    what stands in their place, with the field that holds a value
 --   template_of row v old    the same, by the row of the relocation type that is written
-use Rattle.std.specs.Prelude.{◌≡◌, ℕ, ◌+◌, ◌-◌, ◌==◌, Bool, not, List, [], length, Option, Some, None}
+use Rattle.std.specs.Prelude.{ℕ, ◌+◌, ◌-◌, ◌==◌, Bool, List, [], length, Option, Some, None}
 use Rattle.wild_words.specs.Words.{place}
 use Rattle.wild_reloc.specs.Field.{written}
 use Rattle.wild_reloc.specs.TableX86_64.{x86_64_row}
 use Rattle.wild_reloc.specs.declared.info.RelocationKindInfo.{RelocationKindInfo}
 use Rattle.wild_relax.specs.declared.pattern.GeneralForm.TheVariants as general
-use Rattle.wild_relax.specs.declared.pattern.Cell.{Cell}
 use Rattle.wild_relax.specs.declared.pattern.Pattern.{Pattern}
 use Rattle.wild_relax.specs.declared.pattern.Pattern.TheVariants as pattern
 use Rattle.wild_relax.specs.declared.row.Row.{Row}

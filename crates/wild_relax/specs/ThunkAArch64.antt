@@ -7,7 +7,7 @@ use Rattle.std.specs.Prelude.{ℕ, ◌+◌, ◌/◌, ◌%◌, ◌^◌, ◌==◌,
 use Rattle.std.specs.List.{range_with_len}
 use Rattle.wild_reloc.specs.Immediate.{inserted}
 use Rattle.wild_reloc.specs.declared.instruction.AArch64Instruction.TheVariants.{Adr, Imm12}
-use Rattle.wild_relax.specs.StubAArch64.{spelled, page_of, distance_from}
+use Rattle.wild_slot.specs.StubAArch64.{spelled, page_of, distance_from}
 
 -- how far the pages are from one another, whether a thunk can tell so much, and its bytes
 pub record Thunk : Type 0 where

@@ -1,25 +1,14 @@
-//! AArch64: stubs, thunks, and what code leaves free.
-ghost use Rattle.std.specs.Prelude.{◌≡◌, ◌*◌, length, is_ok, IfErr, OnOk, OnErr};
-ghost use Rattle.wild_relax.specs.StubAArch64.{spelled, page_of, stub_page, stub_words, stub_aarch64};
+//! AArch64: thunks, and what code leaves free.
+ghost use Rattle.std.specs.Prelude.{◌≡◌, length, is_ok, IfErr, OnOk, OnErr};
 ghost use Rattle.wild_relax.specs.ThunkAArch64.{thunk_words, thunk_aarch64, nop_byte, nops, is_variant};
 
 use wild_records::abi::symbol::STO_AARCH64_VARIANT_PCS;
 use wild_reloc::AArch64Instruction;
-use wild_slot::PltTooFar;
-use wild_words::put_u32;
+use wild_slot::{page_of, put_words};
 
 const PAGE: u64 = 4096;
 
-const NOP: u32 = 0xd503_201f;
-
-const BTI_C: u32 = 0xd503_245f;
-
 const ADRP_X16: u32 = 0x9000_0010;
-
-// `ldr x17, [x16]`; `br x17`.
-const LDR_X17: u32 = 0xf940_0211;
-
-const BR_X17: u32 = 0xd61f_0220;
 
 // `add x16, x16, #0`; `br x16`.
 const ADD_X16: u32 = 0x9100_0210;
@@ -50,71 +39,6 @@ pub const THUNKS: ThunkConfig = ThunkConfig {
     min_branch_range: MIN_BRANCH_RANGE,
     thunk_size: 12,
 };
-
-/// The first byte of the page that an address is in.
-#[inline]
-pub fn page_of(address: u64) -> u64
-    ensures { result ≡ page_of address }
-{
-    address / PAGE * PAGE
-}
-
-// The words as bytes, in place of all of `out`.
-#[tactic(auto, using(crate::proofs::AArch64Lemmas::spelled_more))]
-fn put_words(out: &mut [u8], words: &[u32])
-    requires { length out.old ≡ 4 * length words.now }
-    ensures { out.new ≡ spelled words.now }
-{
-    for i in 0..words.len() {
-        put_u32(out, 4 * i, words[i]);
-    }
-}
-
-fn stub_words(distance: u64, bti: bool) -> [u32; 4]
-    ensures { result ≡ stub_words bti distance }
-{
-    let adrp = AArch64Instruction::Adr.insert(ADRP_X16, distance / PAGE);
-    let ldr = AArch64Instruction::Imm12.insert(LDR_X17, distance % PAGE / 8);
-    if bti {
-        [BTI_C, adrp, ldr, BR_X17]
-    } else {
-        [adrp, ldr, BR_X17, NOP]
-    }
-}
-
-// The page that the slot of a stub is counted from.
-fn stub_page(plt_address: u64, bti: bool) -> u64
-    ensures { result ≡ stub_page plt_address bti }
-{
-    page_of(if bti {
-        plt_address.wrapping_add(4)
-    } else {
-        plt_address
-    })
-}
-
-/// The stub at an address that goes on to the address in the slot; with `bti`, behind a landing pad. A refused call changes
-/// nothing.
-pub fn write_stub(
-    plt_entry: &mut [u8],
-    got_address: u64,
-    plt_address: u64,
-    bti: bool,
-) -> Result<(), PltTooFar>
-    requires room { length plt_entry.old ≡ 16 }
-    ensures accepted { is_ok result ≡ (stub_aarch64 got_address plt_address bti).reaches }
-    ensures value { IfErr result (λ far. far.value ≡ (stub_aarch64 got_address plt_address bti).distance) }
-    ensures written { OnOk result (plt_entry.new ≡ (stub_aarch64 got_address plt_address bti).bytes) }
-    ensures unchanged { OnErr result (plt_entry.new ≡ plt_entry.old) }
-{
-    let page = stub_page(plt_address, bti);
-    let distance = got_address.wrapping_sub(page);
-    if got_address < page || distance >= 1 << 32 {
-        return Err(PltTooFar { value: distance });
-    }
-    put_words(plt_entry, &stub_words(distance, bti));
-    Ok(())
-}
 
 /// The thunk at an address that goes on to the target. It is refused exactly where their pages are too far apart, and then
 /// nothing changes.

@@ -1,20 +1,23 @@
 //! What differs between the machines.
 ghost use Rattle.std.specs.Prelude.{◌≡◌, false, length, replicate, if◌then◌else◌, is_ok, IfErr, OnOk, OnErr};
 ghost use Rattle.wild_types.specs.Lookups.{executable};
-ghost use Rattle.std.specs.List.{list_any};
+ghost use Rattle.wild_slot.specs.MachineStub.{stub_of};
+ghost use Rattle.wild_slot.specs.SlotParts.{type_of};
+ghost use Rattle.wild_slot.specs.Storage.{thread_pointer};
+ghost use Rattle.wild_slot.specs.Treatment.{is_barred_type, is_barred_in_shared};
 
 use crate::reference::{Reference, UnknownSequence};
 use crate::relaxation::Relaxation;
 use wild_reloc::{DynamicRelocationKind, RelName, RelocationKindInfo};
-use wild_slot::PltTooFar;
-use wild_types::{Layout, Machine};
+use wild_slot::{
+    PltTooFar, is_barred_in_shared, is_barred_type, thread_pointer, type_of, write_stub,
+};
+use wild_types::{Layout, Machine, is_executable, row_of};
 
 /// A machine that images are written for.
 pub trait Arch {
     ghost use Rattle.std.specs.Prelude.{ℕ, Bool, List, Option, ◌==◌};
     ghost use Rattle.wild_types.specs.declared.kind.Machine.{Machine};
-    ghost use Rattle.wild_types.specs.declared.layout.Tls.{Tls};
-    ghost use Rattle.wild_reloc.specs.declared.dynamic.DynamicRelocationKind.{DynamicRelocationKind};
     ghost use Rattle.wild_types.specs.Rows.{row_of};
     ghost use Rattle.wild_reloc.specs.declared.names.RelName.{RelName};
     ghost use Rattle.std.specs.Prelude.{Result, IfOk, IfSome};
@@ -22,7 +25,6 @@ pub trait Arch {
     ghost use Rattle.wild_relax.specs.Question.{Question, question, relocation_of};
     ghost use Rattle.wild_relax.specs.Rewrite.{HasRoom};
     ghost use Rattle.wild_relax.specs.Relaxation.{rows_of, chosen_of};
-    ghost use Rattle.wild_slot.specs.Stub.{Stub};
 
     /// A rewrite of instructions of the machine.
     type Relaxation: Relaxation + Copy;
@@ -32,22 +34,6 @@ pub trait Arch {
 
     /// How a relocation type is printed.
     ghost name_of: { ℕ → RelName };
-
-    /// The relocation types whose field cannot hold what another module may define.
-    ghost barred: { List ℕ };
-
-    /// The relocation types whose field cannot hold an address of a shared object.
-    ghost barred_in_shared: { List ℕ };
-
-    /// The type of a dynamic entry.
-    ghost dynamic_type: { DynamicRelocationKind → ℕ };
-
-    /// Where the thread pointer stands beside the thread-local data, modulo 2^64.
-    ghost pointer: { Tls → ℕ };
-
-    /// The stub at an address that goes on to the address in a slot; with `bti`, for outputs whose indirect branches
-    /// have to land on a mark.
-    ghost stub: { (slot stub : ℕ) → (bti : Bool) → Stub };
 
     /// The first rewrite that stands at a relocation; refused where what it needs besides is not there.
     ghost relaxation: { Question → Result (Option Self.Relaxation) UnknownSequence };
@@ -61,7 +47,10 @@ pub trait Arch {
 
     /// The row of a relocation type; none where the table has none.
     fn relocation_from_raw(number: u32) -> Option<RelocationKindInfo>
-        ensures { result ≡ row_of Self.machine number };
+        ensures { result ≡ row_of Self.machine number }
+    {
+        row_of(Self::arch_identifier(), number)
+    }
 
     /// The name of a relocation type, for printing.
     fn rel_type_to_string(number: u32) -> RelName
@@ -73,23 +62,42 @@ pub trait Arch {
 
     /// Fills the padding of a section with those flags (`sh_flags`).
     fn fill_section_padding(room: &mut [u8], section_flags: u64)
-        ensures { room.new ≡ (if executable section_flags then Self.nop_padding (length room.old) else replicate (length room.old) 0) };
+        ensures { room.new ≡ (if executable section_flags then Self.nop_padding (length room.old) else replicate (length room.old) 0) }
+    {
+        if is_executable(section_flags) {
+            Self::fill_nop_padding(room);
+        } else {
+            room.fill(0);
+        }
+    }
 
     /// Whether the field of that type cannot hold the address of a symbol that another module may define.
     fn is_disallowed_for_interposable_symbols(number: u32) -> bool
-        ensures { result ≡ list_any (λ barred. number == barred) Self.barred };
+        ensures { result ≡ is_barred_type Self.machine number }
+    {
+        is_barred_type(Self::arch_identifier(), number)
+    }
 
     /// Whether the field of that type cannot hold an address of a shared object, which its loader chooses.
     fn is_disallowed_in_shared_object(number: u32) -> bool
-        ensures { result ≡ list_any (λ barred. number == barred) Self.barred_in_shared };
+        ensures { result ≡ is_barred_in_shared Self.machine number }
+    {
+        is_barred_in_shared(Self::arch_identifier(), number)
+    }
 
     /// The type of a dynamic entry.
     fn get_dynamic_relocation_type(kind: DynamicRelocationKind) -> u32
-        ensures { result ≡ Self.dynamic_type kind };
+        ensures { result ≡ type_of Self.machine kind }
+    {
+        type_of(Self::arch_identifier(), kind)
+    }
 
     /// Where the thread pointer stands, modulo 2^64.
     fn tp_offset_start(layout: &Layout) -> u64
-        ensures { result ≡ Self.pointer layout.now.tls };
+        ensures { result ≡ thread_pointer Self.machine layout.now.tls }
+    {
+        thread_pointer(Self::arch_identifier(), layout.tls)
+    }
 
     /// Writes the stub at `plt_address` that goes on to the address in the slot at `got_address`. It is refused exactly
     /// where the slot is too far, and then nothing changes.
@@ -99,10 +107,13 @@ pub trait Arch {
         plt_address: u64,
     ) -> Result<(), PltTooFar>
         requires { length plt_entry.old ≡ 16 }
-        ensures accepted { is_ok result ≡ (Self.stub got_address plt_address false).reaches }
-        ensures value { IfErr result (λ far. far.value ≡ (Self.stub got_address plt_address false).distance) }
-        ensures written { OnOk result (plt_entry.new ≡ (Self.stub got_address plt_address false).bytes) }
-        ensures unchanged { OnErr result (plt_entry.new ≡ plt_entry.old) };
+        ensures accepted { is_ok result ≡ (stub_of Self.machine false got_address plt_address).reaches }
+        ensures value { IfErr result (λ far. far.value ≡ (stub_of Self.machine false got_address plt_address).distance) }
+        ensures written { OnOk result (plt_entry.new ≡ (stub_of Self.machine false got_address plt_address).bytes) }
+        ensures unchanged { OnErr result (plt_entry.new ≡ plt_entry.old) }
+    {
+        write_stub(Self::arch_identifier(), false, plt_entry, got_address, plt_address)
+    }
 
     /// The same for an output whose indirect branches may have to land on a mark (`bti`).
     fn write_plt_entry_with_bti(
@@ -112,10 +123,13 @@ pub trait Arch {
         bti: bool,
     ) -> Result<(), PltTooFar>
         requires { length plt_entry.old ≡ 16 }
-        ensures accepted { is_ok result ≡ (Self.stub got_address plt_address bti).reaches }
-        ensures value { IfErr result (λ far. far.value ≡ (Self.stub got_address plt_address bti).distance) }
-        ensures written { OnOk result (plt_entry.new ≡ (Self.stub got_address plt_address bti).bytes) }
-        ensures unchanged { OnErr result (plt_entry.new ≡ plt_entry.old) };
+        ensures accepted { is_ok result ≡ (stub_of Self.machine bti got_address plt_address).reaches }
+        ensures value { IfErr result (λ far. far.value ≡ (stub_of Self.machine bti got_address plt_address).distance) }
+        ensures written { OnOk result (plt_entry.new ≡ (stub_of Self.machine bti got_address plt_address).bytes) }
+        ensures unchanged { OnErr result (plt_entry.new ≡ plt_entry.old) }
+    {
+        write_stub(Self::arch_identifier(), bti, plt_entry, got_address, plt_address)
+    }
 
     /// The first rewrite that stands at the relocation; none where none stands. The bytes that it replaces are in the
     /// section.

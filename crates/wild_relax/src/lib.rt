@@ -11,7 +11,6 @@ mod relaxation;
 mod rewrite;
 mod row;
 mod template;
-mod thread;
 mod x86_64;
 
 pub use arch::Arch;

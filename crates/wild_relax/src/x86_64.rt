@@ -4,10 +4,8 @@ use crate::reference::{Reference, UnknownSequence};
 use crate::relaxation::{Relaxation, RelaxationKind, RelocationModifier};
 use crate::rewrite;
 use crate::row::{Row, choose, is_mandatory};
-use crate::thread::pointer_x86_64;
-use wild_reloc::{DynamicRelocationKind, RelName, RelocationKindInfo, x86_64};
-use wild_slot::{PltTooFar, write_stub};
-use wild_types::{Layout, Machine, is_executable, row_of};
+use wild_reloc::{RelName, RelocationKindInfo, x86_64};
+use wild_types::Machine;
 
 /// x86-64.
 pub struct ElfX86_64;
@@ -15,11 +13,7 @@ pub struct ElfX86_64;
 impl Arch for ElfX86_64 {
     ghost use Rattle.std.specs.Prelude.{replicate, refl};
     ghost use Rattle.wild_types.specs.declared.kind.Machine.TheVariants.{X86_64};
-    ghost use Rattle.wild_reloc.specs.Dynamic.{x86_64_type};
     ghost use Rattle.wild_reloc.specs.declared.names.RelName.TheVariants as names;
-    ghost use Rattle.wild_reloc.specs.Barred.{barred_x86_64, barred_in_shared_x86_64};
-    ghost use Rattle.wild_slot.specs.Stub.{stub_x86_64};
-    ghost use Rattle.wild_relax.specs.Thread.{pointer_x86_64};
     ghost use Rattle.wild_relax.specs.Rows.{chosen_x86_64};
     ghost use Rattle.wild_relax.specs.Relaxation.{relaxation_x86_64, rows_with_duty};
 
@@ -28,16 +22,6 @@ impl Arch for ElfX86_64 {
     ghost machine = { X86_64 };
 
     ghost name_of = { names.X86_64 };
-
-    ghost barred = { barred_x86_64 };
-
-    ghost barred_in_shared = { barred_in_shared_x86_64 };
-
-    ghost dynamic_type = { x86_64_type };
-
-    ghost pointer = { pointer_x86_64 };
-
-    ghost stub = { λ slot stub bti. stub_x86_64 slot stub };
 
     ghost relaxation = { relaxation_x86_64 };
 
@@ -51,57 +35,12 @@ impl Arch for ElfX86_64 {
         Machine::X86_64
     }
 
-    fn relocation_from_raw(number: u32) -> Option<RelocationKindInfo> {
-        row_of(Machine::X86_64, number)
-    }
-
     fn rel_type_to_string(number: u32) -> RelName {
         x86_64::rel_type_to_string(number)
     }
 
     fn fill_nop_padding(room: &mut [u8]) {
         room.fill(0xcc);
-    }
-
-    fn fill_section_padding(room: &mut [u8], section_flags: u64) {
-        if is_executable(section_flags) {
-            room.fill(0xcc);
-        } else {
-            room.fill(0);
-        }
-    }
-
-    fn is_disallowed_for_interposable_symbols(number: u32) -> bool {
-        x86_64::is_barred(number)
-    }
-
-    fn is_disallowed_in_shared_object(number: u32) -> bool {
-        x86_64::is_barred_in_shared(number)
-    }
-
-    fn get_dynamic_relocation_type(kind: DynamicRelocationKind) -> u32 {
-        kind.x86_64_r_type()
-    }
-
-    fn tp_offset_start(layout: &Layout) -> u64 {
-        pointer_x86_64(&layout.tls)
-    }
-
-    fn write_plt_entry(
-        plt_entry: &mut [u8],
-        got_address: u64,
-        plt_address: u64,
-    ) -> Result<(), PltTooFar> {
-        write_stub(plt_entry, got_address, plt_address)
-    }
-
-    fn write_plt_entry_with_bti(
-        plt_entry: &mut [u8],
-        got_address: u64,
-        plt_address: u64,
-        _bti: bool,
-    ) -> Result<(), PltTooFar> {
-        write_stub(plt_entry, got_address, plt_address)
     }
 
     fn new_relaxation(

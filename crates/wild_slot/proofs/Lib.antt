@@ -1,2 +1,3 @@
 pub mod SlotLemmas
 pub mod TreatmentLemmas
+pub mod StubLemmas

@@ -5,6 +5,7 @@ mod cases;
 mod slot;
 mod slot_parts;
 mod stub;
+mod stub_aarch64;
 mod symbol_slots;
 mod treatment;
 
@@ -15,5 +16,8 @@ pub use slot_parts::{
     entry_at, entry_of, flat_place, next_word, type_of, word_of,
 };
 pub use stub::{PltTooFar, STUB_SIZE, far_of, put_stub, write_stub};
+pub use stub_aarch64::{page_of, put_words};
 pub use symbol_slots::SymbolSlots;
-pub use treatment::{Treatment, flags_at, row_treatment, suited, treatment_of};
+pub use treatment::{
+    Treatment, flags_at, is_barred_in_shared, is_barred_type, row_treatment, suited, treatment_of,
+};

@@ -1,16 +1,16 @@
-//! Stubs of x86-64: code that goes on to the address in a slot (x86-64 psABI, "Procedure Linkage Table").
+//! Stubs: code that goes on to the address in a slot (x86-64 psABI, "Procedure Linkage Table"; aaelf64, "Program Linkage Table").
 ghost use Rattle.std.specs.Prelude.{◌≡◌, length, is_ok, IfErr, OnOk, OnErr};
-ghost use Rattle.wild_reloc.specs.Range.{of_bits, contains};
-ghost use Rattle.wild_reloc.specs.declared.range.Sign.TheVariants.{Signed};
-ghost use Rattle.wild_slot.specs.Stub.{displacement_x86_64, stub_x86_64, too_far, far_of};
+ghost use Rattle.wild_slot.specs.Stub.{displacement_x86_64, stub_x86_64};
+ghost use Rattle.wild_slot.specs.MachineStub.{stub_of, far_of};
 
+use crate::stub_aarch64;
 use wild_reloc::{AllowedRange, RelocationSize, Sign, Width};
-use wild_types::{Machine, Resolution};
+use wild_types::{Layout, Machine, Resolution};
 
-/// The slot is so far from the stub that its displacement does not fit.
+/// The slot is farther from the stub than that can tell.
 #[derive(Clone, Copy, Debug, PartialEq, Eq)]
 pub struct PltTooFar {
-    /// The displacement, modulo 2^64.
+    /// The distance, as the stub counts, modulo 2^64.
     pub value: u64,
 }
 
@@ -34,15 +34,7 @@ fn displacement(got_address: u64, plt_address: u64) -> u64
     got_address.wrapping_sub(plt_address.wrapping_add(JUMP_END))
 }
 
-/// Whether a stub can tell that displacement.
-fn reaches(value: u64) -> bool
-    ensures { result ≡ contains (of_bits 32 Signed) value }
-{
-    AllowedRange::from_bit_size(32, Sign::Signed).contains(value)
-}
-
-/// The stub at an address that goes on to the address in the slot, with as much of their distance as it can tell.
-pub fn put_stub(plt_entry: &mut [u8], got_address: u64, plt_address: u64)
+fn put_x86_64(plt_entry: &mut [u8], got_address: u64, plt_address: u64)
     requires { length plt_entry.old ≡ 16 }
     ensures { plt_entry.new ≡ (stub_x86_64 got_address plt_address).bytes }
 {
@@ -51,39 +43,81 @@ pub fn put_stub(plt_entry: &mut [u8], got_address: u64, plt_address: u64)
     RelocationSize::ByteSize(Width::Four).write_at(value, plt_entry, DISPLACEMENT);
 }
 
-/// The stub at an address that goes on to the address in the slot. A refused call changes nothing.
-pub fn write_stub(plt_entry: &mut [u8], got_address: u64, plt_address: u64) -> Result<(), PltTooFar>
+/// How far the slot is from the stub, as the stub counts, modulo 2^64.
+fn distance(machine: Machine, bti: bool, got_address: u64, plt_address: u64) -> u64
+    ensures { result ≡ (stub_of machine bti got_address plt_address).distance }
+{
+    match machine {
+        Machine::X86_64 => displacement(got_address, plt_address),
+        Machine::AArch64 => {
+            got_address.wrapping_sub(stub_aarch64::stub_page(plt_address, bti))
+        }
+    }
+}
+
+/// Whether the stub can tell so much.
+fn reaches(machine: Machine, bti: bool, got_address: u64, plt_address: u64) -> bool
+    ensures { result ≡ (stub_of machine bti got_address plt_address).reaches }
+{
+    let value = distance(machine, bti, got_address, plt_address);
+    match machine {
+        Machine::X86_64 => AllowedRange::from_bit_size(32, Sign::Signed).contains(value),
+        Machine::AArch64 => {
+            stub_aarch64::stub_page(plt_address, bti) <= got_address && value < 1 << 32
+        }
+    }
+}
+
+/// The stub of a machine at an address that goes on to the address in the slot, with as much of their distance as it can tell; with
+/// `bti`, for an output whose indirect branches have to land on a mark.
+pub fn put_stub(
+    machine: Machine,
+    bti: bool,
+    plt_entry: &mut [u8],
+    got_address: u64,
+    plt_address: u64,
+)
+    requires { length plt_entry.old ≡ 16 }
+    ensures { plt_entry.new ≡ (stub_of machine bti got_address plt_address).bytes }
+{
+    match machine {
+        Machine::X86_64 => put_x86_64(plt_entry, got_address, plt_address),
+        Machine::AArch64 => stub_aarch64::put_stub(plt_entry, got_address, plt_address, bti),
+    }
+}
+
+/// The same, refused where the slot is too far; a refused call changes nothing.
+pub fn write_stub(
+    machine: Machine,
+    bti: bool,
+    plt_entry: &mut [u8],
+    got_address: u64,
+    plt_address: u64,
+) -> Result<(), PltTooFar>
     requires room { length plt_entry.old ≡ 16 }
-    ensures accepted { is_ok result ≡ (stub_x86_64 got_address plt_address).reaches }
-    ensures value { IfErr result (λ far. far.value ≡ (stub_x86_64 got_address plt_address).distance) }
-    ensures written { OnOk result (plt_entry.new ≡ (stub_x86_64 got_address plt_address).bytes) }
+    ensures accepted { is_ok result ≡ (stub_of machine bti got_address plt_address).reaches }
+    ensures value { IfErr result (λ far. far.value ≡ (stub_of machine bti got_address plt_address).distance) }
+    ensures written { OnOk result (plt_entry.new ≡ (stub_of machine bti got_address plt_address).bytes) }
     ensures unchanged { OnErr result (plt_entry.new ≡ plt_entry.old) }
 {
-    let value = displacement(got_address, plt_address);
-    if !reaches(value) {
-        return Err(PltTooFar { value });
+    if !reaches(machine, bti, got_address, plt_address) {
+        return Err(PltTooFar {
+            value: distance(machine, bti, got_address, plt_address),
+        });
     }
-    put_stub(plt_entry, got_address, plt_address);
+    put_stub(machine, bti, plt_entry, got_address, plt_address);
     Ok(())
 }
 
-/// How far the slot is from a stub, where that is too far for it.
-fn too_far(machine: Machine, got_address: u64, plt_address: u64) -> Option<u64>
-    ensures { result ≡ too_far machine got_address plt_address }
+/// How far the slot of a resolution is from its stub, where that is too far.
+pub fn far_of(layout: &Layout, resolution: &Resolution) -> Option<u64>
+    ensures { result ≡ far_of layout.now resolution.now }
 {
-    let value = displacement(got_address, plt_address);
-    match machine {
-        Machine::X86_64 if !reaches(value) => Some(value),
-        _ => None,
-    }
-}
-
-/// How far the slot of a resolution is from its stub, where that is too far; no stub of AArch64 is written yet.
-pub fn far_of(machine: Machine, resolution: &Resolution) -> Option<u64>
-    ensures { result ≡ far_of machine resolution.now }
-{
+    let bti = layout.options.bti;
     match (resolution.got_address, resolution.plt_address) {
-        (Some(slot), Some(stub)) => too_far(machine, slot, stub),
+        (Some(slot), Some(stub)) if !reaches(layout.machine, bti, slot, stub) => {
+            Some(distance(layout.machine, bti, slot, stub))
+        }
         _ => None,
     }
 }

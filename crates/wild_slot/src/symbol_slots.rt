@@ -38,7 +38,7 @@ impl SymbolSlots {
     {
         match &symbol.resolution {
             Some(resolution) => {
-                let far = far_of(layout.machine, resolution);
+                let far = far_of(layout, resolution);
                 slot_of(&Setting::of(layout), far, resolution)
             }
             None => SymbolSlots::empty(),

@@ -65,7 +65,7 @@ fn is_elsewhere(flags: ValueFlags) -> bool
 
 /// Whether the field of that type cannot hold the address of a symbol that another module may define, or its distance.
 #[inline]
-fn is_barred_type(machine: Machine, number: u32) -> bool
+pub fn is_barred_type(machine: Machine, number: u32) -> bool
     ensures { result ≡ is_barred_type machine number }
 {
     match machine {
@@ -76,7 +76,7 @@ fn is_barred_type(machine: Machine, number: u32) -> bool
 
 /// Whether the field of that type cannot hold an address of a shared object.
 #[inline]
-fn is_barred_in_shared(machine: Machine, number: u32) -> bool
+pub fn is_barred_in_shared(machine: Machine, number: u32) -> bool
     ensures { result ≡ is_barred_in_shared machine number }
 {
     match machine {

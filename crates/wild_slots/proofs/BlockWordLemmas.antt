@@ -20,7 +20,7 @@ use Rattle.wild_slot.specs.Slots.{setting_of, slot, items_at, with_items, no_slo
 use Rattle.wild_slot.specs.SymbolWords.{slots_of, resolved_slots}
 use Rattle.wild_slot.specs.SlotParts.{begins_block}
 use Rattle.wild_clauses.specs.SlotFlags.{takes_block_word, second_slot_fits}
-use Rattle.wild_slot.specs.Stub.{far_of}
+use Rattle.wild_slot.specs.MachineStub.{far_of}
 use Rattle.wild_types.specs.ResolvedFlags.{HasItsFlags}
 use Rattle.wild_needs.proofs.SlotBlockLemmas.{behind_plain}
 use Rattle.wild_slots.proofs.ItemLemmas.{ItemHas, More-items, All-words, none_more, of_stub}
@@ -57,7 +57,7 @@ first_alone l s = by_resolution s.resolution
   where
     by_resolution : (o : Option Resolution) → FirstAlone (resolved_slots l o).words
     by_resolution None = tt
-    by_resolution (Some r) = alone_by (setting_of l) (far_of l.machine r) r (slot (setting_of l) (far_of l.machine r) r).words (shape (setting_of l) (far_of l.machine r) r)
+    by_resolution (Some r) = alone_by (setting_of l) (far_of l r) r (slot (setting_of l) (far_of l r) r).words (shape (setting_of l) (far_of l r) r)
 
 -- words that do not begin with one of the block have none
 pub none_in_block : (ws : List SlotWord) → begins_block ws ≡ false → FirstAlone ws → All NotInBlock ws
@@ -182,7 +182,7 @@ only_word l s at a rest f second g h = by_resolution s.resolution refl h
     by_single r ws e (inl others) = absurd (not_other (setting_of l) r ws rest a e others)
     by_single r ws e (inr lt) = short ws e lt
 
-    by_shape : (r : Resolution) → s.resolution ≡ Some r → (ws : List SlotWord) → ws ≡ InBlock a ∷ rest → Shape (setting_of l) (far_of l.machine r) r ws → Single (setting_of l) r (slot (setting_of l) (far_of l.machine r) r).words
+    by_shape : (r : Resolution) → s.resolution ≡ Some r → (ws : List SlotWord) → ws ≡ InBlock a ∷ rest → Shape (setting_of l) (far_of l r) r ws → Single (setting_of l) r (slot (setting_of l) (far_of l r) r).words
     by_shape r is ws e (inl others) = absurd (not_other (setting_of l) r ws rest a e others)
     by_shape r is ws e (inr led) =
         let w : led.first ≡ InBlock a = first_is led.first (InBlock a) led.rest rest ws led.is e in
@@ -191,10 +191,10 @@ only_word l s at a rest f second g h = by_resolution s.resolution refl h
         let n = no_second l s t second in
         let i = ap (λ (v : ValueFlags). has_flag v ifunc_got_for_address) (f r is) ∙ n.0 in
         let c = ap (λ (v : ValueFlags). has_flag v canonical_plt_got_for_address) (f r is) ∙ n.1 in
-        single (setting_of l) (far_of l.machine r) r (no_seconds (setting_of l) (far_of l.machine r) r i c)
+        single (setting_of l) (far_of l r) r (no_seconds (setting_of l) (far_of l r) r i c)
 
     by_resolution : (o : Option Resolution) → s.resolution ≡ o → (resolved_slots l o).words ≡ InBlock a ∷ rest → rest ≡ []
     by_resolution None is e = cc
     by_resolution (Some r) is e =
-        let ws = (slot (setting_of l) (far_of l.machine r) r).words in
-        by_single r ws e (by_shape r is ws e (shape (setting_of l) (far_of l.machine r) r))
+        let ws = (slot (setting_of l) (far_of l r) r).words in
+        by_single r ws e (by_shape r is ws e (shape (setting_of l) (far_of l r) r))

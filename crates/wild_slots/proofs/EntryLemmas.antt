@@ -16,7 +16,7 @@ use Rattle.wild_slot.specs.declared.slot_parts.EntryPart.TheVariants as entries
 use Rattle.wild_types.specs.Kinds.{is_position_independent}
 use Rattle.wild_slot.specs.SlotParts.{word_of, entry_of, flat_place}
 use Rattle.wild_slot.specs.Slots.{setting_of, slot}
-use Rattle.wild_slot.specs.Stub.{far_of}
+use Rattle.wild_slot.specs.MachineStub.{far_of}
 use Rattle.wild_types.specs.FileSymbols.{own_symbols}
 use Rattle.wild_slot.specs.SymbolWords.{slots_of, resolved_slots}
 use Rattle.wild_needs.specs.SlotShares.{words_in, block_place, block_places, group_block}
@@ -44,7 +44,7 @@ of_words P l s other first = by_resolution s.resolution refl
   where
     by_resolution : (o : Option Resolution) → s.resolution ≡ o → All P (resolved_slots l o).words
     by_resolution None e = All-nil P
-    by_resolution (Some r) e = of_shape P (setting_of l) (far_of l.machine r) r (slot (setting_of l) (far_of l.machine r) r).words (other r e) (first r e) (shape (setting_of l) (far_of l.machine r) r)
+    by_resolution (Some r) e = of_shape P (setting_of l) (far_of l r) r (slot (setting_of l) (far_of l r) r).words (other r e) (first r e) (shape (setting_of l) (far_of l r) r)
 
 -- ---- outputs at their own addresses
 

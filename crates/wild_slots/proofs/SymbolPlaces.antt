@@ -22,7 +22,7 @@ use Rattle.wild_needs.specs.SlotShares.{stub_size, words_in, symbol_share}
 use Rattle.wild_types.specs.FileSymbols.{own_symbols}
 use Rattle.wild_slot.specs.SymbolWords.{slots_of, resolved_slots}
 use Rattle.wild_clauses.specs.SlotPlaces.{stands_at}
-use Rattle.wild_slot.specs.Stub.{far_of}
+use Rattle.wild_slot.specs.MachineStub.{far_of}
 use Rattle.wild_types.specs.ResolvedFlags.{HasItsFlags}
 use Rattle.wild_types.proofs.FileLemmas.{All-own}
 use Rattle.wild_slots.specs.Order.{group_symbols, written_symbols}
@@ -46,7 +46,7 @@ no_words : (l : Layout) (s : Symbol) → got_of s ≡ None → (slots_of l s).wo
 unfolding slots_of slot
 no_words l s g = by_resolution s.resolution g
   where
-    by_place : (r : Resolution) (o : Option ℕ) → o ≡ None → (with_items no_slot (items_at (setting_of l) (far_of l.machine r) r o)).words ≡ []
+    by_place : (r : Resolution) (o : Option ℕ) → o ≡ None → (with_items no_slot (items_at (setting_of l) (far_of l r) r o)).words ≡ []
     by_place r None e = refl
     by_place r (Some at) e = cc
 

@@ -5,14 +5,7 @@ use Rattle.std.proofs.lemmas.List.Elements.{All-head, All-tail}
 use Rattle.std.proofs.lemmas.List.Sorted.{All-permutation}
 use Rattle.wild_words.proofs.ListLemmas.{All-append-left, All-append-right}
 use Rattle.wild_relr.specs.Packed.{PiecesAreRecorded, places_of_pieces, words_of}
-use Rattle.std.specs.Int.{w64}
-use Rattle.std.proofs.lemmas.Int.{of_z-to_z}
-use Rattle.wild_types.specs.declared.kind.Machine.{Machine}
-use Rattle.wild_types.specs.declared.kind.Machine.TheVariants as machine
-use Rattle.wild_loader.specs.declared.kind.DynamicKind.TheVariants as kinds
-use Rattle.wild_loader.specs.Changes.{kind_of}
-use Rattle.wild_tables.specs.Tables.{relative_type}
-use Rattle.wild_tables.specs.Laws.{LoadersAgree, PlacesAreLoaded, EntriesAddTheBase, loader_machine}
+use Rattle.wild_tables.specs.Laws.{LoadersAgree, PlacesAreLoaded}
 use Rattle.wild_relr.specs.Places.{window, places_of, next_after, places_from, places}
 use Rattle.wild_loader.specs.Places as loader
 use Rattle.wild_relr.proofs.PlaceLemmas.{parity, window-even, window-odd, places_of-even, places_of-odd, next_after-even, next_after-odd}
@@ -81,13 +74,3 @@ places_loaded recorded agree pieces even small apart =
     let same = recorded pieces even apart in
     let low = All-permutation (λ p. p < 2 ^ 64) (places_of_pieces pieces) (places (words_of pieces)) same small in
     rw (agree (words_of pieces) low) same
-
--- ---- entries
-
-relative_is_known : (m : Machine) → kind_of (loader_machine m) (relative_type m) ≡ Some kinds.Relative
-unfolding kind_of
-relative_is_known machine.X86_64 = refl
-relative_is_known machine.AArch64 = refl
-
-pub entries_add : EntriesAddTheBase
-entries_add l base place value h = (relative_is_known l.machine, ap (λ (n : ℕ). (base + n) % 2 ^ 64) (of_z-to_z w64 value h))

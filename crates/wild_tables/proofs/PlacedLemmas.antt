@@ -5,17 +5,14 @@ use Rattle.std.proofs.lemmas.List.{length-append}
 use Rattle.std.proofs.lemmas.List.Elements.{All-nil, All-cons, All-head, All-tail, All-append}
 use Rattle.wild_relr.specs.Laws.{WordsAreRead}
 use Rattle.wild_records.specs.declared.relocations.Rela.{Rela}
-use Rattle.wild_reloc.specs.declared.dynamic.DynamicRelocationKind.TheVariants as entry_kinds
 use Rattle.wild_types.specs.declared.kind.Machine.{Machine}
-use Rattle.wild_types.specs.declared.kind.Machine.TheVariants as machine
-use Rattle.wild_loader.specs.Changes.{kind_of}
 use Rattle.wild_slot.specs.declared.slot.SlotWord.{SlotWord}
 use Rattle.wild_slot.specs.declared.slot.SlotWord.TheVariants.{Number, Address, InBlock, General, Plt}
 use Rattle.wild_slot.specs.declared.slot_parts.WordPart.TheVariants as words
 use Rattle.wild_slot.specs.declared.slot_parts.EntryPart.{EntryPart}
 use Rattle.wild_slot.specs.declared.slot_parts.EntryPart.TheVariants as entries
 use Rattle.wild_slot.specs.SlotParts.{next, is_packed, address_entry, entry_at, at_places, word_of, entry_of, flat_place, slot_words, slot_entries}
-use Rattle.wild_tables.specs.SlotLaws.{EachWordStands, EachFillingIsThere, WordsStandInOrder, EntriesFillWords, CountsAreOfAnyMachine, TypesAreKnown, Fills, filled, is_in_block, word_place}
+use Rattle.wild_tables.specs.SlotLaws.{EachWordStands, EachFillingIsThere, WordsStandInOrder, EntriesFillWords, CountsAreOfAnyMachine, Fills, filled, is_in_block, word_place}
 
 count : {X : Type 0} → Option X → ℕ
 count o = length (option_to_list o)
@@ -172,28 +169,3 @@ counts_same part m n relr at (w ∷ ws) =
     let b = placed-count (entry_of part n relr) at w ws in
     let rest = counts_same part m n relr (next at) ws in
     omega (arith, once, a, b, rest)
-
--- ---- numbers
-
-pub types_known : TypesAreKnown
-unfolding kind_of
-types_known machine.X86_64 entry_kinds.Absolute = refl
-types_known machine.X86_64 entry_kinds.Copy = refl
-types_known machine.X86_64 entry_kinds.GotEntry = refl
-types_known machine.X86_64 entry_kinds.JumpSlot = refl
-types_known machine.X86_64 entry_kinds.Relative = refl
-types_known machine.X86_64 entry_kinds.DtpMod = refl
-types_known machine.X86_64 entry_kinds.DtpOff = refl
-types_known machine.X86_64 entry_kinds.TpOff = refl
-types_known machine.X86_64 entry_kinds.TlsDesc = refl
-types_known machine.X86_64 entry_kinds.Irelative = refl
-types_known machine.AArch64 entry_kinds.Absolute = refl
-types_known machine.AArch64 entry_kinds.Copy = refl
-types_known machine.AArch64 entry_kinds.GotEntry = refl
-types_known machine.AArch64 entry_kinds.JumpSlot = refl
-types_known machine.AArch64 entry_kinds.Relative = refl
-types_known machine.AArch64 entry_kinds.DtpMod = refl
-types_known machine.AArch64 entry_kinds.DtpOff = refl
-types_known machine.AArch64 entry_kinds.TpOff = refl
-types_known machine.AArch64 entry_kinds.TlsDesc = refl
-types_known machine.AArch64 entry_kinds.Irelative = refl

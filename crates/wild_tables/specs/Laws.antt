@@ -3,23 +3,14 @@
 --   EntriesAreRead     entry k is read at 24 k
 --   LoadersAgree       a loader decodes the places that words stand for
 --   PlacesAreLoaded    a loader finds each place that was recorded, and no other
---   EntriesAddTheBase  a loader takes a relative entry for the base plus the value
-use Rattle.std.specs.Prelude.{◌≡◌, ◌≢◌, ℕ, ◌+◌, ◌*◌, ◌%◌, ◌^◌, ◌<◌, Some, List, length, All, AllPairs, IsPermutation, slice_index_or}
+use Rattle.std.specs.Prelude.{◌≡◌, ◌≢◌, ℕ, ◌+◌, ◌*◌, ◌^◌, ◌<◌, List, length, All, AllPairs, IsPermutation, slice_index_or}
 use Rattle.wild_words.specs.Words.{Stands}
 use Rattle.wild_records.specs.declared.relocations.Rela.{Rela}
 use Rattle.wild_records.specs.Relocations.{rela_size, rela_at, RelaFits}
-use Rattle.wild_types.specs.declared.kind.Machine.{Machine}
-use Rattle.wild_types.specs.declared.kind.Machine.TheVariants as machine
-use Rattle.wild_types.specs.declared.layout.Layout.{Layout}
-use Rattle.wild_loader.specs.declared.memory.Machine as loaders
-use Rattle.wild_loader.specs.declared.memory.Machine.TheVariants as loaded
-use Rattle.wild_loader.specs.declared.kind.DynamicKind.TheVariants as kinds
-use Rattle.wild_loader.specs.Changes.{kind_of, plus}
 use Rattle.wild_loader.specs.Places as loader
 use Rattle.wild_relr.specs.Places.{places}
 use Rattle.wild_relr.specs.Packed.{Piece, IsEven, places_of_pieces, words_of}
 use Rattle.wild_tables.specs.Entries.{rela_bytes}
-use Rattle.wild_tables.specs.Tables.{relative_entry}
 
 -- entries have 24 bytes each
 abbrev pub LengthsOfEntries : Type 0
@@ -37,13 +28,3 @@ LoadersAgree = (ws : List ℕ) → All (λ p. p < 2 ^ 64) (places ws) → loader
 abbrev pub PlacesAreLoaded : Type 0
 PlacesAreLoaded = (pieces : List Piece) → All IsEven pieces → All (λ p. p < 2 ^ 64) (places_of_pieces pieces) → AllPairs (λ p q. p ≢ q) (places_of_pieces pieces)
     → IsPermutation (places_of_pieces pieces) (loader.places (words_of pieces))
-
--- the machine of a loader
-abbrev pub loader_machine : Machine → loaders.Machine
-loader_machine machine.X86_64 = loaded.X86_64
-loader_machine machine.AArch64 = loaded.AArch64
-
--- a loader takes the entry of an address for a relative one, and stores the base plus the value
-abbrev pub EntriesAddTheBase : Type 0
-EntriesAddTheBase = (l : Layout) (base place value : ℕ) → value < 2 ^ 64
-    → (kind_of (loader_machine l.machine) (relative_entry l place value).number ≡ Some kinds.Relative) × (plus base (relative_entry l place value) ≡ (base + value) % 2 ^ 64)

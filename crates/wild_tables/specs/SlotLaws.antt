@@ -4,25 +4,17 @@
 --   EachFillingIsThere  each word that is no number, and not in the block, has one entry or one RELR word
 --   EntriesFillWords    each entry names the place of a word that is 0 in the file
 --   CountsAreOfAnyMachine  how many entries there are does not hang on the machine
---   TypesAreKnown       a loader knows the number of each entry
 use Rattle.std.specs.Prelude.{◌≡◌, ℕ, ◌+◌, ◌*◌, ◌%◌, ◌^◌, ◌<◌, Bool, true, false, Option, Some, None, List, length, All, slice_index_or}
 use Rattle.wild_words.specs.Words.{number_at, Stands}
 use Rattle.wild_relr.specs.Written.{word_bytes}
 use Rattle.wild_records.specs.declared.relocations.Rela.{Rela}
-use Rattle.wild_reloc.specs.declared.dynamic.DynamicRelocationKind.{DynamicRelocationKind}
-use Rattle.wild_reloc.specs.declared.dynamic.DynamicRelocationKind.TheVariants as entry_kinds
 use Rattle.wild_types.specs.declared.kind.Machine.{Machine}
-use Rattle.wild_types.specs.declared.kind.Machine.TheVariants as machine
-use Rattle.wild_loader.specs.declared.kind.DynamicKind.{DynamicKind}
-use Rattle.wild_loader.specs.declared.kind.DynamicKind.TheVariants as kinds
-use Rattle.wild_loader.specs.Changes.{kind_of}
 use Rattle.wild_slot.specs.declared.slot.SlotWord.{SlotWord}
 use Rattle.wild_slot.specs.declared.slot.SlotWord.TheVariants.{Number, InBlock}
 use Rattle.wild_slot.specs.declared.slot_parts.WordPart.TheVariants as words
 use Rattle.wild_slot.specs.declared.slot_parts.EntryPart.{EntryPart}
 use Rattle.wild_slot.specs.declared.slot_parts.EntryPart.TheVariants as entries
-use Rattle.wild_tables.specs.Laws.{loader_machine}
-use Rattle.wild_slot.specs.SlotParts.{at_places, word_of, slot_words, slot_entries, flat_places, type_of}
+use Rattle.wild_slot.specs.SlotParts.{at_places, word_of, slot_words, slot_entries, flat_places}
 
 -- each word is one of `got` or of `got_relr`, and of one of them alone
 abbrev pub EachWordStands : Type 0
@@ -70,23 +62,3 @@ EntriesFillWords = (part : EntryPart) (m : Machine) (relr : Bool) (at : ℕ) (ws
 abbrev pub CountsAreOfAnyMachine : Type 0
 CountsAreOfAnyMachine = (part : EntryPart) (m n : Machine) (relr : Bool) (at : ℕ) (ws : List SlotWord)
     → length (slot_entries part m relr at ws) ≡ length (slot_entries part n relr at ws)
-
--- what a loader does at each machine; the slots of AArch64 have an addend, which is 0 (x86-64 psABI and aaelf64,
--- "Relocation Types")
-abbrev pub loaded_kind : Machine → DynamicRelocationKind → DynamicKind
-loaded_kind m entry_kinds.Absolute = kinds.SymbolPlus
-loaded_kind m entry_kinds.Copy = kinds.Copy
-loaded_kind machine.X86_64 entry_kinds.GotEntry = kinds.Symbol
-loaded_kind machine.AArch64 entry_kinds.GotEntry = kinds.SymbolPlus
-loaded_kind machine.X86_64 entry_kinds.JumpSlot = kinds.Symbol
-loaded_kind machine.AArch64 entry_kinds.JumpSlot = kinds.SymbolPlus
-loaded_kind m entry_kinds.Relative = kinds.Relative
-loaded_kind m entry_kinds.DtpMod = kinds.Module
-loaded_kind m entry_kinds.DtpOff = kinds.ModuleOffset
-loaded_kind m entry_kinds.TpOff = kinds.ThreadOffset
-loaded_kind m entry_kinds.TlsDesc = kinds.Descriptor
-loaded_kind m entry_kinds.Irelative = kinds.Resolved
-
--- a loader knows each entry by its number
-abbrev pub TypesAreKnown : Type 0
-TypesAreKnown = (m : Machine) (kind : DynamicRelocationKind) → kind_of (loader_machine m) (type_of m kind) ≡ Some (loaded_kind m kind)

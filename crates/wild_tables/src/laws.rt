@@ -1,6 +1,6 @@
 //! Laws of the tables.
-ghost use Rattle.wild_tables.specs.Laws.{LengthsOfEntries, EntriesAreRead, LoadersAgree, PlacesAreLoaded, EntriesAddTheBase};
-ghost use Rattle.wild_tables.specs.SlotLaws.{EachWordStands, WordsStandInOrder, EachFillingIsThere, EntriesFillWords, CountsAreOfAnyMachine, TypesAreKnown};
+ghost use Rattle.wild_tables.specs.Laws.{LengthsOfEntries, EntriesAreRead, LoadersAgree, PlacesAreLoaded};
+ghost use Rattle.wild_tables.specs.SlotLaws.{EachWordStands, WordsStandInOrder, EachFillingIsThere, EntriesFillWords, CountsAreOfAnyMachine};
 
 use wild_records::rela_is_read;
 use wild_relr::{pieces_are_recorded, words_are_read};
@@ -26,11 +26,6 @@ pub fn places_are_loaded()
     loaders_agree();
 }
 
-/// A loader takes the entry of an address for a relative one, and stores the base plus the value.
-pub fn entries_add_the_base()
-    ensures { EntriesAddTheBase }
-{}
-
 /// Each word of a slot stands in its part, and each that a loader fills has one entry or RELR word, which names its place.
 pub fn slots_are_filled()
     ensures stand { EachWordStands }
@@ -41,8 +36,3 @@ pub fn slots_are_filled()
 {
     words_are_read();
 }
-
-/// A loader knows each entry by its number, on either machine.
-pub fn types_are_known()
-    ensures { TypesAreKnown }
-{}

@@ -15,8 +15,7 @@ mod writer;
 
 pub use dynamic::{dynamic_sections_are_read, write_dynamic, write_unused};
 pub use laws::{
-    entries_add_the_base, entries_are_read, loaders_agree, places_are_loaded, slots_are_filled,
-    types_are_known,
+    entries_are_read, loaders_agree, places_are_loaded, slots_are_filled,
 };
 pub use refused::Refused;
 pub use rela::RelaTable;

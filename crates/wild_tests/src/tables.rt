@@ -254,7 +254,7 @@ const STUB: [u8; 16] = [
 /// Puts the slots of three symbols, and a stub for the first.
 fn put_slots(tables: &mut TableWriter, layout: &Layout) -> Result<(), Fail> {
     let mut stub = [0; 16];
-    put_stub(&mut stub, 0x40_2028, 0x40_0140);
+    put_stub(layout.machine, false, &mut stub, 0x40_2028, 0x40_0140);
     for index in 0..3usize {
         let resolution = resolution_of(layout, index)?;
         let done = tables.process_resolution(layout, &resolution, Ok(stub));

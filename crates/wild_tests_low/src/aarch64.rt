@@ -4,9 +4,10 @@ use wild_aarch64::{
     Action, Code, Deed, Operand, Shift, Step, branch_of, code_of, longest_step, meaning_of,
 };
 use wild_relax::aarch64::{
-    THUNKS, ThunkOutOfRange, fill_nop_padding, is_symbol_variant_pcs, write_stub, write_thunk,
+    THUNKS, ThunkOutOfRange, fill_nop_padding, is_symbol_variant_pcs, write_thunk,
 };
-use wild_slot::PltTooFar;
+use wild_slot::{PltTooFar, write_stub};
+use wild_types::Machine;
 
 // What `as` 2.40 (aarch64-linux-gnu) makes of the line beside it; of loads, stores and conditions the number in front is the word
 // without its field.
@@ -168,16 +169,16 @@ fn longest_runs(rt: HostRuntime) {
 #[test]
 fn stubs(rt: HostRuntime) {
     let mut bytes = [0xcc; 16];
-    assert!(rt; write_stub(&mut bytes, 0x20010, 0x10000, false).is_ok());
+    assert!(rt; write_stub(Machine::AArch64, false, &mut bytes, 0x20010, 0x10000).is_ok());
     assert!(rt; bytes == *b"\x90\0\0\x90\x11\x0a\x40\xf9\x20\x02\x1f\xd6\x1f\x20\x03\xd5");
-    assert!(rt; write_stub(&mut bytes, 0x20010, 0x10000, true).is_ok());
+    assert!(rt; write_stub(Machine::AArch64, true, &mut bytes, 0x20010, 0x10000).is_ok());
     let marked = *b"\x5f\x24\x03\xd5\x90\0\0\x90\x11\x0a\x40\xf9\x20\x02\x1f\xd6";
     assert!(rt; bytes == marked);
-    assert!(rt; write_stub(&mut bytes, 0x1_0000_fff8, 0x10ff8, false).is_ok());
-    let after = write_stub(&mut bytes, 0x1_0001_0000, 0x10ffc, false);
+    assert!(rt; write_stub(Machine::AArch64, false, &mut bytes, 0x1_0000_fff8, 0x10ff8).is_ok());
+    let after = write_stub(Machine::AArch64, false, &mut bytes, 0x1_0001_0000, 0x10ffc);
     assert!(rt; after == Err(PltTooFar { value: 1 << 32 }));
-    assert!(rt; write_stub(&mut bytes, 0x1_0001_0000, 0x10ffc, true).is_ok());
-    let before = write_stub(&mut bytes, 0xfff8, 0x10000, false);
+    assert!(rt; write_stub(Machine::AArch64, true, &mut bytes, 0x1_0001_0000, 0x10ffc).is_ok());
+    let before = write_stub(Machine::AArch64, false, &mut bytes, 0xfff8, 0x10000);
     assert!(rt;
         before
             == Err(PltTooFar {

@@ -1,6 +1,6 @@
 use Rattle.std.proofs.Common.{◌≡◌, ◌*◌, length, take}
-use Rattle.wild_relax.specs.StubAArch64.{spelled}
-use Rattle.wild_relax.proofs.aarch64.put_words.Given as goal
+use Rattle.wild_slot.specs.StubAArch64.{spelled}
+use Rattle.wild_slot.proofs.stub_aarch64.put_words.Given as goal
 
 abbrev pub invariant-loop-i : goal.invariant-loop-i
 invariant-loop-i l = record {
