@@ -2,9 +2,6 @@
 use Rattle.std.proofs.Common.{◌≡◌, ℕ, ◌+◌, ◌*◌, inl, inr, List, [], ◌∷◌, length, flat_map, refl, ◌∙◌, arith, if◌then◌else◌}
 use Rattle.std.proofs.lemmas.Bool.{cases_Bool}
 use Rattle.std.proofs.lemmas.List.{length-append}
-use Rattle.wild_words.specs.Words.{word}
-use Rattle.wild_words.proofs.WordLemmas.{length-word}
-use Rattle.wild_words.proofs.OverlayLemmas.{length-place}
 use Rattle.wild_records.specs.Relocations.{rela_size}
 use Rattle.wild_relr.specs.Written.{word_bytes}
 use Rattle.wild_relr.proofs.SpellLemmas.{length-word_bytes}
@@ -23,10 +20,10 @@ use Rattle.wild_needs.specs.SlotShares.{word_size, stub_size, words_in, entries_
 use Rattle.wild_types.specs.FileSymbols.{own_symbols}
 use Rattle.wild_types.proofs.ListLemmas.{total-none}
 use Rattle.wild_slot.specs.SymbolWords.{slots_of}
-use Rattle.wild_slot.specs.Stub.{stub_x86_64, stub_template, displacement_x86_64}
 use Rattle.wild_tables.specs.Entries.{rela_bytes}
 use Rattle.wild_tables.proofs.EntryLemmas.{length-rela_bytes}
 use Rattle.wild_layout.specs.SlotBytes.{symbol_entries, stub_bytes, flat_in, slot_words_of, slot_entries_of, stubs_of, flat_places_of, slot_bytes, storage_entries, header_bytes, block_bytes}
+use Rattle.wild_slot.proofs.StubLemmas.{length-stub_of}
 
 -- a multiple of the length of lists joined end to end
 multiple_joined : {X Y : Type 0} (m : ℕ → ℕ) → m 0 ≡ 0 → ((a b : ℕ) → m (a + b) ≡ m a + m b) → (f : X → List Y) (xs : List X) → m (length (flat_map f xs)) ≡ total (λ (x : X). m (length (f x))) xs
@@ -51,16 +48,10 @@ flat_length : (l : Layout) (f : File) → length (word_bytes (flat_places_of l f
 unfolding flat_places_of
 flat_length l f = length-word_bytes (flat_map (flat_in l) (own_symbols l f)) ∙ multiple_joined (λ n. 8 * n) refl (λ a b. omega arith) (flat_in l) (own_symbols l f)
 
-pub length-stub : (slot stub : ℕ) → length (stub_x86_64 slot stub).bytes ≡ stub_size
-length-stub slot stub =
-    let d = displacement_x86_64 slot stub in
-    let w = length-word 4 d in
-    length-place 7 stub_template (word 4 d) (omega arith)
-
 stub_length : (l : Layout) (s : Symbol) → length (stub_bytes l s) ≡ (if (slots_of l s).has_stub then stub_size else 0)
 stub_length l s =
     elim (cases_Bool (slots_of l s).has_stub) [
-      | inl t ↦ rw t (length-stub _ _)
+      | inl t ↦ rw t (length-stub_of l.machine l.options.bti _ _)
       | inr f ↦ rw f refl
     ]
 

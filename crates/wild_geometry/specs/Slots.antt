@@ -12,7 +12,6 @@ use Rattle.wild_slot.specs.declared.slot.SlotWord.TheVariants.{Number, Address, 
 use Rattle.wild_types.specs.SymbolSlots.{got_of, plt_of}
 use Rattle.wild_slot.specs.SymbolWords.{slots_of}
 use Rattle.wild_needs.specs.SlotShares.{storage_words}
-use Rattle.wild_slot.specs.Stub.{stub_x86_64}
 use Rattle.wild_loader.specs.declared.memory.Memory.{Memory}
 use Rattle.wild_loader.specs.declared.world.World.{World}
 use Rattle.wild_loader.specs.declared.change.Change.{Change}
@@ -21,6 +20,7 @@ use Rattle.wild_loader.specs.Changes.{first_value, change_of}
 use Rattle.wild_loader.specs.Memory.{Holds, number_in}
 use Rattle.wild_geometry.specs.EntryKinds.{loaded_kind}
 use Rattle.wild_geometry.specs.Loaded.{entry_with}
+use Rattle.wild_slot.specs.MachineStub.{stub_in}
 
 -- what a change leaves of a word at a place: the number that it stores; of a descriptor, which is two words, the offset is noted
 abbrev pub IsLeft : Memory → ℕ → Change → ℕ → Type 0
@@ -50,7 +50,7 @@ HasWords w m at ws = (k : ℕ) (d : SlotWord) → k < length ws → (x : ℕ) ×
 pub record HasSymbolSlots (l : Layout) (w : World) (m : Memory) (s : Symbol) (at : ℕ) : Type 0 where
   pub whole : (slots_of l s).fault ≡ None
   pub words : HasWords w m at (slots_of l s).words
-  pub stub : (p : ℕ) → plt_of s ≡ Some p → Holds m (w.base + p) (stub_x86_64 at p).bytes
+  pub stub : (p : ℕ) → plt_of s ≡ Some p → Holds m (w.base + p) (stub_in l at p).bytes
 
 -- each symbol with slots has them, and the pair of the output's own thread-local data is there where it has a place
 pub record HasSlots (l : Layout) (w : World) (m : Memory) : Type 0 where

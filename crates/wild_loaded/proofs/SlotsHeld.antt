@@ -3,7 +3,6 @@ use Rattle.std.proofs.Common.{◌≡◌, ℕ, zero, suc, ◌+◌, ◌*◌, ◌^�
 use Rattle.std.specs.Prelude.{Option, All, Some, None, unwrap_or, if◌then◌else◌, slice_get}
 use Rattle.std.proofs.lemmas.List.Elements.{All-contains}
 use Rattle.wild_words.specs.Words.{word}
-use Rattle.wild_words.proofs.OverlayLemmas.{length-place}
 use Rattle.wild_words.proofs.WordLemmas.{length-word}
 use Rattle.wild_words.proofs.RecordLemmas.{Stands-left, Stands-right}
 use Rattle.wild_words.proofs.Basics.{of_if, listed_at}
@@ -27,7 +26,6 @@ use Rattle.wild_types.specs.SymbolSlots.{got_of, plt_of, slots_at}
 use Rattle.wild_needs.specs.SlotShares.{word_size, storage_at, storage_words}
 use Rattle.wild_types.specs.FileSymbols.{own_symbols}
 use Rattle.wild_slot.specs.SymbolWords.{slots_of}
-use Rattle.wild_slot.specs.Stub.{stub_x86_64, stub_template}
 use Rattle.wild_layout.specs.Numbers.{NumbersFit, SymbolNumbers}
 use Rattle.wild_layout.specs.Geometry.{IsLaidOut}
 use Rattle.wild_layout.specs.SlotBytes.{stub_bytes}
@@ -39,6 +37,8 @@ use Rattle.wild_loaded.specs.Stored.{IsWordStored, IsStubStored}
 use Rattle.wild_loaded.specs.Laws.{PartsAreStored, SlotsAreStored}
 use Rattle.wild_loaded.proofs.PartsHeld.{stands_held, stands_inner}
 use Rattle.wild_loaded.proofs.SlotNumbers.{WordFits, own_module, words_fit, storage_fits}
+use Rattle.wild_slot.specs.MachineStub.{stub_in}
+use Rattle.wild_slot.proofs.StubLemmas.{length-stub_of}
 
 -- what the crate below owes of slots
 pub record SlotLaws : Type 0 where
@@ -87,20 +87,20 @@ whole_slots l i at s law slots there got =
     let files = All-contains (λ (f : File). All (λ (s : Symbol). (slots_of l s).fault ≡ None) (own_symbols l f)) h.group.files h.file groups h.holds in
     All-contains (λ (s : Symbol). (slots_of l s).fault ≡ None) (own_symbols l h.file) s files h.own
 
-stub_is : (l : Layout) (s : Symbol) (at stub : ℕ) → got_of s ≡ Some at → plt_of s ≡ Some stub → (slots_of l s).has_stub ≡ true → stub_bytes l s ≡ (stub_x86_64 at stub).bytes
+stub_is : (l : Layout) (s : Symbol) (at stub : ℕ) → got_of s ≡ Some at → plt_of s ≡ Some stub → (slots_of l s).has_stub ≡ true → stub_bytes l s ≡ (stub_in l at stub).bytes
 stub_is l s at stub got plt has =
-    ap (λ (b : Bool). if b then (stub_x86_64 (slots_at s) (unwrap_or (plt_of s) 0)).bytes else []) has
-    ∙ ap (λ (o : Option ℕ). (stub_x86_64 (unwrap_or o 0) (unwrap_or (plt_of s) 0)).bytes) got
-    ∙ ap (λ (o : Option ℕ). (stub_x86_64 at (unwrap_or o 0)).bytes) plt
+    ap (λ (b : Bool). if b then (stub_in l (slots_at s) (unwrap_or (plt_of s) 0)).bytes else []) has
+    ∙ ap (λ (o : Option ℕ). (stub_in l (unwrap_or o 0) (unwrap_or (plt_of s) 0)).bytes) got
+    ∙ ap (λ (o : Option ℕ). (stub_in l at (unwrap_or o 0)).bytes) plt
 
-some_stub : (at stub : ℕ) → 1 ≤ length (stub_x86_64 at stub).bytes
-some_stub at stub = (let d = (stub_x86_64 at stub).distance in let n = length-word 4 d in let e = length-place 7 stub_template (word 4 d) (omega (arith, n)) in omega (arith, e))
+some_stub : (l : Layout) (at stub : ℕ) → 1 ≤ length (stub_in l at stub).bytes
+some_stub l at stub = (let e = length-stub_of l.machine l.options.bti at stub in omega (arith, e))
 
 stub_held : (l : Layout) (w : World) (i at stub : ℕ) (s : Symbol) → SlotLaws → PartsAreStored → IsLoadable l.kind → IsLegal l w → IsLaidOut l → HasWholeSlots l → slice_get l.symbols i ≡ Some s → got_of s ≡ Some at → plt_of s ≡ Some stub → IsStubStored l w at stub
 stub_held l w i at stub s laws law kind legal laid slots there got plt =
     let has = laws.stubs l slots.order i at stub s there got plt (whole_slots l i at s laws.stand slots there got) in
     let stands = subst (λ (bs : List ℕ). StandsAt l role.PltGot stub bs) (stub_is l s at stub got plt has) ((laws.stand l slots.order i at s there got).stub stub plt) in
-    record { stands = stands; held = (stands_held l w role.PltGot stub (stub_x86_64 at stub).bytes law refl kind legal laid (some_stub at stub) stands).held }
+    record { stands = stands; held = (stands_held l w role.PltGot stub (stub_in l at stub).bytes law refl kind legal laid (some_stub l at stub) stands).held }
 
 -- ---- the pair of the output's own thread-local data
 

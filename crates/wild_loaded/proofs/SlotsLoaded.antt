@@ -17,7 +17,6 @@ use Rattle.wild_types.specs.SymbolSlots.{got_of, plt_of, slots_at}
 use Rattle.wild_types.specs.FileSymbols.{own_symbols}
 use Rattle.wild_slot.specs.SymbolWords.{slots_of}
 use Rattle.wild_needs.specs.SlotShares.{storage_words}
-use Rattle.wild_slot.specs.Stub.{stub_x86_64}
 use Rattle.wild_layout.specs.Numbers.{SymbolNumbers}
 use Rattle.wild_layout.proofs.SiteLemmas.{Contains-flat_map}
 use Rattle.wild_loader.specs.declared.memory.Memory.{Memory}
@@ -33,6 +32,7 @@ use Rattle.wild_loaded.proofs.TableHomes.{role_home, stands_inside}
 use Rattle.wild_loaded.proofs.MadeChanges.{IsMovedImage, kept_at}
 use Rattle.wild_loaded.proofs.OutsideTables.{stub_misses}
 use Rattle.wild_loaded.proofs.SitesLoaded.{IsLoadedSite, site_after}
+use Rattle.wild_slot.specs.MachineStub.{stub_in}
 
 -- ---- words
 
@@ -79,10 +79,10 @@ word_loaded l w m i at k s d h there got here =
 
 -- ---- stubs
 
-stub_loaded : (l : Layout) (w : World) (m : Memory) (i at stub : ℕ) (s : Symbol) → IsMovedImage l w m → slice_get l.symbols i ≡ Some s → got_of s ≡ Some at → plt_of s ≡ Some stub → Holds m (w.base + stub) (stub_x86_64 at stub).bytes
+stub_loaded : (l : Layout) (w : World) (m : Memory) (i at stub : ℕ) (s : Symbol) → IsMovedImage l w m → slice_get l.symbols i ≡ Some s → got_of s ≡ Some at → plt_of s ≡ Some stub → Holds m (w.base + stub) (stub_in l at stub).bytes
 stub_loaded l w m i at stub s h there got plt = λ k lt.
     let b = h.laws.filled.slots.stored.stubs l w i at stub s h.well.kind h.well.legal h.well.laid h.well.whole there got plt in
-    let n = stands_inside l role.PltGot stub (stub_x86_64 at stub).bytes refl h.well.laid b.stands in
+    let n = stands_inside l role.PltGot stub (stub_in l at stub).bytes refl h.well.laid b.stands in
     let from = n.0 in
     let to = n.1 in
     let start = (role_home l role.PltGot).address in

@@ -22,7 +22,6 @@ use Rattle.wild_slot.specs.declared.slot.SlotEntry.{SlotEntry}
 use Rattle.wild_slot.specs.declared.slot.SlotWord.{SlotWord}
 use Rattle.wild_types.specs.declared.layout.Layout.{Layout}
 use Rattle.wild_slot.specs.SlotParts.{word_of}
-use Rattle.wild_slot.specs.Stub.{stub_x86_64}
 use Rattle.wild_layout.specs.TablePlaces.{table_bytes}
 use Rattle.wild_loader.specs.declared.kind.DynamicKind.TheVariants as kinds
 use Rattle.wild_loader.specs.declared.change.Change.{Change}
@@ -35,6 +34,7 @@ use Rattle.wild_geometry.specs.EntryKinds.{loaded_kind}
 use Rattle.wild_geometry.specs.Loaded.{MakesChange, entry_with, stored_bytes}
 use Rattle.wild_slots.specs.Stand.{part_of_word, role_of_words, StandsAt}
 use Rattle.wild_loaded.specs.Memory.{image_memory}
+use Rattle.wild_slot.specs.MachineStub.{stub_in}
 
 -- the segment carries the byte at that offset of the file to that address
 pub record CarriesByte (l : Layout) (g : Segment) (offset address : ℕ) : Type 0 where
@@ -60,8 +60,8 @@ pub record IsWordStored (l : Layout) (w : World) (at : ℕ) (d : SlotWord) : Typ
 
 -- memory has the stub, which stands in its table
 pub record IsStubStored (l : Layout) (w : World) (at stub : ℕ) : Type 0 where
-  pub stands : StandsAt l role.PltGot stub (stub_x86_64 at stub).bytes
-  pub held : Holds (image_memory l w) (w.base + stub) (stub_x86_64 at stub).bytes
+  pub stands : StandsAt l role.PltGot stub (stub_in l at stub).bytes
+  pub held : Holds (image_memory l w) (w.base + stub) (stub_in l at stub).bytes
 
 -- the bytes that the entry of a slot fills: a descriptor's two words, else one
 abbrev pub filled_width : SlotEntry → ℕ

@@ -22,9 +22,8 @@ use Rattle.wild_references.specs.Stubs.{StubsGoOn}
 use Rattle.wild_references.proofs.SlotContents.{ItemsHold}
 use Rattle.wild_references.proofs.SlotFlags.{slot_of_stub}
 use Rattle.wild_references.proofs.FirstSlots.{own_item, own_is, symbol_held, as_address, items_behind}
-use Rattle.wild_references.proofs.StubCode.{stub_jumps}
+use Rattle.wild_references.proofs.StubCode.{stub_goes}
 use Rattle.wild_references.proofs.SymbolStubs.{in_reach}
-use Rattle.wild_meaning.specs.Linked.{processor_of}
 
 -- what memory has of slots that begin with a word
 record BeginsWithWord (w : World) (m : Memory) (at : ℕ) (rest : List SlotItem) : Type 0 where
@@ -68,5 +67,5 @@ each_stub law = λ l w m x machine own agrees slots i p s r listed decided stub.
       given = given;
       target = first.word;
       word = first.there;
-      jumps = stub_jumps law m w.base at p first.word (machine ∙ ap processor_of x) (in_reach l w m at p r x given stub first.behind) (here.stub p has) first.there;
+      jumps = stub_goes law l m w.base at p first.word x machine (in_reach l w m at p r given stub first.behind) (here.stub p has) first.there;
     }

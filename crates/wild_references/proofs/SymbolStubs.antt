@@ -2,15 +2,13 @@
 use Rattle.std.proofs.Common.{◌≡◌, ℕ, ◌+◌, ◌%◌, ◌^◌, ◌<◌, inl, inr, Bool, true, false, List, ◌∷◌, ◌++◌, Option, Some, None, refl, sym, ap, ◌∙◌, arith, subst}
 use Rattle.std.specs.Prelude.{Ok, if◌then◌else◌, option_and_then}
 use Rattle.wild_types.specs.declared.fault.Missing.TheVariants as missing
-use Rattle.wild_types.specs.declared.kind.Machine.TheVariants as machine
 use Rattle.wild_slot.specs.declared.slot.SlotItem.{SlotItem}
 use Rattle.wild_types.specs.declared.symbol.Resolution.{Resolution}
 use Rattle.wild_types.specs.declared.symbol.ValueFlags.{ValueFlags}
 use Rattle.wild_types.specs.declared.layout.Layout.{Layout}
 use Rattle.wild_types.specs.Lookups.{canonical}
 use Rattle.wild_slot.specs.Slots.{setting_of, stub_item, stub_items, ifunc_address_items, canonical_address_items}
-use Rattle.wild_slot.specs.Stub.{stub_x86_64}
-use Rattle.wild_slot.specs.MachineStub.{far_between, far_of}
+use Rattle.wild_slot.specs.MachineStub.{far_between, far_of, stub_in}
 use Rattle.wild_types.specs.SymbolSlots.{resolved_got, resolved_plt, plt_of, has_thread_slot}
 use Rattle.wild_clauses.proofs.ClauseLemmas.{not_thread}
 use Rattle.wild_layout.specs.SlotValues.{resolution_of, stub_of, stub_address}
@@ -25,10 +23,9 @@ use Rattle.wild_references.specs.Terms.{IsPlaced}
 use Rattle.wild_references.proofs.FirstSlots.{first_held, items_behind}
 use Rattle.wild_references.proofs.SlotContents.{ItemsHold}
 use Rattle.wild_references.proofs.SlotFlags.{symbol_fits, slot_of_stub}
-use Rattle.wild_references.proofs.StubCode.{stub_jumps, stub_below}
+use Rattle.wild_references.proofs.StubCode.{stub_goes, stub_below}
 use Rattle.wild_references.proofs.Symbols.{IsResolvedBy, resolved}
 use Rattle.wild_references.proofs.Written.{given_some}
-use Rattle.wild_meaning.specs.Linked.{processor_of}
 
 -- the stub of a symbol in memory
 pub record StubStands (l : Layout) (w : World) (m : Memory) (i stub : ℕ) : Type 0 where
@@ -49,14 +46,14 @@ reach : (b : Bool) (d : ℕ) → (if b then None else Some d) ≡ None → b ≡
 reach true d h = refl
 reach false d h = cc
 
-pub in_reach : (l : Layout) (w : World) (m : Memory) (at stub : ℕ) (r : Resolution) → l.machine ≡ machine.X86_64 → r.got_address ≡ Some at → r.plt_address ≡ Some stub → ItemsHold w m (at + 8) (items_behind l r) → (stub_x86_64 at stub).reaches ≡ true
-in_reach l w m at stub r x e f behind =
+pub in_reach : (l : Layout) (w : World) (m : Memory) (at stub : ℕ) (r : Resolution) → r.got_address ≡ Some at → r.plt_address ≡ Some stub → ItemsHold w m (at + 8) (items_behind l r) → (stub_in l at stub).reaches ≡ true
+in_reach l w m at stub r e f behind =
     let far = far_of l r in
     let more = ifunc_address_items (setting_of l) r ++ canonical_address_items (setting_of l) r in
     let here = subst (λ (o : Option ℕ). ItemsHold w m (at + 8) (stub_items far o ++ more)) f behind in
     let none = near w m (at + 8) far more here in
-    let same : far ≡ far_between machine.X86_64 (Some at) (Some stub) = rw (x, e, f) refl in
-    reach (stub_x86_64 at stub).reaches (stub_x86_64 at stub).distance (sym same ∙ none)
+    let same : far ≡ far_between l (Some at) (Some stub) = rw (e, f) refl in
+    reach (stub_in l at stub).reaches (stub_in l at stub).distance (sym same ∙ none)
 
 -- ---- it stands
 
@@ -81,10 +78,10 @@ stub_from law l w m i stub r p d f =
     let held = (p.slots.symbols (canonical l i) at s d.listed slot.1).stub stub has in
     record {
       given = record { definition = canonical l i; defined = d.defined; symbol = s; listed = d.listed; resolution = r; decided = d.decided; stub = f };
-      below = stub_below m w.base at stub held;
+      below = stub_below l m w.base at stub held;
       value = first.value;
       is = first.is;
-      jumps = stub_jumps law m w.base at stub first.value (p.loaded ∙ ap processor_of p.x86) (in_reach l w m at stub r p.x86 e f first.behind) held first.there;
+      jumps = stub_goes law l m w.base at stub first.value p.x86 p.loaded (in_reach l w m at stub r e f first.behind) held first.there;
     }
 
 -- where the writer knows of a stub, memory has it

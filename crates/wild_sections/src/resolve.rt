@@ -8,10 +8,9 @@ ghost use Rattle.wild_layout.specs.Moved.{or_zero, moved_value};
 use crate::indirect::{address_or, is_chosen, slot_address, stub_address};
 use crate::values::Resolved;
 use wild_relax::Arch;
-use wild_relax::aarch64::page_of;
 use wild_reloc::aarch64::is_branch;
 use wild_reloc::{RelocationKind, RelocationKindInfo, Taken, Term};
-use wild_slot::{flags_at, thread_pointer};
+use wild_slot::{flags_at, page_of, thread_pointer};
 use wild_types::{Fault, InputRelocation, Layout, Machine, Missing, Place, SymbolIndex};
 
 /// The address that was decided of the symbol that a relocation names, or where that stands, 0 where it names none; or

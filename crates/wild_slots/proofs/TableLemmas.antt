@@ -8,8 +8,6 @@ use Rattle.std.proofs.lemmas.List.Concat.{flat_map-append}
 use Rattle.std.proofs.lemmas.List.Elements.{All-nil, All-cons, All-head, All-tail}
 use Rattle.wild_words.specs.Words.{word}
 use Rattle.wild_words.proofs.ListLemmas.{flat_map-flat_map}
-use Rattle.wild_words.proofs.WordLemmas.{length-word}
-use Rattle.wild_words.proofs.OverlayLemmas.{length-place}
 use Rattle.wild_relr.specs.Written.{word_bytes}
 use Rattle.wild_relr.proofs.SpellLemmas.{length-word_bytes}
 use Rattle.wild_types.specs.declared.part.Role.{Role}
@@ -26,11 +24,12 @@ use Rattle.wild_needs.specs.SlotShares.{stub_size, words_in, symbol_share, heade
 use Rattle.wild_types.specs.FileSymbols.{own_symbols}
 use Rattle.wild_slot.specs.SymbolWords.{slots_of}
 use Rattle.wild_types.specs.SymbolSlots.{slots_at}
-use Rattle.wild_slot.specs.Stub.{stub_x86_64, stub_template, displacement_x86_64}
 use Rattle.wild_layout.specs.SlotBytes.{stub_bytes, slot_words_of, stubs_of, slot_bytes}
 use Rattle.wild_layout.specs.Content.{file_content, group_bytes, content}
 use Rattle.wild_layout.specs.TablePlaces.{table_bytes}
 use Rattle.wild_slots.specs.Order.{group_symbols, written_symbols}
+use Rattle.wild_slot.specs.MachineStub.{stub_in}
+use Rattle.wild_slot.proofs.StubLemmas.{length-stub_of}
 
 -- what a symbol gives to the table of a role
 abbrev pub symbol_bytes : Layout → Role → Symbol → List ℕ
@@ -51,11 +50,9 @@ behind_head : (b : Bool) (head own given : List ℕ) → own ≡ given → (if b
 behind_head true head own given e = ap (λ (bs : List ℕ). bs ++ own) (append-nil head) ∙ ap (λ (bs : List ℕ). head ++ bs) e
 behind_head false head own given e = e
 
-stub_length : (b : Bool) (slot stub : ℕ) → length (if b then (stub_x86_64 slot stub).bytes else []) ≡ (if b then stub_size else 0)
-stub_length false slot stub = refl
-stub_length true slot stub =
-    let n = length-word 4 (displacement_x86_64 slot stub) in
-    length-place 7 stub_template (word 4 (displacement_x86_64 slot stub)) (omega (arith, n))
+stub_length : (l : Layout) (b : Bool) (slot stub : ℕ) → length (if b then (stub_in l slot stub).bytes else []) ≡ (if b then stub_size else 0)
+stub_length l false slot stub = refl
+stub_length l true slot stub = length-stub_of l.machine l.options.bti slot stub
 
 pub got_table : (l : Layout) → IsTable l role.Got (word_bytes (header_words l))
 unfolding slot_words_of
@@ -78,7 +75,7 @@ unfolding stubs_of
 stub_table l = record {
   file = λ f. behind_head (is_prelude f.role) [] (slot_bytes l role.PltGot f) (flat_map (symbol_bytes l role.PltGot) (own_symbols l f)) refl;
   block = λ g. refl;
-  share = λ s. stub_length (slots_of l s).has_stub (slots_at s) _;
+  share = λ s. stub_length l (slots_of l s).has_stub (slots_at s) _;
 }
 
 -- ---- the length of what symbols give
