@@ -7,7 +7,7 @@ use Rattle.std.proofs.Common.{◌≡◌, ℕ, suc, ◌+◌, inl, inr, Bool, true
 use Rattle.std.specs.Prelude.{Option, Some, None, is_some, Ok, not, ◌||◌, ◌==◌, slice_get}
 use Rattle.std.specs.List.{list_all}
 use Rattle.std.proofs.lemmas.Bool.{cases_Bool, eqb-true, both_ways}
-use Rattle.wild_words.proofs.Basics.{implied}
+use Rattle.wild_words.proofs.Basics.{implied, listed_passes}
 use Rattle.wild_records.specs.Abi.Relocation.{r_x86_64_pc32}
 use Rattle.wild_types.specs.declared.kind.Machine.{Machine}
 use Rattle.wild_types.specs.declared.kind.Machine.TheVariants as machine
@@ -16,10 +16,11 @@ use Rattle.wild_types.specs.Item.{Item}
 use Rattle.wild_types.specs.declared.layout.Layout.{Layout}
 use Rattle.wild_relax.specs.declared.row.Row.{Row}
 use Rattle.wild_relax.specs.First.{checked}
-use Rattle.wild_relax.specs.RowSequences.{partner_distance, has_its_sequence}
-use Rattle.wild_relax.specs.Rows.{rows_x86_64, number_of, applies, unknown_sequence, standing_x86_64, chosen_x86_64}
+use Rattle.wild_relax.specs.RowSequences.{has_its_sequence}
+use Rattle.wild_relax.specs.declared.row.Partner.{Partner}
+use Rattle.wild_relax.specs.Rows.{rows_x86_64, applies, unknown_sequence, standing_x86_64, chosen_x86_64}
 use Rattle.wild_relax.specs.Relaxation.{chosen_of}
-use Rattle.wild_relax.proofs.RoomLemmas.{number_is, standing_first}
+use Rattle.wild_relax.proofs.RoomLemmas.{applied, standing_first}
 use Rattle.wild_layout.specs.Choice.{nameless, asked_of, infos_of, question_of, choice_by, choice_at, choice, takes_next, is_partner, may_take_next, may_be_partner}
 use Rattle.wild_layout.proofs.ChoiceLemmas.{choice_row, chosen_listed, partner_is_taken}
 
@@ -27,9 +28,10 @@ use Rattle.wild_layout.proofs.ChoiceLemmas.{choice_row, chosen_listed, partner_i
 
 -- they stand at two relocation types alone
 abbrev is_marked : Row → Bool
-is_marked row = not (takes_next (Ok (Some row))) || may_take_next (number_of row)
+is_marked row = not (takes_next (Ok (Some row))) || may_take_next row.number
 
 each_is_marked : list_all is_marked rows_x86_64 ≡ true
+unfolding rows_x86_64
 each_is_marked = refl
 
 -- behind another type none is taken along
@@ -100,21 +102,22 @@ asked_choice l s i r n listed named other =
 
 -- what stands does not hang on them
 same_standing : (l : Layout) (s : Item) (r : InputRelocation) (n : ℕ) (next : Option InputRelocation) → standing_x86_64 (asked_of l s n (nameless r ∷ [])) ≡ standing_x86_64 (question_of l s r n next)
-unfolding standing_x86_64 applies
+unfolding standing_x86_64 applies rows_x86_64
 same_standing l s r n next = refl
 
 -- and of types whose rows take no other along, neither does what they need
 abbrev is_by_itself : Row → Bool
-is_by_itself row = may_take_next (number_of row) || not (is_some (partner_distance row))
+is_by_itself row = may_take_next row.number || not (is_some row.partner)
 
 each_by_itself : list_all is_by_itself rows_x86_64 ≡ true
+unfolding rows_x86_64
 each_by_itself = refl
 
-no_distance : (o : Option ℕ) → not (is_some o) ≡ true → o ≡ None
+no_distance : (o : Option Partner) → not (is_some o) ≡ true → o ≡ None
 no_distance None h = refl
 no_distance (Some d) h = cc
 
-same_sequence : (l : Layout) (s : Item) (r : InputRelocation) (n : ℕ) (next : Option InputRelocation) (row : Row) → partner_distance row ≡ None → has_its_sequence (asked_of l s n (nameless r ∷ [])) row ≡ has_its_sequence (question_of l s r n next) row
+same_sequence : (l : Layout) (s : Item) (r : InputRelocation) (n : ℕ) (next : Option InputRelocation) (row : Row) → row.partner ≡ None → has_its_sequence (asked_of l s n (nameless r ∷ [])) row ≡ has_its_sequence (question_of l s r n next) row
 unfolding has_its_sequence
 same_sequence l s r n next row e = rw e refl
 
@@ -135,9 +138,9 @@ same_chosen l s r n next h =
     by l s r n next (Some a) None is e h = cc
     by l s r n next (Some a) (Some b) is e h =
         let same : a ≡ b = cc in
-        let first = standing_first (asked_of l s n (nameless r ∷ [])) is_by_itself a each_by_itself is in
-        let number : may_take_next (number_of a) ≡ false = subst (λ (x : ℕ). may_take_next x ≡ false) (number_is (asked_of l s n (nameless r ∷ [])) a first.here) h in
-        let alone = no_distance (partner_distance a) (other_one _ _ first.listed number) in
+        let first = standing_first (asked_of l s n (nameless r ∷ [])) a is in
+        let number : may_take_next a.number ≡ false = subst (λ (x : ℕ). may_take_next x ≡ false) (applied (asked_of l s n (nameless r ∷ [])) a first.here).number h in
+        let alone = no_distance a.partner (other_one _ _ (listed_passes is_by_itself rows_x86_64 a each_by_itself first.listed) number) in
         let sequence = same_sequence l s r n next a alone in
         subst (λ (x : Row). checked (has_its_sequence (asked_of l s n (nameless r ∷ []))) (unknown_sequence (asked_of l s n (nameless r ∷ []))) (Some a) ≡ checked (has_its_sequence (question_of l s r n next)) (unknown_sequence (question_of l s r n next)) (Some x)) same (rw sequence refl)
 

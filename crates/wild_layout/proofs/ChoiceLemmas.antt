@@ -5,82 +5,42 @@
 --   partner_is_taken          a relocation that is taken along is behind such a one
 --   loads k                   a loader may fill a field of that kind
 --   no_row, no_partner        a relocation of such a kind has no row, and is taken along by none
-use Rattle.std.proofs.Common.{◌≡◌, ℕ, zero, suc, ◌+◌, ◌-◌, ◌≤◌, inl, inr, Bool, true, false, List, [], ◌∷◌, length, refl, sym, ◌∙◌, arith, subst}
-use Rattle.std.specs.Prelude.{Option, Some, None, is_some, Result, Ok, Err, ◌&&◌, ◌||◌, ◌==◌, not, if◌then◌else◌, nat_le, slice_get, slice_range}
-use Rattle.std.specs.List.{list_all}
+use Rattle.std.proofs.Common.{◌≡◌, ℕ, zero, suc, ◌+◌, ◌-◌, ◌≤◌, ◌<◌, ◌⊎◌, inl, inr, Bool, true, false, List, [], ◌∷◌, length, get_or, refl, sym, arith, subst}
+use Rattle.std.specs.Prelude.{Option, Some, None, is_some, Result, Ok, Err, ◌||◌, ◌==◌, not, if◌then◌else◌, cond, Contains, nat_le, slice_get}
+use Rattle.std.specs.List.{list_all, filter}
 use Rattle.std.proofs.lemmas.Bool.{cases_Bool, eqb-true, leb-true, or_cases, and_parts}
 use Rattle.wild_words.specs.Words.{place}
-use Rattle.wild_words.proofs.OverlayLemmas.{length-place}
-use Rattle.wild_words.proofs.Basics.{not_both, implied, or_other}
+use Rattle.wild_words.proofs.Basics.{not_both, implied, or_other, listed_passes}
 use Rattle.wild_records.specs.Abi.Relocation as abi
-use Rattle.wild_reloc.specs.Field.{size_width, written}
 use Rattle.wild_reloc.specs.TableX86_64.{x86_64_row}
 use Rattle.wild_reloc.specs.declared.info.RelocationKind.{RelocationKind}
 use Rattle.wild_reloc.specs.declared.info.RelocationKind.TheVariants as kinds
 use Rattle.wild_reloc.specs.declared.info.RelocationKindInfo.{RelocationKindInfo}
-use Rattle.wild_reloc.proofs.PlaceLemmas.{length-size_written}
 use Rattle.wild_types.specs.declared.kind.Machine.{Machine}
 use Rattle.wild_types.specs.declared.kind.Machine.TheVariants as machine
 use Rattle.wild_types.specs.declared.input.InputRelocation.{InputRelocation}
 use Rattle.wild_types.specs.Item.{Item}
 use Rattle.wild_types.specs.declared.layout.Layout.{Layout}
-use Rattle.wild_types.specs.Rows.{row_of, row_width}
+use Rattle.wild_types.specs.Rows.{row_of}
 use Rattle.wild_relax.specs.declared.reference.RelocationInfo.{RelocationInfo}
 use Rattle.wild_relax.specs.declared.reference.UnknownSequence.{UnknownSequence}
 use Rattle.wild_relax.specs.declared.pattern.GeneralForm.{GeneralForm}
 use Rattle.wild_relax.specs.declared.pattern.GeneralForm.TheVariants as general
-use Rattle.wild_relax.specs.declared.pattern.LocalForm.TheVariants as local
-use Rattle.wild_relax.specs.declared.pattern.Pattern.{Pattern}
 use Rattle.wild_relax.specs.declared.row.Row.{Row}
-use Rattle.wild_relax.specs.declared.row.Row.TheVariants.{IfuncThroughStub, RexGotToImmediate, RexGotMovToLea, GotMovToImmediate, GotMovToLea, IndirectCallToDirect, IndirectJumpToDirect, PlainGotMovToLea, InitialExecToLocalExec, Plt32ToPc32, PltOffToGotOff, GeneralDynamicToLocalExec, GeneralDynamicToInitialExec, LocalDynamicToLocalExec, DescriptorLea, DescriptorCall}
+use Rattle.wild_relax.specs.declared.row.Partner.{Partner}
 use Rattle.wild_relax.specs.Question.{Question, relocation_of}
-use Rattle.wild_relax.specs.Pattern.{field_of, cells_of, stands_before, stands_at}
+use Rattle.wild_relax.specs.Pattern.{field_of}
 use Rattle.wild_relax.specs.First.{checked}
-use Rattle.wild_relax.specs.RowPatterns.{always_pattern, needed_pattern}
-use Rattle.wild_relax.specs.RowSequences.{partner_distance, call_form, is_call_number, is_partner_at, has_its_sequence}
-use Rattle.wild_relax.specs.Rows.{rows_x86_64, number_of, stands_anywhere, applies, unknown_sequence, standing_x86_64, chosen_x86_64}
+use Rattle.wild_relax.specs.RowSequences.{form_by, call_form, is_call_number, is_partner_at, has_its_sequence}
+use Rattle.wild_relax.specs.Rows.{rows_x86_64, unknown_sequence, standing_x86_64, chosen_x86_64}
 use Rattle.wild_relax.specs.RowSequences as rows
-use Rattle.wild_relax.specs.Rewrite.{rewritten}
 use Rattle.wild_relax.specs.RewriteX86_64.{rewrite_of}
-use Rattle.wild_relax.specs.Linked.{pattern_of, pattern_size, keeps_bytes, field_in, linked, template_by, template_of}
+use Rattle.wild_relax.specs.Linked.{pattern_of, pattern_size, keeps_bytes, fits_in, template_of}
 use Rattle.wild_relax.specs.Relaxation.{chosen_of}
-use Rattle.wild_relax.proofs.EveryRow.{each_row}
-use Rattle.wild_relax.proofs.RewriteLemmas.{length-bytes, bytes_inside, field_inside}
-use Rattle.wild_relax.proofs.RoomLemmas.{needed_stands, partner_asked, number_is, standing_first, chosen_is}
+use Rattle.wild_relax.proofs.TemplateLemmas as template-lemmas
+use Rattle.wild_relax.proofs.SectionLemmas.{chosen_at, changing_fits}
+use Rattle.wild_relax.proofs.RoomLemmas.{applied, partner_asked, standing_first, chosen_is}
 use Rattle.wild_layout.specs.Choice.{info_of, question_of, choice_by, choice_of, choice_at, takes_next, is_partner}
-
--- ---- the pattern of a row
-
-always_stands : (q : Question) (row : Row) → applies q row ≡ true → (stands_anywhere row || stands_before q.bytes (relocation_of q).offset (always_pattern row)) ≡ true
-unfolding applies
-always_stands q row h = (and_parts _ _ h).1
-
--- of the patterns that it asks for, the one that is all of it
-whole_stands : (row : Row) (bs : List ℕ) (o : ℕ) → (stands_anywhere row || stands_before bs o (always_pattern row)) ≡ true → stands_before bs o (needed_pattern row) ≡ true → stands_before bs o (pattern_of row) ≡ true
-whole_stands IfuncThroughStub bs o a n = a
-whole_stands (RexGotToImmediate p f) bs o a n = a
-whole_stands (RexGotMovToLea p) bs o a n = a
-whole_stands GotMovToImmediate bs o a n = a
-whole_stands GotMovToLea bs o a n = a
-whole_stands IndirectCallToDirect bs o a n = a
-whole_stands IndirectJumpToDirect bs o a n = a
-whole_stands PlainGotMovToLea bs o a n = a
-whole_stands (InitialExecToLocalExec p f) bs o a n = a
-whole_stands Plt32ToPc32 bs o a n = a
-whole_stands PltOffToGotOff bs o a n = a
-whole_stands (GeneralDynamicToLocalExec f) bs o a n = a
-whole_stands (GeneralDynamicToInitialExec f) bs o a n = a
-whole_stands (LocalDynamicToLocalExec f) bs o a n = n
-whole_stands (DescriptorLea p u) bs o a n = n
-whole_stands DescriptorCall bs o a n = n
-
-pattern_before : (bs : List ℕ) (o : ℕ) (p : Pattern) → stands_before bs o p ≡ true → field_of p ≤ o
-unfolding stands_before
-pattern_before bs o p h = leb-true (field_of p) o (and_parts _ _ h).0
-
-pattern_inside : (bs : List ℕ) (o : ℕ) (p : Pattern) → stands_before bs o p ≡ true → o - field_of p + length (cells_of p) ≤ length bs
-unfolding stands_before stands_at
-pattern_inside bs o p h = leb-true (o - field_of p + length (cells_of p)) (length bs) (and_parts _ _ (and_parts _ _ h).1).0
 
 -- ---- the row that is chosen
 
@@ -92,7 +52,7 @@ pub record IsChosen (l : Layout) (s : Item) (r : InputRelocation) (next : Option
   pub named : r.symbol ≡ Some symbol
   pub other : (r.number == abi.r_x86_64_pc32) ≡ false
   pub chosen : chosen_x86_64 (question_of l s r symbol next) ≡ Ok (Some row)
-  pub number : r.number ≡ number_of row
+  pub number : r.number ≡ row.number
   pub before : field_of (pattern_of row) ≤ r.offset
   pub inside : r.offset - field_of (pattern_of row) + pattern_size row ≤ length s.bytes
 
@@ -103,8 +63,8 @@ choice_row l s r next row h = by_symbol l s r next row r.symbol h refl h
     by_machine : (l : Layout) (s : Item) (r : InputRelocation) (next : Option InputRelocation) (row : Row) (i : ℕ) (m : Machine) → choice_of l s r next ≡ Ok (Some row) → l.machine ≡ m → r.symbol ≡ Some i → (r.number == abi.r_x86_64_pc32) ≡ false → chosen_of m (question_of l s r i next) ≡ Ok (Some row) → IsChosen l s r next row
     by_machine l s r next row i machine.AArch64 all is named other e = cc
     by_machine l s r next row i machine.X86_64 all is named other e =
-        let t = chosen_is (question_of l s r i next) (λ (r : Row). true) row refl e in
-        let stands = whole_stands row s.bytes r.offset (always_stands (question_of l s r i next) row t.here) (needed_stands (question_of l s r i next) row t.whole) in
+        let t = chosen_is (question_of l s r i next) row e in
+        let at = chosen_at (question_of l s r i next) row e in
         record {
           choice = all;
           machine = is;
@@ -112,9 +72,9 @@ choice_row l s r next row h = by_symbol l s r next row r.symbol h refl h
           named = named;
           other = other;
           chosen = e;
-          number = number_is (question_of l s r i next) row t.here;
-          before = pattern_before s.bytes r.offset (pattern_of row) stands;
-          inside = pattern_inside s.bytes r.offset (pattern_of row) stands;
+          number = (applied (question_of l s r i next) row t.here).number;
+          before = at.before;
+          inside = at.inside;
         }
 
     by_number : (l : Layout) (s : Item) (r : InputRelocation) (next : Option InputRelocation) (row : Row) (i : ℕ) (b : Bool) → choice_of l s r next ≡ Ok (Some row) → r.symbol ≡ Some i → (r.number == abi.r_x86_64_pc32) ≡ b → (if b then Ok None else chosen_of l.machine (question_of l s r i next)) ≡ Ok (Some row) → IsChosen l s r next row
@@ -126,8 +86,37 @@ choice_row l s r next row h = by_symbol l s r next row r.symbol h refl h
     by_symbol l s r next row (Some i) all named e = by_number l s r next row i (r.number == abi.r_x86_64_pc32) all named refl e
 
 -- what each row of the table has
+pub is_listed : (l : Layout) (s : Item) (r : InputRelocation) (next : Option InputRelocation) (row : Row) → IsChosen l s r next row → Contains rows_x86_64 row
+is_listed l s r next row c = (chosen_is (question_of l s r c.symbol next) row c.chosen).listed
+
 pub chosen_listed : (l : Layout) (s : Item) (r : InputRelocation) (next : Option InputRelocation) (row : Row) → IsChosen l s r next row → (p : Row → Bool) → list_all p rows_x86_64 ≡ true → p row ≡ true
-chosen_listed l s r next row c p all = (chosen_is (question_of l s r c.symbol next) p row all c.chosen).listed
+chosen_listed l s r next row c p all = listed_passes p rows_x86_64 row all (is_listed l s r next row c)
+
+-- a row that passes a test is of those that do
+pub kept_listed : {X : Type 0} (t : X → Bool) (xs : List X) (x : X) → Contains xs x → t x ≡ true → Contains (filter t xs) x
+kept_listed t xs x c h = by_place t xs x c.0 c.1 c.2 h
+  where
+    here : {X : Type 0} (t : X → Bool) (y : X) (ys : List X) (x : X) (b : Bool) → t y ≡ b → y ≡ x → t x ≡ true → Contains (cond b (y ∷ ys) ys) x
+    here t y ys x true e same h = (0, omega arith, same)
+    here t y ys x false e same h = (let f : t x ≡ false = subst (λ z. t z ≡ false) same e in cc)
+
+    behind : {X : Type 0} (y : X) (ys : List X) (x : X) (b : Bool) → Contains ys x → Contains (cond b (y ∷ ys) ys) x
+    behind y ys x true c = (suc c.0, (let low = c.1 in omega (arith, low)), c.2)
+    behind y ys x false c = c
+
+    by_place : {X : Type 0} (t : X → Bool) (xs : List X) (x : X) (k : ℕ) → k < length xs → get_or xs k x ≡ x → t x ≡ true → Contains (filter t xs) x
+    by_place t [] x k low is h = absurd (omega (arith, low))
+    by_place t (y ∷ ys) x zero low is h = here t y (filter t ys) x (t y) refl is h
+    by_place t (y ∷ ys) x (suc k) low is h = behind y (filter t ys) x (t y) (by_place t ys x k (omega (arith, low)) is h)
+
+pub of_one : {X : Type 0} (a x : X) → Contains (a ∷ []) x → x ≡ a
+of_one a x (zero, low, is) = sym is
+of_one a x (suc k, low, is) = absurd (omega (arith, low))
+
+pub of_two : {X : Type 0} (a b x : X) → Contains (a ∷ b ∷ []) x → (x ≡ a) ⊎ (x ≡ b)
+of_two a b x (zero, low, is) = inl (sym is)
+of_two a b x (suc zero, low, is) = inr (sym is)
+of_two a b x (suc (suc k), low, is) = absurd (omega (arith, low))
 
 -- ---- the bytes that a row writes
 
@@ -135,31 +124,23 @@ chosen_listed l s r next row c p all = (chosen_is (question_of l s r c.symbol ne
 abbrev has_bytes : Row → Bool
 has_bytes row = keeps_bytes row || nat_le 1 (pattern_size row)
 
+each_has_bytes : list_all has_bytes rows_x86_64 ≡ true
+unfolding rows_x86_64
+each_has_bytes = refl
+
 pub record LiesInItsPattern (row : Row) : Type 0 where
   pub some : 1 ≤ pattern_size row
-  pub bytes : field_of (pattern_of row) - (rewrite_of row).back + (rewrite_of row).size ≤ pattern_size row
-  pub field : field_in row + row_width (x86_64_row (rewrite_of row).number) ≤ pattern_size row
+  pub fits : fits_in row ≡ true
 
 pub chosen_lies : (l : Layout) (s : Item) (r : InputRelocation) (next : Option InputRelocation) (row : Row) → IsChosen l s r next row → keeps_bytes row ≡ false → LiesInItsPattern row
 chosen_lies l s r next row c k = record {
-  some = leb-true 1 (pattern_size row) (or_other (keeps_bytes row) (nat_le 1 (pattern_size row)) (each_row has_bytes refl row) k);
-  bytes = bytes_inside row;
-  field = field_inside row k;
+  some = leb-true 1 (pattern_size row) (or_other (keeps_bytes row) (nat_le 1 (pattern_size row)) (chosen_listed l s r next row c has_bytes each_has_bytes) k);
+  fits = changing_fits row (record { listed = is_listed l s r next row c; changes = k });
 }
 
 -- what is written in place of a pattern has its length
 pub length-template : (row : Row) (info : RelocationKindInfo) (v : ℕ) (old : List ℕ) → LiesInItsPattern row → x86_64_row (rewrite_of row).number ≡ Some info → length old ≡ pattern_size row → length (template_of row v old) ≡ pattern_size row
-unfolding template_of
-length-template row info v old lies known long =
-    subst (λ (o : Option RelocationKindInfo). length (template_by row v old o) ≡ pattern_size row) (sym known) (by_row row info v old (subst (λ (o : Option RelocationKindInfo). field_in row + row_width o ≤ pattern_size row) known lies.field) lies.bytes long)
-  where
-    by_row : (row : Row) (info : RelocationKindInfo) (v : ℕ) (old : List ℕ) → field_in row + size_width info.size ≤ pattern_size row → field_of (pattern_of row) - (rewrite_of row).back + (rewrite_of row).size ≤ pattern_size row → length old ≡ pattern_size row → length (linked row info v old) ≡ pattern_size row
-    by_row row info v old field bytes long =
-        let k = field_of (pattern_of row) - (rewrite_of row).back in
-        let w = length-size_written info.size v [] in
-        let z = length-bytes row (slice_range old k (k + (rewrite_of row).size)) in
-        let first = length-place k old ((rewrite_of row).bytes (slice_range old k (k + (rewrite_of row).size))) (omega (arith, z, bytes, long)) in
-        length-place (field_in row) (rewritten (rewrite_of row) (field_of (pattern_of row)) old) (written info v []) (omega (arith, w, first, field, long)) ∙ first ∙ long
+length-template row info v old lies known long = template-lemmas.length-template row info v old lies.fits (sym known) long
 
 -- ---- sequences
 
@@ -185,30 +166,26 @@ partner_is_taken l s (suc j) h = let t = by_relocation l s j (slice_get s.reloca
 
 -- such a row asks for its call
 abbrev asks_for_its_call : Row → Bool
-asks_for_its_call row = not (takes_next (Ok (Some row))) || is_some (partner_distance row)
+asks_for_its_call row = not (takes_next (Ok (Some row))) || is_some row.partner
 
 each_asks : list_all asks_for_its_call rows_x86_64 ≡ true
+unfolding rows_x86_64
 each_asks = refl
 
-some_is : {X : Type 0} (o : Option X) → is_some o ≡ true → (x : X) × (o ≡ Some x)
-some_is None h = cc
-some_is (Some x) h = (x, refl)
-
-call_number : (row : Row) (place : ℕ) (next : RelocationInfo) → rows.is_partner row place next ≡ true → is_call_number (call_form row) next.number ≡ true
+call_number : (form : GeneralForm) (place : ℕ) (next : RelocationInfo) → rows.is_partner form place next ≡ true → is_call_number form next.number ≡ true
 unfolding rows.is_partner
-call_number row place next h = (and_parts _ _ (and_parts _ _ h).0).1
+call_number form place next h = (and_parts _ _ (and_parts _ _ h).0).1
 
-taken_call : (row : Row) (r : RelocationInfo) (d : Option ℕ) (n : ℕ) (next : RelocationInfo) → d ≡ Some n → is_partner_at row r d (Some next) ≡ true → is_call_number (call_form row) next.number ≡ true
-taken_call row r None n next is h = cc
-taken_call row r (Some d) n next is h = call_number row (r.offset + d) next (and_parts _ _ h).1
+taken_call : (o : Option Partner) (r : RelocationInfo) (next : RelocationInfo) → is_some o ≡ true → is_partner_at r o (Some next) ≡ true → is_call_number (form_by o) next.number ≡ true
+taken_call None r next is h = cc
+taken_call (Some p) r next is h = call_number p.form (r.offset + p.distance) next (and_parts _ _ h).1
 
 -- the type of a relocation that is taken along is that of a call
 pub partner_number : (l : Layout) (s : Item) (r : InputRelocation) (next : InputRelocation) (row : Row) → IsChosen l s r (Some next) row → takes_next (Ok (Some row)) ≡ true → is_call_number (call_form row) next.number ≡ true
 partner_number l s r next row c takes =
     let q = question_of l s r c.symbol (Some next) in
-    let t = chosen_is q asks_for_its_call row each_asks c.chosen in
-    let d = some_is (partner_distance row) (implied _ _ t.listed takes) in
-    taken_call row (info_of l r) (partner_distance row) d.0 (info_of l next) d.1 (partner_asked q row t.whole)
+    let t = chosen_is q row c.chosen in
+    taken_call row.partner (info_of l r) (info_of l next) (implied _ _ (listed_passes asks_for_its_call rows_x86_64 row each_asks t.listed) takes) (partner_asked q row t.whole)
 
 -- ---- kinds of fields that a loader may fill
 
@@ -222,8 +199,8 @@ loads_at None = false
 loads_at (Some row) = loads row.kind
 
 -- no row stands at such a type
-each_stays : list_all (λ (row : Row). not (loads_at (x86_64_row (number_of row)))) rows_x86_64 ≡ true
-unfolding x86_64_row
+each_stays : list_all (λ (row : Row). not (loads_at (x86_64_row row.number))) rows_x86_64 ≡ true
+unfolding x86_64_row rows_x86_64
 each_stays = refl
 
 -- no call is one
@@ -261,9 +238,9 @@ none_stands q h = by_standing q (standing_x86_64 q) refl h
     by_standing : (q : Question) (o : Option Row) → standing_x86_64 q ≡ o → loads_at (x86_64_row (relocation_of q).number) ≡ true → checked (has_its_sequence q) (unknown_sequence q) o ≡ Ok None
     by_standing q None is h = refl
     by_standing q (Some row) is h =
-        let first = standing_first q (λ (x : Row). not (loads_at (x86_64_row (number_of x)))) row each_stays is in
-        let e = number_is q row first.here in
-        absurd (not_both _ first.listed (subst (λ (n : ℕ). loads_at (x86_64_row n) ≡ true) e h))
+        let first = standing_first q row is in
+        let stays = listed_passes (λ (x : Row). not (loads_at (x86_64_row x.number))) rows_x86_64 row each_stays first.listed in
+        absurd (not_both _ stays (subst (λ (n : ℕ). loads_at (x86_64_row n) ≡ true) (applied q row first.here).number h))
 
 pub no_row : (l : Layout) (s : Item) (r : InputRelocation) (next : Option InputRelocation) (row : RelocationKindInfo) → row_of l.machine r.number ≡ Some row → loads row.kind ≡ true → choice_of l s r next ≡ Ok None
 unfolding choice_by

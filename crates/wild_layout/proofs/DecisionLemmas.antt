@@ -12,10 +12,10 @@
 --   decide_alone                    without a row, and taken along by none, a relocation is decided of by itself
 --   decide_loads, decide_base_relative, decide_symbolic, decide_indirect, decide_extent    a field that a loader may fill is decided of by itself
 use Rattle.std.proofs.Common.{◌≡◌, ℕ, ◌+◌, ◌%◌, ◌^◌, ◌⊎◌, inl, inr, Bool, true, false, refl, sym, ap, ◌∙◌, arith, subst}
-use Rattle.std.specs.Prelude.{⊤, Option, Some, None, Result, Ok, Err, ◌==◌, ◌||◌, not, if◌then◌else◌, slice_get}
-use Rattle.std.specs.List.{list_all}
+use Rattle.std.specs.Prelude.{⊤, List, [], ◌∷◌, Contains, Option, Some, None, Result, Ok, Err, ◌==◌, ◌&&◌, ◌||◌, not, if◌then◌else◌, slice_get}
+use Rattle.std.specs.List.{list_all, filter}
 use Rattle.std.proofs.lemmas.Bool.{cases_Bool, not-true}
-use Rattle.wild_words.proofs.Basics.{not_both}
+use Rattle.wild_words.proofs.Basics.{not_both, implied, listed_passes}
 use Rattle.wild_records.specs.Abi.Relocation as abi
 use Rattle.wild_reloc.specs.Field.{allows}
 use Rattle.wild_reloc.specs.Table.{plain}
@@ -43,15 +43,12 @@ use Rattle.wild_slot.specs.Treatment.{treatment}
 use Rattle.wild_relax.specs.declared.reference.UnknownSequence.{UnknownSequence}
 use Rattle.wild_relax.specs.declared.pattern.GeneralForm.{GeneralForm}
 use Rattle.wild_relax.specs.declared.pattern.GeneralForm.TheVariants as general
-use Rattle.wild_relax.specs.declared.pattern.LocalForm.TheVariants as local
-use Rattle.wild_relax.specs.declared.row.DescriptorUse.TheVariants.{LocalExec, InitialExec}
 use Rattle.wild_relax.specs.declared.row.Row.{Row}
-use Rattle.wild_relax.specs.declared.row.Row.TheVariants.{IfuncThroughStub, RexGotToImmediate, RexGotMovToLea, GotMovToImmediate, GotMovToLea, IndirectCallToDirect, IndirectJumpToDirect, PlainGotMovToLea, InitialExecToLocalExec, Plt32ToPc32, PltOffToGotOff, GeneralDynamicToLocalExec, GeneralDynamicToInitialExec, LocalDynamicToLocalExec, DescriptorLea, DescriptorCall}
+use Rattle.wild_relax.specs.declared.table.TheConstants.{PLT, PLT_OFF}
+use Rattle.wild_relax.specs.Rows.{rows_x86_64}
 use Rattle.wild_relax.specs.RowSequences.{call_form, is_call_number}
-use Rattle.wild_relax.specs.Rows.{number_of}
 use Rattle.wild_relax.specs.RewriteX86_64.{rewrite_of}
 use Rattle.wild_relax.specs.Linked.{keeps_bytes}
-use Rattle.wild_relax.proofs.EveryRow.{every_row, each_implied}
 use Rattle.wild_layout.specs.declared.decision.Decision.{Decision}
 use Rattle.wild_layout.specs.declared.decision.Decision.TheVariants.{Nothing, Field, Moved, Left, Rewritten, Partner}
 use Rattle.wild_types.specs.Lookups.{place_of}
@@ -60,7 +57,7 @@ use Rattle.wild_layout.specs.Values.{term_of, value_by, value_in, term_at}
 use Rattle.wild_layout.specs.Choice.{choice_of, takes_next, is_partner}
 use Rattle.wild_layout.specs.Decide.{field, field_for, moved_to, added, left_to, chosen_to, decide_by, decided, field_at, value_to, term_to, rewritten_by, rewritten_to, refused_with, decide_with, decide_at, decide}
 use Rattle.wild_slot.proofs.TreatmentLemmas.{HasValue, known_moved, known_symbolic, known_indirect, known_extent}
-use Rattle.wild_layout.proofs.ChoiceLemmas.{IsChosen, choice_row, IsSequence, partner_is_taken, partner_number, loads, no_row, no_partner}
+use Rattle.wild_layout.proofs.ChoiceLemmas.{IsChosen, choice_row, is_listed, kept_listed, of_two, IsSequence, partner_is_taken, partner_number, loads, no_row, no_partner}
 use Rattle.wild_layout.proofs.DecideLemmas.{HasField, sized_left}
 
 -- ---- which decisions come from where
@@ -228,7 +225,7 @@ decide_left l s i r z number symbol addend listed h = own_alone l s i r (Left z 
 -- such a row writes v into the relocation's own field
 pub record IsKept (l : Layout) (s : Item) (r : InputRelocation) (next : Option InputRelocation) (z : RelocationSize) (v : ℕ) : Type 0 where
   pub row : Row
-  pub keeps : (row ≡ Plt32ToPc32) ⊎ (row ≡ PltOffToGotOff)
+  pub keeps : (row ≡ PLT) ⊎ (row ≡ PLT_OFF)
   pub chosen : IsChosen l s r next row
   pub info : RelocationKindInfo
   pub known : row_of l.machine (rewrite_of row).number ≡ Some info
@@ -243,28 +240,16 @@ pub record IsKept (l : Layout) (s : Item) (r : InputRelocation) (next : Option I
 other_number : (n k : ℕ) → n ≡ k → (n == abi.r_x86_64_pc32) ≡ false → (k == abi.r_x86_64_pc32) ≡ false
 other_number n k e h = subst (λ (x : ℕ). (x == abi.r_x86_64_pc32) ≡ false) e h
 
-kept_rows : (row : Row) → keeps_bytes row ≡ true → (number_of row == abi.r_x86_64_pc32) ≡ false → (row ≡ Plt32ToPc32) ⊎ (row ≡ PltOffToGotOff)
-kept_rows IfuncThroughStub k n = cc
-kept_rows (RexGotToImmediate p o) k n = cc
-kept_rows (RexGotMovToLea p) k n = cc
-kept_rows GotMovToImmediate k n = cc
-kept_rows GotMovToLea k n = cc
-kept_rows IndirectCallToDirect k n = cc
-kept_rows IndirectJumpToDirect k n = cc
-kept_rows PlainGotMovToLea k n = cc
-kept_rows (InitialExecToLocalExec p o) k n = cc
-kept_rows Plt32ToPc32 k n = inl refl
-kept_rows PltOffToGotOff k n = inr refl
-kept_rows (GeneralDynamicToLocalExec general.Regular) k n = cc
-kept_rows (GeneralDynamicToLocalExec general.NoPlt) k n = cc
-kept_rows (GeneralDynamicToLocalExec general.Large) k n = cc
-kept_rows (GeneralDynamicToInitialExec f) k n = cc
-kept_rows (LocalDynamicToLocalExec local.Regular) k n = cc
-kept_rows (LocalDynamicToLocalExec local.Large) k n = cc
-kept_rows (LocalDynamicToLocalExec local.NoPlt) k n = cc
-kept_rows (DescriptorLea p LocalExec) k n = cc
-kept_rows (DescriptorLea p InitialExec) k n = cc
-kept_rows DescriptorCall k n = cc
+-- two rows keep the bytes, but for that of IFUNCs
+abbrev keeps_here : Row → Bool
+keeps_here row = keeps_bytes row && not (row.number == abi.r_x86_64_pc32)
+
+two_keep : filter keeps_here rows_x86_64 ≡ PLT ∷ PLT_OFF ∷ []
+unfolding rows_x86_64
+two_keep = refl
+
+kept_rows : (row : Row) → Contains rows_x86_64 row → keeps_bytes row ≡ true → (row.number == abi.r_x86_64_pc32) ≡ false → (row ≡ PLT) ⊎ (row ≡ PLT_OFF)
+kept_rows row listed k n = of_two PLT PLT_OFF row (subst (λ (rows : List Row). Contains rows row) two_keep (kept_listed keeps_here rows_x86_64 row listed (rw (k, n) refl)))
 
 -- the row of a number, by the table
 at_number : (m : Machine) (n k : ℕ) (row : RelocationKindInfo) → m ≡ machine.X86_64 → n ≡ k → x86_64_row k ≡ Some row → row_of m n ≡ Some row
@@ -275,7 +260,7 @@ at_number machine.X86_64 n k row is e h = ap x86_64_row e ∙ h
 known_info : (m : Machine) (n : ℕ) (info row : RelocationKindInfo) → m ≡ machine.X86_64 → row_of m n ≡ Some info → x86_64_row n ≡ Some row → info ≡ row
 known_info m n info row is known h = let e : Some info ≡ Some row = sym known ∙ at_number m n n row is refl h in cc
 
-kept_field : (l : Layout) (s : Item) (r : InputRelocation) (next : Option InputRelocation) (row : Row) (z : RelocationSize) (v : ℕ) (old new : RelocationKindInfo) → IsChosen l s r next row → (m : IsWrittenBy l s r row v) → m.info.size ≡ z → (row ≡ Plt32ToPc32) ⊎ (row ≡ PltOffToGotOff) → x86_64_row (number_of row) ≡ Some old → HasValue old.kind → x86_64_row (rewrite_of row).number ≡ Some new → HasValue new.kind → old.size ≡ new.size → (rewrite_of row).addend r.addend ≡ r.addend → field_at row r ≡ r.offset → IsKept l s r next z v
+kept_field : (l : Layout) (s : Item) (r : InputRelocation) (next : Option InputRelocation) (row : Row) (z : RelocationSize) (v : ℕ) (old new : RelocationKindInfo) → IsChosen l s r next row → (m : IsWrittenBy l s r row v) → m.info.size ≡ z → (row ≡ PLT) ⊎ (row ≡ PLT_OFF) → x86_64_row row.number ≡ Some old → HasValue old.kind → x86_64_row (rewrite_of row).number ≡ Some new → HasValue new.kind → old.size ≡ new.size → (rewrite_of row).addend r.addend ≡ r.addend → field_at row r ≡ r.offset → IsKept l s r next z v
 kept_field l s r next row z v old new c m size keeps before old_kind behind new_kind sizes addend at =
     let same : m.info ≡ new = known_info l.machine (rewrite_of row).number m.info new c.machine m.known behind in
     let kind : HasValue m.info.kind = subst (λ (x : RelocationKindInfo). HasValue x.kind) (sym same) new_kind in
@@ -291,18 +276,18 @@ kept_field l s r next row z v old new c m size keeps before old_kind behind new_
       given = term_has_value l r m.info m.term kind m.given;
       value = ap (λ a. value_by l m.info.kind m.term a (place_of s.address r)) (sym addend) ∙ ap (λ (p : ℕ). value_by l m.info.kind m.term ((rewrite_of row).addend r.addend) ((s.address + p) % 2 ^ 64)) (sym at) ∙ m.value;
       allowed = m.allowed;
-      field = record { row = old; known = at_number l.machine r.number (number_of row) old c.machine c.number before; kind = old_kind; size = sizes ∙ ap (λ (x : RelocationKindInfo). x.size) (sym same) ∙ size };
+      field = record { row = old; known = at_number l.machine r.number row.number old c.machine c.number before; kind = old_kind; size = sizes ∙ ap (λ (x : RelocationKindInfo). x.size) (sym same) ∙ size };
     }
 
-kept_plt : (l : Layout) (s : Item) (r : InputRelocation) (next : Option InputRelocation) (z : RelocationSize) (v : ℕ) → IsChosen l s r next Plt32ToPc32 → (m : IsWrittenBy l s r Plt32ToPc32 v) → m.info.size ≡ z → IsKept l s r next z v
+kept_plt : (l : Layout) (s : Item) (r : InputRelocation) (next : Option InputRelocation) (z : RelocationSize) (v : ℕ) → IsChosen l s r next PLT → (m : IsWrittenBy l s r PLT v) → m.info.size ≡ z → IsKept l s r next z v
 unfolding x86_64_row
-kept_plt l s r next z v c m size = kept_field l s r next Plt32ToPc32 z v (plain kinds.PltRelative Four Signed) (plain kinds.Relative Four Signed) c m size (inl refl) refl refl refl refl refl refl (omega arith)
+kept_plt l s r next z v c m size = kept_field l s r next PLT z v (plain kinds.PltRelative Four Signed) (plain kinds.Relative Four Signed) c m size (inl refl) refl refl refl refl refl refl (omega arith)
 
-kept_offset : (l : Layout) (s : Item) (r : InputRelocation) (next : Option InputRelocation) (z : RelocationSize) (v : ℕ) → IsChosen l s r next PltOffToGotOff → (m : IsWrittenBy l s r PltOffToGotOff v) → m.info.size ≡ z → IsKept l s r next z v
+kept_offset : (l : Layout) (s : Item) (r : InputRelocation) (next : Option InputRelocation) (z : RelocationSize) (v : ℕ) → IsChosen l s r next PLT_OFF → (m : IsWrittenBy l s r PLT_OFF v) → m.info.size ≡ z → IsKept l s r next z v
 unfolding x86_64_row
-kept_offset l s r next z v c m size = kept_field l s r next PltOffToGotOff z v (plain kinds.PltRelGotBase Eight Signed) (plain kinds.SymRelGotBase Eight Signed) c m size (inr refl) refl refl refl refl refl refl (omega arith)
+kept_offset l s r next z v c m size = kept_field l s r next PLT_OFF z v (plain kinds.PltRelGotBase Eight Signed) (plain kinds.SymRelGotBase Eight Signed) c m size (inr refl) refl refl refl refl refl refl (omega arith)
 
-made_kept : (l : Layout) (s : Item) (r : InputRelocation) (next : Option InputRelocation) (z : RelocationSize) (v : ℕ) (row : Row) → IsChosen l s r next row → (row ≡ Plt32ToPc32) ⊎ (row ≡ PltOffToGotOff) → (m : IsWrittenBy l s r row v) → m.info.size ≡ z → IsKept l s r next z v
+made_kept : (l : Layout) (s : Item) (r : InputRelocation) (next : Option InputRelocation) (z : RelocationSize) (v : ℕ) (row : Row) → IsChosen l s r next row → (row ≡ PLT) ⊎ (row ≡ PLT_OFF) → (m : IsWrittenBy l s r row v) → m.info.size ≡ z → IsKept l s r next z v
 made_kept l s r next z v row c (inl e) =
     let P : Row → Type 0 = λ x. IsChosen l s r next x → (m : IsWrittenBy l s r x v) → m.info.size ≡ z → IsKept l s r next z v in
     subst P (sym e) (kept_plt l s r next z v) c
@@ -324,7 +309,7 @@ decide_field l s i r z v listed h = decide_cases l s i r (Field z v) listed h (�
     by_row : (l : Layout) (s : Item) (r : InputRelocation) (next : Option InputRelocation) (row : Row) (z : RelocationSize) (v : ℕ) → IsChosen l s r next row → IsMade l s r row (Field z v) → IsKept l s r next z v
     by_row l s r next row z v c m =
         let t = by_test (keeps_bytes row) row m.by.info.size z m.value v m.is in
-        let keeps = kept_rows row t.0 (other_number r.number (number_of row) c.number c.other) in
+        let keeps = kept_rows row (is_listed l s r next row c) t.0 (other_number r.number row.number c.number c.other) in
         subst (λ (x : ℕ). IsKept l s r next z x) t.2 (made_kept l s r next z m.value row c keeps m.by t.1)
 
 -- ---- instructions
@@ -358,15 +343,16 @@ decide_partner l s i r listed h = decide_cases l s i r Partner listed h (λ own.
 
 -- the relocation of such a row is no call
 abbrev is_no_call : GeneralForm → Row → Bool
-is_no_call f row = not (is_call_number f (number_of row))
+is_no_call f row = not (is_call_number f row.number)
 
-each_is_no_call : (f : GeneralForm) → list_all (λ (row : Row). not (takes_next (Ok (Some row))) || is_no_call f row) every_row ≡ true
+each_is_no_call : (f : GeneralForm) → list_all (λ (row : Row). not (takes_next (Ok (Some row))) || is_no_call f row) rows_x86_64 ≡ true
+unfolding rows_x86_64
 each_is_no_call general.Regular = refl
 each_is_no_call general.NoPlt = refl
 each_is_no_call general.Large = refl
 
-sequence_is_no_call : (row : Row) (f : GeneralForm) → takes_next (Ok (Some row)) ≡ true → is_call_number f (number_of row) ≡ true → ⊥
-sequence_is_no_call row f t h = not_both (is_call_number f (number_of row)) (each_implied (λ (r : Row). takes_next (Ok (Some r))) (is_no_call f) (each_is_no_call f) row t) h
+sequence_is_no_call : (row : Row) (f : GeneralForm) → Contains rows_x86_64 row → takes_next (Ok (Some row)) ≡ true → is_call_number f row.number ≡ true → ⊥
+sequence_is_no_call row f listed t h = not_both (is_call_number f row.number) (implied _ _ (listed_passes (λ (r : Row). not (takes_next (Ok (Some r))) || is_no_call f r) rows_x86_64 row (each_is_no_call f) listed) t) h
 
 -- and so it is not taken along itself
 pub sequence_is_alone : (l : Layout) (s : Item) (j : ℕ) (row : Row) → IsSequence l s j row → is_partner l s j ≡ false
@@ -381,10 +367,17 @@ sequence_is_alone l s j row q =
         let before = choice_row l s p.relocation (Some r) w (subst (λ (o : Option InputRelocation). choice_of l s p.relocation o ≡ Ok (Some w)) listed p.is) in
         let c = choice_row l s r next row is in
         let n = partner_number l s p.relocation r w before p.takes in
-        sequence_is_no_call row (call_form w) takes (subst (λ (x : ℕ). is_call_number (call_form w) x ≡ true) c.number n)
+        sequence_is_no_call row (call_form w) (is_listed l s r next row c) takes (subst (λ (x : ℕ). is_call_number (call_form w) x ≡ true) c.number n)
 
-sequence_changes : (row : Row) → takes_next (Ok (Some row)) ≡ true → keeps_bytes row ≡ false
-sequence_changes row t = not-true (keeps_bytes row) (each_implied (λ (r : Row). takes_next (Ok (Some r))) (λ (r : Row). not (keeps_bytes r)) refl row t)
+abbrev takes_or_keeps : Row → Bool
+takes_or_keeps row = not (takes_next (Ok (Some row))) || not (keeps_bytes row)
+
+each_changes : list_all takes_or_keeps rows_x86_64 ≡ true
+unfolding rows_x86_64
+each_changes = refl
+
+sequence_changes : (row : Row) → Contains rows_x86_64 row → takes_next (Ok (Some row)) ≡ true → keeps_bytes row ≡ false
+sequence_changes row listed t = not-true (keeps_bytes row) (implied _ _ (listed_passes takes_or_keeps rows_x86_64 row each_changes listed) t)
 
 -- what is decided of the relocation of such a row is its rewrite
 pub sequence_is_rewritten : (l : Layout) (s : Item) (j : ℕ) (row : Row) (d : Decision) → IsSequence l s j row → decide l s j ≡ Ok d → (v : ℕ) × (d ≡ Rewritten row v)
@@ -411,7 +404,7 @@ sequence_is_rewritten l s j row d q h =
     by_row : (l : Layout) (s : Item) (r : InputRelocation) (next : Option InputRelocation) (w row : Row) (d : Decision) → IsChosen l s r next w → choice_of l s r next ≡ Ok (Some row) → takes_next (Ok (Some row)) ≡ true → IsMade l s r w d → (v : ℕ) × (d ≡ Rewritten row v)
     by_row l s r next w row d c is takes m =
         let same = same_row (choice_of l s r next) w row c.choice is in
-        let changes = subst (λ (x : Row). keeps_bytes x ≡ false) (sym same) (sequence_changes row takes) in
+        let changes = subst (λ (x : Row). keeps_bytes x ≡ false) (sym same) (sequence_changes row (subst (λ (x : Row). Contains rows_x86_64 x) same (is_listed l s r next w c)) takes) in
         (m.value, by_test (keeps_bytes w) m.by.info.size w m.value d changes m.is ∙ ap (λ (x : Row). Rewritten x m.value) same)
 
 -- ---- relocations that are decided of by themselves

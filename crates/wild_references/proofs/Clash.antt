@@ -145,6 +145,7 @@ abbrev pub row_ok : Row → Bool
 row_ok row = keeps_bytes row || list_all (λ (o : Instruction). pair_ok o.template.cells (cells_of (pattern_of row))) (instructions_of machine.X86_64)
 
 pub each_row_ok : list_all row_ok rows_x86_64 ≡ true
+unfolding rows_x86_64
 each_row_ok = refl
 
 -- ---- two templates in the same bytes

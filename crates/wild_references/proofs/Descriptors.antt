@@ -19,11 +19,9 @@ use Rattle.wild_types.specs.SymbolSlots.{has_thread_slot}
 use Rattle.wild_slot.specs.Treatment.{flags_at}
 use Rattle.wild_reloc.specs.declared.expression.SlotSort.TheVariants as sorts
 use Rattle.wild_reloc.specs.declared.info.RelocationKind.TheVariants as kinds
-use Rattle.wild_relax.specs.declared.pattern.Prefix.{Prefix}
-use Rattle.wild_relax.specs.declared.pattern.Prefix.TheVariants.{Rex, Rex2}
-use Rattle.wild_relax.specs.declared.row.DescriptorUse.TheVariants.{LocalExec, InitialExec}
-use Rattle.wild_relax.specs.declared.row.Row.TheVariants.{DescriptorLea, DescriptorCall}
-use Rattle.wild_relax.specs.Rows.{rows_x86_64, number_of}
+use Rattle.wild_relax.specs.declared.row.Row.{Row}
+use Rattle.wild_relax.specs.declared.table.TheConstants.{DESCRIPTOR, DESCRIPTOR_SLOT, DESCRIPTOR_2, DESCRIPTOR_SLOT_2, DESCRIPTOR_CALL}
+use Rattle.wild_relax.specs.Rows.{rows_x86_64, applies}
 use Rattle.wild_layout.specs.Choice.{question_of, choice_of}
 use Rattle.wild_layout.specs.SlotValues.{slot_of, behind_word, behind_pair}
 use Rattle.wild_layout.specs.Values.{term_of}
@@ -33,6 +31,7 @@ use Rattle.wild_meaning.proofs.BitLemmas.{code_bit}
 use Rattle.wild_references.specs.Terms.{SymbolsFit}
 use Rattle.wild_references.proofs.DescriptorSlots.{thread_of}
 use Rattle.wild_references.proofs.Rows.{row_applies, nothing_stands, unchosen}
+use Rattle.wild_references.proofs.TableRows.{descriptor_at, descriptor_slot_at, descriptor_2_at, descriptor_slot_2_at, call_at}
 use Rattle.wild_references.proofs.SlotFlags.{symbol_fits, thread_not_chosen}
 use Rattle.wild_references.proofs.SlotTerms.{by_slot}
 use Rattle.wild_references.proofs.Symbols.{IsResolvedBy, flags_are}
@@ -65,24 +64,18 @@ rows_stand l x86 h = by_kind l.kind refl (subst (λ (k : Machine). KnowsOffsets 
 -- ---- the reference itself
 
 -- which of both rows stands is told by whose symbol it is
-lea_kept : (l : Layout) (s : Item) (r : InputRelocation) (next : Option InputRelocation) (p : Prefix) (i a b : ℕ) → choice_of l s r next ≡ Ok None → l.machine ≡ machine.X86_64 → r.symbol ≡ Some i
-    → slice_get rows_x86_64 a ≡ Some (DescriptorLea p LocalExec) → slice_get rows_x86_64 b ≡ Some (DescriptorLea p InitialExec) → (r.number == r_x86_64_pc32) ≡ false → (r.number == number_of (DescriptorLea p LocalExec)) ≡ true → (r.number == number_of (DescriptorLea p InitialExec)) ≡ true
-    → has_flag (flags_at l i) ifunc ≡ false → r.offset ≤ length s.bytes → HasOffsetMode l s → ⊥
-lea_kept l s r next p i a b none x86 named first second other local initial plain inside h =
-    let q = question_of l s r i next in
-    let k = rows_stand l x86 h.0 in
-    let code = code_bit s.flags h.1 in
-    let direct : not (has_flag (flags_at l i) ifunc) ≡ true = rw plain refl in
-    let bytes = nothing_stands s.bytes r.offset inside in
+lea_kept : (l : Layout) (s : Item) (r : InputRelocation) (next : Option InputRelocation) (own_row open_row : Row) (i a b : ℕ) → choice_of l s r next ≡ Ok None → l.machine ≡ machine.X86_64 → r.symbol ≡ Some i
+    → slice_get rows_x86_64 a ≡ Some own_row → slice_get rows_x86_64 b ≡ Some open_row → (r.number == r_x86_64_pc32) ≡ false → (not (interposable (flags_at l i)) ≡ true → applies (question_of l s r i next) own_row ≡ true)
+    → (not (not (interposable (flags_at l i))) ≡ true → applies (question_of l s r i next) open_row ≡ true) → ⊥
+lea_kept l s r next own_row open_row i a b none x86 named first second other own_stands open_stands =
     elim (cases_Bool (not (interposable (flags_at l i)))) [
       | inl own ↦
-          (let stands = row_applies q (DescriptorLea p LocalExec) local k.duty code direct k.program own refl bytes in
-          let gone = unchosen l s r next i a (DescriptorLea p LocalExec) none x86 named other first in
+          (let stands = own_stands own in
+          let gone = unchosen l s r next i a own_row none x86 named other first in
           cc)
       | inr open_one ↦
-          (let taken : not (not (interposable (flags_at l i))) ≡ true = rw open_one refl in
-          let stands = row_applies q (DescriptorLea p InitialExec) initial k.duty code direct k.program taken refl bytes in
-          let gone = unchosen l s r next i b (DescriptorLea p InitialExec) none x86 named other second in
+          (let stands = open_stands (rw open_one refl) in
+          let gone = unchosen l s r next i b open_row none x86 named other second in
           cc)
     ]
 
@@ -103,9 +96,20 @@ pub descriptor_kept : (l : Layout) (s : Item) (r : InputRelocation) (next : Opti
 descriptor_kept l s r next i term none x86 fit named number given inside h =
     let here : term_of l (Some i) kinds.TlsDesc ≡ Ok term = subst (λ (o : Option ℕ). term_of l o kinds.TlsDesc ≡ Ok term) named given in
     let plain = described_plain l i term fit (given_some missing.Slot i (slot_of l sorts.Descriptor i) term here) in
+    let q = question_of l s r i next in
+    let k = rows_stand l x86 h.0 in
+    let code = code_bit s.flags h.1 in
+    let direct : not (has_flag (flags_at l i) ifunc) ≡ true = rw plain refl in
+    let bytes = nothing_stands s.bytes r.offset inside in
     elim number [
-      | inl e ↦ lea_kept l s r next Rex i 28 30 none x86 named refl refl (ap (λ (n : ℕ). n == r_x86_64_pc32) e) (eq-eqb r.number r_x86_64_gotpc32_tlsdesc e) (eq-eqb r.number r_x86_64_gotpc32_tlsdesc e) plain inside h
-      | inr e ↦ lea_kept l s r next Rex2 i 29 31 none x86 named refl refl (ap (λ (n : ℕ). n == r_x86_64_pc32) e) (eq-eqb r.number r_x86_64_code_4_gotpc32_tlsdesc e) (eq-eqb r.number r_x86_64_code_4_gotpc32_tlsdesc e) plain inside h
+      | inl e ↦
+          lea_kept l s r next DESCRIPTOR DESCRIPTOR_SLOT i 28 29 none x86 named descriptor_at descriptor_slot_at (ap (λ (n : ℕ). n == r_x86_64_pc32) e)
+          (λ own. row_applies q DESCRIPTOR (eq-eqb r.number r_x86_64_gotpc32_tlsdesc e) k.duty code direct k.program own refl bytes)
+          (λ taken. row_applies q DESCRIPTOR_SLOT (eq-eqb r.number r_x86_64_gotpc32_tlsdesc e) k.duty code direct k.program taken refl bytes)
+      | inr e ↦
+          lea_kept l s r next DESCRIPTOR_2 DESCRIPTOR_SLOT_2 i 30 31 none x86 named descriptor_2_at descriptor_slot_2_at (ap (λ (n : ℕ). n == r_x86_64_pc32) e)
+          (λ own. row_applies q DESCRIPTOR_2 (eq-eqb r.number r_x86_64_code_4_gotpc32_tlsdesc e) k.duty code direct k.program own refl bytes)
+          (λ taken. row_applies q DESCRIPTOR_SLOT_2 (eq-eqb r.number r_x86_64_code_4_gotpc32_tlsdesc e) k.duty code direct k.program taken refl bytes)
     ]
 
 -- ---- the call
@@ -114,6 +118,6 @@ pub call_kept : (l : Layout) (s : Item) (r : InputRelocation) (next : Option Inp
 call_kept l s r next i none x86 named number h =
     let q = question_of l s r i next in
     let k = rows_stand l x86 h.0 in
-    let stands = row_applies q DescriptorCall (eq-eqb r.number r_x86_64_tlsdesc_call number) k.duty (code_bit s.flags h.1) refl k.program refl refl refl in
-    let gone = unchosen l s r next i 32 DescriptorCall none x86 named (ap (λ (n : ℕ). n == r_x86_64_pc32) number) refl in
+    let stands = row_applies q DESCRIPTOR_CALL (eq-eqb r.number r_x86_64_tlsdesc_call number) k.duty (code_bit s.flags h.1) refl k.program refl refl refl in
+    let gone = unchosen l s r next i 32 DESCRIPTOR_CALL none x86 named (ap (λ (n : ℕ). n == r_x86_64_pc32) number) call_at in
     cc

@@ -27,7 +27,7 @@ use Rattle.wild_relax.specs.declared.pattern.Cell.TheVariants as its
 use Rattle.wild_relax.specs.declared.row.Row.{Row}
 use Rattle.wild_relax.specs.Pattern.{cells_of, field_of}
 use Rattle.wild_relax.specs.RowSequences.{partner_distance, call_form}
-use Rattle.wild_relax.specs.Rows.{rows_x86_64, number_of}
+use Rattle.wild_relax.specs.Rows.{rows_x86_64}
 use Rattle.wild_relax.specs.Linked.{pattern_of, pattern_size, keeps_bytes}
 use Rattle.wild_relax.specs.Section.{ChosenAreWhole}
 use Rattle.wild_layout.specs.declared.decision.Decision.{Decision}
@@ -140,7 +140,7 @@ window l s j q row v h =
 pub free_not : (l : Layout) (s : Item) (j : ℕ) (q : InputRelocation) (row : Row) (v x t : ℕ) → l.machine ≡ machine.X86_64 → Window l s j q row v → InNoField l s x → x ≡ template_start row q + t → t < pattern_size row → is_free (get_or (cells_of (pattern_of row)) t its.Any) ≡ true → ⊥
 free_not l s j q row v x t x86 w out at lt free = by (free_in_field row t (w.fixed.free t lt free))
   where
-    by : ((field_of (pattern_of row) ≤ t) × (t < field_of (pattern_of row) + width_of (number_of row))) ⊎ ((d : ℕ) × (partner_distance row ≡ Some d) × (field_of (pattern_of row) + d ≤ t) × (t < field_of (pattern_of row) + d + call_width (call_form row))) → ⊥
+    by : ((field_of (pattern_of row) ≤ t) × (t < field_of (pattern_of row) + width_of row.number)) ⊎ ((d : ℕ) × (partner_distance row ≡ Some d) × (field_of (pattern_of row) + d ≤ t) × (t < field_of (pattern_of row) + d + call_width (call_form row))) → ⊥
     by (inl f) =
         let low = f.0 in
         let high = f.1 in
@@ -367,12 +367,13 @@ listed_at s j q e = (j, slice_get_within s.relocations j q e, get_or_from_slice_
 
 -- a row stands at no relocation that is for nothing
 abbrev has_type : Row → Bool
-has_type row = not (number_of row == 0)
+has_type row = not (row.number == 0)
 
 each_has_type : list_all has_type rows_x86_64 ≡ true
+unfolding rows_x86_64
 each_has_type = refl
 
-not_none : (row : Row) → has_type row ≡ true → number_of row ≡ r_x86_64_none → ⊥
+not_none : (row : Row) → has_type row ≡ true → row.number ≡ r_x86_64_none → ⊥
 not_none row h e = let f : not (0 == 0) ≡ true = rw e at h in cc
 
 pub others_are_kept : RewrittenStand → OthersAreKept

@@ -1,7 +1,7 @@
 -- Where relocations keep the instructions that a row would write: what that says of the output.
-use Rattle.std.proofs.Common.{◌≡◌, ℕ, ◌+◌, ◌⊎◌, inl, inr, Bool, true, false, refl, sym, ap, ◌∙◌, arith, subst}
+use Rattle.std.proofs.Common.{◌≡◌, ℕ, ◌+◌, ◌⊎◌, inl, inr, Bool, true, false, refl, sym, ap, ◌∙◌, subst}
 use Rattle.std.specs.Prelude.{Option, Some, None, Ok, not, ◌||◌, slice_get}
-use Rattle.std.proofs.lemmas.Bool.{and_parts, cases_Bool, eq-eqb, or_cases}
+use Rattle.std.proofs.lemmas.Bool.{cases_Bool, eq-eqb, or_cases}
 use Rattle.wild_words.proofs.Basics.{implied, or_by}
 use Rattle.wild_records.specs.Abi.Relocation.{r_x86_64_tlsgd, r_x86_64_tlsld, r_x86_64_tlsdesc_call}
 use Rattle.wild_types.specs.declared.kind.Machine.TheVariants as machine
@@ -14,21 +14,21 @@ use Rattle.wild_types.specs.Lookups.{executable}
 use Rattle.wild_types.specs.Rows.{row_of}
 use Rattle.wild_slot.specs.Treatment.{flags_at, row_treatment, treatment}
 use Rattle.wild_reloc.specs.TableX86_64.{x86_64_row}
-use Rattle.wild_relax.specs.declared.pattern.Operation.TheVariants as operation
 use Rattle.wild_relax.specs.declared.pattern.GeneralForm.TheVariants as general
 use Rattle.wild_relax.specs.declared.pattern.LocalForm.TheVariants as local
 use Rattle.wild_relax.specs.declared.pattern.Pattern.TheVariants as pattern
 use Rattle.wild_relax.specs.declared.row.Row.{Row}
-use Rattle.wild_relax.specs.declared.row.Row.TheVariants.{IfuncThroughStub, RexGotToImmediate, IndirectCallToDirect, IndirectJumpToDirect, PlainGotMovToLea, InitialExecToLocalExec, GeneralDynamicToLocalExec, GeneralDynamicToInitialExec, LocalDynamicToLocalExec, DescriptorCall}
+use Rattle.wild_relax.specs.declared.table.TheConstants.{GENERAL_NO_PLT, GENERAL_NO_PLT_SLOT, LOCAL_NO_PLT, DESCRIPTOR_CALL}
+use Rattle.wild_references.proofs.TableRows.{general_there, general_slot_there, local_there, call_there}
+use Rattle.wild_references.proofs.RewrittenPlaces.{takes_code, mandatory_static}
 use Rattle.wild_relax.specs.Question.{Question}
-use Rattle.wild_relax.specs.RowSymbols.{takes_section, is_thread_local}
-use Rattle.wild_relax.specs.Rows.{number_of, is_mandatory}
-use Rattle.wild_relax.specs.Linked.{keeps_bytes}
+use Rattle.wild_relax.specs.RowSymbols.{is_mandatory}
+use Rattle.wild_relax.specs.Linked.{IsChanging}
 use Rattle.wild_layout.specs.declared.decision.Decision.{Decision}
 use Rattle.wild_layout.specs.declared.decision.Decision.TheVariants.{Rewritten}
 use Rattle.wild_layout.specs.Choice.{question_of}
 use Rattle.wild_layout.specs.Decide.{decided}
-use Rattle.wild_layout.proofs.ChoiceLemmas.{chosen_listed}
+use Rattle.wild_layout.proofs.ChoiceLemmas.{chosen_listed, is_listed}
 use Rattle.wild_layout.proofs.DecisionLemmas.{decide_rewritten}
 use Rattle.wild_geometry.specs.Loaded.{HasDecision}
 use Rattle.wild_references.specs.Laws.{KeepsInstruction}
@@ -47,31 +47,11 @@ use Rattle.wild_references.proofs.KeptRelocations.{kept_cases, no_row_applies}
 
 -- ---- what a row that writes other bytes says of the output
 
-pub mandatory_static : (row : Row) (q : Question) → keeps_bytes row ≡ false → is_mandatory row q ≡ true → is_static_executable q.kind ≡ true
-mandatory_static IfuncThroughStub q k h = cc
-mandatory_static (RexGotToImmediate p o) q k h = (and_parts _ _ h).0
-mandatory_static IndirectCallToDirect q k h = (and_parts _ _ h).0
-mandatory_static IndirectJumpToDirect q k h = (and_parts _ _ h).0
-mandatory_static PlainGotMovToLea q k h = cc
-mandatory_static (InitialExecToLocalExec p operation.Mov) q k h = h
-mandatory_static (InitialExecToLocalExec p operation.Sub) q k h = h
-mandatory_static (InitialExecToLocalExec p operation.Cmp) q k h = h
-mandatory_static (InitialExecToLocalExec p operation.Add) q k h = cc
-mandatory_static (GeneralDynamicToInitialExec f) q k h = cc
-mandatory_static (LocalDynamicToLocalExec local.Regular) q k h = h
-mandatory_static (LocalDynamicToLocalExec local.Large) q k h = cc
-mandatory_static (LocalDynamicToLocalExec local.NoPlt) q k h = h
-mandatory_static other q k h = h
-
-pub in_code : (row : Row) (q : Question) → keeps_bytes row ≡ false → takes_section row q ≡ true → executable q.section_flags ≡ true
-in_code IfuncThroughStub q k h = cc
-in_code other q k h = h
-
 -- where a row writes an instruction, rewriting is on, or the output has no loader; it is in code
 pub record IsOn (l : Layout) (s : Item) (row : Row) : Type 0 where
   pub taken : (l.options.relax || is_static_executable l.kind) ≡ true
   pub code : executable s.flags ≡ true
-  pub thread : is_thread_local row ≡ true → is_executable l.kind ≡ true
+  pub thread : row.thread_local ≡ true → is_executable l.kind ≡ true
 
 pub rewritten_on : (l : Layout) (s : Item) (j : ℕ) (q : InputRelocation) (row : Row) (v : ℕ) → HasDecision l s j q (Rewritten row v) → IsOn l s row
 rewritten_on l s j q row v h =
@@ -80,10 +60,11 @@ rewritten_on l s j q row v h =
     let is = row_at l s q next row w.chosen in
     let asked = question_of l s q is.chosen.symbol next in
     let a = applied asked row is.applies in
+    let changing : IsChanging row = record { listed = is_listed l s q next row w.chosen; changes = w.changes } in
     record {
-      taken = or_by l.options.relax (is_mandatory row asked) (is_static_executable l.kind) a.taken (mandatory_static row asked w.changes);
-      code = in_code row asked w.changes a.code;
-      thread = implied (is_thread_local row) (is_executable l.kind) a.thread;
+      taken = or_by l.options.relax (is_mandatory row.duty asked) (is_static_executable l.kind) a.taken (mandatory_static row asked changing);
+      code = takes_code row (executable s.flags) changing a.code;
+      thread = implied row.thread_local (is_executable l.kind) a.thread;
     }
 
 -- ---- the call through a descriptor
@@ -93,7 +74,7 @@ unfolding decided treatment row_treatment row_of x86_64_row
 unnamed_call l s r d x86 number none h = cc (rw (x86, number, none) at h)
 
 -- none keeps its instruction where one is rewritten
-pub calls_apart : (l : Layout) (s : Item) (i j : ℕ) (r q : InputRelocation) (d : Decision) (row : Row) (v : ℕ) → l.machine ≡ machine.X86_64 → HasDecision l s i r d → KeepsInstruction d → r.number ≡ r_x86_64_tlsdesc_call → HasDecision l s j q (Rewritten row v) → number_of row ≡ r_x86_64_tlsdesc_call → ⊥
+pub calls_apart : (l : Layout) (s : Item) (i j : ℕ) (r q : InputRelocation) (d : Decision) (row : Row) (v : ℕ) → l.machine ≡ machine.X86_64 → HasDecision l s i r d → KeepsInstruction d → r.number ≡ r_x86_64_tlsdesc_call → HasDecision l s j q (Rewritten row v) → row.number ≡ r_x86_64_tlsdesc_call → ⊥
 calls_apart l s i j r q d row v x86 h k number h' number' = by_symbol r.symbol refl
   where
     next : Option InputRelocation
@@ -102,12 +83,12 @@ calls_apart l s i j r q d row v x86 h k number h' number' = by_symbol r.symbol r
     on : IsOn l s row
     on = rewritten_on l s j q row v h'
 
-    is_local : is_thread_local row ≡ true
+    is_local : row.thread_local ≡ true
     is_local =
         let w = decide_rewritten l s j q row v h'.listed h'.decided in
         (is_fixed row (chosen_listed l s q (slice_get s.relocations (j + 1)) row w.chosen row_fixed each_row_fixed) w.changes).thread (ap is_described_call number')
 
-    applied_call : (symbol : ℕ) → Applied (question_of l s r symbol next) DescriptorCall
+    applied_call : (symbol : ℕ) → Applied (question_of l s r symbol next) DESCRIPTOR_CALL
     applied_call symbol = record {
       number = eq-eqb r.number r_x86_64_tlsdesc_call number;
       taken = on.taken;
@@ -125,7 +106,7 @@ calls_apart l s i j r q d row v x86 h k number h' number' = by_symbol r.symbol r
           | inl own ↦ unnamed_call l s r d x86 number e own.made
           | inr x ↦ (let f : None ≡ Some x.chosen.symbol = sym e ∙ x.chosen.named in cc)
         ]
-    by_symbol (Some symbol) e = no_row_applies l s i r d symbol DescriptorCall x86 h k (ap keeps_all number) e (32, omega arith, refl) (applied_by (question_of l s r symbol next) DescriptorCall (applied_call symbol))
+    by_symbol (Some symbol) e = no_row_applies l s i r d symbol DESCRIPTOR_CALL x86 h k (ap keeps_all number) e call_there (applied_by (question_of l s r symbol next) DESCRIPTOR_CALL (applied_call symbol))
 
 -- ---- sequences
 
@@ -160,7 +141,7 @@ slot_not_kept l s i first second d start o x86 h k q slot taken =
     general_form : IsAskedFor r_x86_64_tlsgd (pattern.General general.NoPlt) o → (has_flag (flags_at l q.symbol) non_interposable ≡ true) ⊎ (has_flag (flags_at l q.symbol) non_interposable ≡ false) → ⊥
     general_form a (inl own) =
         let number = a.number first.number q.stands.number in
-        let all : Applied asked (GeneralDynamicToLocalExec general.NoPlt) = record {
+        let all : Applied asked GENERAL_NO_PLT = record {
           number = eq-eqb first.number r_x86_64_tlsgd number;
           taken = taken;
           code = code;
@@ -170,12 +151,12 @@ slot_not_kept l s i first second d start o x86 h k q slot taken =
           counts = refl;
           stands = asked_before r_x86_64_tlsgd (pattern.General general.NoPlt) o s.bytes start first.offset a q.stands.field q.stands.inside q.stands.stands;
         } in
-        no_row_applies l s i first d q.symbol (GeneralDynamicToLocalExec general.NoPlt) x86 h k (ap keeps_all number) q.named (21, omega arith, refl) (applied_by asked (GeneralDynamicToLocalExec general.NoPlt) all)
+        no_row_applies l s i first d q.symbol GENERAL_NO_PLT x86 h k (ap keeps_all number) q.named general_there (applied_by asked GENERAL_NO_PLT all)
     general_form a (inr other) =
         let number = a.number first.number q.stands.number in
         let flag = subst (λ (b : Bool). HasFlag l q.symbol non_interposable b) other (other_flag l q.symbol ifunc non_interposable false q.plain) in
         let relax : l.options.relax ≡ true = q.rewritten number flag in
-        let all : Applied asked (GeneralDynamicToInitialExec general.NoPlt) = record {
+        let all : Applied asked GENERAL_NO_PLT_SLOT = record {
           number = eq-eqb first.number r_x86_64_tlsgd number;
           taken = rw relax refl;
           code = code;
@@ -185,12 +166,12 @@ slot_not_kept l s i first second d start o x86 h k q slot taken =
           counts = refl;
           stands = asked_before r_x86_64_tlsgd (pattern.General general.NoPlt) o s.bytes start first.offset a q.stands.field q.stands.inside q.stands.stands;
         } in
-        no_row_applies l s i first d q.symbol (GeneralDynamicToInitialExec general.NoPlt) x86 h k (ap keeps_all number) q.named (24, omega arith, refl) (applied_by asked (GeneralDynamicToInitialExec general.NoPlt) all)
+        no_row_applies l s i first d q.symbol GENERAL_NO_PLT_SLOT x86 h k (ap keeps_all number) q.named general_slot_there (applied_by asked GENERAL_NO_PLT_SLOT all)
 
     local_form : IsAskedFor r_x86_64_tlsld (pattern.LocalStart local.NoPlt) o → ⊥
     local_form a =
         let number = a.number first.number q.stands.number in
-        let all : Applied asked (LocalDynamicToLocalExec local.NoPlt) = record {
+        let all : Applied asked LOCAL_NO_PLT = record {
           number = eq-eqb first.number r_x86_64_tlsld number;
           taken = taken;
           code = code;
@@ -200,4 +181,4 @@ slot_not_kept l s i first second d start o x86 h k q slot taken =
           counts = refl;
           stands = asked_before r_x86_64_tlsld (pattern.LocalStart local.NoPlt) o s.bytes start first.offset a q.stands.field q.stands.inside q.stands.stands;
         } in
-        no_row_applies l s i first d q.symbol (LocalDynamicToLocalExec local.NoPlt) x86 h k (ap keeps_all number) q.named (27, omega arith, refl) (applied_by asked (LocalDynamicToLocalExec local.NoPlt) all)
+        no_row_applies l s i first d q.symbol LOCAL_NO_PLT x86 h k (ap keeps_all number) q.named local_there (applied_by asked LOCAL_NO_PLT all)

@@ -12,7 +12,6 @@ use Rattle.wild_reloc.specs.FormulaX86_64.{x86_64_formula}
 use Rattle.wild_relax.specs.declared.pattern.GeneralForm.{GeneralForm}
 use Rattle.wild_relax.specs.declared.row.Row.{Row}
 use Rattle.wild_relax.specs.RowSequences.{call_form, is_call_number}
-use Rattle.wild_relax.specs.Rows.{number_of}
 use Rattle.wild_layout.specs.declared.decision.Decision.{Decision}
 use Rattle.wild_layout.specs.declared.decision.Decision.TheVariants.{Nothing, Field, Moved, Left, Rewritten, Partner}
 use Rattle.wild_layout.specs.Choice.{choice_of, choice, takes_next, is_partner}
@@ -159,7 +158,7 @@ first_kept l s first second start o i f k = by (keeps_or f.one)
     takes_all : (row : Row) (v : ℕ) → HasDecision l s i first (Rewritten row v) → ⊥
     takes_all row v h =
         let w = decide_rewritten l s i first row v h.listed h.decided in
-        let pair : is_first (number_of row) ≡ true = subst (λ (n : ℕ). is_first n ≡ true) w.chosen.number f.pair in
+        let pair : is_first row.number ≡ true = subst (λ (n : ℕ). is_first n ≡ true) w.chosen.number f.pair in
         let skips = (is_fixed row (chosen_listed l s first (slice_get s.relocations (i + 1)) row w.chosen row_fixed each_row_fixed) w.changes).skips pair in
         let made : choice l s i ≡ Ok (Some row) = rw h.listed w.chosen.choice in
         let taken = next_is_partner l s i (ap takes_next made ∙ skips) in

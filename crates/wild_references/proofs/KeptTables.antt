@@ -17,9 +17,8 @@ use Rattle.wild_relax.specs.declared.pattern.Pattern.TheVariants as pattern
 use Rattle.wild_relax.specs.declared.row.Row.{Row}
 use Rattle.wild_relax.specs.Pattern.{cells_of, field_of}
 use Rattle.wild_relax.specs.Pattern as pattern_fits
-use Rattle.wild_relax.specs.RowSymbols.{is_thread_local}
 use Rattle.wild_relax.specs.RowSequences.{partner_distance, call_form}
-use Rattle.wild_relax.specs.Rows.{rows_x86_64, number_of}
+use Rattle.wild_relax.specs.Rows.{rows_x86_64}
 use Rattle.wild_relax.specs.Rewrite.{is_skip}
 use Rattle.wild_relax.specs.RewriteX86_64.{rewrite_of}
 use Rattle.wild_relax.specs.Linked.{pattern_of, pattern_size, keeps_bytes}
@@ -265,27 +264,27 @@ in_call row (Some d) t = nat_le (field_of (pattern_of row) + d) t && nat_lt t (f
 
 -- byte t of the pattern is in the field of the row, or of its call
 abbrev in_row : Row → ℕ → Bool
-in_row row t = (nat_le (field_of (pattern_of row)) t && nat_lt t (field_of (pattern_of row) + width_of (number_of row))) || in_call row (partner_distance row) t
+in_row row t = (nat_le (field_of (pattern_of row)) t && nat_lt t (field_of (pattern_of row) + width_of row.number)) || in_call row (partner_distance row) t
 
 abbrev pub row_fixed : Row → Bool
 row_fixed row =
-    if keeps_bytes row then keeps_all (number_of row) && not (is_skip (rewrite_of row).next)
+    if keeps_bytes row then keeps_all row.number && not (is_skip (rewrite_of row).next)
     else below (pattern_size row) (λ t. not (is_free (get_or (cells_of (pattern_of row)) t its.Any)) || in_row row t)
-    && (not (keeps_all (number_of row))
-    && ((if pattern_size row == 2 then is_described_call (number_of row) else true)
-    && ((if is_described_call (number_of row) then is_thread_local row else true)
-    && (if is_first (number_of row) then is_skip (rewrite_of row).next else true))))
+    && (not (keeps_all row.number)
+    && ((if pattern_size row == 2 then is_described_call row.number else true)
+    && ((if is_described_call row.number then row.thread_local else true)
+    && (if is_first row.number then is_skip (rewrite_of row).next else true))))
 
 pub each_row_fixed : list_all row_fixed rows_x86_64 ≡ true
-unfolding x86_64_formula
+unfolding x86_64_formula rows_x86_64
 each_row_fixed = refl
 
 pub record IsFixed (row : Row) : Type 0 where
   pub free : (t : ℕ) → t < pattern_size row → is_free (get_or (cells_of (pattern_of row)) t its.Any) ≡ true → in_row row t ≡ true
-  pub writes : keeps_all (number_of row) ≡ false
-  pub calls : (pattern_size row == 2) ≡ true → number_of row ≡ r_x86_64_tlsdesc_call
-  pub thread : is_described_call (number_of row) ≡ true → is_thread_local row ≡ true
-  pub skips : is_first (number_of row) ≡ true → is_skip (rewrite_of row).next ≡ true
+  pub writes : keeps_all row.number ≡ false
+  pub calls : (pattern_size row == 2) ≡ true → row.number ≡ r_x86_64_tlsdesc_call
+  pub thread : is_described_call row.number ≡ true → row.thread_local ≡ true
+  pub skips : is_first row.number ≡ true → is_skip (rewrite_of row).next ≡ true
 
 pub is_fixed : (row : Row) → row_fixed row ≡ true → keeps_bytes row ≡ false → IsFixed row
 is_fixed row h k =
@@ -295,10 +294,10 @@ is_fixed row h k =
     let d = and_parts _ _ c.1 in
     record {
       free = λ t lt any. free (is_free (get_or (cells_of (pattern_of row)) t its.Any)) (in_row row t) (below_at (pattern_size row) (λ t. not (is_free (get_or (cells_of (pattern_of row)) t its.Any)) || in_row row t) t lt a.0) any;
-      writes = not_is (keeps_all (number_of row)) b.0;
-      calls = λ two. eqb-true _ _ (so (pattern_size row == 2) (is_described_call (number_of row)) c.0 two);
-      thread = λ call. so (is_described_call (number_of row)) (is_thread_local row) d.0 call;
-      skips = λ pair. so (is_first (number_of row)) (is_skip (rewrite_of row).next) d.1 pair;
+      writes = not_is (keeps_all row.number) b.0;
+      calls = λ two. eqb-true _ _ (so (pattern_size row == 2) (is_described_call row.number) c.0 two);
+      thread = λ call. so (is_described_call row.number) row.thread_local d.0 call;
+      skips = λ pair. so (is_first row.number) (is_skip (rewrite_of row).next) d.1 pair;
     }
   where
     free : (a b : Bool) → (not a || b) ≡ true → a ≡ true → b ≡ true
@@ -314,7 +313,7 @@ is_fixed row h k =
     so false b h e = cc
 
 -- rows that keep bytes are of few types
-pub kept_number : (row : Row) → row_fixed row ≡ true → keeps_bytes row ≡ true → keeps_all (number_of row) ≡ true
+pub kept_number : (row : Row) → row_fixed row ≡ true → keeps_bytes row ≡ true → keeps_all row.number ≡ true
 kept_number row h k = (and_parts _ _ (rw k at h)).0
 
 -- and they write no sequence
@@ -324,15 +323,15 @@ calls_are_alone row h skips = by (keeps_bytes row) refl
     by : (b : Bool) → keeps_bytes row ≡ b → b ≡ false
     by false e = refl
     by true e =
-        let t : (keeps_all (number_of row) && not (is_skip (rewrite_of row).next)) ≡ true = rw e at h in
-        let n : not true ≡ true = rw skips at (and_parts (keeps_all (number_of row)) (not (is_skip (rewrite_of row).next)) t).1 in
+        let t : (keeps_all row.number && not (is_skip (rewrite_of row).next)) ≡ true = rw e at h in
+        let n : not true ≡ true = rw skips at (and_parts (keeps_all row.number) (not (is_skip (rewrite_of row).next)) t).1 in
         cc
 
 -- a byte of the pattern that may be any is in the field of the row, or of its call
-pub free_in_field : (row : Row) (t : ℕ) → in_row row t ≡ true → ((field_of (pattern_of row) ≤ t) × (t < field_of (pattern_of row) + width_of (number_of row))) ⊎ ((d : ℕ) × (partner_distance row ≡ Some d) × (field_of (pattern_of row) + d ≤ t) × (t < field_of (pattern_of row) + d + call_width (call_form row)))
+pub free_in_field : (row : Row) (t : ℕ) → in_row row t ≡ true → ((field_of (pattern_of row) ≤ t) × (t < field_of (pattern_of row) + width_of row.number)) ⊎ ((d : ℕ) × (partner_distance row ≡ Some d) × (field_of (pattern_of row) + d ≤ t) × (t < field_of (pattern_of row) + d + call_width (call_form row)))
 free_in_field row t h =
-    elim (or_cases (nat_le (field_of (pattern_of row)) t && nat_lt t (field_of (pattern_of row) + width_of (number_of row))) (in_call row (partner_distance row) t) h) [
-      | inl x ↦ inl (inside (field_of (pattern_of row)) (field_of (pattern_of row) + width_of (number_of row)) t x)
+    elim (or_cases (nat_le (field_of (pattern_of row)) t && nat_lt t (field_of (pattern_of row) + width_of row.number)) (in_call row (partner_distance row) t) h) [
+      | inl x ↦ inl (inside (field_of (pattern_of row)) (field_of (pattern_of row) + width_of row.number) t x)
       | inr x ↦ inr (by (partner_distance row) refl x)
     ]
   where

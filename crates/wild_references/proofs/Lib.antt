@@ -51,6 +51,7 @@ mod KeptModes
 mod KeptSequences
 mod Kept
 mod RewrittenDecisions
+mod TableRows
 mod RewrittenForms
 mod RewrittenPairs
 mod RewrittenPlaces

@@ -1,6 +1,6 @@
 -- An instruction that is rewritten stands in the input, and no relocation fills its own bytes.
 use Rattle.std.proofs.Common.{◌≡◌, ℕ, ◌+◌, ◌-◌, ◌<◌, ◌≤◌, ◌⊎◌, inl, inr, true, List, [], ◌∷◌, get_or, refl, sym, ◌∙◌, arith, subst}
-use Rattle.std.specs.Prelude.{◌&&◌, Option, Some, None, Ok, slice_get}
+use Rattle.std.specs.Prelude.{option_map, ◌&&◌, Option, Some, None, Ok, slice_get}
 use Rattle.std.proofs.lemmas.Bool.{eqb-true, and_parts, cases_eq}
 use Rattle.std.proofs.lemmas.List.Elements.{All-from_get_or}
 use Rattle.std.proofs.lemmas.Option.{slice_get-get_or}
@@ -14,6 +14,7 @@ use Rattle.wild_relax.specs.declared.row.Row.{Row}
 use Rattle.wild_relax.specs.Question.{minus_four}
 use Rattle.wild_relax.specs.Pattern.{field_of}
 use Rattle.wild_relax.specs.RowSequences.{partner_distance, call_form, is_call_number, is_partner, is_partner_at, has_partner}
+use Rattle.wild_relax.specs.declared.row.Partner as writer
 use Rattle.wild_relax.specs.Rewrite.{is_skip}
 use Rattle.wild_relax.specs.RewriteX86_64.{rewrite_of}
 use Rattle.wild_relax.specs.Linked.{pattern_of, pattern_size}
@@ -41,27 +42,26 @@ pub record IsCalled (l : Layout) (row : Row) (r next : InputRelocation) (distanc
   pub number : is_call_number (call_form row) next.number ≡ true
   pub ends : minus_four r.addend ≡ true
 
-called_as : (l : Layout) (row : Row) (r next : InputRelocation) (n : ℕ) → (minus_four r.addend && is_partner row (r.offset + n) (info_of l next)) ≡ true → IsCalled l row r next n
+called_as : (l : Layout) (row : Row) (p : writer.Partner) (r next : InputRelocation) → row.partner ≡ Some p → (minus_four r.addend && is_partner p.form (r.offset + p.distance) (info_of l next)) ≡ true → IsCalled l row r next p.distance
 unfolding is_partner
-called_as l row r next n h =
+called_as l row p r next e h =
     let t = and_parts (minus_four r.addend) _ h in
     let a = and_parts _ _ t.1 in
     let b = and_parts _ _ a.0 in
     let c = and_parts _ _ b.0 in
-    record { place = eqb-true next.offset (r.offset + n) c.0; getter = c.1; number = b.1; ends = t.0 }
+    record { place = eqb-true next.offset (r.offset + p.distance) c.0; getter = c.1; number = rw e b.1; ends = t.0 }
 
-called_at : (l : Layout) (row : Row) (r next : InputRelocation) (o : Option ℕ) (n : ℕ) → o ≡ Some n → is_partner_at row (info_of l r) o (Some (info_of l next)) ≡ true → IsCalled l row r next n
-called_at l row r next None n e h = cc
-called_at l row r next (Some d) n e h = (let same : d ≡ n = cc in subst (λ (k : ℕ). IsCalled l row r next k) same (called_as l row r next d h))
-
-not_called : (l : Layout) (row : Row) (r : InputRelocation) (o : Option ℕ) (n : ℕ) → o ≡ Some n → is_partner_at row (info_of l r) o None ≡ true → ⊥
-not_called l row r None n e h = cc
-not_called l row r (Some d) n e h = cc
+called_by : (l : Layout) (row : Row) (r : InputRelocation) (n : ℕ) (o : Option writer.Partner) (next : Option InputRelocation) → row.partner ≡ o → option_map (λ (p : writer.Partner). p.distance) o ≡ Some n → is_partner_at (info_of l r) o (option_map (info_of l) next) ≡ true → (c : InputRelocation) × (next ≡ Some c) × IsCalled l row r c n
+called_by l row r n None next is e h = cc
+called_by l row r n (Some p) None is e h = cc
+called_by l row r n (Some p) (Some c) is e h =
+    let same : p.distance ≡ n = cc in
+    (c, refl, subst (λ (k : ℕ). IsCalled l row r c k) same (called_as l row p r c is h))
 
 -- a row of a sequence stands before such a relocation
 pub called : (l : Layout) (s : Item) (row : Row) (r : InputRelocation) (k n : ℕ) (next : Option InputRelocation) → partner_distance row ≡ Some n → has_partner row (question_of l s r k next) ≡ true → (c : InputRelocation) × (next ≡ Some c) × IsCalled l row r c n
-called l s row r k n None e h = absurd (not_called l row r (partner_distance row) n e h)
-called l s row r k n (Some c) e h = (c, refl, called_at l row r c (partner_distance row) n e h)
+called l s row r k n None e h = called_by l row r n row.partner None refl e h
+called l s row r k n (Some c) e h = called_by l row r n row.partner (Some c) refl e h
 
 -- ---- fields beside an own byte
 

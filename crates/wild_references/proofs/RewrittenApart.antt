@@ -15,13 +15,13 @@ use Rattle.wild_types.specs.Kinds.{is_static_executable}
 use Rattle.wild_slot.specs.Treatment.{flags_at}
 use Rattle.wild_reloc.specs.Formula.{Formula}
 use Rattle.wild_reloc.specs.FormulaX86_64.{x86_64_formula}
-use Rattle.wild_relax.specs.declared.pattern.Operation.TheVariants as operation
 use Rattle.wild_relax.specs.declared.pattern.GeneralForm.TheVariants as general
 use Rattle.wild_relax.specs.declared.pattern.LocalForm.TheVariants as local
 use Rattle.wild_relax.specs.declared.pattern.Pattern.TheVariants as pattern
 use Rattle.wild_relax.specs.declared.row.Row.{Row}
 use Rattle.wild_relax.specs.Pattern.{field_of}
-use Rattle.wild_relax.specs.Rows.{rows_x86_64, number_of, is_mandatory}
+use Rattle.wild_relax.specs.Rows.{rows_x86_64}
+use Rattle.wild_relax.specs.RowSymbols.{is_mandatory}
 use Rattle.wild_relax.specs.Rewrite.{is_skip}
 use Rattle.wild_relax.specs.RewriteX86_64.{rewrite_of}
 use Rattle.wild_relax.specs.Linked.{pattern_of, pattern_size, keeps_bytes}
@@ -39,11 +39,12 @@ use Rattle.wild_meaning.proofs.BitLemmas.{code_bit}
 use Rattle.wild_meaning.proofs.OutputLemmas.{executable_is}
 use Rattle.wild_geometry.proofs.JudgedLemmas.{flag_is}
 use Rattle.wild_references.specs.EffectLaws.{WindowsAreAlone}
-use Rattle.wild_references.proofs.RewrittenPlaces.{IsPlacedRow}
+use Rattle.wild_references.proofs.RewrittenPlaces.{IsPlacedRow, mandatory_static}
 use Rattle.wild_references.proofs.RewrittenSingles.{has_number}
-use Rattle.wild_references.proofs.RewrittenDoes.{on_or_must}
+use Rattle.wild_relax.proofs.RoomLemmas.{applied}
+use Rattle.wild_references.proofs.TableRows.{general_there, general_slot_there, local_there}
 use Rattle.wild_references.proofs.RewrittenCalls.{general_slot, local_slot, direct_numbers, only_number, calls_of, stands_so, general_backed, local_backed, IsAskedFor, local_applies, own_applies, open_applies}
-use Rattle.wild_references.proofs.KeptModes.{mandatory_static, other_flag}
+use Rattle.wild_references.proofs.KeptModes.{other_flag}
 use Rattle.wild_references.proofs.RewrittenFree.{is_first, takes_it, each_takes, takes_call}
 
 -- ---- a row that stands asks for the sequence's, too
@@ -51,7 +52,7 @@ use Rattle.wild_references.proofs.RewrittenFree.{is_first, takes_it, each_takes,
 is_on : (l : Layout) (s : Item) (i : ℕ) (r : InputRelocation) (row : Row) (v : ℕ) → IsPlacedRow l s i r row v → (l.options.relax || is_static_executable l.kind) ≡ true
 is_on l s i r row v p =
     let q = question_of l s r p.chosen.symbol (slice_get s.relocations (i + 1)) in
-    or_by l.options.relax (is_mandatory row q) (is_static_executable l.kind) (on_or_must q row p.stands.here) (λ e. mandatory_static row q p.made.changes e)
+    or_by l.options.relax (is_mandatory row.duty q) (is_static_executable l.kind) (applied q row p.stands.here).on (λ e. mandatory_static row q p.changing e)
 
 -- ---- the sequence is rewritten
 
@@ -81,10 +82,10 @@ general_taken l s i r first second row v from x86 decided p q =
     let next = slice_get s.relocations (q.has.index + 1) in
     record {
       taken = elim (cases_Bool (interposable (flags_at l q.symbol))) [
-        | inr own ↦ takes_call l s q.has.index q.symbol first _ 21 x86 decided q.has.listed q.named (first_is first.number abi.r_x86_64_tlsgd number refl) (omega arith) refl (own_applies l s first q.symbol next asked own number stands)
+        | inr own ↦ takes_call l s q.has.index q.symbol first _ general_there.0 x86 decided q.has.listed q.named (first_is first.number abi.r_x86_64_tlsgd number refl) general_there.1 general_there.2 (own_applies l s first q.symbol next asked own number stands)
         | inl free ↦
             (let on = q.rewritten number (subst (λ (b : Bool). HasFlag l q.symbol non_interposable b) (not_so _ free) (other_flag l q.symbol ifunc non_interposable false q.plain)) in
-            takes_call l s q.has.index q.symbol first _ 24 x86 decided q.has.listed q.named (first_is first.number abi.r_x86_64_tlsgd number refl) (omega arith) refl (open_applies l s first q.symbol next asked on free number stands))
+            takes_call l s q.has.index q.symbol first _ general_slot_there.0 x86 decided q.has.listed q.named (first_is first.number abi.r_x86_64_tlsgd number refl) general_slot_there.1 general_slot_there.2 (open_applies l s first q.symbol next asked on free number stands))
       ];
       number = subst (λ (c : Call). Contains c.numbers second.number) (same_partner general_slot _ q.partner refl q.calls) q.has.number;
       first_type = first_is first.number abi.r_x86_64_tlsgd number refl;
@@ -101,16 +102,17 @@ local_taken l s i r first second row v from x86 decided p q =
     let asked = asked_for l s i r first second row v from local_slot p q in
     let next = slice_get s.relocations (q.has.index + 1) in
     record {
-      taken = takes_call l s q.has.index q.symbol first _ 27 x86 decided q.has.listed q.named (first_is first.number abi.r_x86_64_tlsld number refl) (omega arith) refl (local_applies l s first q.symbol next asked number stands);
+      taken = takes_call l s q.has.index q.symbol first _ local_there.0 x86 decided q.has.listed q.named (first_is first.number abi.r_x86_64_tlsld number refl) local_there.1 local_there.2 (local_applies l s first q.symbol next asked number stands);
       number = subst (λ (c : Call). Contains c.numbers second.number) (same_partner local_slot _ q.partner refl q.calls) q.has.number;
       first_type = first_is first.number abi.r_x86_64_tlsld number refl;
     }
 
 -- no row that changes bytes stands at a direct call
 abbrev is_no_call : Row → Bool
-is_no_call row = keeps_bytes row || not (has_number (number_of row) direct_numbers)
+is_no_call row = keeps_bytes row || not (has_number row.number direct_numbers)
 
 each_no_call : list_all is_no_call rows_x86_64 ≡ true
+unfolding rows_x86_64
 each_no_call = refl
 
 no_direct : (a b : Bool) → a ≡ false → (a || not b) ≡ true → b ≡ true → ⊥
@@ -139,6 +141,7 @@ abbrev has_room : Row → Bool
 has_room row = nat_lt (field_of (pattern_of row)) (pattern_size row) || keeps_bytes row
 
 each_room : list_all has_room rows_x86_64 ≡ true
+unfolding rows_x86_64
 each_room = refl
 
 slot_formula : (n k : ℕ) → k < 3 → get_or slot_numbers k n ≡ n → (f : Formula) × (x86_64_formula n ≡ Some f) × (form_width f.form ≡ 4)
@@ -176,7 +179,7 @@ no_call law l s i r first row v from o x86 decided p alone q =
         let at : q.has.index ≡ i = omega (arith, e) in
         let there : slice_get s.relocations i ≡ Some first = subst (λ (x : ℕ). slice_get s.relocations x ≡ Some first) at q.has.listed in
         let same : first ≡ r = (let z : Some first ≡ Some r = sym there ∙ p.has.listed in cc) in
-        let number : is_first (number_of row) ≡ true = subst (λ (x : ℕ). is_first x ≡ true) p.chosen.number (subst (λ (x : InputRelocation). is_first x.number ≡ true) same t.first_type) in
+        let number : is_first row.number ≡ true = subst (λ (x : ℕ). is_first x ≡ true) p.chosen.number (subst (λ (x : InputRelocation). is_first x.number ≡ true) same t.first_type) in
         let skips = implied _ _ (chosen_listed l s r _ row p.chosen takes_it each_takes) number in
         let z : true ≡ false = sym skips ∙ alone in
         cc

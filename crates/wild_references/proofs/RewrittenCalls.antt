@@ -20,7 +20,7 @@ use Rattle.wild_relax.specs.declared.pattern.Cell.{Cell}
 use Rattle.wild_relax.specs.declared.pattern.Cell.TheVariants as cells
 use Rattle.wild_relax.specs.declared.pattern.Pattern.{Pattern}
 use Rattle.wild_relax.specs.declared.pattern.Pattern.TheVariants as pattern
-use Rattle.wild_relax.specs.declared.row.Row.TheVariants.{GeneralDynamicToLocalExec, GeneralDynamicToInitialExec, LocalDynamicToLocalExec}
+use Rattle.wild_relax.specs.declared.table.TheConstants.{GENERAL_NO_PLT, GENERAL_NO_PLT_SLOT, LOCAL_NO_PLT}
 use Rattle.wild_relax.specs.Pattern as writer
 use Rattle.wild_relax.specs.Pattern.{stands_before, stands_at}
 use Rattle.wild_relax.specs.Rows.{applies}
@@ -47,10 +47,10 @@ each_of P (x ∷ xs) o zero h lt e = subst P e h.0
 each_of P (x ∷ xs) o (suc k) h lt e = each_of P xs o k h.1 (omega (arith, lt)) e
 
 abbrev pub general_slot : Instruction
-general_slot = instruction_of (GeneralDynamicToLocalExec general.NoPlt)
+general_slot = instruction_of GENERAL_NO_PLT
 
 abbrev pub local_slot : Instruction
-local_slot = instruction_of (LocalDynamicToLocalExec local.NoPlt)
+local_slot = instruction_of LOCAL_NO_PLT
 
 -- types of direct calls
 abbrev pub direct_numbers : List ℕ
@@ -158,14 +158,14 @@ pub record IsAskedFor (l : Layout) (s : Item) (k : ℕ) : Type 0 where
   pub plain : has_flag (flags_at l k) ifunc ≡ false
   pub program : is_executable l.kind ≡ true
 
-pub local_applies : (l : Layout) (s : Item) (r : InputRelocation) (k : ℕ) (next : Option InputRelocation) → IsAskedFor l s k → r.number ≡ abi.r_x86_64_tlsld → stands_before s.bytes r.offset (pattern.LocalStart local.NoPlt) ≡ true → applies (question_of l s r k next) (LocalDynamicToLocalExec local.NoPlt) ≡ true
+pub local_applies : (l : Layout) (s : Item) (r : InputRelocation) (k : ℕ) (next : Option InputRelocation) → IsAskedFor l s k → r.number ≡ abi.r_x86_64_tlsld → stands_before s.bytes r.offset (pattern.LocalStart local.NoPlt) ≡ true → applies (question_of l s r k next) LOCAL_NO_PLT ≡ true
 unfolding applies
 local_applies l s r k next h number stands = rw (eq-eqb r.number abi.r_x86_64_tlsld number, h.on, h.code, h.plain, h.program, stands) refl
 
-pub own_applies : (l : Layout) (s : Item) (r : InputRelocation) (k : ℕ) (next : Option InputRelocation) → IsAskedFor l s k → interposable (flags_at l k) ≡ false → r.number ≡ abi.r_x86_64_tlsgd → stands_before s.bytes r.offset (pattern.General general.NoPlt) ≡ true → applies (question_of l s r k next) (GeneralDynamicToLocalExec general.NoPlt) ≡ true
+pub own_applies : (l : Layout) (s : Item) (r : InputRelocation) (k : ℕ) (next : Option InputRelocation) → IsAskedFor l s k → interposable (flags_at l k) ≡ false → r.number ≡ abi.r_x86_64_tlsgd → stands_before s.bytes r.offset (pattern.General general.NoPlt) ≡ true → applies (question_of l s r k next) GENERAL_NO_PLT ≡ true
 unfolding applies
 own_applies l s r k next h own number stands = rw (eq-eqb r.number abi.r_x86_64_tlsgd number, h.on, h.code, h.plain, h.program, own, stands) refl
 
-pub open_applies : (l : Layout) (s : Item) (r : InputRelocation) (k : ℕ) (next : Option InputRelocation) → IsAskedFor l s k → l.options.relax ≡ true → interposable (flags_at l k) ≡ true → r.number ≡ abi.r_x86_64_tlsgd → stands_before s.bytes r.offset (pattern.General general.NoPlt) ≡ true → applies (question_of l s r k next) (GeneralDynamicToInitialExec general.NoPlt) ≡ true
+pub open_applies : (l : Layout) (s : Item) (r : InputRelocation) (k : ℕ) (next : Option InputRelocation) → IsAskedFor l s k → l.options.relax ≡ true → interposable (flags_at l k) ≡ true → r.number ≡ abi.r_x86_64_tlsgd → stands_before s.bytes r.offset (pattern.General general.NoPlt) ≡ true → applies (question_of l s r k next) GENERAL_NO_PLT_SLOT ≡ true
 unfolding applies
 open_applies l s r k next h on open_one number stands = rw (eq-eqb r.number abi.r_x86_64_tlsgd number, on, h.code, h.plain, h.program, open_one, stands) refl

@@ -1,27 +1,31 @@
 -- Each row: the code that it writes does what the instruction demands.
-use Rattle.std.proofs.Common.{◌≡◌, ℕ, ◌+◌, ◌^◌, ◌<◌, ◌⊎◌, inl, inr, Bool, true, List, refl, sym, ◌∙◌, arith, subst}
-use Rattle.std.specs.Prelude.{pos, ◌&&◌, ◌||◌, not, Some, slice_get}
-use Rattle.std.proofs.lemmas.Bool.{and_parts, not-true}
-use Rattle.wild_words.proofs.Basics.{or_first}
+use Rattle.std.proofs.Common.{◌≡◌, ℕ, ◌+◌, ◌^◌, ◌<◌, ◌⊎◌, inl, inr, Bool, true, false, List, refl, sym, ap, ◌∙◌, arith, subst}
+use Rattle.std.specs.Prelude.{pos, ◌==◌, ◌&&◌, ◌||◌, not, if◌then◌else◌, Some, slice_get}
+use Rattle.std.proofs.lemmas.Bool.{cases_Bool, and_parts, or_cases, eqb-true, not-true}
+use Rattle.wild_words.proofs.Basics.{or_other, implied, listed_passes}
+use Rattle.std.specs.List.{list_all}
+use Rattle.wild_records.specs.Abi.Relocation.{r_x86_64_none, r_x86_64_pc32, r_x86_64_32, r_x86_64_32s, r_x86_64_tpoff32, r_x86_64_gottpoff}
 use Rattle.wild_types.specs.declared.input.InputRelocation.{InputRelocation}
 use Rattle.wild_types.specs.declared.layout.Layout.{Layout}
 use Rattle.wild_types.specs.Flags.{has_flag, interposable, has_link_time_address, absolute, ifunc}
-use Rattle.wild_types.specs.Kinds.{is_executable, has_fixed_load_address}
+use Rattle.wild_types.specs.Kinds.{is_executable, is_static_executable, has_fixed_load_address}
 use Rattle.wild_slot.specs.Treatment.{flags_at}
 use Rattle.wild_reloc.specs.TableX86_64.{x86_64_row}
 use Rattle.wild_reloc.specs.declared.range.Sign.TheVariants.{Unsigned, Signed}
-use Rattle.wild_relax.specs.declared.pattern.Prefix.TheVariants.{Rex, Rex2}
-use Rattle.wild_relax.specs.declared.pattern.GeneralForm.TheVariants as general
-use Rattle.wild_relax.specs.declared.pattern.LocalForm.TheVariants as local
-use Rattle.wild_relax.specs.declared.row.DescriptorUse.TheVariants.{LocalExec, InitialExec}
+use Rattle.wild_relax.specs.declared.row.ValueTest.{ValueTest}
+use Rattle.wild_relax.specs.declared.row.ValueTest.TheVariants as value
+use Rattle.wild_relax.specs.declared.row.Made.{Made}
+use Rattle.wild_relax.specs.declared.row.Made.TheVariants.{Nop}
+use Rattle.wild_relax.specs.declared.row.Written.{Written}
+use Rattle.wild_relax.specs.declared.row.Written.TheVariants as written
 use Rattle.wild_relax.specs.declared.row.Row.{Row}
-use Rattle.wild_relax.specs.declared.row.Row.TheVariants.{IfuncThroughStub, RexGotToImmediate, RexGotMovToLea, GotMovToImmediate, GotMovToLea, IndirectCallToDirect, IndirectJumpToDirect, PlainGotMovToLea, InitialExecToLocalExec, Plt32ToPc32, PltOffToGotOff, GeneralDynamicToLocalExec, GeneralDynamicToInitialExec, LocalDynamicToLocalExec, DescriptorLea, DescriptorCall}
-use Rattle.wild_relax.specs.Question.{Question, minus_four}
-use Rattle.wild_relax.specs.Rows.{is_mandatory, applies}
+use Rattle.wild_relax.specs.Question.{Question, minus_four, is_own, is_known}
+use Rattle.wild_relax.specs.Rows.{rows_x86_64}
+use Rattle.wild_relax.specs.RowSymbols.{is_in_32, takes_value, is_mandatory}
 use Rattle.wild_relax.specs.Rewrite.{is_skip}
-use Rattle.wild_relax.specs.RewriteX86_64.{rewrite_of}
-use Rattle.wild_relax.specs.Linked.{field_in, template_of}
-use Rattle.wild_relax.specs.Keep.{Lands, demanded}
+use Rattle.wild_relax.specs.RewriteX86_64.{change_of, addend_by, number_written, rewrite_of}
+use Rattle.wild_relax.specs.Linked.{keeps_bytes, field_in, template_of}
+use Rattle.wild_relax.specs.Keep.{distance, Lands, demanded}
 use Rattle.wild_layout.specs.Sites.{template_start}
 use Rattle.wild_loader.specs.declared.memory.Memory.{Memory}
 use Rattle.wild_loader.specs.declared.world.World.{World}
@@ -29,19 +33,24 @@ use Rattle.wild_meaning.specs.World.{IsMovable}
 use Rattle.wild_meaning.specs.Value.{IsAbsolute}
 use Rattle.wild_types.specs.Item.{Item}
 use Rattle.wild_meaning.specs.Item.{place_at}
-use Rattle.wild_loader.specs.Instruction.{Effect}
+use Rattle.wild_loader.specs.Instruction.{Effect, Reader, sum_64}
 use Rattle.wild_loader.specs.InstructionX86_64.{demand_x86_64}
-use Rattle.wild_meaning.specs.Sequence.{Sort, TargetInSlot, AddressInSlot}
-use Rattle.wild_meaning.specs.Template.{reads_alone, demand_of, Demands, IsDemanded, no_effect, DoesDemanded}
+use Rattle.wild_meaning.specs.Sequence.{Sort, TargetInSlot, AddressInSlot, OffsetInSlot, SymbolPair, OwnPair, Described, DescribedCall}
+use Rattle.wild_meaning.specs.Template.{reads_alone, demand_of, Demands, IsDemanded, no_effect, old_bytes, DoesDemanded}
+use Rattle.wild_loader.specs.declared.instruction.Operand.TheVariants.{Word}
+use Rattle.wild_meaning.specs.Formula.{IsOffset, HasOffsetMode}
+use Rattle.wild_layout.specs.Choice.{question_of}
+use Rattle.wild_relax.proofs.RoomLemmas.{applied}
 use Rattle.wild_relax.proofs.RowLemmas.{signed_32s, unsigned_32}
 use Rattle.wild_references.specs.Laws.{IsLoadedItem}
 use Rattle.wild_references.proofs.RewrittenForms.{instruction_of}
 use Rattle.wild_references.proofs.RewrittenPairs.{paired}
-use Rattle.wild_references.proofs.RewrittenPlaces.{LawsBelow, IsPlacedRow, is_code}
+use Rattle.wild_references.proofs.RewrittenPlaces.{LawsBelow, IsPlacedRow, is_code, mandatory_static}
+use Rattle.wild_references.proofs.RewrittenTemplates.{is_plain, plain_taken}
 use Rattle.wild_references.proofs.RewrittenAlone.{called}
 use Rattle.wild_references.proofs.RewrittenTerms.{info_is}
 use Rattle.wild_references.proofs.RewrittenValues.{known_still}
-use Rattle.wild_references.proofs.RewrittenOperands.{IsOperand, LandsFar, LandsItself, not_absolute, not_moved, lands_far, lands_itself}
+use Rattle.wild_references.proofs.RewrittenOperands.{LandsFar, LandsItself, not_absolute, not_moved, lands_far, lands_itself}
 use Rattle.wild_references.proofs.RewrittenThreads.{LandsOffset, lands_offset, lands_slot, offset_mode, own_base}
 use Rattle.wild_references.proofs.RewrittenEffects.{old_of, effect_kept, on_machine, whole_is, does_by}
 
@@ -50,18 +59,6 @@ abbrev pub DoesRow : Layout → World → Memory → Item → InputRelocation �
 DoesRow l w m s r row = DoesDemanded (reads_alone w m) l w m s r (template_start row r) (instruction_of row)
 
 -- ---- addresses
-
-does_target : LawsBelow → (l : Layout) (w : World) (m : Memory) (s : Item) (i : ℕ) (r : InputRelocation) (row : Row) (v n : ℕ) → IsLoadedItem l w m s → IsPlacedRow l s i r row v → IsOperand l w m r.symbol n → Lands row (reads_alone w m) (place_at w s (template_start row r) + field_in row) n v
-    → (instruction_of row).sort ≡ AddressInSlot → ((a : ℕ) (old : List ℕ) → demanded row n a old ≡ demand_x86_64 n a old) → DoesRow l w m s r row
-does_target laws l w m s i r row v n h p is lands sort same =
-    does_by laws l w m s i r row v n h p (subst (λ (o : Sort). Demands o l w m s r n) (sym sort) is.target) is.small lands same
-    (λ a old e k. subst (λ (o : Sort). IsDemanded o l s n a old e) (sym sort) k)
-
-does_goal : LawsBelow → (l : Layout) (w : World) (m : Memory) (s : Item) (i : ℕ) (r : InputRelocation) (row : Row) (v n : ℕ) → IsLoadedItem l w m s → IsPlacedRow l s i r row v → IsOperand l w m r.symbol n → Lands row (reads_alone w m) (place_at w s (template_start row r) + field_in row) n v
-    → (instruction_of row).sort ≡ TargetInSlot → ((a : ℕ) (old : List ℕ) → demanded row n a old ≡ demand_x86_64 n a old) → DoesRow l w m s r row
-does_goal laws l w m s i r row v n h p is lands sort same =
-    does_by laws l w m s i r row v n h p (subst (λ (o : Sort). Demands o l w m s r n) (sym sort) is.goal) is.small lands same
-    (λ a old e k. subst (λ (o : Sort). IsDemanded o l s n a old e) (sym sort) k)
 
 -- of an own symbol that may move
 lea_far : LawsBelow → (l : Layout) (w : World) (m : Memory) (s : Item) (i : ℕ) (r : InputRelocation) (row : Row) (v : ℕ) → IsLoadedItem l w m s → (p : IsPlacedRow l s i r row v) → (rewrite_of row).number ≡ 2 → (rewrite_of row).addend r.addend ≡ r.addend → minus_four r.addend ≡ true → not (has_flag (flags_at l p.chosen.symbol) ifunc) ≡ true
@@ -93,10 +90,6 @@ number_itself laws l w m s i r row v held h p number none plain value =
 
 -- ---- offsets from the thread pointer
 
-does_offset : LawsBelow → (l : Layout) (w : World) (m : Memory) (s : Item) (i : ℕ) (r : InputRelocation) (row : Row) (v n : ℕ) → IsLoadedItem l w m s → IsPlacedRow l s i r row v → Demands (instruction_of row).sort l w m s r n → n < 2 ^ 64 → Lands row (reads_alone w m) (place_at w s (template_start row r) + field_in row) n v
-    → ((a : ℕ) (old : List ℕ) (e : Effect) → demand_of l.machine n a old ≡ Some e → IsDemanded (instruction_of row).sort l s n a old e) → ((a : ℕ) (old : List ℕ) → demanded row n a old ≡ demand_x86_64 n a old) → DoesRow l w m s r row
-does_offset laws l w m s i r row v n h p demands small lands told same = does_by laws l w m s i r row v n h p demands small lands same told
-
 -- an own symbol's offset, in a program
 own_offset : LawsBelow → (l : Layout) (w : World) (m : Memory) (s : Item) (i : ℕ) (r : InputRelocation) (row : Row) (v : ℕ) → IsLoadedItem l w m s → (p : IsPlacedRow l s i r row v) → (rewrite_of row).number ≡ 23 → (rewrite_of row).addend r.addend ≡ pos 0 → is_executable l.kind ≡ true → not (interposable (flags_at l p.chosen.symbol)) ≡ true → LandsOffset l w r v
 own_offset laws l w m s i r row v h p number none program own = lands_offset laws l w m s i r row v h p number none program (not-true _ own)
@@ -105,63 +98,218 @@ own_offset laws l w m s i r row v h p number none program own = lands_offset law
 sequence_ends : (l : Layout) (s : Item) (i : ℕ) (r : InputRelocation) (row : Row) (v : ℕ) → IsPlacedRow l s i r row v → is_skip (rewrite_of row).next ≡ true → minus_four r.addend ≡ true
 sequence_ends l s i r row v p skips = (let pair = paired row p.changing skips in (called l s row r p.chosen.symbol pair.distance (slice_get s.relocations (i + 1)) pair.behind p.stands.taken.partner).2.ends)
 
--- ---- whether rewriting is on
-
-pub on_or_must : (q : Question) (row : Row) → applies q row ≡ true → (q.relax || is_mandatory row q) ≡ true
-unfolding applies
-on_or_must q row h =
-    let a = (and_parts _ _ h).0 in
-    let b = (and_parts _ _ a).0 in
-    let c = (and_parts _ _ b).0 in
-    let d = (and_parts _ _ c).0 in
-    let e = (and_parts _ _ d).0 in
-    let f = (and_parts _ _ e).0 in
-    (and_parts _ _ f).1
-
 -- ---- the rows
 
 -- where code goes through a slot, its symbol's value does not stand still beside a base
 abbrev pub GoesWithBase : Layout → World → Row → ℕ → Type 0
 GoesWithBase l w row k = (instruction_of row).sort ≡ TargetInSlot → IsMovable l.kind → IsAbsolute l k → w.base ≡ 0
 
+
+-- ---- how a field lands
+
+lands_far_as : (w : Written) (read : Reader) (place n v : ℕ) → number_written w ≡ r_x86_64_pc32 → v ≡ distance n place → Lands w read place n v
+lands_far_as written.Pc32 read place n v e h = h
+lands_far_as other read place n v e h = cc
+
+abbrev is_itself : Written → Bool
+is_itself written.Signed32 = true
+is_itself written.Unsigned32 = true
+is_itself written.TpOff32 = true
+is_itself other = false
+
+lands_as : (w : Written) (read : Reader) (place n v : ℕ) → is_itself w ≡ true → v ≡ n → Lands w read place n v
+lands_as written.Signed32 read place n v e h = h
+lands_as written.Unsigned32 read place n v e h = h
+lands_as written.TpOff32 read place n v e h = h
+lands_as other read place n v e h = cc
+
+lands_slot_as : (w : Written) (read : Reader) (place n v : ℕ) → number_written w ≡ r_x86_64_gottpoff → read (Word (sum_64 (place + 4) v)) ≡ Some n → Lands w read place n v
+lands_slot_as written.GotTpOff read place n v e h = h
+lands_slot_as other read place n v e h = cc
+
+lands_start : (w : Written) (read : Reader) (place v : ℕ) → number_written w ≡ r_x86_64_none → Lands w read place 0 v
+lands_start written.Nothing read place v e = refl
+lands_start other read place v e = cc
+
+-- ---- what is demanded
+
+abbrev is_nop : Made → Bool
+is_nop Nop = true
+is_nop other = false
+
+demanded_as : (m : Made) (n a : ℕ) (old : List ℕ) → is_nop m ≡ false → demanded m n a old ≡ demand_x86_64 n a old
+demanded_as Nop n a old h = cc
+demanded_as other n a old h = refl
+
+demanded_none : (m : Made) (n a : ℕ) (old : List ℕ) → is_nop m ≡ true → demanded m n a old ≡ Some no_effect
+demanded_none Nop n a old h = refl
+demanded_none other n a old h = cc
+
+-- ---- what each row has
+
+abbrev writes : ℕ → Row → Bool
+writes n row = number_written row.written == n
+
+abbrev counts_ends : Row → Bool
+counts_ends row = (change_of row.made).keeps_addend && ((row.ends || row.needs_end) || is_skip (rewrite_of row).next)
+
+abbrev counts_none : Row → Bool
+counts_none row = not (change_of row.made).keeps_addend && is_itself row.written
+
+-- by what the instruction is about, and which values the row takes
+abbrev does_so : Sort → ValueTest → Row → Bool
+does_so AddressInSlot value.OwnSigned row = writes r_x86_64_32s row && counts_none row
+does_so AddressInSlot value.OwnUnsigned row = writes r_x86_64_32 row && counts_none row
+does_so AddressInSlot value.OwnMoving row = writes r_x86_64_pc32 row && counts_ends row
+does_so AddressInSlot value.OwnFixed row = writes r_x86_64_pc32 row && counts_ends row
+does_so TargetInSlot value.Own row = writes r_x86_64_pc32 row && counts_ends row
+does_so OffsetInSlot value.Own row = writes r_x86_64_tpoff32 row && counts_none row
+does_so SymbolPair value.Own row = writes r_x86_64_tpoff32 row && counts_none row
+does_so Described value.Own row = writes r_x86_64_tpoff32 row && counts_none row
+does_so SymbolPair value.Interposable row = writes r_x86_64_gottpoff row && counts_ends row
+does_so Described value.Interposable row = writes r_x86_64_gottpoff row && counts_ends row
+does_so OwnPair value.Any row = writes r_x86_64_none row
+does_so other t row = false
+
+abbrev is_call : Sort → Bool
+is_call DescribedCall = true
+is_call other = false
+
+abbrev is_thread : Sort → Bool
+is_thread AddressInSlot = false
+is_thread TargetInSlot = false
+is_thread other = true
+
+-- a call through a descriptor is left out; any other instruction is of a symbol that no resolver answers for
+abbrev does_well : Row → Bool
+does_well row = keeps_bytes row || ((not (is_thread (instruction_of row).sort) || row.thread_local)
+    && (if is_call (instruction_of row).sort then is_nop row.made && writes r_x86_64_none row else not (is_nop row.made) && (is_plain row.symbol && does_so (instruction_of row).sort row.value row)))
+
+each_does_well : list_all does_well rows_x86_64 ≡ true
+unfolding rows_x86_64
+each_does_well = refl
+
+-- where rewriting is on, or there is no loader
+on_where : (relax must static : Bool) → (relax || must) ≡ true → (must ≡ true → static ≡ true) → static ≡ false → relax ≡ true
+on_where true must static h f e = refl
+on_where false true static h f e = (let t = f refl in cc)
+on_where false false static h f e = cc
+
 pub does_row : LawsBelow → (l : Layout) (w : World) (m : Memory) (s : Item) (i : ℕ) (r : InputRelocation) (row : Row) (v : ℕ) → IsLoadedItem l w m s → (p : IsPlacedRow l s i r row v) → GoesWithBase l w row p.chosen.symbol → DoesRow l w m s r row
-does_row laws l w m s i r IfuncThroughStub v h p asked = absurd p.changing
-does_row laws l w m s i r (RexGotToImmediate Rex o) v h p asked = (let t = number_itself laws l w m s i r (RexGotToImmediate Rex o) v _ h p (inl refl) refl p.stands.taken.symbol p.stands.taken.value in does_target laws l w m s i r (RexGotToImmediate Rex o) v t.operand h p t.is t.lands refl (λ a old. refl))
-does_row laws l w m s i r (RexGotToImmediate Rex2 o) v h p asked = (let t = number_itself laws l w m s i r (RexGotToImmediate Rex2 o) v _ h p (inl refl) refl p.stands.taken.symbol p.stands.taken.value in does_target laws l w m s i r (RexGotToImmediate Rex2 o) v t.operand h p t.is t.lands refl (λ a old. refl))
-does_row laws l w m s i r (RexGotMovToLea Rex) v h p asked = (let t = lea_far laws l w m s i r (RexGotMovToLea Rex) v h p refl refl p.stands.taken.addend p.stands.taken.symbol p.stands.taken.value in does_target laws l w m s i r (RexGotMovToLea Rex) v t.operand h p t.is t.lands refl (λ a old. refl))
-does_row laws l w m s i r (RexGotMovToLea Rex2) v h p asked = (let t = lea_far laws l w m s i r (RexGotMovToLea Rex2) v h p refl refl p.stands.taken.addend p.stands.taken.symbol p.stands.taken.value in does_target laws l w m s i r (RexGotMovToLea Rex2) v t.operand h p t.is t.lands refl (λ a old. refl))
-does_row laws l w m s i r GotMovToImmediate v h p asked = (let t = number_itself laws l w m s i r GotMovToImmediate v _ h p (inr refl) refl p.stands.taken.symbol p.stands.taken.value in does_target laws l w m s i r GotMovToImmediate v t.operand h p t.is t.lands refl (λ a old. refl))
-does_row laws l w m s i r GotMovToLea v h p asked = (let t = lea_far laws l w m s i r GotMovToLea v h p refl refl p.stands.taken.addend p.stands.taken.symbol p.stands.taken.value in does_target laws l w m s i r GotMovToLea v t.operand h p t.is t.lands refl (λ a old. refl))
-does_row laws l w m s i r IndirectCallToDirect v h p asked = (let t = lands_far laws l w m s i r IndirectCallToDirect v h p refl refl p.stands.taken.addend (not-true _ p.stands.taken.value) (not-true _ p.stands.taken.symbol) (λ movable abs. asked refl movable abs) in does_goal laws l w m s i r IndirectCallToDirect v t.operand h p t.is t.lands refl (λ a old. refl))
-does_row laws l w m s i r IndirectJumpToDirect v h p asked = (let t = lands_far laws l w m s i r IndirectJumpToDirect v h p refl refl p.stands.taken.addend (not-true _ p.stands.taken.value) (not-true _ p.stands.taken.symbol) (λ movable abs. asked refl movable abs) in does_goal laws l w m s i r IndirectJumpToDirect v t.operand h p t.is t.lands refl (λ a old. refl))
-does_row laws l w m s i r PlainGotMovToLea v h p asked = (let t = plain_far laws l w m s i r PlainGotMovToLea v h p refl refl p.stands.taken.addend p.stands.taken.symbol p.stands.taken.value in does_target laws l w m s i r PlainGotMovToLea v t.operand h p t.is t.lands refl (λ a old. refl))
-does_row laws l w m s i r (InitialExecToLocalExec Rex o) v h p asked = (let t = own_offset laws l w m s i r (InitialExecToLocalExec Rex o) v h p refl refl p.stands.taken.thread p.stands.taken.value in does_offset laws l w m s i r (InitialExecToLocalExec Rex o) v t.operand h p t.is.offset t.is.small t.lands (λ a old e k. k) (λ a old. refl))
-does_row laws l w m s i r (InitialExecToLocalExec Rex2 o) v h p asked = (let t = own_offset laws l w m s i r (InitialExecToLocalExec Rex2 o) v h p refl refl p.stands.taken.thread p.stands.taken.value in does_offset laws l w m s i r (InitialExecToLocalExec Rex2 o) v t.operand h p t.is.offset t.is.small t.lands (λ a old e k. k) (λ a old. refl))
-does_row laws l w m s i r Plt32ToPc32 v h p asked = absurd p.changing
-does_row laws l w m s i r PltOffToGotOff v h p asked = absurd p.changing
-does_row laws l w m s i r (GeneralDynamicToLocalExec general.Regular) v h p asked = (let t = own_offset laws l w m s i r (GeneralDynamicToLocalExec general.Regular) v h p refl refl p.stands.taken.thread p.stands.taken.value in does_offset laws l w m s i r (GeneralDynamicToLocalExec general.Regular) v t.operand h p t.is.offset t.is.small t.lands (λ a old e k. k) (λ a old. refl))
-does_row laws l w m s i r (GeneralDynamicToLocalExec general.NoPlt) v h p asked = (let t = own_offset laws l w m s i r (GeneralDynamicToLocalExec general.NoPlt) v h p refl refl p.stands.taken.thread p.stands.taken.value in does_offset laws l w m s i r (GeneralDynamicToLocalExec general.NoPlt) v t.operand h p t.is.offset t.is.small t.lands (λ a old e k. k) (λ a old. refl))
-does_row laws l w m s i r (GeneralDynamicToLocalExec general.Large) v h p asked = (let t = own_offset laws l w m s i r (GeneralDynamicToLocalExec general.Large) v h p refl refl p.stands.taken.thread p.stands.taken.value in does_offset laws l w m s i r (GeneralDynamicToLocalExec general.Large) v t.operand h p t.is.offset t.is.small t.lands (λ a old e k. k) (λ a old. refl))
-does_row laws l w m s i r (GeneralDynamicToInitialExec general.Regular) v h p asked = (let t = lands_slot laws l w m s i r (GeneralDynamicToInitialExec general.Regular) v h p refl refl (sequence_ends l s i r (GeneralDynamicToInitialExec general.Regular) v p refl) in does_offset laws l w m s i r (GeneralDynamicToInitialExec general.Regular) v t.operand h p t.is.offset t.is.small t.lands (λ a old e k. k) (λ a old. refl))
-does_row laws l w m s i r (GeneralDynamicToInitialExec general.NoPlt) v h p asked = (let t = lands_slot laws l w m s i r (GeneralDynamicToInitialExec general.NoPlt) v h p refl refl (sequence_ends l s i r (GeneralDynamicToInitialExec general.NoPlt) v p refl) in does_offset laws l w m s i r (GeneralDynamicToInitialExec general.NoPlt) v t.operand h p t.is.offset t.is.small t.lands (λ a old e k. k) (λ a old. refl))
-does_row laws l w m s i r (GeneralDynamicToInitialExec general.Large) v h p asked = absurd p.changing
-does_row laws l w m s i r (LocalDynamicToLocalExec local.Regular) v h p asked = does_offset laws l w m s i r (LocalDynamicToLocalExec local.Regular) v 0 h p (own_base l w h.x86 p.stands.taken.thread) (omega arith) refl (λ a old e k. k) (λ a old. refl)
-does_row laws l w m s i r (LocalDynamicToLocalExec local.NoPlt) v h p asked = does_offset laws l w m s i r (LocalDynamicToLocalExec local.NoPlt) v 0 h p (own_base l w h.x86 p.stands.taken.thread) (omega arith) refl (λ a old e k. k) (λ a old. refl)
-does_row laws l w m s i r (LocalDynamicToLocalExec local.Large) v h p asked = does_offset laws l w m s i r (LocalDynamicToLocalExec local.Large) v 0 h p (own_base l w h.x86 p.stands.taken.thread) (omega arith) refl (λ a old e k. k) (λ a old. refl)
-does_row laws l w m s i r (DescriptorLea Rex LocalExec) v h p asked = (let t = own_offset laws l w m s i r (DescriptorLea Rex LocalExec) v h p refl refl p.stands.taken.thread p.stands.taken.value in does_offset laws l w m s i r (DescriptorLea Rex LocalExec) v t.operand h p (inl (offset_mode l s h.x86 p.stands.taken.thread (or_first l.options.relax _ (on_or_must _ _ p.stands.here)) (is_code l s i r (DescriptorLea Rex LocalExec) v p), t.is.offset)) t.is.small t.lands (λ a old e k. k) (λ a old. refl))
-does_row laws l w m s i r (DescriptorLea Rex InitialExec) v h p asked = (let t = lands_slot laws l w m s i r (DescriptorLea Rex InitialExec) v h p refl refl p.stands.taken.addend in does_offset laws l w m s i r (DescriptorLea Rex InitialExec) v t.operand h p (inl (offset_mode l s h.x86 p.stands.taken.thread (or_first l.options.relax _ (on_or_must _ _ p.stands.here)) (is_code l s i r (DescriptorLea Rex InitialExec) v p), t.is.offset)) t.is.small t.lands (λ a old e k. k) (λ a old. refl))
-does_row laws l w m s i r (DescriptorLea Rex2 LocalExec) v h p asked = (let t = own_offset laws l w m s i r (DescriptorLea Rex2 LocalExec) v h p refl refl p.stands.taken.thread p.stands.taken.value in does_offset laws l w m s i r (DescriptorLea Rex2 LocalExec) v t.operand h p (inl (offset_mode l s h.x86 p.stands.taken.thread (or_first l.options.relax _ (on_or_must _ _ p.stands.here)) (is_code l s i r (DescriptorLea Rex2 LocalExec) v p), t.is.offset)) t.is.small t.lands (λ a old e k. k) (λ a old. refl))
-does_row laws l w m s i r (DescriptorLea Rex2 InitialExec) v h p asked = (let t = lands_slot laws l w m s i r (DescriptorLea Rex2 InitialExec) v h p refl refl p.stands.taken.addend in does_offset laws l w m s i r (DescriptorLea Rex2 InitialExec) v t.operand h p (inl (offset_mode l s h.x86 p.stands.taken.thread (or_first l.options.relax _ (on_or_must _ _ p.stands.here)) (is_code l s i r (DescriptorLea Rex2 InitialExec) v p), t.is.offset)) t.is.small t.lands (λ a old e k. k) (λ a old. refl))
-does_row laws l w m s i r DescriptorCall v h p asked =
-    record {
-      value = 0;
-      demands = refl;
-      code = record {
-        effect = no_effect;
-        demanded = inl (offset_mode l s h.x86 p.stands.taken.thread (or_first l.options.relax _ (on_or_must _ _ p.stands.here)) (is_code l s i r DescriptorCall v p), refl);
-        bytes = template_of DescriptorCall v (old_of s DescriptorCall r);
-        whole = whole_is l w m s i r DescriptorCall v h p;
-        held = h.item.rewritten i r DescriptorCall v p.has;
-        does = on_machine l.machine (reads_alone w m) _ _ h.x86 ∙ effect_kept laws l w m s i r DescriptorCall v 0 _ h p (omega arith) tt;
-      };
-    }
+does_row laws l w m s i r row v h p asked = by (cases_Bool (is_call (instruction_of row).sort))
+  where
+    place : ℕ
+    place = place_at w s (template_start row r) + field_in row
+
+    q : Question
+    q = question_of l s r p.chosen.symbol (slice_get s.relocations (i + 1))
+
+    told : Bool
+    told = if is_call (instruction_of row).sort then is_nop row.made && writes r_x86_64_none row else not (is_nop row.made) && (is_plain row.symbol && does_so (instruction_of row).sort row.value row)
+
+    well : ((not (is_thread (instruction_of row).sort) || row.thread_local) ≡ true) × (told ≡ true)
+    well = and_parts (not (is_thread (instruction_of row).sort) || row.thread_local) told (or_other (keeps_bytes row) ((not (is_thread (instruction_of row).sort) || row.thread_local) && told) (listed_passes does_well rows_x86_64 row each_does_well p.changing.listed) p.made.changes)
+
+    program : is_thread (instruction_of row).sort ≡ true → is_executable l.kind ≡ true
+    program t = implied row.thread_local (is_executable l.kind) p.stands.taken.thread (implied (is_thread (instruction_of row).sort) row.thread_local well.0 t)
+
+    mode : is_thread (instruction_of row).sort ≡ true → HasOffsetMode l s
+    mode t = offset_mode l s h.x86 (program t) (on_where l.options.relax (is_mandatory row.duty q) (is_static_executable l.kind) (applied q row p.stands.here).on (mandatory_static row q p.changing)) (is_code l s i r row v p)
+
+    ends : counts_ends row ≡ true → minus_four r.addend ≡ true
+    ends e = elim (or_cases (row.ends || row.needs_end) (is_skip (rewrite_of row).next) (and_parts (change_of row.made).keeps_addend ((row.ends || row.needs_end) || is_skip (rewrite_of row).next) e).1) [
+      | inl t ↦ implied (row.ends || row.needs_end) (minus_four r.addend) p.stands.taken.addend t
+      | inr skips ↦ sequence_ends l s i r row v p skips
+    ]
+
+    none : counts_none row ≡ true → (rewrite_of row).addend r.addend ≡ pos 0
+    none e = ap (λ (b : Bool). addend_by b r.addend) (not-true (change_of row.made).keeps_addend (and_parts (not (change_of row.made).keeps_addend) (is_itself row.written) e).0)
+
+    kept : counts_ends row ≡ true → (rewrite_of row).addend r.addend ≡ r.addend
+    kept e = ap (λ (b : Bool). addend_by b r.addend) (and_parts (change_of row.made).keeps_addend ((row.ends || row.needs_end) || is_skip (rewrite_of row).next) e).0
+
+    itself : (n : ℕ) → counts_none row ≡ true → v ≡ n → Lands row.written (reads_alone w m) place n v
+    itself n e h = lands_as row.written (reads_alone w m) place n v (and_parts (not (change_of row.made).keeps_addend) (is_itself row.written) e).1 h
+
+    taken : (t : ValueTest) → row.value ≡ t → takes_value t q ≡ true
+    taken t e = subst (λ (x : ValueTest). takes_value x q ≡ true) e p.stands.taken.value
+
+    finish : (o : Sort) (n : ℕ) → (instruction_of row).sort ≡ o → is_nop row.made ≡ false → Demands o l w m s r n → n < 2 ^ 64 → Lands row.written (reads_alone w m) place n v
+        → ((a : ℕ) (old : List ℕ) (e : Effect) → demand_of l.machine n a old ≡ Some e → IsDemanded o l s n a old e) → DoesRow l w m s r row
+    finish o n sort acts demands small lands told =
+        does_by laws l w m s i r row v n h p (subst (λ (x : Sort). Demands x l w m s r n) (sym sort) demands) small lands (λ a old. demanded_as row.made n a old acts)
+        (λ a old e k. subst (λ (x : Sort). IsDemanded x l s n a old e) (sym sort) (told a old e k))
+
+    number : (t : ValueTest) (held : Bool) → takes_value t q ≡ (is_own q && (is_known q && held)) → ((rewrite_of row).number ≡ 11) ⊎ ((rewrite_of row).number ≡ 10) → row.value ≡ t → (instruction_of row).sort ≡ AddressInSlot → is_nop row.made ≡ false → not (has_flag q.flags ifunc) ≡ true → counts_none row ≡ true → DoesRow l w m s r row
+    number t held is written takes sort acts plain counts =
+        let x = number_itself laws l w m s i r row v held h p written (none counts) plain (sym is ∙ taken t takes) in
+        finish AddressInSlot x.operand sort acts x.is.target x.is.small (itself x.operand counts x.lands) (λ a old e k. k)
+
+    far : (o : Sort) (x : LandsFar l w m s r row v) → (rewrite_of row).number ≡ 2 → (instruction_of row).sort ≡ o → is_nop row.made ≡ false → Demands o l w m s r x.operand → ((a : ℕ) (old : List ℕ) (e : Effect) → effect_of l.machine (as_value x.operand) a old ≡ Some e → IsDemanded o l s x.operand a old e) → DoesRow l w m s r row
+    far o x written sort acts demands told = finish o x.operand sort acts demands x.is.small (lands_far_as row.written (reads_alone w m) place x.operand v written x.lands) told
+
+    own : (o : Sort) → (instruction_of row).sort ≡ o → row.value ≡ value.Own → is_nop row.made ≡ false → is_executable l.kind ≡ true → (writes r_x86_64_tpoff32 row && counts_none row) ≡ true → ((n : ℕ) → IsOffset l w r.symbol n → Demands o l w m s r n)
+        → ((n a : ℕ) (old : List ℕ) (e : Effect) → demand_of l.machine n a old ≡ Some e → IsDemanded o l s n a old e) → DoesRow l w m s r row
+    own o sort takes acts there so demands told =
+        let f = and_parts (writes r_x86_64_tpoff32 row) (counts_none row) so in
+        let x = own_offset laws l w m s i r row v h p (eqb-true (number_written row.written) r_x86_64_tpoff32 f.0) (none f.1) there (taken value.Own takes) in
+        finish o x.operand sort acts (demands x.operand x.is.offset) x.is.small (itself x.operand f.1 x.lands) (told x.operand)
+
+    slot : (o : Sort) → (instruction_of row).sort ≡ o → is_nop row.made ≡ false → (writes r_x86_64_gottpoff row && counts_ends row) ≡ true → ((n : ℕ) → IsOffset l w r.symbol n → Demands o l w m s r n)
+        → ((n a : ℕ) (old : List ℕ) (e : Effect) → demand_of l.machine n a old ≡ Some e → IsDemanded o l s n a old e) → DoesRow l w m s r row
+    slot o sort acts so demands told =
+        let f = and_parts (writes r_x86_64_gottpoff row) (counts_ends row) so in
+        let x = lands_slot laws l w m s i r row v h p (eqb-true (number_written row.written) r_x86_64_gottpoff f.0) (kept f.1) (ends f.1) in
+        finish o x.operand sort acts (demands x.operand x.is.offset) x.is.small (lands_slot_as row.written (reads_alone w m) place x.operand v (eqb-true (number_written row.written) r_x86_64_gottpoff f.0) x.lands) (told x.operand)
+
+    act : (o : Sort) (t : ValueTest) → (instruction_of row).sort ≡ o → row.value ≡ t → is_nop row.made ≡ false → not (has_flag q.flags ifunc) ≡ true → (is_thread o ≡ true → is_executable l.kind ≡ true) → does_so o t row ≡ true → DoesRow l w m s r row
+    act AddressInSlot value.OwnSigned sort takes acts plain there so = (let f = and_parts (writes r_x86_64_32s row) (counts_none row) so in number value.OwnSigned (is_in_32 Signed q.value) refl (inl (eqb-true (number_written row.written) r_x86_64_32s f.0)) takes sort acts plain f.1)
+    act AddressInSlot value.OwnUnsigned sort takes acts plain there so = (let f = and_parts (writes r_x86_64_32 row) (counts_none row) so in number value.OwnUnsigned (is_in_32 Unsigned q.value) refl (inr (eqb-true (number_written row.written) r_x86_64_32 f.0)) takes sort acts plain f.1)
+    act AddressInSlot value.OwnMoving sort takes acts plain there so =
+        let f = and_parts (writes r_x86_64_pc32 row) (counts_ends row) so in
+        let x = lea_far laws l w m s i r row v h p (eqb-true (number_written row.written) r_x86_64_pc32 f.0) (kept f.1) (ends f.1) plain (taken value.OwnMoving takes) in
+        far AddressInSlot x (eqb-true (number_written row.written) r_x86_64_pc32 f.0) sort acts x.is.target (λ a old e k. k)
+    act AddressInSlot value.OwnFixed sort takes acts plain there so =
+        let f = and_parts (writes r_x86_64_pc32 row) (counts_ends row) so in
+        let x = plain_far laws l w m s i r row v h p (eqb-true (number_written row.written) r_x86_64_pc32 f.0) (kept f.1) (ends f.1) plain (taken value.OwnFixed takes) in
+        far AddressInSlot x (eqb-true (number_written row.written) r_x86_64_pc32 f.0) sort acts x.is.target (λ a old e k. k)
+    act TargetInSlot value.Own sort takes acts plain there so =
+        let f = and_parts (writes r_x86_64_pc32 row) (counts_ends row) so in
+        let x = lands_far laws l w m s i r row v h p (eqb-true (number_written row.written) r_x86_64_pc32 f.0) (kept f.1) (ends f.1) (not-true (interposable q.flags) (taken value.Own takes)) (not-true (has_flag q.flags ifunc) plain) (λ movable abs. asked sort movable abs) in
+        far TargetInSlot x (eqb-true (number_written row.written) r_x86_64_pc32 f.0) sort acts x.is.goal (λ a old e k. k)
+    act OffsetInSlot value.Own sort takes acts plain there so = own OffsetInSlot sort takes acts (there refl) so (λ n k. k) (λ n a old e k. k)
+    act SymbolPair value.Own sort takes acts plain there so = own SymbolPair sort takes acts (there refl) so (λ n k. k) (λ n a old e k. k)
+    act Described value.Own sort takes acts plain there so = own Described sort takes acts (there refl) so (λ n k. inl (mode (ap is_thread sort), k)) (λ n a old e k. k)
+    act SymbolPair value.Interposable sort takes acts plain there so = slot SymbolPair sort acts so (λ n k. k) (λ n a old e k. k)
+    act Described value.Interposable sort takes acts plain there so = slot Described sort acts so (λ n k. inl (mode (ap is_thread sort), k)) (λ n a old e k. k)
+    act OwnPair value.Any sort takes acts plain there so = finish OwnPair 0 sort acts (own_base l w h.x86 (there refl)) (omega arith) (lands_start row.written (reads_alone w m) place v (eqb-true (number_written row.written) r_x86_64_none so)) (λ a old e k. k)
+    act o t sort takes acts plain there so = cc
+
+    call_sort : (o : Sort) → is_call o ≡ true → o ≡ DescribedCall
+    call_sort DescribedCall e = refl
+    call_sort other e = cc
+
+    left_out : is_call (instruction_of row).sort ≡ true → DoesRow l w m s r row
+    left_out call =
+        let sort = call_sort (instruction_of row).sort call in
+        let f = and_parts (is_nop row.made) (writes r_x86_64_none row) (rw call at well.1) in
+        record {
+          value = 0;
+          demands = subst (λ (x : Sort). Demands x l w m s r 0) (sym sort) refl;
+          code = record {
+            effect = no_effect;
+            demanded = subst (λ (x : Sort). IsDemanded x l s 0 (place_at w s (template_start row r)) (old_bytes s (template_start row r) (instruction_of row)) no_effect) (sym sort) (inl (mode (ap is_thread sort), refl));
+            bytes = template_of row v (old_of s row r);
+            whole = whole_is l w m s i r row v h p;
+            held = h.item.rewritten i r row v p.has;
+            does = on_machine l.machine (reads_alone w m) (place_at w s (template_start row r)) (template_of row v (old_of s row r)) h.x86 ∙ (effect_kept laws l w m s i r row v 0 (place_at w s (template_start row r)) h p (omega arith) (lands_start row.written (reads_alone w m) place v (eqb-true (number_written row.written) r_x86_64_none f.1)) ∙ demanded_none row.made 0 (place_at w s (template_start row r)) (old_of s row r) f.0);
+          };
+        }
+
+    by : (is_call (instruction_of row).sort ≡ true) ⊎ (is_call (instruction_of row).sort ≡ false) → DoesRow l w m s r row
+    by (inl call) = left_out call
+    by (inr other) =
+        let f = and_parts (not (is_nop row.made)) (is_plain row.symbol && does_so (instruction_of row).sort row.value row) (rw other at well.1) in
+        let g = and_parts (is_plain row.symbol) (does_so (instruction_of row).sort row.value row) f.1 in
+        let plain : not (has_flag q.flags ifunc) ≡ true = (let e = plain_taken row.symbol q g.0 p.stands.taken.symbol in rw e refl) in
+        act (instruction_of row).sort row.value refl refl (not-true (is_nop row.made) f.0) plain program g.1

@@ -71,7 +71,7 @@ abbrev pub old_of : Item → Row → InputRelocation → List ℕ
 old_of s row r = slice_range s.bytes (template_start row r) (template_start row r + pattern_size row)
 
 -- the effect of what is written, at the row's bytes
-pub effect_kept : LawsBelow → (l : Layout) (w : World) (m : Memory) (s : Item) (i : ℕ) (r : InputRelocation) (row : Row) (v n a : ℕ) → IsLoadedItem l w m s → IsPlacedRow l s i r row v → n < 2 ^ 64 → Lands row (reads_alone w m) (a + field_in row) n v → effect_x86_64 (reads_alone w m) a (template_of row v (old_of s row r)) ≡ demanded row n a (old_of s row r)
+pub effect_kept : LawsBelow → (l : Layout) (w : World) (m : Memory) (s : Item) (i : ℕ) (r : InputRelocation) (row : Row) (v n a : ℕ) → IsLoadedItem l w m s → IsPlacedRow l s i r row v → n < 2 ^ 64 → Lands row.written (reads_alone w m) (a + field_in row) n v → effect_x86_64 (reads_alone w m) a (template_of row v (old_of s row r)) ≡ demanded row.made n a (old_of s row r)
 effect_kept laws l w m s i r row v n a h p small lands =
     let x = p.made.written in
     let known = info_is l w m s i r row v h p in
@@ -91,8 +91,8 @@ pub whole_is : (l : Layout) (w : World) (m : Memory) (s : Item) (i : ℕ) (r : I
 whole_is l w m s i r row v h p = length-template row p.made.written.info v (old_of s row r) (lies_in l s i r row v p) (info_is l w m s i r row v h p) p.whole.long ∙ sym (size_is l s i r row v p)
 
 -- with an operand that lands it does what is demanded, where that is an effect of the input's bytes
-pub does_by : LawsBelow → (l : Layout) (w : World) (m : Memory) (s : Item) (i : ℕ) (r : InputRelocation) (row : Row) (v n : ℕ) → IsLoadedItem l w m s → IsPlacedRow l s i r row v → Demands (instruction_of row).sort l w m s r n → n < 2 ^ 64 → Lands row (reads_alone w m) (place_at w s (template_start row r) + field_in row) n v
-    → ((a : ℕ) (old : List ℕ) → demanded row n a old ≡ demand_x86_64 n a old) → ((a : ℕ) (old : List ℕ) (e : Effect) → demand_of l.machine n a old ≡ Some e → IsDemanded (instruction_of row).sort l s n a old e) → DoesDemanded (reads_alone w m) l w m s r (template_start row r) (instruction_of row)
+pub does_by : LawsBelow → (l : Layout) (w : World) (m : Memory) (s : Item) (i : ℕ) (r : InputRelocation) (row : Row) (v n : ℕ) → IsLoadedItem l w m s → IsPlacedRow l s i r row v → Demands (instruction_of row).sort l w m s r n → n < 2 ^ 64 → Lands row.written (reads_alone w m) (place_at w s (template_start row r) + field_in row) n v
+    → ((a : ℕ) (old : List ℕ) → demanded row.made n a old ≡ demand_x86_64 n a old) → ((a : ℕ) (old : List ℕ) (e : Effect) → demand_of l.machine n a old ≡ Some e → IsDemanded (instruction_of row).sort l s n a old e) → DoesDemanded (reads_alone w m) l w m s r (template_start row r) (instruction_of row)
 does_by laws l w m s i r row v n h p demands small lands same told =
     let a = place_at w s (template_start row r) in
     let old = old_is l s i r row v p in

@@ -8,7 +8,7 @@ use Rattle.wild_types.specs.declared.layout.Layout.{Layout}
 use Rattle.wild_reloc.specs.Formula.{Value, Formula, SymbolAddress, SymbolPart, Distance, PageDistance, FromTable, ModuleOffset, PointerOffset}
 use Rattle.wild_reloc.specs.FormulaX86_64.{x86_64_formula}
 use Rattle.wild_relax.specs.declared.row.Row.{Row}
-use Rattle.wild_relax.specs.Rows.{rows_x86_64, number_of}
+use Rattle.wild_relax.specs.Rows.{rows_x86_64}
 use Rattle.wild_layout.proofs.ChoiceLemmas.{chosen_listed}
 use Rattle.wild_layout.proofs.DecisionLemmas.{decide_rewritten}
 use Rattle.wild_meaning.specs.Field.{formula_of}
@@ -34,10 +34,10 @@ by_indirect (Some f) = is_indirect f.value
 
 -- so it is of each row but that of a type which is not rewritten
 abbrev row_indirect : Row → Bool
-row_indirect row = number_of row == r_x86_64_pc32 || by_indirect (x86_64_formula (number_of row))
+row_indirect row = row.number == r_x86_64_pc32 || by_indirect (x86_64_formula row.number)
 
 each_indirect : list_all row_indirect rows_x86_64 ≡ true
-unfolding x86_64_formula
+unfolding x86_64_formula rows_x86_64
 each_indirect = refl
 
 other_of : (a b : Bool) → (a || b) ≡ true → a ≡ false → b ≡ true
@@ -66,8 +66,8 @@ rewritten_followed l s i r row v has alone =
     let made = decide_rewritten l s i r row v has.listed has.decided in
     let c = made.chosen in
     let listed = chosen_listed l s r (slice_get s.relocations (i + 1)) row c row_indirect each_indirect in
-    let other : (number_of row == r_x86_64_pc32) ≡ false = subst (λ (n : ℕ). (n == r_x86_64_pc32) ≡ false) c.number c.other in
-    let here : formula_of l.machine (number_of row) ≡ Some alone.formula = subst (λ (n : ℕ). formula_of l.machine n ≡ Some alone.formula) c.number alone.known in
-    let known : x86_64_formula (number_of row) ≡ Some alone.formula = subst (λ (k : Machine). formula_of k (number_of row) ≡ Some alone.formula) c.machine here in
+    let other : (row.number == r_x86_64_pc32) ≡ false = subst (λ (n : ℕ). (n == r_x86_64_pc32) ≡ false) c.number c.other in
+    let here : formula_of l.machine row.number ≡ Some alone.formula = subst (λ (n : ℕ). formula_of l.machine n ≡ Some alone.formula) c.number alone.known in
+    let known : x86_64_formula row.number ≡ Some alone.formula = subst (λ (k : Machine). formula_of k row.number ≡ Some alone.formula) c.machine here in
     let indirect = other_of _ _ listed other in
     takes_none l s alone.symbol alone.formula (subst (λ (o : Option Formula). by_indirect o ≡ true) known indirect) alone.takes

@@ -1,6 +1,7 @@
 -- The instruction that the reader knows for each row: where the pattern of the row stands, the instruction does.
-use Rattle.std.proofs.Common.{◌≡◌, ℕ, Bool, true, false, List, [], ◌∷◌, length, refl, arith, subst}
-use Rattle.std.specs.Prelude.{◌&&◌, ◌||◌, ◌==◌, nat_le, Contains}
+use Rattle.std.proofs.Common.{◌≡◌, ℕ, Bool, true, false, List, [], ◌∷◌, length, inl, inr, refl, sym, arith, subst}
+use Rattle.std.specs.Prelude.{◌&&◌, ◌||◌, ◌==◌, nat_le, Contains, Option, Some, None, is_some, if◌then◌else◌}
+use Rattle.std.specs.List.{list_all}
 use Rattle.std.proofs.lemmas.Bool.{eqb-true, and_parts}
 use Rattle.std.proofs.lemmas.Bool.Decides.{nat_tests}
 use Rattle.wild_records.specs.Abi.Relocation as abi
@@ -13,10 +14,12 @@ use Rattle.wild_relax.specs.declared.pattern.LocalForm.TheVariants as local
 use Rattle.wild_relax.specs.declared.pattern.Cell.{Cell}
 use Rattle.wild_relax.specs.declared.pattern.Cell.TheVariants as cells
 use Rattle.wild_relax.specs.declared.row.Row.{Row}
-use Rattle.wild_relax.specs.declared.row.Row.TheVariants.{IfuncThroughStub, RexGotToImmediate, RexGotMovToLea, GotMovToImmediate, GotMovToLea, IndirectCallToDirect, IndirectJumpToDirect, PlainGotMovToLea, InitialExecToLocalExec, Plt32ToPc32, PltOffToGotOff, GeneralDynamicToLocalExec, GeneralDynamicToInitialExec, LocalDynamicToLocalExec, DescriptorLea, DescriptorCall}
 use Rattle.wild_relax.specs.Pattern as writer
-use Rattle.wild_relax.specs.Rows.{number_of}
-use Rattle.wild_relax.specs.Linked.{pattern_of, IsChanging}
+use Rattle.wild_relax.specs.declared.pattern.Pattern.{Pattern}
+use Rattle.wild_relax.specs.declared.pattern.Pattern.TheVariants as pattern
+use Rattle.wild_relax.specs.Rows.{rows_x86_64}
+use Rattle.wild_relax.specs.Linked.{pattern_of, keeps_bytes, IsChanging}
+use Rattle.wild_words.proofs.Basics.{or_other, listed_passes}
 use Rattle.wild_loader.specs.Instruction as judge
 use Rattle.wild_loader.specs.declared.instruction.Cell as judge-cell
 use Rattle.wild_loader.specs.declared.instruction.Cell.TheVariants as judge-cells
@@ -26,7 +29,7 @@ use Rattle.wild_loader.specs.Instruction.{Template}
 use Rattle.wild_loader.specs.CodeX86_64.{Prefix, bare, rex, rex2, with_slot, branch}
 use Rattle.wild_loader.specs.ThreadCodeX86_64.{general_call, general_slot_call, far_pair_call, local_call, local_slot_call}
 use Rattle.wild_loader.specs.InstructionX86_64.{descriptor_call, templates_x86_64}
-use Rattle.wild_meaning.specs.Sequence.{Instruction, any_words, TargetInSlot, AddressInSlot, OffsetInSlot, SymbolPair, OwnPair, Described, DescribedCall, of_field, of_sequence, of_output, of_symbol, by_call, by_slot, by_distance, instructions_of}
+use Rattle.wild_meaning.specs.Sequence.{Instruction, any_words, TargetInSlot, AddressInSlot, OffsetInSlot, SymbolPair, OwnPair, Described, DescribedCall, of_field, of_sequence, of_output, of_symbol, by_call, by_slot, by_distance, instructions_of, Sort}
 
 -- ---- cells
 
@@ -107,79 +110,83 @@ form_of operation.Add = with_slot 0x03 Word Add
 abbrev pub the_call : Instruction
 the_call = record { template = descriptor_call; words = any_words; field = 0; width = 0; sort = DescribedCall; numbers = abi.r_x86_64_tlsdesc_call ∷ []; partners = []; conditions = [] }
 
--- the instruction of a row; one that keeps the bytes around its field has none
+-- what reads a slot is about an address, or by its relocation type about an offset from the thread pointer
+abbrev slot_sort : ℕ → Sort
+slot_sort n = if n == abi.r_x86_64_gottpoff || n == abi.r_x86_64_code_4_gottpoff then OffsetInSlot else AddressInSlot
+
+-- the instruction of a pattern, at a relocation type
+abbrev pub instruction_by : Pattern → ℕ → Instruction
+instruction_by (pattern.Wide Rex o) n = of_field (form_of o rex) 3 (slot_sort n) (n ∷ [])
+instruction_by (pattern.Wide Rex2 o) n = of_field (form_of o rex2) 4 (slot_sort n) (n ∷ [])
+instruction_by pattern.Mov n = of_field (with_slot 0x8b Word Set bare) 2 AddressInSlot (n ∷ [])
+instruction_by pattern.Call n = of_field (branch (0xff ∷ 0x15 ∷ []) Word Call) 2 TargetInSlot (abi.r_x86_64_gotpcrel ∷ abi.r_x86_64_gotpcrelx ∷ [])
+instruction_by pattern.Jump n = of_field (branch (0xff ∷ 0x25 ∷ []) Word Jump) 2 TargetInSlot (abi.r_x86_64_gotpcrel ∷ abi.r_x86_64_gotpcrelx ∷ [])
+instruction_by (pattern.General general.Regular) n = of_sequence general_call 4 SymbolPair abi.r_x86_64_tlsgd of_symbol (by_call 12)
+instruction_by (pattern.General general.NoPlt) n = of_sequence general_slot_call 4 SymbolPair abi.r_x86_64_tlsgd of_symbol (by_slot 12)
+instruction_by (pattern.General general.Large) n = of_sequence far_pair_call 3 SymbolPair abi.r_x86_64_tlsgd of_symbol (by_distance 9)
+instruction_by (pattern.Local local.Regular) n = of_sequence local_call 3 OwnPair abi.r_x86_64_tlsld of_output (by_call 8)
+instruction_by (pattern.Local local.NoPlt) n = of_sequence local_slot_call 3 OwnPair abi.r_x86_64_tlsld of_output (by_slot 9)
+instruction_by (pattern.Local local.Large) n = of_sequence far_pair_call 3 OwnPair abi.r_x86_64_tlsld of_output (by_distance 9)
+instruction_by (pattern.Lea Rex) n = of_field (with_slot 0x8d Number Set rex) 3 Described (n ∷ [])
+instruction_by (pattern.Lea Rex2) n = of_field (with_slot 0x8d Number Set rex2) 4 Described (n ∷ [])
+instruction_by other n = the_call
+
+-- that of a row; one that keeps the bytes around its field has none
 abbrev pub instruction_of : Row → Instruction
-instruction_of (RexGotToImmediate Rex o) = of_field (form_of o rex) 3 AddressInSlot (abi.r_x86_64_rex_gotpcrelx ∷ [])
-instruction_of (RexGotToImmediate Rex2 o) = of_field (form_of o rex2) 4 AddressInSlot (abi.r_x86_64_code_4_gotpcrelx ∷ [])
-instruction_of (RexGotMovToLea Rex) = of_field (with_slot 0x8b Word Set rex) 3 AddressInSlot (abi.r_x86_64_rex_gotpcrelx ∷ [])
-instruction_of (RexGotMovToLea Rex2) = of_field (with_slot 0x8b Word Set rex2) 4 AddressInSlot (abi.r_x86_64_code_4_gotpcrelx ∷ [])
-instruction_of GotMovToImmediate = of_field (with_slot 0x8b Word Set bare) 2 AddressInSlot (abi.r_x86_64_gotpcrelx ∷ [])
-instruction_of GotMovToLea = of_field (with_slot 0x8b Word Set bare) 2 AddressInSlot (abi.r_x86_64_gotpcrelx ∷ [])
-instruction_of IndirectCallToDirect = of_field (branch (0xff ∷ 0x15 ∷ []) Word Call) 2 TargetInSlot (abi.r_x86_64_gotpcrel ∷ abi.r_x86_64_gotpcrelx ∷ [])
-instruction_of IndirectJumpToDirect = of_field (branch (0xff ∷ 0x25 ∷ []) Word Jump) 2 TargetInSlot (abi.r_x86_64_gotpcrel ∷ abi.r_x86_64_gotpcrelx ∷ [])
-instruction_of PlainGotMovToLea = of_field (with_slot 0x8b Word Set rex) 3 AddressInSlot (abi.r_x86_64_gotpcrel ∷ [])
-instruction_of (InitialExecToLocalExec Rex o) = of_field (form_of o rex) 3 OffsetInSlot (abi.r_x86_64_gottpoff ∷ [])
-instruction_of (InitialExecToLocalExec Rex2 o) = of_field (form_of o rex2) 4 OffsetInSlot (abi.r_x86_64_code_4_gottpoff ∷ [])
-instruction_of (GeneralDynamicToLocalExec general.Regular) = of_sequence general_call 4 SymbolPair abi.r_x86_64_tlsgd of_symbol (by_call 12)
-instruction_of (GeneralDynamicToLocalExec general.NoPlt) = of_sequence general_slot_call 4 SymbolPair abi.r_x86_64_tlsgd of_symbol (by_slot 12)
-instruction_of (GeneralDynamicToLocalExec general.Large) = of_sequence far_pair_call 3 SymbolPair abi.r_x86_64_tlsgd of_symbol (by_distance 9)
-instruction_of (GeneralDynamicToInitialExec general.Regular) = of_sequence general_call 4 SymbolPair abi.r_x86_64_tlsgd of_symbol (by_call 12)
-instruction_of (GeneralDynamicToInitialExec general.NoPlt) = of_sequence general_slot_call 4 SymbolPair abi.r_x86_64_tlsgd of_symbol (by_slot 12)
-instruction_of (LocalDynamicToLocalExec local.Regular) = of_sequence local_call 3 OwnPair abi.r_x86_64_tlsld of_output (by_call 8)
-instruction_of (LocalDynamicToLocalExec local.NoPlt) = of_sequence local_slot_call 3 OwnPair abi.r_x86_64_tlsld of_output (by_slot 9)
-instruction_of (LocalDynamicToLocalExec local.Large) = of_sequence far_pair_call 3 OwnPair abi.r_x86_64_tlsld of_output (by_distance 9)
-instruction_of (DescriptorLea Rex u) = of_field (with_slot 0x8d Number Set rex) 3 Described (abi.r_x86_64_gotpc32_tlsdesc ∷ [])
-instruction_of (DescriptorLea Rex2 u) = of_field (with_slot 0x8d Number Set rex2) 4 Described (abi.r_x86_64_code_4_gotpc32_tlsdesc ∷ [])
-instruction_of other = the_call
+instruction_of row = instruction_by (pattern_of row) row.number
 
--- the table has such a row
-abbrev pub is_listed : Row → Bool
-is_listed (InitialExecToLocalExec p operation.Sub) = false
-is_listed (InitialExecToLocalExec p operation.Cmp) = false
-is_listed other = true
+-- what is known of it: the reader has it, where the pattern stands
+pub record InstructionFits (p : Pattern) (n : ℕ) : Type 0 where
+  pub known : Contains (instructions_of machine.X86_64) (instruction_by p n)
+  pub template : Contains templates_x86_64 (instruction_by p n).template
+  pub number : Contains (instruction_by p n).numbers n
+  pub field : (instruction_by p n).field ≡ writer.field_of p
+  pub covers : covers_all (writer.cells_of p) (instruction_by p n).template.cells ≡ true
 
--- what is known of a row beside its instruction
-pub record RowFits (row : Row) : Type 0 where
-  pub known : Contains (instructions_of machine.X86_64) (instruction_of row)
-  pub template : Contains templates_x86_64 (instruction_of row).template
-  pub number : Contains (instruction_of row).numbers (number_of row)
-  pub field : (instruction_of row).field ≡ writer.field_of (pattern_of row)
-  pub covers : covers_all (writer.cells_of (pattern_of row)) (instruction_of row).template.cells ≡ true
+abbrev pub RowFits : Row → Type 0
+RowFits row = InstructionFits (pattern_of row) row.number
 
-pub row_fits : (row : Row) → IsChanging row → is_listed row ≡ true → RowFits row
-row_fits IfuncThroughStub c h = absurd c
-row_fits (RexGotToImmediate Rex operation.Mov) c h = record { known = (8, omega arith, refl); template = (21, omega arith, refl); number = (0, omega arith, refl); field = refl; covers = refl }
-row_fits (RexGotToImmediate Rex operation.Add) c h = record { known = (9, omega arith, refl); template = (22, omega arith, refl); number = (0, omega arith, refl); field = refl; covers = refl }
-row_fits (RexGotToImmediate Rex operation.Sub) c h = record { known = (10, omega arith, refl); template = (23, omega arith, refl); number = (0, omega arith, refl); field = refl; covers = refl }
-row_fits (RexGotToImmediate Rex operation.Cmp) c h = record { known = (11, omega arith, refl); template = (24, omega arith, refl); number = (0, omega arith, refl); field = refl; covers = refl }
-row_fits (RexGotToImmediate Rex2 operation.Mov) c h = record { known = (12, omega arith, refl); template = (12, omega arith, refl); number = (0, omega arith, refl); field = refl; covers = refl }
-row_fits (RexGotToImmediate Rex2 operation.Add) c h = record { known = (13, omega arith, refl); template = (13, omega arith, refl); number = (0, omega arith, refl); field = refl; covers = refl }
-row_fits (RexGotToImmediate Rex2 operation.Sub) c h = record { known = (14, omega arith, refl); template = (14, omega arith, refl); number = (0, omega arith, refl); field = refl; covers = refl }
-row_fits (RexGotToImmediate Rex2 operation.Cmp) c h = record { known = (15, omega arith, refl); template = (15, omega arith, refl); number = (0, omega arith, refl); field = refl; covers = refl }
-row_fits (RexGotMovToLea Rex) c h = record { known = (8, omega arith, refl); template = (21, omega arith, refl); number = (0, omega arith, refl); field = refl; covers = refl }
-row_fits (RexGotMovToLea Rex2) c h = record { known = (12, omega arith, refl); template = (12, omega arith, refl); number = (0, omega arith, refl); field = refl; covers = refl }
-row_fits GotMovToImmediate c h = record { known = (4, omega arith, refl); template = (30, omega arith, refl); number = (0, omega arith, refl); field = refl; covers = refl }
-row_fits GotMovToLea c h = record { known = (4, omega arith, refl); template = (30, omega arith, refl); number = (0, omega arith, refl); field = refl; covers = refl }
-row_fits IndirectCallToDirect c h = record { known = (2, omega arith, refl); template = (40, omega arith, refl); number = (1, omega arith, refl); field = refl; covers = refl }
-row_fits IndirectJumpToDirect c h = record { known = (3, omega arith, refl); template = (41, omega arith, refl); number = (1, omega arith, refl); field = refl; covers = refl }
-row_fits PlainGotMovToLea c h = record { known = (20, omega arith, refl); template = (21, omega arith, refl); number = (0, omega arith, refl); field = refl; covers = refl }
-row_fits (InitialExecToLocalExec Rex operation.Mov) c h = record { known = (16, omega arith, refl); template = (21, omega arith, refl); number = (0, omega arith, refl); field = refl; covers = refl }
-row_fits (InitialExecToLocalExec Rex operation.Add) c h = record { known = (17, omega arith, refl); template = (22, omega arith, refl); number = (0, omega arith, refl); field = refl; covers = refl }
-row_fits (InitialExecToLocalExec Rex2 operation.Mov) c h = record { known = (18, omega arith, refl); template = (12, omega arith, refl); number = (0, omega arith, refl); field = refl; covers = refl }
-row_fits (InitialExecToLocalExec Rex2 operation.Add) c h = record { known = (19, omega arith, refl); template = (13, omega arith, refl); number = (0, omega arith, refl); field = refl; covers = refl }
-row_fits (InitialExecToLocalExec p operation.Sub) c h = cc
-row_fits (InitialExecToLocalExec p operation.Cmp) c h = cc
-row_fits Plt32ToPc32 c h = absurd c
-row_fits PltOffToGotOff c h = absurd c
-row_fits (GeneralDynamicToLocalExec general.Regular) c h = record { known = (25, omega arith, refl); template = (3, omega arith, refl); number = (0, omega arith, refl); field = refl; covers = refl }
-row_fits (GeneralDynamicToLocalExec general.NoPlt) c h = record { known = (26, omega arith, refl); template = (4, omega arith, refl); number = (0, omega arith, refl); field = refl; covers = refl }
-row_fits (GeneralDynamicToLocalExec general.Large) c h = record { known = (27, omega arith, refl); template = (0, omega arith, refl); number = (0, omega arith, refl); field = refl; covers = refl }
-row_fits (GeneralDynamicToInitialExec general.Regular) c h = record { known = (25, omega arith, refl); template = (3, omega arith, refl); number = (0, omega arith, refl); field = refl; covers = refl }
-row_fits (GeneralDynamicToInitialExec general.NoPlt) c h = record { known = (26, omega arith, refl); template = (4, omega arith, refl); number = (0, omega arith, refl); field = refl; covers = refl }
-row_fits (GeneralDynamicToInitialExec general.Large) c h = absurd c
-row_fits (LocalDynamicToLocalExec local.Regular) c h = record { known = (28, omega arith, refl); template = (10, omega arith, refl); number = (0, omega arith, refl); field = refl; covers = refl }
-row_fits (LocalDynamicToLocalExec local.NoPlt) c h = record { known = (29, omega arith, refl); template = (8, omega arith, refl); number = (0, omega arith, refl); field = refl; covers = refl }
-row_fits (LocalDynamicToLocalExec local.Large) c h = record { known = (30, omega arith, refl); template = (0, omega arith, refl); number = (0, omega arith, refl); field = refl; covers = refl }
-row_fits (DescriptorLea Rex u) c h = record { known = (22, omega arith, refl); template = (25, omega arith, refl); number = (0, omega arith, refl); field = refl; covers = refl }
-row_fits (DescriptorLea Rex2 u) c h = record { known = (23, omega arith, refl); template = (16, omega arith, refl); number = (0, omega arith, refl); field = refl; covers = refl }
-row_fits DescriptorCall c h = record { known = (24, omega arith, refl); template = (44, omega arith, refl); number = (0, omega arith, refl); field = refl; covers = refl }
+-- what a test that passes gives, else another
+abbrev pub where_so : {X : Type 0} → (b : Bool) → (b ≡ true → X) → Option X → Option X
+where_so true f other = Some (f refl)
+where_so false f other = other
+
+abbrev at : (p : Pattern) (k : ℕ) → InstructionFits p k → (n : ℕ) → Option (InstructionFits p n) → Option (InstructionFits p n)
+at p k fits n other = where_so (n == k) (λ t. subst (InstructionFits p) (sym (eqb-true n k t)) fits) other
+
+abbrev fits_by : (p : Pattern) (n : ℕ) → Option (InstructionFits p n)
+fits_by (pattern.Wide Rex operation.Mov) n = at (pattern.Wide Rex operation.Mov) abi.r_x86_64_rex_gotpcrelx (record { known = (8, omega arith, refl); template = (21, omega arith, refl); number = (0, omega arith, refl); field = refl; covers = refl }) n (at (pattern.Wide Rex operation.Mov) abi.r_x86_64_gottpoff (record { known = (16, omega arith, refl); template = (21, omega arith, refl); number = (0, omega arith, refl); field = refl; covers = refl }) n (at (pattern.Wide Rex operation.Mov) abi.r_x86_64_gotpcrel (record { known = (20, omega arith, refl); template = (21, omega arith, refl); number = (0, omega arith, refl); field = refl; covers = refl }) n None))
+fits_by (pattern.Wide Rex operation.Add) n = at (pattern.Wide Rex operation.Add) abi.r_x86_64_gottpoff (record { known = (17, omega arith, refl); template = (22, omega arith, refl); number = (0, omega arith, refl); field = refl; covers = refl }) n None
+fits_by (pattern.Wide Rex operation.Sub) n = at (pattern.Wide Rex operation.Sub) abi.r_x86_64_rex_gotpcrelx (record { known = (10, omega arith, refl); template = (23, omega arith, refl); number = (0, omega arith, refl); field = refl; covers = refl }) n None
+fits_by (pattern.Wide Rex operation.Cmp) n = at (pattern.Wide Rex operation.Cmp) abi.r_x86_64_rex_gotpcrelx (record { known = (11, omega arith, refl); template = (24, omega arith, refl); number = (0, omega arith, refl); field = refl; covers = refl }) n None
+fits_by (pattern.Wide Rex2 operation.Mov) n = at (pattern.Wide Rex2 operation.Mov) abi.r_x86_64_code_4_gotpcrelx (record { known = (12, omega arith, refl); template = (12, omega arith, refl); number = (0, omega arith, refl); field = refl; covers = refl }) n (at (pattern.Wide Rex2 operation.Mov) abi.r_x86_64_code_4_gottpoff (record { known = (18, omega arith, refl); template = (12, omega arith, refl); number = (0, omega arith, refl); field = refl; covers = refl }) n None)
+fits_by (pattern.Wide Rex2 operation.Add) n = at (pattern.Wide Rex2 operation.Add) abi.r_x86_64_code_4_gottpoff (record { known = (19, omega arith, refl); template = (13, omega arith, refl); number = (0, omega arith, refl); field = refl; covers = refl }) n None
+fits_by (pattern.Wide Rex2 operation.Sub) n = at (pattern.Wide Rex2 operation.Sub) abi.r_x86_64_code_4_gotpcrelx (record { known = (14, omega arith, refl); template = (14, omega arith, refl); number = (0, omega arith, refl); field = refl; covers = refl }) n None
+fits_by (pattern.Wide Rex2 operation.Cmp) n = at (pattern.Wide Rex2 operation.Cmp) abi.r_x86_64_code_4_gotpcrelx (record { known = (15, omega arith, refl); template = (15, omega arith, refl); number = (0, omega arith, refl); field = refl; covers = refl }) n None
+fits_by pattern.Mov n = at pattern.Mov abi.r_x86_64_gotpcrelx (record { known = (4, omega arith, refl); template = (30, omega arith, refl); number = (0, omega arith, refl); field = refl; covers = refl }) n None
+fits_by pattern.Call n = at pattern.Call abi.r_x86_64_gotpcrelx (record { known = (2, omega arith, refl); template = (40, omega arith, refl); number = (1, omega arith, refl); field = refl; covers = refl }) n None
+fits_by pattern.Jump n = at pattern.Jump abi.r_x86_64_gotpcrelx (record { known = (3, omega arith, refl); template = (41, omega arith, refl); number = (1, omega arith, refl); field = refl; covers = refl }) n None
+fits_by (pattern.General general.Regular) n = at (pattern.General general.Regular) abi.r_x86_64_tlsgd (record { known = (25, omega arith, refl); template = (3, omega arith, refl); number = (0, omega arith, refl); field = refl; covers = refl }) n None
+fits_by (pattern.General general.NoPlt) n = at (pattern.General general.NoPlt) abi.r_x86_64_tlsgd (record { known = (26, omega arith, refl); template = (4, omega arith, refl); number = (0, omega arith, refl); field = refl; covers = refl }) n None
+fits_by (pattern.General general.Large) n = at (pattern.General general.Large) abi.r_x86_64_tlsgd (record { known = (27, omega arith, refl); template = (0, omega arith, refl); number = (0, omega arith, refl); field = refl; covers = refl }) n None
+fits_by (pattern.Local local.Regular) n = at (pattern.Local local.Regular) abi.r_x86_64_tlsld (record { known = (28, omega arith, refl); template = (10, omega arith, refl); number = (0, omega arith, refl); field = refl; covers = refl }) n None
+fits_by (pattern.Local local.NoPlt) n = at (pattern.Local local.NoPlt) abi.r_x86_64_tlsld (record { known = (29, omega arith, refl); template = (8, omega arith, refl); number = (0, omega arith, refl); field = refl; covers = refl }) n None
+fits_by (pattern.Local local.Large) n = at (pattern.Local local.Large) abi.r_x86_64_tlsld (record { known = (30, omega arith, refl); template = (0, omega arith, refl); number = (0, omega arith, refl); field = refl; covers = refl }) n None
+fits_by (pattern.Lea Rex) n = at (pattern.Lea Rex) abi.r_x86_64_gotpc32_tlsdesc (record { known = (22, omega arith, refl); template = (25, omega arith, refl); number = (0, omega arith, refl); field = refl; covers = refl }) n None
+fits_by (pattern.Lea Rex2) n = at (pattern.Lea Rex2) abi.r_x86_64_code_4_gotpc32_tlsdesc (record { known = (23, omega arith, refl); template = (16, omega arith, refl); number = (0, omega arith, refl); field = refl; covers = refl }) n None
+fits_by pattern.DescriptorCall n = at pattern.DescriptorCall abi.r_x86_64_tlsdesc_call (record { known = (24, omega arith, refl); template = (44, omega arith, refl); number = (0, omega arith, refl); field = refl; covers = refl }) n None
+fits_by other n = None
+
+abbrev is_known : Row → Bool
+is_known row = keeps_bytes row || is_some (fits_by (pattern_of row) row.number)
+
+each_is_known : list_all is_known rows_x86_64 ≡ true
+unfolding rows_x86_64
+each_is_known = refl
+
+pub some_of : {X : Type 0} (o : Option X) → is_some o ≡ true → X
+some_of None h = cc
+some_of (Some x) h = x
+
+pub row_fits : (row : Row) → IsChanging row → RowFits row
+row_fits row c = some_of (fits_by (pattern_of row) row.number) (or_other (keeps_bytes row) _ (listed_passes is_known rows_x86_64 row each_is_known c.listed) c.changes)

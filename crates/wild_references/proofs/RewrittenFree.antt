@@ -17,7 +17,7 @@ use Rattle.wild_relax.specs.declared.row.Row.{Row}
 use Rattle.wild_relax.specs.Question.{Question}
 use Rattle.wild_relax.specs.First.{first_standing}
 use Rattle.wild_relax.specs.RowSequences.{is_call_number, call_form, has_its_sequence}
-use Rattle.wild_relax.specs.Rows.{rows_x86_64, number_of, applies, unknown_sequence, standing_x86_64, chosen_x86_64}
+use Rattle.wild_relax.specs.Rows.{rows_x86_64, applies, unknown_sequence, standing_x86_64, chosen_x86_64}
 use Rattle.wild_relax.specs.Rewrite.{is_skip}
 use Rattle.wild_relax.specs.RewriteX86_64.{rewrite_of}
 use Rattle.wild_layout.specs.Choice.{question_of, choice_of, is_partner}
@@ -56,9 +56,10 @@ abbrev pub is_first : ℕ → Bool
 is_first n = n == abi.r_x86_64_tlsgd || n == abi.r_x86_64_tlsld
 
 abbrev pub takes_it : Row → Bool
-takes_it row = not (is_first (number_of row)) || is_skip (rewrite_of row).next
+takes_it row = not (is_first row.number) || is_skip (rewrite_of row).next
 
 pub each_takes : list_all takes_it rows_x86_64 ≡ true
+unfolding rows_x86_64
 each_takes = refl
 
 -- no call has one
@@ -107,7 +108,7 @@ takes_call l s j k r w n x86 decided listed named h lt e stands =
       | inl chosen ↦
           (let is : choice_of l s r next ≡ Ok (Some x.0) = choice ∙ chosen in
           let c = choice_row l s r next x.0 is in
-          let number : is_first (number_of x.0) ≡ true = subst (λ (y : ℕ). is_first y ≡ true) c.number h in
+          let number : is_first x.0.number ≡ true = subst (λ (y : ℕ). is_first y ≡ true) c.number h in
           takes_along l s j r x.0 listed is (implied _ _ (chosen_listed l s r next x.0 c takes_it each_takes) number))
       | inr none ↦
           (let d = decided.each j (slice_get_within s.relocations j r listed) in

@@ -1,28 +1,28 @@
 -- The fields of the instruction of a row: its own, and that of the call of a sequence.
 use Rattle.std.proofs.Common.{◌≡◌, ℕ, ◌+◌, inl, inr, Bool, true, false, List, [], ◌∷◌, refl, sym, arith, subst}
-use Rattle.std.specs.Prelude.{◌||◌, ◌==◌, not, Option, Some, None, Contains}
+use Rattle.std.specs.Prelude.{◌||◌, ◌==◌, not, Option, Some, None, is_some, option_map, Contains}
 use Rattle.std.specs.List.{list_all}
 use Rattle.std.proofs.lemmas.Bool.{eqb-true, or_cases}
-use Rattle.wild_words.proofs.Basics.{or_other}
+use Rattle.wild_words.proofs.Basics.{implied, or_other, listed_passes}
 use Rattle.wild_records.specs.Abi.Relocation as abi
 use Rattle.wild_reloc.specs.Formula.{Formula}
 use Rattle.wild_reloc.specs.FormulaX86_64.{x86_64_formula}
 use Rattle.wild_relax.specs.declared.pattern.GeneralForm.{GeneralForm}
 use Rattle.wild_relax.specs.declared.pattern.GeneralForm.TheVariants as general
 use Rattle.wild_relax.specs.declared.pattern.LocalForm.TheVariants as local
-use Rattle.wild_relax.specs.declared.row.DescriptorUse.TheVariants.{LocalExec, InitialExec}
+use Rattle.wild_relax.specs.declared.pattern.Pattern.{Pattern}
+use Rattle.wild_relax.specs.declared.pattern.Pattern.TheVariants as pattern
 use Rattle.wild_relax.specs.declared.row.Row.{Row}
-use Rattle.wild_relax.specs.declared.row.Row.TheVariants.{GeneralDynamicToLocalExec, GeneralDynamicToInitialExec, LocalDynamicToLocalExec, DescriptorLea}
+use Rattle.wild_relax.specs.declared.row.Partner as writer
 use Rattle.wild_relax.specs.Rewrite.{is_skip}
 use Rattle.wild_relax.specs.RewriteX86_64.{rewrite_of}
-use Rattle.wild_relax.specs.RowSequences.{partner_distance, call_form, is_call_number}
-use Rattle.wild_relax.specs.Rows.{rows_x86_64, number_of}
-use Rattle.wild_relax.specs.Linked.{keeps_bytes, IsChanging}
-use Rattle.wild_relax.proofs.EveryRow.{each_row}
+use Rattle.wild_relax.specs.RowSequences.{form_by, is_call_number}
+use Rattle.wild_relax.specs.Rows.{rows_x86_64}
+use Rattle.wild_relax.specs.Linked.{pattern_of, keeps_bytes, IsChanging}
 use Rattle.wild_meaning.specs.Field.{form_width}
-use Rattle.wild_meaning.specs.Sequence.{Partner, by_call, by_slot, by_distance}
+use Rattle.wild_meaning.specs.Sequence.{Instruction, Partner, by_call, by_slot, by_distance}
 use Rattle.wild_meaning.proofs.PairLemmas.{are_several}
-use Rattle.wild_references.proofs.RewrittenForms.{instruction_of}
+use Rattle.wild_references.proofs.RewrittenForms.{instruction_by, instruction_of, where_so, some_of}
 
 -- ---- the own field
 
@@ -35,13 +35,13 @@ is_wide (Some f) n = form_width f.form == n
 
 -- a row that changes bytes has the width of its type
 abbrev pub has_its_width : Row → Bool
-has_its_width row = keeps_bytes row || is_wide (x86_64_formula (number_of row)) (instruction_of row).width
+has_its_width row = keeps_bytes row || is_wide (x86_64_formula row.number) (instruction_of row).width
 
 pub each_has_width : list_all has_its_width rows_x86_64 ≡ true
-unfolding x86_64_formula
+unfolding x86_64_formula rows_x86_64
 each_has_width = refl
 
-pub own_width : (row : Row) (f : Formula) → has_its_width row ≡ true → keeps_bytes row ≡ false → x86_64_formula (number_of row) ≡ Some f → form_width f.form ≡ (instruction_of row).width
+pub own_width : (row : Row) (f : Formula) → has_its_width row ≡ true → keeps_bytes row ≡ false → x86_64_formula row.number ≡ Some f → form_width f.form ≡ (instruction_of row).width
 own_width row f wide changes h = eqb-true _ _ (subst (λ (o : Option Formula). is_wide o (instruction_of row).width ≡ true) h (or_other (keeps_bytes row) _ wide changes))
 
 -- ---- the call's
@@ -79,48 +79,68 @@ call_width general.Regular at n h = each_number general.Regular (λ (x : ℕ). (
 call_width general.NoPlt at n h = each_number general.NoPlt (λ (x : ℕ). (f : Formula) → x86_64_formula x ≡ Some f → form_width f.form ≡ 4) n h (λ e. cc) (λ e. ((λ f k. wide_as _ f 4 k refl), (λ f k. wide_as _ f 4 k refl), (λ f k. wide_as _ f 4 k refl))) (λ e. cc)
 call_width general.Large at n h = each_number general.Large (λ (x : ℕ). (f : Formula) → x86_64_formula x ≡ Some f → form_width f.form ≡ 8) n h (λ e. cc) (λ e. cc) (λ e. (λ f k. wide_as _ f 8 k refl))
 
--- the row writes a sequence, whose call has its field at a place and one of its relocation types
-pub record IsPaired (row : Row) : Type 0 where
+-- an instruction is a sequence, whose call has its field at a place and one of its relocation types
+pub record IsPairedBy (o : Instruction) (partner : Option writer.Partner) : Type 0 where
   pub at : ℕ
-  pub is : (instruction_of row).partners ≡ partner_for (call_form row) at ∷ []
+  pub is : o.partners ≡ partner_for (form_by partner) at ∷ []
   pub distance : ℕ
-  pub behind : partner_distance row ≡ Some distance
-  pub place : (partner_for (call_form row) at).field ≡ (instruction_of row).field + distance
-  pub numbers : (n : ℕ) → is_call_number (call_form row) n ≡ true → Contains (partner_for (call_form row) at).numbers n
-  pub width : (n : ℕ) (f : Formula) → is_call_number (call_form row) n ≡ true → x86_64_formula n ≡ Some f → form_width f.form ≡ (partner_for (call_form row) at).width
+  pub behind : option_map (λ (c : writer.Partner). c.distance) partner ≡ Some distance
+  pub place : (partner_for (form_by partner) at).field ≡ o.field + distance
+  pub numbers : (n : ℕ) → is_call_number (form_by partner) n ≡ true → Contains (partner_for (form_by partner) at).numbers n
+  pub width : (n : ℕ) (f : Formula) → is_call_number (form_by partner) n ≡ true → x86_64_formula n ≡ Some f → form_width f.form ≡ (partner_for (form_by partner) at).width
 
-paired_by : (row : Row) (at distance : ℕ) → (instruction_of row).partners ≡ partner_for (call_form row) at ∷ [] → partner_distance row ≡ Some distance → (partner_for (call_form row) at).field ≡ (instruction_of row).field + distance → IsPaired row
-paired_by row at distance is behind place = record {
+abbrev pub IsPaired : Row → Type 0
+IsPaired row = IsPairedBy (instruction_of row) row.partner
+
+paired_by : (o : Instruction) (c : writer.Partner) (at : ℕ) → o.partners ≡ partner_for c.form at ∷ [] → (partner_for c.form at).field ≡ o.field + c.distance → IsPairedBy o (Some c)
+paired_by o c at is place = record {
   at = at;
   is = is;
-  distance = distance;
-  behind = behind;
+  distance = c.distance;
+  behind = refl;
   place = place;
-  numbers = call_listed (call_form row) at;
-  width = λ n f h k. call_width (call_form row) at n h f k;
+  numbers = call_listed c.form at;
+  width = λ n f h k. call_width c.form at n h f k;
 }
 
+-- where the call is so far behind
+abbrev pair_at : (o : Instruction) (c : writer.Partner) (at : ℕ) → o.partners ≡ partner_for c.form at ∷ [] → Option (IsPairedBy o (Some c))
+pair_at o c at is = where_so ((partner_for c.form at).field == o.field + c.distance) (λ t. paired_by o c at is (eqb-true _ _ t)) None
+
+abbrev form_pair : (p : Pattern) (n : ℕ) (c : writer.Partner) (form : GeneralForm) → c.form ≡ form → Option (IsPairedBy (instruction_by p n) (Some c))
+form_pair (pattern.General general.Regular) n c general.Regular e = pair_at (instruction_by (pattern.General general.Regular) n) c 12 (rw e refl)
+form_pair (pattern.General general.NoPlt) n c general.NoPlt e = pair_at (instruction_by (pattern.General general.NoPlt) n) c 12 (rw e refl)
+form_pair (pattern.General general.Large) n c general.Large e = pair_at (instruction_by (pattern.General general.Large) n) c 9 (rw e refl)
+form_pair (pattern.Local local.Regular) n c general.Regular e = pair_at (instruction_by (pattern.Local local.Regular) n) c 8 (rw e refl)
+form_pair (pattern.Local local.NoPlt) n c general.NoPlt e = pair_at (instruction_by (pattern.Local local.NoPlt) n) c 9 (rw e refl)
+form_pair (pattern.Local local.Large) n c general.Large e = pair_at (instruction_by (pattern.Local local.Large) n) c 9 (rw e refl)
+form_pair p n c form e = None
+
+abbrev pair_by : (p : Pattern) (n : ℕ) (partner : Option writer.Partner) → Option (IsPairedBy (instruction_by p n) partner)
+pair_by p n None = None
+pair_by p n (Some c) = form_pair p n c c.form refl
+
+abbrev has_pair : Row → Bool
+has_pair row = not (is_skip (rewrite_of row).next) || is_some (pair_by (pattern_of row) row.number row.partner)
+
+each_has_pair : list_all has_pair rows_x86_64 ≡ true
+unfolding rows_x86_64
+each_has_pair = refl
+
 pub paired : (row : Row) → IsChanging row → is_skip (rewrite_of row).next ≡ true → IsPaired row
-paired (GeneralDynamicToLocalExec general.Regular) c h = paired_by _ 12 8 refl refl refl
-paired (GeneralDynamicToLocalExec general.NoPlt) c h = paired_by _ 12 8 refl refl refl
-paired (GeneralDynamicToLocalExec general.Large) c h = paired_by _ 9 6 refl refl refl
-paired (GeneralDynamicToInitialExec general.Regular) c h = paired_by _ 12 8 refl refl refl
-paired (GeneralDynamicToInitialExec general.NoPlt) c h = paired_by _ 12 8 refl refl refl
-paired (GeneralDynamicToInitialExec general.Large) c h = absurd c
-paired (LocalDynamicToLocalExec local.Regular) c h = paired_by _ 8 5 refl refl refl
-paired (LocalDynamicToLocalExec local.NoPlt) c h = paired_by _ 9 6 refl refl refl
-paired (LocalDynamicToLocalExec local.Large) c h = paired_by _ 9 6 refl refl refl
-paired (DescriptorLea p LocalExec) c h = cc
-paired (DescriptorLea p InitialExec) c h = cc
-paired other c h = cc
+paired row c h = some_of (pair_by (pattern_of row) row.number row.partner) (implied _ _ (listed_passes has_pair rows_x86_64 row each_has_pair c.listed) h)
 
 -- any other row is of one instruction
 abbrev is_single : Row → Bool
 is_single row = is_skip (rewrite_of row).next || not (are_several (instruction_of row).partners)
 
+each_is_single : list_all is_single rows_x86_64 ≡ true
+unfolding rows_x86_64
+each_is_single = refl
+
 none_several : (ps : List Partner) → not (are_several ps) ≡ true → ps ≡ []
 none_several [] h = refl
 none_several (p ∷ ps) h = cc
 
-pub single : (row : Row) → is_skip (rewrite_of row).next ≡ false → (instruction_of row).partners ≡ []
-single row h = none_several (instruction_of row).partners (or_other (is_skip (rewrite_of row).next) _ (each_row is_single refl row) h)
+pub single : (row : Row) → IsChanging row → is_skip (rewrite_of row).next ≡ false → (instruction_of row).partners ≡ []
+single row c h = none_several (instruction_of row).partners (or_other (is_skip (rewrite_of row).next) _ (listed_passes is_single rows_x86_64 row each_is_single c.listed) h)

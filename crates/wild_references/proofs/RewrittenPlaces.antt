@@ -1,9 +1,10 @@
 -- A section whose relocation is rewritten, with all that is known of its row.
-use Rattle.std.proofs.Common.{◌≡◌, ℕ, ◌+◌, ◌-◌, ◌%◌, ◌^◌, true, false, refl, sym, ap, arith, subst}
-use Rattle.std.specs.Prelude.{ℤ, pos, negsuc, slice_get, slice_range}
+use Rattle.std.proofs.Common.{◌≡◌, ℕ, ◌+◌, ◌-◌, ◌%◌, ◌^◌, Bool, true, false, refl, sym, ap, arith, subst}
+use Rattle.std.specs.Prelude.{◌||◌, not, ℤ, pos, negsuc, slice_get, slice_range}
 use Rattle.std.specs.Int.{w64, cast_unsigned}
 use Rattle.std.specs.List.{list_all}
-use Rattle.std.proofs.lemmas.Bool.{eqb-true}
+use Rattle.std.proofs.lemmas.Bool.{eqb-true, and_parts}
+use Rattle.wild_words.proofs.Basics.{implied, or_other, listed_passes}
 use Rattle.wild_records.specs.Abi.Section.{shf_execinstr}
 use Rattle.wild_types.specs.declared.kind.Machine.TheVariants as machine
 use Rattle.wild_types.specs.declared.input.InputRelocation.{InputRelocation}
@@ -12,18 +13,20 @@ use Rattle.wild_types.specs.declared.layout.Layout.{Layout}
 use Rattle.wild_types.specs.Lookups.{executable}
 use Rattle.wild_reloc.specs.declared.info.RelocationKind.TheVariants as kinds
 use Rattle.wild_relax.specs.declared.row.Row.{Row}
-use Rattle.wild_relax.specs.declared.row.Row.TheVariants.{IfuncThroughStub}
 use Rattle.wild_relax.specs.Question.{Question, minus_four}
+use Rattle.wild_relax.specs.declared.row.Duty.{Duty}
+use Rattle.wild_relax.specs.declared.row.Duty.TheVariants as duty
+use Rattle.wild_relax.specs.RowSymbols.{is_mandatory}
+use Rattle.wild_types.specs.Kinds.{is_static_executable}
 use Rattle.wild_relax.specs.Pattern.{cells_of}
-use Rattle.wild_relax.specs.RowSymbols.{takes_section}
 use Rattle.wild_relax.specs.Rows.{rows_x86_64}
-use Rattle.wild_relax.specs.Linked.{pattern_of, pattern_size, IsChanging}
+use Rattle.wild_relax.specs.Linked.{pattern_of, pattern_size, keeps_bytes, IsChanging}
 use Rattle.wild_relax.specs.Keep.{RowsKeep, IsWhole}
 use Rattle.wild_relax.specs.Section.{IsStanding, ChosenStand, ChosenAreWhole}
 use Rattle.wild_layout.specs.declared.decision.Decision.TheVariants.{Rewritten}
 use Rattle.wild_layout.specs.Choice.{question_of, is_partner}
 use Rattle.wild_layout.specs.Sites.{template_start}
-use Rattle.wild_layout.proofs.ChoiceLemmas.{IsChosen, chosen_listed}
+use Rattle.wild_layout.proofs.ChoiceLemmas.{IsChosen}
 use Rattle.wild_layout.proofs.DecisionLemmas.{IsRewritten, decide_rewritten}
 use Rattle.wild_geometry.specs.Loaded.{HasDecision}
 use Rattle.wild_meaning.specs.Section.{IsSet}
@@ -34,7 +37,7 @@ use Rattle.wild_meaning.proofs.BitLemmas.{bit_code}
 use Rattle.wild_references.specs.Laws.{KindGives}
 use Rattle.wild_references.specs.EffectLaws.{WindowsAreAlone}
 use Rattle.wild_references.proofs.RewrittenDecisions.{rewritten_alone}
-use Rattle.wild_references.proofs.RewrittenForms.{all_long, all_stand, instruction_of, is_listed, RowFits, row_fits}
+use Rattle.wild_references.proofs.RewrittenForms.{all_long, all_stand, instruction_of, RowFits, row_fits}
 
 -- the laws below, as they are called
 pub record LawsBelow : Type 0 where
@@ -58,16 +61,13 @@ pub record IsPlacedRow (l : Layout) (s : Item) (i : ℕ) (r : InputRelocation) (
   pub changing : IsChanging row
   pub fits : RowFits row
 
-each_listed : list_all is_listed rows_x86_64 ≡ true
-each_listed = refl
-
 pub placed_row : LawsBelow → (l : Layout) (s : Item) (i : ℕ) (r : InputRelocation) (row : Row) (v : ℕ) → HasDecision l s i r (Rewritten row v) → IsPlacedRow l s i r row v
 placed_row laws l s i r row v has =
     let made = decide_rewritten l s i r row v has.listed has.decided in
     let chosen = made.chosen in
     let q = question_of l s r chosen.symbol (slice_get s.relocations (i + 1)) in
     let stands = laws.stand q row chosen.chosen in
-    let changing = stands.changing made.changes in
+    let changing : IsChanging row = record { listed = stands.listed; changes = made.changes } in
     record {
       has = has;
       alone = rewritten_alone l s i row v has.decided;
@@ -76,17 +76,45 @@ placed_row laws l s i r row v has =
       stands = stands;
       whole = laws.whole q row chosen.chosen;
       changing = changing;
-      fits = row_fits row changing (chosen_listed l s r (slice_get s.relocations (i + 1)) row chosen is_listed each_listed);
+      fits = row_fits row changing;
     }
 
 -- ---- the section has code
 
-takes_code : (row : Row) (q : Question) → IsChanging row → takes_section row q ≡ true → executable q.section_flags ≡ true
-takes_code IfuncThroughStub q c h = absurd c
-takes_code other q c h = h
+abbrev keeps_or_in_code : Row → Bool
+keeps_or_in_code row = keeps_bytes row || row.in_code
+
+each_in_code : list_all keeps_or_in_code rows_x86_64 ≡ true
+unfolding rows_x86_64
+each_in_code = refl
+
+pub takes_code : (row : Row) (b : Bool) → IsChanging row → (not row.in_code || b) ≡ true → b ≡ true
+takes_code row b c h = implied row.in_code b h (or_other (keeps_bytes row) row.in_code (listed_passes keeps_or_in_code rows_x86_64 row each_in_code c.listed) c.changes)
+
+-- and it is not written in any case
+abbrev is_always : Duty → Bool
+is_always duty.Always = true
+is_always other = false
+
+abbrev keeps_or_waits : Row → Bool
+keeps_or_waits row = keeps_bytes row || not (is_always row.duty)
+
+each_waits : list_all keeps_or_waits rows_x86_64 ≡ true
+unfolding rows_x86_64
+each_waits = refl
+
+static_by : (d : Duty) (q : Question) → not (is_always d) ≡ true → is_mandatory d q ≡ true → is_static_executable q.kind ≡ true
+static_by duty.Never q k h = cc
+static_by duty.Static q k h = h
+static_by duty.StaticAbsolute q k h = (and_parts _ _ h).0
+static_by duty.StaticMovable q k h = (and_parts _ _ h).0
+static_by duty.Always q k h = cc
+
+pub mandatory_static : (row : Row) (q : Question) → IsChanging row → is_mandatory row.duty q ≡ true → is_static_executable q.kind ≡ true
+mandatory_static row q c h = static_by row.duty q (or_other (keeps_bytes row) (not (is_always row.duty)) (listed_passes keeps_or_waits rows_x86_64 row each_waits c.listed) c.changes) h
 
 pub is_code : (l : Layout) (s : Item) (i : ℕ) (r : InputRelocation) (row : Row) (v : ℕ) → IsPlacedRow l s i r row v → IsSet s.flags shf_execinstr
-is_code l s i r row v p = bit_code s.flags (takes_code row (question_of l s r p.chosen.symbol (slice_get s.relocations (i + 1))) p.changing p.stands.taken.section)
+is_code l s i r row v p = bit_code s.flags (takes_code row (executable s.flags) p.changing p.stands.taken.section)
 
 -- ---- the addend
 

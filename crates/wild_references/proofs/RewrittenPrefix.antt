@@ -9,7 +9,7 @@ use Rattle.wild_types.specs.declared.kind.Machine.TheVariants as machine
 use Rattle.wild_types.specs.declared.input.InputRelocation.{InputRelocation}
 use Rattle.wild_types.specs.declared.layout.Layout.{Layout}
 use Rattle.wild_reloc.specs.Formula.{Formula}
-use Rattle.wild_relax.specs.declared.row.Row.TheVariants.{PlainGotMovToLea}
+use Rattle.wild_relax.specs.declared.table.TheConstants.{PLAIN_LEA}
 use Rattle.wild_relax.specs.declared.pattern.Prefix.TheVariants.{Rex}
 use Rattle.wild_relax.specs.declared.pattern.Operation.TheVariants as operation
 use Rattle.wild_relax.specs.declared.pattern.Pattern.TheVariants as pattern
@@ -86,16 +86,16 @@ wide_load = of_field (with_slot 0x8b Word Set rex2) 4 AddressInSlot (abi.r_x86_6
 
 -- what is known of the row beside its start
 pub record Plain (l : Layout) (s : Item) (i : ℕ) (r : InputRelocation) (v from : ℕ) : Type 0 where
-  pub row : IsPlacedRow l s i r PlainGotMovToLea v
-  pub start : template_start PlainGotMovToLea r ≡ suc from
+  pub row : IsPlacedRow l s i r PLAIN_LEA v
+  pub start : template_start PLAIN_LEA r ≡ suc from
 
 pub at_field : (l : Layout) (s : Item) (i : ℕ) (r : InputRelocation) (v from : ℕ) → Plain l s i r v from → r.offset ≡ from + 4
-at_field l s i r v from t = (let e = field_is l s i r PlainGotMovToLea v t.row in let f = t.start in omega (arith, e, f))
+at_field l s i r v from t = (let e = field_is l s i r PLAIN_LEA v t.row in let f = t.start in omega (arith, e, f))
 
 pub room : (l : Layout) (s : Item) (i : ℕ) (r : InputRelocation) (v from : ℕ) → Plain l s i r v from → from + 8 ≤ length s.bytes
 room l s i r v from t = (let e = t.row.stands.inside in let f = t.start in omega (arith, e, f))
 
-pub bytes_are : (l : Layout) (s : Item) (i : ℕ) (r : InputRelocation) (v from : ℕ) → Plain l s i r v from → slice_range s.bytes from (from + 8) ≡ slice_index s.bytes from ∷ slice_range s.bytes (template_start PlainGotMovToLea r) (template_start PlainGotMovToLea r + 7)
+pub bytes_are : (l : Layout) (s : Item) (i : ℕ) (r : InputRelocation) (v from : ℕ) → Plain l s i r v from → slice_range s.bytes from (from + 8) ≡ slice_index s.bytes from ∷ slice_range s.bytes (template_start PLAIN_LEA r) (template_start PLAIN_LEA r + 7)
 bytes_are l s i r v from t =
     let inside = room l s i r v from t in
     subst (λ (n : ℕ). slice_range s.bytes from (from + 8) ≡ slice_index s.bytes from ∷ slice_range s.bytes n (n + 7)) (sym t.start) (one_more s.bytes from 7 (omega (arith, inside)))
@@ -105,7 +105,7 @@ rest_covers = refl
 
 pub stands_with : (l : Layout) (s : Item) (i : ℕ) (r : InputRelocation) (v from : ℕ) → Plain l s i r v from → (slice_index s.bytes from == 0xd5) ≡ true → judge.stands wide_load.template.cells (slice_range s.bytes from (from + 8)) ≡ true
 stands_with l s i r v from t h =
-    let old = slice_range s.bytes (template_start PlainGotMovToLea r) (template_start PlainGotMovToLea r + 7) in
+    let old = slice_range s.bytes (template_start PLAIN_LEA r) (template_start PLAIN_LEA r + 7) in
     let rest : judge.stands (judge-cells.From 0 0x7f ∷ judge-cells.Is 0x8b ∷ judge-cells.Slot ∷ judge.field) old ≡ true = all_stand (cells_of (pattern.Wide Rex operation.Mov)) (judge-cells.From 0 0x7f ∷ judge-cells.Is 0x8b ∷ judge-cells.Slot ∷ judge.field) old rest_covers t.row.whole.same in
     subst (λ (bs : List ℕ). judge.stands wide_load.template.cells bs ≡ true) (sym (bytes_are l s i r v from t)) (both_stand (slice_index s.bytes from == 0xd5) _ h rest)
   where
@@ -128,10 +128,10 @@ wide_alone : WindowsAreAlone → (l : Layout) (s : Item) (i : ℕ) (r : InputRel
 wide_alone law l s i r v from x86 decided t zero own = (let e : from ≡ from + 0 = omega arith in subst (λ (n : ℕ). InNoField l s n) e t.alone)
 wide_alone law l s i r v from x86 decided t (suc k) own =
     let start = t.plain.start in
-    let e : template_start PlainGotMovToLea r + k ≡ from + suc k = omega (arith, start) in
+    let e : template_start PLAIN_LEA r + k ≡ from + suc k = omega (arith, start) in
     let inside = own.inside in
     let low : k < 3 = lower own.beside in
-    subst (λ (n : ℕ). InNoField l s n) e (in_no_field law l s i r PlainGotMovToLea v k x86 decided t.plain.row (record { inside = omega (arith, inside); beside = inl low; apart = tt }))
+    subst (λ (n : ℕ). InNoField l s n) e (in_no_field law l s i r PLAIN_LEA v k x86 decided t.plain.row (record { inside = omega (arith, inside); beside = inl low; apart = tt }))
   where
     lower : (suc k < 4) ⊎ (8 ≤ suc k) → k < 3
     lower (inl h) = omega (arith, h)
@@ -139,14 +139,14 @@ wide_alone law l s i r v from x86 decided t (suc k) own =
 
 pub wide_stands : WindowsAreAlone → (l : Layout) (s : Item) (i : ℕ) (r : InputRelocation) (v from : ℕ) → l.machine ≡ machine.X86_64 → IsDecided l s → IsWider l s i r v from → IsInstruction l s r from wide_load
 wide_stands law l s i r v from x86 decided t = record {
-  code = is_code l s i r PlainGotMovToLea v t.plain.row;
+  code = is_code l s i r PLAIN_LEA v t.plain.row;
   known = subst (λ (m : Machine). Contains (instructions_of m) wide_load) (sym x86) (21, omega arith, refl);
   number = subst (λ (n : ℕ). Contains (abi.r_x86_64_gotpcrel ∷ []) n) (sym t.plain.row.chosen.number) (0, omega arith, refl);
   field = at_field l s i r v from t.plain;
   inside = room l s i r v from t.plain;
   stands = stands_with l s i r v from t.plain t.prefix;
   words = refl;
-  counts = subst (λ (m : Machine). AddsNothing m AddressInSlot r) (sym x86) (counts l s i r PlainGotMovToLea v t.plain.row);
+  counts = subst (λ (m : Machine). AddsNothing m AddressInSlot r) (sym x86) (counts l s i r PLAIN_LEA v t.plain.row);
   alone = wide_alone law l s i r v from x86 decided t;
 }
 
@@ -155,7 +155,7 @@ wide_single law l s i r v from x86 decided t = record {
   single = refl;
   stands = wide_stands law l s i r v from x86 decided t;
   longest = λ a o none k. no_longer l s r a abi.r_x86_64_gotpcrel 8 o x86 t.plain.row.chosen.number refl none k;
-  free = λ first rest a o q c. free law l s i r first rest PlainGotMovToLea v a o x86 decided t.plain.row refl q c;
+  free = λ first rest a o q c. free law l s i r first rest PLAIN_LEA v a o x86 decided t.plain.row refl q c;
 }
 
 -- ---- one of both
@@ -167,11 +167,11 @@ none_at l s i r v from a t none h =
     let same : a ≡ from = omega (arith, e, f) in
     none (subst (λ (n : ℕ). IsInstruction l s r n wide_load) same h)
 
-pub wider_or_not : (l : Layout) (s : Item) (i : ℕ) (r : InputRelocation) (v : ℕ) → IsPlacedRow l s i r PlainGotMovToLea v → ((from : ℕ) × IsWider l s i r v from) ⊎ ((a : ℕ) → IsInstruction l s r a wide_load → ⊥)
-wider_or_not l s i r v p = by_start (template_start PlainGotMovToLea r) refl
+pub wider_or_not : (l : Layout) (s : Item) (i : ℕ) (r : InputRelocation) (v : ℕ) → IsPlacedRow l s i r PLAIN_LEA v → ((from : ℕ) × IsWider l s i r v from) ⊎ ((a : ℕ) → IsInstruction l s r a wide_load → ⊥)
+wider_or_not l s i r v p = by_start (template_start PLAIN_LEA r) refl
   where
-    by_start : (n : ℕ) → template_start PlainGotMovToLea r ≡ n → ((from : ℕ) × IsWider l s i r v from) ⊎ ((a : ℕ) → IsInstruction l s r a wide_load → ⊥)
-    by_start zero e = inr (λ a h. (let f = field_is l s i r PlainGotMovToLea v p in let g = h.field in omega (arith, e, f, g)))
+    by_start : (n : ℕ) → template_start PLAIN_LEA r ≡ n → ((from : ℕ) × IsWider l s i r v from) ⊎ ((a : ℕ) → IsInstruction l s r a wide_load → ⊥)
+    by_start zero e = inr (λ a h. (let f = field_is l s i r PLAIN_LEA v p in let g = h.field in omega (arith, e, f, g)))
     by_start (suc from) e =
         let t : Plain l s i r v from = record { row = p; start = e } in
         elim (cases_Bool (slice_index s.bytes from == 0xd5)) [

@@ -7,7 +7,7 @@ use Rattle.wild_types.specs.declared.kind.Machine.{Machine}
 use Rattle.wild_types.specs.declared.kind.Machine.TheVariants as machine
 use Rattle.wild_types.specs.declared.input.InputRelocation.{InputRelocation}
 use Rattle.wild_types.specs.declared.layout.Layout.{Layout}
-use Rattle.wild_relax.specs.declared.row.Row.TheVariants.{PlainGotMovToLea}
+use Rattle.wild_relax.specs.declared.table.TheConstants.{PLAIN_LEA}
 use Rattle.wild_layout.specs.Sites.{template_start}
 use Rattle.wild_geometry.specs.Loaded.{IsDecided}
 use Rattle.wild_types.specs.Item.{Item}
@@ -127,13 +127,13 @@ shorter l s r from o x86 number none h =
       | inr same ↦ inr same
     ]
 
-pub plain_single : WindowsAreAlone → (l : Layout) (s : Item) (i : ℕ) (r : InputRelocation) (v : ℕ) → l.machine ≡ machine.X86_64 → IsDecided l s → IsPlacedRow l s i r PlainGotMovToLea v → ((from : ℕ) → IsInstruction l s r from wide_load → ⊥) → IsSingle l s r (template_start PlainGotMovToLea r) (instruction_of PlainGotMovToLea)
+pub plain_single : WindowsAreAlone → (l : Layout) (s : Item) (i : ℕ) (r : InputRelocation) (v : ℕ) → l.machine ≡ machine.X86_64 → IsDecided l s → IsPlacedRow l s i r PLAIN_LEA v → ((from : ℕ) → IsInstruction l s r from wide_load → ⊥) → IsSingle l s r (template_start PLAIN_LEA r) (instruction_of PLAIN_LEA)
 plain_single law l s i r v x86 decided p none_wider = record {
   single = refl;
-  stands = stands_there law l s i r PlainGotMovToLea v x86 decided p;
+  stands = stands_there law l s i r PLAIN_LEA v x86 decided p;
   longest = λ a o none k. elim (shorter l s r a o x86 p.chosen.number none k) [
     | inl short ↦ short
     | inr same ↦ absurd (none_wider a (subst (λ (x : Instruction). IsInstruction l s r a x) same k))
   ];
-  free = λ first rest a o q c. free law l s i r first rest PlainGotMovToLea v a o x86 decided p refl q c;
+  free = λ first rest a o q c. free law l s i r first rest PLAIN_LEA v a o x86 decided p refl q c;
 }

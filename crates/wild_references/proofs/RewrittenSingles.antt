@@ -4,27 +4,22 @@ use Rattle.std.specs.Prelude.{◌||◌, ◌==◌, not, nat_le, slice_range, Cont
 use Rattle.std.specs.List.{list_all}
 use Rattle.std.proofs.lemmas.Bool.{cases_Bool, eq-eqb, leb-true, and_parts}
 use Rattle.wild_words.proofs.Basics.{listed_passes, implied, or_other}
+use Rattle.wild_records.specs.Abi.Relocation as abi
 use Rattle.wild_types.specs.declared.kind.Machine.{Machine}
 use Rattle.wild_types.specs.declared.kind.Machine.TheVariants as machine
 use Rattle.wild_types.specs.declared.input.InputRelocation.{InputRelocation}
 use Rattle.wild_types.specs.declared.layout.Layout.{Layout}
-use Rattle.wild_relax.specs.declared.pattern.Operation.TheVariants as operation
-use Rattle.wild_relax.specs.declared.pattern.GeneralForm.TheVariants as general
-use Rattle.wild_relax.specs.declared.pattern.LocalForm.TheVariants as local
 use Rattle.wild_relax.specs.declared.row.Row.{Row}
-use Rattle.wild_relax.specs.declared.row.Row.TheVariants.{IfuncThroughStub, RexGotToImmediate, RexGotMovToLea, GotMovToImmediate, GotMovToLea, IndirectCallToDirect, IndirectJumpToDirect, PlainGotMovToLea, InitialExecToLocalExec, Plt32ToPc32, PltOffToGotOff, GeneralDynamicToLocalExec, GeneralDynamicToInitialExec, LocalDynamicToLocalExec, DescriptorLea, DescriptorCall}
 use Rattle.wild_relax.specs.Question.{minus_four}
-use Rattle.wild_relax.specs.RowPatterns.{counts_from_its_end}
-use Rattle.wild_relax.specs.RowSequences.{needs_its_end}
-use Rattle.wild_relax.specs.Rows.{rows_x86_64, number_of}
+use Rattle.wild_relax.specs.Rows.{rows_x86_64}
 use Rattle.wild_relax.specs.Rewrite.{is_skip}
 use Rattle.wild_relax.specs.RewriteX86_64.{rewrite_of}
-use Rattle.wild_relax.specs.Linked.{keeps_bytes, IsChanging}
+use Rattle.wild_relax.specs.Linked.{keeps_bytes}
 use Rattle.wild_layout.specs.Sites.{template_start}
 use Rattle.wild_geometry.specs.Loaded.{IsDecided}
 use Rattle.wild_types.specs.Item.{Item}
 use Rattle.wild_aarch64.specs.Effect.{words_of}
-use Rattle.wild_meaning.specs.Sequence.{Instruction, size_of, instructions_of}
+use Rattle.wild_meaning.specs.Sequence.{Instruction, size_of, instructions_of, Sort, DescribedCall}
 use Rattle.wild_meaning.specs.Template.{IsInstruction, AddsNothing}
 use Rattle.wild_meaning.proofs.PairLemmas.{are_several}
 use Rattle.wild_references.specs.EffectLaws.{WindowsAreAlone}
@@ -35,38 +30,31 @@ use Rattle.wild_references.proofs.RewrittenAlone.{field_is, called, in_no_field}
 
 -- ---- the instruction stands
 
--- a row's addend takes back the four bytes, but for the call through a descriptor, which has no field
-ends_or_call : (row : Row) (b : Bool) → IsChanging row → is_skip (rewrite_of row).next ≡ false → (not (counts_from_its_end row || needs_its_end row) || b) ≡ true → (b ≡ true) ⊎ (row ≡ DescriptorCall)
-ends_or_call IfuncThroughStub b c k h = absurd c
-ends_or_call (RexGotToImmediate p o) b c k h = inl h
-ends_or_call (RexGotMovToLea p) b c k h = inl h
-ends_or_call GotMovToImmediate b c k h = inl h
-ends_or_call GotMovToLea b c k h = inl h
-ends_or_call IndirectCallToDirect b c k h = inl h
-ends_or_call IndirectJumpToDirect b c k h = inl h
-ends_or_call PlainGotMovToLea b c k h = inl h
-ends_or_call (InitialExecToLocalExec p o) b c k h = inl h
-ends_or_call Plt32ToPc32 b c k h = absurd c
-ends_or_call PltOffToGotOff b c k h = absurd c
-ends_or_call (GeneralDynamicToLocalExec general.Regular) b c k h = cc
-ends_or_call (GeneralDynamicToLocalExec general.NoPlt) b c k h = cc
-ends_or_call (GeneralDynamicToLocalExec general.Large) b c k h = cc
-ends_or_call (GeneralDynamicToInitialExec f) b c k h = cc
-ends_or_call (LocalDynamicToLocalExec local.Regular) b c k h = cc
-ends_or_call (LocalDynamicToLocalExec local.NoPlt) b c k h = cc
-ends_or_call (LocalDynamicToLocalExec local.Large) b c k h = cc
-ends_or_call (DescriptorLea p u) b c k h = inl h
-ends_or_call DescriptorCall b c k h = inr refl
+-- a row of one instruction counts from its end, or is the call through a descriptor
+abbrev is_described : Sort → Bool
+is_described DescribedCall = true
+is_described other = false
 
-counts_single : (row : Row) (r : InputRelocation) → (minus_four r.addend ≡ true) ⊎ (row ≡ DescriptorCall) → AddsNothing machine.X86_64 (instruction_of row).sort r
-counts_single row r (inl e) = counts_ended (instruction_of row).sort r e
-counts_single row r (inr call) = subst (λ (x : Row). AddsNothing machine.X86_64 (instruction_of x).sort r) (sym call) tt
+abbrev ends_or_call : Row → Bool
+ends_or_call row = keeps_bytes row || (is_skip (rewrite_of row).next || ((row.ends || row.needs_end) || is_described (instruction_of row).sort))
+
+each_ends : list_all ends_or_call rows_x86_64 ≡ true
+unfolding rows_x86_64
+each_ends = refl
+
+counts_single : (a b : Bool) (o : Sort) (r : InputRelocation) → (a || is_described o) ≡ true → (not a || b) ≡ true → (b ≡ true → minus_four r.addend ≡ true) → AddsNothing machine.X86_64 o r
+counts_single true true o r h e ends = counts_ended o r (ends refl)
+counts_single true false o r h e ends = cc
+counts_single false b DescribedCall r h e ends = tt
+counts_single false b other r h e ends = cc
 
 pub counts : (l : Layout) (s : Item) (i : ℕ) (r : InputRelocation) (row : Row) (v : ℕ) → IsPlacedRow l s i r row v → AddsNothing machine.X86_64 (instruction_of row).sort r
 counts l s i r row v p =
     elim (cases_Bool (is_skip (rewrite_of row).next)) [
       | inl skips ↦ (let pair = paired row p.changing skips in counts_ended (instruction_of row).sort r (called l s row r p.chosen.symbol pair.distance _ pair.behind p.stands.taken.partner).2.ends)
-      | inr alone ↦ counts_single row r (ends_or_call row (minus_four r.addend) p.changing alone p.stands.taken.addend)
+      | inr alone ↦
+          (let ends = or_other (is_skip (rewrite_of row).next) _ (or_other (keeps_bytes row) _ (listed_passes ends_or_call rows_x86_64 row each_ends p.changing.listed) p.made.changes) alone in
+          counts_single (row.ends || row.needs_end) (minus_four r.addend) (instruction_of row).sort r ends p.stands.taken.addend (λ e. e))
     ]
 
 pub stands_there : WindowsAreAlone → (l : Layout) (s : Item) (i : ℕ) (r : InputRelocation) (row : Row) (v : ℕ) → l.machine ≡ machine.X86_64 → IsDecided l s → IsPlacedRow l s i r row v → IsInstruction l s r (template_start row r) (instruction_of row)
@@ -125,14 +113,14 @@ no_longer l s r from n size p x86 number all none h =
 
 -- but R_X86_64_GOTPCREL does not tell the prefix
 abbrev pub is_told : Row → Bool
-is_told PlainGotMovToLea = false
-is_told other = true
+is_told row = not (row.number == abi.r_x86_64_gotpcrel)
 
 abbrev pub is_longest : Row → Bool
-is_longest row = keeps_bytes row || (not (is_told row) || (is_skip (rewrite_of row).next || list_all (is_short (number_of row) (size_of (instruction_of row))) (instructions_of machine.X86_64)))
+is_longest row = keeps_bytes row || (not (is_told row) || (is_skip (rewrite_of row).next || list_all (is_short row.number (size_of (instruction_of row))) (instructions_of machine.X86_64)))
 
 pub each_longest : list_all is_longest rows_x86_64 ≡ true
+unfolding rows_x86_64
 each_longest = refl
 
-pub longest : (row : Row) → is_longest row ≡ true → keeps_bytes row ≡ false → is_told row ≡ true → is_skip (rewrite_of row).next ≡ false → list_all (is_short (number_of row) (size_of (instruction_of row))) (instructions_of machine.X86_64) ≡ true
+pub longest : (row : Row) → is_longest row ≡ true → keeps_bytes row ≡ false → is_told row ≡ true → is_skip (rewrite_of row).next ≡ false → list_all (is_short row.number (size_of (instruction_of row))) (instructions_of machine.X86_64) ≡ true
 longest row h changes told alone = or_other (is_skip (rewrite_of row).next) _ (implied (is_told row) _ (or_other (keeps_bytes row) _ h changes) told) alone

@@ -1,8 +1,9 @@
 -- The instruction of a row is the one that its reference belongs to: by itself, or as a sequence.
-use Rattle.std.proofs.Common.{◌≡◌, ℕ, ◌+◌, ◌⊎◌, inl, inr, Bool, true, false, List, [], ◌∷◌, refl, sym, ap, ◌∙◌, arith}
-use Rattle.std.specs.Prelude.{◌==◌, not, Option, Some, None, slice_get, option_map, unwrap_or}
-use Rattle.std.proofs.lemmas.Bool.{cases_Bool, eqb-true, not-true}
-use Rattle.wild_words.proofs.Basics.{or_first, not_both}
+use Rattle.std.proofs.Common.{◌≡◌, ℕ, ◌+◌, inl, inr, Bool, true, false, List, [], ◌∷◌, refl, sym, ap, ◌∙◌, arith}
+use Rattle.std.specs.Prelude.{◌==◌, ◌&&◌, ◌||◌, not, Option, Some, None, slice_get, option_map, unwrap_or}
+use Rattle.std.proofs.lemmas.Bool.{cases_Bool, eqb-true, eq-eqb, not-true, and_parts}
+use Rattle.std.specs.List.{list_all}
+use Rattle.wild_words.proofs.Basics.{or_first, not_both, implied, listed_passes}
 use Rattle.wild_records.specs.Abi.Relocation as abi
 use Rattle.wild_types.specs.declared.symbol.Symbol.{Symbol}
 use Rattle.wild_types.specs.declared.input.InputRelocation.{InputRelocation}
@@ -10,15 +11,22 @@ use Rattle.wild_types.specs.declared.layout.Layout.{Layout}
 use Rattle.wild_types.specs.Flags.{has_flag, ifunc, non_interposable}
 use Rattle.wild_types.specs.Kinds.{is_executable}
 use Rattle.wild_slot.specs.Treatment.{flags_at}
-use Rattle.wild_relax.specs.declared.row.DescriptorUse.TheVariants.{LocalExec, InitialExec}
+use Rattle.wild_relax.specs.declared.row.SymbolTest.{SymbolTest}
+use Rattle.wild_relax.specs.declared.row.SymbolTest.TheVariants as symbol
+use Rattle.wild_relax.specs.declared.row.ValueTest.{ValueTest}
+use Rattle.wild_relax.specs.declared.row.ValueTest.TheVariants as value
+use Rattle.wild_relax.specs.declared.row.Duty.{Duty}
+use Rattle.wild_relax.specs.declared.row.Duty.TheVariants as duty
+use Rattle.wild_relax.specs.Question.{Question}
+use Rattle.wild_relax.specs.RowSymbols.{takes_symbol, takes_value, is_mandatory}
+use Rattle.wild_relax.specs.Rows.{rows_x86_64}
+use Rattle.wild_relax.specs.Linked.{IsChanging}
+use Rattle.wild_relax.proofs.RoomLemmas.{applied}
 use Rattle.wild_relax.specs.declared.row.Row.{Row}
-use Rattle.wild_relax.specs.declared.row.Row.TheVariants.{GeneralDynamicToLocalExec, GeneralDynamicToInitialExec, LocalDynamicToLocalExec, DescriptorLea}
 use Rattle.wild_relax.specs.RowSequences.{call_form}
-use Rattle.wild_relax.specs.Rows.{number_of}
 use Rattle.wild_relax.specs.Rewrite.{is_skip}
 use Rattle.wild_relax.specs.RewriteX86_64.{rewrite_of}
-use Rattle.wild_relax.proofs.EveryRow.{each_implied}
-use Rattle.wild_layout.specs.Choice.{getter_name, same_names, is_getter}
+use Rattle.wild_layout.specs.Choice.{getter_name, same_names, is_getter, question_of}
 use Rattle.wild_layout.specs.Sites.{template_start}
 use Rattle.wild_layout.proofs.ChoiceLemmas.{chosen_listed}
 use Rattle.wild_loader.specs.declared.memory.Memory.{Memory}
@@ -38,16 +46,15 @@ use Rattle.wild_references.proofs.RewrittenAlone.{taken_call, call_place}
 use Rattle.wild_references.proofs.RewrittenSingles.{is_told, is_longest, each_longest, longest, no_longer, stands_there}
 use Rattle.wild_references.proofs.RewrittenSymbols.{definition, flag_of}
 use Rattle.wild_references.proofs.RewrittenTerms.{symbol_there}
-use Rattle.wild_references.proofs.RewrittenDoes.{on_or_must}
 use Rattle.wild_references.proofs.RewrittenApart.{free}
 
 -- ---- an instruction of one field
 
 pub single_there : LawsBelow → (l : Layout) (w : World) (m : Memory) (s : Item) (i : ℕ) (r : InputRelocation) (row : Row) (v : ℕ) → IsLoadedItem l w m s → IsPlacedRow l s i r row v → is_skip (rewrite_of row).next ≡ false → is_told row ≡ true → IsSingle l s r (template_start row r) (instruction_of row)
 single_there laws l w m s i r row v h p alone told = record {
-  single = single row alone;
+  single = single row p.changing alone;
   stands = stands_there laws.alone l s i r row v h.x86 h.decided p;
-  longest = λ from o none k. no_longer l s r from (number_of row) (size_of (instruction_of row)) o h.x86 p.chosen.number (longest row (chosen_listed l s r (slice_get s.relocations (i + 1)) row p.chosen is_longest each_longest) p.made.changes told alone) none k;
+  longest = λ from o none k. no_longer l s r from row.number (size_of (instruction_of row)) o h.x86 p.chosen.number (longest row (chosen_listed l s r (slice_get s.relocations (i + 1)) row p.chosen is_longest each_longest) p.made.changes told alone) none k;
   free = λ first rest from o q c. free laws.alone l s i r first rest row v from o h.x86 h.decided p alone q c;
 }
 
@@ -57,19 +64,61 @@ single_there laws l w m s i r row v h p alone told = record {
 record TakesSequence (l : Layout) (row : Row) (k : ℕ) : Type 0 where
   program : is_executable l.kind ≡ true
   plain : has_flag (flags_at l k) ifunc ≡ false
-  on : number_of row ≡ abi.r_x86_64_tlsgd → has_flag (flags_at l k) non_interposable ≡ false → l.options.relax ≡ true
+  on : row.number ≡ abi.r_x86_64_tlsgd → has_flag (flags_at l k) non_interposable ≡ false → l.options.relax ≡ true
+
+abbrev pub is_plain : SymbolTest → Bool
+is_plain symbol.Plain = true
+is_plain other = false
+
+-- a value that another module may define is taken where rewriting is on, and that of the output's own data for itself
+abbrev takes_on : ValueTest → Duty → ℕ → Bool
+takes_on value.Own d n = true
+takes_on value.Interposable duty.Never n = true
+takes_on value.Any d n = not (n == abi.r_x86_64_tlsgd)
+takes_on other d n = false
+
+abbrev takes_well : Row → Bool
+takes_well row = not (is_skip (rewrite_of row).next) || (row.thread_local && (is_plain row.symbol && takes_on row.value row.duty row.number))
+
+each_takes_well : list_all takes_well rows_x86_64 ≡ true
+unfolding rows_x86_64
+each_takes_well = refl
+
+pub plain_taken : (t : SymbolTest) (q : Question) → is_plain t ≡ true → takes_symbol t q ≡ true → has_flag q.flags ifunc ≡ false
+plain_taken symbol.Plain q h t = not-true _ t
+plain_taken symbol.Ifunc q h t = cc
+plain_taken symbol.Any q h t = cc
 
 own_not : (b on : Bool) → not (not b) ≡ true → b ≡ false → on ≡ true
 own_not true on h e = cc
 own_not false on h e = cc
 
+other_type : (n : ℕ) → not (n == abi.r_x86_64_tlsgd) ≡ true → n ≡ abi.r_x86_64_tlsgd → ⊥
+other_type n h e = (let t : (n == abi.r_x86_64_tlsgd) ≡ true = eq-eqb _ _ e in not_both _ h t)
+
+on_by : (t : ValueTest) (d : Duty) (n : ℕ) (q : Question) → takes_on t d n ≡ true → takes_value t q ≡ true → (q.relax || is_mandatory d q) ≡ true → n ≡ abi.r_x86_64_tlsgd → has_flag q.flags non_interposable ≡ false → q.relax ≡ true
+on_by value.Own d n q h taken on e k = own_not (has_flag q.flags non_interposable) q.relax taken k
+on_by value.Interposable duty.Never n q h taken on e k = or_first q.relax false on refl
+on_by value.Interposable duty.Static n q h taken on e k = cc
+on_by value.Interposable duty.StaticAbsolute n q h taken on e k = cc
+on_by value.Interposable duty.StaticMovable n q h taken on e k = cc
+on_by value.Interposable duty.Always n q h taken on e k = cc
+on_by value.Any d n q h taken on e k = absurd (other_type n h e)
+on_by value.OwnSigned d n q h taken on e k = cc
+on_by value.OwnUnsigned d n q h taken on e k = cc
+on_by value.OwnMoving d n q h taken on e k = cc
+on_by value.OwnFixed d n q h taken on e k = cc
+
 takes_sequence : (l : Layout) (w : World) (m : Memory) (s : Item) (i : ℕ) (r : InputRelocation) (row : Row) (v : ℕ) → IsLoadedItem l w m s → (p : IsPlacedRow l s i r row v) → is_skip (rewrite_of row).next ≡ true → TakesSequence l row p.chosen.symbol
-takes_sequence l w m s i r (GeneralDynamicToLocalExec f) v h p skips = record { program = p.stands.taken.thread; plain = not-true _ p.stands.taken.symbol; on = λ e k. own_not (has_flag (flags_at l p.chosen.symbol) non_interposable) l.options.relax p.stands.taken.value k }
-takes_sequence l w m s i r (GeneralDynamicToInitialExec f) v h p skips = record { program = p.stands.taken.thread; plain = not-true _ p.stands.taken.symbol; on = λ e k. or_first l.options.relax false (on_or_must _ _ p.stands.here) refl }
-takes_sequence l w m s i r (LocalDynamicToLocalExec f) v h p skips = record { program = p.stands.taken.thread; plain = not-true _ p.stands.taken.symbol; on = λ e k. cc }
-takes_sequence l w m s i r (DescriptorLea q LocalExec) v h p skips = cc
-takes_sequence l w m s i r (DescriptorLea q InitialExec) v h p skips = cc
-takes_sequence l w m s i r other v h p skips = cc
+takes_sequence l w m s i r row v h p skips =
+    let q = question_of l s r p.chosen.symbol (slice_get s.relocations (i + 1)) in
+    let well = and_parts row.thread_local (is_plain row.symbol && takes_on row.value row.duty row.number) (implied _ _ (listed_passes takes_well rows_x86_64 row each_takes_well p.changing.listed) skips) in
+    let more = and_parts (is_plain row.symbol) (takes_on row.value row.duty row.number) well.1 in
+    record {
+      program = implied row.thread_local (is_executable l.kind) p.stands.taken.thread well.0;
+      plain = plain_taken row.symbol q more.0 p.stands.taken.symbol;
+      on = λ e k. on_by row.value row.duty row.number q more.1 p.stands.taken.value (applied q row p.stands.here).on e k;
+    }
 
 -- the name
 names_same : (a b : List ℕ) → same_names a b ≡ true → a ≡ b
@@ -119,5 +168,12 @@ abbrev is_through : Sort → Bool
 is_through TargetInSlot = true
 is_through other = false
 
-pub sequence_sort : (row : Row) → is_skip (rewrite_of row).next ≡ true → (instruction_of row).sort ≡ TargetInSlot → ⊥
-sequence_sort row h e = not_both (is_through (instruction_of row).sort) (each_implied (λ (r : Row). is_skip (rewrite_of r).next) (λ (r : Row). not (is_through (instruction_of r).sort)) refl row h) (ap is_through e)
+abbrev goes_alone : Row → Bool
+goes_alone row = not (is_skip (rewrite_of row).next) || not (is_through (instruction_of row).sort)
+
+each_goes_alone : list_all goes_alone rows_x86_64 ≡ true
+unfolding rows_x86_64
+each_goes_alone = refl
+
+pub sequence_sort : (row : Row) → IsChanging row → is_skip (rewrite_of row).next ≡ true → (instruction_of row).sort ≡ TargetInSlot → ⊥
+sequence_sort row c h e = not_both (is_through (instruction_of row).sort) (implied _ _ (listed_passes goes_alone rows_x86_64 row each_goes_alone c.listed) h) (ap is_through e)

@@ -1,8 +1,6 @@
 -- The value in the field of a rewritten instruction, as the laws of the kinds take it.
-use Rattle.std.proofs.Common.{◌≡◌, ℕ, ◌+◌, ◌%◌, ◌^◌, ◌<◌, ◌≤◌, Bool, true, false, length, refl, sym, ◌∙◌, arith, subst}
-use Rattle.std.specs.Prelude.{◌||◌, nat_le, Some, Ok, All}
-use Rattle.std.specs.List.{list_all}
-use Rattle.std.proofs.lemmas.Bool.{leb-true}
+use Rattle.std.proofs.Common.{◌≡◌, ℕ, ◌+◌, ◌%◌, ◌^◌, ◌<◌, ◌≤◌, true, length, sym, ◌∙◌, arith, subst}
+use Rattle.std.specs.Prelude.{Some, Ok, All}
 use Rattle.wild_words.proofs.ListLemmas.{holds_at}
 use Rattle.wild_records.specs.Abi.Relocation.{r_x86_64_64}
 use Rattle.wild_types.specs.declared.input.InputRelocation.{InputRelocation}
@@ -22,15 +20,14 @@ use Rattle.wild_reloc.specs.declared.range.Sign.{Sign}
 use Rattle.wild_reloc.specs.declared.range.Sign.TheVariants.{Signed}
 use Rattle.wild_types.proofs.LookupLemmas.{row_here}
 use Rattle.wild_relax.specs.declared.row.Row.{Row}
-use Rattle.wild_relax.specs.Pattern.{field_of}
-use Rattle.wild_relax.specs.Rows.{rows_x86_64}
+use Rattle.wild_relax.proofs.RewriteLemmas as written
 use Rattle.wild_relax.specs.RewriteX86_64.{rewrite_of}
-use Rattle.wild_relax.specs.Linked.{pattern_of, keeps_bytes, field_in}
+use Rattle.wild_relax.specs.Linked.{field_in}
 use Rattle.wild_layout.specs.Decide.{field_at, term_to}
 use Rattle.wild_layout.specs.Values.{term_of, value_by}
 use Rattle.wild_layout.specs.Geometry.{NamesSymbol}
 use Rattle.wild_layout.specs.Sites.{template_start}
-use Rattle.wild_layout.proofs.ChoiceLemmas.{LiesInItsPattern, chosen_lies, chosen_listed}
+use Rattle.wild_layout.proofs.ChoiceLemmas.{LiesInItsPattern, chosen_lies}
 use Rattle.wild_loader.specs.declared.memory.Memory.{Memory}
 use Rattle.wild_loader.specs.declared.world.World.{World}
 use Rattle.wild_meaning.specs.World.{IsMovable}
@@ -55,33 +52,24 @@ symbol_there l w m s i r row v h p = holds_at (NamesSymbol l) s.relocations i r 
 
 -- ---- the field's new place
 
-abbrev back_fits : Row → Bool
-back_fits row = keeps_bytes row || nat_le (rewrite_of row).back (field_of (pattern_of row))
-
-each_back : list_all back_fits rows_x86_64 ≡ true
-each_back = refl
-
-back_by : (b : Bool) (m n : ℕ) → b ≡ false → (b || nat_le m n) ≡ true → m ≤ n
-back_by true m n e h = cc
-back_by false m n e h = leb-true m n h
-
-pub back_is : (l : Layout) (s : Item) (i : ℕ) (r : InputRelocation) (row : Row) (v : ℕ) → IsPlacedRow l s i r row v → (rewrite_of row).back ≤ field_of (pattern_of row)
-back_is l s i r row v p = back_by (keeps_bytes row) (rewrite_of row).back (field_of (pattern_of row)) p.made.changes (chosen_listed l s r _ row p.chosen back_fits each_back)
-
 pub lies_in : (l : Layout) (s : Item) (i : ℕ) (r : InputRelocation) (row : Row) (v : ℕ) → IsPlacedRow l s i r row v → LiesInItsPattern row
 lies_in l s i r row v p = chosen_lies l s r _ row p.chosen p.made.changes
+
+-- the bytes and the field that it writes lie in its pattern
+row_lies : (l : Layout) (s : Item) (i : ℕ) (r : InputRelocation) (row : Row) (v : ℕ) → IsPlacedRow l s i r row v → written.LiesIn row
+row_lies l s i r row v p = written.lies_in row (lies_in l s i r row v p).fits
 
 -- behind the start, as the field lies among the row's bytes
 pub field_there : (l : Layout) (s : Item) (i : ℕ) (r : InputRelocation) (row : Row) (v : ℕ) → IsPlacedRow l s i r row v → field_at row r ≡ template_start row r + field_in row
 field_there l s i r row v p =
     let before = p.stands.before in
-    let back = back_is l s i r row v p in
+    let back = (row_lies l s i r row v p).begins in
     omega (arith, before, back)
 
 field_inside : (l : Layout) (s : Item) (i : ℕ) (r : InputRelocation) (row : Row) (v : ℕ) → IsPlacedRow l s i r row v → field_at row r ≤ length s.bytes
 field_inside l s i r row v p =
     let e = field_there l s i r row v p in
-    let lies = (lies_in l s i r row v p).field in
+    let lies = (row_lies l s i r row v p).field in
     let inside = p.stands.inside in
     omega (arith, e, lies, inside)
 

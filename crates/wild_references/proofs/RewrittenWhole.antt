@@ -1,12 +1,14 @@
 -- Instructions that are rewritten hold, and so do the calls that they take along.
-use Rattle.std.proofs.Common.{◌≡◌, ℕ, ◌+◌, ◌≤◌, inl, inr, true, [], ◌∷◌, refl, ap, ◌∙◌, arith, subst}
-use Rattle.std.specs.Prelude.{Some, Ok, slice_get}
+use Rattle.std.proofs.Common.{◌≡◌, ℕ, ◌+◌, ◌≤◌, inl, inr, Bool, true, false, [], ◌∷◌, refl, sym, ap, ◌∙◌, arith, subst}
+use Rattle.std.specs.Prelude.{◌==◌, not, Some, Ok, slice_get}
 use Rattle.std.proofs.lemmas.Bool.{cases_Bool}
 use Rattle.std.proofs.lemmas.Option.{slice_get_within}
 use Rattle.wild_types.specs.declared.input.InputRelocation.{InputRelocation}
 use Rattle.wild_types.specs.declared.layout.Layout.{Layout}
 use Rattle.wild_relax.specs.declared.row.Row.{Row}
-use Rattle.wild_relax.specs.declared.row.Row.TheVariants.{PlainGotMovToLea}
+use Rattle.wild_records.specs.Abi.Relocation.{r_x86_64_gotpcrel}
+use Rattle.wild_relax.specs.declared.table.TheConstants.{PLAIN_LEA}
+use Rattle.wild_references.proofs.TableRows.{plain_is}
 use Rattle.wild_relax.specs.Rewrite.{is_skip}
 use Rattle.wild_relax.specs.RewriteX86_64.{rewrite_of}
 use Rattle.wild_relax.specs.Linked.{pattern_size}
@@ -67,7 +69,7 @@ single_held laws l w m s i r row v h p t =
       does = λ asked. does_row laws l w m s i r row v h p (goes_with l w m s i r row v p t asked);
     }
 
-wider_held : LawsBelow → (l : Layout) (w : World) (m : Memory) (s : Item) (i : ℕ) (r : InputRelocation) (v from : ℕ) → IsLoadedItem l w m s → IsWider l s i r v from → IsHeld l w m s r PlainGotMovToLea
+wider_held : LawsBelow → (l : Layout) (w : World) (m : Memory) (s : Item) (i : ℕ) (r : InputRelocation) (v from : ℕ) → IsLoadedItem l w m s → IsWider l s i r v from → IsHeld l w m s r PLAIN_LEA
 wider_held laws l w m s i r v from h t =
     let start = t.plain.start in
     record {
@@ -79,11 +81,11 @@ wider_held laws l w m s i r v from h t =
       does = λ asked. does_wider laws l w m s i r v from h t;
     }
 
-plain_held : LawsBelow → (l : Layout) (w : World) (m : Memory) (s : Item) (i : ℕ) (r : InputRelocation) (v : ℕ) → IsLoadedItem l w m s → IsPlacedRow l s i r PlainGotMovToLea v → IsHeld l w m s r PlainGotMovToLea
+plain_held : LawsBelow → (l : Layout) (w : World) (m : Memory) (s : Item) (i : ℕ) (r : InputRelocation) (v : ℕ) → IsLoadedItem l w m s → IsPlacedRow l s i r PLAIN_LEA v → IsHeld l w m s r PLAIN_LEA
 plain_held laws l w m s i r v h p =
     elim (wider_or_not l s i r v p) [
       | inl t ↦ wider_held laws l w m s i r v t.0 h t.1
-      | inr none ↦ single_held laws l w m s i r PlainGotMovToLea v h p (plain_single laws.alone l s i r v h.x86 h.decided p none)
+      | inr none ↦ single_held laws l w m s i r PLAIN_LEA v h p (plain_single laws.alone l s i r v h.x86 h.decided p none)
     ]
 
 -- the call is there
@@ -103,7 +105,7 @@ sequence_held laws l w m s i r row v h p skips =
       template = inr (of_sequence_there laws l w m s i r c.0 row v h p skips c.1);
       before = omega arith;
       behind = omega (arith, size);
-      does = λ asked. does_row laws l w m s i r row v h p (λ sort. absurd (sequence_sort row skips sort));
+      does = λ asked. does_row laws l w m s i r row v h p (λ sort. absurd (sequence_sort row p.changing skips sort));
     }
 
 told_held : LawsBelow → (l : Layout) (w : World) (m : Memory) (s : Item) (i : ℕ) (r : InputRelocation) (row : Row) (v : ℕ) → IsLoadedItem l w m s → IsPlacedRow l s i r row v → is_told row ≡ true → IsHeld l w m s r row
@@ -114,8 +116,17 @@ told_held laws l w m s i r row v h p told =
     ]
 
 row_held : LawsBelow → (l : Layout) (w : World) (m : Memory) (s : Item) (i : ℕ) (r : InputRelocation) (row : Row) (v : ℕ) → IsLoadedItem l w m s → IsPlacedRow l s i r row v → IsHeld l w m s r row
-row_held laws l w m s i r PlainGotMovToLea v h p = plain_held laws l w m s i r v h p
-row_held laws l w m s i r other v h p = told_held laws l w m s i r other v h p refl
+row_held laws l w m s i r row v h p = by (is_told row) refl
+  where
+    truly : (b : Bool) → not b ≡ false → b ≡ true
+    truly true e = refl
+    truly false e = cc
+
+    by : (b : Bool) → is_told row ≡ b → IsHeld l w m s r row
+    by true told = told_held laws l w m s i r row v h p told
+    by false plain =
+        let same = plain_is row p.changing.listed (truly (row.number == r_x86_64_gotpcrel) plain) in
+        subst (λ (x : Row). IsPlacedRow l s i r x v → IsHeld l w m s r x) (sym same) (λ q. plain_held laws l w m s i r v h q) p
 
 pub rewritten_stand : LawsBelow → RewrittenStand
 rewritten_stand laws l w m s h i r row v has =
@@ -161,5 +172,5 @@ partners_hold laws l w m s h i r has =
       rest = r ∷ [];
       one = (0, omega arith, refl);
       sequence = sequence_there laws l w m s b.0 t.first r t.row t.value h p t.skips t.listed;
-      does = does_row laws l w m s b.0 t.first t.row t.value h p (λ sort. absurd (sequence_sort t.row t.skips sort));
+      does = does_row laws l w m s b.0 t.first t.row t.value h p (λ sort. absurd (sequence_sort t.row p.changing t.skips sort));
     }

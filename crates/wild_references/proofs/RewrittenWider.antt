@@ -14,10 +14,10 @@ use Rattle.wild_reloc.specs.Field.{written}
 use Rattle.wild_reloc.specs.Formula.{Formula}
 use Rattle.wild_reloc.specs.FormulaX86_64.{x86_64_formula}
 use Rattle.wild_reloc.specs.declared.info.RelocationKindInfo.{RelocationKindInfo}
-use Rattle.wild_relax.specs.declared.pattern.Prefix.TheVariants.{Rex2}
 use Rattle.wild_relax.specs.declared.pattern.Cell.TheVariants as cells
 use Rattle.wild_relax.specs.declared.row.Row.{Row}
-use Rattle.wild_relax.specs.declared.row.Row.TheVariants.{PlainGotMovToLea, RexGotMovToLea}
+use Rattle.wild_relax.specs.declared.table.TheConstants.{PLAIN_LEA, LEA_2}
+use Rattle.wild_references.proofs.TableRows.{long_there}
 use Rattle.wild_relax.specs.Pattern.{cells_of}
 use Rattle.wild_relax.specs.Linked.{pattern_of, pattern_size, keeps_bytes, linked, template_of}
 use Rattle.wild_relax.specs.Keep.{IsWhole, distance}
@@ -75,7 +75,7 @@ field_out laws l s i j r q v from x w row x86 decided t h other low high =
             (let f = four_there in
             let width = four_bytes f.0 f.1 in
             let at = at_field l s i r v from t in
-            absurd (not_beside width at (laws.alone l s x86 decided j i q r row w (Rewritten PlainGotMovToLea v) h t.row.has other (λ e c. cc) x above inside f.0 (formula_there l.machine r.number f.0 x86 t.row.chosen.number f.1))))
+            absurd (not_beside width at (laws.alone l s x86 decided j i q r row w (Rewritten PLAIN_LEA v) h t.row.has other (λ e c. cc) x above inside f.0 (formula_there l.machine r.number f.0 x86 t.row.chosen.number f.1))))
       ]
     ]
   where
@@ -141,9 +141,9 @@ out_of_windows laws l s i r v from x86 decided t j q row w h =
     own_one : HasDecision l s i q (Rewritten row w) → from < template_start row q
     own_one k =
         let a : r ≡ q = (let z : Some r ≡ Some q = sym t.plain.row.has.listed ∙ k.listed in cc) in
-        let b : PlainGotMovToLea ≡ row = (let z : Ok (Rewritten PlainGotMovToLea v) ≡ Ok (Rewritten row w) = sym t.plain.row.has.decided ∙ k.decided in cc) in
+        let b : PLAIN_LEA ≡ row = (let z : Ok (Rewritten PLAIN_LEA v) ≡ Ok (Rewritten row w) = sym t.plain.row.has.decided ∙ k.decided in cc) in
         let start = t.plain.start in
-        let here : from < template_start PlainGotMovToLea r = omega (arith, start) in
+        let here : from < template_start PLAIN_LEA r = omega (arith, start) in
         subst (λ (x : InputRelocation). from < template_start row x) a (subst (λ (x : Row). from < template_start x r) b here)
 
 pub prefix_stays : LawsBelow → (l : Layout) (w : World) (m : Memory) (s : Item) (i : ℕ) (r : InputRelocation) (v from : ℕ) → IsLoadedItem l w m s → IsWider l s i r v from → IsInputByte w m s from
@@ -157,7 +157,7 @@ place_more : (k x : ℕ) (part xs : List ℕ) → place (suc k) part (x ∷ xs) 
 unfolding place
 place_more k x part xs = (let e : suc k + length part ≡ suc (k + length part) = omega arith in rw e refl)
 
-linked_more : (info : RelocationKindInfo) (v x : ℕ) (old : List ℕ) → linked (RexGotMovToLea Rex2) info v (x ∷ old) ≡ x ∷ linked PlainGotMovToLea info v old
+linked_more : (info : RelocationKindInfo) (v x : ℕ) (old : List ℕ) → linked LEA_2 info v (x ∷ old) ≡ x ∷ linked PLAIN_LEA info v old
 linked_more info v x old =
     ap (λ (bs : List ℕ). place 4 (written info v []) bs) (place_more 1 x (0x8d ∷ []) old)
     ∙ place_more 3 x (written info v []) (place 1 (0x8d ∷ []) old)
@@ -171,35 +171,35 @@ pub does_wider : LawsBelow → (l : Layout) (w : World) (m : Memory) (s : Item) 
 does_wider laws l w m s i r v from h t =
     let p = t.plain.row in
     let x = slice_index s.bytes from in
-    let old = old_of s PlainGotMovToLea r in
+    let old = old_of s PLAIN_LEA r in
     let a = place_at w s from in
-    let far = plain_far laws l w m s i r PlainGotMovToLea v h p refl refl p.stands.taken.addend p.stands.taken.symbol p.stands.taken.value in
+    let far = plain_far laws l w m s i r PLAIN_LEA v h p refl refl p.stands.taken.addend p.stands.taken.symbol p.stands.taken.value in
     let n = far.operand in
     let info = p.made.written.info in
-    let known = info_is l w m s i r PlainGotMovToLea v h p in
+    let known = info_is l w m s i r PLAIN_LEA v h p in
     let bytes = bytes_are l s i r v from t.plain in
     let start = t.plain.start in
-    let next : place_at w s (template_start PlainGotMovToLea r) ≡ a + 1 = omega (arith, start) in
+    let next : place_at w s (template_start PLAIN_LEA r) ≡ a + 1 = omega (arith, start) in
     let shape = stands_with l s i r v from t.plain t.prefix in
     let here : judge.stands wide_load.template.cells (x ∷ old) ≡ true = subst (λ (bs : List ℕ). judge.stands wide_load.template.cells bs ≡ true) bytes shape in
     let long : length (x ∷ old) ≡ 8 = (let z = p.whole.long in omega (arith, z)) in
     let e = has_effect n a 12 wide_load.template (x ∷ old) (omega arith) refl long here in
-    let whole : IsWhole (cells_of (pattern_of (RexGotMovToLea Rex2))) (x ∷ old) = record { long = long; same = both_stand (x == 0xd5) _ t.prefix p.whole.same } in
-    let place_is : place_at w s (template_start PlainGotMovToLea r) + 3 ≡ a + 4 = omega (arith, next) in
+    let whole : IsWhole (cells_of (pattern_of LEA_2)) (x ∷ old) = record { long = long; same = both_stand (x == 0xd5) _ t.prefix p.whole.same } in
+    let place_is : place_at w s (template_start PLAIN_LEA r) + 3 ≡ a + 4 = omega (arith, next) in
     let lands : v ≡ distance n (a + 4) = subst (λ (y : ℕ). v ≡ distance n y) place_is far.lands in
-    let keeps = laws.keeps (RexGotMovToLea Rex2) info (reads_alone w m) a n v (x ∷ old) tt whole (record { row_of = sym known; allowed = p.made.written.allowed; small = value_small l s i r PlainGotMovToLea v p; operand = far.is.small; numbers = λ k. refl; lands = lands }) in
-    let written_bytes : linked (RexGotMovToLea Rex2) info v (x ∷ old) ≡ x ∷ template_of PlainGotMovToLea v old = linked_more info v x old ∙ ap (λ (bs : List ℕ). x ∷ bs) (sym (template_linked PlainGotMovToLea info v old known)) in
-    let done : effect_x86_64 (reads_alone w m) a (x ∷ template_of PlainGotMovToLea v old) ≡ Some e.0 = subst (λ (bs : List ℕ). effect_x86_64 (reads_alone w m) a bs ≡ Some e.0) written_bytes (keeps ∙ e.1) in
+    let keeps = laws.keeps LEA_2 info (reads_alone w m) a n v (x ∷ old) (record { listed = long_there; changes = refl }) whole (record { row_of = sym known; allowed = p.made.written.allowed; small = value_small l s i r PLAIN_LEA v p; operand = far.is.small; numbers = λ k. refl; lands = lands }) in
+    let written_bytes : linked LEA_2 info v (x ∷ old) ≡ x ∷ template_of PLAIN_LEA v old = linked_more info v x old ∙ ap (λ (bs : List ℕ). x ∷ bs) (sym (template_linked PLAIN_LEA info v old known)) in
+    let done : effect_x86_64 (reads_alone w m) a (x ∷ template_of PLAIN_LEA v old) ≡ Some e.0 = subst (λ (bs : List ℕ). effect_x86_64 (reads_alone w m) a bs ≡ Some e.0) written_bytes (keeps ∙ e.1) in
     record {
       value = n;
       demands = far.is.target;
       code = record {
         effect = e.0;
         demanded = demand_on l.machine n a (slice_range s.bytes from (from + 8)) h.x86 ∙ (ap (λ (bs : List ℕ). demand_x86_64 n a bs) bytes ∙ e.1);
-        bytes = x ∷ template_of PlainGotMovToLea v old;
-        whole = (let z = whole_is l w m s i r PlainGotMovToLea v h p in omega (arith, z));
-        held = held_more m a (place_at w s (template_start PlainGotMovToLea r)) x (template_of PlainGotMovToLea v old) next (prefix_stays laws l w m s i r v from h t) (h.item.rewritten i r PlainGotMovToLea v p.has);
-        does = on_machine l.machine (reads_alone w m) a (x ∷ template_of PlainGotMovToLea v old) h.x86 ∙ done;
+        bytes = x ∷ template_of PLAIN_LEA v old;
+        whole = (let z = whole_is l w m s i r PLAIN_LEA v h p in omega (arith, z));
+        held = held_more m a (place_at w s (template_start PLAIN_LEA r)) x (template_of PLAIN_LEA v old) next (prefix_stays laws l w m s i r v from h t) (h.item.rewritten i r PLAIN_LEA v p.has);
+        does = on_machine l.machine (reads_alone w m) a (x ∷ template_of PLAIN_LEA v old) h.x86 ∙ done;
       };
     }
   where

@@ -25,7 +25,7 @@ use Rattle.wild_reloc.specs.declared.info.RelocationSize.{RelocationSize}
 use Rattle.wild_reloc.specs.declared.info.Width.TheVariants.{Four, Eight}
 use Rattle.wild_reloc.proofs.FormLemmas.{plt32_formula}
 use Rattle.wild_relax.specs.declared.row.Row.{Row}
-use Rattle.wild_relax.specs.declared.row.Row.TheVariants.{Plt32ToPc32, PltOffToGotOff}
+use Rattle.wild_relax.specs.declared.table.TheConstants.{PLT, PLT_OFF}
 use Rattle.wild_relax.specs.RewriteX86_64.{rewrite_of}
 use Rattle.wild_layout.specs.Choice.{question_of}
 use Rattle.wild_layout.specs.Geometry.{NamesSymbol}
@@ -52,7 +52,8 @@ use Rattle.wild_references.proofs.Fields.{IsItemLoaded, ReadsForm, place_is, pla
 use Rattle.wild_references.proofs.KnownRows.{row_fits}
 use Rattle.wild_references.proofs.Moves.{distance_is, table_is}
 use Rattle.wild_references.proofs.OwnSymbols.{IsOwnValue, own_value}
-use Rattle.wild_references.proofs.Rows.{RowStands, chosen_row}
+use Rattle.wild_relax.proofs.RoomLemmas.{IsApplied}
+use Rattle.wild_references.proofs.Rows.{chosen_row}
 use Rattle.wild_references.proofs.ValueKinds.{more}
 use Rattle.wild_layout.proofs.DecisionLemmas.{IsKept}
 use Rattle.wild_references.proofs.Written.{IsRowField, row_here}
@@ -218,22 +219,22 @@ row_holds l w m s i r h asked f = by_row f.kept.row f.kept.keeps f.kept.chosen (
         let given = subst (λ (x : RelocationKindInfo). term_of l r.symbol x.kind ≡ Ok k.term) e k.given in
         record { symbol = symbol; named = named; own = own; direct = direct; given = subst (λ (o : Option ℕ). address_of l o ≡ Ok k.term) named (sym same ∙ given) }
 
-    plt : (c : IsChosen l s r (slice_get s.relocations (i + 1)) Plt32ToPc32) → RowStands (question_of l s r c.symbol (slice_get s.relocations (i + 1))) Plt32ToPc32 → row_of l.machine r_x86_64_pc32 ≡ Some k.info → RowHolds l w m s r
+    plt : (c : IsChosen l s r (slice_get s.relocations (i + 1)) PLT) → IsApplied (question_of l s r c.symbol (slice_get s.relocations (i + 1))) PLT → row_of l.machine r_x86_64_pc32 ≡ Some k.info → RowHolds l w m s r
     plt c stands known =
         let e = info_is r_x86_64_pc32 k.info (plain kinds.Relative Four sign.Signed) (row_here l r_x86_64_pc32 k.info h.placed.x86 known) pc32_row in
         stub_distance_holds l w m s i r k.term f.value h f.has.listed asked c.number (own_term (plain kinds.Relative Four sign.Signed) c.symbol e refl c.named (not-true _ stands.value) (not-true _ stands.symbol))
         (subst (λ (x : RelocationKindInfo). value_by l x.kind k.term r.addend (place_of s.address r) ≡ f.value) e k.value) (subst (λ (x : RelocationKindInfo). allows x f.value ≡ true) e k.allowed) (held (plain kinds.Relative Four sign.Signed) e)
 
-    offset : (c : IsChosen l s r (slice_get s.relocations (i + 1)) PltOffToGotOff) → RowStands (question_of l s r c.symbol (slice_get s.relocations (i + 1))) PltOffToGotOff → row_of l.machine r_x86_64_gotoff64 ≡ Some k.info → RowHolds l w m s r
+    offset : (c : IsChosen l s r (slice_get s.relocations (i + 1)) PLT_OFF) → IsApplied (question_of l s r c.symbol (slice_get s.relocations (i + 1))) PLT_OFF → row_of l.machine r_x86_64_gotoff64 ≡ Some k.info → RowHolds l w m s r
     offset c stands known =
         let e = info_is r_x86_64_gotoff64 k.info (plain kinds.SymRelGotBase Eight sign.Signed) (row_here l r_x86_64_gotoff64 k.info h.placed.x86 known) gotoff64_row in
         stub_offset_holds l w m s i r k.term f.value h f.has.listed asked c.number (own_term (plain kinds.SymRelGotBase Eight sign.Signed) c.symbol e refl c.named (not-true _ stands.value) (not-true _ stands.symbol))
         (subst (λ (x : RelocationKindInfo). value_by l x.kind k.term r.addend (place_of s.address r) ≡ f.value) e k.value) (subst (λ (x : RelocationKindInfo). allows x f.value ≡ true) e k.allowed) (held (plain kinds.SymRelGotBase Eight sign.Signed) e)
 
-    by_row : (row : Row) → (row ≡ Plt32ToPc32) ⊎ (row ≡ PltOffToGotOff) → (c : IsChosen l s r (slice_get s.relocations (i + 1)) row) → RowStands (question_of l s r c.symbol (slice_get s.relocations (i + 1))) row → row_of l.machine (rewrite_of row).number ≡ Some k.info → RowHolds l w m s r
+    by_row : (row : Row) → (row ≡ PLT) ⊎ (row ≡ PLT_OFF) → (c : IsChosen l s r (slice_get s.relocations (i + 1)) row) → IsApplied (question_of l s r c.symbol (slice_get s.relocations (i + 1))) row → row_of l.machine (rewrite_of row).number ≡ Some k.info → RowHolds l w m s r
     by_row row (inl e) =
-        let P : Row → Type 0 = λ x. (c : IsChosen l s r (slice_get s.relocations (i + 1)) x) → RowStands (question_of l s r c.symbol (slice_get s.relocations (i + 1))) x → row_of l.machine (rewrite_of x).number ≡ Some k.info → RowHolds l w m s r in
+        let P : Row → Type 0 = λ x. (c : IsChosen l s r (slice_get s.relocations (i + 1)) x) → IsApplied (question_of l s r c.symbol (slice_get s.relocations (i + 1))) x → row_of l.machine (rewrite_of x).number ≡ Some k.info → RowHolds l w m s r in
         subst P (sym e) plt
     by_row row (inr e) =
-        let P : Row → Type 0 = λ x. (c : IsChosen l s r (slice_get s.relocations (i + 1)) x) → RowStands (question_of l s r c.symbol (slice_get s.relocations (i + 1))) x → row_of l.machine (rewrite_of x).number ≡ Some k.info → RowHolds l w m s r in
+        let P : Row → Type 0 = λ x. (c : IsChosen l s r (slice_get s.relocations (i + 1)) x) → IsApplied (question_of l s r c.symbol (slice_get s.relocations (i + 1))) x → row_of l.machine (rewrite_of x).number ≡ Some k.info → RowHolds l w m s r in
         subst P (sym e) offset

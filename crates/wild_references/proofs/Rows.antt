@@ -1,7 +1,7 @@
 -- Which row of rewrites stands at a relocation, and that none does.
 use Rattle.std.proofs.Common.{◌≡◌, ℕ, zero, suc, ◌≤◌, inl, inr, Bool, true, false, List, [], ◌∷◌, length, refl, arith, subst}
 use Rattle.std.specs.Prelude.{Option, Some, None, Ok, slice_get, ◌&&◌, ◌||◌, ◌==◌, not, if◌then◌else◌}
-use Rattle.std.proofs.lemmas.Bool.{cases_Bool, and_parts}
+use Rattle.std.proofs.lemmas.Bool.{cases_Bool}
 use Rattle.std.proofs.lemmas.Bool.Decides.{nat_tests}
 use Rattle.wild_records.specs.Abi.Relocation.{r_x86_64_pc32}
 use Rattle.wild_types.specs.declared.kind.Machine.{Machine}
@@ -10,6 +10,7 @@ use Rattle.wild_types.specs.declared.input.InputRelocation.{InputRelocation}
 use Rattle.wild_types.specs.Item.{Item}
 use Rattle.wild_types.specs.declared.layout.Layout.{Layout}
 use Rattle.wild_types.specs.Kinds.{is_executable}
+use Rattle.wild_types.specs.Lookups.{executable}
 use Rattle.wild_relax.specs.declared.pattern.Pattern.TheVariants as pattern
 use Rattle.wild_relax.specs.declared.reference.UnknownSequence.{UnknownSequence}
 use Rattle.wild_relax.specs.declared.row.Row.{Row}
@@ -17,11 +18,11 @@ use Rattle.wild_relax.specs.First.{first_standing, checked}
 use Rattle.wild_relax.specs.Pattern.{stands_before, stands_at}
 use Rattle.wild_relax.specs.Question.{Question, relocation_of, minus_four}
 use Rattle.wild_relax.specs.Relaxation.{chosen_of}
-use Rattle.wild_relax.specs.RowPatterns.{always_pattern, counts_from_its_end}
-use Rattle.wild_relax.specs.RowSymbols.{is_thread_local, takes_section, takes_symbol, takes_value}
+use Rattle.wild_relax.specs.RowSymbols.{takes_symbol, takes_value}
 use Rattle.wild_relax.specs.RowSequences.{has_its_sequence}
-use Rattle.wild_relax.specs.Rows.{rows_x86_64, number_of, is_mandatory, stands_anywhere, applies, unknown_sequence, standing_x86_64, chosen_x86_64}
-use Rattle.wild_relax.proofs.RowLemmas.{stands_first}
+use Rattle.wild_relax.specs.Rows.{rows_x86_64, applies, unknown_sequence, standing_x86_64, chosen_x86_64}
+use Rattle.wild_relax.specs.RowSymbols.{is_mandatory}
+use Rattle.wild_relax.proofs.RoomLemmas.{IsApplied, applied, chosen_is}
 use Rattle.wild_layout.specs.Choice.{question_of, choice_by, choice_of}
 use Rattle.wild_layout.proofs.ChoiceLemmas.{IsChosen}
 
@@ -39,14 +40,6 @@ none_stands stands (x ∷ xs) n r h e = by_test stands x xs n r (stands x) refl 
     by_test stands x xs n r true f h e again = cc
     by_test stands x xs n r false f h e again = by_place stands x xs n r f h e again
 
-checked_some : {R : Type 0} (has : R → Bool) (by : R → UnknownSequence) (o : Option R) (r : R) → checked has by o ≡ Ok (Some r) → o ≡ Some r
-checked_some has by None r h = cc
-checked_some has by (Some x) r h =
-    elim (cases_Bool (has x)) [
-      | inl t ↦ (let e : Ok (Some x) ≡ Ok (Some r) = rw t at h in cc)
-      | inr f ↦ cc (rw f at h)
-    ]
-
 checked_none : {R : Type 0} (has : R → Bool) (by : R → UnknownSequence) (o : Option R) → checked has by o ≡ Ok None → o ≡ None
 checked_none has by None h = refl
 checked_none has by (Some x) h =
@@ -57,34 +50,15 @@ checked_none has by (Some x) h =
 
 -- ---- the row of a question
 
-chosen_stands : (q : Question) (row : Row) → chosen_x86_64 q ≡ Ok (Some row) → applies q row ≡ true
-unfolding chosen_x86_64 standing_x86_64
-chosen_stands q row h = stands_first (applies q) rows_x86_64 row (checked_some (has_its_sequence q) (unknown_sequence q) (standing_x86_64 q) row h)
-
 not_chosen : (q : Question) (n : ℕ) (row : Row) → chosen_x86_64 q ≡ Ok None → slice_get rows_x86_64 n ≡ Some row → applies q row ≡ false
 unfolding chosen_x86_64 standing_x86_64
 not_chosen q n row h e = none_stands (applies q) rows_x86_64 n row (checked_none (has_its_sequence q) (unknown_sequence q) (standing_x86_64 q) h) e
 
--- what a row says that stands
-pub record RowStands (q : Question) (row : Row) : Type 0 where
-  pub symbol : takes_symbol row q ≡ true
-  pub value : takes_value row q ≡ true
-
-row_stands : (q : Question) (row : Row) → applies q row ≡ true → RowStands q row
-unfolding applies
-row_stands q row h =
-    let a = and_parts _ _ h in
-    let b = and_parts _ _ a.0 in
-    let c = and_parts _ _ b.0 in
-    let d = and_parts _ _ c.0 in
-    let e = and_parts _ _ d.0 in
-    record { symbol = e.1; value = c.1 }
-
 all_of : (a b c d e f g h : Bool) → a ≡ true → b ≡ true → c ≡ true → d ≡ true → e ≡ true → f ≡ true → g ≡ true → h ≡ true → (a && b && c && d && e && f && g && h) ≡ true
 all_of a b c d e f g h ea eb ec ed ee ef eg eh = rw (ea, eb, ec, ed, ee, ef, eg, eh) refl
 
-pub row_applies : (q : Question) (row : Row) → ((relocation_of q).number == number_of row) ≡ true → (q.relax || is_mandatory row q) ≡ true → takes_section row q ≡ true → takes_symbol row q ≡ true → (not (is_thread_local row) || is_executable q.kind) ≡ true → takes_value row q ≡ true
-    → (not (counts_from_its_end row) || minus_four (relocation_of q).addend) ≡ true → (stands_anywhere row || stands_before q.bytes (relocation_of q).offset (always_pattern row)) ≡ true → applies q row ≡ true
+pub row_applies : (q : Question) (row : Row) → ((relocation_of q).number == row.number) ≡ true → (q.relax || is_mandatory row.duty q) ≡ true → (not row.in_code || executable q.section_flags) ≡ true → takes_symbol row.symbol q ≡ true → (not row.thread_local || is_executable q.kind) ≡ true → takes_value row.value q ≡ true
+    → (not row.ends || minus_four (relocation_of q).addend) ≡ true → (row.anywhere || stands_before q.bytes (relocation_of q).offset row.always) ≡ true → applies q row ≡ true
 unfolding applies
 row_applies q row number duty section symbol thread value addend bytes = all_of _ _ _ _ _ _ _ _ number duty section symbol thread value addend bytes
 
@@ -96,8 +70,8 @@ nothing_stands bs o h = grind (arith, nat_tests, h)
 -- ---- the choice of a relocation
 
 -- what is chosen for a relocation stands there
-pub chosen_row : (l : Layout) (s : Item) (r : InputRelocation) (next : Option InputRelocation) (row : Row) → (c : IsChosen l s r next row) → RowStands (question_of l s r c.symbol next) row
-chosen_row l s r next row c = row_stands (question_of l s r c.symbol next) row (chosen_stands (question_of l s r c.symbol next) row c.chosen)
+pub chosen_row : (l : Layout) (s : Item) (r : InputRelocation) (next : Option InputRelocation) (row : Row) → (c : IsChosen l s r next row) → IsApplied (question_of l s r c.symbol next) row
+chosen_row l s r next row c = applied (question_of l s r c.symbol next) row (chosen_is (question_of l s r c.symbol next) row c.chosen).here
 
 -- where none is chosen no row stands
 pub unchosen : (l : Layout) (s : Item) (r : InputRelocation) (next : Option InputRelocation) (i n : ℕ) (row : Row) → choice_of l s r next ≡ Ok None → l.machine ≡ machine.X86_64 → r.symbol ≡ Some i → (r.number == r_x86_64_pc32) ≡ false → slice_get rows_x86_64 n ≡ Some row → applies (question_of l s r i next) row ≡ false

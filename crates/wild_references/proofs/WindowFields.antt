@@ -1,6 +1,6 @@
 -- The field of a relocation lies in what that writes, or in the sequence that takes it along.
 use Rattle.std.proofs.Common.{◌≡◌, ℕ, ◌+◌, ◌≤◌, ◌⊎◌, inl, inr, Bool, true, false, [], ◌∷◌, length, slice_range, refl, sym, ap, ◌∙◌, arith, subst}
-use Rattle.std.specs.Prelude.{Option, Some, Ok, ◌==◌, if◌then◌else◌, slice_get, None}
+use Rattle.std.specs.Prelude.{option_map, Option, Some, Ok, ◌==◌, if◌then◌else◌, slice_get, None}
 use Rattle.std.specs.List.{list_all}
 use Rattle.std.proofs.lemmas.Bool.{and_parts, eqb-true}
 use Rattle.std.proofs.lemmas.Option.{slice_get_within}
@@ -24,10 +24,11 @@ use Rattle.wild_reloc.proofs.TableLemmas.{entry_passes}
 use Rattle.wild_relax.specs.declared.reference.RelocationInfo.{RelocationInfo}
 use Rattle.wild_relax.specs.declared.row.Row.{Row}
 use Rattle.wild_relax.specs.Pattern.{field_of}
-use Rattle.wild_relax.specs.RowSequences.{has_its_sequence, partner_distance, call_form, is_call_number, is_partner_at}
-use Rattle.wild_relax.specs.Rows.{applies, number_of}
+use Rattle.wild_relax.specs.RowSequences.{has_its_sequence, partner_distance, call_form, is_call_number, is_partner_at, form_by}
+use Rattle.wild_relax.specs.Rows.{applies}
 use Rattle.wild_relax.specs.RowSequences as rows
 use Rattle.wild_relax.specs.Linked.{pattern_of, pattern_size}
+use Rattle.wild_relax.specs.declared.row.Partner as writer
 use Rattle.wild_relax.proofs.RoomLemmas.{partner_asked}
 use Rattle.wild_layout.specs.declared.decision.Decision.{Decision}
 use Rattle.wild_layout.specs.declared.decision.Decision.TheVariants.{Nothing, Field, Moved, Left, Rewritten, Partner}
@@ -63,20 +64,26 @@ pub record IsCall (r q : InputRelocation) (row : Row) (distance : ℕ) : Type 0 
   pub offset : q.offset ≡ r.offset + distance
   pub number : is_call_number (call_form row) q.number ≡ true
 
-partner_is : (row : Row) (distance : ℕ) (r next : RelocationInfo) → is_partner_at row r (Some distance) (Some next) ≡ true → (next.offset ≡ r.offset + distance) × (is_call_number (call_form row) next.number ≡ true)
+partner_is : (o : Option writer.Partner) (distance : ℕ) (r next : RelocationInfo) → option_map (λ (p : writer.Partner). p.distance) o ≡ Some distance → is_partner_at r o (Some next) ≡ true → (next.offset ≡ r.offset + distance) × (is_call_number (form_by o) next.number ≡ true)
 unfolding rows.is_partner
-partner_is row distance r next h =
+partner_is None distance r next e h = cc
+partner_is (Some p) distance r next e h =
+    let same : p.distance ≡ distance = cc in
     let a = and_parts _ _ h in
     let b = and_parts _ _ a.1 in
     let c = and_parts _ _ b.0 in
     let d = and_parts _ _ c.0 in
-    (eqb-true _ _ d.0, c.1)
+    (subst (λ (n : ℕ). next.offset ≡ r.offset + n) same (eqb-true _ _ d.0), c.1)
 
 pub call_is : (l : Layout) (s : Item) (r q : InputRelocation) (row : Row) (distance : ℕ) → IsRow l s r (Some q) row → partner_distance row ≡ Some distance → IsCall r q row distance
 call_is l s r q row distance is known =
     let has = partner_asked (question_of l s r is.chosen.symbol (Some q)) row is.whole in
-    let p = partner_is row distance (info_of l r) (info_of l q) (rw known at has) in
+    let p = partner_is row.partner distance (info_of l r) (info_of l q) known has in
     record { offset = p.0; number = p.1 }
+
+no_next : (o : Option writer.Partner) (distance : ℕ) (r : RelocationInfo) → option_map (λ (p : writer.Partner). p.distance) o ≡ Some distance → is_partner_at r o None ≡ true → ⊥
+no_next None distance r e h = cc
+no_next (Some p) distance r e h = cc
 
 -- the relocation behind is that of the call
 pub record HasCall (l : Layout) (s : Item) (i : ℕ) (r : InputRelocation) (row : Row) (distance : ℕ) : Type 0 where
@@ -91,8 +98,7 @@ partner_there l s i r row distance c known = by (slice_get s.relocations (i + 1)
     by None e c =
         let is = row_at l s r None row c in
         let has = partner_asked (question_of l s r is.chosen.symbol None) row is.whole in
-        let none : false ≡ true = rw known at has in
-        cc
+        absurd (no_next row.partner distance (info_of l r) known has)
     by (Some q) e c = record { next = q; listed = e; call = call_is l s r q row distance (row_at l s r (Some q) row c) known }
 
 -- ---- how wide a field is

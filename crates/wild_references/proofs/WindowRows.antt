@@ -1,56 +1,43 @@
 -- The row that stands at a relocation: what was asked of it, and where its field and its bytes lie.
-use Rattle.std.proofs.Common.{◌≡◌, ℕ, ◌+◌, ◌≤◌, inl, inr, Bool, true, false, refl, subst}
-use Rattle.std.specs.Prelude.{Option, Some, None, Ok, Err, not, ◌&&◌, ◌||◌, ◌==◌, nat_le, if◌then◌else◌}
+use Rattle.std.proofs.Common.{◌≡◌, ℕ, ◌+◌, ◌≤◌, inl, inr, Bool, true, false, refl}
+use Rattle.std.specs.Prelude.{Option, Some, None, Ok, not, ◌&&◌, ◌||◌, ◌==◌, nat_le, if◌then◌else◌}
 use Rattle.std.specs.List.{list_all}
 use Rattle.std.proofs.lemmas.Bool.{and_parts, eqb-true, leb-true, or_cases, and_from}
 use Rattle.wild_types.specs.Kinds.{is_executable}
+use Rattle.wild_types.specs.Lookups.{executable}
 use Rattle.wild_reloc.specs.Formula.{Formula}
 use Rattle.wild_reloc.specs.FormulaX86_64.{x86_64_formula}
-use Rattle.wild_relax.specs.declared.reference.UnknownSequence.{UnknownSequence}
 use Rattle.wild_relax.specs.declared.pattern.GeneralForm.{GeneralForm}
 use Rattle.wild_relax.specs.declared.pattern.GeneralForm.TheVariants as general
 use Rattle.wild_relax.specs.declared.row.Row.{Row}
-use Rattle.wild_relax.specs.First.{checked}
 use Rattle.wild_relax.specs.Question.{Question, relocation_of, minus_four}
 use Rattle.wild_relax.specs.Pattern.{field_of, stands, stands_before}
-use Rattle.wild_relax.specs.RowPatterns.{always_pattern, counts_from_its_end}
-use Rattle.wild_relax.specs.RowSymbols.{is_thread_local, takes_value, takes_symbol, takes_section}
+use Rattle.wild_relax.specs.RowSymbols.{takes_value, takes_symbol}
 use Rattle.wild_relax.specs.RowSequences.{partner_distance, call_form, is_call_number, has_its_sequence}
-use Rattle.wild_relax.specs.Rows.{rows_x86_64, number_of, is_mandatory, stands_anywhere, applies, standing_x86_64, unknown_sequence, chosen_x86_64}
+use Rattle.wild_relax.specs.Rows.{rows_x86_64, applies, chosen_x86_64}
+use Rattle.wild_relax.specs.RowSymbols.{is_mandatory}
 use Rattle.wild_relax.specs.Rewrite.{is_skip}
 use Rattle.wild_relax.specs.RewriteX86_64.{rewrite_of}
 use Rattle.wild_relax.specs.Linked.{pattern_of, pattern_size, keeps_bytes}
 use Rattle.wild_meaning.specs.Field.{form_width}
-use Rattle.wild_relax.proofs.RowLemmas.{stands_first, either}
-
--- ---- the first row that stands
-
-checked_is : {R : Type 0} (has : R → Bool) (by : R → UnknownSequence) (o : Option R) (r : R) → checked has by o ≡ Ok (Some r) → (o ≡ Some r) × (has r ≡ true)
-checked_is has by None r e = cc
-checked_is {R} has by (Some x) r e = here (has x) refl e
-  where
-    here : (b : Bool) → has x ≡ b → (if b then Ok (Some x) else Err (by x)) ≡ Ok (Some r) → (Some x ≡ Some r) × (has r ≡ true)
-    here true h e = let same : x ≡ r = cc in subst (λ (y : R). (Some x ≡ Some y) × (has y ≡ true)) same (refl, h)
-    here false h e = cc
+use Rattle.wild_relax.proofs.RowLemmas.{either}
+use Rattle.wild_relax.proofs.RoomLemmas.{chosen_is}
 
 -- a row that is chosen stands, with its sequence
 pub chosen_stands : (q : Question) (row : Row) → chosen_x86_64 q ≡ Ok (Some row) → (applies q row ≡ true) × (has_its_sequence q row ≡ true)
-unfolding chosen_x86_64 standing_x86_64
-chosen_stands q row e =
-    let c = checked_is (has_its_sequence q) (unknown_sequence q) (standing_x86_64 q) row e in
-    (stands_first (applies q) rows_x86_64 row c.0, c.1)
+chosen_stands q row e = let c = chosen_is q row e in (c.here, c.whole)
 
 -- ---- what is asked
 
 pub record Applied (q : Question) (row : Row) : Type 0 where
-  pub number : ((relocation_of q).number == number_of row) ≡ true
-  pub taken : (q.relax || is_mandatory row q) ≡ true
-  pub code : takes_section row q ≡ true
-  pub symbol : takes_symbol row q ≡ true
-  pub thread : (not (is_thread_local row) || is_executable q.kind) ≡ true
-  pub value : takes_value row q ≡ true
-  pub counts : (not (counts_from_its_end row) || minus_four (relocation_of q).addend) ≡ true
-  pub stands : (stands_anywhere row || stands_before q.bytes (relocation_of q).offset (always_pattern row)) ≡ true
+  pub number : ((relocation_of q).number == row.number) ≡ true
+  pub taken : (q.relax || is_mandatory row.duty q) ≡ true
+  pub code : (not row.in_code || executable q.section_flags) ≡ true
+  pub symbol : takes_symbol row.symbol q ≡ true
+  pub thread : (not row.thread_local || is_executable q.kind) ≡ true
+  pub value : takes_value row.value q ≡ true
+  pub counts : (not row.ends || minus_four (relocation_of q).addend) ≡ true
+  pub stands : (row.anywhere || stands_before q.bytes (relocation_of q).offset row.always) ≡ true
 
 pub applied : (q : Question) (row : Row) → applies q row ≡ true → Applied q row
 unfolding applies
@@ -80,7 +67,7 @@ width_of n = width_by (x86_64_formula n)
 
 -- the field lies among the bytes of the pattern
 abbrev lies : Row → Bool
-lies row = nat_le (field_of (pattern_of row) + width_of (number_of row)) (pattern_size row)
+lies row = nat_le (field_of (pattern_of row) + width_of row.number) (pattern_size row)
 
 -- how many bytes the field of a call has
 abbrev pub call_width : GeneralForm → ℕ
@@ -99,12 +86,12 @@ abbrev pub is_well : Row → Bool
 is_well row = (keeps_bytes row || lies row) && calls_well row
 
 pub each_is_well : list_all is_well rows_x86_64 ≡ true
-unfolding x86_64_formula
+unfolding x86_64_formula rows_x86_64
 each_is_well = refl
 
 -- ---- what each row has
 
-pub field_lies : (row : Row) → is_well row ≡ true → keeps_bytes row ≡ false → field_of (pattern_of row) + width_of (number_of row) ≤ pattern_size row
+pub field_lies : (row : Row) → is_well row ≡ true → keeps_bytes row ≡ false → field_of (pattern_of row) + width_of row.number ≤ pattern_size row
 field_lies row h k = let a = and_parts (false || lies row) (calls_well row) (rw k at h) in leb-true _ _ a.0
 
 -- what a row that writes a sequence has

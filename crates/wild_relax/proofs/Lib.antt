@@ -1,5 +1,4 @@
 pub mod StubLemmas
-pub mod EveryRow
 pub mod RewriteLemmas
 pub mod RoomLemmas
 pub mod ShapeLemmas

@@ -6,7 +6,7 @@ use Rattle.std.proofs.lemmas.Bool.{and_parts}
 use Rattle.wild_relax.specs.declared.row.Row.{Row}
 use Rattle.wild_relax.specs.Question.{Question, relocation_of}
 use Rattle.wild_relax.specs.First.{first_standing}
-use Rattle.wild_relax.specs.Rows.{rows_x86_64, number_of, applies, standing_x86_64}
+use Rattle.wild_relax.specs.Rows.{rows_x86_64, applies, standing_x86_64}
 use Rattle.wild_relax.specs.ByNumber.{rows_with}
 
 -- a row that does not pass the test does not stand
@@ -22,7 +22,7 @@ first_of_kept stands p [] passes = refl
 first_of_kept stands p (r ∷ rs) passes = kept_or_not stands p r rs (stands r) (p r) refl refl (passes r) (first_of_kept stands p rs passes)
 
 -- a row of another type does not stand
-of_its_number : (q : Question) (row : Row) → applies q row ≡ true → ((relocation_of q).number == number_of row) ≡ true
+of_its_number : (q : Question) (row : Row) → applies q row ≡ true → ((relocation_of q).number == row.number) ≡ true
 unfolding applies
 of_its_number q row h =
     let addend = and_parts _ _ (and_parts _ _ h).0 in
@@ -34,4 +34,4 @@ of_its_number q row h =
 
 pub standing_is : (q : Question) → first_standing (applies q) (rows_with (relocation_of q).number) ≡ standing_x86_64 q
 unfolding rows_with standing_x86_64
-standing_is q = first_of_kept (applies q) (λ row. (relocation_of q).number == number_of row) rows_x86_64 (of_its_number q)
+standing_is q = first_of_kept (applies q) (λ (row : Row). (relocation_of q).number == row.number) rows_x86_64 (of_its_number q)

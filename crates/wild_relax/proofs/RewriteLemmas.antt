@@ -1,47 +1,81 @@
--- What rewrites write: a relocation type that has a row, and as many bytes as they say, which lie in the pattern.
+-- What rewrites write: a relocation type that has a row, whose field is of bytes, and as many bytes as they say, which lie in the pattern.
 use Rattle.std.proofs.Common.{◌≡◌, ℕ, ◌+◌, ◌-◌, ◌≤◌, Bool, true, false, List, length, refl}
-use Rattle.std.specs.Prelude.{Option, Some, None, is_some, IsSome, ◌||◌, ◌==◌, nat_le}
-use Rattle.std.proofs.lemmas.Bool.{eqb-true, leb-true}
-use Rattle.wild_words.proofs.Basics.{or_other}
+use Rattle.std.specs.Prelude.{Option, Some, None, IsSome}
+use Rattle.std.proofs.lemmas.Bool.{leb-true, and_parts}
 use Rattle.wild_reloc.specs.TableX86_64.{x86_64_row}
+use Rattle.wild_reloc.specs.declared.info.RelocationSize.{RelocationSize}
+use Rattle.wild_reloc.specs.declared.info.RelocationSize.TheVariants.{ByteSize}
 use Rattle.wild_reloc.specs.declared.info.RelocationKindInfo.{RelocationKindInfo}
 use Rattle.wild_types.specs.Rows.{row_width}
+use Rattle.wild_relax.specs.declared.pattern.LocalForm.TheVariants as local
+use Rattle.wild_relax.specs.declared.row.Made.{Made}
+use Rattle.wild_relax.specs.declared.row.Made.TheVariants.{Kept, Lea, Load, Immediate, MovImmediate, DirectCall, DirectJump, Nop, LocalExec, LocalExecLarge, InitialExec, ThreadPointer}
+use Rattle.wild_relax.specs.declared.row.Written.{Written}
+use Rattle.wild_relax.specs.declared.row.Written.TheVariants as written
 use Rattle.wild_relax.specs.declared.row.Row.{Row}
 use Rattle.wild_relax.specs.Pattern.{field_of}
-use Rattle.wild_relax.specs.RewriteX86_64.{rewrite_of}
-use Rattle.wild_relax.specs.Linked.{pattern_of, pattern_size, keeps_bytes, field_in}
-use Rattle.wild_relax.proofs.EveryRow.{each_row}
+use Rattle.wild_relax.specs.RewriteX86_64.{change_of, made_bytes, number_written, rewrite_of}
+use Rattle.wild_relax.specs.Linked.{pattern_of, pattern_size, field_in, fits_in}
 
-abbrev has_row : Row → Bool
-has_row row = is_some (x86_64_row (rewrite_of row).number)
+-- the field has bytes alone, and the type has a row
+abbrev pub is_bytes : RelocationSize → Bool
+is_bytes (ByteSize w) = true
+is_bytes other = false
 
-some_is : {X : Type 0} (o : Option X) → is_some o ≡ true → (x : X) × (Some x ≡ o)
+abbrev pub are_bytes : Option RelocationKindInfo → Bool
+are_bytes None = false
+are_bytes (Some info) = is_bytes info.size
+
+pub in_bytes : (w : Written) → are_bytes (x86_64_row (number_written w)) ≡ true
+unfolding x86_64_row
+in_bytes written.Nothing = refl
+in_bytes written.Pc32 = refl
+in_bytes written.Plt32 = refl
+in_bytes written.Unsigned32 = refl
+in_bytes written.Signed32 = refl
+in_bytes written.GotTpOff = refl
+in_bytes written.TpOff32 = refl
+in_bytes written.GotOff64 = refl
+
+there : (o : Option RelocationKindInfo) → are_bytes o ≡ true → IsSome o
+there None h = cc
+there (Some info) h = refl
+
+pub written_has_row : (w : Written) → IsSome (x86_64_row (number_written w))
+written_has_row w = there (x86_64_row (number_written w)) (in_bytes w)
+
+-- the row of the type that is written
+some_is : {X : Type 0} (o : Option X) → IsSome o → (x : X) × (Some x ≡ o)
 some_is None h = cc
 some_is (Some x) h = (x, refl)
 
--- the row of the type that is written
 pub written_row : (row : Row) → (info : RelocationKindInfo) × (Some info ≡ x86_64_row (rewrite_of row).number)
-unfolding x86_64_row
-written_row row = some_is (x86_64_row (rewrite_of row).number) (each_row has_row refl row)
+written_row row = some_is (x86_64_row (number_written row.written)) (written_has_row row.written)
 
-pub written_has_row : (row : Row) → IsSome (x86_64_row (rewrite_of row).number)
-unfolding x86_64_row
-written_has_row row = each_row has_row refl row
+pub length-made_bytes : (m : Made) (old : List ℕ) → length (made_bytes m old) ≡ (change_of m).size
+length-made_bytes Kept old = refl
+length-made_bytes Lea old = refl
+length-made_bytes Load old = refl
+length-made_bytes (Immediate p o) old = refl
+length-made_bytes MovImmediate old = refl
+length-made_bytes DirectCall old = refl
+length-made_bytes DirectJump old = refl
+length-made_bytes Nop old = refl
+length-made_bytes LocalExec old = refl
+length-made_bytes LocalExecLarge old = refl
+length-made_bytes InitialExec old = refl
+length-made_bytes (ThreadPointer local.Regular) old = refl
+length-made_bytes (ThreadPointer local.Large) old = refl
+length-made_bytes (ThreadPointer local.NoPlt) old = refl
 
-pub length-bytes : (row : Row) (old : List ℕ) → length ((rewrite_of row).bytes old) ≡ (rewrite_of row).size
-length-bytes row old = eqb-true _ _ (each_row (λ (r : Row). length ((rewrite_of r).bytes old) == (rewrite_of r).size) refl row)
+-- what is written lies in the pattern
+pub record LiesIn (row : Row) : Type 0 where
+  pub begins : (rewrite_of row).back ≤ field_of (pattern_of row)
+  pub bytes : field_of (pattern_of row) - (rewrite_of row).back + (rewrite_of row).size ≤ pattern_size row
+  pub field : field_in row + row_width (x86_64_row (rewrite_of row).number) ≤ pattern_size row
 
--- the bytes lie in the pattern
-pub bytes_inside : (row : Row) → field_of (pattern_of row) - (rewrite_of row).back + (rewrite_of row).size ≤ pattern_size row
-bytes_inside row = leb-true _ _ (each_row (λ (r : Row). nat_le (field_of (pattern_of r) - (rewrite_of r).back + (rewrite_of r).size) (pattern_size r)) refl row)
-
--- and so does the field, where bytes around it change
-abbrev field_lies : Row → Bool
-field_lies row = nat_le (field_in row + row_width (x86_64_row (rewrite_of row).number)) (pattern_size row)
-
-each_field : (row : Row) → (keeps_bytes row || field_lies row) ≡ true
-unfolding x86_64_row
-each_field row = each_row (λ (r : Row). keeps_bytes r || field_lies r) refl row
-
-pub field_inside : (row : Row) → keeps_bytes row ≡ false → field_in row + row_width (x86_64_row (rewrite_of row).number) ≤ pattern_size row
-field_inside row h = leb-true _ _ (or_other (keeps_bytes row) (field_lies row) (each_field row) h)
+pub lies_in : (row : Row) → fits_in row ≡ true → LiesIn row
+lies_in row h =
+    let field = and_parts _ _ h in
+    let bytes = and_parts _ _ field.0 in
+    record { begins = leb-true _ _ bytes.0; bytes = leb-true _ _ bytes.1; field = leb-true _ _ field.1 }

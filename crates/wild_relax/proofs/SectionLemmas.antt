@@ -1,37 +1,31 @@
 -- A rewrite in its section.
-use Rattle.std.proofs.Common.{◌≡◌, ℕ, ◌+◌, ◌-◌, ◌≤◌, Bool, true, false, List, [], ◌∷◌, ◌++◌, length, take, drop, refl, sym, ap, ◌∙◌, arith, subst, ⊎_elim, inl, inr}
-use Rattle.std.specs.Prelude.{Some, Ok, ◌⊎◌, ◌||◌, not, nat_le, slice_range}
+use Rattle.std.proofs.Common.{◌≡◌, ℕ, ◌+◌, ◌-◌, ◌≤◌, Bool, true, false, List, [], ◌∷◌, ◌++◌, length, take, drop, refl, sym, ap, ◌∙◌, arith, subst}
+use Rattle.std.specs.Prelude.{Some, Ok, ◌||◌, not, slice_range}
 use Rattle.std.specs.List.{list_all}
-use Rattle.std.proofs.lemmas.Bool.{eqb-true, leb-true, and_parts}
+use Rattle.std.proofs.lemmas.Bool.{and_parts}
 use Rattle.std.proofs.lemmas.Bool.Decides.{nat_tests}
 use Rattle.std.proofs.lemmas.List.{drop-drop, take-take, drop-take, take-append-drop}
 use Rattle.std.proofs.lemmas.List.Elements.{All-nil, All-cons}
 use Rattle.wild_words.specs.Words.{place}
 use Rattle.wild_words.specs.Overlay.{Piece, PiecesOverAPart}
-use Rattle.wild_words.proofs.Basics.{length-range, implied, or_other}
+use Rattle.wild_words.proofs.Basics.{length-range, or_other, listed_passes}
 use Rattle.wild_reloc.specs.Field.{written}
 use Rattle.wild_reloc.proofs.PlaceLemmas.{length-size_written}
-use Rattle.wild_relax.specs.declared.pattern.GeneralForm.TheVariants as general
-use Rattle.wild_relax.specs.declared.pattern.LocalForm.TheVariants as local
 use Rattle.wild_relax.specs.declared.pattern.Pattern.{Pattern}
-use Rattle.wild_relax.specs.declared.row.DescriptorUse.TheVariants.{LocalExec, InitialExec}
+use Rattle.wild_relax.specs.declared.pattern.Pattern.TheVariants as pattern
 use Rattle.wild_relax.specs.declared.row.Row.{Row}
-use Rattle.wild_relax.specs.declared.row.Row.TheVariants.{IfuncThroughStub, RexGotToImmediate, RexGotMovToLea, GotMovToImmediate, GotMovToLea, IndirectCallToDirect, IndirectJumpToDirect, PlainGotMovToLea, InitialExecToLocalExec, Plt32ToPc32, PltOffToGotOff, GeneralDynamicToLocalExec, GeneralDynamicToInitialExec, LocalDynamicToLocalExec, DescriptorLea, DescriptorCall}
-use Rattle.wild_types.specs.Kinds.{is_executable}
+use Rattle.wild_reloc.specs.TableX86_64.{x86_64_row}
 use Rattle.wild_relax.specs.Question.{Question, relocation_of, minus_four}
 use Rattle.wild_relax.specs.Pattern.{cells_of, field_of, stands_before, stands_at}
-use Rattle.wild_relax.specs.RowPatterns.{always_pattern, needed_pattern, counts_from_its_end}
-use Rattle.wild_relax.specs.RowSymbols.{takes_symbol, takes_section, takes_value, is_thread_local}
-use Rattle.wild_relax.specs.RowSequences.{needs_its_end, has_partner, has_its_sequence}
-use Rattle.wild_relax.specs.Rows.{rows_x86_64, number_of, stands_anywhere, applies, chosen_x86_64}
+use Rattle.wild_relax.specs.RowSequences.{has_partner, has_its_sequence}
+use Rattle.wild_relax.specs.Rows.{rows_x86_64, chosen_x86_64}
 use Rattle.wild_relax.specs.Rewrite.{rewritten}
 use Rattle.wild_relax.specs.RewriteX86_64.{rewrite_of}
-use Rattle.wild_relax.specs.Linked.{pattern_of, keeps_bytes, field_in, IsChanging}
+use Rattle.wild_relax.specs.Linked.{either_pattern, pattern_of, keeps_bytes, field_in, fits_in, IsChanging}
 use Rattle.wild_relax.specs.Keep.{IsWhole}
 use Rattle.wild_relax.specs.Section.{start_of, window, field_after, ChosenStand, ChosenAreWhole, SectionsAreLinked}
-use Rattle.wild_relax.proofs.RoomLemmas.{chosen_is, always_stands, needed_stands}
-use Rattle.wild_relax.proofs.EveryRow.{each_row}
-use Rattle.wild_relax.proofs.RewriteLemmas.{length-bytes, bytes_inside}
+use Rattle.wild_relax.proofs.RoomLemmas.{chosen_is, always_stands, needed_stands, applied}
+use Rattle.wild_relax.proofs.RewriteLemmas.{length-made_bytes, lies_in}
 use Rattle.wild_relax.proofs.TemplateLemmas.{field_fits}
 
 -- ---- the pattern stands in the input
@@ -52,79 +46,30 @@ at_place bs offset p h =
       whole = record { long = length-range bs (offset - field_of p) (length (cells_of p)) inside; same = grind (arith, nat_tests) };
     }
 
--- the table has the row
-abbrev is_listed : Row → Bool
-is_listed (GeneralDynamicToInitialExec general.Large) = false
-is_listed other = true
+-- a row stands on the bytes that it needs, or always on its pattern
+abbrev pub stands_on : Pattern → Row → Bool
+stands_on pattern.Nothing row = not row.anywhere
+stands_on needed row = true
 
-each_is_listed : list_all is_listed rows_x86_64 ≡ true
-each_is_listed = refl
+each_stands_on : list_all (λ (row : Row). stands_on row.needed row) rows_x86_64 ≡ true
+unfolding rows_x86_64
+each_stands_on = refl
 
--- and so it changes bytes, or none
-changes : (row : Row) → is_listed row ≡ true → keeps_bytes row ≡ false → IsChanging row
-changes IfuncThroughStub l h = cc
-changes Plt32ToPc32 l h = cc
-changes PltOffToGotOff l h = cc
-changes (GeneralDynamicToInitialExec general.Regular) l h = tt
-changes (GeneralDynamicToInitialExec general.NoPlt) l h = tt
-changes (GeneralDynamicToInitialExec general.Large) l h = cc
-changes other l h = tt
-
--- the row stands only on that pattern
-record IsAlways (row : Row) : Type 0 where
-  same : pattern_of row ≡ always_pattern row
-  somewhere : not (stands_anywhere row) ≡ true
-
-pattern_is : (row : Row) → IsAlways row ⊎ (pattern_of row ≡ needed_pattern row)
-pattern_is IfuncThroughStub = inl (record { same = refl; somewhere = refl })
-pattern_is (RexGotToImmediate p o) = inl (record { same = refl; somewhere = refl })
-pattern_is (RexGotMovToLea p) = inl (record { same = refl; somewhere = refl })
-pattern_is GotMovToImmediate = inl (record { same = refl; somewhere = refl })
-pattern_is GotMovToLea = inl (record { same = refl; somewhere = refl })
-pattern_is IndirectCallToDirect = inl (record { same = refl; somewhere = refl })
-pattern_is IndirectJumpToDirect = inl (record { same = refl; somewhere = refl })
-pattern_is PlainGotMovToLea = inl (record { same = refl; somewhere = refl })
-pattern_is (InitialExecToLocalExec p o) = inl (record { same = refl; somewhere = refl })
-pattern_is Plt32ToPc32 = inl (record { same = refl; somewhere = refl })
-pattern_is PltOffToGotOff = inl (record { same = refl; somewhere = refl })
-pattern_is (GeneralDynamicToLocalExec f) = inl (record { same = refl; somewhere = refl })
-pattern_is (GeneralDynamicToInitialExec f) = inl (record { same = refl; somewhere = refl })
-pattern_is (LocalDynamicToLocalExec f) = inr refl
-pattern_is (DescriptorLea p u) = inr refl
-pattern_is DescriptorCall = inr refl
+either_at : (bs : List ℕ) (offset : ℕ) (row : Row) (n : Pattern) → (not row.anywhere ≡ true → IsAt bs offset row.always) → IsAt bs offset n → stands_on n row ≡ true → IsAt bs offset (either_pattern n row.always)
+either_at bs offset row pattern.Nothing always needed h = always h
+either_at bs offset row other always needed h = needed
 
 pub chosen_at : (q : Question) (row : Row) → chosen_x86_64 q ≡ Ok (Some row) → IsAt q.bytes (relocation_of q).offset (pattern_of row)
 chosen_at q row e =
-    let first = chosen_is q is_listed row each_is_listed e in
-    let P : Pattern → Type 0 = λ p. IsAt q.bytes (relocation_of q).offset p in
-    ⊎_elim
-    (λ h. subst P (sym h.same) (at_place q.bytes (relocation_of q).offset (always_pattern row) (always_stands q row first.here h.somewhere)))
-    (λ h. subst P (sym h) (at_place q.bytes (relocation_of q).offset (needed_pattern row) (needed_stands q row first.whole)))
-    (pattern_is row)
-
--- what a row that stands takes
-record IsApplied (q : Question) (row : Row) : Type 0 where
-  number : (relocation_of q).number ≡ number_of row
-  symbol : takes_symbol row q ≡ true
-  section : takes_section row q ≡ true
-  value : takes_value row q ≡ true
-  thread : (not (is_thread_local row) || is_executable q.kind) ≡ true
-  addend : (not (counts_from_its_end row) || minus_four (relocation_of q).addend) ≡ true
-
-applied : (q : Question) (row : Row) → applies q row ≡ true → IsApplied q row
-unfolding applies
-applied q row h =
-    let addend = and_parts _ _ (and_parts _ _ h).0 in
-    let value = and_parts _ _ addend.0 in
-    let thread = and_parts _ _ value.0 in
-    let symbol = and_parts _ _ thread.0 in
-    let section = and_parts _ _ symbol.0 in
-    let number = and_parts _ _ section.0 in
-    record { number = eqb-true _ _ number.0; symbol = symbol.1; section = section.1; value = value.1; thread = thread.1; addend = addend.1 }
+    let first = chosen_is q row e in
+    either_at q.bytes (relocation_of q).offset row row.needed
+    (λ h. at_place q.bytes (relocation_of q).offset row.always (always_stands q row first.here h))
+    (at_place q.bytes (relocation_of q).offset row.needed (needed_stands q row first.whole))
+    (listed_passes (λ (r : Row). stands_on r.needed r) rows_x86_64 row each_stands_on first.listed)
 
 -- and what its sequence has
 record HasSequence (q : Question) (row : Row) : Type 0 where
-  addend : (not (needs_its_end row) || minus_four (relocation_of q).addend) ≡ true
+  addend : (not row.needs_end || minus_four (relocation_of q).addend) ≡ true
   partner : has_partner row q ≡ true
 
 sequence_has : (q : Question) (row : Row) → has_its_sequence q row ≡ true → HasSequence q row
@@ -140,7 +85,7 @@ joined false b m h k = k
 
 pub chosen_stand : ChosenStand
 chosen_stand q row e =
-    let first = chosen_is q is_listed row each_is_listed e in
+    let first = chosen_is q row e in
     let at = chosen_at q row e in
     let row_takes = applied q row first.here in
     let has = sequence_has q row first.whole in
@@ -153,12 +98,12 @@ chosen_stand q row e =
         section = row_takes.section;
         value = row_takes.value;
         thread = row_takes.thread;
-        addend = joined (counts_from_its_end row) (needs_its_end row) (minus_four (relocation_of q).addend) row_takes.addend has.addend;
+        addend = joined row.ends row.needs_end (minus_four (relocation_of q).addend) row_takes.addend has.addend;
         partner = has.partner;
       };
       before = at.before;
       inside = at.inside;
-      changing = changes row first.listed;
+      listed = first.listed;
     }
 
 pub chosen_are_whole : ChosenAreWhole
@@ -166,31 +111,15 @@ chosen_are_whole q row e = (chosen_at q row e).whole
 
 -- ---- the rewrite and the field lie in the pattern
 
--- a row that changes bytes begins in its pattern
-abbrev begins_inside : Row → Bool
-begins_inside row = keeps_bytes row || (not (is_listed row) || nat_le (rewrite_of row).back (field_of (pattern_of row)))
+abbrev pub keeps_or_fits : Row → Bool
+keeps_or_fits row = keeps_bytes row || fits_in row
 
-back_inside : (row : Row) → keeps_bytes row ≡ false → is_listed row ≡ true → (rewrite_of row).back ≤ field_of (pattern_of row)
-back_inside row keeps listed =
-    let h = or_other (keeps_bytes row) (not (is_listed row) || nat_le (rewrite_of row).back (field_of (pattern_of row))) (each_row begins_inside refl row) keeps in
-    leb-true _ _ (implied (is_listed row) (nat_le (rewrite_of row).back (field_of (pattern_of row))) h listed)
+each_fits : list_all keeps_or_fits rows_x86_64 ≡ true
+unfolding rows_x86_64 x86_64_row
+each_fits = refl
 
-changing_writes : (row : Row) → IsChanging row → (keeps_bytes row ≡ false) × (is_listed row ≡ true)
-changing_writes IfuncThroughStub c = absurd c
-changing_writes Plt32ToPc32 c = absurd c
-changing_writes PltOffToGotOff c = absurd c
-changing_writes (GeneralDynamicToLocalExec general.Regular) c = (refl, refl)
-changing_writes (GeneralDynamicToLocalExec general.NoPlt) c = (refl, refl)
-changing_writes (GeneralDynamicToLocalExec general.Large) c = (refl, refl)
-changing_writes (GeneralDynamicToInitialExec general.Regular) c = (refl, refl)
-changing_writes (GeneralDynamicToInitialExec general.NoPlt) c = (refl, refl)
-changing_writes (GeneralDynamicToInitialExec general.Large) c = absurd c
-changing_writes (LocalDynamicToLocalExec local.Regular) c = (refl, refl)
-changing_writes (LocalDynamicToLocalExec local.NoPlt) c = (refl, refl)
-changing_writes (LocalDynamicToLocalExec local.Large) c = (refl, refl)
-changing_writes (DescriptorLea p LocalExec) c = (refl, refl)
-changing_writes (DescriptorLea p InitialExec) c = (refl, refl)
-changing_writes other c = (refl, refl)
+pub changing_fits : (row : Row) → IsChanging row → fits_in row ≡ true
+changing_fits row c = or_other (keeps_bytes row) (fits_in row) (listed_passes keeps_or_fits rows_x86_64 row each_fits c.listed) c.changes
 
 -- ---- the section
 
@@ -227,15 +156,16 @@ sections_are_linked over q row info value chosen known e =
     let part = window q row in
     let w = rewrite_of row in
     let k = field_of (pattern_of row) - w.back in
-    let writes = changing_writes row known in
-    let back = back_inside row writes.0 writes.1 in
-    let bytes_fit = bytes_inside row in
-    let room_is = field_fits row info writes.0 e in
+    let fits = changing_fits row known in
+    let lies = lies_in row fits in
+    let back = lies.begins in
+    let bytes_fit = lies.bytes in
+    let room_is = field_fits row info fits e in
     let before = at.before in
     let within = at.inside in
     let long : length part ≡ n = at.whole.long in
     let field_is = length-size_written info.size value [] in
-    let size_is = length-bytes row (slice_range part k (k + w.size)) in
+    let size_is = length-made_bytes row.made (slice_range part k (k + w.size)) in
     let same : place s part xs ≡ xs = place_same s n xs within in
     let a : o - w.back ≡ s + k = omega arith in
     let b : field_after q row ≡ s + field_in row = omega arith in

@@ -2,8 +2,8 @@
 use Rattle.std.specs.Prelude.{ℕ, ◌==◌, List}
 use Rattle.std.specs.List.{filter}
 use Rattle.wild_relax.specs.declared.row.Row.{Row}
-use Rattle.wild_relax.specs.Rows.{rows_x86_64, number_of}
+use Rattle.wild_relax.specs.Rows.{rows_x86_64}
 
 -- those of all rows that stand at that type, in order
 unfoldable pub rows_with : ℕ → List Row
-rows_with number = filter (λ row. number == number_of row) rows_x86_64
+rows_with number = filter (λ (row : Row). number == row.number) rows_x86_64

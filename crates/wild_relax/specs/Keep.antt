@@ -1,5 +1,5 @@
 -- The law of the rewrites of x86-64: what is written in place of an instruction does what the instruction demands of its operand.
---   Lands row read p v value the value that the field holds at p is the one by which the operand reads as v
+--   Lands w read p v value   the value that the field holds at p is the one by which the operand reads as v
 --   RowsKeep                 the law
 use Rattle.std.specs.Prelude.{◌≡◌, ℕ, ◌+◌, ◌-◌, ◌%◌, ◌^◌, ◌<◌, true, List, length, Option, Some}
 use Rattle.wild_reloc.specs.Field.{allows}
@@ -10,11 +10,13 @@ use Rattle.wild_loader.specs.declared.instruction.Deed.TheVariants.{Nothing}
 use Rattle.wild_loader.specs.Instruction.{Reader, Effect, sum_64}
 use Rattle.wild_loader.specs.InstructionX86_64.{effect_x86_64, demand_x86_64}
 use Rattle.wild_relax.specs.declared.pattern.Cell.{Cell}
-use Rattle.wild_relax.specs.declared.row.DescriptorUse.TheVariants.{LocalExec, InitialExec}
+use Rattle.wild_relax.specs.declared.row.Made.{Made}
+use Rattle.wild_relax.specs.declared.row.Made.TheVariants.{Nop}
+use Rattle.wild_relax.specs.declared.row.Written.{Written}
+use Rattle.wild_relax.specs.declared.row.Written.TheVariants as written
 use Rattle.wild_relax.specs.declared.row.Row.{Row}
-use Rattle.wild_relax.specs.declared.row.Row.TheVariants.{RexGotToImmediate, RexGotMovToLea, GotMovToImmediate, GotMovToLea, IndirectCallToDirect, IndirectJumpToDirect, PlainGotMovToLea, InitialExecToLocalExec, GeneralDynamicToLocalExec, GeneralDynamicToInitialExec, LocalDynamicToLocalExec, DescriptorLea, DescriptorCall}
 use Rattle.wild_relax.specs.Pattern.{cells_of, stands}
-use Rattle.wild_relax.specs.RewriteX86_64.{rewrite_of}
+use Rattle.wild_relax.specs.RewriteX86_64.{number_written}
 use Rattle.wild_relax.specs.Linked.{pattern_of, IsChanging, field_in, linked}
 
 -- the bytes are that pattern
@@ -30,23 +32,14 @@ ReadsNumbers read = (n : ℕ) → read (Number n) ≡ Some n
 abbrev pub distance : (v p : ℕ) → ℕ
 distance v p = (v + (2 ^ 64 - 4) + (2 ^ 64 - p % 2 ^ 64)) % 2 ^ 64
 
--- by its relocation type the field holds the distance of v, v itself, or the distance of a slot that holds v; the output's own
--- thread-local data begin at offset 0 of themselves; and a descriptor's call has no operand
-abbrev pub Lands : Row → Reader → ℕ → ℕ → ℕ → Type 0
-Lands (RexGotToImmediate p o) read place v value = value ≡ v
-Lands (RexGotMovToLea p) read place v value = value ≡ distance v place
-Lands GotMovToImmediate read place v value = value ≡ v
-Lands GotMovToLea read place v value = value ≡ distance v place
-Lands IndirectCallToDirect read place v value = value ≡ distance v place
-Lands IndirectJumpToDirect read place v value = value ≡ distance v place
-Lands PlainGotMovToLea read place v value = value ≡ distance v place
-Lands (InitialExecToLocalExec p o) read place v value = value ≡ v
-Lands (GeneralDynamicToLocalExec f) read place v value = value ≡ v
-Lands (GeneralDynamicToInitialExec f) read place v value = read (Word (sum_64 (place + 4) value)) ≡ Some v
-Lands (LocalDynamicToLocalExec f) read place v value = v ≡ 0
-Lands (DescriptorLea p LocalExec) read place v value = value ≡ v
-Lands (DescriptorLea p InitialExec) read place v value = read (Word (sum_64 (place + 4) value)) ≡ Some v
-Lands other read place v value = Unit {0}
+-- by its relocation type the field holds the distance of v, v itself, or the distance of a slot that holds v; without a field the
+-- operand is the start of the output's own thread-local data, which is offset 0 of themselves
+abbrev pub Lands : Written → Reader → ℕ → ℕ → ℕ → Type 0
+Lands written.Pc32 read place v value = value ≡ distance v place
+Lands written.Plt32 read place v value = value ≡ distance v place
+Lands written.GotTpOff read place v value = read (Word (sum_64 (place + 4) value)) ≡ Some v
+Lands written.Nothing read place v value = v ≡ 0
+Lands other read place v value = value ≡ v
 
 -- nothing is done
 abbrev pub no_effect : Effect
@@ -54,23 +47,23 @@ no_effect = record { deed = Nothing; width = 64; value = 0 }
 
 -- the effect of the input's bytes where their operand reads as v; where descriptors' values are offsets, the call through one
 -- has nothing to do
-abbrev pub demanded : Row → ℕ → ℕ → List ℕ → Option Effect
-demanded DescriptorCall v a old = Some no_effect
-demanded row v a old = demand_x86_64 v a old
+abbrev pub demanded : Made → ℕ → ℕ → List ℕ → Option Effect
+demanded Nop v a old = Some no_effect
+demanded other v a old = demand_x86_64 v a old
 
 abbrev pub Keeps : Row → RelocationKindInfo → Reader → ℕ → ℕ → ℕ → List ℕ → Type 0
-Keeps row info read a v value old = effect_x86_64 read a (linked row info value old) ≡ demanded row v a old
+Keeps row info read a v value old = effect_x86_64 read a (linked row info value old) ≡ demanded row.made v a old
 
--- a value that the field takes, and that lands
-pub record IsField (row : Row) (info : RelocationKindInfo) (read : Reader) (a v value : ℕ) : Type 0 where
-  pub row_of : Some info ≡ x86_64_row (rewrite_of row).number
+-- a value that the field at that place takes, and that lands
+pub record IsField (w : Written) (info : RelocationKindInfo) (read : Reader) (place v value : ℕ) : Type 0 where
+  pub row_of : Some info ≡ x86_64_row (number_written w)
   pub allowed : allows info value ≡ true
   pub small : value < 2 ^ 64
   pub operand : v < 2 ^ 64
   pub numbers : ReadsNumbers read
-  pub lands : Lands row read (a + field_in row) v value
+  pub lands : Lands w read place v value
 
 -- at any address a and for any operand
 abbrev pub RowsKeep : Type 0
 RowsKeep = (row : Row) (info : RelocationKindInfo) (read : Reader) (a v value : ℕ) (old : List ℕ) → IsChanging row → IsWhole (cells_of (pattern_of row)) old
-    → IsField row info read a v value → Keeps row info read a v value old
+    → IsField row.written info read (a + field_in row) v value → Keeps row info read a v value old

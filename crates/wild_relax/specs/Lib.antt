@@ -3,7 +3,6 @@ pub mod Pattern
 pub mod First
 pub mod Rewrite
 pub mod RewriteX86_64
-pub mod RowPatterns
 pub mod RowSymbols
 pub mod RowSequences
 pub mod Rows

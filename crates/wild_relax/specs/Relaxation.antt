@@ -8,12 +8,13 @@ use Rattle.wild_relax.specs.declared.reference.UnknownSequence.{UnknownSequence}
 use Rattle.wild_relax.specs.declared.row.Row.{Row}
 use Rattle.wild_relax.specs.declared.x86_64.ElfX86_64Relaxation.{ElfX86_64Relaxation}
 use Rattle.wild_relax.specs.Question.{Question}
-use Rattle.wild_relax.specs.Rows.{is_mandatory, chosen_x86_64}
+use Rattle.wild_relax.specs.Rows.{chosen_x86_64}
+use Rattle.wild_relax.specs.RowSymbols.{is_mandatory}
 
 -- with whether it is taken also where rewriting is off
 abbrev pub with_duty : Question → Result (Option Row) UnknownSequence → Result (Option ElfX86_64Relaxation) UnknownSequence
 with_duty q (Ok None) = Ok None
-with_duty q (Ok (Some row)) = Ok (Some (record { row = row; mandatory = is_mandatory row q }))
+with_duty q (Ok (Some row)) = Ok (Some (record { row = row; mandatory = is_mandatory row.duty q }))
 with_duty q (Err e) = Err e
 
 -- the first row that stands, as a rewrite

@@ -1,20 +1,22 @@
 -- What the rows of x86-64 write (Intel SDM; x86-64 psABI, "Linker Optimization"; "ELF Handling For Thread-Local Storage", "Linker
 -- Relaxations").
 --   rewrite_of row   the bytes, the place of the field, its relocation type and its addend
-use Rattle.std.specs.Prelude.{ℕ, ℤ, pos, ◌+◌, ◌*◌, ◌/◌, ◌%◌, ◌==◌, Bool, ◌||◌, if◌then◌else◌, List, [], ◌∷◌, ◌++◌, slice_index}
+use Rattle.std.specs.Prelude.{ℕ, ℤ, pos, ◌+◌, ◌*◌, ◌/◌, ◌%◌, ◌==◌, Bool, ◌||◌, if◌then◌else◌, List, [], ◌∷◌, ◌++◌, slice_index, Option, Some, None, replicate, true, false}
 use Rattle.wild_records.specs.Abi.Relocation as abi
 use Rattle.wild_relax.specs.declared.pattern.Prefix.{Prefix}
 use Rattle.wild_relax.specs.declared.pattern.Prefix.TheVariants.{Rex, Rex2}
 use Rattle.wild_relax.specs.declared.pattern.Operation.{Operation}
 use Rattle.wild_relax.specs.declared.pattern.Operation.TheVariants as operation
-use Rattle.wild_relax.specs.declared.pattern.GeneralForm.TheVariants as general
 use Rattle.wild_relax.specs.declared.pattern.LocalForm.TheVariants as local
-use Rattle.wild_relax.specs.declared.row.DescriptorUse.TheVariants.{LocalExec, InitialExec}
 use Rattle.wild_relax.specs.declared.row.Row.{Row}
-use Rattle.wild_relax.specs.declared.row.Row.TheVariants.{IfuncThroughStub, RexGotToImmediate, RexGotMovToLea, GotMovToImmediate, GotMovToLea, IndirectCallToDirect, IndirectJumpToDirect, PlainGotMovToLea, InitialExecToLocalExec, Plt32ToPc32, PltOffToGotOff, GeneralDynamicToLocalExec, GeneralDynamicToInitialExec, LocalDynamicToLocalExec, DescriptorLea, DescriptorCall}
+use Rattle.wild_relax.specs.declared.row.Made.{Made}
+use Rattle.wild_relax.specs.declared.row.Made.TheVariants.{Kept, Lea, Load, Immediate, MovImmediate, DirectCall, DirectJump, Nop, LocalExec, LocalExecLarge, InitialExec, ThreadPointer}
+use Rattle.wild_relax.specs.declared.row.Partner.{Partner}
+use Rattle.wild_relax.specs.declared.row.Written.{Written}
+use Rattle.wild_relax.specs.declared.row.Written.TheVariants as written
+use Rattle.wild_relax.specs.declared.rewrite.Change.{Change}
 use Rattle.wild_relax.specs.declared.relaxation.RelocationModifier.TheVariants.{Normal, SkipNextRelocation}
-use Rattle.wild_relax.specs.declared.relaxation.RelaxationKind.{RelaxationKind}
-use Rattle.wild_relax.specs.declared.relaxation.RelaxationKind.TheVariants as kinds
+use Rattle.wild_relax.specs.declared.relaxation.RelocationModifier.{RelocationModifier}
 use Rattle.wild_relax.specs.Rewrite.{Rewrite}
 
 -- ---- bytes
@@ -60,87 +62,77 @@ local_exec_bytes = thread_pointer_bytes ++ (0x48 ∷ 0x8d ∷ 0x80 ∷ 0 ∷ 0 �
 abbrev pub initial_exec_bytes : List ℕ
 initial_exec_bytes = thread_pointer_bytes ++ (0x48 ∷ 0x03 ∷ 0x05 ∷ 0 ∷ 0 ∷ 0 ∷ 0 ∷ [])
 
+abbrev pub made_bytes : Made → List ℕ → List ℕ
+made_bytes Kept old = []
+made_bytes Lea old = 0x8d ∷ []
+made_bytes Load old = 0x8b ∷ []
+made_bytes (Immediate p o) old = immediate_bytes p o old
+made_bytes MovImmediate old = mov_immediate_bytes old
+made_bytes DirectCall old = 0x67 ∷ 0xe8 ∷ []
+made_bytes DirectJump old = 0xe9 ∷ 0 ∷ 0 ∷ 0 ∷ 0 ∷ 0x90 ∷ []
+made_bytes Nop old = 0x66 ∷ 0x90 ∷ []
+made_bytes LocalExec old = local_exec_bytes
+made_bytes LocalExecLarge old = local_exec_bytes ++ replicate 6 0x90
+made_bytes InitialExec old = initial_exec_bytes
+made_bytes (ThreadPointer local.Regular) old = 0x66 ∷ 0x66 ∷ 0x66 ∷ thread_pointer_bytes
+made_bytes (ThreadPointer local.Large) old = thread_pointer_bytes ++ replicate 13 0x90
+made_bytes (ThreadPointer local.NoPlt) old = thread_pointer_bytes ++ replicate 4 0x90
+
+-- ---- their place
+
+-- so many bytes, from so many before the field on; the field stands so far behind their start then
+abbrev pub change : (back size field : ℕ) → (keeps : Bool) → Change
+change back size field keeps = record { back = back; size = size; field = field; keeps_addend = keeps }
+
+abbrev pub change_of : Made → Change
+change_of Kept = change 0 0 0 true
+change_of Lea = change 2 1 2 true
+change_of Load = change 2 1 2 true
+change_of (Immediate p o) = change 3 3 3 false
+change_of MovImmediate = change 2 2 2 false
+change_of DirectCall = change 2 2 2 true
+change_of DirectJump = change 2 6 1 true
+change_of Nop = change 0 2 0 true
+change_of LocalExec = change 4 16 12 false
+change_of LocalExecLarge = change 3 22 12 false
+change_of InitialExec = change 4 16 12 true
+change_of (ThreadPointer local.Regular) = change 3 12 3 true
+change_of (ThreadPointer local.Large) = change 3 22 3 true
+change_of (ThreadPointer local.NoPlt) = change 3 13 3 true
+
+-- an immediate counts from nothing, a distance from the end of its field
+abbrev pub addend_by : Bool → ℤ → ℤ
+addend_by true a = a
+addend_by false a = pos 0
+
 -- ---- rewrites
 
-abbrev pub same : ℤ → ℤ
-same a = a
+abbrev pub number_written : Written → ℕ
+number_written written.Nothing = abi.r_x86_64_none
+number_written written.Pc32 = abi.r_x86_64_pc32
+number_written written.Plt32 = abi.r_x86_64_plt32
+number_written written.Unsigned32 = abi.r_x86_64_32
+number_written written.Signed32 = abi.r_x86_64_32s
+number_written written.GotTpOff = abi.r_x86_64_gottpoff
+number_written written.TpOff32 = abi.r_x86_64_tpoff32
+number_written written.GotOff64 = abi.r_x86_64_gotoff64
 
-abbrev pub none : ℤ → ℤ
-none a = pos 0
-
--- no byte but the field's changes
-abbrev pub kept : ℕ → Rewrite
-kept number = record { back = 0; size = 0; bytes = λ old. []; field = 0; number = number; addend = same; next = Normal }
-
--- another opcode, two bytes before the field
-abbrev pub with_opcode : ℕ → ℕ → Rewrite
-with_opcode opcode number = record { back = 2; size = 1; bytes = λ old. opcode ∷ []; field = 2; number = number; addend = same; next = Normal }
-
--- an immediate in place of the slot
-abbrev pub with_immediate : Prefix → Operation → ℕ → Rewrite
-with_immediate p o number = record { back = 3; size = 3; bytes = immediate_bytes p o; field = 3; number = number; addend = none; next = Normal }
-
--- a whole sequence, whose call has the next relocation
-abbrev pub with_sequence : (back size : ℕ) → List ℕ → (field number : ℕ) → (ℤ → ℤ) → Rewrite
-with_sequence back size bytes field number addend = record { back = back; size = size; bytes = λ old. bytes; field = field; number = number; addend = addend; next = SkipNextRelocation }
+-- the call of a sequence has the next relocation
+abbrev pub next_by : Option Partner → RelocationModifier
+next_by None = Normal
+next_by (Some p) = SkipNextRelocation
 
 abbrev pub rewrite_of : Row → Rewrite
-rewrite_of IfuncThroughStub = kept abi.r_x86_64_plt32
-rewrite_of (RexGotToImmediate p o) = with_immediate p o abi.r_x86_64_32s
-rewrite_of (RexGotMovToLea p) = with_opcode 0x8d abi.r_x86_64_pc32
-rewrite_of GotMovToImmediate = record { back = 2; size = 2; bytes = mov_immediate_bytes; field = 2; number = abi.r_x86_64_32; addend = none; next = Normal }
-rewrite_of GotMovToLea = with_opcode 0x8d abi.r_x86_64_pc32
-rewrite_of IndirectCallToDirect = record { back = 2; size = 2; bytes = λ old. 0x67 ∷ 0xe8 ∷ []; field = 2; number = abi.r_x86_64_pc32; addend = same; next = Normal }
-rewrite_of IndirectJumpToDirect = record { back = 2; size = 6; bytes = λ old. 0xe9 ∷ 0 ∷ 0 ∷ 0 ∷ 0 ∷ 0x90 ∷ []; field = 1; number = abi.r_x86_64_pc32; addend = same; next = Normal }
-rewrite_of PlainGotMovToLea = with_opcode 0x8d abi.r_x86_64_pc32
-rewrite_of (InitialExecToLocalExec p o) = with_immediate p o abi.r_x86_64_tpoff32
-rewrite_of Plt32ToPc32 = kept abi.r_x86_64_pc32
-rewrite_of PltOffToGotOff = kept abi.r_x86_64_gotoff64
-rewrite_of (GeneralDynamicToLocalExec general.Large) = with_sequence 3 22 (local_exec_bytes ++ (0x90 ∷ 0x90 ∷ 0x90 ∷ 0x90 ∷ 0x90 ∷ 0x90 ∷ [])) 12 abi.r_x86_64_tpoff32 none
-rewrite_of (GeneralDynamicToLocalExec f) = with_sequence 4 16 local_exec_bytes 12 abi.r_x86_64_tpoff32 none
-rewrite_of (GeneralDynamicToInitialExec f) = with_sequence 4 16 initial_exec_bytes 12 abi.r_x86_64_gottpoff same
-rewrite_of (LocalDynamicToLocalExec local.Regular) = with_sequence 3 12 (0x66 ∷ 0x66 ∷ 0x66 ∷ thread_pointer_bytes) 3 abi.r_x86_64_none same
-rewrite_of (LocalDynamicToLocalExec local.Large) = with_sequence 3 22 (thread_pointer_bytes ++ (0x90 ∷ 0x90 ∷ 0x90 ∷ 0x90 ∷ 0x90 ∷ 0x90 ∷ 0x90 ∷ 0x90 ∷ 0x90 ∷ 0x90 ∷ 0x90 ∷ 0x90 ∷ 0x90 ∷ [])) 3 abi.r_x86_64_none same
-rewrite_of (LocalDynamicToLocalExec local.NoPlt) = with_sequence 3 13 (thread_pointer_bytes ++ (0x90 ∷ 0x90 ∷ 0x90 ∷ 0x90 ∷ [])) 3 abi.r_x86_64_none same
-rewrite_of (DescriptorLea p LocalExec) = with_immediate p operation.Mov abi.r_x86_64_tpoff32
-rewrite_of (DescriptorLea p InitialExec) = with_opcode 0x8b abi.r_x86_64_gottpoff
-rewrite_of DescriptorCall = record { back = 0; size = 2; bytes = λ old. 0x66 ∷ 0x90 ∷ []; field = 0; number = abi.r_x86_64_none; addend = same; next = Normal }
+rewrite_of row = record {
+  back = (change_of row.made).back;
+  size = (change_of row.made).size;
+  bytes = made_bytes row.made;
+  field = (change_of row.made).field;
+  number = number_written row.written;
+  addend = addend_by (change_of row.made).keeps_addend;
+  next = next_by row.partner;
+}
 
 -- the field gets the value itself
 abbrev pub is_number : Row → Bool
 is_number row = (rewrite_of row).number == abi.r_x86_64_32 || (rewrite_of row).number == abi.r_x86_64_32s
-
--- ---- names
-
--- the bytes before the field
-abbrev pub before_field : Prefix → ℕ
-before_field Rex = 3
-before_field Rex2 = 4
-
-abbrev pub immediate_kind : Operation → ℕ → RelaxationKind
-immediate_kind operation.Mov n = kinds.RexMovIndirectToAbsolute n
-immediate_kind operation.Sub n = kinds.RexSubIndirectToAbsolute n
-immediate_kind operation.Cmp n = kinds.RexCmpIndirectToAbsolute n
-immediate_kind operation.Add n = kinds.RexAddIndirectToAbsolute n
-
-abbrev pub kind_of : Row → RelaxationKind
-kind_of IfuncThroughStub = kinds.NoOp
-kind_of (RexGotToImmediate p o) = immediate_kind o (before_field p)
-kind_of (RexGotMovToLea p) = kinds.MovIndirectToLea
-kind_of GotMovToImmediate = kinds.MovIndirectToAbsolute
-kind_of GotMovToLea = kinds.MovIndirectToLea
-kind_of IndirectCallToDirect = kinds.CallIndirectToRelative
-kind_of IndirectJumpToDirect = kinds.JmpIndirectToRelative
-kind_of PlainGotMovToLea = kinds.MovIndirectToLea
-kind_of (InitialExecToLocalExec p o) = immediate_kind o (before_field p)
-kind_of Plt32ToPc32 = kinds.NoOp
-kind_of PltOffToGotOff = kinds.NoOp
-kind_of (GeneralDynamicToLocalExec general.Large) = kinds.TlsGdToLocalExecLarge
-kind_of (GeneralDynamicToLocalExec f) = kinds.TlsGdToLocalExec
-kind_of (GeneralDynamicToInitialExec f) = kinds.TlsGdToInitialExec
-kind_of (LocalDynamicToLocalExec local.Regular) = kinds.TlsLdToLocalExec
-kind_of (LocalDynamicToLocalExec local.Large) = kinds.TlsLdToLocalExec64
-kind_of (LocalDynamicToLocalExec local.NoPlt) = kinds.TlsLdToLocalExecNoPlt
-kind_of (DescriptorLea p LocalExec) = kinds.TlsDescToLocalExec (before_field p)
-kind_of (DescriptorLea p InitialExec) = kinds.TlsDescToInitialExec
-kind_of DescriptorCall = kinds.SkipTlsDescCall

@@ -3,7 +3,7 @@
 --   ChosenStand         a row that is chosen stands, with all that it needs
 --   ChosenAreWhole      where a row is chosen, its whole pattern stands in the input
 --   SectionsAreLinked   the rewrite and the field, written into the section, are `linked` in place of the pattern
-use Rattle.std.specs.Prelude.{◌≡◌, ℕ, ◌+◌, ◌-◌, ◌≤◌, true, false, not, ◌||◌, List, [], length, slice_range, Some, Ok}
+use Rattle.std.specs.Prelude.{◌≡◌, ℕ, ◌+◌, ◌-◌, ◌≤◌, true, not, ◌||◌, List, [], length, slice_range, Some, Ok, Contains}
 use Rattle.wild_words.specs.Words.{place}
 use Rattle.wild_reloc.specs.Field.{written}
 use Rattle.wild_reloc.specs.TableX86_64.{x86_64_row}
@@ -12,13 +12,13 @@ use Rattle.wild_relax.specs.declared.row.Row.{Row}
 use Rattle.wild_types.specs.Kinds.{is_executable}
 use Rattle.wild_relax.specs.Question.{Question, relocation_of, minus_four}
 use Rattle.wild_relax.specs.Pattern.{cells_of, field_of}
-use Rattle.wild_relax.specs.RowPatterns.{counts_from_its_end}
-use Rattle.wild_relax.specs.RowSymbols.{takes_symbol, takes_section, takes_value, is_thread_local}
-use Rattle.wild_relax.specs.RowSequences.{needs_its_end, has_partner, has_its_sequence}
-use Rattle.wild_relax.specs.Rows.{number_of, applies, chosen_x86_64}
+use Rattle.wild_types.specs.Lookups.{executable}
+use Rattle.wild_relax.specs.RowSymbols.{takes_symbol, takes_value}
+use Rattle.wild_relax.specs.RowSequences.{has_partner, has_its_sequence}
+use Rattle.wild_relax.specs.Rows.{rows_x86_64, applies, chosen_x86_64}
 use Rattle.wild_relax.specs.Rewrite.{rewritten}
 use Rattle.wild_relax.specs.RewriteX86_64.{rewrite_of}
-use Rattle.wild_relax.specs.Linked.{pattern_of, pattern_size, keeps_bytes, IsChanging, linked}
+use Rattle.wild_relax.specs.Linked.{pattern_of, pattern_size, IsChanging, linked}
 use Rattle.wild_relax.specs.Keep.{IsWhole}
 
 -- where the row's pattern begins
@@ -30,22 +30,22 @@ window q row = slice_range q.bytes (start_of q row) (start_of q row + length (ce
 
 -- what a row takes of the symbol, the section, the output, the addend and the next relocation
 pub record IsTaken (q : Question) (row : Row) : Type 0 where
-  pub symbol : takes_symbol row q ≡ true
-  pub section : takes_section row q ≡ true
-  pub value : takes_value row q ≡ true
-  pub thread : (not (is_thread_local row) || is_executable q.kind) ≡ true
-  pub addend : (not (counts_from_its_end row || needs_its_end row) || minus_four (relocation_of q).addend) ≡ true
+  pub symbol : takes_symbol row.symbol q ≡ true
+  pub section : (not row.in_code || executable q.section_flags) ≡ true
+  pub value : takes_value row.value q ≡ true
+  pub thread : (not row.thread_local || is_executable q.kind) ≡ true
+  pub addend : (not (row.ends || row.needs_end) || minus_four (relocation_of q).addend) ≡ true
   pub partner : has_partner row q ≡ true
 
 -- the row stands, its relocation type is the relocation's, and its pattern lies in the section
 pub record IsStanding (q : Question) (row : Row) : Type 0 where
   pub here : applies q row ≡ true
   pub sequence : has_its_sequence q row ≡ true
-  pub number : (relocation_of q).number ≡ number_of row
+  pub number : (relocation_of q).number ≡ row.number
   pub taken : IsTaken q row
   pub before : field_of (pattern_of row) ≤ (relocation_of q).offset
   pub inside : start_of q row + pattern_size row ≤ length q.bytes
-  pub changing : keeps_bytes row ≡ false → IsChanging row
+  pub listed : Contains rows_x86_64 row
 
 abbrev pub ChosenStand : Type 0
 ChosenStand = (q : Question) (row : Row) → chosen_x86_64 q ≡ Ok (Some row) → IsStanding q row

@@ -10,6 +10,7 @@ mod reference;
 mod relaxation;
 mod rewrite;
 mod row;
+pub mod table;
 mod template;
 mod x86_64;
 
@@ -18,8 +19,9 @@ pub use laws::{
     rewrites_keep_the_effect, rewrites_stay_in_their_patterns, stubs_jump_to_their_slots,
 };
 pub use laws_aarch64::{aarch64_code_reaches, aarch64_fields_agree};
-pub use pattern::{Cell, GeneralForm, LocalForm, Operation, Prefix};
+pub use pattern::{Cell, GeneralForm, LocalForm, Operation, Pattern, Prefix};
 pub use reference::{Reference, RelocationInfo, UnknownSequence};
 pub use relaxation::{Relaxation, RelaxationKind, RelocationModifier};
-pub use row::{DescriptorUse, Row};
+pub use rewrite::Change;
+pub use row::{Duty, Made, Partner, Row, SymbolTest, ValueTest, Written};
 pub use x86_64::{ElfX86_64, ElfX86_64Relaxation};

@@ -4,7 +4,7 @@ ghost use Rattle.std.specs.Prelude.{◌≡◌, ◌≤◌, length};
 ghost use Rattle.wild_relax.specs.Pattern.{fits, stands, cells_of, field_of, stands_before};
 
 /// The prefix of an instruction that works on 64 bits.
-#[derive(Clone, Copy, Debug, PartialEq, Eq)]
+#[derive(Clone, Copy)]
 pub enum Prefix {
     /// One byte, for 16 registers (Intel SDM, "REX Prefixes").
     Rex,
@@ -13,7 +13,7 @@ pub enum Prefix {
 }
 
 /// What an instruction does with its register and the word in a slot.
-#[derive(Clone, Copy, Debug, PartialEq, Eq)]
+#[derive(Clone, Copy)]
 pub enum Operation {
     Mov,
     Sub,
@@ -22,7 +22,7 @@ pub enum Operation {
 }
 
 /// A sequence that asks `__tls_get_addr` for the address of a symbol.
-#[derive(Clone, Copy, Debug, PartialEq, Eq)]
+#[derive(Clone, Copy)]
 pub enum GeneralForm {
     /// By a call.
     Regular,
@@ -33,7 +33,7 @@ pub enum GeneralForm {
 }
 
 /// A sequence that asks `__tls_get_addr` for the start of the output's own thread-local data.
-#[derive(Clone, Copy, Debug, PartialEq, Eq)]
+#[derive(Clone, Copy)]
 pub enum LocalForm {
     /// By a call.
     Regular,

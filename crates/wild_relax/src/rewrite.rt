@@ -1,13 +1,12 @@
 //! What the rows of x86-64 write.
-ghost use Rattle.std.specs.Prelude.{◌≡◌, ◌+◌, ◌-◌, ◌≤◌, length, slice_range, Some};
+ghost use Rattle.std.specs.Prelude.{◌≡◌, ◌+◌, ◌≤◌, length, slice_range, Some};
 ghost use Rattle.wild_words.specs.Words.{place};
 ghost use Rattle.wild_reloc.specs.TableX86_64.{x86_64_row};
-ghost use Rattle.wild_relax.specs.Rewrite.{replaced};
-ghost use Rattle.wild_relax.specs.RewriteX86_64.{immediate_prefix, immediate_opcode, immediate_digit, immediate_modrm, immediate_bytes, mov_immediate_bytes, rewrite_of, immediate_kind, before_field, kind_of, is_number};
+ghost use Rattle.wild_relax.specs.RewriteX86_64.{immediate_prefix, immediate_opcode, immediate_digit, immediate_modrm, immediate_bytes, mov_immediate_bytes, change_of, made_bytes, number_written, rewrite_of, is_number};
 
-use crate::pattern::{GeneralForm, LocalForm, Operation, Prefix};
-use crate::relaxation::{RelaxationKind, RelocationModifier};
-use crate::row::{DescriptorUse, Row};
+use crate::pattern::{LocalForm, Operation, Prefix};
+use crate::relaxation::RelocationModifier;
+use crate::row::{Made, Row, Written};
 use wild_records::abi::relocation::{
     R_X86_64_32, R_X86_64_32S, R_X86_64_GOTOFF64, R_X86_64_GOTTPOFF, R_X86_64_NONE, R_X86_64_PC32,
     R_X86_64_PLT32, R_X86_64_TPOFF32,
@@ -51,62 +50,155 @@ const THREAD_POINTER_NO_PLT: [u8; 13] = [
     0x64, 0x48, 0x8b, 0x04, 0x25, 0, 0, 0, 0, 0x90, 0x90, 0x90, 0x90,
 ];
 
+/// Which bytes are replaced, and where their field stands then.
+#[derive(Clone, Copy)]
+pub struct Change {
+    /// How many bytes before the field they begin.
+    pub back: u64,
+    /// How many these are.
+    pub size: u64,
+    /// How far behind their start the field stands then.
+    pub field: u64,
+    /// Whether the field has the input's addend; else it has none.
+    pub keeps_addend: bool,
+}
+
+const KEPT: Change = Change {
+    back: 0,
+    size: 0,
+    field: 0,
+    keeps_addend: true,
+};
+
+const AT_OPCODE: Change = Change {
+    back: 2,
+    size: 1,
+    field: 2,
+    keeps_addend: true,
+};
+
+const AT_PREFIX: Change = Change {
+    back: 3,
+    size: 3,
+    field: 3,
+    keeps_addend: false,
+};
+
+const AT_MOV: Change = Change {
+    back: 2,
+    size: 2,
+    field: 2,
+    keeps_addend: false,
+};
+
+const AT_CALL: Change = Change {
+    back: 2,
+    size: 2,
+    field: 2,
+    keeps_addend: true,
+};
+
+// The field stands a byte earlier.
+const AT_JUMP: Change = Change {
+    back: 2,
+    size: 6,
+    field: 1,
+    keeps_addend: true,
+};
+
+const LEFT_OUT: Change = Change {
+    back: 0,
+    size: 2,
+    field: 0,
+    keeps_addend: true,
+};
+
+const AT_PAIR: Change = Change {
+    back: 4,
+    size: 16,
+    field: 12,
+    keeps_addend: false,
+};
+
+const AT_LONG_PAIR: Change = Change {
+    back: 3,
+    size: 22,
+    field: 12,
+    keeps_addend: false,
+};
+
+const TO_SLOT: Change = Change {
+    keeps_addend: true,
+    ..AT_PAIR
+};
+
+// Without a field.
+const AT_OWN_PAIR: Change = Change {
+    back: 3,
+    size: 12,
+    field: 3,
+    keeps_addend: true,
+};
+
+const AT_LONG_OWN_PAIR: Change = Change {
+    size: 22,
+    ..AT_OWN_PAIR
+};
+
+const AT_OWN_PAIR_BY_SLOT: Change = Change {
+    size: 13,
+    ..AT_OWN_PAIR
+};
+
+// Which bytes it replaces.
+fn change_of(made: Made) -> Change
+    ensures { result ≡ change_of made }
+{
+    match made {
+        Made::Kept => KEPT,
+        Made::Lea | Made::Load => AT_OPCODE,
+        Made::Immediate(_, _) => AT_PREFIX,
+        Made::MovImmediate => AT_MOV,
+        Made::DirectCall => AT_CALL,
+        Made::DirectJump => AT_JUMP,
+        Made::Nop => LEFT_OUT,
+        Made::LocalExec => AT_PAIR,
+        Made::LocalExecLarge => AT_LONG_PAIR,
+        Made::InitialExec => TO_SLOT,
+        Made::ThreadPointer(LocalForm::Regular) => AT_OWN_PAIR,
+        Made::ThreadPointer(LocalForm::Large) => AT_LONG_OWN_PAIR,
+        Made::ThreadPointer(LocalForm::NoPlt) => AT_OWN_PAIR_BY_SLOT,
+    }
+}
+
 impl Row {
     /// How many bytes before the field the row's own begin.
     pub fn back(self) -> u64
         ensures { result ≡ (rewrite_of self).back }
     {
-        match self {
-            Row::IfuncThroughStub | Row::Plt32ToPc32 | Row::PltOffToGotOff | Row::DescriptorCall =>
-                0,
-            Row::RexGotMovToLea(_)
-            | Row::GotMovToImmediate
-            | Row::GotMovToLea
-            | Row::IndirectCallToDirect
-            | Row::IndirectJumpToDirect
-            | Row::PlainGotMovToLea
-            | Row::DescriptorLea(_, DescriptorUse::InitialExec) => 2,
-            Row::RexGotToImmediate(_, _)
-            | Row::InitialExecToLocalExec(_, _)
-            | Row::GeneralDynamicToLocalExec(GeneralForm::Large)
-            | Row::LocalDynamicToLocalExec(_)
-            | Row::DescriptorLea(_, DescriptorUse::LocalExec) => 3,
-            Row::GeneralDynamicToLocalExec(_) | Row::GeneralDynamicToInitialExec(_) => 4,
-        }
+        change_of(self.made).back
     }
 
     /// How far behind them the field stands then.
     pub fn field(self) -> u64
         ensures { result ≡ (rewrite_of self).field }
     {
-        match self {
-            Row::IndirectJumpToDirect => 1,
-            Row::GeneralDynamicToLocalExec(_) | Row::GeneralDynamicToInitialExec(_) => 12,
-            _ => self.back(),
-        }
+        change_of(self.made).field
     }
 
     /// The relocation type by which the field is written.
     pub fn number_written(self) -> u32
         ensures { result ≡ (rewrite_of self).number }
     {
-        match self {
-            Row::IfuncThroughStub => R_X86_64_PLT32,
-            Row::RexGotToImmediate(_, _) => R_X86_64_32S,
-            Row::GotMovToImmediate => R_X86_64_32,
-            Row::RexGotMovToLea(_)
-            | Row::GotMovToLea
-            | Row::IndirectCallToDirect
-            | Row::IndirectJumpToDirect
-            | Row::PlainGotMovToLea
-            | Row::Plt32ToPc32 => R_X86_64_PC32,
-            Row::PltOffToGotOff => R_X86_64_GOTOFF64,
-            Row::InitialExecToLocalExec(_, _)
-            | Row::GeneralDynamicToLocalExec(_)
-            | Row::DescriptorLea(_, DescriptorUse::LocalExec) => R_X86_64_TPOFF32,
-            Row::GeneralDynamicToInitialExec(_)
-            | Row::DescriptorLea(_, DescriptorUse::InitialExec) => R_X86_64_GOTTPOFF,
-            Row::LocalDynamicToLocalExec(_) | Row::DescriptorCall => R_X86_64_NONE,
+        match self.written {
+            Written::Nothing => R_X86_64_NONE,
+            Written::Pc32 => R_X86_64_PC32,
+            Written::Plt32 => R_X86_64_PLT32,
+            Written::Unsigned32 => R_X86_64_32,
+            Written::Signed32 => R_X86_64_32S,
+            Written::GotTpOff => R_X86_64_GOTTPOFF,
+            Written::TpOff32 => R_X86_64_TPOFF32,
+            Written::GotOff64 => R_X86_64_GOTOFF64,
         }
     }
 
@@ -121,84 +213,28 @@ impl Row {
     pub fn addend_written(self, addend: i64) -> i64
         ensures { result ≡ (rewrite_of self).addend addend }
     {
-        match self {
-            Row::RexGotToImmediate(_, _)
-            | Row::GotMovToImmediate
-            | Row::InitialExecToLocalExec(_, _)
-            | Row::GeneralDynamicToLocalExec(_)
-            | Row::DescriptorLea(_, DescriptorUse::LocalExec) => 0,
-            _ => addend,
+        if change_of(self.made).keeps_addend {
+            addend
+        } else {
+            0
         }
     }
-}
 
-// Whether the field gets the value itself.
-pub(crate) fn is_number(row: Row) -> bool
-    ensures { result ≡ is_number row }
-{
-    matches!(row, Row::RexGotToImmediate(_, _) | Row::GotMovToImmediate)
-}
-
-// What is done with the relocation behind.
-pub(crate) fn next_modifier(row: Row) -> RelocationModifier
-    ensures { result ≡ (rewrite_of row).next }
-{
-    match row {
-        Row::GeneralDynamicToLocalExec(_)
-        | Row::GeneralDynamicToInitialExec(_)
-        | Row::LocalDynamicToLocalExec(_) => RelocationModifier::SkipNextRelocation,
-        _ => RelocationModifier::Normal,
+    // Whether the field gets the value itself.
+    pub(crate) fn is_number(self) -> bool
+        ensures { result ≡ is_number self }
+    {
+        matches!(self.written, Written::Signed32 | Written::Unsigned32)
     }
-}
 
-// The bytes of an instruction before its field.
-fn before_field(prefix: Prefix) -> u8
-    ensures { result ≡ before_field prefix }
-{
-    match prefix {
-        Prefix::Rex => 3,
-        Prefix::Rex2 => 4,
-    }
-}
-
-fn immediate_kind(operation: Operation, before: u8) -> RelaxationKind
-    ensures { result ≡ immediate_kind operation before }
-{
-    match operation {
-        Operation::Mov => RelaxationKind::RexMovIndirectToAbsolute(before),
-        Operation::Sub => RelaxationKind::RexSubIndirectToAbsolute(before),
-        Operation::Cmp => RelaxationKind::RexCmpIndirectToAbsolute(before),
-        Operation::Add => RelaxationKind::RexAddIndirectToAbsolute(before),
-    }
-}
-
-// What becomes of the instructions.
-pub(crate) fn kind(row: Row) -> RelaxationKind
-    ensures { result ≡ kind_of row }
-{
-    match row {
-        Row::IfuncThroughStub | Row::Plt32ToPc32 | Row::PltOffToGotOff => RelaxationKind::NoOp,
-        Row::RexGotToImmediate(prefix, operation)
-        | Row::InitialExecToLocalExec(prefix, operation) => {
-            immediate_kind(operation, before_field(prefix))
+    // What is done with the relocation behind.
+    pub(crate) fn next_modifier(self) -> RelocationModifier
+        ensures { result ≡ (rewrite_of self).next }
+    {
+        match self.partner {
+            Some(_) => RelocationModifier::SkipNextRelocation,
+            None => RelocationModifier::Normal,
         }
-        Row::RexGotMovToLea(_) | Row::GotMovToLea | Row::PlainGotMovToLea => {
-            RelaxationKind::MovIndirectToLea
-        }
-        Row::GotMovToImmediate => RelaxationKind::MovIndirectToAbsolute,
-        Row::IndirectCallToDirect => RelaxationKind::CallIndirectToRelative,
-        Row::IndirectJumpToDirect => RelaxationKind::JmpIndirectToRelative,
-        Row::GeneralDynamicToLocalExec(GeneralForm::Large) => RelaxationKind::TlsGdToLocalExecLarge,
-        Row::GeneralDynamicToLocalExec(_) => RelaxationKind::TlsGdToLocalExec,
-        Row::GeneralDynamicToInitialExec(_) => RelaxationKind::TlsGdToInitialExec,
-        Row::LocalDynamicToLocalExec(LocalForm::Regular) => RelaxationKind::TlsLdToLocalExec,
-        Row::LocalDynamicToLocalExec(LocalForm::Large) => RelaxationKind::TlsLdToLocalExec64,
-        Row::LocalDynamicToLocalExec(LocalForm::NoPlt) => RelaxationKind::TlsLdToLocalExecNoPlt,
-        Row::DescriptorLea(prefix, DescriptorUse::LocalExec) => {
-            RelaxationKind::TlsDescToLocalExec(before_field(prefix))
-        }
-        Row::DescriptorLea(_, DescriptorUse::InitialExec) => RelaxationKind::TlsDescToInitialExec,
-        Row::DescriptorCall => RelaxationKind::SkipTlsDescCall,
     }
 }
 
@@ -269,53 +305,25 @@ fn write_mov_immediate(bytes: &mut [u8], start: usize)
     put(bytes, start, &part);
 }
 
-// The sequence that asks for the address of a symbol.
-fn write_local_exec(bytes: &mut [u8], start: usize, form: GeneralForm)
-    requires { start + (rewrite_of (Row.GeneralDynamicToLocalExec form)).size ≤ length bytes.old }
-    ensures { bytes.new ≡ replaced (rewrite_of (Row.GeneralDynamicToLocalExec form)) start bytes.old }
+/// Writes what is made, which begins at `start`.
+pub(crate) fn write(made: Made, bytes: &mut [u8], start: usize)
+    requires { start + (change_of made).size ≤ length bytes.old }
+    ensures { bytes.new ≡ place start (made_bytes made (slice_range bytes.old start (start + (change_of made).size))) bytes.old }
 {
-    match form {
-        GeneralForm::Regular | GeneralForm::NoPlt => put(bytes, start, &LOCAL_EXEC),
-        GeneralForm::Large => put(bytes, start, &LOCAL_EXEC_LARGE),
-    }
-}
-
-// The sequence that asks for the start of the output's own data.
-fn write_thread_pointer(bytes: &mut [u8], start: usize, form: LocalForm)
-    requires { start + (rewrite_of (Row.LocalDynamicToLocalExec form)).size ≤ length bytes.old }
-    ensures { bytes.new ≡ replaced (rewrite_of (Row.LocalDynamicToLocalExec form)) start bytes.old }
-{
-    match form {
-        LocalForm::Regular => put(bytes, start, &THREAD_POINTER),
-        LocalForm::Large => put(bytes, start, &THREAD_POINTER_LARGE),
-        LocalForm::NoPlt => put(bytes, start, &THREAD_POINTER_NO_PLT),
-    }
-}
-
-/// Writes the row's bytes, which begin at `start`.
-pub(crate) fn write(row: Row, bytes: &mut [u8], start: usize)
-    requires { start + (rewrite_of row).size ≤ length bytes.old }
-    ensures { bytes.new ≡ replaced (rewrite_of row) start bytes.old }
-{
-    match row {
-        Row::IfuncThroughStub | Row::Plt32ToPc32 | Row::PltOffToGotOff => put(bytes, start, &[]),
-        Row::RexGotToImmediate(prefix, operation)
-        | Row::InitialExecToLocalExec(prefix, operation) => {
-            write_immediate(bytes, start, prefix, operation);
-        }
-        Row::RexGotMovToLea(_) | Row::GotMovToLea | Row::PlainGotMovToLea => {
-            put(bytes, start, &[0x8d]);
-        }
-        Row::GotMovToImmediate => write_mov_immediate(bytes, start),
-        Row::IndirectCallToDirect => put(bytes, start, &DIRECT_CALL),
-        Row::IndirectJumpToDirect => put(bytes, start, &DIRECT_JUMP),
-        Row::GeneralDynamicToLocalExec(form) => write_local_exec(bytes, start, form),
-        Row::GeneralDynamicToInitialExec(_) => put(bytes, start, &INITIAL_EXEC),
-        Row::LocalDynamicToLocalExec(form) => write_thread_pointer(bytes, start, form),
-        Row::DescriptorLea(prefix, DescriptorUse::LocalExec) => {
-            write_immediate(bytes, start, prefix, Operation::Mov);
-        }
-        Row::DescriptorLea(_, DescriptorUse::InitialExec) => put(bytes, start, &[0x8b]),
-        Row::DescriptorCall => put(bytes, start, &NOP),
+    match made {
+        Made::Kept => put(bytes, start, &[]),
+        Made::Lea => put(bytes, start, &[0x8d]),
+        Made::Load => put(bytes, start, &[0x8b]),
+        Made::Immediate(prefix, operation) => write_immediate(bytes, start, prefix, operation),
+        Made::MovImmediate => write_mov_immediate(bytes, start),
+        Made::DirectCall => put(bytes, start, &DIRECT_CALL),
+        Made::DirectJump => put(bytes, start, &DIRECT_JUMP),
+        Made::Nop => put(bytes, start, &NOP),
+        Made::LocalExec => put(bytes, start, &LOCAL_EXEC),
+        Made::LocalExecLarge => put(bytes, start, &LOCAL_EXEC_LARGE),
+        Made::InitialExec => put(bytes, start, &INITIAL_EXEC),
+        Made::ThreadPointer(LocalForm::Regular) => put(bytes, start, &THREAD_POINTER),
+        Made::ThreadPointer(LocalForm::Large) => put(bytes, start, &THREAD_POINTER_LARGE),
+        Made::ThreadPointer(LocalForm::NoPlt) => put(bytes, start, &THREAD_POINTER_NO_PLT),
     }
 }

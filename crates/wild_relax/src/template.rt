@@ -1,67 +1,60 @@
 //! What stands in place of an instruction that is rewritten, as a whole.
-ghost use Rattle.std.specs.Prelude.{◌≡◌, ◌+◌, ◌≤◌, false, length, slice_range};
+ghost use Rattle.std.specs.Prelude.{◌≡◌, ◌+◌, true, false, length, slice_range, ◌≤◌};
 ghost use Rattle.wild_words.specs.Words.{place};
 ghost use Rattle.wild_relax.specs.Pattern.{field_of};
 ghost use Rattle.wild_relax.specs.Rewrite.{is_skip};
 ghost use Rattle.wild_relax.specs.RewriteX86_64.{rewrite_of};
-ghost use Rattle.wild_relax.specs.Linked.{pattern_of, pattern_size, keeps_bytes, template_of};
+ghost use Rattle.wild_relax.specs.Linked.{pattern_of, pattern_size, keeps_bytes, fits_in, template_of};
 
 use crate::pattern::{self, Pattern};
-use crate::relaxation::RelocationModifier;
 use crate::rewrite;
-use crate::row::{Row, always_pattern};
-
-// All bytes of the input that belong to the row.
-fn pattern_of(row: Row) -> Pattern
-    ensures { result ≡ pattern_of row }
-{
-    match row {
-        Row::LocalDynamicToLocalExec(form) => Pattern::Local(form),
-        Row::DescriptorLea(prefix, _) => Pattern::Lea(prefix),
-        Row::DescriptorCall => Pattern::DescriptorCall,
-        _ => always_pattern(row),
-    }
-}
+use crate::row::{Made, Row};
 
 impl Row {
+    // All bytes of the input that belong to the row: those that it needs, or those without which it does not stand.
+    fn pattern(self) -> Pattern
+        ensures { result ≡ pattern_of self }
+    {
+        match self.needed {
+            Pattern::Nothing => self.always,
+            other => other,
+        }
+    }
+
     /// How far behind the start of its instruction the relocation's field stands in the input.
     pub fn pattern_field(self) -> u64
         ensures { result ≡ field_of (pattern_of self) }
     {
-        pattern::field(pattern_of(self))
+        pattern::field(self.pattern())
     }
 
     /// How many bytes of the input belong to the row.
     pub fn pattern_size(self) -> u64
         ensures { result ≡ pattern_size self }
     {
-        pattern::cells(pattern_of(self)).len() as u64
+        pattern::cells(self.pattern()).len() as u64
     }
 
     /// Whether no byte but the field's changes.
     pub fn keeps_bytes(self) -> bool
         ensures { result ≡ keeps_bytes self }
     {
-        matches!(
-            self,
-            Row::IfuncThroughStub | Row::Plt32ToPc32 | Row::PltOffToGotOff
-        )
+        matches!(self.made, Made::Kept)
     }
 
     /// Whether the relocation behind belongs to the same sequence.
     pub fn takes_next(self) -> bool
         ensures { result ≡ is_skip (rewrite_of self).next }
     {
-        matches!(
-            rewrite::next_modifier(self),
-            RelocationModifier::SkipNextRelocation
-        )
+        self.partner.is_some()
     }
 
-    /// Writes the row's instruction, with the value in its field, in place of the bytes of the input that stand at `start`.
+    /// Writes the row's instruction, with the value in its field, in place of the bytes of the input that stand at `start`. What the
+    /// row writes lies among these, as that of each row of the table does.
     pub fn write_template(self, value: u64, room: &mut [u8], start: usize)
         requires inside { start + pattern_size self ≤ length room.old }
         requires changes { keeps_bytes self ≡ false }
+        requires fits { fits_in self ≡ true }
         ensures { room.new ≡ place start (template_of self value (slice_range room.old start (start + pattern_size self))) room.old }
     {
         let size = self.pattern_size() as usize;
@@ -73,11 +66,12 @@ impl Row {
 fn write_part(row: Row, value: u64, part: &mut [u8])
     requires whole { length part.old ≡ pattern_size row }
     requires changes { keeps_bytes row ≡ false }
+    requires fits { fits_in row ≡ true }
     ensures template { part.new ≡ template_of row value part.old }
     ensures long { length part.new ≡ pattern_size row }
 {
     let start = row.pattern_field().saturating_sub(row.back());
-    rewrite::write(row, part, start as usize);
+    rewrite::write(row.made, part, start as usize);
     let field = start + row.field();
     row.row_written().size.write_at(value, part, field as usize);
 }

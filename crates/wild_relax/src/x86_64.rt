@@ -50,7 +50,7 @@ impl Arch for ElfX86_64 {
             None => Ok(None),
             Some(row) => Ok(Some(ElfX86_64Relaxation {
                 row,
-                mandatory: is_mandatory(row, reference),
+                mandatory: is_mandatory(row.duty, reference),
             })),
         }
     }
@@ -66,7 +66,7 @@ pub struct ElfX86_64Relaxation {
 
 impl Relaxation for ElfX86_64Relaxation {
     ghost use Rattle.wild_types.specs.declared.kind.Machine.TheVariants.{X86_64};
-    ghost use Rattle.wild_relax.specs.RewriteX86_64.{rewrite_of, kind_of, is_number};
+    ghost use Rattle.wild_relax.specs.RewriteX86_64.{rewrite_of, is_number};
 
     ghost as_row = { λ r. r.row };
 
@@ -74,7 +74,7 @@ impl Relaxation for ElfX86_64Relaxation {
 
     ghost mandatory = { λ r. r.mandatory };
 
-    ghost kind = { λ r. kind_of r.row };
+    ghost kind = { λ r. r.row.kind };
 
     ghost machine = { X86_64 };
 
@@ -86,7 +86,7 @@ impl Relaxation for ElfX86_64Relaxation {
 
     fn apply(&self, section_bytes: &mut [u8], offset_in_section: &mut u64, addend: &mut i64) {
         let start = *offset_in_section - self.row.back();
-        rewrite::write(self.row, section_bytes, start as usize);
+        rewrite::write(self.row.made, section_bytes, start as usize);
         *offset_in_section = start + self.row.field();
         *addend = self.row.addend_written(*addend);
     }
@@ -97,11 +97,11 @@ impl Relaxation for ElfX86_64Relaxation {
     }
 
     fn debug_kind(&self) -> RelaxationKind {
-        rewrite::kind(self.row)
+        self.row.kind
     }
 
     fn next_modifier(&self) -> RelocationModifier {
-        rewrite::next_modifier(self.row)
+        self.row.next_modifier()
     }
 
     fn is_mandatory(&self) -> bool {
@@ -109,6 +109,6 @@ impl Relaxation for ElfX86_64Relaxation {
     }
 
     fn needs_got_fallback(&self) -> bool {
-        rewrite::is_number(self.row)
+        self.row.is_number()
     }
 }

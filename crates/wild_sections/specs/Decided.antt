@@ -19,7 +19,7 @@ use Rattle.wild_layout.specs.declared.decision.Decision.{Decision}
 use Rattle.wild_reloc.specs.declared.info.RelocationSize.{RelocationSize}
 use Rattle.wild_layout.specs.declared.decision.Decision.TheVariants.{Rewritten}
 use Rattle.wild_relax.specs.declared.row.Row.{Row}
-use Rattle.wild_relax.specs.Linked.{pattern_size, keeps_bytes, template_of}
+use Rattle.wild_relax.specs.Linked.{pattern_size, keeps_bytes, fits_in, template_of}
 use Rattle.wild_layout.specs.Decide.{decide}
 use Rattle.wild_layout.specs.Sites.{Written, written_by, template_start, site_of, sites}
 
@@ -95,9 +95,10 @@ abbrev pub WrittenLies : ℕ → ℕ → Option Written → Type 0
 WrittenLies n at None = Unit {0}
 WrittenLies n at (Some w) = at + size_width w.size ≤ n
 
--- the row writes a whole instruction, which lies in n bytes
+-- the row writes a whole instruction, as one of the table does, which lies in n bytes
 pub record TemplateLies (n : ℕ) (r : InputRelocation) (row : Row) : Type 0 where
   pub changes : keeps_bytes row ≡ false
+  pub fits : fits_in row ≡ true
   pub ends : template_start row r + pattern_size row ≤ n
 
 -- what a relocation writes lies in n bytes

@@ -1,6 +1,7 @@
 //! Stubs, and whole instructions, as other tools write them.
 
-use wild_relax::{Arch, ElfX86_64, LocalForm, Operation, Prefix, Row};
+use wild_relax::table::{COMPARISON, JUMP, LOCAL, PLT};
+use wild_relax::{Arch, ElfX86_64, Row};
 use wild_slot::PltTooFar;
 
 // As `as` 2.40 assembles `endbr64; bnd jmp *0x1ff5(%rip); {disp8} nopl 0(%rax,%rax,1)`. GNU `ld` 2.40 (`-z ibtplt`) and lld 22
@@ -28,15 +29,15 @@ fn is_whole(row: Row, size: u64, field: u64) -> bool {
 
 // A whole instruction, written over the bytes of the input by its row.
 #[test]
+#[tactic(auto, unfolding(wild_reloc::specs::TableX86_64::x86_64_row))]
 fn templates(rt: HostRuntime) {
-    let row = Row::IndirectJumpToDirect;
+    let row = JUMP;
     let mut room = *b"\xcc\xff\x25\0\0\0\0\xcc";
     row.write_template(0x1234, &mut room, 1);
     assert!(rt; is_whole(row, 6, 2) && room == *b"\xcc\xe9\x34\x12\0\0\x90\xcc");
-    let row = Row::RexGotToImmediate(Prefix::Rex, Operation::Cmp);
+    let row = COMPARISON;
     let mut room = *b"\x4c\x3b\x2d\0\0\0\0";
     row.write_template(0x1234, &mut room, 0);
     assert!(rt; room == *b"\x49\x81\xfd\x34\x12\0\0");
-    let sequence = Row::LocalDynamicToLocalExec(LocalForm::Regular);
-    assert!(rt; sequence.takes_next() && Row::Plt32ToPc32.keeps_bytes());
+    assert!(rt; LOCAL.takes_next() && PLT.keeps_bytes());
 }

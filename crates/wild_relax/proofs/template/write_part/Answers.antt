@@ -11,7 +11,7 @@ write_at-requires c =
     let b = c.back.ensures in
     let s = c.saturating_sub-start.ensures in
     let start : c.saturating_sub-start.result ≡ field_of (pattern_of c.args.row) - (rewrite_of c.args.row).back = omega (arith, f, b, s) in
-    record { room = room_after c.args.row c.row_written.result c.saturating_sub-start.result c.field.result c.args.part.now c.write.new.bytes c.requires.changes c.row_written.ensures c.requires.whole (record { first = start; then = c.field.ensures }) c.write.ensures }
+    record { room = room_after c.args.row c.row_written.result c.saturating_sub-start.result c.field.result c.args.part.now c.write.new.bytes c.requires.fits c.row_written.ensures c.requires.whole (record { first = start; then = c.field.ensures }) c.write.ensures }
 
 pub returns-clause-template : goal.returns-clause-template
 returns-clause-template c =
@@ -19,7 +19,7 @@ returns-clause-template c =
     let b = c.back.ensures in
     let s = c.saturating_sub-start.ensures in
     let start : c.saturating_sub-start.result ≡ field_of (pattern_of c.args.row) - (rewrite_of c.args.row).back = omega (arith, f, b, s) in
-    written_is c.args.row c.row_written.result c.args.value c.saturating_sub-start.result c.field.result c.args.part.now c.write.new.bytes c.write_at.new.out _ c.requires.changes c.row_written.ensures (record { first = start; then = c.field.ensures }) c.write.ensures c.write_at.ensures
+    written_is c.args.row c.row_written.result c.args.value c.saturating_sub-start.result c.field.result c.args.part.now c.write.new.bytes c.write_at.new.out _ c.requires.fits c.row_written.ensures (record { first = start; then = c.field.ensures }) c.write.ensures c.write_at.ensures
 
 pub returns-clause-long : goal.returns-clause-long
 returns-clause-long c =
@@ -27,5 +27,5 @@ returns-clause-long c =
     let b = c.back.ensures in
     let s = c.saturating_sub-start.ensures in
     let start : c.saturating_sub-start.result ≡ field_of (pattern_of c.args.row) - (rewrite_of c.args.row).back = omega (arith, f, b, s) in
-    let is = written_is c.args.row c.row_written.result c.args.value c.saturating_sub-start.result c.field.result c.args.part.now c.write.new.bytes c.write_at.new.out _ c.requires.changes c.row_written.ensures (record { first = start; then = c.field.ensures }) c.write.ensures c.write_at.ensures in
-    ap length is ∙ length-template c.args.row c.row_written.result c.args.value c.args.part.now c.requires.changes c.row_written.ensures c.requires.whole
+    let is = written_is c.args.row c.row_written.result c.args.value c.saturating_sub-start.result c.field.result c.args.part.now c.write.new.bytes c.write_at.new.out _ c.requires.fits c.row_written.ensures (record { first = start; then = c.field.ensures }) c.write.ensures c.write_at.ensures in
+    ap length is ∙ length-template c.args.row c.row_written.result c.args.value c.args.part.now c.requires.fits c.row_written.ensures c.requires.whole
