@@ -31,7 +31,7 @@ use Rattle.wild_relax.specs.RowSequences.{is_partner, has_its_sequence}
 use Rattle.wild_relax.specs.ByNumber.{rows_with}
 use Rattle.wild_relax.specs.Question.{minus_four, zero}
 use Rattle.wild_relax.specs.Pattern.{stands_at, stands_before}
-use Rattle.wild_relax.specs.Rows.{applies, standing_x86_64, chosen_x86_64}
+use Rattle.wild_relax.specs.Rows.{rows_x86_64, applies, standing_x86_64, chosen_x86_64}
 use Rattle.wild_relr.specs.Packed.{packed_on, packed, bitmaps, block, counted}
 
 -- what an answer unfolds to compute the clauses of a layout that is written out
@@ -41,5 +41,5 @@ clauses_on_literals = tt
 
 -- and to compute its faults
 unfoldable pub errors_on_literals : ⊤
-unfolding clauses_on_literals site section_bytes choice_by decided decide relocation_errors section_errors slot_errors file_errors listed_errors table_errors group_errors errors table_fields is_partner has_its_sequence rows_with minus_four zero stands_at stands_before applies standing_x86_64 chosen_x86_64
+unfolding clauses_on_literals site section_bytes choice_by decided decide relocation_errors section_errors slot_errors file_errors listed_errors table_errors group_errors errors table_fields is_partner has_its_sequence rows_with minus_four zero stands_at stands_before applies rows_x86_64 standing_x86_64 chosen_x86_64
 errors_on_literals = tt
