@@ -154,9 +154,9 @@ output_of l h s holds loaded alloc st =
     Filled-from_tests l st.part.section named place st.takes
 
 pub IsMapped-from_stood : (l : Layout) → Laid l → (s : InputSection) → Holds l s → (is_filled l s ≡ true → Stood l s) → IsMapped l s
-IsMapped-from_stood l h s holds stood filled read alloc =
+IsMapped-from_stood l h s holds stood filled alloc =
     let st = stood filled in
-    let o = output_of l h s holds (and_parts (is_loaded s.slot) (not s.nobits) read).0 alloc st in
+    let o = output_of l h s holds (and_parts (is_loaded s.slot) _ filled).0 alloc st in
     let lies = holds_at (λ p. part_lies l p ≡ true) l.parts s.part st.part st.is h.parts.lie in
     let from = st.from in
     let to = st.to in

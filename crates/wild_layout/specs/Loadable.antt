@@ -3,10 +3,11 @@
 --   IsPartMapped l p   they carry those of a part that a loader or the program reads
 --   HasSegment l p   the first segment of type PT_DYNAMIC is that of the part
 --   IsCarriedWhole   one loaded segment carries a part to its addresses
+--   IsPaged page g   a loaded segment stands at equal places of pages in the file and in memory
 --   BeginsBehind p q a part begins where another ends
 --   HasEntriesAlone  the section of a part with relocation entries has those, and no other section has any
 --   IsLoadable l     the segments can be loaded, and what a loader looks for stands where it looks
-use Rattle.std.specs.Prelude.{◌≡◌, ℕ, ◌+◌, ◌-◌, ◌^◌, ◌<◌, ◌≤◌, ◌==◌, true, find, All, AllPairs, Contains, slice_get, List, false, Option, Some, None}
+use Rattle.std.specs.Prelude.{◌≡◌, ℕ, ◌+◌, ◌-◌, ◌%◌, ◌^◌, ◌<◌, ◌≤◌, ◌==◌, true, find, All, AllPairs, Contains, slice_get, List, false, Option, Some, None}
 use Rattle.wild_records.specs.Abi.Section.{sht_rela}
 use Rattle.wild_records.specs.Abi.Segment.{pt_load, pt_dynamic}
 use Rattle.wild_types.specs.declared.part.Part.{Part}
@@ -17,7 +18,7 @@ use Rattle.wild_types.specs.declared.section.Segment.{Segment}
 use Rattle.wild_types.specs.declared.input.InputSection.{InputSection}
 use Rattle.wild_types.specs.declared.layout.Layout.{Layout}
 use Rattle.wild_types.specs.Kinds.{is_partial_link, needs_dynamic, is_fixed_static}
-use Rattle.wild_types.specs.Lookups.{allocated, image_size, is_filled, is_read}
+use Rattle.wild_types.specs.Lookups.{allocated, image_size, is_filled}
 use Rattle.wild_types.specs.Lists.{total}
 use Rattle.wild_types.specs.Parts.{is_loaded_role, part_with, is_table_role, is_look_up_role, has_hashes, is_entry_role, entry_parts, bytes_in}
 use Rattle.wild_layout.specs.Image.{offset_in}
@@ -30,9 +31,9 @@ pub record IsCarried (l : Layout) (s : InputSection) (k : ℕ) (h : Segment) : T
   pub to : s.address + k < h.address + h.file_size
   pub distance : offset_in (slice_get l.parts s.part) s.address + k ≡ h.offset + (s.address + k - h.address)
 
--- each of the section's bytes is loaded, where it is allocated and has some
+-- each of the section's bytes is loaded, where it is allocated and owns some
 abbrev pub IsMapped : Layout → InputSection → Type 0
-IsMapped l s = is_filled l s ≡ true → is_read s ≡ true → allocated s.flags ≡ true → (k : ℕ) → k < s.size → (h : Segment) × IsCarried l s k h
+IsMapped l s = is_filled l s ≡ true → allocated s.flags ≡ true → (k : ℕ) → k < s.size → (h : Segment) × IsCarried l s k h
 
 -- the segment carries byte k of the part to its address
 pub record IsPartCarried (l : Layout) (p : Part) (k : ℕ) (h : Segment) : Type 0 where
@@ -109,10 +110,15 @@ pub record HasEntriesAlone (l : Layout) (k : ℕ) (s : Section) : Type 0 where
 abbrev pub Ascends : Segment → Segment → Type 0
 Ascends g h = g.kind ≡ pt_load → h.kind ≡ pt_load → g.address + g.mem_size ≤ h.address
 
+-- the address and the offset of a loaded segment are at equal places of their pages
+abbrev pub IsPaged : ℕ → Segment → Type 0
+IsPaged page g = g.kind ≡ pt_load → g.address % page ≡ g.offset % page
+
 -- what a loader goes by: the dynamic section where it is there, else sections of type SHT_RELA, behind section 0
 pub record IsLoadable (l : Layout) : Type 0 where
   pub each : All (SegmentLoads (image_size l)) l.segments
   pub ascend : AllPairs Ascends l.segments
+  pub pages : All (IsPaged l.page_size) l.segments
   pub dynamic : (p : Part) → part_with role.Dynamic l.parts ≡ Some p → HasSegment l p
   pub static : part_with role.Dynamic l.parts ≡ None → All IsStatic l.segments
   pub movable : needs_dynamic l.kind ≡ true → (p : Part) × (part_with role.Dynamic l.parts ≡ Some p)

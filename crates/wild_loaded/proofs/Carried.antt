@@ -80,14 +80,14 @@ Holds-empty : (m : Memory) (a : ℕ) (bs : List ℕ) → length bs ≡ 0 → Hol
 Holds-empty m a bs h = λ k lt. absurd (omega (arith, h, lt))
 
 -- a byte of a section that a segment carries
-byte_held : (l : Layout) (w : World) (s : InputSection) (k : ℕ) (h : Segment) (part : List ℕ) → BytesAreLoaded → IsLegal l w → IsLaidOut l → IsCarried l s k h → Stands (bytes l) (offset_in (slice_get l.parts s.part) s.address + k) (slice_index part k ∷ []) → byte_in (image_memory l w) (w.base + s.address + k) ≡ Some (slice_index part k)
+pub byte_held : (l : Layout) (w : World) (s : InputSection) (k : ℕ) (h : Segment) (part : List ℕ) → BytesAreLoaded → IsLegal l w → IsLaidOut l → IsCarried l s k h → Stands (bytes l) (offset_in (slice_get l.parts s.part) s.address + k) (slice_index part k ∷ []) → byte_in (image_memory l w) (w.base + s.address + k) ≡ Some (slice_index part k)
 byte_held l w s k h part law legal laid c st =
     let e : w.base + (s.address + k) ≡ w.base + s.address + k = omega arith in
     subst (λ (a : ℕ). byte_in (image_memory l w) a ≡ Some (slice_index part k)) e (byte_carried l w h (offset_in (slice_get l.parts s.part) s.address + k) (s.address + k) (slice_index part k) law legal laid (carries_section l s k h c) st)
 
 -- a kept section that owns bytes has each of them carried
 pub kept_carried : (l : Layout) (s : InputSection) → IsLaidOut l → IsKeptSection l s → is_filled l s ≡ true → (k : ℕ) → k < s.size → (h : Segment) × IsCarried l s k h
-kept_carried l s laid k t = each_at (IsMapped l) l s laid.mapped k.input t (kept_is_read l s k) (alloc_bit s.flags k.room)
+kept_carried l s laid k t = each_at (IsMapped l) l s laid.mapped k.input t (alloc_bit s.flags k.room)
 
 -- and has them in the file
 pub stored_kept : (l : Layout) (s : InputSection) → IsLaidOut l → IsKeptSection l s → IsDecided l (item_of s) → 1 ≤ length s.bytes → IsStored l s

@@ -1,10 +1,12 @@
 -- What the file header and the program headers tell.
-use Rattle.std.proofs.Common.{◌≡◌, ℕ, Bool, true, false, List, [], ◌∷◌, map, refl, sym, ap, ◌∙◌, subst}
-use Rattle.std.specs.Prelude.{Option, Some, None, unwrap_or, option_map, slice_get, if◌then◌else◌}
+use Rattle.std.proofs.Common.{◌≡◌, ℕ, ◌/◌, ◌%◌, inl, inr, Bool, true, false, List, [], ◌∷◌, map, refl, sym, ap, ◌∙◌, arith, subst}
+use Rattle.std.specs.Prelude.{All, Option, Some, None, unwrap_or, option_map, slice_get, if◌then◌else◌, ◌==◌}
+use Rattle.std.proofs.lemmas.Bool.{cases_Bool, eqb-true, eqb-false, ne_eqb}
+use Rattle.std.proofs.lemmas.List.Elements.{All-head, All-tail}
+use Rattle.wild_records.specs.Abi.Segment.{pt_load, pt_gnu_stack, pf_x}
+use Rattle.wild_records.specs.FileHeader.{FileHeaderIsRead, file_header_at}
 use Rattle.wild_records.specs.ProgramHeader.{ProgramHeaderIsRead}
 use Rattle.wild_records.specs.declared.program_header.ProgramHeader.{ProgramHeader}
-use Rattle.wild_types.specs.declared.kind.OutputKind.{OutputKind}
-use Rattle.wild_types.specs.declared.kind.OutputKind.TheVariants as output
 use Rattle.wild_types.specs.declared.section.Segment.{Segment}
 use Rattle.wild_types.specs.declared.symbol.Resolution.{Resolution}
 use Rattle.wild_types.specs.declared.symbol.Symbol.{Symbol}
@@ -15,24 +17,20 @@ use Rattle.wild_types.specs.declared.layout.Layout.{Layout}
 use Rattle.wild_types.specs.Addresses.{raw_value}
 use Rattle.wild_needs.specs.EntryPoint.{entry_point, told, entry_by, entry_value}
 use Rattle.wild_types.specs.Flags.{has_flag, ifunc}
-use Rattle.wild_types.specs.Kinds.{needs_dynamic}
 use Rattle.wild_types.specs.Lookups.{canonical}
 use Rattle.wild_slot.specs.Treatment.{flags_at}
-use Rattle.wild_headers.specs.Headers.{entry_address, file_type, file_header, program_header, section_headers_of}
+use Rattle.wild_headers.specs.Headers.{entry_address, file_type, file_header, with_execute, program_header, section_headers_of}
 use Rattle.wild_layout.specs.Image.{bytes}
-use Rattle.wild_layout.specs.Geometry.{IsLaidOut}
-use Rattle.wild_loader.specs.Headers.{program_headers}
+use Rattle.wild_layout.specs.Loadable.{IsPaged}
 use Rattle.wild_loader.specs.SegmentLaws.{HasHeaders}
-use Rattle.wild_loader.specs.Tables.{first_dynamic}
 use Rattle.wild_loader.proofs.RecordLists.{programs-read}
-use Rattle.wild_meaning.specs.Segments.{AreTold, HasDynamicLinker, HasSegments}
-use Rattle.wild_meaning.specs.Linked.{IsDecidedPlace}
+use Rattle.wild_meaning.specs.Segments.{headers_in, TellsSegment, AreTold}
+use Rattle.wild_meaning.specs.Linked.{TellsSizes, IsDecidedPlace}
 use Rattle.wild_meaning.specs.World.{IsLoadable}
 use Rattle.wild_meaning.proofs.SymbolLemmas.{canonical_is}
 use Rattle.wild_meaning.proofs.OutputLemmas.{not_partial}
 use Rattle.wild_loaded.specs.Laws.{HeadersTell}
 use Rattle.wild_loaded.specs.Memory.{headers_of}
-use Rattle.wild_loaded.proofs.DynamicSections.{first_header}
 use Rattle.wild_loaded.proofs.FileType.{kind_fits, movable_type}
 use Rattle.wild_loaded.proofs.Loads.{has_headers}
 
@@ -78,36 +76,56 @@ symbol_entry l i a k is h =
 
 -- ---- segments
 
--- each program header tells its segment
-each_told : (l : Layout) (gs : List Segment) → AreTold gs (map (program_header l) gs)
+-- flags that are the segment's but where the layout asks for more of the stack's
+flags_are_own : (a b : Bool) (f : ℕ) → (a ≡ true → b ≡ false) → (if a then (if b then with_execute f else f) else f) ≡ f
+flags_are_own true true f h = (let both : true ≡ false = h refl in cc)
+flags_are_own true false f h = refl
+flags_are_own false b f h = refl
+
+executes : (f : ℕ) → with_execute f / pf_x % 2 ≡ 1
+executes f =
+    elim (cases_Bool (f / pf_x % 2 == 0)) [
+      | inl t ↦ (let e : f / 1 % 2 ≡ 0 = eqb-true _ _ t in rw t (omega (arith, e)))
+      | inr n ↦ (let e : f / 1 % 2 ≡ 0 → ⊥ = eqb-false _ _ n in rw n (omega (arith, e)))
+    ]
+
+one_told : (l : Layout) (g : Segment) → IsPaged l.page_size g → TellsSegment l g (program_header l g)
 unfolding program_header
-each_told l [] = tt
-each_told l (g ∷ gs) = (record { kind = refl; address = refl; file_size = refl; mem_size = refl; flags = λ k. rw k refl }, each_told l gs)
+one_told l g paged = record {
+  kind = refl;
+  flags = λ f. flags_are_own (g.kind == pt_gnu_stack) l.options.execstack g.flags (λ t. f (eqb-true g.kind pt_gnu_stack t));
+  stack = λ k e. rw (k, e) (executes g.flags);
+  offset = refl;
+  address = refl;
+  physical = refl;
+  file_size = refl;
+  mem_size = refl;
+  align = λ n m. rw (ne_eqb g.kind pt_load n, ne_eqb g.kind pt_gnu_stack m) refl;
+  pages = λ k. rw k refl;
+  congruent = paged;
+}
 
-linked_dynamically : (k : OutputKind) → HasDynamicLinker k → needs_dynamic k ≡ true
-linked_dynamically (output.StaticExecutable any) h = absurd h
-linked_dynamically (output.DynamicExecutable any) h = refl
-linked_dynamically output.SharedObject h = refl
-linked_dynamically output.PartialObject h = absurd h
+-- each program header tells its segment
+each_told : (l : Layout) (gs : List Segment) → All (IsPaged l.page_size) gs → AreTold l gs (map (program_header l) gs)
+each_told l [] h = tt
+each_told l (g ∷ gs) h = (one_told l g (All-head (IsPaged l.page_size) g gs h), each_told l gs (All-tail (IsPaged l.page_size) g gs h))
 
--- a loader reads them, and finds the dynamic section among them
-segments_told : ProgramHeaderIsRead → (l : Layout) → IsLaidOut l → HasHeaders (bytes l) (file_header l) (headers_of l) (section_headers_of l l.sections) → HasSegments l (bytes l) (file_header l)
-segments_told law l laid headers =
+-- a loader reads them
+pub headers_read : FileHeaderIsRead → ProgramHeaderIsRead → (l : Layout) → HasHeaders (bytes l) (file_header l) (headers_of l) (section_headers_of l l.sections) → headers_in (bytes l) ≡ headers_of l
+headers_read file program l headers =
     let e = file_header l in
+    let is : file_header_at (bytes l) 0 ≡ e = file (bytes l) 0 e headers.fits headers.file_header in
     let count = headers.program_count in
-    let read : program_headers (bytes l) e.program_count e.program_offset ≡ headers_of l = rw count (programs-read law (bytes l) (headers_of l) e.program_offset headers.programs_fit headers.programs) in
-    record {
-      told = subst (λ (hs : List ProgramHeader). AreTold l.segments hs) (sym read) (each_told l l.segments);
-      dynamic = λ linker.
-          (let p = laid.loadable.movable (linked_dynamically l.kind linker) in
-          let s = laid.loadable.dynamic p.0 p.1 in
-          (program_header l s.segment, ap first_dynamic read ∙ first_header l l.segments s.segment s.first));
-    }
+    rw (is, count) (programs-read program (bytes l) (headers_of l) e.program_offset headers.programs_fit headers.programs)
+
+sizes_told : (l : Layout) → TellsSizes (file_header l)
+unfolding file_header
+sizes_told l = record { ident_version = refl; version = refl; header = refl; program = refl; section = refl; flags = refl }
 
 -- ---- the whole
 
-pub header_told : ProgramHeaderIsRead → HeadersTell
-header_told law = λ l k numbers laid.
+pub header_told : FileHeaderIsRead → ProgramHeaderIsRead → HeadersTell
+header_told file program = λ l k numbers laid.
     let headers = has_headers l k numbers laid in
     record {
       header = file_header l;
@@ -118,5 +136,6 @@ header_told law = λ l k numbers laid.
       address = λ a e. entry_is l ∙ entry_by_case l (Some (entry.Address a)) k e;
       symbol = λ i a e d. entry_is l ∙ symbol_entry l i a k e d;
       none = λ e. entry_is l ∙ entry_by_case l None k e;
-      segments = segments_told law l laid headers;
+      sizes = sizes_told l;
+      segments = subst (λ (hs : List ProgramHeader). AreTold l l.segments hs) (sym (headers_read file program l headers)) (each_told l l.segments laid.loadable.pages);
     }

@@ -20,6 +20,7 @@ pub mod DynamicSections
 pub mod SectionTable
 pub mod StaticTables
 pub mod FileHeader
+pub mod DynamicTold
 pub mod PairLemmas
 pub mod Permuted
 pub mod Fillings
@@ -44,6 +45,7 @@ pub mod AllTables
 pub mod MadeChanges
 pub mod OutsideTables
 pub mod SectionsMoved
+pub mod Blanks
 mod NumbersKept
 pub mod SitesLoaded
 pub mod SlotsLoaded

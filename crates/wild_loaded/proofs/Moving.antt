@@ -48,6 +48,7 @@ use Rattle.wild_loaded.specs.Moved.{HasApplied}
 use Rattle.wild_loaded.proofs.MadeChanges.{MovingLaws, IsMovedImage, kept_at, made_over}
 use Rattle.wild_loaded.proofs.OutsideTables.{behind_miss}
 use Rattle.wild_loaded.proofs.SectionsMoved.{section_moved}
+use Rattle.wild_loaded.proofs.Blanks.{blank_moved}
 use Rattle.wild_loaded.proofs.SlotsLoaded.{slots_loaded}
 use Rattle.wild_loaded.proofs.Notes.{has_changed, alone, alone_made, alone_apart, alone_changed}
 
@@ -100,6 +101,7 @@ memory_moved laws = λ l w m kind numbers legal laid decided whole none applied.
       items = λ s kept. item_moved l w m s h kept;
       slots = slots_loaded l w m h;
       zeros = λ a b free. zero_moved l w m a h b free;
+      blanks = λ s k b f lt. blank_moved l w m s k laws.blanks h b f lt;
       copies = λ i raw y c. copy_moved l w m i raw y h c;
     }
 
@@ -162,6 +164,7 @@ images_loaded laws = λ l w kind numbers legal laid decided whole none.
       items = h.items;
       slots = h.slots;
       zeros = h.zeros;
+      blanks = h.blanks;
       copies = h.copies;
     }
   where

@@ -57,7 +57,7 @@ use Rattle.wild_geometry.proofs.MachineLemmas.{facts_of}
 -- ---- each entry
 
 -- what holds of each relative entry
-abbrev OfEntries : Layout → (Rela → Type 0) → Type 0
+abbrev pub OfEntries : Layout → (Rela → Type 0) → Type 0
 OfEntries l P = (place v : ℕ) → place < 2 ^ 64 → v < 2 ^ 64 → P (relative_entry l place v)
 
 of_relocation : (P : Rela → Type 0) (l : Layout) (s : InputSection) (r : InputRelocation) → OfEntries l P → All P (option_to_list (listed_entry l s r))
@@ -93,7 +93,7 @@ of_slots P l (x ∷ xs) h a =
     one at (General e) f = All-nil P
     one at (Plt e) f = All-nil P
 
-of_file : (P : Rela → Type 0) (l : Layout) (f : File) → OfEntries l P → All SymbolNumbers l.symbols → All P (relatives l f)
+pub of_file : (P : Rela → Type 0) (l : Layout) (f : File) → OfEntries l P → All SymbolNumbers l.symbols → All P (relatives l f)
 of_file P l f h numbers =
     All-append P (file_entries l f) (slot_entries_of entries.Relative l f)
     (All-flat_map P (section_entries l) f.sections (λ k d b. of_section P l (get_or f.sections k d) h))

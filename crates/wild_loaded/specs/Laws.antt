@@ -6,15 +6,17 @@
 --   SectionsAreCarried     a kept section that has bytes has them in the file, and each is carried to its address
 --   SectionsAreStored      their memory has each kept section as the file has it
 --   ZerosAreStored         and zeros behind the file bytes
+--   BlanksAreStored        and in sections without data that lie in one with file bytes
 --   SlotsAreThere          the slots of a layout without faults are whole
 --   PartsAreStored         memory has the tables of slots and stubs
 --   SlotsAreStored         and each word, each stub and the pair of the output's own thread-local data
 --   DynamicSectionsStand   the dynamic section stands where its segment is
+--   DynamicSectionsTell    and tells a dynamic linker what it is to do
 --   TablesAreFound         a loader finds the tables that fill addresses and slots by the dynamic section
 --   SectionTablesAreFound  or, without one, by their sections
 --   EntriesHaveChanges     what entries of slots, of fields and of copies make a loader do in a legal world
 --   CopiesAreThere         and each symbol that is copied has an answer
-use Rattle.std.specs.Prelude.{◌≡◌, ℕ, ◌+◌, ◌*◌, ◌≤◌, true, false, [], ◌++◌, length, Some, Ok, Contains, slice_get}
+use Rattle.std.specs.Prelude.{◌≡◌, ℕ, ◌+◌, ◌*◌, ◌<◌, ◌≤◌, true, false, [], ◌++◌, length, Some, Ok, Contains, slice_get}
 use Rattle.wild_types.specs.declared.input.InputSection.{InputSection}
 use Rattle.wild_types.specs.Item.{item_of}
 use Rattle.wild_types.specs.declared.part.Part.{Part}
@@ -49,9 +51,11 @@ use Rattle.wild_loader.specs.Memory.{byte_in}
 use Rattle.wild_loader.specs.SegmentLaws.{HasHeaders, AreLoadable}
 use Rattle.wild_loader.specs.Laws.{HasDynamic}
 use Rattle.wild_tables.specs.Dynamic.{dynamic_records}
+use Rattle.wild_meaning.specs.Section.{HasFileBytes}
 use Rattle.wild_meaning.specs.World.{IsLoadable, IsLegal, IsBehind, IsCopied, HasCopy}
 use Rattle.wild_meaning.specs.Item.{IsInput, IsKeptSection}
-use Rattle.wild_meaning.specs.Linked.{HasHeader, processor_of}
+use Rattle.wild_meaning.specs.DynamicSection.{TellsLinker}
+use Rattle.wild_meaning.specs.Linked.{HasHeader, IsBlank, processor_of}
 use Rattle.wild_loaded.specs.Owners.{HasOneOwnerEach}
 use Rattle.wild_loaded.specs.Memory.{IsStored, headers_of, image_memory}
 use Rattle.wild_loaded.specs.WholeSlots.{HasWholeSlots}
@@ -88,6 +92,10 @@ SectionsAreStored = (l : Layout) (w : World) (s : InputSection) → IsLegal l w 
 abbrev pub ZerosAreStored : Type 0
 ZerosAreStored = (l : Layout) (w : World) (a : ℕ) → IsLegal l w → IsLaidOut l → IsBehind l a → byte_in (image_memory l w) (w.base + a) ≡ Some 0
 
+-- an input section without data has zeros where its section has bytes in the file
+abbrev pub BlanksAreStored : Type 0
+BlanksAreStored = (l : Layout) (w : World) (s : InputSection) (k : ℕ) → IsLegal l w → IsLaidOut l → IsBlank l s → HasFileBytes l s.part → k < s.size → byte_in (image_memory l w) (w.base + (s.address + k)) ≡ Some 0
+
 -- slots are whole where no group has a fault
 abbrev pub SlotsAreThere : Type 0
 SlotsAreThere = (l : Layout) → HaveTheirFlags l → IsLaidOut l → flat_map_from (group_errors l) 0 l.groups ≡ [] → HasWholeSlots l
@@ -111,6 +119,10 @@ pub record HasEntries (l : Layout) : Type 0 where
 -- so it is where the output needs one
 abbrev pub DynamicSectionsStand : Type 0
 DynamicSectionsStand = (l : Layout) → needs_dynamic l.kind ≡ true → NumbersFit l → IsLaidOut l → HasEntries l
+
+-- in whatever legal world, its entries tell a dynamic linker what it is to do
+abbrev pub DynamicSectionsTell : Type 0
+DynamicSectionsTell = (l : Layout) (w : World) → IsLoadable l.kind → needs_dynamic l.kind ≡ true → NumbersFit l → IsLegal l w → IsLaidOut l → HasWholeSlots l → TellsLinker (processor_of l.machine) (bytes l)
 
 -- the image of an output that needs a dynamic section has one, by which a loader finds the tables that the groups give
 abbrev pub TablesAreFound : Type 0

@@ -25,8 +25,9 @@ use Rattle.wild_loader.specs.Load.{load}
 use Rattle.wild_loader.specs.Memory.{byte_in, Holds}
 use Rattle.wild_loader.specs.SegmentLaws.{loaded_memory}
 use Rattle.wild_meaning.specs.Item.{IsInput, IsKept}
+use Rattle.wild_meaning.specs.Section.{HasFileBytes}
 use Rattle.wild_meaning.specs.World.{IsBehind, HasCopy}
-use Rattle.wild_meaning.specs.Linked.{IsNotCopied, processor_of}
+use Rattle.wild_meaning.specs.Linked.{IsBlank, IsNotCopied, processor_of}
 
 -- the section has bytes in the file, as many as it has room for, and each is carried to its address
 pub record IsStored (l : Layout) (s : InputSection) : Type 0 where
@@ -47,7 +48,7 @@ abbrev pub EachDecided : Layout → Type 0
 EachDecided l = (s : InputSection) → IsInput l s → is_read s ≡ true → IsDecided l (item_of s)
 
 -- the loader accepts the image; memory has each kept item as it was decided, addresses that move more by the base, the
--- slots and stubs, copies of symbols, and else zeros behind the file bytes of segments
+-- slots and stubs, copies of symbols, and else zeros behind the file bytes of segments, and in sections without data
 pub record HasMemory (l : Layout) (w : World) : Type 0 where
   pub memory : Memory
   pub accepted : load w (bytes l) ≡ Ok memory
@@ -55,4 +56,5 @@ pub record HasMemory (l : Layout) (w : World) : Type 0 where
   pub items : (item : Item) → IsKept l item → HasItem l w memory item InMemory
   pub slots : HasSlots l w memory
   pub zeros : (a : ℕ) → IsBehind l a → IsNotCopied l w a → byte_in memory (w.base + a) ≡ Some 0
+  pub blanks : (s : InputSection) (k : ℕ) → IsBlank l s → HasFileBytes l s.part → k < s.size → byte_in memory (w.base + (s.address + k)) ≡ Some 0
   pub copies : (i raw : ℕ) (x : Answer) → HasCopy l w i raw x → Holds memory (w.base + raw) x.bytes

@@ -1,7 +1,7 @@
 //! What a loader makes of the image of a laid out layout before any entry is applied.
 #![tactic(auto)]
 
-ghost use Rattle.wild_loaded.specs.Laws.{CopiesAreThere, DynamicSectionsStand, EntriesHaveChanges, HeadersStand, HeadersTell, OwnersAreKnown, PartsAreStored, SectionTablesAreFound, SectionsAreCarried, SectionsAreStored, SegmentsAreLoadable, SlotsAreStored, SlotsAreThere, TablesAreFound, ZerosAreStored};
+ghost use Rattle.wild_loaded.specs.Laws.{BlanksAreStored, CopiesAreThere, DynamicSectionsStand, DynamicSectionsTell, EntriesHaveChanges, HeadersStand, HeadersTell, OwnersAreKnown, PartsAreStored, SectionTablesAreFound, SectionsAreCarried, SectionsAreStored, SegmentsAreLoadable, SlotsAreStored, SlotsAreThere, TablesAreFound, ZerosAreStored};
 ghost use Rattle.wild_loaded.specs.FilledLaws.{TablesAreMade};
 ghost use Rattle.wild_loaded.specs.MovedLaws.{ImagesAreLoaded, MemoryIsMoved};
 
@@ -10,7 +10,9 @@ use wild_loader::{
     bytes_are_loaded, dynamic_images_are_loaded, entries_make_changes, entries_store_words,
     numbers_are_read, static_images_are_loaded, tables_are_applied,
 };
-use wild_records::program_header_is_read;
+use wild_records::{
+    dynamic_entry_is_read, file_header_is_read, program_header_is_read, rela_is_read, relr_is_read,
+};
 use wild_relr::{flat_is_a_run, words_fit};
 use wild_slots::{
     blocks_are_whole, each_word_stands, entries_are_known, fixed_outputs_move_nothing, pair_stands,
@@ -24,11 +26,12 @@ pub fn owners_are_known()
 {}
 
 /// A reader finds each header where the file header tells, and a loader takes them; they tell the output's type, where the program
-/// begins, and the layout's segments, with a dynamic section where a dynamic linker loads the output.
+/// begins, and the layout's segments.
 pub fn headers_stand()
     ensures stand { HeadersStand }
     ensures tell { HeadersTell }
 {
+    file_header_is_read();
     program_header_is_read();
 }
 
@@ -42,10 +45,11 @@ pub fn sections_are_carried()
     ensures { SectionsAreCarried }
 {}
 
-/// The memory of the loaded segments has each kept section as the file has it, and zeros behind the file bytes.
+/// The memory of the loaded segments has each kept section as the file has it, and zeros behind the file bytes and in sections without data.
 pub fn sections_are_stored()
     ensures sections { SectionsAreStored }
     ensures zeros { ZerosAreStored }
+    ensures blanks { BlanksAreStored }
 {
     bytes_are_loaded();
 }
@@ -94,6 +98,20 @@ pub fn tables_are_found()
     words_fit();
     pair_stands();
     fixed_outputs_move_nothing();
+}
+
+/// The dynamic section tells a dynamic linker to find each symbol at the start, and of the tables what their entries are.
+pub fn dynamic_sections_tell()
+    ensures { DynamicSectionsTell }
+{
+    file_header_is_read();
+    program_header_is_read();
+    dynamic_entry_is_read();
+    rela_is_read();
+    relr_is_read();
+    dynamic_sections_are_read();
+    dynamic_sections_stand();
+    tables_are_found();
 }
 
 /// In a legal world each entry of a slot, of a field and of a copy makes a loader do what the symbol's answer or its

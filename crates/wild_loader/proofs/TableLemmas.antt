@@ -141,7 +141,7 @@ nothing-read image n at ds e h =
     rw z at h
 
 -- the entries of the dynamic section
-section-found : DynamicEntryIsRead → (image : List ℕ) (hs : List ProgramHeader) (ds : List DynamicEntry) → (has : HasDynamic image hs ds) → section_of image has.segment ≡ Ok (before_null ds)
+pub section-found : DynamicEntryIsRead → (image : List ℕ) (hs : List ProgramHeader) (ds : List DynamicEntry) → (has : HasDynamic image hs ds) → section_of image has.segment ≡ Ok (before_null ds)
 section-found dynamic image hs ds has =
     let room = has.room in
     let lies = lies-table image has.segment.offset has.segment.file_size 1 (omega arith) in

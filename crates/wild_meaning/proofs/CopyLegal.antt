@@ -11,8 +11,8 @@ use Rattle.wild_types.specs.Flags.{has_flag, ifunc, absolute}
 use Rattle.wild_loader.specs.declared.world.Answer.{Answer}
 use Rattle.wild_meaning.specs.Value.{IsDefinedBy, IsReplaceable, HasRaw, HasFlag, HasAnswer}
 use Rattle.wild_meaning.specs.World.{HasResolver, IsAnswer, IsAnswered, IsOwnAnswer, IsKnownModule, IsCopied, HasCopy, HasRoomFor, IsBehind}
-use Rattle.wild_meaning.specs.Worked.{group_of, loaded}
-use Rattle.wild_meaning.specs.WorkedCopy.{copying, copying_object, copying_library, copying_world, copied_symbol, start_symbol, null_answer, copied_answer, copied_bytes}
+use Rattle.wild_meaning.specs.Worked.{group_of}
+use Rattle.wild_meaning.specs.WorkedCopy.{copying, copying_room, copying_object, copying_library, copying_world, copied_symbol, start_symbol, null_answer, copied_answer, copied_bytes}
 use Rattle.wild_meaning.specs.CopyRefusals.{CopyingWorldIsLegal}
 use Rattle.wild_meaning.proofs.Told.{only, raw_of, answer_is, no_answer, defined_is}
 use Rattle.wild_meaning.proofs.Legal.{not_indirect, no_index, one_index}
@@ -55,7 +55,7 @@ copy_is i raw x h =
     )
 
 behind : (k : ℕ) → k < 8 → IsBehind copying (0x3100 + k)
-behind k lt = record { segment = loaded 0x3000 0 0x200; listed = (1, omega arith, refl); loads = refl; from = omega arith; to = omega (arith, lt) }
+behind k lt = record { segment = copying_room; listed = (1, omega arith, refl); loads = refl; from = omega arith; to = omega (arith, lt) }
 
 room : (i raw : ℕ) (x : Answer) → HasCopy copying copying_world i raw x → HasRoomFor copying raw x
 room i raw x h =

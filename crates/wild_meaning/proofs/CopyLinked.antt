@@ -1,6 +1,7 @@
 -- The image of the worked program with a copied symbol is linked in its world.
-use Rattle.std.proofs.Common.{◌≡◌, ℕ, zero, suc, ◌+◌, ◌-◌, ◌<◌, ◌≤◌, ◌⊎◌, inl, inr, true, false, List, [], ◌∷◌, ◌++◌, refl, sym, ap, ◌∙◌, subst, arith}
+use Rattle.std.proofs.Common.{◌≡◌, ℕ, zero, suc, ◌+◌, ◌-◌, ◌<◌, ◌≤◌, ◌⊎◌, inl, inr, ◌==◌, true, false, List, [], ◌∷◌, refl, sym, ap, ◌∙◌, subst, arith}
 use Rattle.std.specs.Prelude.{Some, None, Contains, All, slice_index_or, replicate}
+use Rattle.std.proofs.lemmas.Bool.{eqb-false}
 use Rattle.std.proofs.lemmas.List.{get_or-replicate}
 use Rattle.std.proofs.lemmas.List.Elements.{All-from_recursion, All-contains}
 use lib.IntN.{pos}
@@ -8,8 +9,8 @@ use Rattle.wild_words.specs.Words.{number}
 use Rattle.wild_words.specs.Record.{spell}
 use Rattle.wild_words.proofs.RecordLemmas.{Stands-left}
 use Rattle.wild_records.specs.Abi.Relocation.{r_x86_64_64}
+use Rattle.wild_records.specs.Abi.Segment.{pt_gnu_stack}
 use Rattle.wild_records.specs.FileHeader.{file_header_fields}
-use Rattle.wild_records.specs.ProgramHeader.{program_header_fields}
 use Rattle.wild_records.specs.declared.program_header.ProgramHeader.{ProgramHeader}
 use Rattle.wild_reloc.specs.Formula.{formula, SymbolAddress, Full}
 use Rattle.wild_types.specs.declared.input.InputRelocation.{InputRelocation}
@@ -19,24 +20,27 @@ use Rattle.wild_types.specs.declared.file.Group.{Group}
 use Rattle.wild_types.specs.declared.layout.Entry.TheVariants as entry
 use Rattle.wild_types.specs.Flags.{has_flag}
 use Rattle.wild_loader.specs.declared.world.Answer.{Answer}
+use Rattle.wild_loader.specs.declared.memory.Machine.TheVariants as processors
 use Rattle.wild_loader.specs.Memory.{byte_in, Holds}
 use Rattle.wild_loader.specs.Tables.{first_dynamic}
 use Rattle.wild_meaning.specs.Value.{HasValue}
+use Rattle.wild_meaning.specs.Section.{HasFileBytes}
 use Rattle.wild_meaning.specs.World.{HasCopy, IsBehind}
 use Rattle.wild_types.specs.Item.{Item, item_of}
 use Rattle.wild_meaning.specs.Item.{IsInput, IsKept, OfSection}
 use Rattle.wild_meaning.specs.Reference.{IsLinkedAlone, ReferenceHolds, ItemHolds}
-use Rattle.wild_meaning.specs.Segments.{AreTold, HasSegments}
+use Rattle.wild_meaning.specs.Segments.{headers_in, AreTold}
+use Rattle.wild_meaning.specs.DynamicSection.{TellsLinker}
 use Rattle.wild_meaning.specs.Linked.{IsBlank, IsNotCopied, IsDecidedPlace}
 use Rattle.wild_meaning.specs.Worked.{reference, group_of}
 use Rattle.wild_meaning.specs.WorkedCopy.{copying, copying_data, copying_item, copying_blank, copying_object, copying_library, copying_world, copied_symbol, start_symbol, copied_answer, copied_bytes}
-use Rattle.wild_meaning.specs.WorkedCopyImage.{copying_image, copying_memory, copying_header, copying_first, copying_second, copying_third, copying_words, copying_tables}
+use Rattle.wild_meaning.specs.WorkedCopyImage.{copying_image, copying_rest, copying_memory, copying_header, copying_third, copying_words}
 use Rattle.wild_meaning.specs.CopyRefusals.{CopyingImageIsLinked}
 use Rattle.wild_meaning.proofs.Told.{only, raw_of}
 use Rattle.wild_meaning.proofs.Read.{held_from}
 use Rattle.wild_meaning.proofs.Refused.{not_alone, no_template}
 use Rattle.wild_meaning.proofs.CopyLegal.{copied_own, has_copy, copy_is}
-use Rattle.wild_meaning.proofs.CopyLoaded.{copying_loaded, copying_programs, copying_dynamic}
+use Rattle.wild_meaning.proofs.CopyLoaded.{copying_loaded, copying_programs, copying_dynamic, copying_entries, copying_read, copying_tags}
 use Rattle.wild_meaning.proofs.CopyRefused.{address_formula, copied_is_own, no_code}
 
 abbrev copied_reference : InputRelocation
@@ -121,7 +125,7 @@ zero_at k lt (inr h) = behind k lt h ((k - 264)) (omega (arith, h))
 abbrev IsZero : InputSection → Type 0
 IsZero s = s.nobits ≡ true → (k : ℕ) → k < s.size → IsNotCopied copying copying_world (s.address + k) → byte_in copying_memory (copying_world.base + s.address + k) ≡ Some 0
 
-zeros : (s : InputSection) (k : ℕ) → IsBlank copying s → k < s.size → IsBehind copying (s.address + k) → IsNotCopied copying copying_world (s.address + k) → byte_in copying_memory (copying_world.base + s.address + k) ≡ Some 0
+zeros : (s : InputSection) (k : ℕ) → IsBlank copying s → k < s.size → IsBehind copying (s.address + k) ⊎ HasFileBytes copying s.part → IsNotCopied copying copying_world (s.address + k) → byte_in copying_memory (copying_world.base + s.address + k) ≡ Some 0
 zeros s k h lt behind beside =
     let there : IsZero s = All-contains IsZero sections s (All-from_recursion IsZero sections ((λ e. absurd (let both : false ≡ true = e in cc)), ((λ e k lt beside. zero_at k lt (beside 0 0x3100 copied_answer has_copy)), tt))) (listed_in s h.input) in
     there h.blank k lt beside
@@ -133,13 +137,37 @@ copies i raw x h =
 
 -- ---- the whole
 
-copying_segments : HasSegments copying copying_image copying_header
-copying_segments = record {
-  told = subst (λ (hs : List ProgramHeader). AreTold copying.segments hs) (sym copying_programs) (
-    record { kind = refl; address = refl; file_size = refl; mem_size = refl; flags = λ k. refl },
-    (record { kind = refl; address = refl; file_size = refl; mem_size = refl; flags = λ k. refl }, (record { kind = refl; address = refl; file_size = refl; mem_size = refl; flags = λ k. absurd (let no : 2 ≡ 1 = k in omega (arith, no)) }, tt)),
-  );
-  dynamic = λ d. (copying_third, ap first_dynamic copying_programs ∙ copying_dynamic);
+no_load : (n : ℕ) → (n == pt_gnu_stack) ≡ false → n ≡ pt_gnu_stack → ⊥
+no_load n f = eqb-false n pt_gnu_stack f
+
+copying_segments : AreTold copying copying.segments (headers_in copying_image)
+copying_segments = subst (λ (hs : List ProgramHeader). AreTold copying copying.segments hs) (sym copying_programs) (
+  record { kind = refl; flags = λ k. refl; stack = λ k. absurd (no_load 1 refl k); offset = refl; address = refl; physical = refl; file_size = refl; mem_size = refl; align = λ k. absurd (k refl); pages = λ k. refl; congruent = λ k. refl },
+  (
+    record { kind = refl; flags = λ k. refl; stack = λ k. absurd (no_load 1 refl k); offset = refl; address = refl; physical = refl; file_size = refl; mem_size = refl; align = λ k. absurd (k refl); pages = λ k. refl; congruent = λ k. refl },
+    (
+      record { kind = refl; flags = λ k. refl; stack = λ k. absurd (no_load 2 refl k); offset = refl; address = refl; physical = refl; file_size = refl; mem_size = refl; align = λ k m. refl; pages = λ k. absurd (let no : 2 ≡ 1 = k in omega (arith, no)); congruent = λ k. absurd (let no : 2 ≡ 1 = k in omega (arith, no)) },
+      tt,
+    ),
+  ),
+)
+
+-- what the dynamic section tells: no entry is said to be relative
+copying_told : TellsLinker processors.X86_64 copying_image
+copying_told = record {
+  segment = copying_third;
+  first = ap first_dynamic copying_programs ∙ copying_dynamic;
+  entries = copying_entries;
+  read = copying_read;
+  told = record {
+    now = record { value = 8; there = copying_tags.flags; set = refl };
+    now_1 = record { value = 1; there = copying_tags.flags_1; set = refl };
+    stubs = λ a h. (let both : None ≡ Some a = sym copying_tags.no_stubs ∙ h in cc);
+    entry_size = λ a h. copying_tags.entry_size;
+    word_size = λ a h. (let both : None ≡ Some a = sym copying_tags.no_words ∙ h in cc);
+    symbol_size = λ a h. (let both : None ≡ Some a = sym copying_tags.no_symbols ∙ h in cc);
+    relative = λ n t h _. (let both : None ≡ Some n = sym copying_tags.no_count ∙ h in cc);
+  };
 }
 
 begins : (i a : ℕ) → copying.entry ≡ Some (entry.Symbol i) → IsDecidedPlace copying i a → 0x1100 ≡ a
@@ -164,12 +192,14 @@ copying_linked = record {
       middle = record { machine = omega arith; version = omega arith; entry = omega arith; program_offset = omega arith; section_offset = omega arith; flags = omega arith; header_size = omega arith };
       back = record { program_entry_size = omega arith; program_count = omega arith; section_entry_size = omega arith; section_count = omega arith; name_table = omega arith };
     };
-    stands = Stands-left (spell (file_header_fields copying_header)) (spell (program_header_fields copying_first) ++ (spell (program_header_fields copying_second) ++ (spell (program_header_fields copying_third) ++ (copying_words ++ copying_tables))));
+    stands = Stands-left (spell (file_header_fields copying_header)) copying_rest;
     fixed = λ f. absurd f;
     movable = λ _. refl;
     address = λ a e. absurd (let one : Some (entry.Symbol 1) ≡ Some (entry.Address a) = e in cc);
     symbol = begins;
     none = λ e. absurd (let one : Some (entry.Symbol 1) ≡ None = e in cc);
+    sizes = record { ident_version = refl; version = refl; header = refl; program = refl; section = refl; flags = refl };
     segments = copying_segments;
   };
+  dynamic = λ d. copying_told;
 }

@@ -1,20 +1,23 @@
 -- What a loader makes of the image of the worked program with a copied symbol.
 use Rattle.std.proofs.Common.{◌≡◌, [], ◌∷◌, refl}
-use Rattle.std.specs.Prelude.{Ok, Some}
+use Rattle.std.specs.Prelude.{List, Ok, Some, None}
 use Rattle.wild_words.specs.Words.{word, number}
 use Rattle.wild_words.specs.Extents.{least_extent}
+use Rattle.wild_records.specs.Abi.Dynamic.{dt_jmprel, dt_symtab, dt_relaent, dt_flags, dt_relr, dt_relacount, dt_flags_1}
 use Rattle.wild_records.specs.FileHeader.{file_header_fields, file_header_at}
 use Rattle.wild_records.specs.ProgramHeader.{program_header_fields, program_header_at}
 use Rattle.wild_records.specs.Dynamic.{dynamic_entry_at}
-use Rattle.wild_records.specs.Relocations.{rela_at}
+use Rattle.wild_records.specs.Relocations.{rela_at, rela_size}
+use Rattle.wild_records.specs.declared.dynamic.DynamicEntry.{DynamicEntry}
 use Rattle.wild_loader.specs.Headers.{header, program_headers}
 use Rattle.wild_loader.specs.Segments.{load_segment, load_segments, segments}
-use Rattle.wild_loader.specs.Tables.{first_dynamic, dynamic_entries, tagged, span_at, table_of, named_tables, dynamic_tables, tables, relas_at, words_at}
+use Rattle.wild_loader.specs.Tables.{first_dynamic, dynamic_entries, tagged, span_at, table_of, named_tables, dynamic_tables, tables, relas_at, words_at, section_of}
 use Rattle.wild_loader.specs.Places.{places_from}
 use Rattle.wild_loader.specs.Runs.{overlaid, put_byte, put_bytes, read_bytes}
 use Rattle.wild_loader.specs.Changes.{kind_of, change_of, patch_at}
 use Rattle.wild_loader.specs.Relocate.{rela_patch, add_all, apart, notes, relocate}
 use Rattle.wild_loader.specs.Load.{load, image_at, image_with}
+use Rattle.wild_meaning.specs.Segments.{headers_in}
 use Rattle.wild_meaning.specs.WorkedCopy.{copying_world}
 use Rattle.wild_meaning.specs.WorkedCopyImage.{copying_image, copying_first, copying_second, copying_third, copying_memory}
 
@@ -23,10 +26,34 @@ unfolding load image_at image_with header program_headers segments load_segment 
 copying_loaded = refl
 
 -- its program headers
-pub copying_programs : program_headers copying_image 3 64 ≡ copying_first ∷ copying_second ∷ copying_third ∷ []
-unfolding program_headers file_header_fields program_header_at program_header_fields number word
+pub copying_programs : headers_in copying_image ≡ copying_first ∷ copying_second ∷ copying_third ∷ []
+unfolding program_headers file_header_at file_header_fields program_header_at program_header_fields number word
 copying_programs = refl
 
 pub copying_dynamic : first_dynamic (copying_first ∷ copying_second ∷ copying_third ∷ []) ≡ Some copying_third
 unfolding first_dynamic
 copying_dynamic = refl
+
+-- the entries of its dynamic section
+abbrev pub copying_entries : List DynamicEntry
+copying_entries =
+    record { tag = 7; value = 0x1008 } ∷ record { tag = 8; value = 24 } ∷ record { tag = 9; value = 24 } ∷ record { tag = 30; value = 8 }
+    ∷ record { tag = 0x6ffffffb; value = 1 } ∷ []
+
+pub copying_read : section_of copying_image copying_third ≡ Ok copying_entries
+unfolding dynamic_entries dynamic_entry_at file_header_fields program_header_fields number word
+copying_read = refl
+
+-- the values of tags
+pub record CopyingTags : Type 0 where
+  pub flags : tagged dt_flags copying_entries ≡ Some 8
+  pub flags_1 : tagged dt_flags_1 copying_entries ≡ Some 1
+  pub entry_size : tagged dt_relaent copying_entries ≡ Some rela_size
+  pub no_stubs : tagged dt_jmprel copying_entries ≡ None
+  pub no_words : tagged dt_relr copying_entries ≡ None
+  pub no_symbols : tagged dt_symtab copying_entries ≡ None
+  pub no_count : tagged dt_relacount copying_entries ≡ None
+
+pub copying_tags : CopyingTags
+unfolding tagged
+copying_tags = record { flags = refl; flags_1 = refl; entry_size = refl; no_stubs = refl; no_words = refl; no_symbols = refl; no_count = refl }

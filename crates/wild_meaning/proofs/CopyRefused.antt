@@ -15,8 +15,8 @@ use Rattle.wild_meaning.specs.Section.{IsSet}
 use Rattle.wild_meaning.specs.World.{IsBehind}
 use Rattle.wild_meaning.specs.Item.{IsKept, OfSection}
 use Rattle.wild_meaning.specs.Linked.{IsBlank, IsNotCopied, IsDecidedPlace}
-use Rattle.wild_meaning.specs.Worked.{reference, loaded}
-use Rattle.wild_meaning.specs.WorkedCopy.{copying, copying_data, copying_item, copying_blank, copying_world, copied_symbol, start_symbol, copied_answer}
+use Rattle.wild_meaning.specs.Worked.{reference}
+use Rattle.wild_meaning.specs.WorkedCopy.{copying, copying_room, copying_data, copying_item, copying_blank, copying_world, copied_symbol, start_symbol, copied_answer}
 use Rattle.wild_meaning.specs.CopyRefusals.{WrongCopyIsRefused, WrongZeroIsRefused, WrongPlaceOfCopyIsRefused, WrongMachineIsRefused, WrongHeadersAreRefused}
 use Rattle.wild_meaning.proofs.Told.{IsPlainOwn, denoted}
 use Rattle.wild_meaning.proofs.Read.{full_of}
@@ -44,8 +44,8 @@ not_copied i raw x h = let is = copy_is i raw x h in inl (omega (arith, is.1))
 
 pub wrong_zero : WrongZeroIsRefused
 wrong_zero image h x =
-    let behind : IsBehind copying 0x3080 = record { segment = loaded 0x3000 0 0x200; listed = (1, omega arith, refl); loads = refl; from = omega arith; to = omega arith } in
-    let there : byte_in h.memory 0x23080 ≡ Some 0 = h.zeros copying_blank 0x80 blank_is (omega arith) behind not_copied in
+    let behind : IsBehind copying 0x3080 = record { segment = copying_room; listed = (1, omega arith, refl); loads = refl; from = omega arith; to = omega arith } in
+    let there : byte_in h.memory 0x23080 ≡ Some 0 = h.zeros copying_blank 0x80 blank_is (omega arith) (inl behind) not_copied in
     let both : Some x.byte ≡ Some 0 = sym x.there ∙ there in
     let same : x.byte ≡ 0 = cc in
     x.wrong same

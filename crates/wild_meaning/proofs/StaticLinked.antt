@@ -1,5 +1,5 @@
 -- The image of the worked program without a dynamic linker is linked in its world.
-use Rattle.std.proofs.Common.{◌≡◌, ℕ, zero, suc, ◌+◌, ◌-◌, ◌%◌, ◌^◌, ◌<◌, ◌≤◌, ◌⊎◌, inl, inr, true, false, List, [], ◌∷◌, ◌++◌, length, refl, sym, ◌∙◌, subst, arith}
+use Rattle.std.proofs.Common.{◌≡◌, ℕ, zero, suc, ◌+◌, ◌-◌, ◌%◌, ◌^◌, ◌<◌, ◌≤◌, ◌⊎◌, inl, inr, true, false, List, [], ◌∷◌, length, refl, sym, ◌∙◌, subst, arith}
 use Rattle.std.specs.Prelude.{Some, None, Contains, All, slice_index}
 use Rattle.std.proofs.lemmas.List.Elements.{All-from_recursion, All-contains}
 use lib.IntN.{pos}
@@ -7,8 +7,8 @@ use Rattle.wild_words.specs.Words.{number}
 use Rattle.wild_words.specs.Record.{spell}
 use Rattle.wild_words.proofs.RecordLemmas.{Stands-left}
 use Rattle.wild_records.specs.Abi.Relocation.{r_x86_64_64, r_x86_64_tpoff64}
+use Rattle.wild_records.specs.Abi.Segment.{pt_gnu_stack}
 use Rattle.wild_records.specs.FileHeader.{file_header_fields}
-use Rattle.wild_records.specs.ProgramHeader.{program_header_fields}
 use Rattle.wild_records.specs.declared.program_header.ProgramHeader.{ProgramHeader}
 use Rattle.wild_reloc.specs.Formula.{Formula, formula, SymbolAddress, PointerOffset, Full}
 use Rattle.wild_reloc.specs.FormulaX86_64.{x86_64_formula}
@@ -30,11 +30,11 @@ use Rattle.wild_types.specs.Item.{Item, item_of}
 use Rattle.wild_meaning.specs.Item.{IsInput, IsKept, OfSection}
 use Rattle.wild_meaning.specs.Template.{DoesDemanded, reads_alone}
 use Rattle.wild_meaning.specs.Reference.{IsLinkedAlone, IsOther, ReferenceHolds, ItemHolds}
-use Rattle.wild_meaning.specs.Segments.{AreTold, HasSegments}
+use Rattle.wild_meaning.specs.Segments.{headers_in, AreTold}
 use Rattle.wild_meaning.specs.Linked.{IsBlank}
 use Rattle.wild_meaning.specs.Worked.{reference, file_of, group_of}
 use Rattle.wild_meaning.specs.WorkedStatic.{static_pie, static_pie_world, branch_code, branch_item, branch_reference, load_code, load_item, load_reference, general_code, general_item, pair_reference, getter_reference, described_code, described_item, described_reference, static_data, static_item, first_function, second_function, thread_symbol, getter_symbol}
-use Rattle.wild_meaning.specs.WorkedImage.{static_image, static_memory, static_header, static_segment, static_content}
+use Rattle.wild_meaning.specs.WorkedImage.{static_image, static_rest, static_memory, static_header}
 use Rattle.wild_meaning.specs.StaticRefusals.{StaticImageIsLinked}
 use Rattle.wild_meaning.proofs.Told.{only, IsPlainOwn}
 use Rattle.wild_meaning.proofs.Read.{held_from}
@@ -369,11 +369,11 @@ no_blank s h =
     let both : true ≡ false = sym h.blank ∙ has in
     cc
 
-static_segments : HasSegments static_pie static_image static_header
-static_segments = record {
-  told = subst (λ (hs : List ProgramHeader). AreTold static_pie.segments hs) (sym static_programs) (record { kind = refl; address = refl; file_size = refl; mem_size = refl; flags = λ k. refl }, tt);
-  dynamic = λ d. absurd d;
-}
+static_segments : AreTold static_pie static_pie.segments (headers_in static_image)
+static_segments = subst (λ (hs : List ProgramHeader). AreTold static_pie static_pie.segments hs) (sym static_programs) (
+  record { kind = refl; flags = λ k. refl; stack = λ k. absurd (let no : 1 ≡ pt_gnu_stack = k in omega (arith, no)); offset = refl; address = refl; physical = refl; file_size = refl; mem_size = refl; align = λ k. absurd (k refl); pages = λ k. refl; congruent = λ k. refl },
+  tt,
+)
 
 pub static_linked : StaticImageIsLinked
 static_linked = record {
@@ -390,12 +390,14 @@ static_linked = record {
       middle = record { machine = omega arith; version = omega arith; entry = omega arith; program_offset = omega arith; section_offset = omega arith; flags = omega arith; header_size = omega arith };
       back = record { program_entry_size = omega arith; program_count = omega arith; section_entry_size = omega arith; section_count = omega arith; name_table = omega arith };
     };
-    stands = Stands-left (spell (file_header_fields static_header)) (spell (program_header_fields static_segment) ++ static_content);
+    stands = Stands-left (spell (file_header_fields static_header)) static_rest;
     fixed = λ f. absurd f;
     movable = λ _. refl;
     address = λ a e. (let one : Some (entry.Address 0x1000) ≡ Some (entry.Address a) = e in let same : 0x1000 ≡ a = cc in same);
     symbol = λ i a e _. absurd (let one : Some (entry.Address 0x1000) ≡ Some (entry.Symbol i) = e in cc);
     none = λ e. absurd (let one : Some (entry.Address 0x1000) ≡ None = e in cc);
+    sizes = record { ident_version = refl; version = refl; header = refl; program = refl; section = refl; flags = refl };
     segments = static_segments;
   };
+  dynamic = λ d. absurd d;
 }

@@ -12,6 +12,7 @@ use Rattle.wild_loader.specs.Places.{places_from}
 use Rattle.wild_loader.specs.Runs.{overlaid}
 use Rattle.wild_loader.specs.Relocate.{add_all, apart, notes, relocate}
 use Rattle.wild_loader.specs.Load.{load, image_at, image_with}
+use Rattle.wild_meaning.specs.Segments.{headers_in}
 use Rattle.wild_meaning.specs.WorkedStatic.{static_pie_world}
 use Rattle.wild_meaning.specs.WorkedImage.{static_image, static_segment, static_memory}
 
@@ -20,6 +21,6 @@ unfolding load image_at image_with header program_headers segments load_segment 
 static_loaded = refl
 
 -- its program header
-pub static_programs : program_headers static_image 1 64 ≡ static_segment ∷ []
-unfolding program_headers file_header_fields program_header_at program_header_fields number word
+pub static_programs : headers_in static_image ≡ static_segment ∷ []
+unfolding program_headers file_header_at file_header_fields program_header_at program_header_fields number word
 static_programs = refl

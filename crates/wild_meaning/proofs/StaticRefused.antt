@@ -1,5 +1,5 @@
 -- Wrong data of the worked program without a dynamic linker are refused.
-use Rattle.std.proofs.Common.{◌≡◌, ℕ, ◌-◌, ◌^◌, ◌<◌, true, false, refl, sym, ap, ◌∙◌, arith}
+use Rattle.std.proofs.Common.{◌≡◌, ℕ, ◌-◌, ◌^◌, ◌<◌, inr, true, false, [], ◌∷◌, refl, sym, ap, ◌∙◌, arith}
 use Rattle.std.specs.Prelude.{◌≢◌, Some, Contains}
 use lib.IntN.{pos}
 use Rattle.wild_records.specs.Abi.Relocation.{r_x86_64_none, r_x86_64_64, r_x86_64_tpoff64}
@@ -9,18 +9,23 @@ use Rattle.wild_records.specs.declared.file_header.FileHeader.{FileHeader}
 use Rattle.wild_reloc.specs.Formula.{Formula, formula, SymbolAddress, PointerOffset, Full}
 use Rattle.wild_reloc.specs.FormulaX86_64.{x86_64_formula}
 use Rattle.wild_types.specs.declared.input.InputRelocation.{InputRelocation}
+use Rattle.wild_types.specs.declared.file.FileRole.TheVariants as file_role
+use Rattle.wild_types.specs.declared.file.File.{File}
 use Rattle.wild_types.specs.Flags.{has_flag}
 use Rattle.wild_loader.specs.declared.memory.Memory.{Memory}
-use Rattle.wild_meaning.specs.Section.{IsSet}
+use Rattle.wild_loader.specs.Memory.{byte_in}
+use Rattle.wild_meaning.specs.Section.{IsSet, HasFileBytes}
+use Rattle.wild_meaning.specs.World.{IsCopied}
 use Rattle.wild_types.specs.Item.{Item}
 use Rattle.wild_meaning.specs.Item.{IsKept, OfSection}
 use Rattle.wild_meaning.specs.Reference.{ItemHolds, ReferenceHolds}
-use Rattle.wild_meaning.specs.Worked.{Refuses, reference}
+use Rattle.wild_meaning.specs.Linked.{IsBlank}
+use Rattle.wild_meaning.specs.Worked.{Refuses, reference, file_of, group_of}
 use Rattle.wild_meaning.specs.WorkedStatic.{static_pie, static_pie_world, static_data, static_item, first_function, second_function, thread_symbol}
 use Rattle.wild_meaning.specs.Refusals.{HasWrongNumber}
-use Rattle.wild_meaning.specs.StaticRefusals.{WrongDataAreRefused}
+use Rattle.wild_meaning.specs.StaticRefusals.{padded, padded_section, padded_blank, WrongDataAreRefused, WrongBlankIsRefused}
 use Rattle.wild_meaning.specs.Thread.{HasThreadOffset}
-use Rattle.wild_meaning.proofs.Told.{IsPlainOwn, denoted, own_offset, somewhere}
+use Rattle.wild_meaning.proofs.Told.{only, IsPlainOwn, denoted, own_offset, somewhere}
 use Rattle.wild_meaning.proofs.Read.{full_of}
 use Rattle.wild_meaning.proofs.Refused.{HasValueThere, value_there, not_excepted, not_alone}
 
@@ -92,3 +97,38 @@ wrong_data read = record {
   offset = wrong_offset;
   begin = λ image h wrong. let is = read image 0 h.header.header h.header.fits h.header.stands in wrong (ap (λ (e : FileHeader). e.entry) is ∙ h.header.address 0x1000 refl);
 }
+
+-- ---- a section without data
+
+padded_is : IsBlank padded padded_blank
+padded_is = record {
+  input = record { group = _; grouped = (0, omega arith, refl); file = _; filed = (0, omega arith, refl); listed = (0, omega arith, refl) };
+  loaded = tt;
+  room = refl;
+  shared = λ e. omega arith;
+  blank = refl;
+}
+
+padded_filled : HasFileBytes padded padded_blank.part
+padded_filled = record {
+  part = _;
+  listed = refl;
+  named = λ e. (let no : 1 ≡ 0 = e in omega (arith, no));
+  section = padded_section;
+  found = refl;
+  filled = λ e. (let no : 1 ≡ 8 = e in omega (arith, no));
+}
+
+nothing_copied : (i : ℕ) → IsCopied padded i → ⊥
+nothing_copied i h =
+    let group = only (group_of (file_of file_role.Object (padded_blank ∷ []) [] ∷ [])) h.group h.grouped in
+    let file = only (file_of file_role.Object (padded_blank ∷ []) []) h.file (rw (← group) at h.filed) in
+    let role : file_role.Object ≡ file_role.Dynamic = ap (λ (f : File). f.role) file ∙ h.library in
+    cc
+
+pub wrong_blank : WrongBlankIsRefused
+wrong_blank image h x =
+    let there : byte_in h.memory 0x41104 ≡ Some 0 = h.zeros padded_blank 4 padded_is (omega arith) (inr padded_filled) (λ i raw y c. absurd (nothing_copied i c.copied)) in
+    let both : Some x.byte ≡ Some 0 = sym x.there ∙ there in
+    let same : x.byte ≡ 0 = cc in
+    x.wrong same

@@ -1,9 +1,10 @@
 -- Whether a section has room in memory, and whether an input section has an address.
 --   IsSet flags flag       the flag is set
 --   IsAllocatedPart l n    part n lies in a section that has room in memory
+--   HasFileBytes l n       it lies in one that has bytes in the file
 --   IsPlaced l s           the input section has an address
 use Rattle.std.specs.Prelude.{◌≡◌, ◌≢◌, ℕ, ◌/◌, ◌%◌, ◌⊎◌, Some, slice_get}
-use Rattle.wild_records.specs.Abi.Section.{shn_undef, shf_alloc}
+use Rattle.wild_records.specs.Abi.Section.{sht_nobits, shn_undef, shf_alloc}
 use Rattle.wild_types.specs.declared.part.Part.{Part}
 use Rattle.wild_types.specs.declared.section.Section.{Section}
 use Rattle.wild_types.specs.declared.input.Slot.TheVariants as slot
@@ -22,6 +23,15 @@ pub record IsAllocatedPart (l : Layout) (n : ℕ) : Type 0 where
   pub section : Section
   pub found : slice_get l.sections part.section ≡ Some section
   pub room : IsSet section.flags shf_alloc
+
+-- the part lies in a section other than section 0 that has bytes in the file (gABI, "Section Header", sh_type: SHT_NOBITS)
+pub record HasFileBytes (l : Layout) (n : ℕ) : Type 0 where
+  pub part : Part
+  pub listed : slice_get l.parts n ≡ Some part
+  pub named : part.section ≢ shn_undef
+  pub section : Section
+  pub found : slice_get l.sections part.section ≡ Some section
+  pub filled : section.kind ≢ sht_nobits
 
 -- the input section is not discarded, and its address is not 0 or its part has no room in memory
 pub record IsPlaced (l : Layout) (s : InputSection) : Type 0 where

@@ -1,42 +1,48 @@
 -- The segments of an image are those of its layout.
---   TellsSegment g h        a program header tells what a loader does with a segment
+--   headers_in image        the program headers that a loader reads
+--   TellsSegment l g h      a program header tells a segment of the layout
+--   AreTold l gs hs         one header a segment, in their order
 --   HasDynamicLinker kind   a dynamic linker loads the output
---   HasSegments l image e   the program headers that a loader reads tell the layout's segments
-use Rattle.std.specs.Prelude.{◌≡◌, ℕ, ⊤, List, [], ◌∷◌, Some}
-use Rattle.wild_records.specs.Abi.Segment.{pt_load}
-use Rattle.wild_records.specs.declared.file_header.FileHeader.{FileHeader}
+use Rattle.std.specs.Prelude.{◌≡◌, ◌≢◌, ℕ, ◌%◌, ⊤, true, false, max, List, [], ◌∷◌}
+use Rattle.wild_records.specs.Abi.Segment.{pt_load, pt_gnu_stack, pf_x}
+use Rattle.wild_records.specs.FileHeader.{file_header_at}
 use Rattle.wild_records.specs.declared.program_header.ProgramHeader.{ProgramHeader}
 use Rattle.wild_types.specs.declared.kind.OutputKind.{OutputKind}
 use Rattle.wild_types.specs.declared.kind.OutputKind.TheVariants as output
 use Rattle.wild_types.specs.declared.section.Segment.{Segment}
 use Rattle.wild_types.specs.declared.layout.Layout.{Layout}
 use Rattle.wild_loader.specs.Headers.{program_headers}
-use Rattle.wild_loader.specs.Tables.{first_dynamic}
+use Rattle.wild_meaning.specs.Section.{IsSet}
 
--- the header tells what is mapped, and where, how much of it has bytes in the file, and, of what is loaded, with which permissions
--- (gABI, "Program Header": p_type, p_vaddr, p_filesz, p_memsz, p_flags)
-pub record TellsSegment (g : Segment) (h : ProgramHeader) : Type 0 where
+-- the program headers that a loader reads
+abbrev pub headers_in : List ℕ → List ProgramHeader
+headers_in image = program_headers image (file_header_at image 0).program_count (file_header_at image 0).program_offset
+
+-- the header tells what the layout has of the segment: its type and permissions, where it is in the file and in memory, and its alignment. A
+-- loaded one is aligned to pages at least, and its address and offset are at equal places of a page (gABI, "Program Header"); that of the
+-- stack tells nothing but permissions, to execute too where the layout asks for it (LSB, "Program Header", PT_GNU_STACK)
+pub record TellsSegment (l : Layout) (g : Segment) (h : ProgramHeader) : Type 0 where
   pub kind : h.kind ≡ g.kind
+  pub flags : (g.kind ≡ pt_gnu_stack → l.options.execstack ≡ false) → h.flags ≡ g.flags
+  pub stack : g.kind ≡ pt_gnu_stack → l.options.execstack ≡ true → IsSet h.flags pf_x
+  pub offset : h.offset ≡ g.offset
   pub address : h.address ≡ g.address
+  pub physical : h.physical ≡ g.physical
   pub file_size : h.file_size ≡ g.file_size
   pub mem_size : h.mem_size ≡ g.mem_size
-  pub flags : g.kind ≡ pt_load → h.flags ≡ g.flags
+  pub align : g.kind ≢ pt_load → g.kind ≢ pt_gnu_stack → h.align ≡ g.align
+  pub pages : g.kind ≡ pt_load → h.align ≡ max l.page_size g.align
+  pub congruent : g.kind ≡ pt_load → h.address % l.page_size ≡ h.offset % l.page_size
 
 -- one header a segment, in their order
-abbrev pub AreTold : List Segment → List ProgramHeader → Type 0
-AreTold [] [] = ⊤
-AreTold [] (h ∷ hs) = ⊥
-AreTold (g ∷ gs) [] = ⊥
-AreTold (g ∷ gs) (h ∷ hs) = TellsSegment g h × AreTold gs hs
+abbrev pub AreTold : Layout → List Segment → List ProgramHeader → Type 0
+AreTold l [] [] = ⊤
+AreTold l [] (h ∷ hs) = ⊥
+AreTold l (g ∷ gs) [] = ⊥
+AreTold l (g ∷ gs) (h ∷ hs) = TellsSegment l g h × AreTold l gs hs
 
 -- a dynamic linker loads the output (gABI, "Dynamic Linking")
 abbrev pub HasDynamicLinker : OutputKind → Type 0
 HasDynamicLinker (output.DynamicExecutable any) = ⊤
 HasDynamicLinker output.SharedObject = ⊤
 HasDynamicLinker other = ⊥
-
--- the program headers where the file header says tell the layout's segments, and a dynamic linker finds a dynamic section (gABI,
--- "Dynamic Section": PT_DYNAMIC)
-pub record HasSegments (l : Layout) (image : List ℕ) (e : FileHeader) : Type 0 where
-  pub told : AreTold l.segments (program_headers image e.program_count e.program_offset)
-  pub dynamic : HasDynamicLinker l.kind → (h : ProgramHeader) × (first_dynamic (program_headers image e.program_count e.program_offset) ≡ Some h)

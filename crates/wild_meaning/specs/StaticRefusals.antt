@@ -2,17 +2,23 @@
 --   StaticPieWorldIsLegal   the world is legal
 --   WrongDataAreRefused     an address that does not move, an offset that does, the beginning of the program
 --   WrongCodeIsRefused      a branch, a load and a sequence that do something else
+--   WrongBlankIsRefused     a byte that is not 0 in a section without data
 --   StaticImageIsLinked     and an image that is linked
-use Rattle.std.specs.Prelude.{◌≢◌, ℕ, ◌-◌, ◌^◌, List, [], ◌∷◌}
+use Rattle.std.specs.Prelude.{◌≢◌, ℕ, ◌-◌, ◌^◌, false, List, [], ◌∷◌, None}
+use Rattle.wild_records.specs.Abi.Section.{sht_progbits}
 use Rattle.wild_records.specs.FileHeader.{file_header_at}
+use Rattle.wild_types.specs.declared.part.Role.TheVariants as role
+use Rattle.wild_types.specs.declared.section.Section.{Section}
+use Rattle.wild_types.specs.declared.input.InputSection.{InputSection}
+use Rattle.wild_types.specs.declared.layout.Layout.{Layout}
 use Rattle.wild_loader.specs.declared.memory.Memory.{Memory}
 use Rattle.wild_loader.specs.Memory.{Holds}
 use Rattle.wild_meaning.specs.World.{IsLegal}
 use Rattle.wild_meaning.specs.Linked.{IsLinked}
-use Rattle.wild_meaning.specs.Worked.{Refuses}
+use Rattle.wild_meaning.specs.Worked.{Refuses, blank, one_file}
 use Rattle.wild_meaning.specs.WorkedStatic.{static_pie, static_pie_world}
 use Rattle.wild_meaning.specs.WorkedImage.{static_image}
-use Rattle.wild_meaning.specs.Refusals.{HasWrongNumber}
+use Rattle.wild_meaning.specs.Refusals.{HasWrongNumber, HasWrongByte}
 
 abbrev pub StaticPieWorldIsLegal : Type 0
 StaticPieWorldIsLegal = IsLegal static_pie static_pie_world
@@ -50,6 +56,23 @@ pub record WrongCodeIsRefused : Type 0 where
   pub load : Refuses static_pie static_pie_world (Has 0x41010 load_past)
   pub sequence : Refuses static_pie static_pie_world (Has 0x41020 half_sequence)
   pub descriptor : Refuses static_pie static_pie_world (Has 0x41040 descriptor_load)
+
+-- the same program with one input section, without data, in a section that has bytes in the file
+abbrev pub padded_section : Section
+padded_section = record { name = []; kind = sht_progbits; flags = 3; address = 0x1000; offset = 0x1000; size = 0x110; link = 0; info = 0; align = 16; entsize = 0; fill = None; section_symbol = false }
+
+abbrev pub padded_blank : InputSection
+padded_blank = blank 0x1100 16
+
+abbrev pub padded : Layout
+padded = record static_pie {
+  sections = padded_section ∷ padded_section ∷ [];
+  parts = record { role = role.Raw; section = 1; offset = 0x1000; address = 0x1000; size = 0x110; align = 16 } ∷ [];
+  groups = one_file (padded_blank ∷ []);
+}
+
+abbrev pub WrongBlankIsRefused : Type 0
+WrongBlankIsRefused = Refuses padded static_pie_world (HasWrongByte 0x41104 0)
 
 -- an image is linked in the world, so none of this is refused for want of one
 abbrev pub StaticImageIsLinked : Type 0

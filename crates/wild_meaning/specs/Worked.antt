@@ -126,7 +126,7 @@ loaded address file_size mem_size = record {
 
 -- one that has the dynamic section
 abbrev pub dynamic_at : ℕ → ℕ → Segment
-dynamic_at address size = record (loaded address size size) { kind = pt_dynamic }
+dynamic_at address size = record (loaded address size size) { kind = pt_dynamic; flags = 6; align = 8 }
 
 -- no image of the layout is linked in the world where memory is wrong in that way
 abbrev pub Refuses : Layout → World → (Memory → Type 0) → Type 0

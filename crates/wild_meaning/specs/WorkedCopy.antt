@@ -8,6 +8,7 @@ use Rattle.wild_records.specs.Abi.Relocation.{r_x86_64_64}
 use Rattle.wild_types.specs.Empty.{empty_layout}
 use Rattle.wild_types.specs.declared.kind.OutputKind.TheVariants as output
 use Rattle.wild_types.specs.declared.kind.RelocationModel.TheVariants as model
+use Rattle.wild_types.specs.declared.section.Segment.{Segment}
 use Rattle.wild_types.specs.declared.symbol.Symbol.{Symbol}
 use Rattle.wild_types.specs.declared.input.InputSection.{InputSection}
 use Rattle.wild_types.specs.declared.file.FileRole.TheVariants as file_role
@@ -44,12 +45,16 @@ copying_object = file_of file_role.Object (copying_data ∷ copying_blank ∷ []
 abbrev pub copying_library : File
 copying_library = file_of file_role.Dynamic [] (0 ∷ [])
 
+-- the room of the data that are 0
+abbrev pub copying_room : Segment
+copying_room = record (loaded 0x3000 0 0x200) { offset = 0x1000 }
+
 -- the layout: data from 0x1000 on, with the dynamic section, and zeros from 0x3000 to 0x3200
 abbrev pub copying : Layout
 copying = record empty_layout {
   kind = output.DynamicExecutable model.Relocatable;
   page_size = 0x1000;
-  segments = loaded 0x1000 0x50 0x50 ∷ loaded 0x3000 0 0x200 ∷ dynamic_at 0x1020 0x30 ∷ [];
+  segments = loaded 0x1000 0x80 0x80 ∷ copying_room ∷ dynamic_at 0x1020 0x60 ∷ [];
   symbols = copied_symbol ∷ start_symbol ∷ [];
   groups = group_of (copying_object ∷ copying_library ∷ []) ∷ [];
   entry = Some (entry.Symbol 1);

@@ -38,29 +38,37 @@ copying_header = record {
 
 -- the data, what has no file bytes, and the dynamic section
 abbrev pub copying_first : ProgramHeader
-copying_first = record { kind = pt_load; flags = 7; offset = 232; address = 0x1000; physical = 0x1000; file_size = 0x50; mem_size = 0x50; align = 8 }
+copying_first = record { kind = pt_load; flags = 7; offset = 0x1000; address = 0x1000; physical = 0x1000; file_size = 0x80; mem_size = 0x80; align = 0x1000 }
 
 abbrev pub copying_second : ProgramHeader
-copying_second = record { kind = pt_load; flags = 7; offset = 312; address = 0x3000; physical = 0x3000; file_size = 0; mem_size = 0x200; align = 8 }
+copying_second = record { kind = pt_load; flags = 7; offset = 0x1000; address = 0x3000; physical = 0x3000; file_size = 0; mem_size = 0x200; align = 0x1000 }
 
 abbrev pub copying_third : ProgramHeader
-copying_third = record { kind = pt_dynamic; flags = 6; offset = 264; address = 0x1020; physical = 0x1020; file_size = 0x30; mem_size = 0x30; align = 8 }
+copying_third = record { kind = pt_dynamic; flags = 6; offset = 0x1020; address = 0x1020; physical = 0x1020; file_size = 0x60; mem_size = 0x60; align = 8 }
 
 -- the address of the copy at base 0x20000
 abbrev pub copying_words : List ℕ
 copying_words = 0 ∷ 0x31 ∷ 2 ∷ 0 ∷ 0 ∷ 0 ∷ 0 ∷ 0 ∷ []
 
--- the entry at 0x1008 that copies the bytes of symbol 1 to 0x3100 (R_X86_64_COPY is 5); and DT_RELA (7), DT_RELASZ (8) and DT_NULL
+-- the entry at 0x1008 that copies the bytes of symbol 1 to 0x3100 (R_X86_64_COPY is 5); and DT_RELA (7), DT_RELASZ (8), DT_RELAENT (9),
+-- DT_FLAGS (30) with DF_BIND_NOW (8), DT_FLAGS_1 (0x6ffffffb) with DF_1_NOW (1), and DT_NULL
 abbrev pub copying_tables : List ℕ
 copying_tables =
     0 ∷ 0x31 ∷ 0 ∷ 0 ∷ 0 ∷ 0 ∷ 0 ∷ 0 ∷ 5 ∷ 0 ∷ 0 ∷ 0 ∷ 1 ∷ 0 ∷ 0 ∷ 0 ∷ 0 ∷ 0 ∷ 0 ∷ 0 ∷ 0 ∷ 0 ∷ 0 ∷ 0
     ∷ 7 ∷ 0 ∷ 0 ∷ 0 ∷ 0 ∷ 0 ∷ 0 ∷ 0 ∷ 8 ∷ 0x10 ∷ 0 ∷ 0 ∷ 0 ∷ 0 ∷ 0 ∷ 0
     ∷ 8 ∷ 0 ∷ 0 ∷ 0 ∷ 0 ∷ 0 ∷ 0 ∷ 0 ∷ 24 ∷ 0 ∷ 0 ∷ 0 ∷ 0 ∷ 0 ∷ 0 ∷ 0
+    ∷ 9 ∷ 0 ∷ 0 ∷ 0 ∷ 0 ∷ 0 ∷ 0 ∷ 0 ∷ 24 ∷ 0 ∷ 0 ∷ 0 ∷ 0 ∷ 0 ∷ 0 ∷ 0
+    ∷ 30 ∷ 0 ∷ 0 ∷ 0 ∷ 0 ∷ 0 ∷ 0 ∷ 0 ∷ 8 ∷ 0 ∷ 0 ∷ 0 ∷ 0 ∷ 0 ∷ 0 ∷ 0
+    ∷ 0xfb ∷ 0xff ∷ 0xff ∷ 0x6f ∷ 0 ∷ 0 ∷ 0 ∷ 0 ∷ 1 ∷ 0 ∷ 0 ∷ 0 ∷ 0 ∷ 0 ∷ 0 ∷ 0
     ∷ 0 ∷ 0 ∷ 0 ∷ 0 ∷ 0 ∷ 0 ∷ 0 ∷ 0 ∷ 0 ∷ 0 ∷ 0 ∷ 0 ∷ 0 ∷ 0 ∷ 0 ∷ 0
     ∷ []
 
+-- what stands behind the file header: the program headers, and a page from the file header on the data and the tables
+abbrev pub copying_rest : List ℕ
+copying_rest = spell (program_header_fields copying_first) ++ (spell (program_header_fields copying_second) ++ (spell (program_header_fields copying_third) ++ (replicate 3864 0 ++ (copying_words ++ copying_tables))))
+
 abbrev pub copying_image : List ℕ
-copying_image = spell (file_header_fields copying_header) ++ (spell (program_header_fields copying_first) ++ (spell (program_header_fields copying_second) ++ (spell (program_header_fields copying_third) ++ (copying_words ++ copying_tables))))
+copying_image = spell (file_header_fields copying_header) ++ copying_rest
 
 abbrev pub copying_memory : Memory
 copying_memory = record {

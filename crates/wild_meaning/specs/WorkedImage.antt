@@ -2,7 +2,7 @@
 --   static_content   its code and data
 --   static_image     the image
 --   static_memory    the memory that a loader makes of it
-use Rattle.std.specs.Prelude.{ℕ, List, [], ◌∷◌, ◌++◌}
+use Rattle.std.specs.Prelude.{ℕ, List, [], ◌∷◌, ◌++◌, replicate}
 use Rattle.wild_words.specs.Record.{spell}
 use Rattle.wild_records.specs.Abi.Header.{elfmag, elfclass64, elfdata2lsb, et_dyn, em_x86_64}
 use Rattle.wild_records.specs.Abi.Segment.{pt_load}
@@ -38,7 +38,7 @@ static_header = record {
 
 -- one segment, of the code and the data
 abbrev pub static_segment : ProgramHeader
-static_segment = record { kind = pt_load; flags = 7; offset = 120; address = 0x1000; physical = 0x1000; file_size = 0x110; mem_size = 0x110; align = 8 }
+static_segment = record { kind = pt_load; flags = 7; offset = 0x1000; address = 0x1000; physical = 0x1000; file_size = 0x110; mem_size = 0x110; align = 0x1000 }
 
 -- `call first`; `lea rax, [rip + first]`; `mov rax, fs:0` and `lea rax, [rax - 8]`; `mov rax, -8`; and behind them the address of the
 -- second function at base 0x40000, and the offset
@@ -63,9 +63,13 @@ static_content =
     ∷ 0x10 ∷ 0x12 ∷ 0x04 ∷ 0 ∷ 0 ∷ 0 ∷ 0 ∷ 0 ∷ 0xf8 ∷ 0xff ∷ 0xff ∷ 0xff ∷ 0xff ∷ 0xff ∷ 0xff ∷ 0xff
     ∷ []
 
--- it has no entry that moves a word, so it is right at one base
+-- what stands behind the file header: the program header, and a page from the file header on the content; it has no entry that moves a
+-- word, so the image is right at one base
+abbrev pub static_rest : List ℕ
+static_rest = spell (program_header_fields static_segment) ++ (replicate 3976 0 ++ static_content)
+
 abbrev pub static_image : List ℕ
-static_image = spell (file_header_fields static_header) ++ (spell (program_header_fields static_segment) ++ static_content)
+static_image = spell (file_header_fields static_header) ++ static_rest
 
 abbrev pub static_memory : Memory
 static_memory = record { machine = processors.X86_64; runs = record { start = 0x41000; bytes = static_content } ∷ []; descriptors = [] }

@@ -2,9 +2,9 @@
 ghost use Rattle.wild_meaning.specs.CopyRefusals.{CopyingWorldIsLegal, WrongCopyIsRefused, WrongZeroIsRefused, WrongPlaceOfCopyIsRefused, WrongMachineIsRefused, WrongHeadersAreRefused, CopyingImageIsLinked};
 ghost use Rattle.wild_meaning.specs.RefusalsAArch64.{RightWordsDo, WrongWordsAreRefused, ThunksAreJudged};
 ghost use Rattle.wild_meaning.specs.Replaced.{DynamicIsReplaceable, ExportedIsReplaceable, AnswersAreTaken};
-ghost use Rattle.wild_meaning.specs.SegmentRefusals.{WrongSegmentsAreRefused, NoDynamicIsRefused};
+ghost use Rattle.wild_meaning.specs.SegmentRefusals.{WrongSegmentsAreRefused, OtherPlacesAreRefused, WrongSizesAreRefused, NoDynamicIsRefused, WrongEntriesAreRefused};
 ghost use Rattle.wild_meaning.specs.SharedRefusals.{SharedWorldIsLegal, WrongSlotsAreRefused, WrongAddressesAreRefused, WrongOffsetsAreRefused, WrongModulesAreRefused, WrongDescriptorsAreRefused, WrongSizeIsRefused, WrongByteIsRefused, WrongCodeOfLibraryIsRefused};
-ghost use Rattle.wild_meaning.specs.StaticRefusals.{StaticPieWorldIsLegal, WrongDataAreRefused, WrongCodeIsRefused, StaticImageIsLinked};
+ghost use Rattle.wild_meaning.specs.StaticRefusals.{StaticPieWorldIsLegal, WrongDataAreRefused, WrongCodeIsRefused, WrongBlankIsRefused, StaticImageIsLinked};
 
 use wild_records::file_header_is_read;
 
@@ -53,20 +53,26 @@ pub fn wrong_copies_are_refused()
 
 /// No image of the worked program without a dynamic linker is linked in its world where an address does not move, an offset does, or the
 /// entry does; where a branch goes to another symbol, a load comes to a byte past its symbol, a sequence is half rewritten, or code is
-/// given a descriptor where it asks for an offset. One image is linked there.
+/// given a descriptor where it asks for an offset; nor where a section without data, among others that have some, has a byte other than 0.
+/// One image is linked there.
 pub fn wrong_programs_are_refused()
     ensures words { WrongDataAreRefused }
     ensures code { WrongCodeIsRefused }
+    ensures blank { WrongBlankIsRefused }
     ensures linked { StaticImageIsLinked }
 {
     file_header_is_read();
 }
 
-/// No image is linked whose segments are not the layout's, as a loader maps them, nor one that a dynamic linker loads and that has no
-/// dynamic section.
+/// No image is linked whose segments are not the layout's, or cannot be mapped page by page; whose file header tells another version or
+/// other sizes of headers; nor one that a dynamic linker loads and that has no dynamic section, or one that leaves symbols to be found late
+/// or tells another sort, size or number of entries.
 pub fn wrong_segments_are_refused()
     ensures segments { WrongSegmentsAreRefused }
+    ensures places { OtherPlacesAreRefused }
+    ensures sizes { WrongSizesAreRefused }
     ensures dynamic { NoDynamicIsRefused }
+    ensures entries { WrongEntriesAreRefused }
 {
     file_header_is_read();
 }

@@ -33,4 +33,5 @@ returns c = memory_moved (record {
     blocks = c.blocks_are_whole.ensures;
   };
   stand = c.slots_stand.ensures;
+  blanks = c.sections_are_stored.ensures.blanks;
 })

@@ -1,4 +1,5 @@
 use Rattle.wild_loaded.proofs.Stored.{sections_stored, zeros_stored}
+use Rattle.wild_loaded.proofs.Blanks.{blanks_stored}
 use Rattle.wild_loaded.proofs.sections_are_stored.Goals as goal
 
 pub returns-clause-sections : goal.returns-clause-sections
@@ -6,3 +7,6 @@ returns-clause-sections c = sections_stored c.bytes_are_loaded.ensures.bytes
 
 pub returns-clause-zeros : goal.returns-clause-zeros
 returns-clause-zeros c = zeros_stored c.bytes_are_loaded.ensures.zeros
+
+pub returns-clause-blanks : goal.returns-clause-blanks
+returns-clause-blanks c = blanks_stored c.bytes_are_loaded.ensures.bytes

@@ -1,4 +1,4 @@
-use Rattle.wild_meaning.proofs.StaticRefused.{wrong_data}
+use Rattle.wild_meaning.proofs.StaticRefused.{wrong_data, wrong_blank}
 use Rattle.wild_meaning.proofs.CodeRefused.{wrong_branch, wrong_load, wrong_descriptor}
 use Rattle.wild_meaning.proofs.SequenceRefused.{wrong_sequence}
 use Rattle.wild_meaning.proofs.StaticLinked.{static_linked}
@@ -8,5 +8,6 @@ pub returns : goal.returns
 returns c = record {
   words = wrong_data c.file_header_is_read.ensures;
   code = record { branch = wrong_branch; load = wrong_load; sequence = wrong_sequence; descriptor = wrong_descriptor };
+  blank = wrong_blank;
   linked = static_linked;
 }
