@@ -1,5 +1,5 @@
 -- Rows of the table that the laws name, in their places.
-use Rattle.std.proofs.Common.{◌≡◌, Bool, true, [], ◌∷◌, List, get_or, refl, arith, subst}
+use Rattle.std.proofs.Common.{◌≡◌, Bool, true, [], ◌∷◌, List, refl, arith, subst}
 use Rattle.std.specs.Prelude.{◌==◌, Some, Contains, slice_get}
 use Rattle.std.specs.List.{filter}
 use Rattle.wild_records.specs.Abi.Relocation.{r_x86_64_gotpcrel}
