@@ -224,10 +224,10 @@ record IsLeftCase (l : Layout) (s : InputSection) (r : InputRelocation) (P : Rel
 by_treatment : (P : RelocationSize → ℕ → ℕ → ℕ → Type 0) (l : Layout) (s : InputSection) (r : InputRelocation) (z : RelocationSize) (n symbol addend : ℕ) → IsLeftCase l s r P → (t : Treatment) → treatment l s.flags r ≡ t → is_left_to_entry t ≡ true → decide_by l (item_of s) r t ≡ Ok (Left z n symbol addend) → P z n symbol addend
 by_treatment P l s r z n symbol addend k (treatments.Symbolic i) is left made = left_parts P (ByteSize Eight) z (type_of l.machine Absolute) n symbol addend r i (index_of l i) made (k.address i)
 by_treatment P l s r z n symbol addend k (treatments.Indirect i) is left made =
-    let flag = last_of_four (allocated s.flags) (writable s.flags) (is_position_independent l.kind) (has_flag (flags_at l i) ifunc) (known_indirect l (item_of s) r i is).3.chosen in
+    let flag = last_of_four (allocated s.flags) (writable s.flags) (is_position_independent l.kind) (has_flag (flags_at l i) ifunc) (known_indirect l s.flags r i is).3.chosen in
     chosen_parts P l z n symbol addend r (decided_address l i) made (λ value e. k.chosen i value flag e)
 by_treatment P l s r z n symbol addend k (treatments.Extent row i) is left made =
-    let told = known_extent l (item_of s) r row i is in
+    let told = known_extent l s.flags r row i is in
     left_parts P row.size z r.number n symbol addend r i (index_of l i) (sized_left l r row i (Left z n symbol addend) made) (λ index e. k.size i index row ((facts_of l.machine).sizes r.number row told.0 told.1.kind) e)
 by_treatment P l s r z n symbol addend k treatments.Nothing is left made = cc
 by_treatment P l s r z n symbol addend k (treatments.Value row) is left made = cc

@@ -139,10 +139,10 @@ row_fits n row agrees is kind =
 -- the type of a row of such a kind
 few_at : (n : ℕ) (row : RelocationKindInfo) (k : RelocationKind) → row_of machine.X86_64 n ≡ Some row → row.kind ≡ k → few_numbers k n ≡ true
 few_at n row k is kind =
-    let all = and_parts _ _ (passes n row is) in
-    let tests = and_parts _ _ all.1 in
-    let rest = and_parts _ _ tests.1 in
-    let last = and_parts _ _ rest.1 in
+    let all = and_parts (all_of_it (expression_of row.kind).class) _ (passes n row is) in
+    let tests = and_parts (is_whole row.mask row.size) _ all.1 in
+    let rest = and_parts (same_width (x86_64_formula n) (field_width row)) _ tests.1 in
+    let last = and_parts (few_numbers row.kind n) (full_address row.kind (field_width row) (x86_64_formula n)) rest.1 in
     subst (λ (k : RelocationKind). few_numbers k n ≡ true) kind last.0
 
 -- a type without a value is for nothing

@@ -245,7 +245,7 @@ does_row laws l w m s i r row v h p asked = by (cases_Bool (is_call (instruction
         let x = number_itself laws l w m s i r row v held h p written (none counts) plain (sym is ∙ taken t takes) in
         finish AddressInSlot x.operand sort acts x.is.target x.is.small (itself x.operand counts x.lands) (λ a old e k. k)
 
-    far : (o : Sort) (x : LandsFar l w m s r row v) → (rewrite_of row).number ≡ 2 → (instruction_of row).sort ≡ o → is_nop row.made ≡ false → Demands o l w m s r x.operand → ((a : ℕ) (old : List ℕ) (e : Effect) → effect_of l.machine (as_value x.operand) a old ≡ Some e → IsDemanded o l s x.operand a old e) → DoesRow l w m s r row
+    far : (o : Sort) (x : LandsFar l w m s r row v) → (rewrite_of row).number ≡ 2 → (instruction_of row).sort ≡ o → is_nop row.made ≡ false → Demands o l w m s r x.operand → ((a : ℕ) (old : List ℕ) (e : Effect) → demand_of l.machine x.operand a old ≡ Some e → IsDemanded o l s x.operand a old e) → DoesRow l w m s r row
     far o x written sort acts demands told = finish o x.operand sort acts demands x.is.small (lands_far_as row.written (reads_alone w m) place x.operand v written x.lands) told
 
     own : (o : Sort) → (instruction_of row).sort ≡ o → row.value ≡ value.Own → is_nop row.made ≡ false → is_executable l.kind ≡ true → (writes r_x86_64_tpoff32 row && counts_none row) ≡ true → ((n : ℕ) → IsOffset l w r.symbol n → Demands o l w m s r n)

@@ -129,13 +129,13 @@ unfolding decided
 call_named l s r row known kind made =
     by_treatment (treatment l s.flags r) refl made
   where
-    by_treatment : (t : Treatment) → treatment l s.flags r ≡ t → decide_by l s r t ≡ Ok Nothing → (i : ℕ) × (r.symbol ≡ Some i)
-    by_treatment treatments.Unsupported is h = cc
-    by_treatment other is h = by_symbol r.symbol refl (subst (λ (t : Treatment). decide_by l s r t ≡ Ok Nothing) (sym (subst (λ (k : RelocationKind). kind_treatment l s.flags r.number r.symbol row k ≡ other) kind (treated_by l s r row other known is (λ e. cc)))) h)
-
     by_symbol : (o : Option ℕ) → r.symbol ≡ o → decide_by l s r (kind_treatment l s.flags r.number o row kinds.TlsDescCall) ≡ Ok Nothing → (i : ℕ) × (r.symbol ≡ Some i)
     by_symbol None e h = cc
     by_symbol (Some i) e h = (i, e)
+
+    by_treatment : (t : Treatment) → treatment l s.flags r ≡ t → decide_by l s r t ≡ Ok Nothing → (i : ℕ) × (r.symbol ≡ Some i)
+    by_treatment treatments.Unsupported is h = cc
+    by_treatment other is h = by_symbol r.symbol refl (subst (λ (t : Treatment). decide_by l s r t ≡ Ok Nothing) (sym (subst (λ (k : RelocationKind). kind_treatment l s.flags r.number r.symbol row k ≡ other) kind (treated_by l s r row other known is (λ e. cc)))) h)
 
 -- what a relocation writes that keeps its instruction
 abbrev pub Writes : Layout → Item → ℕ → InputRelocation → Type 0
