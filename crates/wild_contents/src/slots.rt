@@ -59,7 +59,13 @@ fn add_stub(layout: &Layout, symbol: &Symbol, bytes: &mut PartBytes) -> Result<(
     if SymbolSlots::of(layout, symbol).has_stub() {
         let mut stub = [0; STUB_SIZE];
         let bti = layout.options.bti;
-        put_stub(layout.machine, bti, &mut stub, symbol.slots_at(), stub_at(symbol));
+        put_stub(
+            layout.machine,
+            bti,
+            &mut stub,
+            symbol.slots_at(),
+            stub_at(symbol),
+        );
         bytes.extend(&stub)?;
     }
     Ok(())

@@ -178,9 +178,9 @@ by_action m a e s ws (Some act) f means words h =
       held = words.held;
       long = bytes ∙ sized m (4 * s.words) act (value_in m act.operand) e h;
       means = λ read reads offsets.
-        (let run_is : meaning a (words_of words.bytes) ≡ Some s.action = ap (λ (xs : List ℕ). meaning a xs) words.are ∙ means.1 in
-        ap (λ (o : Option run-action.Action). option_and_then (effect read) (option_and_then action_of o)) run_is ∙ ap (λ (o : Option Action). option_and_then (effect read) o) f
-        ∙ told_by m (4 * s.words) act e read reads (λ x same. ap read same ∙ offsets x) h);
+          (let run_is : meaning a (words_of words.bytes) ≡ Some s.action = ap (λ (xs : List ℕ). meaning a xs) words.are ∙ means.1 in
+          ap (λ (o : Option run-action.Action). option_and_then (effect read) (option_and_then action_of o)) run_is ∙ ap (λ (o : Option Action). option_and_then (effect read) o) f
+          ∙ told_by m (4 * s.words) act e read reads (λ x same. ap read same ∙ offsets x) h);
     }
 
 by_step : (m : Memory) (a : ℕ) (e : running.Effect) (o : Option run.Step) → longest.step_of a (words_at m a 4) ≡ o → option_and_then (λ (s : run.Step). option_and_then (effect_in m (4 * s.words)) (action_of s.action)) o ≡ Some e → IsRun m a e

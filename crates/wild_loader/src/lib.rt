@@ -33,9 +33,10 @@ pub use kind::DynamicKind;
 pub use laws::{
     bytes_are_loaded, calls_are_read, dynamic_images_are_loaded, entries_make_changes,
     entries_store_words, images_are_moved, jumps_are_read, jumps_reach, linked_images_are_loaded,
-    numbers_are_read, parts_are_put, relocated_tables_are_applied, runs_are_meant, slot_calls_are_read,
-    slot_jumps_are_read, static_images_are_loaded, steps_are_meant, stubs_are_read,
-    stubs_of_words_are_read, tables_are_applied, tables_are_filled, words_are_places,
+    numbers_are_read, parts_are_put, relocated_tables_are_applied, runs_are_meant,
+    slot_calls_are_read, slot_jumps_are_read, static_images_are_loaded, steps_are_meant,
+    stubs_are_read, stubs_of_words_are_read, tables_are_applied, tables_are_filled,
+    words_are_places,
 };
 pub use memory::{Machine, Memory, Run};
 pub use reach::reaches;

@@ -7,7 +7,9 @@ ghost use Rattle.wild_types.specs.Lookups.{place_of, packs, has_moved};
 ghost use Rattle.wild_needs.specs.Entries.{is_moved, listed_place, packed_place, listed_places, words_of, entry_count, word_count, is_left_to_entry, may_be_left, may_have_entry, left_relocations, general_count};
 ghost use Rattle.wild_slot.specs.Treatment.{treatment};
 
-use wild_records::abi::relocation::{R_AARCH64_ABS64, R_X86_64_64, R_X86_64_SIZE32, R_X86_64_SIZE64};
+use wild_records::abi::relocation::{
+    R_AARCH64_ABS64, R_X86_64_64, R_X86_64_SIZE32, R_X86_64_SIZE64,
+};
 use wild_relr::{Choice, Run, choice, runs_are_counted};
 use wild_slot::{Treatment, flags_at, treatment_of};
 use wild_types::{

@@ -104,7 +104,6 @@ sequence_ends l s i r row v p skips = (let pair = paired row p.changing skips in
 abbrev pub GoesWithBase : Layout → World → Row → ℕ → Type 0
 GoesWithBase l w row k = (instruction_of row).sort ≡ TargetInSlot → IsMovable l.kind → IsAbsolute l k → w.base ≡ 0
 
-
 -- ---- how a field lands
 
 lands_far_as : (w : Written) (read : Reader) (place n v : ℕ) → number_written w ≡ r_x86_64_pc32 → v ≡ distance n place → Lands w read place n v

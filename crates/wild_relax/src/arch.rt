@@ -112,7 +112,13 @@ pub trait Arch {
         ensures written { OnOk result (plt_entry.new ≡ (stub_of Self.machine false got_address plt_address).bytes) }
         ensures unchanged { OnErr result (plt_entry.new ≡ plt_entry.old) }
     {
-        write_stub(Self::arch_identifier(), false, plt_entry, got_address, plt_address)
+        write_stub(
+            Self::arch_identifier(),
+            false,
+            plt_entry,
+            got_address,
+            plt_address,
+        )
     }
 
     /// The same for an output whose indirect branches may have to land on a mark (`bti`).
@@ -128,7 +134,13 @@ pub trait Arch {
         ensures written { OnOk result (plt_entry.new ≡ (stub_of Self.machine bti got_address plt_address).bytes) }
         ensures unchanged { OnErr result (plt_entry.new ≡ plt_entry.old) }
     {
-        write_stub(Self::arch_identifier(), bti, plt_entry, got_address, plt_address)
+        write_stub(
+            Self::arch_identifier(),
+            bti,
+            plt_entry,
+            got_address,
+            plt_address,
+        )
     }
 
     /// The first rewrite that stands at the relocation; none where none stands. The bytes that it replaces are in the

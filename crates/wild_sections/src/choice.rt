@@ -172,14 +172,9 @@ pub(crate) fn may_be_partner(relocations: &[InputRelocation], index: usize) -> b
 }
 
 /// Whether a relocation of an item is the call of the sequence before it, which is rewritten as a whole.
-pub(crate) fn is_partner<A: Arch>(
-    resolved: &Resolved<A>,
-    item: &ItemRef,
-    index: usize,
-) -> bool
+pub(crate) fn is_partner<A: Arch>(resolved: &Resolved<A>, item: &ItemRef, index: usize) -> bool
     requires index { index < length item.now.relocations.now }
     ensures { result ≡ is_partner resolved.now.layout.now (item_now item.now) index }
 {
-    may_be_partner(item.relocations, index)
-        && takes_next(choice(resolved, item, index - 1))
+    may_be_partner(item.relocations, index) && takes_next(choice(resolved, item, index - 1))
 }

@@ -21,9 +21,7 @@ use wild_reloc::{
     DynamicRelocationKind, RelocationKind, RelocationKindInfo, RelocationSize, Width,
 };
 use wild_slot::{Treatment, flags_at, is_replaceable, row_treatment, suited, type_of};
-use wild_types::{
-    Fault, InputRelocation, ItemRef, Layout, Machine, Missing, SymbolIndex,
-};
+use wild_types::{Fault, InputRelocation, ItemRef, Layout, Machine, Missing, SymbolIndex};
 
 /// The field of an address that moves.
 pub(crate) const ADDRESS: RelocationSize = RelocationSize::ByteSize(Width::Eight);

@@ -49,9 +49,7 @@ fn distance(machine: Machine, bti: bool, got_address: u64, plt_address: u64) -> 
 {
     match machine {
         Machine::X86_64 => displacement(got_address, plt_address),
-        Machine::AArch64 => {
-            got_address.wrapping_sub(stub_aarch64::stub_page(plt_address, bti))
-        }
+        Machine::AArch64 => { got_address.wrapping_sub(stub_aarch64::stub_page(plt_address, bti)) }
     }
 }
 

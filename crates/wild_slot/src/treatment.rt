@@ -4,8 +4,7 @@ ghost use Rattle.wild_slot.specs.Treatment.{flags_at, is_left, is_elsewhere, is_
 
 use wild_reloc::{Class, RelocationKindInfo, Term, aarch64, x86_64};
 use wild_types::{
-    InputRelocation, Layout, Machine, SymbolIndex, ValueFlags, is_allocated,
-    is_writable, row_of,
+    InputRelocation, Layout, Machine, SymbolIndex, ValueFlags, is_allocated, is_writable, row_of,
 };
 
 /// What is done with a relocation.
@@ -160,7 +159,9 @@ fn address_treatment(
 ) -> Treatment
     ensures { result ≡ address_treatment layout.now section_flags number row symbol }
 {
-    if is_barred(layout, section_flags, number, symbol) || is_narrow(layout, section_flags, number) {
+    if is_barred(layout, section_flags, number, symbol)
+        || is_narrow(layout, section_flags, number)
+    {
         Treatment::Recompile
     } else if is_left(layout, section_flags, &row, symbol) {
         Treatment::Symbolic(symbol)
@@ -356,14 +357,16 @@ pub fn suited(
 
 /// What is done with a relocation of bytes that have these flags (`sh_flags`).
 #[tactic(auto, unfolding(crate::specs::Treatment::treatment))]
-pub fn treatment_of(
-    layout: &Layout,
-    section_flags: u64,
-    relocation: &InputRelocation,
-) -> Treatment
+pub fn treatment_of(layout: &Layout, section_flags: u64, relocation: &InputRelocation) -> Treatment
     ensures { result ≡ treatment layout.now section_flags relocation.now }
 {
     let row = row_of(layout.machine, relocation.number);
     let row = suited(layout.machine, relocation, row);
-    row_treatment(layout, section_flags, relocation.number, relocation.symbol, row)
+    row_treatment(
+        layout,
+        section_flags,
+        relocation.number,
+        relocation.symbol,
+        row,
+    )
 }
