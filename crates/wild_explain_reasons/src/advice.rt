@@ -21,15 +21,6 @@ fn segment_of(layout: &Layout, kind: u32) -> Option<(usize, Segment)> {
     None
 }
 
-/// The first byte of the page of an address.
-fn page_of(layout: &Layout, address: u64) -> u64 {
-    if layout.page_size == 0 {
-        address
-    } else {
-        address / layout.page_size
-    }
-}
-
 /// Whether a kernel that maps the second segment puts other file bytes over the end of the first (gABI, "Program Loading").
 fn shares_page(layout: &Layout, first: &Segment, second: &Segment) -> bool {
     let last = first
@@ -37,10 +28,12 @@ fn shares_page(layout: &Layout, first: &Segment, second: &Segment) -> bool {
         .saturating_add(first.mem_size.saturating_sub(1));
     let is_even = first.address.saturating_add(second.offset)
         == second.address.saturating_add(first.offset);
-    first.mem_size != 0
-        && second.mem_size != 0
-        && !is_even
-        && page_of(layout, second.address) <= page_of(layout, last)
+    let page = if layout.page_size == 0 {
+        1
+    } else {
+        layout.page_size
+    };
+    first.mem_size != 0 && second.mem_size != 0 && !is_even && second.address / page <= last / page
 }
 
 /// Adds the loaded segments that share a page with the one before them.
@@ -201,12 +194,17 @@ fn push_shapes(out: &mut String, layout: &Layout) -> Result<(), AllocError> {
 
 /// Whether a writable section has all these addresses.
 fn has_room(layout: &Layout, address: u64, size: u64) -> bool {
-    layout.sections.as_slice().iter().any(|section| {
-        is_allocated(section.flags)
+    for section in layout.sections.as_slice() {
+        let end = section.address.saturating_add(section.size);
+        if is_allocated(section.flags)
             && is_writable(section.flags)
             && section.address <= address
-            && address.saturating_add(size) <= section.address.saturating_add(section.size)
-    })
+            && address.saturating_add(size) <= end
+        {
+            return true;
+        }
+    }
+    false
 }
 
 /// Adds the copies of a library that have no room in writable data.
@@ -236,12 +234,13 @@ fn push_copies(out: &mut String, layout: &Layout, file: &File) -> Result<(), All
 /// Adds an entry that no executable segment has.
 fn push_entry(out: &mut String, layout: &Layout) -> Result<(), AllocError> {
     let (entry, _) = elf_entry_address(layout);
-    let is_executable = layout.segments.as_slice().iter().any(|segment| {
-        segment.kind == PT_LOAD
-            && segment.flags & PF_X != 0
-            && segment.address <= entry
-            && entry < segment.address.saturating_add(segment.file_size)
-    });
+    let mut is_executable = false;
+    for segment in layout.segments.as_slice() {
+        let end = segment.address.saturating_add(segment.file_size);
+        let is_in = segment.address <= entry && entry < end;
+        is_executable = is_executable
+            || segment.kind == PT_LOAD && segment.flags & PF_X != 0 && is_in;
+    }
     if layout.kind.is_executable() && !is_executable {
         writeln!(
             out,

@@ -1,87 +1,323 @@
-//! What each clause asks, and which members are likely wrong where it fails.
+//! What each clause asks, which members are likely wrong where it fails, and which of its tests an item fails.
 
-/// What a clause asks, in a few words, and what is likely wrong in a plan that fails it.
-pub(crate) fn clause_words(clause: u32) -> (&'static str, &'static str) {
-    match clause {
-        1 => (
-            "sizes and alignments",
-            "`page_size` left out; `align` of a section left out (0, which section 0 alone may have); an `align` of 0 at a part",
-        ),
-        2 => (
-            "counts",
-            "`sections` without section 0 (`{}`); `groups` left out",
-        ),
-        3 => (
-            "the order of the parts",
-            "`offset` behind a part that has grown, or not rounded up to `align`; `parts` not in the order of the file; `{}` missing at the head of `sections`",
-        ),
-        4 => (
-            "the roles",
-            "`role` left out (`raw`); `strip_all` left out, so that `.symtab` is asked for; a part of a table left out",
-        ),
-        5 => (
-            "parts in sections",
-            "`address`, `offset` or `size` of a part that was moved without its section; `section` of the part, counted without section 0",
-        ),
-        6 => (
-            "segments",
-            "a segment that did not move or grow with what stands in it; `address` and `offset` that leave different remainders by `page_size`; `file_size` or `mem_size` counted from the section and not from the segment",
-        ),
-        7 => (
-            "shares, prelude and epilogue",
-            "`part_sizes` that was not changed with a part's `size`, or has no entry for a part that was added; `role` left out of the prelude or the epilogue (`object`)",
-        ),
-        8 => (
-            "input sections in their parts",
-            "`slot` left out (`discard`); `address` behind an input section that has grown; `size` other than the number of bytes; `nobits` left out of zeroed data; `flags` of the input section without 2; `part` counted among sections",
-        ),
-        9 => (
-            "indexes",
-            "`symbol_count` left out; `first_symbol` that was not moved with a symbol that was added; a `definition` that is itself defined elsewhere",
-        ),
-        10 => (
-            "fields",
-            "`offset` of the relocation, counted from the part or the file; the offset of the instruction and not of its field",
-        ),
-        _ => later_words(clause),
+use crate::headers::{first_of, test_part, test_section, test_segment};
+use crate::items::{Item, SectionPlace, push_found, push_item, section_at};
+use crate::layout_rows::{LAYOUT_ROWS, Row};
+use crate::lists::{
+    first_astray, test_file, test_group, test_input, test_listed, test_version, wrong_relocation,
+};
+use crate::names::part_word;
+use crate::plan::{push_plan, test_plan};
+use crate::symbols::{position_of, test_symbol};
+use crate::table_rows::TABLE_ROWS;
+use crate::tests::{FileTest, InputTest, SectionTest, Test};
+use crate::verdict::{Finding, Verdict, plain};
+use std::alloc::AllocError;
+use std::fmt::Write;
+use wild_types::Layout;
+
+/// Of each clause its number, its name, and what is likely wrong in a plan that fails it.
+const CLAUSES: [(u32, &str, &str); 18] = [
+    (
+        1,
+        "sizes and alignments",
+        "`page_size` left out; `align` of a section left out (0, which section 0 alone may have); an `align` of 0 at a part",
+    ),
+    (
+        2,
+        "counts",
+        "`sections` without section 0 (`{}`); `groups` left out",
+    ),
+    (
+        3,
+        "the order of the parts",
+        "`offset` behind a part that has grown, or not rounded up to `align`; `parts` not in the order of the file; `{}` missing at the head of `sections`",
+    ),
+    (
+        4,
+        "the roles",
+        "`role` left out (`raw`); `strip_all` left out, so that `.symtab` is asked for; a part of a table left out",
+    ),
+    (
+        5,
+        "parts in sections",
+        "`address`, `offset` or `size` of a part that was moved without its section; `section` of the part, counted without section 0",
+    ),
+    (
+        6,
+        "segments",
+        "a segment that did not move or grow with what stands in it; `address` and `offset` that leave different remainders by `page_size`; `file_size` or `mem_size` counted from the section and not from the segment",
+    ),
+    (
+        7,
+        "shares, prelude and epilogue",
+        "`part_sizes` that was not changed with a part's `size`, or has no entry for a part that was added; `role` left out of the prelude or the epilogue (`object`)",
+    ),
+    (
+        8,
+        "input sections in their parts",
+        "`slot` left out (`discard`); `address` behind an input section that has grown; `size` other than the number of bytes; `nobits` left out of zeroed data; `flags` of the input section without 2; `part` counted among sections",
+    ),
+    (
+        9,
+        "indexes",
+        "`symbol_count` left out; `first_symbol` that was not moved with a symbol that was added; a `definition` that is itself defined elsewhere",
+    ),
+    (
+        10,
+        "fields",
+        "`offset` of the relocation, counted from the part or the file; the offset of the instruction and not of its field",
+    ),
+    (
+        11,
+        "where slots and stubs stand",
+        "`got` behind a symbol whose flag was added or taken away; `got` counted in `got` where the slot stands in `got_relr`, or the other way round; `got` without the 16 bytes of `tlsld`; a symbol with a slot in no file's range",
+    ),
+    (
+        13,
+        "the dynamic symbol table",
+        "`dynsym` counted without the null symbol, or not moved with an undefined entry that was added; a library without the role `dynamic`; a resolution at a library's symbol that nothing refers to; `dynsyms` in another order",
+    ),
+    (
+        14,
+        "flags and slots",
+        "`got` or `plt` left at a symbol whose flag was taken away, or the flag without the address; `NON_INTERPOSABLE` at a library's symbol",
+    ),
+    (
+        15,
+        "thread-local data",
+        "`start` or `align` of `tls`, where a section with more alignment was put in front",
+    ),
+    (
+        16,
+        "where a group's strings and symbols begin",
+        "a start left out of a group behind the first, counted from the start of the file, or in entries and not in bytes",
+    ),
+    (
+        17,
+        "hash tables",
+        "`base` without the null symbol or an undefined entry; `dynsyms` in the order of their names and not of their buckets",
+    ),
+    (
+        18,
+        "versions",
+        "`last` left at a library that is no longer the last; a `parent` counted as the index of a version; the option `versions` without the part, or the part without the option",
+    ),
+    (
+        19,
+        "names",
+        "a name written with the zero that ends it in the object",
+    ),
+];
+
+/// The item, where it fails.
+fn finding(item: Item, verdict: Verdict) -> Option<Finding> {
+    if verdict.fails {
+        Some(Finding { item, verdict })
+    } else {
+        None
     }
 }
 
-/// The same for the clauses on symbols and names.
-fn later_words(clause: u32) -> (&'static str, &'static str) {
-    match clause {
-        11 => (
-            "where slots and stubs stand",
-            "`got` behind a symbol whose flag was added or taken away; `got` counted in `got` where the slot stands in `got_relr`, or the other way round; `got` without the 16 bytes of `tlsld`; a symbol with a slot in no file's range",
-        ),
-        13 => (
-            "the dynamic symbol table",
-            "`dynsym` counted without the null symbol, or not moved with an undefined entry that was added; a library without the role `dynamic`; a resolution at a library's symbol that nothing refers to; `dynsyms` in another order",
-        ),
-        14 => (
-            "flags and slots",
-            "`got` or `plt` left at a symbol whose flag was taken away, or the flag without the address; `NON_INTERPOSABLE` at a library's symbol",
-        ),
-        15 => (
-            "thread-local data",
-            "`start` or `align` of `tls`, where a section with more alignment was put in front",
-        ),
-        16 => (
-            "where a group's strings and symbols begin",
-            "a start left out of a group behind the first, counted from the start of the file, or in entries and not in bytes",
-        ),
-        17 => (
-            "hash tables",
-            "`base` without the null symbol or an undefined entry; `dynsyms` in the order of their names and not of their buckets",
-        ),
-        18 => (
-            "versions",
-            "`last` left at a library that is no longer the last; a `parent` counted as the index of a version; the option `versions` without the part, or the part without the option",
-        ),
-        19 => (
-            "names",
-            "a name written with the zero that ends it in the object",
-        ),
-        _ => ("no clause", "nothing"),
+/// The first file of a group that fails a test.
+fn find_file(layout: &Layout, group: usize, test: FileTest) -> Option<Finding> {
+    let found = layout.groups.as_slice().get(group)?;
+    for (i, file) in found.files.as_slice().iter().enumerate() {
+        let verdict = test_file(layout, group, i, file, test);
+        if verdict.fails {
+            return finding(Item::File(group, i), verdict);
+        }
     }
+    None
+}
+
+/// The first input section of a group that fails a test.
+fn find_input(layout: &Layout, group: usize, test: InputTest) -> Option<Finding> {
+    let is_of_range = match test {
+        InputTest::Before | InputTest::Behind => true,
+        _ => false,
+    };
+    if is_of_range {
+        for part in 0..layout.parts.len() {
+            let found = first_astray(layout, group, part, test);
+            if found.is_some() {
+                return found;
+            }
+        }
+        return None;
+    }
+    let found = layout.groups.as_slice().get(group)?;
+    for (file, held) in found.files.as_slice().iter().enumerate() {
+        for (section, input) in held.sections.as_slice().iter().enumerate() {
+            if test_input(layout, input, test) {
+                let at = SectionPlace {
+                    group,
+                    file,
+                    section,
+                };
+                return finding(Item::Input(at), plain(true));
+            }
+        }
+    }
+    None
+}
+
+/// The symbol of an item of `dynsyms`, with the position of its entry.
+fn placed(layout: &Layout, index: usize) -> Option<Finding> {
+    let symbol = layout.dynsyms.as_slice().get(index)?.symbol.0;
+    let verdict = Verdict {
+        fails: true,
+        expected: match position_of(layout, symbol) {
+            Some(position) => Some(position as u64),
+            None => None,
+        },
+    };
+    finding(Item::Symbol(symbol), verdict)
+}
+
+/// The item that fails a test, where the clause fails at an index.
+fn find(layout: &Layout, index: usize, test: Test) -> Option<Finding> {
+    match test {
+        Test::Plan(test) => finding(Item::Plan, test_plan(layout, index, test)),
+        Test::Part(test) => {
+            let part = layout.parts.as_slice().get(index)?;
+            finding(Item::Part(index), test_part(layout, index, part, test))
+        }
+        Test::Of(role, test) => {
+            let (place, part) = first_of(layout, role)?;
+            finding(Item::Part(place), test_part(layout, place, &part, test))
+        }
+        Test::Section(test) => {
+            let section = layout.sections.as_slice().get(index)?;
+            let verdict = test_section(layout, index, section, test);
+            finding(Item::Section(index), verdict)
+        }
+        Test::Segment(test) => {
+            let segment = layout.segments.as_slice().get(index)?;
+            let verdict = test_segment(layout, index, segment, test);
+            finding(Item::Segment(index), verdict)
+        }
+        Test::Symbol(test) => {
+            let symbol = layout.symbols.as_slice().get(index)?;
+            let verdict = test_symbol(layout, index, symbol, test);
+            finding(Item::Symbol(index), verdict)
+        }
+        Test::Placed => placed(layout, index),
+        Test::Group(test) => {
+            let group = layout.groups.as_slice().get(index)?;
+            finding(Item::Group(index), test_group(layout, index, group, test))
+        }
+        Test::File(test) => find_file(layout, index, test),
+        Test::Input(test) => find_input(layout, index, test),
+        Test::Listed(test) => {
+            let listed = layout.dynsyms.as_slice().get(index)?;
+            finding(
+                Item::Listed(index),
+                plain(test_listed(layout, listed, test)),
+            )
+        }
+        Test::Version(test) => {
+            let version = layout.verdefs.as_slice().get(index)?;
+            let fails = test_version(layout, index, version, test);
+            finding(Item::Version(index), plain(fails))
+        }
+        Test::Auxiliary => {
+            let name = layout.options.auxiliary.as_slice().get(index)?;
+            finding(Item::Auxiliary(index), plain(name.as_slice().contains(&0)))
+        }
+    }
+}
+
+/// Adds the member of an item, with the role of a part, or the relocation that fails.
+fn push_member(
+    out: &mut String,
+    layout: &Layout,
+    item: Item,
+    test: Test,
+    member: &str,
+) -> Result<(), AllocError> {
+    push_item(out, item)?;
+    write!(out, "{member}")?;
+    match (item, test) {
+        (Item::Part(part), _) => {
+            let word = part_word(layout, part);
+            write!(out, " ({word})")?;
+        }
+        (Item::Input(at), Test::Input(test)) => {
+            if let Some(section) = section_at(layout, at)
+                && let Some(index) = wrong_relocation(layout, section, test)
+            {
+                write!(out, "/{index}")?;
+            }
+        }
+        _ => {}
+    }
+    Ok(())
+}
+
+/// Adds what fails, where, what stands there, and what was expected.
+fn push_row(
+    out: &mut String,
+    layout: &Layout,
+    index: usize,
+    row: Row,
+    found: Finding,
+) -> Result<(), AllocError> {
+    let (_, test, what, member) = row;
+    write!(out, "what: {what}\nwhere: ")?;
+    push_member(out, layout, found.item, test, member)?;
+    write!(out, "\nfound: ")?;
+    match test {
+        Test::Plan(test) => push_plan(out, layout, index, test)?,
+        _ => push_found(out, layout, found.item)?,
+    }
+    if let Some(expected) = found.verdict.expected {
+        let word = match test {
+            Test::Section(SectionTest::Memory) => "the first such byte is",
+            Test::Section(SectionTest::Bytes) => "the first such byte is",
+            _ => "expected",
+        };
+        write!(out, "; {word} {expected}")?;
+    }
+    writeln!(out)?;
+    Ok(())
+}
+
+/// Adds the first test of some that an item fails; says whether one does.
+fn push_first(
+    out: &mut String,
+    layout: &Layout,
+    clause: u32,
+    index: usize,
+    rows: &[Row],
+) -> Result<bool, AllocError> {
+    for row in rows {
+        if row.0 == clause
+            && let Some(found) = find(layout, index, row.1)
+        {
+            push_row(out, layout, index, *row, found)?;
+            return Ok(true);
+        }
+    }
+    Ok(false)
+}
+
+/// Adds the reason for a clause that fails.
+pub(crate) fn push_clause(
+    out: &mut String,
+    layout: &Layout,
+    clause: u32,
+    index: usize,
+) -> Result<(), AllocError> {
+    for words in &CLAUSES {
+        let (number, title, likely) = *words;
+        if number == clause {
+            writeln!(out, "clause {clause}: {title}")?;
+            if !push_first(out, layout, clause, index, &LAYOUT_ROWS)? {
+                push_first(out, layout, clause, index, &TABLE_ROWS)?;
+            }
+            writeln!(out, "likely: {likely}")?;
+        }
+    }
+    Ok(())
 }

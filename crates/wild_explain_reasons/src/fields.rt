@@ -1,7 +1,8 @@
 //! What each relocation of an image wrote.
 
-use crate::find::{SectionPlace, push_path};
-use crate::relocations::push_relocation;
+use crate::faults::push_relocation;
+use crate::items::{Item, SectionPlace, push_item};
+use crate::names::push_resolution;
 use std::alloc::AllocError;
 use std::fmt::Write;
 use wild_slot::{Treatment, treatment_of};
@@ -57,22 +58,6 @@ fn is_rewritten(section: &InputSection, image: &[u8], start: u64, offset: u64) -
     false
 }
 
-/// Adds the addresses that were decided of a symbol.
-fn push_resolution(out: &mut String, resolution: Resolution) -> Result<(), AllocError> {
-    let value = resolution.raw_value;
-    write!(out, "; symbol at {value}")?;
-    if let Some(slot) = resolution.got_address {
-        write!(out, ", slot at {slot}")?;
-    }
-    if let Some(stub) = resolution.plt_address {
-        write!(out, ", stub at {stub}")?;
-    }
-    if let Some(index) = resolution.dynamic_symbol_index {
-        write!(out, ", dynsym {index}")?;
-    }
-    Ok(())
-}
-
 /// The resolution of the definition of a symbol.
 fn resolution_of(layout: &Layout, symbol: Option<SymbolIndex>) -> Option<Resolution> {
     let definition = layout.canonical(symbol?);
@@ -116,7 +101,7 @@ fn push_section_fields(
     image: &[u8],
 ) -> Result<(), AllocError> {
     for (i, relocation) in section.relocations.as_slice().iter().enumerate() {
-        push_path(out, at)?;
+        push_item(out, Item::Input(at))?;
         write!(out, "/relocations/{i}: ")?;
         push_relocation(out, layout, section, i)?;
         push_written(out, layout, section, relocation, image)?;

@@ -3,24 +3,27 @@
 
 mod advice;
 mod clauses;
+mod faults;
 mod fields;
-mod find;
-mod groups;
-mod indexes;
+mod headers;
+mod items;
+mod layout_rows;
+mod lists;
 mod names;
 mod needs;
 mod owner;
-mod parts;
+mod plan;
 mod reason;
-mod relocations;
-mod segments;
-mod sizes;
-mod slots;
-mod tables;
+mod symbols;
+mod table_rows;
+mod tests;
+mod verdict;
 
 pub use advice::push_advice;
+pub use faults::push_relocation;
 pub use fields::push_fields;
-pub use names::{push_name, role_word};
+pub use items::{Item, SectionPlace, push_item};
+pub use names::{part_word, push_resolution, push_type};
 pub use needs::{push_image, push_needs};
 pub use owner::push_owner;
 pub use reason::push_reason;

@@ -3,7 +3,7 @@
 use std::alloc::AllocError;
 use std::fmt::Write;
 use wild_reloc::x86_64::rel_type_to_string;
-use wild_types::{Layout, Role, place_of};
+use wild_types::{Layout, Resolution, Role, place_of};
 
 /// The roles by the words of plans, each at its place in the list of roles.
 const ROLES: [(&str, Role); 30] = [
@@ -45,7 +45,7 @@ pub(crate) fn role_at(place: usize) -> Option<(&'static str, Role)> {
 }
 
 /// The word of a role.
-pub fn role_word(role: Role) -> &'static str {
+pub(crate) fn role_word(role: Role) -> &'static str {
     match role_at(place_of(role)) {
         Some((word, _)) => word,
         None => "unknown",
@@ -53,7 +53,7 @@ pub fn role_word(role: Role) -> &'static str {
 }
 
 /// The word of the role of a part.
-pub(crate) fn part_word(layout: &Layout, part: usize) -> &'static str {
+pub fn part_word(layout: &Layout, part: usize) -> &'static str {
     match layout.parts.as_slice().get(part) {
         Some(part) => role_word(part.role),
         None => "no part",
@@ -61,12 +61,15 @@ pub(crate) fn part_word(layout: &Layout, part: usize) -> &'static str {
 }
 
 /// Adds a name: itself where it is text without control characters of ASCII, else in hex.
-pub fn push_name(out: &mut String, name: &[u8]) -> Result<(), AllocError> {
+pub(crate) fn push_name(out: &mut String, name: &[u8]) -> Result<(), AllocError> {
     if name.is_empty() {
         write!(out, "(no name)")?;
         return Ok(());
     }
-    let is_plain = name.iter().all(|byte| b' ' <= *byte && *byte != 0x7f);
+    let mut is_plain = true;
+    for byte in name {
+        is_plain = is_plain && b' ' <= *byte && *byte != 0x7f;
+    }
     match str::from_utf8(name) {
         Ok(text) if is_plain => write!(out, "`{text}`")?,
         _ => {
@@ -107,10 +110,26 @@ pub(crate) fn push_symbol(
 }
 
 /// Adds the name of a relocation type of x86-64.
-pub(crate) fn push_type(out: &mut String, number: u32) -> Result<(), AllocError> {
+pub fn push_type(out: &mut String, number: u32) -> Result<(), AllocError> {
     match rel_type_to_string(number).name() {
         Some(name) => write!(out, "{name} ({number})")?,
         None => write!(out, "type {number}")?,
+    }
+    Ok(())
+}
+
+/// Adds the addresses that were decided of a symbol.
+pub fn push_resolution(out: &mut String, resolution: Resolution) -> Result<(), AllocError> {
+    let value = resolution.raw_value;
+    write!(out, "; symbol at {value}")?;
+    if let Some(slot) = resolution.got_address {
+        write!(out, ", slot at {slot}")?;
+    }
+    if let Some(stub) = resolution.plt_address {
+        write!(out, ", stub at {stub}")?;
+    }
+    if let Some(index) = resolution.dynamic_symbol_index {
+        write!(out, ", dynsym {index}")?;
     }
     Ok(())
 }

@@ -1,25 +1,13 @@
 //! Who owns a byte of the image.
 
-use crate::find::{SectionPlace, push_path, section_at};
-use crate::groups::given_before;
+use crate::faults::push_relocation;
+use crate::headers::given_before;
+use crate::items::{Item, SectionPlace, push_item, section_at};
 use crate::names::{push_section, role_word};
-use crate::relocations::push_relocation;
 use std::alloc::AllocError;
 use std::fmt::Write;
 use wild_records::abi::section::SHT_NOBITS;
 use wild_types::{InputSection, Layout, Part, Role, field_bytes, has_role};
-
-/// The group whose share of a part has that byte of it.
-fn group_of(layout: &Layout, part: usize, byte: u64) -> Option<usize> {
-    let mut end: u64 = 0;
-    for (i, group) in layout.groups.as_slice().iter().enumerate() {
-        end = end.saturating_add(group.given(part));
-        if byte < end {
-            return Some(i);
-        }
-    }
-    None
-}
 
 /// The input section of a group that has the address, in a part.
 fn section_with(layout: &Layout, group: usize, part: usize, address: u64) -> Option<SectionPlace> {
@@ -64,7 +52,7 @@ fn push_input(
     };
     let byte = address.saturating_sub(section.address);
     write!(out, "owner: byte {byte} of ")?;
-    push_path(out, at)?;
+    push_item(out, Item::Input(at))?;
     if let Some(index) = relocation_with(layout, section, byte) {
         write!(out, ", in the field of /relocations/{index}: ")?;
         push_relocation(out, layout, section, index)?;
@@ -87,15 +75,20 @@ fn push_in_part(
         out,
         "part: byte {byte} of /parts/{index} ({word}), address {address}"
     )?;
-    let Some(group) = group_of(layout, index, byte) else {
-        return Ok(());
-    };
-    let own = byte.saturating_sub(given_before(layout, index, group));
-    writeln!(out, "group: byte {own} of the share of /groups/{group}")?;
-    match section_with(layout, group, index, address) {
-        Some(at) if has_role(Role::Raw, part) => push_input(out, layout, at, address),
-        _ => Ok(()),
+    for group in 0..layout.groups.len() {
+        let before = given_before(layout, index, group);
+        let through = given_before(layout, index, group.saturating_add(1));
+        if before <= byte && byte < through {
+            let own = byte - before;
+            writeln!(out, "group: byte {own} of the share of /groups/{group}")?;
+            if has_role(Role::Raw, part)
+                && let Some(at) = section_with(layout, group, index, address)
+            {
+                push_input(out, layout, at, address)?;
+            }
+        }
     }
+    Ok(())
 }
 
 /// Adds which section has a byte that no part has.

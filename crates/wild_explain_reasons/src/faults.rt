@@ -1,40 +1,14 @@
 //! Faults of relocations, slots, copies and symbols, in words.
 
-use crate::find::{SectionPlace, push_path, section_at};
+use crate::items::{Item, SectionPlace, push_decided, push_item, section_at};
 use crate::names::{push_name, push_symbol, push_type};
 use std::alloc::AllocError;
 use std::fmt::Write;
-use wild_slot::SymbolSlots;
-use wild_types::{At, Fault, InputSection, Layout, Missing, SymbolIndex};
-
-/// What a symbol lacks, and what can be done.
-fn missing_words(what: Missing) -> (&'static str, &'static str) {
-    match what {
-        Missing::Address => (
-            "the symbol has no address: its definition has no resolution, and it stands in no input section with an address",
-            "resolve the symbol (`resolution`, or `definition` where another symbol defines it), or place its section",
-        ),
-        Missing::Slot => (
-            "the relocation takes a slot, and the symbol's definition has none of that sort",
-            "give the symbol the flag and the slot (`got`; GOT, GOT_TLS_OFFSET, GOT_TLS_MODULE or GOT_TLS_DESCRIPTOR), its `definition` where another symbol has it, or the plan `tlsld`",
-        ),
-        Missing::Stub => (
-            "a stub is needed, and the symbol's definition has none",
-            "give the symbol PLT and a stub (`plt`), its `definition`, or write a call of a function that is known as R_X86_64_PC32",
-        ),
-        Missing::DynamicSymbol => (
-            "a loader looks the symbol up, and its definition has no index in the dynamic symbol table",
-            "give it `dynsym` (and list it in `dynsyms` where the output defines it), or the flag NON_INTERPOSABLE where no other module may have it",
-        ),
-        Missing::Section => (
-            "the symbol's entry has no output section",
-            "correct `place`, or the name of the section (.bss, .tbss)",
-        ),
-    }
-}
+use wild_slot::{SlotFault, SymbolSlots};
+use wild_types::{At, Fault, InputSection, Layout, Missing};
 
 /// What is wrong with a relocation, a slot or a symbol, and what can be done.
-pub(crate) fn relocation_words(fault: Fault) -> (&'static str, &'static str) {
+fn fault_words(fault: Fault) -> (&'static str, &'static str) {
     match fault {
         Fault::UnsupportedRelocation { .. } => (
             "the relocation type is not known, or it needs a symbol and names none",
@@ -44,7 +18,41 @@ pub(crate) fn relocation_words(fault: Fault) -> (&'static str, &'static str) {
             "the field cannot hold an address that is known only where the image is loaded",
             "compile position-independent code (-fPIE, for a shared object -fPIC), or give the symbol NON_INTERPOSABLE, or ABSOLUTE where its value does not move; another module's symbol a stub or a copy",
         ),
-        Fault::MissingResolution { what, .. } => missing_words(what),
+        Fault::MissingResolution {
+            what: Missing::Address,
+            ..
+        } => (
+            "the symbol has no address: its definition has no resolution, and it stands in no input section with an address",
+            "resolve the symbol (`resolution`, or `definition` where another symbol defines it), or place its section",
+        ),
+        Fault::MissingResolution {
+            what: Missing::Slot,
+            ..
+        } => (
+            "the relocation takes a slot, and the symbol's definition has none of that sort",
+            "give the symbol the flag and the slot (`got`; GOT, GOT_TLS_OFFSET, GOT_TLS_MODULE or GOT_TLS_DESCRIPTOR), its `definition` where another symbol has it, or the plan `tlsld`",
+        ),
+        Fault::MissingResolution {
+            what: Missing::Stub,
+            ..
+        } => (
+            "a stub is needed, and the symbol's definition has none",
+            "give the symbol PLT and a stub (`plt`), its `definition`, or write a call of a function that is known as R_X86_64_PC32",
+        ),
+        Fault::MissingResolution {
+            what: Missing::DynamicSymbol,
+            ..
+        } => (
+            "a loader looks the symbol up, and its definition has no index in the dynamic symbol table",
+            "give it `dynsym` (and list it in `dynsyms` where the output defines it), or the flag NON_INTERPOSABLE where no other module may have it",
+        ),
+        Fault::MissingResolution {
+            what: Missing::Section,
+            ..
+        } => (
+            "the symbol's entry has no output section",
+            "correct `place`, or the name of the section (.bss, .tbss)",
+        ),
         Fault::UnknownSequence { .. } => (
             "an instruction is to be rewritten, and its bytes, its addend or the relocation of its call are not what that needs",
             "keep the sequences of the ABI whole, with both relocations, one behind the other",
@@ -88,7 +96,7 @@ fn place_at(section: &InputSection, offset: u64) -> Option<usize> {
 }
 
 /// Adds a relocation: its type, its offset, its symbol and its addend.
-pub(crate) fn push_relocation(
+pub fn push_relocation(
     out: &mut String,
     layout: &Layout,
     section: &InputSection,
@@ -106,6 +114,10 @@ pub(crate) fn push_relocation(
     if let Some(symbol) = relocation.symbol {
         write!(out, ", ")?;
         push_symbol(out, layout, symbol.0)?;
+        let definition = layout.canonical(symbol).0;
+        if definition != symbol.0 {
+            write!(out, ", defined by symbol {definition}")?;
+        }
     }
     Ok(())
 }
@@ -122,10 +134,6 @@ fn push_numbers(out: &mut String, layout: &Layout, fault: Fault) -> Result<(), A
             write!(out, "; address {value}, expected from {start} to {end}")?;
         }
         Fault::OverlappingSites { byte } => write!(out, "; byte {byte}")?,
-        Fault::MissingResolution { symbol, .. } => {
-            let definition = layout.canonical(SymbolIndex(symbol)).0;
-            write!(out, "; its definition is symbol {definition}")?;
-        }
         Fault::IfuncAddend { addend } => write!(out, "; addend {addend}, expected 0")?,
         _ => {}
     }
@@ -133,74 +141,89 @@ fn push_numbers(out: &mut String, layout: &Layout, fault: Fault) -> Result<(), A
     Ok(())
 }
 
-/// The first symbol of a file whose slots are refused.
-fn refused_slot(layout: &Layout, group: usize, file: usize) -> Option<usize> {
-    let found = layout.groups.as_slice().get(group)?;
-    let file = found.files.as_slice().get(file)?;
+/// The first symbol of a file whose slots are refused with that value.
+fn refused_slot(layout: &Layout, at: At, fault: Fault) -> Option<usize> {
+    let found = layout.groups.as_slice().get(at.group?)?;
+    let file = found.files.as_slice().get(at.file?)?;
     let first = file.first_symbol.0;
     for (i, symbol) in layout.own_symbols(file).iter().enumerate() {
-        if SymbolSlots::of(layout, symbol).fault().is_some() {
+        let is_it = match (SymbolSlots::of(layout, symbol).fault(), fault) {
+            (Some(SlotFault::TlsOutOfSegment { value: own }), Fault::TlsOutOfSegment { value }) => {
+                own == value
+            }
+            (Some(SlotFault::PltTooFar { value: own }), Fault::PltTooFar { value }) => own == value,
+            _ => false,
+        };
+        if is_it {
             return Some(first.saturating_add(i));
         }
     }
     None
 }
 
-/// The symbol of a fault that is in no section.
-fn symbol_of(layout: &Layout, fault: Fault, at: At) -> Option<usize> {
-    match fault {
-        Fault::MissingResolution { symbol, .. } | Fault::StaticTlsDesc { symbol } => Some(symbol),
-        _ => refused_slot(layout, at.group?, at.file?),
-    }
-}
-
 /// Adds where a fault is that is in no section.
-fn push_symbol_place(
-    out: &mut String,
-    layout: &Layout,
-    fault: Fault,
-    at: At,
-) -> Result<(), AllocError> {
-    if let Some(symbol) = symbol_of(layout, fault, at) {
+fn push_outside(out: &mut String, layout: &Layout, fault: Fault, at: At) -> Result<(), AllocError> {
+    let symbol = match fault {
+        Fault::MissingResolution { symbol, .. } | Fault::StaticTlsDesc { symbol } => Some(symbol),
+        _ => refused_slot(layout, at, fault),
+    };
+    if let Some(symbol) = symbol {
         write!(out, "where: /symbols/{symbol}/resolution\nfound: ")?;
-        push_symbol(out, layout, symbol)?;
+        push_decided(out, layout, symbol)?;
     }
-    push_numbers(out, layout, fault)
+    Ok(())
 }
 
-/// Adds where a fault is, and what stands there.
-pub(crate) fn push_at(
+/// Adds where a fault is in an input section, and what stands there.
+fn push_inside(
     out: &mut String,
     layout: &Layout,
-    fault: Fault,
-    at: At,
+    at: SectionPlace,
+    offset: Option<u64>,
 ) -> Result<(), AllocError> {
-    let (Some(group), Some(file), Some(section)) = (at.group, at.file, at.section) else {
-        return push_symbol_place(out, layout, fault, at);
-    };
-    let place = SectionPlace {
-        group,
-        file,
-        section,
-    };
-    let Some(found) = section_at(layout, place) else {
+    let Some(section) = section_at(layout, at) else {
         return Ok(());
     };
     write!(out, "where: ")?;
-    push_path(out, place)?;
-    let index = match at.offset {
-        Some(offset) => place_at(found, offset),
+    push_item(out, Item::Input(at))?;
+    write!(out, "/relocations")?;
+    let index = match offset {
+        Some(offset) => place_at(section, offset),
         None => None,
     };
     match index {
         Some(index) => {
-            write!(out, "/relocations/{index}\nfound: ")?;
-            push_relocation(out, layout, found, index)?;
+            write!(out, "/{index}\nfound: ")?;
+            push_relocation(out, layout, section, index)
         }
         None => {
-            write!(out, "/relocations\nfound: ")?;
-            push_name(out, found.name.as_slice())?;
+            write!(out, "\nfound: ")?;
+            push_name(out, section.name.as_slice())
         }
     }
-    push_numbers(out, layout, fault)
+}
+
+/// Adds why a relocation, a slot, a copy or a symbol is refused: what is wrong, where, what stands there, and what can be done.
+pub(crate) fn push_fault(
+    out: &mut String,
+    layout: &Layout,
+    fault: Fault,
+    at: At,
+) -> Result<(), AllocError> {
+    let (what, remedy) = fault_words(fault);
+    writeln!(out, "what: {what}")?;
+    match (at.group, at.file, at.section) {
+        (Some(group), Some(file), Some(section)) => {
+            let place = SectionPlace {
+                group,
+                file,
+                section,
+            };
+            push_inside(out, layout, place, at.offset)?;
+        }
+        _ => push_outside(out, layout, fault, at)?,
+    }
+    push_numbers(out, layout, fault)?;
+    writeln!(out, "remedy: {remedy}")?;
+    Ok(())
 }

@@ -1,0 +1,271 @@
+//! Tests of parts, output sections and segments.
+
+use crate::tests::{PartTest, SectionTest, SegmentTest};
+use crate::verdict::{Verdict, due, plain};
+use wild_records::abi::section::{SHT_NOBITS, SHT_RELA};
+use wild_records::abi::segment::{PT_DYNAMIC, PT_LOAD};
+use wild_types::{
+    Layout, Part, Role, Section, Segment, has_role, is_allocated, is_thread_local, place_of,
+};
+
+/// Whether a size from an address ends above 2^62.
+pub(crate) fn ends_high(start: u64, size: u64) -> bool {
+    start.saturating_add(size) > 1 << 62
+}
+
+/// Whether bytes lie in others.
+fn lies_within(start: u64, size: u64, inner: u64, inner_size: u64) -> bool {
+    start <= inner && inner.saturating_add(inner_size) <= start.saturating_add(size)
+}
+
+/// The first part of a role, with its place.
+pub(crate) fn first_of(layout: &Layout, role: Role) -> Option<(usize, Part)> {
+    for (i, part) in layout.parts.as_slice().iter().enumerate() {
+        if has_role(role, part) {
+            return Some((i, *part));
+        }
+    }
+    None
+}
+
+/// The sum of the shares of a part of so many groups, at most 2^64 - 1.
+pub(crate) fn given_before(layout: &Layout, part: usize, group: usize) -> u64 {
+    let mut sum: u64 = 0;
+    for (i, found) in layout.groups.as_slice().iter().enumerate() {
+        if i < group {
+            sum = sum.saturating_add(found.given(part));
+        }
+    }
+    sum
+}
+
+/// The end in the file of the parts ahead.
+fn end_before(layout: &Layout, index: usize) -> u64 {
+    let mut end = 0;
+    for (i, part) in layout.parts.as_slice().iter().enumerate() {
+        if i < index && layout.takes_file_bytes(part.section) {
+            end = part.offset.saturating_add(part.size);
+        }
+    }
+    end
+}
+
+/// Whether a part lies in its section.
+fn lies_in(section: &Section, part: &Part) -> bool {
+    if section.kind == SHT_NOBITS {
+        return lies_within(section.address, section.size, part.address, part.size);
+    }
+    let is_even = section.address <= part.address
+        && part.address.saturating_add(section.offset)
+            == part.offset.saturating_add(section.address);
+    lies_within(section.offset, section.size, part.offset, part.size)
+        && (!is_allocated(section.flags) || is_even)
+}
+
+/// Whether the file bytes of a loaded segment have a part.
+fn is_carried(layout: &Layout, part: &Part) -> bool {
+    for segment in layout.segments.as_slice() {
+        if segment.kind == PT_LOAD
+            && lies_within(segment.offset, segment.file_size, part.offset, part.size)
+            && part.offset.saturating_add(segment.address)
+                == part.address.saturating_add(segment.offset)
+        {
+            return true;
+        }
+    }
+    false
+}
+
+/// Whether addresses are those of an executable without a dynamic linker.
+fn is_fixed(layout: &Layout) -> bool {
+    layout.kind.is_static_executable() && layout.kind.has_fixed_load_address()
+}
+
+/// Whether a part fails a test.
+pub(crate) fn test_part(layout: &Layout, index: usize, part: &Part, test: PartTest) -> Verdict {
+    match test {
+        PartTest::Ends => plain(
+            !part.align.is_power_of_two()
+                || ends_high(part.address, part.size)
+                || ends_high(part.offset, part.size),
+        ),
+        PartTest::Order => {
+            let end = end_before(layout, index);
+            due(part.offset < end, end)
+        }
+        PartTest::Again => plain(match first_of(layout, part.role) {
+            Some((first, _)) => first < index && !has_role(Role::Raw, part),
+            None => false,
+        }),
+        PartTest::At(offset) => due(part.offset != offset, offset),
+        PartTest::Follows => match first_of(layout, Role::RelaDynRelative) {
+            Some((_, before)) => {
+                let end = before.offset.saturating_add(before.size);
+                let follows = part.address == before.address.saturating_add(before.size);
+                due(part.offset != end || !follows, end)
+            }
+            None => plain(false),
+        },
+        PartTest::Outside => plain(match layout.sections.as_slice().get(part.section.0) {
+            Some(section) => part.section.0 != 0 && !lies_in(section, part),
+            None => false,
+        }),
+        PartTest::Unallocated => {
+            let place = place_of(part.role);
+            let is_read = place_of(Role::Got) <= place && place <= place_of(Role::Dynamic);
+            plain(is_read && !layout.is_allocated_section(part.section))
+        }
+        PartTest::Entries => plain(is_fixed(layout)),
+        PartTest::Split => plain(is_carried(layout, part)),
+        PartTest::Shares => {
+            let sum = given_before(layout, index, layout.groups.len());
+            due(sum != part.size, sum)
+        }
+        PartTest::Section => plain(part.section.0 >= layout.sections.len()),
+        PartTest::Unasked => plain(has_role(Role::GotRelr, part) && !layout.options.relr),
+        PartTest::Last => plain(true),
+    }
+}
+
+/// The first address of a section that no loaded segment has, in its memory or in its file bytes.
+fn reached(layout: &Layout, section: &Section, in_file: bool) -> u64 {
+    let mut reached = section.address;
+    for segment in layout.segments.as_slice() {
+        let size = if in_file {
+            segment.file_size
+        } else {
+            segment.mem_size
+        };
+        let end = segment.address.saturating_add(size);
+        let is_even = section.kind == SHT_NOBITS
+            || section.offset.saturating_add(segment.address)
+                == section.address.saturating_add(segment.offset);
+        if segment.kind == PT_LOAD && segment.address <= reached && reached < end && is_even {
+            reached = end;
+        }
+    }
+    reached
+}
+
+/// The bytes of the parts of entries in a section.
+fn entry_bytes(layout: &Layout, index: usize) -> u64 {
+    let mut sum: u64 = 0;
+    for role in [Role::RelaPlt, Role::RelaDynRelative, Role::RelaDynGeneral] {
+        if let Some((_, part)) = first_of(layout, role)
+            && part.section.0 == index
+        {
+            sum = sum.saturating_add(part.size);
+        }
+    }
+    sum
+}
+
+/// Whether an output section fails a test.
+pub(crate) fn test_section(
+    layout: &Layout,
+    index: usize,
+    section: &Section,
+    test: SectionTest,
+) -> Verdict {
+    let zeros = section.kind == SHT_NOBITS;
+    let is_loaded = index != 0 && is_allocated(section.flags);
+    let end = section.address.saturating_add(section.size);
+    match test {
+        SectionTest::Ends => plain(
+            !(index == 0 && section.align == 0 || section.align.is_power_of_two())
+                || ends_high(section.address, section.size)
+                || ends_high(section.offset, section.size),
+        ),
+        SectionTest::Memory => {
+            let reached = reached(layout, section, false);
+            let is_asked = is_loaded && !(zeros && is_thread_local(section.flags));
+            due(is_asked && reached < end, reached)
+        }
+        SectionTest::Bytes => {
+            let reached = reached(layout, section, true);
+            due(is_loaded && !zeros && reached < end, reached)
+        }
+        SectionTest::Entries => {
+            let bytes = entry_bytes(layout, index);
+            let is_asked = is_loaded && is_fixed(layout) && section.kind == SHT_RELA;
+            due(is_asked && section.size != bytes, bytes)
+        }
+        SectionTest::Name => plain(section.name.as_slice().contains(&0)),
+    }
+}
+
+/// The end in memory of the loaded segments ahead.
+fn memory_before(layout: &Layout, index: usize) -> u64 {
+    let mut end = 0;
+    for (i, segment) in layout.segments.as_slice().iter().enumerate() {
+        if i < index && segment.kind == PT_LOAD {
+            end = segment.address.saturating_add(segment.mem_size);
+        }
+    }
+    end
+}
+
+/// How many `PT_DYNAMIC` segments stand ahead of that one.
+pub(crate) fn dynamic_before(layout: &Layout, index: usize) -> usize {
+    let mut count: usize = 0;
+    for (i, segment) in layout.segments.as_slice().iter().enumerate() {
+        if i < index && segment.kind == PT_DYNAMIC {
+            count = count.saturating_add(1);
+        }
+    }
+    count
+}
+
+/// Whether a segment has the place and the size of the dynamic section.
+fn is_dynamic(layout: &Layout, segment: &Segment) -> bool {
+    match first_of(layout, Role::Dynamic) {
+        Some((_, part)) => {
+            segment.offset == part.offset
+                && segment.address == part.address
+                && segment.file_size == part.size
+                && segment.mem_size == part.size
+        }
+        None => false,
+    }
+}
+
+/// Whether a segment fails a test.
+pub(crate) fn test_segment(
+    layout: &Layout,
+    index: usize,
+    segment: &Segment,
+    test: SegmentTest,
+) -> Verdict {
+    let is_loaded = segment.kind == PT_LOAD;
+    match test {
+        SegmentTest::Ends => plain(
+            !(segment.align == 0 || segment.align.is_power_of_two())
+                || ends_high(segment.address, segment.mem_size)
+                || ends_high(segment.offset, segment.file_size),
+        ),
+        SegmentTest::Order => {
+            let end = memory_before(layout, index);
+            due(is_loaded && segment.address < end, end)
+        }
+        SegmentTest::Larger => plain(is_loaded && segment.mem_size < segment.file_size),
+        SegmentTest::Remainder => {
+            let page = layout.page_size;
+            plain(is_loaded && page != 0 && segment.address % page != segment.offset % page)
+        }
+        SegmentTest::AtZero => {
+            let is_fixed = layout.kind.has_fixed_load_address();
+            plain(is_loaded && is_fixed && segment.address == 0 && segment.mem_size != 0)
+        }
+        SegmentTest::BehindImage => {
+            let size = layout.image_end().min(u128::from(u64::MAX)) as u64;
+            due(
+                segment.offset.saturating_add(segment.file_size) > size,
+                size,
+            )
+        }
+        SegmentTest::Dynamic => plain(
+            segment.kind == PT_DYNAMIC
+                && (!is_dynamic(layout, segment) || dynamic_before(layout, index) != 0),
+        ),
+    }
+}

@@ -1,0 +1,258 @@
+//! Tests of groups, files, input sections, and the lists of names.
+
+use crate::headers::{ends_high, first_of, given_before};
+use crate::items::{Item, SectionPlace};
+use crate::tests::{EntryTest, FileTest, GroupTest, InputTest};
+use crate::verdict::{Finding, Verdict, due, plain};
+use wild_types::{
+    DynamicSymbol, File, Group, InputRelocation, InputSection, Layout, Role, VersionDefinition,
+    field_bytes, has_role, is_allocated,
+};
+
+/// Whether a group fails a test.
+pub(crate) fn test_group(layout: &Layout, index: usize, group: &Group, test: GroupTest) -> Verdict {
+    match test {
+        GroupTest::Count => {
+            let parts = layout.parts.len();
+            due(group.part_sizes.len() != parts, parts as u64)
+        }
+        GroupTest::NoFile => plain(true),
+        GroupTest::Start(role) => {
+            let before = match first_of(layout, role) {
+                Some((part, _)) => given_before(layout, part, index),
+                None => 0,
+            };
+            let found = match role {
+                Role::Dynstr => group.dynstr_start,
+                Role::Strtab => group.strtab_start,
+                Role::SymtabLocal => group.symtab_local_start,
+                _ => group.symtab_global_start,
+            };
+            due(found != before, before)
+        }
+    }
+}
+
+/// Whether two copies of all files have the definition of one of a file's.
+fn is_copied_twice(layout: &Layout, copied: &File) -> bool {
+    for copy in copied.copies.as_slice() {
+        let mut count: usize = 0;
+        for group in layout.groups.as_slice() {
+            for file in group.files.as_slice() {
+                for other in file.copies.as_slice() {
+                    if layout.canonical(*other) == layout.canonical(*copy) {
+                        count = count.saturating_add(1);
+                    }
+                }
+            }
+        }
+        if count > 1 {
+            return true;
+        }
+    }
+    false
+}
+
+/// Whether a file's copy is no symbol.
+fn has_no_copy(layout: &Layout, file: &File) -> bool {
+    for copy in file.copies.as_slice() {
+        if copy.0 >= layout.symbols.len() {
+            return true;
+        }
+    }
+    false
+}
+
+/// Whether the name of a version that is needed of a library has a zero byte.
+fn has_zero_version(file: &File) -> bool {
+    if let Some(needs) = &file.verneed {
+        for version in needs.versions.as_slice() {
+            if version.name.as_slice().contains(&0) {
+                return true;
+            }
+        }
+    }
+    false
+}
+
+/// The end of the ranges of symbols of the files ahead, and whether no library behind has `verneed`.
+fn around(layout: &Layout, group: usize, file: usize) -> (usize, bool) {
+    let mut end: usize = 0;
+    let mut is_last = true;
+    for (i, found) in layout.groups.as_slice().iter().enumerate() {
+        for (j, held) in found.files.as_slice().iter().enumerate() {
+            if (i < group || i == group && j < file) && held.symbol_count != 0 {
+                end = held.first_symbol.0.saturating_add(held.symbol_count);
+            }
+            if (i > group || i == group && j > file) && held.verneed.is_some() {
+                is_last = is_last && !held.role.is_library();
+            }
+        }
+    }
+    (end, is_last)
+}
+
+/// Whether a file of a group fails a test.
+pub(crate) fn test_file(
+    layout: &Layout,
+    group: usize,
+    index: usize,
+    file: &File,
+    test: FileTest,
+) -> Verdict {
+    match test {
+        FileTest::Role => {
+            let is_first = group == 0 && index == 0;
+            let files = match layout.groups.as_slice().get(group) {
+                Some(found) => found.files.len(),
+                None => 0,
+            };
+            let is_last = group.saturating_add(1) == layout.groups.len()
+                && index.saturating_add(1) == files;
+            plain(file.role.is_prelude() != is_first || file.role.is_epilogue() != is_last)
+        }
+        FileTest::Range => {
+            let end = file.first_symbol.0.saturating_add(file.symbol_count);
+            plain(file.symbol_count != 0 && end > layout.symbols.len())
+        }
+        FileTest::Copies => plain(has_no_copy(layout, file)),
+        FileTest::Twice => plain(is_copied_twice(layout, file)),
+        FileTest::Order => {
+            let (end, _) = around(layout, group, index);
+            due(
+                file.symbol_count != 0 && file.first_symbol.0 < end,
+                end as u64,
+            )
+        }
+        FileTest::Mark => {
+            let (_, is_last) = around(layout, group, index);
+            plain(match &file.verneed {
+                Some(needs) => file.role.is_library() && needs.last != is_last,
+                None => false,
+            })
+        }
+        FileTest::Library => plain(file.lib_name.as_slice().contains(&0)),
+        FileTest::Needed => plain(has_zero_version(file)),
+    }
+}
+
+/// Whether a relocation fails the test on its field, or on its symbol.
+fn is_wrong(
+    layout: &Layout,
+    section: &InputSection,
+    relocation: &InputRelocation,
+    test: InputTest,
+) -> bool {
+    let width = field_bytes(layout.machine, relocation.number) as u64;
+    match (test, relocation.symbol) {
+        (InputTest::Fields, _) => {
+            width != 0 && relocation.offset.saturating_add(width) > section.size
+        }
+        (InputTest::Symbols, Some(symbol)) => symbol.0 >= layout.symbols.len(),
+        _ => false,
+    }
+}
+
+/// The first relocation of a section that fails the test.
+pub(crate) fn wrong_relocation(
+    layout: &Layout,
+    section: &InputSection,
+    test: InputTest,
+) -> Option<usize> {
+    for (i, relocation) in section.relocations.as_slice().iter().enumerate() {
+        if is_wrong(layout, section, relocation, test) {
+            return Some(i);
+        }
+    }
+    None
+}
+
+/// The first input section of a group that begins or ends where the group's range of a part does not go.
+pub(crate) fn first_astray(
+    layout: &Layout,
+    group: usize,
+    part: usize,
+    test: InputTest,
+) -> Option<Finding> {
+    let found = layout.groups.as_slice().get(group)?;
+    let start = layout.parts.as_slice().get(part)?.address;
+    let mut from = start.saturating_add(given_before(layout, part, group));
+    let to = start.saturating_add(given_before(layout, part, group.saturating_add(1)));
+    for (file, held) in found.files.as_slice().iter().enumerate() {
+        for (section, input) in held.sections.as_slice().iter().enumerate() {
+            if input.part == part && input.is_filled(layout) {
+                let end = input.address.saturating_add(input.size);
+                let verdict = match test {
+                    InputTest::Behind => due(to < end, to),
+                    _ => due(input.address < from, from),
+                };
+                if verdict.fails {
+                    let item = Item::Input(SectionPlace {
+                        group,
+                        file,
+                        section,
+                    });
+                    return Some(Finding { item, verdict });
+                }
+                from = end;
+            }
+        }
+    }
+    None
+}
+
+/// Whether an input section fails a test.
+pub(crate) fn test_input(layout: &Layout, section: &InputSection, test: InputTest) -> bool {
+    let length = section.bytes.len() as u64;
+    let discarded = section.slot.is_discarded();
+    let loaded = section.slot.is_loaded();
+    match test {
+        InputTest::Ends => ends_high(section.address, section.size),
+        InputTest::Before | InputTest::Behind => false,
+        InputTest::Length => {
+            let bytes = if section.nobits { 0 } else { section.size };
+            !discarded && length != bytes
+        }
+        InputTest::Discarded => discarded && (section.address != 0 || length != 0),
+        InputTest::RawPart => match layout.parts.as_slice().get(section.part) {
+            Some(part) => !discarded && !has_role(Role::Raw, part),
+            None => !discarded,
+        },
+        InputTest::Allocation => {
+            let allocated = layout.is_allocated_part(section.part);
+            loaded && is_allocated(section.flags) != allocated
+        }
+        InputTest::Room => {
+            length != 0 && !layout.takes_file_bytes(layout.section_of(section.part))
+        }
+        InputTest::PartIndex => section.part >= layout.parts.len(),
+        InputTest::Fields | InputTest::Symbols => {
+            wrong_relocation(layout, section, test).is_some()
+        }
+        InputTest::Name => section.name.as_slice().contains(&0),
+    }
+}
+
+/// Whether an item of `dynsyms` fails a test.
+pub(crate) fn test_listed(layout: &Layout, listed: &DynamicSymbol, test: EntryTest) -> bool {
+    match test {
+        EntryTest::Index => listed.symbol.0 >= layout.symbols.len(),
+        EntryTest::Order => true,
+        EntryTest::Name => listed.name.as_slice().contains(&0),
+    }
+}
+
+/// Whether an item of `verdefs` fails a test.
+pub(crate) fn test_version(
+    layout: &Layout,
+    index: usize,
+    version: &VersionDefinition,
+    test: EntryTest,
+) -> bool {
+    match (test, version.parent) {
+        (EntryTest::Index, Some(parent)) => parent >= layout.verdefs.len(),
+        (EntryTest::Order, Some(parent)) => parent == 0 || index <= parent,
+        (EntryTest::Name, _) => true,
+        _ => false,
+    }
+}

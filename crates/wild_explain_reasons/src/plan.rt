@@ -1,0 +1,147 @@
+//! Tests of the plan as a whole, and what stands there.
+
+use crate::headers::dynamic_before;
+use crate::names::{role_at, role_word};
+use crate::symbols::{behind_reserved, undefined_entries};
+use crate::tests::PlanTest;
+use crate::verdict::{Verdict, due, plain};
+use std::alloc::AllocError;
+use std::fmt::Write;
+use wild_needs::total_share;
+use wild_types::{Entry, GnuHash, Layout, Role, is_there};
+use wild_words::Bytes;
+
+/// Whether the role with a number has a part.
+fn is_role_there(layout: &Layout, index: usize) -> bool {
+    match role_at(index) {
+        Some((_, role)) => is_there(role, layout.parts.as_slice()),
+        None => false,
+    }
+}
+
+/// Whether a name that may be there has a zero byte.
+fn has_zero(name: &Option<Bytes>) -> bool {
+    match name {
+        Some(name) => name.as_slice().contains(&0),
+        None => false,
+    }
+}
+
+/// Whether the shape of the GNU hash table fails a test.
+fn test_shape(layout: &Layout, shape: GnuHash, test: PlanTest) -> Verdict {
+    match test {
+        PlanTest::GnuBuckets => plain(shape.buckets == 0),
+        PlanTest::GnuBloom => plain(shape.bloom_count == 0),
+        PlanTest::GnuShift => plain(shape.bloom_shift >= 32),
+        PlanTest::GnuBase => {
+            let (count, _) = undefined_entries(layout, 0);
+            let base = count.saturating_add(1);
+            due(shape.base as usize != base, base as u64)
+        }
+        _ => plain(false),
+    }
+}
+
+/// Whether the plan fails a test; `index` is that of the clause.
+pub(crate) fn test_plan(layout: &Layout, index: usize, test: PlanTest) -> Verdict {
+    let parts = layout.parts.as_slice();
+    let page = layout.page_size;
+    match test {
+        PlanTest::PageSize => due(!page.is_power_of_two() || page < 4096 || page > 65536, 4096),
+        PlanTest::ThreadAlign => plain(!layout.tls.align.is_power_of_two()),
+        PlanTest::ThreadEnd => plain(layout.tls.end < layout.tls.start),
+        PlanTest::NoSection => plain(layout.sections.len() == 0),
+        PlanTest::NoGroup => plain(layout.groups.len() == 0),
+        PlanTest::Missing(role) => plain(!is_there(role, parts)),
+        PlanTest::StaticDynamic => plain(is_role_there(layout, index)),
+        PlanTest::FirstSection => plain(match layout.sections.as_slice().get(0) {
+            Some(first) => first.kind != 0 || first.name.len() != 0,
+            None => false,
+        }),
+        PlanTest::NoDynamicSegment => {
+            let count = dynamic_before(layout, layout.segments.len());
+            plain(is_there(Role::Dynamic, parts) && count == 0)
+        }
+        PlanTest::Entry => plain(match layout.entry {
+            Some(Entry::Symbol(symbol)) => symbol.0 >= layout.symbols.len(),
+            _ => false,
+        }),
+        PlanTest::Pair => {
+            let behind = behind_reserved(layout);
+            due(layout.tlsld.unwrap_or(behind) != behind, behind)
+        }
+        PlanTest::SysvBuckets => plain(match layout.sysv_hash {
+            Some(shape) => shape.buckets == 0,
+            None => false,
+        }),
+        PlanTest::NoVersion => {
+            plain(is_there(Role::GnuVersionD, parts) && layout.verdefs.len() == 0)
+        }
+        PlanTest::SearchPath => plain(has_zero(&layout.options.rpath)),
+        PlanTest::OwnName => plain(has_zero(&layout.options.soname)),
+        PlanTest::ThreadStart | PlanTest::TooMany | PlanTest::NoTable | PlanTest::Versions => {
+            plain(true)
+        }
+        _ => match layout.gnu_hash {
+            Some(shape) => test_shape(layout, shape, test),
+            None => plain(false),
+        },
+    }
+}
+
+/// Adds how much is to be written of the table of the role with a number.
+fn push_table(out: &mut String, layout: &Layout, index: usize) -> Result<(), AllocError> {
+    if let Some((word, role)) = role_at(index) {
+        let needed = total_share(layout, role);
+        write!(out, "role {word}, needed {needed} bytes")?;
+    }
+    Ok(())
+}
+
+/// Adds what a test of the plan looked at.
+pub(crate) fn push_plan(
+    out: &mut String,
+    layout: &Layout,
+    index: usize,
+    test: PlanTest,
+) -> Result<(), AllocError> {
+    match test {
+        PlanTest::PageSize => {
+            let page = layout.page_size;
+            write!(out, "{page}")?;
+        }
+        PlanTest::ThreadAlign | PlanTest::ThreadEnd | PlanTest::ThreadStart => {
+            let (start, end, align) = (layout.tls.start, layout.tls.end, layout.tls.align);
+            write!(out, "start {start}, end {end}, align {align}")?;
+        }
+        PlanTest::Missing(role) => {
+            let word = role_word(role);
+            write!(out, "no part of role {word}")?;
+        }
+        PlanTest::StaticDynamic | PlanTest::NoTable => push_table(out, layout, index)?,
+        PlanTest::Pair => {
+            let pair = layout.tlsld.unwrap_or(0);
+            write!(out, "{pair}")?;
+        }
+        PlanTest::GnuBuckets | PlanTest::GnuBloom | PlanTest::GnuShift | PlanTest::GnuBase => {
+            if let Some(shape) = layout.gnu_hash {
+                let (buckets, words) = (shape.buckets, shape.bloom_count);
+                let (shift, base) = (shape.bloom_shift, shape.base);
+                write!(
+                    out,
+                    "buckets {buckets} (1 or more), bloom_count {words} (1 or more), bloom_shift {shift} (below 32), base {base}"
+                )?;
+            }
+        }
+        _ => {
+            let (sections, groups) = (layout.sections.len(), layout.groups.len());
+            let (segments, symbols) = (layout.segments.len(), layout.symbols.len());
+            let versions = layout.options.versions;
+            write!(
+                out,
+                "{sections} sections (section 0 is `{{}}`), {groups} groups, {segments} segments, {symbols} symbols, option `versions` {versions}"
+            )?;
+        }
+    }
+    Ok(())
+}

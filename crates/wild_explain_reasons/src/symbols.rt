@@ -1,0 +1,214 @@
+//! Tests of symbols: their indexes, their slots and stubs, their positions in the dynamic symbol table, and their flags.
+
+use crate::headers::first_of;
+use crate::tests::SymbolTest;
+use crate::verdict::{Verdict, due, plain};
+use wild_needs::{dynsym_of, is_undefined_entry};
+use wild_slot::{STUB_SIZE, SymbolSlots, WORD_SIZE, WordPart, begins_block, count_words};
+use wild_types::{Layout, Place, Role, Symbol, SymbolIndex, got_of, has_thread_slot, plt_of};
+
+/// The next free word of `got` and of `got_relr`, and the next free stub of `plt_got`.
+#[derive(Clone, Copy)]
+struct Free {
+    got: u64,
+    block: u64,
+    stub: u64,
+}
+
+/// Where the part of a role begins; 0 where there is none.
+fn start_of(layout: &Layout, role: Role) -> u64 {
+    match first_of(layout, role) {
+        Some((_, part)) => part.address,
+        None => 0,
+    }
+}
+
+/// The place behind the reserved words.
+pub(crate) fn behind_reserved(layout: &Layout) -> u64 {
+    start_of(layout, Role::Got).saturating_add(layout.got_header.saturating_mul(8))
+}
+
+/// The places behind those of a symbol.
+fn behind(layout: &Layout, free: Free, symbol: &Symbol) -> Free {
+    let slots = SymbolSlots::of(layout, symbol);
+    let relr = layout.options.relr;
+    let place = symbol.slots_at();
+    let got = count_words(WordPart::Got, relr, place, slots.words());
+    let block = count_words(WordPart::Block, relr, place, slots.words());
+    let stub = if slots.has_stub() { STUB_SIZE } else { 0 };
+    Free {
+        got: free.got.saturating_add((WORD_SIZE * got) as u64),
+        block: free.block.saturating_add((WORD_SIZE * block) as u64),
+        stub: free.stub.saturating_add(stub as u64),
+    }
+}
+
+/// What is free when a symbol has its turn, where a file writes its slots.
+fn free_at(layout: &Layout, index: usize) -> Option<Free> {
+    let pair = if layout.tlsld.is_some() { 16 } else { 0 };
+    let mut free = Free {
+        got: behind_reserved(layout).saturating_add(pair),
+        block: start_of(layout, Role::GotRelr),
+        stub: start_of(layout, Role::PltGot),
+    };
+    for group in layout.groups.as_slice() {
+        for file in group.files.as_slice() {
+            let first = file.first_symbol.0;
+            for (i, symbol) in layout.own_symbols(file).iter().enumerate() {
+                if first.saturating_add(i) == index {
+                    return Some(free);
+                }
+                if got_of(symbol).is_some() {
+                    free = behind(layout, free, symbol);
+                }
+            }
+        }
+    }
+    None
+}
+
+/// Whether an address that a symbol has is not the expected one.
+fn astray(found: Option<u64>, expected: u64) -> Verdict {
+    match found {
+        Some(address) => due(address != expected, expected),
+        None => plain(false),
+    }
+}
+
+/// Whether the slots and the stub of a symbol fail a test.
+fn test_slots(layout: &Layout, index: usize, symbol: &Symbol, test: SymbolTest) -> Verdict {
+    let got = got_of(symbol);
+    let Some(free) = free_at(layout, index) else {
+        let unwritten = matches!(test, SymbolTest::Unwritten);
+        return plain(unwritten && got.is_some());
+    };
+    match test {
+        SymbolTest::Slot if begins_block(SymbolSlots::of(layout, symbol).words()) => {
+            astray(got, free.block)
+        }
+        SymbolTest::Slot => astray(got, free.got),
+        SymbolTest::Stub => astray(plt_of(symbol), free.stub),
+        _ => plain(false),
+    }
+}
+
+/// How many undefined entries the dynamic symbol table has, and the position of that of one symbol.
+pub(crate) fn undefined_entries(layout: &Layout, symbol: usize) -> (usize, Option<usize>) {
+    let mut count: usize = 0;
+    let mut position = None;
+    for group in layout.groups.as_slice() {
+        for file in group.files.as_slice() {
+            let first = file.first_symbol.0;
+            for (i, given) in layout.symbols_of(file).iter().enumerate() {
+                if is_undefined_entry(file.role, given) {
+                    count = count.saturating_add(1);
+                    if first.saturating_add(i) == symbol {
+                        position = Some(count);
+                    }
+                }
+            }
+        }
+    }
+    (count, position)
+}
+
+/// The position of a symbol's entry in the dynamic symbol table.
+pub(crate) fn position_of(layout: &Layout, symbol: usize) -> Option<usize> {
+    let (count, position) = undefined_entries(layout, symbol);
+    for (i, listed) in layout.dynsyms.as_slice().iter().enumerate() {
+        if position.is_none() && listed.symbol.0 == symbol {
+            return Some(count.saturating_add(1).saturating_add(i));
+        }
+    }
+    position
+}
+
+/// Whether the index of a symbol in the dynamic symbol table is not its position.
+fn test_position(layout: &Layout, index: usize, symbol: &Symbol) -> Verdict {
+    match (dynsym_of(symbol), position_of(layout, index)) {
+        (Some(found), Some(position)) => due(found != position as u64, position as u64),
+        (found, _) => plain(found.is_some()),
+    }
+}
+
+/// Whether a symbol's input section is not there, or the symbol in no file's range.
+fn is_homeless(layout: &Layout, index: usize, section: usize) -> bool {
+    for group in layout.groups.as_slice() {
+        for file in group.files.as_slice() {
+            let first = file.first_symbol.0;
+            if first <= index && index < first.saturating_add(file.symbol_count) {
+                return section >= file.sections.len();
+            }
+        }
+    }
+    true
+}
+
+/// Whether the flags of a symbol fail a test.
+fn test_flags(layout: &Layout, symbol: &Symbol, test: SymbolTest) -> bool {
+    let flags = symbol.flags;
+    let stub = plt_of(symbol);
+    let thread = has_thread_slot(flags);
+    let got = got_of(symbol).is_some();
+    let value = match symbol.resolution {
+        Some(found) => found.raw_value,
+        None => 0,
+    };
+    match test {
+        SymbolTest::DynamicOwn => flags.is_dynamic() && !flags.is_interposable(),
+        SymbolTest::StubValue => {
+            let is_asked = flags.is_dynamic() && !flags.needs_copy_relocation();
+            is_asked && stub.is_some() && stub != Some(value)
+        }
+        SymbolTest::StubAlone => stub.is_some() && !got,
+        SymbolTest::TwoSeconds => {
+            flags.needs_ifunc_got_for_address() && flags.needs_canonical_plt_got_for_address()
+        }
+        SymbolTest::ThreadStub => thread && (flags.is_ifunc() || stub.is_some()),
+        SymbolTest::IfuncDynamic => flags.is_ifunc() && flags.is_dynamic(),
+        SymbolTest::Unflagged => got && !flags.needs_got() && !thread,
+        SymbolTest::NoSlot => !got && (flags.needs_got() || thread),
+        SymbolTest::GotThread => flags.needs_got() && thread,
+        SymbolTest::IfuncAbsolute => flags.is_ifunc() && flags.is_absolute(),
+        SymbolTest::Second => layout.options.relr,
+        _ => true,
+    }
+}
+
+/// Whether a symbol fails a test.
+pub(crate) fn test_symbol(
+    layout: &Layout,
+    index: usize,
+    symbol: &Symbol,
+    test: SymbolTest,
+) -> Verdict {
+    match test {
+        SymbolTest::Definition => plain(match symbol.definition {
+            Some(definition) => definition.0 >= layout.symbols.len(),
+            None => false,
+        }),
+        SymbolTest::Output => plain(match symbol.place {
+            Place::Output(section) => section.0 >= layout.sections.len(),
+            _ => false,
+        }),
+        SymbolTest::Home => plain(match symbol.place {
+            Place::Section(section) => is_homeless(layout, index, section),
+            _ => false,
+        }),
+        SymbolTest::Defined => {
+            let definition = layout.canonical(SymbolIndex(index));
+            let next = layout.canonical(definition);
+            due(next != definition, next.0 as u64)
+        }
+        SymbolTest::Unwritten | SymbolTest::Slot | SymbolTest::Stub => {
+            test_slots(layout, index, symbol, test)
+        }
+        SymbolTest::Even => plain(match got_of(symbol) {
+            Some(got) => got % 8 != 0,
+            None => false,
+        }),
+        SymbolTest::Position => test_position(layout, index, symbol),
+        SymbolTest::Name => plain(symbol.name.as_slice().contains(&0)),
+        _ => plain(test_flags(layout, symbol, test)),
+    }
+}

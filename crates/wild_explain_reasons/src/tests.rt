@@ -1,0 +1,166 @@
+//! What the tests of the clauses ask of which item.
+
+use wild_types::Role;
+
+/// What is asked of the plan as a whole.
+#[derive(Clone, Copy)]
+pub(crate) enum PlanTest {
+    PageSize,
+    ThreadAlign,
+    ThreadEnd,
+    ThreadStart,
+    NoSection,
+    NoGroup,
+    TooMany,
+    Missing(Role),
+    /// Of the role with the number that the clause gives.
+    StaticDynamic,
+    /// The same.
+    NoTable,
+    FirstSection,
+    NoDynamicSegment,
+    Entry,
+    Pair,
+    SysvBuckets,
+    GnuBuckets,
+    GnuBloom,
+    GnuShift,
+    GnuBase,
+    NoVersion,
+    Versions,
+    SearchPath,
+    OwnName,
+}
+
+/// What is asked of a part.
+#[derive(Clone, Copy)]
+pub(crate) enum PartTest {
+    Ends,
+    Order,
+    Again,
+    At(u64),
+    Follows,
+    Outside,
+    Unallocated,
+    Entries,
+    Split,
+    Shares,
+    Section,
+    Unasked,
+    Last,
+}
+
+/// What is asked of an output section.
+#[derive(Clone, Copy)]
+pub(crate) enum SectionTest {
+    Ends,
+    Memory,
+    Bytes,
+    Entries,
+    Name,
+}
+
+/// What is asked of a segment.
+#[derive(Clone, Copy)]
+pub(crate) enum SegmentTest {
+    Ends,
+    Order,
+    Larger,
+    Remainder,
+    AtZero,
+    BehindImage,
+    Dynamic,
+}
+
+/// What is asked of a symbol.
+#[derive(Clone, Copy)]
+pub(crate) enum SymbolTest {
+    Definition,
+    Output,
+    Home,
+    Defined,
+    Unwritten,
+    Slot,
+    Stub,
+    Even,
+    Position,
+    DynamicOwn,
+    StubValue,
+    StubAlone,
+    TwoSeconds,
+    ThreadStub,
+    IfuncDynamic,
+    Unflagged,
+    NoSlot,
+    GotThread,
+    IfuncAbsolute,
+    Second,
+    Other,
+    Name,
+}
+
+/// What is asked of an input section.
+#[derive(Clone, Copy)]
+pub(crate) enum InputTest {
+    Ends,
+    Before,
+    Behind,
+    Length,
+    Discarded,
+    RawPart,
+    Allocation,
+    Room,
+    Fields,
+    PartIndex,
+    Symbols,
+    Name,
+}
+
+/// What is asked of a file.
+#[derive(Clone, Copy)]
+pub(crate) enum FileTest {
+    Role,
+    Range,
+    Copies,
+    Twice,
+    Order,
+    Mark,
+    Library,
+    Needed,
+}
+
+/// What is asked of a group.
+#[derive(Clone, Copy)]
+pub(crate) enum GroupTest {
+    Count,
+    NoFile,
+    Start(Role),
+}
+
+/// What is asked of an item of `dynsyms` or `verdefs`.
+#[derive(Clone, Copy)]
+pub(crate) enum EntryTest {
+    Index,
+    Order,
+    Name,
+}
+
+/// What is asked of which item.
+#[derive(Clone, Copy)]
+pub(crate) enum Test {
+    Plan(PlanTest),
+    Part(PartTest),
+    /// The part of a role.
+    Of(Role, PartTest),
+    Section(SectionTest),
+    Segment(SegmentTest),
+    Symbol(SymbolTest),
+    /// The symbol of an item of `dynsyms`.
+    Placed,
+    Group(GroupTest),
+    File(FileTest),
+    Input(InputTest),
+    Listed(EntryTest),
+    Version(EntryTest),
+    Auxiliary,
+}
