@@ -3,6 +3,7 @@
 
     plans/check_docs.py              over crates/wild_main/out/wild_main, which ./build makes, and crates/wild_explain_main/out/wild_explain_main
     plans/check_docs.py PROGRAM [EXPLAIN]
+    plans/check_docs.py --changes PROGRAM    only rows under "Change | Answer", as the gate does; it prints nothing where none differs
 
 - A block of commands is run where the paragraph behind it tells a status: what stands there in backticks behind "prints" is in its output.
 - A row under "Change | Answer" is the plan with the changes: its first line is the answer, for 1 and for 64 workers. Of one that is refused `explain` names a place.
@@ -402,12 +403,17 @@ def is_there(crate, item):
     return any(re.search(rf"\b(fn|struct|enum|mod|trait) {item}\b", read(file)) for file in files)
 
 
-PROGRAM = os.path.abspath(sys.argv[1]) if len(sys.argv) > 1 else f"{TOP}/crates/wild_main/out/wild_main"
-EXPLAIN = os.path.abspath(sys.argv[2]) if len(sys.argv) > 2 else f"{TOP}/crates/wild_explain_main/out/wild_explain_main"
+ONLY_CHANGES = "--changes" in sys.argv
+PATHS = [word for word in sys.argv[1:] if word != "--changes"]
+PROGRAM = os.path.abspath(PATHS[0]) if PATHS else f"{TOP}/crates/wild_main/out/wild_main"
+EXPLAIN = os.path.abspath(PATHS[1]) if len(PATHS) > 1 else f"{TOP}/crates/wild_explain_main/out/wild_explain_main"
 
 if __name__ == "__main__":
     if not os.path.exists(PROGRAM):
         sys.exit(f"check_docs: there is no {PROGRAM}; ./build makes it")
+    if ONLY_CHANGES:
+        changes()
+        sys.exit(differences != 0)
     for check in (answers, statuses, changes, programs, commands, explanations, spelled, members, defaults, not_known, names, makers):
         before = differences
         check()

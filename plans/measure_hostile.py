@@ -4,6 +4,7 @@ honest one it took, and its answer.
 
     plans/measure_hostile.py                         plans of a million bytes, over crates/wild_main/out/wild_main, which ./build makes
     plans/measure_hostile.py --bytes 4000000 --only shares
+    plans/measure_hostile.py --longest               a plan of 2^31 bytes is answered, and one of a byte more has status 7; it needs 5 GB
 """
 import argparse
 import json
@@ -183,12 +184,34 @@ def measure(program, plan):
     return time.time() - begin, ran.stdout[:120].decode().split("\n")[0] or f"status {ran.returncode}"
 
 
+def longest(program, length):
+    """The seconds of a run over so many bytes, `{}` and blanks, its status and the first line of its answer."""
+    begin = time.time()
+    with subprocess.Popen([program, "link", "1"], stdin=subprocess.PIPE, stdout=subprocess.PIPE) as ran:
+        left, blanks = length - 2, b" " * (1 << 20)
+        try:
+            ran.stdin.write(b"{}")
+            while left > 0:
+                left -= ran.stdin.write(blanks[:left])
+            ran.stdin.close()
+        except BrokenPipeError:
+            pass
+        said = ran.stdout.read().decode().split("\n")[0]
+    return time.time() - begin, ran.returncode, said
+
+
 def main():
     parser = argparse.ArgumentParser(description=__doc__, formatter_class=argparse.RawDescriptionHelpFormatter)
     parser.add_argument("program", nargs="?", default=f"{TOP}/crates/wild_main/out/wild_main")
     parser.add_argument("--bytes", type=int, default=1_000_000)
     parser.add_argument("--only", choices=[kind.__name__ for kind in KINDS])
+    parser.add_argument("--longest", action="store_true")
     chosen = parser.parse_args()
+    if chosen.longest:
+        for length in (1 << 31, (1 << 31) + 1):
+            seconds, status, said = longest(chosen.program, length)
+            print(f"{seconds:7.2f} s  {length} bytes: status {status}: {said}", flush=True)
+        return
     base = None
     for kind in KINDS:
         if kind is honest or chosen.only in (None, kind.__name__):
