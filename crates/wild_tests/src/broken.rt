@@ -1,6 +1,4 @@
 //! A broken plan for each cause, and pairs that show which of two faults is the first.
-mod clauses;
-mod dynamic;
 mod layouts;
 mod movable;
 mod references;
@@ -10,8 +8,6 @@ mod texts;
 
 use crate::outside::{CALM, answer};
 use crate::plans::changed;
-use clauses::CLAUSES;
-use dynamic::LACKING;
 use layouts::LAYOUTS;
 use movable::MOVABLE;
 use references::REFERENCES;
@@ -65,16 +61,6 @@ fn answers(
 #[test]
 fn broken_layouts(rt: HostRuntime) -> Result<(), Fail> {
     answers(&rt, rt.alloc(), &LAYOUTS)
-}
-
-#[test]
-fn broken_clauses(rt: HostRuntime) -> Result<(), Fail> {
-    answers(&rt, rt.alloc(), &CLAUSES)
-}
-
-#[test]
-fn what_symbols_lack(rt: HostRuntime) -> Result<(), Fail> {
-    answers(&rt, rt.alloc(), &LACKING)
 }
 
 #[test]

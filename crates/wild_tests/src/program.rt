@@ -47,14 +47,6 @@ fn failing_reads(rt: HostRuntime) -> Result<(), Fail> {
             "{call}"
         );
     }
-    // the third read found the end: there is no fourth
-    let calm = Outside {
-        reads: &[3],
-        most: 700,
-        ..CALM
-    };
-    let (status, text) = answer(&rt, rt.alloc(), &["link", "1"], plan, &calm)?;
-    assert!(rt; status == 0 && text.as_slice() == SMALLEST_TEXT.as_bytes());
     Ok(())
 }
 
@@ -95,10 +87,6 @@ fn failing_writes(rt: HostRuntime) -> Result<(), Fail> {
             assert!(rt; is_so, "{call}");
         }
     }
-    // a byte at a time
-    let slow = Outside { most: 1, ..CALM };
-    let (status, text) = answer(&rt, rt.alloc(), &["link", "1"], plan, &slow)?;
-    assert!(rt; status == 0 && text.as_slice() == SMALLEST_TEXT.as_bytes());
     Ok(())
 }
 
