@@ -28,3 +28,9 @@ mod CopyLoaded
 mod CopyLinked
 mod SegmentsRefused
 mod WordsRefused
+mod InstructionsAArch64
+mod WordsLegal
+mod WordsLoaded
+mod WordsTemplates
+mod WordsLinked
+mod WordsCodeRefused

@@ -5,6 +5,7 @@
 --   as_pair, as_double   a sequence of x86-64 is one
 --   sequence_of          and such a pair is a sequence
 --   counts_four          what fields count from
+--   counts_by_slot       instructions that count from their own place go through a slot
 use Rattle.std.proofs.Common.{◌≡◌, ℕ, zero, suc, ◌+◌, ◌<◌, ◌⊎◌, inl, inr, Bool, true, false, List, [], ◌∷◌, length, get_or, refl, sym, ap, ◌∙◌, subst, arith}
 use Rattle.std.specs.Prelude.{Some, Contains, slice_get}
 use Rattle.wild_records.specs.Abi.Relocation.{r_x86_64_tlsgd, r_x86_64_tlsld}
@@ -16,9 +17,10 @@ use Rattle.wild_types.specs.Flags.{ifunc, non_interposable}
 use Rattle.wild_meaning.specs.World.{IsExecutable}
 use Rattle.wild_meaning.specs.Value.{HasFlag}
 use Rattle.wild_types.specs.Item.{Item}
-use Rattle.wild_meaning.specs.Sequence.{Named, Getter, Partner, Condition, Instruction, of_output, of_symbol, by_call, by_slot, by_distance, instructions_of}
+use Rattle.wild_meaning.specs.Sequence.{Sort, Target, TargetInSlot, AddressInSlot, OffsetInSlot, SymbolPair, OwnPair, Described, DescribedCall, Address, FieldBits, Named, Getter, Partner, Condition, Instruction, of_output, of_symbol, by_call, by_slot, by_distance, instructions_of}
 use Rattle.wild_meaning.specs.Partners.{NamesGetter, NamesIt, HasPartner, HasPartners, AreMet}
 use Rattle.wild_meaning.specs.Template.{IsInstruction, IsSequence, IsOfSequence, counts_from}
+use Rattle.wild_meaning.specs.Reference.{CountsFromPlace}
 use Rattle.wild_meaning.proofs.AmongLemmas.{Among, pick}
 
 -- ---- lists of one and of two
@@ -78,13 +80,36 @@ each_has_one = (
   ),
 )
 
-some : (ps : List Partner) → 0 < length ps → are_several ps ≡ true
+pub some : (ps : List Partner) → 0 < length ps → are_several ps ≡ true
 some [] h = absurd (omega (arith, h))
 some (p ∷ ps) h = refl
 
 one_call : (l : Layout) (o : Instruction) → l.machine ≡ machine.X86_64 → Contains (instructions_of l.machine) o → 0 < length o.partners → HasOneCall o
 one_call l o x known several =
     pick (λ (p : Instruction). are_several p.partners) HasOneCall (instructions_of machine.X86_64) each_has_one o (subst (λ (m : Machine). Contains (instructions_of m) o) x known) (some o.partners several)
+
+-- ---- instructions that count from their own place
+
+abbrev is_by_place : Sort → Bool
+is_by_place TargetInSlot = true
+is_by_place Address = true
+is_by_place other = false
+
+by_place : (sort : Sort) → CountsFromPlace sort → is_by_place sort ≡ true
+by_place Target h = absurd h
+by_place TargetInSlot h = refl
+by_place AddressInSlot h = absurd h
+by_place OffsetInSlot h = absurd h
+by_place SymbolPair h = absurd h
+by_place OwnPair h = absurd h
+by_place Described h = absurd h
+by_place DescribedCall h = absurd h
+by_place Address h = refl
+by_place FieldBits h = absurd h
+
+-- they call and jump through a slot
+pub counts_by_slot : (l : Layout) (o : Instruction) → l.machine ≡ machine.X86_64 → Contains (instructions_of l.machine) o → CountsFromPlace o.sort → o.sort ≡ TargetInSlot
+counts_by_slot l o x known h = pick (λ (p : Instruction). is_by_place p.sort) (λ (p : Instruction). p.sort ≡ TargetInSlot) (instructions_of machine.X86_64) (refl, (refl, tt)) o (subst (λ (m : Machine). Contains (instructions_of m) o) x known) (by_place o.sort h)
 
 -- ---- pairs
 

@@ -129,6 +129,7 @@ branch_holds = inr (record {
   instruction = call;
   first = branch_reference;
   template = call_template;
+  words = tt;
   does = done (reads_alone static_pie_world static_memory) static_pie static_pie_world static_memory branch_item branch_reference 0 call (record {
     value = 0x41200;
     demands = record { goal = 0x41200; stands = inl first_value; is = refl };
@@ -174,6 +175,7 @@ load_holds = inr (record {
   instruction = load;
   first = load_reference;
   template = load_template;
+  words = tt;
   does = done (reads_alone static_pie_world static_memory) static_pie static_pie_world static_memory load_item load_reference 0 load (record {
     value = 0x41200;
     demands = inl first_value;
@@ -221,6 +223,7 @@ described_holds = inr (record {
   instruction = described;
   first = described_reference;
   template = described_template;
+  words = tt;
   does = done (reads_alone static_pie_world static_memory) static_pie static_pie_world static_memory described_item described_reference 0 described (record {
     value = (2 ^ 64 - 8);
     demands = inl ((tt, refl), thread_offset);
@@ -279,10 +282,10 @@ general_does = done (reads_alone static_pie_world static_memory) static_pie stat
 })
 
 pair_holds : ReferenceHolds static_pie static_pie_world static_memory general_item pair_reference
-pair_holds = inr (record { start = 0; instruction = general; first = pair_reference; template = general_template; does = general_does })
+pair_holds = inr (record { start = 0; instruction = general; first = pair_reference; template = general_template; does = general_does; words = tt })
 
 getter_holds : ReferenceHolds static_pie static_pie_world static_memory general_item getter_reference
-getter_holds = inr (record { start = 0; instruction = general; first = pair_reference; template = getter_template; does = general_does })
+getter_holds = inr (record { start = 0; instruction = general; first = pair_reference; template = getter_template; does = general_does; words = tt })
 
 no_rest : (k : ℕ) → k < 16 → (k < 0) ⊎ (16 ≤ k) → ⊥
 no_rest k lt (inl h) = omega (arith, h)

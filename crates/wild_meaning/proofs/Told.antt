@@ -119,7 +119,7 @@ pub record IsAnsweredAs (l : Layout) (w : World) (i : ℕ) (x : Answer) : Type 0
   pub given : slice_get w.symbols index ≡ Some x
   pub unstubbed : resolution.plt_address ≡ None
 
-stub_of : (l : Layout) (i p : ℕ) (t : Symbol) (r : Resolution) → told l i ≡ Some t → t.resolution ≡ Some r → r.plt_address ≡ None → HasStub l i p → ⊥
+pub stub_of : (l : Layout) (i p : ℕ) (t : Symbol) (r : Resolution) → told l i ≡ Some t → t.resolution ≡ Some r → r.plt_address ≡ None → HasStub l i p → ⊥
 stub_of l i p t r e d none h =
     let same : h.symbol ≡ t = told_is l i h.definition h.symbol t e h.defined h.listed in
     let decided : t.resolution ≡ Some h.resolution = subst (λ (s : Symbol). s.resolution ≡ Some h.resolution) same h.decided in

@@ -1,11 +1,16 @@
 -- Words of AArch64 code that do what is demanded, and words that do not.
-use Rattle.std.proofs.Common.{◌≡◌, ℕ, ◌+◌, ◌%◌, ◌^◌, ◌<◌, inl, inr, List, [], ◌∷◌, length, refl, sym, ap, ◌∙◌, subst, arith}
+use Rattle.std.proofs.Common.{◌≡◌, ℕ, ◌+◌, ◌-◌, ◌%◌, ◌^◌, ◌<◌, ◌≤◌, inl, inr, List, [], ◌∷◌, length, refl, sym, ap, ◌∙◌, subst, arith}
 use Rattle.std.specs.Prelude.{◌≢◌, Option, Some, None, option_map}
+use Rattle.std.specs.Int.{w64, cast_unsigned}
 use Rattle.std.specs.List.{flat_map}
 use Rattle.wild_words.specs.Words.{word, number}
 use Rattle.wild_types.specs.declared.kind.Machine.{Machine}
 use Rattle.wild_types.specs.declared.kind.Machine.TheVariants as machine
+use Rattle.wild_types.specs.declared.input.InputRelocation.{InputRelocation}
 use Rattle.wild_types.specs.declared.layout.Layout.{Layout}
+use Rattle.wild_records.specs.Abi.Relocation.{r_aarch64_movw_uabs_g0, r_aarch64_adr_prel_lo21, r_aarch64_adr_got_page, r_aarch64_ld64_got_lo12_nc}
+use Rattle.wild_reloc.specs.Formula.{Value, SymbolPart, Distance, SlotAddress, SlotPageDistance, AddressSlot, Field, AdrField, Imm12Field, Imm16Field, Check, NoCheck, BelowPower, WithinPower, Passes, Bits, Formula, formula}
+use Rattle.wild_reloc.specs.FormulaAArch64.{aarch64_formula}
 use Rattle.wild_aarch64.specs.Immediate.{insert_bits}
 use Rattle.wild_aarch64.specs.Code.{read, read_address, read_access, read_vector_access, read_literal, read_transfer, read_condition}
 use Rattle.wild_loader.specs.declared.memory.Machine as processor
@@ -23,9 +28,14 @@ use Rattle.wild_loader.specs.StepLawsAArch64.{jumps}
 use Rattle.wild_loader.proofs.StepLemmasAArch64.{thunks-read, jumps-reach}
 use Rattle.wild_types.specs.Item.{Item}
 use Rattle.wild_meaning.specs.Item.{place_at}
-use Rattle.wild_meaning.specs.Sequence.{Instruction, size_of, descriptor_call_words, offset_pair_words, address_pair_words}
-use Rattle.wild_meaning.specs.Template.{reads, reads_alone, effect_of, demand_of, IsDemanded, old_bytes, DoesWith}
-use Rattle.wild_meaning.specs.RefusalsAArch64.{Does, DoesNot, call_item, slot_item, pair_item, RightWordsDo, WrongWordsAreRefused, ThunksAreJudged}
+use Rattle.wild_meaning.specs.Field.{formula_of, FieldReads}
+use Rattle.wild_meaning.specs.Formula.{Gives, IsSum, IsReferent, IsReferentOnAArch64}
+use Rattle.wild_meaning.specs.WordsAArch64.{effect_with as asked_of}
+use Rattle.wild_meaning.specs.Sequence.{FieldBits, Instruction, of_word, size_of, descriptor_call_words, offset_pair_words, address_pair_words}
+use Rattle.wild_meaning.specs.Template.{reads, reads_alone, effect_of, demand_of, CanHave, IsDemanded, old_bytes, DoesWith, DoesDemanded}
+use Rattle.wild_meaning.specs.Reference.{ReferenceHolds}
+use Rattle.wild_meaning.specs.RefusalsAArch64.{Does, DoesNot, call_item, slot_item, pair_item, move_item, move_word, RightWordsDo, WrongWordsAreRefused, CutBitsAreRefused, SlotAddendsAreRefused, PairsAreExcepted, ThunksAreJudged}
+use Rattle.wild_meaning.proofs.InstructionsAArch64.{IsAlone, alone_only}
 use Rattle.wild_meaning.proofs.OneReference.{same_bytes, effect_with, value_in}
 
 -- what the loaded bytes do is what is demanded
@@ -82,10 +92,46 @@ pair_does = λ l w m x base held.
     let at : place_at w pair_item 0 ≡ 0x10000 = omega (arith, base) in
     made (reads_alone w m) l w m pair_item address_pair_words 0x10104 0x10000 (flat_map (word 4) (0xd503201f ∷ 0x10000800 ∷ [])) (effect_with (Set 0) 64 0x10104) x at held refl (λ h. h) (pair_asked 0x10104) refl
 
+-- a word with bits in its field
+move_asked : asked_of 0x18 0x10000 (old_bytes move_item 0 move_word) ≡ Some (effect_with (Set 0) 64 0x180000)
+unfolding word number read read_address read_access read_vector_access read_literal read_transfer read_condition insert_bits
+move_asked = refl
+
+move_does : Does move_item move_word 0x18 (0xd2a00300 ∷ [])
+unfolding word number read read_address read_access read_vector_access read_literal read_transfer read_condition
+move_does = λ l w m x base held.
+    let at : place_at w move_item 0 ≡ 0x10000 = omega (arith, base) in
+    record {
+      effect = effect_with (Set 0) 64 0x180000;
+      demanded = subst (λ (p : ℕ). asked_of 0x18 p (old_bytes move_item 0 move_word) ≡ Some (effect_with (Set 0) 64 0x180000)) (sym at) move_asked;
+      bytes = flat_map (word 4) (0xd2a00300 ∷ []);
+      whole = refl;
+      held = subst (λ (p : ℕ). Holds m p (flat_map (word 4) (0xd2a00300 ∷ []))) (sym at) held;
+      does = subst (λ (k : Machine). effect_of k (reads_alone w m) (place_at w move_item 0) (flat_map (word 4) (0xd2a00300 ∷ [])) ≡ Some (effect_with (Set 0) 64 0x180000)) (sym x)
+          (subst (λ (p : ℕ). effect_of machine.AArch64 (reads_alone w m) p (flat_map (word 4) (0xd2a00300 ∷ [])) ≡ Some (effect_with (Set 0) 64 0x180000)) (sym at) refl);
+    }
+
 pub right_words : RightWordsDo
-right_words = record { call = call_does; pair = pair_does }
+right_words = record { call = call_does; pair = pair_does; move = move_does }
 
 -- ---- wrong words
+
+-- nothing is told of `movn`
+negated_done : (read : Reader) → effect_aarch64 read 0x10000 (flat_map (word 4) (0x92a00300 ∷ [])) ≡ None
+unfolding word number read read_address read_access read_vector_access read_literal read_transfer read_condition
+negated_done read = refl
+
+negated_does_not : DoesNot move_item move_word 0x18 (0x92a00300 ∷ [])
+unfolding word
+negated_does_not = λ l w m x base held h.
+    let at : place_at w move_item 0 ≡ 0x10000 = omega (arith, base) in
+    let bytes = flat_map (word 4) (0x92a00300 ∷ []) in
+    let same : h.bytes ≡ bytes = same_bytes m 0x10000 h.bytes bytes h.whole (subst (λ (p : ℕ). Holds m p h.bytes) at h.held) held in
+    let here : effect_of l.machine (reads_alone w m) (place_at w move_item 0) bytes ≡ Some h.effect = subst (λ (bs : List ℕ). effect_of l.machine (reads_alone w m) (place_at w move_item 0) bs ≡ Some h.effect) same h.does in
+    let does : effect_of machine.AArch64 (reads_alone w m) 0x10000 bytes ≡ Some h.effect =
+    subst (λ (k : Machine). effect_of k (reads_alone w m) 0x10000 bytes ≡ Some h.effect) x (subst (λ (p : ℕ). effect_of l.machine (reads_alone w m) p bytes ≡ Some h.effect) at here) in
+    let none : None ≡ Some h.effect = sym (negated_done (reads_alone w m)) ∙ does in
+    cc
 
 half_does_not : DoesNot call_item descriptor_call_words 0x18 (0xd503201f ∷ 0xd503201f ∷ 0xd2800300 ∷ 0xd63f0020 ∷ [])
 unfolding word number read read_address read_access read_vector_access read_literal read_transfer read_condition
@@ -125,7 +171,103 @@ other_slot l w m n x base held there small wrong h =
     wrong (omega (arith, value, small))
 
 pub wrong_words : WrongWordsAreRefused
-wrong_words = record { half = half_does_not; low = low_does_not; early = early_does_not; slot = other_slot }
+wrong_words = record { half = half_does_not; low = low_does_not; early = early_does_not; negated = negated_does_not; slot = other_slot }
+
+-- ---- values that fields can't have, addends at slots
+
+adr_formula : aarch64_formula r_aarch64_adr_prel_lo21 ≡ Some (formula Distance (Bits AdrField 20 0 (WithinPower 21) 1))
+unfolding aarch64_formula
+adr_formula = refl
+
+move_formula : aarch64_formula r_aarch64_movw_uabs_g0 ≡ Some (formula SymbolPart (Bits Imm16Field 15 0 (BelowPower 16) 1))
+unfolding aarch64_formula
+move_formula = refl
+
+page_formula : aarch64_formula r_aarch64_adr_got_page ≡ Some (formula (SlotPageDistance AddressSlot) (Bits AdrField 32 12 (WithinPower 33) 4096))
+unfolding aarch64_formula
+page_formula = refl
+
+low_formula : aarch64_formula r_aarch64_ld64_got_lo12_nc ≡ Some (formula (SlotAddress AddressSlot) (Bits Imm12Field 11 3 NoCheck 8))
+unfolding aarch64_formula
+low_formula = refl
+
+-- where no value of the formula is in the field's range, no reference of that type holds
+no_value : (l : Layout) (w : World) (m : Memory) (item : Item) (r : InputRelocation) (v : Value) (f : Field) (high low : ℕ) (check : Check) (unit : ℕ) → l.machine ≡ machine.AArch64 → IsAlone r.number (of_word FieldBits r.number)
+    → aarch64_formula r.number ≡ Some (formula v (Bits f high low check unit)) → ((x : ℕ) → Gives v l w m item r x → Passes check x → ⊥) → ReferenceHolds l w m item r → ⊥
+no_value l w m item r v f high low check unit x alone known none = by
+  where
+    known_there : formula_of l.machine r.number ≡ Some (formula v (Bits f high low check unit))
+    known_there = subst (λ (k : Machine). formula_of k r.number ≡ Some (formula v (Bits f high low check unit))) (sym x) known
+
+    same : (g : Formula) → formula_of l.machine r.number ≡ Some g → g ≡ formula v (Bits f high low check unit)
+    same g e = let both : Some g ≡ Some (formula v (Bits f high low check unit)) = sym e ∙ known_there in cc
+
+    in_plain : (g : Formula) → g ≡ formula v (Bits f high low check unit) → (n : ℕ) → Gives g.value l w m item r n → FieldReads w m item r g.form n → ⊥
+    in_plain g e n given field =
+        none n (subst (λ (k : Formula). Gives k.value l w m item r n) e given) (subst (λ (k : Formula). FieldReads w m item r k.form n) e field).reads.passes
+
+    in_bits : (g : Formula) → g ≡ formula v (Bits f high low check unit) → (n : ℕ) → Gives g.value l w m item r n → CanHave g.form n → ⊥
+    in_bits g e n given fits = none n (subst (λ (k : Formula). Gives k.value l w m item r n) e given) (subst (λ (k : Formula). CanHave k.form n) e fits).0
+
+    by : ReferenceHolds l w m item r → ⊥
+    by (inl h) = in_plain h.formula (same h.formula h.known) h.value h.gives h.field
+    by (inr h) =
+        alone_only (λ start o first. DoesDemanded (reads_alone w m) l w m item first start o → ⊥) l item r (of_word FieldBits r.number) x alone (λ d. in_bits d.demands.formula (same d.demands.formula d.demands.known) d.demands.value d.demands.gives d.demands.fits)
+        h.start h.instruction h.first h.template h.does
+
+adr_alone : IsAlone r_aarch64_adr_prel_lo21 (of_word FieldBits r_aarch64_adr_prel_lo21)
+adr_alone = record { single = refl; at = refl; one = (refl, tt); none = tt }
+
+move_alone : IsAlone r_aarch64_movw_uabs_g0 (of_word FieldBits r_aarch64_movw_uabs_g0)
+move_alone = record { single = refl; at = refl; one = (refl, tt); none = tt }
+
+pub page_alone : IsAlone r_aarch64_adr_got_page (of_word FieldBits r_aarch64_adr_got_page)
+page_alone = record { single = refl; at = refl; one = (refl, tt); none = tt }
+
+pub low_alone : IsAlone r_aarch64_ld64_got_lo12_nc (of_word FieldBits r_aarch64_ld64_got_lo12_nc)
+low_alone = record { single = refl; at = refl; one = (refl, tt); none = tt }
+
+-- a type's facts, of a reference that has it
+of_type : (P : ℕ → Type 0) (n k : ℕ) → n ≡ k → P k → P n
+of_type P n k e h = subst P (sym e) h
+
+-- without a symbol S is 0
+no_symbol : (l : Layout) (v : Value) (w : World) (m : Memory) (item : Item) (r : InputRelocation) (x : ℕ) → l.machine ≡ machine.AArch64 → r.symbol ≡ None → IsSum v l w m item r x → x ≡ (0 + cast_unsigned w64 r.addend) % 2 ^ 64
+no_symbol l v w m item r x is none s =
+    let there : IsReferent machine.AArch64 v l w m item r s.symbol = subst (λ (k : Machine). IsReferent k v l w m item r s.symbol) is s.denoted in
+    let zero : s.symbol ≡ 0 = subst (λ (o : Option ℕ). IsReferentOnAArch64 v l w m item r o s.symbol) none there in
+    s.sum ∙ ap (λ (n : ℕ). (n + cast_unsigned w64 r.addend) % 2 ^ 64) zero
+
+pub cut_bits : CutBitsAreRefused
+cut_bits = record {
+  far = λ l w m item r d x n none is from to.
+      no_value l w m item r Distance AdrField 20 0 (WithinPower 21) 1 x (of_type (λ k. IsAlone k (of_word FieldBits k)) r.number r_aarch64_adr_prel_lo21 n adr_alone)
+      (of_type (λ k. aarch64_formula k ≡ Some (formula Distance (Bits AdrField 20 0 (WithinPower 21) 1))) r.number r_aarch64_adr_prel_lo21 n adr_formula) (λ v given passes. too_far l w m item r d v x none is from to given passes);
+  wide = λ l w m item r x n none above.
+      no_value l w m item r SymbolPart Imm16Field 15 0 (BelowPower 16) 1 x (of_type (λ k. IsAlone k (of_word FieldBits k)) r.number r_aarch64_movw_uabs_g0 n move_alone)
+      (of_type (λ k. aarch64_formula k ≡ Some (formula SymbolPart (Bits Imm16Field 15 0 (BelowPower 16) 1))) r.number r_aarch64_movw_uabs_g0 n move_formula) (λ v given passes. too_wide l w m item r v x none above given passes);
+}
+  where
+    too_far : (l : Layout) (w : World) (m : Memory) (item : Item) (r : InputRelocation) (d v : ℕ) → l.machine ≡ machine.AArch64 → r.symbol ≡ None → (cast_unsigned w64 r.addend + (2 ^ 64 - place_at w item r.offset)) % 2 ^ 64 ≡ d → 2 ^ 20 ≤ d → d + 2 ^ 20 < 2 ^ 64
+        → Gives Distance l w m item r v → Passes (WithinPower 21) v → ⊥
+    too_far l w m item r d v x none is from to given (inl low) = (let t = no_symbol l Distance w m item r given.0 x none given.1 in omega (arith, t, given.2, is, from, to, low))
+    too_far l w m item r d v x none is from to given (inr high) = (let t = no_symbol l Distance w m item r given.0 x none given.1 in omega (arith, t, given.2, is, from, to, high))
+
+    too_wide : (l : Layout) (w : World) (m : Memory) (item : Item) (r : InputRelocation) (v : ℕ) → l.machine ≡ machine.AArch64 → r.symbol ≡ None → 2 ^ 16 ≤ cast_unsigned w64 r.addend % 2 ^ 64 → Gives SymbolPart l w m item r v → Passes (BelowPower 16) v → ⊥
+    too_wide l w m item r v x none above given passes = let t = no_symbol l SymbolPart w m item r v x none given in omega (arith, t, above, passes)
+
+pub slot_addends : SlotAddendsAreRefused
+slot_addends = record {
+  page = λ l w m item r x n other.
+      no_value l w m item r (SlotPageDistance AddressSlot) AdrField 32 12 (WithinPower 33) 4096 x (of_type (λ k. IsAlone k (of_word FieldBits k)) r.number r_aarch64_adr_got_page n page_alone)
+      (of_type (λ k. aarch64_formula k ≡ Some (formula (SlotPageDistance AddressSlot) (Bits AdrField 32 12 (WithinPower 33) 4096))) r.number r_aarch64_adr_got_page n page_formula) (λ v given passes. other given.1.1);
+  low = λ l w m item r x n other.
+      no_value l w m item r (SlotAddress AddressSlot) Imm12Field 11 3 NoCheck 8 x (of_type (λ k. IsAlone k (of_word FieldBits k)) r.number r_aarch64_ld64_got_lo12_nc n low_alone)
+      (of_type (λ k. aarch64_formula k ≡ Some (formula (SlotAddress AddressSlot) (Bits Imm12Field 11 3 NoCheck 8))) r.number r_aarch64_ld64_got_lo12_nc n low_formula) (λ v given passes. other given.1.1);
+}
+
+pub pairs_excepted : PairsAreExcepted
+pairs_excepted = λ l item r first start i t movable named absolute. record { movable = movable; symbol = i; named = named; absolute = absolute; relative = inr (record { start = start; instruction = address_pair_words; first = first; template = t; counts = tt }) }
 
 -- ---- thunks
 

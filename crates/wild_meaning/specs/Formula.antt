@@ -15,7 +15,7 @@ use Rattle.std.specs.Prelude.{◌≡◌, ℕ, ◌+◌, ◌-◌, ◌%◌, ◌^◌
 use Rattle.std.specs.Int.{w64, cast_unsigned}
 use Rattle.wild_records.specs.Abi.Relocation.{r_x86_64_size32}
 use Rattle.wild_records.specs.Abi.Section.{shf_execinstr}
-use Rattle.wild_reloc.specs.Formula.{Value, NoValue, SymbolAddress, SymbolPart, Distance, PageDistance, FromTable, StubDistance, StubFromTable, TableDistance, SlotAddress, SlotDistance, SlotPageDistance, SlotFromTable, SlotFromTablePage, AddressSlot, Descriptor, ModuleOffset, PointerOffset, Size}
+use Rattle.wild_reloc.specs.Formula.{Slot, Value, NoValue, SymbolAddress, SymbolPart, Distance, PageDistance, FromTable, StubDistance, StubFromTable, TableDistance, SlotAddress, SlotDistance, SlotPageDistance, SlotFromTable, SlotFromTablePage, AddressSlot, Descriptor, ModuleOffset, PointerOffset, Size}
 use Rattle.wild_types.specs.declared.kind.Machine.{Machine}
 use Rattle.wild_types.specs.declared.kind.Machine.TheVariants as machine
 use Rattle.wild_types.specs.declared.kind.OutputKind.{OutputKind}
@@ -63,7 +63,7 @@ TakesOwnPlace value l i = IsPlaceRelative value × IsAbsent l i
 -- S or L there: of a symbol that is not there the reference's own place
 abbrev pub IsReferentOnAArch64 : Value → Layout → World → Memory → Item → InputRelocation → Option ℕ → ℕ → Type 0
 IsReferentOnAArch64 value l w m item r None a = a ≡ 0
-IsReferentOnAArch64 value l w m item r (Some i) a = (TakesOwnPlace value l i × (a ≡ own_place w item r)) ⊎ ((TakesOwnPlace value l i → ⊥) × StandsOnAArch64 value l w m i a)
+IsReferentOnAArch64 value l w m item r (Some i) a = (TakesOwnPlace value l i × (a ≡ own_place w item r)) ⊎ ((TakesOwnPlace value l i → ⊥) × StandsOnAArch64 value l w m r i a)
 
 -- a is S, or L, in a reference with that expression, whose place and addend may have a part in it
 abbrev pub IsReferent : Machine → Value → Layout → World → Memory → Item → InputRelocation → ℕ → Type 0
@@ -108,6 +108,11 @@ pub record IsShort (l : Layout) (r : InputRelocation) : Type 0 where
 abbrev pub IsWhole : Layout → InputRelocation → (n x : ℕ) → Type 0
 IsWhole l r n x = (x ≡ n) ⊎ (IsShort l r × (x ≡ n % 2 ^ 32))
 
+-- the expressions of AArch64 that name a slot add nothing: the slot of S + A is the symbol's own where A is 0, and no layout has another one
+-- (aaelf64, "Relocation operations": GDAT(S + A))
+abbrev pub NamesSlot : (sort : Slot) → Layout → World → Memory → InputRelocation → ℕ → Type 0
+NamesSlot sort l w m r g = IsSlot sort l w m r.symbol g × (cast_unsigned w64 r.addend ≡ 0)
+
 -- a program of x86-64 whose descriptors' references in code are offsets: one without a loader that fills descriptors, or one that
 -- is rewritten so. On AArch64 a descriptor's instructions are taken as a whole
 abbrev pub KnowsOffsets : Machine → OutputKind → Layout → Type 0
@@ -134,9 +139,9 @@ Gives StubDistance l w m item r x = (a : ℕ) × IsReferent l.machine StubDistan
 Gives StubFromTable l w m item r x = (a : ℕ) × IsReferent l.machine StubFromTable l w m item r a × (x ≡ (a + cast_unsigned w64 r.addend + (2 ^ 64 - table_at l w)) % 2 ^ 64)
 Gives (SlotDistance Descriptor) l w m item r x = (g : ℕ) × IsSlot Descriptor l w m r.symbol g × (HasOffsetMode l item → ⊥) × (x ≡ (g + cast_unsigned w64 r.addend + (2 ^ 64 - place_at w item r.offset)) % 2 ^ 64)
 Gives (SlotDistance sort) l w m item r x = (g : ℕ) × IsSlot sort l w m r.symbol g × (x ≡ (g + cast_unsigned w64 r.addend + (2 ^ 64 - place_at w item r.offset)) % 2 ^ 64)
-Gives (SlotAddress sort) l w m item r x = (g : ℕ) × IsSlot sort l w m r.symbol g × (x ≡ g % 2 ^ 64)
-Gives (SlotPageDistance sort) l w m item r x = (g : ℕ) × IsSlot sort l w m r.symbol g × (x ≡ (page_of g + (2 ^ 64 - page_of (place_at w item r.offset))) % 2 ^ 64)
-Gives SlotFromTablePage l w m item r x = (g : ℕ) × IsSlot AddressSlot l w m r.symbol g × (x ≡ (g + (2 ^ 64 - page_of (table_at l w))) % 2 ^ 64)
+Gives (SlotAddress sort) l w m item r x = (g : ℕ) × NamesSlot sort l w m r g × (x ≡ g % 2 ^ 64)
+Gives (SlotPageDistance sort) l w m item r x = (g : ℕ) × NamesSlot sort l w m r g × (x ≡ (page_of g + (2 ^ 64 - page_of (place_at w item r.offset))) % 2 ^ 64)
+Gives SlotFromTablePage l w m item r x = (g : ℕ) × NamesSlot AddressSlot l w m r g × (x ≡ (g + (2 ^ 64 - page_of (table_at l w))) % 2 ^ 64)
 Gives SlotFromTable l w m item r x = (g : ℕ) × IsSlot AddressSlot l w m r.symbol g × (x ≡ (g + cast_unsigned w64 r.addend + (2 ^ 64 - table_at l w)) % 2 ^ 64)
 Gives TableDistance l w m item r x = x ≡ (table_at l w + cast_unsigned w64 r.addend + (2 ^ 64 - place_at w item r.offset)) % 2 ^ 64
 Gives PointerOffset l w m item r x = (t : ℕ) × IsOffset l w r.symbol t × (x ≡ (t + cast_unsigned w64 r.addend) % 2 ^ 64)

@@ -2,8 +2,10 @@
 --   IsAbsent l i             nothing defines symbol i, and nothing has to
 --   own_place w item r       what stands for it in a reference that takes a place from it
 --   IsOneAddress l w m i a   a is the one address that stands for symbol i
+--   IsBranchedTo ..          a is where a branch goes, but for its addend
 --   StandsOnAArch64 ..       a stands for symbol i in an expression
 use Rattle.std.specs.Prelude.{◌≡◌, ℕ, ◌+◌, ◌%◌, ◌^◌, ◌⊎◌, true, false, if◌then◌else◌, List, [], ◌∷◌}
+use Rattle.std.specs.Int.{w64, cast_unsigned}
 use Rattle.wild_records.specs.Abi.Relocation.{r_aarch64_tstbr14, r_aarch64_condbr19, r_aarch64_jump26, r_aarch64_call26}
 use Rattle.wild_reloc.specs.Barred.{is_listed}
 use Rattle.wild_reloc.specs.Formula.{Value, SymbolPart, PageDistance, StubDistance}
@@ -13,7 +15,7 @@ use Rattle.wild_types.specs.Flags.{ifunc, undefined_weak, plt_stub}
 use Rattle.wild_loader.specs.declared.memory.Memory.{Memory}
 use Rattle.wild_loader.specs.declared.world.World.{World}
 use Rattle.wild_meaning.specs.Value.{HasRaw, HasFlag, HasValue}
-use Rattle.wild_loader.specs.Reach.{Reaches}
+use Rattle.wild_loader.specs.Reach.{ReachesWithin}
 use Rattle.wild_meaning.specs.Denotes.{HasStub, Denotes}
 use Rattle.wild_types.specs.Item.{Item}
 use Rattle.wild_meaning.specs.Item.{place_at}
@@ -46,10 +48,17 @@ pub record IsStandIn (l : Layout) (i p : ℕ) : Type 0 where
 abbrev pub IsOneAddress : Layout → World → Memory → ℕ → ℕ → Type 0
 IsOneAddress l w m i a = ((p : ℕ) × IsStandIn l i p × (a ≡ (w.base + p) % 2 ^ 64) × Denotes l w m i a) ⊎ (((p : ℕ) → IsStandIn l i p → ⊥) × HasValue l w i a)
 
+-- a is L in a branch: code that goes to a + A is at what stands for the symbol and A, or in a thunk, which goes on to there (aaelf64, "Call
+-- and Jump relocations")
+pub record IsBranchedTo (l : Layout) (w : World) (m : Memory) (r : InputRelocation) (i a : ℕ) : Type 0 where
+  pub symbol : ℕ
+  pub denoted : Denotes l w m i symbol
+  pub comes : ReachesWithin 1 m ((a + cast_unsigned w64 r.addend) % 2 ^ 64) ((symbol + cast_unsigned w64 r.addend) % 2 ^ 64)
+
 -- on AArch64 several instructions have a part each of one address, and a branch may go by a thunk (aaelf64, "Relocation operations",
 -- "Call and Jump relocations")
-abbrev pub StandsOnAArch64 : Value → Layout → World → Memory → ℕ → ℕ → Type 0
-StandsOnAArch64 SymbolPart l w m i a = IsOneAddress l w m i a
-StandsOnAArch64 PageDistance l w m i a = IsOneAddress l w m i a
-StandsOnAArch64 StubDistance l w m i a = (v : ℕ) × HasValue l w i v × Reaches m a v
-StandsOnAArch64 other l w m i a = Denotes l w m i a
+abbrev pub StandsOnAArch64 : Value → Layout → World → Memory → InputRelocation → ℕ → ℕ → Type 0
+StandsOnAArch64 SymbolPart l w m r i a = IsOneAddress l w m i a
+StandsOnAArch64 PageDistance l w m r i a = IsOneAddress l w m i a
+StandsOnAArch64 StubDistance l w m r i a = IsBranchedTo l w m r i a
+StandsOnAArch64 other l w m r i a = Denotes l w m i a

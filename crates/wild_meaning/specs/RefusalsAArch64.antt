@@ -2,11 +2,17 @@
 --   Does, DoesNot ..       loaded bytes do what an instruction of the input demands, or do not
 --   RightWordsDo           right rewrites
 --   WrongWordsAreRefused   wrong ones
-use Rattle.std.specs.Prelude.{◌≡◌, ◌≢◌, ℕ, ◌^◌, ◌<◌, List, [], ◌∷◌, Some, None}
+--   CutBitsAreRefused      a value that its field can't have, whatever stands there
+--   SlotAddendsAreRefused  an addend at a symbol's slot
+--   PairsAreExcepted       the low bits of an address are asked where its page is
+use Rattle.std.specs.Prelude.{◌≡◌, ◌≢◌, ℕ, ◌+◌, ◌-◌, ◌%◌, ◌^◌, ◌<◌, ◌≤◌, List, [], ◌∷◌, Some, None}
+use Rattle.std.specs.Int.{w64, cast_unsigned}
 use Rattle.std.specs.List.{flat_map}
 use Rattle.wild_words.specs.Words.{word}
 use Rattle.wild_records.specs.Abi.Section.{shf_execinstr}
+use Rattle.wild_records.specs.Abi.Relocation.{r_aarch64_movw_uabs_g0, r_aarch64_adr_prel_lo21, r_aarch64_adr_got_page, r_aarch64_ld64_got_lo12_nc, r_aarch64_tlsle_movw_tprel_g1}
 use Rattle.wild_types.specs.declared.kind.Machine.TheVariants as machine
+use Rattle.wild_types.specs.declared.input.InputRelocation.{InputRelocation}
 use Rattle.wild_types.specs.declared.layout.Layout.{Layout}
 use Rattle.wild_loader.specs.declared.memory.Machine.TheVariants as processors
 use Rattle.wild_loader.specs.declared.memory.Memory.{Memory}
@@ -14,8 +20,12 @@ use Rattle.wild_loader.specs.declared.world.World.{World}
 use Rattle.wild_loader.specs.Memory.{number_in, Holds}
 use Rattle.wild_loader.specs.Reach.{Reaches}
 use Rattle.wild_types.specs.Item.{Item}
-use Rattle.wild_meaning.specs.Sequence.{Instruction, descriptor_call_words, offset_pair_words, address_pair_words}
-use Rattle.wild_meaning.specs.Template.{reads, reads_alone, DoesWith}
+use Rattle.wild_meaning.specs.World.{IsMovable}
+use Rattle.wild_meaning.specs.Value.{IsAbsolute}
+use Rattle.wild_meaning.specs.Item.{place_at}
+use Rattle.wild_meaning.specs.Sequence.{FieldBits, Instruction, of_word, descriptor_call_words, offset_pair_words, address_pair_words}
+use Rattle.wild_meaning.specs.Template.{IsTemplate, reads, reads_alone, DoesWith}
+use Rattle.wild_meaning.specs.Reference.{ReferenceHolds, IsExcepted}
 
 -- code of these words, which no relocation fills here
 abbrev pub code_of : ℕ → List ℕ → Item
@@ -38,17 +48,26 @@ slot_item = code_of 0x10000 (0x90000000 ∷ 0xf9400000 ∷ [])
 abbrev pub pair_item : Item
 pair_item = code_of 0x10000 (0x90000000 ∷ 0x91000000 ∷ [])
 
--- `nop; nop; movz x0, lsl 16; movk x0, #0x18`, and `nop; adr x0` of 0x10104
+-- `movn x0, lsl 16`, whose type has bits of an offset
+abbrev pub move_item : Item
+move_item = code_of 0x10000 (0x92a00000 ∷ [])
+
+abbrev pub move_word : Instruction
+move_word = of_word FieldBits r_aarch64_tlsle_movw_tprel_g1
+
+-- `nop; nop; movz x0, lsl 16; movk x0, #0x18`, `nop; adr x0` of 0x10104, and `movz x0, #0x18, lsl 16`
 pub record RightWordsDo : Type 0 where
   pub call : Does call_item descriptor_call_words 0x18 (0xd503201f ∷ 0xd503201f ∷ 0xd2a00000 ∷ 0xf2800300 ∷ [])
   pub pair : Does pair_item address_pair_words 0x10104 (0xd503201f ∷ 0x10000800 ∷ [])
+  pub move : Does move_item move_word 0x18 (0xd2a00300 ∷ [])
 
 -- a descriptor's call left behind what was rewritten; the low half where `movz` has the high one; `adr` before `nop`, from where its
--- distance is not counted; and a slot of another offset, 8 bytes behind the symbol's
+-- distance is not counted; `movn`, which has the bits that are not in its field; and a slot of another offset, 8 bytes behind the symbol's
 pub record WrongWordsAreRefused : Type 0 where
   pub half : DoesNot call_item descriptor_call_words 0x18 (0xd503201f ∷ 0xd503201f ∷ 0xd2800300 ∷ 0xd63f0020 ∷ [])
   pub low : DoesNot call_item descriptor_call_words 0x18 (0xd503201f ∷ 0xd503201f ∷ 0xd2a00300 ∷ 0xf2800000 ∷ [])
   pub early : DoesNot pair_item address_pair_words 0x10104 (0x10000800 ∷ 0xd503201f ∷ [])
+  pub negated : DoesNot move_item move_word 0x18 (0x92a00300 ∷ [])
   pub slot : (l : Layout) (w : World) (m : Memory) (n : ℕ) → l.machine ≡ machine.AArch64 → w.base ≡ 0 → Holds m 0x10000 (flat_map (word 4) (0x90000080 ∷ 0xf9400c00 ∷ [])) → number_in m 0x20018 8 ≡ Some n → n < 2 ^ 64
       → n ≢ 0x18 → DoesWith (reads w m) l w m slot_item 0 offset_pair_words 0x18 → ⊥
 
@@ -56,3 +75,18 @@ pub record WrongWordsAreRefused : Type 0 where
 pub record ThunksAreJudged : Type 0 where
   pub right : (m : Memory) → m.machine ≡ processors.AArch64 → Holds m 0x1000 (flat_map (word 4) (0x90000030 ∷ 0x9119e210 ∷ 0xd61f0200 ∷ [])) → Reaches m 0x1000 0x5678
   pub wrong : (m : Memory) → m.machine ≡ processors.AArch64 → Holds m 0x1000 (flat_map (word 4) (0xb0000030 ∷ 0x9119e210 ∷ 0xd61f0200 ∷ [])) → number_in m 0x6678 4 ≡ None → Reaches m 0x1000 0x5678 → ⊥
+
+-- without a symbol, a distance that `adr` can't have, and a number of more than 16 bits in the one `movz` for it
+pub record CutBitsAreRefused : Type 0 where
+  pub far : (l : Layout) (w : World) (m : Memory) (item : Item) (r : InputRelocation) (d : ℕ) → l.machine ≡ machine.AArch64 → r.number ≡ r_aarch64_adr_prel_lo21 → r.symbol ≡ None
+      → (cast_unsigned w64 r.addend + (2 ^ 64 - place_at w item r.offset)) % 2 ^ 64 ≡ d → 2 ^ 20 ≤ d → d + 2 ^ 20 < 2 ^ 64 → ReferenceHolds l w m item r → ⊥
+  pub wide : (l : Layout) (w : World) (m : Memory) (item : Item) (r : InputRelocation) → l.machine ≡ machine.AArch64 → r.number ≡ r_aarch64_movw_uabs_g0 → r.symbol ≡ None → 2 ^ 16 ≤ cast_unsigned w64 r.addend % 2 ^ 64 → ReferenceHolds l w m item r → ⊥
+
+-- the page of a symbol's slot, and its low bits
+pub record SlotAddendsAreRefused : Type 0 where
+  pub page : (l : Layout) (w : World) (m : Memory) (item : Item) (r : InputRelocation) → l.machine ≡ machine.AArch64 → r.number ≡ r_aarch64_adr_got_page → cast_unsigned w64 r.addend ≢ 0 → ReferenceHolds l w m item r → ⊥
+  pub low : (l : Layout) (w : World) (m : Memory) (item : Item) (r : InputRelocation) → l.machine ≡ machine.AArch64 → r.number ≡ r_aarch64_ld64_got_lo12_nc → cast_unsigned w64 r.addend ≢ 0 → ReferenceHolds l w m item r → ⊥
+
+-- of an absolute symbol in a movable output both relocations of a page pair are asked at base 0 alone
+abbrev pub PairsAreExcepted : Type 0
+PairsAreExcepted = (l : Layout) (item : Item) (r first : InputRelocation) (start i : ℕ) → IsTemplate l item r start address_pair_words first → IsMovable l.kind → r.symbol ≡ Some i → IsAbsolute l i → IsExcepted l item r

@@ -8,14 +8,14 @@
 --   DoesWith ..          the loaded code has that effect, as a reader has it, where the operand reads as v
 --   DoesDemanded ..      so it does with a value that is demanded
 --   DoesLinked ..        so it does with the output's own symbol
-use Rattle.std.specs.Prelude.{◌≡◌, ℕ, ◌+◌, ◌-◌, ◌/◌, ◌%◌, ◌^◌, ◌<◌, ◌≤◌, ◌⊎◌, ⊤, true, false, List, [], ◌∷◌, length, slice_get, slice_range, Option, Some, None, Result, Ok, Err, option_and_then, option_map, Contains}
+use Rattle.std.specs.Prelude.{◌≡◌, ℕ, ◌+◌, ◌-◌, ◌/◌, ◌%◌, ◌^◌, ◌<◌, ◌≤◌, ◌⊎◌, ⊤, true, List, [], ◌∷◌, length, slice_get, slice_range, Option, Some, None, Result, Ok, Err, option_and_then, option_map, Contains}
 use Rattle.std.specs.Int.{w64, cast_unsigned}
 use Rattle.wild_records.specs.Abi.Section.{shf_execinstr}
 use Rattle.wild_types.specs.declared.kind.Machine.{Machine}
 use Rattle.wild_types.specs.declared.kind.Machine.TheVariants as machine
 use Rattle.wild_types.specs.declared.input.InputRelocation.{InputRelocation}
 use Rattle.wild_types.specs.declared.layout.Layout.{Layout}
-use Rattle.wild_reloc.specs.Formula.{Distance, PageDistance, StubDistance, Descriptor, Form, Bits, Formula}
+use Rattle.wild_reloc.specs.Formula.{Distance, PageDistance, StubDistance, Descriptor, Form, Bits, Formula, Passes}
 use Rattle.wild_loader.specs.declared.fault.LoadFault.{LoadFault}
 use Rattle.wild_loader.specs.declared.memory.Memory.{Memory}
 use Rattle.wild_loader.specs.declared.world.World.{World}
@@ -150,12 +150,19 @@ abbrev pub bits_of : Form → ℕ → ℕ
 bits_of (Bits field high low check unit) x = x / 2 ^ low % 2 ^ (high + 1 - low)
 bits_of other x = 0
 
--- v is the bits of the value of the relocation's formula
+-- the field can have the value: it is in the range, and the bits below the field's are 0 (aaelf64, "Relocation operations": checks of
+-- overflow)
+abbrev pub CanHave : Form → ℕ → Type 0
+CanHave (Bits field high low check unit) x = Passes check x × (x % unit ≡ 0)
+CanHave other x = ⊥
+
+-- v is the bits of the value of the relocation's formula, which the field can have
 pub record IsFieldBits (l : Layout) (w : World) (m : Memory) (item : Item) (r : InputRelocation) (v : ℕ) : Type 0 where
   pub formula : Formula
   pub known : formula_of l.machine r.number ≡ Some formula
   pub value : ℕ
   pub gives : Gives formula.value l w m item r value
+  pub fits : CanHave formula.form value
   pub bits : v ≡ bits_of formula.form value
 
 -- v is what an operand of that sort is to read as: what comes to S; what stands for S; its offset from the thread pointer; what

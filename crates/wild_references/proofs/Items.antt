@@ -50,7 +50,7 @@ plain k l w m s g f r is asked alone i d has keeps =
 
 -- the call of a sequence is one of its two references
 partner_holds : (l : Layout) (w : World) (m : Memory) (s : Item) (r : InputRelocation) → IsTakenAlong l w m s r → HoldsRewritten l w m s r
-partner_holds l w m s r t = record { start = t.start; instruction = t.instruction; first = t.first; template = inr (record { rest = t.rest; sequence = t.sequence; one = (let lt = t.one.1 in (suc t.one.0, omega (arith, lt), t.one.2)) }); does = t.does }
+partner_holds l w m s r t = record { start = t.start; instruction = t.instruction; first = t.first; template = inr (record { rest = t.rest; sequence = t.sequence; one = (let lt = t.one.1 in (suc t.one.0, omega (arith, lt), t.one.2)) }); does = t.does; words = t.words }
 
 by_decision : (k : AreKnown) (l : Layout) (w : World) (m : Memory) (s : Item) → IsLoadedItem l w m s → FieldsHold l w m s → (r : InputRelocation) → IsReference s r → IsAsked l w s r → (IsLinkedAlone l s r → ⊥) → (i : ℕ) (d : Decision) → HasDecision l s i r d → ReferenceHolds l w m s r
 by_decision k l w m s g f r is asked alone i Nothing has = plain k l w m s g f r is asked alone i Nothing has tt

@@ -14,8 +14,8 @@ use Rattle.wild_types.specs.Item.{Item}
 use Rattle.wild_meaning.specs.Field.{formula_of}
 use Rattle.wild_meaning.specs.Formula.{IsPlaceRelative, TakesAddress, TakesOffset}
 use Rattle.wild_meaning.specs.Template.{IsSingle, IsTemplate, reads, DoesDemanded, IsOfSequence}
-use Rattle.wild_meaning.proofs.PairLemmas.{IsGetterCall, as_double, the_one}
-use Rattle.wild_meaning.specs.Reference.{IsAsked, IsLinkedAlone, HasPlace, GoesThroughSlot, TakesItself}
+use Rattle.wild_meaning.proofs.PairLemmas.{IsGetterCall, as_double, the_one, counts_by_slot}
+use Rattle.wild_meaning.specs.Reference.{IsAsked, IsLinkedAlone, HasPlace, GoesByPlace, TakesItself}
 use Rattle.wild_references.specs.EffectLaws.{SequencesAreKept, InstructionsAreKept, KeptInstructionsDo}
 use Rattle.wild_references.proofs.Does.{HasField, PartnersThere, FormulaIs, displaced, formula_is, refers, pair_of, known_formula}
 use Rattle.wild_references.proofs.Right.{does_demanded}
@@ -73,17 +73,17 @@ first_known l w m item first start o second x q =
     (h.0, subst (λ (k : Machine). formula_of k first.number ≡ Some h.0) (sym x) h.1)
 
 -- it calls and jumps through no slot
-no_through : (l : Layout) (item : Item) (r : InputRelocation) (f : Formula) → l.machine ≡ machine.X86_64 → formula_of l.machine r.number ≡ Some f → HasPair l r → GoesThroughSlot l item r → ⊥
+no_through : (l : Layout) (item : Item) (r : InputRelocation) (f : Formula) → l.machine ≡ machine.X86_64 → formula_of l.machine r.number ≡ Some f → HasPair l r → GoesByPlace l item r → ⊥
 no_through l item r f x known p (g) = by g.template
   where
     by : IsTemplate l item r g.start g.instruction g.first → ⊥
     by (inl t) =
         (let is = formula_is l r g.instruction f x t.0.stands.known t.0.stands.number known in
-        no_slot_formula f (p.each f known) (subst (λ (s : Sort). FormulaIs s f) g.through is))
+        no_slot_formula f (p.each f known) (subst (λ (s : Sort). FormulaIs s f) (counts_by_slot l g.instruction x t.0.stands.known g.counts) is))
     by (inr t) =
         (let listed = subst (λ (k : Machine). Contains (instructions_of k) g.instruction) x t.sequence.stands.known in
         let q = (as_double l item r g.start g.instruction g.first x t).sequence in
-        no_pair_sort (pair_of g.instruction q.partner listed q.calls) g.through)
+        no_pair_sort (pair_of g.instruction q.partner listed q.calls) (counts_by_slot l g.instruction x t.sequence.stands.known g.counts))
       where
         no_pair_sort : (g.instruction.sort ≡ SymbolPair) ⊎ (g.instruction.sort ≡ OwnPair) → g.instruction.sort ≡ TargetInSlot → ⊥
         no_pair_sort (inl e) h = (let both : SymbolPair ≡ TargetInSlot = sym e ∙ h in cc)
@@ -92,7 +92,7 @@ no_through l item r f x known p (g) = by g.template
 first_asked : (l : Layout) (w : World) (item : Item) (r : InputRelocation) (f : Formula) → l.machine ≡ machine.X86_64 → formula_of l.machine r.number ≡ Some f → HasPair l r → IsAsked l w item r
 first_asked l w item r f x known p e = by e.relative
   where
-    by : HasPlace l r ⊎ GoesThroughSlot l item r → w.base ≡ 0
+    by : HasPlace l r ⊎ GoesByPlace l item r → w.base ≡ 0
     by (inl h) = absurd (no_place h.formula (p.each h.formula h.known) h.relative)
     by (inr h) = absurd (no_through l item r f x known p h)
 

@@ -23,7 +23,9 @@ use Rattle.wild_loader.specs.declared.world.World.{World}
 use Rattle.wild_types.specs.Item.{Item}
 use Rattle.wild_meaning.specs.Sequence.{TargetInSlot, Instruction, size_of}
 use Rattle.wild_meaning.specs.Template.{IsSingle, IsTemplate, reads_alone, DoesDemanded}
-use Rattle.wild_meaning.specs.Reference.{IsAsked}
+use Rattle.wild_meaning.specs.Reference.{IsAsked, ReadsOwnSlots}
+use Rattle.wild_types.specs.declared.kind.Machine.{Machine}
+use Rattle.wild_types.specs.declared.kind.Machine.TheVariants as machine
 use Rattle.wild_references.specs.Laws.{IsLoadedItem}
 use Rattle.wild_references.specs.EffectLaws.{RewrittenStand, RewrittenHold, PartnersHold}
 use Rattle.wild_references.proofs.RewrittenForms.{instruction_of}
@@ -133,10 +135,14 @@ rewritten_stand laws l w m s h i r row v has =
     let t = row_held laws l w m s i r row v h (placed_row laws l s i r row v has) in
     record { from = t.from; instruction = t.instruction; first = r; template = t.template; before = t.before; behind = t.behind }
 
+-- which words code reads is not asked on x86-64
+words_free : (l : Layout) (w : World) (m : Memory) (s : Item) (first : InputRelocation) (start : ℕ) (o : Instruction) → l.machine ≡ machine.X86_64 → ReadsOwnSlots l.machine l w m s first start o
+words_free l w m s first start o x = subst (λ (k : Machine). ReadsOwnSlots k l w m s first start o) (sym x) tt
+
 pub rewritten_hold : LawsBelow → RewrittenHold
 rewritten_hold laws l w m s h i r row v has asked =
     let t = row_held laws l w m s i r row v h (placed_row laws l s i r row v has) in
-    record { start = t.from; instruction = t.instruction; first = r; template = t.template; does = t.does (λ sort. asked) }
+    record { start = t.from; instruction = t.instruction; first = r; template = t.template; does = t.does (λ sort. asked); words = words_free l w m s r t.from t.instruction h.x86 }
 
 -- ---- the calls of sequences
 
@@ -173,4 +179,5 @@ partners_hold laws l w m s h i r has =
       one = (0, omega arith, refl);
       sequence = sequence_there laws l w m s b.0 t.first r t.row t.value h p t.skips t.listed;
       does = does_row laws l w m s b.0 t.first t.row t.value h p (λ sort. absurd (sequence_sort t.row p.changing t.skips sort));
+      words = words_free l w m s t.first (template_start t.row t.first) (instruction_of t.row) h.x86;
     }

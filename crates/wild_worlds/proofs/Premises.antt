@@ -28,9 +28,9 @@ use Rattle.wild_meaning.specs.Formula.{IsPlaceRelative, TakesAddress, TakesOffse
 use Rattle.wild_meaning.specs.Section.{IsSet}
 use Rattle.wild_meaning.specs.Sequence.{Sort, TargetInSlot, Partner, Instruction, instructions_of}
 use Rattle.wild_meaning.specs.Template.{IsTemplate}
-use Rattle.wild_meaning.specs.Reference.{HasPlace, GoesThroughSlot, IsExcepted, IsAsked, IsLeftToLoader, IsStubbed, TakesItself, IsLinkedAlone}
+use Rattle.wild_meaning.specs.Reference.{HasPlace, CountsFromPlace, GoesByPlace, IsExcepted, IsAsked, IsLeftToLoader, IsStubbed, TakesItself, IsLinkedAlone}
 use Rattle.wild_meaning.proofs.BitLemmas.{bit_alloc, thread_local_bit}
-use Rattle.wild_meaning.proofs.PairLemmas.{are_several, as_double}
+use Rattle.wild_meaning.proofs.PairLemmas.{are_several, as_double, counts_by_slot}
 use Rattle.wild_worlds.specs.Worlds.{KindsAreLoaded}
 use Rattle.wild_worlds.specs.References.{SectionsAreKept, RelocationsRefer, ReferencesAreAsked, SlotsAreAsked, FewAreLinkedAlone, BlanksAreAsked, ResolversAreNotAbsolute}
 use Rattle.wild_worlds.specs.Symbols.{AddressesMove}
@@ -67,14 +67,14 @@ relocations_refer = λ item r c n. record { listed = c; refers = n }
 named_absolute : (l : Layout) (item : Item) (r : InputRelocation) (i : ℕ) → r.symbol ≡ Some i → IsExcepted l item r → IsAbsolute l i
 named_absolute l item r i n e = subst (λ (j : ℕ). IsAbsolute l j) (let both : Some e.symbol ≡ Some i = sym e.named ∙ n in let same : e.symbol ≡ i = cc in same) e.absolute
 
-neither : (l : Layout) (item : Item) (r : InputRelocation) → (HasPlace l r → ⊥) → (GoesThroughSlot l item r → ⊥) → HasPlace l r ⊎ GoesThroughSlot l item r → ⊥
+neither : (l : Layout) (item : Item) (r : InputRelocation) → (HasPlace l r → ⊥) → (GoesByPlace l item r → ⊥) → HasPlace l r ⊎ GoesByPlace l item r → ⊥
 neither l item r p s (inl h) = p h
 neither l item r p s (inr h) = s h
 
 pub fixed_asked : (l : Layout) (w : World) (item : Item) (r : InputRelocation) → IsFixed l.kind → IsAsked l w item r
 fixed_asked l w item r f = λ e. absurd (apart_kinds l.kind f e.movable)
 
-placeless_asked : (l : Layout) (w : World) (item : Item) (r : InputRelocation) → (HasPlace l r → ⊥) → (GoesThroughSlot l item r → ⊥) → IsAsked l w item r
+placeless_asked : (l : Layout) (w : World) (item : Item) (r : InputRelocation) → (HasPlace l r → ⊥) → (GoesByPlace l item r → ⊥) → IsAsked l w item r
 placeless_asked l w item r p s = λ e. absurd (neither l item r p s e.relative)
 
 pub references_asked : ResolversAreNotAbsolute → ReferencesAreAsked
@@ -125,8 +125,8 @@ slot_numbers n h =
     other false b h f = h
 
 -- such an instruction of a reference
-slot_number : (l : Layout) (item : Item) (r : InputRelocation) → l.machine ≡ machine.X86_64 → GoesThroughSlot l item r → Contains (r_x86_64_gotpcrel ∷ r_x86_64_gotpcrelx ∷ []) r.number
-slot_number l item r x h = by_template l item r h.start h.instruction h.first x h.through h.template
+slot_number : (l : Layout) (item : Item) (r : InputRelocation) → l.machine ≡ machine.X86_64 → GoesByPlace l item r → Contains (r_x86_64_gotpcrel ∷ r_x86_64_gotpcrelx ∷ []) r.number
+slot_number l item r x h = by_template l item r h.start h.instruction h.first x h.counts h.template
   where
     parts : (l : Layout) (o : Instruction) → l.machine ≡ machine.X86_64 → Contains (instructions_of l.machine) o → o.sort ≡ TargetInSlot → (not (are_several o.partners) ≡ true) × (list_all is_slot_number o.numbers ≡ true)
     parts l o x known e = through_parts o (listed_passes goes_alone (instructions_of machine.X86_64) o all_go_alone (subst (λ (m : Machine). Contains (instructions_of m) o) x known)) e
@@ -135,11 +135,11 @@ slot_number l item r x h = by_template l item r h.start h.instruction h.first x 
     not_several [] p e h = cc
     not_several (q ∷ ps) p e h = cc
 
-    by_template : (l : Layout) (item : Item) (r : InputRelocation) (start : ℕ) (o : Instruction) (one : InputRelocation) → l.machine ≡ machine.X86_64 → o.sort ≡ TargetInSlot → IsTemplate l item r start o one → Contains (r_x86_64_gotpcrel ∷ r_x86_64_gotpcrelx ∷ []) r.number
-    by_template l item r start o one x e (inl t) = slot_numbers r.number (listed_passes is_slot_number o.numbers r.number (parts l o x t.0.stands.known e).1 t.0.stands.number)
+    by_template : (l : Layout) (item : Item) (r : InputRelocation) (start : ℕ) (o : Instruction) (one : InputRelocation) → l.machine ≡ machine.X86_64 → CountsFromPlace o.sort → IsTemplate l item r start o one → Contains (r_x86_64_gotpcrel ∷ r_x86_64_gotpcrelx ∷ []) r.number
+    by_template l item r start o one x e (inl t) = slot_numbers r.number (listed_passes is_slot_number o.numbers r.number (parts l o x t.0.stands.known (counts_by_slot l o x t.0.stands.known e)).1 t.0.stands.number)
     by_template l item r start o one x e (inr t) =
         let calls = (as_double l item r start o one x t).sequence.calls in
-        let alone : not (are_several o.partners) ≡ true = (parts l o x t.sequence.stands.known e).0 in
+        let alone : not (are_several o.partners) ≡ true = (parts l o x t.sequence.stands.known (counts_by_slot l o x t.sequence.stands.known e)).0 in
         not_several o.partners _ calls alone
 
 template_code : (l : Layout) (item : Item) (r : InputRelocation) (start : ℕ) (o : Instruction) (one : InputRelocation) → IsTemplate l item r start o one → IsSet item.flags shf_execinstr

@@ -25,7 +25,7 @@ use Rattle.wild_meaning.specs.Field.{formula_of}
 use Rattle.wild_meaning.specs.Formula.{IsPlaceRelative, TakesAddress, TakesOffset}
 use Rattle.wild_types.specs.Item.{Item, item_of}
 use Rattle.wild_meaning.specs.Item.{IsInput, IsKept, IsReference}
-use Rattle.wild_meaning.specs.Reference.{HasPlace, GoesThroughSlot, IsAsked, IsLeftToLoader, IsStubbed, IsLinkedAlone}
+use Rattle.wild_meaning.specs.Reference.{HasPlace, GoesByPlace, IsAsked, IsLeftToLoader, IsStubbed, IsLinkedAlone}
 use Rattle.wild_meaning.specs.Linked.{IsBlank}
 use Rattle.wild_reloc.specs.Formula.{Formula}
 use Rattle.wild_laws.specs.FirstTypes.{IsLoadedSection}
@@ -43,14 +43,14 @@ abbrev pub ResolversAreNotAbsolute : Type 0
 ResolversAreNotAbsolute = (l : Layout) (i : ℕ) → errors l ≡ [] → HasFlag l i ifunc true → IsAbsolute l i → ⊥
 
 -- a reference is asked at base 0, and at every base where its symbol is not absolute, as no resolver is, or it takes no place
--- from an address: neither its value does, nor is its instruction a call or a jump through a slot
+-- from an address: neither its value does, nor does its instruction count from its own place, as a call or a jump through a slot
 pub record ReferencesAreAsked : Type 0 where
   pub zero : (l : Layout) (w : World) (item : Item) (r : InputRelocation) → w.base ≡ 0 → IsAsked l w item r
   pub fixed : (l : Layout) (w : World) (item : Item) (r : InputRelocation) → IsFixed l.kind → IsAsked l w item r
   pub unnamed : (l : Layout) (w : World) (item : Item) (r : InputRelocation) → r.symbol ≡ None → IsAsked l w item r
   pub moving : (l : Layout) (w : World) (item : Item) (r : InputRelocation) (i : ℕ) → r.symbol ≡ Some i → HasFlag l i absolute false → IsAsked l w item r
   pub resolved : (l : Layout) (w : World) (item : Item) (r : InputRelocation) (i : ℕ) → errors l ≡ [] → r.symbol ≡ Some i → HasFlag l i ifunc true → IsAsked l w item r
-  pub placeless : (l : Layout) (w : World) (item : Item) (r : InputRelocation) → (HasPlace l r → ⊥) → (GoesThroughSlot l item r → ⊥) → IsAsked l w item r
+  pub placeless : (l : Layout) (w : World) (item : Item) (r : InputRelocation) → (HasPlace l r → ⊥) → (GoesByPlace l item r → ⊥) → IsAsked l w item r
 
 -- so a value that takes no place from an address, as a slot's distance, is asked unless the relocation's type is one that calls
 -- and jumps through slots have, and it stands in code
