@@ -23,7 +23,7 @@ use Rattle.wild_loader.specs.declared.world.World.{World}
 use Rattle.wild_types.specs.Item.{Item}
 use Rattle.wild_meaning.specs.Sequence.{TargetInSlot, Instruction, size_of}
 use Rattle.wild_meaning.specs.Template.{IsSingle, IsTemplate, reads_alone, DoesDemanded}
-use Rattle.wild_meaning.specs.Reference.{IsAsked, ReadsOwnSlots}
+use Rattle.wild_meaning.specs.Reference.{CountsFromPlace, IsAsked, ReadsOwnSlots}
 use Rattle.wild_types.specs.declared.kind.Machine.{Machine}
 use Rattle.wild_types.specs.declared.kind.Machine.TheVariants as machine
 use Rattle.wild_references.specs.Laws.{IsLoadedItem}
@@ -56,7 +56,7 @@ goes_with l w m s i r row v p t asked sort movable still = asked sort (record {
   symbol = p.chosen.symbol;
   named = p.chosen.named;
   absolute = still;
-  relative = inr (record { start = template_start row r; instruction = instruction_of row; first = r; template = inl (t, refl); through = sort });
+  relative = inr (record { start = template_start row r; instruction = instruction_of row; first = r; template = inl (t, refl); counts = subst CountsFromPlace (sym sort) tt });
 })
 
 single_held : LawsBelow → (l : Layout) (w : World) (m : Memory) (s : Item) (i : ℕ) (r : InputRelocation) (row : Row) (v : ℕ) → IsLoadedItem l w m s → IsPlacedRow l s i r row v → IsSingle l s r (template_start row r) (instruction_of row) → IsHeld l w m s r row
