@@ -3,7 +3,7 @@
 use Rattle.std.specs.Prelude.{ℕ, ◌+◌, ◌%◌, ◌^◌, ◌==◌, Bool, true, not, ◌&&◌, ◌||◌, if◌then◌else◌, nat_le, List, [], ◌∷◌, ◌++◌, length, Option, Some, None, slice_get}
 use Rattle.std.specs.Int.{is_power_of_two}
 use Rattle.std.specs.List.{list_any, list_all}
-use Rattle.wild_records.specs.Abi.Section.{sht_null, sht_nobits}
+use Rattle.wild_records.specs.Abi.Section.{sht_null}
 use Rattle.wild_types.specs.declared.part.Part.{Part}
 use Rattle.wild_types.specs.declared.part.Role.{Role}
 use Rattle.wild_types.specs.declared.part.Role.TheVariants as role
@@ -15,7 +15,7 @@ use Rattle.wild_types.specs.declared.file.Group.{Group}
 use Rattle.wild_types.specs.declared.layout.Layout.{Layout}
 use Rattle.wild_types.specs.Lists.{first_failing, total}
 use Rattle.wild_types.specs.Kinds.{is_partial_link, is_fixed_static}
-use Rattle.wild_types.specs.Lookups.{allocated, is_allocated_section, takes_file_bytes}
+use Rattle.wild_types.specs.Lookups.{allocated, is_allocated_section, is_without_data, takes_file_bytes}
 use Rattle.wild_types.specs.Parts.{role_place, has_role, is_loaded_role}
 
 -- ---- clause 1: sizes and alignments
@@ -126,11 +126,11 @@ within a n b m = nat_le a b && nat_le (b + m) (a + n)
 abbrev pub is_level : Section → Part → Bool
 is_level s p = nat_le s.address p.address && p.address + s.offset == p.offset + s.address
 
--- the part lies in the section: by its addresses for SHT_NOBITS, else by its file bytes, and where the section
+-- the part lies in the section: by its addresses in one without data, else by its file bytes, and where the section
 -- is allocated at equal distance in both
 abbrev pub lies_in : Section → Part → Bool
 lies_in s p =
-    if s.kind == sht_nobits
+    if is_without_data s
     then within s.address s.size p.address p.size
     else within s.offset s.size p.offset p.size && (not (allocated s.flags) || is_level s p)
 

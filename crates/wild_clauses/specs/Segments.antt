@@ -5,7 +5,6 @@
 --   dynamic_astray p i gs         the first PT_DYNAMIC segment that is not that of the part
 use Rattle.std.specs.Prelude.{ℕ, zero, suc, ◌+◌, ◌%◌, ◌==◌, Bool, true, false, not, ◌&&◌, ◌||◌, if◌then◌else◌, nat_lt, nat_le, List, [], ◌∷◌, Option, Some, None}
 use Rattle.std.specs.List.{list_any}
-use Rattle.wild_records.specs.Abi.Section.{sht_nobits}
 use Rattle.wild_records.specs.Abi.Segment.{pt_load, pt_dynamic}
 use Rattle.wild_types.specs.declared.kind.OutputKind.{OutputKind}
 use Rattle.wild_types.specs.declared.part.Part.{Part}
@@ -14,7 +13,7 @@ use Rattle.wild_types.specs.declared.section.Segment.{Segment}
 use Rattle.wild_clauses.specs.declared.loaded.Side.{Side}
 use Rattle.wild_clauses.specs.declared.loaded.Side.TheVariants as side
 use Rattle.wild_types.specs.Kinds.{has_fixed_load_address}
-use Rattle.wild_types.specs.Lookups.{allocated, thread_local}
+use Rattle.wild_types.specs.Lookups.{allocated, thread_local, is_without_data}
 
 -- ---- the order
 
@@ -47,15 +46,15 @@ at_equal_distance s g = s.offset + g.address == s.address + g.offset
 
 -- address a lies in the loaded segment, at equal distance in file and memory where the section has file bytes
 abbrev pub has_byte : Side → Section → ℕ → Segment → Bool
-has_byte on s a g = g.kind == pt_load && (nat_le g.address a && nat_lt a (g.address + size_on on g)) && (s.kind == sht_nobits || at_equal_distance s g)
+has_byte on s a g = g.kind == pt_load && (nat_le g.address a && nat_lt a (g.address + size_on on g)) && (is_without_data s || at_equal_distance s g)
 
 -- an allocated section, other than thread-local ones without data
 abbrev pub is_to_load : Section → Bool
-is_to_load s = allocated s.flags && not (thread_local s.flags && s.kind == sht_nobits)
+is_to_load s = allocated s.flags && not (thread_local s.flags && is_without_data s)
 
 -- an allocated section with data
 abbrev pub has_file_bytes : Section → Bool
-has_file_bytes s = allocated s.flags && not (s.kind == sht_nobits)
+has_file_bytes s = allocated s.flags && not (is_without_data s)
 
 -- the section's bytes are to lie in memory, or among the file bytes of segments
 abbrev pub is_asked : Side → Section → Bool

@@ -4,7 +4,6 @@ ghost use Rattle.wild_clauses.specs.Covers.{is_passed, covers};
 ghost use Rattle.wild_types.specs.Lists.{first_failing};
 ghost use Rattle.wild_clauses.specs.Segments.{segment_out_of_order, size_on, has_byte, is_asked, bytes_are_loaded};
 
-use wild_records::abi::section::SHT_NOBITS;
 use wild_records::abi::segment::PT_LOAD;
 use wild_types::{Section, Segment, is_allocated, is_thread_local, wide_sum};
 
@@ -32,9 +31,9 @@ impl Side {
         match self {
             Side::Memory => {
                 is_allocated(section.flags)
-                    && !(is_thread_local(section.flags) && section.kind == SHT_NOBITS)
+                    && !(is_thread_local(section.flags) && section.is_without_data())
             }
-            Side::File => is_allocated(section.flags) && section.kind != SHT_NOBITS,
+            Side::File => is_allocated(section.flags) && !section.is_without_data(),
         }
     }
 }
@@ -47,7 +46,7 @@ fn has_byte(side: Side, section: &Section, address: u128, segment: &Segment) -> 
     segment.kind == PT_LOAD
         && u128::from(segment.address) <= address
         && address < wide_sum(segment.address, side.size(segment))
-        && (section.kind == SHT_NOBITS
+        && (section.is_without_data()
             || wide_sum(section.offset, segment.address)
                 == wide_sum(section.address, segment.offset))
 }

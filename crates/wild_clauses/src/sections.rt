@@ -4,7 +4,7 @@ ghost use Rattle.wild_clauses.specs.Places.{first_section_is_null, within, lies_
 ghost use Rattle.wild_clauses.specs.ClauseTests.{check_sections};
 
 use crate::verdict::{fails, unless};
-use wild_records::abi::section::{SHT_NOBITS, SHT_NULL};
+use wild_records::abi::section::SHT_NULL;
 use wild_types::{
     Clause, Layout, Part, Role, Section, Test, first_failing, has_role, is_allocated, place_of,
     wide_sum,
@@ -30,7 +30,7 @@ pub(crate) fn within(start: u64, size: u64, inner: u64, inner_size: u64) -> bool
 fn lies_in(section: &Section, part: &Part) -> bool
     ensures { result ≡ lies_in section.now part.now }
 {
-    if section.kind == SHT_NOBITS {
+    if section.is_without_data() {
         return within(section.address, section.size, part.address, part.size);
     }
     within(section.offset, section.size, part.offset, part.size)

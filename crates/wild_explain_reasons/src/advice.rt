@@ -4,7 +4,6 @@ use crate::names::{push_section, push_symbol};
 use std::alloc::AllocError;
 use std::fmt::Write;
 use wild_needs::elf_entry_address;
-use wild_records::abi::section::SHT_NOBITS;
 use wild_records::abi::segment::{PF_X, PT_INTERP, PT_LOAD, PT_PHDR, PT_TLS};
 use wild_types::{
     File, Layout, OutputKind, Role, Section, Segment, SymbolIndex, is_allocated, is_there,
@@ -100,7 +99,7 @@ fn push_interpreter(out: &mut String, layout: &Layout) -> Result<(), AllocError>
 /// Whether a section has addresses of its own: a thread-local one without data has none.
 fn has_addresses(section: &Section) -> bool {
     is_allocated(section.flags)
-        && !(section.kind == SHT_NOBITS && is_thread_local(section.flags))
+        && !(section.is_without_data() && is_thread_local(section.flags))
         && section.size != 0
 }
 
@@ -143,7 +142,7 @@ fn filled_by(layout: &Layout, address: u64) -> Option<usize> {
 /// Adds zeroed sections that a segment fills with file bytes.
 fn push_zeros(out: &mut String, layout: &Layout) -> Result<(), AllocError> {
     for (i, section) in layout.sections.as_slice().iter().enumerate() {
-        if section.kind == SHT_NOBITS
+        if section.is_without_data()
             && has_addresses(section)
             && let Some(segment) = filled_by(layout, section.address)
         {

@@ -2,7 +2,7 @@
 
 use crate::tests::{PartTest, SectionTest, SegmentTest};
 use crate::verdict::{Verdict, due, plain};
-use wild_records::abi::section::{SHT_NOBITS, SHT_RELA};
+use wild_records::abi::section::SHT_RELA;
 use wild_records::abi::segment::{PT_DYNAMIC, PT_LOAD};
 use wild_types::{
     Layout, Part, Role, Section, Segment, has_role, is_allocated, is_thread_local, place_of,
@@ -52,7 +52,7 @@ fn end_before(layout: &Layout, index: usize) -> u64 {
 
 /// Whether a part lies in its section.
 fn lies_in(section: &Section, part: &Part) -> bool {
-    if section.kind == SHT_NOBITS {
+    if section.is_without_data() {
         return lies_within(section.address, section.size, part.address, part.size);
     }
     let is_even = section.address <= part.address
@@ -137,7 +137,7 @@ fn reached(layout: &Layout, section: &Section, in_file: bool) -> u64 {
             segment.mem_size
         };
         let end = segment.address.saturating_add(size);
-        let is_even = section.kind == SHT_NOBITS
+        let is_even = section.is_without_data()
             || section.offset.saturating_add(segment.address)
                 == section.address.saturating_add(segment.offset);
         if segment.kind == PT_LOAD && segment.address <= reached && reached < end && is_even {
@@ -167,7 +167,7 @@ pub(crate) fn test_section(
     section: &Section,
     test: SectionTest,
 ) -> Verdict {
-    let zeros = section.kind == SHT_NOBITS;
+    let zeros = section.is_without_data();
     let is_loaded = index != 0 && is_allocated(section.flags);
     let end = section.address.saturating_add(section.size);
     match test {

@@ -6,7 +6,6 @@ use crate::items::{Item, SectionPlace, push_item, section_at};
 use crate::names::{push_section, role_word};
 use std::alloc::AllocError;
 use std::fmt::Write;
-use wild_records::abi::section::SHT_NOBITS;
 use wild_types::{InputSection, Layout, Part, Role, field_bytes, has_role};
 
 /// The input section of a group that has the address, in a part.
@@ -95,7 +94,7 @@ fn push_in_part(
 fn push_padding(out: &mut String, layout: &Layout, offset: u64) -> Result<(), AllocError> {
     for (i, section) in layout.sections.as_slice().iter().enumerate() {
         let end = section.offset.saturating_add(section.size);
-        if i != 0 && section.kind != SHT_NOBITS && section.offset <= offset && offset < end {
+        if i != 0 && !section.is_without_data() && section.offset <= offset && offset < end {
             write!(out, "padding: of ")?;
             push_section(out, layout, i)?;
             writeln!(out)?;

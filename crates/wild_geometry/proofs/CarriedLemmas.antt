@@ -13,7 +13,7 @@ use Rattle.wild_clauses.specs.declared.loaded.Side.TheVariants as side
 use Rattle.wild_types.specs.declared.input.InputSection.{InputSection}
 use Rattle.wild_types.specs.declared.layout.Layout.{Layout}
 use Rattle.wild_types.specs.Kinds.{is_partial_link}
-use Rattle.wild_types.specs.Lookups.{allocated, kind_of, flags_of, section_of_part, is_allocated_section, is_allocated_part, takes_file_bytes, is_loaded, is_filled}
+use Rattle.wild_types.specs.Lookups.{allocated, without_data, flags_of, section_of_part, is_allocated_section, is_allocated_part, takes_file_bytes, is_loaded, is_filled}
 use Rattle.wild_clauses.specs.Places.{within, is_level, lies_in, lies_by, part_lies}
 use Rattle.wild_types.specs.Parts.{is_loaded_role}
 use Rattle.wild_clauses.specs.Segments.{at_equal_distance, has_byte, has_file_bytes, all_below, bytes_are_loaded}
@@ -43,7 +43,7 @@ Filled-from_tests l k named place takes =
       section = item.item;
       is = item.is;
       later = eqb-false _ _ (not-true _ both.0);
-      bits = not-true _ (subst (λ (o : Option Section). not (kind_of o == 8) ≡ true) item.is takes);
+      bits = not-true _ (subst (λ (o : Option Section). not (without_data o) ≡ true) item.is takes);
       allocated = subst (λ (o : Option Section). allocated (flags_of o) ≡ true) item.is both.1;
     }
 

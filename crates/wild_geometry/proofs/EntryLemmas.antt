@@ -3,13 +3,13 @@ use Rattle.std.proofs.Common.{◌≡◌, ℕ, zero, suc, ◌+◌, ◌-◌, ◌<�
 use Rattle.std.proofs.lemmas.Bool.{cases_Bool, and_parts, ltb-true, eqb-true, eq-eqb}
 use Rattle.std.proofs.lemmas.Option.{same_Some}
 use Rattle.wild_words.proofs.Basics.{implied}
-use Rattle.wild_records.specs.Abi.Section.{sht_nobits, sht_rela}
+use Rattle.wild_records.specs.Abi.Section.{sht_rela}
 use Rattle.wild_types.specs.declared.part.Part.{Part}
 use Rattle.wild_types.specs.declared.part.Role.{Role}
 use Rattle.wild_types.specs.declared.section.Section.{Section}
 use Rattle.wild_types.specs.declared.layout.Layout.{Layout}
 use Rattle.wild_types.specs.Lists.{total}
-use Rattle.wild_types.specs.Lookups.{allocated, kind_of, kind_at, is_allocated_section}
+use Rattle.wild_types.specs.Lookups.{allocated, kind_of, kind_at, without_data, is_allocated_section}
 use Rattle.wild_types.specs.Parts.{has_role, part_with, is_entry_role, entry_parts, bytes_in}
 use Rattle.wild_types.specs.Kinds.{is_fixed_static}
 use Rattle.wild_clauses.specs.Places.{part_lies}
@@ -79,15 +79,16 @@ part_of_entries l h fixed r p entries there =
     let Q : Part → Type 0 = λ x. x.section < length l.sections in
     let named = subst Q (f.is p) (ltb-true _ _ (h.indexes.parts f.place p f.within)) in
     let R : Part → Type 0 = λ x. part_lies l x ≡ true in
-    let o = Filled-from_tests l p.section named tests.0 (with_bits (kind_at l p.section) kind) in
+    let o = Filled-from_tests l p.section named tests.0 (with_bits (slice_get l.sections p.section) kind) in
     record {
       filled = o;
       lies = subst R (f.is p) (h.parts.lie f.place p f.within);
       kind = sym (ap kind_of o.is) ∙ kind;
     }
   where
-    with_bits : (n : ℕ) → n ≡ sht_rela → not (n == sht_nobits) ≡ true
-    with_bits n e = rw e refl
+    with_bits : (o : Option Section) → kind_of o ≡ sht_rela → not (without_data o) ≡ true
+    with_bits None e = refl
+    with_bits (Some s) e = rw e refl
 
 pub stands_later : (l : Layout) → Laid l → is_fixed_static l.kind ≡ true → (r : Role) (p : Part) → is_entry_role r ≡ true → part_with r l.parts ≡ Some p → 1 ≤ p.section
 stands_later l h fixed r p entries there = let later = (part_of_entries l h fixed r p entries there).filled.later in omega arith

@@ -9,7 +9,7 @@ use Rattle.wild_types.specs.declared.part.Part.{Part}
 use Rattle.wild_types.specs.declared.section.Section.{Section}
 use Rattle.wild_types.specs.declared.input.InputSection.{InputSection}
 use Rattle.wild_types.specs.declared.layout.Layout.{Layout}
-use Rattle.wild_types.specs.Lookups.{kind_of, section_of, section_of_part, takes_file_bytes, is_loaded, is_filled, is_read}
+use Rattle.wild_types.specs.Lookups.{without_data, section_of, section_of_part, takes_file_bytes, is_loaded, is_filled, is_read}
 use Rattle.wild_layout.specs.Sites.{sites, section_bytes}
 use Rattle.wild_layout.specs.Image.{bytes, offset_in}
 use Rattle.wild_layout.specs.Loadable.{IsMapped}
@@ -37,7 +37,7 @@ takes : (l : Layout) (n : ℕ) → HasFileBytes l n → takes_file_bytes l (sect
 takes l n h =
     let at : section_of l n ≡ h.part.section = ap (λ (o : Option Part). section_of_part o) h.listed in
     let none = ne_eqb _ _ h.filled in
-    subst (λ (k : ℕ). takes_file_bytes l k ≡ true) (sym at) (subst (λ (o : Option Section). not (kind_of o == 8) ≡ true) (sym h.found) (ap not none))
+    subst (λ (k : ℕ). takes_file_bytes l k ≡ true) (sym at) (subst (λ (o : Option Section). not (without_data o) ≡ true) (sym h.found) (ap not none))
 
 blank_filled : (l : Layout) (s : InputSection) → IsBlank l s → HasFileBytes l s.part → 1 ≤ s.size → is_filled l s ≡ true
 blank_filled l s b f some =

@@ -5,19 +5,19 @@
 --   need_number l             of how many libraries versions are needed
 use Rattle.std.specs.Prelude.{ℕ, ◌+◌, ◌-◌, ◌/◌, ◌^◌, ◌==◌, Bool, not, ◌&&◌, if◌then◌else◌, min, List, find, bytes_eq, Option, Some, None, option_map}
 use Rattle.std.specs.Option.{option_or}
-use Rattle.wild_records.specs.Abi.Section.{sht_nobits}
 use Rattle.wild_records.specs.Relocations.{rela_size}
 use Rattle.wild_types.specs.declared.part.Part.{Part}
 use Rattle.wild_types.specs.declared.part.Role.{Role}
 use Rattle.wild_types.specs.declared.part.Role.TheVariants as role
 use Rattle.wild_types.specs.declared.section.Section.{Section}
 use Rattle.wild_types.specs.declared.layout.Layout.{Layout}
+use Rattle.wild_types.specs.Lookups.{is_without_data}
 use Rattle.wild_types.specs.Parts.{part_with}
 use Rattle.wild_needs.specs.Versions.{need_count}
 
 -- the section has the name, and bytes in the file
 abbrev pub has_bytes : List ℕ → Section → Bool
-has_bytes name s = bytes_eq s.name name && not (s.kind == sht_nobits) && not (s.size == 0)
+has_bytes name s = bytes_eq s.name name && not (is_without_data s) && not (s.size == 0)
 
 -- the first section of a name with bytes in the file (gABI, "Special Sections": .init, .init_array and their like)
 unfoldable pub section_named : Layout → List ℕ → Option Section

@@ -15,7 +15,6 @@ use wild_records::abi::dynamic::{
     DT_RELRSZ, DT_STRSZ, DT_STRTAB, DT_SYMENT, DT_SYMTAB, DT_TEXTREL, DT_VERDEF, DT_VERDEFNUM,
     DT_VERNEED, DT_VERNEEDNUM, DT_VERSYM,
 };
-use wild_records::abi::section::SHT_NOBITS;
 use wild_records::{Rela, Relr, SymtabEntry};
 use wild_types::{Layout, Options, OutputKind, Part, Role, Section, part_with};
 
@@ -180,7 +179,7 @@ fn section_named(layout: &Layout, name: &[u8]) -> Option<Run>
     ensures size { option_map (λ r. r.size) result ≡ section_size layout.now name.now }
 {
     for section in layout.sections.as_slice() {
-        let has_bytes = section.kind != SHT_NOBITS && section.size != 0;
+        let has_bytes = !section.is_without_data() && section.size != 0;
         if section.name.as_slice() == name && has_bytes {
             return Some(Run {
                 address: section.address,

@@ -5,6 +5,7 @@ pub mod Faults
 pub mod FilePlaces
 pub mod FileRoles
 pub mod FileSymbols
+pub mod FileThunks
 pub mod Flags
 pub mod Item
 pub mod Kinds

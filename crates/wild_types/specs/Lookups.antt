@@ -2,7 +2,8 @@
 --   bit flags n            the flag is set
 --   kind_at l k            the type of the section with header index k; SHT_NULL where there is none
 --   is_allocated_part l p  the part lies in a section other than section 0 that is allocated (SHF_ALLOC)
---   takes_file_bytes l p   the part lies in no section of type SHT_NOBITS
+--   is_without_data s      the section has no bytes in the file
+--   takes_file_bytes l k   the section with header index k has
 --   is_filled l s          the input section is loaded and owns bytes of the image
 --   image_size l           the greatest end of a file range of a part or a section
 --   has_address l s        the input section has an address
@@ -74,9 +75,17 @@ is_allocated_section l k = not (k == 0) && allocated (flags_of (slice_get l.sect
 abbrev pub is_allocated_part : Layout → ℕ → Bool
 is_allocated_part l part = is_allocated_section l (section_of l part)
 
--- the part lies in no section of type SHT_NOBITS
+-- the section has room in memory alone, and no bytes in the file (gABI, "Section Header", sh_type: SHT_NOBITS)
+abbrev pub is_without_data : Section → Bool
+is_without_data s = s.kind == sht_nobits
+
+abbrev pub without_data : Option Section → Bool
+without_data None = false
+without_data (Some s) = is_without_data s
+
+-- what stands in the section with header index k takes bytes of the file
 abbrev pub takes_file_bytes : Layout → ℕ → Bool
-takes_file_bytes l k = not (kind_at l k == sht_nobits)
+takes_file_bytes l k = not (without_data (slice_get l.sections k))
 
 abbrev pub is_loaded : Slot → Bool
 is_loaded slot.Loaded = true
@@ -103,7 +112,7 @@ parts_end l (p ∷ ps) = max (file_end (takes_file_bytes l p.section) p.offset p
 
 abbrev pub sections_end : List Section → ℕ
 sections_end [] = 0
-sections_end (s ∷ ss) = max (file_end (not (s.kind == sht_nobits)) s.offset s.size) (sections_end ss)
+sections_end (s ∷ ss) = max (file_end (not (is_without_data s)) s.offset s.size) (sections_end ss)
 
 -- the greatest end of a file range of a part, or of a section other than section 0
 unfoldable pub image_size : Layout → ℕ

@@ -5,7 +5,6 @@ ghost use Rattle.wild_types.specs.Lookups.{file_end, parts_end, sections_end, im
 use crate::layout::Layout;
 use crate::part::Part;
 use crate::section::Section;
-use wild_records::abi::section::SHT_NOBITS;
 
 /// What stands behind the first item.
 pub fn behind_first<T>(items: &[T]) -> &[T]
@@ -50,7 +49,7 @@ fn sections_end(sections: &[Section]) -> u128
 {
     let mut end = 0;
     for section in sections {
-        let takes = section.kind != SHT_NOBITS;
+        let takes = !section.is_without_data();
         end = end.max(file_end(takes, section.offset, section.size));
     }
     end

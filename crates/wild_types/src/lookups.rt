@@ -1,13 +1,15 @@
 //! What stands where in a layout.
 ghost use Rattle.std.specs.Prelude.{◌≡◌, ◌+◌, ◌^◌, ◌%◌, ◌<◌, true, length, drop, take, slice_range};
 ghost use Rattle.wild_types.specs.FileSymbols.{range_of, own_symbols, loaded_symbols};
-ghost use Rattle.wild_types.specs.Lookups.{place_of, packs, has_moved, writable, allocated, executable, thread_local, kind_at, section_of, is_allocated_section, is_allocated_part, takes_file_bytes, is_loaded, is_discarded, is_filled, is_read, has_address, canonical, has_table, has_many_sections};
+ghost use Rattle.wild_types.specs.FileThunks.{block_of, thunks_of};
+ghost use Rattle.wild_types.specs.Lookups.{place_of, packs, has_moved, writable, allocated, executable, thread_local, kind_at, section_of, is_allocated_section, is_allocated_part, is_without_data, takes_file_bytes, is_loaded, is_discarded, is_filled, is_read, has_address, canonical, has_table, has_many_sections};
 ghost use Rattle.wild_types.specs.SymbolSlots.{names_slot, names_stub};
 
 use crate::file::File;
 use crate::index::{SectionIndex, SymbolIndex};
 use crate::input::{InputRelocation, InputSection, Slot};
-use crate::layout::Layout;
+use crate::layout::{Layout, Thunk};
+use crate::section::Section;
 use crate::symbol::{Symbol, got_of, is_own, plt_of};
 use wild_records::abi::section::{
     SHF_ALLOC, SHF_EXECINSTR, SHF_TLS, SHF_WRITE, SHN_LORESERVE, SHT_NOBITS, SHT_NULL,
@@ -100,11 +102,14 @@ impl Layout {
         self.is_allocated_section(self.section_of(part))
     }
 
-    /// Whether the section with that header index has another type than `SHT_NOBITS`.
+    /// Whether what stands in the section with that header index takes bytes of the file.
     pub fn takes_file_bytes(&self, index: SectionIndex) -> bool
         ensures { result ≡ takes_file_bytes self.now index }
     {
-        self.kind_at(index) != SHT_NOBITS
+        match self.sections.as_slice().get(index.0) {
+            Some(section) => !section.is_without_data(),
+            None => true,
+        }
     }
 
     /// The symbol that defines a symbol.
@@ -136,6 +141,27 @@ impl Layout {
         let first = file.first_symbol.0;
         if file.role.writes_slots() {
             self.symbols_from(first, file.symbol_count)
+        } else {
+            &[]
+        }
+    }
+
+    /// The thunks of a block; none where it is not there.
+    fn block_of(&self, block: usize) -> &[Thunk]
+        ensures { result.now ≡ block_of self.now block }
+    {
+        match self.thunk_blocks.as_slice().get(block) {
+            Some(thunks) => thunks.as_slice(),
+            None => &[],
+        }
+    }
+
+    /// The thunks that a file writes behind its sections: all of its block, where it owns that.
+    pub fn thunks_of(&self, file: &File) -> &[Thunk]
+        ensures { result.now ≡ thunks_of self.now file.now }
+    {
+        if file.owns_thunk_block {
+            self.block_of(file.thunk_block)
         } else {
             &[]
         }
@@ -207,6 +233,15 @@ impl Layout {
         ensures { result ≡ has_many_sections self.now }
     {
         self.sections.len() > SHN_LORESERVE as usize
+    }
+}
+
+impl Section {
+    /// Whether the section has room in memory alone, and no bytes in the file.
+    pub fn is_without_data(&self) -> bool
+        ensures { result ≡ is_without_data self.now }
+    {
+        self.kind == SHT_NOBITS
     }
 }
 

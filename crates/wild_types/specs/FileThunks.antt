@@ -1,0 +1,16 @@
+-- The thunks of files: code that carries branches of a file on to targets out of their range ("ELF for the Arm 64-bit Architecture",
+-- "Call and Jump relocations").
+--   block_of l k     the thunks of a block; none where it is not there
+--   thunks_of l f    those that the file writes behind its sections: all of its block, where it owns that
+use Rattle.std.specs.Prelude.{ℕ, if◌then◌else◌, List, [], unwrap_or, slice_get}
+use Rattle.wild_types.specs.declared.layout.Thunk.{Thunk}
+use Rattle.wild_types.specs.declared.file.File.{File}
+use Rattle.wild_types.specs.declared.layout.Layout.{Layout}
+
+-- the thunks of a block
+abbrev pub block_of : Layout → ℕ → List Thunk
+block_of l k = unwrap_or (slice_get l.thunk_blocks k) []
+
+-- those that the file writes
+abbrev pub thunks_of : Layout → File → List Thunk
+thunks_of l f = if f.owns_thunk_block then block_of l f.thunk_block else []
