@@ -14,7 +14,7 @@ use Rattle.wild_types.specs.declared.layout.Layout.{Layout}
 use Rattle.std.specs.List.{list_all}
 use Rattle.wild_types.specs.FileSymbols.{range_of, copied_again}
 use Rattle.wild_types.specs.Lists.{first_failing, unless, through}
-use Rattle.wild_clauses.specs.Indexes.{part_index_fits, symbol_misfit, symbol_is_there, section_indexes_fit, file_indexes_fit, group_indexes_fit, listed_misfit, entry_is_there, definition_is_own, range_follows, or_place, range_out_of_order}
+use Rattle.wild_clauses.specs.Indexes.{part_index_fits, primary_is_there, symbol_misfit, symbol_is_there, block_is_there, thunks_are_there, section_indexes_fit, file_indexes_fit, group_indexes_fit, listed_misfit, entry_is_there, definition_is_own, range_follows, or_place, range_out_of_order}
 use Rattle.wild_clauses.specs.VersionTables.{parent_is_there}
 use Rattle.wild_clauses.specs.ClauseTests.{fails, first_error, check_indexes}
 use Rattle.wild_types.specs.Lookups.{section_of, section_of_part, files_of, file_of}
@@ -415,7 +415,7 @@ each_listed test [] h = tt
 each_listed test (x ∷ xs) h = let w = and_parts (test x) (list_all test xs) h in (w.0, each_listed test xs w.1)
 
 group_fits : (l : Layout) (g : Group) → group_indexes_fit l g ≡ true → Each (Fits (length l.symbols)) g.files
-group_fits l g h = each_weaker (λ (f : File). file_indexes_fit l f ≡ true) (Fits (length l.symbols)) g.files (λ f k. (and_parts (f.symbol_count == 0 || nat_le (f.first_symbol + f.symbol_count) (length l.symbols)) (list_all (section_indexes_fit l) f.sections && list_all (symbol_is_there l) f.copies) k).0) (each_listed (file_indexes_fit l) g.files h)
+group_fits l g h = each_weaker (λ (f : File). file_indexes_fit l f ≡ true) (Fits (length l.symbols)) g.files (λ f k. (and_parts (f.symbol_count == 0 || nat_le (f.first_symbol + f.symbol_count) (length l.symbols)) (list_all (section_indexes_fit l) f.sections && (list_all (symbol_is_there l) f.copies && block_is_there l f)) k).0) (each_listed (file_indexes_fit l) g.files h)
 
 pub ranges_ascend : (l : Layout) → check_indexes l ≡ Ok tt → Ascend (length l.symbols) 0 (files_of l.groups)
 unfolding check_indexes
@@ -427,14 +427,18 @@ ranges_ascend l h =
     let entry = fails 9 (unless (entry_is_there l l.entry)) in
     let parents = fails 9 (first_failing (parent_is_there l) 0 l.verdefs) in
     let listed = fails 9 (listed_misfit l) in
-    let beside = first_error entry (first_error copied behind) in
+    let thunks = fails 9 (first_failing (thunks_are_there l) 0 l.thunk_blocks) in
+    let begins = first_error entry (first_error copied behind) in
+    let beside = first_error thunks begins in
     let later = first_error listed (first_error parents beside) in
     let groups = fails 9 (first_failing (group_indexes_fit l) 0 l.groups) in
     let symbols = fails 9 (symbol_misfit l (files_of l.groups) 0 l.symbols) in
-    let a = rest_holds (fails 9 (first_failing (part_index_fits l) 0 l.parts)) (first_error symbols (first_error groups later)) h in
+    let primary = fails 9 (unless (primary_is_there l)) in
+    let p = rest_holds (fails 9 (first_failing (part_index_fits l) 0 l.parts)) (first_error primary (first_error symbols (first_error groups later))) h in
+    let a = rest_holds primary (first_error symbols (first_error groups later)) p in
     let b = rest_holds symbols (first_error groups later) a in
     let e = rest_holds parents beside (rest_holds listed (first_error parents beside) (rest_holds groups later b)) in
-    let c = rest_holds copied behind (rest_holds entry (first_error copied behind) e) in
+    let c = rest_holds copied behind (rest_holds entry (first_error copied behind) (rest_holds thunks begins e)) in
     let d = rest_holds own order c in
     let fit = each_weaker (λ (g : Group). group_indexes_fit l g ≡ true) (λ (g : Group). Each (Fits (length l.symbols)) g.files) l.groups (λ g k. group_fits l g k) (each_passes (group_indexes_fit l) 0 l.groups (None-from_fails 9 (first_failing (group_indexes_fit l) 0 l.groups) (first_holds groups later b))) in
     groups_ascend (length l.symbols) 0 0 l.groups fit (None-from_fails 9 (range_out_of_order 0 0 l.groups) d)

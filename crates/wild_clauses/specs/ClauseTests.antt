@@ -21,13 +21,14 @@ use Rattle.wild_clauses.specs.Counts.{counts_fit, role_given}
 use Rattle.wild_clauses.specs.Segments.{segment_out_of_order, bytes_are_loaded, leaves_zero_free, segment_in_image, dynamic_astray}
 use Rattle.wild_types.specs.Parts.{part_with, entry_parts}
 use Rattle.wild_clauses.specs.LoadedTables.{entries_astray, stands_in_entries, entries_follow, table_is_loaded}
-use Rattle.wild_clauses.specs.Indexes.{part_index_fits, symbol_misfit, group_indexes_fit, definition_is_own, range_out_of_order, listed_misfit, entry_is_there}
+use Rattle.wild_clauses.specs.Indexes.{part_index_fits, primary_is_there, thunks_are_there, symbol_misfit, group_indexes_fit, definition_is_own, range_out_of_order, listed_misfit, entry_is_there}
 use Rattle.wild_types.specs.FileSymbols.{copied_again}
 use Rattle.wild_clauses.specs.SlotPlaces.{slots_astray, slot_is_even, block_is_asked, block_has_base, pair_follows}
 use Rattle.wild_needs.specs.DynamicSymbols.{dynamic_symbols, misplaced, misfit, first_listed}
 use Rattle.wild_clauses.specs.SlotFlags.{first_asked_failing, dynamic_is_interposable, stub_is_value, stub_has_slot, one_slot_for_address, thread_slot_alone, resolver_is_own, slot_agrees, resolver_moves, second_slot_fits}
-use Rattle.wild_clauses.specs.Contents.{addresses, each_section, share_mismatch, has_share_for_each_part, section_misplaced, length_fits, discarded_is_empty, part_is_raw, allocation_agrees, bytes_take_room, fields_lie, tls_fits}
+use Rattle.wild_clauses.specs.Contents.{addresses, each_section, share_mismatch, has_share_for_each_part, section_misplaced, length_fits, discarded_is_empty, part_is_raw, primary_is_raw, allocation_agrees, bytes_take_room, fields_lie, tls_fits}
 use Rattle.wild_types.specs.FilePlaces.{file_misplaced}
+use Rattle.wild_clauses.specs.Thunks.{ascends, thunks_misplaced, block_lost, machine_takes}
 use Rattle.wild_clauses.specs.GroupStarts.{start_places, no_starts, start_astray}
 use Rattle.wild_clauses.specs.ZeroFree.{name_fits, option_names_fit, section_name_fits, symbol_name_fits, group_names_fit, listed_name_fits, definition_name_fits}
 
@@ -112,21 +113,24 @@ check_inputs l =
     (first_error (fails 8 (first_failing (each_section length_fits) 0 l.groups))
     (first_error (fails 8 (first_failing (each_section discarded_is_empty) 0 l.groups))
     (first_error (fails 8 (first_failing (each_section (part_is_raw l)) 0 l.groups))
+    (first_error (fails 8 (unless (primary_is_raw l)))
     (first_error (fails 8 (first_failing (each_section (allocation_agrees l)) 0 l.groups))
-    (fails 8 (first_failing (each_section (bytes_take_room l)) 0 l.groups))))))
+    (fails 8 (first_failing (each_section (bytes_take_room l)) 0 l.groups)))))))
 
 -- clause 9: indexes
 unfoldable pub check_indexes : Layout → Result (Unit {0}) Clause
 check_indexes l =
     first_error (fails 9 (first_failing (part_index_fits l) 0 l.parts))
+    (first_error (fails 9 (unless (primary_is_there l)))
     (first_error (fails 9 (symbol_misfit l (files_of l.groups) 0 l.symbols))
     (first_error (fails 9 (first_failing (group_indexes_fit l) 0 l.groups))
     (first_error (fails 9 (listed_misfit l))
     (first_error (fails 9 (first_failing (parent_is_there l) 0 l.verdefs))
+    (first_error (fails 9 (first_failing (thunks_are_there l) 0 l.thunk_blocks))
     (first_error (fails 9 (unless (entry_is_there l l.entry)))
     (first_error (fails 9 (copied_again l [] 0 l.groups))
     (first_error (fails 9 (first_failing (definition_is_own l) 0 l.symbols))
-    (fails 9 (range_out_of_order 0 0 l.groups)))))))))
+    (fails 9 (range_out_of_order 0 0 l.groups)))))))))))
 
 -- clause 10: fields
 unfoldable pub check_fields : Layout → Result (Unit {0}) Clause
@@ -140,6 +144,14 @@ check_slots l =
     (first_error (fails 11 (first_failing (block_is_asked l) 0 l.parts))
     (first_error (fails 11 (unless (pair_follows l)))
     (fails 11 (first_failing block_has_base 0 l.parts)))))
+
+-- clause 12: where thunks stand
+unfoldable pub check_thunks : Layout → Result (Unit {0}) Clause
+check_thunks l =
+    first_error (fails 12 (first_failing ascends 0 l.thunk_blocks))
+    (first_error (fails 12 (thunks_misplaced l))
+    (first_error (fails 12 (block_lost l 0 l.thunk_blocks))
+    (fails 12 (first_failing (machine_takes l.machine) 0 l.thunk_blocks))))
 
 -- clause 13: the dynamic symbol table
 unfoldable pub check_dynsyms : Layout → Result (Unit {0}) Clause

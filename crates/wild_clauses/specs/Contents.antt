@@ -19,6 +19,7 @@ use Rattle.wild_types.specs.declared.layout.Layout.{Layout}
 use Rattle.wild_types.specs.Lists.{total, through}
 use Rattle.wild_types.specs.Lookups.{allocated, section_of, is_allocated_part, takes_file_bytes, is_loaded, is_discarded, is_filled}
 use Rattle.wild_clauses.specs.Places.{multiple_of}
+use Rattle.wild_clauses.specs.Thunks.{has_thunks}
 use Rattle.wild_types.specs.Rows.{field_bytes}
 use Rattle.wild_types.specs.FilePlaces.{given, bool_eq}
 
@@ -95,11 +96,15 @@ is_raw (Some p) = raw p.role
 abbrev pub part_is_raw : Layout → InputSection → Bool
 part_is_raw l s = is_discarded s.slot || is_raw (slice_get l.parts s.part)
 
+-- thunks stand in a raw part
+abbrev pub primary_is_raw : Layout → Bool
+primary_is_raw l = not (has_thunks l) || is_raw (slice_get l.parts l.primary_part)
+
 -- a loaded input section is allocated exactly where its part's section is
 abbrev pub allocation_agrees : Layout → InputSection → Bool
 allocation_agrees l s = not (is_loaded s.slot) || bool_eq (allocated s.flags) (is_allocated_part l s.part)
 
--- bytes stand in no section of type SHT_NOBITS
+-- bytes stand in no section without data
 abbrev pub bytes_take_room : Layout → InputSection → Bool
 bytes_take_room l s = length s.bytes == 0 || takes_file_bytes l (section_of l s.part)
 

@@ -1,9 +1,10 @@
 -- Clause 9: each index names something, and each symbol belongs to one file at most.
 --   index_fits count i         the index, where it is there, names one of count items
 --   symbol_misfit l fs i ss    the first symbol whose definition, or whose place, is not there
+--   thunks_are_there l b       the symbols of a block of thunks are there
 --   listed_misfit l            the first listed symbol that is not there
 --   range_out_of_order n i gs  the first group with a range of symbols that begins before the end of the one before
-use Rattle.std.specs.Prelude.{ℕ, ◌+◌, ◌==◌, Bool, true, ◌&&◌, ◌||◌, if◌then◌else◌, nat_lt, nat_le, List, [], ◌∷◌, length, Option, Some, None, slice_get}
+use Rattle.std.specs.Prelude.{ℕ, ◌+◌, ◌==◌, Bool, true, ◌&&◌, ◌||◌, if◌then◌else◌, nat_lt, nat_le, max, List, [], ◌∷◌, length, Option, Some, None, slice_get}
 use Rattle.std.specs.List.{list_all}
 use Rattle.wild_types.specs.declared.part.Part.{Part}
 use Rattle.wild_types.specs.declared.symbol.Place.{Place}
@@ -17,6 +18,7 @@ use Rattle.wild_types.specs.declared.layout.Entry.{Entry}
 use Rattle.wild_types.specs.declared.layout.Entry.TheVariants as entry
 use Rattle.wild_types.specs.declared.layout.Layout.{Layout}
 use Rattle.wild_types.specs.declared.layout.DynamicSymbol.{DynamicSymbol}
+use Rattle.wild_types.specs.declared.layout.Thunk.{Thunk}
 use Rattle.wild_types.specs.Lists.{first_failing, through}
 use Rattle.wild_types.specs.Lookups.{file_of}
 
@@ -27,6 +29,9 @@ index_fits count (Some i) = nat_lt i count
 
 abbrev pub part_index_fits : Layout → Part → Bool
 part_index_fits l p = nat_lt p.section (length l.sections)
+
+abbrev pub primary_is_there : Layout → Bool
+primary_is_there l = nat_lt l.primary_part (length l.parts)
 
 -- ---- symbols
 
@@ -59,11 +64,23 @@ symbol_is_there l i = nat_lt i (length l.symbols)
 abbrev pub section_indexes_fit : Layout → InputSection → Bool
 section_indexes_fit l s = nat_lt s.part (length l.parts) && list_all (relocation_index_fits l) s.relocations
 
+-- block 0 may be named where there are none
+abbrev pub block_is_there : Layout → File → Bool
+block_is_there l f = nat_lt f.thunk_block (max 1 (length l.thunk_blocks))
+
 abbrev pub file_indexes_fit : Layout → File → Bool
-file_indexes_fit l f = (f.symbol_count == 0 || nat_le (f.first_symbol + f.symbol_count) (length l.symbols)) && (list_all (section_indexes_fit l) f.sections && list_all (symbol_is_there l) f.copies)
+file_indexes_fit l f = (f.symbol_count == 0 || nat_le (f.first_symbol + f.symbol_count) (length l.symbols)) && (list_all (section_indexes_fit l) f.sections && (list_all (symbol_is_there l) f.copies && block_is_there l f))
 
 abbrev pub group_indexes_fit : Layout → Group → Bool
 group_indexes_fit l g = list_all (file_indexes_fit l) g.files
+
+-- ---- thunks
+
+abbrev pub thunk_is_there : Layout → Thunk → Bool
+thunk_is_there l t = symbol_is_there l t.symbol
+
+abbrev pub thunks_are_there : Layout → List Thunk → Bool
+thunks_are_there l b = list_all (thunk_is_there l) b
 
 -- ---- listed symbols
 

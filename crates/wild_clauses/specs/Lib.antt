@@ -14,6 +14,7 @@ pub mod Positions
 pub mod Segments
 pub mod SlotFlags
 pub mod SlotPlaces
+pub mod Thunks
 pub mod VersionTables
 pub mod WellFormed
 pub mod ZeroFree

@@ -1,6 +1,6 @@
 //! Clause 9: indexes.
 ghost use Rattle.std.specs.Prelude.{◌≡◌};
-ghost use Rattle.wild_clauses.specs.Indexes.{part_index_fits, relocation_index_fits, symbol_is_there, section_indexes_fit, file_indexes_fit, group_indexes_fit, listed_is_there, entry_is_there, definition_is_own, range_follows, range_out_of_order};
+ghost use Rattle.wild_clauses.specs.Indexes.{part_index_fits, relocation_index_fits, symbol_is_there, section_indexes_fit, file_indexes_fit, group_indexes_fit, thunk_is_there, thunks_are_there, listed_is_there, entry_is_there, definition_is_own, range_follows, range_out_of_order};
 ghost use Rattle.wild_types.specs.Lists.{through};
 ghost use Rattle.wild_clauses.specs.ClauseTests.{check_indexes};
 
@@ -10,8 +10,9 @@ use crate::verdict::{fails, unless};
 use crate::versions::ParentIsThere;
 use wild_types::{
     Clause, DynamicSymbol, Entry, File, Group, InputRelocation, InputSection, Layout, Part, Symbol,
-    SymbolIndex, Test, all_pass, first_failing,
+    SymbolIndex, Test, Thunk, all_pass, first_failing,
 };
+use wild_words::Items;
 
 /// Whether the indexes in an item are those of something that is there.
 #[derive(Clone, Copy)]
@@ -59,6 +60,7 @@ impl Test<File> for IndexesFit<'_> {
         (file.symbol_count == 0 || end <= self.layout.symbols.len() as u128)
             && all_pass(self, file.sections.as_slice())
             && all_pass(self, file.copies.as_slice())
+            && file.thunk_block < self.layout.thunk_blocks.len().max(1)
     }
 }
 
@@ -67,6 +69,22 @@ impl Test<Group> for IndexesFit<'_> {
 
     fn passes(&self, group: &Group) -> bool {
         all_pass(self, group.files.as_slice())
+    }
+}
+
+impl Test<Thunk> for IndexesFit<'_> {
+    ghost test = { λ t. thunk_is_there t.layout.now };
+
+    fn passes(&self, thunk: &Thunk) -> bool {
+        self.passes(&thunk.symbol)
+    }
+}
+
+impl Test<Items<Thunk>> for IndexesFit<'_> {
+    ghost test = { λ t. thunks_are_there t.layout.now };
+
+    fn passes(&self, block: &Items<Thunk>) -> bool {
+        all_pass(self, block.as_slice())
     }
 }
 
@@ -138,6 +156,7 @@ pub(crate) fn check_indexes(layout: &Layout) -> Result<(), Clause>
     let indexes = IndexesFit { layout };
     let groups = layout.groups.as_slice();
     fails(9, first_failing(&indexes, layout.parts.as_slice()))?;
+    fails(9, unless(layout.primary_part < layout.parts.len()))?;
     fails(9, symbol_misfit(layout))?;
     fails(9, first_failing(&indexes, groups))?;
     fails(9, first_failing(&indexes, layout.dynsyms.as_slice()))?;
@@ -145,6 +164,7 @@ pub(crate) fn check_indexes(layout: &Layout) -> Result<(), Clause>
         9,
         first_failing(&ParentIsThere { layout }, layout.verdefs.as_slice()),
     )?;
+    fails(9, first_failing(&indexes, layout.thunk_blocks.as_slice()))?;
     fails(9, unless(entry_is_there(layout)))?;
     fails(9, copied_again(layout, groups))?;
     fails(9, first_failing(&indexes, layout.symbols.as_slice()))?;

@@ -1,12 +1,13 @@
 //! Clause 8: input sections in their parts.
-ghost use Rattle.std.specs.Prelude.{◌≡◌};
-ghost use Rattle.wild_clauses.specs.Contents.{length_fits, discarded_is_empty, part_is_raw, allocation_agrees, bytes_take_room};
+ghost use Rattle.std.specs.Prelude.{◌≡◌, slice_get};
+ghost use Rattle.wild_clauses.specs.Contents.{length_fits, discarded_is_empty, is_raw, part_is_raw, primary_is_raw, allocation_agrees, bytes_take_room};
 ghost use Rattle.wild_clauses.specs.Passed.{passes_all};
 ghost use Rattle.wild_clauses.specs.ClauseTests.{check_inputs};
 
 use crate::each_section::failing_group;
 use crate::places::section_misplaced;
-use crate::verdict::fails;
+use crate::thunks::has_thunks;
+use crate::verdict::{fails, unless};
 use wild_types::{Clause, InputSection, Layout, Role, Test, is_allocated};
 
 /// Bytes have the length of the section; a section without data has none.
@@ -37,6 +38,16 @@ impl Test<InputSection> for DiscardedIsEmpty {
     }
 }
 
+/// Whether the part of that number is a raw one.
+fn is_raw(layout: &Layout, part: usize) -> bool
+    ensures { result ≡ is_raw (slice_get layout.now.parts part) }
+{
+    match layout.parts.as_slice().get(part) {
+        Some(part) => matches!(part.role, Role::Raw),
+        None => false,
+    }
+}
+
 /// A section that is not discarded lies in a raw part.
 #[derive(Clone, Copy)]
 struct PartIsRaw<'a> {
@@ -47,12 +58,15 @@ impl Test<InputSection> for PartIsRaw<'_> {
     ghost test = { λ t. part_is_raw t.layout.now };
 
     fn passes(&self, section: &InputSection) -> bool {
-        section.slot.is_discarded()
-            || match self.layout.parts.as_slice().get(section.part) {
-                Some(part) => matches!(part.role, Role::Raw),
-                None => false,
-            }
+        section.slot.is_discarded() || is_raw(self.layout, section.part)
     }
+}
+
+/// Whether thunks, where there are any, stand in a raw part.
+fn primary_is_raw(layout: &Layout) -> bool
+    ensures { result ≡ primary_is_raw layout.now }
+{
+    !has_thunks(layout) || is_raw(layout, layout.primary_part)
 }
 
 /// A loaded section is allocated exactly where its part's section is.
@@ -111,12 +125,13 @@ pub(crate) fn check_inputs(layout: &Layout) -> Result<(), Clause>
 {
     let groups = layout.groups.as_slice();
     fails(8, section_misplaced(layout))?;
-    if failing_group(&PassesAll { layout }, groups).is_none() {
+    if failing_group(&PassesAll { layout }, groups).is_none() && primary_is_raw(layout) {
         return Ok(());
     }
     fails(8, failing_group(&LengthFits, groups))?;
     fails(8, failing_group(&DiscardedIsEmpty, groups))?;
     fails(8, failing_group(&PartIsRaw { layout }, groups))?;
+    fails(8, unless(primary_is_raw(layout)))?;
     fails(8, failing_group(&AllocationAgrees { layout }, groups))?;
     fails(8, failing_group(&BytesTakeRoom { layout }, groups))
 }

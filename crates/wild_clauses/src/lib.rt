@@ -26,6 +26,7 @@ mod slot_parts;
 mod slots;
 mod starts;
 mod threads;
+mod thunks;
 mod verdict;
 mod versions;
 

@@ -22,6 +22,7 @@ use crate::slot_flags::check_slot_flags;
 use crate::slots::check_slots;
 use crate::starts::check_starts;
 use crate::threads::check_tls;
+use crate::thunks::check_thunks;
 use crate::versions::check_versions;
 use wild_types::{Clause, Layout};
 
@@ -59,6 +60,7 @@ pub fn well_formed(layout: &Layout) -> Result<(), Clause>
     check_indexes(layout)?;
     check_fields(layout)?;
     check_slots(layout)?;
+    check_thunks(layout)?;
     check_dynsyms(layout)?;
     check_slot_flags(layout)?;
     check_tls(layout)?;

@@ -6,7 +6,7 @@ use Rattle.wild_types.specs.Lookups.{files_of}
 use Rattle.wild_clauses.specs.Places.{part_out_of_order}
 use Rattle.wild_clauses.specs.Contents.{addresses, each_section, section_misplaced, length_fits, part_is_raw, allocation_agrees, bytes_take_room, fields_lie}
 use Rattle.wild_clauses.specs.GroupStarts.{start_places, no_starts, start_astray}
-use Rattle.wild_clauses.specs.Indexes.{part_index_fits, symbol_misfit, group_indexes_fit, listed_misfit, entry_is_there}
+use Rattle.wild_clauses.specs.Indexes.{part_index_fits, primary_is_there, thunks_are_there, symbol_misfit, group_indexes_fit, listed_misfit, entry_is_there}
 use Rattle.wild_types.specs.FileSymbols.{copied_again}
 use Rattle.wild_clauses.specs.VersionTables.{parent_is_there}
 use Rattle.wild_clauses.specs.ClauseTests.{fails, check_inputs, check_indexes, check_fields, check_starts}
@@ -40,7 +40,8 @@ InputsHold-from_check l h =
     let b = Both-from_first_error _ _ a.rest in
     let c = Both-from_first_error _ _ b.rest in
     let d = Both-from_first_error _ _ c.rest in
-    let e = Both-from_first_error _ _ d.rest in
+    let t = Both-from_first_error _ _ d.rest in
+    let e = Both-from_first_error _ _ t.rest in
     record {
       order = None-from_fails 8 _ a.first;
       lengths = All-from_none_fails (each_section length_fits) 0 l.groups (None-from_fails 8 _ b.first);
@@ -59,11 +60,13 @@ pub IndexesHold-from_check : (l : Layout) → check_indexes l ≡ Ok tt → Inde
 unfolding check_indexes
 IndexesHold-from_check l h =
     let a = Both-from_first_error (fails 9 (first_failing (part_index_fits l) 0 l.parts)) _ h in
-    let b = Both-from_first_error (fails 9 (symbol_misfit l (files_of l.groups) 0 l.symbols)) _ a.rest in
+    let t = Both-from_first_error (fails 9 (unless (primary_is_there l))) _ a.rest in
+    let b = Both-from_first_error (fails 9 (symbol_misfit l (files_of l.groups) 0 l.symbols)) _ t.rest in
     let c = Both-from_first_error (fails 9 (first_failing (group_indexes_fit l) 0 l.groups)) _ b.rest in
     let d = Both-from_first_error (fails 9 (listed_misfit l)) _ c.rest in
     let e = Both-from_first_error (fails 9 (first_failing (parent_is_there l) 0 l.verdefs)) _ d.rest in
-    let f = Both-from_first_error (fails 9 (unless (entry_is_there l l.entry))) _ e.rest in
+    let u = Both-from_first_error (fails 9 (first_failing (thunks_are_there l) 0 l.thunk_blocks)) _ e.rest in
+    let f = Both-from_first_error (fails 9 (unless (entry_is_there l l.entry))) _ u.rest in
     let g = Both-from_first_error (fails 9 (copied_again l [] 0 l.groups)) _ f.rest in
     record {
       parts = All-from_none_fails (part_index_fits l) 0 l.parts (None-from_fails 9 _ a.first);

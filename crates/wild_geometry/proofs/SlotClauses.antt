@@ -11,7 +11,7 @@ use Rattle.wild_types.specs.Lists.{first_failing, unless}
 use Rattle.wild_clauses.specs.SlotPlaces.{slots_astray, slot_is_even, block_is_asked, block_has_base, pair_follows, pair_follows_by}
 use Rattle.wild_clauses.specs.SlotFlags.{is_asked, first_asked_failing, dynamic_is_interposable, stub_is_value, stub_has_slot, one_slot_for_address, thread_slot_alone, resolver_is_own, slot_agrees, resolver_moves, second_slot_fits}
 use Rattle.wild_clauses.specs.ClauseTests.{fails, check_indexes, check_slots, check_slot_flags}
-use Rattle.wild_clauses.specs.Indexes.{part_index_fits, symbol_misfit, group_indexes_fit, listed_misfit, entry_is_there, definition_is_own, defines_itself}
+use Rattle.wild_clauses.specs.Indexes.{part_index_fits, primary_is_there, thunks_are_there, symbol_misfit, group_indexes_fit, listed_misfit, entry_is_there, definition_is_own, defines_itself}
 use Rattle.wild_types.specs.FileSymbols.{copied_again}
 use Rattle.wild_clauses.specs.VersionTables.{parent_is_there}
 use Rattle.wild_types.proofs.ListLemmas.{All-from_none_fails}
@@ -89,11 +89,13 @@ definitions_are_own : (l : Layout) → check_indexes l ≡ Ok tt → All (λ (s 
 unfolding check_indexes
 definitions_are_own l h =
     let a = Both-from_first_error (fails 9 (first_failing (part_index_fits l) 0 l.parts)) _ h in
-    let b = Both-from_first_error (fails 9 (symbol_misfit l (files_of l.groups) 0 l.symbols)) _ a.rest in
+    let t = Both-from_first_error (fails 9 (unless (primary_is_there l))) _ a.rest in
+    let b = Both-from_first_error (fails 9 (symbol_misfit l (files_of l.groups) 0 l.symbols)) _ t.rest in
     let c = Both-from_first_error (fails 9 (first_failing (group_indexes_fit l) 0 l.groups)) _ b.rest in
     let d = Both-from_first_error (fails 9 (listed_misfit l)) _ c.rest in
     let e = Both-from_first_error (fails 9 (first_failing (parent_is_there l) 0 l.verdefs)) _ d.rest in
-    let f = Both-from_first_error (fails 9 (unless (entry_is_there l l.entry))) _ e.rest in
+    let u = Both-from_first_error (fails 9 (first_failing (thunks_are_there l) 0 l.thunk_blocks)) _ e.rest in
+    let f = Both-from_first_error (fails 9 (unless (entry_is_there l l.entry))) _ u.rest in
     let g = Both-from_first_error (fails 9 (copied_again l [] 0 l.groups)) _ f.rest in
     let m = Both-from_first_error (fails 9 (first_failing (definition_is_own l) 0 l.symbols)) _ g.rest in
     All-from_none_fails (definition_is_own l) 0 l.symbols (None-from_fails 9 _ m.first)

@@ -18,7 +18,7 @@ use Rattle.wild_types.specs.FileSymbols.{copied_in, copied_again}
 use Rattle.wild_types.specs.Flags.{has_flag}
 use Rattle.wild_needs.specs.DynamicSymbols.{dynamic_symbols, misplaced}
 use Rattle.wild_clauses.specs.SlotFlags.{is_asked, first_asked_failing, dynamic_is_interposable, stub_is_value, stub_has_slot, one_slot_for_address, thread_slot_alone, resolver_is_own, slot_agrees, resolver_moves, second_slot_fits}
-use Rattle.wild_clauses.specs.ClauseTests.{check_indexes, check_fields, check_dynsyms, check_slot_flags, check_tls, check_starts, check_hashes, check_names}
+use Rattle.wild_clauses.specs.ClauseTests.{check_indexes, check_fields, check_thunks, check_dynsyms, check_slot_flags, check_tls, check_starts, check_hashes, check_names}
 use Rattle.wild_clauses.specs.WellFormed.{first_clause}
 use Rattle.wild_made.specs.Made.{made_section, made_object, made_files, made_symbol, made_group, made_relocation, made, callee}
 use Rattle.wild_made.specs.Laws.{IsCount}
@@ -109,7 +109,7 @@ pub indexes_hold : (n : ℕ) → IsCount n → check_indexes (made n) ≡ Ok tt
 unfolding check_indexes made
 indexes_hold n c = rw (none_astray n 0 n (omega arith), group_indexes n c, none_copied n 0 0 n, definitions_own n, ranges_follow n 0 n) refl
 
--- ---- clauses 10, 15 to 17 and 19
+-- ---- clauses 10, 12, 15 to 17 and 19
 
 fields_fit : (n : ℕ) → first_failing (each_section (fields_lie (made n).machine)) 0 (made_from (made_group n) 0 n) ≡ None
 unfolding made_section made row_of x86_64_row
@@ -118,6 +118,10 @@ fields_fit n = sections_pass (fields_lie (made n).machine) n (λ i h. refl)
 pub fields_hold : (n : ℕ) → check_fields (made n) ≡ Ok tt
 unfolding check_fields made
 fields_hold n = rw (fields_fit n) refl
+
+pub thunks_hold : (n : ℕ) → check_thunks (made n) ≡ Ok tt
+unfolding check_thunks made
+thunks_hold n = refl
 
 pub tls_holds : (n : ℕ) → check_tls (made n) ≡ Ok tt
 unfolding check_tls made
@@ -186,4 +190,4 @@ slot_flags_hold n =
 
 pub clauses_hold : (n : ℕ) → IsCount n → first_clause (made n) ≡ Ok tt
 unfolding first_clause
-clauses_hold n c = rw (sizes_hold n c, counts_hold n c, order_holds n c, roles_hold n, sections_hold n, segments_hold n c, shares_hold n c, inputs_hold n, indexes_hold n c, fields_hold n, slots_hold n, dynsyms_hold n, slot_flags_hold n, tls_holds n, starts_hold n, hashes_hold n, versions_hold n, names_hold n) refl
+clauses_hold n c = rw (sizes_hold n c, counts_hold n c, order_holds n c, roles_hold n, sections_hold n, segments_hold n c, shares_hold n c, inputs_hold n, indexes_hold n c, fields_hold n, slots_hold n, thunks_hold n, dynsyms_hold n, slot_flags_hold n, tls_holds n, starts_hold n, hashes_hold n, versions_hold n, names_hold n) refl
