@@ -139,8 +139,8 @@ chosen_lies l s r next row c k = record {
 }
 
 -- what is written in place of a pattern has its length
-pub length-template : (row : Row) (info : RelocationKindInfo) (v : ℕ) (old : List ℕ) → LiesInItsPattern row → x86_64_row (rewrite_of row).number ≡ Some info → length old ≡ pattern_size row → length (template_of row v old) ≡ pattern_size row
-length-template row info v old lies known long = template-lemmas.length-template row info v old lies.fits (sym known) long
+pub length-template : (row : Row) (v : ℕ) (old : List ℕ) → LiesInItsPattern row → length old ≡ pattern_size row → length (template_of row v old) ≡ pattern_size row
+length-template row v old lies long = template-lemmas.length-template row v old lies.fits long
 
 -- ---- sequences
 

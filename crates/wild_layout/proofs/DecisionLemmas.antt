@@ -11,12 +11,13 @@
 --   sequence_is_rewritten           what is decided of that one
 --   decide_alone                    without a row, and taken along by none, a relocation is decided of by itself
 --   decide_loads, decide_base_relative, decide_symbolic, decide_indirect, decide_extent    a field that a loader may fill is decided of by itself
-use Rattle.std.proofs.Common.{◌≡◌, ℕ, ◌+◌, ◌%◌, ◌^◌, ◌⊎◌, inl, inr, Bool, true, false, refl, sym, ap, ◌∙◌, arith, subst}
+use Rattle.std.proofs.Common.{◌≡◌, ℕ, ℤ, ◌+◌, ◌%◌, ◌^◌, ◌⊎◌, inl, inr, Bool, true, false, refl, sym, ap, ◌∙◌, arith, subst}
 use Rattle.std.specs.Prelude.{⊤, List, [], ◌∷◌, Contains, Option, Some, None, Result, Ok, Err, ◌==◌, ◌&&◌, ◌||◌, not, if◌then◌else◌, slice_get}
 use Rattle.std.specs.List.{list_all, filter}
 use Rattle.std.proofs.lemmas.Bool.{cases_Bool, not-true}
 use Rattle.wild_words.proofs.Basics.{not_both, implied, listed_passes}
 use Rattle.wild_records.specs.Abi.Relocation as abi
+use Rattle.wild_reloc.specs.Expression.{taken_of}
 use Rattle.wild_reloc.specs.Field.{allows}
 use Rattle.wild_reloc.specs.Table.{plain}
 use Rattle.wild_reloc.specs.TableX86_64.{x86_64_row}
@@ -24,6 +25,7 @@ use Rattle.wild_reloc.specs.declared.range.Sign.TheVariants.{Signed}
 use Rattle.wild_reloc.specs.declared.info.Width.TheVariants.{Zero, Four, Eight}
 use Rattle.wild_reloc.specs.declared.info.RelocationKind.{RelocationKind}
 use Rattle.wild_reloc.specs.declared.info.RelocationKind.TheVariants as kinds
+use Rattle.wild_reloc.specs.declared.info.PageMask.{PageMask}
 use Rattle.wild_reloc.specs.declared.info.RelocationKindInfo.{RelocationKindInfo}
 use Rattle.wild_reloc.specs.declared.info.RelocationSize.{RelocationSize}
 use Rattle.wild_reloc.specs.declared.info.RelocationSize.TheVariants.{ByteSize}
@@ -47,15 +49,18 @@ use Rattle.wild_relax.specs.declared.row.Row.{Row}
 use Rattle.wild_relax.specs.declared.table.TheConstants.{PLT, PLT_OFF}
 use Rattle.wild_relax.specs.Rows.{rows_x86_64}
 use Rattle.wild_relax.specs.RowSequences.{call_form, is_call_number}
-use Rattle.wild_relax.specs.RewriteX86_64.{rewrite_of}
+use Rattle.wild_relax.specs.declared.row.Written.{Written}
+use Rattle.wild_relax.specs.declared.row.Written.TheVariants as written
+use Rattle.wild_relax.specs.RewriteX86_64.{info_by, info_written, rewrite_of}
+use Rattle.wild_relax.proofs.RewriteLemmas.{written_row}
 use Rattle.wild_relax.specs.Linked.{keeps_bytes}
 use Rattle.wild_layout.specs.declared.decision.Decision.{Decision}
 use Rattle.wild_layout.specs.declared.decision.Decision.TheVariants.{Nothing, Field, Moved, Left, Rewritten, Partner}
 use Rattle.wild_types.specs.Lookups.{place_of}
 use Rattle.wild_layout.specs.SlotValues.{address_of, index_of, decided_address}
-use Rattle.wild_layout.specs.Values.{term_of, value_by, value_in, term_at}
+use Rattle.wild_layout.specs.Values.{term_of, value_by, value_less, value_in, term_at}
 use Rattle.wild_layout.specs.Choice.{choice_of, takes_next, is_partner}
-use Rattle.wild_layout.specs.Decide.{field, field_for, moved_to, added, left_to, chosen_to, decide_by, decided, field_at, value_to, term_to, rewritten_by, rewritten_to, refused_with, decide_with, decide_at, decide}
+use Rattle.wild_layout.specs.Decide.{field, field_for, moved_to, added, left_to, chosen_to, decide_by, decided, field_at, place_to, value_to, term_to, rewritten_to, refused_with, decide_with, decide_at, decide}
 use Rattle.wild_slot.proofs.TreatmentLemmas.{HasValue, known_moved, known_symbolic, known_indirect, known_extent}
 use Rattle.wild_layout.proofs.ChoiceLemmas.{IsChosen, choice_row, is_listed, kept_listed, of_two, IsSequence, partner_is_taken, partner_number, loads, no_row, no_partner}
 use Rattle.wild_layout.proofs.DecideLemmas.{HasField, sized_left}
@@ -129,20 +134,28 @@ of_row false z row v d h = subst IsOfRow h tt
 
 -- ---- what a row writes
 
+-- what a kind needs of the symbol where none stands for it by its place
+abbrev pub term_alone : Layout → InputRelocation → RelocationKindInfo → Result ℕ Fault
+term_alone l r info = if has_no_value info.kind then Ok 0 else term_of l r.symbol info.kind
+  where
+    has_no_value : RelocationKind → Bool
+    has_no_value kinds.None = true
+    has_no_value other = false
+
 -- v is the value of the kind that is written, at the field's new place and with its new addend, and the field takes it
 pub record IsWrittenBy (l : Layout) (s : Item) (r : InputRelocation) (row : Row) (v : ℕ) : Type 0 where
   pub info : RelocationKindInfo
   pub known : row_of l.machine (rewrite_of row).number ≡ Some info
   pub term : ℕ
-  pub given : term_to l r info ≡ Ok term
-  pub value : value_by l info.kind term ((rewrite_of row).addend r.addend) ((s.address + field_at row r) % 2 ^ 64) ≡ v
+  pub given : term_alone l r info ≡ Ok term
+  pub value : value_by l info.kind term ((rewrite_of row).addend r.addend) (place_to s r row) ≡ v
   pub allowed : allows info v ≡ true
 
 -- of a kind that has a value, the term is what that needs of the symbol
-pub term_has_value : (l : Layout) (r : InputRelocation) (info : RelocationKindInfo) (a : ℕ) → HasValue info.kind → term_to l r info ≡ Ok a → term_of l r.symbol info.kind ≡ Ok a
+pub term_has_value : (l : Layout) (r : InputRelocation) (info : RelocationKindInfo) (a : ℕ) → HasValue info.kind → term_alone l r info ≡ Ok a → term_of l r.symbol info.kind ≡ Ok a
 term_has_value l r info a has h = by_kind l r a info.kind has h
   where
-    by_kind : (l : Layout) (r : InputRelocation) (a : ℕ) (k : RelocationKind) → HasValue k → term_to l r (plain k Zero Signed) ≡ Ok a → term_of l r.symbol k ≡ Ok a
+    by_kind : (l : Layout) (r : InputRelocation) (a : ℕ) (k : RelocationKind) → HasValue k → term_alone l r (plain k Zero Signed) ≡ Ok a → term_of l r.symbol k ≡ Ok a
     by_kind l r a kinds.None has h = cc
     by_kind l r a other has h = h
 
@@ -152,24 +165,56 @@ record IsMade (l : Layout) (s : Item) (r : InputRelocation) (row : Row) (d : Dec
   by : IsWrittenBy l s r row value
   is : (if keeps_bytes row then Field by.info.size value else Rewritten row value) ≡ d
 
-row_makes : (l : Layout) (s : Item) (r : InputRelocation) (row : Row) (d : Decision) → rewritten_to l s r row ≡ Ok d → IsMade l s r row d
-row_makes l s r row d h = by_info l s r row d (row_of l.machine (rewrite_of row).number) refl h
+-- on x86-64 no place stands for a symbol
+not_placed : (l : Layout) (r : InputRelocation) (info : RelocationKindInfo) (p : ℕ) → l.machine ≡ machine.X86_64 → term_to l r info p ≡ term_alone l r info
+not_placed l r info p is = rw is refl
+
+-- and what is written counts no pages
+unmasked : (w : Written) → (info_by w).mask ≡ None
+unfolding x86_64_row
+unmasked written.Nothing = refl
+unmasked written.Pc32 = refl
+unmasked written.Plt32 = refl
+unmasked written.Unsigned32 = refl
+unmasked written.Signed32 = refl
+unmasked written.GotTpOff = refl
+unmasked written.TpOff32 = refl
+unmasked written.GotOff64 = refl
+
+whole_value : (l : Layout) (info : RelocationKindInfo) (a : ℕ) (addend : ℤ) (p : ℕ) → info.mask ≡ None → value_in l info a addend p ≡ value_by l info.kind a addend p
+whole_value l info a addend p none = ap (λ (m : Option PageMask). value_less l (taken_of info.kind m) a addend p) none
+
+known_on : (m : Machine) (row : Row) → m ≡ machine.X86_64 → row_of m (rewrite_of row).number ≡ Some (info_written row)
+unfolding row_of
+known_on machine.AArch64 row is = cc
+known_on machine.X86_64 row is = written_row row.written
+
+row_makes : (l : Layout) (s : Item) (r : InputRelocation) (row : Row) (d : Decision) → l.machine ≡ machine.X86_64 → rewritten_to l s r row ≡ Ok d → IsMade l s r row d
+row_makes l s r row d x86 h = by_term l s r row d x86 (term_to l r (info_written row) (place_to s r row)) refl h
   where
-    by_test : (l : Layout) (s : Item) (r : InputRelocation) (row : Row) (d : Decision) (info : RelocationKindInfo) (a v : ℕ) (b : Bool) → row_of l.machine (rewrite_of row).number ≡ Some info → term_to l r info ≡ Ok a → value_by l info.kind a ((rewrite_of row).addend r.addend) ((s.address + field_at row r) % 2 ^ 64) ≡ v → allows info v ≡ b → (if b then Ok (if keeps_bytes row then Field info.size v else Rewritten row v) else Err (faults.OutOfRange v)) ≡ Ok d → IsMade l s r row d
-    by_test l s r row d info a v false known given value allowed h = cc
-    by_test l s r row d info a v true known given value allowed h =
-        let same : (if keeps_bytes row then Field info.size v else Rewritten row v) ≡ d = cc in
-        record { value = v; by = record { info = info; known = known; term = a; given = given; value = value; allowed = allowed }; is = same }
+    by_test : (l : Layout) (s : Item) (r : InputRelocation) (row : Row) (d : Decision) (a v : ℕ) (b : Bool) → l.machine ≡ machine.X86_64 → term_to l r (info_written row) (place_to s r row) ≡ Ok a → value_in l (info_written row) a ((rewrite_of row).addend r.addend) (place_to s r row) ≡ v → allows (info_written row) v ≡ b
+        → (if b then Ok (if keeps_bytes row then Field (info_written row).size v else Rewritten row v) else Err (faults.OutOfRange v)) ≡ Ok d → IsMade l s r row d
+    by_test l s r row d a v false x86 given value allowed h = cc
+    by_test l s r row d a v true x86 given value allowed h =
+        let same : (if keeps_bytes row then Field (info_written row).size v else Rewritten row v) ≡ d = cc in
+        record {
+          value = v;
+          by = record {
+            info = info_written row;
+            known = known_on l.machine row x86;
+            term = a;
+            given = sym (not_placed l r (info_written row) (place_to s r row) x86) ∙ given;
+            value = sym (whole_value l (info_written row) a ((rewrite_of row).addend r.addend) (place_to s r row) (unmasked row.written)) ∙ value;
+            allowed = allowed;
+          };
+          is = same;
+        }
 
-    by_term : (l : Layout) (s : Item) (r : InputRelocation) (row : Row) (d : Decision) (info : RelocationKindInfo) (t : Result ℕ Fault) → row_of l.machine (rewrite_of row).number ≡ Some info → term_to l r info ≡ t → value_to l s r row info t ≡ Ok d → IsMade l s r row d
-    by_term l s r row d info (Err f) known given h = cc
-    by_term l s r row d info (Ok a) known given h =
-        let v = value_by l info.kind a ((rewrite_of row).addend r.addend) ((s.address + field_at row r) % 2 ^ 64) in
-        by_test l s r row d info a v (allows info v) known given refl refl h
-
-    by_info : (l : Layout) (s : Item) (r : InputRelocation) (row : Row) (d : Decision) (o : Option RelocationKindInfo) → row_of l.machine (rewrite_of row).number ≡ o → rewritten_by l s r row o ≡ Ok d → IsMade l s r row d
-    by_info l s r row d None known h = cc
-    by_info l s r row d (Some info) known h = by_term l s r row d info (term_to l r info) known refl h
+    by_term : (l : Layout) (s : Item) (r : InputRelocation) (row : Row) (d : Decision) → l.machine ≡ machine.X86_64 → (t : Result ℕ Fault) → term_to l r (info_written row) (place_to s r row) ≡ t → value_to l s r row t ≡ Ok d → IsMade l s r row d
+    by_term l s r row d x86 (Err f) given h = cc
+    by_term l s r row d x86 (Ok a) given h =
+        let v = value_in l (info_written row) a ((rewrite_of row).addend r.addend) (place_to s r row) in
+        by_test l s r row d a v (allows (info_written row) v) x86 given refl refl h
 
 -- ---- the three ways
 
@@ -179,14 +224,13 @@ pub record IsOwn (l : Layout) (s : Item) (i : ℕ) (r : InputRelocation) (d : De
   pub choice : choice_of l s r (slice_get s.relocations (i + 1)) ≡ Ok None
   pub alone : is_partner l s i ≡ false
 
-refused_term : (l : Layout) (r : InputRelocation) (e : UnknownSequence) (info : RelocationKindInfo) (t : Result ℕ Fault) (d : Decision) → term_to l r info ≡ t → refused_with l r e (Some info) ≡ Ok d → ⊥
-refused_term l r e info (Err f) d is h = cc (rw is at h)
-refused_term l r e info (Ok a) d is h = cc (rw is at h)
-
 -- a sequence that is not there has no decision
-pub refused : (l : Layout) (r : InputRelocation) (e : UnknownSequence) (o : Option RelocationKindInfo) (d : Decision) → refused_with l r e o ≡ Ok d → ⊥
-refused l r e None d h = cc
-refused l r e (Some info) d h = refused_term l r e info (term_to l r info) d refl h
+pub refused : (l : Layout) (s : Item) (r : InputRelocation) (e : UnknownSequence) (d : Decision) → refused_with l s r e ≡ Ok d → ⊥
+refused l s r e d h = by_term l s r e d (term_to l r e.written (place_of s.address r)) refl h
+  where
+    by_term : (l : Layout) (s : Item) (r : InputRelocation) (e : UnknownSequence) (d : Decision) (t : Result ℕ Fault) → term_to l r e.written (place_of s.address r) ≡ t → refused_with l s r e ≡ Ok d → ⊥
+    by_term l s r e d (Err f) is h = cc (rw is at h)
+    by_term l s r e d (Ok a) is h = cc (rw is at h)
 
 decide_cases : {P : Type 0} (l : Layout) (s : Item) (i : ℕ) (r : InputRelocation) (d : Decision) → slice_get s.relocations i ≡ Some r → decide l s i ≡ Ok d → (IsOwn l s i r d → P) → ((row : Row) → IsChosen l s r (slice_get s.relocations (i + 1)) row → IsMade l s r row d → P) → (is_partner l s i ≡ true → Partner ≡ d → P) → P
 unfolding decide
@@ -194,8 +238,8 @@ decide_cases {P} l s i r d listed h own made taken = by_partner l s i r d (is_pa
   where
     by_choice : {P : Type 0} (l : Layout) (s : Item) (i : ℕ) (r : InputRelocation) (d : Decision) (c : Result (Option Row) UnknownSequence) → is_partner l s i ≡ false → choice_of l s r (slice_get s.relocations (i + 1)) ≡ c → decide_with l s r c ≡ Ok d → (IsOwn l s i r d → P) → ((row : Row) → IsChosen l s r (slice_get s.relocations (i + 1)) row → IsMade l s r row d → P) → P
     by_choice l s i r d (Ok None) alone is h own made = own (record { made = h; choice = is; alone = alone })
-    by_choice l s i r d (Ok (Some row)) alone is h own made = made row (choice_row l s r (slice_get s.relocations (i + 1)) row is) (row_makes l s r row d h)
-    by_choice l s i r d (Err e) alone is h own made = absurd (refused l r e (row_of l.machine e.written) d h)
+    by_choice l s i r d (Ok (Some row)) alone is h own made = (let c = choice_row l s r (slice_get s.relocations (i + 1)) row is in made row c (row_makes l s r row d c.machine h))
+    by_choice l s i r d (Err e) alone is h own made = absurd (refused l s r e d h)
 
     by_partner : {P : Type 0} (l : Layout) (s : Item) (i : ℕ) (r : InputRelocation) (d : Decision) (b : Bool) → is_partner l s i ≡ b → slice_get s.relocations i ≡ Some r → (if b then Ok Partner else decide_at l s (slice_get s.relocations i) (slice_get s.relocations (i + 1))) ≡ Ok d → (IsOwn l s i r d → P) → ((row : Row) → IsChosen l s r (slice_get s.relocations (i + 1)) row → IsMade l s r row d → P) → (is_partner l s i ≡ true → Partner ≡ d → P) → P
     by_partner l s i r d true is listed h own made taken = taken is cc

@@ -15,11 +15,9 @@ use Rattle.wild_reloc.specs.declared.info.RelocationSize.{RelocationSize}
 use Rattle.wild_reloc.specs.declared.info.RelocationSize.TheVariants.{ByteSize}
 use Rattle.wild_reloc.specs.declared.info.Width.TheVariants.{Eight}
 use Rattle.wild_reloc.proofs.PlaceLemmas.{length-size_written}
-use Rattle.wild_types.proofs.LookupLemmas.{row_here}
 use Rattle.wild_layout.specs.declared.decision.Decision.{Decision}
 use Rattle.wild_layout.specs.declared.decision.Decision.TheVariants.{Nothing, Field, Moved, Left, Rewritten, Partner}
 use Rattle.wild_relax.specs.declared.row.Row.{Row}
-use Rattle.wild_relax.specs.RewriteX86_64.{rewrite_of}
 use Rattle.wild_relax.specs.Linked.{pattern_size}
 use Rattle.wild_layout.specs.Decide.{decide}
 use Rattle.wild_layout.specs.Sites.{Written, written_by, field_site, template_start, template_site, site_by, site_for, site_of, site_at, site, sites, shared_byte}
@@ -132,8 +130,7 @@ field_lies l s r z f lies = let e = field_ends l r z (length s.bytes) f lies in 
 -- an instruction that is rewritten has the bytes of its pattern
 pub length-template_site : (l : Layout) (s : Item) (r : InputRelocation) (next : Option InputRelocation) (row : Row) (v : ℕ) → IsRewritten l s r next row v → length (template_site s r row v).bytes ≡ pattern_size row
 length-template_site l s r next row v w =
-    let known = row_here l.machine (rewrite_of row).number w.written.info w.chosen.machine w.written.known in
-    length-template row w.written.info v (slice_range s.bytes (template_start row r) (template_start row r + pattern_size row)) (chosen_lies l s r next row w.chosen w.changes) known (length-range s.bytes (template_start row r) (pattern_size row) w.chosen.inside)
+    length-template row v (slice_range s.bytes (template_start row r) (template_start row r + pattern_size row)) (chosen_lies l s r next row w.chosen w.changes) (length-range s.bytes (template_start row r) (pattern_size row) w.chosen.inside)
 
 -- and lies in the section
 pub template_lies : (l : Layout) (s : Item) (r : InputRelocation) (next : Option InputRelocation) (row : Row) (v : ℕ) → IsRewritten l s r next row v → IsFieldIn (length s.bytes) (template_site s r row v)

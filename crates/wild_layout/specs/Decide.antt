@@ -30,17 +30,16 @@ use Rattle.wild_reloc.specs.declared.info.RelocationSize.TheVariants.{ByteSize}
 use Rattle.wild_reloc.specs.declared.info.Width.TheVariants.{Eight}
 use Rattle.wild_reloc.specs.declared.dynamic.DynamicRelocationKind.TheVariants.{Absolute, Irelative}
 use Rattle.wild_slot.specs.SlotParts.{type_of}
-use Rattle.wild_types.specs.Rows.{row_of}
 use Rattle.wild_reloc.specs.declared.info.RelocationKind.{RelocationKind}
 use Rattle.wild_reloc.specs.declared.info.RelocationKind.TheVariants as kinds
 use Rattle.wild_relax.specs.declared.reference.UnknownSequence.{UnknownSequence}
 use Rattle.wild_relax.specs.declared.row.Row.{Row}
-use Rattle.wild_relax.specs.RewriteX86_64.{rewrite_of}
+use Rattle.wild_relax.specs.RewriteX86_64.{rewrite_of, info_written}
 use Rattle.wild_relax.specs.Linked.{keeps_bytes}
 use Rattle.wild_layout.specs.Choice.{choice_of, is_partner}
 use Rattle.wild_layout.specs.SymbolValues.{sum, symbol_size}
 use Rattle.wild_layout.specs.SlotValues.{address_of, index_of, decided_address}
-use Rattle.wild_layout.specs.Values.{term_of, value_by, value_in, term_at}
+use Rattle.wild_layout.specs.Values.{value_in, term_at}
 
 -- a value in the row's field, where it is in range
 abbrev pub field : RelocationKindInfo → ℕ → Result Decision Fault
@@ -93,38 +92,35 @@ decided l s r = decide_by l s r (treatment l s.flags r)
 
 -- ---- instructions that are rewritten
 
--- where the field of a rewritten instruction begins in its item
+-- where the field of a rewritten instruction begins in its item, and its address
 abbrev pub field_at : Row → InputRelocation → ℕ
 field_at row r = r.offset - (rewrite_of row).back + (rewrite_of row).field
 
--- the value of the kind that is written, for what A is added to, at the field's new place and with its new addend; a row that
--- keeps the bytes around the field has that alone
-abbrev pub value_to : Layout → Item → InputRelocation → Row → RelocationKindInfo → Result ℕ Fault → Result Decision Fault
-value_to l s r row info (Err f) = Err f
-value_to l s r row info (Ok a) =
-    let v = value_by l info.kind a ((rewrite_of row).addend r.addend) ((s.address + field_at row r) % 2 ^ 64) in
-    if allows info v then Ok (if keeps_bytes row then Field info.size v else Rewritten row v) else Err (faults.OutOfRange v)
+abbrev pub place_to : Item → InputRelocation → Row → ℕ
+place_to s r row = (s.address + field_at row r) % 2 ^ 64
 
--- what the written kind needs of the symbol; a kind without a value needs nothing
-abbrev pub term_to : Layout → InputRelocation → RelocationKindInfo → Result ℕ Fault
-term_to l r info = if has_no_value info.kind then Ok 0 else term_of l r.symbol info.kind
+-- the value that the row writes, for what A is added to, at the field's new place and with its new addend; a row that keeps the
+-- bytes around the field has that alone
+abbrev pub value_to : Layout → Item → InputRelocation → Row → Result ℕ Fault → Result Decision Fault
+value_to l s r row (Err f) = Err f
+value_to l s r row (Ok a) =
+    let v = value_in l (info_written row) a ((rewrite_of row).addend r.addend) (place_to s r row) in
+    if allows (info_written row) v then Ok (if keeps_bytes row then Field (info_written row).size v else Rewritten row v) else Err (faults.OutOfRange v)
+
+-- what is needed of the symbol to write so at place p; a kind without a value needs nothing
+abbrev pub term_to : Layout → InputRelocation → RelocationKindInfo → ℕ → Result ℕ Fault
+term_to l r info p = if has_no_value info.kind then Ok 0 else term_at l r info p
   where
     has_no_value : RelocationKind → Bool
     has_no_value kinds.None = true
     has_no_value other = false
 
-abbrev pub rewritten_by : Layout → Item → InputRelocation → Row → Option RelocationKindInfo → Result Decision Fault
-rewritten_by l s r row None = Err (faults.UnsupportedRelocation r.number)
-rewritten_by l s r row (Some info) = value_to l s r row info (term_to l r info)
-
--- by the row of the relocation type that is written
 abbrev pub rewritten_to : Layout → Item → InputRelocation → Row → Result Decision Fault
-rewritten_to l s r row = rewritten_by l s r row (row_of l.machine (rewrite_of row).number)
+rewritten_to l s r row = value_to l s r row (term_to l r (info_written row) (place_to s r row))
 
--- a row stands without its sequence: what the written kind needs is asked first
-abbrev pub refused_with : Layout → InputRelocation → UnknownSequence → Option RelocationKindInfo → Result Decision Fault
-refused_with l r e None = Err (faults.UnknownSequence e.number)
-refused_with l r e (Some info) = refused_by (term_to l r info)
+-- a row stands without its sequence: what it needs of the symbol is asked first
+abbrev pub refused_with : Layout → Item → InputRelocation → UnknownSequence → Result Decision Fault
+refused_with l s r e = refused_by (term_to l r e.written (place_of s.address r))
   where
     refused_by : Result ℕ Fault → Result Decision Fault
     refused_by (Err f) = Err f
@@ -134,7 +130,7 @@ refused_with l r e (Some info) = refused_by (term_to l r info)
 abbrev pub decide_with : Layout → Item → InputRelocation → Result (Option Row) UnknownSequence → Result Decision Fault
 decide_with l s r (Ok None) = decided l s r
 decide_with l s r (Ok (Some row)) = rewritten_to l s r row
-decide_with l s r (Err e) = refused_with l r e (row_of l.machine e.written)
+decide_with l s r (Err e) = refused_with l s r e
 
 -- ---- relocations of an item
 

@@ -7,7 +7,6 @@ use Rattle.wild_types.specs.declared.kind.Machine.TheVariants as machine
 use Rattle.wild_types.specs.declared.input.InputRelocation.{InputRelocation}
 use Rattle.wild_types.specs.Item.{Item}
 use Rattle.wild_types.specs.declared.layout.Layout.{Layout}
-use Rattle.wild_types.specs.Rows.{row_of}
 use Rattle.wild_relax.specs.declared.reference.UnknownSequence.{UnknownSequence}
 use Rattle.wild_relax.specs.declared.row.Row.{Row}
 use Rattle.wild_relax.specs.RewriteX86_64.{rewrite_of}
@@ -36,7 +35,7 @@ unfolding decide
 decided_with l s i r d listed alone h = rw (alone, listed) at h
 
 pub not_refused : (l : Layout) (s : Item) (r : InputRelocation) (e : UnknownSequence) (d : Decision) → decide_with l s r (Err e) ≡ Ok d → ⊥
-not_refused l s r e d h = refused l r e (row_of l.machine e.written) d h
+not_refused l s r e d h = refused l s r e d h
 
 -- ---- the choice
 

@@ -10,7 +10,8 @@ use Rattle.wild_reloc.specs.TableX86_64.{x86_64_row}
 use Rattle.wild_reloc.specs.declared.info.RelocationKindInfo.{RelocationKindInfo}
 use Rattle.wild_relax.specs.declared.row.Row.{Row}
 use Rattle.wild_relax.specs.RewriteX86_64.{rewrite_of}
-use Rattle.wild_relax.specs.Linked.{pattern_size, field_in, linked, template_by, template_of}
+use Rattle.wild_relax.specs.Linked.{pattern_size, field_in, linked, template_of}
+use Rattle.wild_relax.proofs.TemplateLemmas as templates
 use Rattle.wild_relax.specs.Keep.{Lands, demanded}
 use Rattle.wild_layout.specs.Sites.{template_start}
 use Rattle.wild_layout.proofs.ChoiceLemmas.{length-template}
@@ -64,8 +65,7 @@ pub value_small : (l : Layout) (s : Item) (i : ℕ) (r : InputRelocation) (row :
 value_small l s i r row v p = (let x = p.made.written in subst (λ (n : ℕ). n < 2 ^ 64) x.value (value_below l x.info.kind x.term _ _))
 
 pub template_linked : (row : Row) (info : RelocationKindInfo) (v : ℕ) (old : List ℕ) → x86_64_row (rewrite_of row).number ≡ Some info → template_of row v old ≡ linked row info v old
-unfolding template_of
-template_linked row info v old e = ap (λ (o : Option RelocationKindInfo). template_by row v old o) e
+template_linked row info v old e = templates.template_linked row info v old (sym e)
 
 abbrev pub old_of : Item → Row → InputRelocation → List ℕ
 old_of s row r = slice_range s.bytes (template_start row r) (template_start row r + pattern_size row)
@@ -88,7 +88,7 @@ old_is : (l : Layout) (s : Item) (i : ℕ) (r : InputRelocation) (row : Row) (v 
 old_is l s i r row v p = ap (λ (n : ℕ). slice_range s.bytes (template_start row r) (template_start row r + n)) (size_is l s i r row v p)
 
 pub whole_is : (l : Layout) (w : World) (m : Memory) (s : Item) (i : ℕ) (r : InputRelocation) (row : Row) (v : ℕ) → IsLoadedItem l w m s → IsPlacedRow l s i r row v → length (template_of row v (old_of s row r)) ≡ size_of (instruction_of row)
-whole_is l w m s i r row v h p = length-template row p.made.written.info v (old_of s row r) (lies_in l s i r row v p) (info_is l w m s i r row v h p) p.whole.long ∙ sym (size_is l s i r row v p)
+whole_is l w m s i r row v h p = length-template row v (old_of s row r) (lies_in l s i r row v p) p.whole.long ∙ sym (size_is l s i r row v p)
 
 -- with an operand that lands it does what is demanded, where that is an effect of the input's bytes
 pub does_by : LawsBelow → (l : Layout) (w : World) (m : Memory) (s : Item) (i : ℕ) (r : InputRelocation) (row : Row) (v n : ℕ) → IsLoadedItem l w m s → IsPlacedRow l s i r row v → Demands (instruction_of row).sort l w m s r n → n < 2 ^ 64 → Lands row.written (reads_alone w m) (place_at w s (template_start row r) + field_in row) n v

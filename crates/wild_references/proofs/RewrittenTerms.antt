@@ -23,7 +23,8 @@ use Rattle.wild_relax.specs.declared.row.Row.{Row}
 use Rattle.wild_relax.proofs.RewriteLemmas as written
 use Rattle.wild_relax.specs.RewriteX86_64.{rewrite_of}
 use Rattle.wild_relax.specs.Linked.{field_in}
-use Rattle.wild_layout.specs.Decide.{field_at, term_to}
+use Rattle.wild_layout.specs.Decide.{field_at}
+use Rattle.wild_layout.proofs.DecisionLemmas.{term_alone}
 use Rattle.wild_layout.specs.Values.{term_of, value_by}
 use Rattle.wild_layout.specs.Geometry.{NamesSymbol}
 use Rattle.wild_layout.specs.Sites.{template_start}
@@ -111,12 +112,12 @@ pub info_is : (l : Layout) (w : World) (m : Memory) (s : Item) (i : ℕ) (r : In
 info_is l w m s i r row v h p = row_here l.machine (rewrite_of row).number p.made.written.info h.x86 p.made.written.known
 
 -- the value, by the kind that is written
-pub has_term : (l : Layout) (w : World) (m : Memory) (s : Item) (i : ℕ) (r : InputRelocation) (row : Row) (v : ℕ) (k : RelocationKind) (n : Width) (sign : Sign) → IsLoadedItem l w m s → (p : IsPlacedRow l s i r row v) → p.made.written.info ≡ plain k n sign → ((t : ℕ) → term_to l r (plain k n sign) ≡ Ok t → term_of l r.symbol k ≡ Ok t)
+pub has_term : (l : Layout) (w : World) (m : Memory) (s : Item) (i : ℕ) (r : InputRelocation) (row : Row) (v : ℕ) (k : RelocationKind) (n : Width) (sign : Sign) → IsLoadedItem l w m s → (p : IsPlacedRow l s i r row v) → p.made.written.info ≡ plain k n sign → ((t : ℕ) → term_alone l r (plain k n sign) ≡ Ok t → term_of l r.symbol k ≡ Ok t)
     → kind_treatment l s.flags wide_type r.symbol wide k ≡ treatments.Value wide → (IsPlaceRelative (plain_value k) → IsMovable l.kind → IsAbsolute l p.chosen.symbol → w.base ≡ 0) → HasTerm l w m s (written_as row r) k v
 has_term l w m s i r row v k n sign h p is term treated asked =
     let x = p.made.written in
     let below = stands_below l w m s i r row v h p in
-    let given = subst (λ (f : RelocationKindInfo). term_to l r f ≡ Ok x.term) is x.given in
+    let given = subst (λ (f : RelocationKindInfo). term_alone l r f ≡ Ok x.term) is x.given in
     let value = subst (λ (f : RelocationKindInfo). value_by l f.kind x.term ((rewrite_of row).addend r.addend) ((s.address + field_at row r) % 2 ^ 64) ≡ v) is x.value in
     record {
       placed = placed l w m s h;

@@ -1,32 +1,30 @@
 -- What rewrites write: a relocation type that has a row, whose field is of bytes, and as many bytes as they say, which lie in the pattern.
-use Rattle.std.proofs.Common.{◌≡◌, ℕ, ◌+◌, ◌-◌, ◌≤◌, Bool, true, false, List, length, refl}
-use Rattle.std.specs.Prelude.{Option, Some, None, IsSome}
+use Rattle.std.proofs.Common.{◌≡◌, ℕ, ◌+◌, ◌-◌, ◌≤◌, Bool, true, false, List, length, refl, ◌∙◌}
+use Rattle.std.specs.Prelude.{Some}
 use Rattle.std.proofs.lemmas.Bool.{leb-true, and_parts}
 use Rattle.wild_reloc.specs.TableX86_64.{x86_64_row}
 use Rattle.wild_reloc.specs.declared.info.RelocationSize.{RelocationSize}
 use Rattle.wild_reloc.specs.declared.info.RelocationSize.TheVariants.{ByteSize}
 use Rattle.wild_reloc.specs.declared.info.RelocationKindInfo.{RelocationKindInfo}
-use Rattle.wild_types.specs.Rows.{row_width}
+use Rattle.wild_reloc.specs.Field.{field_width}
 use Rattle.wild_relax.specs.declared.pattern.LocalForm.TheVariants as local
 use Rattle.wild_relax.specs.declared.row.Made.{Made}
 use Rattle.wild_relax.specs.declared.row.Made.TheVariants.{Kept, Lea, Load, Immediate, MovImmediate, DirectCall, DirectJump, Nop, LocalExec, LocalExecLarge, InitialExec, ThreadPointer}
 use Rattle.wild_relax.specs.declared.row.Written.{Written}
 use Rattle.wild_relax.specs.declared.row.Written.TheVariants as written
 use Rattle.wild_relax.specs.declared.row.Row.{Row}
+use Rattle.wild_types.specs.Rows.{row_of}
 use Rattle.wild_relax.specs.Pattern.{field_of}
-use Rattle.wild_relax.specs.RewriteX86_64.{change_of, made_bytes, number_written, rewrite_of}
+use Rattle.wild_relax.specs.Keep.{RowsHaveTypes}
+use Rattle.wild_relax.specs.RewriteX86_64.{change_of, made_bytes, number_written, info_by, info_written, rewrite_of}
 use Rattle.wild_relax.specs.Linked.{pattern_of, pattern_size, field_in, fits_in}
 
--- the field has bytes alone, and the type has a row
+-- the field has bytes alone
 abbrev pub is_bytes : RelocationSize → Bool
 is_bytes (ByteSize w) = true
 is_bytes other = false
 
-abbrev pub are_bytes : Option RelocationKindInfo → Bool
-are_bytes None = false
-are_bytes (Some info) = is_bytes info.size
-
-pub in_bytes : (w : Written) → are_bytes (x86_64_row (number_written w)) ≡ true
+pub in_bytes : (w : Written) → is_bytes (info_by w).size ≡ true
 unfolding x86_64_row
 in_bytes written.Nothing = refl
 in_bytes written.Pc32 = refl
@@ -37,20 +35,24 @@ in_bytes written.GotTpOff = refl
 in_bytes written.TpOff32 = refl
 in_bytes written.GotOff64 = refl
 
-there : (o : Option RelocationKindInfo) → are_bytes o ≡ true → IsSome o
-there None h = cc
-there (Some info) h = refl
-
-pub written_has_row : (w : Written) → IsSome (x86_64_row (number_written w))
-written_has_row w = there (x86_64_row (number_written w)) (in_bytes w)
-
 -- the row of the type that is written
-some_is : {X : Type 0} (o : Option X) → IsSome o → (x : X) × (Some x ≡ o)
-some_is None h = cc
-some_is (Some x) h = (x, refl)
+pub written_row : (w : Written) → x86_64_row (number_written w) ≡ Some (info_by w)
+unfolding x86_64_row
+written_row written.Nothing = refl
+written_row written.Pc32 = refl
+written_row written.Plt32 = refl
+written_row written.Unsigned32 = refl
+written_row written.Signed32 = refl
+written_row written.GotTpOff = refl
+written_row written.TpOff32 = refl
+written_row written.GotOff64 = refl
 
-pub written_row : (row : Row) → (info : RelocationKindInfo) × (Some info ≡ x86_64_row (rewrite_of row).number)
-written_row row = some_is (x86_64_row (number_written row.written)) (written_has_row row.written)
+pub rows_have_types : RowsHaveTypes
+unfolding row_of
+rows_have_types row c = written_row row.written
+
+pub info_is : (row : Row) (info : RelocationKindInfo) → Some info ≡ x86_64_row (rewrite_of row).number → info ≡ info_written row
+info_is row info e = let same : Some info ≡ Some (info_written row) = e ∙ written_row row.written in cc
 
 pub length-made_bytes : (m : Made) (old : List ℕ) → length (made_bytes m old) ≡ (change_of m).size
 length-made_bytes Kept old = refl
@@ -72,7 +74,7 @@ length-made_bytes (ThreadPointer local.NoPlt) old = refl
 pub record LiesIn (row : Row) : Type 0 where
   pub begins : (rewrite_of row).back ≤ field_of (pattern_of row)
   pub bytes : field_of (pattern_of row) - (rewrite_of row).back + (rewrite_of row).size ≤ pattern_size row
-  pub field : field_in row + row_width (x86_64_row (rewrite_of row).number) ≤ pattern_size row
+  pub field : field_in row + field_width (info_written row) ≤ pattern_size row
 
 pub lies_in : (row : Row) → fits_in row ≡ true → LiesIn row
 lies_in row h =

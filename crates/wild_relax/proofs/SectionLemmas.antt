@@ -9,12 +9,13 @@ use Rattle.std.proofs.lemmas.List.Elements.{All-nil, All-cons}
 use Rattle.wild_words.specs.Words.{place}
 use Rattle.wild_words.specs.Overlay.{Piece, PiecesOverAPart}
 use Rattle.wild_words.proofs.Basics.{length-range, or_other, listed_passes}
-use Rattle.wild_reloc.specs.Field.{written}
+use Rattle.wild_reloc.specs.Field.{field_width, written}
 use Rattle.wild_reloc.proofs.PlaceLemmas.{length-size_written}
 use Rattle.wild_relax.specs.declared.pattern.Pattern.{Pattern}
 use Rattle.wild_relax.specs.declared.pattern.Pattern.TheVariants as pattern
 use Rattle.wild_relax.specs.declared.row.Row.{Row}
 use Rattle.wild_reloc.specs.TableX86_64.{x86_64_row}
+use Rattle.wild_reloc.specs.declared.info.RelocationKindInfo.{RelocationKindInfo}
 use Rattle.wild_relax.specs.Question.{Question, relocation_of, minus_four}
 use Rattle.wild_relax.specs.Pattern.{cells_of, field_of, stands_before, stands_at}
 use Rattle.wild_relax.specs.RowSequences.{has_partner, has_its_sequence}
@@ -25,7 +26,7 @@ use Rattle.wild_relax.specs.Linked.{either_pattern, pattern_of, keeps_bytes, fie
 use Rattle.wild_relax.specs.Keep.{IsWhole}
 use Rattle.wild_relax.specs.Section.{start_of, window, field_after, ChosenStand, ChosenAreWhole, SectionsAreLinked}
 use Rattle.wild_relax.proofs.RoomLemmas.{chosen_is, always_stands, needed_stands, applied}
-use Rattle.wild_relax.proofs.RewriteLemmas.{length-made_bytes, lies_in}
+use Rattle.wild_relax.proofs.RewriteLemmas.{info_is, length-made_bytes, lies_in}
 use Rattle.wild_relax.proofs.TemplateLemmas.{field_fits}
 
 -- ---- the pattern stands in the input
@@ -160,7 +161,7 @@ sections_are_linked over q row info value chosen known e =
     let lies = lies_in row fits in
     let back = lies.begins in
     let bytes_fit = lies.bytes in
-    let room_is = field_fits row info fits e in
+    let room_is : field_in row + field_width info ≤ length (cells_of (pattern_of row)) = subst (λ (i : RelocationKindInfo). field_in row + field_width i ≤ length (cells_of (pattern_of row))) (sym (info_is row info e)) (field_fits row fits) in
     let before = at.before in
     let within = at.inside in
     let long : length part ≡ n = at.whole.long in

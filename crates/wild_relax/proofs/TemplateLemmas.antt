@@ -1,39 +1,39 @@
 -- The field of what a row writes.
-use Rattle.std.proofs.Common.{◌≡◌, ℕ, ◌+◌, ◌-◌, ◌≤◌, true, List, [], length, take, drop, refl, sym, ap, ◌∙◌, arith, subst}
-use Rattle.std.specs.Prelude.{Option, Some, slice_range}
+use Rattle.std.proofs.Common.{◌≡◌, ℕ, ◌+◌, ◌-◌, ◌≤◌, true, List, [], length, take, drop, refl, sym, ap, ◌∙◌, arith}
+use Rattle.std.specs.Prelude.{Some, slice_range}
 use borrow.Rule.Slice.PartMut.{put_mid}
 use Rattle.wild_words.specs.Words.{place}
 use Rattle.wild_words.proofs.WordLemmas.{place_put_mid}
 use Rattle.wild_words.proofs.OverlayLemmas.{length-place}
 use Rattle.wild_reloc.proofs.PlaceLemmas.{length-size_written}
-use Rattle.wild_reloc.specs.Field.{size_width, size_written}
+use Rattle.wild_reloc.specs.Field.{field_width, size_written, written}
 use Rattle.wild_reloc.specs.TableX86_64.{x86_64_row}
 use Rattle.wild_reloc.specs.declared.info.RelocationSize.{RelocationSize}
 use Rattle.wild_reloc.specs.declared.info.RelocationSize.TheVariants.{ByteSize}
 use Rattle.wild_reloc.specs.declared.info.RelocationKindInfo.{RelocationKindInfo}
 use Rattle.wild_relax.specs.declared.row.Row.{Row}
-use Rattle.wild_types.specs.Rows.{row_width}
 use Rattle.wild_relax.specs.Pattern.{field_of}
 use Rattle.wild_relax.specs.Rewrite.{rewritten, replaced}
-use Rattle.wild_relax.specs.RewriteX86_64.{rewrite_of}
-use Rattle.wild_relax.specs.Linked.{pattern_of, pattern_size, fits_in, field_in, template_of, template_by}
-use Rattle.wild_relax.proofs.RewriteLemmas.{is_bytes, are_bytes, in_bytes, length-made_bytes, lies_in}
+use Rattle.wild_relax.specs.RewriteX86_64.{info_written, rewrite_of}
+use Rattle.wild_relax.specs.Linked.{pattern_of, pattern_size, fits_in, field_in, linked, with_field, template_of}
+use Rattle.wild_relax.proofs.RewriteLemmas.{is_bytes, in_bytes, info_is, length-made_bytes, lies_in}
 
 -- it lies in the pattern
-pub field_fits : (row : Row) (info : RelocationKindInfo) → fits_in row ≡ true → Some info ≡ x86_64_row (rewrite_of row).number → field_in row + size_width info.size ≤ pattern_size row
-field_fits row info h e = subst (λ (o : Option RelocationKindInfo). field_in row + row_width o ≤ pattern_size row) (sym e) (lies_in row h).field
+pub field_fits : (row : Row) → fits_in row ≡ true → field_in row + field_width (info_written row) ≤ pattern_size row
+field_fits row h = (lies_in row h).field
 
--- and its bytes are the value's alone
+-- of whole bytes it has the value's alone
 over_any : (z : RelocationSize) (value : ℕ) (over : List ℕ) → is_bytes z ≡ true → size_written z value over ≡ size_written z value []
 over_any (ByteSize w) value over h = refl
 over_any other value over h = cc
 
-pub template_is : (row : Row) (info : RelocationKindInfo) (value : ℕ) (old over : List ℕ) → fits_in row ≡ true → Some info ≡ x86_64_row (rewrite_of row).number
-    → place (field_in row) (size_written info.size value over) (rewritten (rewrite_of row) (field_of (pattern_of row)) old) ≡ template_of row value old
+pub template_linked : (row : Row) (info : RelocationKindInfo) (value : ℕ) (old : List ℕ) → Some info ≡ x86_64_row (rewrite_of row).number → template_of row value old ≡ linked row info value old
 unfolding template_of
-template_is row info value old over h e =
-    ap (λ (bs : List ℕ). place (field_in row) bs (rewritten (rewrite_of row) (field_of (pattern_of row)) old)) (over_any info.size value over (subst (λ (o : Option RelocationKindInfo). are_bytes o ≡ true) (sym e) (in_bytes row.written)))
-    ∙ ap (template_by row value old) e
+template_linked row info value old e =
+    let made = rewritten (rewrite_of row) (field_of (pattern_of row)) old in
+    let same = info_is row info e in
+    ap (λ (bs : List ℕ). place (field_in row) bs made) (over_any (info_written row).size value (slice_range made (field_in row) (field_in row + field_width (info_written row))) (in_bytes row.written))
+    ∙ ap (λ (i : RelocationKindInfo). linked row i value old) (sym same)
 
 -- ---- the bytes around it
 
@@ -44,13 +44,15 @@ length-rewritten row old h long =
     let bytes = length-made_bytes row.made (slice_range old at (at + (rewrite_of row).size)) in
     length-place at old ((rewrite_of row).bytes (slice_range old at (at + (rewrite_of row).size))) (omega arith)
 
-pub length-template : (row : Row) (info : RelocationKindInfo) (value : ℕ) (old : List ℕ) → fits_in row ≡ true → Some info ≡ x86_64_row (rewrite_of row).number → length old ≡ pattern_size row → length (template_of row value old) ≡ pattern_size row
-length-template row info value old h e long =
-    let over = rewritten (rewrite_of row) (field_of (pattern_of row)) old in
-    let room = field_fits row info h e in
-    let size = length-size_written info.size value over in
+pub length-template : (row : Row) (value : ℕ) (old : List ℕ) → fits_in row ≡ true → length old ≡ pattern_size row → length (template_of row value old) ≡ pattern_size row
+unfolding template_of
+length-template row value old h long =
+    let made = rewritten (rewrite_of row) (field_of (pattern_of row)) old in
+    let over = slice_range made (field_in row) (field_in row + field_width (info_written row)) in
+    let room = field_fits row h in
+    let size = length-size_written (info_written row).size value over in
     let same = length-rewritten row old h long in
-    ap length (sym (template_is row info value old over h e)) ∙ length-place (field_in row) over (size_written info.size value over) (omega arith) ∙ same ∙ long
+    length-place (field_in row) made (written (info_written row) value over) (omega arith) ∙ same ∙ long
 
 -- ---- the two writes
 
@@ -59,24 +61,23 @@ pub record Begins (row : Row) (start field : ℕ) : Type 0 where
   pub first : start ≡ field_of (pattern_of row) - (rewrite_of row).back
   pub then : field ≡ (rewrite_of row).field
 
-pub room_after : (row : Row) (info : RelocationKindInfo) (start field : ℕ) (old new : List ℕ) → fits_in row ≡ true → Some info ≡ x86_64_row (rewrite_of row).number → length old ≡ pattern_size row → Begins row start field
-    → new ≡ replaced (rewrite_of row) start old → start + field + size_width info.size ≤ length new
-room_after row info start field old new h e long begins first =
-    let room = field_fits row info h e in
+pub room_after : (row : Row) (start field : ℕ) (old new : List ℕ) → fits_in row ≡ true → length old ≡ pattern_size row → Begins row start field → new ≡ replaced (rewrite_of row) start old
+    → start + field + field_width (info_written row) ≤ length new
+room_after row start field old new h long begins first =
+    let room = field_fits row h in
     let same = length-rewritten row old h long in
     let s = begins.first in
     let f = begins.then in
     let n : length new ≡ length (rewritten (rewrite_of row) (field_of (pattern_of row)) old) = ap length (first ∙ ap (λ (x : ℕ). replaced (rewrite_of row) x old) s) in
     omega arith
 
-pub written_is : (row : Row) (info : RelocationKindInfo) (value start field : ℕ) (old new out over : List ℕ) → fits_in row ≡ true → Some info ≡ x86_64_row (rewrite_of row).number → Begins row start field
-    → new ≡ replaced (rewrite_of row) start old → out ≡ place (start + field) (size_written info.size value over) new → out ≡ template_of row value old
-written_is row info value start field old new out over h e begins first second =
+pub written_is : (row : Row) (value start field : ℕ) (old new out : List ℕ) → Begins row start field → new ≡ replaced (rewrite_of row) start old → out ≡ with_field (info_written row) (start + field) value new → out ≡ template_of row value old
+unfolding template_of
+written_is row value start field old new out begins first second =
     second
-    ∙ ap (λ (n : List ℕ). place (start + field) (size_written info.size value over) n) first
-    ∙ ap (λ (x : ℕ). place (x + field) (size_written info.size value over) (replaced (rewrite_of row) x old)) begins.first
-    ∙ ap (λ (x : ℕ). place (field_of (pattern_of row) - (rewrite_of row).back + x) (size_written info.size value over) (rewritten (rewrite_of row) (field_of (pattern_of row)) old)) begins.then
-    ∙ template_is row info value old over h e
+    ∙ ap (λ (bs : List ℕ). with_field (info_written row) (start + field) value bs) first
+    ∙ ap (λ (x : ℕ). with_field (info_written row) (x + field) value (replaced (rewrite_of row) x old)) begins.first
+    ∙ ap (λ (x : ℕ). with_field (info_written row) (field_of (pattern_of row) - (rewrite_of row).back + x) value (rewritten (rewrite_of row) (field_of (pattern_of row)) old)) begins.then
 
 -- ---- the part in its room
 

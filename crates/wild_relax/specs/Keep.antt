@@ -1,7 +1,8 @@
 -- The law of the rewrites of x86-64: what is written in place of an instruction does what the instruction demands of its operand.
 --   Lands w read p v value   the value that the field holds at p is the one by which the operand reads as v
+--   RowsHaveTypes            the rows of the table write by relocation types
 --   RowsKeep                 the law
-use Rattle.std.specs.Prelude.{◌≡◌, ℕ, ◌+◌, ◌-◌, ◌%◌, ◌^◌, ◌<◌, true, List, length, Option, Some}
+use Rattle.std.specs.Prelude.{◌≡◌, ℕ, ◌+◌, ◌-◌, ◌%◌, ◌^◌, ◌<◌, true, List, length, Contains, Option, Some}
 use Rattle.wild_reloc.specs.Field.{allows}
 use Rattle.wild_reloc.specs.TableX86_64.{x86_64_row}
 use Rattle.wild_reloc.specs.declared.info.RelocationKindInfo.{RelocationKindInfo}
@@ -16,7 +17,10 @@ use Rattle.wild_relax.specs.declared.row.Written.{Written}
 use Rattle.wild_relax.specs.declared.row.Written.TheVariants as written
 use Rattle.wild_relax.specs.declared.row.Row.{Row}
 use Rattle.wild_relax.specs.Pattern.{cells_of, stands}
-use Rattle.wild_relax.specs.RewriteX86_64.{number_written}
+use Rattle.wild_types.specs.declared.kind.Machine.TheVariants.{X86_64}
+use Rattle.wild_types.specs.Rows.{row_of}
+use Rattle.wild_relax.specs.Rows.{rows_x86_64}
+use Rattle.wild_relax.specs.RewriteX86_64.{number_written, info_written, rewrite_of}
 use Rattle.wild_relax.specs.Linked.{pattern_of, IsChanging, field_in, linked}
 
 -- the bytes are that pattern
@@ -62,6 +66,10 @@ pub record IsField (w : Written) (info : RelocationKindInfo) (read : Reader) (pl
   pub operand : v < 2 ^ 64
   pub numbers : ReadsNumbers read
   pub lands : Lands w read place v value
+
+-- how a row of the table writes its field is the machine's row of that relocation type
+abbrev pub RowsHaveTypes : Type 0
+RowsHaveTypes = (row : Row) → Contains rows_x86_64 row → row_of X86_64 (rewrite_of row).number ≡ Some (info_written row)
 
 -- at any address a and for any operand
 abbrev pub RowsKeep : Type 0

@@ -3,20 +3,18 @@
 --   IsChanging row           the row is the table's, and changes bytes around its field
 --   fits_in row              what it writes lies among these
 --   linked row info v old    what stands in their place, with the field that holds a value
---   template_of row v old    the same, by the row of the relocation type that is written
-use Rattle.std.specs.Prelude.{◌≡◌, ℕ, ◌+◌, ◌-◌, ◌==◌, Bool, false, ◌&&◌, nat_le, Contains, List, [], length, Option, Some, None}
+--   template_of row v old    what the row writes there
+use Rattle.std.specs.Prelude.{◌≡◌, ℕ, ◌+◌, ◌-◌, ◌==◌, Bool, false, ◌&&◌, nat_le, Contains, List, [], length, slice_range}
 use Rattle.wild_words.specs.Words.{place}
-use Rattle.wild_reloc.specs.Field.{written}
-use Rattle.wild_reloc.specs.TableX86_64.{x86_64_row}
+use Rattle.wild_reloc.specs.Field.{field_width, written}
 use Rattle.wild_reloc.specs.declared.info.RelocationKindInfo.{RelocationKindInfo}
-use Rattle.wild_types.specs.Rows.{row_width}
 use Rattle.wild_relax.specs.declared.pattern.Pattern.{Pattern}
 use Rattle.wild_relax.specs.declared.pattern.Pattern.TheVariants as pattern
 use Rattle.wild_relax.specs.declared.row.Row.{Row}
 use Rattle.wild_relax.specs.Pattern.{cells_of, field_of}
 use Rattle.wild_relax.specs.Rows.{rows_x86_64}
 use Rattle.wild_relax.specs.Rewrite.{rewritten}
-use Rattle.wild_relax.specs.RewriteX86_64.{rewrite_of}
+use Rattle.wild_relax.specs.RewriteX86_64.{rewrite_of, info_written}
 
 abbrev pub either_pattern : Pattern → Pattern → Pattern
 either_pattern pattern.Nothing always = always
@@ -46,16 +44,16 @@ field_in row = field_of (pattern_of row) - (rewrite_of row).back + (rewrite_of r
 -- what is written lies in the pattern
 abbrev pub fits_in : Row → Bool
 fits_in row = nat_le (rewrite_of row).back (field_of (pattern_of row)) && nat_le (field_of (pattern_of row) - (rewrite_of row).back + (rewrite_of row).size) (pattern_size row)
-    && nat_le (field_in row + row_width (x86_64_row (rewrite_of row).number)) (pattern_size row)
+    && nat_le (field_in row + field_width (info_written row)) (pattern_size row)
 
 -- the pattern's bytes after the rewrite and the writing of the field
 abbrev pub linked : Row → RelocationKindInfo → ℕ → List ℕ → List ℕ
 linked row info value old = place (field_in row) (written info value []) (rewritten (rewrite_of row) (field_of (pattern_of row)) old)
 
-abbrev pub template_by : Row → ℕ → List ℕ → Option RelocationKindInfo → List ℕ
-template_by row value old None = []
-template_by row value old (Some info) = linked row info value old
+-- bytes with a value in a field of them
+abbrev pub with_field : RelocationKindInfo → ℕ → ℕ → List ℕ → List ℕ
+with_field info at value bytes = place at (written info value (slice_range bytes at (at + field_width info))) bytes
 
--- the same, by the row of the relocation type that is written
+-- the pattern's bytes after the row's rewrite, and the value in its field
 unfoldable pub template_of : Row → ℕ → List ℕ → List ℕ
-template_of row value old = template_by row value old (x86_64_row (rewrite_of row).number)
+template_of row value old = with_field (info_written row) (field_in row) value (rewritten (rewrite_of row) (field_of (pattern_of row)) old)

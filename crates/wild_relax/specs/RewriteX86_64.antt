@@ -1,8 +1,15 @@
 -- What the rows of x86-64 write (Intel SDM; x86-64 psABI, "Linker Optimization"; "ELF Handling For Thread-Local Storage", "Linker
 -- Relaxations").
---   rewrite_of row   the bytes, the place of the field, its relocation type and its addend
+--   rewrite_of row     the bytes, the place of the field, its relocation type and its addend
+--   info_written row   how the field is written
 use Rattle.std.specs.Prelude.{ℕ, ℤ, pos, ◌+◌, ◌*◌, ◌/◌, ◌%◌, ◌==◌, Bool, ◌||◌, if◌then◌else◌, List, [], ◌∷◌, ◌++◌, slice_index, Option, Some, None, replicate, true, false}
 use Rattle.wild_records.specs.Abi.Relocation as abi
+use Rattle.wild_reloc.specs.Table.{plain}
+use Rattle.wild_reloc.specs.TableX86_64.{x86_64_row}
+use Rattle.wild_reloc.specs.declared.range.Sign.TheVariants.{Signed}
+use Rattle.wild_reloc.specs.declared.info.Width.TheVariants.{Zero}
+use Rattle.wild_reloc.specs.declared.info.RelocationKind.TheVariants as kinds
+use Rattle.wild_reloc.specs.declared.info.RelocationKindInfo.{RelocationKindInfo}
 use Rattle.wild_relax.specs.declared.pattern.Prefix.{Prefix}
 use Rattle.wild_relax.specs.declared.pattern.Prefix.TheVariants.{Rex, Rex2}
 use Rattle.wild_relax.specs.declared.pattern.Operation.{Operation}
@@ -116,6 +123,19 @@ number_written written.Signed32 = abi.r_x86_64_32s
 number_written written.GotTpOff = abi.r_x86_64_gottpoff
 number_written written.TpOff32 = abi.r_x86_64_tpoff32
 number_written written.GotOff64 = abi.r_x86_64_gotoff64
+
+-- a row of a relocation table; without one nothing is written
+abbrev pub or_nothing : Option RelocationKindInfo → RelocationKindInfo
+or_nothing None = plain kinds.None Zero Signed
+or_nothing (Some info) = info
+
+-- the row of that relocation type
+abbrev pub info_by : Written → RelocationKindInfo
+info_by w = or_nothing (x86_64_row (number_written w))
+
+-- how the field is written: its value, its size and its range
+abbrev pub info_written : Row → RelocationKindInfo
+info_written row = info_by row.written
 
 -- the call of a sequence has the next relocation
 abbrev pub next_by : Option Partner → RelocationModifier

@@ -11,7 +11,7 @@ use Rattle.wild_relax.specs.declared.row.Row.{Row}
 use Rattle.wild_relax.specs.declared.table.TheConstants.{WITH_PC32, WITH_REX_GOTPCRELX, WITH_CODE_4_GOTPCRELX, WITH_GOTPCRELX, WITH_GOTPCREL, WITH_GOTTPOFF, WITH_CODE_4_GOTTPOFF, WITH_PLT32, WITH_PLTOFF64, WITH_TLSGD, WITH_TLSLD, WITH_GOTPC32_TLSDESC, WITH_CODE_4_GOTPC32_TLSDESC, WITH_TLSDESC_CALL}
 use Rattle.wild_relax.specs.Question.{Question, relocation_of, minus_four}
 use Rattle.wild_relax.specs.Pattern.{stands_before}
-use Rattle.wild_relax.specs.RewriteX86_64.{rewrite_of}
+use Rattle.wild_relax.specs.RewriteX86_64.{info_written}
 use Rattle.wild_relax.specs.First.{first_standing, checked}
 use Rattle.wild_relax.specs.RowSymbols.{takes_value, takes_symbol, is_mandatory}
 use Rattle.wild_relax.specs.RowSequences.{has_its_sequence}
@@ -36,9 +36,9 @@ applies q row = (relocation_of q).number == row.number && (q.relax || is_mandato
 unfoldable pub standing_x86_64 : Question → Option Row
 standing_x86_64 q = first_standing (applies q) rows_x86_64
 
--- a row whose sequence is not there: the relocation type of the input, and the one that the row would have written
+-- a row whose sequence is not there: the relocation type of the input, and how the row's field would have been written
 abbrev pub unknown_sequence : Question → Row → UnknownSequence
-unknown_sequence q row = record { number = (relocation_of q).number; written = (rewrite_of row).number }
+unknown_sequence q row = record { number = (relocation_of q).number; written = info_written row }
 
 -- the first row that stands; refused without its sequence
 unfoldable pub chosen_x86_64 : Question → Result (Option Row) UnknownSequence

@@ -1,6 +1,6 @@
 //! Laws: what is written does what is asked of it.
 ghost use Rattle.wild_relax.specs.Laws.{StubsJump};
-ghost use Rattle.wild_relax.specs.Keep.{RowsKeep};
+ghost use Rattle.wild_relax.specs.Keep.{RowsHaveTypes, RowsKeep};
 ghost use Rattle.wild_relax.specs.Section.{ChosenStand, ChosenAreWhole, SectionsAreLinked};
 
 use wild_words::owners_of_bytes;
@@ -13,6 +13,11 @@ pub fn stubs_jump_to_their_slots()
 /// What a rewrite writes does what the input's bytes demand.
 pub fn rewrites_keep_the_effect()
     ensures { RowsKeep }
+{}
+
+/// How a rewrite writes its field is a row of the machine's relocation types.
+pub fn rewrites_write_relocation_types()
+    ensures { RowsHaveTypes }
 {}
 
 /// A row is chosen only where it stands with its whole pattern in the input, and the rewrite and its field, written into the section,

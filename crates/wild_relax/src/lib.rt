@@ -16,7 +16,8 @@ mod x86_64;
 
 pub use arch::Arch;
 pub use laws::{
-    rewrites_keep_the_effect, rewrites_stay_in_their_patterns, stubs_jump_to_their_slots,
+    rewrites_keep_the_effect, rewrites_stay_in_their_patterns, rewrites_write_relocation_types,
+    stubs_jump_to_their_slots,
 };
 pub use laws_aarch64::{aarch64_code_reaches, aarch64_fields_agree};
 pub use pattern::{Cell, GeneralForm, LocalForm, Operation, Pattern, Prefix};

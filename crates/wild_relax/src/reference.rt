@@ -2,6 +2,7 @@
 ghost use Rattle.std.specs.Prelude.{◌≡◌, ◌+◌, slice_get};
 ghost use Rattle.wild_relax.specs.Question.{question, relocation_of, next_of, is_known, is_own, minus_four, zero};
 
+use wild_reloc::RelocationKindInfo;
 use wild_types::{OutputKind, ValueFlags};
 
 /// A relocation of an input section.
@@ -23,8 +24,8 @@ pub struct RelocationInfo {
 pub struct UnknownSequence {
     /// The relocation type of the input.
     pub number: u32,
-    /// The relocation type by which the row's field would have been written.
-    pub written: u32,
+    /// How the row's field would have been written.
+    pub written: RelocationKindInfo,
 }
 
 const NOTHING: RelocationInfo = RelocationInfo {

@@ -1,5 +1,5 @@
 //! What a rewrite is to the writer of a section.
-ghost use Rattle.std.specs.Prelude.{◌≡◌, ◌+◌, ◌-◌, ◌≤◌, length, Some};
+ghost use Rattle.std.specs.Prelude.{◌≡◌, ◌+◌, ◌-◌, ◌≤◌, length};
 
 use crate::row::Row;
 use wild_reloc::RelocationKindInfo;
@@ -58,7 +58,7 @@ pub enum RelocationModifier {
 pub trait Relaxation {
     ghost use Rattle.std.specs.Prelude.{Bool};
     ghost use Rattle.wild_types.specs.declared.kind.Machine.{Machine};
-    ghost use Rattle.wild_types.specs.Rows.{row_of};
+    ghost use Rattle.wild_reloc.specs.declared.info.RelocationKindInfo.{RelocationKindInfo};
     ghost use Rattle.wild_relax.specs.Rewrite.{Rewrite, rewritten};
     ghost use Rattle.wild_relax.specs.declared.relaxation.RelaxationKind.{RelaxationKind};
     ghost use Rattle.wild_relax.specs.declared.row.Row.{Row};
@@ -68,6 +68,9 @@ pub trait Relaxation {
 
     /// What is written, and as which relocation type.
     ghost rewrite: { Self → Rewrite };
+
+    /// How the field is written.
+    ghost info: { Self → RelocationKindInfo };
 
     /// Whether it is taken also where rewriting is off.
     ghost mandatory: { Self → Bool };
@@ -95,9 +98,9 @@ pub trait Relaxation {
         ensures offset { offset_in_section.new ≡ offset_in_section.old - (Self.rewrite self.now).back + (Self.rewrite self.now).field }
         ensures addend { addend.new ≡ (Self.rewrite self.now).addend addend.old };
 
-    /// The row of the relocation type by which the field is written.
+    /// How the field is written: its value, its size and its range.
     fn rel_info(&self) -> RelocationKindInfo
-        ensures { Some result ≡ row_of Self.machine (Self.rewrite self.now).number };
+        ensures { result ≡ Self.info self.now };
 
     /// What becomes of the instructions.
     fn debug_kind(&self) -> RelaxationKind

@@ -1,8 +1,7 @@
 //! What the rows of x86-64 write.
-ghost use Rattle.std.specs.Prelude.{◌≡◌, ◌+◌, ◌≤◌, length, slice_range, Some};
+ghost use Rattle.std.specs.Prelude.{◌≡◌, ◌+◌, ◌≤◌, length, slice_range};
 ghost use Rattle.wild_words.specs.Words.{place};
-ghost use Rattle.wild_reloc.specs.TableX86_64.{x86_64_row};
-ghost use Rattle.wild_relax.specs.RewriteX86_64.{immediate_prefix, immediate_opcode, immediate_digit, immediate_modrm, immediate_bytes, mov_immediate_bytes, change_of, made_bytes, number_written, rewrite_of, is_number};
+ghost use Rattle.wild_relax.specs.RewriteX86_64.{immediate_prefix, immediate_opcode, immediate_digit, immediate_modrm, immediate_bytes, mov_immediate_bytes, change_of, made_bytes, number_written, rewrite_of, info_written, is_number};
 
 use crate::pattern::{LocalForm, Operation, Prefix};
 use crate::relaxation::RelocationModifier;
@@ -150,9 +149,10 @@ const AT_OWN_PAIR_BY_SLOT: Change = Change {
     ..AT_OWN_PAIR
 };
 
-// Which bytes it replaces.
-fn change_of(made: Made) -> Change
-    ensures { result ≡ change_of made }
+/// Which bytes it replaces.
+pub(crate) fn change_of(made: Made) -> Change
+    ensures change { result ≡ change_of made }
+    ensures small { result.back + (result.size + result.field) ≤ 64 }
 {
     match made {
         Made::Kept => KEPT,
@@ -202,9 +202,9 @@ impl Row {
         }
     }
 
-    /// The row of that type.
+    /// How the field is written: its value, its size and its range.
     pub fn row_written(self) -> RelocationKindInfo
-        ensures { Some result ≡ x86_64_row (rewrite_of self).number }
+        ensures { result ≡ info_written self }
     {
         x86_64::relocation_from_raw(self.number_written()).unwrap()
     }

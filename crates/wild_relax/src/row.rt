@@ -312,7 +312,7 @@ pub(crate) fn choose(reference: &Reference) -> Result<Option<Row>, UnknownSequen
     } else {
         Err(UnknownSequence {
             number: reference.relocation().number,
-            written: row.number_written(),
+            written: row.row_written(),
         })
     }
 }

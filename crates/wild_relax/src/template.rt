@@ -7,7 +7,7 @@ ghost use Rattle.wild_relax.specs.RewriteX86_64.{rewrite_of};
 ghost use Rattle.wild_relax.specs.Linked.{pattern_of, pattern_size, keeps_bytes, fits_in, template_of};
 
 use crate::pattern::{self, Pattern};
-use crate::rewrite;
+use crate::rewrite::{self, change_of};
 use crate::row::{Made, Row};
 
 impl Row {
@@ -49,8 +49,22 @@ impl Row {
         self.partner.is_some()
     }
 
+    /// Whether what it writes lies among the bytes of the input that belong to it, as that of each row of the table does that changes
+    /// bytes around its field.
+    pub fn fits(self) -> bool
+        ensures { result ≡ fits_in self }
+    {
+        let (field, size) = (self.pattern_field(), self.pattern_size());
+        if self.back() > field {
+            return false;
+        }
+        let start = field - self.back();
+        start + change_of(self.made).size <= size
+            && start + self.field() + self.row_written().width() as u64 <= size
+    }
+
     /// Writes the row's instruction, with the value in its field, in place of the bytes of the input that stand at `start`. What the
-    /// row writes lies among these, as that of each row of the table does.
+    /// row writes lies among these.
     pub fn write_template(self, value: u64, room: &mut [u8], start: usize)
         requires inside { start + pattern_size self ≤ length room.old }
         requires changes { keeps_bytes self ≡ false }

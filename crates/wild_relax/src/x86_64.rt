@@ -66,11 +66,13 @@ pub struct ElfX86_64Relaxation {
 
 impl Relaxation for ElfX86_64Relaxation {
     ghost use Rattle.wild_types.specs.declared.kind.Machine.TheVariants.{X86_64};
-    ghost use Rattle.wild_relax.specs.RewriteX86_64.{rewrite_of, is_number};
+    ghost use Rattle.wild_relax.specs.RewriteX86_64.{rewrite_of, info_written, is_number};
 
     ghost as_row = { λ r. r.row };
 
     ghost rewrite = { λ r. rewrite_of r.row };
+
+    ghost info = { λ r. info_written r.row };
 
     ghost mandatory = { λ r. r.mandatory };
 
@@ -91,7 +93,6 @@ impl Relaxation for ElfX86_64Relaxation {
         *addend = self.row.addend_written(*addend);
     }
 
-    #[tactic(auto, unfolding(wild_types::specs::Rows::row_of))]
     fn rel_info(&self) -> RelocationKindInfo {
         self.row.row_written()
     }

@@ -2,7 +2,7 @@
 ghost use Rattle.std.specs.Prelude.{◌≡◌};
 ghost use Rattle.wild_layout.specs.SymbolValues.{sum, displacement, less, storage_start, is_undefined, symbol_size, raw_address};
 ghost use Rattle.wild_layout.specs.SlotValues.{address_of};
-ghost use Rattle.wild_layout.specs.Values.{behind, pointer_offset, size_of, term_value, value_less, term_of, value_by, value_in, is_absent, is_place, is_symbol, is_own_place, undefined_weak_target, term_at};
+ghost use Rattle.wild_layout.specs.Values.{behind, pointer_offset, size_of, term_value, value_less, term_of, value_in, is_absent, is_place, is_symbol, is_own_place, undefined_weak_target, term_at};
 ghost use Rattle.wild_layout.specs.Moved.{or_zero, moved_value};
 
 use crate::indirect::{address_or, is_chosen, slot_address, stub_address};
@@ -184,7 +184,7 @@ fn term_value<A: Arch>(
 
 /// The same, by the kind of the row.
 #[inline]
-pub(crate) fn term_of<A: Arch>(
+fn term_of<A: Arch>(
     resolved: &Resolved<A>,
     symbol: Option<SymbolIndex>,
     kind: RelocationKind,
@@ -208,21 +208,7 @@ fn value_less(layout: &Layout, taken: Taken, term: u64, addend: i64, place: u64)
     }
 }
 
-/// The value that a relocation of that kind writes, for what A is added to, with that addend at that place.
-#[inline]
-pub(crate) fn value_by(
-    layout: &Layout,
-    kind: RelocationKind,
-    term: u64,
-    addend: i64,
-    place: u64,
-) -> u64
-    ensures { result ≡ value_by layout.now kind term addend place }
-{
-    value_less(layout, kind.expression().taken, term, addend, place)
-}
-
-/// The same of a row.
+/// The value that a row writes, for what A is added to, with that addend at that place.
 #[inline]
 pub(crate) fn value_in(
     layout: &Layout,

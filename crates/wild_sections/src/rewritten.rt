@@ -1,13 +1,12 @@
 //! What is decided of the relocations of an item: of one whose instruction is rewritten by the row that stands, of the call
 //! that a rewritten sequence takes along nothing, and of each other by itself.
-ghost use Rattle.std.specs.Prelude.{◌≡◌, ◌<◌, ◌+◌, ◌%◌, ◌^◌, length, Ok};
-ghost use Rattle.wild_types.specs.Rows.{row_of};
-ghost use Rattle.wild_layout.specs.Decide.{field_at, value_to, term_to, rewritten_to, refused_with, decide};
+ghost use Rattle.std.specs.Prelude.{◌≡◌, ◌<◌, length, Ok};
+ghost use Rattle.wild_layout.specs.Decide.{place_to, value_to, term_to, rewritten_to, refused_with, decide};
 ghost use Rattle.wild_types.specs.Item.{item_now};
 
 use crate::choice::{choice, is_partner};
 use crate::relocation::decided;
-use crate::resolve::{term_of, value_by};
+use crate::resolve::{term_at, value_in};
 use crate::values::Resolved;
 use wild_layout::Decision;
 use wild_relax::{Arch, Row, UnknownSequence};
@@ -16,26 +15,26 @@ use wild_types::{Fault, InputRelocation, ItemRef};
 
 /// The address of the field of a rewritten instruction, modulo 2^64.
 fn place_to(item: &ItemRef, relocation: &InputRelocation, row: Row) -> u64
-    ensures { result ≡ (item.now.address + field_at row relocation.now) % 2 ^ 64 }
+    ensures { result ≡ place_to (item_now item.now) relocation.now row }
 {
     let offset = relocation.offset.saturating_sub(row.back()) as u128 + row.field() as u128;
     ((item.address as u128 + offset) % (1 << 64)) as u64
 }
 
-/// The value of the kind that is written, at the field's new place; a row that keeps the bytes around the field has that alone.
+/// The value that the row writes, at the field's new place; a row that keeps the bytes around the field has that alone.
 fn value_to<A: Arch>(
     resolved: &Resolved<A>,
     item: &ItemRef,
     relocation: &InputRelocation,
     row: Row,
-    info: &RelocationKindInfo,
     term: u64,
 ) -> Result<Decision, Fault>
-    ensures { result ≡ value_to resolved.now.layout.now (item_now item.now) relocation.now row info.now (Ok term) }
+    ensures { result ≡ value_to resolved.now.layout.now (item_now item.now) relocation.now row (Ok term) }
 {
-    let value = value_by(
+    let info = row.row_written();
+    let value = value_in(
         resolved.layout,
-        info.kind,
+        &info,
         term,
         row.addend_written(relocation.addend),
         place_to(item, relocation, row),
@@ -53,17 +52,18 @@ fn value_to<A: Arch>(
     }
 }
 
-/// What the written kind needs of the symbol; a kind without a value needs nothing.
+/// What is needed of the symbol to write so at that place; a kind without a value needs nothing.
 fn term_to<A: Arch>(
     resolved: &Resolved<A>,
     relocation: &InputRelocation,
     info: &RelocationKindInfo,
+    place: u64,
 ) -> Result<u64, Fault>
-    ensures { result ≡ term_to resolved.now.layout.now relocation.now info.now }
+    ensures { result ≡ term_to resolved.now.layout.now relocation.now info.now place }
 {
     match info.kind {
         RelocationKind::None => Ok(0),
-        _ => term_of(resolved, relocation.symbol, info.kind),
+        _ => term_at(resolved, relocation, info, place),
     }
 }
 
@@ -76,26 +76,22 @@ fn rewritten_to<A: Arch>(
 ) -> Result<Decision, Fault>
     ensures { result ≡ rewritten_to resolved.now.layout.now (item_now item.now) relocation.now row }
 {
-    let Some(info) = A::relocation_from_raw(row.number_written()) else {
-        return Err(Fault::UnsupportedRelocation {
-            number: relocation.number,
-        });
-    };
-    let term = term_to(resolved, relocation, &info)?;
-    value_to(resolved, item, relocation, row, &info, term)
+    let place = place_to(item, relocation, row);
+    let term = term_to(resolved, relocation, &row.row_written(), place)?;
+    value_to(resolved, item, relocation, row, term)
 }
 
-/// A row stands without its sequence: what the written kind lacks comes first.
+/// A row stands without its sequence: what it lacks of the symbol comes first.
 fn refused_with<A: Arch>(
     resolved: &Resolved<A>,
+    item: &ItemRef,
     relocation: &InputRelocation,
     unknown: UnknownSequence,
 ) -> Result<Decision, Fault>
-    ensures { result ≡ refused_with resolved.now.layout.now relocation.now unknown (row_of resolved.now.layout.now.machine unknown.written) }
+    ensures { result ≡ refused_with resolved.now.layout.now (item_now item.now) relocation.now unknown }
 {
-    if let Some(info) = A::relocation_from_raw(unknown.written) {
-        term_to(resolved, relocation, &info)?;
-    }
+    let place = relocation.place_from(item.address);
+    term_to(resolved, relocation, &unknown.written, place)?;
     Err(Fault::UnknownSequence {
         number: unknown.number,
     })
@@ -119,6 +115,6 @@ pub(crate) fn decide<A: Arch>(
     match choice(resolved, item, index) {
         Ok(None) => decided(resolved, item, relocation),
         Ok(Some(row)) => rewritten_to(resolved, item, relocation, row),
-        Err(unknown) => refused_with(resolved, relocation, unknown),
+        Err(unknown) => refused_with(resolved, item, relocation, unknown),
     }
 }
