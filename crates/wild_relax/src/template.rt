@@ -54,13 +54,14 @@ impl Row {
     pub fn fits(self) -> bool
         ensures { result ≡ fits_in self }
     {
-        let (field, size) = (self.pattern_field(), self.pattern_size());
-        if self.back() > field {
+        let change = change_of(self.made);
+        let (field, size) = (pattern::field(self.pattern()), self.pattern_size());
+        if change.back > field {
             return false;
         }
-        let start = field - self.back();
-        start + change_of(self.made).size <= size
-            && start + self.field() + self.row_written().width() as u64 <= size
+        let start = field - change.back;
+        start + change.size <= size
+            && start + change.field + self.row_written().width() as u64 <= size
     }
 
     /// Writes the row's instruction, with the value in its field, in place of the bytes of the input that stand at `start`. What the

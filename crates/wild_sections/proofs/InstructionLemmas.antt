@@ -10,7 +10,6 @@ use Rattle.wild_reloc.specs.declared.info.RelocationSize.TheVariants.{ByteSize}
 use Rattle.wild_reloc.specs.declared.info.Width.TheVariants.{Eight}
 use Rattle.wild_relax.specs.declared.row.Row.{Row}
 use Rattle.wild_relax.specs.Linked.{pattern_size}
-use Rattle.wild_relax.proofs.RewriteLemmas.{written_row}
 use Rattle.wild_relax.proofs.TemplateLemmas.{length-template}
 use Rattle.wild_layout.specs.declared.decision.Decision.{Decision}
 use Rattle.wild_layout.specs.declared.decision.Decision.TheVariants.{Nothing, Field, Moved, Left, Rewritten, Partner}
@@ -25,8 +24,7 @@ use Rattle.wild_sections.specs.Decided.{TemplateLies, DecisionLies}
 
 pub length-instruction : (s : Item) (r : InputRelocation) (row : Row) (v : ℕ) → TemplateLies (length s.bytes) r row → length (template_site s r row v).bytes ≡ pattern_size row
 length-instruction s r row v lies =
-    let known = written_row row in
-    length-template row known.0 v (slice_range s.bytes (template_start row r) (template_start row r + pattern_size row)) lies.fits known.1 (length-range s.bytes (template_start row r) (pattern_size row) lies.ends)
+    length-template row v (slice_range s.bytes (template_start row r) (template_start row r + pattern_size row)) lies.fits (length-range s.bytes (template_start row r) (pattern_size row) lies.ends)
 
 -- what was decided of a relocation lies where the clauses say
 pub decision_lies : (l : Layout) (s : Item) (i n : ℕ) (r : InputRelocation) (d : Decision) → slice_get s.relocations i ≡ Some r → n ≡ length s.bytes → All (FieldLies l.machine n) s.relocations → decide l s i ≡ Ok d → DecisionLies n r d

@@ -1,4 +1,4 @@
-use Rattle.std.proofs.Common.{◌≡◌, ◌-◌, length, ap, ◌∙◌, arith, subst}
+use Rattle.std.proofs.Common.{◌≡◌, ◌+◌, ◌-◌, length, ap, ◌∙◌, arith}
 use Rattle.wild_reloc.specs.declared.info.RelocationKindInfo.{RelocationKindInfo}
 use Rattle.wild_relax.specs.Pattern.{field_of}
 use Rattle.wild_relax.specs.RewriteX86_64.{rewrite_of}
@@ -22,7 +22,7 @@ returns-clause-template c =
     let s = c.saturating_sub-start.ensures in
     let start : c.saturating_sub-start.result ≡ field_of (pattern_of c.args.row) - (rewrite_of c.args.row).back = omega (arith, f, b, s) in
     written_is c.args.row c.args.value c.saturating_sub-start.result c.field.result c.args.part.now c.write.new.bytes c.write_at.new.out (record { first = start; then = c.field.ensures }) c.write.ensures
-    (c.write_at.ensures ∙ ap (λ (i : RelocationKindInfo). with_field i _ c.args.value c.write.new.bytes) c.row_written.ensures)
+    (c.write_at.ensures ∙ ap (λ (i : RelocationKindInfo). with_field i (c.saturating_sub-start.result + c.field.result) c.args.value c.write.new.bytes) c.row_written.ensures)
 
 pub returns-clause-long : goal.returns-clause-long
 returns-clause-long c =
@@ -31,5 +31,5 @@ returns-clause-long c =
     let s = c.saturating_sub-start.ensures in
     let start : c.saturating_sub-start.result ≡ field_of (pattern_of c.args.row) - (rewrite_of c.args.row).back = omega (arith, f, b, s) in
     let is = written_is c.args.row c.args.value c.saturating_sub-start.result c.field.result c.args.part.now c.write.new.bytes c.write_at.new.out (record { first = start; then = c.field.ensures }) c.write.ensures
-    (c.write_at.ensures ∙ ap (λ (i : RelocationKindInfo). with_field i _ c.args.value c.write.new.bytes) c.row_written.ensures) in
+    (c.write_at.ensures ∙ ap (λ (i : RelocationKindInfo). with_field i (c.saturating_sub-start.result + c.field.result) c.args.value c.write.new.bytes) c.row_written.ensures) in
     ap length is ∙ length-template c.args.row c.args.value c.args.part.now c.requires.fits c.requires.whole
