@@ -90,7 +90,7 @@ pub tags_fit : (l : Layout) → All (TagFits l) all_tags → needs_dynamic l.kin
 unfolding tag_entries
 tags_fit l f h = rw h (each_fits l all_tags f)
 
-pub length_all_tags : length all_tags ≡ 36
+pub length_all_tags : length all_tags ≡ 37
 unfolding all_tags
 length_all_tags = refl
 

@@ -4,7 +4,7 @@
 --   dynamic_entries l         all these entries, in order
 --   dynamic_count l           how many they are
 use Rattle.std.specs.Prelude.{ℕ, Bool, not, ◌&&◌, if◌then◌else◌, List, [], ◌∷◌, ◌++◌, length, All, flat_map, codes, bit_or, Option, Some, None}
-use Rattle.wild_records.specs.Abi.Dynamic.{dt_null, dt_pltrelsz, dt_pltgot, dt_pltrel, dt_hash, dt_jmprel, dt_strtab, dt_symtab, dt_rela, dt_relasz, dt_relaent, dt_strsz, dt_syment, dt_init, dt_fini, dt_debug, dt_textrel, dt_aarch64_variant_pcs, dt_init_array, dt_fini_array, dt_init_arraysz, dt_fini_arraysz, dt_flags, dt_preinit_array, dt_preinit_arraysz, dt_relrsz, dt_relr, dt_relrent, dt_gnu_hash, dt_versym, dt_relacount, dt_flags_1, dt_verdef, dt_verdefnum, dt_verneed, dt_verneednum, df_origin, df_textrel, df_bind_now, df_static_tls, df_1_now, df_1_nodelete, df_1_origin, df_1_interpose, df_1_pie}
+use Rattle.wild_records.specs.Abi.Dynamic.{dt_null, dt_pltrelsz, dt_pltgot, dt_pltrel, dt_hash, dt_jmprel, dt_strtab, dt_symtab, dt_rela, dt_relasz, dt_relaent, dt_strsz, dt_syment, dt_init, dt_fini, dt_debug, dt_textrel, dt_aarch64_bti_plt, dt_aarch64_variant_pcs, dt_init_array, dt_fini_array, dt_init_arraysz, dt_fini_arraysz, dt_flags, dt_preinit_array, dt_preinit_arraysz, dt_relrsz, dt_relr, dt_relrent, dt_gnu_hash, dt_versym, dt_relacount, dt_flags_1, dt_verdef, dt_verdefnum, dt_verneed, dt_verneednum, df_origin, df_textrel, df_bind_now, df_static_tls, df_1_now, df_1_nodelete, df_1_origin, df_1_interpose, df_1_pie}
 use Rattle.wild_records.specs.Dynamic.{DynamicEntryFits}
 use Rattle.wild_records.specs.Relocations.{rela_size, relr_size}
 use Rattle.wild_records.specs.SymtabEntry.{symtab_entry_size}
@@ -18,7 +18,7 @@ use Rattle.wild_types.specs.declared.layout.Layout.{Layout}
 use Rattle.wild_types.specs.Kinds.{is_executable, is_shared_object, is_position_independent, needs_dynamic}
 use Rattle.wild_needs.specs.DynamicStrings.{named_strings, string_entries, string_start}
 use Rattle.wild_types.specs.Parts.{part_with}
-use Rattle.wild_needs.specs.DynamicPlaces.{section_address, section_size, part_address, part_size, beside, filled_part, first_entries, entries_bytes, relative_count, need_number}
+use Rattle.wild_needs.specs.DynamicPlaces.{section_address, section_size, part_address, part_size, beside, filled_part, first_entries, entries_bytes, relative_count, need_number, marked_stubs}
 
 -- the number of an entry
 unfoldable pub dynamic_number : DynamicTag → ℕ
@@ -56,6 +56,7 @@ dynamic_number tags.Debug = dt_debug
 dynamic_number tags.Textrel = dt_textrel
 dynamic_number tags.Flags = dt_flags
 dynamic_number tags.Flags1 = dt_flags_1
+dynamic_number tags.BtiPlt = dt_aarch64_bti_plt
 dynamic_number tags.VariantPcs = dt_aarch64_variant_pcs
 dynamic_number tags.Null = dt_null
 
@@ -115,10 +116,11 @@ dynamic_entry l tags.Debug = only (is_executable l.kind) 0
 dynamic_entry l tags.Textrel = only l.options.textrel 0
 dynamic_entry l tags.Flags = Some (dynamic_flags l.kind l.options)
 dynamic_entry l tags.Flags1 = Some (dynamic_flags_1 l.kind l.options)
+dynamic_entry l tags.BtiPlt = beside 0 (marked_stubs l l.machine)
 dynamic_entry l tags.VariantPcs = only l.options.variant_pcs 0
 dynamic_entry l tags.Null = Some 0
 
--- the entries in their order; that of AArch64 stands before Null
+-- the entries in their order; those of AArch64 stand before Null
 unfoldable pub all_tags : List DynamicTag
 all_tags =
     tags.Init ∷ tags.Fini ∷ tags.InitArray ∷ tags.InitArraySize ∷ tags.FiniArray ∷ tags.FiniArraySize ∷ tags.PreinitArray ∷ tags.PreinitArraySize
@@ -126,7 +128,7 @@ all_tags =
     ∷ tags.PltGot ∷ tags.PltRelSize ∷ tags.PltRel ∷ tags.JmpRel
     ∷ tags.Rela ∷ tags.RelaSize ∷ tags.RelaEntry ∷ tags.RelaCount ∷ tags.Relr ∷ tags.RelrSize ∷ tags.RelrEntry
     ∷ tags.SysvHash ∷ tags.GnuHash ∷ tags.SymbolVersions ∷ tags.VersionDefinitions ∷ tags.VersionDefinitionCount ∷ tags.VersionNeeds ∷ tags.VersionNeedCount
-    ∷ tags.Debug ∷ tags.Textrel ∷ tags.Flags ∷ tags.Flags1 ∷ tags.VariantPcs ∷ tags.Null ∷ []
+    ∷ tags.Debug ∷ tags.Textrel ∷ tags.Flags ∷ tags.Flags1 ∷ tags.BtiPlt ∷ tags.VariantPcs ∷ tags.Null ∷ []
 
 -- an entry, where it has a value
 abbrev pub entry_with : ℕ → Option ℕ → List DynamicEntry

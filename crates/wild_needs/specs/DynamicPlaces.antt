@@ -3,9 +3,12 @@
 --   part_address l role       the address of the part of a role; part_size its size
 --   relative_count l          how many relative entries stand first
 --   need_number l             of how many libraries versions are needed
+--   marked_stubs l machine    the part of stubs that begin with a landing pad
 use Rattle.std.specs.Prelude.{ℕ, ◌+◌, ◌-◌, ◌/◌, ◌^◌, ◌==◌, Bool, not, ◌&&◌, if◌then◌else◌, min, List, find, bytes_eq, Option, Some, None, option_map}
 use Rattle.std.specs.Option.{option_or}
 use Rattle.wild_records.specs.Relocations.{rela_size}
+use Rattle.wild_types.specs.declared.kind.Machine.{Machine}
+use Rattle.wild_types.specs.declared.kind.Machine.TheVariants as machine
 use Rattle.wild_types.specs.declared.part.Part.{Part}
 use Rattle.wild_types.specs.declared.part.Role.{Role}
 use Rattle.wild_types.specs.declared.part.Role.TheVariants as role
@@ -66,3 +69,9 @@ relative_count l = option_map (λ (p : Part). p.size / rela_size) (filled_part l
 -- of how many libraries versions are needed, at most 2^64 - 1
 unfoldable pub need_number : Layout → ℕ
 need_number l = min (2 ^ 64 - 1) (need_count l)
+
+-- the part of AArch64's stubs, where they begin with a landing pad and there are any ("System V ABI for the Arm 64-bit Architecture",
+-- "Dynamic Section", DT_AARCH64_BTI_PLT)
+abbrev pub marked_stubs : Layout → Machine → Option Part
+marked_stubs l machine.AArch64 = if l.options.bti then filled_part l role.PltGot else None
+marked_stubs l machine.X86_64 = None

@@ -2,21 +2,21 @@
 ghost use Rattle.std.specs.Prelude.{◌≡◌, ◌<◌, length, option_map, All};
 ghost use Rattle.wild_records.specs.Dynamic.{DynamicEntryFits};
 ghost use Rattle.wild_needs.specs.Dynamic.{dynamic_number, only, flag, dynamic_flags, dynamic_flags_1, dynamic_entry, all_tags, TagFits, tag_entries, dynamic_entries, dynamic_count};
-ghost use Rattle.wild_needs.specs.DynamicPlaces.{section_named, section_address, section_size, part_address, part_size, beside, filled_part, first_entries, bytes_of, entries_bytes, relative_count};
+ghost use Rattle.wild_needs.specs.DynamicPlaces.{section_named, section_address, section_size, part_address, part_size, beside, filled_part, first_entries, bytes_of, entries_bytes, relative_count, marked_stubs};
 
 use crate::strings::{string_count, string_start};
 use crate::versions::need_count;
 use wild_records::abi::dynamic::{
     DF_1_INTERPOSE, DF_1_NODELETE, DF_1_NOW, DF_1_ORIGIN, DF_1_PIE, DF_BIND_NOW, DF_ORIGIN,
-    DF_STATIC_TLS, DF_TEXTREL, DT_AARCH64_VARIANT_PCS, DT_DEBUG, DT_FINI, DT_FINI_ARRAY,
-    DT_FINI_ARRAYSZ, DT_FLAGS, DT_FLAGS_1, DT_GNU_HASH, DT_HASH, DT_INIT, DT_INIT_ARRAY,
-    DT_INIT_ARRAYSZ, DT_JMPREL, DT_NULL, DT_PLTGOT, DT_PLTREL, DT_PLTRELSZ, DT_PREINIT_ARRAY,
-    DT_PREINIT_ARRAYSZ, DT_RELA, DT_RELACOUNT, DT_RELAENT, DT_RELASZ, DT_RELR, DT_RELRENT,
-    DT_RELRSZ, DT_STRSZ, DT_STRTAB, DT_SYMENT, DT_SYMTAB, DT_TEXTREL, DT_VERDEF, DT_VERDEFNUM,
-    DT_VERNEED, DT_VERNEEDNUM, DT_VERSYM,
+    DF_STATIC_TLS, DF_TEXTREL, DT_AARCH64_BTI_PLT, DT_AARCH64_VARIANT_PCS, DT_DEBUG, DT_FINI,
+    DT_FINI_ARRAY, DT_FINI_ARRAYSZ, DT_FLAGS, DT_FLAGS_1, DT_GNU_HASH, DT_HASH, DT_INIT,
+    DT_INIT_ARRAY, DT_INIT_ARRAYSZ, DT_JMPREL, DT_NULL, DT_PLTGOT, DT_PLTREL, DT_PLTRELSZ,
+    DT_PREINIT_ARRAY, DT_PREINIT_ARRAYSZ, DT_RELA, DT_RELACOUNT, DT_RELAENT, DT_RELASZ, DT_RELR,
+    DT_RELRENT, DT_RELRSZ, DT_STRSZ, DT_STRTAB, DT_SYMENT, DT_SYMTAB, DT_TEXTREL, DT_VERDEF,
+    DT_VERDEFNUM, DT_VERNEED, DT_VERNEEDNUM, DT_VERSYM,
 };
 use wild_records::{Rela, Relr, SymtabEntry};
-use wild_types::{Layout, Options, OutputKind, Part, Role, Section, part_with};
+use wild_types::{Layout, Machine, Options, OutputKind, Part, Role, Section, part_with};
 
 /// An entry with a value of its own, in the order in which they stand.
 #[derive(Clone, Copy)]
@@ -67,6 +67,8 @@ pub enum DynamicTag {
     Textrel,
     Flags,
     Flags1,
+    /// Stubs begin with a landing pad for indirect branches (AArch64).
+    BtiPlt,
     /// Some function has a calling convention of its own (AArch64).
     VariantPcs,
     /// The end of the entries.
@@ -76,7 +78,7 @@ pub enum DynamicTag {
 impl DynamicTag {
     /// All of them, in their order.
     #[tactic(auto, unfolding(crate::specs::Dynamic::all_tags))]
-    pub fn all() -> [DynamicTag; 36]
+    pub fn all() -> [DynamicTag; 37]
         ensures { result ≡ all_tags }
     {
         [
@@ -114,6 +116,7 @@ impl DynamicTag {
             DynamicTag::Textrel,
             DynamicTag::Flags,
             DynamicTag::Flags1,
+            DynamicTag::BtiPlt,
             DynamicTag::VariantPcs,
             DynamicTag::Null,
         ]
@@ -159,6 +162,7 @@ impl DynamicTag {
             DynamicTag::Textrel => DT_TEXTREL,
             DynamicTag::Flags => DT_FLAGS,
             DynamicTag::Flags1 => DT_FLAGS_1,
+            DynamicTag::BtiPlt => DT_AARCH64_BTI_PLT,
             DynamicTag::VariantPcs => DT_AARCH64_VARIANT_PCS,
             DynamicTag::Null => DT_NULL,
         }
@@ -265,6 +269,16 @@ fn relative_count(layout: &Layout) -> Option<u64>
     Some(filled_part(layout, Role::RelaDynRelative)?.size / Rela::SIZE as u64)
 }
 
+/// The part of AArch64's stubs, where they begin with a landing pad and there are any.
+fn marked_stubs(layout: &Layout) -> Option<Part>
+    ensures { result ≡ marked_stubs layout.now layout.now.machine }
+{
+    match layout.machine {
+        Machine::AArch64 if layout.options.bti => filled_part(layout, Role::PltGot),
+        _ => None,
+    }
+}
+
 fn only(ok: bool, value: u64) -> Option<u64>
     ensures { result ≡ only ok value }
 {
@@ -363,6 +377,7 @@ pub fn dynamic_entry(layout: &Layout, tag: DynamicTag) -> Option<u64>
         DynamicTag::Textrel => only(layout.options.textrel, 0),
         DynamicTag::Flags => Some(dynamic_flags(layout.kind, &layout.options)),
         DynamicTag::Flags1 => Some(dynamic_flags_1(layout.kind, &layout.options)),
+        DynamicTag::BtiPlt => beside(0, marked_stubs(layout)),
         DynamicTag::VariantPcs => only(layout.options.variant_pcs, 0),
         DynamicTag::Null => Some(0),
     }
@@ -372,7 +387,7 @@ pub fn dynamic_entry(layout: &Layout, tag: DynamicTag) -> Option<u64>
 #[tactic(auto, unfolding(crate::specs::Dynamic::tag_entries, crate::specs::Dynamic::all_tags), using(crate::proofs::DynamicLemmas::length_entry))]
 fn tag_count(layout: &Layout) -> usize
     ensures count { result ≡ length (tag_entries layout.now) }
-    ensures few { result < 37 }
+    ensures few { result < 38 }
 {
     if !layout.kind.needs_dynamic() {
         return 0;

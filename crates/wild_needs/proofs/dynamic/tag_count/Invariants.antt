@@ -7,5 +7,5 @@ abbrev pub invariant-loop-tag : goal.invariant-loop-tag
 invariant-loop-tag l = record {
   rest : l.count + length (flat_map (entry_of l.layout) (drop l.tag-index l.tag-items)) ≡ length (flat_map (entry_of l.layout) all_tags);
   small : l.count ≤ l.tag-index;
-  all : length l.tag-items ≡ 36;
+  all : length l.tag-items ≡ 37;
 }
