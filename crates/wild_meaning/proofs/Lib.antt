@@ -34,3 +34,4 @@ mod WordsLoaded
 mod WordsTemplates
 mod WordsLinked
 mod WordsCodeRefused
+mod MovesAArch64

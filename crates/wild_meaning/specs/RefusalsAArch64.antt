@@ -4,13 +4,14 @@
 --   WrongWordsAreRefused   wrong ones
 --   CutBitsAreRefused      a value that its field can't have, whatever stands there
 --   SlotAddendsAreRefused  an addend at a symbol's slot
+--   OtherWordsStay         which words are taken for others
 --   PairsAreExcepted       the low bits of an address are asked where its page is
-use Rattle.std.specs.Prelude.{◌≡◌, ◌≢◌, ℕ, ◌+◌, ◌-◌, ◌%◌, ◌^◌, ◌<◌, ◌≤◌, List, [], ◌∷◌, Some, None}
+use Rattle.std.specs.Prelude.{◌≡◌, ◌≢◌, ℕ, ◌+◌, ◌-◌, ◌%◌, ◌^◌, ◌<◌, ◌≤◌, true, List, [], ◌∷◌, Some, None}
 use Rattle.std.specs.Int.{w64, cast_unsigned}
 use Rattle.std.specs.List.{flat_map}
 use Rattle.wild_words.specs.Words.{word}
 use Rattle.wild_records.specs.Abi.Section.{shf_execinstr}
-use Rattle.wild_records.specs.Abi.Relocation.{r_aarch64_movw_uabs_g0, r_aarch64_adr_prel_lo21, r_aarch64_adr_got_page, r_aarch64_ld64_got_lo12_nc, r_aarch64_tlsle_movw_tprel_g1}
+use Rattle.wild_records.specs.Abi.Relocation.{r_aarch64_movw_uabs_g0, r_aarch64_adr_prel_lo21, r_aarch64_adr_got_page, r_aarch64_ld64_got_lo12_nc, r_aarch64_tlsle_movw_tprel_g1, r_aarch64_tlsle_movw_tprel_g2}
 use Rattle.wild_types.specs.declared.kind.Machine.TheVariants as machine
 use Rattle.wild_types.specs.declared.input.InputRelocation.{InputRelocation}
 use Rattle.wild_types.specs.declared.layout.Layout.{Layout}
@@ -20,6 +21,8 @@ use Rattle.wild_loader.specs.declared.world.World.{World}
 use Rattle.wild_loader.specs.Memory.{number_in, Holds}
 use Rattle.wild_loader.specs.Reach.{Reaches}
 use Rattle.wild_types.specs.Item.{Item}
+use Rattle.wild_aarch64.specs.Filled.{forms_filled}
+use Rattle.wild_meaning.specs.WordsAArch64.{is_of, with_zeros}
 use Rattle.wild_meaning.specs.World.{IsMovable}
 use Rattle.wild_meaning.specs.Value.{IsAbsolute}
 use Rattle.wild_meaning.specs.Item.{place_at}
@@ -90,3 +93,7 @@ pub record SlotAddendsAreRefused : Type 0 where
 -- of an absolute symbol in a movable output both relocations of a page pair are asked at base 0 alone
 abbrev pub PairsAreExcepted : Type 0
 PairsAreExcepted = (l : Layout) (item : Item) (r first : InputRelocation) (start i : ℕ) → IsTemplate l item r start address_pair_words first → IsMovable l.kind → r.symbol ≡ Some i → IsAbsolute l i → IsExcepted l item r
+
+-- no word is taken for another one but under the two types that fill `movn`
+abbrev pub OtherWordsStay : Type 0
+OtherWordsStay = (n w : ℕ) → is_of (forms_filled n) w ≡ true → n ≢ r_aarch64_tlsle_movw_tprel_g2 → n ≢ r_aarch64_tlsle_movw_tprel_g1 → with_zeros w ≡ w
