@@ -7,7 +7,7 @@ use Rattle.wild_types.specs.declared.file.File.{File}
 use Rattle.wild_types.specs.declared.file.Group.{Group}
 use Rattle.wild_types.specs.declared.layout.Layout.{Layout}
 use Rattle.wild_types.specs.Lists.{first_failing}
-use Rattle.wild_clauses.specs.Contents.{each_in, each_section, addresses, section_misplaced, length_fits, discarded_is_empty, part_is_raw, primary_is_raw, allocation_agrees, bytes_take_room}
+use Rattle.wild_clauses.specs.Contents.{each_in, each_section, addresses, section_misplaced, length_fits, discarded_is_empty, part_is_raw, primary_fits, allocation_agrees, bytes_take_room}
 use Rattle.wild_clauses.specs.Passed.{passes_all}
 use Rattle.wild_clauses.specs.ClauseTests.{fails, check_inputs}
 
@@ -43,7 +43,7 @@ PassesEach-from_test l s h =
     let d = and_parts (allocation_agrees l s) (bytes_take_room l s) c.1 in
     record { length = a.0; discarded = b.0; raw = c.0; allocation = d.0; room = d.1 }
 
-pub inputs_pass : (l : Layout) → fails 8 (section_misplaced l (addresses l.parts) 0 l.groups) ≡ Ok tt → first_failing (each_section (passes_all l)) 0 l.groups ≡ None → primary_is_raw l ≡ true → check_inputs l ≡ Ok tt
+pub inputs_pass : (l : Layout) → fails 8 (section_misplaced l (addresses l.parts) 0 l.groups) ≡ Ok tt → first_failing (each_section (passes_all l)) 0 l.groups ≡ None → primary_fits l ≡ true → check_inputs l ≡ Ok tt
 unfolding check_inputs
 inputs_pass l first h raw =
     let each = λ (s : InputSection) (t : passes_all l s ≡ true). PassesEach-from_test l s t in

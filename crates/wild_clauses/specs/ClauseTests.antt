@@ -26,7 +26,7 @@ use Rattle.wild_types.specs.FileSymbols.{copied_again}
 use Rattle.wild_clauses.specs.SlotPlaces.{slots_astray, slot_is_even, block_is_asked, block_has_base, pair_follows}
 use Rattle.wild_needs.specs.DynamicSymbols.{dynamic_symbols, misplaced, misfit, first_listed}
 use Rattle.wild_clauses.specs.SlotFlags.{first_asked_failing, dynamic_is_interposable, stub_is_value, stub_has_slot, one_slot_for_address, thread_slot_alone, resolver_is_own, slot_agrees, resolver_moves, second_slot_fits}
-use Rattle.wild_clauses.specs.Contents.{addresses, each_section, share_mismatch, has_share_for_each_part, section_misplaced, length_fits, discarded_is_empty, part_is_raw, primary_is_raw, allocation_agrees, bytes_take_room, fields_lie, tls_fits}
+use Rattle.wild_clauses.specs.Contents.{addresses, each_section, share_mismatch, has_share_for_each_part, section_misplaced, length_fits, discarded_is_empty, part_is_raw, primary_fits, allocation_agrees, bytes_take_room, fields_lie, tls_fits}
 use Rattle.wild_types.specs.FilePlaces.{file_misplaced}
 use Rattle.wild_clauses.specs.Thunks.{ascends, thunks_misplaced, block_lost, machine_takes}
 use Rattle.wild_clauses.specs.GroupStarts.{start_places, no_starts, start_astray}
@@ -113,7 +113,7 @@ check_inputs l =
     (first_error (fails 8 (first_failing (each_section length_fits) 0 l.groups))
     (first_error (fails 8 (first_failing (each_section discarded_is_empty) 0 l.groups))
     (first_error (fails 8 (first_failing (each_section (part_is_raw l)) 0 l.groups))
-    (first_error (fails 8 (unless (primary_is_raw l)))
+    (first_error (fails 8 (unless (primary_fits l)))
     (first_error (fails 8 (first_failing (each_section (allocation_agrees l)) 0 l.groups))
     (fails 8 (first_failing (each_section (bytes_take_room l)) 0 l.groups)))))))
 

@@ -17,7 +17,7 @@ use Rattle.wild_types.specs.declared.file.File.{File}
 use Rattle.wild_types.specs.declared.file.Group.{Group}
 use Rattle.wild_types.specs.declared.layout.Layout.{Layout}
 use Rattle.wild_types.specs.Lists.{total, through}
-use Rattle.wild_types.specs.Lookups.{allocated, section_of, is_allocated_part, takes_file_bytes, is_loaded, is_discarded, is_filled}
+use Rattle.wild_types.specs.Lookups.{allocated, section_of, is_allocated_section, is_allocated_part, takes_file_bytes, is_loaded, is_discarded, is_filled}
 use Rattle.wild_clauses.specs.Places.{multiple_of}
 use Rattle.wild_clauses.specs.Thunks.{has_thunks}
 use Rattle.wild_types.specs.Rows.{field_bytes}
@@ -96,9 +96,14 @@ is_raw (Some p) = raw p.role
 abbrev pub part_is_raw : Layout → InputSection → Bool
 part_is_raw l s = is_discarded s.slot || is_raw (slice_get l.parts s.part)
 
--- thunks stand in a raw part
-abbrev pub primary_is_raw : Layout → Bool
-primary_is_raw l = not (has_thunks l) || is_raw (slice_get l.parts l.primary_part)
+-- code of the linker's own can stand in the part: a raw one in an allocated section with data
+abbrev pub holds_thunks : Layout → Option Part → Bool
+holds_thunks l None = false
+holds_thunks l (Some p) = is_raw (Some p) && (takes_file_bytes l p.section && is_allocated_section l p.section)
+
+-- thunks stand in such a part
+abbrev pub primary_fits : Layout → Bool
+primary_fits l = not (has_thunks l) || holds_thunks l (slice_get l.parts l.primary_part)
 
 -- a loaded input section is allocated exactly where its part's section is
 abbrev pub allocation_agrees : Layout → InputSection → Bool

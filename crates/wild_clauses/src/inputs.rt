@@ -1,6 +1,6 @@
 //! Clause 8: input sections in their parts.
 ghost use Rattle.std.specs.Prelude.{◌≡◌, slice_get};
-ghost use Rattle.wild_clauses.specs.Contents.{length_fits, discarded_is_empty, is_raw, part_is_raw, primary_is_raw, allocation_agrees, bytes_take_room};
+ghost use Rattle.wild_clauses.specs.Contents.{length_fits, discarded_is_empty, is_raw, part_is_raw, holds_thunks, primary_fits, allocation_agrees, bytes_take_room};
 ghost use Rattle.wild_clauses.specs.Passed.{passes_all};
 ghost use Rattle.wild_clauses.specs.ClauseTests.{check_inputs};
 
@@ -62,11 +62,25 @@ impl Test<InputSection> for PartIsRaw<'_> {
     }
 }
 
-/// Whether thunks, where there are any, stand in a raw part.
-fn primary_is_raw(layout: &Layout) -> bool
-    ensures { result ≡ primary_is_raw layout.now }
+/// Whether code of the linker's own can stand in the part of that number: a raw one in an allocated section with data.
+fn holds_thunks(layout: &Layout, part: usize) -> bool
+    ensures { result ≡ holds_thunks layout.now (slice_get layout.now.parts part) }
 {
-    !has_thunks(layout) || is_raw(layout, layout.primary_part)
+    match layout.parts.as_slice().get(part) {
+        Some(part) => {
+            matches!(part.role, Role::Raw)
+                && layout.takes_file_bytes(part.section)
+                && layout.is_allocated_section(part.section)
+        }
+        None => false,
+    }
+}
+
+/// Whether thunks, where there are any, stand in such a part.
+fn primary_fits(layout: &Layout) -> bool
+    ensures { result ≡ primary_fits layout.now }
+{
+    !has_thunks(layout) || holds_thunks(layout, layout.primary_part)
 }
 
 /// A loaded section is allocated exactly where its part's section is.
@@ -125,13 +139,13 @@ pub(crate) fn check_inputs(layout: &Layout) -> Result<(), Clause>
 {
     let groups = layout.groups.as_slice();
     fails(8, section_misplaced(layout))?;
-    if failing_group(&PassesAll { layout }, groups).is_none() && primary_is_raw(layout) {
+    if failing_group(&PassesAll { layout }, groups).is_none() && primary_fits(layout) {
         return Ok(());
     }
     fails(8, failing_group(&LengthFits, groups))?;
     fails(8, failing_group(&DiscardedIsEmpty, groups))?;
     fails(8, failing_group(&PartIsRaw { layout }, groups))?;
-    fails(8, unless(primary_is_raw(layout)))?;
+    fails(8, unless(primary_fits(layout)))?;
     fails(8, failing_group(&AllocationAgrees { layout }, groups))?;
     fails(8, failing_group(&BytesTakeRoom { layout }, groups))
 }
